@@ -1,16 +1,10 @@
 -- What commands and replies say, where JSON values count by their compact texts.
 use Rattle.std.specs.Prelude.{Result, Ok, Err, map, option_map, if◌then◌else◌}
-use Rattle.serde_json.specs.Data.{Data, null, string}
-use Rattle.serde_json.specs.Written.{has_float, compact_text}
+use Rattle.serde_json.specs.{Data.{Data, null, string}, Written.{has_float, compact_text}}
 use Rattle.cacache_core.specs.declared.errors.Error.{Error}
 use Rattle.cacache_entry.specs.Latest.{Found}
-use Rattle.cacache_table.specs.declared.command.Options.{Options}
-use Rattle.cacache_table.specs.declared.command.Put.{Put}
-use Rattle.cacache_table.specs.declared.command.Link.{Link}
-use Rattle.cacache_table.specs.declared.command.Insert.{Insert}
-use Rattle.cacache_table.specs.declared.command.Command.{Command}
+use Rattle.cacache_table.specs.declared.{command.{Options.{Options}, Put.{Put}, Link.{Link}, Insert.{Insert}, Command.{Command}}, reply.Reply.{Reply}}
 use Rattle.cacache_table.specs.declared.command.Command.TheVariants as commands
-use Rattle.cacache_table.specs.declared.reply.Reply.{Reply}
 use Rattle.cacache_table.specs.declared.reply.Reply.TheVariants as replies
 
 -- a JSON value as its compact text; all that hold a number which isn't whole in 64 bits as one

@@ -1,16 +1,10 @@
 -- What is read by polls: how it opens, and what a poll fails with.
-use Rattle.std.specs.Prelude.{◌++◌, ℕ, List, Result, Ok, Err}
-use Rattle.std.specs.IoError.{error_kind}
-use Rattle.cacache_core.specs.declared.errors.Error.{Error}
-use Rattle.cacache_core.specs.declared.integrity.digest.Hash.{Hash}
-use Rattle.cacache_core.specs.Contexts.{fault_of}
+use Rattle.std.specs.{Prelude.{◌++◌, ℕ, List, Result, Ok, Err}, IoError.{error_kind}}
+use Rattle.cacache_core.specs.{declared.{errors.Error.{Error}, integrity.digest.Hash.{Hash}}, Contexts.{fault_of}}
 use Rattle.cacache_store.specs.Failures.{Error as IoError}
-use Rattle.cacache_content.specs.declared.reader.SyncReader.{SyncReader}
-use Rattle.cacache_content.specs.OpenReads.{HasRead}
+use Rattle.cacache_content.specs.{declared.reader.SyncReader.{SyncReader}, OpenReads.{HasRead}}
 use Rattle.cacache_put.specs.declared.linker.SyncToLinker.{SyncToLinker}
-use Rattle.cacache_async.specs.Waiting.{TellsFault}
-use Rattle.cacache_async.specs.declared.reader.Reader.{Reader}
-use Rattle.cacache_async.specs.declared.linker.ToLinker.{ToLinker}
+use Rattle.cacache_async.specs.{Waiting.{TellsFault}, declared.{reader.Reader.{Reader}, linker.ToLinker.{ToLinker}}}
 
 -- a poll tells what a read of the handle answered: how many bytes there were, or the fault
 abbrev pub TellsRead :

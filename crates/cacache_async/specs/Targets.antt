@@ -1,9 +1,7 @@
 -- What is to be linked by what an opening is called with.
 use Rattle.std.specs.Prelude.{ℕ, List, option_map}
-use Rattle.cacache_put.specs.OpenLinkers.{LinkTarget, linked_by}
-use Rattle.cacache_put.specs.Options.{nothing_said}
-use Rattle.cacache_async.specs.declared.linking.SizedTargetCall.{SizedTargetCall}
-use Rattle.cacache_async.specs.declared.linking.TargetCall.{TargetCall}
+use Rattle.cacache_put.specs.{OpenLinkers.{LinkTarget, linked_by}, Options.{nothing_said}}
+use Rattle.cacache_async.specs.declared.linking.{SizedTargetCall.{SizedTargetCall}, TargetCall.{TargetCall}}
 
 -- by its options
 abbrev pub target_said : TargetCall → List ℕ → LinkTarget

@@ -1,10 +1,6 @@
 -- Futures of calls: what one waits with, and what it says after its answer.
-use Rattle.std.specs.Prelude.{◌≡◌, Option, Some, None, Result, Ok, Err, ⊤}
-use Rattle.std.specs.Borrow.{MutBor}
-use Rattle.cacache_core.specs.declared.errors.Error.{Error}
-use Rattle.cacache_core.specs.declared.errors.Error.TheVariants.{IoError, OutOfMemory}
-use Rattle.cacache_core.specs.declared.errors.Fault.{Fault}
-use Rattle.cacache_core.specs.declared.errors.Fault.TheVariants.{Closed}
+use Rattle.std.specs.{Prelude.{◌≡◌, Option, Some, None, Result, Ok, Err, ⊤}, Borrow.{MutBor}}
+use Rattle.cacache_core.specs.declared.errors.{Error.{Error, TheVariants.{IoError, OutOfMemory}}, Fault.{Fault, TheVariants.{Closed}}}
 use Rattle.cacache_store.specs.declared.env.Env.{Env}
 use Rattle.cacache_async.specs.declared.future.CallFuture.{CallFuture}
 

@@ -1,16 +1,10 @@
 -- Writers that are given up: what was asked for, and why.
-use Rattle.std.proofs.Common.{◌≡◌, inl, inr, ℕ, List, ◌∙◌}
-use Rattle.std.specs.Prelude.{Option, Result, Ok, Err}
-use Rattle.cacache_core.specs.declared.errors.Error.{Error}
-use Rattle.cacache_core.specs.declared.errors.Error.TheVariants.{EntryNotFound, SizeMismatch, IoError, SerdeError, IntegrityError, OutOfMemory}
-use Rattle.std.specs.IoError.{error_kind}
-use Rattle.cacache_core.specs.Contexts.{fault_of}
-use Rattle.cacache_core.specs.declared.errors.Fault.{Fault}
+use Rattle.std.{proofs.Common.{◌≡◌, inl, inr, ℕ, List, ◌∙◌}, specs.{Prelude.{Option, Result, Ok, Err}, IoError.{error_kind}}}
+use Rattle.cacache_core.specs.{declared.errors.{Error.{Error, TheVariants.{EntryNotFound, SizeMismatch, IoError, SerdeError, IntegrityError, OutOfMemory}}, Fault.{Fault}}, Contexts.{fault_of}}
 use Rattle.cacache_store.specs.Failures as io
 use Rattle.cacache_store.specs.declared.store.answer.Answer.TheVariants as answers
 use Rattle.cacache_store.specs.declared.store.log.LogItem.{LogItem}
-use Rattle.cacache_table.specs.Common.{fails}
-use Rattle.cacache_table.specs.Runs.{EndsAs}
+use Rattle.cacache_table.specs.{Common.{fails}, Runs.{EndsAs}}
 use Rattle.cacache_content.specs.OpenWrites.{AsksToRemove, IsRetried, IsWriteError, RemovesTemp, TriesToRemove, WholeFails, given_up}
 
 asks_tries : (path : List ℕ) (e : Error) (old new : Option (List LogItem)) → AsksToRemove path old new → TriesToRemove path e old new

@@ -2,17 +2,11 @@
 use Rattle.std.proofs.Common.{◌≡◌, inr, ℕ, List, Option, Result, Ok, Err, sym}
 use Rattle.cacache_core.specs.declared.errors.Error.{Error}
 use Rattle.cacache_store.specs.declared.store.answer.Answer.TheVariants as answers
-use Rattle.cacache_store.specs.declared.store.log.LogItem.{LogItem}
-use Rattle.cacache_store.specs.declared.store.plain.PlainTemp.{PlainTemp}
+use Rattle.cacache_store.specs.{declared.store.{log.LogItem.{LogItem}, plain.PlainTemp.{PlainTemp}}, Fits.{Fits, Logs}, Plain.{PlainAnswer}}
 use Rattle.cacache_store.specs.declared.store.step.Step.TheVariants as steps
-use Rattle.cacache_store.specs.Fits.{Fits, Logs}
-use Rattle.cacache_store.specs.Plain.{PlainAnswer}
-use Rattle.cacache_table.specs.Answers.{temp_in}
-use Rattle.cacache_table.specs.SingleSteps.{Does}
-use Rattle.cacache_table.specs.StepPaths.{temp_path}
+use Rattle.cacache_table.specs.{Answers.{temp_in}, SingleSteps.{Does}, StepPaths.{temp_path}}
 use Rattle.cacache_jobs.specs.Brought.{Brings}
-use Rattle.cacache_content.specs.OpenWrites.{MakesTemp, make_folder}
-use Rattle.cacache_content.proofs.StepAnswers.{refusal_of, refused_fails, temp_refused}
+use Rattle.cacache_content.{specs.OpenWrites.{MakesTemp, make_folder}, proofs.StepAnswers.{refusal_of, refused_fails, temp_refused}}
 
 -- the step that made the file
 temp_came : (path at : List ℕ) (t : PlainAnswer) (f : PlainTemp) (old new : Option (List LogItem)) → path ≡ at → Ok f ≡ temp_in t → Logs old new (steps.CreateTemp path) t → Does (steps.CreateTemp at) (answers.Temp f) old new

@@ -1,19 +1,11 @@
 -- What the answer to a single step says of it.
 use Rattle.std.proofs.Common.{◌≡◌, inl, inr, ℕ, List, Option, Result, Ok, Err, refl}
-use Rattle.cacache_core.specs.declared.errors.Error.{Error}
-use Rattle.cacache_core.specs.declared.errors.Error.TheVariants.{IoError, OutOfMemory}
-use Rattle.cacache_core.specs.declared.errors.Fault.{Fault}
+use Rattle.cacache_core.specs.declared.errors.{Error.{Error, TheVariants.{IoError, OutOfMemory}}, Fault.{Fault}}
 use Rattle.cacache_store.specs.declared.store.answer.Answer.TheVariants as answers
-use Rattle.cacache_store.specs.declared.store.log.LogItem.{LogItem}
+use Rattle.cacache_store.specs.{declared.store.log.LogItem.{LogItem}, Fits.{Fits, Logs}, Plain.{PlainStep, PlainAnswer}}
 use Rattle.cacache_store.specs.declared.store.step.Step.TheVariants as steps
-use Rattle.cacache_store.specs.Fits.{Fits, Logs}
-use Rattle.cacache_store.specs.Plain.{PlainStep, PlainAnswer}
-use Rattle.cacache_table.specs.declared.answers.Refusal.{Refusal}
+use Rattle.cacache_table.specs.{declared.answers.Refusal.{Refusal}, Answers.{done_in, temp_in, file_in}, Common.{ends_with, fails, refuse}, Runs.{EndsAs}, SingleSteps.{FailsAt}}
 use Rattle.cacache_table.specs.declared.answers.Refusal.TheVariants as refusals
-use Rattle.cacache_table.specs.Answers.{done_in, temp_in, file_in}
-use Rattle.cacache_table.specs.Common.{ends_with, fails, refuse}
-use Rattle.cacache_table.specs.Runs.{EndsAs}
-use Rattle.cacache_table.specs.SingleSteps.{FailsAt}
 use Rattle.cacache_jobs.specs.Brought.{EndsRefused}
 
 -- ---- an answer that refuses a step

@@ -1,13 +1,8 @@
 -- One write after another.
-use Rattle.std.specs.Prelude.{Option, None, Some}
-use Rattle.std.proofs.Common.{◌≡◌, ◌<◌, ◌≤◌, ◌^◌, ◌⊎◌, inl, inr, ℕ, ◌+◌, ◌-◌, List, [], ◌++◌, length, take, drop, refl, sym, ◌∙◌, ap, subst, append_assoc, append-nil, arith}
-use Rattle.std.proofs.Math.Seq.{take-add}
-use Rattle.std.proofs.lemmas.List.{take_rest, take-append-drop, length-drop}
-use Rattle.std.proofs.KnownBytes.{Appends-nil, Appends-trans, Appends-kept}
-use Rattle.std.specs.Io.KnownBytes.{Appends, Keeps}
+use Rattle.std.specs.{Prelude.{Option, None, Some}, Io.KnownBytes.{Appends, Keeps}}
+use Rattle.std.proofs.{Common.{◌≡◌, ◌<◌, ◌≤◌, ◌^◌, ◌⊎◌, inl, inr, ℕ, ◌+◌, ◌-◌, List, [], ◌++◌, length, take, drop, refl, sym, ◌∙◌, ap, subst, append_assoc, append-nil, arith}, Math.Seq.{take-add}, lemmas.List.{take_rest, take-append-drop, length-drop}, KnownBytes.{Appends-nil, Appends-trans, Appends-kept}}
 use Rattle.cacache_store.specs.declared.store.plain.PlainTemp.{PlainTemp}
-use Rattle.cacache_content.specs.declared.writer.Writer.{Writer}
-use Rattle.cacache_content.specs.OpenWrites.{HasTaken, Takes, TakesPart, IsSameWriter}
+use Rattle.cacache_content.specs.{declared.writer.Writer.{Writer}, OpenWrites.{HasTaken, Takes, TakesPart, IsSameWriter}}
 
 module _ {T : Type 0} (temp : T → PlainTemp) where
   -- the file and the writer took these bytes more, and the writer goes on

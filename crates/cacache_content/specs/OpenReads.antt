@@ -1,21 +1,12 @@
 -- Contents that are opened and read in pieces.
 use Rattle.std.specs.Prelude.{◌≡◌, ◌⊎◌, ℕ, List, [], Option, None, Some, Result, Ok, Err}
-use Rattle.cacache_core.specs.declared.errors.Error.{Error}
-use Rattle.cacache_core.specs.declared.errors.Error.TheVariants.{EntryNotFound}
-use Rattle.cacache_core.specs.declared.integrity.digest.Hash.{Hash}
-use Rattle.cacache_core.specs.Pieces.{Compares}
+use Rattle.cacache_core.specs.{declared.{errors.Error.{Error, TheVariants.{EntryNotFound}}, integrity.digest.Hash.{Hash}}, Pieces.{Compares}}
 use Rattle.cacache_store.specs.declared.store.answer.Answer.TheVariants as answers
-use Rattle.cacache_store.specs.declared.store.log.LogItem.{LogItem}
-use Rattle.cacache_store.specs.declared.store.plain.PlainFile.{PlainFile}
+use Rattle.cacache_store.specs.declared.store.{log.LogItem.{LogItem}, plain.PlainFile.{PlainFile}}
 use Rattle.cacache_store.specs.declared.store.step.Step.TheVariants as steps
 use Rattle.cacache_table.specs.declared.command.Command.TheVariants as commands
-use Rattle.cacache_table.specs.declared.reply.Reply.{Reply}
-use Rattle.cacache_table.specs.declared.reply.Reply.TheVariants.{LookedUp, Refused}
-use Rattle.cacache_table.specs.StepPaths.{content_path}
-use Rattle.cacache_table.specs.Runs.{Ran, without_message}
-use Rattle.cacache_table.specs.Table.{opening}
+use Rattle.cacache_table.specs.{declared.reply.Reply.{Reply, TheVariants.{LookedUp, Refused}}, StepPaths.{content_path}, Runs.{Ran, without_message}, Table.{opening}, SingleSteps.{Does, FailsAt}}
 use Rattle.cacache_content.specs.declared.reader.SyncReader.{SyncReader}
-use Rattle.cacache_table.specs.SingleSteps.{Does, FailsAt}
 use Rattle.cacache_entry.specs.Latest.{Found}
 use Rattle.cacache_jobs.specs.Sites.{site_of}
 

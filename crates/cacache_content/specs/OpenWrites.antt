@@ -1,30 +1,12 @@
 -- Contents that are written in pieces: how they open, what they took and what their commit is.
-use Rattle.std.specs.Prelude.{◌≡◌, ◌≢◌, ◌⊎◌, ◌<◌, ◌^◌, ◌-◌, ◌++◌, ℕ, List, [], Option, None, Result, Ok, Err, min, length}
-use Rattle.std.specs.Io.KnownBytes.{Appends}
-use Rattle.std.specs.IoError.{error_kind}
-use Rattle.cacache_core.specs.declared.errors.Error.{Error}
-use Rattle.cacache_core.specs.declared.errors.Error.TheVariants.{IoError, OutOfMemory}
-use Rattle.cacache_core.specs.Contexts.{fault_of}
-use Rattle.cacache_core.specs.declared.integrity.algorithm.Algorithm.{Algorithm}
-use Rattle.cacache_core.specs.Hashers.{Holds, algorithm_of}
-use Rattle.cacache_core.specs.Integrity.{integrity_under}
+use Rattle.std.specs.{Prelude.{◌≡◌, ◌≢◌, ◌⊎◌, ◌<◌, ◌^◌, ◌-◌, ◌++◌, ℕ, List, [], Option, None, Result, Ok, Err, min, length}, Io.KnownBytes.{Appends}, IoError.{error_kind}}
+use Rattle.cacache_core.specs.{declared.{errors.Error.{Error, TheVariants.{IoError, OutOfMemory}}, integrity.algorithm.Algorithm.{Algorithm}}, Contexts.{fault_of}, Hashers.{Holds, algorithm_of}, Integrity.{integrity_under}}
 use Rattle.cacache_store.specs.Failures as io
-use Rattle.cacache_table.specs.Blank.{blank}
+use Rattle.cacache_table.specs.{Blank.{blank}, declared.{command.Options.{Options}, reply.Reply.{Reply}, carried.Commit.{Commit}}, StepPaths.{temp_folder, temp_path}, Runs.{Ran}, Storing.{persist}, SingleSteps.{Does, FailsAt}}
 use Rattle.cacache_store.specs.declared.store.answer.Answer.TheVariants as answers
-use Rattle.cacache_store.specs.declared.env.Env.{Env}
-use Rattle.cacache_store.specs.declared.store.log.LogItem.{LogItem}
-use Rattle.cacache_store.specs.declared.store.plain.PlainTemp.{PlainTemp}
+use Rattle.cacache_store.specs.{declared.{env.Env.{Env}, store.{log.LogItem.{LogItem}, plain.PlainTemp.{PlainTemp}}}, Given.{AddsAnswer}, Plain.{PlainStep, PlainAnswer}}
 use Rattle.cacache_store.specs.declared.store.step.Step.TheVariants as steps
-use Rattle.cacache_store.specs.Given.{AddsAnswer}
-use Rattle.cacache_store.specs.Plain.{PlainStep, PlainAnswer}
-use Rattle.cacache_table.specs.declared.command.Options.{Options}
-use Rattle.cacache_table.specs.declared.reply.Reply.{Reply}
-use Rattle.cacache_table.specs.StepPaths.{temp_folder, temp_path}
-use Rattle.cacache_table.specs.Runs.{Ran}
-use Rattle.cacache_table.specs.declared.carried.Commit.{Commit}
-use Rattle.cacache_table.specs.Storing.{persist}
 use Rattle.cacache_content.specs.declared.writer.Writer.{Writer}
-use Rattle.cacache_table.specs.SingleSteps.{Does, FailsAt}
 
 -- ---- bytes in pieces
 

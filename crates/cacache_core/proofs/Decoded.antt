@@ -1,17 +1,8 @@
 -- What base64 text decodes to is bytes.
-use Rattle.std.proofs.Common.{◌≡◌, ◌+◌, ◌*◌, ◌==◌, ◌<◌, ℕ, zero, suc, List, [], ◌∷◌, ◌++◌, length, take, drop, slice_index, get_or, refl, subst, inl, inr, arith}
-use Rattle.std.proofs.lemmas.Bool.{cases_Bool}
-use Rattle.std.proofs.lemmas.List.{get_or-drop}
-use Rattle.std.specs.declared.option.Option.{Option}
-use Rattle.std.specs.declared.option.Option.TheVariants.{None, Some}
-use Rattle.std.specs.declared.result.Result.{Result}
-use Rattle.std.specs.declared.result.Result.TheVariants.{Ok, Err}
-use Rattle.base64.specs.declared.decode.DecodeError.{DecodeError}
-use Rattle.base64.specs.Decode.{IsDecodeTable, decode_group, or_else, symbol_error, group_error, group_bytes, groups_error, groups_bytes, groups_before_last, no_leftover, push_leftover, scan_steps, scan_last, scan_bytes, lone_error, suffix_bytes, decode_outcome, decoded_bytes}
-use Rattle.base64.specs.Engines.{standard}
-use Rattle.base64.specs.GeneralPurpose.{decode_of, IsBytes}
-use Rattle.base64.proofs.Decoding.{IsLeftover, IsLeftover_next}
-use Rattle.base64.proofs.Tables.{IsDecodeTable_from, are_tables_inverse}
+use Rattle.std.proofs.{Common.{◌≡◌, ◌+◌, ◌*◌, ◌==◌, ◌<◌, ℕ, zero, suc, List, [], ◌∷◌, ◌++◌, length, take, drop, slice_index, get_or, refl, subst, inl, inr, arith}, lemmas.{Bool.{cases_Bool}, List.{get_or-drop}}}
+use Rattle.std.specs.declared.{option.Option.{Option, TheVariants.{None, Some}}, result.Result.{Result, TheVariants.{Ok, Err}}}
+use Rattle.base64.specs.{declared.decode.DecodeError.{DecodeError}, Decode.{IsDecodeTable, decode_group, or_else, symbol_error, group_error, group_bytes, groups_error, groups_bytes, groups_before_last, no_leftover, push_leftover, scan_steps, scan_last, scan_bytes, lone_error, suffix_bytes, decode_outcome, decoded_bytes}, Engines.{standard}, GeneralPurpose.{decode_of, IsBytes}}
+use Rattle.base64.proofs.{Decoding.{IsLeftover, IsLeftover_next}, Tables.{IsDecodeTable_from, are_tables_inverse}}
 
 -- ---- parts of bytes are bytes
 

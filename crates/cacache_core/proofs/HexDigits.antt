@@ -1,17 +1,7 @@
 -- What hex digits read as, from what their bytes do.
-use Rattle.std.proofs.Common.{inl, inr, ◌≡◌, ◌≤◌, ℕ, List, [], ◌∷◌, length, nat_lt, refl, ap, arith}
-use Rattle.std.proofs.lemmas.Bool.{cases_Bool, ltb-true}
-use Rattle.std.specs.Prelude.{Result, Ok}
+use Rattle.std.{proofs.{Common.{inl, inr, ◌≡◌, ◌≤◌, ℕ, List, [], ◌∷◌, length, nat_lt, refl, ap, arith}, lemmas.Bool.{cases_Bool, ltb-true}}, specs.Prelude.{Result, Ok}}
 use Rattle.hex.specs.Hex.{decode_of}
-use Rattle.cacache_core.specs.declared.errors.Error.{Error}
-use Rattle.cacache_core.specs.declared.errors.Error.TheVariants.{EntryNotFound, SizeMismatch, IoError, SerdeError, IntegrityError, OutOfMemory}
-use Rattle.cacache_core.specs.declared.errors.IntegrityFault.{IntegrityFault}
-use Rattle.cacache_core.specs.declared.integrity.algorithm.Algorithm.{Algorithm}
-use Rattle.cacache_core.specs.declared.integrity.digest.Hash.{Hash}
-use Rattle.cacache_core.specs.Integrity.{hash_of, IsHash}
-use Rattle.cacache_core.specs.Joining.{only_hash, read_hex}
-use Rattle.cacache_core.specs.Refusals.{IsReadFailure}
-use Rattle.cacache_core.specs.Texts.{long_hash}
+use Rattle.cacache_core.specs.{declared.{errors.{Error.{Error, TheVariants.{EntryNotFound, SizeMismatch, IoError, SerdeError, IntegrityError, OutOfMemory}}, IntegrityFault.{IntegrityFault}}, integrity.{algorithm.Algorithm.{Algorithm}, digest.Hash.{Hash}}}, Integrity.{hash_of, IsHash}, Joining.{only_hash, read_hex}, Refusals.{IsReadFailure}, Texts.{long_hash}}
 
 long : (a : Algorithm) (d : List ℕ) → 3 ≤ length d → only_hash (long_hash a d) ≡ Ok (hash_of a d ∷ [])
 long a d enough = elim (cases_Bool (nat_lt (length d) 3)) [

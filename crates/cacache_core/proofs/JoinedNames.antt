@@ -1,14 +1,8 @@
 -- What the text of names below a folder names.
-use Rattle.std.proofs.Common.{◌≡◌, ◌==◌, ◌||◌, ◌-◌, ◌+◌, ◌<◌, ℕ, Bool, true, false, cond, List, [], ◌∷◌, ◌++◌, Ok, length, take, slice_index, refl, sym, ap, ap₂, subst, ◌∙◌, arith, append_assoc, append-nil, take-append-drop, filter}
-use Rattle.std.specs.List.{list_any}
-use Rattle.std.specs.Prelude.{All}
-use Rattle.std.proofs.lemmas.Bool.{eqb-true}
-use Rattle.std.proofs.lemmas.List.{drop_all, drop_more, nil_from_length}
-use Rattle.std.proofs.lemmas.List.Elements.{All-head, All-tail, filter-append}
-use Rattle.std.proofs.lemmas.List.Folds.{list_any-append}
+use Rattle.std.proofs.{Common.{◌≡◌, ◌==◌, ◌||◌, ◌-◌, ◌+◌, ◌<◌, ℕ, Bool, true, false, cond, List, [], ◌∷◌, ◌++◌, Ok, length, take, slice_index, refl, sym, ap, ap₂, subst, ◌∙◌, arith, append_assoc, append-nil, take-append-drop, filter}, lemmas.{Bool.{eqb-true}, List.{drop_all, drop_more, nil_from_length, Elements.{All-head, All-tail, filter-append}, Folds.{list_any-append}}}}
+use Rattle.std.specs.{List.{list_any}, Prelude.{All}}
 use Rattle.cacache_core.proofs.Splits.{split-append, split_none, none_of_fewer}
-use Rattle.cacache_core.specs.PathNames.{Names, names_of, pieces, is_bad, is_above, is_name, ends_name, IsProperName, home_of, names_below}
-use Rattle.cacache_core.specs.Paths.{join, joined}
+use Rattle.cacache_core.specs.{PathNames.{Names, names_of, pieces, is_bad, is_above, is_name, ends_name, IsProperName, home_of, names_below}, Paths.{join, joined}}
 
 -- ---- one name
 

@@ -1,14 +1,7 @@
 -- Hashes that are kept once: none is lost, and each is a hash.
-use Rattle.std.proofs.Common.{inl, inr, ◌≡◌, ◌<◌, ◌≤◌, ◌+◌, ℕ, true, false, List, [], ◌∷◌, ◌++◌, length, take, get_or, refl, sym, ap, ◌∙◌, length-append, arith}
-use Rattle.std.proofs.lemmas.Bool.{cases_Bool}
-use Rattle.std.proofs.lemmas.List.Elements.{All-nil, All-head, All-tail, All-append, All-push}
-use Rattle.std.proofs.lemmas.List.Sums.{fold-append, fold_more}
-use Rattle.std.specs.Prelude.{All}
-use Rattle.std.specs.List.{fold}
-use Rattle.cacache_core.specs.declared.integrity.digest.Hash.{Hash}
-use Rattle.cacache_core.specs.Integrity.{IsHash, IsIntegrity}
-use Rattle.cacache_core.specs.Joining.{with_hash, each_once, joined_hashes}
-use Rattle.cacache_core.specs.Meeting.{lists}
+use Rattle.std.proofs.{Common.{inl, inr, ◌≡◌, ◌<◌, ◌≤◌, ◌+◌, ℕ, true, false, List, [], ◌∷◌, ◌++◌, length, take, get_or, refl, sym, ap, ◌∙◌, length-append, arith}, lemmas.{Bool.{cases_Bool}, List.{Elements.{All-nil, All-head, All-tail, All-append, All-push}, Sums.{fold-append, fold_more}}}}
+use Rattle.std.specs.{Prelude.{All}, List.{fold}}
+use Rattle.cacache_core.specs.{declared.integrity.digest.Hash.{Hash}, Integrity.{IsHash, IsIntegrity}, Joining.{with_hash, each_once, joined_hashes}, Meeting.{lists}}
 use Rattle.cacache_core.proofs.Order.{ordered_is_integrity}
 
 all_with : (hs : List Hash) (h : Hash) → All IsHash hs → IsHash h → All IsHash (with_hash hs h)

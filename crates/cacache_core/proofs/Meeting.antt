@@ -1,16 +1,7 @@
 -- The tests on integrities say what the relations do.
-use Rattle.std.proofs.Common.{◌≡◌, ◌&&◌, List, [], ◌∷◌, Bool, true, false, cond, Some, None, refl, sym, ap, subst, arith, eq-eqb}
-use Rattle.std.specs.Prelude.{Contains}
-use Rattle.std.specs.List.{slice_index_or}
-use Rattle.std.proofs.lemmas.Bool.{eqb-true, and_parts, and_from}
-use Rattle.std.proofs.lemmas.List.Folds.{Any-from_list_any, list_any-from_Any}
-use Rattle.cacache_core.specs.declared.integrity.algorithm.Algorithm.{Algorithm}
-use Rattle.cacache_core.specs.declared.integrity.digest.Hash.{Hash}
-use Rattle.cacache_core.specs.Digests.{digest}
-use Rattle.cacache_core.specs.Integrity.{rank, is_of, hash_of, ShareDigest}
-use Rattle.cacache_core.specs.IntegrityLaws.{ListsFindsHashes, MeetsFindsBytes, MatchingFindsShared, OwnIsMet}
-use Rattle.cacache_core.specs.Meeting.{lists, meets, share, matching}
-use Rattle.cacache_core.specs.Same.{same_hash, same_rank, same_hash-Decides}
+use Rattle.std.proofs.{Common.{◌≡◌, ◌&&◌, List, [], ◌∷◌, Bool, true, false, cond, Some, None, refl, sym, ap, subst, arith, eq-eqb}, lemmas.{Bool.{eqb-true, and_parts, and_from}, List.Folds.{Any-from_list_any, list_any-from_Any}}}
+use Rattle.std.specs.{Prelude.{Contains}, List.{slice_index_or}}
+use Rattle.cacache_core.specs.{declared.integrity.{algorithm.Algorithm.{Algorithm}, digest.Hash.{Hash}}, Digests.{digest}, Integrity.{rank, is_of, hash_of, ShareDigest}, IntegrityLaws.{ListsFindsHashes, MeetsFindsBytes, MatchingFindsShared, OwnIsMet}, Meeting.{lists, meets, share, matching}, Same.{same_hash, same_rank, same_hash-Decides}}
 
 -- ---- a hash is listed
 

@@ -1,13 +1,7 @@
 -- Hashes in order: strongest algorithm first.
-use Rattle.std.proofs.Common.{inl, inr, ◌≡◌, ◌≢◌, ◌<◌, ◌+◌, ℕ, Bool, true, false, List, [], ◌∷◌, ◌++◌, length, refl, sym, ap, ap₂, ◌∙◌, append-nil, length-append, arith}
-use Rattle.std.proofs.lemmas.Bool.{eqb-true, ne_eqb, cases_Bool}
-use Rattle.std.proofs.lemmas.List.Elements.{All-append, All-filter, filter-append}
-use Rattle.std.specs.Prelude.{All}
-use Rattle.std.specs.List.{filter}
-use Rattle.cacache_core.specs.declared.integrity.algorithm.Algorithm.{Algorithm}
-use Rattle.cacache_core.specs.declared.integrity.algorithm.Algorithm.TheVariants.{Sha1, Sha256, Sha384, Sha512}
-use Rattle.cacache_core.specs.declared.integrity.digest.Hash.{Hash}
-use Rattle.cacache_core.specs.Integrity.{rank, is_of, hash_of, strongest_first, IsHash, IsIntegrity}
+use Rattle.std.proofs.{Common.{inl, inr, ◌≡◌, ◌≢◌, ◌<◌, ◌+◌, ℕ, Bool, true, false, List, [], ◌∷◌, ◌++◌, length, refl, sym, ap, ap₂, ◌∙◌, append-nil, length-append, arith}, lemmas.{Bool.{eqb-true, ne_eqb, cases_Bool}, List.Elements.{All-append, All-filter, filter-append}}}
+use Rattle.std.specs.{Prelude.{All}, List.{filter}}
+use Rattle.cacache_core.specs.{declared.integrity.{algorithm.Algorithm.{Algorithm, TheVariants.{Sha1, Sha256, Sha384, Sha512}}, digest.Hash.{Hash}}, Integrity.{rank, is_of, hash_of, strongest_first, IsHash, IsIntegrity}}
 
 -- a filter keeps all that its own filter kept
 filter_again : (p : Hash → Bool) (hs : List Hash) → filter p (filter p hs) ≡ filter p hs

@@ -1,14 +1,11 @@
 -- Names of paths: how digits are cut, and that none is a beginning of another.
-use Rattle.std.proofs.Common.{◌≡◌, ◌*◌, ◌+◌, ℕ, zero, suc, ◌≤◌, List, [], ◌∷◌, Ok, length, get_or, take, drop, refl, sym, ap, ◌∙◌, arith, length-take, length-append, ◌/◌, slice_index, ◌<◌, ◌++◌, ◌%◌, append_assoc, append-nil}
-use Rattle.std.proofs.lemmas.List.{take_all, drop_all, drop_more}
+use Rattle.std.proofs.{Common.{◌≡◌, ◌*◌, ◌+◌, ℕ, zero, suc, ◌≤◌, List, [], ◌∷◌, Ok, length, get_or, take, drop, refl, sym, ap, ◌∙◌, arith, length-take, length-append, ◌/◌, slice_index, ◌<◌, ◌++◌, ◌%◌, append_assoc, append-nil}, lemmas.List.{take_all, drop_all, drop_more}}
 use Rattle.std.specs.Int.{w32, to_be_bytes}
 use Rattle.base64.specs.GeneralPurpose.{IsBytes}
 use Rattle.sha1.specs.Sha1.{sha1, digest_bytes, hash_after, padded_message}
 use Rattle.cacache_core.proofs.Decoded.{bytes_append}
-use Rattle.cacache_core.specs.PathLaws.{KeysHaveDigests, NoneBegins, KindsAreApart}
-use Rattle.cacache_core.specs.Paths.{content_area, index_area, temp_area, content_names, bucket_names_of, temp_names, Begins, AreApart}
-use Rattle.hex.specs.Hex.{encode_with, encode_lower, lower_digits, decode_of}
-use Rattle.hex.proofs.HexLemmas.{decode_of-encode_lower}
+use Rattle.cacache_core.specs.{PathLaws.{KeysHaveDigests, NoneBegins, KindsAreApart}, Paths.{content_area, index_area, temp_area, content_names, bucket_names_of, temp_names, Begins, AreApart}}
+use Rattle.hex.{specs.Hex.{encode_with, encode_lower, lower_digits, decode_of}, proofs.HexLemmas.{decode_of-encode_lower}}
 
 -- the digits of the first byte
 pub digits_first : (d : List ℕ) → 2 ≤ length d → take 2 (encode_lower d) ≡ encode_lower (take 1 d)

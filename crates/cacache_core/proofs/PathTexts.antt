@@ -1,24 +1,9 @@
 -- Paths as texts: below one cache, equal paths have equal names.
-use Rattle.std.proofs.Common.{◌≡◌, ◌≢◌, ℕ, ◌<◌, ◌≤◌, ◌+◌, ◌-◌, ◌^◌, ◌==◌, Bool, true, false, cond, List, ◌∷◌, ◌++◌, length, get_or, slice_index, take, drop, codes, refl, sym, ap, ap₂, ◌∙◌, subst, arith, append_assoc, append-nil, length-append}
-use Rattle.std.specs.Prelude.{All, []}
-use Rattle.std.specs.Int.{w64, to_be_bytes, from_be_bytes}
-use Rattle.std.proofs.lemmas.Bool.{ne_eqb}
-use Rattle.std.proofs.lemmas.List.{append_cancel_left, get_or-append-add}
-use Rattle.std.proofs.lemmas.List.Elements.{All-head, All-tail}
-use Rattle.std.proofs.lemmas.List.Folds.{list_any_at}
-use Rattle.std.proofs.lemmas.Nat.{from_be_bytes-to_be_bytes_8}
-use Rattle.hex.specs.Hex.{encode_lower, lower_digits}
-use Rattle.hex.proofs.HexLemmas.{length-encode_with}
-use Rattle.cacache_core.proofs.PathLemmas.{same_bytes}
-use Rattle.cacache_core.proofs.ProperNames.{proper_content_folder, proper_content, proper_bucket_folder, proper_bucket, proper_temp_folder, proper_temp, be_bytes}
-use Rattle.cacache_core.specs.declared.integrity.algorithm.Algorithm.{Algorithm}
-use Rattle.cacache_core.specs.declared.integrity.algorithm.Algorithm.TheVariants.{Sha1, Sha256, Sha384, Sha512}
-use Rattle.cacache_core.specs.declared.integrity.digest.Hash.{Hash}
-use Rattle.cacache_core.specs.Integrity.{IsHash, hash_of}
-use Rattle.cacache_core.specs.PathLaws.{IsKeyDigest, PathsDiffer, JoinedTextsSpell}
-use Rattle.cacache_core.specs.PathNames.{ends_name, IsProperName}
-use Rattle.cacache_core.specs.Paths.{join, joined, slashed, cut_digits, content_area, index_area, temp_area, content_names, bucket_names_of, temp_names}
-use Rattle.cacache_core.specs.Texts.{name_of}
+use Rattle.std.proofs.{Common.{◌≡◌, ◌≢◌, ℕ, ◌<◌, ◌≤◌, ◌+◌, ◌-◌, ◌^◌, ◌==◌, Bool, true, false, cond, List, ◌∷◌, ◌++◌, length, get_or, slice_index, take, drop, codes, refl, sym, ap, ap₂, ◌∙◌, subst, arith, append_assoc, append-nil, length-append}, lemmas.{Bool.{ne_eqb}, List.{append_cancel_left, get_or-append-add, Elements.{All-head, All-tail}, Folds.{list_any_at}}, Nat.{from_be_bytes-to_be_bytes_8}}}
+use Rattle.std.specs.{Prelude.{All, []}, Int.{w64, to_be_bytes, from_be_bytes}}
+use Rattle.hex.{specs.Hex.{encode_lower, lower_digits}, proofs.HexLemmas.{length-encode_with}}
+use Rattle.cacache_core.proofs.{PathLemmas.{same_bytes}, ProperNames.{proper_content_folder, proper_content, proper_bucket_folder, proper_bucket, proper_temp_folder, proper_temp, be_bytes}}
+use Rattle.cacache_core.specs.{declared.integrity.{algorithm.Algorithm.{Algorithm, TheVariants.{Sha1, Sha256, Sha384, Sha512}}, digest.Hash.{Hash}}, Integrity.{IsHash, hash_of}, PathLaws.{IsKeyDigest, PathsDiffer, JoinedTextsSpell}, PathNames.{ends_name, IsProperName}, Paths.{join, joined, slashed, cut_digits, content_area, index_area, temp_area, content_names, bucket_names_of, temp_names}, Texts.{name_of}}
 
 -- ---- names after a slash each
 

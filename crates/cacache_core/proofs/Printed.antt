@@ -1,20 +1,9 @@
 -- A printed integrity reads as itself.
-use Rattle.std.proofs.Common.{◌≡◌, ◌≤◌, ◌+◌, ◌*◌, ◌/◌, ◌%◌, ◌||◌, ℕ, zero, suc, Bool, true, false, List, [], ◌∷◌, ◌++◌, length, replicate, slice_index, map, Ok, Err, refl, ap, ap₂, ◌∙◌, cond, not, length-append, arith, codes}
-use Rattle.std.proofs.lemmas.Bool.{le-ltb, ne_eqb}
-use Rattle.std.proofs.lemmas.List.Splits.{slice_split_none, slice_split_at}
-use Rattle.std.proofs.lemmas.List.Elements.{All-nil, All-cons, All-head, All-tail, All-append}
-use Rattle.std.specs.Prelude.{All}
-use Rattle.std.specs.List.{filter, list_any}
-use Rattle.base64.specs.Rfc4648.{encode_symbols, encode_group, padding_len}
-use Rattle.base64.specs.Engines.{standard}
-use Rattle.base64.specs.GeneralPurpose.{encode_of, decode_of, IsBytes}
+use Rattle.std.proofs.{Common.{◌≡◌, ◌≤◌, ◌+◌, ◌*◌, ◌/◌, ◌%◌, ◌||◌, ℕ, zero, suc, Bool, true, false, List, [], ◌∷◌, ◌++◌, length, replicate, slice_index, map, Ok, Err, refl, ap, ap₂, ◌∙◌, cond, not, length-append, arith, codes}, lemmas.{Bool.{le-ltb, ne_eqb}, List.{Splits.{slice_split_none, slice_split_at}, Elements.{All-nil, All-cons, All-head, All-tail, All-append}}}}
+use Rattle.std.specs.{Prelude.{All}, List.{filter, list_any}}
+use Rattle.base64.specs.{Rfc4648.{encode_symbols, encode_group, padding_len}, Engines.{standard}, GeneralPurpose.{encode_of, decode_of, IsBytes}}
 use Rattle.base64.proofs.EngineFacts.{decode_of-encode_of}
-use Rattle.cacache_core.specs.declared.errors.IntegrityFault.TheVariants.{ShortDigest}
-use Rattle.cacache_core.specs.declared.integrity.algorithm.Algorithm.{Algorithm}
-use Rattle.cacache_core.specs.declared.integrity.algorithm.Algorithm.TheVariants.{Sha1, Sha256, Sha384, Sha512}
-use Rattle.cacache_core.specs.declared.integrity.digest.Hash.{Hash}
-use Rattle.cacache_core.specs.Integrity.{IsHash, IsIntegrity}
-use Rattle.cacache_core.specs.Texts.{name_of, hash_text, integrity_text, is_blank, is_some_text, words, decoded_hash, read_word, first_and, read_words, kept_hashes, read_integrity}
+use Rattle.cacache_core.specs.{declared.{errors.IntegrityFault.TheVariants.{ShortDigest}, integrity.{algorithm.Algorithm.{Algorithm, TheVariants.{Sha1, Sha256, Sha384, Sha512}}, digest.Hash.{Hash}}}, Integrity.{IsHash, IsIntegrity}, Texts.{name_of, hash_text, integrity_text, is_blank, is_some_text, words, decoded_hash, read_word, first_and, read_words, kept_hashes, read_integrity}}
 
 -- a byte that is no blank
 abbrev IsLetter : ℕ → Type 0

@@ -1,10 +1,7 @@
 -- What an integrity prints, hash by hash.
-use Rattle.std.proofs.Common.{◌≡◌, ◌<◌, ◌≤◌, ◌+◌, ◌-◌, List, [], ◌∷◌, ◌++◌, ℕ, length, take, drop, get_or, ap, sym, ◌∙◌, append-nil, arith}
-use Rattle.std.proofs.lemmas.List.{take_more, take_all}
-use Rattle.std.proofs.lemmas.List.Concat.{flat_map-append}
+use Rattle.std.proofs.{Common.{◌≡◌, ◌<◌, ◌≤◌, ◌+◌, ◌-◌, List, [], ◌∷◌, ◌++◌, ℕ, length, take, drop, get_or, ap, sym, ◌∙◌, append-nil, arith}, lemmas.List.{take_more, take_all, Concat.{flat_map-append}}}
 use Rattle.std.specs.List.{flat_map}
-use Rattle.cacache_core.specs.declared.integrity.digest.Hash.{Hash}
-use Rattle.cacache_core.specs.Texts.{hash_text, integrity_text}
+use Rattle.cacache_core.specs.{declared.integrity.digest.Hash.{Hash}, Texts.{hash_text, integrity_text}}
 
 -- a hash after the one before it
 abbrev pub spaced : Hash → List ℕ

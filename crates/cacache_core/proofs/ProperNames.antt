@@ -1,24 +1,10 @@
 -- The names of contents, buckets and temporary files are proper ones.
-use Rattle.std.proofs.Common.{◌≡◌, ◌==◌, ◌||◌, ◌<◌, ◌≤◌, ◌/◌, ◌%◌, ℕ, zero, suc, Bool, true, false, List, [], ◌∷◌, ◌++◌, length, take, drop, slice_index, codes, refl, arith, length-drop}
-use Rattle.std.specs.List.{list_any}
-use Rattle.std.specs.Prelude.{All}
-use Rattle.std.specs.Int.{to_be_bytes, w64}
-use Rattle.std.proofs.lemmas.Bool.{ne_eqb}
-use Rattle.std.proofs.lemmas.List.{length-take-le}
-use Rattle.std.proofs.lemmas.List.Elements.{All-nil, All-cons}
-use Rattle.std.proofs.lemmas.List.Folds.{list_any_at}
+use Rattle.std.proofs.{Common.{◌≡◌, ◌==◌, ◌||◌, ◌<◌, ◌≤◌, ◌/◌, ◌%◌, ℕ, zero, suc, Bool, true, false, List, [], ◌∷◌, ◌++◌, length, take, drop, slice_index, codes, refl, arith, length-drop}, lemmas.{Bool.{ne_eqb}, List.{length-take-le, Elements.{All-nil, All-cons}, Folds.{list_any_at}}}}
+use Rattle.std.specs.{List.{list_any}, Prelude.{All}, Int.{to_be_bytes, w64}}
 use Rattle.base64.specs.GeneralPurpose.{IsBytes}
-use Rattle.hex.specs.Hex.{encode_with, encode_lower, lower_digits}
-use Rattle.hex.proofs.HexLemmas.{length-encode_with}
+use Rattle.hex.{specs.Hex.{encode_with, encode_lower, lower_digits}, proofs.HexLemmas.{length-encode_with}}
 use Rattle.cacache_core.proofs.Splits.{none_of_fewer}
-use Rattle.cacache_core.specs.declared.integrity.algorithm.Algorithm.{Algorithm}
-use Rattle.cacache_core.specs.declared.integrity.algorithm.Algorithm.TheVariants.{Sha1, Sha256, Sha384, Sha512}
-use Rattle.cacache_core.specs.declared.integrity.digest.Hash.{Hash}
-use Rattle.cacache_core.specs.Integrity.{IsHash}
-use Rattle.cacache_core.specs.PathLaws.{IsKeyDigest, NamesAreProper}
-use Rattle.cacache_core.specs.PathNames.{ends_name, IsProperName}
-use Rattle.cacache_core.specs.Paths.{content_area, index_area, temp_area, cut_digits}
-use Rattle.cacache_core.specs.Texts.{name_of}
+use Rattle.cacache_core.specs.{declared.integrity.{algorithm.Algorithm.{Algorithm, TheVariants.{Sha1, Sha256, Sha384, Sha512}}, digest.Hash.{Hash}}, Integrity.{IsHash}, PathLaws.{IsKeyDigest, NamesAreProper}, PathNames.{ends_name, IsProperName}, Paths.{content_area, index_area, temp_area, cut_digits}, Texts.{name_of}}
 
 -- NUL, a dot or a slash
 abbrev is_special : ℕ → Bool

@@ -1,13 +1,6 @@
 -- Reading one word after another.
 use Rattle.std.proofs.Common.{◌≡◌, Bool, true, false, cond, List, [], ◌∷◌, ◌++◌, ℕ, Result, Ok, Err, refl, sym, ap, ◌∙◌, append_assoc, append-nil, length, ◌<◌, arith}
-use Rattle.cacache_core.specs.declared.errors.Error.{Error}
-use Rattle.cacache_core.specs.declared.errors.Error.TheVariants.{EntryNotFound, SizeMismatch, IoError, SerdeError, IntegrityError, OutOfMemory}
-use Rattle.cacache_core.specs.declared.errors.IntegrityFault.{IntegrityFault}
-use Rattle.cacache_core.specs.declared.errors.IntegrityFault.TheVariants.{BadText}
-use Rattle.cacache_core.specs.declared.integrity.digest.Hash.{Hash}
-use Rattle.cacache_core.specs.Integrity.{strongest_first}
-use Rattle.cacache_core.specs.Texts.{first_and, kept_hashes, read_word, read_words, read_integrity, words}
-use Rattle.cacache_core.specs.Refusals.{IsReadFailure}
+use Rattle.cacache_core.specs.{declared.{errors.{Error.{Error, TheVariants.{EntryNotFound, SizeMismatch, IoError, SerdeError, IntegrityError, OutOfMemory}}, IntegrityFault.{IntegrityFault, TheVariants.{BadText}}}, integrity.digest.Hash.{Hash}}, Integrity.{strongest_first}, Texts.{first_and, kept_hashes, read_word, read_words, read_integrity, words}, Refusals.{IsReadFailure}}
 
 -- hashes that were read before the others
 abbrev pub before : List Hash → Result (List Hash) IntegrityFault → Result (List Hash) IntegrityFault

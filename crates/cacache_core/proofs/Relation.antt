@@ -1,27 +1,9 @@
 -- A text reads as an integrity exactly where it is one of that integrity.
-use Rattle.std.proofs.Common.{◌≡◌, ◌≤◌, ◌<◌, ℕ, zero, suc, Bool, true, false, cond, List, [], ◌∷◌, ◌++◌, length, drop, nat_eq, nat_lt, codes, Result, Ok, Err, refl, sym, ap, ap₂, subst, ◌∙◌, inl, inr, arith, ◌⊎◌}
-use Rattle.std.proofs.lemmas.Bool.{cases_Bool, ltb-false}
-use Rattle.std.proofs.lemmas.Bool.Decides.{Decides-eqb}
-use Rattle.std.proofs.lemmas.List.Elements.{All-nil, All-cons, All-head, All-tail, All-filter, All-same}
-use Rattle.std.proofs.lemmas.List.Splits.{slice_split-cons_yes, slice_split-cons_no}
-use Rattle.std.proofs.lemmas.Slice.Eq.{starts_is}
-use Rattle.std.specs.Prelude.{All}
-use Rattle.std.specs.List.{starts_with, slice_split, onto_first}
-use Rattle.base64.specs.declared.decode.DecodeError.{DecodeError}
-use Rattle.base64.specs.Engines.{standard}
-use Rattle.base64.specs.GeneralPurpose.{decode_of, IsBytes}
-use Rattle.base64.proofs.EngineFacts.{decode_of_strict}
-use Rattle.cacache_core.specs.declared.errors.IntegrityFault.{IntegrityFault}
-use Rattle.cacache_core.specs.declared.errors.IntegrityFault.TheVariants.{ShortDigest}
-use Rattle.cacache_core.specs.declared.integrity.algorithm.Algorithm.{Algorithm}
-use Rattle.cacache_core.specs.declared.integrity.algorithm.Algorithm.TheVariants.{Sha1, Sha256, Sha384, Sha512}
-use Rattle.cacache_core.specs.declared.integrity.digest.Hash.{Hash}
-use Rattle.cacache_core.specs.Integrity.{IsHash, IsIntegrity, hash_of}
-use Rattle.cacache_core.specs.Texts.{name_of, hash_text, is_blank, is_some_text, words, long_hash, decoded_hash, hash_behind, read_word, first_and, read_words, kept_hashes, read_integrity, AreHashes, IsIntegrityText}
-use Rattle.cacache_core.proofs.Decoded.{bytes_drop, decoded_is_bytes}
-use Rattle.cacache_core.proofs.Order.{ordered_is_integrity}
-use Rattle.cacache_core.proofs.Printed.{read_word-hash_text}
-use Rattle.cacache_core.proofs.ReadLemmas.{read_some}
+use Rattle.std.proofs.{Common.{◌≡◌, ◌≤◌, ◌<◌, ℕ, zero, suc, Bool, true, false, cond, List, [], ◌∷◌, ◌++◌, length, drop, nat_eq, nat_lt, codes, Result, Ok, Err, refl, sym, ap, ap₂, subst, ◌∙◌, inl, inr, arith, ◌⊎◌}, lemmas.{Bool.{cases_Bool, ltb-false, Decides.{Decides-eqb}}, List.{Elements.{All-nil, All-cons, All-head, All-tail, All-filter, All-same}, Splits.{slice_split-cons_yes, slice_split-cons_no}}, Slice.Eq.{starts_is}}}
+use Rattle.std.specs.{Prelude.{All}, List.{starts_with, slice_split, onto_first}}
+use Rattle.base64.{specs.{declared.decode.DecodeError.{DecodeError}, Engines.{standard}, GeneralPurpose.{decode_of, IsBytes}}, proofs.EngineFacts.{decode_of_strict}}
+use Rattle.cacache_core.specs.{declared.{errors.IntegrityFault.{IntegrityFault, TheVariants.{ShortDigest}}, integrity.{algorithm.Algorithm.{Algorithm, TheVariants.{Sha1, Sha256, Sha384, Sha512}}, digest.Hash.{Hash}}}, Integrity.{IsHash, IsIntegrity, hash_of}, Texts.{name_of, hash_text, is_blank, is_some_text, words, long_hash, decoded_hash, hash_behind, read_word, first_and, read_words, kept_hashes, read_integrity, AreHashes, IsIntegrityText}}
+use Rattle.cacache_core.proofs.{Decoded.{bytes_drop, decoded_is_bytes}, Order.{ordered_is_integrity}, Printed.{read_word-hash_text}, ReadLemmas.{read_some}}
 
 -- ---- what is in the relation reads so
 

@@ -1,6 +1,5 @@
 -- A list that is cut at each element that passes a test.
-use Rattle.std.proofs.Common.{◌≡◌, ◌≢◌, ◌||◌, Bool, true, false, cond, List, [], ◌∷◌, ◌++◌, refl, ap, ◌∙◌}
-use Rattle.std.specs.List.{slice_split, onto_first, list_any}
+use Rattle.std.{proofs.Common.{◌≡◌, ◌≢◌, ◌||◌, Bool, true, false, cond, List, [], ◌∷◌, ◌++◌, refl, ap, ◌∙◌}, specs.List.{slice_split, onto_first, list_any}}
 
 onto_first_some : {X : Type 0} (t : Bool) (x : X) (ps : List (List X)) → cond t ([] ∷ ps) (onto_first x ps) ≢ []
 onto_first_some true x ps e = cc

@@ -1,8 +1,5 @@
 -- How a text is cut into words.
-use Rattle.std.proofs.Common.{◌≡◌, ◌<◌, ◌≤◌, ℕ, zero, suc, Bool, true, false, List, [], ◌∷◌, length, take, drop, get_or, refl, sym, ap, ◌∙◌, cond, not, add-zero, length-drop, arith}
-use Rattle.std.proofs.lemmas.Bool.{ne_eqb}
-use Rattle.std.proofs.lemmas.List.{get_or-drop}
-use Rattle.std.proofs.lemmas.List.Splits.{slice_split-cons_yes, slice_split-cons_no}
+use Rattle.std.proofs.{Common.{◌≡◌, ◌<◌, ◌≤◌, ℕ, zero, suc, Bool, true, false, List, [], ◌∷◌, length, take, drop, get_or, refl, sym, ap, ◌∙◌, cond, not, add-zero, length-drop, arith}, lemmas.{Bool.{ne_eqb}, List.{get_or-drop, Splits.{slice_split-cons_yes, slice_split-cons_no}}}}
 use Rattle.std.specs.List.{slice_split, onto_first, filter}
 use Rattle.cacache_core.specs.Texts.{is_blank, is_some_text, words}
 

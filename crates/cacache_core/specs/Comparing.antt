@@ -1,13 +1,7 @@
 -- The order of hashes and of integrities, and what a map's hasher is fed of them.
-use Rattle.std.specs.Prelude.{◌≡◌, ℕ, ◌++◌, List, Some}
-use Rattle.std.specs.Cmp.{IsTotalOrder, IsPartialOrder, po, then_total, on_total, nat_cmp_total, both_tied, unsigned_ties}
-use Rattle.std.specs.Cmp.Lexicographic.{slice_cmp, lists_total, lists_ties, texts_ties, nat_list_cmp_total}
+use Rattle.std.specs.{Prelude.{◌≡◌, ℕ, ◌++◌, List, Some}, Cmp.{IsTotalOrder, IsPartialOrder, po, then_total, on_total, nat_cmp_total, both_tied, unsigned_ties, Lexicographic.{slice_cmp, lists_total, lists_ties, texts_ties, nat_list_cmp_total}}, Ordering.{nat_cmp, ordering_then, eq_by_cmp}, declared.cmp.Ordering.{Ordering}}
 use Rattle.std.specs.Hash as fed
-use Rattle.std.specs.Ordering.{nat_cmp, ordering_then, eq_by_cmp}
-use Rattle.std.specs.declared.cmp.Ordering.{Ordering}
-use Rattle.cacache_core.specs.declared.integrity.digest.Hash.{Hash}
-use Rattle.cacache_core.specs.Integrity.{rank}
-use Rattle.cacache_core.specs.Same.{same_hash, same_hashes}
+use Rattle.cacache_core.specs.{declared.integrity.digest.Hash.{Hash}, Integrity.{rank}, Same.{same_hash, same_hashes}}
 
 -- the stronger algorithm first, and then by the digests' bytes
 abbrev pub hash_cmp : Hash → Hash → Ordering

@@ -1,11 +1,8 @@
 -- Which fault an io error is, and which error a failure becomes under a context.
-use Rattle.std.specs.Prelude.{◌≡◌, Option, None, Some, Result, MatchResult}
-use Rattle.std.specs.declared.io.ErrorKind.{ErrorKind}
+use Rattle.std.specs.{Prelude.{◌≡◌, Option, None, Some, Result, MatchResult}, declared.io.ErrorKind.{ErrorKind}}
 use Rattle.std.specs.declared.io.ErrorKind.TheVariants as kind
-use Rattle.cacache_core.specs.declared.errors.Error.{Error}
+use Rattle.cacache_core.specs.declared.errors.{Error.{Error}, Fault.{Fault, TheVariants.{NotFound, AlreadyExists, NotADirectory, IsADirectory, NotEmpty, Unsupported, InvalidInput, WriteZero, TooDeep, Device}}}
 use Rattle.cacache_core.specs.declared.errors.Error.TheVariants as error
-use Rattle.cacache_core.specs.declared.errors.Fault.{Fault}
-use Rattle.cacache_core.specs.declared.errors.Fault.TheVariants.{NotFound, AlreadyExists, NotADirectory, IsADirectory, NotEmpty, Unsupported, InvalidInput, WriteZero, TooDeep, Device}
 
 -- the fault of an io error's kind: a kind without a fault of its own is a failure of the device
 abbrev pub fault_of : ErrorKind → Fault

@@ -2,10 +2,8 @@
 use Rattle.std.specs.Prelude.{ℕ, List}
 use Rattle.hex.specs.Hex.{encode_lower}
 use Rattle.sha1.specs.Sha1.{sha1}
-use Rattle.sha2.specs.Sha256.{sha256}
-use Rattle.sha2.specs.Sha512.{sha384, sha512}
-use Rattle.cacache_core.specs.declared.integrity.algorithm.Algorithm.{Algorithm}
-use Rattle.cacache_core.specs.declared.integrity.algorithm.Algorithm.TheVariants.{Sha1, Sha256, Sha384, Sha512}
+use Rattle.sha2.specs.{Sha256.{sha256}, Sha512.{sha384, sha512}}
+use Rattle.cacache_core.specs.declared.integrity.algorithm.Algorithm.{Algorithm, TheVariants.{Sha1, Sha256, Sha384, Sha512}}
 
 -- the digest of bytes under an algorithm (FIPS 180-4)
 abbrev pub digest : Algorithm → List ℕ → List ℕ

@@ -1,7 +1,6 @@
 -- What a fault is called.
 use Rattle.std.specs.Prelude.{ℕ, List, codes}
-use Rattle.cacache_core.specs.declared.errors.Fault.{Fault}
-use Rattle.cacache_core.specs.declared.errors.Fault.TheVariants.{NotFound, AlreadyExists, NotADirectory, IsADirectory, NotEmpty, Unsupported, InvalidInput, WriteZero, ShortAppend, Closed, OtherBytes, Cancelled, TooDeep, Device}
+use Rattle.cacache_core.specs.declared.errors.Fault.{Fault, TheVariants.{NotFound, AlreadyExists, NotADirectory, IsADirectory, NotEmpty, Unsupported, InvalidInput, WriteZero, ShortAppend, Closed, OtherBytes, Cancelled, TooDeep, Device}}
 
 -- a few plain words for each fault
 abbrev pub fault_text : Fault → List ℕ

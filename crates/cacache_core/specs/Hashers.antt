@@ -2,11 +2,8 @@
 use Rattle.std.specs.Prelude.{ℕ, List}
 use Rattle.sha1.specs.Sha1.{Holds as HoldsSha1}
 use Rattle.sha2.specs.Hashers.{Holds256, Holds384, Holds512}
-use Rattle.cacache_core.specs.declared.integrity.algorithm.Algorithm.{Algorithm}
+use Rattle.cacache_core.specs.declared.integrity.{algorithm.Algorithm.{Algorithm}, hasher.{Hasher.{Hasher, TheVariants.{Sha1, Sha256, Sha384, Sha512}}, Finished.{Finished}}}
 use Rattle.cacache_core.specs.declared.integrity.algorithm.Algorithm.TheVariants as algorithm
-use Rattle.cacache_core.specs.declared.integrity.hasher.Hasher.{Hasher}
-use Rattle.cacache_core.specs.declared.integrity.hasher.Hasher.TheVariants.{Sha1, Sha256, Sha384, Sha512}
-use Rattle.cacache_core.specs.declared.integrity.hasher.Finished.{Finished}
 use Rattle.cacache_core.specs.declared.integrity.hasher.Finished.TheVariants as finished
 
 -- the algorithm that a hasher computes

@@ -1,9 +1,6 @@
 -- What holds of integrities: the tests on them say what the relations do.
 use Rattle.std.specs.Prelude.{◌≡◌, ◌↔◌, ℕ, List, true, Some, Contains}
-use Rattle.cacache_core.specs.declared.integrity.algorithm.Algorithm.{Algorithm}
-use Rattle.cacache_core.specs.declared.integrity.digest.Hash.{Hash}
-use Rattle.cacache_core.specs.Integrity.{Meets, ShareDigest, strongest, integrity_under}
-use Rattle.cacache_core.specs.Meeting.{lists, meets, matching}
+use Rattle.cacache_core.specs.{declared.integrity.{algorithm.Algorithm.{Algorithm}, digest.Hash.{Hash}}, Integrity.{Meets, ShareDigest, strongest, integrity_under}, Meeting.{lists, meets, matching}}
 
 -- the test of a list finds each of its hashes and no other
 abbrev pub ListsFindsHashes : Type 0

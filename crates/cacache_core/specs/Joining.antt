@@ -1,15 +1,7 @@
 -- Integrities that are made of hex digits, and of two others.
-use Rattle.std.specs.Prelude.{ℕ, List, [], ◌∷◌, ◌++◌, if◌then◌else◌, Result, Ok, Err}
-use Rattle.std.specs.List.{fold}
-use Rattle.hex.specs.Hex.{decode_of}
-use Rattle.hex.specs.declared.error.FromHexError.{FromHexError}
-use Rattle.cacache_core.specs.declared.errors.IntegrityFault.{IntegrityFault}
-use Rattle.cacache_core.specs.declared.errors.IntegrityFault.TheVariants.{BadText}
-use Rattle.cacache_core.specs.declared.integrity.algorithm.Algorithm.{Algorithm}
-use Rattle.cacache_core.specs.declared.integrity.digest.Hash.{Hash}
-use Rattle.cacache_core.specs.Integrity.{strongest_first}
-use Rattle.cacache_core.specs.Meeting.{lists}
-use Rattle.cacache_core.specs.Texts.{long_hash}
+use Rattle.std.specs.{Prelude.{ℕ, List, [], ◌∷◌, ◌++◌, if◌then◌else◌, Result, Ok, Err}, List.{fold}}
+use Rattle.hex.specs.{Hex.{decode_of}, declared.error.FromHexError.{FromHexError}}
+use Rattle.cacache_core.specs.{declared.{errors.IntegrityFault.{IntegrityFault, TheVariants.{BadText}}, integrity.{algorithm.Algorithm.{Algorithm}, digest.Hash.{Hash}}}, Integrity.{strongest_first}, Meeting.{lists}, Texts.{long_hash}}
 
 -- the hash of what hex digits gave
 abbrev pub hex_hash : Algorithm → Result (List ℕ) FromHexError → Result Hash IntegrityFault

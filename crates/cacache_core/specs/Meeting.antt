@@ -1,11 +1,6 @@
 -- Tests: which hashes an integrity lists, which bytes meet it, what two integrities share.
-use Rattle.std.specs.Prelude.{◌&&◌, if◌then◌else◌, ℕ, List, [], ◌∷◌, Bool, false, Option, None, Some}
-use Rattle.std.specs.List.{list_any}
-use Rattle.cacache_core.specs.declared.integrity.algorithm.Algorithm.{Algorithm}
-use Rattle.cacache_core.specs.declared.integrity.digest.Hash.{Hash}
-use Rattle.cacache_core.specs.Digests.{digest}
-use Rattle.cacache_core.specs.Integrity.{is_of, hash_of}
-use Rattle.cacache_core.specs.Same.{same_hash}
+use Rattle.std.specs.{Prelude.{◌&&◌, if◌then◌else◌, ℕ, List, [], ◌∷◌, Bool, false, Option, None, Some}, List.{list_any}}
+use Rattle.cacache_core.specs.{declared.integrity.{algorithm.Algorithm.{Algorithm}, digest.Hash.{Hash}}, Digests.{digest}, Integrity.{is_of, hash_of}, Same.{same_hash}}
 
 -- the hash is one of these
 abbrev pub lists : List Hash → Hash → Bool

@@ -2,10 +2,7 @@
 use Rattle.std.specs.Prelude.{◌≡◌, ◌<◌, ◌↔◌, ◌^◌, ◌++◌, ◌∷◌, ℕ, List, length, All}
 use Rattle.base64.specs.GeneralPurpose.{IsBytes}
 use Rattle.sha1.specs.Sha1.{sha1}
-use Rattle.cacache_core.specs.declared.integrity.digest.Hash.{Hash}
-use Rattle.cacache_core.specs.Integrity.{IsHash}
-use Rattle.cacache_core.specs.PathNames.{Names, names_of, home_of, names_below, IsProperName}
-use Rattle.cacache_core.specs.Paths.{join, joined, slashed, content_names, bucket_names_of, temp_names, Begins, AreApart}
+use Rattle.cacache_core.specs.{declared.integrity.digest.Hash.{Hash}, Integrity.{IsHash}, PathNames.{Names, names_of, home_of, names_below, IsProperName}, Paths.{join, joined, slashed, content_names, bucket_names_of, temp_names, Begins, AreApart}}
 
 -- what the digest of a key may be: 20 bytes
 pub record IsKeyDigest (digest : List ℕ) : Type 0 where

@@ -1,10 +1,6 @@
 -- The names of a path.
-use Rattle.std.specs.Prelude.{◌≡◌, ℕ, Bool, true, false, ◌||◌, not, ◌==◌, if◌then◌else◌, List, [], ◌∷◌, ◌++◌, Option, None, Some, length, filter, Result, Ok, Err}
-use Rattle.std.specs.Bool.{nat_eq}
-use Rattle.std.specs.Cmp.Lexicographic.{pointwise}
-use Rattle.std.specs.List.{slice_split, list_any}
-use Rattle.cacache_core.specs.declared.errors.Fault.{Fault}
-use Rattle.cacache_core.specs.declared.errors.Fault.TheVariants.{NotFound, InvalidInput}
+use Rattle.std.specs.{Prelude.{◌≡◌, ℕ, Bool, true, false, ◌||◌, not, ◌==◌, if◌then◌else◌, List, [], ◌∷◌, ◌++◌, Option, None, Some, length, filter, Result, Ok, Err}, Bool.{nat_eq}, Cmp.Lexicographic.{pointwise}, List.{slice_split, list_any}}
+use Rattle.cacache_core.specs.declared.errors.Fault.{Fault, TheVariants.{NotFound, InvalidInput}}
 
 -- names from the top folder down
 abbrev pub Names : Type 0

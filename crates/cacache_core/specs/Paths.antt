@@ -1,10 +1,8 @@
 -- Where contents, buckets and temporary files lie: names below the cache folder, and path texts.
-use Rattle.std.specs.Prelude.{◌≡◌, ℕ, ◌-◌, ◌==◌, List, [], ◌∷◌, ◌++◌, if◌then◌else◌, length, take, drop, slice_index, codes}
-use Rattle.std.specs.Int.{to_be_bytes, w64}
+use Rattle.std.specs.{Prelude.{◌≡◌, ℕ, ◌-◌, ◌==◌, List, [], ◌∷◌, ◌++◌, if◌then◌else◌, length, take, drop, slice_index, codes}, Int.{to_be_bytes, w64}}
 use Rattle.hex.specs.Hex.{encode_lower}
 use Rattle.sha1.specs.Sha1.{sha1}
-use Rattle.cacache_core.specs.declared.integrity.digest.Hash.{Hash}
-use Rattle.cacache_core.specs.Texts.{name_of}
+use Rattle.cacache_core.specs.{declared.integrity.digest.Hash.{Hash}, Texts.{name_of}}
 
 -- the folder of contents, by its name in the cache folder
 abbrev pub content_area : List ℕ

@@ -2,12 +2,7 @@
 use Rattle.std.specs.Prelude.{◌≡◌, ℕ, List, Some}
 use Rattle.sha1.specs.Sha1.{Holds as HoldsSha1}
 use Rattle.sha2.specs.Hashers.{Holds256, Holds384, Holds512}
-use Rattle.cacache_core.specs.declared.integrity.algorithm.Algorithm.{Algorithm}
-use Rattle.cacache_core.specs.declared.integrity.digest.Hash.{Hash}
-use Rattle.cacache_core.specs.declared.integrity.builder.IntegrityOpts.{IntegrityOpts}
-use Rattle.cacache_core.specs.declared.integrity.checker.IntegrityChecker.{IntegrityChecker}
-use Rattle.cacache_core.specs.Hashers.{algorithm_of, Holds}
-use Rattle.cacache_core.specs.Integrity.{strongest}
+use Rattle.cacache_core.specs.{declared.integrity.{algorithm.Algorithm.{Algorithm}, digest.Hash.{Hash}, builder.IntegrityOpts.{IntegrityOpts}, checker.IntegrityChecker.{IntegrityChecker}}, Hashers.{algorithm_of, Holds}, Integrity.{strongest}}
 
 -- the algorithm that was set last
 abbrev pub last_algorithm : IntegrityOpts → Algorithm

@@ -1,10 +1,6 @@
 -- Which errors a check and a reading may return.
 use Rattle.std.specs.Prelude.{◌≡◌, List, Result, Err}
-use Rattle.cacache_core.specs.declared.errors.Error.{Error}
-use Rattle.cacache_core.specs.declared.errors.Error.TheVariants.{IntegrityError, OutOfMemory}
-use Rattle.cacache_core.specs.declared.errors.IntegrityFault.{IntegrityFault}
-use Rattle.cacache_core.specs.declared.errors.IntegrityFault.TheVariants.{Check}
-use Rattle.cacache_core.specs.declared.integrity.digest.Hash.{Hash}
+use Rattle.cacache_core.specs.declared.{errors.{Error.{Error, TheVariants.{IntegrityError, OutOfMemory}}, IntegrityFault.{IntegrityFault, TheVariants.{Check}}}, integrity.digest.Hash.{Hash}}
 
 -- a check fails with what was wanted and what was found, or as memory ran out
 abbrev pub IsCheckFailure : List Hash → List Hash → Error → Type 0

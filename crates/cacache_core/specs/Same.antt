@@ -1,13 +1,7 @@
 -- Equality of hashes and of lists of them, as a test that computes.
-use Rattle.std.specs.Prelude.{◌≡◌, ℕ, ◌==◌, nat_eq, List, Bool, true, ◌&&◌}
+use Rattle.std.specs.{Prelude.{◌≡◌, ℕ, ◌==◌, nat_eq, List, Bool, true, ◌&&◌}, Bool.{Decides}, Cmp.{IsEquivalence, decided, unsigned_Decides, Lexicographic.{pointwise, pointwise_decides, bytes_decides}}}
 use Rattle.std.proofs.Common.{refl, sym, ap, ap₂, ◌∙◌, cond, false}
-use Rattle.std.specs.Bool.{Decides}
-use Rattle.std.specs.Cmp.{IsEquivalence, decided, unsigned_Decides}
-use Rattle.std.specs.Cmp.Lexicographic.{pointwise, pointwise_decides, bytes_decides}
-use Rattle.cacache_core.specs.declared.integrity.algorithm.Algorithm.{Algorithm}
-use Rattle.cacache_core.specs.declared.integrity.algorithm.Algorithm.TheVariants.{Sha1, Sha256, Sha384, Sha512}
-use Rattle.cacache_core.specs.declared.integrity.digest.Hash.{Hash}
-use Rattle.cacache_core.specs.Integrity.{rank}
+use Rattle.cacache_core.specs.{declared.integrity.{algorithm.Algorithm.{Algorithm, TheVariants.{Sha1, Sha256, Sha384, Sha512}}, digest.Hash.{Hash}}, Integrity.{rank}}
 
 -- the same algorithm and the same digest
 abbrev pub same_hash : Hash → Hash → Bool

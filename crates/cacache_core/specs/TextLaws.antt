@@ -1,9 +1,7 @@
 -- What holds of the texts of integrities.
 use Rattle.std.specs.Prelude.{◌≡◌, ◌↔◌, ℕ, List, Ok}
 use Rattle.base64.specs.GeneralPurpose.{IsBytes}
-use Rattle.cacache_core.specs.declared.integrity.digest.Hash.{Hash}
-use Rattle.cacache_core.specs.Integrity.{IsIntegrity}
-use Rattle.cacache_core.specs.Texts.{integrity_text, read_integrity, IsIntegrityText}
+use Rattle.cacache_core.specs.{declared.integrity.digest.Hash.{Hash}, Integrity.{IsIntegrity}, Texts.{integrity_text, read_integrity, IsIntegrityText}}
 
 -- the printed text of an integrity reads as that integrity
 abbrev pub PrintedTextsRead : Type 0

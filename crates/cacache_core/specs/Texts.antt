@@ -1,16 +1,7 @@
 -- The texts of integrities: how one is printed, and what a text reads as.
-use Rattle.std.specs.Prelude.{◌≡◌, ◌<◌, ◌||◌, ◌==◌, ℕ, List, [], ◌∷◌, ◌++◌, Bool, if◌then◌else◌, not, nat_lt, Result, Ok, Err, length, drop, filter, codes}
-use Rattle.std.specs.List.{slice_split, starts_with}
-use Rattle.std.specs.Bool.{nat_eq}
-use Rattle.base64.specs.Engines.{standard}
-use Rattle.base64.specs.GeneralPurpose.{encode_of, decode_of}
-use Rattle.base64.specs.declared.decode.DecodeError.{DecodeError}
-use Rattle.cacache_core.specs.declared.errors.IntegrityFault.{IntegrityFault}
-use Rattle.cacache_core.specs.declared.errors.IntegrityFault.TheVariants.{BadText, ShortDigest}
-use Rattle.cacache_core.specs.declared.integrity.algorithm.Algorithm.{Algorithm}
-use Rattle.cacache_core.specs.declared.integrity.algorithm.Algorithm.TheVariants.{Sha1, Sha256, Sha384, Sha512}
-use Rattle.cacache_core.specs.declared.integrity.digest.Hash.{Hash}
-use Rattle.cacache_core.specs.Integrity.{IsHash, hash_of, strongest_first}
+use Rattle.std.specs.{Prelude.{◌≡◌, ◌<◌, ◌||◌, ◌==◌, ℕ, List, [], ◌∷◌, ◌++◌, Bool, if◌then◌else◌, not, nat_lt, Result, Ok, Err, length, drop, filter, codes}, List.{slice_split, starts_with}, Bool.{nat_eq}}
+use Rattle.base64.specs.{Engines.{standard}, GeneralPurpose.{encode_of, decode_of}, declared.decode.DecodeError.{DecodeError}}
+use Rattle.cacache_core.specs.{declared.{errors.IntegrityFault.{IntegrityFault, TheVariants.{BadText, ShortDigest}}, integrity.{algorithm.Algorithm.{Algorithm, TheVariants.{Sha1, Sha256, Sha384, Sha512}}, digest.Hash.{Hash}}}, Integrity.{IsHash, hash_of, strongest_first}}
 
 -- ---- printing
 

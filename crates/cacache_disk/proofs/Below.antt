@@ -1,25 +1,9 @@
 -- In the order of paths, what lies below a folder stands together behind it.
-use Rattle.std.proofs.Common.{◌≡◌, ℕ, Bool, true, false, List, [], ◌∷◌, refl, sym, ap, ◌∙◌}
-use Rattle.std.specs.Prelude.{None, map as keys_of}
-use Rattle.std.specs.List.{AllByRecursion, filter_map}
-use Rattle.std.specs.List.Sorted.{IsStrictlySortedBy}
-use Rattle.std.specs.Bool.{nat_eq}
-use Rattle.std.specs.declared.cmp.Ordering.{Ordering}
-use Rattle.std.specs.declared.cmp.Ordering.TheVariants.{Less, Equal, Greater}
-use Rattle.std.specs.declared.ops.Bound.TheVariants.{Included, Unbounded}
-use Rattle.std.specs.Ordering.{nat_cmp, is_le, ordering_reverse}
-use Rattle.std.specs.Cmp.{eq_by_cmp_equiv}
-use Rattle.std.specs.Cmp.Lexicographic.{pointwise, slice_cmp, bytes_decides}
-use Rattle.std.specs.FinMap.{nat_cmp-IsAntisymmetric, slice_cmp-IsAntisymmetric}
-use Rattle.std.proofs.lemmas.Bool.{and_parts, and_right}
-use Rattle.std.proofs.lemmas.Cmp.{nat_list_cmp_total}
-use Rattle.std.specs.BTreeMap.Range.{entries_between}
-use Rattle.cacache_disk.specs.declared.node.Node.{Node}
+use Rattle.std.proofs.{Common.{◌≡◌, ℕ, Bool, true, false, List, [], ◌∷◌, refl, sym, ap, ◌∙◌}, lemmas.{Bool.{and_parts, and_right}, Cmp.{nat_list_cmp_total}}}
+use Rattle.std.specs.{Prelude.{None, map as keys_of}, List.{AllByRecursion, filter_map, Sorted.{IsStrictlySortedBy}}, Bool.{nat_eq}, declared.{cmp.Ordering.{Ordering, TheVariants.{Less, Equal, Greater}}, ops.Bound.TheVariants.{Included, Unbounded}}, Ordering.{nat_cmp, is_le, ordering_reverse}, Cmp.{eq_by_cmp_equiv, Lexicographic.{pointwise, slice_cmp, bytes_decides}}, FinMap.{nat_cmp-IsAntisymmetric, slice_cmp-IsAntisymmetric}, BTreeMap.{Range.{entries_between}, BTreeMap}}
+use Rattle.cacache_disk.{specs.{declared.node.Node.{Node}, Tree.{Tree, Names, names_cmp, is_below, child_of, listing}}, proofs.Maps.{is_eq_true, entries_map}}
 use Rattle.std.specs.FinMap as map
 use Rattle.std.specs.BTreeMap as btree
-use Rattle.std.specs.BTreeMap.{BTreeMap}
-use Rattle.cacache_disk.specs.Tree.{Tree, Names, names_cmp, is_below, child_of, listing}
-use Rattle.cacache_disk.proofs.Maps.{is_eq_true, entries_map}
 
 name_itself : (a : List ℕ) → slice_cmp nat_cmp a a ≡ Equal
 name_itself a = is_eq_true _ ((eq_by_cmp_equiv nat_list_cmp_total).refl a)

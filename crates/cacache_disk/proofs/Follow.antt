@@ -1,11 +1,7 @@
 -- One link more.
-use Rattle.std.proofs.Common.{◌≡◌, ◌<◌, ◌-◌, ℕ, zero, suc, refl, arith, List}
-use Rattle.std.specs.Prelude.{Some, Ok, Err}
-use Rattle.cacache_core.specs.declared.errors.Fault.{Fault}
-use Rattle.cacache_disk.specs.declared.node.Node.TheVariants.{Link}
-use Rattle.cacache_core.specs.PathNames.{Names}
-use Rattle.cacache_disk.specs.Tree.{Tree, look}
-use Rattle.cacache_disk.specs.LedTo.{followed, standing, and_then}
+use Rattle.std.{proofs.Common.{◌≡◌, ◌<◌, ◌-◌, ℕ, zero, suc, refl, arith, List}, specs.Prelude.{Some, Ok, Err}}
+use Rattle.cacache_core.specs.{declared.errors.Fault.{Fault}, PathNames.{Names}}
+use Rattle.cacache_disk.specs.{declared.node.Node.TheVariants.{Link}, Tree.{Tree, look}, LedTo.{followed, standing, and_then}}
 
 pub followed_next : (most : ℕ) (t : Tree) (names : Names) (target : List ℕ) → Some (Link target) ≡ look t names → 0 < most
     → followed most t names ≡ and_then (standing t target) (followed (most - 1) t)

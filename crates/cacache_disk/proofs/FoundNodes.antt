@@ -1,14 +1,7 @@
 -- What is known of a path where a step found what it wanted.
-use Rattle.std.proofs.Common.{◌≡◌, ◌==◌, length, ℕ, Bool, true, false, cond, List, [], Option, None, Some, Ok, Err, refl, ap, subst, ◌∙◌}
-use Rattle.std.specs.Prelude.{Result}
-use Rattle.cacache_core.specs.declared.errors.Fault.{Fault}
-use Rattle.cacache_core.specs.declared.errors.Fault.TheVariants.{NotEmpty}
-use Rattle.cacache_disk.specs.declared.node.Node.{Node}
-use Rattle.cacache_disk.specs.declared.node.Node.TheVariants.{Folder, File, Link}
-use Rattle.cacache_core.specs.PathNames.{names_of}
-use Rattle.cacache_disk.specs.Tree.{Tree, Names, look, listing}
-use Rattle.cacache_disk.specs.LedTo.{and_then, or_fault, way_fault, place, standing, where_there, where_free, where_no_folder, where_removable, where_folder, where_file, where_empty, free, replaceable, kept, removable, folder, emptied}
-use Rattle.cacache_disk.specs.Rooted.{is_folder}
+use Rattle.std.{proofs.Common.{◌≡◌, ◌==◌, length, ℕ, Bool, true, false, cond, List, [], Option, None, Some, Ok, Err, refl, ap, subst, ◌∙◌}, specs.Prelude.{Result}}
+use Rattle.cacache_core.specs.{declared.errors.Fault.{Fault, TheVariants.{NotEmpty}}, PathNames.{names_of}}
+use Rattle.cacache_disk.specs.{declared.node.Node.{Node, TheVariants.{Folder, File, Link}}, Tree.{Tree, Names, look, listing}, LedTo.{and_then, or_fault, way_fault, place, standing, where_there, where_free, where_no_folder, where_removable, where_folder, where_file, where_empty, free, replaceable, kept, removable, folder, emptied}, Rooted.{is_folder}}
 
 pub and_then_ok : {A B : Type 0} (r : Result A Fault) (next : A → Result B Fault) (b : B) → and_then r next ≡ Ok b
     → (a : A) × (r ≡ Ok a) × (next a ≡ Ok b)

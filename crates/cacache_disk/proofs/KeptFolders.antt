@@ -1,30 +1,11 @@
 -- Every step leaves each node in a folder.
-use Rattle.std.proofs.Common.{◌≡◌, ◌==◌, ◌+◌, ℕ, zero, suc, Bool, true, false, cond, List, ◌∷◌, ◌++◌, Option, None, Some, Ok, length, take, refl, sym, ap, subst, ◌∙◌, arith, eqb-true, length-append, append_assoc, append-nil}
-use Rattle.std.specs.Prelude.{Result, Err, IfOk, OnOk, OnErr, filter_map, slice_index_or, []}
-use Rattle.std.proofs.Math.Seq.{take-append_seam}
-use Rattle.std.proofs.lemmas.Bool.{eq-eqb}
-use Rattle.std.specs.List.{cons_option}
-use Rattle.std.specs.Ordering.{nat_cmp}
+use Rattle.std.proofs.{Common.{◌≡◌, ◌==◌, ◌+◌, ℕ, zero, suc, Bool, true, false, cond, List, ◌∷◌, ◌++◌, Option, None, Some, Ok, length, take, refl, sym, ap, subst, ◌∙◌, arith, eqb-true, length-append, append_assoc, append-nil}, Math.Seq.{take-append_seam}, lemmas.Bool.{eq-eqb}}
+use Rattle.std.specs.{Prelude.{Result, Err, IfOk, OnOk, OnErr, filter_map, slice_index_or, []}, List.{cons_option}, Ordering.{nat_cmp}, Bool.{nat_eq}, Cmp.Lexicographic.{pointwise, slice_cmp, lists_ties, texts_ties}}
 use Rattle.std.specs.FinMap as map
-use Rattle.std.specs.Bool.{nat_eq}
-use Rattle.std.specs.Cmp.Lexicographic.{pointwise, slice_cmp, lists_ties, texts_ties}
-use Rattle.cacache_core.specs.declared.errors.Fault.{Fault}
-use Rattle.cacache_core.specs.declared.errors.Fault.TheVariants.{IsADirectory, InvalidInput}
-use Rattle.cacache_store.specs.declared.store.step.Step.TheVariants.{MakeDirs, CreateTemp, Write, Persist, Append, ReadAll, Open, Read, Size, Exists, Symlink, Copy, Reflink, HardLink, ReadDir, RemoveFile, RemoveDir, SyncTemp, SyncFile, SyncDir}
-use Rattle.cacache_store.specs.Plain.{PlainStep, PlainAnswer}
-use Rattle.cacache_disk.specs.declared.luck.Luck.{Luck}
-use Rattle.cacache_disk.specs.declared.luck.Luck.TheVariants.{Plain, Fail, Take}
-use Rattle.cacache_disk.specs.declared.node.Node.{Node}
-use Rattle.cacache_disk.specs.declared.node.Node.TheVariants.{Folder, File, Link}
-use Rattle.cacache_core.specs.PathNames.{names_of}
-use Rattle.cacache_disk.specs.Tree.{Tree, Names, look, put, names_cmp, same_path, listing, child_of, is_child, kind_of}
-use Rattle.cacache_disk.specs.LedTo.{and_then, or_fault, through, way_fault, place, standing, followed, leads, on_link, where_no_folder, where_there, writable, free, known, kept, replaceable, file_at, linked, removable, emptied, folder, dirs, dirs_fault}
-use Rattle.cacache_disk.specs.Apply.{apply, plain, unless, making, is_taking, is_parted, fails, fault_told, left_by}
-use Rattle.cacache_disk.specs.Rooted.{is_folder, Rooted}
-use Rattle.cacache_disk.proofs.Maps.{same_path-true}
-use Rattle.cacache_disk.proofs.NameLemmas.{names_proper}
-use Rattle.cacache_disk.proofs.FoundNodes.{and_then_ok, or_fault_none, place_ok, no_folder_at, there_at, free_ok, kept_ok, replaceable_ok, removable_ok, emptied_ok}
-use Rattle.cacache_disk.proofs.Roots.{CanStand, put_rooted, cut_rooted, file_cut, persist_rooted, make_rooted, same_self, IsBare}
+use Rattle.cacache_core.specs.{declared.errors.Fault.{Fault, TheVariants.{IsADirectory, InvalidInput}}, PathNames.{names_of}}
+use Rattle.cacache_store.specs.{declared.store.step.Step.TheVariants.{MakeDirs, CreateTemp, Write, Persist, Append, ReadAll, Open, Read, Size, Exists, Symlink, Copy, Reflink, HardLink, ReadDir, RemoveFile, RemoveDir, SyncTemp, SyncFile, SyncDir}, Plain.{PlainStep, PlainAnswer}}
+use Rattle.cacache_disk.specs.{declared.{luck.Luck.{Luck, TheVariants.{Plain, Fail, Take}}, node.Node.{Node, TheVariants.{Folder, File, Link}}}, Tree.{Tree, Names, look, put, names_cmp, same_path, listing, child_of, is_child, kind_of}, LedTo.{and_then, or_fault, through, way_fault, place, standing, followed, leads, on_link, where_no_folder, where_there, writable, free, known, kept, replaceable, file_at, linked, removable, emptied, folder, dirs, dirs_fault}, Apply.{apply, plain, unless, making, is_taking, is_parted, fails, fault_told, left_by}, Rooted.{is_folder, Rooted}}
+use Rattle.cacache_disk.proofs.{Maps.{same_path-true}, NameLemmas.{names_proper}, FoundNodes.{and_then_ok, or_fault_none, place_ok, no_folder_at, there_at, free_ok, kept_ok, replaceable_ok, removable_ok, emptied_ok}, Roots.{CanStand, put_rooted, cut_rooted, file_cut, persist_rooted, make_rooted, same_self, IsBare}}
 
 -- ---- what holds of the tree before, and after as much of the step as you like, holds after it
 

@@ -1,21 +1,9 @@
 -- The nodes as a finite map.
-use Rattle.std.proofs.Common.{◌≡◌, Bool, true, false, cond, List, [], ◌∷◌, refl, sym, ap, ◌∙◌}
-use Rattle.std.specs.Prelude.{◌&&◌, T, None, Some, IsSome, map as keys_of}
-use Rattle.std.specs.List.{AllByRecursion}
-use Rattle.std.specs.List.Sorted.{IsStrictlySortedBy}
-use Rattle.std.specs.FinMap.Entries.{below_all}
-use Rattle.std.specs.declared.cmp.Ordering.{Ordering}
-use Rattle.std.specs.declared.cmp.Ordering.TheVariants.{Less, Equal, Greater}
-use Rattle.std.specs.Ordering.{eq_by_cmp, is_eq}
-use Rattle.std.specs.Cmp.{IsTotalOrder, eq_by_cmp_equiv}
-use Rattle.std.proofs.lemmas.Cmp.{nat_list_cmp_total, lists_total}
+use Rattle.std.proofs.{Common.{◌≡◌, Bool, true, false, cond, List, [], ◌∷◌, refl, sym, ap, ◌∙◌}, lemmas.Cmp.{nat_list_cmp_total, lists_total}}
+use Rattle.std.specs.{Prelude.{◌&&◌, T, None, Some, IsSome, map as keys_of}, List.{AllByRecursion, Sorted.{IsStrictlySortedBy}}, FinMap.{Entries.{below_all}, IsAntisymmetric, nat_cmp-IsAntisymmetric, slice_cmp-IsAntisymmetric}, declared.cmp.Ordering.{Ordering, TheVariants.{Less, Equal, Greater}}, Ordering.{eq_by_cmp, is_eq}, Cmp.{IsTotalOrder, eq_by_cmp_equiv}, BTreeMap.{BTreeMap, is_at}, Map.{lookup}}
 use Rattle.std.specs.FinMap as map
-use Rattle.std.specs.FinMap.{IsAntisymmetric, nat_cmp-IsAntisymmetric, slice_cmp-IsAntisymmetric}
 use Rattle.std.specs.BTreeMap as btree
-use Rattle.std.specs.BTreeMap.{BTreeMap, is_at}
-use Rattle.std.specs.Map.{lookup}
-use Rattle.cacache_disk.specs.declared.node.Node.{Node}
-use Rattle.cacache_disk.specs.Tree.{Tree, Names, names_cmp, same_path}
+use Rattle.cacache_disk.specs.{declared.node.Node.{Node}, Tree.{Tree, Names, names_cmp, same_path}}
 
 pub total : IsTotalOrder names_cmp
 total = lists_total nat_list_cmp_total

@@ -1,13 +1,7 @@
 -- The names of a path's text, piece by piece.
-use Rattle.std.proofs.Common.{◌≡◌, ◌<◌, ◌+◌, ◌==◌, ◌||◌, ℕ, zero, suc, Bool, true, false, cond, subst, List, [], ◌∷◌, ◌++◌, length, take, filter, get_or, refl, ap, sym, ◌∙◌, arith, append-nil}
-use Rattle.std.specs.Prelude.{Ok, Err}
-use Rattle.std.specs.List.{list_any, slice_split, onto_first, AllByRecursion}
-use Rattle.std.proofs.lemmas.List.{take_all}
-use Rattle.std.proofs.lemmas.List.Elements.{filter_more}
-use Rattle.std.proofs.lemmas.List.Folds.{list_any_more, list_any_at}
-use Rattle.cacache_core.specs.declared.errors.Fault.{Fault}
-use Rattle.cacache_core.specs.declared.errors.Fault.TheVariants.{NotFound, InvalidInput}
-use Rattle.cacache_core.specs.PathNames.{Names, IsProperName, names_of, pieces, ends_name, is_above, is_name, is_bad}
+use Rattle.std.proofs.{Common.{◌≡◌, ◌<◌, ◌+◌, ◌==◌, ◌||◌, ℕ, zero, suc, Bool, true, false, cond, subst, List, [], ◌∷◌, ◌++◌, length, take, filter, get_or, refl, ap, sym, ◌∙◌, arith, append-nil}, lemmas.List.{take_all, Elements.{filter_more}, Folds.{list_any_more, list_any_at}}}
+use Rattle.std.specs.{Prelude.{Ok, Err}, List.{list_any, slice_split, onto_first, AllByRecursion}}
+use Rattle.cacache_core.specs.{declared.errors.Fault.{Fault, TheVariants.{NotFound, InvalidInput}}, PathNames.{Names, IsProperName, names_of, pieces, ends_name, is_above, is_name, is_bad}}
 
 -- one item more that passes the filter
 pub filter_yes : {X : Type 0} (p : X → Bool) (all : List X) (n m : ℕ) (x : X) (old new : List X) → (n < length all) × (x ≡ get_or all n x) → m ≡ n + 1 → p x ≡ true

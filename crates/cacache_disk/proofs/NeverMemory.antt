@@ -1,19 +1,9 @@
 -- The definition of a step never answers that memory was refused.
-use Rattle.std.proofs.Common.{◌≡◌, ◌∙◌, ℕ, Bool, true, false, cond, ◌==◌, length, List, refl, sym, ap}
-use Rattle.std.specs.Prelude.{Option, None, Some, Result, Ok, Err}
-use Rattle.cacache_core.specs.declared.errors.Fault.{Fault}
+use Rattle.std.{proofs.Common.{◌≡◌, ◌∙◌, ℕ, Bool, true, false, cond, ◌==◌, length, List, refl, sym, ap}, specs.Prelude.{Option, None, Some, Result, Ok, Err}}
+use Rattle.cacache_core.specs.{declared.errors.Fault.{Fault}, PathNames.{Names}}
 use Rattle.cacache_core.specs.declared.errors.Fault.TheVariants as fault
-use Rattle.cacache_store.specs.declared.store.plain.PlainFile.{PlainFile}
-use Rattle.cacache_store.specs.declared.store.plain.PlainTemp.{PlainTemp}
-use Rattle.cacache_store.specs.declared.store.step.Step.TheVariants.{MakeDirs, CreateTemp, Write, Persist, Append, ReadAll, Open, Read, Size, Exists, Symlink, Copy, Reflink, HardLink, ReadDir, RemoveFile, RemoveDir, SyncTemp, SyncFile, SyncDir}
-use Rattle.cacache_store.specs.Fits.{is_no_memory}
-use Rattle.cacache_store.specs.Plain.{PlainStep, PlainAnswer}
-use Rattle.cacache_disk.specs.declared.luck.Luck.{Luck}
-use Rattle.cacache_disk.specs.declared.luck.Luck.TheVariants.{Plain, Fail, Take}
-use Rattle.cacache_core.specs.PathNames.{Names}
-use Rattle.cacache_disk.specs.Tree.{Tree}
-use Rattle.cacache_disk.specs.LedTo.{dirs, free, known, kept, replaceable, writable, file_at, found, linked, folder, removable, emptied}
-use Rattle.cacache_disk.specs.Apply.{unless, grown, given, is_there, plain, readable, taken, is_taking, fails, fault_told, left_by, apply}
+use Rattle.cacache_store.specs.{declared.store.{plain.{PlainFile.{PlainFile}, PlainTemp.{PlainTemp}}, step.Step.TheVariants.{MakeDirs, CreateTemp, Write, Persist, Append, ReadAll, Open, Read, Size, Exists, Symlink, Copy, Reflink, HardLink, ReadDir, RemoveFile, RemoveDir, SyncTemp, SyncFile, SyncDir}}, Fits.{is_no_memory}, Plain.{PlainStep, PlainAnswer}}
+use Rattle.cacache_disk.specs.{declared.luck.Luck.{Luck, TheVariants.{Plain, Fail, Take}}, Tree.{Tree}, LedTo.{dirs, free, known, kept, replaceable, writable, file_at, found, linked, folder, removable, emptied}, Apply.{unless, grown, given, is_there, plain, readable, taken, is_taking, fails, fault_told, left_by, apply}}
 
 told_unless : {A : Type 0} (r : Result A Fault) (t : Tree) (go : A → PlainAnswer × Tree) → ((a : A) → is_no_memory (go a).0 ≡ false) → is_no_memory (unless r t go).0 ≡ false
 told_unless (Ok a) t go h = h a

@@ -1,20 +1,9 @@
 -- What luck makes of a plan.
-use Rattle.std.proofs.Common.{◌≡◌, ◌∙◌, ℕ, Bool, true, false, cond, refl, ap}
-use Rattle.std.specs.Prelude.{Option, None, Some, Result, Ok, Err}
-use Rattle.cacache_core.specs.declared.errors.Fault.{Fault}
-use Rattle.cacache_core.specs.declared.errors.Fault.TheVariants.{InvalidInput}
-use Rattle.cacache_store.specs.declared.store.answer.Answer.TheVariants.{Failed}
-use Rattle.cacache_store.specs.declared.store.step.Step.TheVariants.{MakeDirs, CreateTemp, Write, Persist, Append, ReadAll, Open, Read, Size, Exists, Symlink, Copy, Reflink, HardLink, ReadDir, RemoveFile, RemoveDir, SyncTemp, SyncFile, SyncDir}
-use Rattle.cacache_store.specs.Fits.{Fits}
-use Rattle.cacache_store.specs.Plain.{PlainStep, PlainAnswer}
+use Rattle.std.{proofs.Common.{◌≡◌, ◌∙◌, ℕ, Bool, true, false, cond, refl, ap}, specs.Prelude.{Option, None, Some, Result, Ok, Err}}
+use Rattle.cacache_core.specs.declared.errors.Fault.{Fault, TheVariants.{InvalidInput}}
+use Rattle.cacache_store.specs.{declared.store.{answer.Answer.TheVariants.{Failed}, step.Step.TheVariants.{MakeDirs, CreateTemp, Write, Persist, Append, ReadAll, Open, Read, Size, Exists, Symlink, Copy, Reflink, HardLink, ReadDir, RemoveFile, RemoveDir, SyncTemp, SyncFile, SyncDir}}, Fits.{Fits}, Plain.{PlainStep, PlainAnswer}}
 use Rattle.cacache_disk.specs.declared.change.Change.TheVariants as change
-use Rattle.cacache_disk.specs.declared.change.Plan.{Plan}
-use Rattle.cacache_disk.specs.declared.luck.Luck.{Luck}
-use Rattle.cacache_disk.specs.declared.luck.Luck.TheVariants.{Plain, Fail, Take}
-use Rattle.cacache_disk.specs.Tree.{Tree}
-use Rattle.cacache_disk.specs.LedTo.{dirs, writable, file_at}
-use Rattle.cacache_disk.specs.Apply.{unless, plain, apply, fails, fault_told, left_by, made_up, is_parted}
-use Rattle.cacache_disk.specs.Plans.{changed, IsPlan, most_of, left_over, with_luck}
+use Rattle.cacache_disk.specs.{declared.{change.Plan.{Plan}, luck.Luck.{Luck, TheVariants.{Plain, Fail, Take}}}, Tree.{Tree}, LedTo.{dirs, writable, file_at}, Apply.{unless, plain, apply, fails, fault_told, left_by, made_up, is_parted}, Plans.{changed, IsPlan, most_of, left_over, with_luck}}
 
 unless_fault : {A : Type 0} (r : Result A Fault) (t : Tree) (go same : A → PlainAnswer × Tree) → ((a : A) → fault_told (go a).0 ≡ fault_told (same a).0)
     → fault_told (unless r t go).0 ≡ fault_told (unless r t same).0

@@ -1,12 +1,7 @@
 -- The folders of a path, one by one.
-use Rattle.std.proofs.Common.{◌≡◌, ◌<◌, ◌≤◌, ◌+◌, ◌-◌, ◌==◌, ℕ, false, cond, List, [], ◌∷◌, ◌++◌, length, get_or, take, drop, refl, sym, ap, ◌∙◌, arith, drop-cons, add-one, suc}
-use Rattle.std.proofs.lemmas.List.{take_more, drop_all}
-use Rattle.std.proofs.lemmas.Bool.Decides.{nat_tests}
+use Rattle.std.proofs.{Common.{◌≡◌, ◌<◌, ◌≤◌, ◌+◌, ◌-◌, ◌==◌, ℕ, false, cond, List, [], ◌∷◌, ◌++◌, length, get_or, take, drop, refl, sym, ap, ◌∙◌, arith, drop-cons, add-one, suc}, lemmas.{List.{take_more, drop_all}, Bool.Decides.{nat_tests}}}
 use Rattle.std.specs.Prelude.{Option, None, Some}
-use Rattle.cacache_disk.specs.declared.node.Node.{Node}
-use Rattle.cacache_disk.specs.declared.node.Node.TheVariants.{Folder}
-use Rattle.cacache_disk.specs.Tree.{Tree, Names, look, put}
-use Rattle.cacache_disk.specs.Apply.{make_some, if_missing}
+use Rattle.cacache_disk.specs.{declared.node.Node.{Node, TheVariants.{Folder}}, Tree.{Tree, Names, look, put}, Apply.{make_some, if_missing}}
 
 pub drop_here : (path : Names) (i : ℕ) (d : List ℕ) → i < length path → drop i path ≡ get_or path i d ∷ drop (i + 1) path
 drop_here path i d h = let e : suc i ≤ length path = omega (arith, h) in rw add-one (drop-cons path i d e)

@@ -1,9 +1,7 @@
 -- The text of a path, name by name.
 use Rattle.std.proofs.Common.{◌≡◌, ◌<◌, ◌+◌, ℕ, List, [], ◌∷◌, ◌++◌, length, get_or, take, refl, sym, ap, ◌∙◌}
-use Rattle.cacache_core.specs.PathNames.{Names}
-use Rattle.cacache_core.specs.Paths.{join, joined}
-use Rattle.cacache_disk.specs.AllStanding.{path_text}
-use Rattle.cacache_disk.proofs.PathFolders.{front_next}
+use Rattle.cacache_core.specs.{PathNames.{Names}, Paths.{join, joined}}
+use Rattle.cacache_disk.{specs.AllStanding.{path_text}, proofs.PathFolders.{front_next}}
 
 joined-snoc : (p : List ℕ) (names : Names) (name : List ℕ) → joined p (names ++ name ∷ []) ≡ join (joined p names) name
 joined-snoc p [] name = refl

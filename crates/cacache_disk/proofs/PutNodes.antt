@@ -1,15 +1,8 @@
 -- Nodes that are put and cut.
 use Rattle.std.proofs.Common.{◌≡◌, Bool, true, false, cond, refl, sym, ap, ◌∙◌}
-use Rattle.std.specs.Prelude.{Option, None, Some}
+use Rattle.std.specs.{Prelude.{Option, None, Some}, Bool.{nat_eq}, Ordering.{nat_cmp}, Cmp.{eq_by_cmp_equiv, Lexicographic.{pointwise, slice_cmp, lists_ties, texts_ties}}}
 use Rattle.std.specs.FinMap as map
-use Rattle.std.specs.Bool.{nat_eq}
-use Rattle.std.specs.Ordering.{nat_cmp}
-use Rattle.std.specs.Cmp.{eq_by_cmp_equiv}
-use Rattle.std.specs.Cmp.Lexicographic.{pointwise, slice_cmp, lists_ties, texts_ties}
-use Rattle.cacache_disk.specs.declared.node.Node.{Node}
-use Rattle.cacache_disk.specs.Tree.{Tree, Names, look, put, cut, same_path}
-use Rattle.cacache_disk.specs.Rooted.{is_folder}
-use Rattle.cacache_disk.proofs.Maps.{total, only, same_path-true}
+use Rattle.cacache_disk.{specs.{declared.node.Node.{Node}, Tree.{Tree, Names, look, put, cut, same_path}, Rooted.{is_folder}}, proofs.Maps.{total, only, same_path-true}}
 
 undone : (t : Tree) (p : Names) (node : Node) → None ≡ look t p → (q : Names) (b : Bool) → same_path q p ≡ b → cond b None (cond b (Some node) (look t q)) ≡ look t q
 undone t p node free q true e = free ∙ ap (look t) (sym (same_path-true q p e))

@@ -1,20 +1,10 @@
 -- What is put and cut leaves each node in a folder.
 use Rattle.std.proofs.Common.{◌≡◌, ◌==◌, ◌-◌, ℕ, Bool, true, false, cond, List, [], ◌∷◌, ◌++◌, Option, None, Some, length, refl, sym, ap, subst, ◌∙◌, arith, eqb-true, length-append, append_assoc}
-use Rattle.std.specs.Prelude.{IfSome}
+use Rattle.std.specs.{Prelude.{IfSome}, Cmp.{eq_by_cmp_equiv}}
 use Rattle.std.specs.FinMap as map
-use Rattle.std.specs.Cmp.{eq_by_cmp_equiv}
-use Rattle.cacache_core.specs.declared.errors.Fault.{Fault}
-use Rattle.cacache_core.specs.declared.errors.Fault.TheVariants.{AlreadyExists, NotADirectory}
-use Rattle.cacache_core.specs.Paths.{folder_names}
-use Rattle.cacache_disk.specs.declared.node.Node.{Node}
-use Rattle.cacache_disk.specs.declared.node.Node.TheVariants.{Folder, File, Link}
-use Rattle.cacache_disk.specs.Tree.{Tree, Names, look, put, cut, bare, names_cmp, same_path}
-use Rattle.cacache_disk.specs.LedTo.{dirs_fault, is_in_way}
-use Rattle.cacache_disk.specs.Apply.{make_some, if_missing}
-use Rattle.cacache_disk.specs.Rooted.{is_folder, StandsIn, AreProper, Rooted}
-use Rattle.cacache_disk.proofs.Maps.{total, same_path-true}
-use Rattle.cacache_disk.proofs.PutNodes.{look-put, look-cut, folders-cut}
-use Rattle.cacache_disk.proofs.PathFolders.{make_none}
+use Rattle.cacache_core.specs.{declared.errors.Fault.{Fault, TheVariants.{AlreadyExists, NotADirectory}}, Paths.{folder_names}}
+use Rattle.cacache_disk.specs.{declared.node.Node.{Node, TheVariants.{Folder, File, Link}}, Tree.{Tree, Names, look, put, cut, bare, names_cmp, same_path}, LedTo.{dirs_fault, is_in_way}, Apply.{make_some, if_missing}, Rooted.{is_folder, StandsIn, AreProper, Rooted}}
+use Rattle.cacache_disk.proofs.{Maps.{total, same_path-true}, PutNodes.{look-put, look-cut, folders-cut}, PathFolders.{make_none}}
 
 -- proper names whose folder stands
 pub record CanStand (t : Tree) (p : Names) : Type 0 where

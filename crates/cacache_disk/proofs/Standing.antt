@@ -1,15 +1,8 @@
 -- What the deepest node on a path says of the whole path.
-use Rattle.std.proofs.Common.{◌≡◌, ◌<◌, ◌+◌, ◌-◌, ℕ, suc, List, [], ◌∷◌, ◌++◌, Option, None, Some, Ok, length, take, drop, refl, sym, ap, subst, ◌∙◌, arith, append-nil, append_assoc}
-use Rattle.std.proofs.lemmas.List.{take-append-drop, length-drop, take-take, length-take-le}
-use Rattle.cacache_disk.specs.declared.node.Node.{Node}
-use Rattle.cacache_disk.specs.declared.node.Node.TheVariants.{Folder, File, Link}
-use Rattle.cacache_disk.specs.Tree.{Tree, Names, look}
-use Rattle.cacache_core.specs.PathNames.{names_of}
-use Rattle.cacache_disk.specs.LedTo.{way_fault, through, dirs_fault, place, or_fault}
-use Rattle.cacache_disk.specs.Apply.{make_some}
-use Rattle.cacache_disk.specs.Rooted.{Rooted, StandsIn}
+use Rattle.std.proofs.{Common.{◌≡◌, ◌<◌, ◌+◌, ◌-◌, ℕ, suc, List, [], ◌∷◌, ◌++◌, Option, None, Some, Ok, length, take, drop, refl, sym, ap, subst, ◌∙◌, arith, append-nil, append_assoc}, lemmas.List.{take-append-drop, length-drop, take-take, length-take-le}}
+use Rattle.cacache_disk.specs.{declared.node.Node.{Node, TheVariants.{Folder, File, Link}}, Tree.{Tree, Names, look}, LedTo.{way_fault, through, dirs_fault, place, or_fault}, Apply.{make_some}, Rooted.{Rooted, StandsIn}, Deepest.{IsMissing, IsDeepest, way_past, dirs_past, MakesFrom}}
 use Rattle.cacache_disk.proofs.PathFolders.{drop_here, front_next}
-use Rattle.cacache_disk.specs.Deepest.{IsMissing, IsDeepest, way_past, dirs_past, MakesFrom}
+use Rattle.cacache_core.specs.PathNames.{names_of}
 
 -- above what stands are folders
 pub upper_folder : (t : Tree) (p rest : Names) (name : List ℕ) (node : Node) → Rooted t → look t (p ++ name ∷ rest) ≡ Some node → look t p ≡ Some Folder

@@ -2,12 +2,8 @@
 use Rattle.std.specs.Prelude.{ℕ, List, [], ◌∷◌, map as each}
 use Rattle.std.specs.FinMap as map
 use Rattle.cacache_core.specs.Paths.{joined}
-use Rattle.cacache_disk.specs.declared.node.Node.{Node}
+use Rattle.cacache_disk.specs.{declared.{node.Node.{Node}, nodes.standing.{TreeItem.{TreeItem}, TreeNode.{TreeNode, TheVariants.{Folder, File, Link}}}}, Tree.{Tree, Names}}
 use Rattle.cacache_disk.specs.declared.node.Node.TheVariants as node
-use Rattle.cacache_disk.specs.declared.nodes.standing.TreeItem.{TreeItem}
-use Rattle.cacache_disk.specs.declared.nodes.standing.TreeNode.{TreeNode}
-use Rattle.cacache_disk.specs.declared.nodes.standing.TreeNode.TheVariants.{Folder, File, Link}
-use Rattle.cacache_disk.specs.Tree.{Tree, Names}
 
 -- the text of a path: `/` alone for the top folder, and `/` before each name of any other
 abbrev pub path_text : Names → List ℕ

@@ -1,22 +1,10 @@
 -- What a step answers on a tree, and the tree after it.
-use Rattle.std.specs.Prelude.{◌≡◌, ℕ, ◌-◌, ◌==◌, Bool, true, false, if◌then◌else◌, List, [], ◌∷◌, ◌++◌, Option, None, Some, Result, Ok, Err, length, take, drop, min, max}
-use Rattle.std.specs.Result.{result_ok}
-use Rattle.cacache_core.specs.declared.errors.Fault.{Fault}
-use Rattle.cacache_core.specs.declared.errors.Fault.TheVariants.{NotFound, NotADirectory, IsADirectory, InvalidInput, Closed, Device}
-use Rattle.cacache_store.specs.declared.store.plain.PlainFile.{PlainFile}
-use Rattle.cacache_store.specs.declared.store.plain.PlainTemp.{PlainTemp}
-use Rattle.cacache_store.specs.declared.store.step.Step.TheVariants.{MakeDirs, CreateTemp, Write, Persist, Append, ReadAll, Open, Read, Size, Exists, Symlink, Copy, Reflink, HardLink, ReadDir, RemoveFile, RemoveDir, SyncTemp, SyncFile, SyncDir}
+use Rattle.std.specs.{Prelude.{◌≡◌, ℕ, ◌-◌, ◌==◌, Bool, true, false, if◌then◌else◌, List, [], ◌∷◌, ◌++◌, Option, None, Some, Result, Ok, Err, length, take, drop, min, max}, Result.{result_ok}}
+use Rattle.cacache_core.specs.{declared.errors.Fault.{Fault, TheVariants.{NotFound, NotADirectory, IsADirectory, InvalidInput, Closed, Device}}, PathNames.{Names, names_of}}
+use Rattle.cacache_store.specs.{declared.store.{plain.{PlainFile.{PlainFile}, PlainTemp.{PlainTemp}}, step.Step.TheVariants.{MakeDirs, CreateTemp, Write, Persist, Append, ReadAll, Open, Read, Size, Exists, Symlink, Copy, Reflink, HardLink, ReadDir, RemoveFile, RemoveDir, SyncTemp, SyncFile, SyncDir}, answer.Answer.TheVariants.{Done, Temp, Wrote, Took, Bytes, Got, There, Length, Synced, Failed}}, Plain.{PlainStep, PlainAnswer}}
 use Rattle.cacache_store.specs.declared.store.answer.Answer.TheVariants as answer
-use Rattle.cacache_store.specs.declared.store.answer.Answer.TheVariants.{Done, Temp, Wrote, Took, Bytes, Got, There, Length, Synced, Failed}
-use Rattle.cacache_store.specs.Plain.{PlainStep, PlainAnswer}
 use Rattle.cacache_disk.specs.declared.find.Wanted.TheVariants as wanted
-use Rattle.cacache_disk.specs.declared.luck.Luck.{Luck}
-use Rattle.cacache_disk.specs.declared.luck.Luck.TheVariants.{Plain, Fail, Take}
-use Rattle.cacache_disk.specs.declared.node.Node.{Node}
-use Rattle.cacache_disk.specs.declared.node.Node.TheVariants.{Folder, File, Link}
-use Rattle.cacache_core.specs.PathNames.{Names, names_of}
-use Rattle.cacache_disk.specs.Tree.{Tree, look, put, cut, bytes_of, listing}
-use Rattle.cacache_disk.specs.LedTo.{and_then, or_fault, suited, dirs_fault, dirs, free, known, kept, replaceable, writable, file_at, found, linked, folder, removable, emptied}
+use Rattle.cacache_disk.specs.{declared.{luck.Luck.{Luck, TheVariants.{Plain, Fail, Take}}, node.Node.{Node, TheVariants.{Folder, File, Link}}}, Tree.{Tree, look, put, cut, bytes_of, listing}, LedTo.{and_then, or_fault, suited, dirs_fault, dirs, free, known, kept, replaceable, writable, file_at, found, linked, folder, removable, emptied}}
 
 -- a fault fails the step and changes nothing; else it goes on from what was found
 abbrev pub unless : {A : Type 0} → Result A Fault → Tree → (A → PlainAnswer × Tree)

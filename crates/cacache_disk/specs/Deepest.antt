@@ -1,11 +1,7 @@
 -- The deepest node on a path, and what it says of the rest of the path.
 use Rattle.std.specs.Prelude.{◌≡◌, ◌≤◌, ◌==◌, ℕ, zero, suc, if◌then◌else◌, [], ◌∷◌, ◌++◌, Option, None, Some, length, take, drop}
-use Rattle.cacache_core.specs.declared.errors.Fault.{Fault}
-use Rattle.cacache_core.specs.declared.errors.Fault.TheVariants.{NotFound, AlreadyExists, NotADirectory}
-use Rattle.cacache_disk.specs.declared.node.Node.{Node}
-use Rattle.cacache_disk.specs.declared.node.Node.TheVariants.{Folder, File, Link}
-use Rattle.cacache_disk.specs.Tree.{Tree, Names, look}
-use Rattle.cacache_disk.specs.Apply.{make_some}
+use Rattle.cacache_core.specs.declared.errors.Fault.{Fault, TheVariants.{NotFound, AlreadyExists, NotADirectory}}
+use Rattle.cacache_disk.specs.{declared.node.Node.{Node, TheVariants.{Folder, File, Link}}, Tree.{Tree, Names, look}, Apply.{make_some}}
 
 -- nothing stands at the next name, if there is one
 abbrev pub IsMissing : Tree → Names → Names → Type 0

@@ -1,13 +1,8 @@
 -- What a path leads to in a tree, or why it leads nowhere.
 use Rattle.std.specs.Prelude.{ℕ, zero, suc, Bool, true, false, ◌==◌, if◌then◌else◌, List, [], ◌∷◌, ◌++◌, length, Option, None, Some, Result, Ok, Err}
-use Rattle.cacache_core.specs.declared.errors.Fault.{Fault}
-use Rattle.cacache_core.specs.declared.errors.Fault.TheVariants.{NotFound, AlreadyExists, NotADirectory, IsADirectory, NotEmpty, TooDeep, Closed}
-use Rattle.cacache_disk.specs.declared.find.Wanted.{Wanted}
+use Rattle.cacache_core.specs.{declared.errors.Fault.{Fault, TheVariants.{NotFound, AlreadyExists, NotADirectory, IsADirectory, NotEmpty, TooDeep, Closed}}, PathNames.{Names, names_of}}
+use Rattle.cacache_disk.specs.{declared.{find.Wanted.{Wanted}, node.Node.{Node, TheVariants.{Folder, File, Link}}}, Tree.{Tree, look, listing}}
 use Rattle.cacache_disk.specs.declared.find.Wanted.TheVariants as wanted
-use Rattle.cacache_disk.specs.declared.node.Node.{Node}
-use Rattle.cacache_disk.specs.declared.node.Node.TheVariants.{Folder, File, Link}
-use Rattle.cacache_core.specs.PathNames.{Names, names_of}
-use Rattle.cacache_disk.specs.Tree.{Tree, look, listing}
 
 -- goes on from what was found, and stops at a fault
 abbrev pub and_then : {A B : Type 0} → Result A Fault → (A → Result B Fault) → Result B Fault

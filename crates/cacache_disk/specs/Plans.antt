@@ -1,18 +1,9 @@
 -- What a step is about to do, against the table of steps.
 use Rattle.std.specs.Prelude.{◌≡◌, ℕ, Bool, List, Option, None, Some, if◌then◌else◌, take, drop}
-use Rattle.cacache_store.specs.declared.store.answer.Answer.TheVariants.{Failed}
-use Rattle.cacache_store.specs.Fits.{Fits}
-use Rattle.cacache_store.specs.Plain.{PlainStep}
-use Rattle.cacache_disk.specs.declared.change.Change.{Change}
+use Rattle.cacache_store.specs.{declared.store.answer.Answer.TheVariants.{Failed}, Fits.{Fits}, Plain.{PlainStep}}
+use Rattle.cacache_disk.specs.{declared.{change.{Change.{Change}, Plan.{Plan}}, luck.Luck.{Luck, TheVariants.{Plain, Fail, Take}}, node.Node.TheVariants.{File}, stop.Stop.{Stop}}, Tree.{Tree, Names, put, cut}, Apply.{plain, make_some, lengthened, is_taking, is_parted, made_up, fault_told}}
 use Rattle.cacache_disk.specs.declared.change.Change.TheVariants as change
-use Rattle.cacache_disk.specs.declared.change.Plan.{Plan}
-use Rattle.cacache_disk.specs.declared.luck.Luck.{Luck}
-use Rattle.cacache_disk.specs.declared.luck.Luck.TheVariants.{Plain, Fail, Take}
-use Rattle.cacache_disk.specs.declared.node.Node.TheVariants.{File}
-use Rattle.cacache_disk.specs.declared.stop.Stop.{Stop}
 use Rattle.cacache_disk.specs.declared.stop.Stop.TheVariants as stop
-use Rattle.cacache_disk.specs.Tree.{Tree, Names, put, cut}
-use Rattle.cacache_disk.specs.Apply.{plain, make_some, lengthened, is_taking, is_parted, made_up, fault_told}
 
 -- the tree with a file put at a path, where one is given
 abbrev pub with_file : Option (Names × List ℕ) → Tree → Tree

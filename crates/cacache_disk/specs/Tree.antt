@@ -1,16 +1,9 @@
 -- A disk's tree: the node at each path. The top folder stands at the empty list of names.
-use Rattle.std.specs.Prelude.{ℕ, Bool, if◌then◌else◌, List, [], Option, None, Some, length, ◌==◌, ◌+◌, ◌&&◌, take, slice_index_or}
+use Rattle.std.specs.{Prelude.{ℕ, Bool, if◌then◌else◌, List, [], Option, None, Some, length, ◌==◌, ◌+◌, ◌&&◌, take, slice_index_or}, declared.cmp.Ordering.{Ordering}, Ordering.{nat_cmp, eq_by_cmp}, Bool.{nat_eq}, Cmp.Lexicographic.{pointwise, slice_cmp}, List.{filter_map}}
 use Rattle.std.specs.FinMap as map
-use Rattle.std.specs.declared.cmp.Ordering.{Ordering}
-use Rattle.std.specs.Ordering.{nat_cmp, eq_by_cmp}
-use Rattle.std.specs.Bool.{nat_eq}
-use Rattle.std.specs.Cmp.Lexicographic.{pointwise, slice_cmp}
-use Rattle.std.specs.List.{filter_map}
-use Rattle.cacache_store.specs.declared.store.answer.Kind.{Kind}
+use Rattle.cacache_store.specs.declared.store.answer.{Kind.{Kind}, Name.{Name}}
 use Rattle.cacache_store.specs.declared.store.answer.Kind.TheVariants as kinds
-use Rattle.cacache_store.specs.declared.store.answer.Name.{Name}
-use Rattle.cacache_disk.specs.declared.node.Node.{Node}
-use Rattle.cacache_disk.specs.declared.node.Node.TheVariants.{Folder, File, Link}
+use Rattle.cacache_disk.specs.declared.node.Node.{Node, TheVariants.{Folder, File, Link}}
 pub use Rattle.cacache_core.specs.PathNames.{Names}
 
 -- the order of paths, name by name

@@ -3,27 +3,14 @@ use Rattle.std.proofs.Common.{◌≡◌, ℕ, List, [], ◌∷◌, ◌++◌, Som
 use Rattle.cacache_core.specs.PathNames.{Names, names_of}
 use Rattle.cacache_store.specs.declared.store.step.Step.TheVariants as steps
 use Rattle.cacache_store.specs.declared.store.answer.Answer.TheVariants as answers
-use Rattle.cacache_table.specs.declared.reply.Reply.{Reply}
-use Rattle.cacache_table.specs.Runs.{Moves}
+use Rattle.cacache_table.specs.{declared.reply.Reply.{Reply}, Runs.{Moves}}
 use Rattle.cacache_value.specs.Traces.{Move}
-use Rattle.cacache_history.specs.declared.record.Record.{Record}
-use Rattle.cacache_history.specs.declared.record.Record.TheVariants.{Moved}
-use Rattle.cacache_history.specs.Setup.{Setup, home}
-use Rattle.cacache_history.specs.History.{Call, History, IsLegal, Made, Now, initial, now_after, now_at, replayed}
-use Rattle.cacache_history.specs.Values.{steps_of}
+use Rattle.cacache_history.specs.{declared.record.Record.{Record, TheVariants.{Moved}}, Setup.{Setup, home}, History.{Call, History, IsLegal, Made, Now, initial, now_after, now_at, replayed}, Values.{steps_of}}
 use Rattle.cacache_history.proofs.Holding.{replay_more}
-use Rattle.cacache_loss.specs.CalmMoves.{AreCalm, CalmSteps, IsCalm}
-use Rattle.cacache_loss.specs.CommitFolders.{SyncsTexts}
-use Rattle.cacache_loss.specs.LostTrees.{OfCache}
-use Rattle.cacache_loss.specs.Moments.{Moment, after}
+use Rattle.cacache_loss.specs.{CalmMoves.{AreCalm, CalmSteps, IsCalm}, CommitFolders.{SyncsTexts}, LostTrees.{OfCache}, Moments.{Moment, after}}
 use Rattle.cacache_loss.specs.Moments as moments
-use Rattle.cacache_durable.specs.Outlasting.{moment_at}
-use Rattle.cacache_durable.specs.QuietMoves.{AreQuiet}
-use Rattle.cacache_durable.proofs.CommitMoves.{HasDirs}
-use Rattle.cacache_durable.proofs.DoneSyncs.{cache_named, syncs_texts}
-use Rattle.cacache_durable.proofs.Ending.{Has, PlaceOf}
-use Rattle.cacache_durable.proofs.QuietSteps.{calm_at}
-use Rattle.cacache_durable.proofs.Traces.{moment_more, of_cache_at}
+use Rattle.cacache_durable.specs.{Outlasting.{moment_at}, QuietMoves.{AreQuiet}}
+use Rattle.cacache_durable.proofs.{CommitMoves.{HasDirs}, DoneSyncs.{cache_named, syncs_texts}, Ending.{Has, PlaceOf}, QuietSteps.{calm_at}, Traces.{moment_more, of_cache_at}}
 
 quiet_later : (s : Setup) (path : Names) (w : Now) (more later : List Record) → AreQuiet s path w (more ++ later) → AreQuiet s path (replayed s w more) later
 quiet_later s path w [] later quiet = quiet

@@ -1,39 +1,17 @@
 -- What a loss leaves behind an entry whose line a durable commit appended whole.
-use Rattle.std.proofs.Common.{◌≡◌, ◌+◌, ◌-◌, ◌≤◌, inl, inr, ℕ, Bool, true, false, List, [], ◌∷◌, ◌++◌, Some, length, take, refl, sym, ap, subst, ◌∙◌, arith, append_assoc, append-nil}
-use Rattle.std.proofs.Math.Seq.{take-append-add}
-use Rattle.std.proofs.lemmas.List.{append_cancel_left}
+use Rattle.std.proofs.{Common.{◌≡◌, ◌+◌, ◌-◌, ◌≤◌, inl, inr, ℕ, Bool, true, false, List, [], ◌∷◌, ◌++◌, Some, length, take, refl, sym, ap, subst, ◌∙◌, arith, append_assoc, append-nil}, Math.Seq.{take-append-add}, lemmas.List.{append_cancel_left}}
 use Rattle.sha1.specs.Sha1.{sha1}
-use Rattle.cacache_core.specs.PathNames.{Names}
-use Rattle.cacache_core.specs.Paths.{bucket_names_of}
-use Rattle.cacache_disk.specs.declared.node.Node.TheVariants.{File}
-use Rattle.cacache_disk.specs.Tree.{Tree, bytes_of, look}
-use Rattle.cacache_entry.specs.Entry.{Entry, closed_line}
-use Rattle.cacache_entry.specs.Bucket.{entries_of}
-use Rattle.cacache_entry.proofs.Lines.{empty_holds_nothing}
-use Rattle.cacache_value.specs.Kinds.{Bucket, path_kind}
-use Rattle.cacache_value.specs.Traces.{Move}
-use Rattle.cacache_value.specs.Value.{bucket_in, value_of_tree}
-use Rattle.cacache_value.specs.ValueLaws.{IsLonger}
-use Rattle.cacache_value.proofs.KindsApart.{kind-below}
+use Rattle.cacache_core.specs.{PathNames.{Names}, Paths.{bucket_names_of}}
+use Rattle.cacache_disk.specs.{declared.node.Node.TheVariants.{File}, Tree.{Tree, bytes_of, look}}
+use Rattle.cacache_entry.{specs.{Entry.{Entry, closed_line}, Bucket.{entries_of}}, proofs.Lines.{empty_holds_nothing}}
+use Rattle.cacache_value.{specs.{Kinds.{Bucket, path_kind}, Traces.{Move}, Value.{bucket_in, value_of_tree}, ValueLaws.{IsLonger}}, proofs.KindsApart.{kind-below}}
 use Rattle.cacache_table.specs.StepPaths.{bucket_path}
-use Rattle.cacache_history.specs.declared.record.Record.{Record}
-use Rattle.cacache_history.specs.History.{History}
-use Rattle.cacache_history.specs.Values.{bucket_at, steps_of}
-use Rattle.cacache_loss.specs.declared.fixing.Fixing.{Fixing}
-use Rattle.cacache_loss.specs.Loss.{Loss, bytes_left, node_left}
-use Rattle.cacache_loss.specs.LostValues.{LeftOf}
-use Rattle.cacache_loss.specs.CalmMoves.{IsCalm}
-use Rattle.cacache_loss.specs.Moments.{EachMove, Moment, after, lost_then}
+use Rattle.cacache_history.specs.{declared.record.Record.{Record}, History.{History}, Values.{bucket_at, steps_of}}
+use Rattle.cacache_loss.specs.{declared.fixing.Fixing.{Fixing}, Loss.{Loss, bytes_left, node_left}, LostValues.{LeftOf}, CalmMoves.{IsCalm}, Moments.{EachMove, Moment, after, lost_then}, Syncs.{SyncsFile}}
+use Rattle.cacache_loss.proofs.{Buckets.{closed_entries, line_stands}, KeptPaths.{cache_next, each_calm}}
 use Rattle.cacache_loss.specs.Moments as moments
-use Rattle.cacache_loss.specs.Syncs.{SyncsFile}
-use Rattle.cacache_loss.proofs.Buckets.{closed_entries, line_stands}
-use Rattle.cacache_loss.proofs.KeptPaths.{cache_next, each_calm}
-use Rattle.cacache_durable.specs.Behind.{NoneAppends, StaysSynced}
-use Rattle.cacache_durable.specs.Outlasting.{Outlasts, OutlastsWith, moment_at}
-use Rattle.cacache_durable.proofs.AtMoves.{cache_here, calm_later, calm_move, here, leads_to_end, own_move}
-use Rattle.cacache_durable.proofs.DurableEntries.{WholeEntry, bucket_is, bucket_named, bucket_outlasts, bucket_synced, bucket_way, entry_outlasts}
-use Rattle.cacache_durable.proofs.GrownBuckets.{Stands, grown_after, kept_synced, left_as_fixed, still_after, whole_synced}
-use Rattle.cacache_durable.proofs.LineParts.{HoldsFirst, none_first}
+use Rattle.cacache_durable.specs.{Behind.{NoneAppends, StaysSynced}, Outlasting.{Outlasts, OutlastsWith, moment_at}}
+use Rattle.cacache_durable.proofs.{AtMoves.{cache_here, calm_later, calm_move, here, leads_to_end, own_move}, DurableEntries.{WholeEntry, bucket_is, bucket_named, bucket_outlasts, bucket_synced, bucket_way, entry_outlasts}, GrownBuckets.{Stands, grown_after, kept_synced, left_as_fixed, still_after, whole_synced}, LineParts.{HoldsFirst, none_first}}
 
 -- ---- what is left of bytes
 

@@ -1,21 +1,11 @@
 -- Calls that are on their way have numbers that differ, and so have their temporary files.
-use Rattle.std.proofs.Common.{◌≡◌, ◌<◌, ◌≤◌, ◌^◌, ◌+◌, ◌==◌, ℕ, Bool, true, false, cond, List, [], ◌∷◌, ◌++◌, Option, None, Some, Ok, option_map, refl, sym, ap, subst, ◌∙◌, arith, eqb-true}
-use Rattle.std.proofs.lemmas.List.{append_cancel_left}
-use Rattle.cacache_core.specs.PathNames.{Names, home_of, names_below, names_of}
-use Rattle.cacache_core.specs.Paths.{joined, temp_names}
-use Rattle.cacache_core.proofs.JoinedNames.{joined_texts_name}
-use Rattle.cacache_core.proofs.PathTexts.{paths_differ}
-use Rattle.cacache_core.proofs.ProperNames.{names_are_proper}
-use Rattle.cacache_disk.specs.declared.luck.Luck.{Luck}
-use Rattle.cacache_disk.specs.Tree.{Tree, same_path}
-use Rattle.cacache_disk.proofs.Maps.{same_path-true}
-use Rattle.cacache_table.specs.declared.reply.Reply.{Reply}
-use Rattle.cacache_table.specs.StepPaths.{temp_path}
+use Rattle.std.proofs.{Common.{◌≡◌, ◌<◌, ◌≤◌, ◌^◌, ◌+◌, ◌==◌, ℕ, Bool, true, false, cond, List, [], ◌∷◌, ◌++◌, Option, None, Some, Ok, option_map, refl, sym, ap, subst, ◌∙◌, arith, eqb-true}, lemmas.List.{append_cancel_left}}
+use Rattle.cacache_core.specs.{PathNames.{Names, home_of, names_below, names_of}, Paths.{joined, temp_names}}
+use Rattle.cacache_core.proofs.{JoinedNames.{joined_texts_name}, PathTexts.{paths_differ}, ProperNames.{names_are_proper}}
+use Rattle.cacache_disk.{specs.{declared.luck.Luck.{Luck}, Tree.{Tree, same_path}}, proofs.Maps.{same_path-true}}
+use Rattle.cacache_table.specs.{declared.reply.Reply.{Reply}, StepPaths.{temp_path}}
 use Rattle.cacache_value.proofs.KindsApart.{not_true}
-use Rattle.cacache_history.specs.declared.record.Record.{Record}
-use Rattle.cacache_history.specs.declared.record.Record.TheVariants.{Began, Moved, Stopped}
-use Rattle.cacache_history.specs.Setup.{Setup}
-use Rattle.cacache_history.specs.History.{Call, Made, Now, new_call, initial, call_after, now_after, replayed, unless_over}
+use Rattle.cacache_history.specs.{declared.record.Record.{Record, TheVariants.{Began, Moved, Stopped}}, Setup.{Setup}, History.{Call, Made, Now, new_call, initial, call_after, now_after, replayed, unless_over}}
 use Rattle.cacache_loss.specs.Fixing.{is_at}
 
 -- ---- paths of temporary files

@@ -1,25 +1,12 @@
 -- What a durable insertion that answered made, in order: its line, and the syncs of its bucket and of that one's folders.
-use Rattle.std.proofs.Common.{◌≡◌, inl, inr, ◌≤◌, ℕ, Bool, true, false, cond, nat_le, List, [], ◌∷◌, ◌++◌, Option, None, Some, Result, Ok, Err, length, refl, sym, ap, subst, ◌∙◌, append_assoc, arith}
-use Rattle.std.proofs.lemmas.Bool.{leb-true}
+use Rattle.std.proofs.{Common.{◌≡◌, inl, inr, ◌≤◌, ℕ, Bool, true, false, cond, nat_le, List, [], ◌∷◌, ◌++◌, Option, None, Some, Result, Ok, Err, length, refl, sym, ap, subst, ◌∙◌, append_assoc, arith}, lemmas.Bool.{leb-true}}
 use Rattle.cacache_core.specs.declared.errors.Fault.TheVariants as faults
-use Rattle.cacache_core.specs.declared.errors.SerdeCause.{SerdeCause}
-use Rattle.cacache_core.specs.declared.errors.Error.{Error}
-use Rattle.cacache_core.specs.declared.errors.Error.TheVariants.{IoError, SerdeError, OutOfMemory}
-use Rattle.cacache_core.specs.declared.integrity.digest.Hash.{Hash}
+use Rattle.cacache_core.specs.declared.{errors.{SerdeCause.{SerdeCause}, Error.{Error, TheVariants.{IoError, SerdeError, OutOfMemory}}}, integrity.digest.Hash.{Hash}}
 use Rattle.cacache_store.specs.declared.store.answer.Answer.TheVariants as answers
 use Rattle.cacache_store.specs.declared.store.step.Step.TheVariants as steps
-use Rattle.cacache_store.specs.Fits.{Fits}
-use Rattle.cacache_store.specs.Plain.{PlainStep, PlainAnswer}
-use Rattle.cacache_table.specs.declared.answers.Refusal.{Refusal}
+use Rattle.cacache_store.specs.{Fits.{Fits}, Plain.{PlainStep, PlainAnswer}}
+use Rattle.cacache_table.specs.{declared.{answers.Refusal.{Refusal}, reply.Reply.TheVariants.{Stored}}, Answers.{done_in, there_in, taken_in}, StepPaths.{bucket_path, bucket_folders}, State.{State, doing, appending, over, Insertion, Errand, make_folder, sync_file, sync_dir}, Common.{ends_with, fails, go_on, errand_step, sync_up}, Inserting.{insert, unless_refused, refused_cause, bucket_line, recorded, after_append}, Table.{wants, after}, Runs.{Moves, Runs}}
 use Rattle.cacache_table.specs.declared.answers.Refusal.TheVariants as refusals
-use Rattle.cacache_table.specs.declared.reply.Reply.TheVariants.{Stored}
-use Rattle.cacache_table.specs.Answers.{done_in, there_in, taken_in}
-use Rattle.cacache_table.specs.StepPaths.{bucket_path, bucket_folders}
-use Rattle.cacache_table.specs.State.{State, doing, appending, over, Insertion, Errand, make_folder, sync_file, sync_dir}
-use Rattle.cacache_table.specs.Common.{ends_with, fails, go_on, errand_step, sync_up}
-use Rattle.cacache_table.specs.Inserting.{insert, unless_refused, refused_cause, bucket_line, recorded, after_append}
-use Rattle.cacache_table.specs.Table.{wants, after}
-use Rattle.cacache_table.specs.Runs.{Moves, Runs}
 use Rattle.cacache_history.specs.History.{Made}
 use Rattle.cacache_durable.proofs.Ending.{Has}
 

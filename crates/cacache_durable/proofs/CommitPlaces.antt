@@ -1,43 +1,18 @@
 -- A durable commit that had done nothing yet puts its content, and adds its entry, in the records that follow.
 use Rattle.std.proofs.Common.{◌≡◌, ◌⊎◌, inl, inr, ◌≤◌, ℕ, true, List, [], ◌∷◌, ◌++◌, None, Some, Ok, length, take, refl, sym, ap, subst, ◌∙◌, append_assoc, arith, length-append}
-use Rattle.cacache_core.specs.declared.integrity.digest.Hash.{Hash}
-use Rattle.cacache_core.specs.PathNames.{Names, names_of}
+use Rattle.cacache_core.specs.{declared.integrity.digest.Hash.{Hash}, PathNames.{Names, names_of}}
 use Rattle.cacache_store.specs.declared.store.plain.PlainTemp.{PlainTemp}
 use Rattle.cacache_store.specs.declared.store.answer.Answer.TheVariants as answers
 use Rattle.cacache_store.specs.declared.store.step.Step.TheVariants as steps
 use Rattle.cacache_disk.specs.declared.luck.Luck.{Luck}
-use Rattle.cacache_entry.specs.Entry.{Entry, line_of, closing, closed_line}
-use Rattle.cacache_entry.specs.Bucket.{entries_of}
-use Rattle.cacache_entry.specs.FittingEntries.{IsEntry, IsWritable}
-use Rattle.cacache_entry.proofs.EntryCauses.{Fits-no_cause}
-use Rattle.cacache_table.specs.declared.command.Command.{Command}
+use Rattle.cacache_entry.{specs.{Entry.{Entry, line_of, closing, closed_line}, Bucket.{entries_of}, FittingEntries.{IsEntry, IsWritable}}, proofs.EntryCauses.{Fits-no_cause}}
+use Rattle.cacache_table.specs.{declared.{command.{Command.{Command}, Insert.{Insert}, Put.{Put}}, reply.Reply.{Reply, TheVariants.{Stored}}, carried.Commit.{Commit}}, StepPaths.{content_path, bucket_path}, State.{State, Insertion}, Inserting.{bucket_line, insertion, refused_cause}, Runs.{Moves, Runs, Goes}, Sound.{FormedIfWritten, MayBegin}, Storing.{insertion_of, put_commit, secured}, Table.{after, opening}}
 use Rattle.cacache_table.specs.declared.command.Command.TheVariants as commands
-use Rattle.cacache_table.specs.declared.command.Insert.{Insert}
-use Rattle.cacache_table.specs.declared.command.Put.{Put}
-use Rattle.cacache_table.specs.declared.reply.Reply.{Reply}
-use Rattle.cacache_table.specs.declared.reply.Reply.TheVariants.{Stored}
-use Rattle.cacache_table.specs.StepPaths.{content_path, bucket_path}
-use Rattle.cacache_table.specs.State.{State, Insertion}
-use Rattle.cacache_table.specs.declared.carried.Commit.{Commit}
-use Rattle.cacache_table.specs.Inserting.{bucket_line, insertion, refused_cause}
-use Rattle.cacache_table.specs.Runs.{Moves, Runs, Goes}
-use Rattle.cacache_table.specs.Sound.{FormedIfWritten, MayBegin}
-use Rattle.cacache_table.specs.Storing.{insertion_of, put_commit, secured}
-use Rattle.cacache_table.specs.Table.{after, opening}
-use Rattle.cacache_value.specs.Acts.{PutBytes, AddEntries}
-use Rattle.cacache_value.specs.Traces.{Move}
-use Rattle.cacache_value.proofs.AppendedLines.{whole_closed}
-use Rattle.cacache_history.specs.declared.record.Record.{Record}
-use Rattle.cacache_history.specs.Setup.{call_site, is_outside, may_export}
-use Rattle.cacache_history.specs.History.{History, IsLegal, Made, Turn, now_at}
-use Rattle.cacache_history.specs.Turns.{made_in, EachTurn}
-use Rattle.cacache_history.specs.Commits.{Deed, does, finds, deeds, deeds_of}
-use Rattle.cacache_history.proofs.Carrying.{Makes, own_bytes, own_of}
-use Rattle.cacache_history.proofs.Holding.{CallHolds, held_at, legal_after, of_caller}
+use Rattle.cacache_value.{specs.{Acts.{PutBytes, AddEntries}, Traces.{Move}}, proofs.AppendedLines.{whole_closed}}
+use Rattle.cacache_history.specs.{declared.record.Record.{Record}, Setup.{call_site, is_outside, may_export}, History.{History, IsLegal, Made, Turn, now_at}, Turns.{made_in, EachTurn}, Commits.{Deed, does, finds, deeds, deeds_of}}
+use Rattle.cacache_history.proofs.{Carrying.{Makes, own_bytes, own_of}, Holding.{CallHolds, held_at, legal_after, of_caller}}
 use Rattle.cacache_durable.specs.Ending.{EndsFrom}
-use Rattle.cacache_durable.proofs.Ending.{Has, PlaceOf, own_moves, own_runs, place_of}
-use Rattle.cacache_durable.proofs.CommitMoves.{Appends, Stores, inserted}
-use Rattle.cacache_durable.proofs.PutMoves.{Places, put_places, secures_found}
+use Rattle.cacache_durable.proofs.{Ending.{Has, PlaceOf, own_moves, own_runs, place_of}, CommitMoves.{Appends, Stores, inserted}, PutMoves.{Places, put_places, secures_found}}
 
 -- ---- the whole run of a call
 

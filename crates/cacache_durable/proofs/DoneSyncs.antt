@@ -1,24 +1,13 @@
 -- Syncs that are done: what they sync, and what stood there.
-use Rattle.std.proofs.Common.{◌≡◌, inl, inr, ℕ, List, [], ◌∷◌, Option, None, Some, Ok, Err, refl, sym, ap, subst, ◌∙◌}
-use Rattle.std.specs.Prelude.{Result}
-use Rattle.cacache_core.specs.declared.errors.Fault.{Fault}
-use Rattle.cacache_core.specs.declared.errors.Fault.TheVariants.{IsADirectory}
-use Rattle.cacache_core.specs.PathNames.{Names, home_of, is_bad, names_of}
+use Rattle.std.{proofs.Common.{◌≡◌, inl, inr, ℕ, List, [], ◌∷◌, Option, None, Some, Ok, Err, refl, sym, ap, subst, ◌∙◌, ◌==◌, length}, specs.Prelude.{Result}}
+use Rattle.cacache_core.specs.{declared.errors.Fault.{Fault, TheVariants.{IsADirectory}}, PathNames.{Names, home_of, is_bad, names_of}}
 use Rattle.cacache_store.specs.declared.store.step.Step.TheVariants as steps
 use Rattle.cacache_store.specs.declared.store.answer.Answer.TheVariants as answers
-use Rattle.cacache_disk.specs.declared.luck.Luck.{Luck}
-use Rattle.cacache_disk.specs.Tree.{Tree, look}
-use Rattle.cacache_disk.specs.LedTo.{and_then, bytes_there, file_at, folder, followed, leads, or_fault, place, way_fault}
-use Rattle.cacache_disk.specs.Apply.{apply, unless}
-use Rattle.cacache_value.specs.Traces.{IsTrace, Move}
-use Rattle.cacache_value.proofs.Shows.{apply_answer}
-use Rattle.cacache_loss.specs.CommitFolders.{SyncsText, SyncsTexts}
-use Rattle.cacache_loss.specs.Syncs.{IsFileSync, SyncsFile}
-use Rattle.cacache_loss.proofs.CommitFolders.{named_home}
+use Rattle.cacache_disk.specs.{declared.luck.Luck.{Luck}, Tree.{Tree, look}, LedTo.{and_then, bytes_there, file_at, folder, followed, leads, or_fault, place, way_fault}, Apply.{apply, unless}}
+use Rattle.cacache_value.{specs.Traces.{IsTrace, Move}, proofs.Shows.{apply_answer}}
+use Rattle.cacache_loss.{specs.{CommitFolders.{SyncsText, SyncsTexts}, Syncs.{IsFileSync, SyncsFile}}, proofs.CommitFolders.{named_home}}
 use Rattle.cacache_table.specs.Runs.{Moves}
-use Rattle.cacache_durable.proofs.Ending.{Has, HasStep}
-use Rattle.cacache_durable.proofs.CommitMoves.{HasDirs}
-use Rattle.std.proofs.Common.{◌==◌, length}
+use Rattle.cacache_durable.proofs.{Ending.{Has, HasStep}, CommitMoves.{HasDirs}}
 use Rattle.cacache_history.specs.History.{Made}
 
 -- ---- in the words of losses

@@ -1,51 +1,20 @@
 -- A content that a durable put stored outlasts a loss, once its folders are synced, and so does a link that it found there.
-use Rattle.std.proofs.Common.{◌≡◌, inl, inr, ℕ, true, List, [], ◌∷◌, ◌++◌, Option, None, Some, Ok, refl, sym, ap, subst, ◌∙◌, arith}
-use Rattle.std.specs.Prelude.{IfOk}
-use Rattle.cacache_core.specs.declared.integrity.digest.Hash.{Hash}
-use Rattle.cacache_core.specs.Integrity.{IsHash}
-use Rattle.cacache_core.specs.PathNames.{Names, names_below, names_of}
-use Rattle.cacache_core.specs.Paths.{content_names, folders_to, joined}
-use Rattle.cacache_core.proofs.JoinedNames.{joined_texts_name}
-use Rattle.cacache_core.proofs.ProperNames.{names_are_proper}
-use Rattle.cacache_store.specs.declared.store.plain.PlainTemp.{PlainTemp}
+use Rattle.std.{proofs.Common.{◌≡◌, inl, inr, ℕ, true, List, [], ◌∷◌, ◌++◌, Option, None, Some, Ok, refl, sym, ap, subst, ◌∙◌, arith}, specs.Prelude.{IfOk}}
+use Rattle.cacache_core.specs.{declared.integrity.digest.Hash.{Hash}, Integrity.{IsHash}, PathNames.{Names, names_below, names_of}, Paths.{content_names, folders_to, joined}}
+use Rattle.cacache_core.proofs.{JoinedNames.{joined_texts_name}, ProperNames.{names_are_proper}}
+use Rattle.cacache_store.specs.{declared.store.plain.PlainTemp.{PlainTemp}, Plain.{PlainAnswer}}
 use Rattle.cacache_store.specs.declared.store.step.Step.TheVariants as steps
 use Rattle.cacache_store.specs.declared.store.answer.Answer.TheVariants as answers
-use Rattle.cacache_store.specs.Plain.{PlainAnswer}
-use Rattle.cacache_disk.specs.declared.node.Node.{Node}
-use Rattle.cacache_disk.specs.declared.node.Node.TheVariants.{Folder, File, Link}
-use Rattle.cacache_disk.specs.Tree.{Tree, look}
-use Rattle.cacache_disk.specs.Apply.{apply}
+use Rattle.cacache_disk.specs.{declared.node.Node.{Node, TheVariants.{Folder, File, Link}}, Tree.{Tree, look}, Apply.{apply}}
 use Rattle.cacache_table.specs.Runs.{Moves}
-use Rattle.cacache_value.specs.Kinds.{Content, node_below, path_kind}
-use Rattle.cacache_value.specs.Placed.{MayStand}
-use Rattle.cacache_value.specs.Traces.{Move}
-use Rattle.cacache_value.specs.Value.{AtLink, blob_in}
-use Rattle.cacache_value.proofs.FoundPaths.{suits}
-use Rattle.cacache_value.proofs.KindsApart.{kind-below}
-use Rattle.cacache_history.specs.declared.record.Record.{Record}
-use Rattle.cacache_history.specs.Setup.{home}
-use Rattle.cacache_history.specs.History.{History, Made, now_at}
-use Rattle.cacache_history.specs.Values.{steps_of, value_at}
+use Rattle.cacache_value.specs.{Kinds.{Content, node_below, path_kind}, Placed.{MayStand}, Traces.{Move}, Value.{AtLink, blob_in}}
+use Rattle.cacache_value.proofs.{FoundPaths.{suits}, KindsApart.{kind-below}}
+use Rattle.cacache_history.specs.{declared.record.Record.{Record}, Setup.{home}, History.{History, Made, now_at}, Values.{steps_of, value_at}}
 use Rattle.cacache_history.proofs.Values.{contents_are_right}
-use Rattle.cacache_loss.specs.CalmMoves.{AreCalm, IsCalm, OfBytes, PutWell, PutsMove, PutsStep}
-use Rattle.cacache_loss.specs.Fixing.{place_now}
-use Rattle.cacache_loss.specs.Loss.{Loss}
-use Rattle.cacache_loss.specs.LossLaws.{GoodNode, HasDigest, IsSafe}
-use Rattle.cacache_loss.specs.LostTrees.{OfCache}
-use Rattle.cacache_loss.specs.Moments.{Moment, after, lost_then, next}
-use Rattle.cacache_loss.specs.Syncs.{IsFileSync, IsPut, SyncsFolders}
-use Rattle.cacache_loss.proofs.CommitFolders.{five_for_contents}
-use Rattle.cacache_loss.proofs.Commits.{found_stays, put_safe}
-use Rattle.cacache_loss.proofs.Contents.{GoodOrLink, contents_survive}
-use Rattle.cacache_loss.proofs.KeptPaths.{cache_next}
-use Rattle.cacache_loss.proofs.StepCases.{PersistCase, moved, persist_case, refused}
+use Rattle.cacache_loss.specs.{CalmMoves.{AreCalm, IsCalm, OfBytes, PutWell, PutsMove, PutsStep}, Fixing.{place_now}, Loss.{Loss}, LossLaws.{GoodNode, HasDigest, IsSafe}, LostTrees.{OfCache}, Moments.{Moment, after, lost_then, next}, Syncs.{IsFileSync, IsPut, SyncsFolders}}
+use Rattle.cacache_loss.proofs.{CommitFolders.{five_for_contents}, Commits.{found_stays, put_safe}, Contents.{GoodOrLink, contents_survive}, KeptPaths.{cache_next}, StepCases.{PersistCase, moved, persist_case, refused}}
 use Rattle.cacache_durable.specs.Outlasting.{moment_at}
-use Rattle.cacache_durable.proofs.AtMoves.{QuietPlace, after_own, cache_here, cache_text, calm_later, calm_move, here, leads_to_end, own_move, own_record, split, texts_here}
-use Rattle.cacache_durable.proofs.CommitMoves.{HasDirs}
-use Rattle.cacache_durable.proofs.DoneSyncs.{none_synced}
-use Rattle.cacache_durable.proofs.QuietSteps.{calm_at}
-use Rattle.cacache_durable.proofs.StoodLinks.{stood_before}
-use Rattle.cacache_durable.proofs.Traces.{moment_more, of_cache_at, tree_at}
+use Rattle.cacache_durable.proofs.{AtMoves.{QuietPlace, after_own, cache_here, cache_text, calm_later, calm_move, here, leads_to_end, own_move, own_record, split, texts_here}, CommitMoves.{HasDirs}, DoneSyncs.{none_synced}, QuietSteps.{calm_at}, StoodLinks.{stood_before}, Traces.{moment_more, of_cache_at, tree_at}}
 
 -- ---- a file that is put
 

@@ -1,47 +1,21 @@
 -- An entry whose line a durable commit appended whole outlasts a loss, once its bucket is synced.
-use Rattle.std.proofs.Common.{◌≡◌, ℕ, true, List, [], ◌∷◌, ◌++◌, Option, None, Some, Ok, fold, length, refl, sym, ap, subst, ◌∙◌, append_assoc, arith}
+use Rattle.std.proofs.{Common.{◌≡◌, ℕ, true, List, [], ◌∷◌, ◌++◌, Option, None, Some, Ok, fold, length, refl, sym, ap, subst, ◌∙◌, append_assoc, arith}, lemmas.List.Sums.{fold-append}}
 use Rattle.std.specs.Prelude.{unwrap_or}
-use Rattle.std.proofs.lemmas.List.Sums.{fold-append}
 use Rattle.sha1.specs.Sha1.{sha1}
-use Rattle.cacache_core.specs.PathNames.{Names, names_below, names_of}
-use Rattle.cacache_core.specs.Paths.{bucket_names_of}
-use Rattle.cacache_core.proofs.JoinedNames.{joined_texts_name}
-use Rattle.cacache_core.proofs.PathLemmas.{keys_have_digests}
-use Rattle.cacache_core.proofs.ProperNames.{names_are_proper}
+use Rattle.cacache_core.specs.{PathNames.{Names, names_below, names_of}, Paths.{bucket_names_of}}
+use Rattle.cacache_core.proofs.{JoinedNames.{joined_texts_name}, PathLemmas.{keys_have_digests}, ProperNames.{names_are_proper}}
 use Rattle.cacache_store.specs.declared.store.step.Step.TheVariants as steps
 use Rattle.cacache_store.specs.declared.store.answer.Answer.TheVariants as answers
-use Rattle.cacache_disk.specs.declared.node.Node.{Node}
-use Rattle.cacache_disk.specs.declared.node.Node.TheVariants.{Folder, File, Link}
-use Rattle.cacache_disk.specs.Tree.{Tree, bytes_of, look}
-use Rattle.cacache_entry.specs.Entry.{Entry, closed_line}
-use Rattle.cacache_entry.specs.Bucket.{entries_of}
-use Rattle.cacache_entry.specs.FittingEntries.{IsEntry, IsWritable}
-use Rattle.cacache_entry.specs.Latest.{after_entry, latest}
+use Rattle.cacache_disk.specs.{declared.node.Node.{Node, TheVariants.{Folder, File, Link}}, Tree.{Tree, bytes_of, look}}
+use Rattle.cacache_entry.specs.{Entry.{Entry, closed_line}, Bucket.{entries_of}, FittingEntries.{IsEntry, IsWritable}, Latest.{after_entry, latest}}
 use Rattle.cacache_entry.proofs.Lines.{empty_holds_nothing}
-use Rattle.cacache_table.specs.Runs.{Moves}
-use Rattle.cacache_table.specs.StepPaths.{bucket_folders, bucket_path}
-use Rattle.cacache_value.specs.Acts.{list_of}
-use Rattle.cacache_value.specs.Kinds.{node_below}
-use Rattle.cacache_value.specs.Value.{bucket_in, value_of_tree}
-use Rattle.cacache_value.proofs.KindsApart.{kind-below}
-use Rattle.cacache_history.specs.declared.record.Record.{Record}
-use Rattle.cacache_history.specs.Setup.{home}
-use Rattle.cacache_history.specs.History.{History, Made, now_at}
-use Rattle.cacache_history.specs.Values.{bucket_at, steps_of}
-use Rattle.cacache_loss.specs.Loss.{Loss}
-use Rattle.cacache_loss.specs.LossLaws.{HoldsEntries}
-use Rattle.cacache_loss.specs.LostValues.{LeftOf}
-use Rattle.cacache_loss.specs.Moments.{lost_then}
-use Rattle.cacache_loss.specs.Syncs.{SyncsFile, SyncsFolders}
-use Rattle.cacache_loss.proofs.Buckets.{entries_survive}
-use Rattle.cacache_loss.proofs.CommitFolders.{four_for_buckets}
-use Rattle.cacache_loss.proofs.LostValues.{entries_are_held}
+use Rattle.cacache_table.specs.{Runs.{Moves}, StepPaths.{bucket_folders, bucket_path}}
+use Rattle.cacache_value.{specs.{Acts.{list_of}, Kinds.{node_below}, Value.{bucket_in, value_of_tree}}, proofs.KindsApart.{kind-below}}
+use Rattle.cacache_history.specs.{declared.record.Record.{Record}, Setup.{home}, History.{History, Made, now_at}, Values.{bucket_at, steps_of}}
+use Rattle.cacache_loss.specs.{Loss.{Loss}, LossLaws.{HoldsEntries}, LostValues.{LeftOf}, Moments.{lost_then}, Syncs.{SyncsFile, SyncsFolders}}
+use Rattle.cacache_loss.proofs.{Buckets.{entries_survive}, CommitFolders.{four_for_buckets}, LostValues.{entries_are_held}}
 use Rattle.cacache_durable.specs.Outlasting.{EntryOutlasts, Outlasts, moment_at}
-use Rattle.cacache_durable.proofs.AtMoves.{QuietPlace, cache_here, cache_text, calm_later, calm_move, here, leads_to_end, own_move, own_record, texts_here}
-use Rattle.cacache_durable.proofs.CommitMoves.{HasDirs}
-use Rattle.cacache_durable.proofs.DoneSyncs.{syncs_file}
-use Rattle.cacache_durable.proofs.Ending.{Has}
-use Rattle.cacache_durable.proofs.Traces.{tree_at}
+use Rattle.cacache_durable.proofs.{AtMoves.{QuietPlace, cache_here, cache_text, calm_later, calm_move, here, leads_to_end, own_move, own_record, texts_here}, CommitMoves.{HasDirs}, DoneSyncs.{syncs_file}, Ending.{Has}, Traces.{tree_at}}
 
 -- the append of an entry's closed line, all of which was taken
 abbrev pub whole_append : List ℕ → Entry → Made

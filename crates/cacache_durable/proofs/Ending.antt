@@ -1,16 +1,9 @@
 -- The moves of a call until it ends: they are a run of it, and each has its place in the records.
 use Rattle.std.proofs.Common.{◌≡◌, ◌⊎◌, inl, inr, ◌==◌, ℕ, Bool, true, false, cond, List, [], ◌∷◌, ◌++◌, Option, None, Some, option_map, refl, sym, ap, subst, ◌∙◌, eqb-true, eq-eqb}
-use Rattle.cacache_disk.specs.declared.luck.Luck.{Luck}
-use Rattle.cacache_disk.specs.Tree.{Tree}
-use Rattle.cacache_table.specs.declared.reply.Reply.{Reply}
-use Rattle.cacache_table.specs.State.{State, over}
-use Rattle.cacache_table.specs.Runs.{Moves, Runs, plain_reply}
+use Rattle.cacache_disk.specs.{declared.luck.Luck.{Luck}, Tree.{Tree}}
+use Rattle.cacache_table.specs.{declared.reply.Reply.{Reply}, State.{State, over}, Runs.{Moves, Runs, plain_reply}}
 use Rattle.cacache_value.specs.Traces.{Move}
-use Rattle.cacache_history.specs.declared.record.Record.{Record}
-use Rattle.cacache_history.specs.declared.record.Record.TheVariants.{Began, Moved, Stopped}
-use Rattle.cacache_history.specs.Setup.{Setup}
-use Rattle.cacache_history.specs.History.{Call, Now, Made, call_after, set_call, now_after, replayed, Ends, MayMove, MayCome, Legal}
-use Rattle.cacache_history.specs.Values.{steps_of}
+use Rattle.cacache_history.specs.{declared.record.Record.{Record, TheVariants.{Began, Moved, Stopped}}, Setup.{Setup}, History.{Call, Now, Made, call_after, set_call, now_after, replayed, Ends, MayMove, MayCome, Legal}, Values.{steps_of}}
 use Rattle.cacache_durable.specs.Ending.{EndsHere, CallEndsWith}
 
 -- ---- the caller's own moves

@@ -2,36 +2,13 @@
 use Rattle.std.proofs.Common.{◌≡◌, ◌≤◌, inl, inr, ℕ, Bool, true, false, cond, List, [], ◌∷◌, ◌++◌, Option, None, Some, length, take, refl, sym, ap, subst, ◌∙◌, arith, append_assoc, append-nil, length-append}
 use Rattle.std.specs.Prelude.{bytes_eq}
 use Rattle.cacache_core.specs.PathNames.{Names, names_of}
-use Rattle.cacache_store.specs.declared.store.step.Step.TheVariants.{CreateTemp, Write, Persist, Append, SyncTemp, SyncFile, SyncDir}
-use Rattle.cacache_store.specs.Plain.{PlainStep, PlainAnswer}
-use Rattle.cacache_disk.specs.declared.luck.Luck.{Luck}
-use Rattle.cacache_disk.specs.declared.node.Node.{Node}
-use Rattle.cacache_disk.specs.declared.node.Node.TheVariants.{File}
-use Rattle.cacache_disk.specs.Tree.{Tree, look, same_path, bytes_of}
-use Rattle.cacache_disk.specs.Rooted.{Rooted}
-use Rattle.cacache_disk.specs.LedTo.{leads}
-use Rattle.cacache_disk.specs.Apply.{apply, make_some}
-use Rattle.cacache_disk.proofs.Maps.{same_path-true}
-use Rattle.cacache_disk.proofs.PutNodes.{look-put}
-use Rattle.cacache_disk.proofs.Roots.{same_self}
-use Rattle.cacache_value.specs.Kinds.{Content, Bucket, Temporary, path_kind, is_used, Way}
-use Rattle.cacache_value.specs.Placed.{IsEntryLine, Placed, Proper}
-use Rattle.cacache_value.specs.Traces.{Move}
-use Rattle.cacache_loss.specs.declared.fixing.Fixing.{Fixing}
-use Rattle.cacache_loss.specs.declared.fixing.Place.{Place}
-use Rattle.cacache_loss.specs.Fixing.{Fixed, changed, file_synced, fixed_after, folder_synced, is_at, is_child_of, is_sync, is_synced, place_now, refixed, synced, temp_synced}
-use Rattle.cacache_loss.specs.Loss.{Loss, node_left}
-use Rattle.cacache_loss.specs.Moments.{EachMove, Moment, after, lost_then, next}
-use Rattle.cacache_loss.specs.LostTrees.{OfCache}
-use Rattle.cacache_loss.specs.CalmMoves.{CalmStep, IsCalm, is_calm}
-use Rattle.cacache_loss.specs.Syncs.{IsFileSync, SyncsFile, SyncsFolders}
-use Rattle.cacache_loss.proofs.Buckets.{leads_file}
-use Rattle.cacache_loss.proofs.StepCases.{AppendCase, unsent, took, torn, append_case, grown, make_apart}
-use Rattle.cacache_loss.proofs.UnchangedPaths.{at_false, Misses, file_kept, name_kept}
-use Rattle.cacache_loss.proofs.KeptPaths.{cond_none, cond_whole, keeps, files_keep, names_kept, sync_tree, cache_next}
-use Rattle.cacache_loss.proofs.SyncedFolders.{IsLeft, survives}
-use Rattle.cacache_durable.specs.Behind.{NoneAppends, StaysSynced, appends_at}
-use Rattle.cacache_durable.proofs.LineParts.{HoldsFirst, IsPart, more_first}
+use Rattle.cacache_store.specs.{declared.store.step.Step.TheVariants.{CreateTemp, Write, Persist, Append, SyncTemp, SyncFile, SyncDir}, Plain.{PlainStep, PlainAnswer}}
+use Rattle.cacache_disk.specs.{declared.{luck.Luck.{Luck}, node.Node.{Node, TheVariants.{File}}}, Tree.{Tree, look, same_path, bytes_of}, Rooted.{Rooted}, LedTo.{leads}, Apply.{apply, make_some}}
+use Rattle.cacache_disk.proofs.{Maps.{same_path-true}, PutNodes.{look-put}, Roots.{same_self}}
+use Rattle.cacache_value.specs.{Kinds.{Content, Bucket, Temporary, path_kind, is_used, Way}, Placed.{IsEntryLine, Placed, Proper}, Traces.{Move}}
+use Rattle.cacache_loss.specs.{declared.fixing.{Fixing.{Fixing}, Place.{Place}}, Fixing.{Fixed, changed, file_synced, fixed_after, folder_synced, is_at, is_child_of, is_sync, is_synced, place_now, refixed, synced, temp_synced}, Loss.{Loss, node_left}, Moments.{EachMove, Moment, after, lost_then, next}, LostTrees.{OfCache}, CalmMoves.{CalmStep, IsCalm, is_calm}, Syncs.{IsFileSync, SyncsFile, SyncsFolders}}
+use Rattle.cacache_loss.proofs.{Buckets.{leads_file}, StepCases.{AppendCase, unsent, took, torn, append_case, grown, make_apart}, UnchangedPaths.{at_false, Misses, file_kept, name_kept}, KeptPaths.{cond_none, cond_whole, keeps, files_keep, names_kept, sync_tree, cache_next}, SyncedFolders.{IsLeft, survives}}
+use Rattle.cacache_durable.{specs.Behind.{NoneAppends, StaysSynced, appends_at}, proofs.LineParts.{HoldsFirst, IsPart, more_first}}
 
 module _ (home : Option Names) (c : Names) (at : path_kind home c ≡ Bucket) where
   -- this much of the file is fixed

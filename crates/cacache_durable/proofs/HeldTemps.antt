@@ -1,47 +1,21 @@
 -- At each place the temporary file of a durable put that is moved next is synced, or gone.
-use Rattle.std.proofs.Common.{◌≡◌, inl, inr, ◌<◌, ◌≤◌, ◌^◌, ◌==◌, ℕ, Bool, true, false, cond, List, [], ◌∷◌, ◌++◌, Option, None, Some, Ok, option_map, refl, sym, ap, subst, ◌∙◌, arith}
-use Rattle.std.proofs.lemmas.Bool.{eq-eqb}
+use Rattle.std.proofs.{Common.{◌≡◌, inl, inr, ◌<◌, ◌≤◌, ◌^◌, ◌==◌, ℕ, Bool, true, false, cond, List, [], ◌∷◌, ◌++◌, Option, None, Some, Ok, option_map, refl, sym, ap, subst, ◌∙◌, arith}, lemmas.Bool.{eq-eqb}}
 use Rattle.cacache_core.specs.PathNames.{Names, names_of}
-use Rattle.cacache_store.specs.declared.store.plain.PlainTemp.{PlainTemp}
+use Rattle.cacache_store.specs.{declared.store.plain.PlainTemp.{PlainTemp}, Plain.{PlainStep, PlainAnswer}}
 use Rattle.cacache_store.specs.declared.store.step.Step.TheVariants as steps
 use Rattle.cacache_store.specs.declared.store.answer.Answer.TheVariants as answers
-use Rattle.cacache_store.specs.Plain.{PlainStep, PlainAnswer}
-use Rattle.cacache_disk.specs.declared.luck.Luck.{Luck}
-use Rattle.cacache_disk.specs.Tree.{Tree}
-use Rattle.cacache_disk.specs.Apply.{apply}
-use Rattle.cacache_disk.proofs.Roots.{same_self}
-use Rattle.cacache_table.specs.declared.command.Command.{Command}
-use Rattle.cacache_table.specs.declared.command.Command.TheVariants as commands
-use Rattle.cacache_table.specs.declared.command.Put.{Put}
-use Rattle.cacache_table.specs.declared.reply.Reply.{Reply}
-use Rattle.cacache_table.specs.Answers.{synced_in}
-use Rattle.cacache_table.specs.Sound.{Allowed, Sound}
-use Rattle.cacache_table.specs.State.{State, persisting}
-use Rattle.cacache_table.specs.StepPaths.{temp_path}
-use Rattle.cacache_table.specs.Table.{opening}
+use Rattle.cacache_disk.{specs.{declared.luck.Luck.{Luck}, Tree.{Tree}, Apply.{apply}}, proofs.Roots.{same_self}}
+use Rattle.cacache_table.specs.{declared.{command.{Command.{Command}, Put.{Put}}, reply.Reply.{Reply}}, Answers.{synced_in}, Sound.{Allowed, Sound}, State.{State, persisting}, StepPaths.{temp_path}, Table.{opening}}
 use Rattle.cacache_table.proofs.Sound.{steps_allowed}
-use Rattle.cacache_value.specs.Kinds.{Temporary, path_kind}
-use Rattle.cacache_value.specs.OpeningTrees.{LieApart}
-use Rattle.cacache_value.specs.Placed.{Placed, Proper}
-use Rattle.cacache_value.proofs.FoundPaths.{of_names}
-use Rattle.cacache_history.specs.declared.record.Record.{Record}
-use Rattle.cacache_history.specs.declared.record.Record.TheVariants.{Began, Moved, Stopped}
-use Rattle.cacache_history.specs.Setup.{Setup, call_site, home, is_outside, may_export}
-use Rattle.cacache_history.specs.History.{Call, History, IsLegal, Legal, Made, MayMove, Now, new_call, initial, call_after, now_after, now_at, replayed, unless_over}
-use Rattle.cacache_history.specs.Values.{steps_of}
-use Rattle.cacache_history.proofs.Holding.{AllHold, CallHolds, ended_at, first_holds, legal_before, made_proper, next_holds, of_caller, replay_more, set_at}
-use Rattle.cacache_history.proofs.Syncing.{temp_synced}
+use Rattle.cacache_table.specs.declared.command.Command.TheVariants as commands
+use Rattle.cacache_value.{specs.{Kinds.{Temporary, path_kind}, OpeningTrees.{LieApart}, Placed.{Placed, Proper}}, proofs.FoundPaths.{of_names}}
+use Rattle.cacache_history.specs.{declared.record.Record.{Record, TheVariants.{Began, Moved, Stopped}}, Setup.{Setup, call_site, home, is_outside, may_export}, History.{Call, History, IsLegal, Legal, Made, MayMove, Now, new_call, initial, call_after, now_after, now_at, replayed, unless_over}, Values.{steps_of}}
+use Rattle.cacache_history.proofs.{Holding.{AllHold, CallHolds, ended_at, first_holds, legal_before, made_proper, next_holds, of_caller, replay_more, set_at}, Syncing.{temp_synced}}
 use Rattle.cacache_loss.specs.ChangedNames as loss
-use Rattle.cacache_loss.specs.Fixing.{Fixed, fixed_after, is_synced}
-use Rattle.cacache_loss.specs.Moments.{Moment, after}
+use Rattle.cacache_loss.specs.{Fixing.{Fixed, fixed_after, is_synced}, Moments.{Moment, after}}
 use Rattle.cacache_loss.specs.Moments as moments
-use Rattle.cacache_durable.specs.FewCalls.{FewCalls}
-use Rattle.cacache_durable.specs.Outlasting.{moment_at}
-use Rattle.cacache_durable.proofs.CallNumbers.{Numbered, first_numbered, more_begun, next_numbered, number_below, numbers_apart, temps_apart}
-use Rattle.cacache_durable.proofs.DurableStates.{IsDurable, Moves, stays_durable}
-use Rattle.cacache_durable.proofs.QuietSteps.{temp_for}
-use Rattle.cacache_durable.proofs.TempSteps.{IsReady, Spares, ready_next}
-use Rattle.cacache_durable.proofs.Traces.{made_move}
+use Rattle.cacache_durable.specs.{FewCalls.{FewCalls}, Outlasting.{moment_at}}
+use Rattle.cacache_durable.proofs.{CallNumbers.{Numbered, first_numbered, more_begun, next_numbered, number_below, numbers_apart, temps_apart}, DurableStates.{IsDurable, Moves, stays_durable}, QuietSteps.{temp_for}, TempSteps.{IsReady, Spares, ready_next}, Traces.{made_move}}
 
 -- a temporary file is gone or synced
 abbrev pub IsSynced : Moment → PlainTemp → Type 0

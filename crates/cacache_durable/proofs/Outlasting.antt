@@ -1,48 +1,18 @@
 -- What durable commits stored outlasts each later loss of power.
 use Rattle.std.proofs.Common.{◌≡◌, ◌⊎◌, inl, inr, ℕ, true, List, [], ◌∷◌, ◌++◌, Option, None, Some, Ok, length, refl, sym, ap, subst, ◌∙◌, append_assoc}
 use Rattle.sha1.specs.Sha1.{sha1}
-use Rattle.cacache_core.specs.declared.integrity.digest.Hash.{Hash}
-use Rattle.cacache_core.specs.Integrity.{IsHash}
-use Rattle.cacache_core.specs.PathNames.{Names, names_of}
-use Rattle.cacache_core.specs.Paths.{bucket_names_of, content_names, folders_to, joined}
+use Rattle.cacache_core.specs.{declared.integrity.digest.Hash.{Hash}, Integrity.{IsHash}, PathNames.{Names, names_of}, Paths.{bucket_names_of, content_names, folders_to, joined}}
 use Rattle.cacache_store.specs.declared.store.step.Step.TheVariants as steps
 use Rattle.cacache_store.specs.declared.store.answer.Answer.TheVariants as answers
 use Rattle.cacache_disk.specs.Tree.{Tree}
-use Rattle.cacache_table.specs.declared.command.Command.{Command}
+use Rattle.cacache_table.specs.{declared.{command.{Command.{Command}, Insert.{Insert}, Put.{Put}}, reply.Reply.{Reply, TheVariants.{Stored}}, carried.Commit.{Commit}}, Inserting.{insertion}, Runs.{Moves}, StepPaths.{bucket_path, content_folders, content_path}, Storing.{insertion_of, put_commit}}
 use Rattle.cacache_table.specs.declared.command.Command.TheVariants as commands
-use Rattle.cacache_table.specs.declared.command.Insert.{Insert}
-use Rattle.cacache_table.specs.declared.command.Put.{Put}
-use Rattle.cacache_table.specs.declared.reply.Reply.{Reply}
-use Rattle.cacache_table.specs.declared.reply.Reply.TheVariants.{Stored}
-use Rattle.cacache_table.specs.Inserting.{insertion}
-use Rattle.cacache_table.specs.Runs.{Moves}
-use Rattle.cacache_table.specs.declared.carried.Commit.{Commit}
-use Rattle.cacache_table.specs.StepPaths.{bucket_path, content_folders, content_path}
-use Rattle.cacache_table.specs.Storing.{insertion_of, put_commit}
 use Rattle.cacache_value.specs.Value.{blob_in, value_of_tree}
-use Rattle.cacache_history.specs.declared.record.Record.{Record}
-use Rattle.cacache_history.specs.AddedEntries.{address_of_put}
-use Rattle.cacache_history.specs.History.{History, IsLegal, Made, now_at}
-use Rattle.cacache_history.specs.Setup.{home}
+use Rattle.cacache_history.specs.{declared.record.Record.{Record}, AddedEntries.{address_of_put}, History.{History, IsLegal, Made, now_at}, Setup.{home}}
 use Rattle.cacache_history.proofs.Digests.{digest_hash}
-use Rattle.cacache_loss.specs.Loss.{Loss}
-use Rattle.cacache_loss.specs.LossLaws.{GoodNode, HasDigest}
-use Rattle.cacache_loss.specs.LostValues.{HoldsContent, LeftOf}
-use Rattle.cacache_loss.specs.Moments.{lost_then}
-use Rattle.cacache_loss.proofs.LostValues.{contents_are_held}
-use Rattle.cacache_durable.specs.Ending.{EndsFrom, CallEndsWith}
-use Rattle.cacache_durable.specs.FewCalls.{FewCalls}
-use Rattle.cacache_durable.specs.Outlasting.{AnsweredPut, DurableInsert, DurablePut, EntriesHaveBehind, FindsThere, FoundLink, HistoriesOutlive, InsertsHaveBehind, InsertsOutlast, KeyOutlasts, PutsHaveBehind, PutsOrLinksOutlast, PutsOutlast, moment_at}
-use Rattle.cacache_durable.specs.QuietMoves.{AreQuiet}
-use Rattle.cacache_durable.proofs.AtMoves.{QuietPlace, here, own_record, quiet_here, split}
-use Rattle.cacache_durable.proofs.BehindEntries.{entry_behind}
-use Rattle.cacache_durable.proofs.CommitMoves.{HasDirs}
-use Rattle.cacache_durable.proofs.PutMoves.{Adds, secures}
-use Rattle.cacache_durable.proofs.CommitPlaces.{Secures, insert_appends, insert_formed, line_is, own, place_in, put_formed, put_secures, written_fits}
-use Rattle.cacache_durable.proofs.DurableContents.{content_named, found_left, put_outlasts}
-use Rattle.cacache_durable.proofs.DurableEntries.{WholeEntry, bucket_named, entry_outlasts, whole_append}
-use Rattle.cacache_durable.proofs.SyncedTemps.{put_well_at}
-use Rattle.cacache_durable.proofs.Traces.{losses_leave_caches}
+use Rattle.cacache_loss.{specs.{Loss.{Loss}, LossLaws.{GoodNode, HasDigest}, LostValues.{HoldsContent, LeftOf}, Moments.{lost_then}}, proofs.LostValues.{contents_are_held}}
+use Rattle.cacache_durable.specs.{Ending.{EndsFrom, CallEndsWith}, FewCalls.{FewCalls}, Outlasting.{AnsweredPut, DurableInsert, DurablePut, EntriesHaveBehind, FindsThere, FoundLink, HistoriesOutlive, InsertsHaveBehind, InsertsOutlast, KeyOutlasts, PutsHaveBehind, PutsOrLinksOutlast, PutsOutlast, moment_at}, QuietMoves.{AreQuiet}}
+use Rattle.cacache_durable.proofs.{AtMoves.{QuietPlace, here, own_record, quiet_here, split}, BehindEntries.{entry_behind}, CommitMoves.{HasDirs}, PutMoves.{Adds, secures}, CommitPlaces.{Secures, insert_appends, insert_formed, line_is, own, place_in, put_formed, put_secures, written_fits}, DurableContents.{content_named, found_left, put_outlasts}, DurableEntries.{WholeEntry, bucket_named, entry_outlasts, whole_append}, SyncedTemps.{put_well_at}, Traces.{losses_leave_caches}}
 
 module _ (h : History) (legal : IsLegal h) (folder : Names) (home_is : home h.setup ≡ Some folder) where
   -- a move of a call, from a place on where all others are quiet

@@ -1,27 +1,13 @@
 -- What a durable put that answered made, in order: its content, the syncs of its folders, and what its entry takes.
 use Rattle.std.proofs.Common.{◌≡◌, ◌⊎◌, inl, inr, ◌==◌, ℕ, Bool, true, false, cond, List, [], ◌∷◌, ◌++◌, Option, None, Some, Result, Ok, Err, drop, refl, ap, subst, ◌∙◌}
-use Rattle.cacache_core.specs.declared.errors.Fault.{Fault}
+use Rattle.cacache_core.specs.declared.{errors.{Fault.{Fault}, IntegrityFault.TheVariants.{Check}, Error.{Error, TheVariants.{SizeMismatch, IoError, IntegrityError, OutOfMemory}}}, integrity.digest.Hash.{Hash}}
 use Rattle.cacache_core.specs.declared.errors.Fault.TheVariants as faults
-use Rattle.cacache_core.specs.declared.errors.IntegrityFault.TheVariants.{Check}
-use Rattle.cacache_core.specs.declared.errors.Error.{Error}
-use Rattle.cacache_core.specs.declared.errors.Error.TheVariants.{SizeMismatch, IoError, IntegrityError, OutOfMemory}
-use Rattle.cacache_core.specs.declared.integrity.digest.Hash.{Hash}
-use Rattle.cacache_store.specs.declared.store.plain.PlainTemp.{PlainTemp}
+use Rattle.cacache_store.specs.{declared.store.plain.PlainTemp.{PlainTemp}, Plain.{PlainAnswer}}
 use Rattle.cacache_store.specs.declared.store.answer.Answer.TheVariants as answers
 use Rattle.cacache_store.specs.declared.store.step.Step.TheVariants as steps
-use Rattle.cacache_store.specs.Plain.{PlainAnswer}
-use Rattle.cacache_table.specs.declared.answers.Refusal.{Refusal}
+use Rattle.cacache_table.specs.{declared.{answers.Refusal.{Refusal}, command.Put.{Put}, carried.Commit.{Commit}}, Answers.{done_in, temp_in, written_in, synced_in, there_in}, StepPaths.{content_path, content_folders}, State.{State, doing, creating, writing, syncing, persisting, confirming, Site, make_folder, sync_file}, Common.{ends_with, fails, go_on, sync_up}, Storing.{insertion_of, indexed, sized, matches, compared, placed, secured, secured_found, move_in, write_rest, after_write, after_confirm, put_commit}, Table.{opening}, Runs.{Moves}}
 use Rattle.cacache_table.specs.declared.answers.Refusal.TheVariants as refusals
 use Rattle.cacache_table.specs.declared.command.Command.TheVariants as commands
-use Rattle.cacache_table.specs.declared.command.Put.{Put}
-use Rattle.cacache_table.specs.Answers.{done_in, temp_in, written_in, synced_in, there_in}
-use Rattle.cacache_table.specs.StepPaths.{content_path, content_folders}
-use Rattle.cacache_table.specs.State.{State, doing, creating, writing, syncing, persisting, confirming, Site, make_folder, sync_file}
-use Rattle.cacache_table.specs.declared.carried.Commit.{Commit}
-use Rattle.cacache_table.specs.Common.{ends_with, fails, go_on, sync_up}
-use Rattle.cacache_table.specs.Storing.{insertion_of, indexed, sized, matches, compared, placed, secured, secured_found, move_in, write_rest, after_write, after_confirm, put_commit}
-use Rattle.cacache_table.specs.Table.{opening}
-use Rattle.cacache_table.specs.Runs.{Moves}
 use Rattle.cacache_history.specs.History.{Made}
 use Rattle.cacache_durable.proofs.CommitMoves.{Appends, HasDirs, Stores, all_dirs, does, done_is, goes_on, inserted, later_appends, made_is, makes, refused, synced, there_is}
 

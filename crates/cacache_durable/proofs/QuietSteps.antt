@@ -3,26 +3,13 @@ use Rattle.std.proofs.Common.{◌≡◌, ℕ, Bool, true, false, List, [], ◌�
 use Rattle.cacache_core.specs.PathNames.{Names}
 use Rattle.cacache_store.specs.declared.store.step.Step.TheVariants as steps
 use Rattle.cacache_store.specs.Plain.{PlainStep}
-use Rattle.cacache_table.specs.StepPaths.{temp_path}
-use Rattle.cacache_table.specs.Sound.{Allowed}
-use Rattle.cacache_table.specs.Licence.{May, allows, taking_in}
-use Rattle.cacache_table.specs.Table.{opening, wants}
-use Rattle.cacache_table.proofs.Within.{step_allowed, begins_within, goes_within}
-use Rattle.cacache_table.proofs.Sound.{steps_allowed}
-use Rattle.cacache_value.specs.Kinds.{Temporary, IsFor}
-use Rattle.cacache_value.proofs.PathKinds.{paths_are_for}
-use Rattle.cacache_history.specs.declared.record.Record.{Record}
-use Rattle.cacache_history.specs.declared.record.Record.TheVariants.{Began, Moved, Stopped}
-use Rattle.cacache_history.specs.Setup.{Setup, call_site, home, is_outside, may_export}
-use Rattle.cacache_history.specs.History.{Call, History, IsLegal, Legal, Now, now_after, now_at}
-use Rattle.cacache_history.specs.Turns.{made_in}
-use Rattle.cacache_history.specs.Values.{steps_of}
+use Rattle.cacache_table.specs.{StepPaths.{temp_path}, Sound.{Allowed}, Licence.{May, allows, taking_in}, Table.{opening, wants}}
+use Rattle.cacache_table.proofs.{Within.{step_allowed, begins_within, goes_within}, Sound.{steps_allowed}}
+use Rattle.cacache_value.{specs.{Kinds.{Temporary, IsFor}, OpeningTrees.{LieApart}}, proofs.PathKinds.{paths_are_for}}
+use Rattle.cacache_history.specs.{declared.record.Record.{Record, TheVariants.{Began, Moved, Stopped}}, Setup.{Setup, call_site, home, is_outside, may_export}, History.{Call, History, IsLegal, Legal, Now, now_after, now_at}, Turns.{made_in}, Values.{steps_of}}
 use Rattle.cacache_history.proofs.Holding.{AllHold, CallHolds, held_at, legal_after, next_holds, of_caller}
 use Rattle.cacache_loss.specs.CalmMoves.{is_calm, AreCalm, CalmStep, CalmSteps, HandlesTemp}
-use Rattle.cacache_durable.specs.Outlasting.{moment_at}
-use Rattle.cacache_durable.specs.QuietMoves.{AreQuiet, IsQuietMove, is_quiet}
-use Rattle.cacache_durable.proofs.Traces.{trace_at}
-use Rattle.cacache_value.specs.OpeningTrees.{LieApart}
+use Rattle.cacache_durable.{specs.{Outlasting.{moment_at}, QuietMoves.{AreQuiet, IsQuietMove, is_quiet}}, proofs.Traces.{trace_at}}
 
 -- a call that only takes in makes calm steps
 step_calm : (step : PlainStep) → May (allows taking_in step) → is_calm step ≡ true

@@ -1,28 +1,14 @@
 -- A link that stands at a content's path after calm moves stood there before them.
 use Rattle.std.proofs.Common.{◌≡◌, ℕ, Bool, true, false, cond, List, [], ◌∷◌, ◌++◌, Option, None, Some, refl, sym, ap, subst, ◌∙◌}
 use Rattle.cacache_core.specs.PathNames.{Names, names_of}
-use Rattle.cacache_store.specs.declared.store.plain.PlainTemp.{PlainTemp}
+use Rattle.cacache_store.specs.{declared.store.plain.PlainTemp.{PlainTemp}, Plain.{PlainStep, PlainAnswer}}
 use Rattle.cacache_store.specs.declared.store.step.Step.TheVariants as steps
-use Rattle.cacache_store.specs.Plain.{PlainStep, PlainAnswer}
-use Rattle.cacache_disk.specs.declared.luck.Luck.{Luck}
-use Rattle.cacache_disk.specs.declared.node.Node.TheVariants.{File, Link}
-use Rattle.cacache_disk.specs.Tree.{Tree, look, put, cut}
-use Rattle.cacache_disk.specs.Apply.{apply}
-use Rattle.cacache_disk.proofs.Maps.{same_path-true}
-use Rattle.cacache_disk.proofs.PutNodes.{look-put}
-use Rattle.cacache_disk.proofs.Roots.{same_self}
-use Rattle.cacache_value.specs.Kinds.{Bucket, Content, Temporary, path_kind}
-use Rattle.cacache_value.specs.Placed.{Placed, Proper}
-use Rattle.cacache_history.specs.declared.record.Record.{Record}
-use Rattle.cacache_history.specs.declared.record.Record.TheVariants.{Began, Moved, Stopped}
-use Rattle.cacache_history.specs.Values.{steps_of}
-use Rattle.cacache_loss.specs.CalmMoves.{AreCalm, CalmStep}
-use Rattle.cacache_loss.specs.Fixing.{is_at}
-use Rattle.cacache_loss.specs.LostTrees.{OfCache}
-use Rattle.cacache_loss.specs.Moments.{Moment, after, next}
-use Rattle.cacache_loss.proofs.KeptPaths.{cache_next, keeps}
-use Rattle.cacache_loss.proofs.StepCases.{PersistCase, make_apart, moved, persist_case, refused}
-use Rattle.cacache_loss.proofs.UnchangedPaths.{Misses, at_false}
+use Rattle.cacache_disk.specs.{declared.{luck.Luck.{Luck}, node.Node.TheVariants.{File, Link}}, Tree.{Tree, look, put, cut}, Apply.{apply}}
+use Rattle.cacache_disk.proofs.{Maps.{same_path-true}, PutNodes.{look-put}, Roots.{same_self}}
+use Rattle.cacache_value.specs.{Kinds.{Bucket, Content, Temporary, path_kind}, Placed.{Placed, Proper}}
+use Rattle.cacache_history.specs.{declared.record.Record.{Record, TheVariants.{Began, Moved, Stopped}}, Values.{steps_of}}
+use Rattle.cacache_loss.specs.{CalmMoves.{AreCalm, CalmStep}, Fixing.{is_at}, LostTrees.{OfCache}, Moments.{Moment, after, next}}
+use Rattle.cacache_loss.proofs.{KeptPaths.{cache_next, keeps}, StepCases.{PersistCase, make_apart, moved, persist_case, refused}, UnchangedPaths.{Misses, at_false}}
 use Rattle.cacache_durable.proofs.Traces.{made_move}
 
 module _ (home : Option Names) (c : Names) (at : path_kind home c ≡ Content) (target : List ℕ) where

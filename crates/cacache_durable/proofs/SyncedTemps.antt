@@ -1,49 +1,20 @@
 -- What a durable put moves to its content's place is synced, and has the digest of its address.
-use Rattle.std.proofs.Common.{◌≡◌, inl, inr, ℕ, true, List, [], ◌∷◌, ◌++◌, Option, None, Some, Result, Ok, Err, refl, sym, ap, subst, ◌∙◌, arith, append_assoc, append-nil}
+use Rattle.std.proofs.{Common.{◌≡◌, inl, inr, ℕ, true, List, [], ◌∷◌, ◌++◌, Option, None, Some, Result, Ok, Err, refl, sym, ap, subst, ◌∙◌, arith, append_assoc, append-nil}, lemmas.List.{append_cancel_left}}
 use Rattle.std.specs.Prelude.{IfOk}
-use Rattle.std.proofs.lemmas.List.{append_cancel_left}
-use Rattle.cacache_core.specs.declared.errors.Fault.{Fault}
-use Rattle.cacache_core.specs.declared.errors.Fault.TheVariants.{NotFound}
-use Rattle.cacache_core.specs.declared.integrity.digest.Hash.{Hash}
-use Rattle.cacache_core.specs.Integrity.{IsHash}
-use Rattle.cacache_core.specs.PathNames.{Names, home_of, names_below, names_of}
-use Rattle.cacache_core.specs.Paths.{content_names, joined}
-use Rattle.cacache_core.proofs.JoinedNames.{joined_texts_name}
-use Rattle.cacache_core.proofs.PathTexts.{paths_differ}
-use Rattle.cacache_core.proofs.ProperNames.{names_are_proper}
-use Rattle.cacache_store.specs.declared.store.plain.PlainTemp.{PlainTemp}
+use Rattle.cacache_core.specs.{declared.{errors.Fault.{Fault, TheVariants.{NotFound}}, integrity.digest.Hash.{Hash}}, Integrity.{IsHash}, PathNames.{Names, home_of, names_below, names_of}, Paths.{content_names, joined}}
+use Rattle.cacache_core.proofs.{JoinedNames.{joined_texts_name}, PathTexts.{paths_differ}, ProperNames.{names_are_proper}}
+use Rattle.cacache_store.specs.{declared.store.plain.PlainTemp.{PlainTemp}, Plain.{PlainStep, PlainAnswer}}
 use Rattle.cacache_store.specs.declared.store.step.Step.TheVariants as steps
 use Rattle.cacache_store.specs.declared.store.answer.Answer.TheVariants as answers
-use Rattle.cacache_store.specs.Plain.{PlainStep, PlainAnswer}
-use Rattle.cacache_disk.specs.declared.luck.Luck.{Luck}
-use Rattle.cacache_disk.specs.Tree.{Tree, look}
-use Rattle.cacache_disk.specs.LedTo.{kept, known}
-use Rattle.cacache_disk.specs.Apply.{apply, unless}
-use Rattle.cacache_table.specs.declared.command.Command.{Command}
+use Rattle.cacache_disk.specs.{declared.luck.Luck.{Luck}, Tree.{Tree, look}, LedTo.{kept, known}, Apply.{apply, unless}}
+use Rattle.cacache_table.specs.{declared.{command.{Command.{Command}, Put.{Put}}, reply.Reply.{Reply}}, StepPaths.{content_path}, Table.{wants}}
 use Rattle.cacache_table.specs.declared.command.Command.TheVariants as commands
-use Rattle.cacache_table.specs.declared.command.Put.{Put}
-use Rattle.cacache_table.specs.declared.reply.Reply.{Reply}
-use Rattle.cacache_table.specs.StepPaths.{content_path}
-use Rattle.cacache_table.specs.Table.{wants}
 use Rattle.cacache_value.proofs.Shows.{apply_answer}
-use Rattle.cacache_history.specs.declared.record.Record.{Record}
-use Rattle.cacache_history.specs.declared.record.Record.TheVariants.{Began, Moved, Stopped}
-use Rattle.cacache_history.specs.AddedEntries.{address_of_put}
-use Rattle.cacache_history.specs.Setup.{call_site, home}
-use Rattle.cacache_history.specs.History.{Call, History, IsLegal, Made, initial, now_after, now_at}
-use Rattle.cacache_history.specs.Values.{steps_of}
-use Rattle.cacache_history.proofs.Carrying.{Makes, carries_makes, own_of}
-use Rattle.cacache_history.proofs.Digests.{digest_hash}
-use Rattle.cacache_history.proofs.Holding.{CallHolds, held_at, legal_after, of_caller, replay_more}
-use Rattle.cacache_loss.specs.CalmMoves.{OfBytes, PutWell, PutsMove, PutsStep}
-use Rattle.cacache_loss.specs.LossLaws.{HasDigest}
-use Rattle.cacache_loss.specs.Moments.{EachMove, after}
-use Rattle.cacache_durable.specs.FewCalls.{FewCalls}
-use Rattle.cacache_durable.specs.Outlasting.{moment_at}
-use Rattle.cacache_durable.specs.QuietMoves.{AreQuiet, IsQuiet, IsQuietMove, PutsDurably}
-use Rattle.cacache_durable.proofs.DurableStates.{ready_file}
-use Rattle.cacache_durable.proofs.HeldTemps.{IsSynced, TempAt, temps_at}
-use Rattle.cacache_durable.proofs.Traces.{moment_more}
+use Rattle.cacache_history.specs.{declared.record.Record.{Record, TheVariants.{Began, Moved, Stopped}}, AddedEntries.{address_of_put}, Setup.{call_site, home}, History.{Call, History, IsLegal, Made, initial, now_after, now_at}, Values.{steps_of}}
+use Rattle.cacache_history.proofs.{Carrying.{Makes, carries_makes, own_of}, Digests.{digest_hash}, Holding.{CallHolds, held_at, legal_after, of_caller, replay_more}}
+use Rattle.cacache_loss.specs.{CalmMoves.{OfBytes, PutWell, PutsMove, PutsStep}, LossLaws.{HasDigest}, Moments.{EachMove, after}}
+use Rattle.cacache_durable.specs.{FewCalls.{FewCalls}, Outlasting.{moment_at}, QuietMoves.{AreQuiet, IsQuiet, IsQuietMove, PutsDurably}}
+use Rattle.cacache_durable.proofs.{DurableStates.{ready_file}, HeldTemps.{IsSynced, TempAt, temps_at}, Traces.{moment_more}}
 
 -- ---- no file is moved that isn't there
 

@@ -1,34 +1,13 @@
 -- A step that neither makes nor writes a temporary file leaves it synced, or takes it away.
-use Rattle.std.proofs.Common.{◌≡◌, ◌⊎◌, inl, inr, ℕ, Bool, true, false, cond, List, [], Option, None, Ok, Err, take, refl, sym, ap, ◌∙◌}
-use Rattle.std.specs.Prelude.{Result, unwrap_or}
-use Rattle.cacache_core.specs.declared.errors.Fault.{Fault}
-use Rattle.cacache_core.specs.declared.errors.Fault.TheVariants.{IsADirectory, InvalidInput}
-use Rattle.cacache_core.specs.PathNames.{Names, names_of}
-use Rattle.cacache_store.specs.declared.store.plain.PlainTemp.{PlainTemp}
-use Rattle.cacache_store.specs.declared.store.step.Step.TheVariants.{MakeDirs, CreateTemp, Write, Persist, Append, ReadAll, Open, Read, Size, Exists, Symlink, Copy, Reflink, HardLink, ReadDir, RemoveFile, RemoveDir, SyncTemp, SyncFile, SyncDir}
-use Rattle.cacache_store.specs.declared.store.answer.Answer.TheVariants.{Done}
-use Rattle.cacache_store.specs.Plain.{PlainStep, PlainAnswer}
-use Rattle.cacache_disk.specs.declared.luck.Luck.{Luck}
-use Rattle.cacache_disk.specs.declared.node.Node.{Node}
-use Rattle.cacache_disk.specs.declared.node.Node.TheVariants.{File, Link}
-use Rattle.cacache_disk.specs.Tree.{Tree, look, put, cut, same_path, bytes_of}
-use Rattle.cacache_disk.specs.LedTo.{free, leads, writable, file_at, folder, linked, removable, emptied}
-use Rattle.cacache_disk.specs.Apply.{apply, plain, unless, taken}
-use Rattle.cacache_disk.proofs.FoundNodes.{free_ok}
-use Rattle.cacache_disk.proofs.KeptFolders.{apply_tree, unless_tree}
-use Rattle.cacache_disk.proofs.Maps.{same_path-true}
-use Rattle.cacache_disk.proofs.PutNodes.{look-cut}
-use Rattle.cacache_value.specs.Kinds.{PathKind, Content, Bucket, Temporary, Way, Elsewhere, path_kind, IsFor}
-use Rattle.cacache_value.specs.Placed.{Placed, Proper}
-use Rattle.cacache_value.specs.Traces.{Move}
-use Rattle.cacache_value.proofs.FoundPaths.{of_names, writable_out}
-use Rattle.cacache_value.proofs.KindsApart.{not_true}
-use Rattle.cacache_loss.specs.declared.fixing.Fixing.{Fixing}
-use Rattle.cacache_loss.specs.Fixing.{Fixed, between, file_synced, fixed_after, folder_synced, is_at, is_synced, moved_to, moves_file, rewrites_at, temp_synced, writes_at}
-use Rattle.cacache_loss.specs.Moments.{Moment, next}
-use Rattle.cacache_loss.proofs.KeptPaths.{cond_whole}
-use Rattle.cacache_loss.proofs.StepCases.{AppendCase, unsent, took, torn, append_case, PersistCase, refused, moved, persist_case, dirs_keep, make_apart, put_misses}
-use Rattle.cacache_loss.proofs.UnchangedPaths.{at_false, at_names, file_kept}
+use Rattle.std.{proofs.Common.{◌≡◌, ◌⊎◌, inl, inr, ℕ, Bool, true, false, cond, List, [], Option, None, Ok, Err, take, refl, sym, ap, ◌∙◌}, specs.Prelude.{Result, unwrap_or}}
+use Rattle.cacache_core.specs.{declared.errors.Fault.{Fault, TheVariants.{IsADirectory, InvalidInput}}, PathNames.{Names, names_of}}
+use Rattle.cacache_store.specs.{declared.store.{plain.PlainTemp.{PlainTemp}, step.Step.TheVariants.{MakeDirs, CreateTemp, Write, Persist, Append, ReadAll, Open, Read, Size, Exists, Symlink, Copy, Reflink, HardLink, ReadDir, RemoveFile, RemoveDir, SyncTemp, SyncFile, SyncDir}, answer.Answer.TheVariants.{Done}}, Plain.{PlainStep, PlainAnswer}}
+use Rattle.cacache_disk.specs.{declared.{luck.Luck.{Luck}, node.Node.{Node, TheVariants.{File, Link}}}, Tree.{Tree, look, put, cut, same_path, bytes_of}, LedTo.{free, leads, writable, file_at, folder, linked, removable, emptied}, Apply.{apply, plain, unless, taken}}
+use Rattle.cacache_disk.proofs.{FoundNodes.{free_ok}, KeptFolders.{apply_tree, unless_tree}, Maps.{same_path-true}, PutNodes.{look-cut}}
+use Rattle.cacache_value.specs.{Kinds.{PathKind, Content, Bucket, Temporary, Way, Elsewhere, path_kind, IsFor}, Placed.{Placed, Proper}, Traces.{Move}}
+use Rattle.cacache_value.proofs.{FoundPaths.{of_names, writable_out}, KindsApart.{not_true}}
+use Rattle.cacache_loss.specs.{declared.fixing.Fixing.{Fixing}, Fixing.{Fixed, between, file_synced, fixed_after, folder_synced, is_at, is_synced, moved_to, moves_file, rewrites_at, temp_synced, writes_at}, Moments.{Moment, next}}
+use Rattle.cacache_loss.proofs.{KeptPaths.{cond_whole}, StepCases.{AppendCase, unsent, took, torn, append_case, PersistCase, refused, moved, persist_case, dirs_keep, make_apart, put_misses}, UnchangedPaths.{at_false, at_names, file_kept}}
 
 -- a step that neither makes the temporary file at this path nor writes it
 abbrev pub Spares : Names → PlainStep → Type 0

@@ -1,21 +1,12 @@
 -- At each place of a legal history stands a cache's moment, from which its steps are a trace.
 use Rattle.std.proofs.Common.{◌≡◌, List, [], ◌∷◌, ◌++◌, None, Some, refl, sym, ap, subst}
-use Rattle.cacache_disk.specs.declared.luck.Luck.{Luck}
-use Rattle.cacache_disk.specs.Apply.{apply}
+use Rattle.cacache_disk.specs.{declared.luck.Luck.{Luck}, Apply.{apply}}
 use Rattle.cacache_value.specs.Traces.{IsTrace, Move}
-use Rattle.cacache_history.specs.declared.record.Record.{Record}
-use Rattle.cacache_history.specs.declared.record.Record.TheVariants.{Began, Moved, Stopped}
-use Rattle.cacache_history.specs.Setup.{Setup, home}
-use Rattle.cacache_history.specs.History.{History, IsLegal, Made, Now, initial, now_after, now_at, replayed}
-use Rattle.cacache_history.specs.Values.{steps_of}
-use Rattle.cacache_history.proofs.Holding.{first_holds, held_at, legal_after, legal_before}
-use Rattle.cacache_history.proofs.Values.{traced}
-use Rattle.cacache_loss.specs.ChangedNames.{opening}
-use Rattle.cacache_loss.specs.LostTrees.{OfCache, StoodWell}
-use Rattle.cacache_loss.specs.Moments.{Moment, after}
+use Rattle.cacache_history.specs.{declared.record.Record.{Record, TheVariants.{Began, Moved, Stopped}}, Setup.{Setup, home}, History.{History, IsLegal, Made, Now, initial, now_after, now_at, replayed}, Values.{steps_of}}
+use Rattle.cacache_history.proofs.{Holding.{first_holds, held_at, legal_after, legal_before}, Values.{traced}}
+use Rattle.cacache_loss.specs.{ChangedNames.{opening}, LostTrees.{OfCache, StoodWell}, Moments.{Moment, after}}
+use Rattle.cacache_loss.proofs.{ChangedNames.{histories_leave_caches}, LostTrees.{moves_keep_moments, openings_stand_well}}
 use Rattle.cacache_loss.specs.Moments as moments
-use Rattle.cacache_loss.proofs.ChangedNames.{histories_leave_caches}
-use Rattle.cacache_loss.proofs.LostTrees.{moves_keep_moments, openings_stand_well}
 use Rattle.cacache_durable.specs.Outlasting.{LossesLeaveCaches, moment_at}
 
 -- the move that a caller made

@@ -1,11 +1,7 @@
 -- A call that goes on through records, and ends with a reply.
 use Rattle.std.specs.Prelude.{◌≡◌, ℕ, List, [], ◌∷◌, Option, None, Some, Bool, true, false, ◌==◌}
-use Rattle.cacache_table.specs.declared.command.Command.{Command}
-use Rattle.cacache_table.specs.declared.reply.Reply.{Reply}
-use Rattle.cacache_history.specs.declared.record.Record.{Record}
-use Rattle.cacache_history.specs.declared.record.Record.TheVariants.{Began, Moved, Stopped}
-use Rattle.cacache_history.specs.History.{History, Call, now_at}
-use Rattle.cacache_history.specs.Commits.{deeds}
+use Rattle.cacache_table.specs.declared.{command.Command.{Command}, reply.Reply.{Reply}}
+use Rattle.cacache_history.specs.{declared.record.Record.{Record, TheVariants.{Began, Moved, Stopped}}, History.{History, Call, now_at}, Commits.{deeds}}
 
 -- a move of the caller ends its call with this reply, or leaves the rest to what follows
 abbrev pub EndsHere : Bool → Option Reply → Reply → Type 0 → Type 0

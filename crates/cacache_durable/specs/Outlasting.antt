@@ -1,37 +1,17 @@
 -- What durable commits leave after a loss of power.
 use Rattle.std.specs.Prelude.{◌≡◌, ◌⊎◌, ℕ, List, [], ◌∷◌, ◌++◌, Option, None, Some, true, fold, length}
 use Rattle.sha1.specs.Sha1.{sha1}
-use Rattle.cacache_core.specs.declared.integrity.digest.Hash.{Hash}
-use Rattle.cacache_core.specs.PathNames.{Names}
-use Rattle.cacache_core.specs.Paths.{bucket_names, content_names, joined}
+use Rattle.cacache_core.specs.{declared.integrity.digest.Hash.{Hash}, PathNames.{Names}, Paths.{bucket_names, content_names, joined}}
 use Rattle.cacache_store.specs.declared.store.step.Step.TheVariants as steps
 use Rattle.cacache_store.specs.declared.store.answer.Answer.TheVariants as answers
 use Rattle.cacache_disk.specs.Tree.{Tree}
-use Rattle.cacache_entry.specs.Entry.{Entry, closed_line}
-use Rattle.cacache_entry.specs.Latest.{Found, answer_to, after_entry, latest}
+use Rattle.cacache_entry.specs.{Entry.{Entry, closed_line}, Latest.{Found, answer_to, after_entry, latest}}
 use Rattle.cacache_table.specs.declared.command.Command.TheVariants as commands
-use Rattle.cacache_table.specs.declared.command.Insert.{Insert}
-use Rattle.cacache_table.specs.declared.command.Put.{Put}
-use Rattle.cacache_table.specs.declared.reply.Reply.{Reply}
-use Rattle.cacache_table.specs.declared.reply.Reply.TheVariants.{Stored}
-use Rattle.cacache_table.specs.Inserting.{insertion}
-use Rattle.cacache_table.specs.StepPaths.{bucket_path}
-use Rattle.cacache_table.specs.Storing.{insertion_of, put_commit}
+use Rattle.cacache_table.specs.{declared.{command.{Insert.{Insert}, Put.{Put}}, reply.Reply.{Reply, TheVariants.{Stored}}}, Inserting.{insertion}, StepPaths.{bucket_path}, Storing.{insertion_of, put_commit}}
 use Rattle.cacache_value.specs.Value.{AtLink, Value, value_of_tree}
-use Rattle.cacache_history.specs.declared.record.Record.{Record}
-use Rattle.cacache_history.specs.declared.record.Record.TheVariants.{Moved}
-use Rattle.cacache_history.specs.AddedEntries.{address_of_put}
-use Rattle.cacache_history.specs.History.{History, IsLegal, initial, now_at}
-use Rattle.cacache_history.specs.Setup.{home}
-use Rattle.cacache_history.specs.Values.{bucket_at, steps_of, value_at}
-use Rattle.cacache_loss.specs.ChangedNames.{LeavesCache, opening}
-use Rattle.cacache_loss.specs.Loss.{Loss}
-use Rattle.cacache_loss.specs.LostValues.{HoldsContent, LeftOf}
-use Rattle.cacache_loss.specs.Moments.{Moment, after}
-use Rattle.cacache_durable.specs.Behind.{Behind}
-use Rattle.cacache_durable.specs.Ending.{EndsFrom}
-use Rattle.cacache_durable.specs.FewCalls.{FewCalls}
-use Rattle.cacache_durable.specs.QuietMoves.{AreQuiet}
+use Rattle.cacache_history.specs.{declared.record.Record.{Record, TheVariants.{Moved}}, AddedEntries.{address_of_put}, History.{History, IsLegal, initial, now_at}, Setup.{home}, Values.{bucket_at, steps_of, value_at}}
+use Rattle.cacache_loss.specs.{ChangedNames.{LeavesCache, opening}, Loss.{Loss}, LostValues.{HoldsContent, LeftOf}, Moments.{Moment, after}}
+use Rattle.cacache_durable.specs.{Behind.{Behind}, Ending.{EndsFrom}, FewCalls.{FewCalls}, QuietMoves.{AreQuiet}}
 
 -- the tree after the first records of a history, and what of it is fixed
 abbrev pub moment_at : History → List Record → Moment

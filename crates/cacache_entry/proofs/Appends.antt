@@ -1,7 +1,5 @@
 -- What a growth of a vector says where it succeeds.
-use Rattle.std.proofs.Common.{◌≡◌, List, ◌++◌, Result, Ok, Err, ◌∙◌}
-use Rattle.std.specs.Prelude.{OnOk, if◌then◌else◌}
-use Rattle.std.specs.Result.{is_ok}
+use Rattle.std.{proofs.Common.{◌≡◌, List, ◌++◌, Result, Ok, Err, ◌∙◌}, specs.{Prelude.{OnOk, if◌then◌else◌}, Result.{is_ok}}}
 
 -- what holds anyway holds on success
 pub if_ok : {T E : Type 0} (r : Result T E) (P : Type 0) → P → OnOk r P

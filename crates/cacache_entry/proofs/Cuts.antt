@@ -1,6 +1,5 @@
 -- How a list is cut.
-use Rattle.std.proofs.Common.{◌≡◌, ◌≢◌, ℕ, zero, suc, List, [], ◌∷◌, ◌++◌, Bool, true, false, not, ◌&&◌, ◌==◌, cond, length, take, get_or, ◌-◌, refl, ap, ◌∙◌}
-use Rattle.std.proofs.lemmas.Bool.{eq-eqb, and_parts, and_from}
+use Rattle.std.proofs.{Common.{◌≡◌, ◌≢◌, ℕ, zero, suc, List, [], ◌∷◌, ◌++◌, Bool, true, false, not, ◌&&◌, ◌==◌, cond, length, take, get_or, ◌-◌, refl, ap, ◌∙◌}, lemmas.Bool.{eq-eqb, and_parts, and_from}}
 use Rattle.std.specs.List.{onto_first}
 use Rattle.cacache_entry.specs.Bucket.{cut, without_cr}
 

@@ -1,11 +1,7 @@
 -- The hex digits of a digest: no control character is among them, and they are UTF-8.
-use Rattle.std.proofs.Common.{◌≡◌, ℕ, zero, suc, ◌/◌, ◌%◌, ◌<◌, List, [], ◌∷◌, ◌++◌, Bool, true, not, ◌&&◌, ◌==◌, get_or, refl, arith}
-use Rattle.std.specs.Prelude.{nat_lt}
-use Rattle.std.specs.Str.{IsUtf8, IsAscii}
-use Rattle.std.proofs.lemmas.Bool.{and_parts, and_from, ltb-true}
-use Rattle.std.proofs.lemmas.Str.{IsUtf8-append, IsUtf8-from_ascii}
-use Rattle.hex.specs.Hex.{lower_digits, encode_with}
-use Rattle.hex.proofs.HexLemmas.{IsAscii-encode_with}
+use Rattle.std.proofs.{Common.{◌≡◌, ℕ, zero, suc, ◌/◌, ◌%◌, ◌<◌, List, [], ◌∷◌, ◌++◌, Bool, true, not, ◌&&◌, ◌==◌, get_or, refl, arith}, lemmas.{Bool.{and_parts, and_from, ltb-true}, Str.{IsUtf8-append, IsUtf8-from_ascii}}}
+use Rattle.std.specs.{Prelude.{nat_lt}, Str.{IsUtf8, IsAscii}}
+use Rattle.hex.{specs.Hex.{lower_digits, encode_with}, proofs.HexLemmas.{IsAscii-encode_with}}
 use Rattle.sha2.specs.Sha256.{sha256}
 use Rattle.cacache_core.specs.Digests.{sha256_hex}
 use Rattle.cacache_entry.proofs.Cuts.{lacks, lacks-append}

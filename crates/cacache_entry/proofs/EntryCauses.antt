@@ -1,17 +1,10 @@
 -- An entry has no cause against it exactly where it fits.
-use Rattle.std.proofs.Common.{◌≡◌, ℕ, ◌^◌, ◌<◌, ◌≤◌, List, [], ◌∷◌, Bool, true, false, not, Option, Some, None, refl, sym, ap, ◌∙◌, arith}
+use Rattle.std.proofs.{Common.{◌≡◌, ℕ, ◌^◌, ◌<◌, ◌≤◌, List, [], ◌∷◌, Bool, true, false, not, Option, Some, None, refl, sym, ap, ◌∙◌, arith}, lemmas.Bool.{leb-true, leb-false, ltb-false, le-ltb, lt-ltb, lt-leb, le-leb}}
 use Rattle.std.specs.Prelude.{nat_lt, nat_le, if◌then◌else◌}
-use Rattle.std.proofs.lemmas.Bool.{leb-true, leb-false, ltb-false, le-ltb, lt-ltb, lt-leb, le-leb}
-use Rattle.serde_json.specs.Data.{depth, items_depth, object}
-use Rattle.serde_json.specs.Read.{max_depth}
-use Rattle.serde_json.specs.Written.{has_float}
-use Rattle.cacache_core.specs.declared.errors.SerdeCause.{SerdeCause}
-use Rattle.cacache_core.specs.declared.errors.SerdeCause.TheVariants.{TimeTooLarge, NotWhole, TooDeep}
-use Rattle.cacache_entry.specs.Entry.{Entry, text_or_null, byte_items, bytes_or_null, members_of}
-use Rattle.cacache_entry.specs.FittingEntries.{IsEntry, IsWritable, cause_of}
-use Rattle.cacache_entry.specs.EntryLaws.{NoCauseIsFit, FlatEntriesFit, bare_entry, BareEntriesFit}
-use Rattle.cacache_entry.proofs.ReadsBack.{has_float-IsWhole}
-use Rattle.cacache_entry.proofs.WellRead.{IsJson-null}
+use Rattle.serde_json.specs.{Data.{depth, items_depth, object}, Read.{max_depth}, Written.{has_float}}
+use Rattle.cacache_core.specs.declared.errors.SerdeCause.{SerdeCause, TheVariants.{TimeTooLarge, NotWhole, TooDeep}}
+use Rattle.cacache_entry.specs.{Entry.{Entry, text_or_null, byte_items, bytes_or_null, members_of}, FittingEntries.{IsEntry, IsWritable, cause_of}, EntryLaws.{NoCauseIsFit, FlatEntriesFit, bare_entry, BareEntriesFit}}
+use Rattle.cacache_entry.proofs.{ReadsBack.{has_float-IsWhole}, WellRead.{IsJson-null}}
 
 -- the first of three causes
 abbrev first_cause : Bool → Bool → Bool → Option SerdeCause

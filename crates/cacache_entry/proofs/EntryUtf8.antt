@@ -1,13 +1,9 @@
 -- An entry's text is UTF-8, since each of its parts is.
-use Rattle.std.proofs.Common.{◌≡◌, ℕ, ◌<◌, ◌^◌, List, [], ◌∷◌, ◌++◌, Bool, true, false, Option, Some, None, codes, decimal, refl, subst, arith}
+use Rattle.std.proofs.{Common.{◌≡◌, ℕ, ◌<◌, ◌^◌, List, [], ◌∷◌, ◌++◌, Bool, true, false, Option, Some, None, codes, decimal, refl, subst, arith}, lemmas.{Fmt.{IsAscii-decimal}, Str.{IsUtf8-append, IsUtf8-from_ascii, IsUtf8-nil}}}
 use Rattle.std.specs.Prelude.{IsUtf8}
-use Rattle.std.proofs.lemmas.Fmt.{IsAscii-decimal}
-use Rattle.std.proofs.lemmas.Str.{IsUtf8-append, IsUtf8-from_ascii, IsUtf8-nil}
-use Rattle.json.specs.Print.{quoted}
-use Rattle.json.proofs.Printed.Utf8.{are_ascii, IsUtf8-are_ascii, IsUtf8-quoted}
+use Rattle.json.{specs.Print.{quoted}, proofs.Printed.Utf8.{are_ascii, IsUtf8-are_ascii, IsUtf8-quoted}}
 use Rattle.serde_json.specs.Written.{comma_if, compact_text, items_text}
-use Rattle.cacache_entry.specs.Entry.{Entry, text_or_null, byte_items, bytes_or_null, front_of, text_of}
-use Rattle.cacache_entry.specs.FittingEntries.{EachIsByte, AreBytes, IsUtf8IfAny, IsEntry}
+use Rattle.cacache_entry.specs.{Entry.{Entry, text_or_null, byte_items, bytes_or_null, front_of, text_of}, FittingEntries.{EachIsByte, AreBytes, IsUtf8IfAny, IsEntry}}
 use Rattle.cacache_entry.proofs.TextParts.{front-text}
 
 IsUtf8-decimal : (n : ℕ) → n < 2 ^ 64 → IsUtf8 (decimal n)

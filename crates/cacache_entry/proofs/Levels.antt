@@ -1,15 +1,9 @@
 -- How many brackets are open at each place of a text.
-use Rattle.std.proofs.Common.{◌≡◌, ℕ, suc, ◌-◌, Bool, true, false, ◌&&◌, ◌==◌, cond, List, [], ◌∷◌, ◌++◌, Option, Some, None, length, take, drop, refl, sym, ap, ◌∙◌, arith, append_assoc, append-nil}
-use Rattle.std.proofs.lemmas.Bool.{and_parts, and_from, true≢false}
-use Rattle.json.specs.Token.{Token}
-use Rattle.json.specs.Word.{word, literal, number_before, after_number, head, ends_word}
+use Rattle.std.proofs.{Common.{◌≡◌, ℕ, suc, ◌-◌, Bool, true, false, ◌&&◌, ◌==◌, cond, List, [], ◌∷◌, ◌++◌, Option, Some, None, length, take, drop, refl, sym, ap, ◌∙◌, arith, append_assoc, append-nil}, lemmas.Bool.{and_parts, and_from, true≢false}}
+use Rattle.std.specs.{List.{starts_with}, Prelude.{nat_eq}}
+use Rattle.json.specs.{Token.{Token}, Word.{word, literal, number_before, after_number, head, ends_word}, Lex.{Lexeme, token, comma, colon, Class, quote, backslash, operator, space, other, class, operator_lexeme, string_token, Mode, between, in_word, in_string, in_escape, lex_byte, lex, Place, fresh, after_value, after_comma, after_key, begins_colon, may_begin, may_close, if_allowed, place_token, punctuate, tokens}, Text.{content, plain}, Tree.{json_tokens, items_tokens, members_tokens}}
 use Rattle.json.specs.Ascii as ascii
-use Rattle.std.specs.List.{starts_with}
-use Rattle.std.specs.Prelude.{nat_eq}
-use Rattle.json.specs.Lex.{Lexeme, token, comma, colon, Class, quote, backslash, operator, space, other, class, operator_lexeme, string_token, Mode, between, in_word, in_string, in_escape, lex_byte, lex, Place, fresh, after_value, after_comma, after_key, begins_colon, may_begin, may_close, if_allowed, place_token, punctuate, tokens}
-use Rattle.json.specs.Text.{content, plain}
 use Rattle.json.specs.Json as json
-use Rattle.json.specs.Tree.{json_tokens, items_tokens, members_tokens}
 
 -- ---- tokens and lexemes
 

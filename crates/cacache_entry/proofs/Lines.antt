@@ -1,26 +1,11 @@
 -- What lines and their beginnings add to a bucket's bytes.
-use Rattle.std.proofs.Common.{◌≡◌, ℕ, zero, suc, ◌+◌, ◌-◌, ◌<◌, ◌≤◌, List, [], ◌∷◌, ◌++◌, Bool, true, false, cond, length, take, Option, Some, None, option_and_then, map, filter_map, bytes_eq, refl, ap, ◌∙◌, arith, append-nil, length-append, inl, inr, ◌⊎◌}
-use Rattle.std.proofs.lemmas.List.{take-append-le, map-append}
-use Rattle.std.proofs.lemmas.Bool.{cases_lt}
-use Rattle.std.proofs.lemmas.Str.{is_utf8-from_IsUtf8}
-use Rattle.std.proofs.lemmas.Slice.Eq.{bytes_eq-Decides}
-use Rattle.std.specs.List.{cons_option}
-use Rattle.std.specs.Str.{is_utf8}
+use Rattle.std.proofs.{Common.{◌≡◌, ℕ, zero, suc, ◌+◌, ◌-◌, ◌<◌, ◌≤◌, List, [], ◌∷◌, ◌++◌, Bool, true, false, cond, length, take, Option, Some, None, option_and_then, map, filter_map, bytes_eq, refl, ap, ◌∙◌, arith, append-nil, length-append, inl, inr, ◌⊎◌}, lemmas.{List.{take-append-le, map-append}, Bool.{cases_lt}, Str.{is_utf8-from_IsUtf8}, Slice.Eq.{bytes_eq-Decides}}}
+use Rattle.std.specs.{List.{cons_option}, Str.{is_utf8}}
 use Rattle.hex.specs.Hex.{lower_digits}
 use Rattle.serde_json.specs.Data.{object}
 use Rattle.cacache_core.specs.Digests.{sha256_hex}
-use Rattle.cacache_entry.specs.Entry.{Entry, members_of, text_of, piece_of, line_of}
-use Rattle.cacache_entry.specs.EntryTexts.{entry_read, read_entry}
-use Rattle.cacache_entry.specs.FittingEntries.{IsEntry, IsWritable}
-use Rattle.cacache_entry.specs.Bucket.{cut, without_cr, entry_of_parts, entry_of_piece, pieces_of, entries_of}
-use Rattle.cacache_entry.specs.EntryLaws.{EmptyHoldsNothing, LinesAppend, TornTextsReadAsNothing, TornLinesAddNothing, TornLinesHurtNoOther}
-use Rattle.cacache_entry.proofs.Cuts.{lacks, lacks-append, lacks-take, cut-append, cut-lacks, without_cr-lacks}
-use Rattle.cacache_entry.proofs.Pieces.{entries_split}
-use Rattle.cacache_entry.proofs.Digits.{lacks-sha256_hex, IsUtf8-piece}
-use Rattle.cacache_entry.proofs.PlainTexts.{lacks-plain, plain-compact_text}
-use Rattle.cacache_entry.proofs.ReadsBack.{MembersAreWhole-members_of, read_entry-text_of}
-use Rattle.cacache_entry.proofs.Torn.{read-torn}
-use Rattle.cacache_entry.proofs.EntryUtf8.{IsUtf8-text_of}
+use Rattle.cacache_entry.specs.{Entry.{Entry, members_of, text_of, piece_of, line_of}, EntryTexts.{entry_read, read_entry}, FittingEntries.{IsEntry, IsWritable}, Bucket.{cut, without_cr, entry_of_parts, entry_of_piece, pieces_of, entries_of}, EntryLaws.{EmptyHoldsNothing, LinesAppend, TornTextsReadAsNothing, TornLinesAddNothing, TornLinesHurtNoOther}}
+use Rattle.cacache_entry.proofs.{Cuts.{lacks, lacks-append, lacks-take, cut-append, cut-lacks, without_cr-lacks}, Pieces.{entries_split}, Digits.{lacks-sha256_hex, IsUtf8-piece}, PlainTexts.{lacks-plain, plain-compact_text}, ReadsBack.{MembersAreWhole-members_of, read_entry-text_of}, Torn.{read-torn}, EntryUtf8.{IsUtf8-text_of}}
 
 -- behind bytes and a line feed, a piece with no LF and no CR adds the entry that it is
 entries_piece : (x p : List ℕ) (o : Option Entry) → lacks 10 p ≡ true → lacks 13 p ≡ true → entry_of_piece p ≡ o → entries_of (x ++ 10 ∷ p) ≡ entries_of x ++ cons_option o []

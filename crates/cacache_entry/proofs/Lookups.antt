@@ -1,16 +1,9 @@
 -- The last entry that answers to a key decides a lookup.
-use Rattle.std.proofs.Common.{◌≡◌, ℕ, suc, ◌+◌, List, [], ◌∷◌, ◌++◌, Bool, true, false, Option, None, Some, option_map, option_and_then, drop, take, map, fold, refl, sym, ap, ◌∙◌, append-nil}
-use Rattle.std.specs.Prelude.{unwrap_or, is_some, if◌then◌else◌, reverse}
-use Rattle.std.proofs.lemmas.List.{map-append, reverse-append}
-use Rattle.std.specs.Option.{option_to_list, option_flatten}
-use Rattle.std.proofs.lemmas.List.Sums.{fold-append}
+use Rattle.std.proofs.{Common.{◌≡◌, ℕ, suc, ◌+◌, List, [], ◌∷◌, ◌++◌, Bool, true, false, Option, None, Some, option_map, option_and_then, drop, take, map, fold, refl, sym, ap, ◌∙◌, append-nil}, lemmas.List.{map-append, reverse-append, Sums.{fold-append}}}
+use Rattle.std.specs.{Prelude.{unwrap_or, is_some, if◌then◌else◌, reverse}, Option.{option_to_list, option_flatten}}
 use Rattle.memchr.specs.Find.{IsLastByte, is_byte}
-use Rattle.cacache_entry.specs.Entry.{Entry, piece_of}
-use Rattle.cacache_entry.specs.Bucket.{cut, without_cr, entry_of_piece, pieces_of, entries_of}
-use Rattle.cacache_entry.specs.Latest.{Found, answer_to, after_entry, latest, NoneAnswers, decides, count_to_deciding, pieces_read}
-use Rattle.cacache_entry.specs.EntryLaws.{LastAnswerDecides, NoAnswerIsNone, LastLineIsEnough}
-use Rattle.cacache_entry.proofs.Lines.{pieces_of-line, entry_of_piece-whole}
-use Rattle.cacache_entry.proofs.Pieces.{found, cut-last, entries-piece, entries-last}
+use Rattle.cacache_entry.specs.{Entry.{Entry, piece_of}, Bucket.{cut, without_cr, entry_of_piece, pieces_of, entries_of}, Latest.{Found, answer_to, after_entry, latest, NoneAnswers, decides, count_to_deciding, pieces_read}, EntryLaws.{LastAnswerDecides, NoAnswerIsNone, LastLineIsEnough}}
+use Rattle.cacache_entry.proofs.{Lines.{pieces_of-line, entry_of_piece-whole}, Pieces.{found, cut-last, entries-piece, entries-last}}
 
 -- entries that answer nothing change nothing
 after_none : (key : List ℕ) (found : Option Found) (es : List Entry) → NoneAnswers key es → fold (after_entry key) found es ≡ found

@@ -1,21 +1,10 @@
 -- How bytes are cut into pieces, from their beginning and from their end.
-use Rattle.std.proofs.Common.{◌≡◌, ◌≢◌, ℕ, zero, suc, ◌+◌, ◌<◌, ◌≤◌, List, [], ◌∷◌, ◌++◌, Bool, true, false, not, ◌==◌, cond, Option, Some, None, length, get_or, take, drop, refl, sym, ap, ◌∙◌, arith, bytes_eq, take-append-drop, length-drop}
-use Rattle.std.proofs.lemmas.Bool.{eqb-true, and_from}
-use Rattle.std.proofs.lemmas.List.{drop_more, get_or-drop, map-append}
-use Rattle.std.proofs.lemmas.List.Elements.{filter_map-append}
+use Rattle.std.proofs.{Common.{◌≡◌, ◌≢◌, ℕ, zero, suc, ◌+◌, ◌<◌, ◌≤◌, List, [], ◌∷◌, ◌++◌, Bool, true, false, not, ◌==◌, cond, Option, Some, None, length, get_or, take, drop, refl, sym, ap, ◌∙◌, arith, bytes_eq, take-append-drop, length-drop}, lemmas.{Bool.{eqb-true, and_from}, List.{drop_more, get_or-drop, map-append, Elements.{filter_map-append}}, Str.{IsUtf8-from_is_utf8, is_utf8-from_IsUtf8}, Slice.Eq.{bytes_eq-Decides}}}
+use Rattle.std.specs.{Prelude.{MatchOption, IsUtf8, is_some, map, filter_map}, Option.{option_to_list}, List.{cons_option}, Str.{is_utf8}}
 use Rattle.cacache_core.specs.Digests.{sha256_hex}
-use Rattle.cacache_entry.specs.Entry.{Entry}
-use Rattle.cacache_entry.specs.EntryTexts.{read_entry}
-use Rattle.cacache_entry.specs.Bucket.{cut, without_cr, entry_of_parts, entry_of_piece, entries_of, CutsAt}
-use Rattle.std.proofs.lemmas.Str.{IsUtf8-from_is_utf8, is_utf8-from_IsUtf8}
-use Rattle.std.proofs.lemmas.Slice.Eq.{bytes_eq-Decides}
-use Rattle.std.specs.Prelude.{MatchOption, IsUtf8, is_some, map, filter_map}
-use Rattle.std.specs.Option.{option_to_list}
-use Rattle.std.specs.List.{cons_option}
-use Rattle.std.specs.Str.{is_utf8}
-use Rattle.cacache_entry.specs.EntryLaws.{EntriesSplit}
-use Rattle.memchr.specs.Find.{IsFirstByte, IsLastByte, is_byte}
+use Rattle.cacache_entry.specs.{Entry.{Entry}, EntryTexts.{read_entry}, Bucket.{cut, without_cr, entry_of_parts, entry_of_piece, entries_of, CutsAt}, EntryLaws.{EntriesSplit}}
 use Rattle.cacache_entry.proofs.Cuts.{lacks, cut_some, cut-append, cut-lacks}
+use Rattle.memchr.specs.Find.{IsFirstByte, IsLastByte, is_byte}
 
 differs : (t : Bool) → (t ≡ true → ⊥) → not t ≡ true
 differs true h = absurd (h refl)

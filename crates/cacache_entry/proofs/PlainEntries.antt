@@ -1,16 +1,8 @@
 -- An entry without metadata can be written, and its piece is that entry.
-use Rattle.std.proofs.Common.{◌≡◌, ℕ, ◌<◌, ◌^◌, List, Option, Some, None, option_map, sym, ap, ◌∙◌, subst}
-use Rattle.std.specs.Prelude.{IsUtf8, String, string_bytes}
-use Rattle.std.specs.declared.alloc.Global.{Global}
-use Rattle.std.proofs.lemmas.Str.{IsUtf8-string_bytes}
-use Rattle.cacache_entry.specs.Bucket.{entry_of_piece}
-use Rattle.cacache_entry.specs.Entry.{piece_of}
-use Rattle.cacache_entry.specs.EntryLaws.{bare_entry}
-use Rattle.cacache_entry.specs.FittingEntries.{IsUtf8IfAny}
-use Rattle.cacache_entry.specs.View.{entry_view}
-use Rattle.cacache_entry.specs.declared.metadata.SerializableMetadata.{SerializableMetadata}
-use Rattle.cacache_entry.proofs.EntryCauses.{bare_entries_fit}
-use Rattle.cacache_entry.proofs.Lines.{entry_of_piece-whole}
+use Rattle.std.proofs.{Common.{◌≡◌, ℕ, ◌<◌, ◌^◌, List, Option, Some, None, option_map, sym, ap, ◌∙◌, subst}, lemmas.Str.{IsUtf8-string_bytes}}
+use Rattle.std.specs.{Prelude.{IsUtf8, String, string_bytes}, declared.alloc.Global.{Global}}
+use Rattle.cacache_entry.specs.{Bucket.{entry_of_piece}, Entry.{piece_of}, EntryLaws.{bare_entry}, FittingEntries.{IsUtf8IfAny}, View.{entry_view}, declared.metadata.SerializableMetadata.{SerializableMetadata}}
+use Rattle.cacache_entry.proofs.{EntryCauses.{bare_entries_fit}, Lines.{entry_of_piece-whole}}
 
 -- where there is a text of the program, it is UTF-8
 pub utf8_if_any : (o : Option (String Global)) → IsUtf8IfAny (option_map string_bytes o)

@@ -1,17 +1,9 @@
 -- An entry's text has no control character, and a text without those, quotes and backslashes needs no escapes.
-use Rattle.std.proofs.Common.{◌≡◌, ℕ, suc, ◌/◌, ◌%◌, ◌<◌, ◌≤◌, pos, negsuc, List, [], ◌∷◌, ◌++◌, Bool, true, false, not, ◌&&◌, ◌||◌, ◌==◌, cond, decimal, refl, ap, ap₂, arith, inl, inr, ◌⊎◌}
-use Rattle.std.specs.Prelude.{nat_lt, nat_le}
-use Rattle.std.proofs.lemmas.Bool.{ne_eqb, and_parts, and_from, or_cases, le-leb, leb-true, eqb-true, ltb-true, ltb-false}
-use Rattle.std.proofs.lemmas.Fmt.{decimal_is_IsNumeral}
-use Rattle.std.specs.Char.{digit_char, digit_value}
-use Rattle.std.specs.Str.Parse.{AllDigits}
-use Rattle.json.specs.Token.{Token}
-use Rattle.json.specs.Print.{token_text, escape_letter, escape_byte, escape, quoted}
-use Rattle.json.proofs.Printed.Strings.{escape_byte_plain}
-use Rattle.serde_json.specs.Data.{Num, unsigned, negative, float, Data, null, boolean, number, string, array, object, Items, no_items, item, Members, no_members, member}
-use Rattle.serde_json.specs.Written.{number_text, comma_if, compact_text, items_text, members_text}
-use Rattle.cacache_entry.specs.FittingEntries.{IsWholeNumber, IsWhole, ItemsAreWhole, MembersAreWhole}
-use Rattle.cacache_entry.proofs.Cuts.{lacks}
+use Rattle.std.proofs.{Common.{◌≡◌, ℕ, suc, ◌/◌, ◌%◌, ◌<◌, ◌≤◌, pos, negsuc, List, [], ◌∷◌, ◌++◌, Bool, true, false, not, ◌&&◌, ◌||◌, ◌==◌, cond, decimal, refl, ap, ap₂, arith, inl, inr, ◌⊎◌}, lemmas.{Bool.{ne_eqb, and_parts, and_from, or_cases, le-leb, leb-true, eqb-true, ltb-true, ltb-false}, Fmt.{decimal_is_IsNumeral}}}
+use Rattle.std.specs.{Prelude.{nat_lt, nat_le}, Char.{digit_char, digit_value}, Str.Parse.{AllDigits}}
+use Rattle.json.{specs.{Token.{Token}, Print.{token_text, escape_letter, escape_byte, escape, quoted}}, proofs.Printed.Strings.{escape_byte_plain}}
+use Rattle.serde_json.specs.{Data.{Num, unsigned, negative, float, Data, null, boolean, number, string, array, object, Items, no_items, item, Members, no_members, member}, Written.{number_text, comma_if, compact_text, items_text, members_text}}
+use Rattle.cacache_entry.{specs.FittingEntries.{IsWholeNumber, IsWhole, ItemsAreWhole, MembersAreWhole}, proofs.Cuts.{lacks}}
 
 -- no byte is below 32
 abbrev pub plain : List ℕ → Bool

@@ -1,28 +1,13 @@
 -- An entry that fits reads back from its own text.
-use Rattle.std.proofs.Common.{◌≡◌, ℕ, suc, ◌^◌, ◌<◌, ◌≤◌, max, pos, negsuc, List, [], ◌∷◌, false, Option, Some, None, option_map, option_and_then, Less, Greater, nat_cmp, codes, refl, sym, ap, ap₂, subst, inl, inr, ◌⊎◌, ◌∙◌, arith, append-nil, lt-ltb}
-use Rattle.std.proofs.lemmas.Cmp.{nat_list_cmp_total}
-use Rattle.std.specs.Cmp.Lexicographic.{slice_cmp}
-use Rattle.std.specs.Ordering.{ordering_reverse}
-use Rattle.std.proofs.lemmas.Bool.{cases_eq}
-use Rattle.std.specs.Fmt.{signed_decimal, digits}
-use Rattle.json.specs.Print.{IsNumber}
-use Rattle.json.proofs.OnLiterals.{json_on_literals}
-use Rattle.json.specs.Token.{Token}
-use Rattle.json.specs.Lex.{tokens}
+use Rattle.std.proofs.{Common.{◌≡◌, ℕ, suc, ◌^◌, ◌<◌, ◌≤◌, max, pos, negsuc, List, [], ◌∷◌, false, Option, Some, None, option_map, option_and_then, Less, Greater, nat_cmp, codes, refl, sym, ap, ap₂, subst, inl, inr, ◌⊎◌, ◌∙◌, arith, append-nil, lt-ltb}, lemmas.{Cmp.{nat_list_cmp_total}, Bool.{cases_eq}}}
+use Rattle.std.specs.{Cmp.Lexicographic.{slice_cmp}, Ordering.{ordering_reverse}, Fmt.{signed_decimal, digits}}
+use Rattle.json.specs.{Print.{IsNumber}, Token.{Token}, Lex.{tokens}}
+use Rattle.json.proofs.{OnLiterals.{json_on_literals}, Printed.{Tokens.{tokens-print}, Trees.{value-json_tokens, ArePrintable-json_tokens}, Decimals.{IsNumber-decimal, IsNumber-signed_decimal}}}
 use Rattle.json.specs.Json as json
 use Rattle.json.specs.Tree as tree
-use Rattle.json.proofs.Printed.Tokens.{tokens-print}
-use Rattle.json.proofs.Printed.Trees.{value-json_tokens, ArePrintable-json_tokens}
-use Rattle.json.proofs.Printed.Decimals.{IsNumber-decimal, IsNumber-signed_decimal}
-use Rattle.serde_json.specs.Data.{Num, unsigned, negative, float, Data, null, boolean, number, string, array, object, Items, no_items, item, Members, no_members, member, put, depth, items_depth, members_depth}
-use Rattle.serde_json.specs.Find.{is_float}
-use Rattle.serde_json.specs.Read.{number_of, of_json, of_items, of_members, read, max_depth}
-use Rattle.serde_json.specs.Written.{number_text, outline, items_outline, members_outline, compact_text, has_float, items_have_float, members_have_float}
-use Rattle.serde_json.proofs.Numbers.{number_of-decimal, number_of-negative}
-use Rattle.serde_json.proofs.Texts.{print-outline}
-use Rattle.cacache_entry.specs.Entry.{Entry, text_or_null, byte_items, bytes_or_null, members_of, text_of}
-use Rattle.cacache_entry.specs.EntryTexts.{text_or_none, bytes_of, bytes_or_none, entry_read, read_entry}
-use Rattle.cacache_entry.specs.FittingEntries.{EachIsByte, AreBytes, AreAbove, IsOrdered, ItemsAreOrdered, MembersAreOrdered, IsWholeNumber, IsWhole, ItemsAreWhole, MembersAreWhole, IsEntry, IsWritable}
+use Rattle.serde_json.specs.{Data.{Num, unsigned, negative, float, Data, null, boolean, number, string, array, object, Items, no_items, item, Members, no_members, member, put, depth, items_depth, members_depth}, Find.{is_float}, Read.{number_of, of_json, of_items, of_members, read, max_depth}, Written.{number_text, outline, items_outline, members_outline, compact_text, has_float, items_have_float, members_have_float}}
+use Rattle.serde_json.proofs.{Numbers.{number_of-decimal, number_of-negative}, Texts.{print-outline}}
+use Rattle.cacache_entry.specs.{Entry.{Entry, text_or_null, byte_items, bytes_or_null, members_of, text_of}, EntryTexts.{text_or_none, bytes_of, bytes_or_none, entry_read, read_entry}, FittingEntries.{EachIsByte, AreBytes, AreAbove, IsOrdered, ItemsAreOrdered, MembersAreOrdered, IsWholeNumber, IsWhole, ItemsAreWhole, MembersAreWhole, IsEntry, IsWritable}}
 
 -- ---- the outline of a value nests as the value does
 

@@ -1,15 +1,8 @@
 -- An entry's text, as it is put together.
 use Rattle.std.proofs.Common.{◌≡◌, ℕ, Option, List, [], ◌∷◌, ◌++◌, codes, decimal, refl, ap, ◌∙◌, append-nil, append_assoc}
-use Rattle.json.specs.Print.{quoted, escape_byte, print, print_from}
-use Rattle.json.specs.Token.{Token, begin_array, string}
-use Rattle.json.specs.Tree.{items_tokens}
-use Rattle.serde_json.specs.Data.{array}
-use Rattle.serde_json.specs.Written.{compact_text, items_outline}
-use Rattle.serde_json.proofs.Texts.{print-outline}
-use Rattle.cacache_entry.specs.Entry.{Entry, text_or_null, byte_items, bytes_or_null, front_of, text_of}
-use Rattle.cacache_entry.specs.EntryLaws.{bare_entry}
-use Rattle.cacache_entry.specs.EntryParts.{texts_then, numbers_then}
-use Rattle.cacache_entry.specs.Tokens.{byte_tokens}
+use Rattle.json.specs.{Print.{quoted, escape_byte, print, print_from}, Token.{Token, begin_array, string}, Tree.{items_tokens}}
+use Rattle.serde_json.{specs.{Data.{array}, Written.{compact_text, items_outline}}, proofs.Texts.{print-outline}}
+use Rattle.cacache_entry.specs.{Entry.{Entry, text_or_null, byte_items, bytes_or_null, front_of, text_of}, EntryLaws.{bare_entry}, EntryParts.{texts_then, numbers_then}, Tokens.{byte_tokens}}
 
 behind : (o a k b i c t d s f : List ℕ) → ((((((((o ++ a) ++ k) ++ b) ++ i) ++ c) ++ t) ++ d) ++ s) ++ f ≡ o ++ (a ++ (k ++ (b ++ (i ++ (c ++ (t ++ (d ++ (s ++ f))))))))
 behind o a k b i c t d s f = simp append_assoc refl

@@ -1,24 +1,12 @@
 -- A proper beginning of an object's text reads as nothing.
-use Rattle.std.proofs.Common.{◌≡◌, ℕ, zero, suc, ◌/◌, ◌%◌, ◌<◌, ◌≤◌, pos, negsuc, Bool, true, false, cond, List, [], ◌∷◌, ◌++◌, Option, Some, None, length, take, decimal, refl, sym, ap, ap₂, ◌∙◌, subst, arith, append-nil, inl, inr, ◌⊎◌}
-use Rattle.std.proofs.lemmas.Bool.{ne_eqb, ltb-true, true≢false}
-use Rattle.std.proofs.lemmas.Fmt.{decimal_is_IsNumeral}
-use Rattle.std.specs.Prelude.{⊤, nat_lt}
-use Rattle.std.specs.Char.{digit_char, digit_value}
-use Rattle.std.specs.Str.Parse.{AllDigits}
-use Rattle.json.specs.Token.{Token}
-use Rattle.json.specs.Word.{is_operator, is_space}
-use Rattle.json.specs.Lex.{Class, operator, space, other, class, Mode, between, in_word, in_string, tokens}
-use Rattle.json.specs.Print.{token_text, escape_letter, escape_byte, escape, quoted}
+use Rattle.std.proofs.{Common.{◌≡◌, ℕ, zero, suc, ◌/◌, ◌%◌, ◌<◌, ◌≤◌, pos, negsuc, Bool, true, false, cond, List, [], ◌∷◌, ◌++◌, Option, Some, None, length, take, decimal, refl, sym, ap, ap₂, ◌∙◌, subst, arith, append-nil, inl, inr, ◌⊎◌}, lemmas.{Bool.{ne_eqb, ltb-true, true≢false}, Fmt.{decimal_is_IsNumeral}}}
+use Rattle.std.specs.{Prelude.{⊤, nat_lt}, Char.{digit_char, digit_value}, Str.Parse.{AllDigits}}
+use Rattle.json.specs.{Token.{Token}, Word.{is_operator, is_space}, Lex.{Class, operator, space, other, class, Mode, between, in_word, in_string, tokens}, Print.{token_text, escape_letter, escape_byte, escape, quoted}, Tree.{json_tokens}}
+use Rattle.json.proofs.{OnLiterals.{json_on_literals}, Unique.Spelling.{value-json_tokens_back}}
 use Rattle.json.specs.Json as json
-use Rattle.json.specs.Tree.{json_tokens}
-use Rattle.json.proofs.OnLiterals.{json_on_literals}
-use Rattle.json.proofs.Unique.Spelling.{value-json_tokens_back}
-use Rattle.serde_json.specs.Data.{Num, unsigned, negative, float, Data, null, boolean, number, string, array, object, Items, no_items, item, Members, no_members, member}
-use Rattle.serde_json.specs.Read.{read, max_depth}
-use Rattle.serde_json.specs.Written.{number_text, comma_if, compact_text, items_text, members_text}
+use Rattle.serde_json.specs.{Data.{Num, unsigned, negative, float, Data, null, boolean, number, string, array, object, Items, no_items, item, Members, no_members, member}, Read.{read, max_depth}, Written.{number_text, comma_if, compact_text, items_text, members_text}}
 use Rattle.cacache_entry.specs.FittingEntries.{IsWholeNumber, IsWhole, ItemsAreWhole, MembersAreWhole}
-use Rattle.cacache_entry.proofs.ReadsBack.{from_grammar}
-use Rattle.cacache_entry.proofs.Levels.{next, after_byte, level, mode, level-value}
+use Rattle.cacache_entry.proofs.{ReadsBack.{from_grammar}, Levels.{next, after_byte, level, mode, level-value}}
 
 -- before each byte, a bracket is open
 abbrev pub Stays : ℕ → Mode → List ℕ → Type 0

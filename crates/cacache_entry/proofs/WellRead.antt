@@ -1,19 +1,10 @@
 -- What a text reads as has its names in order and its numbers in range.
-use Rattle.std.proofs.Common.{◌≡◌, ℕ, zero, suc, ◌^◌, ◌<◌, ◌≤◌, pos, negsuc, List, Bool, true, false, cond, Option, Some, None, option_map, option_and_then, Ordering, Less, Equal, Greater, nat_cmp, refl, ap, ◌∙◌, subst, arith}
-use Rattle.std.specs.Prelude.{⊤, nat_le, ◌==◌, slice_index, drop}
-use Rattle.std.proofs.lemmas.Bool.{and_parts, or_parts, ltb-true, leb-true}
-use Rattle.std.proofs.lemmas.Cmp.{nat_list_cmp_total}
-use Rattle.std.specs.Cmp.Lexicographic.{slice_cmp}
-use Rattle.std.specs.Ordering.{match_ordering, ordering_reverse}
+use Rattle.std.proofs.{Common.{◌≡◌, ℕ, zero, suc, ◌^◌, ◌<◌, ◌≤◌, pos, negsuc, List, Bool, true, false, cond, Option, Some, None, option_map, option_and_then, Ordering, Less, Equal, Greater, nat_cmp, refl, ap, ◌∙◌, subst, arith}, lemmas.{Bool.{and_parts, or_parts, ltb-true, leb-true}, Cmp.{nat_list_cmp_total}}}
+use Rattle.std.specs.{Prelude.{⊤, nat_le, ◌==◌, slice_index, drop, IsUtf8}, Cmp.Lexicographic.{slice_cmp}, Ordering.{match_ordering, ordering_reverse}}
 use Rattle.fast_float.specs.Text.{minus, Parts, scan, digits_of, with_sign}
-use Rattle.json.specs.Lex.{tokens}
+use Rattle.json.{specs.Lex.{tokens}, proofs.Printed.Utf8.{IsUtf8-are_ascii}}
 use Rattle.json.specs.Json as json
-use Rattle.serde_json.specs.Data.{Num, unsigned, negative, float, Data, null, boolean, number, string, array, object, Items, no_items, item, Members, no_members, member, put}
-use Rattle.serde_json.specs.Find.{is_float}
-use Rattle.serde_json.specs.Read.{is_integer, float_of, number_from, number_of, of_json, of_items, of_members, read, max_depth}
-use Rattle.std.specs.Prelude.{IsUtf8}
-use Rattle.json.proofs.Printed.Utf8.{IsUtf8-are_ascii}
-use Rattle.serde_json.specs.Written.{compact_text, has_float, items_have_float, members_have_float}
+use Rattle.serde_json.specs.{Data.{Num, unsigned, negative, float, Data, null, boolean, number, string, array, object, Items, no_items, item, Members, no_members, member, put}, Find.{is_float}, Read.{is_integer, float_of, number_from, number_of, of_json, of_items, of_members, read, max_depth}, Written.{compact_text, has_float, items_have_float, members_have_float}}
 use Rattle.cacache_entry.specs.FittingEntries.{IsJson, AreAbove, IsOrdered, ItemsAreOrdered, MembersAreOrdered, IsWholeNumber, IsWhole, ItemsAreWhole, MembersAreWhole}
 
 abbrev Given : {A : Type 0} → (A → Type 0) → Option A → Type 0

@@ -1,10 +1,7 @@
 -- Which entries the bytes of a bucket hold.
-use Rattle.std.specs.Prelude.{◌≡◌, ◌<◌, ◌+◌, drop, ℕ, ◌-◌, length, take, slice_index, List, [], ◌∷◌, ◌==◌, if◌then◌else◌, Option, None, map, filter_map, bytes_eq}
-use Rattle.std.specs.List.{slice_split}
-use Rattle.std.specs.Str.{is_utf8}
+use Rattle.std.specs.{Prelude.{◌≡◌, ◌<◌, ◌+◌, drop, ℕ, ◌-◌, length, take, slice_index, List, [], ◌∷◌, ◌==◌, if◌then◌else◌, Option, None, map, filter_map, bytes_eq}, List.{slice_split}, Str.{is_utf8}}
 use Rattle.cacache_core.specs.Digests.{sha256_hex}
-use Rattle.cacache_entry.specs.Entry.{Entry}
-use Rattle.cacache_entry.specs.EntryTexts.{read_entry}
+use Rattle.cacache_entry.specs.{Entry.{Entry}, EntryTexts.{read_entry}}
 
 -- what stands between the bytes c
 abbrev pub cut : ℕ → List ℕ → List (List ℕ)

@@ -1,8 +1,7 @@
 -- What an index entry is, its text, and the line that holds it.
 use Rattle.std.specs.Prelude.{ℕ, Bool, if◌then◌else◌, List, [], ◌∷◌, ◌++◌, codes, decimal, Option, Some, None}
 use Rattle.json.specs.Print.{quoted}
-use Rattle.serde_json.specs.Data.{unsigned, Data, null, number, string, array, object, Items, no_items, item, Members, no_members, member}
-use Rattle.serde_json.specs.Written.{compact_text}
+use Rattle.serde_json.specs.{Data.{unsigned, Data, null, number, string, array, object, Items, no_items, item, Members, no_members, member}, Written.{compact_text}}
 use Rattle.cacache_core.specs.Digests.{sha256_hex}
 
 -- what a line of a bucket says; without an integrity it is a tombstone

@@ -1,9 +1,6 @@
 -- What entry a text reads as.
 use Rattle.std.specs.Prelude.{ℕ, List, [], ◌∷◌, nat_lt, if◌then◌else◌, codes, Option, Some, None, option_map, option_and_then}
-use Rattle.serde_json.specs.Data.{Data, null, boolean, number, string, array, object, Items, no_items, item}
-use Rattle.serde_json.specs.Find.{get, as_number, as_str, as_u64}
-use Rattle.serde_json.specs.Read.{read}
-use Rattle.serde_json.specs.Written.{has_float}
+use Rattle.serde_json.specs.{Data.{Data, null, boolean, number, string, array, object, Items, no_items, item}, Find.{get, as_number, as_str, as_u64}, Read.{read}, Written.{has_float}}
 use Rattle.cacache_entry.specs.Entry.{Entry}
 
 -- null is no text, and any other value than a text is refused

@@ -1,13 +1,7 @@
 -- Which entries can be written, and why another can't.
-use Rattle.std.specs.Prelude.{◌≡◌, ℕ, ◌^◌, ◌<◌, ◌≤◌, List, [], ◌∷◌, false, nat_lt, nat_le, if◌then◌else◌, Option, Some, None, IsUtf8, pos, negsuc}
-use Rattle.std.specs.Ordering.{nat_cmp}
-use Rattle.std.specs.Cmp.Lexicographic.{slice_cmp}
-use Rattle.std.specs.declared.cmp.Ordering.TheVariants.{Less}
-use Rattle.serde_json.specs.Data.{Num, unsigned, negative, float, Data, null, boolean, number, string, array, object, Items, no_items, item, Members, no_members, member, depth}
-use Rattle.serde_json.specs.Read.{max_depth}
-use Rattle.serde_json.specs.Written.{has_float, compact_text}
-use Rattle.cacache_core.specs.declared.errors.SerdeCause.{SerdeCause}
-use Rattle.cacache_core.specs.declared.errors.SerdeCause.TheVariants.{TimeTooLarge, NotWhole, TooDeep}
+use Rattle.std.specs.{Prelude.{◌≡◌, ℕ, ◌^◌, ◌<◌, ◌≤◌, List, [], ◌∷◌, false, nat_lt, nat_le, if◌then◌else◌, Option, Some, None, IsUtf8, pos, negsuc}, Ordering.{nat_cmp}, Cmp.Lexicographic.{slice_cmp}, declared.cmp.Ordering.TheVariants.{Less}}
+use Rattle.serde_json.specs.{Data.{Num, unsigned, negative, float, Data, null, boolean, number, string, array, object, Items, no_items, item, Members, no_members, member, depth}, Read.{max_depth}, Written.{has_float, compact_text}}
+use Rattle.cacache_core.specs.declared.errors.SerdeCause.{SerdeCause, TheVariants.{TimeTooLarge, NotWhole, TooDeep}}
 use Rattle.cacache_entry.specs.Entry.{Entry, members_of}
 
 -- ---- what every value of the program's type keeps

@@ -1,11 +1,8 @@
 -- What a lookup of a key answers.
 use Rattle.std.specs.Prelude.{◌≡◌, ℕ, suc, List, [], ◌∷◌, Bool, Option, Some, None, Result, Ok, Err, bytes_eq, if◌then◌else◌, is_some, option_map, option_and_then, unwrap_or, fold, reverse}
 use Rattle.serde_json.specs.Data.{Data}
-use Rattle.cacache_core.specs.declared.errors.IntegrityFault.{IntegrityFault}
-use Rattle.cacache_core.specs.declared.integrity.digest.Hash.{Hash}
-use Rattle.cacache_core.specs.Texts.{read_integrity}
-use Rattle.cacache_entry.specs.Entry.{Entry}
-use Rattle.cacache_entry.specs.Bucket.{entry_of_piece, pieces_of}
+use Rattle.cacache_core.specs.{declared.{errors.IntegrityFault.{IntegrityFault}, integrity.digest.Hash.{Hash}}, Texts.{read_integrity}}
+use Rattle.cacache_entry.specs.{Entry.{Entry}, Bucket.{entry_of_piece, pieces_of}}
 
 -- a found entry, with the integrity that its text reads as
 pub record Found : Type 0 where

@@ -1,13 +1,8 @@
 -- What entries the program's values stand for, and what a refusal says.
 use Rattle.std.specs.Prelude.{◌≡◌, ℕ, List, ◌++◌, codes, Some, option_map, string_bytes}
 use Rattle.serde_json.specs.View.{view}
-use Rattle.cacache_core.specs.declared.errors.Error.{Error}
-use Rattle.cacache_core.specs.declared.errors.Error.TheVariants.{SerdeError, OutOfMemory}
-use Rattle.cacache_entry.specs.Entry.{Entry}
-use Rattle.cacache_entry.specs.FittingEntries.{cause_of}
-use Rattle.cacache_entry.specs.Latest.{Found}
-use Rattle.cacache_entry.specs.declared.metadata.SerializableMetadata.{SerializableMetadata}
-use Rattle.cacache_entry.specs.declared.metadata.Metadata.{Metadata}
+use Rattle.cacache_core.specs.declared.errors.Error.{Error, TheVariants.{SerdeError, OutOfMemory}}
+use Rattle.cacache_entry.specs.{Entry.{Entry}, FittingEntries.{cause_of}, Latest.{Found}, declared.metadata.{SerializableMetadata.{SerializableMetadata}, Metadata.{Metadata}}}
 
 -- the entry that a value stands for
 abbrev pub entry_view : SerializableMetadata → Entry

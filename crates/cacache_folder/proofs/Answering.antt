@@ -1,26 +1,14 @@
 -- What a step answers at the end of its run.
 use Rattle.std.proofs.Common.{◌≡◌, ◌+◌, ◌-◌, ℕ, Bool, true, false, if◌then◌else◌, List, [], length, arith, refl, sym, ap, subst, ◌∙◌}
-use Rattle.std.specs.Prelude.{Option, Result, Ok, Err}
-use Rattle.std_io.specs.IoError.{error_kind}
-use Rattle.std_io.specs.declared.io.error.Error.{Error}
-use Rattle.std_io.specs.declared.io.kind.ErrorKind.{ErrorKind}
+use Rattle.std.specs.{Prelude.{Option, Result, Ok, Err}, Result.{result_map_both}}
+use Rattle.std_io.specs.{IoError.{error_kind}, declared.io.{error.Error.{Error}, kind.ErrorKind.{ErrorKind}}}
 use Rattle.cacache_store.specs.declared.store.step.Step.TheVariants as steps
 use Rattle.cacache_store.specs.declared.store.answer.Answer.TheVariants as answers
-use Rattle.cacache_system.specs.declared.call.SystemCall.{SystemCall}
+use Rattle.cacache_system.specs.{declared.call.{SystemCall.{SystemCall}, CallResult.{CallResult}, CallItem.{CallItem}}, CallLog.{said, MakesCall}, CallsOf.{Stage, only, making, standing, RunLogged}, Seen.{NumberedFile, NumberedTemp, NumberedStep, NumberedAnswer}, AnswersOf.{Hint, no_hint, is_missing, first, answer_of, read_on, failed_with, misses, StepRuns, remove}}
 use Rattle.cacache_system.specs.declared.call.SystemCall.TheVariants as asks
-use Rattle.cacache_system.specs.declared.call.CallResult.{CallResult}
 use Rattle.cacache_system.specs.declared.call.CallResult.TheVariants as says
-use Rattle.cacache_system.specs.declared.call.CallItem.{CallItem}
-use Rattle.cacache_system.specs.CallLog.{said, MakesCall}
-use Rattle.cacache_system.specs.CallsOf.{Stage, only, making, standing, RunLogged}
-use Rattle.cacache_system.specs.Seen.{NumberedFile, NumberedTemp, NumberedStep, NumberedAnswer}
-use Rattle.cacache_system.specs.AnswersOf.{Hint, no_hint, is_missing, first, answer_of, read_on, failed_with, misses, StepRuns, remove}
-use Rattle.std.specs.Result.{result_map_both}
 use Rattle.cacache_store.specs.declared.store.answer.Answer.{Answer}
-use Rattle.cacache_folder.specs.declared.folder.opened.SystemFile.{SystemFile}
-use Rattle.cacache_folder.specs.declared.folder.temp.SystemTemp.{SystemTemp}
-use Rattle.cacache_folder.specs.FolderNumbers.{value_or, answered, answered_or}
-use Rattle.cacache_folder.specs.Looks.{LooksFirst}
+use Rattle.cacache_folder.specs.{declared.folder.{opened.SystemFile.{SystemFile}, temp.SystemTemp.{SystemTemp}}, FolderNumbers.{value_or, answered, answered_or}, Looks.{LooksFirst}}
 use Rattle.cacache_folder.proofs.CallRuns.{run_one, calls_run, calls_over, run_as}
 
 abbrev Log : Type 0

@@ -1,14 +1,9 @@
 -- Which steps take no file and give none.
 use Rattle.std.proofs.Common.{◌≡◌, ℕ, true, false, List, refl}
-use Rattle.cacache_store.specs.declared.store.step.Step.{Step}
+use Rattle.cacache_store.specs.{declared.store.step.Step.{Step}, Plain.{PlainStep, PlainAnswer}, Fits.{is_no_memory}}
 use Rattle.cacache_store.specs.declared.store.step.Step.TheVariants as steps
 use Rattle.cacache_store.specs.declared.store.answer.Answer.TheVariants as answers
-use Rattle.cacache_store.specs.Plain.{PlainStep, PlainAnswer}
-use Rattle.cacache_store.specs.Fits.{is_no_memory}
-use Rattle.cacache_folder.specs.declared.folder.opened.SystemFile.{SystemFile}
-use Rattle.cacache_folder.specs.declared.folder.temp.SystemTemp.{SystemTemp}
-use Rattle.cacache_folder.specs.FolderNumbers.{numbered, goes_by_path}
-use Rattle.cacache_folder.specs.PartialSteps.{HandsBackWhole}
+use Rattle.cacache_folder.specs.{declared.folder.{opened.SystemFile.{SystemFile}, temp.SystemTemp.{SystemTemp}}, FolderNumbers.{numbered, goes_by_path}, PartialSteps.{HandsBackWhole}}
 
 -- what is no step of a file
 pub by_path : {Y F D : Type 0} (number : F → ℕ) (step : Step (SystemFile Y F D) (SystemTemp Y F D))

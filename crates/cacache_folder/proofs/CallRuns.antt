@@ -3,13 +3,7 @@ use Rattle.std.proofs.Common.{◌≡◌, ℕ, zero, suc, Bool, true, false, if�
 use Rattle.std.specs.Prelude.{Option, None, Some, option_map}
 use Rattle.std_io.specs.declared.io.kind.ErrorKind.{ErrorKind}
 use Rattle.std_io.specs.declared.io.kind.ErrorKind.TheVariants as kind
-use Rattle.cacache_system.specs.declared.call.SystemCall.{SystemCall}
-use Rattle.cacache_system.specs.declared.call.SystemCall.TheVariants.{Read}
-use Rattle.cacache_system.specs.declared.call.CallResult.{CallResult}
-use Rattle.cacache_system.specs.declared.call.CallResult.TheVariants.{Failed, Bytes}
-use Rattle.cacache_system.specs.declared.call.CallItem.{CallItem}
-use Rattle.cacache_system.specs.CallLog.{item, GainsCalls, MakesCall}
-use Rattle.cacache_system.specs.CallsOf.{Stage, over, trying, taking_memory, reading_front, wants, after, interrupts, was_interrupted, Ends, Runs, Goes, RunLogged, CallsLogged}
+use Rattle.cacache_system.specs.{declared.call.{SystemCall.{SystemCall, TheVariants.{Read}}, CallResult.{CallResult, TheVariants.{Failed, Bytes}}, CallItem.{CallItem}}, CallLog.{item, GainsCalls, MakesCall}, CallsOf.{Stage, over, trying, taking_memory, reading_front, wants, after, interrupts, was_interrupted, Ends, Runs, Goes, RunLogged, CallsLogged}}
 use Rattle.cacache_folder.specs.Interruptions.{interrupted, Waits, Insists}
 
 abbrev Log : Type 0

@@ -1,12 +1,6 @@
 -- A file that isn't copied onto itself.
-use Rattle.std.proofs.Common.{◌≡◌, ◌&&◌, ℕ, Bool, false, if◌then◌else◌, List, sym, ap, ◌∙◌}
-use Rattle.std.specs.Prelude.{◌||◌}
-use Rattle.std.specs.Bool.{nat_eq}
-use Rattle.std.specs.Cmp.Lexicographic.{pointwise}
-use Rattle.cacache_system.specs.declared.call.FileInfo.{FileInfo}
-use Rattle.cacache_system.specs.declared.call.SystemCall.TheVariants.{CopyFile}
-use Rattle.cacache_system.specs.declared.call.CallResult.TheVariants.{Count}
-use Rattle.cacache_system.specs.CallsOf.{over, only, copied, is_same_node}
+use Rattle.std.{proofs.Common.{◌≡◌, ◌&&◌, ℕ, Bool, false, if◌then◌else◌, List, sym, ap, ◌∙◌}, specs.{Prelude.{◌||◌}, Bool.{nat_eq}, Cmp.Lexicographic.{pointwise}}}
+use Rattle.cacache_system.specs.{declared.call.{FileInfo.{FileInfo}, SystemCall.TheVariants.{CopyFile}, CallResult.TheVariants.{Count}}, CallsOf.{over, only, copied, is_same_node}}
 
 -- the system copies it
 pub copied_out : (source target : FileInfo) (from to : List ℕ) (b : Bool)

@@ -1,25 +1,12 @@
 -- The entries of a listing, name by name.
-use Rattle.std.proofs.Common.{◌≡◌, ◌≢◌, ◌==◌, ◌||◌, ◌&&◌, not, ◌⊎◌, suc, ◌<◌, ◌≤◌, ◌+◌, ◌-◌, ◌↔◌, ℕ, Bool, true, false, if◌then◌else◌, List, [], ◌∷◌, ◌++◌, length, take, drop, length-drop, refl, sym, ap, subst, ◌∙◌, inl, inr, arith}
-use Rattle.std.specs.Prelude.{Option, None, Some, Result, Ok, Err, OnOk, IfOk, IfErr, IsTrue, IsUtf8}
-use Rattle.std.specs.Bool.{nat_eq}
-use Rattle.std.specs.List.{starts_with, list_any, position, prefix_len, position_or_len, onto_first}
-use Rattle.std.specs.Str.{is_utf8}
-use Rattle.std.proofs.lemmas.Str.{is_utf8-from_IsUtf8, IsUtf8-from_is_utf8}
-use Rattle.std.proofs.lemmas.List.{take_all}
-use Rattle.std.proofs.lemmas.List.Splits.{slice_split-cons_no, slice_split_first}
-use Rattle.std.proofs.lemmas.Bool.Decides.{leb_tells}
-use Rattle.std.proofs.Math.Dec.{leb}
-use Rattle.std.specs.Option.{unwrap_or}
+use Rattle.std.proofs.{Common.{◌≡◌, ◌≢◌, ◌==◌, ◌||◌, ◌&&◌, not, ◌⊎◌, suc, ◌<◌, ◌≤◌, ◌+◌, ◌-◌, ◌↔◌, ℕ, Bool, true, false, if◌then◌else◌, List, [], ◌∷◌, ◌++◌, length, take, drop, length-drop, refl, sym, ap, subst, ◌∙◌, inl, inr, arith}, lemmas.{Str.{is_utf8-from_IsUtf8, IsUtf8-from_is_utf8}, List.{take_all, Splits.{slice_split-cons_no, slice_split_first}}, Bool.Decides.{leb_tells}}, Math.Dec.{leb}}
+use Rattle.std.specs.{Prelude.{Option, None, Some, Result, Ok, Err, OnOk, IfOk, IfErr, IsTrue, IsUtf8}, Bool.{nat_eq}, List.{starts_with, list_any, position, prefix_len, position_or_len, onto_first}, Str.{is_utf8}, Option.{unwrap_or}}
 use Rattle.hex.specs.Hex.{encode_lower}
 use Rattle.std_io.specs.declared.io.kind.ErrorKind.{ErrorKind}
 use Rattle.std_io.specs.declared.io.kind.ErrorKind.TheVariants as kind
 use Rattle.cacache_core.specs.PathNames.{is_name, is_above, ends_name, IsProperName}
-use Rattle.cacache_store.specs.declared.store.answer.Kind.{Kind}
-use Rattle.cacache_store.specs.declared.store.answer.Kind.TheVariants.{File}
-use Rattle.cacache_store.specs.declared.store.answer.Name.{Name}
-use Rattle.cacache_system.specs.declared.call.CallResult.TheVariants.{Failed}
-use Rattle.cacache_system.specs.ListedNames.{mark, is_odd, text_of, is_proper, is_passed, names_in}
-use Rattle.cacache_system.specs.CallsOf.{Stage, Reader, over, taking_memory, asking_kind, entered, ask_kind, next_name, more_names, RunLogged}
+use Rattle.cacache_store.specs.declared.store.answer.{Kind.{Kind, TheVariants.{File}}, Name.{Name}}
+use Rattle.cacache_system.specs.{declared.call.CallResult.TheVariants.{Failed}, ListedNames.{mark, is_odd, text_of, is_proper, is_passed, names_in}, CallsOf.{Stage, Reader, over, taking_memory, asking_kind, entered, ask_kind, next_name, more_names, RunLogged}}
 use Rattle.cacache_folder.specs.Listings.{Log, LeadsTo, Proceeds, NamesEntry, EntersName, entering, with_kind, AsksKind, AsksKindIfText, FindsKind, ListsName, ListsNames, CutsName}
 use Rattle.cacache_folder.proofs.Listings.{leads_none, leads_on, leads_run, leads_as, leads_same, leads_took, run_taken, refused, fails, proceeds_on, proceeds_from}
 

@@ -1,8 +1,6 @@
 -- What an escaped name stands for.
-use Rattle.std.specs.Prelude.{◌≡◌, ℕ, List, ◌++◌, Result, Ok, Err, IfOk}
-use Rattle.std.proofs.Common.{refl, ap, ◌∙◌}
-use Rattle.hex.specs.Hex.{IsBytes, encode_lower, decode_of}
-use Rattle.hex.proofs.HexLemmas.{decode_of-encode_lower}
+use Rattle.std.{specs.Prelude.{◌≡◌, ℕ, List, ◌++◌, Result, Ok, Err, IfOk}, proofs.Common.{refl, ap, ◌∙◌}}
+use Rattle.hex.{specs.Hex.{IsBytes, encode_lower, decode_of}, proofs.HexLemmas.{decode_of-encode_lower}}
 use Rattle.cacache_system.specs.ListedNames.{mark}
 use Rattle.cacache_folder.specs.Escaped.{or_itself, raw_name}
 

@@ -1,11 +1,8 @@
 -- Names that end at a `/` or a NUL, and listings that grow.
-use Rattle.std.specs.Prelude.{◌≡◌, ◌||◌, ◌==◌, ℕ, Bool, true, false, List, [], ◌∷◌, ◌++◌, Option, Some, IfSome}
-use Rattle.std.specs.List.{list_any}
-use Rattle.std.proofs.Common.{refl, sym, subst}
-use Rattle.std.proofs.lemmas.List.Elements.{All-push}
-use Rattle.cacache_store.specs.declared.store.answer.Name.{Name}
+use Rattle.std.specs.{Prelude.{◌≡◌, ◌||◌, ◌==◌, ℕ, Bool, true, false, List, [], ◌∷◌, ◌++◌, Option, Some, IfSome}, List.{list_any}}
+use Rattle.std.proofs.{Common.{refl, sym, subst}, lemmas.List.Elements.{All-push}}
+use Rattle.cacache_store.specs.{declared.store.answer.Name.{Name}, Fits.{AreProperNames}}
 use Rattle.cacache_core.specs.PathNames.{ends_name, IsProperName}
-use Rattle.cacache_store.specs.Fits.{AreProperNames}
 
 either_first : (a b c d e : Bool) → (c || d) ≡ e → ((a || c) || (b || d)) ≡ ((a || b) || e)
 either_first true b c d e h = refl

@@ -1,17 +1,8 @@
 -- Reads of open files by their handles.
-use Rattle.std.proofs.Common.{◌≡◌, ◌==◌, ◌&&◌, not, ℕ, Bool, true, false, if◌then◌else◌, min, sym, ap, subst, ◌∙◌}
-use Rattle.std.specs.Prelude.{Option, List}
-use Rattle.std_io.specs.declared.io.kind.ErrorKind.{ErrorKind}
-use Rattle.std_io.specs.declared.io.kind.ErrorKind.TheVariants.{FileTooLarge}
-use Rattle.cacache_system.specs.declared.call.SystemCall.TheVariants.{Read}
-use Rattle.cacache_system.specs.declared.call.CallResult.{CallResult}
-use Rattle.cacache_system.specs.declared.call.CallResult.TheVariants.{Failed}
-use Rattle.cacache_system.specs.declared.call.CallItem.{CallItem}
-use Rattle.cacache_system.specs.CallsOf.{Stage, over, trying, Ends, RunLogged}
-use Rattle.cacache_system.specs.Seen.{NumberedFile}
-use Rattle.cacache_folder.specs.HandleRuns.{reading}
-use Rattle.cacache_folder.specs.Interruptions.{Insists}
-use Rattle.cacache_folder.proofs.CallRuns.{run_none, run_as, insists_run}
+use Rattle.std.{proofs.Common.{◌≡◌, ◌==◌, ◌&&◌, not, ℕ, Bool, true, false, if◌then◌else◌, min, sym, ap, subst, ◌∙◌}, specs.Prelude.{Option, List}}
+use Rattle.std_io.specs.declared.io.kind.ErrorKind.{ErrorKind, TheVariants.{FileTooLarge}}
+use Rattle.cacache_system.specs.{declared.call.{SystemCall.TheVariants.{Read}, CallResult.{CallResult, TheVariants.{Failed}}, CallItem.{CallItem}}, CallsOf.{Stage, over, trying, Ends, RunLogged}, Seen.{NumberedFile}}
+use Rattle.cacache_folder.{specs.{HandleRuns.{reading}, Interruptions.{Insists}}, proofs.CallRuns.{run_none, run_as, insists_run}}
 
 abbrev Log : Type 0
 Log = Option (List CallItem)

@@ -1,24 +1,14 @@
 -- Folders that are opened and listed.
-use Rattle.std.proofs.Common.{◌≡◌, ◌≢◌, ◌==◌, not, ◌⊎◌, ◌<◌, ◌≤◌, ◌+◌, ◌-◌, ◌^◌, ℕ, Bool, true, false, if◌then◌else◌, List, [], ◌∷◌, ◌++◌, length, refl, sym, ap, subst, ◌∙◌, inl, inr, arith}
+use Rattle.std.proofs.{Common.{◌≡◌, ◌≢◌, ◌==◌, not, ◌⊎◌, ◌<◌, ◌≤◌, ◌+◌, ◌-◌, ◌^◌, ℕ, Bool, true, false, if◌then◌else◌, List, [], ◌∷◌, ◌++◌, length, refl, sym, ap, subst, ◌∙◌, inl, inr, arith}, lemmas.Bool.Decides.{eqb_tells}}
 use Rattle.std.specs.Prelude.{Option, None, Some, Result, Ok, Err}
-use Rattle.std.proofs.lemmas.Bool.Decides.{eqb_tells}
 use Rattle.std_io.specs.declared.io.kind.ErrorKind.{ErrorKind}
 use Rattle.std_io.specs.declared.io.kind.ErrorKind.TheVariants as kind
 use Rattle.cacache_store.specs.declared.store.step.Step.TheVariants as steps
 use Rattle.cacache_store.specs.declared.store.answer.Answer.TheVariants as answers
 use Rattle.cacache_store.specs.declared.store.answer.Name.{Name}
-use Rattle.cacache_system.specs.declared.call.SystemCall.TheVariants.{OpenFolder, ReadNames}
-use Rattle.cacache_system.specs.declared.call.CallResult.{CallResult}
-use Rattle.cacache_system.specs.declared.call.CallResult.TheVariants.{Opened, Bytes, Failed, Names}
-use Rattle.cacache_system.specs.CallLog.{MakesCall}
-use Rattle.cacache_system.specs.ListedNames.{names_in, with_slash}
-use Rattle.cacache_system.specs.CallsOf.{Stage, Reader, over, taking_memory, opening_folder, following, reading_names, reader, read_once, more_names, next_name, names_read, is_no_folder, unopened, RunLogged}
-use Rattle.cacache_system.specs.Seen.{NumberedAnswer}
-use Rattle.cacache_system.specs.AnswersOf.{Hint, no_hint, was_named, is_named, list, answer_of, failed_with, StepRuns}
-use Rattle.cacache_folder.specs.Interruptions.{Insists}
-use Rattle.cacache_folder.specs.Listings.{Log, LeadsTo, Proceeds, ListsNames, ReadsNames, ReadsAllNames, OpensFolder, ListsFolder, listed, more_if, reader_of}
-use Rattle.cacache_folder.proofs.CallRuns.{run_none}
-use Rattle.cacache_folder.proofs.Listings.{leads_none, leads_on, leads_run, leads_as, leads_same, leads_call, leads_took, run_taken, refused, fails, proceeds_on, proceeds_from, names_leads, names_fails}
+use Rattle.cacache_system.specs.{declared.call.{SystemCall.TheVariants.{OpenFolder, ReadNames}, CallResult.{CallResult, TheVariants.{Opened, Bytes, Failed, Names}}}, CallLog.{MakesCall}, ListedNames.{names_in, with_slash}, CallsOf.{Stage, Reader, over, taking_memory, opening_folder, following, reading_names, reader, read_once, more_names, next_name, names_read, is_no_folder, unopened, RunLogged}, Seen.{NumberedAnswer}, AnswersOf.{Hint, no_hint, was_named, is_named, list, answer_of, failed_with, StepRuns}}
+use Rattle.cacache_folder.specs.{Interruptions.{Insists}, Listings.{Log, LeadsTo, Proceeds, ListsNames, ReadsNames, ReadsAllNames, OpensFolder, ListsFolder, listed, more_if, reader_of}}
+use Rattle.cacache_folder.proofs.{CallRuns.{run_none}, Listings.{leads_none, leads_on, leads_run, leads_as, leads_same, leads_call, leads_took, run_taken, refused, fails, proceeds_on, proceeds_from, names_leads, names_fails}}
 
 -- no path of no bytes
 pub not_empty : (n : ℕ) → false ≡ (n == 0) → n ≢ 0

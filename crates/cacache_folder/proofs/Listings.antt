@@ -4,15 +4,8 @@ use Rattle.std.specs.Prelude.{Option, None, Some, Result, Ok, Err}
 use Rattle.std_io.specs.declared.io.kind.ErrorKind.{ErrorKind}
 use Rattle.std_io.specs.declared.io.kind.ErrorKind.TheVariants as kind
 use Rattle.cacache_store.specs.declared.store.answer.Name.{Name}
-use Rattle.cacache_system.specs.declared.call.SystemCall.{SystemCall}
-use Rattle.cacache_system.specs.declared.call.SystemCall.TheVariants.{ReadNames}
-use Rattle.cacache_system.specs.declared.call.CallResult.{CallResult}
-use Rattle.cacache_system.specs.declared.call.CallResult.TheVariants.{Bytes, Failed, Names}
-use Rattle.cacache_system.specs.declared.call.CallItem.{CallItem}
-use Rattle.cacache_system.specs.CallLog.{item, GainsCalls, MakesCall}
-use Rattle.cacache_system.specs.CallsOf.{Stage, Reader, over, taking_memory, reading_names, names_read, wants, after, interrupts, Ends, Runs, Goes, RunLogged, CallsLogged}
-use Rattle.cacache_folder.specs.Interruptions.{interrupted, Insists}
-use Rattle.cacache_folder.specs.Listings.{Log, LeadsTo, Proceeds, listed}
+use Rattle.cacache_system.specs.{declared.call.{SystemCall.{SystemCall, TheVariants.{ReadNames}}, CallResult.{CallResult, TheVariants.{Bytes, Failed, Names}}, CallItem.{CallItem}}, CallLog.{item, GainsCalls, MakesCall}, CallsOf.{Stage, Reader, over, taking_memory, reading_names, names_read, wants, after, interrupts, Ends, Runs, Goes, RunLogged, CallsLogged}}
+use Rattle.cacache_folder.specs.{Interruptions.{interrupted, Insists}, Listings.{Log, LeadsTo, Proceeds, listed}}
 use Rattle.cacache_folder.proofs.CallRuns.{append-more, gains_none, gains_more, goes_run, run_none, run_as, run_call, run_refused, calls_end, interrupted_only}
 
 -- nothing was called

@@ -1,19 +1,8 @@
 -- The folders of a walk are looked at call by call.
-use Rattle.std.proofs.Common.{◌≡◌, ℕ, Bool, true, false, if◌then◌else◌, List, [], ◌∷◌, ◌++◌, refl, sym, ap, subst, ◌∙◌}
-use Rattle.std.specs.Prelude.{Option, Result, Ok, Err}
-use Rattle.std_io.specs.IoError.{error_kind}
-use Rattle.std_io.specs.declared.io.error.Error.{Error}
-use Rattle.cacache_system.specs.declared.call.FileInfo.{FileInfo}
-use Rattle.cacache_system.specs.declared.call.SystemCall.{SystemCall}
-use Rattle.cacache_system.specs.declared.call.SystemCall.TheVariants.{StatLink}
-use Rattle.cacache_system.specs.declared.call.CallResult.TheVariants.{Info, Failed}
-use Rattle.cacache_system.specs.declared.call.CallItem.{CallItem}
-use Rattle.cacache_system.specs.CallLog.{MakesCall}
-use Rattle.cacache_system.specs.CallsOf.{Stage, over, only, comparing, descending, descend, compared, is_same_node, CallsLogged}
-use Rattle.cacache_system.specs.AnswersOf.{Hint, no_hint, in_walk}
-use Rattle.cacache_folder.specs.Goings.{onward}
-use Rattle.cacache_folder.specs.Looks.{Descends, LooksFirst, LooksAt, Decides}
-use Rattle.cacache_folder.proofs.CallRuns.{calls_none, calls_one, calls_on}
+use Rattle.std.{proofs.Common.{◌≡◌, ℕ, Bool, true, false, if◌then◌else◌, List, [], ◌∷◌, ◌++◌, refl, sym, ap, subst, ◌∙◌}, specs.Prelude.{Option, Result, Ok, Err}}
+use Rattle.std_io.specs.{IoError.{error_kind}, declared.io.error.Error.{Error}}
+use Rattle.cacache_system.specs.{declared.call.{FileInfo.{FileInfo}, SystemCall.{SystemCall, TheVariants.{StatLink}}, CallResult.TheVariants.{Info, Failed}, CallItem.{CallItem}}, CallLog.{MakesCall}, CallsOf.{Stage, over, only, comparing, descending, descend, compared, is_same_node, CallsLogged}, AnswersOf.{Hint, no_hint, in_walk}}
+use Rattle.cacache_folder.{specs.{Goings.{onward}, Looks.{Descends, LooksFirst, LooksAt, Decides}}, proofs.CallRuns.{calls_none, calls_one, calls_on}}
 
 abbrev Log : Type 0
 Log = Option (List CallItem)

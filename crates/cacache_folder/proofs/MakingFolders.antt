@@ -1,15 +1,8 @@
 -- Folders that are made call by call.
-use Rattle.std.proofs.Common.{◌≡◌, ℕ, Bool, true, false, if◌then◌else◌, List, [], ◌∷◌, refl, sym, ap, subst, ◌∙◌}
-use Rattle.std.specs.Prelude.{Option, None, Some, Result, Ok, Err, IfErr}
-use Rattle.std_io.specs.IoError.{error_kind}
-use Rattle.std_io.specs.declared.io.error.Error.{Error}
-use Rattle.std_io.specs.declared.io.kind.ErrorKind.{ErrorKind}
-use Rattle.cacache_system.specs.declared.call.CallResult.TheVariants.{Done, Failed}
-use Rattle.cacache_system.specs.declared.call.CallItem.{CallItem}
-use Rattle.cacache_system.specs.CallLog.{said}
-use Rattle.cacache_system.specs.CallsOf.{Stage, over, standing, making, confirming, below, climb, unmade, above_of, is_absent, after, Ends, RunLogged, CallsLogged}
-use Rattle.cacache_folder.specs.Goings.{onward, made}
-use Rattle.cacache_folder.proofs.CallRuns.{calls_end}
+use Rattle.std.{proofs.Common.{◌≡◌, ℕ, Bool, true, false, if◌then◌else◌, List, [], ◌∷◌, refl, sym, ap, subst, ◌∙◌}, specs.Prelude.{Option, None, Some, Result, Ok, Err, IfErr}}
+use Rattle.std_io.specs.{IoError.{error_kind}, declared.io.{error.Error.{Error}, kind.ErrorKind.{ErrorKind}}}
+use Rattle.cacache_system.specs.{declared.call.{CallResult.TheVariants.{Done, Failed}, CallItem.{CallItem}}, CallLog.{said}, CallsOf.{Stage, over, standing, making, confirming, below, climb, unmade, above_of, is_absent, after, Ends, RunLogged, CallsLogged}}
+use Rattle.cacache_folder.{specs.Goings.{onward, made}, proofs.CallRuns.{calls_end}}
 
 abbrev Log : Type 0
 Log = Option (List CallItem)

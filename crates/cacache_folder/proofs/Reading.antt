@@ -1,19 +1,9 @@
 -- Files that are read whole, and pieces of open files.
-use Rattle.std.proofs.Common.{◌≡◌, ◌≢◌, ◌==◌, ◌&&◌, not, ◌⊎◌, ◌<◌, ◌≤◌, ℕ, Bool, true, false, if◌then◌else◌, List, [], ◌∷◌, ◌++◌, take, drop, length, min, refl, sym, ap, subst, ◌∙◌, inl, inr, arith, take-append-drop, ◌+◌, ◌-◌, length-take-le}
-use Rattle.std.specs.Prelude.{Option, Result, Ok, Err}
-use Rattle.std.proofs.lemmas.Bool.Decides.{eqb_tells}
-use Rattle.std.proofs.lemmas.List.{take-append-le, take-take}
-use Rattle.std.specs.Io.{StartsWith, appended_bytes}
+use Rattle.std.proofs.{Common.{◌≡◌, ◌≢◌, ◌==◌, ◌&&◌, not, ◌⊎◌, ◌<◌, ◌≤◌, ℕ, Bool, true, false, if◌then◌else◌, List, [], ◌∷◌, ◌++◌, take, drop, length, min, refl, sym, ap, subst, ◌∙◌, inl, inr, arith, take-append-drop, ◌+◌, ◌-◌, length-take-le}, lemmas.{Bool.Decides.{eqb_tells}, List.{take-append-le, take-take}}}
+use Rattle.std.specs.{Prelude.{Option, Result, Ok, Err}, Io.{StartsWith, appended_bytes}}
 use Rattle.std_io.specs.declared.io.kind.ErrorKind.{ErrorKind}
 use Rattle.std_io.specs.declared.io.kind.ErrorKind.TheVariants as kind
-use Rattle.cacache_system.specs.declared.call.SystemCall.TheVariants.{Read, ReadRest}
-use Rattle.cacache_system.specs.declared.call.CallResult.{CallResult}
-use Rattle.cacache_system.specs.declared.call.CallResult.TheVariants.{Bytes, Failed}
-use Rattle.cacache_system.specs.declared.call.CallItem.{CallItem}
-use Rattle.cacache_system.specs.CallLog.{MakesCall}
-use Rattle.cacache_system.specs.CallsOf.{Stage, over, trying, taking_memory, reading_front, reading_rest, read_whole, interrupts, after, Ends, RunLogged, CallsLogged}
-use Rattle.cacache_system.specs.Seen.{NumberedFile}
-use Rattle.cacache_system.specs.AnswersOf.{read_piece}
+use Rattle.cacache_system.specs.{declared.call.{SystemCall.TheVariants.{Read, ReadRest}, CallResult.{CallResult, TheVariants.{Bytes, Failed}}, CallItem.{CallItem}}, CallLog.{MakesCall}, CallsOf.{Stage, over, trying, taking_memory, reading_front, reading_rest, read_whole, interrupts, after, Ends, RunLogged, CallsLogged}, Seen.{NumberedFile}, AnswersOf.{read_piece}}
 use Rattle.cacache_folder.specs.Interruptions.{Insists}
 use Rattle.cacache_folder.proofs.CallRuns.{run_call, run_none, run_took, run_refused, run_as, calls_end, calls_run, insists_run, insists_front, interrupted_only}
 

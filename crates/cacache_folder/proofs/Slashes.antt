@@ -1,7 +1,6 @@
 -- Where the last `/` of a path is.
-use Rattle.std.proofs.Common.{◌≡◌, ◌≢◌, ◌⊎◌, ◌<◌, ◌==◌, ℕ, zero, suc, Bool, true, false, if◌then◌else◌, List, get_or, take, length, refl, sym, ap, subst, ◌∙◌, inl, inr, arith}
+use Rattle.std.proofs.{Common.{◌≡◌, ◌≢◌, ◌⊎◌, ◌<◌, ◌==◌, ℕ, zero, suc, Bool, true, false, if◌then◌else◌, List, get_or, take, length, refl, sym, ap, subst, ◌∙◌, inl, inr, arith}, lemmas.Bool.Decides.{eqb_tells}}
 use Rattle.std.specs.Prelude.{Option, None, Some, option_map}
-use Rattle.std.proofs.lemmas.Bool.Decides.{eqb_tells}
 use Rattle.cacache_system.specs.CallsOf.{last_slash, above_of}
 
 abbrev pick : ℕ → Option ℕ → Bool → Option ℕ

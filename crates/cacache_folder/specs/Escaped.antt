@@ -1,9 +1,6 @@
 -- Names of any bytes as texts.
-use Rattle.std.specs.Prelude.{ℕ, if◌then◌else◌, List, drop, Result, Ok, Err}
-use Rattle.std.specs.Bool.{nat_eq}
-use Rattle.std.specs.List.{starts_with}
-use Rattle.hex.specs.declared.error.FromHexError.{FromHexError}
-use Rattle.hex.specs.Hex.{decode_of}
+use Rattle.std.specs.{Prelude.{ℕ, if◌then◌else◌, List, drop, Result, Ok, Err}, Bool.{nat_eq}, List.{starts_with}}
+use Rattle.hex.specs.{declared.error.FromHexError.{FromHexError}, Hex.{decode_of}}
 use Rattle.cacache_system.specs.ListedNames.{mark}
 
 abbrev pub or_itself : List ℕ → Result (List ℕ) FromHexError → List ℕ

@@ -1,9 +1,7 @@
 -- What contracts see of the files of real folders. Their bytes are not known.
 use Rattle.std.specs.Prelude.{None}
-use Rattle.cacache_store.specs.declared.store.plain.PlainFile.{PlainFile}
-use Rattle.cacache_store.specs.declared.store.plain.PlainTemp.{PlainTemp}
-use Rattle.cacache_folder.specs.declared.folder.opened.SystemFile.{SystemFile}
-use Rattle.cacache_folder.specs.declared.folder.temp.SystemTemp.{SystemTemp}
+use Rattle.cacache_store.specs.declared.store.plain.{PlainFile.{PlainFile}, PlainTemp.{PlainTemp}}
+use Rattle.cacache_folder.specs.declared.folder.{opened.SystemFile.{SystemFile}, temp.SystemTemp.{SystemTemp}}
 
 -- an open file
 abbrev pub seen_file : {Y F D : Type 0} → SystemFile Y F D → PlainFile

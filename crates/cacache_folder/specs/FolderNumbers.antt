@@ -1,14 +1,9 @@
 -- The steps and answers of real folders with their files by number, as the system's calls have them.
 use Rattle.std.specs.Prelude.{ℕ, Bool, true, false, Result, Ok, Err}
-use Rattle.std_io.specs.declared.io.error.Error.{Error}
-use Rattle.std_io.specs.IoError.{error_kind}
-use Rattle.cacache_store.specs.declared.store.step.Step.{Step}
-use Rattle.cacache_store.specs.declared.store.step.Step.TheVariants.{CreateTemp, Write, Persist, Open, Read, SyncTemp}
-use Rattle.cacache_store.specs.declared.store.answer.Answer.{Answer}
-use Rattle.cacache_system.specs.Seen.{NumberedFile, NumberedTemp, NumberedStep, NumberedAnswer, step_as, answer_as}
-use Rattle.cacache_system.specs.AnswersOf.{failed_with}
-use Rattle.cacache_folder.specs.declared.folder.opened.SystemFile.{SystemFile}
-use Rattle.cacache_folder.specs.declared.folder.temp.SystemTemp.{SystemTemp}
+use Rattle.std_io.specs.{declared.io.error.Error.{Error}, IoError.{error_kind}}
+use Rattle.cacache_store.specs.declared.store.{step.Step.{Step, TheVariants.{CreateTemp, Write, Persist, Open, Read, SyncTemp}}, answer.Answer.{Answer}}
+use Rattle.cacache_system.specs.{Seen.{NumberedFile, NumberedTemp, NumberedStep, NumberedAnswer, step_as, answer_as}, AnswersOf.{failed_with}}
+use Rattle.cacache_folder.specs.declared.folder.{opened.SystemFile.{SystemFile}, temp.SystemTemp.{SystemTemp}}
 
 -- an open file
 abbrev pub numbered_file : {Y F D : Type 0} → (F → ℕ) → SystemFile Y F D → NumberedFile

@@ -1,15 +1,7 @@
 -- Where calls lead that end here or go on.
 use Rattle.std.specs.Prelude.{ℕ, Bool, false, Option, None, Some, Result, Ok, Err, List, [], if◌then◌else◌}
-use Rattle.std_io.specs.declared.io.error.Error.{Error}
-use Rattle.std_io.specs.declared.io.kind.ErrorKind.{ErrorKind}
-use Rattle.std_io.specs.IoError.{error_kind}
-use Rattle.cacache_system.specs.declared.call.CallItem.{CallItem}
-use Rattle.cacache_system.specs.declared.call.CallResult.{CallResult}
-use Rattle.cacache_system.specs.declared.call.CallResult.TheVariants.{Opened, Failed}
-use Rattle.cacache_system.specs.declared.call.FileInfo.{FileInfo}
-use Rattle.cacache_system.specs.declared.call.SystemCall.TheVariants.{Read}
-use Rattle.cacache_system.specs.CallLog.{said}
-use Rattle.cacache_system.specs.CallsOf.{Stage, Purpose, over, trying, taking_memory, opening, opened, standing, making, confirming, below, unmade, is_absent, CallsLogged}
+use Rattle.std_io.specs.{declared.io.{error.Error.{Error}, kind.ErrorKind.{ErrorKind}}, IoError.{error_kind}}
+use Rattle.cacache_system.specs.{declared.call.{CallItem.{CallItem}, CallResult.{CallResult, TheVariants.{Opened, Failed}}, FileInfo.{FileInfo}, SystemCall.TheVariants.{Read}}, CallLog.{said}, CallsOf.{Stage, Purpose, over, trying, taking_memory, opening, opened, standing, making, confirming, below, unmade, is_absent, CallsLogged}}
 
 -- the stage, unless there is a cause against it
 abbrev pub unless : Option ErrorKind → Stage → Stage

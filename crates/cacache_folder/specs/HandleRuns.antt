@@ -1,10 +1,7 @@
 -- The calls that open files of real folders make by themselves.
 use Rattle.std.specs.Prelude.{◌==◌, ◌&&◌, not, ℕ, min, false, List, if◌then◌else◌}
 use Rattle.std_io.specs.declared.io.kind.ErrorKind.TheVariants.{FileTooLarge}
-use Rattle.cacache_system.specs.declared.call.SystemCall.TheVariants.{Read, Write}
-use Rattle.cacache_system.specs.declared.call.CallResult.TheVariants.{Failed}
-use Rattle.cacache_system.specs.CallsOf.{Stage, over, trying}
-use Rattle.cacache_system.specs.Seen.{NumberedFile, NumberedTemp}
+use Rattle.cacache_system.specs.{declared.call.{SystemCall.TheVariants.{Read, Write}, CallResult.TheVariants.{Failed}}, CallsOf.{Stage, over, trying}, Seen.{NumberedFile, NumberedTemp}}
 
 -- a read asks for no more than is left, and for nothing behind 2^64 - 1 bytes, where it fails
 abbrev pub reading : NumberedFile → ℕ → Stage

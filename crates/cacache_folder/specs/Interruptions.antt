@@ -1,11 +1,7 @@
 -- Calls that signals interrupt.
 use Rattle.std.specs.Prelude.{ℕ, zero, suc, List, [], ◌∷◌, ◌++◌, Option}
 use Rattle.std_io.specs.declared.io.kind.ErrorKind.TheVariants.{Interrupted}
-use Rattle.cacache_system.specs.declared.call.SystemCall.{SystemCall}
-use Rattle.cacache_system.specs.declared.call.CallResult.{CallResult}
-use Rattle.cacache_system.specs.declared.call.CallResult.TheVariants.{Failed}
-use Rattle.cacache_system.specs.declared.call.CallItem.{CallItem}
-use Rattle.cacache_system.specs.CallLog.{item, GainsCalls}
+use Rattle.cacache_system.specs.{declared.call.{SystemCall.{SystemCall}, CallResult.{CallResult, TheVariants.{Failed}}, CallItem.{CallItem}}, CallLog.{item, GainsCalls}}
 
 -- the call, which a signal interrupts so often
 abbrev pub interrupted : SystemCall → ℕ → List CallItem

@@ -1,14 +1,8 @@
 -- Listings of folders call by call.
 use Rattle.std.specs.Prelude.{◌≡◌, ◌⊎◌, ◌^◌, ◌-◌, ℕ, Bool, false, if◌then◌else◌, List, [], ◌∷◌, ◌++◌, Option, None, Some, Result, Ok, Err}
 use Rattle.std_io.specs.declared.io.kind.ErrorKind.{ErrorKind}
-use Rattle.cacache_store.specs.declared.store.answer.Kind.{Kind}
-use Rattle.cacache_store.specs.declared.store.answer.Name.{Name}
-use Rattle.cacache_system.specs.declared.call.CallItem.{CallItem}
-use Rattle.cacache_system.specs.declared.call.CallResult.{CallResult}
-use Rattle.cacache_system.specs.declared.call.CallResult.TheVariants.{Names, Failed}
-use Rattle.cacache_system.specs.CallLog.{GainsCalls}
-use Rattle.cacache_system.specs.ListedNames.{names_in, with_slash}
-use Rattle.cacache_system.specs.CallsOf.{Stage, Reader, over, taking_memory, opening_folder, following, reading_names, asking_kind, reader, read_once, more_names, entered, ask_kind, next_name, Runs, RunLogged}
+use Rattle.cacache_store.specs.declared.store.answer.{Kind.{Kind}, Name.{Name}}
+use Rattle.cacache_system.specs.{declared.call.{CallItem.{CallItem}, CallResult.{CallResult, TheVariants.{Names, Failed}}}, CallLog.{GainsCalls}, ListedNames.{names_in, with_slash}, CallsOf.{Stage, Reader, over, taking_memory, opening_folder, following, reading_names, asking_kind, reader, read_once, more_names, entered, ask_kind, next_name, Runs, RunLogged}}
 
 -- the log of a system
 abbrev pub Log : Type 0

@@ -2,13 +2,8 @@
 use Rattle.std.specs.Prelude.{◌≡◌, ℕ, Bool, false, if◌then◌else◌, List, [], ◌∷◌, ◌++◌, Option, Result, Ok, Err}
 use Rattle.std_io.specs.declared.io.error.Error.{Error}
 use Rattle.cacache_store.specs.declared.store.answer.Kind.TheVariants.{Folder}
-use Rattle.cacache_system.specs.declared.call.FileInfo.{FileInfo}
-use Rattle.cacache_system.specs.declared.call.SystemCall.{SystemCall}
-use Rattle.cacache_system.specs.declared.call.CallItem.{CallItem}
-use Rattle.cacache_system.specs.CallsOf.{only, descending, descend, compared, is_same_node, CallsLogged}
-use Rattle.cacache_system.specs.AnswersOf.{Hint, remove}
-use Rattle.cacache_folder.specs.declared.folder.node.Node.{Node}
-use Rattle.cacache_folder.specs.Goings.{onward}
+use Rattle.cacache_system.specs.{declared.call.{FileInfo.{FileInfo}, SystemCall.{SystemCall}, CallItem.{CallItem}}, CallsOf.{only, descending, descend, compared, is_same_node, CallsLogged}, AnswersOf.{Hint, remove}}
+use Rattle.cacache_folder.specs.{declared.folder.node.Node.{Node}, Goings.{onward}}
 
 -- what the system said of a folder that was listed, as far as it was kept
 abbrev pub info_of : Node → FileInfo

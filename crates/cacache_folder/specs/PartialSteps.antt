@@ -1,8 +1,6 @@
 -- Which steps of real folders may change something and then fail.
 use Rattle.std.specs.Prelude.{◌≡◌, Bool, true, false}
-use Rattle.cacache_store.specs.declared.store.step.Step.TheVariants.{MakeDirs, CreateTemp, Append, Copy, SyncTemp, SyncFile, SyncDir}
-use Rattle.cacache_store.specs.declared.store.answer.Answer.TheVariants.{NoMemory}
-use Rattle.cacache_store.specs.Plain.{PlainStep, PlainAnswer}
+use Rattle.cacache_store.specs.{declared.store.{step.Step.TheVariants.{MakeDirs, CreateTemp, Append, Copy, SyncTemp, SyncFile, SyncDir}, answer.Answer.TheVariants.{NoMemory}}, Plain.{PlainStep, PlainAnswer}}
 
 -- some of the folders, the empty file, the file or a part of its line, or a part of the copy may be
 -- there, and what was to be synced may be lost

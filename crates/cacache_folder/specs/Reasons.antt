@@ -1,9 +1,7 @@
 -- Why the system failed a step.
-use Rattle.std.specs.Prelude.{◌≡◌, Option, IsSomeAnd}
-use Rattle.std.specs.declared.io.ErrorKind.{ErrorKind}
+use Rattle.std.specs.{Prelude.{◌≡◌, Option, IsSomeAnd}, declared.io.ErrorKind.{ErrorKind}}
 use Rattle.cacache_core.specs.Contexts.{fault_of}
-use Rattle.cacache_store.specs.declared.store.answer.Answer.TheVariants.{Failed}
-use Rattle.cacache_store.specs.Plain.{PlainAnswer}
+use Rattle.cacache_store.specs.{declared.store.answer.Answer.TheVariants.{Failed}, Plain.{PlainAnswer}}
 
 -- a failed step leaves the system's kind of error, whose fault it told; another keeps the one before
 abbrev pub Explains : Option ErrorKind → Option ErrorKind → PlainAnswer → Type 0

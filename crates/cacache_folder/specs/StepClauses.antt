@@ -1,19 +1,9 @@
 -- What steps of real folders answer, in the words of their clauses.
 use Rattle.std.specs.Prelude.{◌≡◌, ℕ, true, List, Option, Result}
 use Rattle.std_io.specs.declared.io.error.Error.{Error}
-use Rattle.cacache_store.specs.declared.store.step.Step.{Step}
-use Rattle.cacache_store.specs.declared.store.answer.Answer.{Answer}
-use Rattle.cacache_store.specs.Plain.{plain_step, plain_answer}
-use Rattle.cacache_store.specs.Fits.{Fits}
-use Rattle.cacache_system.specs.declared.call.CallItem.{CallItem}
-use Rattle.cacache_system.specs.declared.call.CallResult.{CallResult}
-use Rattle.cacache_system.specs.Seen.{NumberedStep, NumberedAnswer}
-use Rattle.cacache_system.specs.AnswersOf.{StepRuns, answer_of}
-use Rattle.cacache_folder.specs.declared.folder.opened.SystemFile.{SystemFile}
-use Rattle.cacache_folder.specs.declared.folder.temp.SystemTemp.{SystemTemp}
-use Rattle.cacache_folder.specs.FolderHandles.{seen_file, seen_temp}
-use Rattle.cacache_folder.specs.FolderNumbers.{numbered, answered, answered_or, value_or, goes_by_path}
-use Rattle.cacache_folder.specs.PartialSteps.{HandsBackWhole}
+use Rattle.cacache_store.specs.{declared.store.{step.Step.{Step}, answer.Answer.{Answer}}, Plain.{plain_step, plain_answer}, Fits.{Fits}}
+use Rattle.cacache_system.specs.{declared.call.{CallItem.{CallItem}, CallResult.{CallResult}}, Seen.{NumberedStep, NumberedAnswer}, AnswersOf.{StepRuns, answer_of}}
+use Rattle.cacache_folder.specs.{declared.folder.{opened.SystemFile.{SystemFile}, temp.SystemTemp.{SystemTemp}}, FolderHandles.{seen_file, seen_temp}, FolderNumbers.{numbered, answered, answered_or, value_or, goes_by_path}, PartialSteps.{HandsBackWhole}}
 
 -- a step's value is answered at the end of a run of its calls
 abbrev pub ValueRuns : {A : Type 0} → NumberedStep → (A → NumberedAnswer) → Result A Error

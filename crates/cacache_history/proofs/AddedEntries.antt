@@ -1,53 +1,16 @@
 -- Each entry that a commit added names a content that is there, unless a step removed it.
 use Rattle.std.proofs.Common.{◌≡◌, ◌⊎◌, inl, inr, ℕ, Bool, true, false, cond, List, [], ◌∷◌, ◌++◌, Option, None, Some, Ok, refl, sym, ap, subst, ◌∙◌, append-nil, append_assoc}
-use Rattle.cacache_core.specs.declared.integrity.algorithm.Algorithm.{Algorithm}
-use Rattle.cacache_core.specs.declared.integrity.digest.Hash.{Hash}
-use Rattle.cacache_core.specs.Digests.{digest}
-use Rattle.cacache_core.specs.Integrity.{IsHash, hash_of, integrity_under}
-use Rattle.cacache_core.specs.PathNames.{Names, names_of, names_below}
-use Rattle.cacache_core.specs.Paths.{content_names}
-use Rattle.cacache_core.specs.Texts.{integrity_text}
+use Rattle.cacache_core.specs.{declared.integrity.{algorithm.Algorithm.{Algorithm}, digest.Hash.{Hash}}, Digests.{digest}, Integrity.{IsHash, hash_of, integrity_under}, PathNames.{Names, names_of, names_below}, Paths.{content_names}, Texts.{integrity_text}}
 use Rattle.cacache_store.specs.declared.store.step.Step.TheVariants as steps
 use Rattle.cacache_store.specs.declared.store.answer.Answer.TheVariants as answers
 use Rattle.cacache_store.specs.Plain.{PlainStep, PlainAnswer}
-use Rattle.cacache_disk.specs.declared.luck.Luck.{Luck}
-use Rattle.cacache_disk.specs.Tree.{Tree}
-use Rattle.cacache_disk.proofs.Roots.{same_self}
+use Rattle.cacache_disk.{specs.{declared.luck.Luck.{Luck}, Tree.{Tree}}, proofs.Roots.{same_self}}
 use Rattle.cacache_entry.specs.Entry.{Entry}
-use Rattle.cacache_table.specs.declared.command.Command.{Command}
+use Rattle.cacache_table.specs.{declared.{command.{Command.{Command}, Link.{Link}}, reply.Reply.{Reply, TheVariants.{Stored}}, carried.Commit.{Commit}}, StepPaths.{content_path}, Storing.{insertion_of, put_commit}, Inserting.{given_or}, Linking.{link_target, commit_for}, Answers.{there_in}}
 use Rattle.cacache_table.specs.declared.command.Command.TheVariants as commands
-use Rattle.cacache_table.specs.declared.command.Link.{Link}
-use Rattle.cacache_table.specs.declared.reply.Reply.{Reply}
-use Rattle.cacache_table.specs.declared.reply.Reply.TheVariants.{Stored}
-use Rattle.cacache_table.specs.StepPaths.{content_path}
-use Rattle.cacache_table.specs.declared.carried.Commit.{Commit}
-use Rattle.cacache_table.specs.Storing.{insertion_of, put_commit}
-use Rattle.cacache_table.specs.Inserting.{given_or}
-use Rattle.cacache_table.specs.Linking.{link_target, commit_for}
-use Rattle.cacache_table.specs.Answers.{there_in}
-use Rattle.cacache_value.specs.Kinds.{is_path_of}
-use Rattle.cacache_value.specs.Value.{Blob, InFile, AtLink, Value, value_of_tree}
-use Rattle.cacache_value.specs.Shows.{blob_there}
-use Rattle.cacache_value.specs.Acts.{Act, Nothing, PutBytes, PutLink, AddEntries, Drop, MakeFolders, DropFolder, act_of, change}
-use Rattle.cacache_value.specs.Traces.{acts}
-use Rattle.cacache_history.specs.declared.record.Record.{Record}
-use Rattle.cacache_history.specs.declared.record.Record.TheVariants.{Began, Moved, Stopped}
-use Rattle.cacache_history.specs.Setup.{call_site, home}
-use Rattle.cacache_history.specs.History.{History, Turn, Call, Made, IsLegal, Reaches}
-use Rattle.cacache_history.specs.Turns.{EachTurn}
-use Rattle.cacache_history.specs.Values.{steps_of, value_at, opening_value, KeepContent, IsThere, HasDigest}
-use Rattle.cacache_history.specs.ShownTurns.{content_at, unless_failed}
-use Rattle.cacache_history.specs.Commits.{Deed, does, finds, deeds_of_act, finds_in, deeds_of, deeds, PutsContent, IsAdded, InsertionAdds, AddsAfter, CommitsAs, LinksAs, IsCase}
-use Rattle.cacache_history.specs.AddedEntries.{NamesOwn, IsAmong, Added, IsContentOf, NamesContent, EntriesNameContents, address_of_put, PutsLeaveContents}
-use Rattle.cacache_history.proofs.Carrying.{Own, own_bytes, own_link, put_own}
-use Rattle.cacache_history.proofs.Digests.{digest_hash}
-use Rattle.cacache_history.proofs.Holding.{TurnHolds, TurnsHold}
-use Rattle.cacache_history.proofs.Values.{value_follows_acts, contents_stay, contents_are_right}
-use Rattle.cacache_history.proofs.Runs.{reached}
-use Rattle.cacache_history.proofs.ShownTurns.{content_below, there_at}
-use Rattle.cacache_history.proofs.Commits.{commits_are_cases}
-use Rattle.cacache_history.specs.TurnPlaces.{TurnAt}
-use Rattle.cacache_history.proofs.Turned.{reached_turns}
+use Rattle.cacache_value.specs.{Kinds.{is_path_of}, Value.{Blob, InFile, AtLink, Value, value_of_tree}, Shows.{blob_there}, Acts.{Act, Nothing, PutBytes, PutLink, AddEntries, Drop, MakeFolders, DropFolder, act_of, change}, Traces.{acts}}
+use Rattle.cacache_history.specs.{declared.record.Record.{Record, TheVariants.{Began, Moved, Stopped}}, Setup.{call_site, home}, History.{History, Turn, Call, Made, IsLegal, Reaches}, Turns.{EachTurn}, Values.{steps_of, value_at, opening_value, KeepContent, IsThere, HasDigest}, ShownTurns.{content_at, unless_failed}, Commits.{Deed, does, finds, deeds_of_act, finds_in, deeds_of, deeds, PutsContent, IsAdded, InsertionAdds, AddsAfter, CommitsAs, LinksAs, IsCase}, AddedEntries.{NamesOwn, IsAmong, Added, IsContentOf, NamesContent, EntriesNameContents, address_of_put, PutsLeaveContents}, TurnPlaces.{TurnAt}}
+use Rattle.cacache_history.proofs.{Carrying.{Own, own_bytes, own_link, put_own}, Digests.{digest_hash}, Holding.{TurnHolds, TurnsHold}, Values.{value_follows_acts, contents_stay, contents_are_right}, Runs.{reached}, ShownTurns.{content_below, there_at}, Commits.{commits_are_cases}, Turned.{reached_turns}}
 
 -- ---- deeds
 

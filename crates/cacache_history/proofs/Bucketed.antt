@@ -1,28 +1,15 @@
 -- At each place of a legal history, each bucket is that of a key and holds entries of its own keys.
 use Rattle.std.proofs.Common.{◌≡◌, ℕ, List, [], ◌∷◌, ◌++◌, Option, None, Some, sym, subst}
-use Rattle.cacache_core.specs.Paths.{bucket_names}
-use Rattle.cacache_core.specs.PathNames.{names_of, names_below}
+use Rattle.cacache_core.specs.{Paths.{bucket_names}, PathNames.{names_of, names_below}}
 use Rattle.cacache_store.specs.declared.store.step.Step.TheVariants as steps
 use Rattle.cacache_store.specs.Plain.{PlainStep}
-use Rattle.cacache_disk.specs.declared.luck.Luck.{Luck}
-use Rattle.cacache_table.specs.declared.reply.Reply.{Reply}
+use Rattle.cacache_disk.specs.{declared.luck.Luck.{Luck}, Tree.{Tree}}
+use Rattle.cacache_table.{specs.declared.reply.Reply.{Reply}, proofs.Sound.{steps_allowed}}
 use Rattle.cacache_table.specs.Sound as calls
-use Rattle.cacache_table.proofs.Sound.{steps_allowed}
 use Rattle.cacache_value.specs.OpeningTrees.{LieApart}
-use Rattle.cacache_history.specs.declared.record.Record.{Record}
-use Rattle.cacache_history.specs.declared.record.Record.TheVariants.{Began, Moved, Stopped}
-use Rattle.cacache_history.specs.Setup.{Setup, call_site, home, may_export, is_outside}
-use Rattle.cacache_history.specs.History.{Call, Now, History, Turn, Made, initial, moved_tree, now_after, replayed, now_at, MayMove, MayCome, Legal, IsLegal, Reaches}
-use Rattle.cacache_history.specs.Turns.{EachTurn}
-use Rattle.cacache_history.proofs.Holding.{AllHold, CallHolds, of_caller, made_proper, next_holds, first_opens, first_holds, legal_before}
-use Rattle.cacache_history.proofs.ShownTurns.{bucket_below}
-use Rattle.cacache_history.specs.TurnPlaces.{TurnAt}
-use Rattle.cacache_history.proofs.Turned.{reached_turns}
-use Rattle.cacache_history.specs.Buckets.{BucketsHaveKeys, BucketsAreOfKeys, BucketsHoldOwn}
-use Rattle.cacache_history.proofs.Owned.{AppendsOwn, TreeOwn, step_own, opening_own}
+use Rattle.cacache_history.specs.{declared.record.Record.{Record, TheVariants.{Began, Moved, Stopped}}, Setup.{Setup, call_site, home, may_export, is_outside}, History.{Call, Now, History, Turn, Made, initial, moved_tree, now_after, replayed, now_at, MayMove, MayCome, Legal, IsLegal, Reaches}, Turns.{EachTurn}, TurnPlaces.{TurnAt}, Buckets.{BucketsHaveKeys, BucketsAreOfKeys, BucketsHoldOwn}}
+use Rattle.cacache_history.proofs.{Holding.{AllHold, CallHolds, of_caller, made_proper, next_holds, first_opens, first_holds, legal_before}, ShownTurns.{bucket_below}, Turned.{reached_turns}, Owned.{AppendsOwn, TreeOwn, step_own, opening_own}, Keyed.{ToKeys, step_keyed, opening_keyed}}
 use Rattle.cacache_entry.proofs.EntryCauses.{Fits-no_cause}
-use Rattle.cacache_disk.specs.Tree.{Tree}
-use Rattle.cacache_history.proofs.Keyed.{ToKeys, step_keyed, opening_keyed}
 
 -- a step that a call may make appends to the bucket of a key
 to_keys : (s : Setup) (n : ℕ) (step : PlainStep) → calls.Allowed (call_site s n) (may_export s) (is_outside s) step → ToKeys (home s) step

@@ -1,53 +1,17 @@
 -- What a commit carries on its way: its bytes, or where its link leads.
 use Rattle.std.proofs.Common.{◌≡◌, ℕ, List, [], ◌∷◌, ◌++◌, Option, None, Some, Result, Ok, Err, length, take, drop, take-append-drop, refl, sym, ap, subst, ◌∙◌, append_assoc}
-use Rattle.cacache_core.specs.declared.errors.Fault.{Fault}
-use Rattle.cacache_core.specs.declared.errors.SerdeCause.{SerdeCause}
-use Rattle.cacache_core.specs.declared.errors.Error.TheVariants.{IntegrityError}
-use Rattle.cacache_core.specs.declared.errors.IntegrityFault.TheVariants.{Check}
-use Rattle.cacache_core.specs.PathNames.{Names}
-use Rattle.cacache_store.specs.declared.store.plain.PlainTemp.{PlainTemp}
-use Rattle.cacache_store.specs.declared.store.plain.PlainFile.{PlainFile}
+use Rattle.cacache_core.specs.{declared.errors.{Fault.{Fault}, SerdeCause.{SerdeCause}, Error.TheVariants.{IntegrityError}, IntegrityFault.TheVariants.{Check}}, PathNames.{Names}, Integrity.{integrity_under, actual}, Meeting.{meets}}
+use Rattle.cacache_store.specs.{declared.store.plain.{PlainTemp.{PlainTemp}, PlainFile.{PlainFile}}, Plain.{PlainStep, PlainAnswer}}
 use Rattle.cacache_store.specs.declared.store.step.Step.TheVariants as steps
 use Rattle.cacache_store.specs.declared.store.answer.Answer.TheVariants as answers
-use Rattle.cacache_store.specs.Plain.{PlainStep, PlainAnswer}
-use Rattle.cacache_disk.specs.declared.luck.Luck.{Luck}
-use Rattle.cacache_disk.specs.declared.node.Node.TheVariants.{File}
-use Rattle.cacache_disk.specs.Tree.{Tree, put}
-use Rattle.cacache_disk.specs.LedTo.{free}
-use Rattle.cacache_disk.specs.Apply.{apply, grown, taken, unless, made_temp}
-use Rattle.cacache_table.specs.declared.command.Command.{Command}
+use Rattle.cacache_disk.specs.{declared.{luck.Luck.{Luck}, node.Node.TheVariants.{File}}, Tree.{Tree, put}, LedTo.{free}, Apply.{apply, grown, taken, unless, made_temp}}
+use Rattle.cacache_table.specs.{declared.{command.{Command.{Command}, Export.{Export}, How.{How, TheVariants.{Copy, Reflink, HardLink}}}, carried.{Commit.{Commit}, Aim.{Aim}, Lookup.{Lookup}, Content.{Content}}, visit.Visit.{Visit, TheVariants.{Enter, ReadBucket, RemoveFile, RemoveFolder}}}, StepPaths.{temp_path, content_path}, Exporting.{export_from, export_content, export, verified}, Looking.{found_content, found_for}, Walking.{visit_step}, State.{State, doing, creating, writing, syncing, persisting, linking, confirming, appending, looking, reading, asking, sizing, opening_file, hashing, copying, walking, over, Site, Insertion, Hashing, to_verify, to_link, Errand, make_folder, remove, reflink, hard_link, sync_file, sync_dir}, Answers.{temp_in, written_in, synced_in}, Common.{ends_with, errand_step}, Inserting.{insertion, deletion, unless_refused, refused_cause}, Linking.{link_target, after_read}, Table.{wants, after, opening}}
+use Rattle.cacache_table.proofs.{Branches.{cond_leads}, Closed.{AnyWalk, ClosedCommit, ClosedWalk, Closed, kept}, Leading.{inserts as adds, places}, Visits.{AnyVisit, any_visits}, Sound.{some_is}}
 use Rattle.cacache_table.specs.declared.command.Command.TheVariants as commands
-use Rattle.cacache_table.specs.declared.command.Export.{Export}
-use Rattle.cacache_table.specs.declared.command.How.{How}
-use Rattle.cacache_table.specs.declared.command.How.TheVariants.{Copy, Reflink, HardLink}
 use Rattle.cacache_table.specs.declared.command.Source.TheVariants as sources
-use Rattle.cacache_core.specs.Integrity.{integrity_under, actual}
-use Rattle.cacache_core.specs.Meeting.{meets}
 use Rattle.cacache_entry.specs.Latest.{Found}
-use Rattle.cacache_table.specs.StepPaths.{temp_path, content_path}
-use Rattle.cacache_table.specs.Exporting.{export_from, export_content, export, verified}
-use Rattle.cacache_table.specs.Looking.{found_content, found_for}
-use Rattle.cacache_table.specs.Walking.{visit_step}
-use Rattle.cacache_table.specs.State.{State, doing, creating, writing, syncing, persisting, linking, confirming, appending, looking, reading, asking, sizing, opening_file, hashing, copying, walking, over, Site, Insertion, Hashing, to_verify, to_link, Errand, make_folder, remove, reflink, hard_link, sync_file, sync_dir}
-use Rattle.cacache_table.specs.declared.carried.Commit.{Commit}
-use Rattle.cacache_table.specs.declared.carried.Aim.{Aim}
-use Rattle.cacache_table.specs.declared.carried.Lookup.{Lookup}
-use Rattle.cacache_table.specs.declared.carried.Content.{Content}
-use Rattle.cacache_table.specs.declared.visit.Visit.{Visit}
-use Rattle.cacache_table.specs.declared.visit.Visit.TheVariants.{Enter, ReadBucket, RemoveFile, RemoveFolder}
 use Rattle.cacache_table.specs.declared.carried.Aim.TheVariants as aims
-use Rattle.cacache_table.specs.Answers.{temp_in, written_in, synced_in}
-use Rattle.cacache_table.specs.Common.{ends_with, errand_step}
-use Rattle.cacache_table.specs.Inserting.{insertion, deletion, unless_refused, refused_cause}
-use Rattle.cacache_table.specs.Linking.{link_target, after_read}
-use Rattle.cacache_table.specs.Table.{wants, after, opening}
-use Rattle.cacache_table.proofs.Branches.{cond_leads}
-use Rattle.cacache_table.proofs.Closed.{AnyWalk, ClosedCommit, ClosedWalk, Closed, kept}
-use Rattle.cacache_table.proofs.Leading.{inserts as adds, places}
-use Rattle.cacache_table.proofs.Visits.{AnyVisit, any_visits}
-use Rattle.cacache_value.specs.Acts.{Act, PutBytes, PutLink}
-use Rattle.cacache_value.proofs.Shows.{apply_answer}
-use Rattle.cacache_table.proofs.Sound.{some_is}
+use Rattle.cacache_value.{specs.Acts.{Act, PutBytes, PutLink}, proofs.Shows.{apply_answer}}
 use Rattle.cacache_history.proofs.Syncing.{temp_synced}
 
 -- what a call makes a content of: bytes, and the path where they go; or a link to a target

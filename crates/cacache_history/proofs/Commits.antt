@@ -1,36 +1,15 @@
 -- Each commit did nothing, put its content, or put its content and then its entry; and what removals did.
 use Rattle.std.proofs.Common.{◌≡◌, ◌⊎◌, inl, inr, ℕ, List, [], ◌∷◌, ◌++◌, Option, None, Some, refl, sym, ap, subst, ◌∙◌, append-nil}
-use Rattle.cacache_core.specs.declared.errors.Error.TheVariants.{OutOfMemory}
-use Rattle.cacache_core.specs.Integrity.{integrity_under}
+use Rattle.cacache_core.specs.{declared.errors.Error.TheVariants.{OutOfMemory}, Integrity.{integrity_under}}
 use Rattle.cacache_store.specs.Plain.{PlainAnswer}
 use Rattle.cacache_entry.proofs.EntryCauses.{Fits-no_cause}
-use Rattle.cacache_table.specs.declared.command.Command.{Command}
-use Rattle.cacache_table.specs.declared.command.Command.TheVariants as commands
-use Rattle.cacache_table.specs.declared.reply.Reply.{Reply}
-use Rattle.cacache_table.specs.declared.reply.Reply.TheVariants as replies
-use Rattle.cacache_table.specs.Effects.{Effect, stored, sent, effects_of, IsRefused, DoesNothing, TookAll, Inserts, Indexes, Commits}
-use Rattle.cacache_table.specs.Inserting.{insertion, deletion, bucket_line, refused_cause}
-use Rattle.cacache_table.specs.Linking.{link_target, commit_for}
-use Rattle.cacache_table.specs.StepPaths.{content_path, bucket_path}
-use Rattle.cacache_table.specs.Runs.{Runs, plain_reply}
-use Rattle.cacache_table.specs.Sound.{FormedIfWritten, SoundTarget, MayBegin}
-use Rattle.cacache_table.specs.State.{Insertion}
-use Rattle.cacache_table.specs.declared.carried.Commit.{Commit}
-use Rattle.cacache_table.specs.declared.target.Target.{Target}
-use Rattle.cacache_table.specs.Storing.{insertion_of, put_commit}
-use Rattle.cacache_table.specs.Table.{opening}
+use Rattle.cacache_table.specs.{declared.{command.Command.{Command}, reply.Reply.{Reply}, carried.Commit.{Commit}, target.Target.{Target}}, Effects.{Effect, stored, sent, effects_of, IsRefused, DoesNothing, TookAll, Inserts, Indexes, Commits}, Inserting.{insertion, deletion, bucket_line, refused_cause}, Linking.{link_target, commit_for}, StepPaths.{content_path, bucket_path}, Runs.{Runs, plain_reply}, Sound.{FormedIfWritten, SoundTarget, MayBegin}, State.{Insertion}, Storing.{insertion_of, put_commit}, Table.{opening}}
 use Rattle.cacache_table.proofs.Effects.{puts_commit, inserts_send, deletes_send}
+use Rattle.cacache_table.specs.declared.command.Command.TheVariants as commands
+use Rattle.cacache_table.specs.declared.reply.Reply.TheVariants as replies
 use Rattle.cacache_value.specs.Acts.{AddEntries}
-use Rattle.cacache_history.specs.Setup.{Setup, call_site, may_export, is_outside}
-use Rattle.cacache_history.specs.History.{History, Turn, IsLegal}
-use Rattle.cacache_history.specs.Turns.{made_in, EachTurn}
-use Rattle.cacache_history.specs.Commits.{Deed, does, finds, deeds, PutsContent, IsNotOk, InsertionAdds, AddsAfter, CommitsAs, ReadsTarget, LinksAs, IsCase, CommitsAreCases}
-use Rattle.cacache_history.proofs.Carrying.{Own, own_bytes, own_link, put_own, own_of, Makes}
-use Rattle.cacache_history.proofs.Deeds.{PutsAt, SendsEntry, Realizes, took_entry, turns_realize}
-use Rattle.cacache_history.proofs.Holding.{TurnsHold}
-use Rattle.cacache_history.proofs.Linked.{CommitsOf, links_read}
-use Rattle.cacache_history.proofs.Removals.{hash_removed, key_removed, all_cleared}
-use Rattle.cacache_history.proofs.Runs.{reached, reply_run, lost_run}
+use Rattle.cacache_history.specs.{Setup.{Setup, call_site, may_export, is_outside}, History.{History, Turn, IsLegal}, Turns.{made_in, EachTurn}, Commits.{Deed, does, finds, deeds, PutsContent, IsNotOk, InsertionAdds, AddsAfter, CommitsAs, ReadsTarget, LinksAs, IsCase, CommitsAreCases}}
+use Rattle.cacache_history.proofs.{Carrying.{Own, own_bytes, own_link, put_own, own_of, Makes}, Deeds.{PutsAt, SendsEntry, Realizes, took_entry, turns_realize}, Holding.{TurnsHold}, Linked.{CommitsOf, links_read}, Removals.{hash_removed, key_removed, all_cleared}, Runs.{reached, reply_run, lost_run}}
 
 content_deed : (own : Own) (c : Commit) (d : Deed) → PutsAt own (content_path c.cache c.computed) d → PutsContent c (put_own own) d
 content_deed own c (does act) h = h

@@ -1,12 +1,7 @@
 -- What a walk answers that gave some items first and may still take so many names.
-use Rattle.std.proofs.Common.{◌≡◌, ◌≤◌, ◌<◌, ◌+◌, ◌-◌, ℕ, Bool, true, false, cond, ◌||◌, List, [], ◌∷◌, ◌++◌, length, take, nat_lt, refl, sym, ap, ◌∙◌, arith, append_assoc, append-nil}
-use Rattle.std.proofs.lemmas.Bool.{ltb-true, ltb-false}
-use Rattle.cacache_table.specs.Answers.{names_in}
-use Rattle.cacache_table.specs.ListReplies.{too_deep}
-use Rattle.cacache_table.specs.State.{State, Item}
-use Rattle.cacache_table.specs.Walking.{most}
-use Rattle.cacache_history.specs.History.{Turn}
-use Rattle.cacache_history.specs.ListingTurns.{count_in, names_given}
+use Rattle.std.proofs.{Common.{◌≡◌, ◌≤◌, ◌<◌, ◌+◌, ◌-◌, ℕ, Bool, true, false, cond, ◌||◌, List, [], ◌∷◌, ◌++◌, length, take, nat_lt, refl, sym, ap, ◌∙◌, arith, append_assoc, append-nil}, lemmas.Bool.{ltb-true, ltb-false}}
+use Rattle.cacache_table.specs.{Answers.{names_in}, ListReplies.{too_deep}, State.{State, Item}, Walking.{most}}
+use Rattle.cacache_history.specs.{History.{Turn}, ListingTurns.{count_in, names_given}}
 
 -- ---- tests on numbers
 

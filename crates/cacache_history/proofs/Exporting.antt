@@ -1,35 +1,17 @@
 -- Checked exports verified what the cache held when they opened it.
-use Rattle.std.proofs.Common.{◌≡◌, ℕ, List, [], ◌∷◌, Option, Some, Result, Ok, sym, ap, subst, ◌∙◌, arith}
-use Rattle.std.proofs.lemmas.List.Elements.{All-head}
+use Rattle.std.proofs.{Common.{◌≡◌, ℕ, List, [], ◌∷◌, Option, Some, Result, Ok, sym, ap, subst, ◌∙◌, arith}, lemmas.List.Elements.{All-head}}
 use Rattle.sha1.specs.Sha1.{sha1}
-use Rattle.cacache_core.specs.declared.errors.Fault.{Fault}
-use Rattle.cacache_core.specs.declared.integrity.digest.Hash.{Hash}
-use Rattle.cacache_core.specs.Integrity.{IsHash, IsIntegrity}
+use Rattle.cacache_core.specs.{declared.{errors.Fault.{Fault}, integrity.digest.Hash.{Hash}}, Integrity.{IsHash, IsIntegrity}}
 use Rattle.cacache_store.specs.declared.store.step.Step.TheVariants as steps
 use Rattle.cacache_store.specs.declared.store.answer.Answer.TheVariants as answers
-use Rattle.cacache_store.specs.Plain.{PlainAnswer}
+use Rattle.cacache_store.specs.{Plain.{PlainAnswer}, declared.store.plain.PlainFile.{PlainFile}}
 use Rattle.cacache_disk.specs.Apply.{apply}
 use Rattle.cacache_entry.specs.Latest.{Found}
-use Rattle.cacache_table.specs.declared.answers.Refusal.{Refusal}
-use Rattle.cacache_table.specs.declared.reply.Reply.{Reply}
-use Rattle.cacache_table.specs.StepPaths.{bucket_path, content_path}
-use Rattle.cacache_table.specs.Replies.{bucket_shown, lookup}
-use Rattle.cacache_value.specs.Shows.{ShowsContent}
-use Rattle.cacache_history.specs.Setup.{Setup}
-use Rattle.cacache_history.specs.History.{Turn}
-use Rattle.cacache_history.specs.Turns.{made_in}
-use Rattle.cacache_history.specs.ShownTurns.{entries_at, bucket_read}
-use Rattle.cacache_history.proofs.Holding.{TurnHolds, TurnsHold}
-use Rattle.cacache_store.specs.declared.store.plain.PlainFile.{PlainFile}
-use Rattle.cacache_table.specs.declared.command.Source.{Source}
+use Rattle.cacache_table.specs.{declared.{answers.Refusal.{Refusal}, reply.Reply.{Reply}, command.Source.{Source}}, StepPaths.{bucket_path, content_path}, Replies.{bucket_shown, lookup}, Verifying.{Verifies, VerifiesContent}}
+use Rattle.cacache_value.specs.Shows.{ShowsContent, blob_bytes}
+use Rattle.cacache_history.specs.{Setup.{Setup}, History.{Turn, NamesSource}, Turns.{made_in}, ShownTurns.{entries_at, bucket_read, content_at}, TurnReplies.{VerifiesHeld, ExportsHeld}}
+use Rattle.cacache_history.proofs.{Holding.{TurnHolds, TurnsHold}, OpenedContents.{EachAsks, OnDisks, gives_all}, ShownTurns.{bucket_below, content_below, shows, bucket_at_turn, first_turn, FoundHas, bucket_has}}
 use Rattle.cacache_table.specs.declared.command.Source.TheVariants as sources
-use Rattle.cacache_table.specs.Verifying.{Verifies, VerifiesContent}
-use Rattle.cacache_history.specs.History.{NamesSource}
-use Rattle.cacache_value.specs.Shows.{blob_bytes}
-use Rattle.cacache_history.specs.ShownTurns.{content_at}
-use Rattle.cacache_history.specs.TurnReplies.{VerifiesHeld, ExportsHeld}
-use Rattle.cacache_history.proofs.OpenedContents.{EachAsks, OnDisks, gives_all}
-use Rattle.cacache_history.proofs.ShownTurns.{bucket_below, content_below, shows, bucket_at_turn, first_turn, FoundHas, bucket_has}
 
 found_integrity : (s : Setup) (found : Found) (r : Result (Option Found) Refusal) → r ≡ Ok (Some found) → FoundHas s r → IsIntegrity found.integrity
 found_integrity s found r e h = let same : FoundHas s (Ok (Some found)) = subst (FoundHas s) e h in same

@@ -1,27 +1,14 @@
 -- Each entry of each bucket is well-formed.
-use Rattle.std.proofs.Common.{◌≡◌, ℕ, Bool, true, false, cond, nat_le, List, ◌++◌, Option, None, Some, Result, Ok, Err, length, take, refl, sym, subst}
+use Rattle.std.proofs.{Common.{◌≡◌, ℕ, Bool, true, false, cond, nat_le, List, ◌++◌, Option, None, Some, Result, Ok, Err, length, take, refl, sym, subst}, lemmas.{Bool.{leb-true, leb-false}, List.Elements.{All-nil, All-cons, All-append}}}
 use Rattle.std.specs.Prelude.{All, []}
-use Rattle.std.proofs.lemmas.Bool.{leb-true, leb-false}
-use Rattle.std.proofs.lemmas.List.Elements.{All-nil, All-cons, All-append}
-use Rattle.cacache_core.specs.declared.errors.Fault.{Fault}
-use Rattle.cacache_core.specs.Paths.{bucket_names_of}
-use Rattle.cacache_core.specs.PathNames.{Names, names_of}
+use Rattle.cacache_core.specs.{declared.errors.Fault.{Fault}, Paths.{bucket_names_of}, PathNames.{Names, names_of}}
 use Rattle.cacache_store.specs.declared.store.step.Step.TheVariants as steps
 use Rattle.cacache_store.specs.declared.store.answer.Answer.TheVariants as answers
 use Rattle.cacache_store.specs.Plain.{PlainStep, PlainAnswer}
-use Rattle.cacache_disk.specs.declared.luck.Luck.{Luck}
-use Rattle.cacache_disk.specs.Tree.{Tree}
-use Rattle.cacache_disk.specs.Apply.{apply}
-use Rattle.cacache_entry.specs.Entry.{Entry, line_of, closed_line}
-use Rattle.cacache_entry.specs.Bucket.{entries_of}
-use Rattle.cacache_entry.specs.FittingEntries.{IsEntry}
-use Rattle.cacache_value.specs.Kinds.{is_path_of}
-use Rattle.cacache_value.specs.Value.{Value, wide_value}
-use Rattle.cacache_value.specs.Acts.{Act, Nothing, PutBytes, PutLink, AddEntries, Drop, MakeFolders, DropFolder, act_at, act_with, act_if_done, folders_left, amount_left, act_of, change, list_of}
-use Rattle.cacache_value.specs.Placed.{IsEntryLine, Placed, Proper}
-use Rattle.cacache_value.specs.OpeningTrees.{IsOpening}
-use Rattle.cacache_value.proofs.AppendedLines.{whole_closed, torn_closed}
-use Rattle.cacache_value.proofs.Traces.{steps_act}
+use Rattle.cacache_disk.specs.{declared.luck.Luck.{Luck}, Tree.{Tree}, Apply.{apply}}
+use Rattle.cacache_entry.specs.{Entry.{Entry, line_of, closed_line}, Bucket.{entries_of}, FittingEntries.{IsEntry}}
+use Rattle.cacache_value.specs.{Kinds.{is_path_of}, Value.{Value, wide_value}, Acts.{Act, Nothing, PutBytes, PutLink, AddEntries, Drop, MakeFolders, DropFolder, act_at, act_with, act_if_done, folders_left, amount_left, act_of, change, list_of}, Placed.{IsEntryLine, Placed, Proper}, OpeningTrees.{IsOpening}}
+use Rattle.cacache_value.proofs.{AppendedLines.{whole_closed, torn_closed}, Traces.{steps_act}}
 
 abbrev pub Formed : (List ℕ → Option (List Entry)) → Type 0
 Formed buckets = (digest : List ℕ) → All IsEntry (list_of (buckets digest))

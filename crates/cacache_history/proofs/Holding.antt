@@ -1,31 +1,12 @@
 -- What holds at each place of a legal history.
 use Rattle.std.proofs.Common.{◌≡◌, ◌==◌, ℕ, Bool, true, false, cond, List, [], ◌∷◌, ◌++◌, Option, None, Some, option_map, refl, sym, ap, subst}
 use Rattle.cacache_store.specs.Fits.{Fits}
-use Rattle.cacache_disk.specs.declared.luck.Luck.{Luck}
-use Rattle.cacache_disk.specs.Tree.{Tree}
-use Rattle.cacache_disk.specs.Apply.{apply}
-use Rattle.cacache_disk.specs.Rooted.{Rooted}
-use Rattle.cacache_disk.proofs.KeptFolders.{steps_keep_rooted}
-use Rattle.cacache_table.specs.declared.command.Command.{Command}
-use Rattle.cacache_table.specs.declared.reply.Reply.{Reply}
-use Rattle.cacache_table.specs.Table.{after, opening}
-use Rattle.cacache_table.specs.Runs.{Goes}
-use Rattle.cacache_table.specs.Sound.{Sound, MayBegin}
-use Rattle.cacache_table.proofs.Going.{goes_on}
-use Rattle.cacache_table.proofs.Sound.{begins_sound, stays_sound}
-use Rattle.cacache_value.specs.Placed.{Placed, Proper}
-use Rattle.cacache_value.specs.OpeningTrees.{LieApart, IsOpening}
-use Rattle.cacache_value.proofs.OpeningTrees.{files_open}
-use Rattle.cacache_value.proofs.Traces.{steps_keep_placed}
-use Rattle.cacache_history.specs.declared.record.Record.{Record}
-use Rattle.cacache_history.specs.declared.record.Record.TheVariants.{Began, Moved, Stopped}
-use Rattle.cacache_history.specs.Setup.{Setup, call_site, home, may_export, is_outside}
-use Rattle.cacache_history.specs.History.{Turn, Call, Now, History, Made, initial, new_call, turn_of, call_after, unless_over, moved_tree, now_after, replayed, now_at, NamesIntegrity, MayMove, MayCome, Legal, IsLegal}
-use Rattle.cacache_history.specs.Turns.{made_in, EachTurn}
-use Rattle.cacache_history.proofs.Carrying.{own_of, Carries, Makes, opening_carries, carries_makes, carries_on}
-use Rattle.cacache_history.proofs.Proper.{sound_proper}
-use Rattle.cacache_history.proofs.Formed.{TreeFormed, step_formed, opening_formed}
-use Rattle.cacache_history.proofs.Righted.{TreeRight, stays_right, opening_right}
+use Rattle.cacache_disk.{specs.{declared.luck.Luck.{Luck}, Tree.{Tree}, Apply.{apply}, Rooted.{Rooted}}, proofs.KeptFolders.{steps_keep_rooted}}
+use Rattle.cacache_table.specs.{declared.{command.Command.{Command}, reply.Reply.{Reply}}, Table.{after, opening}, Runs.{Goes}, Sound.{Sound, MayBegin}}
+use Rattle.cacache_table.proofs.{Going.{goes_on}, Sound.{begins_sound, stays_sound}}
+use Rattle.cacache_value.{specs.{Placed.{Placed, Proper}, OpeningTrees.{LieApart, IsOpening}}, proofs.{OpeningTrees.{files_open}, Traces.{steps_keep_placed}}}
+use Rattle.cacache_history.specs.{declared.record.Record.{Record, TheVariants.{Began, Moved, Stopped}}, Setup.{Setup, call_site, home, may_export, is_outside}, History.{Turn, Call, Now, History, Made, initial, new_call, turn_of, call_after, unless_over, moved_tree, now_after, replayed, now_at, NamesIntegrity, MayMove, MayCome, Legal, IsLegal}, Turns.{made_in, EachTurn}}
+use Rattle.cacache_history.proofs.{Carrying.{own_of, Carries, Makes, opening_carries, carries_makes, carries_on}, Proper.{sound_proper}, Formed.{TreeFormed, step_formed, opening_formed}, Righted.{TreeRight, stays_right, opening_right}}
 
 -- the tree that a turn found was one of the cache's, and the turn's answer is the disk's there
 pub record TurnHolds (s : Setup) (turn : Turn) : Type 0 where

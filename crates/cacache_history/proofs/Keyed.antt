@@ -1,31 +1,12 @@
 -- A step makes no bucket but that of a key.
-use Rattle.std.proofs.Common.{◌≡◌, ◌-◌, ◌==◌, ℕ, Bool, true, false, cond, List, ◌∷◌, ◌++◌, Option, None, Some, Result, Ok, Err, take, refl, sym, ap, subst, ◌∙◌, bytes_eq, append_assoc}
+use Rattle.std.proofs.{Common.{◌≡◌, ◌-◌, ◌==◌, ℕ, Bool, true, false, cond, List, ◌∷◌, ◌++◌, Option, None, Some, Result, Ok, Err, take, refl, sym, ap, subst, ◌∙◌, bytes_eq, append_assoc}, lemmas.Slice.Eq.{bytes_eq-Decides}}
 use Rattle.std.specs.Prelude.{IfOk, []}
-use Rattle.cacache_core.specs.declared.errors.Fault.{Fault}
-use Rattle.cacache_core.specs.declared.errors.Fault.TheVariants.{NotFound, IsADirectory, InvalidInput}
-use Rattle.cacache_core.specs.PathNames.{Names, names_of, names_below}
-use Rattle.cacache_core.specs.Paths.{bucket_names, content_area, index_area, temp_area}
-use Rattle.cacache_store.specs.declared.store.step.Step.TheVariants.{MakeDirs, CreateTemp, Write, Persist, Append, ReadAll, Open, Read, Size, Exists, Symlink, Copy, Reflink, HardLink, ReadDir, RemoveFile, RemoveDir, SyncTemp, SyncFile, SyncDir}
-use Rattle.cacache_store.specs.Plain.{PlainStep, PlainAnswer}
-use Rattle.cacache_disk.specs.declared.luck.Luck.{Luck}
-use Rattle.cacache_disk.specs.declared.node.Node.{Node}
-use Rattle.cacache_disk.specs.declared.node.Node.TheVariants.{Folder, File, Link}
-use Rattle.cacache_disk.specs.Tree.{Tree, look, put, cut, same_path, bytes_of}
-use Rattle.cacache_disk.specs.Rooted.{is_folder, Rooted}
-use Rattle.cacache_disk.specs.LedTo.{or_fault, dirs, dirs_fault, free, known, kept, replaceable, writable, file_at, linked, removable, emptied, folder}
-use Rattle.cacache_disk.specs.Apply.{apply, plain, unless, taken, making, make_some, if_missing}
-use Rattle.cacache_disk.proofs.Maps.{same_path-true}
-use Rattle.cacache_disk.proofs.PutNodes.{look-put, look-cut}
-use Rattle.cacache_disk.proofs.FoundNodes.{and_then_ok, or_fault_none, free_ok, replaceable_ok}
-use Rattle.cacache_disk.proofs.KeptFolders.{apply_tree, unless_tree}
-use Rattle.cacache_disk.proofs.Standing.{upper_folder}
-use Rattle.cacache_value.specs.Kinds.{PathKind, Content, Bucket, Temporary, Way, Stray, Elsewhere, kind_below, kind_beside, path_kind, IsFor}
-use Rattle.cacache_value.specs.Value.{value_of_tree, empty_value}
-use Rattle.cacache_value.specs.Placed.{Placed, Proper}
-use Rattle.cacache_value.specs.OpeningTrees.{IsOpening}
-use Rattle.cacache_value.proofs.KindsApart.{further, way_here}
-use Rattle.cacache_value.proofs.FoundPaths.{Reaches, found, missing, bucket_reached, unreachable, of_names, writable_out}
-use Rattle.std.proofs.lemmas.Slice.Eq.{bytes_eq-Decides}
+use Rattle.cacache_core.specs.{declared.errors.Fault.{Fault, TheVariants.{NotFound, IsADirectory, InvalidInput}}, PathNames.{Names, names_of, names_below}, Paths.{bucket_names, content_area, index_area, temp_area}}
+use Rattle.cacache_store.specs.{declared.store.step.Step.TheVariants.{MakeDirs, CreateTemp, Write, Persist, Append, ReadAll, Open, Read, Size, Exists, Symlink, Copy, Reflink, HardLink, ReadDir, RemoveFile, RemoveDir, SyncTemp, SyncFile, SyncDir}, Plain.{PlainStep, PlainAnswer}}
+use Rattle.cacache_disk.specs.{declared.{luck.Luck.{Luck}, node.Node.{Node, TheVariants.{Folder, File, Link}}}, Tree.{Tree, look, put, cut, same_path, bytes_of}, Rooted.{is_folder, Rooted}, LedTo.{or_fault, dirs, dirs_fault, free, known, kept, replaceable, writable, file_at, linked, removable, emptied, folder}, Apply.{apply, plain, unless, taken, making, make_some, if_missing}}
+use Rattle.cacache_disk.proofs.{Maps.{same_path-true}, PutNodes.{look-put, look-cut}, FoundNodes.{and_then_ok, or_fault_none, free_ok, replaceable_ok}, KeptFolders.{apply_tree, unless_tree}, Standing.{upper_folder}}
+use Rattle.cacache_value.specs.{Kinds.{PathKind, Content, Bucket, Temporary, Way, Stray, Elsewhere, kind_below, kind_beside, path_kind, IsFor}, Value.{value_of_tree, empty_value}, Placed.{Placed, Proper}, OpeningTrees.{IsOpening}}
+use Rattle.cacache_value.proofs.{KindsApart.{further, way_here}, FoundPaths.{Reaches, found, missing, bucket_reached, unreachable, of_names, writable_out}}
 use Rattle.cacache_history.specs.Buckets.{IsOfKey, BucketsHaveKeys}
 
 -- ---- what is put and cut

@@ -1,46 +1,20 @@
 -- What may come in a legal history, case by case, and one history.
 use Rattle.std.proofs.Common.{◌≡◌, ◌⊎◌, inl, inr, ℕ, List, [], ◌∷◌, ◌++◌, Option, None, Some, option_map, Result, Ok, Err, refl, sym, ap, subst, ◌∙◌, codes, arith}
 use Rattle.sha1.specs.Sha1.{sha1}
-use Rattle.cacache_core.specs.declared.errors.Fault.{Fault}
+use Rattle.cacache_core.specs.declared.errors.{Fault.{Fault}, Error.TheVariants.{OutOfMemory}}
 use Rattle.cacache_core.specs.declared.errors.Fault.TheVariants as faults
-use Rattle.cacache_core.specs.declared.errors.Error.TheVariants.{OutOfMemory}
 use Rattle.cacache_store.specs.declared.store.step.Step.TheVariants as steps
 use Rattle.cacache_store.specs.declared.store.answer.Answer.TheVariants as answers
-use Rattle.cacache_store.specs.Fits.{Fits}
-use Rattle.cacache_store.specs.Plain.{PlainStep, PlainAnswer}
-use Rattle.cacache_disk.specs.declared.luck.Luck.{Luck}
-use Rattle.cacache_disk.specs.Tree.{Tree, bare}
-use Rattle.cacache_disk.specs.LedTo.{file_at}
-use Rattle.cacache_disk.specs.Apply.{unless}
-use Rattle.cacache_entry.specs.Entry.{Entry}
-use Rattle.cacache_entry.specs.Latest.{Found}
-use Rattle.cacache_table.specs.declared.answers.Refusal.{Refusal}
+use Rattle.cacache_store.specs.{Fits.{Fits}, Plain.{PlainStep, PlainAnswer}}
+use Rattle.cacache_disk.specs.{declared.luck.Luck.{Luck}, Tree.{Tree, bare}, LedTo.{file_at}, Apply.{unless}}
+use Rattle.cacache_entry.specs.{Entry.{Entry}, Latest.{Found}}
+use Rattle.cacache_table.specs.{declared.{answers.Refusal.{Refusal}, reply.Reply.{Reply, TheVariants.{LookedUp, Refused}}, carried.Lookup.{Lookup}}, Answers.{bytes_in}, Common.{go_on}, Looking.{found_in, after_bucket, no_bucket}, StepPaths.{bucket_path}, Replies.{find_reply, bucket_shown, entries_shown}, Runs.{plain_reply}, State.{State, over}, Table.{wants, after}}
 use Rattle.cacache_table.specs.declared.answers.Refusal.TheVariants as refusals
 use Rattle.cacache_table.specs.declared.command.Command.TheVariants as commands
-use Rattle.cacache_table.specs.declared.reply.Reply.{Reply}
-use Rattle.cacache_table.specs.declared.reply.Reply.TheVariants.{LookedUp, Refused}
-use Rattle.cacache_table.specs.Answers.{bytes_in}
-use Rattle.cacache_table.specs.Common.{go_on}
-use Rattle.cacache_table.specs.Looking.{found_in, after_bucket, no_bucket}
-use Rattle.cacache_table.specs.StepPaths.{bucket_path}
-use Rattle.cacache_table.specs.Replies.{find_reply, bucket_shown, entries_shown}
-use Rattle.cacache_table.specs.Runs.{plain_reply}
-use Rattle.cacache_table.specs.State.{State, over}
-use Rattle.cacache_table.specs.declared.carried.Lookup.{Lookup}
 use Rattle.cacache_table.specs.declared.carried.Aim.TheVariants as aims
-use Rattle.cacache_table.specs.Table.{wants, after}
-use Rattle.cacache_value.specs.Acts.{list_of}
-use Rattle.cacache_value.specs.Value.{Value}
-use Rattle.cacache_value.proofs.Shows.{apply_answer}
-use Rattle.cacache_history.specs.declared.record.Record.{Record}
-use Rattle.cacache_history.specs.declared.record.Record.TheVariants.{Began, Moved, Stopped}
-use Rattle.cacache_history.specs.Setup.{Setup}
-use Rattle.cacache_history.specs.History.{History, Turn, Call, Made, new_call, turn_of, call_after, now_at, Ends, MayMove, MayCome, IsLegal, Reaches}
-use Rattle.cacache_history.specs.ShownTurns.{entries_at, shown_result, bucket_read}
-use Rattle.cacache_history.specs.TurnReplies.{FindsHeld, ReadsValue}
-use Rattle.cacache_history.specs.LegalCases.{Comes, call_at, StepCases, BusyCases, IdleCases, BeginCases, CasesHold, lookup_made, lookup_alone, LookupCases}
-use Rattle.cacache_history.proofs.Holding.{first_opens, legal_after}
-use Rattle.cacache_history.proofs.TurnReplies.{replies_read_value}
+use Rattle.cacache_value.{specs.{Acts.{list_of}, Value.{Value}}, proofs.Shows.{apply_answer}}
+use Rattle.cacache_history.specs.{declared.record.Record.{Record, TheVariants.{Began, Moved, Stopped}}, Setup.{Setup}, History.{History, Turn, Call, Made, new_call, turn_of, call_after, now_at, Ends, MayMove, MayCome, IsLegal, Reaches}, ShownTurns.{entries_at, shown_result, bucket_read}, TurnReplies.{FindsHeld, ReadsValue}, LegalCases.{Comes, call_at, StepCases, BusyCases, IdleCases, BeginCases, CasesHold, lookup_made, lookup_alone, LookupCases}}
+use Rattle.cacache_history.proofs.{Holding.{first_opens, legal_after}, TurnReplies.{replies_read_value}}
 
 may_come : (h : History) → IsLegal h → (before : List Record) (r : Record) → Comes h before r → MayCome h.setup (now_at h before) r
 may_come h legal before r comes = (legal_after h legal before (r ∷ comes.0) comes.1).0

@@ -1,36 +1,14 @@
 -- A link's commit is that of the bytes that its call read from the target.
-use Rattle.std.proofs.Common.{◌≡◌, ◌⊎◌, inl, inr, ℕ, ◌+◌, ◌==◌, ◌<◌, ◌^◌, Bool, true, false, cond, List, [], ◌∷◌, ◌++◌, Some, None, Result, Ok, Err, length, drop, refl, sym, ap, subst, ◌∙◌, append_assoc, append-nil, length-append, arith}
-use Rattle.std.proofs.lemmas.Bool.{eqb-true}
-use Rattle.std.proofs.lemmas.Option.{same_Some}
+use Rattle.std.proofs.{Common.{◌≡◌, ◌⊎◌, inl, inr, ℕ, ◌+◌, ◌==◌, ◌<◌, ◌^◌, Bool, true, false, cond, List, [], ◌∷◌, ◌++◌, Some, None, Result, Ok, Err, length, drop, refl, sym, ap, subst, ◌∙◌, append_assoc, append-nil, length-append, arith}, lemmas.{Bool.{eqb-true}, Option.{same_Some}}}
 use Rattle.cacache_core.specs.declared.errors.Fault.TheVariants as faults
 use Rattle.cacache_core.specs.declared.errors.Error.{Error}
-use Rattle.cacache_store.specs.declared.store.plain.PlainFile.{PlainFile}
-use Rattle.cacache_store.specs.declared.store.plain.PlainTemp.{PlainTemp}
+use Rattle.cacache_store.specs.{declared.store.plain.{PlainFile.{PlainFile}, PlainTemp.{PlainTemp}}, Fits.{Fits}, Plain.{PlainAnswer}}
 use Rattle.cacache_store.specs.declared.store.step.Step.TheVariants as steps
 use Rattle.cacache_store.specs.declared.store.answer.Answer.TheVariants as answers
-use Rattle.cacache_store.specs.Fits.{Fits}
-use Rattle.cacache_store.specs.Plain.{PlainAnswer}
-use Rattle.cacache_table.specs.declared.answers.Refusal.{Refusal}
+use Rattle.cacache_table.specs.{declared.{answers.Refusal.{Refusal}, command.{Link.{Link}, Put.{Put}}, reply.Reply.{Reply, TheVariants.{Refused}}, carried.Commit.{Commit}, target.Target.{Target}}, Answers.{done_in, file_in, got_in, length_in}, Common.{fails, refuse, go_on}, Effects.{effect, effects_of, IsRefused, DoesNothing, Commits}, Linking.{link_target, with_size, after_size, commit_for, after_read}, StepPaths.{temp_path, temp_folder, content_path}, Runs.{Moves, Runs}, State.{State, persisting, linking, confirming, sizing, opening_file, hashing, over, Site, to_link}, Storing.{persist, link, write_rest, secured, move_in}, Table.{piece, opening}, Verifying.{Gives, ReadsWhole}}
+use Rattle.cacache_table.proofs.{Effects.{puts_commit}, Leading.{moves_on}}
 use Rattle.cacache_table.specs.declared.answers.Refusal.TheVariants as refusals
 use Rattle.cacache_table.specs.declared.command.Command.TheVariants as commands
-use Rattle.cacache_table.specs.declared.command.Link.{Link}
-use Rattle.cacache_table.specs.declared.command.Put.{Put}
-use Rattle.cacache_table.specs.declared.reply.Reply.{Reply}
-use Rattle.cacache_table.specs.declared.reply.Reply.TheVariants.{Refused}
-use Rattle.cacache_table.specs.Answers.{done_in, file_in, got_in, length_in}
-use Rattle.cacache_table.specs.Common.{fails, refuse, go_on}
-use Rattle.cacache_table.specs.Effects.{effect, effects_of, IsRefused, DoesNothing, Commits}
-use Rattle.cacache_table.specs.Linking.{link_target, with_size, after_size, commit_for, after_read}
-use Rattle.cacache_table.specs.StepPaths.{temp_path, temp_folder, content_path}
-use Rattle.cacache_table.specs.Runs.{Moves, Runs}
-use Rattle.cacache_table.specs.State.{State, persisting, linking, confirming, sizing, opening_file, hashing, over, Site, to_link}
-use Rattle.cacache_table.specs.declared.carried.Commit.{Commit}
-use Rattle.cacache_table.specs.declared.target.Target.{Target}
-use Rattle.cacache_table.specs.Storing.{persist, link, write_rest, secured, move_in}
-use Rattle.cacache_table.specs.Table.{piece, opening}
-use Rattle.cacache_table.specs.Verifying.{Gives, ReadsWhole}
-use Rattle.cacache_table.proofs.Effects.{puts_commit}
-use Rattle.cacache_table.proofs.Leading.{moves_on}
 use Rattle.cacache_history.specs.Commits.{ReadsTarget}
 
 -- ---- from the link on, a call goes as a put

@@ -1,53 +1,17 @@
 -- A content that is a link is of bytes that its target held when its call opened it.
 use Rattle.std.proofs.Common.{◌≡◌, inl, inr, ℕ, true, List, [], ◌∷◌, ◌++◌, Option, None, Some, option_map, Result, Ok, Err, refl, sym, ap, subst, ◌∙◌, append_assoc, append-nil}
-use Rattle.cacache_core.specs.declared.errors.Fault.{Fault}
+use Rattle.cacache_core.specs.{declared.{errors.{Fault.{Fault}, Error.TheVariants.{OutOfMemory}}, integrity.digest.Hash.{Hash}}, Integrity.{IsHash}, PathNames.{Names}, Paths.{content_names}}
 use Rattle.cacache_core.specs.declared.errors.Fault.TheVariants as faults
-use Rattle.cacache_core.specs.declared.errors.Error.TheVariants.{OutOfMemory}
-use Rattle.cacache_core.specs.declared.integrity.digest.Hash.{Hash}
-use Rattle.cacache_core.specs.Integrity.{IsHash}
-use Rattle.cacache_core.specs.PathNames.{Names}
-use Rattle.cacache_core.specs.Paths.{content_names}
-use Rattle.cacache_store.specs.declared.store.plain.PlainFile.{PlainFile}
+use Rattle.cacache_store.specs.{declared.store.plain.PlainFile.{PlainFile}, Plain.{PlainAnswer}}
 use Rattle.cacache_store.specs.declared.store.step.Step.TheVariants as steps
 use Rattle.cacache_store.specs.declared.store.answer.Answer.TheVariants as answers
-use Rattle.cacache_store.specs.Plain.{PlainAnswer}
-use Rattle.cacache_disk.specs.declared.luck.Luck.{Luck}
-use Rattle.cacache_disk.specs.Tree.{Tree}
-use Rattle.cacache_disk.specs.LedTo.{file_at}
-use Rattle.cacache_disk.specs.Apply.{apply, unless, opened, made_up}
-use Rattle.cacache_table.specs.declared.command.Command.{Command}
+use Rattle.cacache_disk.specs.{declared.luck.Luck.{Luck}, Tree.{Tree}, LedTo.{file_at}, Apply.{apply, unless, opened, made_up}}
+use Rattle.cacache_table.specs.{declared.{command.Command.{Command}, reply.Reply.{Reply, TheVariants.{Refused}}}, Linking.{link_target, commit_for}, Table.{opening}}
 use Rattle.cacache_table.specs.declared.command.Command.TheVariants as commands
-use Rattle.cacache_table.specs.declared.reply.Reply.{Reply}
-use Rattle.cacache_table.specs.declared.reply.Reply.TheVariants.{Refused}
-use Rattle.cacache_table.specs.Linking.{link_target, commit_for}
-use Rattle.cacache_table.specs.Table.{opening}
-use Rattle.cacache_value.specs.Acts.{PutLink, act_of, change}
-use Rattle.cacache_value.specs.Kinds.{is_path_of}
-use Rattle.cacache_value.specs.Shows.{ShowsContent}
-use Rattle.cacache_value.specs.Value.{AtLink, Value, value_of_tree, wide_value}
-use Rattle.cacache_value.proofs.Shows.{apply_answer}
-use Rattle.cacache_value.proofs.Traces.{steps_act}
-use Rattle.cacache_history.specs.declared.record.Record.{Record}
-use Rattle.cacache_history.specs.declared.record.Record.TheVariants.{Began, Moved, Stopped}
-use Rattle.cacache_history.specs.Setup.{call_site, home}
-use Rattle.cacache_history.specs.History.{History, Turn, Call, Made, initial, turn_of, call_after, now_at, IsLegal, Reaches}
-use Rattle.cacache_history.specs.Turns.{made_in, EachTurn}
-use Rattle.cacache_history.specs.TurnPlaces.{TurnAt}
-use Rattle.cacache_history.specs.Values.{value_at, HasDigest}
-use Rattle.cacache_history.specs.Commits.{does, deeds, ReadsTarget, LinksTo, IsCase}
-use Rattle.cacache_history.specs.AddedEntries.{IsAmong}
-use Rattle.cacache_history.specs.LinkedContents.{HeldOnce, OnceHeld, LinksWereRight, LinksAreRight}
-use Rattle.cacache_history.proofs.Carrying.{own_of, Makes, carries_makes}
-use Rattle.cacache_history.proofs.Commits.{commits_are_cases}
-use Rattle.cacache_history.proofs.Exporting.{on_disks}
-use Rattle.cacache_history.proofs.Holding.{TurnsHold, of_caller, made_proper, replay_more, legal_before, legal_after, held_at}
-use Rattle.cacache_history.proofs.OpenedContents.{EachAsks, OnDisks, run_asks, gives_all}
-use Rattle.cacache_history.proofs.ShownTurns.{first_turn}
-use Rattle.cacache_history.proofs.Righted.{put_at}
-use Rattle.cacache_history.proofs.Runs.{reached, lost_run}
-use Rattle.cacache_history.proofs.Turned.{reached_turns}
-use Rattle.cacache_history.proofs.Values.{value_follows_acts}
-use Rattle.cacache_history.proofs.PutLinks.{link_step, from_act, among_last, link_deed, not_among, committed}
+use Rattle.cacache_value.specs.{Acts.{PutLink, act_of, change}, Kinds.{is_path_of}, Shows.{ShowsContent}, Value.{AtLink, Value, value_of_tree, wide_value}}
+use Rattle.cacache_value.proofs.{Shows.{apply_answer}, Traces.{steps_act}}
+use Rattle.cacache_history.specs.{declared.record.Record.{Record, TheVariants.{Began, Moved, Stopped}}, Setup.{call_site, home}, History.{History, Turn, Call, Made, initial, turn_of, call_after, now_at, IsLegal, Reaches}, Turns.{made_in, EachTurn}, TurnPlaces.{TurnAt}, Values.{value_at, HasDigest}, Commits.{does, deeds, ReadsTarget, LinksTo, IsCase}, AddedEntries.{IsAmong}, LinkedContents.{HeldOnce, OnceHeld, LinksWereRight, LinksAreRight}}
+use Rattle.cacache_history.proofs.{Carrying.{own_of, Makes, carries_makes}, Commits.{commits_are_cases}, Exporting.{on_disks}, Holding.{TurnsHold, of_caller, made_proper, replay_more, legal_before, legal_after, held_at}, OpenedContents.{EachAsks, OnDisks, run_asks, gives_all}, ShownTurns.{first_turn}, Righted.{put_at}, Runs.{reached, lost_run}, Turned.{reached_turns}, Values.{value_follows_acts}, PutLinks.{link_step, from_act, among_last, link_deed, not_among, committed}}
 
 -- ---- what an opening shows
 

@@ -1,32 +1,18 @@
 -- A listing names no key twice.
-use Rattle.std.proofs.Common.{◌≡◌, inl, inr, ℕ, List, [], ◌∷◌, ◌++◌, Option, None, Some, option_map, filter_map, map, Result, Ok, Err, refl, sym, ap, subst, ◌∙◌}
-use Rattle.std.specs.Prelude.{All}
-use Rattle.std.specs.List.{cons_option}
-use Rattle.std.proofs.lemmas.List.Elements.{All-nil, All-cons, All-append, All-head, All-tail, All-weaker}
+use Rattle.std.proofs.{Common.{◌≡◌, inl, inr, ℕ, List, [], ◌∷◌, ◌++◌, Option, None, Some, option_map, filter_map, map, Result, Ok, Err, refl, sym, ap, subst, ◌∙◌}, lemmas.List.Elements.{All-nil, All-cons, All-append, All-head, All-tail, All-weaker}}
+use Rattle.std.specs.{Prelude.{All}, List.{cons_option}}
 use Rattle.sha1.specs.Sha1.{sha1}
 use Rattle.cacache_core.specs.declared.errors.Fault.TheVariants as faults
 use Rattle.cacache_core.specs.Paths.{joined, bucket_names_of}
-use Rattle.cacache_store.specs.declared.store.answer.Name.{Name}
+use Rattle.cacache_store.specs.{declared.store.answer.Name.{Name}, Plain.{PlainStep, PlainAnswer}}
 use Rattle.cacache_store.specs.declared.store.answer.Answer.TheVariants as answers
 use Rattle.cacache_store.specs.declared.store.step.Step.TheVariants as steps
-use Rattle.cacache_store.specs.Plain.{PlainStep, PlainAnswer}
-use Rattle.cacache_entry.specs.Entry.{Entry}
-use Rattle.cacache_entry.specs.Latest.{Found, latest}
-use Rattle.cacache_table.specs.declared.answers.Refusal.{Refusal}
-use Rattle.cacache_table.specs.declared.answers.Refusal.TheVariants as refusals
-use Rattle.cacache_table.specs.Answers.{names_in}
-use Rattle.cacache_table.specs.ListReplies.{by_folder, In, Distinct, keys_of}
-use Rattle.cacache_table.specs.StepPaths.{bucket_path}
-use Rattle.cacache_table.specs.State.{Item}
-use Rattle.cacache_table.specs.Walking.{once, items_of, failed}
+use Rattle.cacache_entry.specs.{Entry.{Entry}, Latest.{Found, latest}}
+use Rattle.cacache_table.specs.{declared.answers.Refusal.{Refusal}, Answers.{names_in}, ListReplies.{by_folder, In, Distinct, keys_of}, StepPaths.{bucket_path}, State.{Item}, Walking.{once, items_of, failed}}
 use Rattle.cacache_table.proofs.Keys.{each_key_once}
-use Rattle.cacache_history.specs.Setup.{Setup}
-use Rattle.cacache_history.specs.History.{Turn}
-use Rattle.cacache_history.specs.Turns.{EachTurn}
-use Rattle.cacache_history.specs.ShownTurns.{entries_at, shown_result, bucket_read, by_entries}
-use Rattle.cacache_history.specs.ListingTurns.{TurnGives, TurnsGive, NoneTwice, OtherKey, NoKeyTwice}
-use Rattle.cacache_history.proofs.Owned.{OfBucket, latest_key, once_all, all_keys}
-use Rattle.cacache_history.proofs.Bucketed.{KeyedTurn}
+use Rattle.cacache_table.specs.declared.answers.Refusal.TheVariants as refusals
+use Rattle.cacache_history.specs.{Setup.{Setup}, History.{Turn}, Turns.{EachTurn}, ShownTurns.{entries_at, shown_result, bucket_read, by_entries}, ListingTurns.{TurnGives, TurnsGive, NoneTwice, OtherKey, NoKeyTwice}}
+use Rattle.cacache_history.proofs.{Owned.{OfBucket, latest_key, once_all, all_keys}, Bucketed.{KeyedTurn}}
 
 -- ---- one bucket
 

@@ -1,53 +1,19 @@
 -- A listing answers what its turns gave.
-use Rattle.std.proofs.Common.{◌≡◌, ◌⊎◌, inl, inr, ◌≤◌, ◌<◌, ◌+◌, ◌-◌, ℕ, true, false, cond, ◌||◌, List, [], ◌∷◌, ◌++◌, Option, None, Some, Result, Ok, Err, length, take, drop, nat_le, nat_lt, refl, sym, ap, subst, ◌∙◌, arith, append-nil, length-append}
+use Rattle.std.proofs.{Common.{◌≡◌, ◌⊎◌, inl, inr, ◌≤◌, ◌<◌, ◌+◌, ◌-◌, ℕ, true, false, cond, ◌||◌, List, [], ◌∷◌, ◌++◌, Option, None, Some, Result, Ok, Err, length, take, drop, nat_le, nat_lt, refl, sym, ap, subst, ◌∙◌, arith, append-nil, length-append}, lemmas.{Bool.{leb-true, leb-false}, List.{take_all, take_at, Elements.{All-nil}}}}
 use Rattle.std.specs.Prelude.{All}
-use Rattle.std.proofs.lemmas.Bool.{leb-true, leb-false}
-use Rattle.std.proofs.lemmas.List.{take_all, take_at}
-use Rattle.std.proofs.lemmas.List.Elements.{All-nil}
 use Rattle.sha1.specs.Sha1.{sha1}
-use Rattle.cacache_core.specs.declared.errors.Fault.{Fault}
+use Rattle.cacache_core.specs.{declared.errors.{Fault.{Fault}, Error.TheVariants.{OutOfMemory}}, PathNames.{IsProperName}, Paths.{join, joined, bucket_names, index_area}}
 use Rattle.cacache_core.specs.declared.errors.Fault.TheVariants as faults
-use Rattle.cacache_core.specs.declared.errors.Error.TheVariants.{OutOfMemory}
 use Rattle.hex.specs.Hex.{encode_lower}
-use Rattle.cacache_core.specs.PathNames.{IsProperName}
-use Rattle.cacache_core.specs.Paths.{join, joined, bucket_names, index_area}
-use Rattle.cacache_store.specs.declared.store.answer.Name.{Name}
+use Rattle.cacache_store.specs.{declared.store.answer.Name.{Name}, Plain.{PlainStep, PlainAnswer}, Fits.{Fits}}
 use Rattle.cacache_store.specs.declared.store.answer.Answer.TheVariants as answers
 use Rattle.cacache_store.specs.declared.store.step.Step.TheVariants as steps
-use Rattle.cacache_store.specs.Plain.{PlainStep, PlainAnswer}
-use Rattle.cacache_store.specs.Fits.{Fits}
-use Rattle.cacache_table.specs.declared.answers.Refusal.{Refusal}
+use Rattle.cacache_table.specs.{declared.{answers.Refusal.{Refusal}, reply.Reply.{Reply, TheVariants.{Listed, Done, Refused}}, visit.{Visit.{Visit, TheVariants.{Enter, ReadBucket, RemoveFile, RemoveFolder}}, Task.{Task, TheVariants.{Make, Stumble}}}}, Answers.{bytes_in, names_in}, Common.{fails, go_on}, ListReplies.{by_bucket, by_folder, given_by, too_deep}, StepPaths.{bucket_path}, Runs.{Runs, plain_reply}, State.{State, walking, over, Item, Walk}, Table.{wants, after, opening}, Walking.{most, failed, give, miss, walk_on, tasks_of, leaving, too_many, entered, unread_bucket, listed, items_in, visit_step, after_visit}}
+use Rattle.cacache_table.proofs.Branches.{cond_leads}
 use Rattle.cacache_table.specs.declared.answers.Refusal.TheVariants as refusals
 use Rattle.cacache_table.specs.declared.command.Command.TheVariants as commands
-use Rattle.cacache_table.specs.declared.reply.Reply.{Reply}
-use Rattle.cacache_table.specs.declared.reply.Reply.TheVariants.{Listed, Done, Refused}
-use Rattle.cacache_table.specs.Answers.{bytes_in, names_in}
-use Rattle.cacache_table.specs.Common.{fails, go_on}
-use Rattle.cacache_table.specs.ListReplies.{by_bucket, by_folder, given_by, too_deep}
-use Rattle.cacache_table.specs.StepPaths.{bucket_path}
-use Rattle.cacache_table.specs.Runs.{Runs, plain_reply}
-use Rattle.cacache_table.specs.State.{State, walking, over, Item, Walk}
-use Rattle.cacache_table.specs.declared.visit.Visit.{Visit}
-use Rattle.cacache_table.specs.declared.visit.Task.{Task}
-use Rattle.cacache_table.specs.declared.visit.Visit.TheVariants.{Enter, ReadBucket, RemoveFile, RemoveFolder}
-use Rattle.cacache_table.specs.declared.visit.Task.TheVariants.{Make, Stumble}
-use Rattle.cacache_table.specs.Table.{wants, after, opening}
-use Rattle.cacache_table.specs.Walking.{most, failed, give, miss, walk_on, tasks_of, leaving, too_many, entered, unread_bucket, listed, items_in, visit_step, after_visit}
-use Rattle.cacache_table.proofs.Branches.{cond_leads}
-use Rattle.cacache_history.specs.Setup.{Setup, call_site}
-use Rattle.cacache_history.specs.History.{Turn, History, IsLegal, Reaches}
-use Rattle.cacache_history.specs.Turns.{made_in, EachTurn}
-use Rattle.cacache_history.specs.ShownTurns.{bucket_read, by_entries}
-use Rattle.cacache_history.proofs.Holding.{TurnHolds, TurnsHold}
-use Rattle.cacache_history.proofs.ShownTurns.{bucket_below, lists_bucket}
-use Rattle.cacache_history.proofs.Runs.{reached, reply_run, lost_run, memory_plain}
-use Rattle.cacache_history.specs.ListingTurns.{IsIndexFolder, IsFound, TurnGives, TurnsGive, count_in, is_past, listing_of, AnyTurn, HasBucket, TurnReadsBucket, FailsAbove, FindsBuckets, ListsHeld, ListsValue, ListingsReadValue}
-use Rattle.cacache_history.proofs.Owned.{bucket_found}
-use Rattle.cacache_history.proofs.Once.{none_twice}
-use Rattle.cacache_history.proofs.ListedOnce.{no_key_twice}
-use Rattle.cacache_history.proofs.Bucketed.{KeyedTurn, turns_keyed}
-use Rattle.cacache_history.proofs.ListingWalks.{Visits, Tasks, tasks_append, no_leaving, folder_tasks, CoversAny, covers_left, covers_right, folder_covers}
-use Rattle.cacache_history.proofs.Ended.{is_lt, or_true, far, ended, ended_now, far_more, ended_more, pick}
+use Rattle.cacache_history.specs.{Setup.{Setup, call_site}, History.{Turn, History, IsLegal, Reaches}, Turns.{made_in, EachTurn}, ShownTurns.{bucket_read, by_entries}, ListingTurns.{IsIndexFolder, IsFound, TurnGives, TurnsGive, count_in, is_past, listing_of, AnyTurn, HasBucket, TurnReadsBucket, FailsAbove, FindsBuckets, ListsHeld, ListsValue, ListingsReadValue}}
+use Rattle.cacache_history.proofs.{Holding.{TurnHolds, TurnsHold}, ShownTurns.{bucket_below, lists_bucket}, Runs.{reached, reply_run, lost_run, memory_plain}, Owned.{bucket_found}, Once.{none_twice}, ListedOnce.{no_key_twice}, Bucketed.{KeyedTurn, turns_keyed}, ListingWalks.{Visits, Tasks, tasks_append, no_leaving, folder_tasks, CoversAny, covers_left, covers_right, folder_covers}, Ended.{is_lt, or_true, far, ended, ended_now, far_more, ended_more, pick}}
 
 module _ (s : Setup) (r : Reply) where
   abbrev Sees : List ℕ → Turn → Type 0

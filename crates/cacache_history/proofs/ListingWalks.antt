@@ -1,48 +1,21 @@
 -- A listing reads folders of the index and buckets of keys, and answers what they give.
-use Rattle.std.proofs.Common.{◌≡◌, ◌⊎◌, inl, inr, ◌≤◌, ◌<◌, ◌+◌, ℕ, zero, suc, Bool, true, false, cond, List, [], ◌∷◌, ◌++◌, Option, None, Some, Ok, length, take, nat_lt, refl, sym, ap, subst, ◌∙◌, arith, append_assoc, length-append}
+use Rattle.std.proofs.{Common.{◌≡◌, ◌⊎◌, inl, inr, ◌≤◌, ◌<◌, ◌+◌, ℕ, zero, suc, Bool, true, false, cond, List, [], ◌∷◌, ◌++◌, Option, None, Some, Ok, length, take, nat_lt, refl, sym, ap, subst, ◌∙◌, arith, append_assoc, length-append}, lemmas.{Bool.{ltb-false}, List.{append_cancel_left, take_at, Elements.{All-nil, All-cons, All-append, All-head, All-tail, All-take}}}}
 use Rattle.std.specs.Prelude.{All}
-use Rattle.std.proofs.lemmas.Bool.{ltb-false}
-use Rattle.std.proofs.lemmas.List.{append_cancel_left, take_at}
-use Rattle.std.proofs.lemmas.List.Elements.{All-nil, All-cons, All-append, All-head, All-tail, All-take}
 use Rattle.sha1.specs.Sha1.{sha1}
 use Rattle.cacache_core.specs.declared.errors.Fault.TheVariants as faults
-use Rattle.cacache_core.specs.PathNames.{Names, names_of, names_below, IsProperName}
-use Rattle.cacache_core.specs.Paths.{join, joined, bucket_names, index_area}
-use Rattle.cacache_core.proofs.JoinedNames.{joined_texts_name}
-use Rattle.cacache_core.proofs.PathLemmas.{keys_have_digests}
-use Rattle.cacache_core.proofs.ProperNames.{names_are_proper}
-use Rattle.cacache_store.specs.declared.store.answer.Kind.{Kind}
+use Rattle.cacache_core.specs.{PathNames.{Names, names_of, names_below, IsProperName}, Paths.{join, joined, bucket_names, index_area}}
+use Rattle.cacache_core.proofs.{JoinedNames.{joined_texts_name}, PathLemmas.{keys_have_digests}, ProperNames.{names_are_proper}}
+use Rattle.cacache_store.specs.{declared.store.answer.{Kind.{Kind}, Name.{Name}}, Plain.{PlainAnswer}, Fits.{Fits, AreProperNames}}
 use Rattle.cacache_store.specs.declared.store.answer.Kind.TheVariants as kinds
-use Rattle.cacache_store.specs.declared.store.answer.Name.{Name}
 use Rattle.cacache_store.specs.declared.store.answer.Answer.TheVariants as answers
 use Rattle.cacache_store.specs.declared.store.step.Step.TheVariants as steps
-use Rattle.cacache_store.specs.Plain.{PlainAnswer}
-use Rattle.cacache_store.specs.Fits.{Fits, AreProperNames}
-use Rattle.cacache_disk.specs.declared.node.Node.{Node}
-use Rattle.cacache_disk.specs.declared.node.Node.TheVariants.{Folder, File, Link}
-use Rattle.cacache_disk.specs.Tree.{Tree, look, kind_of, listing}
-use Rattle.cacache_disk.specs.Rooted.{Rooted}
+use Rattle.cacache_disk.specs.{declared.node.Node.{Node, TheVariants.{Folder, File, Link}}, Tree.{Tree, look, kind_of, listing}, Rooted.{Rooted}, Apply.{apply}}
 use Rattle.cacache_disk.proofs.Standing.{upper_folder}
 use Rattle.cacache_entry.specs.Entry.{Entry}
-use Rattle.cacache_disk.specs.Apply.{apply}
-use Rattle.cacache_table.specs.Answers.{names_in}
-use Rattle.cacache_table.specs.StepPaths.{bucket_path}
-use Rattle.cacache_table.specs.declared.visit.Visit.{Visit}
-use Rattle.cacache_table.specs.declared.visit.Task.{Task}
-use Rattle.cacache_table.specs.declared.visit.Visit.TheVariants.{Enter, ReadBucket}
-use Rattle.cacache_table.specs.declared.visit.Task.TheVariants.{Make, Stumble}
-use Rattle.cacache_table.specs.Walking.{task_for_name, tasks_of, leaving}
-use Rattle.cacache_value.specs.Kinds.{Bucket, kind_in_area, kind_beside, path_kind, node_below}
-use Rattle.cacache_value.specs.Value.{bucket_in}
-use Rattle.cacache_value.specs.Placed.{MayStand, Placed}
-use Rattle.cacache_value.proofs.KindsApart.{kind-below}
-use Rattle.cacache_history.specs.Setup.{Setup, home}
-use Rattle.cacache_history.specs.History.{Turn, History, now_at, IsLegal}
-use Rattle.cacache_history.proofs.Holding.{TurnHolds, held_at}
-use Rattle.cacache_history.specs.Buckets.{BucketsHaveKeys, IndexIsShallow}
-use Rattle.cacache_history.specs.ListingTurns.{IsIndexFolder, HasBucket}
-use Rattle.cacache_history.proofs.ToldFolders.{Each, Told, IsAmong, names_told, child_listed}
-use Rattle.cacache_history.proofs.Bucketed.{KeyedTurn}
+use Rattle.cacache_table.specs.{Answers.{names_in}, StepPaths.{bucket_path}, declared.visit.{Visit.{Visit, TheVariants.{Enter, ReadBucket}}, Task.{Task, TheVariants.{Make, Stumble}}}, Walking.{task_for_name, tasks_of, leaving}}
+use Rattle.cacache_value.{specs.{Kinds.{Bucket, kind_in_area, kind_beside, path_kind, node_below}, Value.{bucket_in}, Placed.{MayStand, Placed}}, proofs.KindsApart.{kind-below}}
+use Rattle.cacache_history.specs.{Setup.{Setup, home}, History.{Turn, History, now_at, IsLegal}, Buckets.{BucketsHaveKeys, IndexIsShallow}, ListingTurns.{IsIndexFolder, HasBucket}}
+use Rattle.cacache_history.proofs.{Holding.{TurnHolds, held_at}, ToldFolders.{Each, Told, IsAmong, names_told, child_listed}, Bucketed.{KeyedTurn}}
 
 -- ---- what a walk has to do
 

@@ -1,36 +1,15 @@
 -- What a lookup finds goes by the last entry that was written, and answers stand at their places.
-use Rattle.std.proofs.Common.{◌≡◌, ◌⊎◌, inl, inr, ◌<◌, ◌≤◌, ◌+◌, ◌-◌, ℕ, zero, suc, Bool, true, false, cond, List, [], ◌∷◌, ◌++◌, Option, None, Some, take, drop, fold, bytes_eq, refl, sym, ap, subst, ◌∙◌, append-nil, take-append-drop, arith}
+use Rattle.std.proofs.{Common.{◌≡◌, ◌⊎◌, inl, inr, ◌<◌, ◌≤◌, ◌+◌, ◌-◌, ℕ, zero, suc, Bool, true, false, cond, List, [], ◌∷◌, ◌++◌, Option, None, Some, take, drop, fold, bytes_eq, refl, sym, ap, subst, ◌∙◌, append-nil, take-append-drop, arith}, lemmas.{Grind.{fold-append}, List.Elements.{All-nil, All-head, All-tail, All-push, All-same, All-weaker}, Slice.Eq.{bytes_eq-Decides}}}
 use Rattle.std.specs.Prelude.{All, slice_get, unwrap_or}
-use Rattle.std.proofs.lemmas.Grind.{fold-append}
-use Rattle.std.proofs.lemmas.List.Elements.{All-nil, All-head, All-tail, All-push, All-same, All-weaker}
-use Rattle.std.proofs.lemmas.Slice.Eq.{bytes_eq-Decides}
 use Rattle.sha1.specs.Sha1.{sha1}
-use Rattle.cacache_core.specs.PathNames.{Names}
-use Rattle.cacache_core.specs.Paths.{bucket_names_of}
-use Rattle.cacache_disk.specs.declared.luck.Luck.{Luck}
-use Rattle.cacache_disk.specs.Tree.{Tree}
-use Rattle.cacache_entry.specs.Entry.{Entry}
-use Rattle.cacache_entry.specs.Latest.{Found, answer_of, answer_to, after_entry, latest}
-use Rattle.cacache_table.specs.declared.command.Command.{Command}
+use Rattle.cacache_core.specs.{PathNames.{Names}, Paths.{bucket_names_of}}
+use Rattle.cacache_disk.specs.{declared.luck.Luck.{Luck}, Tree.{Tree}}
+use Rattle.cacache_entry.specs.{Entry.{Entry}, Latest.{Found, answer_of, answer_to, after_entry, latest}}
+use Rattle.cacache_table.specs.{declared.{command.Command.{Command}, reply.Reply.{Reply}}, State.{Site}}
 use Rattle.cacache_table.specs.declared.command.Command.TheVariants as commands
-use Rattle.cacache_table.specs.declared.reply.Reply.{Reply}
-use Rattle.cacache_table.specs.State.{Site}
-use Rattle.cacache_value.specs.Acts.{Act, Nothing, PutBytes, PutLink, AddEntries, Drop, MakeFolders, DropFolder, act_of, change, list_of}
-use Rattle.cacache_value.specs.Kinds.{is_path_of}
-use Rattle.cacache_value.specs.Traces.{acts}
-use Rattle.cacache_history.specs.declared.record.Record.{Record}
-use Rattle.cacache_history.specs.declared.record.Record.TheVariants.{Began, Moved, Stopped}
-use Rattle.cacache_history.specs.AddedEntries.{IsAmong}
-use Rattle.cacache_history.specs.Commits.{Deed, does, finds_in, deeds_of_act, deeds_of, deeds}
-use Rattle.cacache_history.specs.History.{History, Call, Turn, Made, IsLegal, turn_of, call_after}
-use Rattle.cacache_history.specs.Lookups.{lookup_at, WritesEntry, LeavesBucket, SparesKey, WrittenIn, WasWritten, EntriesAreWritten, FoundWasWritten, LookupsFollowWrites, LookupsStay}
-use Rattle.cacache_history.specs.Places.{now_before, MoveAt, MoveOfCall, MovesAre}
-use Rattle.cacache_history.specs.Setup.{call_site, home}
-use Rattle.cacache_history.specs.Values.{steps_of, bucket_at, opening_value, acted}
-use Rattle.cacache_history.proofs.AddedEntries.{acts_last}
-use Rattle.cacache_history.proofs.Places.{split_at, at_place, moves_are_of_calls}
-use Rattle.cacache_history.proofs.Values.{value_follows_acts}
-use Rattle.cacache_history.proofs.Writes.{adds_own, drops_others}
+use Rattle.cacache_value.specs.{Acts.{Act, Nothing, PutBytes, PutLink, AddEntries, Drop, MakeFolders, DropFolder, act_of, change, list_of}, Kinds.{is_path_of}, Traces.{acts}}
+use Rattle.cacache_history.specs.{declared.record.Record.{Record, TheVariants.{Began, Moved, Stopped}}, AddedEntries.{IsAmong}, Commits.{Deed, does, finds_in, deeds_of_act, deeds_of, deeds}, History.{History, Call, Turn, Made, IsLegal, turn_of, call_after}, Lookups.{lookup_at, WritesEntry, LeavesBucket, SparesKey, WrittenIn, WasWritten, EntriesAreWritten, FoundWasWritten, LookupsFollowWrites, LookupsStay}, Places.{now_before, MoveAt, MoveOfCall, MovesAre}, Setup.{call_site, home}, Values.{steps_of, bucket_at, opening_value, acted}}
+use Rattle.cacache_history.proofs.{AddedEntries.{acts_last}, Places.{split_at, at_place, moves_are_of_calls}, Values.{value_follows_acts}, Writes.{adds_own, drops_others}}
 
 -- ---- deeds of a last move
 

@@ -1,46 +1,20 @@
 -- The entries of a bucket are those of its own keys.
-use Rattle.std.proofs.Common.{◌≡◌, ℕ, Bool, true, false, cond, nat_le, List, ◌∷◌, ◌++◌, Option, None, Some, option_map, fold, filter_map, map, Result, Ok, Err, bytes_eq, length, take, refl, sym, ap, subst, ◌∙◌}
-use Rattle.std.specs.Prelude.{All, IfSome, unwrap_or, []}
-use Rattle.std.specs.List.{cons_option, list_any}
-use Rattle.std.proofs.lemmas.Bool.{leb-true, leb-false}
-use Rattle.std.proofs.lemmas.List.{append_cancel_left}
-use Rattle.std.proofs.lemmas.List.Elements.{All-nil, All-cons, All-head, All-tail, All-append}
-use Rattle.std.proofs.lemmas.Slice.Eq.{bytes_eq-Decides}
+use Rattle.std.proofs.{Common.{◌≡◌, ℕ, Bool, true, false, cond, nat_le, List, ◌∷◌, ◌++◌, Option, None, Some, option_map, fold, filter_map, map, Result, Ok, Err, bytes_eq, length, take, refl, sym, ap, subst, ◌∙◌}, lemmas.{Bool.{leb-true, leb-false}, List.{append_cancel_left, Elements.{All-nil, All-cons, All-head, All-tail, All-append}}, Slice.Eq.{bytes_eq-Decides}}}
+use Rattle.std.specs.{Prelude.{All, IfSome, unwrap_or, []}, List.{cons_option, list_any}}
 use Rattle.sha1.specs.Sha1.{sha1}
-use Rattle.cacache_core.specs.declared.errors.Fault.{Fault}
+use Rattle.cacache_core.specs.{declared.{errors.Fault.{Fault}, integrity.digest.Hash.{Hash}}, PathNames.{Names, names_of, names_below}, Paths.{joined, bucket_names}}
+use Rattle.cacache_core.proofs.{PathLemmas.{keys_have_digests}, PathTexts.{paths_differ}}
 use Rattle.cacache_core.specs.declared.errors.Fault.TheVariants as faults
-use Rattle.cacache_core.specs.declared.integrity.digest.Hash.{Hash}
-use Rattle.cacache_core.specs.PathNames.{Names, names_of, names_below}
-use Rattle.cacache_core.specs.Paths.{joined, bucket_names}
-use Rattle.cacache_core.proofs.PathLemmas.{keys_have_digests}
-use Rattle.cacache_core.proofs.PathTexts.{paths_differ}
 use Rattle.cacache_store.specs.declared.store.step.Step.TheVariants as steps
 use Rattle.cacache_store.specs.declared.store.answer.Answer.TheVariants as answers
 use Rattle.cacache_store.specs.Plain.{PlainStep, PlainAnswer}
-use Rattle.cacache_disk.specs.declared.luck.Luck.{Luck}
-use Rattle.cacache_disk.specs.Tree.{Tree}
-use Rattle.cacache_disk.specs.Apply.{apply}
-use Rattle.cacache_disk.proofs.Maps.{same_path-true}
-use Rattle.cacache_entry.specs.Entry.{Entry, line_of, closed_line}
-use Rattle.cacache_entry.specs.Bucket.{entries_of}
-use Rattle.cacache_entry.specs.FittingEntries.{IsEntry, IsWritable}
-use Rattle.cacache_entry.specs.Latest.{Found, found_of, answer_of_integrity, answer_of, after_entry, latest}
-use Rattle.cacache_table.specs.declared.answers.Refusal.{Refusal}
+use Rattle.cacache_disk.{specs.{declared.luck.Luck.{Luck}, Tree.{Tree}, Apply.{apply}}, proofs.Maps.{same_path-true}}
+use Rattle.cacache_entry.specs.{Entry.{Entry, line_of, closed_line}, Bucket.{entries_of}, FittingEntries.{IsEntry, IsWritable}, Latest.{Found, found_of, answer_of_integrity, answer_of, after_entry, latest}}
+use Rattle.cacache_table.specs.{declared.answers.Refusal.{Refusal}, State.{Item}, Walking.{once, items_of, failed}}
 use Rattle.cacache_table.specs.declared.answers.Refusal.TheVariants as refusals
-use Rattle.cacache_table.specs.State.{Item}
-use Rattle.cacache_table.specs.Walking.{once, items_of, failed}
-use Rattle.cacache_value.specs.Kinds.{is_path_of}
-use Rattle.cacache_value.specs.Value.{Value, wide_value}
-use Rattle.cacache_value.specs.Acts.{Act, Nothing, PutBytes, PutLink, AddEntries, Drop, MakeFolders, DropFolder, act_at, act_with, act_if_done, folders_left, amount_left, act_of, change, list_of}
-use Rattle.cacache_value.specs.Placed.{Placed, Proper}
-use Rattle.cacache_value.specs.OpeningTrees.{IsOpening}
-use Rattle.cacache_value.proofs.AppendedLines.{whole_closed, torn_closed}
-use Rattle.cacache_value.proofs.Traces.{steps_act}
-use Rattle.cacache_history.specs.Setup.{Setup}
-use Rattle.cacache_history.specs.History.{Turn}
-use Rattle.cacache_history.specs.ShownTurns.{entries_at, shown_result, by_entries}
-use Rattle.cacache_history.specs.Buckets.{HoldOwn}
-use Rattle.cacache_history.specs.ListingTurns.{IsFound}
+use Rattle.cacache_value.specs.{Kinds.{is_path_of}, Value.{Value, wide_value}, Acts.{Act, Nothing, PutBytes, PutLink, AddEntries, Drop, MakeFolders, DropFolder, act_at, act_with, act_if_done, folders_left, amount_left, act_of, change, list_of}, Placed.{Placed, Proper}, OpeningTrees.{IsOpening}}
+use Rattle.cacache_value.proofs.{AppendedLines.{whole_closed, torn_closed}, Traces.{steps_act}}
+use Rattle.cacache_history.specs.{Setup.{Setup}, History.{Turn}, ShownTurns.{entries_at, shown_result, by_entries}, Buckets.{HoldOwn}, ListingTurns.{IsFound}}
 
 -- an entry of this bucket
 abbrev pub OfBucket : List ℕ → Entry → Type 0

@@ -1,58 +1,20 @@
 -- Answers of lookups and reads stand at places since their calls began, and so do the entries of puts.
-use Rattle.std.proofs.Common.{◌≡◌, ◌⊎◌, inl, inr, ◌≤◌, ℕ, suc, true, cond, List, [], ◌∷◌, ◌++◌, Option, None, Some, Result, Ok, Err, take, drop, bytes_eq, refl, sym, ap, subst, ◌∙◌, arith}
+use Rattle.std.proofs.{Common.{◌≡◌, ◌⊎◌, inl, inr, ◌≤◌, ℕ, suc, true, cond, List, [], ◌∷◌, ◌++◌, Option, None, Some, Result, Ok, Err, take, drop, bytes_eq, refl, sym, ap, subst, ◌∙◌, arith}, lemmas.{Grind.{fold-append}, Slice.Eq.{bytes_eq-Decides}}}
 use Rattle.std.specs.Prelude.{slice_get, unwrap_or}
-use Rattle.std.proofs.lemmas.Grind.{fold-append}
-use Rattle.std.proofs.lemmas.Slice.Eq.{bytes_eq-Decides}
 use Rattle.sha1.specs.Sha1.{sha1}
 use Rattle.cacache_core.specs.declared.errors.Fault.TheVariants as faults
-use Rattle.cacache_core.specs.declared.integrity.digest.Hash.{Hash}
-use Rattle.cacache_core.specs.Integrity.{Meets, integrity_under}
-use Rattle.cacache_core.specs.PathNames.{Names, names_of, names_below}
-use Rattle.cacache_core.specs.Paths.{bucket_names_of}
-use Rattle.cacache_core.specs.Texts.{integrity_text, read_integrity}
+use Rattle.cacache_core.specs.{declared.integrity.digest.Hash.{Hash}, Integrity.{Meets, integrity_under}, PathNames.{Names, names_of, names_below}, Paths.{bucket_names_of}, Texts.{integrity_text, read_integrity}}
 use Rattle.cacache_core.proofs.Printed.{printed}
 use Rattle.cacache_disk.proofs.Roots.{same_self}
-use Rattle.cacache_entry.specs.Entry.{Entry}
-use Rattle.cacache_entry.specs.Latest.{Found, found_of, answer_to, after_entry, latest}
+use Rattle.cacache_entry.specs.{Entry.{Entry}, Latest.{Found, found_of, answer_to, after_entry, latest}}
 use Rattle.cacache_store.specs.declared.store.answer.Answer.TheVariants as answers
 use Rattle.cacache_store.specs.Plain.{PlainAnswer}
-use Rattle.cacache_table.specs.declared.answers.Refusal.{Refusal}
+use Rattle.cacache_table.specs.{declared.{answers.Refusal.{Refusal}, carried.Commit.{Commit}, command.{Command.{Command}, Put.{Put}}, reply.Reply.{Reply, TheVariants.{Stored, Read, LookedUp}}}, Inserting.{given_or}, Replies.{find_reply, lookup}, State.{Site}, StepPaths.{bucket_path}, Storing.{insertion_of, put_commit}}
 use Rattle.cacache_table.specs.declared.answers.Refusal.TheVariants as refusals
-use Rattle.cacache_table.specs.declared.carried.Commit.{Commit}
-use Rattle.cacache_table.specs.declared.command.Command.{Command}
 use Rattle.cacache_table.specs.declared.command.Command.TheVariants as commands
-use Rattle.cacache_table.specs.declared.command.Put.{Put}
-use Rattle.cacache_table.specs.declared.reply.Reply.{Reply}
-use Rattle.cacache_table.specs.declared.reply.Reply.TheVariants.{Stored, Read, LookedUp}
-use Rattle.cacache_table.specs.Inserting.{given_or}
-use Rattle.cacache_table.specs.Replies.{find_reply, lookup}
-use Rattle.cacache_table.specs.State.{Site}
-use Rattle.cacache_table.specs.StepPaths.{bucket_path}
-use Rattle.cacache_table.specs.Storing.{insertion_of, put_commit}
-use Rattle.cacache_value.specs.Acts.{Act, PutBytes, AddEntries, act_of, list_of}
-use Rattle.cacache_value.specs.Kinds.{is_path_of}
-use Rattle.cacache_value.specs.Value.{Value, value_of_tree}
-use Rattle.cacache_history.specs.declared.record.Record.TheVariants.{Moved}
-use Rattle.cacache_history.specs.AddedEntries.{IsAmong}
-use Rattle.cacache_history.specs.Commits.{Deed, does, finds, finds_in, deeds_of_act, deeds_of, deeds, IsAdded, AddsAfter, CommitsAs, IsCase}
-use Rattle.cacache_history.specs.History.{History, Call, Turn, IsLegal, Reaches}
-use Rattle.cacache_history.specs.Lookups.{lookup_at, IsFoundIn, WritesEntry, LeavesBucket, SparesKey, found_of_put, FoundOfPuts, IsOneOfPuts, PlaceLaws}
-use Rattle.cacache_history.specs.Places.{TurnIn, CallIn, MovesAre}
-use Rattle.cacache_history.specs.ReadingCalls.{MeetsLookup, IsVerified}
-use Rattle.cacache_history.specs.Setup.{Setup, call_site, home}
-use Rattle.cacache_history.specs.ShownTurns.{shown_result, bucket_read, entries_at}
-use Rattle.cacache_history.specs.TurnReplies.{FindsHeld, ReadsValue}
-use Rattle.cacache_history.specs.Turns.{EachTurn}
-use Rattle.cacache_history.specs.Values.{acted, bucket_at}
-use Rattle.cacache_history.proofs.AddedEntries.{act_is, not_found, either}
-use Rattle.cacache_history.proofs.Commits.{commits_are_cases}
-use Rattle.cacache_history.proofs.Digests.{own_integrity}
-use Rattle.cacache_history.proofs.Lookups.{becomes, entries_are_written, found_was_written, lookups_follow_writes, answers_own, spared, spares_leaves, lookups_stay}
-use Rattle.cacache_history.proofs.Places.{split_at, moves_are_of_calls, turns_are_own}
-use Rattle.cacache_history.proofs.ReadingCalls.{reads_are_verified}
-use Rattle.cacache_history.proofs.ShownTurns.{bucket_below}
-use Rattle.cacache_history.proofs.TurnReplies.{replies_read_value}
-use Rattle.cacache_history.proofs.Values.{value_follows_acts}
+use Rattle.cacache_value.specs.{Acts.{Act, PutBytes, AddEntries, act_of, list_of}, Kinds.{is_path_of}, Value.{Value, value_of_tree}}
+use Rattle.cacache_history.specs.{declared.record.Record.TheVariants.{Moved}, AddedEntries.{IsAmong}, Commits.{Deed, does, finds, finds_in, deeds_of_act, deeds_of, deeds, IsAdded, AddsAfter, CommitsAs, IsCase}, History.{History, Call, Turn, IsLegal, Reaches}, Lookups.{lookup_at, IsFoundIn, WritesEntry, LeavesBucket, SparesKey, found_of_put, FoundOfPuts, IsOneOfPuts, PlaceLaws}, Places.{TurnIn, CallIn, MovesAre}, ReadingCalls.{MeetsLookup, IsVerified}, Setup.{Setup, call_site, home}, ShownTurns.{shown_result, bucket_read, entries_at}, TurnReplies.{FindsHeld, ReadsValue}, Turns.{EachTurn}, Values.{acted, bucket_at}}
+use Rattle.cacache_history.proofs.{AddedEntries.{act_is, not_found, either}, Commits.{commits_are_cases}, Digests.{own_integrity}, Lookups.{becomes, entries_are_written, found_was_written, lookups_follow_writes, answers_own, spared, spares_leaves, lookups_stay}, Places.{split_at, moves_are_of_calls, turns_are_own}, ReadingCalls.{reads_are_verified}, ShownTurns.{bucket_below}, TurnReplies.{replies_read_value}, Values.{value_follows_acts}}
 
 -- ---- calls between places
 

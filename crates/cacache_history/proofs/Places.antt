@@ -1,11 +1,7 @@
 -- Places of a history: each move is of a call, and the turns of a call that began behind a place are moves behind it.
 use Rattle.std.proofs.Common.{◌≡◌, ◌⊎◌, inl, inr, ◌≤◌, ◌+◌, ◌-◌, ◌==◌, ℕ, zero, suc, Bool, true, false, cond, eqb-true, List, [], ◌∷◌, ◌++◌, Option, None, Some, option_map, take, drop, refl, sym, ap, subst, ◌∙◌, arith}
 use Rattle.std.specs.Prelude.{slice_get}
-use Rattle.cacache_history.specs.declared.record.Record.{Record}
-use Rattle.cacache_history.specs.declared.record.Record.TheVariants.{Began, Moved, Stopped}
-use Rattle.cacache_history.specs.History.{History, Call, Turn, Made, new_call, turn_of, call_after, unless_over, moved_call, now_after, now_at, replayed, initial, IsLegal}
-use Rattle.cacache_history.specs.Turns.{EachTurn}
-use Rattle.cacache_history.specs.Places.{now_before, MoveAt, TurnIn, TurnsAreOwn, MovesAreOfCalls}
+use Rattle.cacache_history.specs.{declared.record.Record.{Record, TheVariants.{Began, Moved, Stopped}}, History.{History, Call, Turn, Made, new_call, turn_of, call_after, unless_over, moved_call, now_after, now_at, replayed, initial, IsLegal}, Turns.{EachTurn}, Places.{now_before, MoveAt, TurnIn, TurnsAreOwn, MovesAreOfCalls}}
 use Rattle.cacache_history.proofs.Holding.{each_more, set_at, ended_at, replay_more, legal_after}
 
 -- ---- lists of records

@@ -1,24 +1,16 @@
 -- Each step that a sound call may make is proper.
 use Rattle.std.proofs.Common.{◌≡◌, inl, inr, ℕ, Bool, true, false, ◌&&◌, ◌||◌, cond, List, ◌∷◌, Option, None, Some, Result, Ok, Err, bytes_eq, refl, sym, subst}
 use Rattle.std.specs.Prelude.{IfOk, []}
-use Rattle.cacache_core.specs.declared.errors.Fault.{Fault}
-use Rattle.cacache_core.specs.declared.integrity.algorithm.Algorithm.{Algorithm}
-use Rattle.cacache_core.specs.Digests.{digest}
-use Rattle.cacache_core.specs.Integrity.{hash_of, integrity_under}
-use Rattle.cacache_core.specs.PathNames.{Names, names_of, home_of}
+use Rattle.cacache_core.specs.{declared.{errors.Fault.{Fault}, integrity.algorithm.Algorithm.{Algorithm}}, Digests.{digest}, Integrity.{hash_of, integrity_under}, PathNames.{Names, names_of, home_of}}
 use Rattle.cacache_core.proofs.PathLemmas.{keys_have_digests}
 use Rattle.cacache_store.specs.declared.store.step.Step.TheVariants as steps
 use Rattle.cacache_store.specs.Plain.{PlainStep}
 use Rattle.cacache_disk.proofs.Maps.{same_path-true}
 use Rattle.cacache_entry.proofs.EntryCauses.{Fits-no_cause}
-use Rattle.cacache_table.specs.StepPaths.{temp_path, temp_folder, content_path, content_folder, bucket_path, bucket_folder}
-use Rattle.cacache_table.specs.State.{State}
-use Rattle.cacache_table.specs.Table.{wants}
-use Rattle.cacache_table.specs.Sound as calls
+use Rattle.cacache_table.specs.{StepPaths.{temp_path, temp_folder, content_path, content_folder, bucket_path, bucket_folder}, State.{State}, Table.{wants}}
 use Rattle.cacache_table.proofs.Sound.{steps_allowed}
-use Rattle.cacache_value.specs.Kinds.{Content, Bucket, Temporary, Way, Elsewhere, kind_beside, path_kind, IsFor}
-use Rattle.cacache_value.specs.Placed.{IsEntryLine, Proper}
-use Rattle.cacache_value.specs.OpeningTrees.{LieApart}
+use Rattle.cacache_table.specs.Sound as calls
+use Rattle.cacache_value.specs.{Kinds.{Content, Bucket, Temporary, Way, Elsewhere, kind_beside, path_kind, IsFor}, Placed.{IsEntryLine, Proper}, OpeningTrees.{LieApart}}
 use Rattle.cacache_value.proofs.PathKinds.{paths_are_for, folders_are_ways}
 use Rattle.cacache_history.specs.Setup.{Setup, call_site, home, are_apart, apart_from_home, apart_from_files, may_take, may_export, same_place, has_file, is_outside}
 use Rattle.cacache_history.proofs.Digests.{digest_hash}

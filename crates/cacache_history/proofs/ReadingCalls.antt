@@ -5,32 +5,13 @@ use Rattle.cacache_core.specs.declared.integrity.digest.Hash.{Hash}
 use Rattle.cacache_store.specs.declared.store.step.Step.TheVariants as steps
 use Rattle.cacache_store.specs.Plain.{PlainStep, PlainAnswer}
 use Rattle.cacache_disk.specs.declared.luck.Luck.{Luck}
-use Rattle.cacache_table.specs.declared.command.Command.{Command}
+use Rattle.cacache_table.specs.{declared.{command.{Command.{Command}, How.{How, TheVariants.{Copy, Reflink, HardLink}}}, reply.Reply.TheVariants.{Stored, Read, Done}}, Inserting.{given_or, no_integrity}, StepPaths.{bucket_path}, Promises.{Exports}, Replies.{bucket_shown, lookup, BeginsWithBucket, MeetsFound}, Runs.{Moves, Runs, Goes}, State.{State, Site}, Table.{opening}, Licence.{May, allows, handing_out, AllMay}}
+use Rattle.cacache_table.proofs.{Within.{begins_within, goes_allowed}, Promises.{calls_answer}, Replies.{gets_meet}}
 use Rattle.cacache_table.specs.declared.command.Command.TheVariants as commands
-use Rattle.cacache_table.specs.declared.command.How.{How}
-use Rattle.cacache_table.specs.declared.command.How.TheVariants.{Copy, Reflink, HardLink}
 use Rattle.cacache_table.specs.declared.command.Source.TheVariants as sources
-use Rattle.cacache_table.specs.declared.reply.Reply.TheVariants.{Stored, Read, Done}
-use Rattle.cacache_table.specs.Inserting.{given_or, no_integrity}
-use Rattle.cacache_table.specs.StepPaths.{bucket_path}
-use Rattle.cacache_table.specs.Promises.{Exports}
-use Rattle.cacache_table.specs.Replies.{bucket_shown, lookup, BeginsWithBucket, MeetsFound}
-use Rattle.cacache_table.specs.Runs.{Moves, Runs, Goes}
-use Rattle.cacache_table.specs.State.{State, Site}
-use Rattle.cacache_table.specs.Table.{opening}
-use Rattle.cacache_table.specs.Licence.{May, allows, handing_out, AllMay}
-use Rattle.cacache_table.proofs.Within.{begins_within, goes_allowed}
-use Rattle.cacache_table.proofs.Promises.{calls_answer}
-use Rattle.cacache_table.proofs.Replies.{gets_meet}
 use Rattle.cacache_value.specs.Acts.{Nothing, act_of}
-use Rattle.cacache_history.specs.Setup.{Setup, call_site}
-use Rattle.cacache_history.specs.History.{History, Turn, IsLegal}
-use Rattle.cacache_history.specs.Turns.{made_in, EachTurn}
-use Rattle.cacache_history.specs.ShownTurns.{bucket_read}
-use Rattle.cacache_history.specs.ReadingCalls.{IsReading, TurnDoesNothing, ReadersDoNothing, MeetsLookup, IsVerified, ReadsAreVerified}
-use Rattle.cacache_history.proofs.Holding.{TurnsHold}
-use Rattle.cacache_history.proofs.ShownTurns.{bucket_below, bucket_at_turn, first_turn}
-use Rattle.cacache_history.proofs.Runs.{reached, reply_run}
+use Rattle.cacache_history.specs.{Setup.{Setup, call_site}, History.{History, Turn, IsLegal}, Turns.{made_in, EachTurn}, ShownTurns.{bucket_read}, ReadingCalls.{IsReading, TurnDoesNothing, ReadersDoNothing, MeetsLookup, IsVerified, ReadsAreVerified}}
+use Rattle.cacache_history.proofs.{Holding.{TurnsHold}, ShownTurns.{bucket_below, bucket_at_turn, first_turn}, Runs.{reached, reply_run}}
 
 -- ---- they do nothing
 

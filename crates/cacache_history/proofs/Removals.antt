@@ -1,30 +1,17 @@
 -- A removal removes at most its content; that of a key also the key's bucket; a clearing adds nothing.
 use Rattle.std.proofs.Common.{◌≡◌, inl, inr, ℕ, true, false, List, [], ◌∷◌, ◌++◌, Option, None, Some, Result, Ok, Err, refl, sym, ap, subst, ◌∙◌}
-use Rattle.cacache_core.specs.declared.errors.Fault.{Fault}
+use Rattle.cacache_core.specs.{declared.{errors.Fault.{Fault}, integrity.digest.Hash.{Hash}}, PathNames.{Names, names_of}}
 use Rattle.cacache_core.specs.declared.errors.Fault.TheVariants as faults
-use Rattle.cacache_core.specs.declared.integrity.digest.Hash.{Hash}
-use Rattle.cacache_core.specs.PathNames.{Names, names_of}
 use Rattle.cacache_store.specs.declared.store.answer.Answer.TheVariants as answers
 use Rattle.cacache_store.specs.declared.store.step.Step.TheVariants as steps
 use Rattle.cacache_store.specs.Plain.{PlainStep, PlainAnswer}
-use Rattle.cacache_disk.specs.declared.luck.Luck.{Luck}
-use Rattle.cacache_disk.specs.Tree.{Tree}
+use Rattle.cacache_disk.specs.{declared.luck.Luck.{Luck}, Tree.{Tree}}
 use Rattle.cacache_entry.specs.Latest.{Found}
 use Rattle.cacache_table.specs.declared.command.Command.TheVariants as commands
-use Rattle.cacache_table.specs.declared.reply.Reply.{Reply}
-use Rattle.cacache_table.specs.declared.reply.Reply.TheVariants.{Done}
-use Rattle.cacache_table.specs.Licence.{May, allows, licence, AllMay}
-use Rattle.cacache_table.specs.Looking.{found_in}
-use Rattle.cacache_table.specs.Removing.{remove_bucket, remove_found}
-use Rattle.cacache_table.specs.Runs.{Runs}
-use Rattle.cacache_table.specs.State.{Site, State, doing, over, remove}
-use Rattle.cacache_table.specs.StepPaths.{bucket_path, content_path}
-use Rattle.cacache_table.specs.Table.{after, opening}
+use Rattle.cacache_table.specs.{declared.reply.Reply.{Reply, TheVariants.{Done}}, Licence.{May, allows, licence, AllMay}, Looking.{found_in}, Removing.{remove_bucket, remove_found}, Runs.{Runs}, State.{Site, State, doing, over, remove}, StepPaths.{bucket_path, content_path}, Table.{after, opening}}
 use Rattle.cacache_table.proofs.Within.{calls_keep_to}
 use Rattle.cacache_value.specs.Acts.{Drop, DropFolder, act_at}
-use Rattle.cacache_history.specs.Commits.{Deed, deeds_of_act, deeds_of, deeds, DropsAmong, RemovesFound, AreRemovals}
-use Rattle.cacache_history.specs.History.{Turn}
-use Rattle.cacache_history.specs.Turns.{made_in}
+use Rattle.cacache_history.specs.{Commits.{Deed, deeds_of_act, deeds_of, deeds, DropsAmong, RemovesFound, AreRemovals}, History.{Turn}, Turns.{made_in}}
 
 -- ---- runs that are over
 

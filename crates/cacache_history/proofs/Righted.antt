@@ -1,37 +1,17 @@
 -- Each content that is bytes has the digest of its address.
-use Rattle.std.proofs.Common.{◌≡◌, ℕ, Bool, true, false, cond, List, [], ◌++◌, Option, None, Some, Result, Ok, Err, refl, sym, ap, subst, ◌∙◌, append-nil, arith}
-use Rattle.std.proofs.lemmas.List.{append_cancel_left}
-use Rattle.cacache_core.specs.declared.errors.Fault.{Fault}
-use Rattle.cacache_core.specs.declared.integrity.algorithm.Algorithm.{Algorithm}
-use Rattle.cacache_core.specs.declared.integrity.digest.Hash.{Hash}
-use Rattle.cacache_core.specs.Digests.{digest}
-use Rattle.cacache_core.specs.Integrity.{IsHash, hash_of, integrity_under}
-use Rattle.cacache_core.specs.PathNames.{Names, names_of, home_of, names_below}
-use Rattle.cacache_core.specs.Paths.{joined, content_names}
-use Rattle.cacache_core.proofs.JoinedNames.{joined_texts_name}
-use Rattle.cacache_core.proofs.PathTexts.{paths_differ}
-use Rattle.cacache_core.proofs.ProperNames.{names_are_proper}
-use Rattle.cacache_store.specs.declared.store.plain.PlainTemp.{PlainTemp}
+use Rattle.std.proofs.{Common.{◌≡◌, ℕ, Bool, true, false, cond, List, [], ◌++◌, Option, None, Some, Result, Ok, Err, refl, sym, ap, subst, ◌∙◌, append-nil, arith}, lemmas.List.{append_cancel_left}}
+use Rattle.cacache_core.specs.{declared.{errors.Fault.{Fault}, integrity.{algorithm.Algorithm.{Algorithm}, digest.Hash.{Hash}}}, Digests.{digest}, Integrity.{IsHash, hash_of, integrity_under}, PathNames.{Names, names_of, home_of, names_below}, Paths.{joined, content_names}}
+use Rattle.cacache_core.proofs.{JoinedNames.{joined_texts_name}, PathTexts.{paths_differ}, ProperNames.{names_are_proper}}
+use Rattle.cacache_store.specs.{declared.store.plain.PlainTemp.{PlainTemp}, Plain.{PlainStep, PlainAnswer}}
 use Rattle.cacache_store.specs.declared.store.step.Step.TheVariants as steps
 use Rattle.cacache_store.specs.declared.store.answer.Answer.TheVariants as answers
-use Rattle.cacache_store.specs.Plain.{PlainStep, PlainAnswer}
-use Rattle.cacache_disk.specs.declared.luck.Luck.{Luck}
-use Rattle.cacache_disk.specs.Tree.{Tree}
-use Rattle.cacache_disk.specs.Apply.{apply}
-use Rattle.cacache_disk.proofs.Maps.{same_path-true}
-use Rattle.cacache_table.specs.declared.command.Command.{Command}
+use Rattle.cacache_disk.{specs.{declared.luck.Luck.{Luck}, Tree.{Tree}, Apply.{apply}}, proofs.Maps.{same_path-true}}
+use Rattle.cacache_table.specs.{declared.command.Command.{Command}, StepPaths.{content_path}}
 use Rattle.cacache_table.specs.declared.command.Command.TheVariants as commands
-use Rattle.cacache_table.specs.StepPaths.{content_path}
-use Rattle.cacache_value.specs.Kinds.{is_path_of}
-use Rattle.cacache_value.specs.Value.{Blob, InFile, AtLink, Value, wide_value}
-use Rattle.cacache_value.specs.Acts.{Act, Nothing, PutBytes, PutLink, AddEntries, Drop, MakeFolders, DropFolder, act_at, act_with, act_if_done, folders_left, amount_left, act_of, change}
-use Rattle.cacache_value.specs.Placed.{Placed, Proper}
-use Rattle.cacache_value.specs.OpeningTrees.{IsOpening}
+use Rattle.cacache_value.specs.{Kinds.{is_path_of}, Value.{Blob, InFile, AtLink, Value, wide_value}, Acts.{Act, Nothing, PutBytes, PutLink, AddEntries, Drop, MakeFolders, DropFolder, act_at, act_with, act_if_done, folders_left, amount_left, act_of, change}, Placed.{Placed, Proper}, OpeningTrees.{IsOpening}}
 use Rattle.cacache_value.proofs.Traces.{steps_act}
-use Rattle.cacache_history.specs.Setup.{Setup, call_site, home}
-use Rattle.cacache_history.specs.Values.{HasDigest, AreRight}
-use Rattle.cacache_history.proofs.Carrying.{Own, own_bytes, own_link, own_of, Holds, IsAt, Makes}
-use Rattle.cacache_history.proofs.Digests.{digest_hash}
+use Rattle.cacache_history.specs.{Setup.{Setup, call_site, home}, Values.{HasDigest, AreRight}}
+use Rattle.cacache_history.proofs.{Carrying.{Own, own_bytes, own_link, own_of, Holds, IsAt, Makes}, Digests.{digest_hash}}
 
 -- ---- acts
 

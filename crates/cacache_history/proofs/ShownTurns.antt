@@ -1,44 +1,20 @@
 -- Replies read the value at the places of their turns.
-use Rattle.std.proofs.Common.{◌≡◌, ℕ, List, [], ◌∷◌, Option, None, Some, Result, Ok, Err, refl, sym, ap, subst, ◌∙◌, arith}
+use Rattle.std.proofs.{Common.{◌≡◌, ℕ, List, [], ◌∷◌, Option, None, Some, Result, Ok, Err, refl, sym, ap, subst, ◌∙◌, arith}, lemmas.List.Elements.{All-head}}
 use Rattle.std.specs.Prelude.{All}
-use Rattle.std.proofs.lemmas.List.Elements.{All-head}
 use Rattle.sha1.specs.Sha1.{sha1}
-use Rattle.cacache_core.specs.declared.errors.Fault.{Fault}
+use Rattle.cacache_core.specs.{declared.{errors.Fault.{Fault}, integrity.digest.Hash.{Hash}}, Integrity.{IsHash, IsIntegrity}, Paths.{content_names, bucket_names_of}}
+use Rattle.cacache_core.proofs.{JoinedNames.{joined_texts_name}, PathLemmas.{keys_have_digests}, ProperNames.{names_are_proper}}
 use Rattle.cacache_core.specs.declared.errors.Fault.TheVariants as faults
-use Rattle.cacache_core.specs.declared.integrity.digest.Hash.{Hash}
-use Rattle.cacache_core.specs.Integrity.{IsHash, IsIntegrity}
-use Rattle.cacache_core.specs.Paths.{content_names, bucket_names_of}
-use Rattle.cacache_core.proofs.JoinedNames.{joined_texts_name}
-use Rattle.cacache_core.proofs.PathLemmas.{keys_have_digests}
-use Rattle.cacache_core.proofs.ProperNames.{names_are_proper}
 use Rattle.cacache_store.specs.declared.store.step.Step.TheVariants as steps
 use Rattle.cacache_store.specs.declared.store.answer.Answer.TheVariants as answers
-use Rattle.cacache_store.specs.Plain.{PlainStep, PlainAnswer}
-use Rattle.cacache_store.specs.Fits.{Fits}
+use Rattle.cacache_store.specs.{Plain.{PlainStep, PlainAnswer}, Fits.{Fits}}
 use Rattle.cacache_disk.specs.Apply.{apply}
-use Rattle.cacache_entry.specs.Entry.{Entry}
-use Rattle.cacache_entry.specs.FittingEntries.{IsEntry}
-use Rattle.cacache_entry.specs.Latest.{Found}
-use Rattle.cacache_table.specs.declared.answers.Refusal.{Refusal}
+use Rattle.cacache_entry.specs.{Entry.{Entry}, FittingEntries.{IsEntry}, Latest.{Found}}
+use Rattle.cacache_table.specs.{declared.{answers.Refusal.{Refusal}, reply.Reply.{Reply}}, Answers.{bytes_in, there_in}, ListReplies.{given_by, by_bucket}, StepPaths.{bucket_path, content_path}, Replies.{entries_shown, OneStep, ReadsContentOnce, ReadsOn, BeginsWithBucket, bucket_shown, find_reply, content_reply, there_reply, lookup}, Runs.{Moves}, Walking.{items_in}}
 use Rattle.cacache_table.specs.declared.answers.Refusal.TheVariants as refusals
-use Rattle.cacache_table.specs.declared.reply.Reply.{Reply}
-use Rattle.cacache_table.specs.Answers.{bytes_in, there_in}
-use Rattle.cacache_table.specs.ListReplies.{given_by, by_bucket}
-use Rattle.cacache_table.specs.StepPaths.{bucket_path, content_path}
-use Rattle.cacache_table.specs.Replies.{entries_shown, OneStep, ReadsContentOnce, ReadsOn, BeginsWithBucket, bucket_shown, find_reply, content_reply, there_reply, lookup}
-use Rattle.cacache_table.specs.Runs.{Moves}
-use Rattle.cacache_table.specs.Walking.{items_in}
-use Rattle.cacache_value.specs.Kinds.{NamesBelow}
-use Rattle.cacache_value.specs.Acts.{list_of}
-use Rattle.cacache_value.specs.Shows.{ReadsShow, ShowsBucket, ShowsContent, ShowsThere}
-use Rattle.cacache_value.proofs.Shows.{trees_show}
-use Rattle.cacache_history.specs.Setup.{Setup, home}
-use Rattle.cacache_history.specs.History.{Turn}
-use Rattle.cacache_history.specs.Turns.{made_in}
-use Rattle.cacache_history.specs.ShownTurns.{entries_at, unless_failed, shown_result, as_refusal, bucket_read, content_read, there_read, by_entries}
-use Rattle.cacache_history.specs.TurnReplies.{OneTurn, FindsHeld, ReadsHeld, AsksHeld, ReadsNext, GetsHeld}
-use Rattle.cacache_history.proofs.Spelled.{HasIntegrity, latest_has}
-use Rattle.cacache_history.proofs.Holding.{TurnHolds, TurnsHold}
+use Rattle.cacache_value.{specs.{Kinds.{NamesBelow}, Acts.{list_of}, Shows.{ReadsShow, ShowsBucket, ShowsContent, ShowsThere}}, proofs.Shows.{trees_show}}
+use Rattle.cacache_history.specs.{Setup.{Setup, home}, History.{Turn}, Turns.{made_in}, ShownTurns.{entries_at, unless_failed, shown_result, as_refusal, bucket_read, content_read, there_read, by_entries}, TurnReplies.{OneTurn, FindsHeld, ReadsHeld, AsksHeld, ReadsNext, GetsHeld}}
+use Rattle.cacache_history.proofs.{Spelled.{HasIntegrity, latest_has}, Holding.{TurnHolds, TurnsHold}}
 
 -- ---- what answers show
 

@@ -1,19 +1,11 @@
 -- What a lookup finds among well-formed entries has an integrity.
-use Rattle.std.proofs.Common.{◌≡◌, ◌⊎◌, inl, inr, ◌≤◌, ◌<◌, ◌+◌, ◌/◌, ◌%◌, ℕ, zero, suc, Bool, true, false, cond, List, [], ◌∷◌, Option, None, Some, option_map, fold, Result, Ok, Err, bytes_eq, refl, subst, arith}
+use Rattle.std.proofs.{Common.{◌≡◌, ◌⊎◌, inl, inr, ◌≤◌, ◌<◌, ◌+◌, ◌/◌, ◌%◌, ℕ, zero, suc, Bool, true, false, cond, List, [], ◌∷◌, Option, None, Some, option_map, fold, Result, Ok, Err, bytes_eq, refl, subst, arith}, lemmas.{Bool.{ltb-true, and_parts}, List.Elements.{All-head, All-tail}}}
 use Rattle.std.specs.Prelude.{All, IsUtf8, nat_lt, IfSome, unwrap_or}
-use Rattle.std.proofs.lemmas.Bool.{ltb-true, and_parts}
-use Rattle.std.proofs.lemmas.List.Elements.{All-head, All-tail}
 use Rattle.base64.specs.GeneralPurpose.{IsBytes}
 use lib.Utf8.{scalar, scalars, encode, encodes, scalar_cases}
-use Rattle.cacache_core.specs.declared.integrity.digest.Hash.{Hash}
-use Rattle.cacache_core.specs.declared.errors.IntegrityFault.{IntegrityFault}
-use Rattle.cacache_core.specs.Integrity.{IsIntegrity}
-use Rattle.cacache_core.specs.Texts.{read_integrity}
-use Rattle.cacache_core.proofs.Decoded.{bytes_append}
-use Rattle.cacache_core.proofs.Relation.{read_is_integrity}
-use Rattle.cacache_entry.specs.Entry.{Entry}
-use Rattle.cacache_entry.specs.FittingEntries.{IsUtf8IfAny, IsEntry}
-use Rattle.cacache_entry.specs.Latest.{Found, answer_read, answer_of, after_entry, latest, found_of}
+use Rattle.cacache_core.specs.{declared.{integrity.digest.Hash.{Hash}, errors.IntegrityFault.{IntegrityFault}}, Integrity.{IsIntegrity}, Texts.{read_integrity}}
+use Rattle.cacache_core.proofs.{Decoded.{bytes_append}, Relation.{read_is_integrity}}
+use Rattle.cacache_entry.specs.{Entry.{Entry}, FittingEntries.{IsUtf8IfAny, IsEntry}, Latest.{Found, answer_read, answer_of, after_entry, latest, found_of}}
 
 -- ---- UTF-8 is bytes
 

@@ -1,36 +1,15 @@
 -- What a listing of a folder tells of the nodes in it.
-use Rattle.std.proofs.Common.{◌≡◌, ◌⊎◌, inl, inr, ◌+◌, ◌&&◌, ℕ, Bool, true, false, cond, List, [], ◌∷◌, ◌++◌, Option, None, Some, Result, Ok, Err, length, take, refl, sym, ap, subst, ◌∙◌, arith, eqb-true, ap₂, length-append}
-use Rattle.std.specs.Prelude.{T, slice_index_or, filter_map}
-use Rattle.std.specs.List.{cons_option}
+use Rattle.std.proofs.{Common.{◌≡◌, ◌⊎◌, inl, inr, ◌+◌, ◌&&◌, ℕ, Bool, true, false, cond, List, [], ◌∷◌, ◌++◌, Option, None, Some, Result, Ok, Err, length, take, refl, sym, ap, subst, ◌∙◌, arith, eqb-true, ap₂, length-append}, lemmas.{Bool.{and_parts, eq-eqb}, List.{take_all, take_at, get_or_at}}}
+use Rattle.std.specs.{Prelude.{T, slice_index_or, filter_map}, List.{cons_option}, FinMap.Entries.{below_all}, declared.cmp.Ordering.{Ordering, TheVariants.{Less, Equal, Greater}}, Ordering.{is_lt, is_eq, ordering_reverse, nat_cmp}, Cmp.{eq_by_cmp_equiv, Lexicographic.{pointwise, slice_cmp, lists_ties, texts_ties}}, Bool.{nat_eq}}
 use Rattle.std.specs.FinMap as map
-use Rattle.std.specs.FinMap.Entries.{below_all}
-use Rattle.std.specs.declared.cmp.Ordering.{Ordering}
-use Rattle.std.specs.declared.cmp.Ordering.TheVariants.{Less, Equal, Greater}
-use Rattle.std.specs.Ordering.{is_lt, is_eq, ordering_reverse}
-use Rattle.std.specs.Cmp.{eq_by_cmp_equiv}
-use Rattle.std.proofs.lemmas.Bool.{and_parts}
-use Rattle.std.proofs.lemmas.List.{take_all, take_at, get_or_at}
-use Rattle.std.proofs.lemmas.Bool.{eq-eqb}
-use Rattle.std.specs.Bool.{nat_eq}
-use Rattle.std.specs.Ordering.{nat_cmp}
-use Rattle.std.specs.Cmp.Lexicographic.{pointwise, slice_cmp, lists_ties, texts_ties}
-use Rattle.cacache_core.specs.declared.errors.Fault.{Fault}
-use Rattle.cacache_core.specs.PathNames.{Names, names_of}
-use Rattle.cacache_store.specs.declared.store.answer.Kind.{Kind}
-use Rattle.cacache_store.specs.declared.store.answer.Name.{Name}
-use Rattle.cacache_disk.specs.declared.node.Node.{Node}
-use Rattle.cacache_disk.specs.Tree.{Tree, look, names_cmp, same_path, is_child, kind_of, child_of, listing}
-use Rattle.cacache_disk.specs.LedTo.{place, where_folder, folder}
-use Rattle.cacache_disk.specs.declared.luck.Luck.{Luck}
-use Rattle.cacache_disk.specs.Apply.{apply, unless}
+use Rattle.cacache_core.specs.{declared.errors.Fault.{Fault}, PathNames.{Names, names_of}}
+use Rattle.cacache_store.specs.declared.store.answer.{Kind.{Kind}, Name.{Name}}
+use Rattle.cacache_disk.specs.{declared.{node.Node.{Node}, luck.Luck.{Luck}}, Tree.{Tree, look, names_cmp, same_path, is_child, kind_of, child_of, listing}, LedTo.{place, where_folder, folder}, Apply.{apply, unless}}
+use Rattle.cacache_disk.proofs.{Maps.{total, same_path-true}, PutNodes.{eq-true}, PathFolders.{front_next}, FoundNodes.{and_then_ok, or_fault_none, place_ok}}
 use Rattle.cacache_store.specs.declared.store.step.Step.TheVariants as steps
 use Rattle.cacache_store.specs.declared.store.answer.Answer.TheVariants as answers
 use Rattle.cacache_table.specs.Answers.{names_in}
 use Rattle.cacache_value.proofs.Shows.{apply_answer}
-use Rattle.cacache_disk.proofs.Maps.{total, same_path-true}
-use Rattle.cacache_disk.proofs.PutNodes.{eq-true}
-use Rattle.cacache_disk.proofs.PathFolders.{front_next}
-use Rattle.cacache_disk.proofs.FoundNodes.{and_then_ok, or_fault_none, place_ok}
 
 -- ---- the entries of a map
 

@@ -1,31 +1,12 @@
 -- Each reply of a call that reads is what its turns show.
-use Rattle.std.proofs.Common.{◌≡◌, ◌⊎◌, inl, inr, ℕ, List, Some, refl, sym, subst}
+use Rattle.std.proofs.Common.{◌≡◌, ◌⊎◌, inl, inr, ℕ, List, Some, refl, sym, subst, Bool, true, false}
 use Rattle.cacache_core.specs.declared.errors.Error.TheVariants.{OutOfMemory}
-use Rattle.cacache_table.specs.declared.command.Command.{Command}
+use Rattle.cacache_table.specs.{declared.{command.Command.{Command}, reply.Reply.{Reply, TheVariants.{Refused}}}, Causes.{HasCause, own_of}, Runs.{Runs, plain_reply}, Table.{opening}, Verifying.{Verifies, UnlessRefused}}
+use Rattle.cacache_table.proofs.{Replies.{finds_shown, gets_shown, reads_shown, exists_shown}, EarnedErrors.{io_errors_have_causes}, Verifying.{exports_verify}}
 use Rattle.cacache_table.specs.declared.command.Command.TheVariants as commands
-use Rattle.cacache_table.specs.declared.reply.Reply.{Reply}
-use Rattle.cacache_table.specs.declared.reply.Reply.TheVariants.{Refused}
-use Rattle.cacache_table.specs.Causes.{HasCause, own_of}
-use Rattle.cacache_table.specs.Runs.{Runs, plain_reply}
-use Rattle.cacache_table.specs.Table.{opening}
-use Rattle.cacache_table.proofs.Replies.{finds_shown, gets_shown, reads_shown, exists_shown}
-use Rattle.cacache_table.proofs.EarnedErrors.{io_errors_have_causes}
-use Rattle.cacache_history.specs.Setup.{Setup, call_site}
-use Rattle.cacache_history.specs.History.{Turn, History, NamesIntegrity, IsLegal}
-use Rattle.cacache_history.specs.Turns.{made_in, EachTurn}
-use Rattle.cacache_history.specs.TurnReplies.{ReadsValue, RepliesReadValue, RepliesHaveCauses}
-use Rattle.cacache_history.proofs.Holding.{TurnsHold}
-use Rattle.cacache_history.proofs.Runs.{reached, reply_run, memory_plain}
+use Rattle.cacache_history.specs.{Setup.{Setup, call_site}, History.{Turn, History, NamesIntegrity, IsLegal}, Turns.{made_in, EachTurn}, TurnReplies.{ReadsValue, RepliesReadValue, RepliesHaveCauses, ExportsHeld, IfChecked}}
+use Rattle.cacache_history.proofs.{Holding.{TurnsHold}, Runs.{reached, reply_run, memory_plain}, OpenedContents.{run_asks}, Exporting.{exports}, Bucketed.{KeyedTurn, turns_keyed}, ListingTurns.{lists}, ShownTurns.{finds, reads, asks, gets}}
 use Rattle.cacache_table.specs.declared.reply.Reply.TheVariants as replies
-use Rattle.cacache_table.specs.Verifying.{Verifies, UnlessRefused}
-use Rattle.cacache_table.proofs.Verifying.{exports_verify}
-use Rattle.std.proofs.Common.{Bool, true, false}
-use Rattle.cacache_history.specs.TurnReplies.{ExportsHeld, IfChecked}
-use Rattle.cacache_history.proofs.OpenedContents.{run_asks}
-use Rattle.cacache_history.proofs.Exporting.{exports}
-use Rattle.cacache_history.proofs.Bucketed.{KeyedTurn, turns_keyed}
-use Rattle.cacache_history.proofs.ListingTurns.{lists}
-use Rattle.cacache_history.proofs.ShownTurns.{finds, reads, asks, gets}
 
 module _ (s : Setup) (n : ℕ) where
   if_checked : (b : Bool) (X : Type 0) → (b ≡ true → X) → IfChecked b X

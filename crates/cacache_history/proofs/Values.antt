@@ -2,20 +2,10 @@
 use Rattle.std.proofs.Common.{◌≡◌, ℕ, Bool, true, false, cond, List, [], ◌∷◌, ◌++◌, Option, None, Some, refl, sym, ap, subst, ◌∙◌}
 use Rattle.cacache_disk.specs.declared.luck.Luck.{Luck}
 use Rattle.cacache_table.specs.declared.reply.Reply.{Reply}
-use Rattle.cacache_core.specs.declared.integrity.digest.Hash.{Hash}
-use Rattle.cacache_core.specs.PathNames.{Names}
-use Rattle.cacache_core.specs.Paths.{content_names}
-use Rattle.cacache_value.specs.Kinds.{is_path_of}
-use Rattle.cacache_value.specs.Value.{Blob, InFile, AtLink, Value, wide_value, value_of_tree}
-use Rattle.cacache_value.specs.Acts.{Act, Nothing, PutBytes, PutLink, AddEntries, Drop, MakeFolders, DropFolder, act_of, change, list_of}
-use Rattle.cacache_value.specs.Traces.{Move, IsTrace, tree_after, acts}
-use Rattle.cacache_value.specs.OpeningTrees.{LieApart}
+use Rattle.cacache_core.specs.{declared.integrity.digest.Hash.{Hash}, PathNames.{Names}, Paths.{content_names}}
+use Rattle.cacache_value.specs.{Kinds.{is_path_of}, Value.{Blob, InFile, AtLink, Value, wide_value, value_of_tree}, Acts.{Act, Nothing, PutBytes, PutLink, AddEntries, Drop, MakeFolders, DropFolder, act_of, change, list_of}, Traces.{Move, IsTrace, tree_after, acts}, OpeningTrees.{LieApart}}
 use Rattle.cacache_value.proofs.Traces.{traces_act, traces_show, buckets_grow}
-use Rattle.cacache_history.specs.declared.record.Record.{Record}
-use Rattle.cacache_history.specs.declared.record.Record.TheVariants.{Began, Moved, Stopped}
-use Rattle.cacache_history.specs.Setup.{Setup, home}
-use Rattle.cacache_history.specs.History.{Call, Now, History, Made, initial, now_after, replayed, now_at, MayMove, Legal, IsLegal}
-use Rattle.cacache_history.specs.Values.{steps_of, ValueFollowsActs, BucketsOnlyGrow, KeepsContent, KeepContent, IsThere, ContentsStay, ContentsAreRight}
+use Rattle.cacache_history.specs.{declared.record.Record.{Record, TheVariants.{Began, Moved, Stopped}}, Setup.{Setup, home}, History.{Call, Now, History, Made, initial, now_after, replayed, now_at, MayMove, Legal, IsLegal}, Values.{steps_of, ValueFollowsActs, BucketsOnlyGrow, KeepsContent, KeepContent, IsThere, ContentsStay, ContentsAreRight}}
 use Rattle.cacache_history.proofs.Holding.{AllHold, of_caller, made_proper, next_holds, first_opens, first_holds, legal_front, replay_more, legal_before, legal_after, held_at}
 
 -- the steps of these records are proper, have the disk's answers, and lead to the tree

@@ -1,44 +1,15 @@
 -- What a move adds to a bucket is what its call's command writes; and which buckets it removes.
-use Rattle.std.proofs.Common.{◌≡◌, ◌⊎◌, inl, inr, ℕ, Bool, true, false, List, [], ◌∷◌, ◌++◌, Option, None, Some, Ok, refl, sym, ap, subst, ◌∙◌, arith}
-use Rattle.std.proofs.lemmas.List.{append_cancel_left}
-use Rattle.std.proofs.lemmas.List.Elements.{All-head}
+use Rattle.std.proofs.{Common.{◌≡◌, ◌⊎◌, inl, inr, ℕ, Bool, true, false, List, [], ◌∷◌, ◌++◌, Option, None, Some, Ok, refl, sym, ap, subst, ◌∙◌, arith}, lemmas.List.{append_cancel_left, Elements.{All-head}}}
 use Rattle.sha1.specs.Sha1.{sha1}
-use Rattle.cacache_core.specs.declared.integrity.digest.Hash.{Hash}
-use Rattle.cacache_core.specs.Integrity.{IsHash, IsIntegrity}
-use Rattle.cacache_core.specs.PathNames.{Names, names_of, names_below}
-use Rattle.cacache_core.specs.Paths.{joined, content_names, bucket_names_of}
-use Rattle.cacache_core.proofs.PathLemmas.{keys_have_digests}
-use Rattle.cacache_core.proofs.PathTexts.{paths_differ}
+use Rattle.cacache_core.specs.{declared.integrity.digest.Hash.{Hash}, Integrity.{IsHash, IsIntegrity}, PathNames.{Names, names_of, names_below}, Paths.{joined, content_names, bucket_names_of}}
+use Rattle.cacache_core.proofs.{PathLemmas.{keys_have_digests}, PathTexts.{paths_differ}}
 use Rattle.cacache_disk.proofs.Maps.{same_path-true}
-use Rattle.cacache_entry.specs.Entry.{Entry}
-use Rattle.cacache_entry.specs.Latest.{Found}
-use Rattle.cacache_table.specs.declared.carried.Commit.{Commit}
-use Rattle.cacache_table.specs.declared.command.Command.{Command}
+use Rattle.cacache_entry.specs.{Entry.{Entry}, Latest.{Found}}
+use Rattle.cacache_table.specs.{declared.{carried.Commit.{Commit}, command.{Command.{Command}, Link.{Link}}, reply.Reply.{Reply}}, Inserting.{insertion, deletion}, Linking.{commit_for, link_target}, Replies.{lookup}, State.{Site, Insertion}, StepPaths.{content_path, bucket_path}, Storing.{insertion_of, put_commit}}
 use Rattle.cacache_table.specs.declared.command.Command.TheVariants as commands
-use Rattle.cacache_table.specs.declared.command.Link.{Link}
-use Rattle.cacache_table.specs.declared.reply.Reply.{Reply}
-use Rattle.cacache_table.specs.Inserting.{insertion, deletion}
-use Rattle.cacache_table.specs.Linking.{commit_for, link_target}
-use Rattle.cacache_table.specs.Replies.{lookup}
-use Rattle.cacache_table.specs.State.{Site, Insertion}
-use Rattle.cacache_table.specs.StepPaths.{content_path, bucket_path}
-use Rattle.cacache_table.specs.Storing.{insertion_of, put_commit}
-use Rattle.cacache_value.specs.Acts.{Act, PutBytes, PutLink, AddEntries, Drop, act_of}
-use Rattle.cacache_value.specs.Kinds.{is_path_of}
-use Rattle.cacache_history.specs.AddedEntries.{IsAmong}
-use Rattle.cacache_history.specs.Commits.{Deed, does, finds, finds_in, deeds_of_act, deeds_of, deeds, PutsContent, IsAdded, InsertionAdds, AddsAfter, CommitsAs, LinksAs, DropsAmong, FoundFirst, IsRemoval, AreRemovals, IsCase}
-use Rattle.cacache_history.specs.History.{History, Call, Turn, NamesIntegrity, IsLegal, Reaches}
-use Rattle.cacache_history.specs.Lookups.{WritesEntry, LeavesBucket}
-use Rattle.cacache_history.specs.ReadingCalls.{IsReading, TurnDoesNothing}
-use Rattle.cacache_history.specs.Setup.{Setup, call_site, home}
-use Rattle.cacache_history.specs.ShownTurns.{entries_at, bucket_read}
-use Rattle.cacache_history.specs.Turns.{EachTurn}
-use Rattle.cacache_history.proofs.AddedEntries.{not_found, either}
-use Rattle.cacache_history.proofs.Commits.{commits_are_cases}
-use Rattle.cacache_history.proofs.Holding.{TurnsHold, CallHolds}
-use Rattle.cacache_history.proofs.ReadingCalls.{readers_do_nothing}
-use Rattle.cacache_history.proofs.Runs.{reached}
-use Rattle.cacache_history.proofs.ShownTurns.{FoundHas, bucket_at_turn, bucket_below, bucket_has, content_below}
+use Rattle.cacache_value.specs.{Acts.{Act, PutBytes, PutLink, AddEntries, Drop, act_of}, Kinds.{is_path_of}}
+use Rattle.cacache_history.specs.{AddedEntries.{IsAmong}, Commits.{Deed, does, finds, finds_in, deeds_of_act, deeds_of, deeds, PutsContent, IsAdded, InsertionAdds, AddsAfter, CommitsAs, LinksAs, DropsAmong, FoundFirst, IsRemoval, AreRemovals, IsCase}, History.{History, Call, Turn, NamesIntegrity, IsLegal, Reaches}, Lookups.{WritesEntry, LeavesBucket}, ReadingCalls.{IsReading, TurnDoesNothing}, Setup.{Setup, call_site, home}, ShownTurns.{entries_at, bucket_read}, Turns.{EachTurn}}
+use Rattle.cacache_history.proofs.{AddedEntries.{not_found, either}, Commits.{commits_are_cases}, Holding.{TurnsHold, CallHolds}, ReadingCalls.{readers_do_nothing}, Runs.{reached}, ShownTurns.{FoundHas, bucket_at_turn, bucket_below, bucket_has, content_below}}
 
 -- ---- deeds among others
 

@@ -1,22 +1,11 @@
 -- Entries that commits add, and the contents that they name.
 use Rattle.std.specs.Prelude.{◌≡◌, ◌⊎◌, List, [], ◌∷◌, Option, None, Some}
-use Rattle.cacache_core.specs.declared.integrity.digest.Hash.{Hash}
-use Rattle.cacache_core.specs.Digests.{digest}
-use Rattle.cacache_core.specs.Integrity.{address, hash_of}
-use Rattle.cacache_core.specs.PathNames.{Names}
-use Rattle.cacache_core.specs.Texts.{integrity_text}
+use Rattle.cacache_core.specs.{declared.integrity.digest.Hash.{Hash}, Digests.{digest}, Integrity.{address, hash_of}, PathNames.{Names}, Texts.{integrity_text}}
 use Rattle.cacache_entry.specs.Entry.{Entry}
-use Rattle.cacache_table.specs.declared.command.Command.{Command}
+use Rattle.cacache_table.specs.declared.{command.{Command.{Command}, Put.{Put}}, reply.Reply.{Reply, TheVariants.{Stored}}}
 use Rattle.cacache_table.specs.declared.command.Command.TheVariants as commands
-use Rattle.cacache_table.specs.declared.command.Put.{Put}
-use Rattle.cacache_table.specs.declared.reply.Reply.{Reply}
-use Rattle.cacache_table.specs.declared.reply.Reply.TheVariants.{Stored}
-use Rattle.cacache_value.specs.Value.{Blob, InFile, AtLink}
-use Rattle.cacache_value.specs.Acts.{AddEntries}
-use Rattle.cacache_history.specs.Setup.{home}
-use Rattle.cacache_history.specs.History.{History, Call, Reaches}
-use Rattle.cacache_history.specs.Values.{steps_of, value_at, KeepContent, HasDigest}
-use Rattle.cacache_history.specs.Commits.{Deed, does, deeds}
+use Rattle.cacache_value.specs.{Value.{Blob, InFile, AtLink}, Acts.{AddEntries}}
+use Rattle.cacache_history.specs.{Setup.{home}, History.{History, Call, Reaches}, Values.{steps_of, value_at, KeepContent, HasDigest}, Commits.{Deed, does, deeds}}
 
 -- a put or a link that isn't told which integrity to expect: its entry names its own content
 abbrev pub NamesOwn : Command → Type 0

@@ -1,18 +1,11 @@
 -- Which buckets stand in a cache: those of keys.
 use Rattle.std.specs.Prelude.{◌≡◌, ◌≤◌, ℕ, All, List, ◌∷◌, ◌++◌, Option, Some, Ok, length}
 use Rattle.sha1.specs.Sha1.{sha1}
-use Rattle.cacache_core.specs.PathNames.{Names, names_below}
-use Rattle.cacache_core.specs.Paths.{bucket_names, index_area}
-use Rattle.cacache_disk.specs.declared.node.Node.{Node}
-use Rattle.cacache_disk.specs.declared.node.Node.TheVariants.{Folder}
-use Rattle.cacache_disk.specs.Tree.{Tree, look}
+use Rattle.cacache_core.specs.{PathNames.{Names, names_below}, Paths.{bucket_names, index_area}}
+use Rattle.cacache_disk.specs.{declared.node.Node.{Node, TheVariants.{Folder}}, Tree.{Tree, look}}
 use Rattle.cacache_entry.specs.Entry.{Entry}
-use Rattle.cacache_value.specs.Acts.{list_of}
-use Rattle.cacache_value.specs.Kinds.{Bucket, path_kind}
-use Rattle.cacache_history.specs.declared.record.Record.{Record}
-use Rattle.cacache_history.specs.Setup.{home}
-use Rattle.cacache_history.specs.History.{History, now_at}
-use Rattle.cacache_history.specs.Values.{value_at}
+use Rattle.cacache_value.specs.{Acts.{list_of}, Kinds.{Bucket, path_kind}}
+use Rattle.cacache_history.specs.{declared.record.Record.{Record}, Setup.{home}, History.{History, now_at}, Values.{value_at}}
 
 -- the path is that of the bucket of some key
 abbrev pub IsOfKey : Option Names → Names → Type 0

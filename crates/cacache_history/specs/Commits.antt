@@ -6,25 +6,10 @@ use Rattle.cacache_store.specs.declared.store.step.Step.TheVariants as steps
 use Rattle.cacache_store.specs.declared.store.answer.Answer.TheVariants as answers
 use Rattle.cacache_store.specs.Plain.{PlainStep, PlainAnswer}
 use Rattle.cacache_entry.specs.Latest.{Found}
-use Rattle.cacache_table.specs.declared.command.Command.{Command}
+use Rattle.cacache_table.specs.{declared.{command.Command.{Command}, reply.Reply.{Reply, TheVariants.{Refused}}, carried.Commit.{Commit}, target.Target.{Target}}, StepPaths.{content_path, bucket_path}, State.{Site, Insertion}, Inserting.{insertion, deletion}, Storing.{insertion_of, put_commit}, Linking.{commit_for, link_target}, Replies.{bucket_shown, lookup}, Runs.{Moves}, Verifying.{ReadsWhole}}
 use Rattle.cacache_table.specs.declared.command.Command.TheVariants as commands
-use Rattle.cacache_table.specs.declared.reply.Reply.{Reply}
-use Rattle.cacache_table.specs.declared.reply.Reply.TheVariants.{Refused}
-use Rattle.cacache_table.specs.StepPaths.{content_path, bucket_path}
-use Rattle.cacache_table.specs.State.{Site, Insertion}
-use Rattle.cacache_table.specs.declared.carried.Commit.{Commit}
-use Rattle.cacache_table.specs.declared.target.Target.{Target}
-use Rattle.cacache_table.specs.Inserting.{insertion, deletion}
-use Rattle.cacache_table.specs.Storing.{insertion_of, put_commit}
-use Rattle.cacache_table.specs.Linking.{commit_for, link_target}
-use Rattle.cacache_table.specs.Replies.{bucket_shown, lookup}
-use Rattle.cacache_table.specs.Runs.{Moves}
-use Rattle.cacache_table.specs.Verifying.{ReadsWhole}
-use Rattle.cacache_value.specs.Acts.{Act, Nothing, PutBytes, PutLink, AddEntries, Drop, MakeFolders, DropFolder, act_of}
-use Rattle.cacache_value.specs.Traces.{Move}
-use Rattle.cacache_history.specs.Setup.{call_site}
-use Rattle.cacache_history.specs.History.{History, Turn, Call, Reaches}
-use Rattle.cacache_history.specs.Turns.{made_in}
+use Rattle.cacache_value.specs.{Acts.{Act, Nothing, PutBytes, PutLink, AddEntries, Drop, MakeFolders, DropFolder, act_of}, Traces.{Move}}
+use Rattle.cacache_history.specs.{Setup.{call_site}, History.{History, Turn, Call, Reaches}, Turns.{made_in}}
 
 -- ---- deeds
 

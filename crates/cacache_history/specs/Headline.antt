@@ -1,15 +1,5 @@
 -- The claim as a whole.
-use Rattle.cacache_history.specs.Buckets.{BucketsAreOfKeys, IndexIsShallow, BucketsHoldOwn}
-use Rattle.cacache_history.specs.Commits.{CommitsAreCases}
-use Rattle.cacache_history.specs.AddedEntries.{EntriesNameContents, PutsLeaveContents}
-use Rattle.cacache_history.specs.History.{History, IsLegal}
-use Rattle.cacache_history.specs.LinkedContents.{LinksWereRight, LinksAreRight}
-use Rattle.cacache_history.specs.Lookups.{PlaceLaws}
-use Rattle.cacache_history.specs.ListingTurns.{ListingsReadValue}
-use Rattle.cacache_history.specs.TurnPlaces.{TurnsAreMoves, CallsAreRuns}
-use Rattle.cacache_history.specs.ReadingCalls.{ReadersDoNothing, ReadsAreVerified}
-use Rattle.cacache_history.specs.TurnReplies.{RepliesReadValue, RepliesHaveCauses}
-use Rattle.cacache_history.specs.Values.{ValueFollowsActs, BucketsOnlyGrow, ContentsStay, ContentsAreRight}
+use Rattle.cacache_history.specs.{Buckets.{BucketsAreOfKeys, IndexIsShallow, BucketsHoldOwn}, Commits.{CommitsAreCases}, AddedEntries.{EntriesNameContents, PutsLeaveContents}, History.{History, IsLegal}, LinkedContents.{LinksWereRight, LinksAreRight}, Lookups.{PlaceLaws}, ListingTurns.{ListingsReadValue}, TurnPlaces.{TurnsAreMoves, CallsAreRuns}, ReadingCalls.{ReadersDoNothing, ReadsAreVerified}, TurnReplies.{RepliesReadValue, RepliesHaveCauses}, Values.{ValueFollowsActs, BucketsOnlyGrow, ContentsStay, ContentsAreRight}}
 
 -- Over every interleaving of callers' store steps, with failed steps, short appends and callers
 -- stopped anywhere, lookups, reads and listings answer by one map of contents and one list of whole

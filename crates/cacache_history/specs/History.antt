@@ -1,29 +1,14 @@
 -- Calls of many callers on one disk, as a list of records: what each leads to, and which lists are
 -- legal.
 use Rattle.std.specs.Prelude.{◌≡◌, ◌⊎◌, ◌<◌, ◌+◌, ◌==◌, ℕ, List, [], ◌∷◌, ◌++◌, Option, None, Some, Result, Ok, Err, option_map, if◌then◌else◌}
-use Rattle.cacache_core.specs.declared.errors.Fault.{Fault}
-use Rattle.cacache_core.specs.declared.errors.Error.TheVariants.{OutOfMemory}
-use Rattle.cacache_core.specs.Integrity.{IsIntegrity}
-use Rattle.cacache_store.specs.Plain.{PlainStep, PlainAnswer}
-use Rattle.cacache_store.specs.Fits.{Fits}
-use Rattle.cacache_disk.specs.declared.luck.Luck.{Luck}
-use Rattle.cacache_disk.specs.Tree.{Tree, bare}
-use Rattle.cacache_disk.specs.Apply.{apply}
-use Rattle.cacache_table.specs.declared.command.Command.{Command}
+use Rattle.cacache_core.specs.{declared.errors.{Fault.{Fault}, Error.TheVariants.{OutOfMemory}}, Integrity.{IsIntegrity}}
+use Rattle.cacache_store.specs.{Plain.{PlainStep, PlainAnswer}, Fits.{Fits}}
+use Rattle.cacache_disk.specs.{declared.luck.Luck.{Luck}, Tree.{Tree, bare}, Apply.{apply}}
+use Rattle.cacache_table.specs.{declared.{command.{Command.{Command}, Source.{Source}}, reply.Reply.{Reply, TheVariants.{Refused}}}, State.{State, over}, Table.{wants, after, opening}, Runs.{plain_reply}, Sound.{MayBegin}}
 use Rattle.cacache_table.specs.declared.command.Command.TheVariants as commands
-use Rattle.cacache_table.specs.declared.command.Source.{Source}
 use Rattle.cacache_table.specs.declared.command.Source.TheVariants as sources
-use Rattle.cacache_table.specs.declared.reply.Reply.{Reply}
-use Rattle.cacache_table.specs.declared.reply.Reply.TheVariants.{Refused}
-use Rattle.cacache_table.specs.State.{State, over}
-use Rattle.cacache_table.specs.Table.{wants, after, opening}
-use Rattle.cacache_table.specs.Runs.{plain_reply}
-use Rattle.cacache_table.specs.Sound.{MayBegin}
-use Rattle.cacache_value.specs.Traces.{Move}
-use Rattle.cacache_value.specs.OpeningTrees.{with_files, LieApart}
-use Rattle.cacache_history.specs.declared.record.Record.{Record}
-use Rattle.cacache_history.specs.declared.record.Record.TheVariants.{Began, Moved, Stopped}
-use Rattle.cacache_history.specs.Setup.{Setup, call_site, home, may_export, is_outside}
+use Rattle.cacache_value.specs.{Traces.{Move}, OpeningTrees.{with_files, LieApart}}
+use Rattle.cacache_history.specs.{declared.record.Record.{Record, TheVariants.{Began, Moved, Stopped}}, Setup.{Setup, call_site, home, may_export, is_outside}}
 
 -- what callers share, and what happened, oldest first
 pub record History : Type 0 where

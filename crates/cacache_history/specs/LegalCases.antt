@@ -3,30 +3,12 @@
 use Rattle.std.specs.Prelude.{◌≡◌, ◌⊎◌, ◌<◌, ℕ, List, [], ◌∷◌, ◌++◌, Option, None, Some, true, codes}
 use Rattle.sha1.specs.Sha1.{sha1}
 use Rattle.cacache_core.specs.declared.errors.Error.TheVariants.{OutOfMemory}
-use Rattle.cacache_store.specs.declared.store.step.Step.TheVariants.{ReadAll}
-use Rattle.cacache_store.specs.Plain.{PlainStep}
-use Rattle.cacache_disk.specs.declared.luck.Luck.{Luck}
-use Rattle.cacache_disk.specs.Tree.{bare}
-use Rattle.cacache_disk.specs.Apply.{apply}
+use Rattle.cacache_store.specs.{declared.store.step.Step.TheVariants.{ReadAll}, Plain.{PlainStep}}
+use Rattle.cacache_disk.specs.{declared.luck.Luck.{Luck}, Tree.{bare}, Apply.{apply}}
 use Rattle.cacache_entry.specs.Latest.{Found}
-use Rattle.cacache_table.specs.declared.command.Command.{Command}
+use Rattle.cacache_table.specs.{declared.{command.{Command.{Command}, Source.{Source}, Export.{Export}, Link.{Link}}, reply.Reply.{Reply, TheVariants.{LookedUp, Refused}}}, Linking.{link_target}, StepPaths.{bucket_path}, Replies.{find_reply, bucket_shown}, Runs.{plain_reply}, State.{over}, Table.{wants, after}}
 use Rattle.cacache_table.specs.declared.command.Command.TheVariants as commands
-use Rattle.cacache_table.specs.declared.command.Source.{Source}
-use Rattle.cacache_table.specs.declared.command.Export.{Export}
-use Rattle.cacache_table.specs.declared.command.Link.{Link}
-use Rattle.cacache_table.specs.declared.reply.Reply.{Reply}
-use Rattle.cacache_table.specs.declared.reply.Reply.TheVariants.{LookedUp, Refused}
-use Rattle.cacache_table.specs.Linking.{link_target}
-use Rattle.cacache_table.specs.StepPaths.{bucket_path}
-use Rattle.cacache_table.specs.Replies.{find_reply, bucket_shown}
-use Rattle.cacache_table.specs.Runs.{plain_reply}
-use Rattle.cacache_table.specs.State.{over}
-use Rattle.cacache_table.specs.Table.{wants, after}
-use Rattle.cacache_history.specs.declared.record.Record.{Record}
-use Rattle.cacache_history.specs.declared.record.Record.TheVariants.{Began, Moved, Stopped}
-use Rattle.cacache_history.specs.Setup.{call_site, may_export, is_outside}
-use Rattle.cacache_history.specs.History.{History, Call, Made, turn_of, now_at, IsLegal}
-use Rattle.cacache_history.specs.ShownTurns.{bucket_read}
+use Rattle.cacache_history.specs.{declared.record.Record.{Record, TheVariants.{Began, Moved, Stopped}}, Setup.{call_site, may_export, is_outside}, History.{History, Call, Made, turn_of, now_at, IsLegal}, ShownTurns.{bucket_read}}
 
 -- the record comes right behind these
 abbrev pub Comes : History → List Record → Record → Type 0

@@ -1,13 +1,9 @@
 -- Contents that are links, and the bytes that their targets held.
 use Rattle.std.specs.Prelude.{◌≡◌, ℕ, List, ◌++◌, Some, Ok}
-use Rattle.cacache_core.specs.declared.errors.Fault.TheVariants.{IsADirectory}
-use Rattle.cacache_core.specs.declared.integrity.digest.Hash.{Hash}
-use Rattle.cacache_core.specs.Integrity.{IsHash}
+use Rattle.cacache_core.specs.{declared.{errors.Fault.TheVariants.{IsADirectory}, integrity.digest.Hash.{Hash}}, Integrity.{IsHash}}
 use Rattle.cacache_disk.specs.LedTo.{file_at}
 use Rattle.cacache_value.specs.Value.{AtLink}
-use Rattle.cacache_history.specs.declared.record.Record.{Record}
-use Rattle.cacache_history.specs.History.{History, now_at}
-use Rattle.cacache_history.specs.Values.{value_at, HasDigest}
+use Rattle.cacache_history.specs.{declared.record.Record.{Record}, History.{History, now_at}, Values.{value_at, HasDigest}}
 
 -- the file that a path leads to holds these bytes after the first records
 abbrev pub HoldsAt : History → List Record → List ℕ → List ℕ → Type 0

@@ -1,28 +1,13 @@
 -- What a listing reads, and what it answers, by what the cache holds at the places of its turns.
 use Rattle.std.specs.Prelude.{◌≡◌, ◌⊎◌, ◌≤◌, ◌+◌, ◌||◌, ℕ, Bool, false, All, List, [], ◌∷◌, ◌++◌, Option, None, Some, Result, Ok, Err, length, take, nat_lt, if◌then◌else◌}
 use Rattle.sha1.specs.Sha1.{sha1}
-use Rattle.cacache_core.specs.declared.errors.Error.TheVariants.{OutOfMemory}
-use Rattle.cacache_core.specs.Paths.{joined, bucket_names, index_area}
-use Rattle.cacache_core.specs.PathNames.{Names, IsProperName}
-use Rattle.cacache_store.specs.declared.store.answer.Name.{Name}
+use Rattle.cacache_core.specs.{declared.errors.Error.TheVariants.{OutOfMemory}, Paths.{joined, bucket_names, index_area}, PathNames.{Names, IsProperName}}
+use Rattle.cacache_store.specs.{declared.store.answer.Name.{Name}, Plain.{PlainStep}}
 use Rattle.cacache_store.specs.declared.store.step.Step.TheVariants as steps
-use Rattle.cacache_store.specs.Plain.{PlainStep}
-use Rattle.cacache_entry.specs.Entry.{Entry}
-use Rattle.cacache_entry.specs.Latest.{latest}
-use Rattle.cacache_table.specs.declared.answers.Refusal.{Refusal}
+use Rattle.cacache_entry.specs.{Entry.{Entry}, Latest.{latest}}
+use Rattle.cacache_table.specs.{declared.{answers.Refusal.{Refusal}, reply.Reply.{Reply, TheVariants.{Listed, Refused}}}, Answers.{names_in}, ListReplies.{by_folder, too_deep}, StepPaths.{bucket_path}, Runs.{plain_reply}, State.{Item}, Walking.{most}}
 use Rattle.cacache_table.specs.declared.command.Command.TheVariants as commands
-use Rattle.cacache_table.specs.declared.reply.Reply.{Reply}
-use Rattle.cacache_table.specs.declared.reply.Reply.TheVariants.{Listed, Refused}
-use Rattle.cacache_table.specs.Answers.{names_in}
-use Rattle.cacache_table.specs.ListReplies.{by_folder, too_deep}
-use Rattle.cacache_table.specs.StepPaths.{bucket_path}
-use Rattle.cacache_table.specs.Runs.{plain_reply}
-use Rattle.cacache_table.specs.State.{Item}
-use Rattle.cacache_table.specs.Walking.{most}
-use Rattle.cacache_history.specs.Setup.{Setup}
-use Rattle.cacache_history.specs.History.{History, Turn, Call, Reaches}
-use Rattle.cacache_history.specs.ShownTurns.{held, entries_at, bucket_read, by_entries}
-use Rattle.cacache_history.specs.Turns.{EachTurn}
+use Rattle.cacache_history.specs.{Setup.{Setup}, History.{History, Turn, Call, Reaches}, ShownTurns.{held, entries_at, bucket_read, by_entries}, Turns.{EachTurn}}
 
 -- ---- what is read
 

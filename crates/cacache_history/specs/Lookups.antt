@@ -1,22 +1,11 @@
 -- What a lookup finds at each place of a history: it goes by the last entry that was written.
 use Rattle.std.specs.Prelude.{◌≡◌, ◌⊎◌, ◌≤◌, ◌<◌, ℕ, All, List, [], ◌∷◌, Option, None, Some, take}
 use Rattle.sha1.specs.Sha1.{sha1}
-use Rattle.cacache_core.specs.declared.integrity.digest.Hash.{Hash}
-use Rattle.cacache_core.specs.Integrity.{Meets, integrity_under}
-use Rattle.cacache_entry.specs.Entry.{Entry}
-use Rattle.cacache_entry.specs.Latest.{Found, found_of, answer_to, latest}
-use Rattle.cacache_table.specs.declared.command.Command.{Command}
+use Rattle.cacache_core.specs.{declared.integrity.digest.Hash.{Hash}, Integrity.{Meets, integrity_under}}
+use Rattle.cacache_entry.specs.{Entry.{Entry}, Latest.{Found, found_of, answer_to, latest}}
+use Rattle.cacache_table.specs.{declared.{command.{Command.{Command}, Put.{Put}}, reply.Reply.TheVariants.{Stored, Read, LookedUp}}, Inserting.{insertion, deletion}, Linking.{commit_for, link_target}, State.{Site}, Storing.{insertion_of, put_commit}}
 use Rattle.cacache_table.specs.declared.command.Command.TheVariants as commands
-use Rattle.cacache_table.specs.declared.command.Put.{Put}
-use Rattle.cacache_table.specs.declared.reply.Reply.TheVariants.{Stored, Read, LookedUp}
-use Rattle.cacache_table.specs.Inserting.{insertion, deletion}
-use Rattle.cacache_table.specs.Linking.{commit_for, link_target}
-use Rattle.cacache_table.specs.State.{Site}
-use Rattle.cacache_table.specs.Storing.{insertion_of, put_commit}
-use Rattle.cacache_history.specs.History.{History, Call}
-use Rattle.cacache_history.specs.Places.{now_before, MoveAt, CallIn, TurnsAreOwn, MovesAreOfCalls, MovesAre}
-use Rattle.cacache_history.specs.Setup.{call_site}
-use Rattle.cacache_history.specs.Values.{bucket_at}
+use Rattle.cacache_history.specs.{History.{History, Call}, Places.{now_before, MoveAt, CallIn, TurnsAreOwn, MovesAreOfCalls, MovesAre}, Setup.{call_site}, Values.{bucket_at}}
 
 -- ---- what is found
 

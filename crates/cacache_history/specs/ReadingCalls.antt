@@ -4,18 +4,10 @@ use Rattle.sha1.specs.Sha1.{sha1}
 use Rattle.cacache_core.specs.Integrity.{Meets}
 use Rattle.cacache_store.specs.declared.store.step.Step.TheVariants as steps
 use Rattle.cacache_entry.specs.Latest.{Found}
-use Rattle.cacache_table.specs.declared.command.Command.{Command}
+use Rattle.cacache_table.specs.{declared.{command.Command.{Command}, reply.Reply.{Reply, TheVariants.{Read}}}, StepPaths.{bucket_path}, Replies.{lookup}, Licence.{handing_out, KeepsTo}}
 use Rattle.cacache_table.specs.declared.command.Command.TheVariants as commands
-use Rattle.cacache_table.specs.declared.reply.Reply.{Reply}
-use Rattle.cacache_table.specs.declared.reply.Reply.TheVariants.{Read}
-use Rattle.cacache_table.specs.StepPaths.{bucket_path}
-use Rattle.cacache_table.specs.Replies.{lookup}
-use Rattle.cacache_table.specs.Licence.{handing_out, KeepsTo}
 use Rattle.cacache_value.specs.Acts.{Nothing, act_of}
-use Rattle.cacache_history.specs.Setup.{Setup}
-use Rattle.cacache_history.specs.History.{History, Turn, Call, Reaches}
-use Rattle.cacache_history.specs.Turns.{EachTurn}
-use Rattle.cacache_history.specs.ShownTurns.{bucket_read}
+use Rattle.cacache_history.specs.{Setup.{Setup}, History.{History, Turn, Call, Reaches}, Turns.{EachTurn}, ShownTurns.{bucket_read}}
 
 -- ---- they change nothing
 

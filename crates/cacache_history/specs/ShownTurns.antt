@@ -1,22 +1,14 @@
 -- What the turns of a call show of what the cache holds at their places.
 use Rattle.std.specs.Prelude.{ℕ, List, [], ◌∷◌, Option, None, Some, Result, Ok, Err, Bool}
-use Rattle.cacache_core.specs.declared.errors.Fault.{Fault}
+use Rattle.cacache_core.specs.{declared.{errors.Fault.{Fault}, integrity.digest.Hash.{Hash}}, Integrity.{address}}
 use Rattle.cacache_core.specs.declared.errors.Fault.TheVariants as faults
-use Rattle.cacache_core.specs.declared.integrity.digest.Hash.{Hash}
-use Rattle.cacache_core.specs.Integrity.{address}
 use Rattle.cacache_store.specs.declared.store.answer.Answer.TheVariants as answers
 use Rattle.cacache_store.specs.Plain.{PlainAnswer}
 use Rattle.cacache_entry.specs.Entry.{Entry}
-use Rattle.cacache_table.specs.declared.answers.Refusal.{Refusal}
+use Rattle.cacache_table.specs.{declared.answers.Refusal.{Refusal}, Answers.{there_in}, State.{Item}, Walking.{items_of, failed}}
 use Rattle.cacache_table.specs.declared.answers.Refusal.TheVariants as refusals
-use Rattle.cacache_table.specs.Answers.{there_in}
-use Rattle.cacache_table.specs.State.{Item}
-use Rattle.cacache_table.specs.Walking.{items_of, failed}
-use Rattle.cacache_value.specs.Value.{Value, Blob, value_of_tree}
-use Rattle.cacache_value.specs.Acts.{list_of}
-use Rattle.cacache_value.specs.Shows.{blob_bytes, blob_there}
-use Rattle.cacache_history.specs.Setup.{Setup, home}
-use Rattle.cacache_history.specs.History.{Turn}
+use Rattle.cacache_value.specs.{Value.{Value, Blob, value_of_tree}, Acts.{list_of}, Shows.{blob_bytes, blob_there}}
+use Rattle.cacache_history.specs.{Setup.{Setup, home}, History.{Turn}}
 
 -- ---- what the cache holds at a turn's place
 

@@ -2,15 +2,8 @@
 use Rattle.std.specs.Prelude.{◌≡◌, ◌⊎◌, ℕ, List, ◌∷◌, ◌++◌, Option, Some}
 use Rattle.cacache_core.specs.declared.errors.Error.TheVariants.{OutOfMemory}
 use Rattle.cacache_disk.specs.declared.luck.Luck.{Luck}
-use Rattle.cacache_table.specs.declared.reply.Reply.{Reply}
-use Rattle.cacache_table.specs.declared.reply.Reply.TheVariants.{Refused}
-use Rattle.cacache_table.specs.Runs.{Runs, plain_reply}
-use Rattle.cacache_table.specs.Table.{opening}
-use Rattle.cacache_history.specs.declared.record.Record.{Record}
-use Rattle.cacache_history.specs.declared.record.Record.TheVariants.{Moved}
-use Rattle.cacache_history.specs.Setup.{call_site}
-use Rattle.cacache_history.specs.History.{History, Turn, Call, Made, turn_of, now_at, Reaches}
-use Rattle.cacache_history.specs.Turns.{made_in, EachTurn}
+use Rattle.cacache_table.specs.{declared.reply.Reply.{Reply, TheVariants.{Refused}}, Runs.{Runs, plain_reply}, Table.{opening}}
+use Rattle.cacache_history.specs.{declared.record.Record.{Record, TheVariants.{Moved}}, Setup.{call_site}, History.{History, Turn, Call, Made, turn_of, now_at, Reaches}, Turns.{made_in, EachTurn}}
 
 -- a turn is the move after these records
 pub record TurnAt (h : History) (turn : Turn) : Type 0 where

@@ -1,30 +1,15 @@
 -- What lookups, reads and listings answer, by what their turns show.
 use Rattle.std.specs.Prelude.{◌≡◌, ◌⊎◌, ℕ, List, [], ◌∷◌, Option, None, Some, Result, Ok, Err, Bool, true, false}
 use Rattle.sha1.specs.Sha1.{sha1}
-use Rattle.cacache_core.specs.declared.errors.Error.TheVariants.{EntryNotFound, OutOfMemory}
-use Rattle.cacache_core.specs.declared.integrity.digest.Hash.{Hash}
-use Rattle.cacache_core.specs.Integrity.{Meets}
+use Rattle.cacache_core.specs.{declared.{errors.Error.TheVariants.{EntryNotFound, OutOfMemory}, integrity.digest.Hash.{Hash}}, Integrity.{Meets}}
 use Rattle.cacache_store.specs.declared.store.step.Step.TheVariants as steps
 use Rattle.cacache_store.specs.Plain.{PlainStep}
 use Rattle.cacache_entry.specs.Latest.{Found}
-use Rattle.cacache_table.specs.declared.answers.Refusal.{Refusal}
-use Rattle.cacache_table.specs.declared.command.Command.{Command}
+use Rattle.cacache_table.specs.{declared.{answers.Refusal.{Refusal}, command.{Command.{Command}, Source.{Source}}, reply.Reply.{Reply, TheVariants.{Refused}}}, Causes.{HasCause, own_of}, StepPaths.{bucket_path, content_path}, Replies.{find_reply, content_reply, there_reply, refusal_reply, lookup}, Runs.{plain_reply}, Verifying.{CountsAs, UnlessRefused}}
 use Rattle.cacache_table.specs.declared.command.Command.TheVariants as commands
-use Rattle.cacache_table.specs.declared.command.Source.{Source}
 use Rattle.cacache_table.specs.declared.command.Source.TheVariants as sources
-use Rattle.cacache_table.specs.declared.reply.Reply.{Reply}
-use Rattle.cacache_table.specs.declared.reply.Reply.TheVariants.{Refused}
-use Rattle.cacache_table.specs.Causes.{HasCause, own_of}
-use Rattle.cacache_table.specs.StepPaths.{bucket_path, content_path}
-use Rattle.cacache_table.specs.Replies.{find_reply, content_reply, there_reply, refusal_reply, lookup}
-use Rattle.cacache_table.specs.Runs.{plain_reply}
-use Rattle.cacache_table.specs.Verifying.{CountsAs, UnlessRefused}
 use Rattle.cacache_value.specs.Shows.{blob_bytes}
-use Rattle.cacache_history.specs.Setup.{Setup}
-use Rattle.cacache_history.specs.History.{History, Turn, Call, Reaches}
-use Rattle.cacache_history.specs.Turns.{made_in}
-use Rattle.cacache_history.specs.ShownTurns.{content_at, bucket_read, content_read, there_read}
-use Rattle.cacache_history.specs.ListingTurns.{ListsHeld}
+use Rattle.cacache_history.specs.{Setup.{Setup}, History.{History, Turn, Call, Reaches}, Turns.{made_in}, ShownTurns.{content_at, bucket_read, content_read, there_read}, ListingTurns.{ListsHeld}}
 
 -- ---- replies
 

@@ -1,21 +1,9 @@
 -- What the cache holds at each place of a history.
 use Rattle.std.specs.Prelude.{◌≡◌, ℕ, List, [], ◌∷◌, ◌++◌, None, Some, Option, false}
-use Rattle.cacache_core.specs.declared.integrity.algorithm.Algorithm.{Algorithm}
-use Rattle.cacache_core.specs.declared.integrity.digest.Hash.{Hash}
-use Rattle.cacache_core.specs.Digests.{digest}
-use Rattle.cacache_core.specs.Integrity.{IsHash, IsIntegrity, Meets, hash_of, integrity_under}
-use Rattle.cacache_core.specs.PathNames.{Names}
-use Rattle.cacache_core.specs.Paths.{content_names}
+use Rattle.cacache_core.specs.{declared.integrity.{algorithm.Algorithm.{Algorithm}, digest.Hash.{Hash}}, Digests.{digest}, Integrity.{IsHash, IsIntegrity, Meets, hash_of, integrity_under}, PathNames.{Names}, Paths.{content_names}}
 use Rattle.cacache_entry.specs.Entry.{Entry}
-use Rattle.cacache_value.specs.Value.{Blob, InFile, Value, empty_value, wide_value, cache_part, value_of_tree}
-use Rattle.cacache_value.specs.Kinds.{is_path_of}
-use Rattle.cacache_value.specs.Acts.{Act, Drop, act_of, list_of}
-use Rattle.cacache_value.specs.Traces.{Move, acts}
-use Rattle.cacache_value.specs.ValueLaws.{KeepBucket, IsLonger}
-use Rattle.cacache_history.specs.declared.record.Record.{Record}
-use Rattle.cacache_history.specs.declared.record.Record.TheVariants.{Began, Moved, Stopped}
-use Rattle.cacache_history.specs.Setup.{home}
-use Rattle.cacache_history.specs.History.{History, initial, now_at}
+use Rattle.cacache_value.specs.{Value.{Blob, InFile, Value, empty_value, wide_value, cache_part, value_of_tree}, Kinds.{is_path_of}, Acts.{Act, Drop, act_of, list_of}, Traces.{Move, acts}, ValueLaws.{KeepBucket, IsLonger}}
+use Rattle.cacache_history.specs.{declared.record.Record.{Record, TheVariants.{Began, Moved, Stopped}}, Setup.{home}, History.{History, initial, now_at}}
 
 -- the steps of these records, of all callers
 abbrev pub steps_of : List Record → List Move

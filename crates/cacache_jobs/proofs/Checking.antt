@@ -1,16 +1,8 @@
 -- Bytes are answered exactly where they meet their integrity.
 use Rattle.std.proofs.Common.{◌≡◌, inl, inr, ℕ, List, Bool, true, false, refl}
-use Rattle.cacache_core.specs.declared.errors.Error.{Error}
-use Rattle.cacache_core.specs.declared.errors.Error.TheVariants.{OutOfMemory, IntegrityError}
-use Rattle.cacache_core.specs.Integrity.{Meets, actual}
-use Rattle.cacache_core.specs.Meeting.{meets}
-use Rattle.cacache_core.specs.Refusals.{IsCheckFailure}
+use Rattle.cacache_core.specs.{declared.errors.Error.{Error, TheVariants.{OutOfMemory, IntegrityError}}, Integrity.{Meets, actual}, Meeting.{meets}, Refusals.{IsCheckFailure}}
 use Rattle.cacache_core.proofs.Meeting.{meets_finds}
-use Rattle.cacache_table.specs.declared.reply.Reply.TheVariants.{Read}
-use Rattle.cacache_table.specs.ContentReads.{checked}
-use Rattle.cacache_table.specs.State.{over}
-use Rattle.cacache_table.specs.declared.carried.Content.{Content}
-use Rattle.cacache_table.specs.Runs.{EndsAs}
+use Rattle.cacache_table.specs.{declared.{reply.Reply.TheVariants.{Read}, carried.Content.{Content}}, ContentReads.{checked}, State.{over}, Runs.{EndsAs}}
 
 -- bytes that meet the integrity are answered
 pub checked_met : (k : Content) (b : List ℕ) → Meets k.integrity b → checked k b ≡ over (Read b)

@@ -1,11 +1,6 @@
 -- Whether integrities match, as a test.
-use Rattle.std.proofs.Common.{◌≡◌, List, Option, None, Some, refl, sym, ◌∙◌}
-use Rattle.std.specs.Prelude.{IfSome, IsSome, is_some}
-use Rattle.cacache_core.specs.declared.integrity.algorithm.Algorithm.{Algorithm}
-use Rattle.cacache_core.specs.declared.integrity.digest.Hash.{Hash}
-use Rattle.cacache_core.specs.Integrity.{strongest, ShareDigest}
-use Rattle.cacache_core.specs.IntegrityLaws.{MatchingFindsShared}
-use Rattle.cacache_core.specs.Meeting.{matching}
+use Rattle.std.{proofs.Common.{◌≡◌, List, Option, None, Some, refl, sym, ◌∙◌}, specs.Prelude.{IfSome, IsSome, is_some}}
+use Rattle.cacache_core.specs.{declared.integrity.{algorithm.Algorithm.{Algorithm}, digest.Hash.{Hash}}, Integrity.{strongest, ShareDigest}, IntegrityLaws.{MatchingFindsShared}, Meeting.{matching}}
 
 -- what shares a digest of the strongest algorithm
 abbrev pub FindsShared : List Hash → List Hash → Option Algorithm → Type 0

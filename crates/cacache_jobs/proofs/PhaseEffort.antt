@@ -1,23 +1,14 @@
 -- A phase's bound on its steps is that of its state.
 use Rattle.std.proofs.Common.{◌≡◌, ℕ, ◌+◌, List, Some, length, ap, sym, ◌∙◌}
-use Rattle.cacache_store.specs.declared.store.plain.PlainFile.{PlainFile}
-use Rattle.cacache_store.specs.declared.store.plain.PlainTemp.{PlainTemp}
-use Rattle.cacache_store.specs.Plain.{PlainStep}
+use Rattle.cacache_store.specs.{declared.store.plain.{PlainFile.{PlainFile}, PlainTemp.{PlainTemp}}, Plain.{PlainStep}}
 use Rattle.cacache_store.specs.declared.store.step.Step.TheVariants as steps
-use Rattle.cacache_table.specs.State.{State, Hashing, hashing}
-use Rattle.cacache_table.specs.Runs.{effort}
-use Rattle.cacache_table.specs.Table.{wants, piece}
-use Rattle.cacache_jobs.specs.declared.stage.Then.{Then}
-use Rattle.cacache_jobs.specs.declared.stage.Then.TheVariants as thens
-use Rattle.cacache_jobs.specs.declared.stage.Stage.{Stage}
-use Rattle.cacache_jobs.specs.declared.stage.Stage.TheVariants as stages
-use Rattle.cacache_jobs.specs.declared.phase.Phase.{Phase}
-use Rattle.cacache_jobs.specs.declared.phase.Phase.TheVariants as phases
-use Rattle.cacache_jobs.specs.JobStates.{GoalAt, ThenAt, StageAt, PhaseAt}
+use Rattle.cacache_table.specs.{State.{State, Hashing, hashing}, Runs.{effort}, Table.{wants, piece}}
+use Rattle.cacache_jobs.specs.{declared.{stage.{Then.{Then}, Stage.{Stage}}, phase.Phase.{Phase}, syncing.Goal.{Goal}}, JobStates.{GoalAt, ThenAt, StageAt, PhaseAt}, Effort.{goal_effort, then_effort, left_to_read, stage_effort, phase_effort}}
 use Rattle.cacache_jobs.proofs.SyncedFolders.{moved_effort, sync_effort}
-use Rattle.cacache_jobs.specs.declared.syncing.Goal.{Goal}
+use Rattle.cacache_jobs.specs.declared.stage.Then.TheVariants as thens
+use Rattle.cacache_jobs.specs.declared.stage.Stage.TheVariants as stages
+use Rattle.cacache_jobs.specs.declared.phase.Phase.TheVariants as phases
 use Rattle.cacache_jobs.specs.declared.syncing.Goal.TheVariants as goals
-use Rattle.cacache_jobs.specs.Effort.{goal_effort, then_effort, left_to_read, stage_effort, phase_effort}
 
 module _ {T : Type 0} (temp : T → PlainTemp) where
   goal_effort_is : (goal : Goal) (s : State) → GoalAt goal s → effort s ≡ goal_effort goal

@@ -1,16 +1,9 @@
 -- How an insertion ends before its first step, and the integrity that stands for none.
-use Rattle.std.proofs.Common.{◌≡◌, List, Result, Ok, Err, refl, sym, ◌∙◌, codes, rules}
-use Rattle.std.specs.Prelude.{IfOk, IfErr}
+use Rattle.std.{proofs.Common.{◌≡◌, List, Result, Ok, Err, refl, sym, ◌∙◌, codes, rules}, specs.Prelude.{IfOk, IfErr}}
 use Rattle.base64.specs.Decode.{groups_error, scan_steps, groups_bytes}
-use Rattle.cacache_core.specs.declared.errors.Error.{Error}
-use Rattle.cacache_core.specs.declared.errors.Error.TheVariants.{EntryNotFound, SizeMismatch, IoError, SerdeError, IntegrityError, OutOfMemory}
-use Rattle.cacache_core.specs.declared.integrity.digest.Hash.{Hash}
-use Rattle.cacache_core.specs.Refusals.{IsReadFailure}
-use Rattle.cacache_core.specs.Texts.{read_integrity}
+use Rattle.cacache_core.specs.{declared.{errors.Error.{Error, TheVariants.{EntryNotFound, SizeMismatch, IoError, SerdeError, IntegrityError, OutOfMemory}}, integrity.digest.Hash.{Hash}}, Refusals.{IsReadFailure}, Texts.{read_integrity}}
 use Rattle.cacache_entry.specs.View.{IsRefusal}
-use Rattle.cacache_table.specs.State.{Insertion}
-use Rattle.cacache_table.specs.Inserting.{insert, no_integrity, refused_cause}
-use Rattle.cacache_table.specs.Runs.{EndsAs}
+use Rattle.cacache_table.specs.{State.{Insertion}, Inserting.{insert, no_integrity, refused_cause}, Runs.{EndsAs}}
 
 -- an entry that is refused ends the call so
 pub refusal_ends : (j : Insertion) (e : Error) → IsRefusal j.entry e → EndsAs e (insert j)

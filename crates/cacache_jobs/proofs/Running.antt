@@ -1,29 +1,14 @@
 -- How a run grows by a step, and how a call follows it.
 use Rattle.std.proofs.Common.{◌≡◌, ◌⊎◌, inl, inr, ◌<◌, List, [], ◌∷◌, ◌++◌, Option, Some, None, option_map, true, refl, sym, ap, arith, append_assoc, append-nil}
 use Rattle.cacache_core.specs.declared.errors.Error.TheVariants.{OutOfMemory}
-use Rattle.cacache_store.specs.declared.store.plain.PlainFile.{PlainFile}
-use Rattle.cacache_store.specs.declared.store.plain.PlainTemp.{PlainTemp}
-use Rattle.cacache_store.specs.declared.store.log.LogItem.{LogItem}
-use Rattle.cacache_store.specs.declared.store.log.LogItem.TheVariants.{Made}
+use Rattle.cacache_store.specs.{declared.store.{plain.{PlainFile.{PlainFile}, PlainTemp.{PlainTemp}}, log.LogItem.{LogItem, TheVariants.{Made}}}, Plain.{PlainStep, PlainAnswer}, Fits.{Fits, Logs}}
 use Rattle.cacache_store.specs.declared.store.answer.Answer.TheVariants as answers
-use Rattle.cacache_store.specs.Plain.{PlainStep, PlainAnswer}
-use Rattle.cacache_store.specs.Fits.{Fits, Logs}
-use Rattle.cacache_table.specs.declared.reply.Reply.{Reply}
-use Rattle.cacache_table.specs.declared.reply.Reply.TheVariants.{Refused}
-use Rattle.cacache_table.specs.State.{State, over}
-use Rattle.cacache_table.specs.Table.{wants, after}
-use Rattle.cacache_table.specs.Runs.{Moves, Runs, Gains, Ran, effort}
-use Rattle.cacache_table.proofs.Effort.{falls}
-use Rattle.cacache_table.proofs.Memory.{no_memory_after}
-use Rattle.cacache_table.proofs.Going.{answer_cases, gains_one, no_gain}
-use Rattle.cacache_jobs.specs.declared.phase.Phase.{Phase}
-use Rattle.cacache_jobs.specs.declared.phase.Phase.TheVariants as phases
-use Rattle.cacache_jobs.specs.declared.job.Standing.{Standing}
-use Rattle.cacache_jobs.specs.declared.job.Standing.TheVariants as standings
-use Rattle.cacache_jobs.specs.JobStates.{PhaseAt}
-use Rattle.cacache_jobs.specs.Jobs.{IdleAt, OutAt, LostMemory, PhaseGoesTo, GoesOnTo, is_idle}
-use Rattle.cacache_jobs.specs.Effort.{phase_effort}
+use Rattle.cacache_table.specs.{declared.reply.Reply.{Reply, TheVariants.{Refused}}, State.{State, over}, Table.{wants, after}, Runs.{Moves, Runs, Gains, Ran, effort}}
+use Rattle.cacache_table.proofs.{Effort.{falls}, Memory.{no_memory_after}, Going.{answer_cases, gains_one, no_gain}}
+use Rattle.cacache_jobs.specs.{declared.{phase.Phase.{Phase}, job.Standing.{Standing}}, JobStates.{PhaseAt}, Jobs.{IdleAt, OutAt, LostMemory, PhaseGoesTo, GoesOnTo, is_idle}, Effort.{phase_effort}}
 use Rattle.cacache_jobs.proofs.PhaseEffort.{phase_effort_is}
+use Rattle.cacache_jobs.specs.declared.phase.Phase.TheVariants as phases
+use Rattle.cacache_jobs.specs.declared.job.Standing.TheVariants as standings
 
 -- the steps so far lead from the first state to this one
 pub record Reached (s0 : State) (old new : Option (List LogItem)) (s : State) : Type 0 where

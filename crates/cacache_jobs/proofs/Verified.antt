@@ -1,14 +1,8 @@
 -- A content is exported exactly where its bytes meet its integrity.
 use Rattle.std.proofs.Common.{◌≡◌, inl, inr, ℕ, List, Some, length, refl}
-use Rattle.cacache_core.specs.declared.errors.Error.{Error}
-use Rattle.cacache_core.specs.declared.errors.Error.TheVariants.{OutOfMemory, IntegrityError}
-use Rattle.cacache_core.specs.Integrity.{Meets, actual}
-use Rattle.cacache_core.specs.Refusals.{IsCheckFailure}
+use Rattle.cacache_core.specs.{declared.errors.Error.{Error, TheVariants.{OutOfMemory, IntegrityError}}, Integrity.{Meets, actual}, Refusals.{IsCheckFailure}}
 use Rattle.cacache_core.proofs.Meeting.{meets_finds}
-use Rattle.cacache_table.specs.declared.command.Export.{Export}
-use Rattle.cacache_table.specs.Exporting.{verified, export_content}
-use Rattle.cacache_table.specs.declared.carried.Content.{Content}
-use Rattle.cacache_table.specs.Runs.{EndsAs}
+use Rattle.cacache_table.specs.{declared.{command.Export.{Export}, carried.Content.{Content}}, Exporting.{verified, export_content}, Runs.{EndsAs}}
 use Rattle.cacache_jobs.proofs.Checking.{unmet_test}
 
 -- bytes that meet the integrity are exported

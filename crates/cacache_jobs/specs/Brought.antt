@@ -1,9 +1,7 @@
 -- What the answer to a step brought, or the error that it ends a call with.
 use Rattle.std.specs.Prelude.{◌≡◌, Result, Ok, Err}
 use Rattle.cacache_core.specs.declared.errors.Error.{Error}
-use Rattle.cacache_table.specs.declared.answers.Refusal.{Refusal}
-use Rattle.cacache_table.specs.Common.{fails, refuse}
-use Rattle.cacache_table.specs.Runs.{EndsAs}
+use Rattle.cacache_table.specs.{declared.answers.Refusal.{Refusal}, Common.{fails, refuse}, Runs.{EndsAs}}
 
 -- the step was refused, and a call ends so with this error
 abbrev pub EndsRefused : {Y : Type 0} → Result Y Refusal → Error → Type 0

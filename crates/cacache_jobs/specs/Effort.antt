@@ -1,19 +1,13 @@
 -- A bound on the steps that a call still takes.
 use Rattle.std.specs.Prelude.{ℕ, ◌+◌, ◌*◌, ◌^◌, if◌then◌else◌, length}
-use Rattle.cacache_store.specs.declared.store.plain.PlainFile.{PlainFile}
-use Rattle.cacache_store.specs.declared.store.plain.PlainTemp.{PlainTemp}
-use Rattle.cacache_store.specs.Plain.{PlainStep, plain_step}
+use Rattle.cacache_store.specs.{declared.store.plain.{PlainFile.{PlainFile}, PlainTemp.{PlainTemp}}, Plain.{PlainStep, plain_step}}
 use Rattle.cacache_store.specs.declared.store.step.Step.TheVariants as steps
-use Rattle.cacache_table.specs.Runs.{weight, weights, effort}
-use Rattle.cacache_table.specs.Storing.{placed}
-use Rattle.cacache_jobs.specs.declared.syncing.Goal.{Goal}
+use Rattle.cacache_table.specs.{Runs.{weight, weights, effort}, Storing.{placed}}
+use Rattle.cacache_jobs.specs.declared.{syncing.Goal.{Goal}, stage.{Then.{Then}, Stage.{Stage}}, phase.Phase.{Phase}}
 use Rattle.cacache_jobs.specs.declared.syncing.Goal.TheVariants as goals
 use Rattle.cacache_walks.specs.WalkStates.{pending}
-use Rattle.cacache_jobs.specs.declared.stage.Then.{Then}
 use Rattle.cacache_jobs.specs.declared.stage.Then.TheVariants as thens
-use Rattle.cacache_jobs.specs.declared.stage.Stage.{Stage}
 use Rattle.cacache_jobs.specs.declared.stage.Stage.TheVariants as stages
-use Rattle.cacache_jobs.specs.declared.phase.Phase.{Phase}
 use Rattle.cacache_jobs.specs.declared.phase.Phase.TheVariants as phases
 
 -- of what follows syncs

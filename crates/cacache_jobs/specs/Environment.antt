@@ -1,14 +1,8 @@
 -- What a call does to its environment: its moments and numbers are those of the environment, before and after.
 use Rattle.std.specs.Prelude.{◌≡◌, ◌<◌, ◌^◌, ℕ, List, Option, None, Some}
-use Rattle.cacache_store.specs.declared.env.Env.{Env}
-use Rattle.cacache_store.specs.declared.store.log.LogItem.{LogItem}
-use Rattle.cacache_store.specs.Given.{AddsAnswer}
-use Rattle.cacache_table.specs.declared.command.Put.{Put}
-use Rattle.cacache_table.specs.declared.command.Command.{Command}
+use Rattle.cacache_store.specs.{declared.{env.Env.{Env}, store.log.LogItem.{LogItem}}, Given.{AddsAnswer}}
+use Rattle.cacache_table.specs.{declared.{command.{Put.{Put}, Command.{Command}}, reply.Reply.{Reply}}, Table.{opening}, Runs.{Ran}}
 use Rattle.cacache_table.specs.declared.command.Command.TheVariants as commands
-use Rattle.cacache_table.specs.declared.reply.Reply.{Reply}
-use Rattle.cacache_table.specs.Table.{opening}
-use Rattle.cacache_table.specs.Runs.{Ran}
 use Rattle.cacache_jobs.specs.Sites.{site_of}
 
 -- the environment stayed, but for its store

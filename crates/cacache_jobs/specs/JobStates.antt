@@ -1,35 +1,15 @@
 -- Which state of the table a job stands in.
 use Rattle.std.specs.Prelude.{◌≡◌, ℕ, List, [], Option, Some, None, Result, Ok, Err, length, string_bytes}
-use Rattle.cacache_core.specs.declared.errors.Error.{Error}
-use Rattle.cacache_core.specs.declared.integrity.digest.Hash.{Hash}
-use Rattle.cacache_core.specs.Hashers.{Holds, algorithm_of}
-use Rattle.cacache_core.specs.Pieces.{Compares}
-use Rattle.cacache_store.specs.declared.store.plain.PlainFile.{PlainFile}
-use Rattle.cacache_store.specs.declared.store.plain.PlainTemp.{PlainTemp}
-use Rattle.cacache_store.specs.Plain.{PlainStep, plain_step}
-use Rattle.cacache_table.specs.StepPaths.{content_path, bucket_path, temp_path}
+use Rattle.cacache_core.specs.{declared.{errors.Error.{Error}, integrity.digest.Hash.{Hash}}, Hashers.{Holds, algorithm_of}, Pieces.{Compares}}
+use Rattle.cacache_store.specs.{declared.store.plain.{PlainFile.{PlainFile}, PlainTemp.{PlainTemp}}, Plain.{PlainStep, plain_step}}
+use Rattle.cacache_table.specs.{StepPaths.{content_path, bucket_path, temp_path}, State.{State, doing, creating, writing, syncing, persisting, confirming, appending, looking, reading, asking, sizing, opening_file, hashing, copying, linking, over, Errand, to_verify, to_link}, declared.{carried.Content.{Content}, reply.Reply.{Reply, TheVariants.{Stored, Done}}}, Inserting.{bucket_line}, Common.{sync_up}, Storing.{placed, move_in}, Removing.{remove_bucket}, Runs.{plain_reply, EndsAs}, Table.{wants}}
 use Rattle.cacache_table.specs.State as states
-use Rattle.cacache_table.specs.State.{State, doing, creating, writing, syncing, persisting, confirming, appending, looking, reading, asking, sizing, opening_file, hashing, copying, linking, over, Errand, to_verify, to_link}
-use Rattle.cacache_table.specs.declared.carried.Content.{Content}
-use Rattle.cacache_table.specs.Inserting.{bucket_line}
-use Rattle.cacache_table.specs.Common.{sync_up}
-use Rattle.cacache_table.specs.Storing.{placed, move_in}
-use Rattle.cacache_table.specs.Removing.{remove_bucket}
-use Rattle.cacache_table.specs.Runs.{plain_reply, EndsAs}
-use Rattle.cacache_table.specs.declared.reply.Reply.{Reply}
-use Rattle.cacache_table.specs.declared.reply.Reply.TheVariants.{Stored, Done}
-use Rattle.cacache_table.specs.Table.{wants}
 use Rattle.cacache_walks.specs.WalkStates.{WalksAt}
-use Rattle.cacache_jobs.specs.declared.inserting.Insertion.{Insertion}
-use Rattle.cacache_jobs.specs.declared.hashing.Hashing.{Hashing}
+use Rattle.cacache_jobs.specs.declared.{inserting.Insertion.{Insertion}, hashing.Hashing.{Hashing}, syncing.Goal.{Goal}, stage.{Then.{Then}, Stage.{Stage}}, phase.Phase.{Phase}}
 use Rattle.cacache_jobs.specs.declared.hashing.Hashing.TheVariants as hashings
-use Rattle.cacache_jobs.specs.declared.syncing.Goal.{Goal}
 use Rattle.cacache_jobs.specs.declared.syncing.Goal.TheVariants as goals
-use Rattle.cacache_jobs.specs.declared.stage.Then.{Then}
 use Rattle.cacache_jobs.specs.declared.stage.Then.TheVariants as thens
-use Rattle.cacache_jobs.specs.declared.stage.Stage.{Stage}
 use Rattle.cacache_jobs.specs.declared.stage.Stage.TheVariants as stages
-use Rattle.cacache_jobs.specs.declared.phase.Phase.{Phase}
 use Rattle.cacache_jobs.specs.declared.phase.Phase.TheVariants as phases
 
 -- ---- what a stage carries, as the table has it

@@ -1,22 +1,12 @@
 -- Where a job stands between two calls of it.
 use Rattle.std.specs.Prelude.{◌≡◌, ◌⊎◌, Bool, true, false, Option, Some, None}
 use Rattle.cacache_core.specs.declared.errors.Error.TheVariants.{OutOfMemory}
-use Rattle.cacache_store.specs.declared.store.plain.PlainFile.{PlainFile}
-use Rattle.cacache_store.specs.declared.store.plain.PlainTemp.{PlainTemp}
-use Rattle.cacache_store.specs.Plain.{PlainStep, plain_step}
-use Rattle.cacache_table.specs.State.{State, over}
-use Rattle.cacache_table.specs.Runs.{plain_reply}
-use Rattle.cacache_table.specs.Table.{wants}
-use Rattle.cacache_table.specs.declared.reply.Reply.{Reply}
-use Rattle.cacache_table.specs.declared.reply.Reply.TheVariants.{Refused}
-use Rattle.cacache_jobs.specs.declared.phase.Phase.{Phase}
+use Rattle.cacache_store.specs.{declared.store.plain.{PlainFile.{PlainFile}, PlainTemp.{PlainTemp}}, Plain.{PlainStep, plain_step}}
+use Rattle.cacache_table.specs.{State.{State, over}, Runs.{plain_reply}, Table.{wants}, declared.reply.Reply.{Reply, TheVariants.{Refused}}}
+use Rattle.cacache_jobs.specs.{declared.{phase.Phase.{Phase}, job.{Next.{Next}, Standing.{Standing}, Job.{Job}}}, JobStates.{IsAt, PhaseAt}}
 use Rattle.cacache_jobs.specs.declared.phase.Phase.TheVariants as phases
-use Rattle.cacache_jobs.specs.declared.job.Next.{Next}
 use Rattle.cacache_jobs.specs.declared.job.Next.TheVariants as next
-use Rattle.cacache_jobs.specs.declared.job.Standing.{Standing}
 use Rattle.cacache_jobs.specs.declared.job.Standing.TheVariants as standings
-use Rattle.cacache_jobs.specs.declared.job.Job.{Job}
-use Rattle.cacache_jobs.specs.JobStates.{IsAt, PhaseAt}
 
 -- ---- of a standing
 

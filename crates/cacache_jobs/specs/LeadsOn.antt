@@ -1,44 +1,12 @@
 -- Where what was brought takes a call.
 use Rattle.std.specs.Prelude.{◌≡◌, ℕ, List, [], Bool, Option, Result, length}
-use Rattle.cacache_core.specs.declared.errors.Error.{Error}
-use Rattle.cacache_core.specs.declared.integrity.checker.IntegrityChecker.{IntegrityChecker}
-use Rattle.cacache_core.specs.declared.integrity.digest.Hash.{Hash}
-use Rattle.cacache_core.specs.Integrity.{integrity_under}
-use Rattle.cacache_core.specs.Pieces.{Compares}
-use Rattle.cacache_store.specs.declared.store.answer.Answer.{Answer}
-use Rattle.cacache_store.specs.declared.store.log.LogItem.{LogItem}
-use Rattle.cacache_store.specs.declared.store.plain.PlainFile.{PlainFile}
-use Rattle.cacache_store.specs.declared.store.plain.PlainTemp.{PlainTemp}
-use Rattle.cacache_store.specs.declared.store.step.Step.{Step}
-use Rattle.cacache_store.specs.Fits.{Logs}
-use Rattle.cacache_store.specs.Plain.{plain_step, plain_answer}
-use Rattle.cacache_entry.specs.View.{entry_view}
-use Rattle.cacache_entry.specs.declared.metadata.SerializableMetadata.{SerializableMetadata}
-use Rattle.cacache_table.specs.declared.answers.Got.{Got}
-use Rattle.cacache_table.specs.declared.answers.Refusal.{Refusal}
-use Rattle.cacache_table.specs.declared.carried.Commit.{Commit}
-use Rattle.cacache_table.specs.declared.carried.Content.{Content}
-use Rattle.cacache_table.specs.declared.command.Export.{Export}
-use Rattle.cacache_table.specs.declared.command.Link.{Link}
-use Rattle.cacache_table.specs.declared.target.Target.{Target}
-use Rattle.cacache_table.specs.declared.visit.Visit.{Visit}
+use Rattle.cacache_core.specs.{declared.{errors.Error.{Error}, integrity.{checker.IntegrityChecker.{IntegrityChecker}, digest.Hash.{Hash}}}, Integrity.{integrity_under}, Pieces.{Compares}}
+use Rattle.cacache_store.specs.{declared.store.{answer.Answer.{Answer}, log.LogItem.{LogItem}, plain.{PlainFile.{PlainFile}, PlainTemp.{PlainTemp}}, step.Step.{Step}}, Fits.{Logs}, Plain.{plain_step, plain_answer}}
+use Rattle.cacache_entry.specs.{View.{entry_view}, declared.metadata.SerializableMetadata.{SerializableMetadata}}
+use Rattle.cacache_table.specs.{declared.{answers.{Got.{Got}, Refusal.{Refusal}}, carried.{Commit.{Commit}, Content.{Content}}, command.{Export.{Export}, Link.{Link}}, target.Target.{Target}, visit.Visit.{Visit}}, State.{persisting, sizing, hashing}, Answers.{file_in}, Common.{go_on, fails}, Exporting.{verified}, Inserting.{insert}, Linking.{after_read, commit_for, link_target}, Seen.{seen_by, got_as}, StepPaths.{content_path}, Storing.{link}, Walking.{after_visit}}
 use Rattle.cacache_table.specs.State as states
-use Rattle.cacache_table.specs.State.{persisting, sizing, hashing}
-use Rattle.cacache_table.specs.Answers.{file_in}
-use Rattle.cacache_table.specs.Common.{go_on, fails}
-use Rattle.cacache_table.specs.Exporting.{verified}
-use Rattle.cacache_table.specs.Inserting.{insert}
-use Rattle.cacache_table.specs.Linking.{after_read, commit_for, link_target}
-use Rattle.cacache_table.specs.Seen.{seen_by, got_as}
-use Rattle.cacache_table.specs.StepPaths.{content_path}
-use Rattle.cacache_table.specs.Storing.{link}
-use Rattle.cacache_table.specs.Walking.{after_visit}
-use Rattle.cacache_walks.specs.declared.walk.Walk.{Walk}
-use Rattle.cacache_walks.specs.WalkStates.{Counts, pending, walk_of}
-use Rattle.cacache_jobs.specs.declared.hashing.Hashing.{Hashing}
-use Rattle.cacache_jobs.specs.declared.phase.Phase.{Phase}
-use Rattle.cacache_jobs.specs.JobStates.{HashesFor, Leads, insertion_reply}
-use Rattle.cacache_jobs.specs.Sites.{site_of}
+use Rattle.cacache_walks.specs.{declared.walk.Walk.{Walk}, WalkStates.{Counts, pending, walk_of}}
+use Rattle.cacache_jobs.specs.{declared.{hashing.Hashing.{Hashing}, phase.Phase.{Phase}}, JobStates.{HashesFor, Leads, insertion_reply}, Sites.{site_of}}
 
 module _ {F T : Type 0} (file : F → PlainFile) (temp : T → PlainTemp) where
   -- the log has this step and its answer, as they are seen

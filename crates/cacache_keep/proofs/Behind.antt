@@ -1,46 +1,20 @@
 -- A collection leaves a cache in which each key leads where it led, and so do exports and writes of other keys.
 use Rattle.std.proofs.Common.{◌≡◌, ◌⊎◌, inl, inr, ℕ, List, [], ◌∷◌, true, Option, None, Some, filter_map, refl, sym, ap, subst, ◌∙◌}
-use Rattle.std.specs.Prelude.{Contains}
-use Rattle.std.specs.List.{cons_option}
+use Rattle.std.specs.{Prelude.{Contains}, List.{cons_option}}
 use Rattle.sha1.specs.Sha1.{sha1}
-use Rattle.cacache_core.specs.declared.integrity.digest.Hash.{Hash}
-use Rattle.cacache_core.specs.Integrity.{IsHash, address}
-use Rattle.cacache_core.specs.PathLaws.{IsKeyDigest}
-use Rattle.cacache_core.specs.PathNames.{Names, home_of}
+use Rattle.cacache_core.specs.{declared.integrity.digest.Hash.{Hash}, Integrity.{IsHash, address}, PathLaws.{IsKeyDigest}, PathNames.{Names, home_of}}
 use Rattle.cacache_core.proofs.PathLemmas.{keys_have_digests}
 use Rattle.cacache_store.specs.declared.store.log.LogItem.{LogItem}
 use Rattle.cacache_memory.specs.Replay.{tree_of, IsLog}
 use Rattle.cacache_entry.specs.Latest.{Found, latest}
 use Rattle.cacache_table.specs.State.{Site}
-use Rattle.cacache_value.specs.Acts.{list_of}
-use Rattle.cacache_value.specs.Value.{value_of_tree}
+use Rattle.cacache_value.specs.{Acts.{list_of}, Value.{value_of_tree}}
 use Rattle.cacache_history.specs.ShownTurns.{blob_at}
-use Rattle.cacache_sequence.specs.Beside.{IsOther, KeepsBeside, own_integrity}
-use Rattle.cacache_sequence.specs.Caches.{IsCache, HasKey, lies_under}
-use Rattle.cacache_sequence.specs.Keeping.{found_under, KeepsOthers, StaysKnown}
-use Rattle.cacache_sequence.specs.ReadAnswers.{entries_on}
-use Rattle.cacache_sequence.specs.Sequence.{IsSound}
-use Rattle.cacache_sequence.proofs.Beside.{removals_keep, writes_keep}
-use Rattle.cacache_sequence.proofs.Committing.{commits_last}
-use Rattle.cacache_sequence.proofs.ExportEffects.{exports_keep}
-use Rattle.cacache_sequence.proofs.GivenUp.{giving_up_lasts}
-use Rattle.cacache_sequence.proofs.Inserting.{inserts_last}
-use Rattle.cacache_sequence.proofs.Looked.{same_stays_known}
-use Rattle.cacache_sequence.proofs.OpenWriters.{writers_open}
-use Rattle.cacache_sequence.proofs.Puts.{commits_keep}
-use Rattle.cacache_sequence.proofs.Removals.{removals_last}
-use Rattle.cacache_keep_laws.specs.Collecting.{is_live}
-use Rattle.cacache_keep_laws.specs.Contents.{bucket_in, content_in}
-use Rattle.cacache_keep_laws.specs.Index.{IndexLists}
-use Rattle.cacache_keep_laws.specs.Mending.{found_in}
-use Rattle.cacache_keep_laws.proofs.Collected.{live_so}
-use Rattle.cacache_keep_laws.proofs.Idle.{address_is}
-use Rattle.cacache_keep_laws.proofs.Led.{found_listed}
-use Rattle.cacache_keep_laws.proofs.Logged.{log_rooted}
-use Rattle.cacache_keep_laws.proofs.Members.{contains_member, member_contains}
-use Rattle.cacache_keep_laws.proofs.SoundRemovals.{removals_leave_sound}
-use Rattle.cacache_keep.specs.Behind.{CollectionsKeepKeys, Event, Happen, Happens, KeepsKey, LaterKeysStay, LeadsOn, collects, commits, deletes, exports, gives_up, inserts, looks, opens, puts, text_of}
-use Rattle.cacache_keep.specs.Kept.{LeavesTree}
+use Rattle.cacache_sequence.specs.{Beside.{IsOther, KeepsBeside, own_integrity}, Caches.{IsCache, HasKey, lies_under}, Keeping.{found_under, KeepsOthers, StaysKnown}, ReadAnswers.{entries_on}, Sequence.{IsSound}}
+use Rattle.cacache_sequence.proofs.{Beside.{removals_keep, writes_keep}, Committing.{commits_last}, ExportEffects.{exports_keep}, GivenUp.{giving_up_lasts}, Inserting.{inserts_last}, Looked.{same_stays_known}, OpenWriters.{writers_open}, Puts.{commits_keep}, Removals.{removals_last}}
+use Rattle.cacache_keep_laws.specs.{Collecting.{is_live}, Contents.{bucket_in, content_in}, Index.{IndexLists}, Mending.{found_in}}
+use Rattle.cacache_keep_laws.proofs.{Collected.{live_so}, Idle.{address_is}, Led.{found_listed}, Logged.{log_rooted}, Members.{contains_member, member_contains}, SoundRemovals.{removals_leave_sound}}
+use Rattle.cacache_keep.specs.{Behind.{CollectionsKeepKeys, Event, Happen, Happens, KeepsKey, LaterKeysStay, LeadsOn, collects, commits, deletes, exports, gives_up, inserts, looks, opens, puts, text_of}, Kept.{LeavesTree}}
 use Rattle.cacache_keep.proofs.Leaving.{leaves_live, steps_done, unused}
 
 -- ---- a collection

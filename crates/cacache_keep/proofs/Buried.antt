@@ -1,45 +1,21 @@
 -- Tombstones leave the contents, and hide the keys that led to none and no other.
-use Rattle.std.proofs.Common.{◌≡◌, ◌<◌, ◌^◌, inl, inr, ℕ, Bool, true, false, cond, List, [], ◌∷◌, ◌++◌, Option, None, Some, refl, sym, ap, subst, ◌∙◌, arith}
-use Rattle.std.specs.Prelude.{All, IsUtf8, bytes_eq, not}
-use Rattle.std.specs.List.{flat_map}
-use Rattle.std.proofs.lemmas.List.Elements.{All-head, All-tail}
-use Rattle.std.proofs.lemmas.Slice.Eq.{bytes_eq-Decides}
+use Rattle.std.proofs.{Common.{◌≡◌, ◌<◌, ◌^◌, inl, inr, ℕ, Bool, true, false, cond, List, [], ◌∷◌, ◌++◌, Option, None, Some, refl, sym, ap, subst, ◌∙◌, arith}, lemmas.{List.Elements.{All-head, All-tail}, Slice.Eq.{bytes_eq-Decides}}}
+use Rattle.std.specs.{Prelude.{All, IsUtf8, bytes_eq, not}, List.{flat_map}}
 use Rattle.cacache_core.specs.PathNames.{Names, home_of}
 use Rattle.cacache_store.specs.declared.store.log.LogItem.{LogItem}
-use Rattle.cacache_disk.specs.Rooted.{Rooted}
-use Rattle.cacache_disk.specs.Tree.{Tree, look}
+use Rattle.cacache_disk.specs.{Rooted.{Rooted}, Tree.{Tree, look}}
 use Rattle.cacache_entry.specs.Latest.{Found}
-use Rattle.cacache_table.specs.declared.command.Command.{Command}
-use Rattle.cacache_table.specs.declared.command.Command.TheVariants as commands
-use Rattle.cacache_table.specs.declared.command.Delete.{Delete}
-use Rattle.cacache_table.specs.declared.reply.Reply.{Reply}
-use Rattle.cacache_table.specs.declared.reply.Reply.TheVariants as replies
-use Rattle.cacache_table.specs.Inserting.{deletion, refused_cause}
-use Rattle.cacache_table.specs.Licence.{looking_on}
-use Rattle.cacache_table.specs.Runs.{Moves, Gains}
-use Rattle.cacache_table.specs.Sound.{FormedIfWritten}
-use Rattle.cacache_table.specs.State.{Site}
+use Rattle.cacache_table.specs.{declared.{command.{Command.{Command}, Delete.{Delete}}, reply.Reply.{Reply}}, Inserting.{deletion, refused_cause}, Licence.{looking_on}, Runs.{Moves, Gains}, Sound.{FormedIfWritten}, State.{Site}}
 use Rattle.cacache_table.proofs.Within.{calls_keep_to}
+use Rattle.cacache_table.specs.declared.command.Command.TheVariants as commands
+use Rattle.cacache_table.specs.declared.reply.Reply.TheVariants as replies
 use Rattle.cacache_value.specs.Placed.{Placed}
-use Rattle.cacache_sequence.specs.Sequence.{tree_on, AreAnswered}
-use Rattle.cacache_sequence.proofs.Forms.{bare_written}
-use Rattle.cacache_sequence.proofs.Looks.{moves_keep}
+use Rattle.cacache_sequence.{specs.Sequence.{tree_on, AreAnswered}, proofs.{Forms.{bare_written}, Looks.{moves_keep}}}
 use Rattle.cacache_reads.specs.Lookups.{delete_of}
-use Rattle.cacache_keep_laws.specs.Contents.{content_in}
-use Rattle.cacache_keep_laws.specs.Housed.{Housed, Still}
-use Rattle.cacache_keep_laws.specs.Mending.{KeepsContents, found_in}
-use Rattle.cacache_keep_laws.specs.Verifying.{has_content}
-use Rattle.cacache_keep_laws.proofs.HiddenKeys.{tombstones_hide}
-use Rattle.cacache_keep_laws.proofs.Housed.{moves_rooted, tombstones_house}
-use Rattle.cacache_keep_laws.proofs.Led.{finds_led, found_integrity}
-use Rattle.cacache_keep_laws.proofs.Logged.{answered_rest, answered_split, gains_join, looked, tree_rest, tree_split}
-use Rattle.cacache_keep_laws.proofs.Members.{Member}
-use Rattle.cacache_keep_laws.proofs.StillThere.{has_still}
-use Rattle.cacache_keep_laws.proofs.Tombstones.{tombstones_keep_contents}
-use Rattle.cacache_keep.specs.Calls.{MadeCalls}
-use Rattle.cacache_keep.specs.Repairing.{Fate, IsFateOf, Led, calls_for, is_buried, leads_nowhere, looks_of, tombstone}
-use Rattle.cacache_keep.proofs.Judged.{there_told}
-use Rattle.cacache_keep.proofs.Parts.{gains_none}
+use Rattle.cacache_keep_laws.specs.{Contents.{content_in}, Housed.{Housed, Still}, Mending.{KeepsContents, found_in}, Verifying.{has_content}}
+use Rattle.cacache_keep_laws.proofs.{HiddenKeys.{tombstones_hide}, Housed.{moves_rooted, tombstones_house}, Led.{finds_led, found_integrity}, Logged.{answered_rest, answered_split, gains_join, looked, tree_rest, tree_split}, Members.{Member}, StillThere.{has_still}, Tombstones.{tombstones_keep_contents}}
+use Rattle.cacache_keep.specs.{Calls.{MadeCalls}, Repairing.{Fate, IsFateOf, Led, calls_for, is_buried, leads_nowhere, looks_of, tombstone}}
+use Rattle.cacache_keep.proofs.{Judged.{there_told}, Parts.{gains_none}}
 
 formed : (cache key : List ℕ) (moment : ℕ) → IsUtf8 key → moment < 2 ^ 64 → FormedIfWritten (deletion cache (delete_of key moment))
 unfolding refused_cause

@@ -1,41 +1,22 @@
 -- What the steps of a choice show of the tree of a log, and what a plan foretells.
-use Rattle.std.proofs.Common.{◌≡◌, ℕ, List, [], ◌∷◌, ◌++◌, Option, Some, inl, inr, map, length, refl, sym, ap, ap₂, subst, ◌∙◌, arith, filter}
-use Rattle.std.specs.Prelude.{not}
-use Rattle.cacache_core.specs.declared.errors.Fault.TheVariants.{NotFound}
-use Rattle.cacache_core.specs.declared.integrity.digest.Hash.{Hash}
-use Rattle.cacache_core.specs.PathNames.{Names, home_of}
+use Rattle.std.{proofs.Common.{◌≡◌, ℕ, List, [], ◌∷◌, ◌++◌, Option, Some, inl, inr, map, length, refl, sym, ap, ap₂, subst, ◌∙◌, arith, filter}, specs.Prelude.{not}}
+use Rattle.cacache_core.specs.{declared.{errors.Fault.TheVariants.{NotFound}, integrity.digest.Hash.{Hash}}, PathNames.{Names, home_of}}
 use Rattle.cacache_store.specs.declared.store.answer.Answer.TheVariants as answers
 use Rattle.cacache_store.specs.declared.store.log.LogItem.{LogItem}
 use Rattle.cacache_store.specs.declared.store.step.Step.TheVariants as steps
 use Rattle.cacache_disk.specs.Tree.{Tree}
 use Rattle.cacache_memory.specs.Replay.{tree_of, IsLog}
 use Rattle.cacache_entry.specs.Latest.{Found}
-use Rattle.cacache_table.specs.declared.command.Command.{Command}
-use Rattle.cacache_table.specs.declared.command.Command.TheVariants as commands
-use Rattle.cacache_table.specs.declared.reply.Reply.{Reply}
-use Rattle.cacache_table.specs.declared.reply.Reply.TheVariants as replies
-use Rattle.cacache_table.specs.State.{Site}
-use Rattle.cacache_table.specs.Runs.{Moves, Gains}
-use Rattle.cacache_table.specs.StepPaths.{content_path}
-use Rattle.cacache_table.specs.Licence.{looking_on}
+use Rattle.cacache_table.specs.{declared.{command.Command.{Command}, reply.Reply.{Reply}}, State.{Site}, Runs.{Moves, Gains}, StepPaths.{content_path}, Licence.{looking_on}}
 use Rattle.cacache_table.proofs.Within.{calls_keep_to}
-use Rattle.cacache_sequence.specs.Sequence.{tree_on, AreAnswered}
-use Rattle.cacache_sequence.proofs.InParts.{logs_lead}
-use Rattle.cacache_sequence.proofs.Looks.{moves_keep}
-use Rattle.cacache_sequence.proofs.ReadsStay.{sizing_keeps}
-use Rattle.cacache_walks.specs.Listing.{content_area_in}
-use Rattle.cacache_walks.specs.Reading.{top_folder}
-use Rattle.cacache_keep_laws.specs.Contents.{HoldsJust}
-use Rattle.cacache_keep_laws.specs.Index.{IndexLists}
-use Rattle.cacache_keep_laws.proofs.Agreed.{holdings_agree, indexes_agree}
-use Rattle.cacache_keep_laws.proofs.Held.{holds_just}
-use Rattle.cacache_keep_laws.proofs.Logged.{answered_rest, answered_split, gains_join, log_rooted, looked, tree_rest, walked}
-use Rattle.cacache_keep.specs.Calls.{MadeCalls, has_entry, removal}
-use Rattle.cacache_keep.specs.Keeping.{Chooses}
-use Rattle.cacache_keep.specs.Kept.{PlansForetell, PlansLeave}
-use Rattle.cacache_keep.specs.Planning.{Sized, TellsSizes}
-use Rattle.cacache_keep.proofs.Judged.{index_lists}
-use Rattle.cacache_keep.proofs.Parts.{AllLook, gains_none}
+use Rattle.cacache_table.specs.declared.command.Command.TheVariants as commands
+use Rattle.cacache_table.specs.declared.reply.Reply.TheVariants as replies
+use Rattle.cacache_sequence.{specs.Sequence.{tree_on, AreAnswered}, proofs.{InParts.{logs_lead}, Looks.{moves_keep}, ReadsStay.{sizing_keeps}}}
+use Rattle.cacache_walks.specs.{Listing.{content_area_in}, Reading.{top_folder}}
+use Rattle.cacache_keep_laws.specs.{Contents.{HoldsJust}, Index.{IndexLists}}
+use Rattle.cacache_keep_laws.proofs.{Agreed.{holdings_agree, indexes_agree}, Held.{holds_just}, Logged.{answered_rest, answered_split, gains_join, log_rooted, looked, tree_rest, walked}}
+use Rattle.cacache_keep.specs.{Calls.{MadeCalls, has_entry, removal}, Keeping.{Chooses}, Kept.{PlansForetell, PlansLeave}, Planning.{Sized, TellsSizes}}
+use Rattle.cacache_keep.proofs.{Judged.{index_lists}, Parts.{AllLook, gains_none}}
 
 -- ---- a choice
 

@@ -1,38 +1,19 @@
 -- What compactions of buckets leave of a tree, also where an error ends them.
 use Rattle.std.proofs.Common.{◌≡◌, inl, inr, ℕ, List, [], ◌∷◌, ◌++◌, Bool, true, false, Option, None, Some, Ok, map, refl, sym, ap, subst, ◌∙◌, append-nil}
 use Rattle.std.specs.List.{AllByRecursion}
-use Rattle.cacache_core.specs.declared.errors.Error.{Error}
-use Rattle.cacache_core.specs.PathNames.{Names, home_of}
-use Rattle.cacache_core.specs.Paths.{index_area}
+use Rattle.cacache_core.specs.{declared.errors.Error.{Error}, PathNames.{Names, home_of}, Paths.{index_area}}
 use Rattle.cacache_store.specs.declared.store.answer.Answer.TheVariants as answers
-use Rattle.cacache_store.specs.declared.store.log.LogItem.{LogItem}
-use Rattle.cacache_store.specs.declared.store.plain.PlainTemp.{PlainTemp}
+use Rattle.cacache_store.specs.declared.store.{log.LogItem.{LogItem}, plain.PlainTemp.{PlainTemp}}
 use Rattle.cacache_store.specs.declared.store.step.Step.TheVariants as steps
-use Rattle.cacache_disk.specs.declared.luck.Luck.TheVariants.{Plain}
-use Rattle.cacache_disk.specs.declared.node.Node.TheVariants.{Folder, File}
-use Rattle.cacache_disk.specs.Tree.{Tree, look, same_path}
-use Rattle.cacache_disk.specs.Apply.{apply}
-use Rattle.cacache_disk.specs.Rooted.{Rooted}
-use Rattle.cacache_disk.proofs.Maps.{same_path-true}
-use Rattle.cacache_disk.proofs.Roots.{same_self}
-use Rattle.cacache_disk.proofs.Standing.{upper_folder}
-use Rattle.cacache_table.specs.SingleSteps.{Does}
-use Rattle.cacache_table.specs.StepPaths.{temp_folder, temp_path}
+use Rattle.cacache_disk.specs.{declared.{luck.Luck.TheVariants.{Plain}, node.Node.TheVariants.{Folder, File}}, Tree.{Tree, look, same_path}, Apply.{apply}, Rooted.{Rooted}}
+use Rattle.cacache_disk.proofs.{Maps.{same_path-true}, Roots.{same_self}, Standing.{upper_folder}}
+use Rattle.cacache_table.specs.{SingleSteps.{Does}, StepPaths.{temp_folder, temp_path}}
 use Rattle.cacache_value.specs.Kinds.{path_kind}
 use Rattle.cacache_sequence.proofs.ReadsStay.{reading_keeps}
-use Rattle.cacache_keep_laws.specs.Compacted.{Compacted, CutShort}
-use Rattle.cacache_keep_laws.specs.Compacting.{compact_text}
-use Rattle.cacache_keep_laws.proofs.CompactTwice.{compact_twice}
-use Rattle.cacache_keep_laws.proofs.LeanTrees.{Becomes, compacted_more, compacted_none, cut_later, cut_short}
-use Rattle.cacache_keep_laws.proofs.Led.{file_shown}
-use Rattle.cacache_keep.specs.Compacting.{Bucket, CompactsBucket, CompactsEach, RewritesIf, StopsBucket, StopsCompactingEach, is_loose}
-use Rattle.cacache_keep.specs.Rewriting.{MakesTemp, Rewrites, StopsMaking, StopsRewriting, StopsWriting, SyncsTemp, Took}
-use Rattle.cacache_keep.proofs.FoundBuckets.{IsBucketFile, Stays}
-use Rattle.cacache_keep.proofs.MovedFiles.{MovedTo, moved, unmoved}
-use Rattle.cacache_keep.proofs.Rewritten.{Has, HasTemp, IsRewritten, TookSo, folder_made, left_over, rewritten, temp_failed, temp_made, writes_keep, writes_stay, writes_take}
-use Rattle.cacache_keep.proofs.SyncedTrees.{folder_synced, folder_unsynced, temp_synced, temp_unsynced}
-use Rattle.cacache_keep.proofs.TightBuckets.{IsTight, not_loose, tight_still}
-use Rattle.cacache_keep.proofs.TreeRuns.{Leads, leads_as, leads_failed, leads_none, leads_step, leads_then}
+use Rattle.cacache_keep_laws.specs.{Compacted.{Compacted, CutShort}, Compacting.{compact_text}}
+use Rattle.cacache_keep_laws.proofs.{CompactTwice.{compact_twice}, LeanTrees.{Becomes, compacted_more, compacted_none, cut_later, cut_short}, Led.{file_shown}}
+use Rattle.cacache_keep.specs.{Compacting.{Bucket, CompactsBucket, CompactsEach, RewritesIf, StopsBucket, StopsCompactingEach, is_loose}, Rewriting.{MakesTemp, Rewrites, StopsMaking, StopsRewriting, StopsWriting, SyncsTemp, Took}}
+use Rattle.cacache_keep.proofs.{FoundBuckets.{IsBucketFile, Stays}, MovedFiles.{MovedTo, moved, unmoved}, Rewritten.{Has, HasTemp, IsRewritten, TookSo, folder_made, left_over, rewritten, temp_failed, temp_made, writes_keep, writes_stay, writes_take}, SyncedTrees.{folder_synced, folder_unsynced, temp_synced, temp_unsynced}, TightBuckets.{IsTight, not_loose, tight_still}, TreeRuns.{Leads, leads_as, leads_failed, leads_none, leads_step, leads_then}}
 
 -- ---- one bucket is written anew
 

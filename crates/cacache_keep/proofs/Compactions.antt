@@ -1,22 +1,14 @@
 -- Buckets that are compacted, one after another, and why that ends.
-use Rattle.std.proofs.Common.{◌≡◌, ◌+◌, ◌-◌, ◌<◌, ◌^◌, ℕ, List, [], ◌∷◌, ◌++◌, Bool, true, false, cond, Option, None, Some, inl, inr, refl, sym, ap, subst, ◌∙◌, map, length, length-append, take, drop, get_or, arith}
-use Rattle.std.specs.Prelude.{IfSome, min, not, option_map}
-use Rattle.std.specs.List.{filter, sum}
-use Rattle.std.specs.Option.{option_to_list}
-use Rattle.std.proofs.lemmas.List.{drop_more, map-append, take-append-drop, take_more}
-use Rattle.cacache_core.specs.declared.errors.Error.{Error}
-use Rattle.cacache_core.specs.declared.errors.Error.TheVariants.{OutOfMemory}
+use Rattle.std.proofs.{Common.{◌≡◌, ◌+◌, ◌-◌, ◌<◌, ◌^◌, ℕ, List, [], ◌∷◌, ◌++◌, Bool, true, false, cond, Option, None, Some, inl, inr, refl, sym, ap, subst, ◌∙◌, map, length, length-append, take, drop, get_or, arith}, lemmas.List.{drop_more, map-append, take-append-drop, take_more}}
+use Rattle.std.specs.{Prelude.{IfSome, min, not, option_map}, List.{filter, sum}, Option.{option_to_list}}
+use Rattle.cacache_core.specs.declared.errors.Error.{Error, TheVariants.{OutOfMemory}}
 use Rattle.cacache_store.specs.declared.store.answer.Answer.TheVariants as answers
 use Rattle.cacache_store.specs.declared.store.log.LogItem.{LogItem}
 use Rattle.cacache_store.specs.declared.store.step.Step.TheVariants as steps
 use Rattle.cacache_table.specs.SingleSteps.{Does}
-use Rattle.cacache_keep_laws.specs.Compacting.{compact_text}
-use Rattle.cacache_keep_laws.specs.Temporary.{total}
-use Rattle.cacache_keep.specs.Compacting.{Bucket, Changes, CompactsAll, CompactsBucket, CompactsEach, RewritesIf, Saves, Settles, StopsBucket, StopsCompactingEach, StopsSettling, is_loose, same_bytes, saved}
-use Rattle.cacache_keep.specs.declared.settling.Lean.{Lean}
-use Rattle.cacache_keep.specs.Rewriting.{Rewrites, StopsRewriting}
-use Rattle.cacache_keep.proofs.Asked.{kept, passed}
-use Rattle.cacache_keep.proofs.Sweeps.{total_more}
+use Rattle.cacache_keep_laws.specs.{Compacting.{compact_text}, Temporary.{total}}
+use Rattle.cacache_keep.specs.{Compacting.{Bucket, Changes, CompactsAll, CompactsBucket, CompactsEach, RewritesIf, Saves, Settles, StopsBucket, StopsCompactingEach, StopsSettling, is_loose, same_bytes, saved}, declared.settling.Lean.{Lean}, Rewriting.{Rewrites, StopsRewriting}}
+use Rattle.cacache_keep.proofs.{Asked.{kept, passed}, Sweeps.{total_more}}
 
 -- ---- one bucket
 

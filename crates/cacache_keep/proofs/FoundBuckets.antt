@@ -1,37 +1,19 @@
 -- What the listings of an index find, and that they leave the tree.
-use Rattle.std.proofs.Common.{◌≡◌, inl, inr, ℕ, suc, List, [], ◌∷◌, ◌++◌, Bool, true, false, cond, Option, Some, Ok, map, filter, length, refl, sym, ap, subst, ◌∙◌, arith, append_assoc}
+use Rattle.std.proofs.{Common.{◌≡◌, inl, inr, ℕ, suc, List, [], ◌∷◌, ◌++◌, Bool, true, false, cond, Option, Some, Ok, map, filter, length, refl, sym, ap, subst, ◌∙◌, arith, append_assoc}, lemmas.{Bool.{and_parts}, List.Elements.{All-cons, All-nil}}}
 use Rattle.std.specs.List.{AllByRecursion, flat_map}
-use Rattle.std.proofs.lemmas.Bool.{and_parts}
-use Rattle.std.proofs.lemmas.List.Elements.{All-cons, All-nil}
-use Rattle.cacache_core.specs.declared.errors.Error.{Error}
-use Rattle.cacache_core.specs.PathNames.{Names, names_of, home_of, IsProperName}
-use Rattle.cacache_core.specs.Paths.{index_area, join}
-use Rattle.cacache_core.proofs.JoinedNames.{joined_texts_name}
-use Rattle.cacache_core.proofs.ProperNames.{proper_bucket_folder}
-use Rattle.cacache_store.specs.declared.store.answer.Kind.{Kind}
+use Rattle.cacache_core.specs.{declared.errors.Error.{Error}, PathNames.{Names, names_of, home_of, IsProperName}, Paths.{index_area, join}}
+use Rattle.cacache_core.proofs.{JoinedNames.{joined_texts_name}, ProperNames.{proper_bucket_folder}}
+use Rattle.cacache_store.specs.{declared.store.{answer.{Kind.{Kind}, Name.{Name}}, log.LogItem.{LogItem}}, Plain.{PlainAnswer}}
 use Rattle.cacache_store.specs.declared.store.answer.Kind.TheVariants as kinds
-use Rattle.cacache_store.specs.declared.store.answer.Name.{Name}
-use Rattle.cacache_store.specs.declared.store.log.LogItem.{LogItem}
 use Rattle.cacache_store.specs.declared.store.step.Step.TheVariants as steps
-use Rattle.cacache_store.specs.Plain.{PlainAnswer}
-use Rattle.cacache_disk.specs.declared.luck.Luck.TheVariants.{Plain}
-use Rattle.cacache_disk.specs.declared.node.Node.{Node}
-use Rattle.cacache_disk.specs.declared.node.Node.TheVariants.{Folder, File, Link}
-use Rattle.cacache_disk.specs.Tree.{Tree, kind_of, look}
-use Rattle.cacache_disk.specs.Apply.{apply}
-use Rattle.cacache_disk.specs.Rooted.{Rooted}
+use Rattle.cacache_disk.specs.{declared.{luck.Luck.TheVariants.{Plain}, node.Node.{Node, TheVariants.{Folder, File, Link}}}, Tree.{Tree, kind_of, look}, Apply.{apply}, Rooted.{Rooted}}
 use Rattle.cacache_disk.proofs.Standing.{upper_folder}
 use Rattle.cacache_sequence.proofs.ReadsStay.{listing_keeps}
 use Rattle.cacache_walks.specs.Reading.{names_shown}
-use Rattle.cacache_value.specs.Kinds.{Bucket, path_kind}
-use Rattle.cacache_value.proofs.KindsApart.{kind-below}
+use Rattle.cacache_value.{specs.Kinds.{Bucket, path_kind}, proofs.KindsApart.{kind-below}}
 use Rattle.cacache_keep_laws.specs.Temporary.{is_file}
-use Rattle.cacache_keep_laws.proofs.Children.{FolderShows, Stands, child_listed, folder_shown, listed, listed_child, missing, proper_child}
-use Rattle.cacache_keep_laws.proofs.Covering.{named_on}
-use Rattle.cacache_keep_laws.proofs.Collected.{kept_in}
-use Rattle.cacache_keep_laws.proofs.Members.{Member, in_left, in_right}
-use Rattle.cacache_keep.specs.Buckets.{FindsBuckets, Listed, ListsInTurn, ListsParts, StopsFinding, StopsNextPart, StopsParts, belongs, index_area_in, is_hex_name, parts_in}
-use Rattle.cacache_keep.specs.Sweeping.{ListsFolder}
+use Rattle.cacache_keep_laws.proofs.{Children.{FolderShows, Stands, child_listed, folder_shown, listed, listed_child, missing, proper_child}, Covering.{named_on}, Collected.{kept_in}, Members.{Member, in_left, in_right}}
+use Rattle.cacache_keep.specs.{Buckets.{FindsBuckets, Listed, ListsInTurn, ListsParts, StopsFinding, StopsNextPart, StopsParts, belongs, index_area_in, is_hex_name, parts_in}, Sweeping.{ListsFolder}}
 use Rattle.cacache_keep.proofs.TreeRuns.{Leads, leads_as, leads_failed, leads_none, leads_step, leads_then}
 
 in_map : {X Y : Type 0} (f : X → Y) (x : X) (xs : List X) → Member x xs → Member (f x) (map f xs)

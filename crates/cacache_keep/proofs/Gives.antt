@@ -1,30 +1,14 @@
 -- Reads of an open content, one after another, and why they end.
-use Rattle.std.proofs.Common.{◌≡◌, ◌==◌, ◌+◌, ◌-◌, ◌^◌, inl, inr, ℕ, List, [], ◌∷◌, ◌++◌, Bool, true, false, Option, Result, Ok, Err, refl, sym, ap, subst, ◌∙◌, length, length-append, append_assoc, arith}
+use Rattle.std.proofs.{Common.{◌≡◌, ◌==◌, ◌+◌, ◌-◌, ◌^◌, inl, inr, ℕ, List, [], ◌∷◌, ◌++◌, Bool, true, false, Option, Result, Ok, Err, refl, sym, ap, subst, ◌∙◌, length, length-append, append_assoc, arith}, lemmas.Bool.{eqb-true}}
 use Rattle.std.specs.Prelude.{min}
-use Rattle.std.proofs.lemmas.Bool.{eqb-true}
-use Rattle.cacache_core.specs.declared.errors.Error.{Error}
-use Rattle.cacache_core.specs.declared.errors.Error.TheVariants.{IoError, OutOfMemory}
-use Rattle.cacache_core.specs.declared.errors.Fault.{Fault}
-use Rattle.cacache_core.specs.declared.errors.Fault.TheVariants.{NotFound}
-use Rattle.cacache_core.specs.declared.integrity.digest.Hash.{Hash}
-use Rattle.cacache_core.specs.Integrity.{Meets}
-use Rattle.cacache_core.specs.Meeting.{meets}
+use Rattle.cacache_core.specs.{declared.{errors.{Error.{Error, TheVariants.{IoError, OutOfMemory}}, Fault.{Fault, TheVariants.{NotFound}}}, integrity.digest.Hash.{Hash}}, Integrity.{Meets}, Meeting.{meets}}
 use Rattle.cacache_core.proofs.Meeting.{meets_finds}
 use Rattle.cacache_store.specs.declared.store.answer.Answer.TheVariants as answers
-use Rattle.cacache_store.specs.declared.store.log.LogItem.{LogItem}
-use Rattle.cacache_store.specs.declared.store.plain.PlainFile.{PlainFile}
+use Rattle.cacache_store.specs.{declared.store.{log.LogItem.{LogItem}, plain.PlainFile.{PlainFile}}, Fits.{Fits, Logs}, Plain.{PlainStep, PlainAnswer}}
 use Rattle.cacache_store.specs.declared.store.step.Step.TheVariants as steps
-use Rattle.cacache_store.specs.Fits.{Fits, Logs}
-use Rattle.cacache_store.specs.Plain.{PlainStep, PlainAnswer}
-use Rattle.cacache_table.specs.declared.answers.Refusal.{Refusal}
-use Rattle.cacache_table.specs.declared.answers.Refusal.TheVariants as refusals
-use Rattle.cacache_table.specs.Answers.{file_in, got_in}
-use Rattle.cacache_table.specs.Common.{ends_with, fails, refuse}
-use Rattle.cacache_table.specs.Runs.{EndsAs, Moves}
-use Rattle.cacache_table.specs.SingleSteps.{FailsAt}
-use Rattle.cacache_table.specs.StepPaths.{content_path}
-use Rattle.cacache_table.specs.Table.{piece}
+use Rattle.cacache_table.specs.{declared.answers.Refusal.{Refusal}, Answers.{file_in, got_in}, Common.{ends_with, fails, refuse}, Runs.{EndsAs, Moves}, SingleSteps.{FailsAt}, StepPaths.{content_path}, Table.{piece}}
 use Rattle.cacache_table.proofs.Going.{no_gain}
+use Rattle.cacache_table.specs.declared.answers.Refusal.TheVariants as refusals
 use Rattle.cacache_keep_laws.proofs.Logged.{gains_join}
 use Rattle.cacache_keep.specs.Reading.{FindsNone, Gave, GaveAll, Opens, Pieces, StopsContent, StopsGiving, finds_none, is_gone}
 

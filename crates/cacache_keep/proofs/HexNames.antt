@@ -1,16 +1,10 @@
 -- The names of a key's bucket are hex digits.
-use Rattle.std.proofs.Common.{◌≡◌, ◌<◌, ◌/◌, ◌%◌, ℕ, zero, suc, Bool, true, false, List, [], ◌∷◌, length, take, drop, slice_index, refl, arith, length-drop}
-use Rattle.std.specs.Prelude.{not}
-use Rattle.std.specs.List.{list_all, list_any}
-use Rattle.std.proofs.lemmas.Bool.{and_from, and_parts, eq-eqb}
-use Rattle.std.proofs.lemmas.List.{length-take-le}
-use Rattle.std.proofs.lemmas.List.Folds.{list_any_at}
+use Rattle.std.proofs.{Common.{◌≡◌, ◌<◌, ◌/◌, ◌%◌, ℕ, zero, suc, Bool, true, false, List, [], ◌∷◌, length, take, drop, slice_index, refl, arith, length-drop}, lemmas.{Bool.{and_from, and_parts, eq-eqb}, List.{length-take-le, Folds.{list_any_at}}}}
+use Rattle.std.specs.{Prelude.{not}, List.{list_all, list_any}}
 use Rattle.base64.specs.GeneralPurpose.{IsBytes}
-use Rattle.hex.specs.Hex.{encode_with, encode_lower, lower_digits}
-use Rattle.hex.proofs.HexLemmas.{length-encode_with}
+use Rattle.hex.{specs.Hex.{encode_with, encode_lower, lower_digits}, proofs.HexLemmas.{length-encode_with}}
 use Rattle.cacache_core.specs.PathLaws.{IsKeyDigest}
-use Rattle.cacache_keep.specs.Buckets.{is_hex_digit}
-use Rattle.cacache_keep.proofs.FoundBuckets.{AreBucketNames}
+use Rattle.cacache_keep.{specs.Buckets.{is_hex_digit}, proofs.FoundBuckets.{AreBucketNames}}
 
 -- ---- digits
 

@@ -1,32 +1,16 @@
 -- A sweep and a repair leave what lies in its place there, and good contents where they were.
-use Rattle.std.proofs.Common.{◌≡◌, inl, inr, ℕ, List, [], ◌∷◌, ◌++◌, Option, None, Some, refl, sym, ap, subst, ◌∙◌}
-use Rattle.std.specs.Prelude.{All}
-use Rattle.std.proofs.lemmas.List.Elements.{All-head}
+use Rattle.std.{proofs.{Common.{◌≡◌, inl, inr, ℕ, List, [], ◌∷◌, ◌++◌, Option, None, Some, refl, sym, ap, subst, ◌∙◌}, lemmas.List.Elements.{All-head}}, specs.Prelude.{All}}
 use Rattle.sha1.specs.Sha1.{sha1}
-use Rattle.cacache_core.specs.declared.integrity.digest.Hash.{Hash}
-use Rattle.cacache_core.specs.Integrity.{IsHash, IsIntegrity}
-use Rattle.cacache_core.specs.PathNames.{Names, home_of}
-use Rattle.cacache_core.specs.Paths.{bucket_names_of, temp_area}
+use Rattle.cacache_core.specs.{declared.integrity.digest.Hash.{Hash}, Integrity.{IsHash, IsIntegrity}, PathNames.{Names, home_of}, Paths.{bucket_names_of, temp_area}}
 use Rattle.cacache_core.proofs.PathLemmas.{keys_have_digests}
-use Rattle.cacache_disk.specs.declared.node.Node.{Node}
-use Rattle.cacache_disk.specs.Tree.{Tree, look}
+use Rattle.cacache_disk.specs.{declared.node.Node.{Node}, Tree.{Tree, look}}
 use Rattle.cacache_memory.specs.Replay.{tree_of}
-use Rattle.cacache_entry.specs.FittingEntries.{IsEntry}
-use Rattle.cacache_entry.specs.Latest.{Found, latest}
-use Rattle.cacache_value.specs.Acts.{list_of}
-use Rattle.cacache_value.specs.Kinds.{Bucket, Elsewhere, Temporary, Way, path_kind}
-use Rattle.cacache_value.specs.Placed.{MayStand}
-use Rattle.cacache_value.specs.Value.{bucket_in, wide_value}
+use Rattle.cacache_entry.specs.{FittingEntries.{IsEntry}, Latest.{Found, latest}}
+use Rattle.cacache_value.specs.{Acts.{list_of}, Kinds.{Bucket, Elsewhere, Temporary, Way, path_kind}, Placed.{MayStand}, Value.{bucket_in, wide_value}}
 use Rattle.cacache_value.proofs.KindsApart.{kind-below}
-use Rattle.cacache_keep_laws.specs.Contents.{content_in}
-use Rattle.cacache_keep_laws.specs.Housed.{Beside, Housed, Still}
-use Rattle.cacache_keep_laws.specs.Temporary.{IsTemporary, LeavesUntemporary}
-use Rattle.cacache_keep_laws.proofs.Led.{found_integrity}
-use Rattle.cacache_keep_laws.proofs.StillThere.{good_still}
-use Rattle.cacache_keep.specs.Houses.{RepairsHouse, SweepsHouse, SweepsKeepGood}
-use Rattle.cacache_keep.specs.Kept.{LeadsToGood}
-use Rattle.cacache_keep.proofs.SweptCaches.{caches_are_swept}
-use Rattle.cacache_keep.proofs.Whole.{first_hash, rehoused}
+use Rattle.cacache_keep_laws.specs.{Contents.{content_in}, Housed.{Beside, Housed, Still}, Temporary.{IsTemporary, LeavesUntemporary}}
+use Rattle.cacache_keep_laws.proofs.{Led.{found_integrity}, StillThere.{good_still}}
+use Rattle.cacache_keep.{specs.{Houses.{RepairsHouse, SweepsHouse, SweepsKeepGood}, Kept.{LeadsToGood}}, proofs.{SweptCaches.{caches_are_swept}, Whole.{first_hash, rehoused}}}
 
 -- ---- places
 

@@ -1,16 +1,11 @@
 -- Contents that are read one after another.
-use Rattle.std.proofs.Common.{◌≡◌, ◌+◌, ◌-◌, ◌^◌, ◌<◌, ℕ, List, [], ◌∷◌, ◌++◌, Bool, true, false, Option, inl, refl, sym, ap, subst, ◌∙◌, map, length, take, drop, get_or, length-append, take-append-drop, arith}
-use Rattle.std.specs.List.{filter}
-use Rattle.std.specs.Prelude.{min, not}
-use Rattle.std.proofs.lemmas.List.{drop_more, map-append}
-use Rattle.cacache_core.specs.declared.errors.Error.{Error}
-use Rattle.cacache_core.specs.declared.errors.Error.TheVariants.{OutOfMemory}
-use Rattle.cacache_core.specs.declared.integrity.digest.Hash.{Hash}
+use Rattle.std.proofs.{Common.{◌≡◌, ◌+◌, ◌-◌, ◌^◌, ◌<◌, ℕ, List, [], ◌∷◌, ◌++◌, Bool, true, false, Option, inl, refl, sym, ap, subst, ◌∙◌, map, length, take, drop, get_or, length-append, take-append-drop, arith}, lemmas.List.{drop_more, map-append}}
+use Rattle.std.specs.{List.{filter}, Prelude.{min, not}}
+use Rattle.cacache_core.specs.declared.{errors.Error.{Error, TheVariants.{OutOfMemory}}, integrity.digest.Hash.{Hash}}
 use Rattle.cacache_store.specs.declared.store.log.LogItem.{LogItem}
 use Rattle.cacache_keep_laws.specs.Temporary.{total}
 use Rattle.cacache_keep.specs.Reading.{Judged, ReadsEach, SaysGood, SaysOfEach, StopsContent, StopsEach, StopsNext, WeighsOthers}
-use Rattle.cacache_keep.proofs.Asked.{kept, passed}
-use Rattle.cacache_keep.proofs.Sweeps.{total_more}
+use Rattle.cacache_keep.proofs.{Asked.{kept, passed}, Sweeps.{total_more}}
 
 -- ---- one more
 

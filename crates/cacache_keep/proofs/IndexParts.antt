@@ -1,18 +1,11 @@
 -- Folders of the index that are listed, one after another, and why that ends.
-use Rattle.std.proofs.Common.{◌≡◌, ◌+◌, ◌<◌, ℕ, List, [], ◌∷◌, ◌++◌, Bool, false, Option, inl, refl, sym, ap, subst, ◌∙◌, map, length, take, drop, get_or, append-nil, append_assoc}
+use Rattle.std.proofs.{Common.{◌≡◌, ◌+◌, ◌<◌, ℕ, List, [], ◌∷◌, ◌++◌, Bool, false, Option, inl, refl, sym, ap, subst, ◌∙◌, map, length, take, drop, get_or, append-nil, append_assoc}, lemmas.List.{drop_more, map-append, take-append-drop, take_more, Concat.{flat_map-append}}}
 use Rattle.std.specs.List.{filter, flat_map}
-use Rattle.std.proofs.lemmas.List.{drop_more, map-append, take-append-drop, take_more}
-use Rattle.std.proofs.lemmas.List.Concat.{flat_map-append}
-use Rattle.cacache_core.specs.declared.errors.Error.{Error}
-use Rattle.cacache_core.specs.declared.errors.Error.TheVariants.{OutOfMemory}
-use Rattle.cacache_core.specs.Paths.{join}
-use Rattle.cacache_store.specs.declared.store.answer.Name.{Name}
-use Rattle.cacache_store.specs.declared.store.log.LogItem.{LogItem}
+use Rattle.cacache_core.specs.{declared.errors.Error.{Error, TheVariants.{OutOfMemory}}, Paths.{join}}
+use Rattle.cacache_store.specs.declared.store.{answer.Name.{Name}, log.LogItem.{LogItem}}
 use Rattle.cacache_store.specs.declared.store.step.Step.TheVariants as steps
 use Rattle.cacache_table.specs.SingleSteps.{FailsAt}
-use Rattle.cacache_keep.specs.Reading.{is_gone}
-use Rattle.cacache_keep.specs.Sweeping.{ListsFolder}
-use Rattle.cacache_keep.specs.Buckets.{Listed, ListsInTurn, ListsParts, StopsNextPart, StopsParts, belongs, parts_in}
+use Rattle.cacache_keep.specs.{Reading.{is_gone}, Sweeping.{ListsFolder}, Buckets.{Listed, ListsInTurn, ListsParts, StopsNextPart, StopsParts, belongs, parts_in}}
 
 turn_on : (listings : List Listed) (l : Listed) (old mid new : Option (List LogItem)) → ListsInTurn listings old mid → ListsFolder l.0 l.1 mid new → ListsInTurn (listings ++ l ∷ []) old new
 turn_on [] l old mid new h lists = (new, subst (λ (log : Option (List LogItem)). ListsFolder l.0 l.1 log new) h lists, refl)

@@ -2,43 +2,21 @@
 use Rattle.std.proofs.Common.{◌≡◌, ◌==◌, ◌<◌, ◌-◌, ◌^◌, inl, inr, ℕ, zero, suc, List, [], ◌∷◌, ◌++◌, Bool, true, false, cond, Option, Some, Result, Ok, Err, map, length, filter, take, drop, take-append-drop, append_assoc, refl, sym, ap, ap₂, subst, ◌∙◌, arith}
 use Rattle.std.specs.Prelude.{min, not}
 use Rattle.cacache_core.specs.declared.errors.Error.TheVariants as errors
-use Rattle.cacache_core.specs.declared.errors.Fault.{Fault}
-use Rattle.cacache_core.specs.declared.errors.Fault.TheVariants.{Closed, IsADirectory, NotFound}
-use Rattle.cacache_core.specs.declared.integrity.digest.Hash.{Hash}
-use Rattle.cacache_core.specs.Integrity.{IsHash}
-use Rattle.cacache_core.specs.PathNames.{Names, home_of}
+use Rattle.cacache_core.specs.{declared.{errors.Fault.{Fault, TheVariants.{Closed, IsADirectory, NotFound}}, integrity.digest.Hash.{Hash}}, Integrity.{IsHash}, PathNames.{Names, home_of}}
 use Rattle.cacache_store.specs.declared.store.answer.Answer.TheVariants as answers
-use Rattle.cacache_store.specs.declared.store.log.LogItem.{LogItem}
-use Rattle.cacache_store.specs.declared.store.plain.PlainFile.{PlainFile}
+use Rattle.cacache_store.specs.{declared.store.{log.LogItem.{LogItem}, plain.PlainFile.{PlainFile}}, Plain.{PlainAnswer}}
 use Rattle.cacache_store.specs.declared.store.step.Step.TheVariants as steps
-use Rattle.cacache_store.specs.Plain.{PlainAnswer}
-use Rattle.cacache_disk.specs.declared.luck.Luck.TheVariants.{Plain}
-use Rattle.cacache_disk.specs.Apply.{apply, given, opened, rest_of, unless}
-use Rattle.cacache_disk.specs.LedTo.{file_at}
-use Rattle.cacache_disk.specs.Tree.{Tree}
-use Rattle.cacache_disk.specs.Rooted.{Rooted}
+use Rattle.cacache_disk.specs.{declared.luck.Luck.TheVariants.{Plain}, Apply.{apply, given, opened, rest_of, unless}, LedTo.{file_at}, Tree.{Tree}, Rooted.{Rooted}}
 use Rattle.cacache_entry.specs.Latest.{Found}
 use Rattle.cacache_table.specs.declared.command.Command.TheVariants as commands
 use Rattle.cacache_table.specs.declared.reply.Reply.TheVariants as replies
-use Rattle.cacache_table.specs.Answers.{there_in}
-use Rattle.cacache_table.specs.Replies.{there_reply}
-use Rattle.cacache_table.specs.Runs.{Moves, Gains}
-use Rattle.cacache_table.specs.State.{Site, Item}
-use Rattle.cacache_table.specs.StepPaths.{content_path}
-use Rattle.cacache_table.specs.Table.{piece}
+use Rattle.cacache_table.specs.{Answers.{there_in}, Replies.{there_reply}, Runs.{Moves, Gains}, State.{Site, Item}, StepPaths.{content_path}, Table.{piece}}
 use Rattle.cacache_table.proofs.Replies.{exists_shown}
 use Rattle.cacache_sequence.specs.Sequence.{AreAnswered, tree_on}
 use Rattle.cacache_value.specs.Shows.{blob_bytes}
-use Rattle.cacache_keep_laws.specs.Contents.{IsHeld, content_in}
-use Rattle.cacache_keep_laws.specs.Answers.{AnsweredBy, AnswersOn}
-use Rattle.cacache_keep_laws.specs.Index.{IndexLists, entries_in, is_failure}
-use Rattle.cacache_keep_laws.specs.Verifying.{is_good, is_met, says_yes, has_content}
-use Rattle.cacache_keep_laws.proofs.Logged.{answered_rest, answered_split, gains_join, tree_rest}
-use Rattle.cacache_keep_laws.proofs.Members.{Member, member_contains}
-use Rattle.cacache_keep_laws.proofs.Verified.{content_file}
-use Rattle.cacache_keep.specs.Calls.{AreEntries, question_of}
-use Rattle.cacache_keep.specs.Reading.{Judged, Pieces, SaysGood, SaysOfEach}
-use Rattle.cacache_keep.proofs.Parts.{EachOn, gains_none}
+use Rattle.cacache_keep_laws.specs.{Contents.{IsHeld, content_in}, Answers.{AnsweredBy, AnswersOn}, Index.{IndexLists, entries_in, is_failure}, Verifying.{is_good, is_met, says_yes, has_content}}
+use Rattle.cacache_keep_laws.proofs.{Logged.{answered_rest, answered_split, gains_join, tree_rest}, Members.{Member, member_contains}, Verified.{content_file}}
+use Rattle.cacache_keep.{specs.{Calls.{AreEntries, question_of}, Reading.{Judged, Pieces, SaysGood, SaysOfEach}}, proofs.Parts.{EachOn, gains_none}}
 
 -- ---- reads of an open file
 

@@ -1,33 +1,18 @@
 -- A collection leaves what is live, and later reads see none of it.
-use Rattle.std.proofs.Common.{◌≡◌, ℕ, List, [], ◌∷◌, Bool, true, false, cond, Option, Some, map, length, refl, sym, ap, subst, ◌∙◌, arith, filter}
-use Rattle.std.proofs.lemmas.List.{length-map}
-use Rattle.std.proofs.lemmas.List.Filters.{length-filter_both}
+use Rattle.std.proofs.{Common.{◌≡◌, ℕ, List, [], ◌∷◌, Bool, true, false, cond, Option, Some, map, length, refl, sym, ap, subst, ◌∙◌, arith, filter}, lemmas.List.{length-map, Filters.{length-filter_both}}}
 use Rattle.std.specs.Prelude.{not}
-use Rattle.cacache_core.specs.declared.integrity.digest.Hash.{Hash}
-use Rattle.cacache_core.specs.PathNames.{Names, home_of}
-use Rattle.cacache_core.specs.Paths.{joined, content_names}
-use Rattle.cacache_store.specs.declared.store.log.LogItem.{LogItem}
-use Rattle.cacache_store.specs.declared.store.step.Step.TheVariants.{RemoveFile}
+use Rattle.cacache_core.specs.{declared.integrity.digest.Hash.{Hash}, PathNames.{Names, home_of}, Paths.{joined, content_names}}
+use Rattle.cacache_store.specs.declared.store.{log.LogItem.{LogItem}, step.Step.TheVariants.{RemoveFile}}
 use Rattle.cacache_store.specs.declared.store.answer.Answer.TheVariants as answers
-use Rattle.cacache_disk.specs.declared.luck.Luck.TheVariants.{Plain}
-use Rattle.cacache_disk.specs.Tree.{Tree}
-use Rattle.cacache_disk.specs.Apply.{apply}
+use Rattle.cacache_disk.specs.{declared.luck.Luck.TheVariants.{Plain}, Tree.{Tree}, Apply.{apply}}
 use Rattle.cacache_memory.specs.Replay.{tree_of, IsLog}
 use Rattle.cacache_entry.specs.Latest.{Found}
-use Rattle.cacache_table.specs.State.{Site}
-use Rattle.cacache_table.specs.Runs.{Moves, Gains}
+use Rattle.cacache_table.specs.{State.{Site}, Runs.{Moves, Gains}}
 use Rattle.cacache_sequence.specs.Sequence.{tree_on, AreAnswered}
-use Rattle.cacache_keep_laws.specs.Contents.{HoldsJust}
-use Rattle.cacache_keep_laws.specs.Index.{IndexLists}
-use Rattle.cacache_keep_laws.specs.Collecting.{LeavesLive, Removes, is_live}
-use Rattle.cacache_keep_laws.proofs.Collected.{lacks, leaves, others_gone, picked_left, rest_stays}
-use Rattle.cacache_keep_laws.proofs.Logged.{gains_join, log_rooted}
-use Rattle.cacache_keep_laws.proofs.Removed.{removals_run}
-use Rattle.cacache_keep.specs.Calls.{MadeCalls, has_entry, removal}
-use Rattle.cacache_keep.specs.Keeping.{Collects}
-use Rattle.cacache_keep.specs.Kept.{CollectionsLackIdle, CollectionsLeave}
-use Rattle.cacache_keep.proofs.Chosen.{choice}
-use Rattle.cacache_keep.proofs.Parts.{gains_none}
+use Rattle.cacache_keep_laws.specs.{Contents.{HoldsJust}, Index.{IndexLists}, Collecting.{LeavesLive, Removes, is_live}}
+use Rattle.cacache_keep_laws.proofs.{Collected.{lacks, leaves, others_gone, picked_left, rest_stays}, Logged.{gains_join, log_rooted}, Removed.{removals_run}}
+use Rattle.cacache_keep.specs.{Calls.{MadeCalls, has_entry, removal}, Keeping.{Collects}, Kept.{CollectionsLackIdle, CollectionsLeave}}
+use Rattle.cacache_keep.proofs.{Chosen.{choice}, Parts.{gains_none}}
 
 -- ---- removals
 

@@ -1,18 +1,10 @@
 -- How the lines of a bucket come together, and the text of those that lookups find.
-use Rattle.std.proofs.Common.{◌≡◌, ◌+◌, ℕ, List, [], ◌∷◌, ◌++◌, Bool, true, false, cond, Option, Some, None, option_map, map, filter_map, length, drop, take, refl, arith, sym, ap, ◌∙◌, append-nil, append_assoc, bytes_eq}
-use Rattle.std.specs.Prelude.{Result, Ok, Err, OnOk, is_some, unwrap_or}
-use Rattle.std.specs.List.{cons_option, list_any}
-use Rattle.std.specs.Option.{option_to_list}
-use Rattle.std.proofs.lemmas.List.Sums.{fold-append}
-use Rattle.cacache_entry.specs.Entry.{Entry}
-use Rattle.cacache_entry.specs.Bucket.{cut, CutsAt, without_cr, entry_of_piece, entries_of}
-use Rattle.cacache_entry.specs.Latest.{Found, answer_to}
-use Rattle.cacache_entry.specs.View.{entry_view}
-use Rattle.cacache_entry.specs.declared.metadata.SerializableMetadata.{SerializableMetadata}
+use Rattle.std.proofs.{Common.{◌≡◌, ◌+◌, ℕ, List, [], ◌∷◌, ◌++◌, Bool, true, false, cond, Option, Some, None, option_map, map, filter_map, length, drop, take, refl, arith, sym, ap, ◌∙◌, append-nil, append_assoc, bytes_eq}, lemmas.List.Sums.{fold-append}}
+use Rattle.std.specs.{Prelude.{Result, Ok, Err, OnOk, is_some, unwrap_or}, List.{cons_option, list_any}, Option.{option_to_list}}
+use Rattle.cacache_entry.specs.{Entry.{Entry}, Bucket.{cut, CutsAt, without_cr, entry_of_piece, entries_of}, Latest.{Found, answer_to}, View.{entry_view}, declared.metadata.SerializableMetadata.{SerializableMetadata}}
 use Rattle.cacache_entry.proofs.Pieces.{entries-piece}
 use Rattle.cacache_table.specs.Walking.{once}
-use Rattle.cacache_keep.specs.Lines.{line_view, with_text}
-use Rattle.cacache_keep.specs.declared.lines.Line.{Line as Held}
+use Rattle.cacache_keep.specs.{Lines.{line_view, with_text}, declared.lines.Line.{Line as Held}}
 use Rattle.cacache_keep_laws.specs.Compacting.{Line, line_of_piece, lines_of, after_line, line_for, lines_for, text_of}
 
 onto : (o : Option Line) (ls : List Line) → cons_option o ls ≡ option_to_list o ++ ls

@@ -1,47 +1,21 @@
 -- A repair leaves the good contents, and hides the keys that led to none.
-use Rattle.std.proofs.Common.{◌≡◌, inl, inr, ℕ, Bool, true, false, cond, List, [], ◌∷◌, ◌++◌, Some, map, filter, refl, sym, ap, ap₂, subst, ◌∙◌}
-use Rattle.std.specs.Prelude.{not}
+use Rattle.std.{proofs.Common.{◌≡◌, inl, inr, ℕ, Bool, true, false, cond, List, [], ◌∷◌, ◌++◌, Some, map, filter, refl, sym, ap, ap₂, subst, ◌∙◌}, specs.Prelude.{not}}
 use Rattle.sha1.specs.Sha1.{sha1}
-use Rattle.cacache_core.specs.declared.integrity.digest.Hash.{Hash}
-use Rattle.cacache_core.specs.PathNames.{Names, home_of}
-use Rattle.cacache_core.specs.Paths.{joined, content_names}
-use Rattle.cacache_core.proofs.PathLemmas.{keys_have_digests}
-use Rattle.cacache_store.specs.declared.store.log.LogItem.{LogItem}
-use Rattle.cacache_store.specs.declared.store.step.Step.TheVariants.{RemoveFile}
-use Rattle.cacache_disk.specs.declared.luck.Luck.TheVariants.{Plain}
-use Rattle.cacache_disk.specs.Tree.{Tree}
-use Rattle.cacache_disk.specs.Apply.{apply}
+use Rattle.cacache_core.{specs.{declared.integrity.digest.Hash.{Hash}, PathNames.{Names, home_of}, Paths.{joined, content_names}}, proofs.PathLemmas.{keys_have_digests}}
+use Rattle.cacache_store.specs.declared.store.{log.LogItem.{LogItem}, step.Step.TheVariants.{RemoveFile}}
+use Rattle.cacache_disk.specs.{declared.luck.Luck.TheVariants.{Plain}, Tree.{Tree}, Apply.{apply}}
 use Rattle.cacache_memory.specs.Replay.{tree_of, IsLog}
 use Rattle.cacache_entry.specs.Latest.{Found, latest}
 use Rattle.cacache_table.specs.declared.command.Command.TheVariants as commands
 use Rattle.cacache_table.specs.declared.reply.Reply.TheVariants as replies
 use Rattle.cacache_table.specs.State.{Site}
-use Rattle.cacache_value.specs.Placed.{Placed}
-use Rattle.cacache_value.specs.Acts.{list_of}
-use Rattle.cacache_value.proofs.Traces.{steps_keep_placed}
-use Rattle.cacache_sequence.specs.Sequence.{tree_on}
-use Rattle.cacache_sequence.proofs.InParts.{logs_lead}
-use Rattle.cacache_walks.specs.Listing.{content_area_in}
-use Rattle.cacache_walks.specs.Reading.{top_folder}
-use Rattle.cacache_keep_laws.specs.Collecting.{Removes}
-use Rattle.cacache_keep_laws.specs.Contents.{HoldsJust}
-use Rattle.cacache_keep_laws.specs.Index.{IndexLists}
-use Rattle.cacache_keep_laws.specs.Mending.{found_in}
-use Rattle.cacache_keep_laws.specs.Verifying.{has_content, is_good}
-use Rattle.cacache_keep_laws.proofs.Collected.{from_kept, kept_in, leaves}
-use Rattle.cacache_keep_laws.proofs.Held.{holds_just}
-use Rattle.cacache_keep_laws.proofs.Logged.{answered_rest, answered_split, gains_join, log_rooted, looked, tree_rest, tree_split, walked}
-use Rattle.cacache_keep_laws.proofs.Members.{Member, contains_member, member_contains}
-use Rattle.cacache_keep_laws.proofs.Mended.{repairs_leave}
-use Rattle.cacache_keep.specs.Calls.{MadeCalls, question_of, removal}
-use Rattle.cacache_keep.specs.Kept.{IsKeyOf, MendsCache, RepairsMend}
-use Rattle.cacache_keep.specs.Reading.{Judged}
-use Rattle.cacache_keep.specs.Repairing.{Fate, RepairsCache, is_buried}
-use Rattle.cacache_keep.proofs.Buried.{After, all_told}
-use Rattle.cacache_keep.proofs.Judged.{asks_told, index_lists, others_named, reads_judged}
-use Rattle.cacache_keep.proofs.Leaving.{removals, removals_gain, removed_by}
-use Rattle.cacache_keep.proofs.Parts.{made_looks}
-use Rattle.cacache_keep.proofs.Verdicts.{all_questions}
+use Rattle.cacache_value.{specs.{Placed.{Placed}, Acts.{list_of}}, proofs.Traces.{steps_keep_placed}}
+use Rattle.cacache_sequence.{specs.Sequence.{tree_on}, proofs.InParts.{logs_lead}}
+use Rattle.cacache_walks.specs.{Listing.{content_area_in}, Reading.{top_folder}}
+use Rattle.cacache_keep_laws.specs.{Collecting.{Removes}, Contents.{HoldsJust}, Index.{IndexLists}, Mending.{found_in}, Verifying.{has_content, is_good}}
+use Rattle.cacache_keep_laws.proofs.{Collected.{from_kept, kept_in, leaves}, Held.{holds_just}, Logged.{answered_rest, answered_split, gains_join, log_rooted, looked, tree_rest, tree_split, walked}, Members.{Member, contains_member, member_contains}, Mended.{repairs_leave}}
+use Rattle.cacache_keep.specs.{Calls.{MadeCalls, question_of, removal}, Kept.{IsKeyOf, MendsCache, RepairsMend}, Reading.{Judged}, Repairing.{Fate, RepairsCache, is_buried}}
+use Rattle.cacache_keep.proofs.{Buried.{After, all_told}, Judged.{asks_told, index_lists, others_named, reads_judged}, Leaving.{removals, removals_gain, removed_by}, Parts.{made_looks}, Verdicts.{all_questions}}
 
 pub map_from : {X Y : Type 0} (f : X → Y) (y : Y) (xs : List X) → Member y (map f xs) → (x : X) × Member x xs × (f x ≡ y)
 map_from f y [] m = absurd m

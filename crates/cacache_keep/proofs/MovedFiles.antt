@@ -1,15 +1,10 @@
 -- Temporary files that are moved to a path.
 use Rattle.std.proofs.Common.{◌≡◌, ℕ, List, Option, None, Some, Result, Ok, Err, refl}
-use Rattle.cacache_core.specs.declared.errors.Fault.{Fault}
-use Rattle.cacache_core.specs.PathNames.{Names, names_of}
+use Rattle.cacache_core.specs.{declared.errors.Fault.{Fault}, PathNames.{Names, names_of}}
 use Rattle.cacache_store.specs.declared.store.answer.Answer.TheVariants as answers
 use Rattle.cacache_store.specs.declared.store.plain.PlainTemp.{PlainTemp}
 use Rattle.cacache_store.specs.declared.store.step.Step.TheVariants as steps
-use Rattle.cacache_disk.specs.declared.luck.Luck.TheVariants.{Plain}
-use Rattle.cacache_disk.specs.declared.node.Node.TheVariants.{File}
-use Rattle.cacache_disk.specs.Tree.{Tree, cut, put}
-use Rattle.cacache_disk.specs.LedTo.{kept, known, replaceable}
-use Rattle.cacache_disk.specs.Apply.{apply, unless}
+use Rattle.cacache_disk.specs.{declared.{luck.Luck.TheVariants.{Plain}, node.Node.TheVariants.{File}}, Tree.{Tree, cut, put}, LedTo.{kept, known, replaceable}, Apply.{apply, unless}}
 use Rattle.cacache_disk.proofs.FoundNodes.{kept_ok, replaceable_ok}
 
 pub record MovedTo (full : PlainTemp) (path : List ℕ) (t new : Tree) : Type 0 where

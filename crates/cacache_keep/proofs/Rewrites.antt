@@ -1,19 +1,11 @@
 -- A file that is written anew, step by step, and why that ends.
 use Rattle.std.proofs.Common.{◌≡◌, ℕ, List, [], ◌∷◌, ◌++◌, Bool, drop, Option, Result, Ok, Err, IfErr, inl, inr, refl, sym, ap, subst, ◌∙◌}
-use Rattle.cacache_core.specs.declared.errors.Error.{Error}
-use Rattle.cacache_core.specs.declared.errors.Error.TheVariants.{OutOfMemory}
+use Rattle.cacache_core.specs.declared.errors.Error.{Error, TheVariants.{OutOfMemory}}
 use Rattle.cacache_core.specs.declared.errors.Fault.TheVariants as faults
 use Rattle.cacache_store.specs.declared.store.answer.Answer.TheVariants as answers
-use Rattle.cacache_store.specs.declared.store.log.LogItem.{LogItem}
-use Rattle.cacache_store.specs.declared.store.plain.PlainTemp.{PlainTemp}
+use Rattle.cacache_store.specs.{declared.store.{log.LogItem.{LogItem}, plain.PlainTemp.{PlainTemp}}, Fits.{Fits, Logs}, Plain.{PlainStep, PlainAnswer}}
 use Rattle.cacache_store.specs.declared.store.step.Step.TheVariants as steps
-use Rattle.cacache_store.specs.Fits.{Fits, Logs}
-use Rattle.cacache_store.specs.Plain.{PlainStep, PlainAnswer}
-use Rattle.cacache_table.specs.declared.answers.Refusal.{Refusal}
-use Rattle.cacache_table.specs.Answers.{bytes_in, done_in, synced_in, temp_in, written_in}
-use Rattle.cacache_table.specs.Common.{fails, refuse}
-use Rattle.cacache_table.specs.Runs.{EndsAs, Moves}
-use Rattle.cacache_table.specs.SingleSteps.{Does, FailsAt}
+use Rattle.cacache_table.specs.{declared.answers.Refusal.{Refusal}, Answers.{bytes_in, done_in, synced_in, temp_in, written_in}, Common.{fails, refuse}, Runs.{EndsAs, Moves}, SingleSteps.{Does, FailsAt}}
 use Rattle.cacache_table.proofs.Going.{no_gain}
 use Rattle.cacache_keep_laws.proofs.Logged.{gains_join}
 use Rattle.cacache_jobs.specs.Brought.{Brings, EndsRefused}

@@ -1,34 +1,16 @@
 -- What the steps that write a bucket anew leave of a tree.
-use Rattle.std.proofs.Common.{◌≡◌, inl, inr, ◌==◌, ℕ, List, [], ◌∷◌, ◌++◌, Bool, true, false, cond, drop, take, Option, None, Some, Result, Ok, Err, refl, sym, ap, subst, ◌∙◌, arith, append-nil, append_assoc, take-append-drop}
-use Rattle.std.proofs.lemmas.List.Elements.{All-cons, All-nil}
-use Rattle.cacache_core.specs.declared.errors.Fault.{Fault}
-use Rattle.cacache_core.specs.PathNames.{Names, names_of, home_of, IsProperName}
-use Rattle.cacache_core.specs.Paths.{temp_area, temp_names}
-use Rattle.cacache_core.proofs.JoinedNames.{joined_texts_name}
-use Rattle.cacache_core.proofs.ProperNames.{names_are_proper, proper_temp_folder}
+use Rattle.std.proofs.{Common.{◌≡◌, inl, inr, ◌==◌, ℕ, List, [], ◌∷◌, ◌++◌, Bool, true, false, cond, drop, take, Option, None, Some, Result, Ok, Err, refl, sym, ap, subst, ◌∙◌, arith, append-nil, append_assoc, take-append-drop}, lemmas.List.Elements.{All-cons, All-nil}}
+use Rattle.cacache_core.specs.{declared.errors.Fault.{Fault}, PathNames.{Names, names_of, home_of, IsProperName}, Paths.{temp_area, temp_names}}
+use Rattle.cacache_core.proofs.{JoinedNames.{joined_texts_name}, ProperNames.{names_are_proper, proper_temp_folder}}
 use Rattle.cacache_store.specs.declared.store.answer.Answer.TheVariants as answers
 use Rattle.cacache_store.specs.declared.store.plain.PlainTemp.{PlainTemp}
 use Rattle.cacache_store.specs.declared.store.step.Step.TheVariants as steps
-use Rattle.cacache_disk.specs.declared.luck.Luck.TheVariants.{Plain}
-use Rattle.cacache_disk.specs.declared.node.Node.{Node}
-use Rattle.cacache_disk.specs.declared.node.Node.TheVariants.{Folder, File}
-use Rattle.cacache_disk.specs.Tree.{Tree, cut, look, put, same_path}
-use Rattle.cacache_disk.specs.LedTo.{dirs, dirs_fault, free, or_fault, place, where_free}
-use Rattle.cacache_disk.specs.Apply.{apply, grown, made_temp, make_some, making, taken, unless}
-use Rattle.cacache_disk.specs.Rooted.{Rooted}
-use Rattle.cacache_disk.proofs.FoundNodes.{and_then_ok, place_ok}
-use Rattle.cacache_disk.proofs.Maps.{same_path-true}
-use Rattle.cacache_disk.proofs.PutNodes.{look-cut, look-put}
-use Rattle.cacache_disk.proofs.Roots.{same_self}
-use Rattle.cacache_disk.proofs.Standing.{upper_folder}
-use Rattle.cacache_table.specs.Runs.{Moves}
-use Rattle.cacache_table.specs.StepPaths.{temp_folder, temp_path}
+use Rattle.cacache_disk.specs.{declared.{luck.Luck.TheVariants.{Plain}, node.Node.{Node, TheVariants.{Folder, File}}}, Tree.{Tree, cut, look, put, same_path}, LedTo.{dirs, dirs_fault, free, or_fault, place, where_free}, Apply.{apply, grown, made_temp, make_some, making, taken, unless}, Rooted.{Rooted}}
+use Rattle.cacache_disk.proofs.{FoundNodes.{and_then_ok, place_ok}, Maps.{same_path-true}, PutNodes.{look-cut, look-put}, Roots.{same_self}, Standing.{upper_folder}}
+use Rattle.cacache_table.specs.{Runs.{Moves}, StepPaths.{temp_folder, temp_path}}
 use Rattle.cacache_sequence.specs.Sequence.{tree_on, AreAnswered}
-use Rattle.cacache_keep_laws.specs.Compacted.{Compacted}
-use Rattle.cacache_keep_laws.specs.Temporary.{is_temp_name, temp_at}
-use Rattle.cacache_keep_laws.proofs.LeanTrees.{Becomes, EndsUp, compacted_none, ends}
-use Rattle.cacache_keep.specs.Rewriting.{Takes}
-use Rattle.cacache_keep.proofs.MovedFiles.{MovedTo}
+use Rattle.cacache_keep_laws.{specs.{Compacted.{Compacted}, Temporary.{is_temp_name, temp_at}}, proofs.LeanTrees.{Becomes, EndsUp, compacted_none, ends}}
+use Rattle.cacache_keep.{specs.Rewriting.{Takes}, proofs.MovedFiles.{MovedTo}}
 
 -- ---- the folder of temporary files is made
 

@@ -1,25 +1,12 @@
 -- Addresses in order, and which of them entries have.
-use Rattle.std.proofs.Common.{◌≡◌, ◌+◌, ◌<◌, ◌≤◌, ℕ, List, [], ◌∷◌, ◌++◌, Bool, true, false, cond, Some, Ok, Err, Result, refl, sym, ap, ap₂, subst, ◌∙◌, map, length, length-append, arith, get_or, take}
-use Rattle.std.specs.Prelude.{All, Contains, IsTrue, ◌↔◌, ◌||◌, is_ok, not}
-use Rattle.std.specs.List.{filter}
-use Rattle.std.proofs.lemmas.List.{map-append, take_more}
-use Rattle.std.specs.declared.cmp.Ordering.TheVariants.{Equal}
-use Rattle.std.specs.Ordering.{eq_by_cmp, is_eq}
-use Rattle.std.specs.Cmp.{IsTotalOrder, then_total, on_total, nat_cmp_total, unsigned_ties, both_tied}
-use Rattle.std.specs.Cmp.Lexicographic.{nat_list_cmp_total, texts_ties}
-use Rattle.std.specs.List.Sorted.{IsBinarySearchResult, IsSearchInRange, IsSorted}
-use Rattle.std.proofs.lemmas.List.Elements.{All-append, All-cons, All-nil}
-use Rattle.std.proofs.lemmas.List.Sorted.{searchable_from_sorted}
-use Rattle.cacache_core.specs.declared.integrity.digest.Hash.{Hash}
-use Rattle.cacache_core.specs.Integrity.{IsIntegrity, address, rank}
-use Rattle.cacache_core.specs.Meeting.{lists}
-use Rattle.cacache_core.specs.Same.{same_hash, same_hash-Decides}
+use Rattle.std.proofs.{Common.{◌≡◌, ◌+◌, ◌<◌, ◌≤◌, ℕ, List, [], ◌∷◌, ◌++◌, Bool, true, false, cond, Some, Ok, Err, Result, refl, sym, ap, ap₂, subst, ◌∙◌, map, length, length-append, arith, get_or, take}, lemmas.List.{map-append, take_more, Elements.{All-append, All-cons, All-nil}, Sorted.{searchable_from_sorted}}}
+use Rattle.std.specs.{Prelude.{All, Contains, IsTrue, ◌↔◌, ◌||◌, is_ok, not}, List.{filter, Sorted.{IsBinarySearchResult, IsSearchInRange, IsSorted}}, declared.cmp.Ordering.TheVariants.{Equal}, Ordering.{eq_by_cmp, is_eq}, Cmp.{IsTotalOrder, then_total, on_total, nat_cmp_total, unsigned_ties, both_tied, Lexicographic.{nat_list_cmp_total, texts_ties}}}
+use Rattle.cacache_core.specs.{declared.integrity.digest.Hash.{Hash}, Integrity.{IsIntegrity, address, rank}, Meeting.{lists}, Same.{same_hash, same_hash-Decides}}
+use Rattle.cacache_core.proofs.Meeting.{lists_finds}
 use Rattle.cacache_entry.specs.Latest.{Found}
 use Rattle.cacache_walks.specs.Listing.{hash_cmp}
-use Rattle.cacache_core.proofs.Meeting.{lists_finds}
 use Rattle.cacache_keep_laws.specs.Collecting.{is_address, is_live}
-use Rattle.cacache_keep.specs.Calls.{AreOthers, AreUnused, has_address_in, has_entry}
-use Rattle.cacache_keep.proofs.Asked.{kept, passed}
+use Rattle.cacache_keep.{specs.Calls.{AreOthers, AreUnused, has_address_in, has_entry}, proofs.Asked.{kept, passed}}
 
 -- ---- the order
 

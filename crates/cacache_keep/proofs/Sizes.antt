@@ -1,27 +1,13 @@
 -- Contents that are asked for their sizes, one after another.
-use Rattle.std.proofs.Common.{◌≡◌, true, false, inl, inr, ℕ, List, [], ◌∷◌, ◌++◌, Option, Ok, Err, refl, sym, ap, subst, ◌∙◌, map, append_assoc}
-use Rattle.std.proofs.lemmas.List.{map-append}
-use Rattle.cacache_core.specs.declared.errors.Error.{Error}
-use Rattle.cacache_core.specs.declared.errors.Error.TheVariants.{OutOfMemory}
-use Rattle.cacache_core.specs.declared.errors.Fault.TheVariants.{NotFound}
-use Rattle.cacache_core.specs.declared.integrity.digest.Hash.{Hash}
+use Rattle.std.proofs.{Common.{◌≡◌, true, false, inl, inr, ℕ, List, [], ◌∷◌, ◌++◌, Option, Ok, Err, refl, sym, ap, subst, ◌∙◌, map, append_assoc}, lemmas.List.{map-append}}
+use Rattle.cacache_core.specs.declared.{errors.{Error.{Error, TheVariants.{OutOfMemory}}, Fault.TheVariants.{NotFound}}, integrity.digest.Hash.{Hash}}
 use Rattle.cacache_store.specs.declared.store.answer.Answer.TheVariants as answers
-use Rattle.cacache_store.specs.declared.store.log.LogItem.{LogItem}
+use Rattle.cacache_store.specs.{declared.store.log.LogItem.{LogItem}, Fits.{Fits, Logs}, Plain.{PlainAnswer}}
 use Rattle.cacache_store.specs.declared.store.step.Step.TheVariants as steps
-use Rattle.cacache_store.specs.Fits.{Fits, Logs}
-use Rattle.cacache_store.specs.Plain.{PlainAnswer}
-use Rattle.cacache_table.specs.declared.answers.Refusal.{Refusal}
+use Rattle.cacache_table.specs.{declared.answers.Refusal.{Refusal}, Answers.{length_in}, Common.{fails, refuse}, Runs.{EndsAs}, SingleSteps.{Does, FailsAt}, StepPaths.{content_path}}
 use Rattle.cacache_table.specs.declared.answers.Refusal.TheVariants as refusals
-use Rattle.cacache_table.specs.Answers.{length_in}
-use Rattle.cacache_table.specs.Common.{fails, refuse}
-use Rattle.cacache_table.specs.Runs.{EndsAs}
-use Rattle.cacache_table.specs.SingleSteps.{Does, FailsAt}
-use Rattle.cacache_table.specs.StepPaths.{content_path}
-use Rattle.cacache_keep.specs.declared.planning.Unused.{Unused}
-use Rattle.cacache_keep.specs.Planning.{HidesFirst, HidesSize, Sized, StopsTelling, TellsSize, TellsSizes, sized_of}
-use Rattle.cacache_keep.specs.Reading.{finds_none}
-use Rattle.cacache_keep.proofs.Gives.{none_found}
-use Rattle.cacache_keep.proofs.Sweeps.{Refuses, sizing_refused, step_fails, still_there, told_size}
+use Rattle.cacache_keep.specs.{declared.planning.Unused.{Unused}, Planning.{HidesFirst, HidesSize, Sized, StopsTelling, TellsSize, TellsSizes, sized_of}, Reading.{finds_none}}
+use Rattle.cacache_keep.proofs.{Gives.{none_found}, Sweeps.{Refuses, sizing_refused, step_fails, still_there, told_size}}
 
 -- ---- one content
 

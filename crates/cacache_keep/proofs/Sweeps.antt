@@ -1,31 +1,15 @@
 -- Files of a folder that are removed, one after another, and why that ends.
-use Rattle.std.proofs.Common.{◌≡◌, Some, ◌+◌, ◌-◌, ◌^◌, ◌<◌, inl, ℕ, List, [], ◌∷◌, ◌++◌, true, false, Option, Ok, Err, refl, sym, ap, subst, ◌∙◌, map, length, take, drop, get_or, arith}
-use Rattle.std.specs.Prelude.{min}
-use Rattle.std.specs.List.{sum}
-use Rattle.std.proofs.lemmas.List.Sums.{sum_by-append}
-use Rattle.std.proofs.lemmas.List.{drop_more, length-map, map-append, take-append-drop, take_more}
-use Rattle.cacache_core.specs.declared.errors.Error.{Error}
-use Rattle.cacache_core.specs.declared.errors.Error.TheVariants.{OutOfMemory}
-use Rattle.cacache_core.specs.declared.errors.Fault.TheVariants.{NotFound}
-use Rattle.cacache_core.specs.Paths.{join}
+use Rattle.std.proofs.{Common.{◌≡◌, Some, ◌+◌, ◌-◌, ◌^◌, ◌<◌, inl, ℕ, List, [], ◌∷◌, ◌++◌, true, false, Option, Ok, Err, refl, sym, ap, subst, ◌∙◌, map, length, take, drop, get_or, arith}, lemmas.List.{Sums.{sum_by-append}, drop_more, length-map, map-append, take-append-drop, take_more}}
+use Rattle.std.specs.{Prelude.{min}, List.{sum}}
+use Rattle.cacache_core.specs.{declared.errors.{Error.{Error, TheVariants.{OutOfMemory}}, Fault.TheVariants.{NotFound}}, Paths.{join}}
 use Rattle.cacache_store.specs.declared.store.answer.Answer.TheVariants as answers
-use Rattle.cacache_store.specs.declared.store.answer.Name.{Name}
-use Rattle.cacache_store.specs.declared.store.log.LogItem.{LogItem}
+use Rattle.cacache_store.specs.{declared.store.{answer.Name.{Name}, log.LogItem.{LogItem}}, Fits.{Fits, Logs}, Plain.{PlainStep, PlainAnswer}}
 use Rattle.cacache_store.specs.declared.store.step.Step.TheVariants as steps
-use Rattle.cacache_store.specs.Fits.{Fits, Logs}
-use Rattle.cacache_store.specs.Plain.{PlainStep, PlainAnswer}
-use Rattle.cacache_table.specs.declared.answers.Refusal.{Refusal}
-use Rattle.cacache_table.specs.declared.answers.Refusal.TheVariants as refusals
-use Rattle.cacache_table.specs.Answers.{done_in, length_in, names_in}
-use Rattle.cacache_table.specs.Common.{fails, refuse}
-use Rattle.cacache_table.specs.Runs.{EndsAs, Gains, Moves}
-use Rattle.cacache_table.specs.SingleSteps.{Does, FailsAt}
+use Rattle.cacache_table.specs.{declared.answers.Refusal.{Refusal}, Answers.{done_in, length_in, names_in}, Common.{fails, refuse}, Runs.{EndsAs, Gains, Moves}, SingleSteps.{Does, FailsAt}}
 use Rattle.cacache_table.proofs.Going.{no_gain}
-use Rattle.cacache_keep_laws.proofs.Logged.{gains_join}
-use Rattle.cacache_keep_laws.specs.Temporary.{sized_removals, total}
-use Rattle.cacache_keep.specs.Reading.{finds_none, is_gone}
-use Rattle.cacache_keep.specs.Sweeping.{ListsFolder, RemovesSized, StopsRemoval, StopsSized}
-use Rattle.cacache_keep.proofs.Gives.{failed, lost, none_found, not_gone}
+use Rattle.cacache_table.specs.declared.answers.Refusal.TheVariants as refusals
+use Rattle.cacache_keep_laws.{proofs.Logged.{gains_join}, specs.Temporary.{sized_removals, total}}
+use Rattle.cacache_keep.{specs.{Reading.{finds_none, is_gone}, Sweeping.{ListsFolder, RemovesSized, StopsRemoval, StopsSized}}, proofs.Gives.{failed, lost, none_found, not_gone}}
 
 -- ---- a step that was refused
 

@@ -1,19 +1,12 @@
 -- Syncs leave the tree, whether they are done or fail.
 use Rattle.std.proofs.Common.{◌≡◌, ℕ, List, Bool, true, false, Option, Result, Ok, Err, refl}
-use Rattle.cacache_core.specs.declared.errors.Error.{Error}
-use Rattle.cacache_core.specs.declared.errors.Fault.{Fault}
-use Rattle.cacache_core.specs.PathNames.{Names}
+use Rattle.cacache_core.specs.{declared.errors.{Error.{Error}, Fault.{Fault}}, PathNames.{Names}}
 use Rattle.cacache_store.specs.declared.store.answer.Answer.TheVariants as answers
-use Rattle.cacache_store.specs.declared.store.log.LogItem.{LogItem}
-use Rattle.cacache_store.specs.declared.store.plain.PlainTemp.{PlainTemp}
+use Rattle.cacache_store.specs.declared.store.{log.LogItem.{LogItem}, plain.PlainTemp.{PlainTemp}}
 use Rattle.cacache_store.specs.declared.store.step.Step.TheVariants as steps
-use Rattle.cacache_disk.specs.declared.luck.Luck.TheVariants.{Plain}
-use Rattle.cacache_disk.specs.LedTo.{folder}
-use Rattle.cacache_disk.specs.Tree.{Tree}
-use Rattle.cacache_disk.specs.Apply.{apply, unless}
+use Rattle.cacache_disk.specs.{declared.luck.Luck.TheVariants.{Plain}, LedTo.{folder}, Tree.{Tree}, Apply.{apply, unless}}
 use Rattle.cacache_keep.specs.Rewriting.{StopsSecuring, StopsSyncing, SyncsFolder, SyncsTemp, folder_of}
-use Rattle.cacache_keep.proofs.FoundBuckets.{Stays}
-use Rattle.cacache_keep.proofs.TreeRuns.{Leads, leads_failed, leads_none, leads_step}
+use Rattle.cacache_keep.proofs.{FoundBuckets.{Stays}, TreeRuns.{Leads, leads_failed, leads_none, leads_step}}
 
 temp_sync_keeps : (t : Tree) (file : PlainTemp) → (apply t (steps.SyncTemp file) Plain).1 ≡ t
 unfolding apply

@@ -1,14 +1,9 @@
 -- Buckets that a compaction doesn't change.
-use Rattle.std.proofs.Common.{◌≡◌, inl, inr, ℕ, List, Bool, true, false, Option, None, Some, Ok, refl, sym, ap, ◌∙◌}
+use Rattle.std.proofs.{Common.{◌≡◌, inl, inr, ℕ, List, Bool, true, false, Option, None, Some, Ok, refl, sym, ap, ◌∙◌}, lemmas.{Bool.Decides.{Decides-eqb}, Slice.Eq.{slice_eq-Decides}}}
 use Rattle.std.specs.Prelude.{not}
-use Rattle.std.proofs.lemmas.Bool.Decides.{Decides-eqb}
-use Rattle.std.proofs.lemmas.Slice.Eq.{slice_eq-Decides}
 use Rattle.cacache_core.specs.PathNames.{Names, names_of}
-use Rattle.cacache_disk.specs.declared.node.Node.{Node}
-use Rattle.cacache_disk.specs.declared.node.Node.TheVariants.{File}
-use Rattle.cacache_disk.specs.Tree.{Tree, look}
-use Rattle.cacache_keep_laws.specs.Compacting.{compact_text}
-use Rattle.cacache_keep_laws.proofs.LeanTrees.{Becomes}
+use Rattle.cacache_disk.specs.{declared.node.Node.{Node, TheVariants.{File}}, Tree.{Tree, look}}
+use Rattle.cacache_keep_laws.{specs.Compacting.{compact_text}, proofs.LeanTrees.{Becomes}}
 use Rattle.cacache_keep.specs.Compacting.{Bucket, is_loose, same_bytes}
 
 -- the file at the path has bytes that a compaction leaves

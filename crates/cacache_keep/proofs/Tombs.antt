@@ -1,24 +1,14 @@
 -- Keys that lead to no content get tombstones, one after another.
-use Rattle.std.proofs.Common.{◌≡◌, ◌<◌, ◌^◌, inl, inr, ℕ, List, [], ◌∷◌, ◌++◌, Bool, true, false, Option, None, Some, refl, sym, ap, subst, ◌∙◌, map, append-nil, arith}
-use Rattle.std.specs.Prelude.{All, if◌then◌else◌, not}
-use Rattle.std.specs.List.{filter, flat_map}
-use Rattle.std.proofs.lemmas.List.{flat_map_more, map-append}
-use Rattle.std.proofs.lemmas.List.Elements.{All-append, All-cons, All-nil}
-use Rattle.cacache_core.specs.declared.errors.Error.{Error}
-use Rattle.cacache_core.specs.declared.errors.Error.TheVariants.{OutOfMemory}
+use Rattle.std.proofs.{Common.{◌≡◌, ◌<◌, ◌^◌, inl, inr, ℕ, List, [], ◌∷◌, ◌++◌, Bool, true, false, Option, None, Some, refl, sym, ap, subst, ◌∙◌, map, append-nil, arith}, lemmas.List.{flat_map_more, map-append, Elements.{All-append, All-cons, All-nil}}}
+use Rattle.std.specs.{Prelude.{All, if◌then◌else◌, not}, List.{filter, flat_map}}
+use Rattle.cacache_core.specs.declared.errors.Error.{Error, TheVariants.{OutOfMemory}}
 use Rattle.cacache_store.specs.declared.store.log.LogItem.{LogItem}
 use Rattle.cacache_entry.specs.Latest.{Found}
-use Rattle.cacache_table.specs.declared.command.Command.{Command}
+use Rattle.cacache_table.specs.{declared.{command.Command.{Command}, reply.Reply.{Reply}}, State.{Site}, Table.{opening}, Runs.{Ran, without_message}}
 use Rattle.cacache_table.specs.declared.command.Command.TheVariants as commands
-use Rattle.cacache_table.specs.declared.reply.Reply.{Reply}
 use Rattle.cacache_table.specs.declared.reply.Reply.TheVariants as replies
-use Rattle.cacache_table.specs.State.{Site}
-use Rattle.cacache_table.specs.Table.{opening}
-use Rattle.cacache_table.specs.Runs.{Ran, without_message}
-use Rattle.cacache_keep.specs.Calls.{MadeCalls}
-use Rattle.cacache_keep.specs.Repairing.{BuriesEach, Fate, IsFateOf, Led, LooksOrAsks, StopsBurying, StopsFate, StopsLooking, calls_for, is_buried, leads_nowhere, looks_of, tombstone}
-use Rattle.cacache_keep.proofs.Asked.{kept, passed}
-use Rattle.cacache_keep.proofs.Stopped.{made_both}
+use Rattle.cacache_keep.specs.{Calls.{MadeCalls}, Repairing.{BuriesEach, Fate, IsFateOf, Led, LooksOrAsks, StopsBurying, StopsFate, StopsLooking, calls_for, is_buried, leads_nowhere, looks_of, tombstone}}
+use Rattle.cacache_keep.proofs.{Asked.{kept, passed}, Stopped.{made_both}}
 
 -- ---- one key
 

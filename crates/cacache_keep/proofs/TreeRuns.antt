@@ -1,21 +1,12 @@
 -- What parts of a log do to the tree that they find.
 use Rattle.std.proofs.Common.{◌≡◌, inl, inr, List, [], ◌∷◌, ◌++◌, Option, Some, refl, sym, subst}
-use Rattle.cacache_core.specs.declared.errors.Error.{Error}
-use Rattle.cacache_core.specs.declared.errors.Error.TheVariants.{IoError, OutOfMemory}
-use Rattle.cacache_core.specs.declared.errors.Fault.{Fault}
+use Rattle.cacache_core.specs.declared.errors.{Error.{Error, TheVariants.{IoError, OutOfMemory}}, Fault.{Fault}}
 use Rattle.cacache_store.specs.declared.store.answer.Answer.TheVariants as answers
-use Rattle.cacache_store.specs.declared.store.log.LogItem.{LogItem}
-use Rattle.cacache_store.specs.Plain.{PlainStep, PlainAnswer}
-use Rattle.cacache_disk.specs.declared.luck.Luck.TheVariants.{Plain}
-use Rattle.cacache_disk.specs.Tree.{Tree}
-use Rattle.cacache_disk.specs.Apply.{apply}
-use Rattle.cacache_disk.specs.Rooted.{Rooted}
-use Rattle.cacache_disk.proofs.KeptFolders.{steps_keep_rooted}
+use Rattle.cacache_store.specs.{declared.store.log.LogItem.{LogItem}, Plain.{PlainStep, PlainAnswer}}
+use Rattle.cacache_disk.{specs.{declared.luck.Luck.TheVariants.{Plain}, Tree.{Tree}, Apply.{apply}, Rooted.{Rooted}}, proofs.KeptFolders.{steps_keep_rooted}}
 use Rattle.cacache_memory.specs.Replay.{tree_of, IsLog}
-use Rattle.cacache_table.specs.Runs.{Gains, Moves}
-use Rattle.cacache_table.specs.SingleSteps.{Does, FailsAt}
-use Rattle.cacache_sequence.specs.Sequence.{tree_on, AreAnswered}
-use Rattle.cacache_sequence.proofs.InParts.{logs_lead}
+use Rattle.cacache_table.specs.{Runs.{Gains, Moves}, SingleSteps.{Does, FailsAt}}
+use Rattle.cacache_sequence.{specs.Sequence.{tree_on, AreAnswered}, proofs.InParts.{logs_lead}}
 use Rattle.cacache_keep_laws.proofs.Logged.{answered_split, gains_join, log_rooted, tree_split}
 use Rattle.cacache_keep.proofs.Parts.{gains_none}
 

@@ -1,38 +1,19 @@
 -- A verification behind a repair finds nothing damaged and nothing that dangles, and good keys stay.
-use Rattle.std.proofs.Common.{◌≡◌, inl, inr, ℕ, Bool, true, false, cond, List, [], ◌∷◌, None, Some, map, filter, refl, sym, ap, subst, ◌∙◌}
+use Rattle.std.proofs.{Common.{◌≡◌, inl, inr, ℕ, Bool, true, false, cond, List, [], ◌∷◌, None, Some, map, filter, refl, sym, ap, subst, ◌∙◌}, lemmas.List.Elements.{All-head}}
 use Rattle.std.specs.Prelude.{not}
-use Rattle.std.proofs.lemmas.List.Elements.{All-head}
 use Rattle.sha1.specs.Sha1.{sha1}
-use Rattle.cacache_core.specs.declared.integrity.digest.Hash.{Hash}
-use Rattle.cacache_core.specs.Integrity.{IsHash, IsIntegrity, address}
-use Rattle.cacache_core.specs.PathNames.{Names, home_of}
+use Rattle.cacache_core.specs.{declared.integrity.digest.Hash.{Hash}, Integrity.{IsHash, IsIntegrity, address}, PathNames.{Names, home_of}}
 use Rattle.cacache_core.proofs.PathLemmas.{keys_have_digests}
-use Rattle.cacache_store.specs.declared.store.log.LogItem.{LogItem}
-use Rattle.cacache_store.specs.declared.store.step.Step.TheVariants.{Exists}
-use Rattle.cacache_disk.specs.declared.luck.Luck.TheVariants.{Plain}
-use Rattle.cacache_disk.specs.Apply.{apply}
-use Rattle.cacache_disk.specs.Rooted.{Rooted}
-use Rattle.cacache_disk.specs.Tree.{Tree}
+use Rattle.cacache_store.specs.declared.store.{log.LogItem.{LogItem}, step.Step.TheVariants.{Exists}}
+use Rattle.cacache_disk.specs.{declared.luck.Luck.TheVariants.{Plain}, Apply.{apply}, Rooted.{Rooted}, Tree.{Tree}}
 use Rattle.cacache_memory.specs.Replay.{tree_of, IsLog}
 use Rattle.cacache_entry.specs.Latest.{Found, latest}
-use Rattle.cacache_table.specs.State.{Site}
-use Rattle.cacache_table.specs.StepPaths.{content_path}
+use Rattle.cacache_table.specs.{State.{Site}, StepPaths.{content_path}}
 use Rattle.cacache_value.specs.Acts.{list_of}
-use Rattle.cacache_keep_laws.specs.Contents.{content_in}
-use Rattle.cacache_keep_laws.specs.Housed.{Housed, Still}
-use Rattle.cacache_keep_laws.specs.Mending.{LeavesGood, found_in}
-use Rattle.cacache_keep_laws.specs.Verifying.{Judges, has_content, is_good, says_yes}
-use Rattle.cacache_keep_laws.proofs.Collected.{dropped_hash, kept_in, leaves, picked_left}
-use Rattle.cacache_keep_laws.proofs.Housed.{removes_house, removes_root, removes_still}
-use Rattle.cacache_keep_laws.proofs.Led.{found_integrity, found_listed, indexes_lead}
-use Rattle.cacache_keep_laws.proofs.Logged.{log_rooted}
-use Rattle.cacache_keep_laws.proofs.Members.{Member, contains_member, member_contains}
-use Rattle.cacache_keep_laws.proofs.StillThere.{good_still, good_there, has_still}
-use Rattle.cacache_keep.specs.Kept.{LeadsToGood, RepairsKeepGood, RepairsVerify}
-use Rattle.cacache_keep.specs.Repairing.{Fate, RepairsCache}
-use Rattle.cacache_keep.proofs.Buried.{Whole}
-use Rattle.cacache_keep.proofs.Mends.{Repaired, map_from, repaired, steps_done}
-use Rattle.cacache_keep.proofs.Verdicts.{verdicts_judge}
+use Rattle.cacache_keep_laws.specs.{Contents.{content_in}, Housed.{Housed, Still}, Mending.{LeavesGood, found_in}, Verifying.{Judges, has_content, is_good, says_yes}}
+use Rattle.cacache_keep_laws.proofs.{Collected.{dropped_hash, kept_in, leaves, picked_left}, Housed.{removes_house, removes_root, removes_still}, Led.{found_integrity, found_listed, indexes_lead}, Logged.{log_rooted}, Members.{Member, contains_member, member_contains}, StillThere.{good_still, good_there, has_still}}
+use Rattle.cacache_keep.specs.{Kept.{LeadsToGood, RepairsKeepGood, RepairsVerify}, Repairing.{Fate, RepairsCache}}
+use Rattle.cacache_keep.proofs.{Buried.{Whole}, Mends.{Repaired, map_from, repaired, steps_done}, Verdicts.{verdicts_judge}}
 
 -- a filter that takes none
 none_kept : {X : Type 0} (p : X → Bool) (xs : List X) → ((x : X) → Member x xs → p x ≡ false) → filter p xs ≡ []

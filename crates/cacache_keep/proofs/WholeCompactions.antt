@@ -1,26 +1,13 @@
 -- What a compaction leaves of the tree of a log, and what calls answer then.
-use Rattle.std.proofs.Common.{◌≡◌, inl, inr, ℕ, List, [], ◌∷◌, ◌++◌, Bool, None, Some, Ok, sym, ap, subst, ◌∙◌}
-use Rattle.std.specs.List.{AllByRecursion}
-use Rattle.cacache_core.specs.PathNames.{Names, home_of, names_of}
-use Rattle.cacache_core.specs.Paths.{index_area}
+use Rattle.std.{proofs.Common.{◌≡◌, inl, inr, ℕ, List, [], ◌∷◌, ◌++◌, Bool, None, Some, Ok, sym, ap, subst, ◌∙◌}, specs.List.{AllByRecursion}}
+use Rattle.cacache_core.specs.{PathNames.{Names, home_of, names_of}, Paths.{index_area}}
 use Rattle.cacache_store.specs.declared.store.log.LogItem.{LogItem}
-use Rattle.cacache_disk.specs.declared.node.Node.TheVariants.{File}
-use Rattle.cacache_disk.specs.Tree.{Tree, look}
+use Rattle.cacache_disk.specs.{declared.node.Node.TheVariants.{File}, Tree.{Tree, look}}
 use Rattle.cacache_memory.specs.Replay.{IsLog, tree_of}
-use Rattle.cacache_keep_laws.specs.Compacted.{Compacted, CutShort}
-use Rattle.cacache_keep_laws.specs.Compacting.{compact_text}
-use Rattle.cacache_keep_laws.proofs.LeanCalls.{compactions_answer}
-use Rattle.cacache_keep_laws.proofs.LeanTrees.{compactions_keep, Becomes, compacted_none, cut_short}
-use Rattle.cacache_keep_laws.proofs.Led.{houses_are_fit}
-use Rattle.cacache_keep_laws.proofs.Logged.{log_rooted}
-use Rattle.cacache_keep_laws.proofs.Members.{Member}
-use Rattle.cacache_keep.specs.Compacting.{CompactsCache}
-use Rattle.cacache_keep.specs.Kept.{CompactionsAreUnseen, CompactionsLeave, CompactionsStop, MayCompact}
-use Rattle.cacache_keep.proofs.FoundBuckets.{AreBucketNames, FindsFiles, IsBucketFile, Stays, buckets_found, finding_stays}
-use Rattle.cacache_keep.proofs.HexNames.{bucket_names_hex}
-use Rattle.cacache_keep.proofs.TreeRuns.{Leads, leads_as, leads_on, leads_then}
-use Rattle.cacache_keep.proofs.CompactedTrees.{CompactsThese, each_leads, stop_leads}
-use Rattle.cacache_keep.proofs.TightBuckets.{IsTight, same_file}
+use Rattle.cacache_keep_laws.specs.{Compacted.{Compacted, CutShort}, Compacting.{compact_text}}
+use Rattle.cacache_keep_laws.proofs.{LeanCalls.{compactions_answer}, LeanTrees.{compactions_keep, Becomes, compacted_none, cut_short}, Led.{houses_are_fit}, Logged.{log_rooted}, Members.{Member}}
+use Rattle.cacache_keep.specs.{Compacting.{CompactsCache}, Kept.{CompactionsAreUnseen, CompactionsLeave, CompactionsStop, MayCompact}}
+use Rattle.cacache_keep.proofs.{FoundBuckets.{AreBucketNames, FindsFiles, IsBucketFile, Stays, buckets_found, finding_stays}, HexNames.{bucket_names_hex}, TreeRuns.{Leads, leads_as, leads_on, leads_then}, CompactedTrees.{CompactsThese, each_leads, stop_leads}, TightBuckets.{IsTight, same_file}}
 
 -- ---- what a whole one leaves
 

@@ -1,32 +1,13 @@
 -- Where a key leads behind a collection, while contents are exported and other keys are written.
 use Rattle.std.specs.Prelude.{◌≡◌, ◌⊎◌, ◌<◌, ◌^◌, ℕ, List, [], ◌∷◌, Option, None, Some, Result, Contains, IfSome, IsUtf8, filter_map}
-use Rattle.cacache_core.specs.declared.errors.Error.{Error}
-use Rattle.cacache_core.specs.declared.integrity.digest.Hash.{Hash}
-use Rattle.cacache_core.specs.Integrity.{IsIntegrity}
-use Rattle.cacache_core.specs.PathNames.{Names, home_of}
-use Rattle.cacache_store.specs.declared.store.log.LogItem.{LogItem}
-use Rattle.cacache_store.specs.declared.store.plain.PlainTemp.{PlainTemp}
+use Rattle.cacache_core.specs.{declared.{errors.Error.{Error}, integrity.digest.Hash.{Hash}}, Integrity.{IsIntegrity}, PathNames.{Names, home_of}}
+use Rattle.cacache_store.specs.declared.store.{log.LogItem.{LogItem}, plain.PlainTemp.{PlainTemp}}
 use Rattle.cacache_memory.specs.Replay.{IsLog}
 use Rattle.cacache_table.specs.declared.command.Command.TheVariants as commands
-use Rattle.cacache_table.specs.declared.command.Delete.{Delete}
-use Rattle.cacache_table.specs.declared.command.Export.{Export}
-use Rattle.cacache_table.specs.declared.command.Insert.{Insert}
-use Rattle.cacache_table.specs.declared.command.Put.{Put}
-use Rattle.cacache_table.specs.declared.command.Source.{Source}
-use Rattle.cacache_table.specs.declared.reply.Reply.{Reply}
-use Rattle.cacache_table.specs.Inserting.{insertion}
-use Rattle.cacache_table.specs.Sound.{FormedIfWritten}
-use Rattle.cacache_table.specs.State.{Site}
+use Rattle.cacache_table.specs.{declared.{command.{Delete.{Delete}, Export.{Export}, Insert.{Insert}, Put.{Put}, Source.{Source}}, reply.Reply.{Reply}}, Inserting.{insertion}, Sound.{FormedIfWritten}, State.{Site}}
 use Rattle.cacache_history.specs.History.{NamesIntegrity}
-use Rattle.cacache_sequence.specs.Beside.{FitsEntry, IsOther}
-use Rattle.cacache_sequence.specs.Caches.{IsCache, HasKey, Called}
-use Rattle.cacache_sequence.specs.ExportEffects.{IsApart}
-use Rattle.cacache_sequence.specs.GivenUp.{GivesUpTemp}
-use Rattle.cacache_sequence.specs.Keeping.{found_under}
-use Rattle.cacache_sequence.specs.OpenWriters.{CommitsBytes, IsOpened, OpensWriter}
-use Rattle.cacache_sequence.specs.Puts.{ExpectsIntegrity}
-use Rattle.cacache_keep.specs.Keeping.{Collects}
-use Rattle.cacache_keep.specs.Kept.{LeavesTree}
+use Rattle.cacache_sequence.specs.{Beside.{FitsEntry, IsOther}, Caches.{IsCache, HasKey, Called}, ExportEffects.{IsApart}, GivenUp.{GivesUpTemp}, Keeping.{found_under}, OpenWriters.{CommitsBytes, IsOpened, OpensWriter}, Puts.{ExpectsIntegrity}}
+use Rattle.cacache_keep.specs.{Keeping.{Collects}, Kept.{LeavesTree}}
 
 -- ---- a collection
 

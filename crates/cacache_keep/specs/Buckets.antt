@@ -1,18 +1,12 @@
 -- Where the buckets of an index lie.
-use Rattle.std.specs.Prelude.{◌≡◌, ◌⊎◌, ◌++◌, ◌==◌, ◌&&◌, ◌||◌, ℕ, List, [], ◌∷◌, Bool, true, false, Option, if◌then◌else◌, filter, length, map, nat_le}
-use Rattle.std.specs.List.{flat_map, list_all}
-use Rattle.cacache_core.specs.declared.errors.Error.{Error}
-use Rattle.cacache_core.specs.declared.errors.Error.TheVariants.{OutOfMemory}
-use Rattle.cacache_core.specs.Paths.{join, index_area}
-use Rattle.cacache_store.specs.declared.store.answer.Kind.{Kind}
+use Rattle.std.specs.{Prelude.{◌≡◌, ◌⊎◌, ◌++◌, ◌==◌, ◌&&◌, ◌||◌, ℕ, List, [], ◌∷◌, Bool, true, false, Option, if◌then◌else◌, filter, length, map, nat_le}, List.{flat_map, list_all}}
+use Rattle.cacache_core.specs.{declared.errors.Error.{Error, TheVariants.{OutOfMemory}}, Paths.{join, index_area}}
+use Rattle.cacache_store.specs.declared.store.{answer.{Kind.{Kind}, Name.{Name}}, log.LogItem.{LogItem}}
 use Rattle.cacache_store.specs.declared.store.answer.Kind.TheVariants as kinds
-use Rattle.cacache_store.specs.declared.store.answer.Name.{Name}
-use Rattle.cacache_store.specs.declared.store.log.LogItem.{LogItem}
 use Rattle.cacache_store.specs.declared.store.step.Step.TheVariants as steps
 use Rattle.cacache_table.specs.SingleSteps.{FailsAt}
 use Rattle.cacache_keep_laws.specs.Temporary.{is_file}
-use Rattle.cacache_keep.specs.Reading.{is_gone}
-use Rattle.cacache_keep.specs.Sweeping.{ListsFolder}
+use Rattle.cacache_keep.specs.{Reading.{is_gone}, Sweeping.{ListsFolder}}
 
 -- ---- names in the index
 

@@ -1,17 +1,12 @@
 -- What a compaction does, over any store.
-use Rattle.std.specs.Prelude.{◌≡◌, ◌⊎◌, ◌++◌, ◌-◌, ◌^◌, ℕ, List, [], ◌∷◌, Bool, true, false, Option, None, Some, if◌then◌else◌, filter, length, map, min, not, option_map}
-use Rattle.std.specs.Bool.{nat_eq}
-use Rattle.std.specs.Cmp.Lexicographic.{pointwise}
+use Rattle.std.specs.{Prelude.{◌≡◌, ◌⊎◌, ◌++◌, ◌-◌, ◌^◌, ℕ, List, [], ◌∷◌, Bool, true, false, Option, None, Some, if◌then◌else◌, filter, length, map, min, not, option_map}, Bool.{nat_eq}, Cmp.Lexicographic.{pointwise}}
 use Rattle.cacache_core.specs.declared.errors.Error.{Error}
 use Rattle.cacache_store.specs.declared.store.answer.Answer.TheVariants as answers
 use Rattle.cacache_store.specs.declared.store.log.LogItem.{LogItem}
 use Rattle.cacache_store.specs.declared.store.step.Step.TheVariants as steps
 use Rattle.cacache_table.specs.SingleSteps.{Does, FailsAt}
-use Rattle.cacache_keep_laws.specs.Compacting.{compact_text}
-use Rattle.cacache_keep_laws.specs.Temporary.{total}
-use Rattle.cacache_keep.specs.declared.settling.Lean.{Lean}
-use Rattle.cacache_keep.specs.Buckets.{FindsBuckets, StopsFinding}
-use Rattle.cacache_keep.specs.Rewriting.{Rewrites, StopsRewriting}
+use Rattle.cacache_keep_laws.specs.{Compacting.{compact_text}, Temporary.{total}}
+use Rattle.cacache_keep.specs.{declared.settling.Lean.{Lean}, Buckets.{FindsBuckets, StopsFinding}, Rewriting.{Rewrites, StopsRewriting}}
 
 -- ---- buckets, one after another
 

@@ -1,16 +1,12 @@
 -- What lies in its place stays there in a sweep and in a repair, on a store in memory.
 use Rattle.std.specs.Prelude.{◌≡◌, ℕ, List, Some}
-use Rattle.cacache_core.specs.declared.integrity.digest.Hash.{Hash}
-use Rattle.cacache_core.specs.PathNames.{Names, home_of}
+use Rattle.cacache_core.specs.{declared.integrity.digest.Hash.{Hash}, PathNames.{Names, home_of}}
 use Rattle.cacache_store.specs.declared.store.log.LogItem.{LogItem}
 use Rattle.cacache_memory.specs.Replay.{tree_of, IsLog}
 use Rattle.cacache_entry.specs.Latest.{Found}
 use Rattle.cacache_table.specs.State.{Site}
-use Rattle.cacache_keep_laws.specs.Contents.{content_in}
-use Rattle.cacache_keep_laws.specs.Housed.{Housed}
-use Rattle.cacache_keep.specs.Kept.{LeadsToGood}
-use Rattle.cacache_keep.specs.Repairing.{RepairsCache}
-use Rattle.cacache_keep.specs.Sweeping.{SweepsCache}
+use Rattle.cacache_keep_laws.specs.{Contents.{content_in}, Housed.{Housed}}
+use Rattle.cacache_keep.specs.{Kept.{LeadsToGood}, Repairing.{RepairsCache}, Sweeping.{SweepsCache}}
 
 -- a sweep leaves each thing in its place, and each entry in its key's bucket
 abbrev pub SweepsHouse : Type 0

@@ -1,13 +1,11 @@
 -- What a verification and a collection do, over any store.
 use Rattle.std.specs.Prelude.{◌≡◌, ◌⊎◌, ◌+◌, ℕ, List, Option, length, map}
-use Rattle.cacache_core.specs.declared.errors.Error.{Error}
-use Rattle.cacache_core.specs.declared.integrity.digest.Hash.{Hash}
+use Rattle.cacache_core.specs.declared.{errors.Error.{Error}, integrity.digest.Hash.{Hash}}
 use Rattle.cacache_store.specs.declared.store.log.LogItem.{LogItem}
 use Rattle.cacache_entry.specs.Latest.{Found}
 use Rattle.cacache_table.specs.State.{Site}
 use Rattle.cacache_walks.specs.Listing.{IsByHash, ListsContents, StopsListing}
-use Rattle.cacache_keep.specs.Calls.{AreUnused, AsksEach, ListsEntries, MadeCalls, StopsReading, StopsRemoving, removal}
-use Rattle.cacache_keep.specs.Reading.{ReadsEach, StopsEach}
+use Rattle.cacache_keep.specs.{Calls.{AreUnused, AsksEach, ListsEntries, MadeCalls, StopsReading, StopsRemoving, removal}, Reading.{ReadsEach, StopsEach}}
 
 -- The contents are listed, each is read in pieces, the index is listed, and of each entry is asked
 -- whether its content is there.

@@ -1,37 +1,16 @@
 -- What the calls come to on a store in memory.
 use Rattle.std.specs.Prelude.{◌≡◌, ◌⊎◌, ◌++◌, ℕ, List, [], ◌∷◌, Bool, Option, true, None, Some, Contains, filter, filter_map, map, not}
-use Rattle.cacache_core.specs.declared.errors.Error.{Error}
-use Rattle.cacache_core.specs.declared.integrity.digest.Hash.{Hash}
-use Rattle.cacache_core.specs.Integrity.{address as address_of}
-use Rattle.cacache_core.specs.PathLaws.{IsKeyDigest}
-use Rattle.cacache_core.specs.PathNames.{Names, home_of}
-use Rattle.cacache_core.specs.Paths.{bucket_names_of}
+use Rattle.cacache_core.specs.{declared.{errors.Error.{Error}, integrity.digest.Hash.{Hash}}, Integrity.{address as address_of}, PathLaws.{IsKeyDigest}, PathNames.{Names, home_of}, Paths.{bucket_names_of}}
 use Rattle.cacache_store.specs.declared.store.log.LogItem.{LogItem}
-use Rattle.cacache_disk.specs.declared.node.Node.TheVariants.{File}
-use Rattle.cacache_disk.specs.Tree.{Tree, look}
+use Rattle.cacache_disk.specs.{declared.node.Node.TheVariants.{File}, Tree.{Tree, look}}
 use Rattle.cacache_memory.specs.Replay.{tree_of, IsLog}
 use Rattle.cacache_entry.specs.Latest.{Found}
-use Rattle.cacache_table.specs.declared.command.Command.{Command}
-use Rattle.cacache_table.specs.declared.reply.Reply.{Reply}
-use Rattle.cacache_table.specs.State.{Site}
+use Rattle.cacache_table.specs.{declared.{command.Command.{Command}, reply.Reply.{Reply}}, State.{Site}}
 use Rattle.cacache_value.specs.Placed.{Placed}
-use Rattle.cacache_sequence.specs.Caches.{Called}
-use Rattle.cacache_sequence.specs.Looks.{OnlyLooks}
+use Rattle.cacache_sequence.specs.{Caches.{Called}, Looks.{OnlyLooks}}
 use Rattle.cacache_walks.specs.Listing.{IsByHash, ListsContents}
-use Rattle.cacache_keep_laws.specs.Compacted.{Compacted, CutShort, KeepsFound}
-use Rattle.cacache_keep_laws.specs.Compacting.{compact_text}
-use Rattle.cacache_keep_laws.specs.Contents.{HoldsJust, content_in}
-use Rattle.cacache_keep_laws.specs.Housed.{Housed}
-use Rattle.cacache_keep_laws.specs.Verifying.{Judges, is_good}
-use Rattle.cacache_keep_laws.specs.Collecting.{LeavesLive, LinksLeadOut, ReadsAsBefore}
-use Rattle.cacache_keep_laws.specs.Idle.{LacksIdle, Removed}
-use Rattle.cacache_keep_laws.specs.Mending.{LeavesGood, found_in}
-use Rattle.cacache_keep_laws.specs.Temporary.{LeavesUntemporary}
-use Rattle.cacache_keep.specs.Compacting.{CompactsCache, StopsCompacting}
-use Rattle.cacache_keep.specs.Keeping.{Collects, VerifiesCache}
-use Rattle.cacache_keep.specs.Planning.{PlansCache, Sized}
-use Rattle.cacache_keep.specs.Repairing.{RepairsCache}
-use Rattle.cacache_keep.specs.Sweeping.{SweepsCache}
+use Rattle.cacache_keep_laws.specs.{Compacted.{Compacted, CutShort, KeepsFound}, Compacting.{compact_text}, Contents.{HoldsJust, content_in}, Housed.{Housed}, Verifying.{Judges, is_good}, Collecting.{LeavesLive, LinksLeadOut, ReadsAsBefore}, Idle.{LacksIdle, Removed}, Mending.{LeavesGood, found_in}, Temporary.{LeavesUntemporary}}
+use Rattle.cacache_keep.specs.{Compacting.{CompactsCache, StopsCompacting}, Keeping.{Collects, VerifiesCache}, Planning.{PlansCache, Sized}, Repairing.{RepairsCache}, Sweeping.{SweepsCache}}
 
 -- the log leads to the tree that it led to
 abbrev pub LeavesTree : List LogItem → List LogItem → Type 0

@@ -1,7 +1,6 @@
 -- What a line of a bucket stands for.
 use Rattle.std.specs.Prelude.{ℕ, List, map}
-use Rattle.cacache_entry.specs.View.{entry_view}
-use Rattle.cacache_entry.specs.declared.metadata.SerializableMetadata.{SerializableMetadata}
+use Rattle.cacache_entry.specs.{View.{entry_view}, declared.metadata.SerializableMetadata.{SerializableMetadata}}
 use Rattle.cacache_keep_laws.specs.Compacting.{Line, keys_of, lines_for, text_of}
 use Rattle.cacache_keep.specs.declared.lines.Line.{Line as Held}
 

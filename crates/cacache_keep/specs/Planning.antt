@@ -1,18 +1,11 @@
 -- What a plan of a collection does, over any store.
 use Rattle.std.specs.Prelude.{◌≡◌, ◌⊎◌, ◌++◌, ℕ, List, [], ◌∷◌, Option, false, map}
-use Rattle.cacache_core.specs.declared.errors.Error.{Error}
-use Rattle.cacache_core.specs.declared.errors.Error.TheVariants.{OutOfMemory}
-use Rattle.cacache_core.specs.declared.errors.Fault.TheVariants.{NotFound}
-use Rattle.cacache_core.specs.declared.integrity.digest.Hash.{Hash}
+use Rattle.cacache_core.specs.declared.{errors.{Error.{Error, TheVariants.{OutOfMemory}}, Fault.TheVariants.{NotFound}}, integrity.digest.Hash.{Hash}}
 use Rattle.cacache_store.specs.declared.store.answer.Answer.TheVariants as answers
 use Rattle.cacache_store.specs.declared.store.log.LogItem.{LogItem}
 use Rattle.cacache_store.specs.declared.store.step.Step.TheVariants as steps
-use Rattle.cacache_table.specs.SingleSteps.{Does, FailsAt}
-use Rattle.cacache_table.specs.State.{Site}
-use Rattle.cacache_table.specs.StepPaths.{content_path}
-use Rattle.cacache_keep.specs.declared.planning.Unused.{Unused}
-use Rattle.cacache_keep.specs.Keeping.{Chooses, StopsEarly}
-use Rattle.cacache_keep.specs.Reading.{is_gone}
+use Rattle.cacache_table.specs.{SingleSteps.{Does, FailsAt}, State.{Site}, StepPaths.{content_path}}
+use Rattle.cacache_keep.specs.{declared.planning.Unused.{Unused}, Keeping.{Chooses, StopsEarly}, Reading.{is_gone}}
 
 -- ---- sizes of contents, one after another
 

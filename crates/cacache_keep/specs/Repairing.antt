@@ -1,21 +1,14 @@
 -- What a repair does, over any store.
-use Rattle.std.specs.Prelude.{if◌then◌else◌, ◌≡◌, ◌⊎◌, ◌++◌, ◌<◌, ◌^◌, All, IsUtf8, ℕ, List, [], ◌∷◌, Bool, true, false, Option, None, Some, filter, map, not}
-use Rattle.std.specs.List.{flat_map}
-use Rattle.cacache_core.specs.declared.errors.Error.{Error}
-use Rattle.cacache_core.specs.declared.integrity.digest.Hash.{Hash}
+use Rattle.std.specs.{Prelude.{if◌then◌else◌, ◌≡◌, ◌⊎◌, ◌++◌, ◌<◌, ◌^◌, All, IsUtf8, ℕ, List, [], ◌∷◌, Bool, true, false, Option, None, Some, filter, map, not}, List.{flat_map}}
+use Rattle.cacache_core.specs.declared.{errors.Error.{Error}, integrity.digest.Hash.{Hash}}
 use Rattle.cacache_store.specs.declared.store.log.LogItem.{LogItem}
 use Rattle.cacache_entry.specs.Latest.{Found}
-use Rattle.cacache_table.specs.declared.command.Command.{Command}
+use Rattle.cacache_table.specs.{declared.{command.Command.{Command}, reply.Reply.{Reply}}, State.{Site}, Table.{opening}, Runs.{Ran, without_message}}
 use Rattle.cacache_table.specs.declared.command.Command.TheVariants as commands
-use Rattle.cacache_table.specs.declared.reply.Reply.{Reply}
 use Rattle.cacache_table.specs.declared.reply.Reply.TheVariants as replies
-use Rattle.cacache_table.specs.State.{Site}
-use Rattle.cacache_table.specs.Table.{opening}
-use Rattle.cacache_table.specs.Runs.{Ran, without_message}
 use Rattle.cacache_reads.specs.Lookups.{delete_of}
 use Rattle.cacache_walks.specs.Listing.{IsByHash, ListsContents, StopsListing}
-use Rattle.cacache_keep.specs.Calls.{AsksEach, ListsEntries, MadeCalls, SaysWhy, StopsReading, StopsRemoving, removal}
-use Rattle.cacache_keep.specs.Reading.{ReadsEach, StopsEach}
+use Rattle.cacache_keep.specs.{Calls.{AsksEach, ListsEntries, MadeCalls, SaysWhy, StopsReading, StopsRemoving, removal}, Reading.{ReadsEach, StopsEach}}
 
 -- ---- a key that may lead to no content
 

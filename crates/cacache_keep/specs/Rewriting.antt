@@ -1,16 +1,11 @@
 -- How a file is written anew, over any store.
-use Rattle.std.specs.Prelude.{◌≡◌, ◌⊎◌, ℕ, List, [], ◌∷◌, Bool, true, false, Option, drop, unwrap_or}
-use Rattle.std.specs.Path.{path_parent}
+use Rattle.std.specs.{Prelude.{◌≡◌, ◌⊎◌, ℕ, List, [], ◌∷◌, Bool, true, false, Option, drop, unwrap_or}, Path.{path_parent}}
 use Rattle.cacache_core.specs.declared.errors.Error.{Error}
 use Rattle.cacache_core.specs.declared.errors.Fault.TheVariants as faults
 use Rattle.cacache_store.specs.declared.store.answer.Answer.TheVariants as answers
-use Rattle.cacache_store.specs.declared.store.log.LogItem.{LogItem}
-use Rattle.cacache_store.specs.declared.store.plain.PlainTemp.{PlainTemp}
+use Rattle.cacache_store.specs.declared.store.{log.LogItem.{LogItem}, plain.PlainTemp.{PlainTemp}}
 use Rattle.cacache_store.specs.declared.store.step.Step.TheVariants as steps
-use Rattle.cacache_table.specs.Common.{fails}
-use Rattle.cacache_table.specs.Runs.{EndsAs, Gains, Moves}
-use Rattle.cacache_table.specs.SingleSteps.{Does, FailsAt}
-use Rattle.cacache_table.specs.StepPaths.{temp_folder, temp_path}
+use Rattle.cacache_table.specs.{Common.{fails}, Runs.{EndsAs, Gains, Moves}, SingleSteps.{Does, FailsAt}, StepPaths.{temp_folder, temp_path}}
 
 -- ---- the temporary file
 

@@ -1,15 +1,10 @@
 -- What a sweep does, over any store.
 use Rattle.std.specs.Prelude.{◌≡◌, ◌⊎◌, ◌++◌, ℕ, List, [], ◌∷◌, Option, false, filter, length, map, not}
-use Rattle.cacache_core.specs.declared.errors.Error.{Error}
-use Rattle.cacache_core.specs.declared.errors.Error.TheVariants.{OutOfMemory}
-use Rattle.cacache_core.specs.Paths.{join}
+use Rattle.cacache_core.specs.{declared.errors.Error.{Error, TheVariants.{OutOfMemory}}, Paths.{join}}
 use Rattle.cacache_store.specs.declared.store.answer.Answer.TheVariants as answers
-use Rattle.cacache_store.specs.declared.store.answer.Name.{Name}
-use Rattle.cacache_store.specs.declared.store.log.LogItem.{LogItem}
+use Rattle.cacache_store.specs.{declared.store.{answer.Name.{Name}, log.LogItem.{LogItem}}, Plain.{PlainAnswer}}
 use Rattle.cacache_store.specs.declared.store.step.Step.TheVariants as steps
-use Rattle.cacache_store.specs.Plain.{PlainAnswer}
-use Rattle.cacache_table.specs.Runs.{Gains}
-use Rattle.cacache_table.specs.SingleSteps.{Does, FailsAt}
+use Rattle.cacache_table.specs.{Runs.{Gains}, SingleSteps.{Does, FailsAt}}
 use Rattle.cacache_walks.specs.WalkSteps.{AnswerShows}
 use Rattle.cacache_keep_laws.specs.Temporary.{is_temporary, sized_removals, temp_area_in, total}
 use Rattle.cacache_keep.specs.Reading.{is_gone}

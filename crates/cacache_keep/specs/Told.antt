@@ -1,18 +1,9 @@
 -- What the calls' values tell of their logs.
 use Rattle.std.specs.Prelude.{◌≡◌, ℕ, List, Option, map, string_bytes}
 use Rattle.cacache_store.specs.declared.store.log.LogItem.{LogItem}
-use Rattle.cacache_entry.specs.Latest.{Found}
-use Rattle.cacache_entry.specs.View.{found_view}
-use Rattle.cacache_entry.specs.declared.metadata.Metadata.{Metadata}
+use Rattle.cacache_entry.specs.{Latest.{Found}, View.{found_view}, declared.metadata.Metadata.{Metadata}}
 use Rattle.cacache_table.specs.State.{Site}
-use Rattle.cacache_keep.specs.declared.repairing.Repaired.{Repaired}
-use Rattle.cacache_keep.specs.declared.sweeping.Swept.{Swept}
-use Rattle.cacache_keep.specs.declared.verifying.Verdict.{Verdict}
-use Rattle.cacache_keep.specs.Calls.{AsksEach}
-use Rattle.cacache_keep.specs.Keeping.{VerifiesCache}
-use Rattle.cacache_keep.specs.Reading.{Judged, damaged_bytes_of, good_bytes_of}
-use Rattle.cacache_keep.specs.Repairing.{BuriesEach, RepairsCache}
-use Rattle.cacache_keep.specs.Sweeping.{SweepsCache}
+use Rattle.cacache_keep.specs.{declared.{repairing.Repaired.{Repaired}, sweeping.Swept.{Swept}, verifying.Verdict.{Verdict}}, Calls.{AsksEach}, Keeping.{VerifiesCache}, Reading.{Judged, damaged_bytes_of, good_bytes_of}, Repairing.{BuriesEach, RepairsCache}, Sweeping.{SweepsCache}}
 
 -- these contents were read, and the verdict tells the bytes of the good ones and of the damaged ones
 abbrev pub TellsBytes : Verdict → List Judged → Type 0

@@ -1,23 +1,12 @@
 -- Two listings of one tree are the same.
 use Rattle.std.proofs.Common.{◌≡◌, ◌⊎◌, inl, inr, List, [], ◌∷◌, ap, ap₂, refl, sym, ◌∙◌}
-use Rattle.std.specs.List.{AllByRecursion}
-use Rattle.std.specs.List.Sorted.{IsStrictlySortedBy}
-use Rattle.std.specs.declared.cmp.Ordering.{Ordering}
-use Rattle.std.specs.declared.cmp.Ordering.TheVariants.{Less, Greater}
-use Rattle.std.specs.Ordering.{ordering_reverse}
-use Rattle.std.specs.Cmp.{IsTotalOrder, nat_cmp_total, on_total, then_total}
-use Rattle.std.specs.Cmp.Lexicographic.{nat_list_cmp_total}
-use Rattle.cacache_core.specs.declared.integrity.digest.Hash.{Hash}
-use Rattle.cacache_core.specs.Integrity.{rank}
+use Rattle.std.specs.{List.{AllByRecursion, Sorted.{IsStrictlySortedBy}}, declared.cmp.Ordering.{Ordering, TheVariants.{Less, Greater}}, Ordering.{ordering_reverse}, Cmp.{IsTotalOrder, nat_cmp_total, on_total, then_total, Lexicographic.{nat_list_cmp_total}}}
+use Rattle.cacache_core.specs.{declared.integrity.digest.Hash.{Hash}, Integrity.{rank}}
 use Rattle.cacache_table.specs.declared.command.Command.TheVariants as commands
-use Rattle.cacache_table.specs.declared.reply.Reply.TheVariants.{Listed}
-use Rattle.cacache_table.specs.State.{Item}
+use Rattle.cacache_table.specs.{declared.reply.Reply.TheVariants.{Listed}, State.{Item}}
 use Rattle.cacache_walks.specs.Listing.{hash_cmp}
-use Rattle.cacache_keep_laws.specs.Answers.{IsMemory}
-use Rattle.cacache_keep_laws.specs.Contents.{HoldingsAgree}
-use Rattle.cacache_keep_laws.specs.Index.{IndexesAgree, entries_in}
-use Rattle.cacache_keep_laws.proofs.Looks.{answers_agree}
-use Rattle.cacache_keep_laws.proofs.Members.{Member, contains_member, member_contains}
+use Rattle.cacache_keep_laws.specs.{Answers.{IsMemory}, Contents.{HoldingsAgree}, Index.{IndexesAgree, entries_in}}
+use Rattle.cacache_keep_laws.proofs.{Looks.{answers_agree}, Members.{Member, contains_member, member_contains}}
 
 -- ---- sorted lists
 

@@ -1,21 +1,10 @@
 -- Reads on two trees that agree on all but contents.
 use Rattle.std.proofs.Common.{◌≡◌, ◌⊎◌, inl, inr, ℕ, zero, suc, List, [], ◌∷◌, ◌++◌, Option, Some, None, Bool, true, false, cond, Result, Ok, Err, refl, sym, ap, ap₂, subst, ◌∙◌, append_assoc, bytes_eq}
-use Rattle.cacache_core.specs.declared.errors.Fault.{Fault}
-use Rattle.cacache_core.specs.declared.errors.Fault.TheVariants.{IsADirectory, TooDeep}
-use Rattle.cacache_core.specs.PathNames.{Names, names_of}
-use Rattle.cacache_store.specs.declared.store.step.Step.TheVariants.{ReadAll}
-use Rattle.cacache_store.specs.declared.store.answer.Answer.TheVariants.{Bytes, Failed}
-use Rattle.cacache_store.specs.Plain.{PlainAnswer}
-use Rattle.cacache_disk.specs.declared.luck.Luck.TheVariants.{Plain}
-use Rattle.cacache_disk.specs.declared.node.Node.{Node}
-use Rattle.cacache_disk.specs.declared.node.Node.TheVariants.{Folder, File, Link}
-use Rattle.cacache_disk.specs.Tree.{Tree, look}
-use Rattle.cacache_disk.specs.LedTo.{and_then, or_fault, through, way_fault, place, standing, where_there, on_link, followed, leads, bytes_there, file_at}
-use Rattle.cacache_disk.specs.Apply.{apply, unless}
+use Rattle.cacache_core.specs.{declared.errors.Fault.{Fault, TheVariants.{IsADirectory, TooDeep}}, PathNames.{Names, names_of}}
+use Rattle.cacache_store.specs.{declared.store.{step.Step.TheVariants.{ReadAll}, answer.Answer.TheVariants.{Bytes, Failed}}, Plain.{PlainAnswer}}
+use Rattle.cacache_disk.specs.{declared.{luck.Luck.TheVariants.{Plain}, node.Node.{Node, TheVariants.{Folder, File, Link}}}, Tree.{Tree, look}, LedTo.{and_then, or_fault, through, way_fault, place, standing, where_there, on_link, followed, leads, bytes_there, file_at}, Apply.{apply, unless}}
 use Rattle.cacache_disk.proofs.FoundNodes.{and_then_ok, standing_ok}
-use Rattle.cacache_value.specs.Kinds.{PathKind, Content, Way, Elsewhere, kind_beside, path_kind, is_used, IsFor}
-use Rattle.cacache_value.proofs.KindsApart.{above, inner_used}
-use Rattle.cacache_value.proofs.FoundPaths.{of_names}
+use Rattle.cacache_value.{specs.Kinds.{PathKind, Content, Way, Elsewhere, kind_beside, path_kind, is_used, IsFor}, proofs.{KindsApart.{above, inner_used}, FoundPaths.{of_names}}}
 use Rattle.cacache_keep_laws.specs.Collecting.{LinksLeadOut}
 
 -- ---- no content lies above what the cache uses, nor above what is apart from it

@@ -3,18 +3,11 @@ use Rattle.std.proofs.Common.{◌≡◌, ℕ, List, Some, true, false}
 use Rattle.cacache_core.specs.PathNames.{Names, home_of}
 use Rattle.cacache_store.specs.declared.store.log.LogItem.{LogItem}
 use Rattle.cacache_memory.specs.Replay.{tree_of}
-use Rattle.cacache_table.specs.declared.command.Command.{Command}
+use Rattle.cacache_table.specs.{declared.command.Command.{Command}, State.{Site}, StepPaths.{content_path}, Table.{opening}}
 use Rattle.cacache_table.specs.declared.command.Command.TheVariants as commands
-use Rattle.cacache_table.specs.State.{Site}
-use Rattle.cacache_table.specs.StepPaths.{content_path}
-use Rattle.cacache_table.specs.Table.{opening}
-use Rattle.cacache_sequence.specs.Sequence.{tree_on}
-use Rattle.cacache_sequence.proofs.InParts.{logs_lead}
+use Rattle.cacache_sequence.{specs.Sequence.{tree_on}, proofs.InParts.{logs_lead}}
 use Rattle.cacache_keep_laws.specs.Idle.{LacksIdle, Removed, StillLacksIdle}
-use Rattle.cacache_keep_laws.proofs.Cleared.{both_cleared, cleared}
-use Rattle.cacache_keep_laws.proofs.Fully.{Both, key_goes, lacks_at, last_removed}
-use Rattle.cacache_keep_laws.proofs.Logged.{log_rooted}
-use Rattle.cacache_keep_laws.proofs.Stepping.{MadeOn, Whole}
+use Rattle.cacache_keep_laws.proofs.{Cleared.{both_cleared, cleared}, Fully.{Both, key_goes, lacks_at, last_removed}, Logged.{log_rooted}, Stepping.{MadeOn, Whole}}
 
 module _ (cache : List ℕ) (command : Command) (old new : List LogItem) (x : Removed cache command old new) where
   abbrev pub place : Site

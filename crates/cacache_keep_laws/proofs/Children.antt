@@ -1,37 +1,11 @@
 -- What a listing of a folder says of the nodes in it.
-use Rattle.std.proofs.Common.{◌≡◌, inl, inr, ◌+◌, ℕ, Bool, true, false, cond, List, [], ◌∷◌, ◌++◌, Option, None, Some, Ok, Err, length, take, drop, get_or, refl, sym, ap, ap₂, subst, ◌∙◌, arith, eqb-true, length-append, append_assoc, take-append-drop}
-use Rattle.std.specs.Prelude.{Result, IfSome, T, ◌&&◌, slice_index_or}
-use Rattle.std.proofs.Math.Seq.{take-append_seam, get_or-append_seam}
-use Rattle.std.proofs.lemmas.List.{drop_more, drop_all}
-use Rattle.std.proofs.lemmas.Bool.{eq-eqb, and_parts}
-use Rattle.std.proofs.lemmas.Bool.Decides.{Decides-eqb}
-use Rattle.std.proofs.lemmas.Slice.Eq.{slice_eq-Decides}
-use Rattle.std.specs.List.{AllByRecursion}
-use Rattle.std.specs.declared.cmp.Ordering.{Ordering}
-use Rattle.std.specs.declared.cmp.Ordering.TheVariants.{Less, Equal, Greater}
-use Rattle.std.specs.Ordering.{nat_cmp, is_lt, is_eq}
+use Rattle.std.proofs.{Common.{◌≡◌, inl, inr, ◌+◌, ℕ, Bool, true, false, cond, List, [], ◌∷◌, ◌++◌, Option, None, Some, Ok, Err, length, take, drop, get_or, refl, sym, ap, ap₂, subst, ◌∙◌, arith, eqb-true, length-append, append_assoc, take-append-drop}, Math.Seq.{take-append_seam, get_or-append_seam}, lemmas.{List.{drop_more, drop_all}, Bool.{eq-eqb, and_parts, Decides.{Decides-eqb}}, Slice.Eq.{slice_eq-Decides}}}
+use Rattle.std.specs.{Prelude.{Result, IfSome, T, ◌&&◌, slice_index_or}, List.{AllByRecursion}, declared.cmp.Ordering.{Ordering, TheVariants.{Less, Equal, Greater}}, Ordering.{nat_cmp, is_lt, is_eq}, FinMap.Entries.{below_all}, Bool.{nat_eq}, Cmp.Lexicographic.{pointwise, slice_cmp, lists_ties, texts_ties}}
 use Rattle.std.specs.FinMap as map
-use Rattle.std.specs.FinMap.Entries.{below_all}
-use Rattle.std.specs.Bool.{nat_eq}
-use Rattle.std.specs.Cmp.Lexicographic.{pointwise, slice_cmp, lists_ties, texts_ties}
-use Rattle.cacache_core.specs.declared.errors.Fault.{Fault}
-use Rattle.cacache_core.specs.declared.errors.Fault.TheVariants.{NotFound}
-use Rattle.cacache_core.specs.PathNames.{Names, names_of, IsProperName}
-use Rattle.cacache_store.specs.declared.store.answer.Name.{Name}
-use Rattle.cacache_store.specs.declared.store.answer.Answer.TheVariants.{Names as Listed, Failed}
-use Rattle.cacache_store.specs.declared.store.step.Step.TheVariants.{ReadDir}
-use Rattle.cacache_store.specs.Plain.{PlainAnswer}
-use Rattle.cacache_disk.specs.declared.luck.Luck.{Luck}
-use Rattle.cacache_disk.specs.declared.node.Node.{Node}
-use Rattle.cacache_disk.specs.declared.node.Node.TheVariants.{Folder, File, Link}
-use Rattle.cacache_disk.specs.Tree.{Tree, look, names_cmp, same_path, listing, child_of, is_child, kind_of}
-use Rattle.cacache_disk.specs.LedTo.{place, where_folder, folder}
-use Rattle.cacache_disk.specs.Apply.{apply, unless, made_up}
-use Rattle.cacache_disk.specs.Rooted.{Rooted, AreProper}
-use Rattle.cacache_disk.proofs.Maps.{same_path-true}
-use Rattle.cacache_disk.proofs.Roots.{same_self}
-use Rattle.cacache_disk.proofs.Standing.{way_clear}
-use Rattle.cacache_disk.proofs.FoundNodes.{and_then_ok, place_ok}
+use Rattle.cacache_core.specs.{declared.errors.Fault.{Fault, TheVariants.{NotFound}}, PathNames.{Names, names_of, IsProperName}}
+use Rattle.cacache_store.specs.{declared.store.{answer.{Name.{Name}, Answer.TheVariants.{Names as Listed, Failed}}, step.Step.TheVariants.{ReadDir}}, Plain.{PlainAnswer}}
+use Rattle.cacache_disk.specs.{declared.{luck.Luck.{Luck}, node.Node.{Node, TheVariants.{Folder, File, Link}}}, Tree.{Tree, look, names_cmp, same_path, listing, child_of, is_child, kind_of}, LedTo.{place, where_folder, folder}, Apply.{apply, unless, made_up}, Rooted.{Rooted, AreProper}}
+use Rattle.cacache_disk.proofs.{Maps.{same_path-true}, Roots.{same_self}, Standing.{way_clear}, FoundNodes.{and_then_ok, place_ok}}
 use Rattle.cacache_value.proofs.Shows.{apply_answer}
 use Rattle.cacache_walks.specs.Reading.{names_shown}
 use Rattle.cacache_keep_laws.proofs.Members.{Member, mapped, source}

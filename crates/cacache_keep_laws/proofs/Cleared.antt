@@ -1,45 +1,20 @@
 -- A clearing of both trees, of which one lacks idle contents.
 use Rattle.std.proofs.Common.{◌≡◌, ◌⊎◌, inl, inr, ◌-◌, ℕ, suc, Bool, true, false, cond, nat_le, List, [], ◌∷◌, ◌++◌, None, Some, Result, Ok, Err, length, refl, sym, ap, subst, ◌∙◌, arith, append-nil}
 use Rattle.std.specs.Prelude.{bytes_eq}
-use Rattle.cacache_core.specs.declared.errors.Fault.{Fault}
+use Rattle.cacache_core.specs.{declared.errors.Fault.{Fault}, Paths.{join, content_area, index_area, temp_area}, PathNames.{Names, names_of, home_of}}
 use Rattle.cacache_core.specs.declared.errors.Fault.TheVariants as faults
-use Rattle.cacache_core.specs.Paths.{join, content_area, index_area, temp_area}
-use Rattle.cacache_core.specs.PathNames.{Names, names_of, home_of}
 use Rattle.cacache_store.specs.declared.store.step.Step.TheVariants as steps
 use Rattle.cacache_store.specs.declared.store.answer.Answer.TheVariants as answers
-use Rattle.cacache_store.specs.declared.store.answer.Kind.{Kind}
+use Rattle.cacache_store.specs.declared.store.answer.{Kind.{Kind}, Name.{Name}}
 use Rattle.cacache_store.specs.declared.store.answer.Kind.TheVariants as kinds
-use Rattle.cacache_store.specs.declared.store.answer.Name.{Name}
-use Rattle.cacache_disk.specs.declared.luck.Luck.TheVariants.{Plain}
-use Rattle.cacache_disk.specs.declared.node.Node.{Node}
-use Rattle.cacache_disk.specs.declared.node.Node.TheVariants.{Folder, File, Link}
-use Rattle.cacache_disk.specs.Tree.{Tree, look, listing, kind_of}
-use Rattle.cacache_disk.specs.LedTo.{folder}
-use Rattle.cacache_disk.specs.Rooted.{Rooted}
-use Rattle.cacache_disk.specs.Apply.{apply}
+use Rattle.cacache_disk.specs.{declared.{luck.Luck.TheVariants.{Plain}, node.Node.{Node, TheVariants.{Folder, File, Link}}}, Tree.{Tree, look, listing, kind_of}, LedTo.{folder}, Rooted.{Rooted}, Apply.{apply}}
 use Rattle.cacache_table.specs.declared.command.Command.TheVariants as commands
-use Rattle.cacache_table.specs.declared.reply.Reply.{Reply}
-use Rattle.cacache_table.specs.declared.reply.Reply.TheVariants.{Listed, Done}
-use Rattle.cacache_table.specs.Common.{fails}
-use Rattle.cacache_table.specs.State.{over, Walk}
-use Rattle.cacache_table.specs.declared.visit.Task.{Task}
-use Rattle.cacache_table.specs.declared.visit.Visit.TheVariants.{Enter, RemoveFile}
-use Rattle.cacache_table.specs.Walking.{most, failed, give, miss, walk_on, walk_ends, task_for_name, tasks_of, too_many, walk}
-use Rattle.cacache_table.specs.Runs.{Moves, Runs}
-use Rattle.cacache_value.specs.Kinds.{Content, Way, Stray, path_kind}
-use Rattle.cacache_value.proofs.KindsApart.{kind-below}
-use Rattle.cacache_sequence.specs.Sequence.{tree_on}
+use Rattle.cacache_table.specs.{declared.{reply.Reply.{Reply, TheVariants.{Listed, Done}}, visit.{Task.{Task}, Visit.TheVariants.{Enter, RemoveFile}}}, Common.{fails}, State.{over, Walk}, Walking.{most, failed, give, miss, walk_on, walk_ends, task_for_name, tasks_of, too_many, walk}, Runs.{Moves, Runs}}
+use Rattle.cacache_value.{specs.Kinds.{Content, Way, Stray, path_kind}, proofs.KindsApart.{kind-below}}
+use Rattle.cacache_sequence.{specs.Sequence.{tree_on}, proofs.Sheds.{Shed, ShedAll, among, sheds_more}}
 use Rattle.cacache_history.proofs.ToldFolders.{Each, Told, AreDistinct, listing_told, listing_distinct}
-use Rattle.cacache_keep_laws.specs.Walks.{is_leaf}
-use Rattle.cacache_keep_laws.specs.Idle.{BreaksOff, LacksIdle}
-use Rattle.cacache_keep_laws.proofs.Children.{child_path, folder_found, folder_there, proper_child}
-use Rattle.cacache_keep_laws.proofs.Covering.{home_named, named_on}
-use Rattle.cacache_keep_laws.proofs.Idle.{Follows, lacks_still, same_node}
-use Rattle.cacache_keep_laws.proofs.Fully.{lacks_at}
-use Rattle.cacache_keep_laws.proofs.SameListing.{same_listing}
-use Rattle.cacache_sequence.proofs.Sheds.{Shed, ShedAll, among, sheds_more}
-use Rattle.cacache_keep_laws.proofs.Stepping.{MadeOn, goes, over_stays}
-use Rattle.cacache_keep_laws.proofs.Swept.{Swept, alive, lists_folder, long_names, never_too_many, told_still, visited}
+use Rattle.cacache_keep_laws.specs.{Walks.{is_leaf}, Idle.{BreaksOff, LacksIdle}}
+use Rattle.cacache_keep_laws.proofs.{Children.{child_path, folder_found, folder_there, proper_child}, Covering.{home_named, named_on}, Idle.{Follows, lacks_still, same_node}, Fully.{lacks_at}, SameListing.{same_listing}, Stepping.{MadeOn, goes, over_stays}, Swept.{Swept, alive, lists_folder, long_names, never_too_many, told_still, visited}}
 
 -- ---- the top folder
 

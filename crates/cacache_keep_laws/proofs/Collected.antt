@@ -1,23 +1,13 @@
 -- What is left once the contents that no entry has are removed.
 use Rattle.std.proofs.Common.{◌≡◌, ◌++◌, inl, inr, ℕ, List, [], ◌∷◌, Bool, true, false, cond, Option, None, Some, Ok, Err, refl, sym, ap, subst, ◌∙◌, filter}
 use Rattle.std.specs.Prelude.{All, Contains, not, ◌||◌}
-use Rattle.cacache_core.specs.declared.integrity.digest.Hash.{Hash}
-use Rattle.cacache_core.specs.Integrity.{IsHash, IsIntegrity, address}
-use Rattle.cacache_core.specs.PathNames.{Names, home_of}
-use Rattle.cacache_core.specs.Same.{same_hash-Decides}
-use Rattle.cacache_core.specs.Paths.{content_names}
-use Rattle.cacache_disk.specs.Tree.{Tree, look}
-use Rattle.cacache_disk.specs.Rooted.{Rooted}
+use Rattle.cacache_core.specs.{declared.integrity.digest.Hash.{Hash}, Integrity.{IsHash, IsIntegrity, address}, PathNames.{Names, home_of}, Same.{same_hash-Decides}, Paths.{content_names}}
+use Rattle.cacache_disk.specs.{Tree.{Tree, look}, Rooted.{Rooted}}
 use Rattle.cacache_entry.specs.Latest.{Found}
 use Rattle.cacache_table.specs.State.{Site, Item}
 use Rattle.cacache_value.specs.Value.{Blob, value_of_tree}
-use Rattle.cacache_keep_laws.specs.Contents.{HoldsJust}
-use Rattle.cacache_keep_laws.specs.Idle.{LacksIdle}
-use Rattle.cacache_keep_laws.specs.Index.{IndexLists, IndexesFind, entries_in}
-use Rattle.cacache_keep_laws.proofs.Indexed.{lists_each_key}
-use Rattle.cacache_keep_laws.specs.Collecting.{LinksLeadOut, IsLive, Removes, IsCollected, is_address, is_live}
-use Rattle.cacache_keep_laws.proofs.Keeping.{lacks_idle, removals_leave, stays}
-use Rattle.cacache_keep_laws.proofs.Members.{Member, contains_member, member_contains}
+use Rattle.cacache_keep_laws.specs.{Contents.{HoldsJust}, Idle.{LacksIdle}, Index.{IndexLists, IndexesFind, entries_in}, Collecting.{LinksLeadOut, IsLive, Removes, IsCollected, is_address, is_live}}
+use Rattle.cacache_keep_laws.proofs.{Indexed.{lists_each_key}, Keeping.{lacks_idle, removals_leave, stays}, Members.{Member, contains_member, member_contains}}
 
 -- ---- members of filters
 

@@ -1,19 +1,9 @@
 -- What compacted bytes hold, and what lookups find there.
-use Rattle.std.proofs.Common.{◌≡◌, ℕ, suc, List, [], ◌∷◌, ◌++◌, Bool, true, false, cond, Option, Some, None, option_map, fold, map, filter_map, length, refl, sym, ap, ◌∙◌, append-nil, append_assoc, bytes_eq, ◌==◌}
-use Rattle.std.specs.Prelude.{not, unwrap_or, Ok, ◌||◌}
-use Rattle.std.specs.List.{cons_option, list_any, onto_first}
-use Rattle.std.specs.Option.{option_to_list}
-use Rattle.std.proofs.lemmas.Bool.{and_from}
-use Rattle.std.proofs.lemmas.Slice.Eq.{bytes_eq-Decides}
-use Rattle.cacache_entry.specs.Entry.{Entry}
-use Rattle.cacache_entry.specs.Bucket.{cut, without_cr, entry_of_piece, entries_of}
-use Rattle.cacache_entry.specs.Latest.{Found, answer_of, answer_to, after_entry, latest, NoneAnswers}
-use Rattle.cacache_entry.proofs.Cuts.{lacks, cut-lacks}
-use Rattle.cacache_entry.proofs.Pieces.{entries_split, entries-piece}
-use Rattle.cacache_entry.proofs.Lines.{empty_holds_nothing}
-use Rattle.cacache_entry.proofs.Lookups.{no_answer_is_none}
-use Rattle.cacache_table.specs.State.{Item}
-use Rattle.cacache_table.specs.Walking.{once, items_of, items_in}
+use Rattle.std.proofs.{Common.{◌≡◌, ℕ, suc, List, [], ◌∷◌, ◌++◌, Bool, true, false, cond, Option, Some, None, option_map, fold, map, filter_map, length, refl, sym, ap, ◌∙◌, append-nil, append_assoc, bytes_eq, ◌==◌}, lemmas.{Bool.{and_from}, Slice.Eq.{bytes_eq-Decides}}}
+use Rattle.std.specs.{Prelude.{not, unwrap_or, Ok, ◌||◌}, List.{cons_option, list_any, onto_first}, Option.{option_to_list}}
+use Rattle.cacache_entry.specs.{Entry.{Entry}, Bucket.{cut, without_cr, entry_of_piece, entries_of}, Latest.{Found, answer_of, answer_to, after_entry, latest, NoneAnswers}}
+use Rattle.cacache_entry.proofs.{Cuts.{lacks, cut-lacks}, Pieces.{entries_split, entries-piece}, Lines.{empty_holds_nothing}, Lookups.{no_answer_is_none}}
+use Rattle.cacache_table.specs.{State.{Item}, Walking.{once, items_of, items_in}}
 use Rattle.cacache_keep_laws.specs.Compacting.{Line, line_of_piece, lines_of, keys_of, after_line, line_for, text_of, compact_text, CompactTextsAnswer}
 
 -- the entries of lines

@@ -1,14 +1,8 @@
 -- Compacted bytes stay as they are where they are compacted again.
-use Rattle.std.proofs.Common.{◌≡◌, ℕ, List, [], ◌∷◌, ◌++◌, Bool, true, false, cond, Option, Some, None, option_map, fold, map, filter_map, refl, sym, ap, ◌∙◌, append-nil, bytes_eq}
-use Rattle.std.specs.Prelude.{IfSome, unwrap_or, ◌||◌}
-use Rattle.std.specs.Str.{is_utf8}
-use Rattle.std.specs.List.{cons_option, list_any}
-use Rattle.std.proofs.lemmas.Slice.Eq.{bytes_eq-Decides}
-use Rattle.cacache_entry.specs.Entry.{Entry}
-use Rattle.cacache_entry.specs.Bucket.{cut, without_cr, entry_of_piece}
-use Rattle.cacache_entry.specs.Latest.{Found, answer_to}
-use Rattle.cacache_entry.proofs.Cuts.{lacks, cut-append, cut-lacks}
-use Rattle.cacache_entry.proofs.Lookups.{no_answer_is_none}
+use Rattle.std.proofs.{Common.{◌≡◌, ℕ, List, [], ◌∷◌, ◌++◌, Bool, true, false, cond, Option, Some, None, option_map, fold, map, filter_map, refl, sym, ap, ◌∙◌, append-nil, bytes_eq}, lemmas.Slice.Eq.{bytes_eq-Decides}}
+use Rattle.std.specs.{Prelude.{IfSome, unwrap_or, ◌||◌}, Str.{is_utf8}, List.{cons_option, list_any}}
+use Rattle.cacache_entry.specs.{Entry.{Entry}, Bucket.{cut, without_cr, entry_of_piece}, Latest.{Found, answer_to}}
+use Rattle.cacache_entry.proofs.{Cuts.{lacks, cut-append, cut-lacks}, Lookups.{no_answer_is_none}}
 use Rattle.cacache_table.specs.Walking.{once}
 use Rattle.cacache_keep_laws.specs.Compacting.{Line, line_of_piece, lines_of, keys_of, after_line, line_for, lines_for, text_of, compact_text, CompactTextsSettle}
 use Rattle.cacache_keep_laws.proofs.CompactLines.{AreLines, AllLack, Agrees, Distinct, entries_in, lines_are, pieces_lack, own_key, other_silent, once_has, once_distinct, silent, same_filter, found, kept, agree, kept_among}

@@ -1,28 +1,15 @@
 -- A walk finds what stands below its folder, and nothing else.
-use Rattle.std.proofs.Common.{◌≡◌, ◌==◌, filter, ◌⊎◌, inl, inr, ◌+◌, ◌<◌, ℕ, Bool, true, false, List, [], ◌∷◌, ◌++◌, Option, None, Some, Ok, Err, length, refl, sym, ap, subst, ◌∙◌, arith, append_assoc, append-nil}
+use Rattle.std.proofs.{Common.{◌≡◌, ◌==◌, filter, ◌⊎◌, inl, inr, ◌+◌, ◌<◌, ℕ, Bool, true, false, List, [], ◌∷◌, ◌++◌, Option, None, Some, Ok, Err, length, refl, sym, ap, subst, ◌∙◌, arith, append_assoc, append-nil}, lemmas.{List.Elements.{All-nil, All-cons, All-append}, Slice.Eq.{bytes_eq-Decides}}}
 use Rattle.std.specs.Prelude.{All, IsTrue, unwrap_or, bytes_eq}
-use Rattle.std.proofs.lemmas.List.Elements.{All-nil, All-cons, All-append}
-use Rattle.std.proofs.lemmas.Slice.Eq.{bytes_eq-Decides}
-use Rattle.cacache_core.specs.declared.errors.Fault.TheVariants.{NotFound, InvalidInput}
-use Rattle.cacache_core.specs.PathNames.{Names, names_of, home_of, names_below, is_bad, is_name, pieces, IsProperName}
-use Rattle.cacache_core.specs.Paths.{join, joined}
+use Rattle.cacache_core.specs.{declared.errors.Fault.TheVariants.{NotFound, InvalidInput}, PathNames.{Names, names_of, home_of, names_below, is_bad, is_name, pieces, IsProperName}, Paths.{join, joined}}
 use Rattle.cacache_core.proofs.JoinedNames.{joined_texts_name}
-use Rattle.cacache_store.specs.declared.store.answer.Kind.{Kind}
+use Rattle.cacache_store.specs.{declared.store.{answer.{Kind.{Kind}, Name.{Name}}, step.Step.TheVariants.{ReadDir}}, Plain.{PlainStep, PlainAnswer}}
 use Rattle.cacache_store.specs.declared.store.answer.Kind.TheVariants as kinds
-use Rattle.cacache_store.specs.declared.store.answer.Name.{Name}
-use Rattle.cacache_store.specs.declared.store.step.Step.TheVariants.{ReadDir}
-use Rattle.cacache_store.specs.Plain.{PlainStep, PlainAnswer}
-use Rattle.cacache_disk.specs.declared.luck.Luck.{Luck}
-use Rattle.cacache_disk.specs.declared.node.Node.{Node}
-use Rattle.cacache_disk.specs.declared.node.Node.TheVariants.{Folder, File, Link}
-use Rattle.cacache_disk.specs.Tree.{Tree, look, listing, kind_of}
-use Rattle.cacache_disk.specs.Rooted.{Rooted}
-use Rattle.cacache_disk.specs.Apply.{apply}
+use Rattle.cacache_disk.specs.{declared.{luck.Luck.{Luck}, node.Node.{Node, TheVariants.{Folder, File, Link}}}, Tree.{Tree, look, listing, kind_of}, Rooted.{Rooted}, Apply.{apply}}
 use Rattle.cacache_table.specs.Runs.{Moves}
 use Rattle.cacache_walks.specs.Reading.{Folder as Spot, ReadsFolders, top_folder, folder_as, file_as, folders_in, file_paths, files_shown, names_shown, shown_by}
 use Rattle.cacache_keep_laws.specs.Walks.{ReadAt, is_leaf, WalksFind, WalksStayBelow}
-use Rattle.cacache_keep_laws.proofs.Members.{Member, contains_member, member_contains, in_left, in_right, in_either, mapped, source}
-use Rattle.cacache_keep_laws.proofs.Children.{child_listed, Stands, listed_child, none_below, proper_child, FolderShows, listed, missing, folder_shown}
+use Rattle.cacache_keep_laws.proofs.{Members.{Member, contains_member, member_contains, in_left, in_right, in_either, mapped, source}, Children.{child_listed, Stands, listed_child, none_below, proper_child, FolderShows, listed, missing, folder_shown}}
 
 -- ---- the names of a path's text
 

@@ -1,52 +1,20 @@
 -- Lookups, reads by key and listings answer on one tree what they may answer on another, where reads do.
-use Rattle.std.proofs.Common.{◌≡◌, ◌⊎◌, inl, inr, ℕ, ◌+◌, ◌-◌, List, [], ◌∷◌, ◌++◌, Bool, true, false, cond, nat_le, nat_lt, Option, Some, None, Result, Ok, Err, length, take, refl, sym, ap, subst, ◌∙◌, arith, append-nil, append_assoc}
-use Rattle.std.proofs.lemmas.List.Elements.{All-cons, All-head, All-nil, All-tail}
+use Rattle.std.proofs.{Common.{◌≡◌, ◌⊎◌, inl, inr, ℕ, ◌+◌, ◌-◌, List, [], ◌∷◌, ◌++◌, Bool, true, false, cond, nat_le, nat_lt, Option, Some, None, Result, Ok, Err, length, take, refl, sym, ap, subst, ◌∙◌, arith, append-nil, append_assoc}, lemmas.List.Elements.{All-cons, All-head, All-nil, All-tail}}
 use Rattle.hex.specs.Hex.{encode_lower}
 use Rattle.sha1.specs.Sha1.{sha1}
-use Rattle.cacache_core.specs.declared.errors.Fault.{Fault}
-use Rattle.cacache_core.specs.declared.errors.Fault.TheVariants.{NotFound, TooDeep, IsADirectory, Device}
-use Rattle.cacache_core.specs.Meeting.{meets}
-use Rattle.cacache_core.specs.PathNames.{Names, names_of, home_of, IsProperName}
-use Rattle.cacache_core.specs.Paths.{join, bucket_names, cut_digits, index_area}
-use Rattle.cacache_core.proofs.JoinedNames.{joined_texts_name}
-use Rattle.cacache_core.proofs.PathLemmas.{keys_have_digests}
-use Rattle.cacache_core.proofs.ProperNames.{names_are_proper, proper_bucket_folder}
+use Rattle.cacache_core.specs.{declared.errors.Fault.{Fault, TheVariants.{NotFound, TooDeep, IsADirectory, Device}}, Meeting.{meets}, PathNames.{Names, names_of, home_of, IsProperName}, Paths.{join, bucket_names, cut_digits, index_area}}
+use Rattle.cacache_core.proofs.{JoinedNames.{joined_texts_name}, PathLemmas.{keys_have_digests}, ProperNames.{names_are_proper, proper_bucket_folder}}
 use Rattle.cacache_store.specs.declared.store.answer.Answer.TheVariants as answers
-use Rattle.cacache_store.specs.declared.store.answer.Kind.{Kind}
+use Rattle.cacache_store.specs.{declared.store.{answer.{Kind.{Kind}, Name.{Name}}, step.Step.TheVariants.{ReadAll, ReadDir}}, Fits.{Fits, AreProperNames}, Plain.{PlainStep, PlainAnswer}}
 use Rattle.cacache_store.specs.declared.store.answer.Kind.TheVariants as kinds
-use Rattle.cacache_store.specs.declared.store.answer.Name.{Name}
-use Rattle.cacache_store.specs.declared.store.step.Step.TheVariants.{ReadAll, ReadDir}
-use Rattle.cacache_store.specs.Fits.{Fits, AreProperNames}
-use Rattle.cacache_store.specs.Plain.{PlainStep, PlainAnswer}
-use Rattle.cacache_disk.specs.declared.luck.Luck.TheVariants.{Plain}
-use Rattle.cacache_disk.specs.Tree.{Tree}
-use Rattle.cacache_disk.specs.LedTo.{file_at}
-use Rattle.cacache_disk.specs.Apply.{apply}
+use Rattle.cacache_disk.specs.{declared.luck.Luck.TheVariants.{Plain}, Tree.{Tree}, LedTo.{file_at}, Apply.{apply}}
 use Rattle.cacache_entry.specs.Latest.{Found}
-use Rattle.cacache_table.specs.declared.carried.Aim.{Aim}
+use Rattle.cacache_table.specs.{declared.{carried.{Aim.{Aim}, Lookup.{Lookup}}, reply.Reply.{Reply}, visit.{Task.{Task, TheVariants.{Make, Stumble}}, Visit.{Visit, TheVariants.{Enter, ReadBucket, RemoveFile, RemoveFolder}}}}, Looking.{found_in, found_for, found_content}, Runs.{Moves, Runs}, State.{Item, Site, State, Walk, looking, over, reading, walking}, StepPaths.{bucket_path, content_path}, Table.{after, opening, wants}, Walking.{EachVisit, after_visit, failed, give, items_in, most, task_for_name, tasks_of, too_many, visit_step, walk_on}}
 use Rattle.cacache_table.specs.declared.carried.Aim.TheVariants as aims
 use Rattle.cacache_table.specs.declared.carried.Content as carried
-use Rattle.cacache_table.specs.declared.carried.Lookup.{Lookup}
 use Rattle.cacache_table.specs.declared.command.Command.TheVariants as commands
-use Rattle.cacache_table.specs.declared.reply.Reply.{Reply}
-use Rattle.cacache_table.specs.declared.visit.Task.{Task}
-use Rattle.cacache_table.specs.declared.visit.Task.TheVariants.{Make, Stumble}
-use Rattle.cacache_table.specs.declared.visit.Visit.{Visit}
-use Rattle.cacache_table.specs.declared.visit.Visit.TheVariants.{Enter, ReadBucket, RemoveFile, RemoveFolder}
-use Rattle.cacache_table.specs.Looking.{found_in, found_for, found_content}
-use Rattle.cacache_table.specs.Runs.{Moves, Runs}
-use Rattle.cacache_table.specs.State.{Item, Site, State, Walk, looking, over, reading, walking}
-use Rattle.cacache_table.specs.StepPaths.{bucket_path, content_path}
-use Rattle.cacache_table.specs.Table.{after, opening, wants}
-use Rattle.cacache_table.specs.Walking.{EachVisit, after_visit, failed, give, items_in, most, task_for_name, tasks_of, too_many, visit_step, walk_on}
-use Rattle.cacache_keep_laws.specs.Answers.{AnsweredBy}
-use Rattle.cacache_keep_laws.specs.Collecting.{ReadsAsBefore}
-use Rattle.cacache_keep_laws.specs.Compacting.{compact_text}
-use Rattle.cacache_keep_laws.specs.Idle.{Finds}
-use Rattle.cacache_keep_laws.proofs.Agreeing.{said}
-use Rattle.cacache_keep_laws.proofs.CompactLines.{compact_texts_answer}
-use Rattle.cacache_keep_laws.proofs.Covering.{named_on}
-use Rattle.cacache_keep_laws.proofs.Within.{read_answer}
+use Rattle.cacache_keep_laws.specs.{Answers.{AnsweredBy}, Collecting.{ReadsAsBefore}, Compacting.{compact_text}, Idle.{Finds}}
+use Rattle.cacache_keep_laws.proofs.{Agreeing.{said}, CompactLines.{compact_texts_answer}, Covering.{named_on}, Within.{read_answer}}
 
 fits_said : (path : List ℕ) (r : Result (List ℕ) Fault) → Fits (ReadAll path) (said r)
 fits_said path (Ok bytes) = tt

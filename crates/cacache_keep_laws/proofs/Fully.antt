@@ -1,32 +1,15 @@
 -- A content, or a key with its content, that is removed from both trees.
 use Rattle.std.proofs.Common.{◌≡◌, ℕ, List, Option, Some, None, refl, sym, ap, subst, ◌∙◌}
-use Rattle.cacache_core.specs.declared.errors.Fault.TheVariants.{NotFound}
-use Rattle.cacache_core.specs.PathNames.{Names, home_of}
-use Rattle.cacache_store.specs.declared.store.step.Step.TheVariants.{ReadAll, RemoveFile}
+use Rattle.cacache_core.specs.{declared.errors.Fault.TheVariants.{NotFound}, PathNames.{Names, home_of}}
+use Rattle.cacache_store.specs.{declared.store.{step.Step.TheVariants.{ReadAll, RemoveFile}, answer.Answer.TheVariants.{Bytes}}, Plain.{PlainStep, PlainAnswer}}
 use Rattle.cacache_store.specs.declared.store.answer.Answer.TheVariants as answers
-use Rattle.cacache_store.specs.declared.store.answer.Answer.TheVariants.{Bytes}
-use Rattle.cacache_store.specs.Plain.{PlainStep, PlainAnswer}
-use Rattle.cacache_disk.specs.declared.luck.Luck.TheVariants.{Plain}
-use Rattle.cacache_disk.specs.Tree.{Tree}
-use Rattle.cacache_disk.specs.Rooted.{Rooted}
-use Rattle.cacache_disk.specs.Apply.{apply}
-use Rattle.cacache_disk.proofs.KeptFolders.{steps_keep_rooted}
+use Rattle.cacache_disk.{specs.{declared.luck.Luck.TheVariants.{Plain}, Tree.{Tree}, Rooted.{Rooted}, Apply.{apply}}, proofs.KeptFolders.{steps_keep_rooted}}
 use Rattle.cacache_entry.specs.Latest.{Found}
-use Rattle.cacache_table.specs.declared.reply.Reply.{Reply}
-use Rattle.cacache_table.specs.declared.reply.Reply.TheVariants.{Done}
-use Rattle.cacache_table.specs.State.{State, doing, looking, over, remove}
-use Rattle.cacache_table.specs.declared.carried.Lookup.{Lookup}
+use Rattle.cacache_table.specs.{declared.{reply.Reply.{Reply, TheVariants.{Done}}, carried.Lookup.{Lookup}}, State.{State, doing, looking, over, remove}, StepPaths.{bucket_path, content_path}, Looking.{found_in}, Removing.{remove_bucket, remove_content, remove_found}, Table.{wants, after}}
 use Rattle.cacache_table.specs.declared.carried.Aim.TheVariants as aims
-use Rattle.cacache_table.specs.StepPaths.{bucket_path, content_path}
-use Rattle.cacache_table.specs.Looking.{found_in}
-use Rattle.cacache_table.specs.Removing.{remove_bucket, remove_content, remove_found}
-use Rattle.cacache_table.specs.Table.{wants, after}
-use Rattle.cacache_sequence.specs.Sequence.{tree_on}
-use Rattle.cacache_sequence.proofs.ReadsStay.{reading_keeps}
+use Rattle.cacache_sequence.{specs.Sequence.{tree_on}, proofs.ReadsStay.{reading_keeps}}
 use Rattle.cacache_keep_laws.specs.Idle.{Finds, LacksIdle}
-use Rattle.cacache_keep_laws.proofs.Idle.{bucket_read}
-use Rattle.cacache_keep_laws.proofs.Stepping.{MadeOn, Whole, goes, stays, leaves}
-use Rattle.cacache_keep_laws.proofs.Twice.{from_both, from_full, from_none, removed_twice}
+use Rattle.cacache_keep_laws.proofs.{Idle.{bucket_read}, Stepping.{MadeOn, Whole, goes, stays, leaves}, Twice.{from_both, from_full, from_none, removed_twice}}
 
 -- ---- two runs
 

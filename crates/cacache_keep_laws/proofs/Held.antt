@@ -1,29 +1,15 @@
 -- The listed addresses are those that the value holds.
 use Rattle.std.specs.Prelude.{◌↔◌, Contains, map}
-use Rattle.std.proofs.Common.{◌≡◌, inl, inr, subst, ℕ, List, [], ◌∷◌, ◌++◌, Option, Some, None, true, Ok, refl, sym, ap, ◌∙◌, append_assoc, arith}
-use Rattle.std.proofs.lemmas.List.Elements.{All-cons, All-nil}
+use Rattle.std.proofs.{Common.{◌≡◌, inl, inr, subst, ℕ, List, [], ◌∷◌, ◌++◌, Option, Some, None, true, Ok, refl, sym, ap, ◌∙◌, append_assoc, arith}, lemmas.List.Elements.{All-cons, All-nil}}
 use Rattle.hex.specs.Hex.{encode_lower}
-use Rattle.cacache_core.specs.declared.integrity.digest.Hash.{Hash}
-use Rattle.cacache_core.specs.Integrity.{IsHash}
-use Rattle.cacache_disk.specs.Rooted.{Rooted}
+use Rattle.cacache_core.specs.{declared.integrity.digest.Hash.{Hash}, Integrity.{IsHash}, PathNames.{Names, names_of, home_of, IsProperName}, Paths.{join, joined, cut_digits, content_names, content_area}, Texts.{name_of}}
+use Rattle.cacache_core.proofs.{JoinedNames.{joined_texts_name}, ProperNames.{proper_content_folder, proper_content}}
+use Rattle.cacache_disk.specs.{Rooted.{Rooted}, declared.node.Node.{Node, TheVariants.{Folder, File, Link}}, Tree.{Tree, look}}
 use Rattle.cacache_table.specs.Runs.{Moves}
-use Rattle.cacache_core.specs.PathNames.{Names, names_of, home_of, IsProperName}
-use Rattle.cacache_core.specs.Paths.{join, joined, cut_digits, content_names, content_area}
-use Rattle.cacache_core.specs.Texts.{name_of}
-use Rattle.cacache_core.proofs.JoinedNames.{joined_texts_name}
-use Rattle.cacache_core.proofs.ProperNames.{proper_content_folder, proper_content}
-use Rattle.cacache_disk.specs.declared.node.Node.{Node}
-use Rattle.cacache_disk.specs.declared.node.Node.TheVariants.{Folder, File, Link}
-use Rattle.cacache_disk.specs.Tree.{Tree, look}
 use Rattle.cacache_value.specs.Value.{Blob, InFile, AtLink, blob_in}
-use Rattle.cacache_keep_laws.specs.Walks.{is_leaf}
-use Rattle.cacache_keep_laws.proofs.Covering.{walks_find, walks_stay}
-use Rattle.cacache_keep_laws.proofs.Logged.{copies, read_at, is_copy}
-use Rattle.cacache_walks.specs.Listing.{Sorts, IsByHash, content_area_in}
-use Rattle.cacache_walks.specs.Reading.{ReadsFolders, top_folder, files_shown}
-use Rattle.cacache_keep_laws.specs.Answers.{AnsweredBy}
-use Rattle.cacache_keep_laws.specs.Contents.{ContentsShown, AreThoseOf, IsHeld, LiesBelow, HoldsJust, ListingsHold}
-use Rattle.cacache_keep_laws.proofs.Members.{Member, contains_member, member_contains}
+use Rattle.cacache_keep_laws.specs.{Walks.{is_leaf}, Answers.{AnsweredBy}, Contents.{ContentsShown, AreThoseOf, IsHeld, LiesBelow, HoldsJust, ListingsHold}}
+use Rattle.cacache_keep_laws.proofs.{Covering.{walks_find, walks_stay}, Logged.{copies, read_at, is_copy}, Members.{Member, contains_member, member_contains}}
+use Rattle.cacache_walks.specs.{Listing.{Sorts, IsByHash, content_area_in}, Reading.{ReadsFolders, top_folder, files_shown}}
 
 leaf_held : (here : Option Node) → is_leaf here ≡ true → (blob : Blob) × (blob_in here ≡ Some blob)
 leaf_held None e = absurd cc

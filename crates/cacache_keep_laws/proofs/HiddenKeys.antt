@@ -1,48 +1,21 @@
 -- After a tombstone its key leads to nothing, and each other key leads where it led.
-use Rattle.std.proofs.Common.{◌≡◌, ◌≤◌, ℕ, Bool, true, false, cond, nat_le, List, [], ◌∷◌, ◌++◌, Option, None, Some, Result, Ok, Err, inl, inr, length, refl, sym, ap, ap₂, subst, ◌∙◌, leb-true, append-nil}
+use Rattle.std.proofs.{Common.{◌≡◌, ◌≤◌, ℕ, Bool, true, false, cond, nat_le, List, [], ◌∷◌, ◌++◌, Option, None, Some, Result, Ok, Err, inl, inr, length, refl, sym, ap, ap₂, subst, ◌∙◌, leb-true, append-nil}, lemmas.{List.Sums.{fold-append}, Slice.Eq.{bytes_eq-Decides}}}
 use Rattle.std.specs.Prelude.{bytes_eq}
-use Rattle.std.proofs.lemmas.List.Sums.{fold-append}
-use Rattle.std.proofs.lemmas.Slice.Eq.{bytes_eq-Decides}
 use Rattle.sha1.specs.Sha1.{sha1}
-use Rattle.cacache_core.specs.declared.errors.Fault.{Fault}
-use Rattle.cacache_core.specs.declared.errors.Fault.TheVariants.{ShortAppend}
-use Rattle.cacache_core.specs.declared.errors.SerdeCause.{SerdeCause}
-use Rattle.cacache_core.specs.PathNames.{Names, home_of, names_below, names_of}
-use Rattle.cacache_core.specs.Paths.{bucket_names_of}
+use Rattle.cacache_core.specs.{declared.errors.{Fault.{Fault, TheVariants.{ShortAppend}}, SerdeCause.{SerdeCause}}, PathNames.{Names, home_of, names_below, names_of}, Paths.{bucket_names_of}}
 use Rattle.cacache_store.specs.declared.store.answer.Answer.TheVariants as answers
 use Rattle.cacache_store.specs.declared.store.step.Step.TheVariants as steps
 use Rattle.cacache_store.specs.Plain.{PlainAnswer, PlainStep}
-use Rattle.cacache_disk.specs.declared.luck.Luck.TheVariants.{Plain}
-use Rattle.cacache_disk.specs.Tree.{Tree}
-use Rattle.cacache_disk.specs.Apply.{apply}
-use Rattle.cacache_disk.proofs.Roots.{same_self}
-use Rattle.cacache_entry.specs.Entry.{Entry, line_of}
-use Rattle.cacache_entry.specs.Latest.{after_entry, latest}
-use Rattle.cacache_entry.proofs.EntryCauses.{Fits-no_cause}
+use Rattle.cacache_disk.{specs.{declared.luck.Luck.TheVariants.{Plain}, Tree.{Tree}, Apply.{apply}}, proofs.Roots.{same_self}}
+use Rattle.cacache_entry.{specs.{Entry.{Entry, line_of}, Latest.{after_entry, latest}}, proofs.EntryCauses.{Fits-no_cause}}
 use Rattle.cacache_table.specs.declared.command.Command.TheVariants as commands
-use Rattle.cacache_table.specs.declared.command.Delete.{Delete}
-use Rattle.cacache_table.specs.declared.reply.Reply.{Reply}
-use Rattle.cacache_table.specs.declared.reply.Reply.TheVariants.{Done}
-use Rattle.cacache_table.specs.Common.{fails}
-use Rattle.cacache_table.specs.Inserting.{bucket_line, deletion, recorded, refused_cause, unless_refused}
-use Rattle.cacache_table.specs.Runs.{Moves, Runs}
-use Rattle.cacache_table.specs.Sound as calls
-use Rattle.cacache_table.specs.State.{Insertion, Site, State, appending, doing, make_folder, over}
-use Rattle.cacache_table.specs.StepPaths.{bucket_folder, bucket_path}
-use Rattle.cacache_table.specs.Table.{after, opening}
+use Rattle.cacache_table.specs.{declared.{command.Delete.{Delete}, reply.Reply.{Reply, TheVariants.{Done}}}, Common.{fails}, Inserting.{bucket_line, deletion, recorded, refused_cause, unless_refused}, Runs.{Moves, Runs}, State.{Insertion, Site, State, appending, doing, make_folder, over}, StepPaths.{bucket_folder, bucket_path}, Table.{after, opening}}
 use Rattle.cacache_table.proofs.Sound.{begins_sound, stays_sound}
-use Rattle.cacache_value.specs.Acts.{MakeFolders, act_at, act_of, act_with, change, folders_left}
-use Rattle.cacache_value.specs.Kinds.{is_path_of}
-use Rattle.cacache_value.specs.Placed.{Placed, Proper}
-use Rattle.cacache_value.specs.Value.{Value, wide_value}
-use Rattle.cacache_value.specs.Acts.{list_of}
-use Rattle.cacache_value.proofs.AppendedLines.{whole_lines_add}
-use Rattle.cacache_value.proofs.Traces.{steps_act, steps_keep_placed}
-use Rattle.cacache_history.specs.Setup.{Setup, is_outside, may_export}
-use Rattle.cacache_history.proofs.Proper.{sound_proper}
-use Rattle.cacache_history.proofs.ShownTurns.{bucket_below}
-use Rattle.cacache_sequence.specs.Caches.{setup_at}
-use Rattle.cacache_sequence.specs.Sequence.{tree_on, AreAnswered}
+use Rattle.cacache_table.specs.Sound as calls
+use Rattle.cacache_value.specs.{Acts.{MakeFolders, act_at, act_of, act_with, change, folders_left, list_of}, Kinds.{is_path_of}, Placed.{Placed, Proper}, Value.{Value, wide_value}}
+use Rattle.cacache_value.proofs.{AppendedLines.{whole_lines_add}, Traces.{steps_act, steps_keep_placed}}
+use Rattle.cacache_history.{specs.Setup.{Setup, is_outside, may_export}, proofs.{Proper.{sound_proper}, ShownTurns.{bucket_below}}}
+use Rattle.cacache_sequence.specs.{Caches.{setup_at}, Sequence.{tree_on, AreAnswered}}
 use Rattle.cacache_keep_laws.specs.Mending.{TombstonesHide}
 
 -- ---- the run of a tombstone

@@ -2,52 +2,23 @@
 use Rattle.std.proofs.Common.{◌≡◌, ◌-◌, ◌==◌, inl, inr, ℕ, Bool, true, false, cond, List, [], ◌∷◌, ◌++◌, Option, None, Some, Result, Ok, Err, length, take, refl, sym, ap, subst, ◌∙◌}
 use Rattle.std.specs.Prelude.{IfOk}
 use Rattle.sha1.specs.Sha1.{sha1}
-use Rattle.cacache_core.specs.declared.errors.Fault.{Fault}
-use Rattle.cacache_core.specs.declared.errors.Fault.TheVariants.{NotFound}
-use Rattle.cacache_core.specs.declared.integrity.digest.Hash.{Hash}
-use Rattle.cacache_core.specs.Integrity.{IsHash}
-use Rattle.cacache_core.specs.PathNames.{Names, names_of, home_of}
-use Rattle.cacache_core.specs.Paths.{joined, content_names}
+use Rattle.cacache_core.specs.{declared.{errors.Fault.{Fault, TheVariants.{NotFound}}, integrity.digest.Hash.{Hash}}, Integrity.{IsHash}, PathNames.{Names, names_of, home_of}, Paths.{joined, content_names}}
 use Rattle.cacache_store.specs.declared.store.step.Step.TheVariants as steps
 use Rattle.cacache_store.specs.Plain.{PlainStep}
-use Rattle.cacache_disk.specs.declared.luck.Luck.TheVariants.{Plain}
-use Rattle.cacache_disk.specs.declared.node.Node.{Node}
-use Rattle.cacache_disk.specs.declared.node.Node.TheVariants.{Folder, File}
-use Rattle.cacache_disk.specs.Tree.{Tree, look, put, same_path, bytes_of}
-use Rattle.cacache_disk.specs.LedTo.{dirs, writable}
-use Rattle.cacache_disk.specs.Apply.{apply, if_missing, make_some, making, taken}
-use Rattle.cacache_disk.specs.Rooted.{Rooted}
-use Rattle.cacache_disk.proofs.KeptFolders.{apply_tree, steps_keep_rooted, unless_tree}
-use Rattle.cacache_disk.proofs.Maps.{same_path-true}
-use Rattle.cacache_disk.proofs.PutNodes.{look-put}
+use Rattle.cacache_disk.specs.{declared.{luck.Luck.TheVariants.{Plain}, node.Node.{Node, TheVariants.{Folder, File}}}, Tree.{Tree, look, put, same_path, bytes_of}, LedTo.{dirs, writable}, Apply.{apply, if_missing, make_some, making, taken}, Rooted.{Rooted}}
+use Rattle.cacache_disk.proofs.{KeptFolders.{apply_tree, steps_keep_rooted, unless_tree}, Maps.{same_path-true}, PutNodes.{look-put}}
 use Rattle.cacache_entry.proofs.EntryCauses.{Fits-no_cause}
 use Rattle.cacache_table.specs.declared.command.Command.TheVariants as commands
-use Rattle.cacache_table.specs.declared.command.Delete.{Delete}
-use Rattle.cacache_table.specs.declared.reply.Reply.TheVariants.{Done}
-use Rattle.cacache_table.specs.Inserting.{bucket_line, deletion, refused_cause}
-use Rattle.cacache_table.specs.Runs.{Moves, Runs}
-use Rattle.cacache_table.specs.Sound as calls
-use Rattle.cacache_table.specs.State.{Site}
-use Rattle.cacache_table.specs.StepPaths.{bucket_folder, bucket_path}
-use Rattle.cacache_table.specs.Table.{opening}
+use Rattle.cacache_table.specs.{declared.{command.Delete.{Delete}, reply.Reply.TheVariants.{Done}}, Inserting.{bucket_line, deletion, refused_cause}, Runs.{Moves, Runs}, State.{Site}, StepPaths.{bucket_folder, bucket_path}, Table.{opening}}
 use Rattle.cacache_table.proofs.Sound.{begins_sound}
-use Rattle.cacache_value.specs.Kinds.{Bucket, Content, Elsewhere, Way, path_kind}
-use Rattle.cacache_value.specs.Placed.{Placed, Proper}
-use Rattle.cacache_value.proofs.FoundPaths.{Reaches, found, missing, bucket_reached, unreachable}
-use Rattle.cacache_value.proofs.KindsApart.{kind-below}
-use Rattle.cacache_value.proofs.Traces.{steps_keep_placed}
+use Rattle.cacache_table.specs.Sound as calls
+use Rattle.cacache_value.specs.{Kinds.{Bucket, Content, Elsewhere, Way, path_kind}, Placed.{Placed, Proper}}
+use Rattle.cacache_value.proofs.{FoundPaths.{Reaches, found, missing, bucket_reached, unreachable}, KindsApart.{kind-below}, Traces.{steps_keep_placed}}
 use Rattle.cacache_history.specs.Setup.{is_outside, may_export}
-use Rattle.cacache_history.proofs.Formed.{step_formed}
-use Rattle.cacache_history.proofs.Keyed.{ToKeys, step_keyed}
-use Rattle.cacache_history.proofs.Owned.{AppendsOwn, step_own}
-use Rattle.cacache_history.proofs.ShownTurns.{bucket_below}
-use Rattle.cacache_sequence.specs.Caches.{setup_at}
-use Rattle.cacache_sequence.specs.Sequence.{tree_on}
-use Rattle.cacache_keep_laws.specs.Collecting.{Removes}
-use Rattle.cacache_keep_laws.specs.Housed.{Beside, Housed, Still, TombstonesHouse}
-use Rattle.cacache_keep_laws.proofs.HiddenKeys.{AllProper, buried, proper_run}
-use Rattle.cacache_keep_laws.proofs.Keeping.{stays}
-use Rattle.cacache_keep_laws.proofs.Members.{Member}
+use Rattle.cacache_history.proofs.{Formed.{step_formed}, Keyed.{ToKeys, step_keyed}, Owned.{AppendsOwn, step_own}, ShownTurns.{bucket_below}}
+use Rattle.cacache_sequence.specs.{Caches.{setup_at}, Sequence.{tree_on}}
+use Rattle.cacache_keep_laws.specs.{Collecting.{Removes}, Housed.{Beside, Housed, Still, TombstonesHouse}}
+use Rattle.cacache_keep_laws.proofs.{HiddenKeys.{AllProper, buried, proper_run}, Keeping.{stays}, Members.{Member}}
 
 -- ---- a step
 

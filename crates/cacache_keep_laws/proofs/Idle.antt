@@ -1,40 +1,18 @@
 -- A tree that lacks idle contents: what keeps it so, and that lookups and reads by key don't see it.
-use Rattle.std.proofs.Common.{◌≡◌, ◌⊎◌, inl, inr, ℕ, List, [], ◌∷◌, ◌++◌, Option, Some, None, Bool, true, false, cond, Ok, refl, sym, ap, ◌∙◌, arith}
-use Rattle.std.proofs.lemmas.List.Elements.{All-head}
+use Rattle.std.proofs.{Common.{◌≡◌, ◌⊎◌, inl, inr, ℕ, List, [], ◌∷◌, ◌++◌, Option, Some, None, Bool, true, false, cond, Ok, refl, sym, ap, ◌∙◌, arith}, lemmas.List.Elements.{All-head}}
 use Rattle.sha1.specs.Sha1.{sha1}
-use Rattle.cacache_core.specs.declared.errors.Fault.TheVariants.{NotFound}
-use Rattle.cacache_core.specs.declared.integrity.digest.Hash.{Hash}
-use Rattle.cacache_core.specs.Integrity.{IsHash, IsIntegrity, address}
-use Rattle.cacache_core.specs.PathNames.{Names, names_of, home_of}
-use Rattle.cacache_core.specs.Paths.{joined, content_names, bucket_names}
-use Rattle.cacache_core.proofs.JoinedNames.{joined_texts_name}
-use Rattle.cacache_core.proofs.ProperNames.{names_are_proper}
-use Rattle.cacache_core.proofs.PathLemmas.{keys_have_digests}
-use Rattle.cacache_store.specs.declared.store.step.Step.TheVariants.{ReadAll}
+use Rattle.cacache_core.specs.{declared.{errors.Fault.TheVariants.{NotFound}, integrity.digest.Hash.{Hash}}, Integrity.{IsHash, IsIntegrity, address}, PathNames.{Names, names_of, home_of}, Paths.{joined, content_names, bucket_names}, Meeting.{meets}}
+use Rattle.cacache_core.proofs.{JoinedNames.{joined_texts_name}, ProperNames.{names_are_proper}, PathLemmas.{keys_have_digests}}
+use Rattle.cacache_store.specs.{declared.store.{step.Step.TheVariants.{ReadAll}, answer.Answer.TheVariants.{Bytes}}, Plain.{PlainStep, PlainAnswer}}
 use Rattle.cacache_store.specs.declared.store.answer.Answer.TheVariants as answers
-use Rattle.cacache_store.specs.declared.store.answer.Answer.TheVariants.{Bytes}
-use Rattle.cacache_store.specs.Plain.{PlainStep, PlainAnswer}
-use Rattle.cacache_disk.specs.declared.luck.Luck.TheVariants.{Plain}
-use Rattle.cacache_disk.specs.Tree.{Tree, look}
-use Rattle.cacache_disk.specs.Apply.{apply}
+use Rattle.cacache_disk.specs.{declared.luck.Luck.TheVariants.{Plain}, Tree.{Tree, look}, Apply.{apply}}
 use Rattle.cacache_entry.specs.Latest.{Found}
-use Rattle.cacache_table.specs.declared.reply.Reply.{Reply}
-use Rattle.cacache_core.specs.Meeting.{meets}
-use Rattle.cacache_table.specs.State.{looking, reading, over}
-use Rattle.cacache_table.specs.declared.carried.Lookup.{Lookup}
+use Rattle.cacache_table.specs.{declared.{reply.Reply.{Reply}, carried.Lookup.{Lookup}}, State.{looking, reading, over}, StepPaths.{bucket_path, content_path}, Looking.{found_in, found_for, found_content}, Table.{after}, Runs.{Moves, Runs}}
 use Rattle.cacache_table.specs.declared.carried.Aim.TheVariants as aims
 use Rattle.cacache_table.specs.declared.carried.Content as carried
-use Rattle.cacache_table.specs.StepPaths.{bucket_path, content_path}
-use Rattle.cacache_table.specs.Looking.{found_in, found_for, found_content}
-use Rattle.cacache_table.specs.Table.{after}
-use Rattle.cacache_table.specs.Runs.{Moves, Runs}
-use Rattle.cacache_value.specs.Kinds.{Content, Bucket, path_kind, is_used}
-use Rattle.cacache_value.proofs.KindsApart.{kind-below}
-use Rattle.cacache_keep_laws.specs.Walks.{is_leaf}
-use Rattle.cacache_keep_laws.specs.Answers.{AnsweredBy}
-use Rattle.cacache_keep_laws.specs.Idle.{Finds, IsNeeded, IsIdle, LacksIdle}
-use Rattle.cacache_keep_laws.proofs.Agreeing.{read_same}
-use Rattle.cacache_keep_laws.proofs.Within.{Within, finds_within}
+use Rattle.cacache_value.{specs.Kinds.{Content, Bucket, path_kind, is_used}, proofs.KindsApart.{kind-below}}
+use Rattle.cacache_keep_laws.specs.{Walks.{is_leaf}, Answers.{AnsweredBy}, Idle.{Finds, IsNeeded, IsIdle, LacksIdle}}
+use Rattle.cacache_keep_laws.proofs.{Agreeing.{read_same}, Within.{Within, finds_within}}
 
 -- ---- parts of both trees
 

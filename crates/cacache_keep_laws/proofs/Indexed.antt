@@ -1,50 +1,19 @@
 -- On a tree that nobody changes, a listing reads each bucket and lists the entry of each key.
-use Rattle.std.proofs.Common.{◌≡◌, ◌⊎◌, inl, inr, ℕ, ◌+◌, List, [], ◌∷◌, ◌++◌, Option, Some, None, Bool, true, false, cond, nat_lt, Result, Ok, Err, refl, sym, ap, ap₂, subst, ◌∙◌, append_assoc, arith}
+use Rattle.std.proofs.{Common.{◌≡◌, ◌⊎◌, inl, inr, ℕ, ◌+◌, List, [], ◌∷◌, ◌++◌, Option, Some, None, Bool, true, false, cond, nat_lt, Result, Ok, Err, refl, sym, ap, ap₂, subst, ◌∙◌, append_assoc, arith}, lemmas.{Slice.Eq.{bytes_eq-Decides}, List.Elements.{All-cons, All-nil}}}
 use Rattle.std.specs.Prelude.{option_map, fold, bytes_eq}
-use Rattle.std.proofs.lemmas.Slice.Eq.{bytes_eq-Decides}
-use Rattle.std.proofs.lemmas.List.Elements.{All-cons, All-nil}
 use Rattle.sha1.specs.Sha1.{sha1}
-use Rattle.cacache_core.specs.declared.errors.Fault.{Fault}
-use Rattle.cacache_core.specs.declared.errors.Fault.TheVariants.{NotFound, TooDeep, IsADirectory}
-use Rattle.cacache_core.specs.PathNames.{Names, names_of, home_of, IsProperName}
-use Rattle.cacache_core.specs.Paths.{join, joined, cut_digits, bucket_names, index_area}
+use Rattle.cacache_core.specs.{declared.errors.Fault.{Fault, TheVariants.{NotFound, TooDeep, IsADirectory}}, PathNames.{Names, names_of, home_of, IsProperName}, Paths.{join, joined, cut_digits, bucket_names, index_area}}
+use Rattle.cacache_core.proofs.{JoinedNames.{joined_texts_name}, ProperNames.{names_are_proper, proper_bucket_folder}, PathLemmas.{keys_have_digests}}
 use Rattle.hex.specs.Hex.{encode_lower}
-use Rattle.cacache_core.proofs.JoinedNames.{joined_texts_name}
-use Rattle.cacache_core.proofs.ProperNames.{names_are_proper, proper_bucket_folder}
-use Rattle.cacache_core.proofs.PathLemmas.{keys_have_digests}
-use Rattle.cacache_store.specs.declared.store.answer.Kind.{Kind}
+use Rattle.cacache_store.specs.{declared.store.{answer.{Kind.{Kind}, Name.{Name}, Answer.TheVariants.{Bytes}}, step.Step.TheVariants.{ReadAll}}, Plain.{PlainStep, PlainAnswer}}
 use Rattle.cacache_store.specs.declared.store.answer.Kind.TheVariants as kinds
-use Rattle.cacache_store.specs.declared.store.answer.Name.{Name}
-use Rattle.cacache_store.specs.declared.store.answer.Answer.TheVariants.{Bytes}
-use Rattle.cacache_store.specs.declared.store.step.Step.TheVariants.{ReadAll}
-use Rattle.cacache_store.specs.Plain.{PlainStep, PlainAnswer}
-use Rattle.cacache_disk.specs.declared.luck.Luck.TheVariants.{Plain}
-use Rattle.cacache_disk.specs.declared.node.Node.{Node}
-use Rattle.cacache_disk.specs.declared.node.Node.TheVariants.{Folder, File, Link}
-use Rattle.cacache_disk.specs.Tree.{Tree, look, listing}
-use Rattle.cacache_disk.specs.LedTo.{and_then, or_fault, on_link, bytes_there, standing, way_fault, place, followed, leads, file_at}
-use Rattle.cacache_disk.specs.Rooted.{Rooted}
-use Rattle.cacache_disk.specs.Apply.{apply, unless}
-use Rattle.cacache_entry.specs.Entry.{Entry}
-use Rattle.cacache_entry.specs.Bucket.{entries_of}
-use Rattle.cacache_entry.specs.Latest.{Found, latest, after_entry}
-use Rattle.cacache_table.specs.State.{Item, Site}
-use Rattle.cacache_table.specs.declared.visit.Task.{Task}
-use Rattle.cacache_table.specs.declared.visit.Visit.TheVariants.{Enter, ReadBucket, RemoveFile, RemoveFolder}
-use Rattle.cacache_table.specs.declared.visit.Task.TheVariants.{Make, Stumble}
-use Rattle.cacache_table.specs.Walking.{task_for_name, tasks_of, items_in, items_of, once}
-use Rattle.cacache_table.specs.Runs.{Moves}
-use Rattle.cacache_table.specs.ListReplies.{items_given, given_by, In, keys_of}
+use Rattle.cacache_disk.specs.{declared.{luck.Luck.TheVariants.{Plain}, node.Node.{Node, TheVariants.{Folder, File, Link}}}, Tree.{Tree, look, listing}, LedTo.{and_then, or_fault, on_link, bytes_there, standing, way_fault, place, followed, leads, file_at}, Rooted.{Rooted}, Apply.{apply, unless}}
+use Rattle.cacache_entry.specs.{Entry.{Entry}, Bucket.{entries_of}, Latest.{Found, latest, after_entry}}
+use Rattle.cacache_table.specs.{State.{Item, Site}, declared.visit.{Task.{Task, TheVariants.{Make, Stumble}}, Visit.TheVariants.{Enter, ReadBucket, RemoveFile, RemoveFolder}}, Walking.{task_for_name, tasks_of, items_in, items_of, once}, Runs.{Moves}, ListReplies.{items_given, given_by, In, keys_of}, StepPaths.{bucket_path}}
 use Rattle.cacache_table.proofs.Keys.{each_key_once}
-use Rattle.cacache_table.specs.StepPaths.{bucket_path}
 use Rattle.cacache_walks.specs.Reading.{names_shown}
-use Rattle.cacache_keep_laws.specs.Walks.{is_leaf}
-use Rattle.cacache_keep_laws.proofs.Members.{Member, contains_member, in_left, in_right, mapped}
-use Rattle.cacache_keep_laws.proofs.Children.{child_listed, none_below, proper_child, FolderShows, listed, missing, folder_shown}
-use Rattle.cacache_keep_laws.proofs.Covering.{named_on}
-use Rattle.cacache_keep_laws.specs.Answers.{AnsweredBy}
-use Rattle.cacache_keep_laws.specs.Index.{ListsEachKey}
-use Rattle.cacache_keep_laws.proofs.Listing.{ReadsAll, Good, listing_runs}
+use Rattle.cacache_keep_laws.specs.{Walks.{is_leaf}, Answers.{AnsweredBy}, Index.{ListsEachKey}}
+use Rattle.cacache_keep_laws.proofs.{Members.{Member, contains_member, in_left, in_right, mapped}, Children.{child_listed, none_below, proper_child, FolderShows, listed, missing, folder_shown}, Covering.{named_on}, Listing.{ReadsAll, Good, listing_runs}}
 
 -- ---- tasks
 

@@ -1,29 +1,13 @@
 -- Lookups, reads by key and listings answer after a compaction what they may answer before it.
 use Rattle.std.proofs.Common.{◌≡◌, ◌⊎◌, inl, inr, ℕ, List, [], ◌∷◌, ◌++◌, Option, Some, Ok, refl, sym, ap, subst, ◌∙◌, append_assoc, arith}
-use Rattle.cacache_core.specs.declared.integrity.digest.Hash.{Hash}
-use Rattle.cacache_core.specs.Integrity.{IsIntegrity}
-use Rattle.cacache_core.specs.PathNames.{Names, names_of, home_of}
-use Rattle.cacache_core.specs.Paths.{joined, content_area, content_names, index_area, temp_area}
-use Rattle.cacache_core.proofs.JoinedNames.{joined_texts_name}
-use Rattle.cacache_core.proofs.ProperNames.{names_are_proper}
+use Rattle.cacache_core.specs.{declared.integrity.digest.Hash.{Hash}, Integrity.{IsIntegrity}, PathNames.{Names, names_of, home_of}, Paths.{joined, content_area, content_names, index_area, temp_area}}
+use Rattle.cacache_core.proofs.{JoinedNames.{joined_texts_name}, ProperNames.{names_are_proper}}
 use Rattle.cacache_store.specs.declared.store.step.Step.TheVariants.{ReadAll, ReadDir}
-use Rattle.cacache_disk.specs.declared.luck.Luck.TheVariants.{Plain}
-use Rattle.cacache_disk.specs.declared.node.Node.{Node}
-use Rattle.cacache_disk.specs.declared.node.Node.TheVariants.{File}
-use Rattle.cacache_disk.specs.Tree.{Tree, look}
-use Rattle.cacache_disk.specs.Apply.{apply}
+use Rattle.cacache_disk.specs.{declared.{luck.Luck.TheVariants.{Plain}, node.Node.{Node, TheVariants.{File}}}, Tree.{Tree, look}, Apply.{apply}}
 use Rattle.cacache_table.specs.StepPaths.{content_path}
-use Rattle.cacache_value.specs.Kinds.{Bucket, Content, path_kind}
-use Rattle.cacache_value.proofs.KindsApart.{kind-below}
-use Rattle.cacache_keep_laws.specs.Collecting.{LinksLeadOut}
-use Rattle.cacache_keep_laws.specs.Compacted.{CompactionsAnswer, CutShort, FindsFormed}
-use Rattle.cacache_keep_laws.specs.Compacting.{compact_text}
-use Rattle.cacache_keep_laws.proofs.Agreeing.{said}
-use Rattle.cacache_keep_laws.proofs.Follows.{Alike, ReadsAlike, reads_as_before}
-use Rattle.cacache_keep_laws.proofs.Idle.{address_is}
-use Rattle.cacache_keep_laws.proofs.LeanReads.{Clear, SameOrLean, clear_area, dir_alike, file_alike}
-use Rattle.cacache_keep_laws.proofs.LeanTrees.{EndsUp}
-use Rattle.cacache_keep_laws.proofs.Within.{read_answer}
+use Rattle.cacache_value.{specs.Kinds.{Bucket, Content, path_kind}, proofs.KindsApart.{kind-below}}
+use Rattle.cacache_keep_laws.specs.{Collecting.{LinksLeadOut}, Compacted.{CompactionsAnswer, CutShort, FindsFormed}, Compacting.{compact_text}}
+use Rattle.cacache_keep_laws.proofs.{Agreeing.{said}, Follows.{Alike, ReadsAlike, reads_as_before}, Idle.{address_is}, LeanReads.{Clear, SameOrLean, clear_area, dir_alike, file_alike}, LeanTrees.{EndsUp}, Within.{read_answer}}
 
 module _ (cache : List ℕ) (home : Names) (t new : Tree) (at_home : home_of cache ≡ Some home) (out : LinksLeadOut home t) (formed : FindsFormed cache t) (is : CutShort home t new) where
   node_at : (q : Names) (old now : Option Node) → Clear home temp_area q → EndsUp home q old now → (now ≡ old) ⊎ ((path_kind (Some home) q ≡ Bucket) × (x : List ℕ) × (old ≡ Some (File x)) × (now ≡ Some (File (compact_text x))))

@@ -1,25 +1,13 @@
 -- Reads and listings of folders on two trees that differ in compacted buckets alone, but for an area of the
 -- cache's folder.
 use Rattle.std.proofs.Common.{◌≡◌, ◌⊎◌, inl, inr, ℕ, zero, suc, List, [], ◌∷◌, ◌++◌, true, false, Option, Some, None, Result, Ok, Err, length, get_or, refl, sym, ap, subst, ◌∙◌, append_assoc, bytes_eq}
-use Rattle.cacache_core.specs.declared.errors.Fault.{Fault}
-use Rattle.cacache_core.specs.declared.errors.Fault.TheVariants.{IsADirectory, TooDeep}
-use Rattle.cacache_core.specs.PathNames.{Names, names_of}
+use Rattle.cacache_core.specs.{declared.errors.Fault.{Fault, TheVariants.{IsADirectory, TooDeep}}, PathNames.{Names, names_of}}
 use Rattle.cacache_store.specs.declared.store.answer.Answer.TheVariants as answers
 use Rattle.cacache_store.specs.declared.store.step.Step.TheVariants.{ReadDir}
-use Rattle.cacache_disk.specs.declared.luck.Luck.TheVariants.{Plain}
-use Rattle.cacache_disk.specs.declared.node.Node.{Node}
-use Rattle.cacache_disk.specs.declared.node.Node.TheVariants.{Folder, File, Link}
-use Rattle.cacache_disk.specs.Tree.{Tree, look, listing}
-use Rattle.cacache_disk.specs.LedTo.{and_then, or_fault, through, way_fault, place, standing, where_there, where_folder, on_link, followed, leads, bytes_there, file_at, folder}
-use Rattle.cacache_disk.specs.Apply.{apply, unless}
+use Rattle.cacache_disk.specs.{declared.{luck.Luck.TheVariants.{Plain}, node.Node.{Node, TheVariants.{Folder, File, Link}}}, Tree.{Tree, look, listing}, LedTo.{and_then, or_fault, through, way_fault, place, standing, where_there, where_folder, on_link, followed, leads, bytes_there, file_at, folder}, Apply.{apply, unless}}
 use Rattle.cacache_disk.proofs.FoundNodes.{and_then_ok, place_ok, standing_ok}
-use Rattle.cacache_value.specs.Kinds.{Bucket, Elsewhere, path_kind, IsFor}
-use Rattle.cacache_value.proofs.KindsApart.{inner_used, kind-below}
-use Rattle.cacache_value.proofs.FoundPaths.{of_names}
-use Rattle.cacache_keep_laws.specs.Collecting.{LinksLeadOut}
-use Rattle.cacache_keep_laws.specs.Compacting.{compact_text}
-use Rattle.cacache_keep_laws.proofs.Children.{child_path, folder_found}
-use Rattle.cacache_keep_laws.proofs.Shapes.{shape, shaped_listing}
+use Rattle.cacache_value.{specs.Kinds.{Bucket, Elsewhere, path_kind, IsFor}, proofs.{KindsApart.{inner_used, kind-below}, FoundPaths.{of_names}}}
+use Rattle.cacache_keep_laws.{specs.{Collecting.{LinksLeadOut}, Compacting.{compact_text}}, proofs.{Children.{child_path, folder_found}, Shapes.{shape, shaped_listing}}}
 
 -- ---- what one shape tells
 

@@ -1,21 +1,12 @@
 -- Compactions of trees, one after another, and what is found after them.
 use Rattle.std.proofs.Common.{◌≡◌, ◌⊎◌, inl, inr, ℕ, List, [], ◌∷◌, ◌++◌, Option, None, Some, refl, sym, ap, subst, ◌∙◌}
 use Rattle.sha1.specs.Sha1.{sha1}
-use Rattle.cacache_core.specs.PathNames.{Names}
-use Rattle.cacache_core.specs.Paths.{bucket_names_of, content_names, temp_area}
-use Rattle.cacache_disk.specs.declared.node.Node.{Node}
-use Rattle.cacache_disk.specs.declared.node.Node.TheVariants.{Folder, File}
-use Rattle.cacache_disk.specs.Tree.{Tree, look}
-use Rattle.cacache_entry.specs.Latest.{latest}
-use Rattle.cacache_entry.proofs.Lines.{empty_holds_nothing}
-use Rattle.cacache_value.specs.Acts.{list_of}
-use Rattle.cacache_value.specs.Kinds.{PathKind, Content, Bucket, Temporary, path_kind}
-use Rattle.cacache_value.specs.Value.{blob_in, bucket_in}
-use Rattle.cacache_value.proofs.KindsApart.{kind-below}
-use Rattle.cacache_keep_laws.specs.Compacted.{IsCompacted, IsTempFolder, IsLeftOver, Compacted, CutShort, CompactionsKeep}
-use Rattle.cacache_keep_laws.specs.Compacting.{compact_text}
-use Rattle.cacache_keep_laws.proofs.CompactLines.{compact_texts_answer}
-use Rattle.cacache_keep_laws.proofs.CompactTwice.{compact_twice}
+use Rattle.cacache_core.specs.{PathNames.{Names}, Paths.{bucket_names_of, content_names, temp_area}}
+use Rattle.cacache_disk.specs.{declared.node.Node.{Node, TheVariants.{Folder, File}}, Tree.{Tree, look}}
+use Rattle.cacache_entry.{specs.Latest.{latest}, proofs.Lines.{empty_holds_nothing}}
+use Rattle.cacache_value.{specs.{Acts.{list_of}, Kinds.{PathKind, Content, Bucket, Temporary, path_kind}, Value.{blob_in, bucket_in}}, proofs.KindsApart.{kind-below}}
+use Rattle.cacache_keep_laws.specs.{Compacted.{IsCompacted, IsTempFolder, IsLeftOver, Compacted, CutShort, CompactionsKeep}, Compacting.{compact_text}}
+use Rattle.cacache_keep_laws.proofs.{CompactLines.{compact_texts_answer}, CompactTwice.{compact_twice}}
 
 -- ---- one node
 

@@ -1,74 +1,24 @@
 -- In a cache where each thing lies in its place a listing of the index lists what lookups find.
-use Rattle.std.proofs.Common.{◌≡◌, inl, inr, ℕ, Bool, true, false, cond, List, [], ◌∷◌, ◌++◌, Option, None, Some, Ok, Err, take, refl, sym, ap, subst, ◌∙◌}
+use Rattle.std.proofs.{Common.{◌≡◌, inl, inr, ℕ, Bool, true, false, cond, List, [], ◌∷◌, ◌++◌, Option, None, Some, Ok, Err, take, refl, sym, ap, subst, ◌∙◌}, lemmas.List.Elements.{All-nil, All-cons, All-head, All-tail, All-append, All-take}}
 use Rattle.std.specs.Prelude.{All, Contains}
-use Rattle.std.proofs.lemmas.List.Elements.{All-nil, All-cons, All-head, All-tail, All-append, All-take}
 use Rattle.sha1.specs.Sha1.{sha1}
-use Rattle.cacache_core.specs.declared.errors.Fault.TheVariants.{IsADirectory, NotFound}
-use Rattle.cacache_core.specs.declared.errors.Error.TheVariants.{OutOfMemory}
-use Rattle.cacache_core.specs.Integrity.{IsIntegrity}
-use Rattle.cacache_core.specs.PathNames.{Names, names_of, home_of}
-use Rattle.cacache_core.specs.Paths.{bucket_names_of}
+use Rattle.cacache_core.specs.{declared.errors.{Fault.TheVariants.{IsADirectory, NotFound}, Error.TheVariants.{OutOfMemory}}, Integrity.{IsIntegrity}, PathNames.{Names, names_of, home_of}, Paths.{bucket_names_of}}
 use Rattle.cacache_store.specs.declared.store.answer.Answer.TheVariants as answers
-use Rattle.cacache_store.specs.declared.store.step.Step.TheVariants.{ReadAll}
-use Rattle.cacache_store.specs.Plain.{PlainAnswer}
-use Rattle.cacache_disk.specs.declared.luck.Luck.TheVariants.{Plain}
-use Rattle.cacache_disk.specs.declared.node.Node.{Node}
-use Rattle.cacache_disk.specs.declared.node.Node.TheVariants.{Folder, File, Link}
-use Rattle.cacache_disk.specs.Tree.{Tree, look}
-use Rattle.cacache_disk.specs.LedTo.{place, followed, leads, file_at}
-use Rattle.cacache_disk.specs.Apply.{apply}
-use Rattle.cacache_disk.specs.Rooted.{Rooted}
-use Rattle.cacache_memory.specs.Replay.{tree_of}
+use Rattle.cacache_store.specs.{declared.store.step.Step.TheVariants.{ReadAll}, Plain.{PlainAnswer}}
+use Rattle.cacache_disk.specs.{declared.{luck.Luck.TheVariants.{Plain}, node.Node.{Node, TheVariants.{Folder, File, Link}}}, Tree.{Tree, look}, LedTo.{place, followed, leads, file_at}, Apply.{apply}, Rooted.{Rooted}}
 use Rattle.cacache_disk.proofs.Standing.{way_clear}
-use Rattle.cacache_entry.specs.Bucket.{entries_of}
-use Rattle.cacache_entry.specs.Entry.{Entry}
-use Rattle.cacache_entry.specs.Latest.{Found, latest}
+use Rattle.cacache_memory.specs.Replay.{tree_of}
+use Rattle.cacache_entry.specs.{Bucket.{entries_of}, Entry.{Entry}, Latest.{Found, latest}}
 use Rattle.cacache_table.specs.declared.command.Command.TheVariants as commands
-use Rattle.cacache_table.specs.declared.reply.Reply.{Reply}
-use Rattle.cacache_table.specs.declared.reply.Reply.TheVariants.{Listed, LookedUp, Refused}
-use Rattle.cacache_table.specs.Licence.{looking_on, AllMay}
-use Rattle.cacache_table.specs.ListReplies.{too_deep}
-use Rattle.cacache_table.specs.Replies.{bucket_shown, find_reply}
-use Rattle.cacache_table.specs.Runs.{Moves, Runs}
-use Rattle.cacache_table.specs.State.{State, Site, Item}
-use Rattle.cacache_table.specs.StepPaths.{bucket_path}
-use Rattle.cacache_table.specs.Table.{after, opening}
-use Rattle.cacache_table.specs.Walking.{most}
-use Rattle.cacache_table.proofs.Replies.{finds_shown}
-use Rattle.cacache_table.proofs.Within.{calls_keep_to}
-use Rattle.cacache_value.specs.Acts.{list_of}
-use Rattle.cacache_value.specs.Kinds.{NamesBelow}
-use Rattle.cacache_value.specs.Placed.{Placed}
-use Rattle.cacache_value.specs.Shows.{ShowsBucket}
-use Rattle.cacache_value.specs.Value.{bucket_in, value_of_tree}
-use Rattle.cacache_value.proofs.Shows.{trees_show}
-use Rattle.cacache_history.specs.Buckets.{BucketsHaveKeys}
-use Rattle.cacache_history.specs.ListingTurns.{is_past, listing_of}
-use Rattle.cacache_history.specs.Setup.{Setup}
-use Rattle.cacache_history.specs.Turns.{made_in, EachTurn}
-use Rattle.cacache_history.proofs.Bucketed.{KeyedTurn}
-use Rattle.cacache_history.proofs.Formed.{TreeFormed}
-use Rattle.cacache_history.proofs.Holding.{TurnsHold}
-use Rattle.cacache_history.proofs.ListingTurns.{lists}
-use Rattle.cacache_history.proofs.Owned.{TreeOwn}
-use Rattle.cacache_history.proofs.ShownTurns.{bucket_below}
-use Rattle.cacache_history.proofs.Spelled.{HasIntegrity, latest_has}
-use Rattle.cacache_sequence.specs.Caches.{setup_at}
-use Rattle.cacache_sequence.specs.ReadAnswers.{entries_on}
-use Rattle.cacache_sequence.specs.Sequence.{turns_on}
-use Rattle.cacache_sequence.proofs.ListedTurns.{Leads, turns_lead}
-use Rattle.cacache_sequence.proofs.Looks.{moves_keep, moves_place}
-use Rattle.cacache_sequence.proofs.Sequence.{turns_made}
-use Rattle.cacache_keep_laws.specs.Answers.{AnsweredBy, AnswersOn}
-use Rattle.cacache_keep_laws.specs.Compacted.{HousesAreFit}
-use Rattle.cacache_keep_laws.specs.Housed.{CachesAreHoused, Housed, IndexesLead}
-use Rattle.cacache_keep_laws.specs.Index.{IndexLists, entries_in}
-use Rattle.cacache_keep_laws.specs.Mending.{found_in}
-use Rattle.cacache_keep_laws.proofs.Agreeing.{said}
-use Rattle.cacache_keep_laws.proofs.Collected.{indexes_find}
-use Rattle.cacache_keep_laws.proofs.Links.{links_out}
-use Rattle.cacache_keep_laws.proofs.Members.{Member, member_contains}
-use Rattle.cacache_keep_laws.proofs.Within.{read_answer}
+use Rattle.cacache_table.specs.{declared.reply.Reply.{Reply, TheVariants.{Listed, LookedUp, Refused}}, Licence.{looking_on, AllMay}, ListReplies.{too_deep}, Replies.{bucket_shown, find_reply}, Runs.{Moves, Runs}, State.{State, Site, Item}, StepPaths.{bucket_path}, Table.{after, opening}, Walking.{most}}
+use Rattle.cacache_table.proofs.{Replies.{finds_shown}, Within.{calls_keep_to}}
+use Rattle.cacache_value.{specs.{Acts.{list_of}, Kinds.{NamesBelow}, Placed.{Placed}, Shows.{ShowsBucket}, Value.{bucket_in, value_of_tree}}, proofs.Shows.{trees_show}}
+use Rattle.cacache_history.specs.{Buckets.{BucketsHaveKeys}, ListingTurns.{is_past, listing_of}, Setup.{Setup}, Turns.{made_in, EachTurn}}
+use Rattle.cacache_history.proofs.{Bucketed.{KeyedTurn}, Formed.{TreeFormed}, Holding.{TurnsHold}, ListingTurns.{lists}, Owned.{TreeOwn}, ShownTurns.{bucket_below}, Spelled.{HasIntegrity, latest_has}}
+use Rattle.cacache_sequence.specs.{Caches.{setup_at}, ReadAnswers.{entries_on}, Sequence.{turns_on}}
+use Rattle.cacache_sequence.proofs.{ListedTurns.{Leads, turns_lead}, Looks.{moves_keep, moves_place}, Sequence.{turns_made}}
+use Rattle.cacache_keep_laws.specs.{Answers.{AnsweredBy, AnswersOn}, Compacted.{HousesAreFit}, Housed.{CachesAreHoused, Housed, IndexesLead}, Index.{IndexLists, entries_in}, Mending.{found_in}}
+use Rattle.cacache_keep_laws.proofs.{Agreeing.{said}, Collected.{indexes_find}, Links.{links_out}, Members.{Member, member_contains}, Within.{read_answer}}
 
 pub caches_are_housed : CachesAreHoused
 caches_are_housed cache home log is cached =

@@ -1,11 +1,9 @@
 -- Links lead out of a cache that only calls wrote to.
 use Rattle.std.proofs.Common.{ℕ, List, Some, subst}
 use Rattle.cacache_core.specs.PathNames.{Names}
-use Rattle.cacache_disk.specs.declared.node.Node.TheVariants.{Link}
-use Rattle.cacache_disk.specs.Tree.{Tree}
+use Rattle.cacache_disk.specs.{declared.node.Node.TheVariants.{Link}, Tree.{Tree}}
 use Rattle.cacache_memory.specs.Replay.{tree_of}
-use Rattle.cacache_value.specs.Kinds.{PathKind, Content, Elsewhere, IsFor, path_kind}
-use Rattle.cacache_value.specs.Placed.{MayStand, Placed}
+use Rattle.cacache_value.specs.{Kinds.{PathKind, Content, Elsewhere, IsFor, path_kind}, Placed.{MayStand, Placed}}
 use Rattle.cacache_keep_laws.specs.Collecting.{CachesLinkOut, LinksLeadOut}
 
 link_out : (home : Names) (target : List ℕ) (k : PathKind) → MayStand (Some home) (Some (Link target)) k → IsFor (Some home) Elsewhere target

@@ -1,32 +1,13 @@
 -- A run of a listing reads each folder and each bucket that its walk comes to, and lists what they hold.
 use Rattle.std.proofs.Common.{◌≡◌, ◌⊎◌, inl, inr, ℕ, ◌+◌, ◌-◌, List, [], ◌∷◌, ◌++◌, Some, None, Bool, true, false, cond, nat_le, nat_lt, Result, Ok, Err, refl, ap, subst, ◌∙◌, length, take, append-nil}
-use Rattle.cacache_core.specs.declared.errors.Fault.{Fault}
-use Rattle.cacache_core.specs.declared.errors.Fault.TheVariants.{NotFound, TooDeep}
-use Rattle.cacache_core.specs.declared.errors.Error.TheVariants.{OutOfMemory}
-use Rattle.cacache_core.specs.Paths.{join}
-use Rattle.cacache_store.specs.declared.store.answer.Kind.{Kind}
+use Rattle.cacache_core.specs.{declared.errors.{Fault.{Fault, TheVariants.{NotFound, TooDeep}}, Error.TheVariants.{OutOfMemory}}, Paths.{join}}
+use Rattle.cacache_store.specs.{declared.store.{answer.{Kind.{Kind}, Name.{Name}}, step.Step.TheVariants.{ReadDir, ReadAll}}, Plain.{PlainStep, PlainAnswer}}
 use Rattle.cacache_store.specs.declared.store.answer.Kind.TheVariants as kinds
-use Rattle.cacache_store.specs.declared.store.answer.Name.{Name}
 use Rattle.cacache_store.specs.declared.store.answer.Answer.TheVariants as answers
-use Rattle.cacache_store.specs.declared.store.step.Step.TheVariants.{ReadDir, ReadAll}
-use Rattle.cacache_store.specs.Plain.{PlainStep, PlainAnswer}
-use Rattle.cacache_table.specs.declared.answers.Refusal.{Refusal}
+use Rattle.cacache_table.specs.{declared.{answers.Refusal.{Refusal}, reply.Reply.{Reply, TheVariants.{Listed, Refused}}, visit.{Visit.{Visit, TheVariants.{Enter, ReadBucket, RemoveFile, RemoveFolder}}, Task.{Task, TheVariants.{Make, Stumble}}}}, Answers.{bytes_in, names_in}, State.{walking, over, Item, Walk}, Common.{go_on}, Walking.{most, failed, miss, walk_on, task_for_name, tasks_of, too_many, entered, unread_bucket, listed, items_in}, Runs.{Moves, Runs}, ListReplies.{by_bucket, by_folder, given_by, items_given}}
 use Rattle.cacache_table.specs.declared.answers.Refusal.TheVariants as refusals
-use Rattle.cacache_table.specs.declared.reply.Reply.{Reply}
-use Rattle.cacache_table.specs.declared.reply.Reply.TheVariants.{Listed, Refused}
-use Rattle.cacache_table.specs.Answers.{bytes_in, names_in}
-use Rattle.cacache_table.specs.State.{walking, over, Item, Walk}
-use Rattle.cacache_table.specs.declared.visit.Visit.{Visit}
-use Rattle.cacache_table.specs.declared.visit.Task.{Task}
-use Rattle.cacache_table.specs.declared.visit.Visit.TheVariants.{Enter, ReadBucket, RemoveFile, RemoveFolder}
-use Rattle.cacache_table.specs.declared.visit.Task.TheVariants.{Make, Stumble}
-use Rattle.cacache_table.specs.Common.{go_on}
-use Rattle.cacache_table.specs.Walking.{most, failed, miss, walk_on, task_for_name, tasks_of, too_many, entered, unread_bucket, listed, items_in}
-use Rattle.cacache_table.specs.Runs.{Moves, Runs}
-use Rattle.cacache_table.specs.ListReplies.{by_bucket, by_folder, given_by, items_given}
 use Rattle.cacache_walks.specs.Reading.{names_shown}
-use Rattle.cacache_keep_laws.proofs.Members.{Member, in_left, in_right, in_either}
-use Rattle.cacache_keep_laws.specs.Index.{is_failure}
+use Rattle.cacache_keep_laws.{proofs.Members.{Member, in_left, in_right, in_either}, specs.Index.{is_failure}}
 
 -- the moves read these folders and buckets, and all that lies below the folders
 abbrev pub ReadsAll : List Task → Moves → Type 0

@@ -1,35 +1,17 @@
 -- What the log of a store in memory gained by reads, the tree before them answered, and it stayed.
-use Rattle.std.proofs.Common.{◌≡◌, inl, inr, List, [], ◌∷◌, ◌++◌, Option, None, Some, Result, Ok, Err, map, refl, sym, ap, subst, ◌∙◌, append_assoc}
+use Rattle.std.proofs.{Common.{◌≡◌, inl, inr, List, [], ◌∷◌, ◌++◌, Option, None, Some, Result, Ok, Err, map, refl, sym, ap, subst, ◌∙◌, append_assoc}, lemmas.List.{map-append}}
 use Rattle.std.specs.Prelude.{Contains, option_map}
-use Rattle.std.proofs.lemmas.List.{map-append}
 use Rattle.cacache_core.specs.declared.errors.Fault.{Fault}
-use Rattle.cacache_store.specs.declared.store.log.LogItem.{LogItem}
-use Rattle.cacache_store.specs.declared.store.log.LogItem.TheVariants.{Made, Foreign, ForeignFolder}
-use Rattle.cacache_store.specs.declared.store.step.Step.TheVariants.{MakeDirs}
-use Rattle.cacache_disk.specs.declared.luck.Luck.TheVariants.{Plain}
-use Rattle.cacache_disk.specs.Tree.{Tree, bare}
-use Rattle.cacache_disk.specs.Apply.{apply, planted}
-use Rattle.cacache_disk.specs.Rooted.{Rooted}
-use Rattle.cacache_disk.proofs.KeptFolders.{steps_keep_rooted}
-use Rattle.cacache_disk.proofs.PlantedNodes.{planted_rooted}
-use Rattle.cacache_disk.proofs.Roots.{bare_rooted}
+use Rattle.cacache_store.specs.declared.store.{log.LogItem.{LogItem, TheVariants.{Made, Foreign, ForeignFolder}}, step.Step.TheVariants.{MakeDirs}}
+use Rattle.cacache_disk.specs.{declared.luck.Luck.TheVariants.{Plain}, Tree.{Tree, bare}, Apply.{apply, planted}, Rooted.{Rooted}}
+use Rattle.cacache_disk.proofs.{KeptFolders.{steps_keep_rooted}, PlantedNodes.{planted_rooted}, Roots.{bare_rooted}}
 use Rattle.cacache_memory.specs.Replay.{changed, after, replay, tree_of}
-use Rattle.cacache_table.specs.declared.command.Command.{Command}
-use Rattle.cacache_table.specs.declared.reply.Reply.{Reply}
-use Rattle.cacache_table.specs.State.{Site}
-use Rattle.cacache_table.specs.Table.{opening}
-use Rattle.cacache_table.specs.Runs.{Moves, Runs, Gains}
-use Rattle.cacache_sequence.specs.Looks.{OnlyLooks}
-use Rattle.cacache_sequence.specs.Sequence.{tree_on, turns_on, AreAnswered}
-use Rattle.cacache_history.specs.Turns.{EachTurn}
-use Rattle.cacache_table.specs.Licence.{looking_on}
+use Rattle.cacache_table.specs.{declared.{command.Command.{Command}, reply.Reply.{Reply}}, State.{Site}, Table.{opening}, Runs.{Moves, Runs, Gains}, Licence.{looking_on}}
 use Rattle.cacache_table.proofs.Within.{calls_keep_to}
-use Rattle.cacache_sequence.proofs.Looks.{moves_keep, moves_place}
-use Rattle.cacache_sequence.proofs.ReadsStay.{listing_keeps}
+use Rattle.cacache_sequence.{specs.{Looks.{OnlyLooks}, Sequence.{tree_on, turns_on, AreAnswered}}, proofs.{Looks.{moves_keep, moves_place}, ReadsStay.{listing_keeps}}}
+use Rattle.cacache_history.specs.Turns.{EachTurn}
 use Rattle.cacache_walks.specs.Reading.{Folder, ReadsFolders, folders_in}
-use Rattle.cacache_keep_laws.specs.Answers.{AnsweredBy, AnswersOn}
-use Rattle.cacache_keep_laws.specs.Walks.{ReadAt}
-use Rattle.cacache_keep_laws.proofs.Members.{Member, member_contains}
+use Rattle.cacache_keep_laws.{specs.{Answers.{AnsweredBy, AnswersOn}, Walks.{ReadAt}}, proofs.Members.{Member, member_contains}}
 
 -- ---- the tree of a log is rooted
 

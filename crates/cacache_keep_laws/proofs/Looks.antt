@@ -1,17 +1,11 @@
 -- Calls that only look answer on the tree of the log, and one tree gives one answer.
 use Rattle.std.proofs.Common.{◌≡◌, ◌⊎◌, inl, inr, [], ◌∷◌, Some, None, sym, ap, subst, ◌∙◌}
 use Rattle.cacache_store.specs.Plain.{PlainStep, PlainAnswer}
-use Rattle.cacache_disk.specs.declared.luck.Luck.TheVariants.{Plain}
-use Rattle.cacache_disk.specs.Tree.{Tree}
-use Rattle.cacache_disk.specs.Apply.{apply}
+use Rattle.cacache_disk.specs.{declared.luck.Luck.TheVariants.{Plain}, Tree.{Tree}, Apply.{apply}}
 use Rattle.cacache_memory.specs.Replay.{tree_of}
-use Rattle.cacache_table.specs.declared.reply.Reply.{Reply}
-use Rattle.cacache_table.specs.State.{State, Site, over}
-use Rattle.cacache_table.specs.Table.{after, opening, wants}
-use Rattle.cacache_table.specs.Runs.{Moves, Runs}
+use Rattle.cacache_table.specs.{declared.reply.Reply.{Reply}, State.{State, Site, over}, Table.{after, opening, wants}, Runs.{Moves, Runs}}
 use Rattle.cacache_sequence.proofs.InParts.{logs_lead}
-use Rattle.cacache_keep_laws.specs.Answers.{AnsweredBy, AnswersAgree, IsMemory, LooksAnswer}
-use Rattle.cacache_keep_laws.proofs.Logged.{looked}
+use Rattle.cacache_keep_laws.{specs.Answers.{AnsweredBy, AnswersAgree, IsMemory, LooksAnswer}, proofs.Logged.{looked}}
 
 pub looks_answer : LooksAnswer
 looks_answer cache command r old new looks c =

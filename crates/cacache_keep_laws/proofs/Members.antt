@@ -1,7 +1,6 @@
 -- Members of lists, by recursion.
 use Rattle.std.proofs.Common.{◌≡◌, ◌⊎◌, inl, inr, ◌<◌, ℕ, zero, suc, List, [], ◌∷◌, ◌++◌, Option, None, Some, refl, sym, ap, subst, ◌∙◌, length, get_or, arith}
-use Rattle.std.specs.Prelude.{Contains, filter_map}
-use Rattle.std.specs.List.{cons_option}
+use Rattle.std.specs.{Prelude.{Contains, filter_map}, List.{cons_option}}
 
 abbrev pub Member : {X : Type 0} → X → List X → Type 0
 Member x [] = ⊥

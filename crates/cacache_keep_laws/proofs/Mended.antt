@@ -1,16 +1,9 @@
 -- A repair leaves the good contents.
 use Rattle.std.proofs.Common.{◌≡◌, Bool, true, false, ℕ, List, [], ◌∷◌, None, Some, sym, ap, ◌∙◌, refl}
-use Rattle.cacache_core.specs.declared.integrity.digest.Hash.{Hash}
-use Rattle.cacache_core.specs.Integrity.{IsHash}
-use Rattle.cacache_core.specs.Meeting.{meets}
-use Rattle.cacache_core.specs.PathNames.{Names}
+use Rattle.cacache_core.specs.{declared.integrity.digest.Hash.{Hash}, Integrity.{IsHash}, Meeting.{meets}, PathNames.{Names}}
 use Rattle.cacache_disk.specs.Tree.{Tree}
-use Rattle.cacache_value.specs.Shows.{blob_bytes}
-use Rattle.cacache_value.specs.Value.{InFile}
-use Rattle.cacache_keep_laws.specs.Contents.{content_in}
-use Rattle.cacache_keep_laws.specs.Mending.{RepairsLeave}
-use Rattle.cacache_keep_laws.specs.Verifying.{is_good, is_met}
-use Rattle.cacache_keep_laws.proofs.Collected.{others_gone, picked_left}
+use Rattle.cacache_value.specs.{Shows.{blob_bytes}, Value.{InFile}}
+use Rattle.cacache_keep_laws.{specs.{Contents.{content_in}, Mending.{RepairsLeave}, Verifying.{is_good, is_met}}, proofs.Collected.{others_gone, picked_left}}
 
 -- what is left and is a file was good, and so met its address
 file_met : (home : Names) (t new : Tree) (h : Hash) (bytes : List ℕ) (good : Bool) → is_good home t h ≡ good

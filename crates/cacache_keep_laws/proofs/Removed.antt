@@ -1,15 +1,9 @@
 -- The run of a removal.
 use Rattle.std.proofs.Common.{◌≡◌, inl, inr, ℕ, List, [], ◌∷◌, Some, None, refl, sym, ap₂}
 use Rattle.cacache_core.specs.Paths.{joined, content_names}
-use Rattle.cacache_store.specs.declared.store.step.Step.TheVariants.{RemoveFile}
+use Rattle.cacache_store.specs.{declared.store.step.Step.TheVariants.{RemoveFile}, Plain.{PlainStep, PlainAnswer}}
 use Rattle.cacache_store.specs.declared.store.answer.Answer.TheVariants as answers
-use Rattle.cacache_store.specs.Plain.{PlainStep, PlainAnswer}
-use Rattle.cacache_table.specs.declared.reply.Reply.{Reply}
-use Rattle.cacache_table.specs.declared.reply.Reply.TheVariants.{Done}
-use Rattle.cacache_table.specs.State.{doing, remove, over}
-use Rattle.cacache_table.specs.StepPaths.{content_path}
-use Rattle.cacache_table.specs.Table.{after}
-use Rattle.cacache_table.specs.Runs.{Moves, Runs}
+use Rattle.cacache_table.specs.{declared.reply.Reply.{Reply, TheVariants.{Done}}, State.{doing, remove, over}, StepPaths.{content_path}, Table.{after}, Runs.{Moves, Runs}}
 use Rattle.cacache_keep_laws.specs.Removing.{RemovalsRun}
 
 ended : (moves : Moves) (r : Reply) → Runs (over r) moves Done → (moves ≡ []) × (r ≡ Done)

@@ -1,15 +1,10 @@
 -- Trees with the same nodes in a folder list it alike.
 use Rattle.std.proofs.Common.{◌≡◌, Bool, true, false, cond, List, [], ◌∷◌, Option, None, refl, sym, ap, ◌∙◌}
-use Rattle.std.specs.Prelude.{filter_map}
-use Rattle.std.specs.List.{cons_option}
-use Rattle.std.specs.declared.cmp.Ordering.TheVariants.{Equal}
+use Rattle.std.specs.{Prelude.{filter_map}, List.{cons_option}, declared.cmp.Ordering.TheVariants.{Equal}, FinMap.Entries.{where_key, is_sorted-where_key, find-where_key, same_entries}}
 use Rattle.std.specs.FinMap as map
-use Rattle.std.specs.FinMap.Entries.{where_key, is_sorted-where_key, find-where_key, same_entries}
 use Rattle.cacache_core.specs.PathNames.{Names}
 use Rattle.cacache_store.specs.declared.store.answer.Name.{Name}
-use Rattle.cacache_disk.specs.declared.node.Node.{Node}
-use Rattle.cacache_disk.specs.Tree.{Tree, look, names_cmp, listing, child_of, is_child}
-use Rattle.cacache_disk.proofs.Maps.{total, only}
+use Rattle.cacache_disk.{specs.{declared.node.Node.{Node}, Tree.{Tree, look, names_cmp, listing, child_of, is_child}}, proofs.Maps.{total, only}}
 
 -- only children are listed
 child_kept : (p : Names) (e : Names × Node) (b : Bool) (kept : List (Names × Node)) (names : List Name) → is_child p e.0 ≡ b → filter_map (child_of p) kept ≡ names → filter_map (child_of p) (cond b (e ∷ kept) kept) ≡ cons_option (child_of p e) names

@@ -1,16 +1,10 @@
 -- Trees whose nodes differ in bytes of files alone list a folder alike.
 use Rattle.std.proofs.Common.{◌≡◌, Bool, true, false, cond, List, [], ◌∷◌, Option, None, Some, length, option_map, refl, sym, ap, ap₂, subst, ◌∙◌}
-use Rattle.std.specs.Prelude.{T, ◌&&◌, filter_map, map as each, slice_index_or}
-use Rattle.std.specs.List.{cons_option}
-use Rattle.std.specs.declared.cmp.Ordering.TheVariants.{Equal}
-use Rattle.std.specs.Ordering.{is_lt}
+use Rattle.std.specs.{Prelude.{T, ◌&&◌, filter_map, map as each, slice_index_or}, List.{cons_option}, declared.cmp.Ordering.TheVariants.{Equal}, Ordering.{is_lt}, FinMap.Entries.{below_all, where_key, is_sorted-where_key, find-where_key, same_entries}}
 use Rattle.std.specs.FinMap as map
-use Rattle.std.specs.FinMap.Entries.{below_all, where_key, is_sorted-where_key, find-where_key, same_entries}
 use Rattle.cacache_core.specs.PathNames.{Names}
 use Rattle.cacache_store.specs.declared.store.answer.Kind.{Kind}
-use Rattle.cacache_disk.specs.declared.node.Node.{Node}
-use Rattle.cacache_disk.specs.declared.node.Node.TheVariants.{Folder, File, Link}
-use Rattle.cacache_disk.specs.Tree.{Tree, look, names_cmp, same_path, listing, child_of, is_child, kind_of}
+use Rattle.cacache_disk.specs.{declared.node.Node.{Node, TheVariants.{Folder, File, Link}}, Tree.{Tree, look, names_cmp, same_path, listing, child_of, is_child, kind_of}}
 use Rattle.cacache_disk.proofs.Maps.{total, only}
 use Rattle.cacache_keep_laws.proofs.SameListing.{of_children, where_child}
 

@@ -2,43 +2,20 @@
 use Rattle.std.proofs.Common.{◌≡◌, inl, inr, ◌==◌, ◌<◌, ◌≤◌, ◌+◌, ◌-◌, ℕ, zero, suc, Bool, true, false, cond, nat_le, List, [], ◌∷◌, ◌++◌, Option, None, Some, Ok, length, refl, sym, ap, subst, ◌∙◌, arith, append_assoc, length-append, eqb-true}
 use Rattle.std.specs.Prelude.{nat_lt}
 use Rattle.cacache_core.specs.declared.errors.Fault.TheVariants as faults
-use Rattle.cacache_core.specs.declared.errors.Error.TheVariants.{IoError}
-use Rattle.cacache_core.specs.Paths.{join}
-use Rattle.cacache_core.specs.PathNames.{Names, names_of}
+use Rattle.cacache_core.specs.{declared.errors.Error.TheVariants.{IoError}, Paths.{join}, PathNames.{Names, names_of}}
 use Rattle.cacache_store.specs.declared.store.step.Step.TheVariants as steps
 use Rattle.cacache_store.specs.declared.store.answer.Answer.TheVariants as answers
-use Rattle.cacache_store.specs.declared.store.answer.Kind.{Kind}
+use Rattle.cacache_store.specs.{declared.store.answer.{Kind.{Kind}, Name.{Name}}, Plain.{PlainAnswer}}
 use Rattle.cacache_store.specs.declared.store.answer.Kind.TheVariants as kinds
-use Rattle.cacache_store.specs.declared.store.answer.Name.{Name}
-use Rattle.cacache_store.specs.Plain.{PlainAnswer}
-use Rattle.cacache_disk.specs.declared.luck.Luck.TheVariants.{Plain}
-use Rattle.cacache_disk.specs.declared.node.Node.{Node}
-use Rattle.cacache_disk.specs.declared.node.Node.TheVariants.{Folder, File, Link}
-use Rattle.cacache_disk.specs.Tree.{Tree, look, cut, listing, kind_of}
-use Rattle.cacache_disk.specs.LedTo.{folder, emptied}
-use Rattle.cacache_disk.specs.Rooted.{Rooted}
-use Rattle.cacache_disk.specs.Apply.{apply}
+use Rattle.cacache_disk.specs.{declared.{luck.Luck.TheVariants.{Plain}, node.Node.{Node, TheVariants.{Folder, File, Link}}}, Tree.{Tree, look, cut, listing, kind_of}, LedTo.{folder, emptied}, Rooted.{Rooted}, Apply.{apply}}
 use Rattle.cacache_disk.proofs.KeptFolders.{steps_keep_rooted}
 use Rattle.cacache_table.specs.declared.command.Command.TheVariants as commands
-use Rattle.cacache_table.specs.declared.reply.Reply.{Reply}
-use Rattle.cacache_table.specs.declared.reply.Reply.TheVariants.{Listed, Refused}
-use Rattle.cacache_table.specs.Common.{fails}
-use Rattle.cacache_table.specs.State.{State, walking, over, Walk}
-use Rattle.cacache_table.specs.declared.visit.Visit.{Visit}
-use Rattle.cacache_table.specs.declared.visit.Task.{Task}
-use Rattle.cacache_table.specs.declared.visit.Visit.TheVariants.{Enter, ReadBucket, RemoveFile, RemoveFolder}
-use Rattle.cacache_table.specs.declared.visit.Task.TheVariants.{Make, Stumble}
-use Rattle.cacache_table.specs.Walking.{failed, give, miss, walk_on, task_for_name, tasks_of, leaving, too_many, entered}
-use Rattle.cacache_table.specs.Runs.{Moves, Runs}
+use Rattle.cacache_table.specs.{declared.{reply.Reply.{Reply, TheVariants.{Listed, Refused}}, visit.{Visit.{Visit, TheVariants.{Enter, ReadBucket, RemoveFile, RemoveFolder}}, Task.{Task, TheVariants.{Make, Stumble}}}}, Common.{fails}, State.{State, walking, over, Walk}, Walking.{failed, give, miss, walk_on, task_for_name, tasks_of, leaving, too_many, entered}, Runs.{Moves, Runs}}
 use Rattle.cacache_sequence.specs.Sequence.{tree_on}
-use Rattle.cacache_history.proofs.ToldFolders.{Each, Told, AreDistinct, listing_told, listing_distinct, child_listed}
-use Rattle.cacache_keep_laws.specs.Walks.{is_leaf}
-use Rattle.cacache_keep_laws.specs.Idle.{BreaksOff}
-use Rattle.cacache_keep_laws.proofs.Children.{none_below, proper_child, folder_there}
-use Rattle.cacache_keep_laws.proofs.Covering.{named_on}
 use Rattle.cacache_sequence.proofs.Sheds.{Shed, ShedAll, among, among_below, cut_sheds, folder_apart, listed_among, sheds_more, under, under_other, under_self}
-use Rattle.cacache_keep_laws.proofs.Stepping.{MadeOn, Whole, goes, said_over}
-use Rattle.cacache_keep_laws.proofs.Twice.{leaf_goes}
+use Rattle.cacache_history.proofs.ToldFolders.{Each, Told, AreDistinct, listing_told, listing_distinct, child_listed}
+use Rattle.cacache_keep_laws.specs.{Walks.{is_leaf}, Idle.{BreaksOff}}
+use Rattle.cacache_keep_laws.proofs.{Children.{none_below, proper_child, folder_there}, Covering.{named_on}, Stepping.{MadeOn, Whole, goes, said_over}, Twice.{leaf_goes}}
 
 -- ---- steps
 

@@ -1,38 +1,16 @@
 -- A sweep takes the temporary files out of a tree, and nothing else.
-use Rattle.std.proofs.Common.{◌≡◌, inl, inr, ℕ, Bool, true, false, cond, List, [], ◌∷◌, ◌++◌, None, Some, Ok, map, filter, length, refl, sym, ap, subst, ◌∙◌, append_assoc, arith}
-use Rattle.std.proofs.lemmas.Bool.{and_parts}
-use Rattle.std.proofs.lemmas.List.{length-map}
-use Rattle.std.proofs.lemmas.List.Elements.{All-cons, All-nil}
-use Rattle.cacache_core.specs.PathNames.{Names, names_of, home_of, IsProperName}
-use Rattle.cacache_core.specs.Paths.{join, temp_area, content_names, bucket_names_of}
-use Rattle.cacache_core.proofs.JoinedNames.{joined_texts_name}
-use Rattle.cacache_core.proofs.ProperNames.{proper_temp_folder}
-use Rattle.cacache_store.specs.declared.store.answer.Kind.{Kind}
+use Rattle.std.proofs.{Common.{◌≡◌, inl, inr, ℕ, Bool, true, false, cond, List, [], ◌∷◌, ◌++◌, None, Some, Ok, map, filter, length, refl, sym, ap, subst, ◌∙◌, append_assoc, arith}, lemmas.{Bool.{and_parts}, List.{length-map, Elements.{All-cons, All-nil}}}}
+use Rattle.cacache_core.specs.{PathNames.{Names, names_of, home_of, IsProperName}, Paths.{join, temp_area, content_names, bucket_names_of}}
+use Rattle.cacache_core.proofs.{JoinedNames.{joined_texts_name}, ProperNames.{proper_temp_folder}}
+use Rattle.cacache_store.specs.declared.store.{answer.{Kind.{Kind}, Name.{Name}, Answer.TheVariants.{Done}}, step.Step.TheVariants.{ReadDir, RemoveFile, Size}}
 use Rattle.cacache_store.specs.declared.store.answer.Kind.TheVariants as kinds
-use Rattle.cacache_store.specs.declared.store.answer.Name.{Name}
-use Rattle.cacache_store.specs.declared.store.answer.Answer.TheVariants.{Done}
-use Rattle.cacache_store.specs.declared.store.step.Step.TheVariants.{ReadDir, RemoveFile, Size}
-use Rattle.cacache_disk.specs.declared.luck.Luck.TheVariants.{Plain}
-use Rattle.cacache_disk.specs.declared.node.Node.{Node}
-use Rattle.cacache_disk.specs.declared.node.Node.TheVariants.{Folder, File, Link}
-use Rattle.cacache_disk.specs.Tree.{Tree, look, cut, kind_of, listing, same_path}
-use Rattle.cacache_disk.specs.Apply.{apply}
-use Rattle.cacache_disk.specs.Rooted.{Rooted}
-use Rattle.cacache_disk.proofs.Maps.{same_path-true}
-use Rattle.cacache_disk.proofs.PutNodes.{look-cut}
-use Rattle.cacache_disk.proofs.Roots.{same_self}
-use Rattle.cacache_sequence.specs.Sequence.{tree_on, AreAnswered}
-use Rattle.cacache_sequence.proofs.ReadsStay.{sizing_keeps}
-use Rattle.cacache_value.specs.Kinds.{PathKind, Content, Bucket, Temporary, path_kind}
-use Rattle.cacache_value.specs.Value.{blob_in, bucket_in}
-use Rattle.cacache_value.proofs.KindsApart.{kind-below}
+use Rattle.cacache_disk.specs.{declared.{luck.Luck.TheVariants.{Plain}, node.Node.{Node, TheVariants.{Folder, File, Link}}}, Tree.{Tree, look, cut, kind_of, listing, same_path}, Apply.{apply}, Rooted.{Rooted}}
+use Rattle.cacache_disk.proofs.{Maps.{same_path-true}, PutNodes.{look-cut}, Roots.{same_self}}
+use Rattle.cacache_sequence.{specs.Sequence.{tree_on, AreAnswered}, proofs.ReadsStay.{sizing_keeps}}
+use Rattle.cacache_value.{specs.{Kinds.{PathKind, Content, Bucket, Temporary, path_kind}, Value.{blob_in, bucket_in}}, proofs.KindsApart.{kind-below}}
 use Rattle.cacache_walks.specs.Reading.{names_shown}
 use Rattle.cacache_keep_laws.specs.Temporary.{IsTemporary, LeavesUntemporary, SweepsLeave, is_file, is_temp_name, is_temporary, sized_removals, temp_area_in, temp_at}
-use Rattle.cacache_keep_laws.proofs.Children.{FolderShows, Stands, child_listed, folder_shown, listed, listed_child, missing, none_below, proper_child}
-use Rattle.cacache_keep_laws.proofs.Keeping.{removed}
-use Rattle.cacache_keep_laws.proofs.Collected.{from_kept, kept_in}
-use Rattle.cacache_keep_laws.proofs.Covering.{named_on}
-use Rattle.cacache_keep_laws.proofs.Members.{Member}
+use Rattle.cacache_keep_laws.proofs.{Children.{FolderShows, Stands, child_listed, folder_shown, listed, listed_child, missing, none_below, proper_child}, Keeping.{removed}, Collected.{from_kept, kept_in}, Covering.{named_on}, Members.{Member}}
 
 -- ---- names in a folder
 

@@ -1,31 +1,18 @@
 -- A call that adds a tombstone leaves the contents.
 use Rattle.std.proofs.Common.{◌≡◌, true, [], ◌∷◌, Option, None, Some, Result, Ok, Err, refl, sym, ap, subst, take, ◌∙◌}
-use Rattle.cacache_core.specs.declared.errors.Fault.{Fault}
-use Rattle.cacache_core.specs.declared.integrity.digest.Hash.{Hash}
-use Rattle.cacache_core.specs.PathNames.{Names, names_of, home_of}
+use Rattle.cacache_core.specs.{declared.{errors.Fault.{Fault}, integrity.digest.Hash.{Hash}}, PathNames.{Names, names_of, home_of}}
 use Rattle.cacache_store.specs.declared.store.step.Step.TheVariants as steps
 use Rattle.cacache_store.specs.Plain.{PlainStep, PlainAnswer}
-use Rattle.cacache_disk.specs.declared.luck.Luck.TheVariants.{Plain}
-use Rattle.cacache_disk.specs.Tree.{Tree}
-use Rattle.cacache_disk.specs.Apply.{apply}
+use Rattle.cacache_disk.specs.{declared.luck.Luck.TheVariants.{Plain}, Tree.{Tree}, Apply.{apply}}
 use Rattle.cacache_entry.specs.Bucket.{entries_of}
 use Rattle.cacache_table.specs.declared.command.Command.TheVariants as commands
-use Rattle.cacache_table.specs.declared.reply.Reply.{Reply}
-use Rattle.cacache_table.specs.Licence.{Licence, AllMay, May, allows, looking_up}
-use Rattle.cacache_table.specs.Runs.{Moves, Runs}
+use Rattle.cacache_table.specs.{declared.reply.Reply.{Reply}, Licence.{Licence, AllMay, May, allows, looking_up}, Runs.{Moves, Runs}, State.{Site, State}, Table.{after, opening}}
+use Rattle.cacache_table.proofs.{Sound.{begins_sound, stays_sound}, Within.{calls_keep_to}}
 use Rattle.cacache_table.specs.Sound as calls
-use Rattle.cacache_table.specs.State.{Site, State}
-use Rattle.cacache_table.specs.Table.{after, opening}
-use Rattle.cacache_table.proofs.Sound.{begins_sound, stays_sound}
-use Rattle.cacache_table.proofs.Within.{calls_keep_to}
-use Rattle.cacache_value.specs.Acts.{Act, AddEntries, MakeFolders, act_at, act_of, act_with, amount_left, change, folders_left}
-use Rattle.cacache_value.specs.Placed.{Placed}
-use Rattle.cacache_value.specs.Value.{Value, wide_value}
+use Rattle.cacache_value.specs.{Acts.{Act, AddEntries, MakeFolders, act_at, act_of, act_with, amount_left, change, folders_left}, Placed.{Placed}, Value.{Value, wide_value}}
 use Rattle.cacache_value.proofs.Traces.{steps_act, steps_keep_placed}
-use Rattle.cacache_history.specs.Setup.{Setup, is_outside, may_export}
-use Rattle.cacache_history.proofs.Proper.{sound_proper}
-use Rattle.cacache_sequence.specs.Caches.{setup_at}
-use Rattle.cacache_sequence.specs.Sequence.{tree_on, AreAnswered}
+use Rattle.cacache_history.{specs.Setup.{Setup, is_outside, may_export}, proofs.Proper.{sound_proper}}
+use Rattle.cacache_sequence.specs.{Caches.{setup_at}, Sequence.{tree_on, AreAnswered}}
 use Rattle.cacache_keep_laws.specs.Mending.{TombstonesKeepContents}
 
 -- ---- acts

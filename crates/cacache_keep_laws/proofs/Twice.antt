@@ -1,24 +1,10 @@
 -- A file or link that is removed from both trees, of which one lacks idle contents.
 use Rattle.std.proofs.Common.{◌≡◌, ◌⊎◌, inl, inr, ℕ, List, [], Option, Some, None, Bool, true, false, cond, Result, Ok, Err, refl, sym, ap, subst, ◌∙◌}
-use Rattle.cacache_core.specs.declared.errors.Fault.{Fault}
-use Rattle.cacache_core.specs.PathNames.{Names, names_of}
-use Rattle.cacache_store.specs.declared.store.step.Step.TheVariants.{RemoveFile}
-use Rattle.cacache_store.specs.declared.store.answer.Answer.TheVariants.{Done, Failed}
-use Rattle.cacache_disk.specs.declared.luck.Luck.TheVariants.{Plain}
-use Rattle.cacache_disk.specs.declared.node.Node.{Node}
-use Rattle.cacache_disk.specs.declared.node.Node.TheVariants.{Folder, File, Link}
-use Rattle.cacache_disk.specs.Tree.{Tree, look, cut, same_path}
-use Rattle.cacache_disk.specs.LedTo.{place, where_removable, removable}
-use Rattle.cacache_disk.specs.Apply.{apply, unless}
-use Rattle.cacache_disk.specs.Rooted.{Rooted}
-use Rattle.cacache_disk.proofs.FoundNodes.{and_then_ok, place_ok}
-use Rattle.cacache_disk.proofs.Maps.{same_path-true}
-use Rattle.cacache_disk.proofs.PutNodes.{look-cut}
-use Rattle.cacache_disk.proofs.Standing.{way_clear}
-use Rattle.cacache_keep_laws.specs.Walks.{is_leaf}
-use Rattle.cacache_keep_laws.specs.Idle.{IsNeeded, IsIdle, LacksIdle}
-use Rattle.cacache_keep_laws.proofs.Idle.{Follows, lacks_still}
-use Rattle.cacache_keep_laws.proofs.Within.{Within}
+use Rattle.cacache_core.specs.{declared.errors.Fault.{Fault}, PathNames.{Names, names_of}}
+use Rattle.cacache_store.specs.declared.store.{step.Step.TheVariants.{RemoveFile}, answer.Answer.TheVariants.{Done, Failed}}
+use Rattle.cacache_disk.specs.{declared.{luck.Luck.TheVariants.{Plain}, node.Node.{Node, TheVariants.{Folder, File, Link}}}, Tree.{Tree, look, cut, same_path}, LedTo.{place, where_removable, removable}, Apply.{apply, unless}, Rooted.{Rooted}}
+use Rattle.cacache_disk.proofs.{FoundNodes.{and_then_ok, place_ok}, Maps.{same_path-true}, PutNodes.{look-cut}, Standing.{way_clear}}
+use Rattle.cacache_keep_laws.{specs.{Walks.{is_leaf}, Idle.{IsNeeded, IsIdle, LacksIdle}}, proofs.{Idle.{Follows, lacks_still}, Within.{Within}}}
 
 -- ---- on one tree
 

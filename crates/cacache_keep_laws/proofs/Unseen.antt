@@ -1,19 +1,11 @@
 -- Lookups, reads by key and listings don't see that a tree lacks idle contents.
-use Rattle.std.proofs.Common.{◌≡◌, inl, inr, ℕ, zero, suc, List, [], ◌∷◌, ◌++◌, Bool, true, false, cond, Some, Ok, bytes_eq, refl, sym, ap, ap₂, subst, ◌∙◌, append_assoc}
-use Rattle.std.proofs.lemmas.Slice.Eq.{bytes_eq-Decides}
-use Rattle.cacache_core.specs.PathNames.{Names, names_of, home_of}
-use Rattle.cacache_core.specs.Paths.{content_area, index_area, temp_area}
+use Rattle.std.proofs.{Common.{◌≡◌, inl, inr, ℕ, zero, suc, List, [], ◌∷◌, ◌++◌, Bool, true, false, cond, Some, Ok, bytes_eq, refl, sym, ap, ap₂, subst, ◌∙◌, append_assoc}, lemmas.Slice.Eq.{bytes_eq-Decides}}
+use Rattle.cacache_core.specs.{PathNames.{Names, names_of, home_of}, Paths.{content_area, index_area, temp_area}}
 use Rattle.cacache_store.specs.declared.store.step.Step.TheVariants.{ReadAll, ReadDir}
-use Rattle.cacache_disk.specs.declared.luck.Luck.TheVariants.{Plain}
-use Rattle.cacache_disk.specs.Tree.{Tree}
-use Rattle.cacache_disk.specs.Apply.{apply}
+use Rattle.cacache_disk.specs.{declared.luck.Luck.TheVariants.{Plain}, Tree.{Tree}, Apply.{apply}}
 use Rattle.cacache_value.specs.Kinds.{PathKind, Bucket, Content, Elsewhere, Stray, Temporary, kind_below, kind_beside, kind_in_area}
 use Rattle.cacache_keep_laws.specs.Idle.{IdleIsUnseen, LacksIdle}
-use Rattle.cacache_keep_laws.proofs.Agreeing.{said}
-use Rattle.cacache_keep_laws.proofs.Follows.{Alike, ReadsAlike, reads_as_before}
-use Rattle.cacache_keep_laws.proofs.Idle.{content_read}
-use Rattle.cacache_keep_laws.proofs.LeanReads.{Clear, InArea, SameOrLean, clear_area, dir_alike, file_alike}
-use Rattle.cacache_keep_laws.proofs.Within.{read_answer}
+use Rattle.cacache_keep_laws.proofs.{Agreeing.{said}, Follows.{Alike, ReadsAlike, reads_as_before}, Idle.{content_read}, LeanReads.{Clear, InArea, SameOrLean, clear_area, dir_alike, file_alike}, Within.{read_answer}}
 
 -- ---- contents lie in their area
 

@@ -1,39 +1,14 @@
 -- A read of a content that stands tells whether it is good.
 use Rattle.std.proofs.Common.{◌≡◌, inl, inr, ℕ, List, [], ◌∷◌, ◌++◌, Option, Some, None, Bool, true, false, cond, Result, Ok, Err, refl, sym, ap, subst, ◌∙◌}
 use Rattle.std.specs.Prelude.{◌↔◌}
-use Rattle.cacache_core.specs.declared.errors.Fault.{Fault}
-use Rattle.cacache_core.specs.declared.errors.Fault.TheVariants.{IsADirectory}
-use Rattle.cacache_core.specs.declared.errors.Error.TheVariants.{IoError, IntegrityError}
-use Rattle.cacache_core.specs.declared.errors.IntegrityFault.TheVariants.{Check}
-use Rattle.cacache_core.specs.declared.integrity.digest.Hash.{Hash}
-use Rattle.cacache_core.specs.Integrity.{IsHash, actual}
-use Rattle.cacache_core.specs.Meeting.{meets}
-use Rattle.cacache_core.specs.PathNames.{Names, names_of, home_of}
-use Rattle.cacache_core.specs.Paths.{joined, content_names}
-use Rattle.cacache_store.specs.declared.store.step.Step.TheVariants.{ReadAll}
-use Rattle.cacache_store.specs.Plain.{PlainAnswer}
-use Rattle.cacache_disk.specs.declared.luck.Luck.TheVariants.{Plain}
-use Rattle.cacache_disk.specs.declared.node.Node.{Node}
-use Rattle.cacache_disk.specs.declared.node.Node.TheVariants.{Folder, File, Link}
-use Rattle.cacache_disk.specs.Tree.{Tree, look}
-use Rattle.cacache_disk.specs.LedTo.{place, followed, leads, file_at}
-use Rattle.cacache_disk.specs.Apply.{apply}
-use Rattle.cacache_disk.specs.Rooted.{Rooted}
+use Rattle.cacache_core.specs.{declared.{errors.{Fault.{Fault, TheVariants.{IsADirectory}}, Error.TheVariants.{IoError, IntegrityError}, IntegrityFault.TheVariants.{Check}}, integrity.digest.Hash.{Hash}}, Integrity.{IsHash, actual}, Meeting.{meets}, PathNames.{Names, names_of, home_of}, Paths.{joined, content_names}}
+use Rattle.cacache_store.specs.{declared.store.step.Step.TheVariants.{ReadAll}, Plain.{PlainAnswer}}
+use Rattle.cacache_disk.specs.{declared.{luck.Luck.TheVariants.{Plain}, node.Node.{Node, TheVariants.{Folder, File, Link}}}, Tree.{Tree, look}, LedTo.{place, followed, leads, file_at}, Apply.{apply}, Rooted.{Rooted}}
 use Rattle.cacache_disk.proofs.Standing.{way_clear}
-use Rattle.cacache_table.specs.declared.reply.Reply.{Reply}
-use Rattle.cacache_table.specs.declared.reply.Reply.TheVariants.{Read, Refused}
-use Rattle.cacache_table.specs.Answers.{bytes_in}
-use Rattle.cacache_table.specs.StepPaths.{content_path}
-use Rattle.cacache_table.specs.Replies.{content_reply}
+use Rattle.cacache_table.specs.{declared.reply.Reply.{Reply, TheVariants.{Read, Refused}}, Answers.{bytes_in}, StepPaths.{content_path}, Replies.{content_reply}, State.{Site}, Runs.{Moves}}
 use Rattle.cacache_table.proofs.Replies.{reads_shown}
-use Rattle.cacache_table.specs.State.{Site}
-use Rattle.cacache_table.specs.Runs.{Moves}
-use Rattle.cacache_value.specs.Value.{Blob, blob_in, value_of_tree}
-use Rattle.cacache_value.specs.Shows.{link_end, blob_bytes}
-use Rattle.cacache_keep_laws.specs.Answers.{AnsweredBy}
-use Rattle.cacache_keep_laws.specs.Verifying.{is_met, is_good, ReadsTellGood}
-use Rattle.cacache_keep_laws.proofs.Agreeing.{said, answer_of}
-use Rattle.cacache_keep_laws.proofs.Keeping.{content_named}
+use Rattle.cacache_value.specs.{Value.{Blob, blob_in, value_of_tree}, Shows.{link_end, blob_bytes}}
+use Rattle.cacache_keep_laws.{specs.{Answers.{AnsweredBy}, Verifying.{is_met, is_good, ReadsTellGood}}, proofs.{Agreeing.{said, answer_of}, Keeping.{content_named}}}
 
 -- ---- where a content stands, a read gives its bytes
 

@@ -1,20 +1,11 @@
 -- What a part of a tree reads, the whole tree reads too.
 use Rattle.std.proofs.Common.{◌≡◌, ℕ, zero, suc, List, [], ◌∷◌, ◌++◌, Option, Some, None, Result, Ok, Err, refl, sym, ap, ◌∙◌}
-use Rattle.cacache_core.specs.declared.errors.Fault.{Fault}
-use Rattle.cacache_core.specs.declared.errors.Fault.TheVariants.{IsADirectory, TooDeep}
-use Rattle.cacache_core.specs.PathNames.{Names, names_of}
-use Rattle.cacache_store.specs.declared.store.step.Step.TheVariants.{ReadAll}
-use Rattle.cacache_store.specs.declared.store.answer.Answer.TheVariants.{Bytes}
-use Rattle.cacache_disk.specs.declared.luck.Luck.TheVariants.{Plain}
-use Rattle.cacache_disk.specs.declared.node.Node.{Node}
-use Rattle.cacache_disk.specs.declared.node.Node.TheVariants.{Folder, File, Link}
-use Rattle.cacache_disk.specs.Tree.{Tree, look}
-use Rattle.cacache_disk.specs.LedTo.{and_then, or_fault, through, way_fault, place, standing, where_there, on_link, followed, leads, bytes_there, file_at}
-use Rattle.cacache_disk.specs.Apply.{apply}
+use Rattle.cacache_core.specs.{declared.errors.Fault.{Fault, TheVariants.{IsADirectory, TooDeep}}, PathNames.{Names, names_of}}
+use Rattle.cacache_store.specs.declared.store.{step.Step.TheVariants.{ReadAll}, answer.Answer.TheVariants.{Bytes}}
+use Rattle.cacache_disk.specs.{declared.{luck.Luck.TheVariants.{Plain}, node.Node.{Node, TheVariants.{Folder, File, Link}}}, Tree.{Tree, look}, LedTo.{and_then, or_fault, through, way_fault, place, standing, where_there, on_link, followed, leads, bytes_there, file_at}, Apply.{apply}}
 use Rattle.cacache_disk.proofs.FoundNodes.{and_then_ok, or_fault_none, there_at}
 use Rattle.cacache_entry.specs.Latest.{Found}
-use Rattle.cacache_keep_laws.specs.Idle.{Finds}
-use Rattle.cacache_keep_laws.proofs.Agreeing.{said, answer_of}
+use Rattle.cacache_keep_laws.{specs.Idle.{Finds}, proofs.Agreeing.{said, answer_of}}
 
 -- what the first tree has at a path, the second one has there
 abbrev pub Within : Tree → Tree → Type 0

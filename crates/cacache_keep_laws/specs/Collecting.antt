@@ -1,34 +1,15 @@
 -- What a collection leaves.
-use Rattle.std.specs.Prelude.{◌≡◌, ◌++◌, ℕ, Bool, true, false, not, List, [], ◌∷◌, Option, None, Some, Ok, Contains, filter, length, map}
-use Rattle.std.specs.List.{list_any}
-use Rattle.cacache_core.specs.declared.integrity.digest.Hash.{Hash}
-use Rattle.cacache_core.specs.Integrity.{IsHash, IsIntegrity, address}
-use Rattle.cacache_core.specs.Same.{same_hash}
-use Rattle.cacache_core.specs.PathLaws.{IsKeyDigest}
-use Rattle.cacache_core.specs.PathNames.{Names, home_of}
-use Rattle.cacache_core.specs.Paths.{joined, content_names}
-use Rattle.cacache_store.specs.declared.store.log.LogItem.{LogItem}
-use Rattle.cacache_store.specs.declared.store.step.Step.TheVariants.{RemoveFile}
-use Rattle.cacache_store.specs.declared.store.answer.Answer.TheVariants.{Done}
-use Rattle.cacache_disk.specs.declared.luck.Luck.TheVariants.{Plain}
-use Rattle.cacache_disk.specs.declared.node.Node.TheVariants.{Link}
-use Rattle.cacache_disk.specs.Tree.{Tree, look}
-use Rattle.cacache_disk.specs.Rooted.{Rooted}
-use Rattle.cacache_disk.specs.Apply.{apply}
+use Rattle.std.specs.{Prelude.{◌≡◌, ◌++◌, ℕ, Bool, true, false, not, List, [], ◌∷◌, Option, None, Some, Ok, Contains, filter, length, map}, List.{list_any}}
+use Rattle.cacache_core.specs.{declared.integrity.digest.Hash.{Hash}, Integrity.{IsHash, IsIntegrity, address}, Same.{same_hash}, PathLaws.{IsKeyDigest}, PathNames.{Names, home_of}, Paths.{joined, content_names}}
+use Rattle.cacache_store.specs.declared.store.{log.LogItem.{LogItem}, step.Step.TheVariants.{RemoveFile}, answer.Answer.TheVariants.{Done}}
+use Rattle.cacache_disk.specs.{declared.{luck.Luck.TheVariants.{Plain}, node.Node.TheVariants.{Link}}, Tree.{Tree, look}, Rooted.{Rooted}, Apply.{apply}}
 use Rattle.cacache_memory.specs.Replay.{tree_of}
 use Rattle.cacache_entry.specs.Latest.{Found}
 use Rattle.cacache_table.specs.declared.command.Command.TheVariants as commands
-use Rattle.cacache_table.specs.declared.reply.Reply.{Reply}
-use Rattle.cacache_table.specs.declared.reply.Reply.TheVariants.{Listed}
-use Rattle.cacache_table.specs.State.{Site, Item}
-use Rattle.cacache_table.specs.Table.{opening}
-use Rattle.cacache_table.specs.Runs.{Moves, Runs}
+use Rattle.cacache_table.specs.{declared.reply.Reply.{Reply, TheVariants.{Listed}}, State.{Site, Item}, Table.{opening}, Runs.{Moves, Runs}}
 use Rattle.cacache_value.specs.Kinds.{Elsewhere, IsFor}
-use Rattle.cacache_sequence.specs.Caches.{IsCache}
-use Rattle.cacache_sequence.specs.Sequence.{IsSound}
-use Rattle.cacache_keep_laws.specs.Contents.{HoldsJust, bucket_in, content_in}
-use Rattle.cacache_keep_laws.specs.Answers.{AnsweredBy, AnswersOn}
-use Rattle.cacache_keep_laws.specs.Index.{IndexLists, is_failure}
+use Rattle.cacache_sequence.specs.{Caches.{IsCache}, Sequence.{IsSound}}
+use Rattle.cacache_keep_laws.specs.{Contents.{HoldsJust, bucket_in, content_in}, Answers.{AnsweredBy, AnswersOn}, Index.{IndexLists, is_failure}}
 
 -- each link leads out of the cache
 abbrev pub LinksLeadOut : Names → Tree → Type 0

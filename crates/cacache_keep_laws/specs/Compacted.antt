@@ -1,23 +1,11 @@
 -- What a compaction leaves of a tree, and what lookups, reads and listings answer there.
 use Rattle.std.specs.Prelude.{◌≡◌, ◌⊎◌, ◌++◌, ℕ, List, [], ◌∷◌, true, Option, None, Some}
-use Rattle.cacache_core.specs.declared.integrity.digest.Hash.{Hash}
-use Rattle.cacache_core.specs.Integrity.{IsIntegrity}
-use Rattle.cacache_core.specs.PathNames.{Names, home_of}
-use Rattle.cacache_core.specs.Paths.{temp_area}
-use Rattle.cacache_disk.specs.declared.node.Node.{Node}
-use Rattle.cacache_disk.specs.declared.node.Node.TheVariants.{Folder, File}
-use Rattle.cacache_disk.specs.Rooted.{Rooted}
-use Rattle.cacache_disk.specs.Tree.{Tree, look}
+use Rattle.cacache_core.specs.{declared.integrity.digest.Hash.{Hash}, Integrity.{IsIntegrity}, PathNames.{Names, home_of}, Paths.{temp_area}}
+use Rattle.cacache_disk.specs.{declared.node.Node.{Node, TheVariants.{Folder, File}}, Rooted.{Rooted}, Tree.{Tree, look}}
 use Rattle.cacache_entry.specs.Latest.{Found}
 use Rattle.cacache_table.specs.State.{Site}
 use Rattle.cacache_value.specs.Kinds.{Bucket, path_kind}
-use Rattle.cacache_keep_laws.specs.Collecting.{LinksLeadOut, ReadsAsBefore}
-use Rattle.cacache_keep_laws.specs.Compacting.{compact_text}
-use Rattle.cacache_keep_laws.specs.Contents.{content_in}
-use Rattle.cacache_keep_laws.specs.Housed.{Housed}
-use Rattle.cacache_keep_laws.specs.Idle.{Finds}
-use Rattle.cacache_keep_laws.specs.Mending.{found_in}
-use Rattle.cacache_keep_laws.specs.Temporary.{is_temp_name, temp_at}
+use Rattle.cacache_keep_laws.specs.{Collecting.{LinksLeadOut, ReadsAsBefore}, Compacting.{compact_text}, Contents.{content_in}, Housed.{Housed}, Idle.{Finds}, Mending.{found_in}, Temporary.{is_temp_name, temp_at}}
 
 -- ---- at one path, from what stood there to what stands there
 

@@ -1,9 +1,6 @@
 -- The bytes of a bucket with one line for each key that its lookup finds.
-use Rattle.std.specs.Prelude.{◌≡◌, ℕ, List, ◌∷◌, Option, None, fold, length, map, filter_map, option_map, unwrap_or}
-use Rattle.std.specs.List.{flat_map}
-use Rattle.cacache_entry.specs.Entry.{Entry}
-use Rattle.cacache_entry.specs.Bucket.{cut, without_cr, entry_of_piece, entries_of}
-use Rattle.cacache_entry.specs.Latest.{answer_to, latest}
+use Rattle.std.specs.{Prelude.{◌≡◌, ℕ, List, ◌∷◌, Option, None, fold, length, map, filter_map, option_map, unwrap_or}, List.{flat_map}}
+use Rattle.cacache_entry.specs.{Entry.{Entry}, Bucket.{cut, without_cr, entry_of_piece, entries_of}, Latest.{answer_to, latest}}
 use Rattle.cacache_table.specs.Walking.{once, items_in}
 
 -- ---- lines

@@ -1,20 +1,12 @@
 -- What a listing of the contents shows of a tree.
-use Rattle.std.specs.Prelude.{◌≡◌, ◌↔◌, ◌<◌, ◌++◌, ℕ, List, [], ◌∷◌, Option, Some, IsTrue, All, Contains, length}
-use Rattle.std.specs.List.Sorted.{IsStrictlySortedBy}
-use Rattle.cacache_core.specs.declared.integrity.digest.Hash.{Hash}
-use Rattle.cacache_core.specs.Integrity.{IsHash}
-use Rattle.cacache_core.specs.PathNames.{Names, IsProperName, home_of}
-use Rattle.cacache_core.specs.Paths.{join, joined, content_names, content_area}
-use Rattle.cacache_disk.specs.Rooted.{Rooted}
-use Rattle.cacache_disk.specs.Tree.{Tree, look}
+use Rattle.std.specs.{Prelude.{◌≡◌, ◌↔◌, ◌<◌, ◌++◌, ℕ, List, [], ◌∷◌, Option, Some, IsTrue, All, Contains, length}, List.Sorted.{IsStrictlySortedBy}}
+use Rattle.cacache_core.specs.{declared.integrity.digest.Hash.{Hash}, Integrity.{IsHash}, PathNames.{Names, IsProperName, home_of}, Paths.{join, joined, content_names, content_area}}
+use Rattle.cacache_disk.specs.{Rooted.{Rooted}, Tree.{Tree, look}}
 use Rattle.cacache_table.specs.Runs.{Moves}
 use Rattle.cacache_entry.specs.Entry.{Entry}
 use Rattle.cacache_value.specs.Value.{Blob, value_of_tree}
-use Rattle.cacache_walks.specs.Addresses.{IsStrange}
-use Rattle.cacache_walks.specs.Listing.{IsByHash, Sorts, content_area_in, hash_cmp}
-use Rattle.cacache_walks.specs.Reading.{ReadsFolders, top_folder, files_shown}
-use Rattle.cacache_keep_laws.specs.Answers.{AnsweredBy}
-use Rattle.cacache_keep_laws.specs.Walks.{ReadAt, is_leaf}
+use Rattle.cacache_walks.specs.{Addresses.{IsStrange}, Listing.{IsByHash, Sorts, content_area_in, hash_cmp}, Reading.{ReadsFolders, top_folder, files_shown}}
+use Rattle.cacache_keep_laws.specs.{Answers.{AnsweredBy}, Walks.{ReadAt, is_leaf}}
 
 -- the integrities of one hash whose content's path is among the files
 abbrev pub AreThoseOf : List ℕ → List (List ℕ) → List (List Hash) → Type 0

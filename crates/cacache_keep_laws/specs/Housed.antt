@@ -2,29 +2,15 @@
 use Rattle.std.specs.Prelude.{◌≡◌, ◌⊎◌, ℕ, List, Option, Some, All, Contains}
 use Rattle.cacache_core.specs.PathNames.{Names, home_of}
 use Rattle.cacache_store.specs.declared.store.log.LogItem.{LogItem}
-use Rattle.cacache_disk.specs.declared.node.Node.{Node}
-use Rattle.cacache_disk.specs.Tree.{Tree, look}
-use Rattle.cacache_disk.specs.Rooted.{Rooted}
+use Rattle.cacache_disk.specs.{declared.node.Node.{Node}, Tree.{Tree, look}, Rooted.{Rooted}}
 use Rattle.cacache_memory.specs.Replay.{tree_of}
-use Rattle.cacache_entry.specs.FittingEntries.{IsEntry}
-use Rattle.cacache_entry.specs.Latest.{Found}
+use Rattle.cacache_entry.specs.{FittingEntries.{IsEntry}, Latest.{Found}}
 use Rattle.cacache_table.specs.declared.command.Command.TheVariants as commands
-use Rattle.cacache_table.specs.declared.command.Delete.{Delete}
-use Rattle.cacache_table.specs.declared.reply.Reply.TheVariants.{Done}
-use Rattle.cacache_table.specs.Inserting.{deletion}
-use Rattle.cacache_table.specs.Runs.{Moves, Runs}
-use Rattle.cacache_table.specs.Sound.{FormedIfWritten}
-use Rattle.cacache_table.specs.State.{Site}
-use Rattle.cacache_table.specs.Table.{opening}
-use Rattle.cacache_value.specs.Acts.{list_of}
-use Rattle.cacache_value.specs.Kinds.{Elsewhere, Way, path_kind}
-use Rattle.cacache_value.specs.Placed.{Placed}
-use Rattle.cacache_value.specs.Value.{wide_value}
+use Rattle.cacache_table.specs.{declared.{command.Delete.{Delete}, reply.Reply.TheVariants.{Done}}, Inserting.{deletion}, Runs.{Moves, Runs}, Sound.{FormedIfWritten}, State.{Site}, Table.{opening}}
+use Rattle.cacache_value.specs.{Acts.{list_of}, Kinds.{Elsewhere, Way, path_kind}, Placed.{Placed}, Value.{wide_value}}
 use Rattle.cacache_history.specs.Buckets.{BucketsHaveKeys, HoldOwn}
-use Rattle.cacache_sequence.specs.Caches.{IsCache}
-use Rattle.cacache_sequence.specs.Sequence.{tree_on, AreAnswered}
-use Rattle.cacache_keep_laws.specs.Index.{IndexLists}
-use Rattle.cacache_keep_laws.specs.Mending.{found_in}
+use Rattle.cacache_sequence.specs.{Caches.{IsCache}, Sequence.{tree_on, AreAnswered}}
+use Rattle.cacache_keep_laws.specs.{Index.{IndexLists}, Mending.{found_in}}
 
 -- each thing lies in its place; each bucket is that of some key, and its entries are well-formed ones
 -- of its own keys

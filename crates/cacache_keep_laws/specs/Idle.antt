@@ -1,29 +1,15 @@
 -- Two trees, one of which lacks contents that no lookup leads to; and removals, made on both.
 use Rattle.std.specs.Prelude.{◌≡◌, ◌⊎◌, ℕ, List, [], Bool, true, None, Some, Ok, IsTrue}
-use Rattle.cacache_core.specs.declared.errors.Error.TheVariants.{IoError, OutOfMemory}
-use Rattle.cacache_core.specs.declared.errors.Fault.TheVariants.{TooDeep}
-use Rattle.cacache_core.specs.Integrity.{IsIntegrity}
-use Rattle.cacache_core.specs.PathNames.{Names, names_of, home_of}
-use Rattle.cacache_store.specs.declared.store.log.LogItem.{LogItem}
-use Rattle.cacache_store.specs.declared.store.step.Step.TheVariants.{ReadAll}
-use Rattle.cacache_store.specs.declared.store.answer.Answer.TheVariants.{Bytes}
-use Rattle.cacache_disk.specs.declared.luck.Luck.TheVariants.{Plain}
-use Rattle.cacache_disk.specs.Tree.{Tree, look}
-use Rattle.cacache_disk.specs.Apply.{apply}
+use Rattle.cacache_core.specs.{declared.errors.{Error.TheVariants.{IoError, OutOfMemory}, Fault.TheVariants.{TooDeep}}, Integrity.{IsIntegrity}, PathNames.{Names, names_of, home_of}}
+use Rattle.cacache_store.specs.declared.store.{log.LogItem.{LogItem}, step.Step.TheVariants.{ReadAll}, answer.Answer.TheVariants.{Bytes}}
+use Rattle.cacache_disk.specs.{declared.luck.Luck.TheVariants.{Plain}, Tree.{Tree, look}, Apply.{apply}}
 use Rattle.cacache_memory.specs.Replay.{tree_of}
-use Rattle.cacache_entry.specs.Bucket.{entries_of}
-use Rattle.cacache_entry.specs.Latest.{Found, latest}
-use Rattle.cacache_table.specs.declared.command.Command.{Command}
+use Rattle.cacache_entry.specs.{Bucket.{entries_of}, Latest.{Found, latest}}
+use Rattle.cacache_table.specs.{declared.{command.Command.{Command}, reply.Reply.{Reply, TheVariants.{Refused}}}, Licence.{licence}, State.{Site}, StepPaths.{bucket_path, content_path}}
 use Rattle.cacache_table.specs.declared.command.Command.TheVariants as commands
-use Rattle.cacache_table.specs.declared.reply.Reply.{Reply}
-use Rattle.cacache_table.specs.declared.reply.Reply.TheVariants.{Refused}
-use Rattle.cacache_table.specs.Licence.{licence}
-use Rattle.cacache_table.specs.State.{Site}
-use Rattle.cacache_table.specs.StepPaths.{bucket_path, content_path}
 use Rattle.cacache_value.specs.Kinds.{Content, path_kind}
 use Rattle.cacache_sequence.specs.Caches.{Called}
-use Rattle.cacache_keep_laws.specs.Walks.{is_leaf}
-use Rattle.cacache_keep_laws.specs.Collecting.{LinksLeadOut, ReadsAsBefore}
+use Rattle.cacache_keep_laws.specs.{Walks.{is_leaf}, Collecting.{LinksLeadOut, ReadsAsBefore}}
 
 -- ---- idle contents
 

@@ -1,22 +1,11 @@
 -- What a listing of the index shows of a tree that nobody else changes.
 use Rattle.std.specs.Prelude.{◌≡◌, ℕ, List, [], ◌∷◌, Bool, true, false, Some, Ok, Err, Contains}
-use Rattle.cacache_core.specs.declared.errors.Error.TheVariants.{IoError}
-use Rattle.cacache_core.specs.declared.errors.Fault.TheVariants.{NotFound}
-use Rattle.cacache_core.specs.PathNames.{Names, home_of}
-use Rattle.cacache_disk.specs.declared.luck.Luck.TheVariants.{Plain}
-use Rattle.cacache_disk.specs.Tree.{Tree}
-use Rattle.cacache_disk.specs.Rooted.{Rooted}
-use Rattle.cacache_disk.specs.Apply.{apply}
-use Rattle.cacache_store.specs.declared.store.step.Step.TheVariants.{ReadAll}
-use Rattle.cacache_store.specs.declared.store.answer.Answer.TheVariants.{Bytes}
-use Rattle.cacache_entry.specs.Bucket.{entries_of}
-use Rattle.cacache_table.specs.StepPaths.{bucket_path}
-use Rattle.cacache_entry.specs.Latest.{Found, latest}
+use Rattle.cacache_core.specs.{declared.errors.{Error.TheVariants.{IoError}, Fault.TheVariants.{NotFound}}, PathNames.{Names, home_of}}
+use Rattle.cacache_disk.specs.{declared.luck.Luck.TheVariants.{Plain}, Tree.{Tree}, Rooted.{Rooted}, Apply.{apply}}
+use Rattle.cacache_store.specs.declared.store.{step.Step.TheVariants.{ReadAll}, answer.Answer.TheVariants.{Bytes}}
+use Rattle.cacache_entry.specs.{Bucket.{entries_of}, Latest.{Found, latest}}
+use Rattle.cacache_table.specs.{StepPaths.{bucket_path}, declared.reply.Reply.TheVariants.{Listed}, State.{Site, Item}, Table.{opening}, Runs.{Moves, Runs}}
 use Rattle.cacache_table.specs.declared.command.Command.TheVariants as commands
-use Rattle.cacache_table.specs.declared.reply.Reply.TheVariants.{Listed}
-use Rattle.cacache_table.specs.State.{Site, Item}
-use Rattle.cacache_table.specs.Table.{opening}
-use Rattle.cacache_table.specs.Runs.{Moves, Runs}
 use Rattle.cacache_keep_laws.specs.Answers.{AnsweredBy, AnswersOn}
 
 -- an error other than that a file or a folder is missing

@@ -1,27 +1,13 @@
 -- What a repair leaves of contents, where all that lies in the cache's folder has its place.
 use Rattle.std.specs.Prelude.{◌≡◌, ℕ, List, [], ◌∷◌, true, false, not, Option, None, Some, filter}
-use Rattle.cacache_core.specs.declared.integrity.digest.Hash.{Hash}
-use Rattle.cacache_core.specs.Integrity.{IsHash}
-use Rattle.cacache_core.specs.Meeting.{meets}
-use Rattle.cacache_core.specs.PathNames.{Names, home_of}
+use Rattle.cacache_core.specs.{declared.integrity.digest.Hash.{Hash}, Integrity.{IsHash}, Meeting.{meets}, PathNames.{Names, home_of}}
 use Rattle.cacache_disk.specs.Tree.{Tree}
 use Rattle.cacache_entry.specs.Latest.{Found, latest}
 use Rattle.cacache_table.specs.declared.command.Command.TheVariants as commands
-use Rattle.cacache_table.specs.declared.command.Delete.{Delete}
-use Rattle.cacache_table.specs.declared.reply.Reply.{Reply}
-use Rattle.cacache_table.specs.declared.reply.Reply.TheVariants.{Done}
-use Rattle.cacache_table.specs.Inserting.{deletion}
-use Rattle.cacache_table.specs.Runs.{Moves, Runs}
-use Rattle.cacache_table.specs.Sound.{FormedIfWritten}
-use Rattle.cacache_table.specs.State.{Site}
-use Rattle.cacache_table.specs.Table.{opening}
-use Rattle.cacache_value.specs.Placed.{Placed}
-use Rattle.cacache_value.specs.Value.{InFile}
-use Rattle.cacache_sequence.specs.ReadAnswers.{entries_on}
-use Rattle.cacache_sequence.specs.Sequence.{tree_on, AreAnswered}
-use Rattle.cacache_keep_laws.specs.Contents.{HoldsJust, content_in}
-use Rattle.cacache_keep_laws.specs.Collecting.{Removes}
-use Rattle.cacache_keep_laws.specs.Verifying.{is_good}
+use Rattle.cacache_table.specs.{declared.{command.Delete.{Delete}, reply.Reply.{Reply, TheVariants.{Done}}}, Inserting.{deletion}, Runs.{Moves, Runs}, Sound.{FormedIfWritten}, State.{Site}, Table.{opening}}
+use Rattle.cacache_value.specs.{Placed.{Placed}, Value.{InFile}}
+use Rattle.cacache_sequence.specs.{ReadAnswers.{entries_on}, Sequence.{tree_on, AreAnswered}}
+use Rattle.cacache_keep_laws.specs.{Contents.{HoldsJust, content_in}, Collecting.{Removes}, Verifying.{is_good}}
 
 -- each thing has its place in the new tree, and it holds the contents of the old one
 pub record KeepsContents (home : Names) (t new : Tree) : Type 0 where

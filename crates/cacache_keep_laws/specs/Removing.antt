@@ -1,14 +1,10 @@
 -- What the run of a removal is, and what removals make of a tree.
 use Rattle.std.specs.Prelude.{◌≡◌, [], ◌∷◌}
-use Rattle.cacache_core.specs.declared.integrity.digest.Hash.{Hash}
-use Rattle.cacache_core.specs.Paths.{joined, content_names}
+use Rattle.cacache_core.specs.{declared.integrity.digest.Hash.{Hash}, Paths.{joined, content_names}}
 use Rattle.cacache_store.specs.declared.store.step.Step.TheVariants.{RemoveFile}
 use Rattle.cacache_store.specs.declared.store.answer.Answer.TheVariants as answers
 use Rattle.cacache_table.specs.declared.command.Command.TheVariants as commands
-use Rattle.cacache_table.specs.declared.reply.Reply.TheVariants.{Done}
-use Rattle.cacache_table.specs.State.{Site}
-use Rattle.cacache_table.specs.Table.{opening}
-use Rattle.cacache_table.specs.Runs.{Moves, Runs}
+use Rattle.cacache_table.specs.{declared.reply.Reply.TheVariants.{Done}, State.{Site}, Table.{opening}, Runs.{Moves, Runs}}
 
 -- a removal that answers Done made one step, which removed the content's file
 abbrev pub RemovalsRun : Type 0

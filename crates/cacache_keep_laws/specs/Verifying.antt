@@ -1,31 +1,13 @@
 -- What a verification counts and finds on a tree.
 use Rattle.std.specs.Prelude.{◌≡◌, ◌⊎◌, ◌↔◌, ℕ, List, [], ◌∷◌, Bool, true, false, not, Some, Result, Ok, Err, filter, length, map}
-use Rattle.cacache_core.specs.declared.errors.Error.TheVariants.{OutOfMemory}
-use Rattle.cacache_core.specs.declared.errors.Fault.{Fault}
-use Rattle.cacache_core.specs.declared.integrity.digest.Hash.{Hash}
-use Rattle.cacache_core.specs.Integrity.{IsHash}
-use Rattle.cacache_core.specs.Meeting.{meets}
-use Rattle.cacache_core.specs.PathNames.{Names, home_of}
-use Rattle.cacache_store.specs.declared.store.step.Step.TheVariants.{Exists}
-use Rattle.cacache_store.specs.declared.store.answer.Answer.TheVariants.{There}
-use Rattle.cacache_store.specs.Plain.{PlainAnswer}
-use Rattle.cacache_disk.specs.declared.luck.Luck.TheVariants.{Plain}
-use Rattle.cacache_disk.specs.Tree.{Tree}
-use Rattle.cacache_disk.specs.Rooted.{Rooted}
-use Rattle.cacache_disk.specs.Apply.{apply}
+use Rattle.cacache_core.specs.{declared.{errors.{Error.TheVariants.{OutOfMemory}, Fault.{Fault}}, integrity.digest.Hash.{Hash}}, Integrity.{IsHash}, Meeting.{meets}, PathNames.{Names, home_of}}
+use Rattle.cacache_store.specs.{declared.store.{step.Step.TheVariants.{Exists}, answer.Answer.TheVariants.{There}}, Plain.{PlainAnswer}}
+use Rattle.cacache_disk.specs.{declared.luck.Luck.TheVariants.{Plain}, Tree.{Tree}, Rooted.{Rooted}, Apply.{apply}}
 use Rattle.cacache_entry.specs.Latest.{Found}
 use Rattle.cacache_table.specs.declared.command.Command.TheVariants as commands
-use Rattle.cacache_table.specs.declared.reply.Reply.{Reply}
-use Rattle.cacache_table.specs.declared.reply.Reply.TheVariants.{Read, Refused}
-use Rattle.cacache_table.specs.State.{Site}
-use Rattle.cacache_table.specs.StepPaths.{content_path}
-use Rattle.cacache_table.specs.Table.{opening}
-use Rattle.cacache_table.specs.Runs.{Moves, Runs}
-use Rattle.cacache_value.specs.Value.{Blob}
-use Rattle.cacache_value.specs.Shows.{blob_bytes}
-use Rattle.cacache_keep_laws.specs.Contents.{HoldsJust, content_in}
-use Rattle.cacache_keep_laws.specs.Answers.{AnsweredBy}
-use Rattle.cacache_keep_laws.specs.Index.{IndexLists}
+use Rattle.cacache_table.specs.{declared.reply.Reply.{Reply, TheVariants.{Read, Refused}}, State.{Site}, StepPaths.{content_path}, Table.{opening}, Runs.{Moves, Runs}}
+use Rattle.cacache_value.specs.{Value.{Blob}, Shows.{blob_bytes}}
+use Rattle.cacache_keep_laws.specs.{Contents.{HoldsJust, content_in}, Answers.{AnsweredBy}, Index.{IndexLists}}
 
 -- ---- good contents
 

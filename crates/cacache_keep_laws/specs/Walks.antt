@@ -1,13 +1,7 @@
 -- What a walk shows of the trees that it read.
 use Rattle.std.specs.Prelude.{◌≡◌, ◌<◌, ◌++◌, ◌∷◌, ◌↔◌, ℕ, List, [], Bool, true, false, Option, None, Some, Ok, IsTrue, All, Contains, length}
-use Rattle.cacache_core.specs.PathNames.{Names, IsProperName, names_of}
-use Rattle.cacache_core.specs.Paths.{joined}
-use Rattle.cacache_disk.specs.declared.luck.Luck.{Luck}
-use Rattle.cacache_disk.specs.declared.node.Node.{Node}
-use Rattle.cacache_disk.specs.declared.node.Node.TheVariants.{Folder, File, Link}
-use Rattle.cacache_disk.specs.Tree.{Tree, look}
-use Rattle.cacache_disk.specs.Rooted.{Rooted}
-use Rattle.cacache_disk.specs.Apply.{apply}
+use Rattle.cacache_core.specs.{PathNames.{Names, IsProperName, names_of}, Paths.{joined}}
+use Rattle.cacache_disk.specs.{declared.{luck.Luck.{Luck}, node.Node.{Node, TheVariants.{Folder, File, Link}}}, Tree.{Tree, look}, Rooted.{Rooted}, Apply.{apply}}
 use Rattle.cacache_table.specs.Runs.{Moves}
 use Rattle.cacache_walks.specs.Reading.{ReadsFolders, top_folder, files_shown}
 

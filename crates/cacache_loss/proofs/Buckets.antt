@@ -1,41 +1,15 @@
 -- What a durable commit appended to a bucket survives.
-use Rattle.std.proofs.Common.{◌≡◌, ◌≤◌, ◌+◌, ◌-◌, inl, inr, ℕ, suc, Bool, true, false, cond, List, [], ◌∷◌, ◌++◌, Option, None, Some, Ok, length, take, refl, sym, ap, subst, ◌∙◌, arith, append_assoc, append-nil, length-append}
-use Rattle.std.proofs.lemmas.List.{take_all}
+use Rattle.std.proofs.{Common.{◌≡◌, ◌≤◌, ◌+◌, ◌-◌, inl, inr, ℕ, suc, Bool, true, false, cond, List, [], ◌∷◌, ◌++◌, Option, None, Some, Ok, length, take, refl, sym, ap, subst, ◌∙◌, arith, append_assoc, append-nil, length-append}, lemmas.List.{take_all}}
 use Rattle.std.specs.Prelude.{bytes_eq}
 use Rattle.cacache_core.specs.PathNames.{Names, names_of}
-use Rattle.cacache_store.specs.declared.store.step.Step.TheVariants.{CreateTemp, Write, Persist, Append, SyncTemp, SyncFile, SyncDir}
-use Rattle.cacache_store.specs.declared.store.answer.Answer.TheVariants.{Took, Failed}
-use Rattle.cacache_store.specs.Plain.{PlainStep, PlainAnswer}
-use Rattle.cacache_disk.specs.declared.luck.Luck.{Luck}
-use Rattle.cacache_disk.specs.declared.node.Node.{Node}
-use Rattle.cacache_disk.specs.declared.node.Node.TheVariants.{File}
-use Rattle.cacache_disk.specs.Tree.{Tree, look, same_path, bytes_of}
-use Rattle.cacache_disk.specs.Rooted.{Rooted}
-use Rattle.cacache_disk.specs.LedTo.{leads, place, followed}
-use Rattle.cacache_disk.specs.Apply.{apply, make_some}
-use Rattle.cacache_disk.proofs.Maps.{same_path-true}
-use Rattle.cacache_disk.proofs.PutNodes.{look-put}
-use Rattle.cacache_disk.proofs.Roots.{same_self}
-use Rattle.cacache_disk.proofs.Standing.{way_clear}
-use Rattle.cacache_entry.specs.Entry.{Entry, line_of, closed_line}
-use Rattle.cacache_entry.specs.FittingEntries.{IsEntry, IsWritable}
-use Rattle.cacache_entry.specs.Bucket.{entries_of}
-use Rattle.cacache_entry.proofs.Pieces.{entries_split}
-use Rattle.cacache_entry.proofs.Lines.{lines_append}
-use Rattle.cacache_value.specs.Kinds.{Content, Bucket, Temporary, path_kind, is_used, Way}
-use Rattle.cacache_value.specs.Placed.{Placed, Proper}
-use Rattle.cacache_value.specs.Traces.{Move}
-use Rattle.cacache_loss.specs.Fixing.{Fixed, Fixing, Place, changed, file_synced, fixed_after, folder_synced, is_at, is_child_of, is_sync, is_synced, refixed, synced, temp_synced}
-use Rattle.cacache_loss.specs.Loss.{Loss, node_left}
-use Rattle.cacache_loss.specs.Moments.{EachMove, Moment, after, lost_then, next}
-use Rattle.cacache_loss.specs.LostTrees.{OfCache}
-use Rattle.cacache_loss.specs.CalmMoves.{CalmStep, IsCalm, is_calm}
-use Rattle.cacache_loss.specs.Syncs.{IsAppend, IsFileSync, SyncsFile, SyncsFolders}
-use Rattle.cacache_loss.specs.LossLaws.{BeginsWith, BucketsSurvive, EntriesSurvive}
-use Rattle.cacache_loss.proofs.StepCases.{AppendCase, unsent, took, torn, append_case, grown, make_apart}
-use Rattle.cacache_loss.proofs.UnchangedPaths.{at_false, Misses}
-use Rattle.cacache_loss.proofs.KeptPaths.{cond_none, keeps, files_keep, names_kept, sync_tree, cache_next, each_calm}
-use Rattle.cacache_loss.proofs.SyncedFolders.{IsLeft, survives}
+use Rattle.cacache_store.specs.{declared.store.{step.Step.TheVariants.{CreateTemp, Write, Persist, Append, SyncTemp, SyncFile, SyncDir}, answer.Answer.TheVariants.{Took, Failed}}, Plain.{PlainStep, PlainAnswer}}
+use Rattle.cacache_disk.specs.{declared.{luck.Luck.{Luck}, node.Node.{Node, TheVariants.{File}}}, Tree.{Tree, look, same_path, bytes_of}, Rooted.{Rooted}, LedTo.{leads, place, followed}, Apply.{apply, make_some}}
+use Rattle.cacache_disk.proofs.{Maps.{same_path-true}, PutNodes.{look-put}, Roots.{same_self}, Standing.{way_clear}}
+use Rattle.cacache_entry.specs.{Entry.{Entry, line_of, closed_line}, FittingEntries.{IsEntry, IsWritable}, Bucket.{entries_of}}
+use Rattle.cacache_entry.proofs.{Pieces.{entries_split}, Lines.{lines_append}}
+use Rattle.cacache_value.specs.{Kinds.{Content, Bucket, Temporary, path_kind, is_used, Way}, Placed.{Placed, Proper}, Traces.{Move}}
+use Rattle.cacache_loss.specs.{Fixing.{Fixed, Fixing, Place, changed, file_synced, fixed_after, folder_synced, is_at, is_child_of, is_sync, is_synced, refixed, synced, temp_synced}, Loss.{Loss, node_left}, Moments.{EachMove, Moment, after, lost_then, next}, LostTrees.{OfCache}, CalmMoves.{CalmStep, IsCalm, is_calm}, Syncs.{IsAppend, IsFileSync, SyncsFile, SyncsFolders}, LossLaws.{BeginsWith, BucketsSurvive, EntriesSurvive}}
+use Rattle.cacache_loss.proofs.{StepCases.{AppendCase, unsent, took, torn, append_case, grown, make_apart}, UnchangedPaths.{at_false, Misses}, KeptPaths.{cond_none, keeps, files_keep, names_kept, sync_tree, cache_next, each_calm}, SyncedFolders.{IsLeft, survives}}
 
 -- a path at which a file stands leads to it
 pub leads_file : (t : Tree) (p bytes : List ℕ) (c : Names) → Rooted t → names_of p ≡ Ok c → look t c ≡ Some (File bytes) → leads t p ≡ Ok c

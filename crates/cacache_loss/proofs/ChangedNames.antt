@@ -1,23 +1,13 @@
 -- Finitely many names change, so a loss leaves a tree.
-use Rattle.std.proofs.Common.{◌≡◌, Bool, true, false, cond, List, [], ◌∷◌, ◌++◌, Option, None, Some, refl, sym, ap, ◌∙◌}
-use Rattle.std.specs.Prelude.{not, ◌&&◌, ◌||◌, is_some, unwrap_or}
+use Rattle.std.proofs.{Common.{◌≡◌, Bool, true, false, cond, List, [], ◌∷◌, ◌++◌, Option, None, Some, refl, sym, ap, ◌∙◌}, lemmas.List.Folds.{list_any-append}}
+use Rattle.std.specs.{Prelude.{not, ◌&&◌, ◌||◌, is_some, unwrap_or}, List.{list_any}}
 use Rattle.std.specs.FinMap as map
-use Rattle.std.specs.List.{list_any}
-use Rattle.std.proofs.lemmas.List.Folds.{list_any-append}
 use Rattle.cacache_core.specs.PathNames.{Names, names_of}
-use Rattle.cacache_store.specs.declared.store.step.Step.TheVariants.{SyncTemp, SyncFile, SyncDir}
-use Rattle.cacache_store.specs.Plain.{PlainStep, PlainAnswer}
-use Rattle.cacache_disk.specs.declared.node.Node.{Node}
-use Rattle.cacache_disk.specs.Tree.{Tree, look, names_cmp, put, same_path}
-use Rattle.cacache_disk.proofs.Maps.{total, only, same_path-true}
-use Rattle.cacache_disk.proofs.PutNodes.{look-put}
+use Rattle.cacache_store.specs.{declared.store.step.Step.TheVariants.{SyncTemp, SyncFile, SyncDir}, Plain.{PlainStep, PlainAnswer}}
+use Rattle.cacache_disk.{specs.{declared.node.Node.{Node}, Tree.{Tree, look, names_cmp, put, same_path}}, proofs.{Maps.{total, only, same_path-true}, PutNodes.{look-put}}}
 use Rattle.cacache_value.proofs.Shows.{trees_show}
-use Rattle.cacache_loss.specs.ChangedNames.{FewChanged, HistoriesLeaveCaches, LeavesOneTree, LossesLeaveOneTree, MovesChangeFew, OpeningsChangedNone, opening}
-use Rattle.cacache_loss.specs.Fixing.{Fixed, Place, changed, file_synced, fixed_after, folder_synced, is_child_of, is_synced, moved_to, moves_file, place_now, temp_synced}
-use Rattle.cacache_loss.specs.Loss.{Loss, Lost, lead_folders, left_at, stays}
-use Rattle.cacache_loss.specs.Moments.{Moment, after, lost_then, next}
-use Rattle.cacache_loss.proofs.LossCases.{gone}
-use Rattle.cacache_loss.proofs.LostTrees.{losses_leave_trees, moves_keep_moments, openings_stand_well}
+use Rattle.cacache_loss.specs.{ChangedNames.{FewChanged, HistoriesLeaveCaches, LeavesOneTree, LossesLeaveOneTree, MovesChangeFew, OpeningsChangedNone, opening}, Fixing.{Fixed, Place, changed, file_synced, fixed_after, folder_synced, is_child_of, is_synced, moved_to, moves_file, place_now, temp_synced}, Loss.{Loss, Lost, lead_folders, left_at, stays}, Moments.{Moment, after, lost_then, next}}
+use Rattle.cacache_loss.proofs.{LossCases.{gone}, LostTrees.{losses_leave_trees, moves_keep_moments, openings_stand_well}}
 
 -- ---- paths that aren't among some
 

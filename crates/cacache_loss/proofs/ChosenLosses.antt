@@ -1,21 +1,11 @@
 -- The maps of a loss, one text after another.
-use Rattle.std.proofs.Common.{◌≡◌, ◌<◌, ◌≤◌, ◌+◌, ℕ, suc, Bool, true, false, cond, List, [], ◌∷◌, Option, None, Some, Ok, length, get_or, take, drop, refl, sym, ap, ◌∙◌, arith, drop-cons, add-one}
-use Rattle.std.specs.Prelude.{Result, Err, ◌||◌, is_some, unwrap_or}
-use Rattle.std.specs.List.{list_any}
-use Rattle.std.specs.Result.{result_ok}
+use Rattle.std.proofs.{Common.{◌≡◌, ◌<◌, ◌≤◌, ◌+◌, ℕ, suc, Bool, true, false, cond, List, [], ◌∷◌, Option, None, Some, Ok, length, get_or, take, drop, refl, sym, ap, ◌∙◌, arith, drop-cons, add-one}, lemmas.List.{take_more, drop_all, Folds.{list_any-append}}}
+use Rattle.std.specs.{Prelude.{Result, Err, ◌||◌, is_some, unwrap_or}, List.{list_any}, Result.{result_ok}, BTreeMap.{BTreeMap, get}, BTreeSet.{BTreeSet, contains}}
 use Rattle.std.specs.BTreeMap as btree
-use Rattle.std.specs.BTreeMap.{BTreeMap, get}
 use Rattle.std.specs.BTreeSet as btree_set
-use Rattle.std.specs.BTreeSet.{BTreeSet, contains}
-use Rattle.std.proofs.lemmas.List.{take_more, drop_all}
-use Rattle.std.proofs.lemmas.List.Folds.{list_any-append}
-use Rattle.cacache_core.specs.declared.errors.Fault.{Fault}
-use Rattle.cacache_core.specs.PathNames.{Names, names_of}
-use Rattle.cacache_disk.specs.Tree.{names_cmp, same_path}
-use Rattle.cacache_disk.proofs.Maps.{same_path-true}
-use Rattle.cacache_loss.specs.Fixing.{is_at}
-use Rattle.cacache_loss.specs.Chosen.{tail_at}
-use Rattle.cacache_loss.proofs.PathMaps.{symmetric}
+use Rattle.cacache_core.specs.{declared.errors.Fault.{Fault}, PathNames.{Names, names_of}}
+use Rattle.cacache_disk.{specs.Tree.{names_cmp, same_path}, proofs.Maps.{same_path-true}}
+use Rattle.cacache_loss.{specs.{Fixing.{is_at}, Chosen.{tail_at}}, proofs.PathMaps.{symmetric}}
 
 or_false : (b : Bool) → (b || false) ≡ b
 or_false true = refl

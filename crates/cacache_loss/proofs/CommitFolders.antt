@@ -1,15 +1,10 @@
 -- Which folders a durable commit has to sync.
-use Rattle.std.proofs.Common.{◌≡◌, inl, inr, ◌==◌, ℕ, Bool, true, false, List, [], ◌∷◌, ◌++◌, Option, Some, Ok, length, refl, sym, ap, subst, ◌∙◌, arith, append_assoc, append-nil}
+use Rattle.std.proofs.{Common.{◌≡◌, inl, inr, ◌==◌, ℕ, Bool, true, false, List, [], ◌∷◌, ◌++◌, Option, Some, Ok, length, refl, sym, ap, subst, ◌∙◌, arith, append_assoc, append-nil}, lemmas.List.Elements.{All-nil, All-cons, All-head, All-tail}}
 use Rattle.std.specs.Prelude.{All}
-use Rattle.std.proofs.lemmas.List.Elements.{All-nil, All-cons, All-head, All-tail}
-use Rattle.cacache_core.specs.PathNames.{Names, names_of, home_of, names_below, is_bad, IsProperName}
-use Rattle.cacache_core.specs.Paths.{join, folders_to, content_names, bucket_names_of}
-use Rattle.cacache_core.proofs.JoinedNames.{joined_texts_name}
-use Rattle.cacache_core.proofs.ProperNames.{names_are_proper}
+use Rattle.cacache_core.specs.{PathNames.{Names, names_of, home_of, names_below, is_bad, IsProperName}, Paths.{join, folders_to, content_names, bucket_names_of}}
+use Rattle.cacache_core.proofs.{JoinedNames.{joined_texts_name}, ProperNames.{names_are_proper}}
 use Rattle.cacache_value.specs.Traces.{Move}
-use Rattle.cacache_loss.specs.Loss.{begins}
-use Rattle.cacache_loss.specs.Syncs.{IsFolderSync, SyncsFolder, SyncsFolders}
-use Rattle.cacache_loss.specs.CommitFolders.{FiveForContents, FourForBuckets, OwnFoldersAreEnough, SyncsText, SyncsTexts}
+use Rattle.cacache_loss.specs.{Loss.{begins}, Syncs.{IsFolderSync, SyncsFolder, SyncsFolders}, CommitFolders.{FiveForContents, FourForBuckets, OwnFoldersAreEnough, SyncsText, SyncsTexts}}
 use Rattle.cacache_loss.proofs.UnchangedPaths.{bytes_same}
 
 begins_front : (p q : Names) → begins p (p ++ q) ≡ true

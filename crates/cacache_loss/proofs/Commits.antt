@@ -1,38 +1,14 @@
 -- A durable commit survives from its own steps on.
-use Rattle.std.proofs.Common.{◌≡◌, inl, inr, ℕ, Bool, true, false, cond, List, [], ◌∷◌, ◌++◌, Option, None, Some, Ok, fold, refl, sym, ap, subst, ◌∙◌, append_assoc}
+use Rattle.std.proofs.{Common.{◌≡◌, inl, inr, ℕ, Bool, true, false, cond, List, [], ◌∷◌, ◌++◌, Option, None, Some, Ok, fold, refl, sym, ap, subst, ◌∙◌, append_assoc}, lemmas.List.Sums.{fold-append}}
 use Rattle.std.specs.Prelude.{unwrap_or}
-use Rattle.std.proofs.lemmas.List.Sums.{fold-append}
 use Rattle.cacache_core.specs.PathNames.{Names, names_of}
-use Rattle.cacache_store.specs.declared.store.plain.PlainTemp.{PlainTemp}
-use Rattle.cacache_store.specs.declared.store.step.Step.TheVariants.{Persist, SyncTemp, SyncFile, SyncDir}
-use Rattle.cacache_store.specs.declared.store.answer.Answer.TheVariants.{Done, Failed}
-use Rattle.cacache_store.specs.Plain.{PlainStep, PlainAnswer}
-use Rattle.cacache_disk.specs.declared.luck.Luck.{Luck}
-use Rattle.cacache_disk.specs.declared.node.Node.TheVariants.{File}
-use Rattle.cacache_disk.specs.Tree.{Tree, look, put, cut, bytes_of}
-use Rattle.cacache_disk.specs.Rooted.{Rooted}
-use Rattle.cacache_disk.specs.LedTo.{leads}
-use Rattle.cacache_disk.specs.Apply.{apply}
-use Rattle.cacache_disk.proofs.PutNodes.{look-put}
-use Rattle.cacache_disk.proofs.Roots.{same_self}
-use Rattle.cacache_entry.specs.Latest.{after_entry, latest}
-use Rattle.cacache_entry.proofs.Lookups.{last_answer_decides}
-use Rattle.cacache_value.specs.Kinds.{Content, path_kind}
-use Rattle.cacache_value.specs.Value.{bucket_in}
-use Rattle.cacache_value.specs.Placed.{Proper}
-use Rattle.cacache_value.specs.Traces.{Move}
-use Rattle.cacache_loss.specs.Fixing.{Fixed, Fixing, between, changed, file_synced, fixed_after, folder_synced, is_at, is_synced, place_now, temp_synced}
-use Rattle.cacache_loss.specs.CalmMoves.{AreCalm, PutWell}
-use Rattle.cacache_loss.specs.Loss.{Loss}
-use Rattle.cacache_loss.specs.LostTrees.{OfCache}
-use Rattle.cacache_loss.specs.Moments.{EachMove, Moment, after, lost_then, next}
-use Rattle.cacache_loss.specs.Syncs.{IsFileSync, IsPut, IsTempSync, Leaves, LeavesStep, SyncsFolders}
-use Rattle.cacache_loss.specs.LossLaws.{CommitsSurvive, FoundSurvive, GoodNode, HasDigest, IsSafe, LookupsSurvive}
-use Rattle.cacache_loss.proofs.StepCases.{PersistCase, refused, moved, persist_case}
-use Rattle.cacache_loss.proofs.UnchangedPaths.{file_kept}
-use Rattle.cacache_loss.proofs.KeptPaths.{cond_whole, sync_tree, cache_next}
-use Rattle.cacache_loss.proofs.Contents.{GoodOrLink, SafeOrLink, contents_survive, content_survives, good_file, only_good}
-use Rattle.cacache_loss.proofs.Buckets.{leads_file}
+use Rattle.cacache_store.specs.{declared.store.{plain.PlainTemp.{PlainTemp}, step.Step.TheVariants.{Persist, SyncTemp, SyncFile, SyncDir}, answer.Answer.TheVariants.{Done, Failed}}, Plain.{PlainStep, PlainAnswer}}
+use Rattle.cacache_disk.specs.{declared.{luck.Luck.{Luck}, node.Node.TheVariants.{File}}, Tree.{Tree, look, put, cut, bytes_of}, Rooted.{Rooted}, LedTo.{leads}, Apply.{apply}}
+use Rattle.cacache_disk.proofs.{PutNodes.{look-put}, Roots.{same_self}}
+use Rattle.cacache_entry.{specs.Latest.{after_entry, latest}, proofs.Lookups.{last_answer_decides}}
+use Rattle.cacache_value.specs.{Kinds.{Content, path_kind}, Value.{bucket_in}, Placed.{Proper}, Traces.{Move}}
+use Rattle.cacache_loss.specs.{Fixing.{Fixed, Fixing, between, changed, file_synced, fixed_after, folder_synced, is_at, is_synced, place_now, temp_synced}, CalmMoves.{AreCalm, PutWell}, Loss.{Loss}, LostTrees.{OfCache}, Moments.{EachMove, Moment, after, lost_then, next}, Syncs.{IsFileSync, IsPut, IsTempSync, Leaves, LeavesStep, SyncsFolders}, LossLaws.{CommitsSurvive, FoundSurvive, GoodNode, HasDigest, IsSafe, LookupsSurvive}}
+use Rattle.cacache_loss.proofs.{StepCases.{PersistCase, refused, moved, persist_case}, UnchangedPaths.{file_kept}, KeptPaths.{cond_whole, sync_tree, cache_next}, Contents.{GoodOrLink, SafeOrLink, contents_survive, content_survives, good_file, only_good}, Buckets.{leads_file}}
 
 -- ---- a temporary file that is synced stays so while nobody touches it
 

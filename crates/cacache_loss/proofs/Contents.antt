@@ -1,35 +1,13 @@
 -- Contents that a durable commit put survive, and links that stand at the path of one.
 use Rattle.std.proofs.Common.{◌≡◌, ◌⊎◌, inl, inr, ℕ, Bool, true, false, cond, List, [], ◌∷◌, Option, None, Some, Ok, Err, refl, sym, ap, subst, ◌∙◌}
 use Rattle.std.specs.Prelude.{Result, IfOk, unwrap_or}
-use Rattle.cacache_core.specs.declared.errors.Fault.{Fault}
-use Rattle.cacache_core.specs.PathNames.{Names, names_of}
-use Rattle.cacache_store.specs.declared.store.plain.PlainTemp.{PlainTemp}
-use Rattle.cacache_store.specs.declared.store.step.Step.TheVariants.{CreateTemp, Write, Persist, Append, SyncTemp, SyncFile, SyncDir}
-use Rattle.cacache_store.specs.declared.store.answer.Answer.TheVariants.{Done, Failed}
-use Rattle.cacache_store.specs.Plain.{PlainStep, PlainAnswer}
-use Rattle.cacache_disk.specs.declared.luck.Luck.{Luck}
-use Rattle.cacache_disk.specs.declared.node.Node.{Node}
-use Rattle.cacache_disk.specs.declared.node.Node.TheVariants.{Folder, File, Link}
-use Rattle.cacache_disk.specs.Tree.{Tree, look, put, cut, same_path, bytes_of}
-use Rattle.cacache_disk.specs.LedTo.{leads}
-use Rattle.cacache_disk.specs.Apply.{apply, make_some}
-use Rattle.cacache_disk.proofs.Maps.{same_path-true}
-use Rattle.cacache_disk.proofs.PutNodes.{look-put}
-use Rattle.cacache_disk.proofs.Roots.{same_self}
-use Rattle.cacache_value.specs.Kinds.{Content, Bucket, Temporary, path_kind, is_used, IsFor, Way}
-use Rattle.cacache_value.specs.Placed.{Placed, Proper}
-use Rattle.cacache_value.specs.Traces.{Move}
-use Rattle.cacache_loss.specs.Fixing.{Fixed, Fixing, Place, changed, file_synced, fixed_after, folder_synced, is_at, is_child_of, is_sync, is_synced, moved_to, moves_file, place_now, temp_synced}
-use Rattle.cacache_loss.specs.Loss.{Loss, node_left}
-use Rattle.cacache_loss.specs.Moments.{Moment, after, lost_then, next}
-use Rattle.cacache_loss.specs.LostTrees.{OfCache}
-use Rattle.cacache_loss.specs.CalmMoves.{AreCalm, CalmStep, IsCalm, OfBytes, PutWell, PutsMove, PutsStep, is_calm}
-use Rattle.cacache_loss.specs.Syncs.{SyncsFolders}
-use Rattle.cacache_loss.specs.LossLaws.{ContentsSurvive, GoodNode, HasDigest, IsSafe}
-use Rattle.cacache_loss.proofs.StepCases.{PersistCase, refused, moved, persist_case, make_apart}
-use Rattle.cacache_loss.proofs.UnchangedPaths.{at_false, Misses, file_kept, name_kept}
-use Rattle.cacache_loss.proofs.KeptPaths.{cond_whole, keeps, files_keep, names_kept, sync_tree, cache_next, each_calm}
-use Rattle.cacache_loss.proofs.SyncedFolders.{IsLeft, survives}
+use Rattle.cacache_core.specs.{declared.errors.Fault.{Fault}, PathNames.{Names, names_of}}
+use Rattle.cacache_store.specs.{declared.store.{plain.PlainTemp.{PlainTemp}, step.Step.TheVariants.{CreateTemp, Write, Persist, Append, SyncTemp, SyncFile, SyncDir}, answer.Answer.TheVariants.{Done, Failed}}, Plain.{PlainStep, PlainAnswer}}
+use Rattle.cacache_disk.specs.{declared.{luck.Luck.{Luck}, node.Node.{Node, TheVariants.{Folder, File, Link}}}, Tree.{Tree, look, put, cut, same_path, bytes_of}, LedTo.{leads}, Apply.{apply, make_some}}
+use Rattle.cacache_disk.proofs.{Maps.{same_path-true}, PutNodes.{look-put}, Roots.{same_self}}
+use Rattle.cacache_value.specs.{Kinds.{Content, Bucket, Temporary, path_kind, is_used, IsFor, Way}, Placed.{Placed, Proper}, Traces.{Move}}
+use Rattle.cacache_loss.specs.{Fixing.{Fixed, Fixing, Place, changed, file_synced, fixed_after, folder_synced, is_at, is_child_of, is_sync, is_synced, moved_to, moves_file, place_now, temp_synced}, Loss.{Loss, node_left}, Moments.{Moment, after, lost_then, next}, LostTrees.{OfCache}, CalmMoves.{AreCalm, CalmStep, IsCalm, OfBytes, PutWell, PutsMove, PutsStep, is_calm}, Syncs.{SyncsFolders}, LossLaws.{ContentsSurvive, GoodNode, HasDigest, IsSafe}}
+use Rattle.cacache_loss.proofs.{StepCases.{PersistCase, refused, moved, persist_case, make_apart}, UnchangedPaths.{at_false, Misses, file_kept, name_kept}, KeptPaths.{cond_whole, keeps, files_keep, names_kept, sync_tree, cache_next, each_calm}, SyncedFolders.{IsLeft, survives}}
 
 -- ---- a good file, or a link
 

@@ -1,35 +1,14 @@
 -- What a calm step keeps at a path that it doesn't reach.
-use Rattle.std.proofs.Common.{◌≡◌, ◌+◌, ℕ, Bool, true, false, cond, List, [], ◌∷◌, ◌++◌, Option, None, Some, length, take, refl, ◌∙◌, arith, length-append}
-use Rattle.std.proofs.Math.Seq.{take-append_seam}
-use Rattle.std.proofs.lemmas.Bool.{eq-eqb}
-use Rattle.std.specs.Ordering.{nat_cmp}
-use Rattle.std.specs.Bool.{nat_eq}
-use Rattle.std.specs.Cmp.Lexicographic.{pointwise, slice_cmp, lists_ties, texts_ties}
-use Rattle.cacache_core.specs.declared.errors.Fault.TheVariants.{IsADirectory}
-use Rattle.cacache_core.specs.PathNames.{Names, names_of}
-use Rattle.cacache_store.specs.declared.store.plain.PlainTemp.{PlainTemp}
-use Rattle.cacache_store.specs.declared.store.step.Step.TheVariants.{MakeDirs, CreateTemp, Write, Persist, Append, ReadAll, Open, Read, Size, Exists, ReadDir, SyncTemp, SyncFile, SyncDir}
-use Rattle.cacache_store.specs.Plain.{PlainStep, PlainAnswer}
-use Rattle.cacache_disk.specs.declared.luck.Luck.{Luck}
-use Rattle.cacache_disk.specs.declared.node.Node.{Node}
-use Rattle.cacache_disk.specs.declared.node.Node.TheVariants.{Folder, File}
-use Rattle.cacache_disk.specs.Tree.{Tree, look, cut, bytes_of, is_child}
-use Rattle.cacache_disk.specs.LedTo.{file_at, folder}
-use Rattle.cacache_disk.specs.Apply.{apply, make_some}
-use Rattle.cacache_disk.proofs.Roots.{same_self}
-use Rattle.cacache_disk.proofs.KeptFolders.{apply_tree, unless_tree, steps_keep_rooted}
-use Rattle.cacache_value.specs.Kinds.{Content, Bucket, Temporary, Way, path_kind}
-use Rattle.cacache_value.specs.Placed.{Placed, Proper}
-use Rattle.cacache_value.specs.Traces.{Move}
-use Rattle.cacache_value.proofs.FoundPaths.{of_names}
-use Rattle.cacache_value.proofs.Traces.{steps_keep_placed}
-use Rattle.cacache_loss.specs.Fixing.{Fixed, Fixing, file_after, file_synced, fixed_after, folder_synced, is_child_of, is_sync, is_synced, name_after, synced, temp_synced}
-use Rattle.cacache_loss.specs.Moments.{EachMove, Moment, next}
-use Rattle.cacache_loss.specs.LostTrees.{OfCache}
-use Rattle.cacache_loss.specs.CalmMoves.{AreCalm, CalmStep, HandlesTemp, IsCalm, is_calm}
-use Rattle.cacache_loss.specs.Syncs.{IsFolderSync}
-use Rattle.cacache_loss.proofs.StepCases.{PersistCase, refused, moved, persist_case, AppendCase, unsent, took, torn, append_case, put_misses, cut_misses, make_keeps, dirs_keep, temp_keeps, step_keeps, asked_keeps}
-use Rattle.cacache_loss.proofs.UnchangedPaths.{at_false, Misses, rewrites_false, writes_false, moved_false, at_names, file_kept, name_kept}
+use Rattle.std.proofs.{Common.{◌≡◌, ◌+◌, ℕ, Bool, true, false, cond, List, [], ◌∷◌, ◌++◌, Option, None, Some, length, take, refl, ◌∙◌, arith, length-append}, Math.Seq.{take-append_seam}, lemmas.Bool.{eq-eqb}}
+use Rattle.std.specs.{Ordering.{nat_cmp}, Bool.{nat_eq}, Cmp.Lexicographic.{pointwise, slice_cmp, lists_ties, texts_ties}}
+use Rattle.cacache_core.specs.{declared.errors.Fault.TheVariants.{IsADirectory}, PathNames.{Names, names_of}}
+use Rattle.cacache_store.specs.{declared.store.{plain.PlainTemp.{PlainTemp}, step.Step.TheVariants.{MakeDirs, CreateTemp, Write, Persist, Append, ReadAll, Open, Read, Size, Exists, ReadDir, SyncTemp, SyncFile, SyncDir}}, Plain.{PlainStep, PlainAnswer}}
+use Rattle.cacache_disk.specs.{declared.{luck.Luck.{Luck}, node.Node.{Node, TheVariants.{Folder, File}}}, Tree.{Tree, look, cut, bytes_of, is_child}, LedTo.{file_at, folder}, Apply.{apply, make_some}}
+use Rattle.cacache_disk.proofs.{Roots.{same_self}, KeptFolders.{apply_tree, unless_tree, steps_keep_rooted}}
+use Rattle.cacache_value.specs.{Kinds.{Content, Bucket, Temporary, Way, path_kind}, Placed.{Placed, Proper}, Traces.{Move}}
+use Rattle.cacache_value.proofs.{FoundPaths.{of_names}, Traces.{steps_keep_placed}}
+use Rattle.cacache_loss.specs.{Fixing.{Fixed, Fixing, file_after, file_synced, fixed_after, folder_synced, is_child_of, is_sync, is_synced, name_after, synced, temp_synced}, Moments.{EachMove, Moment, next}, LostTrees.{OfCache}, CalmMoves.{AreCalm, CalmStep, HandlesTemp, IsCalm, is_calm}, Syncs.{IsFolderSync}}
+use Rattle.cacache_loss.proofs.{StepCases.{PersistCase, refused, moved, persist_case, AppendCase, unsent, took, torn, append_case, put_misses, cut_misses, make_keeps, dirs_keep, temp_keeps, step_keeps, asked_keeps}, UnchangedPaths.{at_false, Misses, rewrites_false, writes_false, moved_false, at_names, file_kept, name_kept}}
 
 module _ (home : Option Names) (t : Tree) (placed : Placed home t) (q : Names) (here : Option Node) (there : look t q ≡ here)
     (made : (names : Names) (count : ℕ) → path_kind home names ≡ Way → look (make_some t [] names count) q ≡ here) where

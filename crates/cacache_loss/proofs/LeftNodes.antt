@@ -1,27 +1,12 @@
 -- What the code leaves is what a loss leaves.
 use Rattle.std.proofs.Common.{◌≡◌, ◌<◌, ◌==◌, ◌+◌, ℕ, Bool, true, false, cond, List, [], ◌∷◌, ◌++◌, Option, None, Some, length, get_or, take, drop, refl, sym, ap, ◌∙◌, arith, eqb-true}
-use Rattle.std.specs.Prelude.{◌&&◌, filter, is_some, IfOk, Result, Ok, Err}
-use Rattle.std.specs.Bool.{nat_eq}
-use Rattle.std.specs.BTreeMap.{get, keys}
+use Rattle.std.specs.{Prelude.{◌&&◌, filter, is_some, IfOk, Result, Ok, Err}, Bool.{nat_eq}, BTreeMap.{get, keys}, Cmp.Lexicographic.{pointwise}, Result.{result_ok}}
 use Rattle.std.specs.FinMap as map
-use Rattle.std.specs.Cmp.Lexicographic.{pointwise}
-use Rattle.std.specs.Result.{result_ok}
-use Rattle.cacache_core.specs.declared.errors.Fault.TheVariants.{InvalidInput}
-use Rattle.cacache_core.specs.PathNames.{Names, home_of, is_bad, is_name, names_of, pieces}
-use Rattle.cacache_disk.specs.declared.node.Node.{Node}
-use Rattle.cacache_disk.specs.Rooted.{is_folder}
-use Rattle.cacache_disk.specs.Tree.{Tree, look, names_cmp, put, same_path}
-use Rattle.cacache_disk.proofs.Maps.{same_path-true}
-use Rattle.cacache_disk.proofs.PathFolders.{drop_here, front_next}
-use Rattle.cacache_disk.proofs.PutNodes.{look-put}
-use Rattle.cacache_loss.specs.declared.left.Losing.{Losing}
-use Rattle.cacache_loss.specs.Fixing.{Place}
-use Rattle.cacache_loss.specs.Loss.{Lost, begins, lead_folders}
-use Rattle.cacache_loss.specs.Losing.{loss_of, lost_of}
-use Rattle.cacache_loss.specs.Reached.{is_among}
-use Rattle.cacache_loss.specs.Running.{moment_of}
-use Rattle.cacache_loss.proofs.ChangedNames.{none_left_at, not_among, not_there}
-use Rattle.cacache_loss.proofs.PathMaps.{keys_among, settled_more}
+use Rattle.cacache_core.specs.{declared.errors.Fault.TheVariants.{InvalidInput}, PathNames.{Names, home_of, is_bad, is_name, names_of, pieces}}
+use Rattle.cacache_disk.specs.{declared.node.Node.{Node}, Rooted.{is_folder}, Tree.{Tree, look, names_cmp, put, same_path}}
+use Rattle.cacache_disk.proofs.{Maps.{same_path-true}, PathFolders.{drop_here, front_next}, PutNodes.{look-put}}
+use Rattle.cacache_loss.specs.{declared.left.Losing.{Losing}, Fixing.{Place}, Loss.{Lost, begins, lead_folders}, Losing.{loss_of, lost_of}, Reached.{is_among}, Running.{moment_of}}
+use Rattle.cacache_loss.proofs.{ChangedNames.{none_left_at, not_among, not_there}, PathMaps.{keys_among, settled_more}}
 
 -- ---- the cache's folder
 

@@ -1,11 +1,8 @@
 -- The single cases.
 use Rattle.std.proofs.Common.{◌≡◌, ℕ, Bool, true, false, cond, List, [], None, refl, ap, ◌∙◌}
-use Rattle.cacache_store.specs.declared.store.step.Step.TheVariants.{Persist, SyncTemp, SyncFile, SyncDir}
-use Rattle.cacache_store.specs.declared.store.answer.Answer.TheVariants.{Done}
+use Rattle.cacache_store.specs.declared.store.{step.Step.TheVariants.{Persist, SyncTemp, SyncFile, SyncDir}, answer.Answer.TheVariants.{Done}}
 use Rattle.cacache_disk.proofs.Roots.{same_self}
-use Rattle.cacache_loss.specs.Fixing.{Place, fixed_after, place_now}
-use Rattle.cacache_loss.specs.Loss.{lead_folders, left_at, node_left}
-use Rattle.cacache_loss.specs.LossCases.{FailedSyncsFixNothing, LossRows, UndonePutsGo}
+use Rattle.cacache_loss.specs.{Fixing.{Place, fixed_after, place_now}, Loss.{lead_folders, left_at, node_left}, LossCases.{FailedSyncsFixNothing, LossRows, UndonePutsGo}}
 
 pub loss_rows : LossRows
 loss_rows = record { durable = refl; not_durable = refl; two_lines = refl }

@@ -2,21 +2,12 @@
 use Rattle.std.proofs.Common.{◌≡◌, inl, inr, Bool, true, false, cond, List, [], ◌∷◌, ◌++◌, Option, None, Some, refl, sym, ap, subst, ◌∙◌, append_assoc, append-nil}
 use Rattle.std.specs.Prelude.{ℕ, IfSome, not, ◌&&◌, unwrap_or}
 use Rattle.cacache_core.specs.PathNames.{Names, names_of}
-use Rattle.cacache_store.specs.declared.store.step.Step.TheVariants.{SyncTemp, SyncFile, SyncDir}
-use Rattle.cacache_store.specs.Plain.{PlainStep, PlainAnswer}
-use Rattle.cacache_disk.specs.declared.node.Node.{Node}
-use Rattle.cacache_disk.specs.declared.node.Node.TheVariants.{Folder, File, Link}
-use Rattle.cacache_disk.specs.Rooted.{is_folder, StandsIn, AreProper, Rooted}
-use Rattle.cacache_disk.specs.Tree.{Tree, look, bytes_of}
-use Rattle.cacache_value.specs.Kinds.{PathKind, Content, Bucket, Temporary, Way, Stray, Elsewhere, path_kind}
-use Rattle.cacache_value.specs.Placed.{MayStand}
+use Rattle.cacache_store.specs.{declared.store.step.Step.TheVariants.{SyncTemp, SyncFile, SyncDir}, Plain.{PlainStep, PlainAnswer}}
+use Rattle.cacache_disk.specs.{declared.node.Node.{Node, TheVariants.{Folder, File, Link}}, Rooted.{is_folder, StandsIn, AreProper, Rooted}, Tree.{Tree, look, bytes_of}}
 use Rattle.cacache_disk.proofs.Standing.{upper_folder}
-use Rattle.cacache_loss.specs.Fixing.{Fixed, Fixing, Place, all_fixed, file_synced, fixed_after, folder_synced, is_child_of, is_synced, place_now, renamed, synced, temp_synced}
-use Rattle.cacache_loss.specs.Loss.{Loss, bytes_left, lead_folders, left_at, lost_at, node_left, stays}
-use Rattle.cacache_loss.specs.Moments.{Moment, lost_then, next}
-use Rattle.cacache_loss.specs.LostTrees.{FixedTreesStay, LossesLeaveTrees, MomentsFollowTrees, MovesKeepMoments, OfCache, OpeningsStandWell, StoodWell, Suits}
-use Rattle.cacache_loss.proofs.KeptPaths.{cache_next}
-use Rattle.cacache_loss.proofs.SyncedFolders.{left_firm, top_stays}
+use Rattle.cacache_value.specs.{Kinds.{PathKind, Content, Bucket, Temporary, Way, Stray, Elsewhere, path_kind}, Placed.{MayStand}}
+use Rattle.cacache_loss.specs.{Fixing.{Fixed, Fixing, Place, all_fixed, file_synced, fixed_after, folder_synced, is_child_of, is_synced, place_now, renamed, synced, temp_synced}, Loss.{Loss, bytes_left, lead_folders, left_at, lost_at, node_left, stays}, Moments.{Moment, lost_then, next}, LostTrees.{FixedTreesStay, LossesLeaveTrees, MomentsFollowTrees, MovesKeepMoments, OfCache, OpeningsStandWell, StoodWell, Suits}}
+use Rattle.cacache_loss.proofs.{KeptPaths.{cache_next}, SyncedFolders.{left_firm, top_stays}}
 
 pub moments_follow_trees : MomentsFollowTrees
 moments_follow_trees w [] = refl

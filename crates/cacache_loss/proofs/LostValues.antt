@@ -2,10 +2,7 @@
 use Rattle.std.proofs.Common.{◌++◌, Some, ap, ◌∙◌}
 use Rattle.cacache_core.specs.Paths.{content_names, bucket_names_of}
 use Rattle.cacache_value.specs.Value.{blob_in, bucket_in}
-use Rattle.cacache_loss.specs.Moments.{lost_then}
-use Rattle.cacache_loss.specs.LossLaws.{HasDigest}
-use Rattle.cacache_loss.specs.LostValues.{ContentsAreHeld, EntriesAreHeld}
-use Rattle.cacache_loss.proofs.Contents.{good_file}
+use Rattle.cacache_loss.{specs.{Moments.{lost_then}, LossLaws.{HasDigest}, LostValues.{ContentsAreHeld, EntriesAreHeld}}, proofs.Contents.{good_file}}
 
 pub contents_are_held : ContentsAreHeld
 contents_are_held home a w loss new lost good =

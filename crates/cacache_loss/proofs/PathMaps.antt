@@ -1,23 +1,11 @@
 -- Maps by path, one path after another.
-use Rattle.std.proofs.Common.{◌≡◌, ◌<◌, ◌≤◌, ◌+◌, ℕ, Bool, true, false, cond, List, [], ◌∷◌, ◌++◌, Option, None, Some, Ok, length, get_or, take, drop, refl, sym, ap, ◌∙◌, arith}
-use Rattle.std.specs.Prelude.{◌||◌, map, filter, not, Result, Err, OnOk, is_some, unwrap_or}
-use Rattle.std.specs.Cmp.{eq_by_cmp_equiv}
+use Rattle.std.proofs.{Common.{◌≡◌, ◌<◌, ◌≤◌, ◌+◌, ℕ, Bool, true, false, cond, List, [], ◌∷◌, ◌++◌, Option, None, Some, Ok, length, get_or, take, drop, refl, sym, ap, ◌∙◌, arith}, lemmas.{List.{take_more, drop_all, take_all, get_or-map, Folds.{list_any-append}}, Map.Entries.{lookup-filter-keys}}}
+use Rattle.std.specs.{Prelude.{◌||◌, map, filter, not, Result, Err, OnOk, is_some, unwrap_or}, Cmp.{eq_by_cmp_equiv}, BTreeMap.{BTreeMap, get}, Map.{lookup, keys_of}, Result.{result_ok}}
 use Rattle.std.specs.BTreeMap as btree
-use Rattle.std.specs.BTreeMap.{BTreeMap, get}
-use Rattle.std.specs.Map.{lookup, keys_of}
-use Rattle.std.proofs.lemmas.List.{take_more, drop_all, take_all, get_or-map}
-use Rattle.std.specs.Result.{result_ok}
 use Rattle.cacache_core.specs.declared.errors.Fault.{Fault}
-use Rattle.std.proofs.lemmas.List.Folds.{list_any-append}
-use Rattle.std.proofs.lemmas.Map.Entries.{lookup-filter-keys}
-use Rattle.cacache_disk.proofs.Maps.{total, same_path-true}
-use Rattle.cacache_disk.proofs.PathFolders.{drop_here, front_next}
-use Rattle.cacache_disk.specs.LedTo.{leads}
-use Rattle.cacache_disk.specs.Tree.{Tree, Names, names_cmp, same_path, look, bytes_of, is_child}
-use Rattle.cacache_loss.specs.Fixing.{Fixing, Place, renamed, synced, is_at, is_child_of}
-use Rattle.cacache_loss.specs.Reached.{fronts, is_among}
-use Rattle.cacache_loss.specs.Running.{files_in, fixing_by, renames, FilesSettleAt, NamesSettleAt}
-use Rattle.cacache_loss.specs.declared.effect.Effect.{Effect}
+use Rattle.cacache_disk.proofs.{Maps.{total, same_path-true}, PathFolders.{drop_here, front_next}}
+use Rattle.cacache_disk.specs.{LedTo.{leads}, Tree.{Tree, Names, names_cmp, same_path, look, bytes_of, is_child}}
+use Rattle.cacache_loss.specs.{Fixing.{Fixing, Place, renamed, synced, is_at, is_child_of}, Reached.{fronts, is_among}, Running.{files_in, fixing_by, renames, FilesSettleAt, NamesSettleAt}, declared.effect.Effect.{Effect}}
 
 -- ---- one path
 

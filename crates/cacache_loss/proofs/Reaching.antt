@@ -1,24 +1,11 @@
 -- Where steps change something: nothing changes at a path that a step doesn't reach.
 use Rattle.std.proofs.Common.{◌≡◌, ◌-◌, ◌==◌, ℕ, Bool, true, false, cond, List, [], ◌∷◌, ◌++◌, Option, None, Some, Ok, Err, refl, sym, ap, ◌∙◌}
-use Rattle.std.specs.Prelude.{Result, ◌||◌}
-use Rattle.std.specs.Result.{result_ok}
-use Rattle.cacache_core.specs.declared.errors.Fault.{Fault}
-use Rattle.cacache_core.specs.declared.errors.Fault.TheVariants.{IsADirectory, InvalidInput}
-use Rattle.cacache_core.specs.PathNames.{Names, names_of}
-use Rattle.cacache_store.specs.declared.store.plain.PlainTemp.{PlainTemp}
-use Rattle.cacache_store.specs.declared.store.step.Step.TheVariants.{MakeDirs, CreateTemp, Write, Persist, Append, ReadAll, Open, Size, Symlink, Copy, Reflink, HardLink, ReadDir, RemoveFile, RemoveDir, SyncFile, SyncDir}
-use Rattle.cacache_store.specs.declared.store.answer.Answer.TheVariants.{Done}
-use Rattle.cacache_store.specs.Plain.{PlainStep, PlainAnswer}
-use Rattle.cacache_disk.specs.declared.luck.Luck.{Luck}
-use Rattle.cacache_disk.specs.declared.node.Node.{Node}
-use Rattle.cacache_disk.specs.declared.node.Node.TheVariants.{Folder}
-use Rattle.cacache_disk.specs.Apply.{apply, plain, if_missing, make_some, making}
-use Rattle.cacache_disk.specs.LedTo.{dirs, free, known, kept, replaceable, writable, removable, emptied, file_at, linked, folder}
-use Rattle.cacache_disk.specs.Tree.{Tree, look, put, same_path}
-use Rattle.cacache_disk.proofs.FoundNodes.{free_ok, kept_ok, replaceable_ok, removable_ok, emptied_ok}
-use Rattle.cacache_disk.proofs.KeptFolders.{apply_tree, unless_tree}
-use Rattle.cacache_loss.specs.Fixing.{between, is_at, moved_to, moves_file, rewrites_at, writes_at}
-use Rattle.cacache_loss.specs.Reached.{fronts, fronts_of, is_among, listed, reached}
+use Rattle.std.specs.{Prelude.{Result, ◌||◌}, Result.{result_ok}}
+use Rattle.cacache_core.specs.{declared.errors.Fault.{Fault, TheVariants.{IsADirectory, InvalidInput}}, PathNames.{Names, names_of}}
+use Rattle.cacache_store.specs.{declared.store.{plain.PlainTemp.{PlainTemp}, step.Step.TheVariants.{MakeDirs, CreateTemp, Write, Persist, Append, ReadAll, Open, Size, Symlink, Copy, Reflink, HardLink, ReadDir, RemoveFile, RemoveDir, SyncFile, SyncDir}, answer.Answer.TheVariants.{Done}}, Plain.{PlainStep, PlainAnswer}}
+use Rattle.cacache_disk.specs.{declared.{luck.Luck.{Luck}, node.Node.{Node, TheVariants.{Folder}}}, Apply.{apply, plain, if_missing, make_some, making}, LedTo.{dirs, free, known, kept, replaceable, writable, removable, emptied, file_at, linked, folder}, Tree.{Tree, look, put, same_path}}
+use Rattle.cacache_disk.proofs.{FoundNodes.{free_ok, kept_ok, replaceable_ok, removable_ok, emptied_ok}, KeptFolders.{apply_tree, unless_tree}}
+use Rattle.cacache_loss.specs.{Fixing.{between, is_at, moved_to, moves_file, rewrites_at, writes_at}, Reached.{fronts, fronts_of, is_among, listed, reached}}
 use Rattle.cacache_loss.proofs.StepCases.{cut_misses, dirs_ok, put_misses}
 
 neither : (b c : Bool) → (b || c) ≡ false → (b ≡ false) × (c ≡ false)

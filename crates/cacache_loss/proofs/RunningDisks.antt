@@ -1,20 +1,11 @@
 -- What the code keeps after a step is what is fixed after it.
 use Rattle.std.proofs.Common.{◌≡◌, Bool, true, false, cond, List, Option, None, Some, refl, sym, ap, ap₂, ◌∙◌}
-use Rattle.std.specs.Prelude.{is_some, map, unwrap_or, OnOk, Result, Ok, Err}
-use Rattle.std.specs.BTreeMap.{BTreeMap, get}
+use Rattle.std.specs.{Prelude.{is_some, map, unwrap_or, OnOk, Result, Ok, Err}, BTreeMap.{BTreeMap, get}}
 use Rattle.cacache_core.specs.PathNames.{Names}
-use Rattle.cacache_store.specs.declared.store.step.Step.TheVariants.{Write, Persist, Copy, SyncTemp, SyncFile, SyncDir}
-use Rattle.cacache_store.specs.Plain.{PlainStep, PlainAnswer}
-use Rattle.cacache_disk.specs.declared.luck.Luck.{Luck}
-use Rattle.cacache_disk.specs.Apply.{apply}
-use Rattle.cacache_disk.specs.Tree.{Tree, look, names_cmp, same_path}
-use Rattle.cacache_loss.specs.declared.effect.Effect.{Effect}
-use Rattle.cacache_loss.specs.Fixing.{Fixed, Fixing, Place, changed, file_after, fixed_after, is_sync, is_synced, moved_fixing, moved_to, moves_file, name_after, place_now, renamed, rewrites_at, writes_at}
-use Rattle.cacache_loss.specs.Moments.{Moment, next}
-use Rattle.cacache_loss.specs.Reached.{is_among, reached}
-use Rattle.cacache_loss.specs.Running.{FilesSettle, NamesSettle, arrival, arrived, effect_of, files_in, fixed_in, fixing_by, move_of, renames}
-use Rattle.cacache_loss.proofs.Reaching.{apply_misses, moves_reached, rewrites_reached, writes_reached}
-use Rattle.cacache_loss.proofs.UnchangedPaths.{file_kept, name_kept}
+use Rattle.cacache_store.specs.{declared.store.step.Step.TheVariants.{Write, Persist, Copy, SyncTemp, SyncFile, SyncDir}, Plain.{PlainStep, PlainAnswer}}
+use Rattle.cacache_disk.specs.{declared.luck.Luck.{Luck}, Apply.{apply}, Tree.{Tree, look, names_cmp, same_path}}
+use Rattle.cacache_loss.specs.{declared.effect.Effect.{Effect}, Fixing.{Fixed, Fixing, Place, changed, file_after, fixed_after, is_sync, is_synced, moved_fixing, moved_to, moves_file, name_after, place_now, renamed, rewrites_at, writes_at}, Moments.{Moment, next}, Reached.{is_among, reached}, Running.{FilesSettle, NamesSettle, arrival, arrived, effect_of, files_in, fixed_in, fixing_by, move_of, renames}}
+use Rattle.cacache_loss.proofs.{Reaching.{apply_misses, moves_reached, rewrites_reached, writes_reached}, UnchangedPaths.{file_kept, name_kept}}
 
 -- ---- a file that moved
 

@@ -1,23 +1,11 @@
 -- Calm moves whose steps spare a temporary file leave it alone.
 use Rattle.std.proofs.Common.{◌≡◌, true, List, [], ◌∷◌, Option, refl, false}
 use Rattle.cacache_core.specs.PathNames.{Names, names_of}
-use Rattle.cacache_store.specs.declared.store.step.Step.TheVariants.{CreateTemp, Write, Persist, Append, SyncTemp, SyncFile, SyncDir}
-use Rattle.cacache_store.specs.Plain.{PlainStep, PlainAnswer}
-use Rattle.cacache_disk.specs.declared.luck.Luck.{Luck}
-use Rattle.cacache_disk.specs.Tree.{Tree, look}
-use Rattle.cacache_disk.specs.Apply.{apply}
-use Rattle.cacache_value.specs.Kinds.{Content, Bucket, Temporary, path_kind}
-use Rattle.cacache_value.specs.Placed.{Placed, Proper}
-use Rattle.cacache_value.specs.Traces.{Move}
-use Rattle.cacache_loss.specs.Fixing.{moved_to, moves_file, rewrites_at, writes_at}
-use Rattle.cacache_loss.specs.Moments.{EachMove, Moment, next}
-use Rattle.cacache_loss.specs.LostTrees.{OfCache}
-use Rattle.cacache_loss.specs.CalmMoves.{IsCalm, is_calm}
-use Rattle.cacache_loss.specs.Syncs.{Leaves, LeavesStep, SpareTemp, Spares}
-use Rattle.cacache_loss.specs.LossLaws.{SparedTempsAreLeft}
-use Rattle.cacache_loss.proofs.StepCases.{make_apart}
-use Rattle.cacache_loss.proofs.UnchangedPaths.{at_false, Misses, rewrites_false, writes_false, moved_false}
-use Rattle.cacache_loss.proofs.KeptPaths.{keeps, cache_next, each_calm}
+use Rattle.cacache_store.specs.{declared.store.step.Step.TheVariants.{CreateTemp, Write, Persist, Append, SyncTemp, SyncFile, SyncDir}, Plain.{PlainStep, PlainAnswer}}
+use Rattle.cacache_disk.specs.{declared.luck.Luck.{Luck}, Tree.{Tree, look}, Apply.{apply}}
+use Rattle.cacache_value.specs.{Kinds.{Content, Bucket, Temporary, path_kind}, Placed.{Placed, Proper}, Traces.{Move}}
+use Rattle.cacache_loss.specs.{Fixing.{moved_to, moves_file, rewrites_at, writes_at}, Moments.{EachMove, Moment, next}, LostTrees.{OfCache}, CalmMoves.{IsCalm, is_calm}, Syncs.{Leaves, LeavesStep, SpareTemp, Spares}, LossLaws.{SparedTempsAreLeft}}
+use Rattle.cacache_loss.proofs.{StepCases.{make_apart}, UnchangedPaths.{at_false, Misses, rewrites_false, writes_false, moved_false}, KeptPaths.{keeps, cache_next, each_calm}}
 
 module _ (home : Option Names) (q : Names) (at : path_kind home q ≡ Temporary) where
   misses : (step : PlainStep) → Proper home step → Spares q step → Misses q step

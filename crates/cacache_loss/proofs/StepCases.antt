@@ -1,27 +1,12 @@
 -- What a calm step does to a path of the cache.
 use Rattle.std.proofs.Common.{◌≡◌, ◌-◌, ◌==◌, ℕ, Bool, true, false, cond, List, [], ◌∷◌, ◌++◌, Option, None, Some, Ok, Err, take, refl, sym, ap, ◌∙◌}
 use Rattle.std.specs.Prelude.{Result, IfOk}
-use Rattle.cacache_core.specs.declared.errors.Fault.{Fault}
-use Rattle.cacache_core.specs.PathNames.{Names, names_of}
-use Rattle.cacache_store.specs.declared.store.plain.PlainTemp.{PlainTemp}
-use Rattle.cacache_store.specs.declared.store.step.Step.TheVariants.{MakeDirs, CreateTemp, Persist, Append}
-use Rattle.cacache_store.specs.declared.store.answer.Answer.TheVariants.{Done, Took, Failed}
-use Rattle.cacache_store.specs.Plain.{PlainStep, PlainAnswer}
-use Rattle.cacache_disk.specs.declared.luck.Luck.{Luck}
-use Rattle.cacache_disk.specs.declared.luck.Luck.TheVariants.{Plain, Fail, Take}
-use Rattle.cacache_disk.specs.declared.node.Node.{Node}
-use Rattle.cacache_disk.specs.declared.node.Node.TheVariants.{Folder, File}
-use Rattle.cacache_disk.specs.Tree.{Tree, look, put, cut, same_path, bytes_of}
-use Rattle.cacache_disk.specs.LedTo.{dirs, free, known, kept, replaceable, writable, or_fault, dirs_fault}
-use Rattle.cacache_disk.specs.Apply.{apply, plain, unless, making, make_some, if_missing, fails, fault_told}
-use Rattle.cacache_disk.proofs.Maps.{same_path-true}
-use Rattle.cacache_disk.proofs.PutNodes.{look-put, look-cut}
-use Rattle.cacache_disk.proofs.FoundNodes.{free_ok, kept_ok, replaceable_ok, and_then_ok, or_fault_none}
-use Rattle.cacache_disk.proofs.KeptFolders.{apply_tree, unless_tree}
-use Rattle.cacache_value.specs.Kinds.{Bucket, path_kind, IsFor, PathKind, Way}
-use Rattle.cacache_value.specs.Placed.{Placed}
-use Rattle.cacache_value.proofs.KindsApart.{not_true, further, way_here}
-use Rattle.cacache_value.proofs.FoundPaths.{Reaches, found, missing, bucket_reached, unreachable}
+use Rattle.cacache_core.specs.{declared.errors.Fault.{Fault}, PathNames.{Names, names_of}}
+use Rattle.cacache_store.specs.{declared.store.{plain.PlainTemp.{PlainTemp}, step.Step.TheVariants.{MakeDirs, CreateTemp, Persist, Append}, answer.Answer.TheVariants.{Done, Took, Failed}}, Plain.{PlainStep, PlainAnswer}}
+use Rattle.cacache_disk.specs.{declared.{luck.Luck.{Luck, TheVariants.{Plain, Fail, Take}}, node.Node.{Node, TheVariants.{Folder, File}}}, Tree.{Tree, look, put, cut, same_path, bytes_of}, LedTo.{dirs, free, known, kept, replaceable, writable, or_fault, dirs_fault}, Apply.{apply, plain, unless, making, make_some, if_missing, fails, fault_told}}
+use Rattle.cacache_disk.proofs.{Maps.{same_path-true}, PutNodes.{look-put, look-cut}, FoundNodes.{free_ok, kept_ok, replaceable_ok, and_then_ok, or_fault_none}, KeptFolders.{apply_tree, unless_tree}}
+use Rattle.cacache_value.specs.{Kinds.{Bucket, path_kind, IsFor, PathKind, Way}, Placed.{Placed}}
+use Rattle.cacache_value.proofs.{KindsApart.{not_true, further, way_here}, FoundPaths.{Reaches, found, missing, bucket_reached, unreachable}}
 
 -- what stands at another path stays
 pub put_misses : (t : Tree) (p q : Names) (node : Node) → same_path q p ≡ false → look (put t p node) q ≡ look t q

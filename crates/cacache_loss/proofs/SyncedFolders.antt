@@ -2,21 +2,10 @@
 use Rattle.std.proofs.Common.{◌≡◌, ◌⊎◌, inl, inr, ℕ, Bool, true, false, cond, List, [], ◌∷◌, ◌++◌, Option, None, Some, refl, sym, ap, subst, ◌∙◌, append_assoc}
 use Rattle.std.specs.Prelude.{not, ◌&&◌, unwrap_or}
 use Rattle.cacache_core.specs.PathNames.{Names}
-use Rattle.cacache_disk.specs.declared.node.Node.{Node}
-use Rattle.cacache_disk.specs.declared.node.Node.TheVariants.{Folder}
-use Rattle.cacache_disk.specs.Tree.{Tree, look}
-use Rattle.cacache_disk.specs.Apply.{apply}
-use Rattle.cacache_disk.specs.Rooted.{Rooted, is_folder}
-use Rattle.cacache_disk.proofs.Standing.{upper_folder}
-use Rattle.cacache_value.specs.Kinds.{Way, path_kind, is_used}
-use Rattle.cacache_value.specs.Placed.{Placed}
-use Rattle.cacache_value.specs.Traces.{Move}
+use Rattle.cacache_disk.{specs.{declared.node.Node.{Node, TheVariants.{Folder}}, Tree.{Tree, look}, Apply.{apply}, Rooted.{Rooted, is_folder}}, proofs.Standing.{upper_folder}}
+use Rattle.cacache_value.specs.{Kinds.{Way, path_kind, is_used}, Placed.{Placed}, Traces.{Move}}
 use Rattle.cacache_value.proofs.KindsApart as apart
-use Rattle.cacache_loss.specs.Fixing.{Fixed, Place, place_now}
-use Rattle.cacache_loss.specs.Loss.{Loss, lead_folders, left_at, node_left, stays}
-use Rattle.cacache_loss.specs.Moments.{EachMove, Moment, after, lost_then, next}
-use Rattle.cacache_loss.specs.CalmMoves.{IsCalm}
-use Rattle.cacache_loss.specs.Syncs.{SyncsFolder, SyncsFolders}
+use Rattle.cacache_loss.specs.{Fixing.{Fixed, Place, place_now}, Loss.{Loss, lead_folders, left_at, node_left, stays}, Moments.{EachMove, Moment, after, lost_then, next}, CalmMoves.{IsCalm}, Syncs.{SyncsFolder, SyncsFolders}}
 use Rattle.cacache_loss.proofs.KeptPaths.{fixed_next, sync_fixes}
 
 -- ---- which of the places is left

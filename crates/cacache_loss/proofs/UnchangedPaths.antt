@@ -1,20 +1,10 @@
 -- What a step leaves fixed at a path where nothing changed.
-use Rattle.std.proofs.Common.{◌≡◌, ℕ, true, false, cond, List, [], ◌∷◌, Option, None, Some, Ok, Err, refl, sym, ap, ◌∙◌, bytes_eq, eq-eqb}
-use Rattle.std.specs.Prelude.{Result, IfOk}
-use Rattle.cacache_core.specs.declared.errors.Fault.{Fault}
-use Rattle.cacache_core.specs.PathNames.{Names, names_of}
-use Rattle.cacache_store.specs.declared.store.step.Step.TheVariants.{CreateTemp, Write, Persist, Append, Copy}
-use Rattle.cacache_store.specs.declared.store.answer.Answer.TheVariants.{Done}
-use Rattle.cacache_store.specs.Plain.{PlainStep, PlainAnswer}
-use Rattle.cacache_disk.specs.declared.node.Node.{Node}
-use Rattle.cacache_disk.specs.declared.node.Node.TheVariants.{Folder, File, Link}
-use Rattle.cacache_disk.specs.Tree.{Tree, look, same_path}
-use Rattle.cacache_disk.proofs.Maps.{same_path-true}
-use Rattle.cacache_value.specs.Kinds.{PathKind, path_kind}
-use Rattle.cacache_value.proofs.KindsApart.{not_true}
-use Rattle.cacache_loss.specs.Fixing.{Fixed, Fixing, between, file_after, is_at, moved_fixing, moved_to, moves_file, name_after, rewrites_at, same_node, same_thing, writes_at}
-use Rattle.cacache_loss.specs.Loss.{stays}
-use Rattle.cacache_loss.specs.CalmMoves.{is_calm}
+use Rattle.std.{proofs.Common.{◌≡◌, ℕ, true, false, cond, List, [], ◌∷◌, Option, None, Some, Ok, Err, refl, sym, ap, ◌∙◌, bytes_eq, eq-eqb}, specs.Prelude.{Result, IfOk}}
+use Rattle.cacache_core.specs.{declared.errors.Fault.{Fault}, PathNames.{Names, names_of}}
+use Rattle.cacache_store.specs.{declared.store.{step.Step.TheVariants.{CreateTemp, Write, Persist, Append, Copy}, answer.Answer.TheVariants.{Done}}, Plain.{PlainStep, PlainAnswer}}
+use Rattle.cacache_disk.{specs.{declared.node.Node.{Node, TheVariants.{Folder, File, Link}}, Tree.{Tree, look, same_path}}, proofs.Maps.{same_path-true}}
+use Rattle.cacache_value.{specs.Kinds.{PathKind, path_kind}, proofs.KindsApart.{not_true}}
+use Rattle.cacache_loss.specs.{Fixing.{Fixed, Fixing, between, file_after, is_at, moved_fixing, moved_to, moves_file, name_after, rewrites_at, same_node, same_thing, writes_at}, Loss.{stays}, CalmMoves.{is_calm}}
 
 pub bytes_same : (xs : List ℕ) → bytes_eq xs xs ≡ true
 bytes_same [] = refl

@@ -1,13 +1,9 @@
 -- Moves through which a durable commit is kept: nothing is removed, linked or exported.
 use Rattle.std.specs.Prelude.{◌≡◌, ℕ, List, [], ◌∷◌, Option, None, Some, Bool, true, false, IfOk, Ok}
 use Rattle.cacache_core.specs.PathNames.{Names, names_of}
-use Rattle.cacache_store.specs.declared.store.step.Step.TheVariants.{MakeDirs, CreateTemp, Write, Persist, Append, ReadAll, Open, Read, Exists, Size, Symlink, Copy, Reflink, HardLink, ReadDir, RemoveFile, RemoveDir, SyncTemp, SyncFile, SyncDir}
-use Rattle.cacache_store.specs.declared.store.answer.Answer.TheVariants.{Done}
-use Rattle.cacache_store.specs.Plain.{PlainStep, PlainAnswer}
+use Rattle.cacache_store.specs.{declared.store.{step.Step.TheVariants.{MakeDirs, CreateTemp, Write, Persist, Append, ReadAll, Open, Read, Exists, Size, Symlink, Copy, Reflink, HardLink, ReadDir, RemoveFile, RemoveDir, SyncTemp, SyncFile, SyncDir}, answer.Answer.TheVariants.{Done}}, Plain.{PlainStep, PlainAnswer}}
 use Rattle.cacache_disk.specs.Apply.{apply}
-use Rattle.cacache_value.specs.Kinds.{Temporary, IsFor}
-use Rattle.cacache_value.specs.Placed.{Proper}
-use Rattle.cacache_value.specs.Traces.{Move, IsTrace}
+use Rattle.cacache_value.specs.{Kinds.{Temporary, IsFor}, Placed.{Proper}, Traces.{Move, IsTrace}}
 use Rattle.cacache_loss.specs.Moments.{Moment, EachMove}
 
 -- whether a step removes, links and exports nothing

@@ -1,15 +1,9 @@
 -- Which names changed since their folders were synced: finitely many, so a loss leaves a tree.
-use Rattle.std.specs.Prelude.{◌≡◌, List, [], Option, None, false}
-use Rattle.std.specs.List.{list_any}
+use Rattle.std.specs.{Prelude.{◌≡◌, List, [], Option, None, false}, List.{list_any}}
 use Rattle.cacache_core.specs.PathNames.{Names}
-use Rattle.cacache_disk.specs.Rooted.{Rooted}
-use Rattle.cacache_disk.specs.Tree.{Tree, same_path}
-use Rattle.cacache_value.specs.Placed.{Placed}
-use Rattle.cacache_value.specs.Shows.{ReadsShow}
-use Rattle.cacache_value.specs.Traces.{Move, IsTrace}
-use Rattle.cacache_loss.specs.Fixing.{Fixed, all_fixed}
-use Rattle.cacache_loss.specs.Loss.{Loss, Lost}
-use Rattle.cacache_loss.specs.Moments.{Moment, after}
+use Rattle.cacache_disk.specs.{Rooted.{Rooted}, Tree.{Tree, same_path}}
+use Rattle.cacache_value.specs.{Placed.{Placed}, Shows.{ReadsShow}, Traces.{Move, IsTrace}}
+use Rattle.cacache_loss.specs.{Fixing.{Fixed, all_fixed}, Loss.{Loss, Lost}, Moments.{Moment, after}}
 
 -- ---- names that changed
 

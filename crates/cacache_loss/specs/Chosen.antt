@@ -1,9 +1,7 @@
 -- The loss that lists of texts tell.
-use Rattle.std.specs.Prelude.{ℕ, List, [], ◌∷◌, if◌then◌else◌}
-use Rattle.std.specs.List.{list_any}
+use Rattle.std.specs.{Prelude.{ℕ, List, [], ◌∷◌, if◌then◌else◌}, List.{list_any}}
 use Rattle.cacache_core.specs.PathNames.{Names, names_of}
-use Rattle.cacache_loss.specs.Fixing.{is_at}
-use Rattle.cacache_loss.specs.Loss.{Loss}
+use Rattle.cacache_loss.specs.{Fixing.{is_at}, Loss.{Loss}}
 
 -- the tail that the first of these texts tells of a path, none where none does
 abbrev pub tail_at : List (List ℕ × List ℕ) → Names → List ℕ

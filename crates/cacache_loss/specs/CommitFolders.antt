@@ -1,12 +1,7 @@
 -- The folders of a content and of a bucket, whose syncs a durable commit waits for.
 use Rattle.std.specs.Prelude.{◌≡◌, ◌⊎◌, ℕ, List, [], ◌∷◌, ◌++◌, Some, Ok, length}
-use Rattle.cacache_core.specs.declared.integrity.digest.Hash.{Hash}
-use Rattle.cacache_core.specs.Integrity.{IsHash}
-use Rattle.cacache_core.specs.PathLaws.{IsKeyDigest}
-use Rattle.cacache_core.specs.PathNames.{Names, names_of}
-use Rattle.cacache_core.specs.Paths.{content_names, bucket_names_of, folders_to}
-use Rattle.cacache_store.specs.declared.store.step.Step.TheVariants.{SyncDir}
-use Rattle.cacache_store.specs.declared.store.answer.Answer.TheVariants.{Done}
+use Rattle.cacache_core.specs.{declared.integrity.digest.Hash.{Hash}, Integrity.{IsHash}, PathLaws.{IsKeyDigest}, PathNames.{Names, names_of}, Paths.{content_names, bucket_names_of, folders_to}}
+use Rattle.cacache_store.specs.declared.store.{step.Step.TheVariants.{SyncDir}, answer.Answer.TheVariants.{Done}}
 use Rattle.cacache_value.specs.Traces.{Move}
 use Rattle.cacache_loss.specs.Syncs.{SyncsFolders}
 

@@ -1,15 +1,8 @@
 -- What of a tree would outlast a loss of power: a second fold over steps, beside the tree.
 use Rattle.std.specs.Prelude.{ℕ, List, [], Option, None, Some, Bool, true, false, not, ◌||◌, Result, Ok, Err, length, unwrap_or, bytes_eq, if◌then◌else◌}
-use Rattle.cacache_core.specs.declared.errors.Fault.{Fault}
-use Rattle.cacache_core.specs.PathNames.{Names, names_of}
-use Rattle.cacache_store.specs.declared.store.plain.PlainTemp.{PlainTemp}
-use Rattle.cacache_store.specs.declared.store.step.Step.TheVariants.{Write, Persist, Copy, SyncTemp, SyncFile, SyncDir}
-use Rattle.cacache_store.specs.declared.store.answer.Answer.TheVariants.{Done, Synced}
-use Rattle.cacache_store.specs.Plain.{PlainStep, PlainAnswer}
-use Rattle.cacache_disk.specs.declared.node.Node.{Node}
-use Rattle.cacache_disk.specs.declared.node.Node.TheVariants.{Folder, File, Link}
-use Rattle.cacache_disk.specs.Tree.{Tree, look, same_path, is_child, bytes_of}
-use Rattle.cacache_disk.specs.LedTo.{leads, writable}
+use Rattle.cacache_core.specs.{declared.errors.Fault.{Fault}, PathNames.{Names, names_of}}
+use Rattle.cacache_store.specs.{declared.store.{plain.PlainTemp.{PlainTemp}, step.Step.TheVariants.{Write, Persist, Copy, SyncTemp, SyncFile, SyncDir}, answer.Answer.TheVariants.{Done, Synced}}, Plain.{PlainStep, PlainAnswer}}
+use Rattle.cacache_disk.specs.{declared.node.Node.{Node, TheVariants.{Folder, File, Link}}, Tree.{Tree, look, same_path, is_child, bytes_of}, LedTo.{leads, writable}}
 pub use Rattle.cacache_loss.specs.declared.fixing.Fixing.{Fixing}
 pub use Rattle.cacache_loss.specs.declared.fixing.Place.{Place}
 

@@ -1,16 +1,8 @@
 -- What the code takes a loss for, and what it leaves.
-use Rattle.std.specs.Prelude.{Option, [], unwrap_or}
-use Rattle.std.specs.BTreeMap.{get}
-use Rattle.std.specs.BTreeSet.{contains}
+use Rattle.std.specs.{Prelude.{Option, [], unwrap_or}, BTreeMap.{get}, BTreeSet.{contains}}
 use Rattle.cacache_core.specs.PathNames.{Names}
-use Rattle.cacache_disk.specs.declared.node.Node.{Node}
-use Rattle.cacache_disk.specs.Tree.{names_cmp}
-use Rattle.cacache_loss.specs.declared.loss.Taken.{Taken}
-use Rattle.cacache_loss.specs.declared.left.Losing.{Losing}
-use Rattle.cacache_loss.specs.Fixing.{Place}
-use Rattle.cacache_loss.specs.Loss.{Loss, left_at}
-use Rattle.cacache_loss.specs.Moments.{lost_then}
-use Rattle.cacache_loss.specs.Running.{fixed_in, moment_of}
+use Rattle.cacache_disk.specs.{declared.node.Node.{Node}, Tree.{names_cmp}}
+use Rattle.cacache_loss.specs.{declared.{loss.Taken.{Taken}, left.Losing.{Losing}}, Fixing.{Place}, Loss.{Loss, left_at}, Moments.{lost_then}, Running.{fixed_in, moment_of}}
 
 -- the loss in which these paths are undone, and these tails follow
 abbrev pub loss_of : Taken → Loss

@@ -1,15 +1,9 @@
 -- The tree of each moment is that of a cache, and so is what a loss leaves of it.
 use Rattle.std.specs.Prelude.{◌≡◌, List, Option, IfSome}
 use Rattle.cacache_core.specs.PathNames.{Names}
-use Rattle.cacache_disk.specs.declared.node.Node.{Node}
-use Rattle.cacache_disk.specs.Rooted.{AreProper, Rooted}
-use Rattle.cacache_disk.specs.Tree.{Tree, look}
-use Rattle.cacache_value.specs.Kinds.{path_kind}
-use Rattle.cacache_value.specs.Placed.{MayStand, Placed}
-use Rattle.cacache_value.specs.Traces.{Move, IsTrace, tree_after}
-use Rattle.cacache_loss.specs.Fixing.{Fixed, all_fixed}
-use Rattle.cacache_loss.specs.Loss.{Loss, Lost, lost_at}
-use Rattle.cacache_loss.specs.Moments.{Moment, after}
+use Rattle.cacache_disk.specs.{declared.node.Node.{Node}, Rooted.{AreProper, Rooted}, Tree.{Tree, look}}
+use Rattle.cacache_value.specs.{Kinds.{path_kind}, Placed.{MayStand, Placed}, Traces.{Move, IsTrace, tree_after}}
+use Rattle.cacache_loss.specs.{Fixing.{Fixed, all_fixed}, Loss.{Loss, Lost, lost_at}, Moments.{Moment, after}}
 
 -- a tree of a cache: each node stands where it may, and in a folder
 abbrev pub OfCache : Option Names → Moment → Type 0

@@ -1,14 +1,10 @@
 -- What a cache holds in the tree that a loss leaves.
 use Rattle.std.specs.Prelude.{◌≡◌, ℕ, List, ◌++◌, Some}
-use Rattle.cacache_core.specs.declared.integrity.digest.Hash.{Hash}
-use Rattle.cacache_core.specs.PathNames.{Names}
-use Rattle.cacache_core.specs.Paths.{content_names, bucket_names_of}
+use Rattle.cacache_core.specs.{declared.integrity.digest.Hash.{Hash}, PathNames.{Names}, Paths.{content_names, bucket_names_of}}
 use Rattle.cacache_disk.specs.Tree.{Tree}
 use Rattle.cacache_entry.specs.Entry.{Entry}
 use Rattle.cacache_value.specs.Value.{InFile, Value, value_of_tree}
-use Rattle.cacache_loss.specs.Loss.{Loss, Lost}
-use Rattle.cacache_loss.specs.Moments.{Moment, lost_then}
-use Rattle.cacache_loss.specs.LossLaws.{GoodNode, HasDigest, HoldsEntries}
+use Rattle.cacache_loss.specs.{Loss.{Loss, Lost}, Moments.{Moment, lost_then}, LossLaws.{GoodNode, HasDigest, HoldsEntries}}
 
 -- a tree is what a loss at a moment leaves of a cache in the folder `home`
 abbrev pub LeftOf : Names → Moment → Loss → Tree → Type 0

@@ -1,12 +1,9 @@
 -- Moves of many callers one after another, and what is fixed at each of their moments.
 use Rattle.std.specs.Prelude.{List, [], ◌∷◌, Option}
 use Rattle.cacache_core.specs.PathNames.{Names}
-use Rattle.cacache_disk.specs.declared.node.Node.{Node}
-use Rattle.cacache_disk.specs.Tree.{Tree}
-use Rattle.cacache_disk.specs.Apply.{apply}
+use Rattle.cacache_disk.specs.{declared.node.Node.{Node}, Tree.{Tree}, Apply.{apply}}
 use Rattle.cacache_value.specs.Traces.{Move}
-use Rattle.cacache_loss.specs.Fixing.{Fixed, fixed_after}
-use Rattle.cacache_loss.specs.Loss.{Loss, lost_at}
+use Rattle.cacache_loss.specs.{Fixing.{Fixed, fixed_after}, Loss.{Loss, lost_at}}
 
 -- a tree, and what of it is fixed
 pub record Moment : Type 0 where

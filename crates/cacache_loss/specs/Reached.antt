@@ -1,12 +1,8 @@
 -- Where a step may change something: the paths that it names, or that these lead to.
-use Rattle.std.specs.Prelude.{Bool, List, [], ◌∷◌, ◌++◌, Option, None, Some}
-use Rattle.std.specs.List.{list_any}
-use Rattle.std.specs.Result.{result_ok}
+use Rattle.std.specs.{Prelude.{Bool, List, [], ◌∷◌, ◌++◌, Option, None, Some}, List.{list_any}, Result.{result_ok}}
 use Rattle.cacache_core.specs.PathNames.{Names, names_of}
-use Rattle.cacache_store.specs.declared.store.step.Step.TheVariants.{MakeDirs, CreateTemp, Write, Persist, Append, Symlink, Copy, Reflink, HardLink, RemoveFile, RemoveDir}
-use Rattle.cacache_store.specs.Plain.{PlainStep}
-use Rattle.cacache_disk.specs.LedTo.{writable}
-use Rattle.cacache_disk.specs.Tree.{Tree, same_path}
+use Rattle.cacache_store.specs.{declared.store.step.Step.TheVariants.{MakeDirs, CreateTemp, Write, Persist, Append, Symlink, Copy, Reflink, HardLink, RemoveFile, RemoveDir}, Plain.{PlainStep}}
+use Rattle.cacache_disk.specs.{LedTo.{writable}, Tree.{Tree, same_path}}
 
 -- whether a path is one of these
 abbrev pub is_among : Names → List Names → Bool

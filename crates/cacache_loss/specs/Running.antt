@@ -1,19 +1,10 @@
 -- What the code keeps of a moment, and what a step does to it.
-use Rattle.std.specs.Prelude.{◌≡◌, map, Bool, true, false, ◌||◌, not, List, Option, None, Some, unwrap_or, is_some, if◌then◌else◌}
-use Rattle.std.specs.BTreeMap.{BTreeMap, get}
+use Rattle.std.specs.{Prelude.{◌≡◌, map, Bool, true, false, ◌||◌, not, List, Option, None, Some, unwrap_or, is_some, if◌then◌else◌}, BTreeMap.{BTreeMap, get}}
 use Rattle.cacache_core.specs.PathNames.{Names}
-use Rattle.cacache_store.specs.declared.store.step.Step.TheVariants.{Write, Persist, Copy}
-use Rattle.cacache_store.specs.declared.store.answer.Answer.TheVariants.{Done}
-use Rattle.cacache_store.specs.Plain.{PlainStep, PlainAnswer}
-use Rattle.cacache_disk.specs.declared.luck.Luck.{Luck}
-use Rattle.cacache_disk.specs.declared.node.Node.{Node}
-use Rattle.cacache_disk.specs.Tree.{Tree, look, names_cmp, same_path, bytes_of}
+use Rattle.cacache_store.specs.{declared.store.{step.Step.TheVariants.{Write, Persist, Copy}, answer.Answer.TheVariants.{Done}}, Plain.{PlainStep, PlainAnswer}}
+use Rattle.cacache_disk.specs.{declared.{luck.Luck.{Luck}, node.Node.{Node}}, Tree.{Tree, look, names_cmp, same_path, bytes_of}}
 use Rattle.cacache_value.specs.Traces.{Move}
-use Rattle.cacache_loss.specs.declared.effect.Effect.{Effect}
-use Rattle.cacache_loss.specs.declared.running.Running.{Running}
-use Rattle.cacache_loss.specs.Fixing.{Fixing, Place, Fixed, synced, refixed, opened_if, same_node, same_thing, moves_file, renamed}
-use Rattle.cacache_loss.specs.Moments.{Moment}
-use Rattle.cacache_loss.specs.Reached.{is_among}
+use Rattle.cacache_loss.specs.{declared.{effect.Effect.{Effect}, running.Running.{Running}}, Fixing.{Fixing, Place, Fixed, synced, refixed, opened_if, same_node, same_thing, moves_file, renamed}, Moments.{Moment}, Reached.{is_among}}
 
 -- ---- what is kept
 

@@ -1,15 +1,10 @@
 -- The moves of a durable commit: syncs of files and folders, an append, a file that is put.
 use Rattle.std.specs.Prelude.{◌≡◌, ◌⊎◌, ℕ, List, [], ◌∷◌, ◌++◌, Option, true, false, Ok, length}
 use Rattle.cacache_core.specs.PathNames.{Names, names_of}
-use Rattle.cacache_store.specs.declared.store.plain.PlainTemp.{PlainTemp}
-use Rattle.cacache_store.specs.declared.store.step.Step.TheVariants.{CreateTemp, Write, Persist, Append, SyncTemp, SyncFile, SyncDir}
-use Rattle.cacache_store.specs.declared.store.answer.Answer.TheVariants.{Done, Took}
-use Rattle.cacache_store.specs.Plain.{PlainStep, PlainAnswer}
+use Rattle.cacache_store.specs.{declared.store.{plain.PlainTemp.{PlainTemp}, step.Step.TheVariants.{CreateTemp, Write, Persist, Append, SyncTemp, SyncFile, SyncDir}, answer.Answer.TheVariants.{Done, Took}}, Plain.{PlainStep, PlainAnswer}}
 use Rattle.cacache_disk.specs.Tree.{Tree, look}
 use Rattle.cacache_value.specs.Traces.{Move}
-use Rattle.cacache_loss.specs.Fixing.{is_at, is_synced, writes_at, rewrites_at, moved_to, moves_file}
-use Rattle.cacache_loss.specs.Loss.{stays}
-use Rattle.cacache_loss.specs.Moments.{Moment, next}
+use Rattle.cacache_loss.specs.{Fixing.{is_at, is_synced, writes_at, rewrites_at, moved_to, moves_file}, Loss.{stays}, Moments.{Moment, next}}
 
 -- ---- folders that are synced
 

@@ -1,29 +1,11 @@
 -- The log of all that stands on a disk leads to the disk's tree: each node is put once, behind its folder.
-use Rattle.std.proofs.Common.{◌≡◌, ◌==◌, ℕ, Bool, true, false, cond, List, [], ◌∷◌, ◌++◌, length, refl, sym, ap, subst, ◌∙◌}
-use Rattle.std.specs.Prelude.{◌&&◌, T, Option, None, Some, IfSome, map as each}
+use Rattle.std.proofs.{Common.{◌≡◌, ◌==◌, ℕ, Bool, true, false, cond, List, [], ◌∷◌, ◌++◌, length, refl, sym, ap, subst, ◌∙◌}, lemmas.Cmp.{nat_list_cmp_total}}
+use Rattle.std.specs.{Prelude.{◌&&◌, T, Option, None, Some, IfSome, map as each}, FinMap.Entries.{below_all}, List.{AllByRecursion}, declared.cmp.Ordering.{Ordering, TheVariants.{Less, Equal, Greater}}, Ordering.{nat_cmp, is_eq, is_lt}, Cmp.{eq_by_cmp_equiv, Lexicographic.{slice_cmp}}}
 use Rattle.std.specs.FinMap as map
-use Rattle.std.specs.FinMap.Entries.{below_all}
-use Rattle.std.specs.List.{AllByRecursion}
-use Rattle.std.specs.declared.cmp.Ordering.{Ordering}
-use Rattle.std.specs.declared.cmp.Ordering.TheVariants.{Less, Equal, Greater}
-use Rattle.std.specs.Ordering.{nat_cmp, is_eq, is_lt}
-use Rattle.std.specs.Cmp.{eq_by_cmp_equiv}
-use Rattle.std.specs.Cmp.Lexicographic.{slice_cmp}
-use Rattle.std.proofs.lemmas.Cmp.{nat_list_cmp_total}
 use Rattle.cacache_core.specs.PathNames.{Names}
-use Rattle.cacache_disk.specs.declared.node.Node.{Node}
-use Rattle.cacache_disk.specs.declared.node.Node.TheVariants.{Folder}
-use Rattle.cacache_disk.specs.AllStanding.{item_of, all_standing}
-use Rattle.cacache_disk.specs.Rooted.{is_folder, Rooted, AreProper}
-use Rattle.cacache_disk.specs.Tree.{Tree, bare, look, names_cmp, put, same_path}
-use Rattle.cacache_disk.proofs.Maps.{total, only, same_path-true, is_eq_true, put_same}
-use Rattle.cacache_disk.proofs.PutNodes.{look-put}
-use Rattle.cacache_disk.proofs.PlantedNodes.{Ends, ends, empty, last}
-use Rattle.cacache_disk.proofs.Roots.{CanStand, put_rooted, same_folder, same_self, look-bare, bare_below, bare_rooted}
-use Rattle.cacache_disk.proofs.Standing.{upper_folder}
-use Rattle.cacache_memory.specs.ForeignLog.{logged, foreign_log}
-use Rattle.cacache_memory.specs.Replay.{replay, IsReplayable}
-use Rattle.cacache_memory.proofs.PutItems.{Puts, never_empty, node_puts, top_puts}
+use Rattle.cacache_disk.specs.{declared.node.Node.{Node, TheVariants.{Folder}}, AllStanding.{item_of, all_standing}, Rooted.{is_folder, Rooted, AreProper}, Tree.{Tree, bare, look, names_cmp, put, same_path}}
+use Rattle.cacache_disk.proofs.{Maps.{total, only, same_path-true, is_eq_true, put_same}, PutNodes.{look-put}, PlantedNodes.{Ends, ends, empty, last}, Roots.{CanStand, put_rooted, same_folder, same_self, look-bare, bare_below, bare_rooted}, Standing.{upper_folder}}
+use Rattle.cacache_memory.{specs.{ForeignLog.{logged, foreign_log}, Replay.{replay, IsReplayable}}, proofs.PutItems.{Puts, never_empty, node_puts, top_puts}}
 
 -- ---- entries in order
 

@@ -1,10 +1,6 @@
 -- What a log gains where the disk did the step.
-use Rattle.std.proofs.Common.{◌≡◌, false, List, [], ◌∷◌, ◌++◌, refl}
-use Rattle.std.specs.Prelude.{Some}
-use Rattle.cacache_store.specs.declared.store.log.LogItem.{LogItem}
-use Rattle.cacache_store.specs.declared.store.log.LogItem.TheVariants.{Made}
-use Rattle.cacache_store.specs.Plain.{PlainStep, PlainAnswer}
-use Rattle.cacache_store.specs.Fits.{Logs, is_no_memory}
+use Rattle.std.{proofs.Common.{◌≡◌, false, List, [], ◌∷◌, ◌++◌, refl}, specs.Prelude.{Some}}
+use Rattle.cacache_store.specs.{declared.store.log.LogItem.{LogItem, TheVariants.{Made}}, Plain.{PlainStep, PlainAnswer}, Fits.{Logs, is_no_memory}}
 
 -- the log gains the step with the answer, of which it has a copy
 pub Logs-made : (log grown : List LogItem) (step : PlainStep) (answer copy : PlainAnswer)

@@ -1,17 +1,8 @@
 -- What a disk under plain luck makes of folders that are asked for, and what it shows of a file.
-use Rattle.std.proofs.Common.{◌≡◌, ℕ, List, refl, sym, ap, ◌∙◌, subst}
-use Rattle.std.specs.Prelude.{Option, None, Some, Result, Ok, Err, IfNone, OnSome}
-use Rattle.std.specs.Result.{result_ok}
-use Rattle.cacache_core.specs.declared.errors.Fault.{Fault}
-use Rattle.cacache_core.specs.declared.errors.Fault.TheVariants.{IsADirectory}
-use Rattle.cacache_store.specs.declared.store.step.Step.TheVariants.{MakeDirs}
-use Rattle.cacache_store.specs.declared.store.answer.Answer.TheVariants.{Done, Failed, Bytes}
-use Rattle.cacache_store.specs.Plain.{PlainAnswer}
-use Rattle.cacache_disk.specs.declared.luck.Luck.TheVariants.{Plain}
-use Rattle.cacache_core.specs.PathNames.{Names}
-use Rattle.cacache_disk.specs.Tree.{Tree}
-use Rattle.cacache_disk.specs.LedTo.{dirs, file_at}
-use Rattle.cacache_disk.specs.Apply.{apply, unless, bytes_at, fault_told}
+use Rattle.std.{proofs.Common.{◌≡◌, ℕ, List, refl, sym, ap, ◌∙◌, subst}, specs.{Prelude.{Option, None, Some, Result, Ok, Err, IfNone, OnSome}, Result.{result_ok}}}
+use Rattle.cacache_core.specs.{declared.errors.Fault.{Fault, TheVariants.{IsADirectory}}, PathNames.{Names}}
+use Rattle.cacache_store.specs.{declared.store.{step.Step.TheVariants.{MakeDirs}, answer.Answer.TheVariants.{Done, Failed, Bytes}}, Plain.{PlainAnswer}}
+use Rattle.cacache_disk.specs.{declared.luck.Luck.TheVariants.{Plain}, Tree.{Tree}, LedTo.{dirs, file_at}, Apply.{apply, unless, bytes_at, fault_told}}
 use Rattle.cacache_memory.specs.Replay.{bytes_told, shown}
 
 -- folders that can't be made change nothing; else they are made

@@ -1,27 +1,11 @@
 -- The item of what stands at a path puts it there, where its folder stands and nothing is there yet.
-use Rattle.std.proofs.Common.{◌≡◌, ◌-◌, ◌+◌, ◌==◌, ℕ, false, List, [], ◌∷◌, ◌++◌, None, Some, Ok, length, refl, sym, ap, ◌∙◌, arith, eqb-true, length-append}
+use Rattle.std.proofs.{Common.{◌≡◌, ◌-◌, ◌+◌, ◌==◌, ℕ, false, List, [], ◌∷◌, ◌++◌, None, Some, Ok, length, refl, sym, ap, ◌∙◌, arith, eqb-true, length-append}, Math.Seq.{take-append_seam, drop-append_seam}, lemmas.List.{take_all, drop_all, Elements.{All-from_recursion}}}
 use Rattle.std.specs.Result.{result_err}
-use Rattle.std.proofs.Math.Seq.{take-append_seam, drop-append_seam}
-use Rattle.std.proofs.lemmas.List.{take_all, drop_all}
-use Rattle.std.proofs.lemmas.List.Elements.{All-from_recursion}
-use Rattle.cacache_core.specs.PathNames.{Names, names_of, names_below, home_of, pieces, IsProperName}
-use Rattle.cacache_core.proofs.JoinedNames.{joined_texts_name}
-use Rattle.cacache_store.specs.declared.store.step.Step.TheVariants.{MakeDirs, Symlink}
-use Rattle.cacache_store.specs.declared.store.answer.Answer.TheVariants.{Done}
-use Rattle.cacache_disk.specs.declared.luck.Luck.TheVariants.{Plain}
-use Rattle.cacache_disk.specs.declared.node.Node.{Node}
-use Rattle.cacache_disk.specs.declared.node.Node.TheVariants.{Folder, File, Link}
-use Rattle.cacache_disk.specs.AllStanding.{path_text, item_of}
-use Rattle.cacache_disk.specs.Apply.{apply, planted, make_some}
-use Rattle.cacache_disk.specs.Deepest.{IsDeepest, way_past}
-use Rattle.cacache_disk.specs.LedTo.{way_fault, dirs, free, place}
-use Rattle.cacache_disk.specs.Rooted.{Rooted, AreProper}
-use Rattle.cacache_disk.specs.Tree.{Tree, look, put}
-use Rattle.cacache_disk.proofs.PlantedNodes.{above_last-snoc}
-use Rattle.cacache_disk.proofs.Roots.{not_true}
-use Rattle.cacache_disk.proofs.Standing.{way_is, dirs_is, makes_from}
-use Rattle.cacache_memory.specs.Replay.{after, changed, HappensOn}
-use Rattle.cacache_memory.specs.ForeignLog.{logged}
+use Rattle.cacache_core.{specs.PathNames.{Names, names_of, names_below, home_of, pieces, IsProperName}, proofs.JoinedNames.{joined_texts_name}}
+use Rattle.cacache_store.specs.declared.store.{step.Step.TheVariants.{MakeDirs, Symlink}, answer.Answer.TheVariants.{Done}}
+use Rattle.cacache_disk.specs.{declared.{luck.Luck.TheVariants.{Plain}, node.Node.{Node, TheVariants.{Folder, File, Link}}}, AllStanding.{path_text, item_of}, Apply.{apply, planted, make_some}, Deepest.{IsDeepest, way_past}, LedTo.{way_fault, dirs, free, place}, Rooted.{Rooted, AreProper}, Tree.{Tree, look, put}}
+use Rattle.cacache_disk.proofs.{PlantedNodes.{above_last-snoc}, Roots.{not_true}, Standing.{way_is, dirs_is, makes_from}}
+use Rattle.cacache_memory.specs.{Replay.{after, changed, HappensOn}, ForeignLog.{logged}}
 
 -- ---- the names of a path's text
 

@@ -1,15 +1,8 @@
 -- A store that receives what stands on a disk, item by item.
-use Rattle.std.proofs.Common.{◌≡◌, List, [], ◌∷◌, ◌++◌, refl, sym, ap, subst, ◌∙◌, append_assoc}
-use Rattle.std.specs.Prelude.{map as each}
+use Rattle.std.{proofs.Common.{◌≡◌, List, [], ◌∷◌, ◌++◌, refl, sym, ap, subst, ◌∙◌, append_assoc}, specs.Prelude.{map as each}}
 use Rattle.cacache_store.specs.declared.store.log.LogItem.{LogItem}
-use Rattle.cacache_disk.specs.declared.nodes.standing.TreeItem.{TreeItem}
-use Rattle.cacache_disk.specs.AllStanding.{all_standing}
-use Rattle.cacache_disk.specs.Rooted.{Rooted}
-use Rattle.cacache_disk.specs.Tree.{Tree}
-use Rattle.cacache_memory.specs.ForeignLog.{logged, foreign_log}
-use Rattle.cacache_memory.specs.Replay.{IsReplayable, replay, tree_of}
-use Rattle.cacache_memory.proofs.ForeignLogs.{foreign_leads}
-use Rattle.cacache_memory.proofs.LogSteps.{tree_of-push}
+use Rattle.cacache_disk.specs.{declared.nodes.standing.TreeItem.{TreeItem}, AllStanding.{all_standing}, Rooted.{Rooted}, Tree.{Tree}}
+use Rattle.cacache_memory.{specs.{ForeignLog.{logged, foreign_log}, Replay.{IsReplayable, replay, tree_of}}, proofs.{ForeignLogs.{foreign_leads}, LogSteps.{tree_of-push}}}
 
 -- the rest can happen on the store's tree, and leads to the disk's
 pub record Receives (d : Tree) (log : List LogItem) (rest : List TreeItem) : Type 0 where

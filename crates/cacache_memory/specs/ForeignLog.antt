@@ -1,14 +1,7 @@
 -- The log of a store that begins with all that stands on a disk.
 use Rattle.std.specs.Prelude.{ℕ, List, map as each}
-use Rattle.cacache_store.specs.declared.store.step.Step.TheVariants.{Symlink}
-use Rattle.cacache_store.specs.declared.store.answer.Answer.TheVariants.{Done}
-use Rattle.cacache_store.specs.declared.store.log.LogItem.{LogItem}
-use Rattle.cacache_store.specs.declared.store.log.LogItem.TheVariants.{Made, Foreign, ForeignFolder}
-use Rattle.cacache_disk.specs.declared.nodes.standing.TreeItem.{TreeItem}
-use Rattle.cacache_disk.specs.declared.nodes.standing.TreeNode.{TreeNode}
-use Rattle.cacache_disk.specs.declared.nodes.standing.TreeNode.TheVariants.{Folder, File, Link}
-use Rattle.cacache_disk.specs.Tree.{Tree}
-use Rattle.cacache_disk.specs.AllStanding.{all_standing}
+use Rattle.cacache_store.specs.declared.store.{step.Step.TheVariants.{Symlink}, answer.Answer.TheVariants.{Done}, log.LogItem.{LogItem, TheVariants.{Made, Foreign, ForeignFolder}}}
+use Rattle.cacache_disk.specs.{declared.nodes.standing.{TreeItem.{TreeItem}, TreeNode.{TreeNode, TheVariants.{Folder, File, Link}}}, Tree.{Tree}, AllStanding.{all_standing}}
 
 -- a folder or file is somebody else's; a link is a step that was done, since no item is a foreign link
 abbrev pub logged_at : List ℕ → TreeNode → LogItem

@@ -1,8 +1,6 @@
 -- When nothing is planted.
 use Rattle.std.specs.Prelude.{◌≡◌, Option, None, Some, Result, Ok, Err}
-use Rattle.cacache_core.specs.declared.errors.Error.{Error}
-use Rattle.cacache_core.specs.declared.errors.Error.TheVariants.{IoError, OutOfMemory}
-use Rattle.cacache_core.specs.declared.errors.Fault.{Fault}
+use Rattle.cacache_core.specs.declared.errors.{Error.{Error, TheVariants.{IoError, OutOfMemory}}, Fault.{Fault}}
 
 -- an error that is the fault's, or comes from memory
 abbrev pub IsDueTo : Option Fault → Error → Type 0

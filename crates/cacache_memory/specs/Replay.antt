@@ -1,15 +1,8 @@
 -- The tree that a log leads to, from a bare disk on.
-use Rattle.std.specs.Prelude.{◌≡◌, ℕ, List, [], ◌∷◌, Option, None, Some, Result, Ok, Err}
-use Rattle.std.specs.Result.{result_err}
+use Rattle.std.specs.{Prelude.{◌≡◌, ℕ, List, [], ◌∷◌, Option, None, Some, Result, Ok, Err}, Result.{result_err}}
 use Rattle.cacache_core.specs.declared.errors.Fault.{Fault}
-use Rattle.cacache_store.specs.declared.store.step.Step.TheVariants.{MakeDirs, ReadAll}
-use Rattle.cacache_store.specs.declared.store.answer.Answer.TheVariants.{Done, Bytes, NoMemory}
-use Rattle.cacache_store.specs.declared.store.log.LogItem.{LogItem}
-use Rattle.cacache_store.specs.declared.store.log.LogItem.TheVariants.{Made, Foreign, ForeignFolder}
-use Rattle.cacache_store.specs.Plain.{PlainStep, PlainAnswer}
-use Rattle.cacache_disk.specs.declared.luck.Luck.TheVariants.{Plain}
-use Rattle.cacache_disk.specs.Tree.{Tree, bare}
-use Rattle.cacache_disk.specs.Apply.{apply, planted}
+use Rattle.cacache_store.specs.{declared.store.{step.Step.TheVariants.{MakeDirs, ReadAll}, answer.Answer.TheVariants.{Done, Bytes, NoMemory}, log.LogItem.{LogItem, TheVariants.{Made, Foreign, ForeignFolder}}}, Plain.{PlainStep, PlainAnswer}}
+use Rattle.cacache_disk.specs.{declared.luck.Luck.TheVariants.{Plain}, Tree.{Tree, bare}, Apply.{apply, planted}}
 
 -- the new tree, or the old one where something failed
 abbrev pub changed : Tree → Result Tree Fault → Tree

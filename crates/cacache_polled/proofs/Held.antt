@@ -1,21 +1,10 @@
 -- What is held is what was answered, and then the bytes of at most one finished write, over every list of polls and completions.
-use Rattle.std.proofs.Common.{◌≡◌, ℕ, Bool, true, false, List, [], ◌∷◌, ◌++◌, length, take, Option, Some, None, Result, Ok, Err, nat_le, refl, ◌∙◌, ap, arith, append-nil}
+use Rattle.std.proofs.{Common.{◌≡◌, ℕ, Bool, true, false, List, [], ◌∷◌, ◌++◌, length, take, Option, Some, None, Result, Ok, Err, nat_le, refl, ◌∙◌, ap, arith, append-nil}, lemmas.{Slice.Eq.{bytes_eq-Decides}, Grind.{common_steps}}}
 use Rattle.std.specs.Prelude.{bytes_eq, if◌then◌else◌, ⊤}
-use Rattle.std.proofs.lemmas.Slice.Eq.{bytes_eq-Decides}
-use Rattle.std.proofs.lemmas.Grind.{common_steps}
-use Rattle.cacache_core.specs.declared.errors.Fault.{Fault}
-use Rattle.cacache_core.specs.declared.errors.Fault.TheVariants.{OtherBytes}
-use Rattle.cacache_polled.specs.declared.kinds.Work.TheVariants.{Write, Flush, Remove}
-use Rattle.cacache_polled.specs.declared.kinds.State.{State}
-use Rattle.cacache_polled.specs.declared.kinds.State.TheVariants.{Idle, Busy, Closed}
-use Rattle.cacache_polled.specs.declared.kinds.Finished.{Finished}
-use Rattle.cacache_polled.specs.declared.kinds.Desk.{Desk}
-use Rattle.cacache_polled.specs.declared.kinds.Polled.{Polled}
+use Rattle.cacache_core.specs.declared.errors.Fault.{Fault, TheVariants.{OtherBytes}}
+use Rattle.cacache_polled.specs.{declared.kinds.{Work.TheVariants.{Write, Flush, Remove}, State.{State, TheVariants.{Idle, Busy, Closed}}, Finished.{Finished}, Desk.{Desk}, Polled.{Polled}, Completion.{Completion}}, Table.{fresh, Ask, ask_write, ask_flush, ask_close, write_idle, write_again, write_flushing, write_in, flush_idle, flush_in, close_closed, close_in, polled, ended, wrote}, Events.{Seen, Event, asks, ends, taken_by, after_ending, happens, follow, seen, unanswered, bytes_taken}}
 use Rattle.cacache_polled.specs.declared.kinds.Polled.TheVariants as polls
-use Rattle.cacache_polled.specs.declared.kinds.Completion.{Completion}
 use Rattle.cacache_polled.specs.declared.kinds.Completion.TheVariants as done
-use Rattle.cacache_polled.specs.Table.{fresh, Ask, ask_write, ask_flush, ask_close, write_idle, write_again, write_flushing, write_in, flush_idle, flush_in, close_closed, close_in, polled, ended, wrote}
-use Rattle.cacache_polled.specs.Events.{Seen, Event, asks, ends, taken_by, after_ending, happens, follow, seen, unanswered, bytes_taken}
 
 abbrev pub WritesAlone : State → Option Finished → Type 0
 WritesAlone (Busy (Write b)) f = f ≡ None

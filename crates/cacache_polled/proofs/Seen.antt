@@ -1,13 +1,7 @@
 -- One poll or completion more.
-use Rattle.std.proofs.Common.{◌≡◌, ℕ, List, [], ◌∷◌, ◌++◌, Option, Some, None, Result, Ok, Err, refl, sym, ◌∙◌, ap, subst}
-use Rattle.std.specs.Prelude.{IfNone, IfSome, IfOk, IsOk, ⊤}
+use Rattle.std.{proofs.Common.{◌≡◌, ℕ, List, [], ◌∷◌, ◌++◌, Option, Some, None, Result, Ok, Err, refl, sym, ◌∙◌, ap, subst}, specs.Prelude.{IfNone, IfSome, IfOk, IsOk, ⊤}}
 use Rattle.cacache_core.specs.declared.errors.Error.{Error}
-use Rattle.cacache_polled.specs.declared.kinds.Desk.{Desk}
-use Rattle.cacache_polled.specs.declared.kinds.Polled.{Polled}
-use Rattle.cacache_polled.specs.declared.kinds.Completion.{Completion}
-use Rattle.cacache_polled.specs.declared.writer_core.WriterCore.{WriterCore}
-use Rattle.cacache_polled.specs.Table.{Ask, fresh, polled, completed}
-use Rattle.cacache_polled.specs.Events.{Seen, Event, asks, ends, happens, after_ending, follow, seen, Answered, Ended, HasHeld, HasSeen}
+use Rattle.cacache_polled.specs.{declared.{kinds.{Desk.{Desk}, Polled.{Polled}, Completion.{Completion}}, writer_core.WriterCore.{WriterCore}}, Table.{Ask, fresh, polled, completed}, Events.{Seen, Event, asks, ends, happens, after_ending, follow, seen, Answered, Ended, HasHeld, HasSeen}}
 
 follow-snoc : (s : Seen) (es : List Event) (e : Event) → follow s (es ++ e ∷ []) ≡ happens (follow s es) e
 follow-snoc s [] e = refl

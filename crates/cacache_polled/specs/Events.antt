@@ -1,22 +1,9 @@
 -- Lists of polls and completions: what was answered and what is held after them.
 use Rattle.std.specs.Prelude.{◌≡◌, ◌-◌, ◌^◌, ℕ, List, [], ◌∷◌, ◌++◌, length, min, take, Option, Some, None, Result, Ok, Err, IsOk, IfOk, IfErr, IfSome, IfNone, ⊤, if◌then◌else◌}
-use Rattle.cacache_core.specs.declared.errors.Error.{Error}
-use Rattle.cacache_core.specs.declared.errors.Error.TheVariants.{OutOfMemory}
-use Rattle.cacache_core.specs.declared.errors.Fault.{Fault}
-use Rattle.cacache_core.specs.Hashers.{Holds, algorithm_of}
-use Rattle.cacache_core.specs.Integrity.{integrity_under}
-use Rattle.cacache_polled.specs.declared.kinds.Work.TheVariants.{Write}
-use Rattle.cacache_polled.specs.declared.kinds.State.{State}
-use Rattle.cacache_polled.specs.declared.kinds.State.TheVariants.{Idle, Busy, Closed}
-use Rattle.cacache_polled.specs.declared.kinds.Finished.{Finished}
-use Rattle.cacache_polled.specs.declared.kinds.Desk.{Desk}
-use Rattle.cacache_polled.specs.declared.kinds.Polled.{Polled}
+use Rattle.cacache_core.specs.{declared.errors.{Error.{Error, TheVariants.{OutOfMemory}}, Fault.{Fault}}, Hashers.{Holds, algorithm_of}, Integrity.{integrity_under}}
+use Rattle.cacache_polled.specs.{declared.{kinds.{Work.TheVariants.{Write}, State.{State, TheVariants.{Idle, Busy, Closed}}, Finished.{Finished}, Desk.{Desk}, Polled.{Polled}, Completion.{Completion}, Finish.{Finish}}, writer_core.WriterCore.{WriterCore}}, Table.{Ask, ask_write, fresh, polled, completed}}
 use Rattle.cacache_polled.specs.declared.kinds.Polled.TheVariants as polls
-use Rattle.cacache_polled.specs.declared.kinds.Completion.{Completion}
-use Rattle.cacache_polled.specs.declared.kinds.Finish.{Finish}
 use Rattle.cacache_polled.specs.declared.kinds.Finish.TheVariants as finish
-use Rattle.cacache_polled.specs.declared.writer_core.WriterCore.{WriterCore}
-use Rattle.cacache_polled.specs.Table.{Ask, ask_write, fresh, polled, completed}
 
 -- a poll, or a completion of the work that is out
 pub data Event : Type 0 where

@@ -2,10 +2,7 @@
 use Rattle.std.specs.Prelude.{◌≡◌, ℕ, List, [], ◌∷◌}
 use Rattle.cacache_core.specs.declared.errors.Fault.TheVariants.{Device, OtherBytes, Closed}
 use Rattle.cacache_polled.specs.declared.kinds.Work.TheVariants as work
-use Rattle.cacache_polled.specs.declared.kinds.Polled.TheVariants.{Pending, Start, Done, Failed as Says, Wrote as Took}
-use Rattle.cacache_polled.specs.declared.kinds.Completion.TheVariants.{Wrote, Failed, Flushed}
-use Rattle.cacache_polled.specs.Table.{ask_write, ask_flush, ask_close}
-use Rattle.cacache_polled.specs.Events.{asks, ends, Answer, says, accepted, refused, answers, seen}
+use Rattle.cacache_polled.specs.{declared.kinds.{Polled.TheVariants.{Pending, Start, Done, Failed as Says, Wrote as Took}, Completion.TheVariants.{Wrote, Failed, Flushed}}, Table.{ask_write, ask_flush, ask_close}, Events.{asks, ends, Answer, says, accepted, refused, answers, seen}}
 
 abbrev pub abc : List ℕ
 abc = 97 ∷ 98 ∷ 99 ∷ []

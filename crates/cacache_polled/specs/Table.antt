@@ -2,16 +2,9 @@
 use Rattle.std.specs.Prelude.{ℕ, true, false, List, [], ◌∷◌, length, take, Option, Some, None, Result, Ok, Err, ⊤, nat_le, bytes_eq, if◌then◌else◌}
 use Rattle.cacache_core.specs.declared.errors.Fault.{Fault}
 use Rattle.cacache_core.specs.declared.errors.Fault.TheVariants as fault
-use Rattle.cacache_polled.specs.declared.kinds.Work.TheVariants.{Write, Flush, Remove}
-use Rattle.cacache_polled.specs.declared.kinds.State.{State}
-use Rattle.cacache_polled.specs.declared.kinds.State.TheVariants.{Idle, Busy, Closed}
-use Rattle.cacache_polled.specs.declared.kinds.Finished.{Finished}
-use Rattle.cacache_polled.specs.declared.kinds.Desk.{Desk}
-use Rattle.cacache_polled.specs.declared.kinds.Request.{Request}
+use Rattle.cacache_polled.specs.declared.kinds.{Work.TheVariants.{Write, Flush, Remove}, State.{State, TheVariants.{Idle, Busy, Closed}}, Finished.{Finished}, Desk.{Desk}, Request.{Request}, Polled.{Polled}, Completion.{Completion}}
 use Rattle.cacache_polled.specs.declared.kinds.Request.TheVariants as poll
-use Rattle.cacache_polled.specs.declared.kinds.Polled.{Polled}
 use Rattle.cacache_polled.specs.declared.kinds.Polled.TheVariants as polls
-use Rattle.cacache_polled.specs.declared.kinds.Completion.{Completion}
 use Rattle.cacache_polled.specs.declared.kinds.Completion.TheVariants as done
 
 abbrev pub fresh : Desk

@@ -1,8 +1,5 @@
 -- What one write after another puts on an output.
-use Rattle.std.proofs.Common.{ℕ, ◌+◌, ◌-◌, List, [], Option, length, take, drop, subst, append-nil}
-use Rattle.std.proofs.Math.Seq.{take-add}
-use Rattle.std.proofs.lemmas.List.{take_rest}
-use Rattle.std.proofs.KnownBytes.{Appends-nil, Appends-trans, Appends-kept}
+use Rattle.std.proofs.{Common.{ℕ, ◌+◌, ◌-◌, List, [], Option, length, take, drop, subst, append-nil}, Math.Seq.{take-add}, lemmas.List.{take_rest}, KnownBytes.{Appends-nil, Appends-trans, Appends-kept}}
 use Rattle.std.specs.Io.KnownBytes.{Appends, Keeps}
 
 -- bytes that are kept grow by none

@@ -1,6 +1,5 @@
 -- What was asked for, once the words were parsed.
-use Rattle.std.proofs.Common.{◌≡◌, ◌∙◌, List, ℕ, Option, Some, None, IfNone, IfSome, ap, false, nat_eq, subst, sym}
-use Rattle.std.specs.Cmp.Lexicographic.{other_text, pointwise}
+use Rattle.std.{proofs.Common.{◌≡◌, ◌∙◌, List, ℕ, Option, Some, None, IfNone, IfSome, ap, false, nat_eq, subst, sym}, specs.Cmp.Lexicographic.{other_text, pointwise}}
 use Rattle.cacache_program.specs.Words.{Asked, Keyed, Unkeyed, these_asked}
 
 -- a fact that holds holds where there is no value

@@ -1,8 +1,5 @@
 -- Lines that are named one after another.
-use Rattle.std.proofs.Common.{◌≡◌, ℕ, List, [], ◌∷◌, ◌++◌, map, ap, ◌∙◌, append-nil}
-use Rattle.std.specs.List.{flat_map}
-use Rattle.std.proofs.lemmas.List.{map-append}
-use Rattle.std.proofs.lemmas.Grind.{flat_map-append}
+use Rattle.std.{proofs.{Common.{◌≡◌, ℕ, List, [], ◌∷◌, ◌++◌, map, ap, ◌∙◌, append-nil}, lemmas.{List.{map-append}, Grind.{flat_map-append}}}, specs.List.{flat_map}}
 
 -- one line more
 pub line_more : {Y : Type 0} (line : Y → List ℕ) (ys : List Y) (y : Y) → flat_map line (ys ++ y ∷ []) ≡ flat_map line ys ++ line y

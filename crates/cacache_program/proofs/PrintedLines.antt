@@ -1,14 +1,8 @@
 -- Lines that come together item by item, lines in order, and items without their messages.
-use Rattle.std.proofs.Common.{◌≡◌, ℕ, ◌+◌, ◌<◌, List, [], ◌∷◌, ◌++◌, ◌||◌, Bool, Ok, Err, Option, map, is_err, refl, sym, subst, ap, ◌∙◌, length, take, get_or, filter_map, option_to_list, arith, append-nil, append_assoc}
-use Rattle.std.proofs.lemmas.List.{get_or-map, length-map, map_more}
-use Rattle.std.proofs.lemmas.List.Elements.{filter_map-append}
-use Rattle.std.proofs.lemmas.List.Folds.{list_any-append}
-use Rattle.std.proofs.lemmas.Grind.{flat_map-append}
+use Rattle.std.proofs.{Common.{◌≡◌, ℕ, ◌+◌, ◌<◌, List, [], ◌∷◌, ◌++◌, ◌||◌, Bool, Ok, Err, Option, map, is_err, refl, sym, subst, ap, ◌∙◌, length, take, get_or, filter_map, option_to_list, arith, append-nil, append_assoc}, lemmas.{List.{get_or-map, length-map, map_more, Elements.{filter_map-append}, Folds.{list_any-append}}, Grind.{flat_map-append}}}
 use Rattle.std.specs.List.Sorted.{IsSortedBy}
 use Rattle.cacache.specs.Calls.{Item, plain_item}
-use Rattle.cacache_program.specs.declared.lines.Line.{Line as HeldLine}
-use Rattle.cacache_program.specs.WordLs.{Line, IsPrintedListing, PutsListing, line_in, has_error, listing_text}
-use Rattle.cacache_program.specs.Lines.{line_view}
+use Rattle.cacache_program.specs.{declared.lines.Line.{Line as HeldLine}, WordLs.{Line, IsPrintedListing, PutsListing, line_in, has_error, listing_text}, Lines.{line_view}}
 
 -- ---- item by item
 

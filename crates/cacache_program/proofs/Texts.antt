@@ -1,8 +1,7 @@
 -- What is printed of a lookup isn't empty.
 use Rattle.std.proofs.Common.{◌+◌, ◌<◌, ℕ, List, [], ◌∷◌, ◌++◌, Option, Some, None, length, arith, length-append}
 use Rattle.cacache.specs.Entries.{Found}
-use Rattle.cacache_program.specs.PrintedEntries.{entry_text}
-use Rattle.cacache_program.specs.WordFind.{found_line}
+use Rattle.cacache_program.specs.{PrintedEntries.{entry_text}, WordFind.{found_line}}
 
 -- what is printed of a lookup has a byte at least
 pub found_line_has_bytes : (found : Option Found) → 0 < length (found_line found)

@@ -1,7 +1,6 @@
 -- How a word of the program `cacache-keep` fails.
 use Rattle.std.specs.Prelude.{◌≡◌, ℕ, List, Option}
-use Rattle.cacache.specs.Stores.{LogItem}
-use Rattle.cacache.specs.Calls.{Env, Error}
+use Rattle.cacache.specs.{Stores.{LogItem}, Calls.{Env, Error}}
 
 -- an error ended the call, as this says of the log, and nothing was put out
 abbrev pub Fails :

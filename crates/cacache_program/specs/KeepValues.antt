@@ -1,19 +1,8 @@
 -- What is printed of the values that the calls of `cacache-keep` give.
 use Rattle.std.specs.Prelude.{ℕ, List, Option, length, map, string_bytes}
 use Rattle.cacache.specs.Entries.{found_view}
-use Rattle.cacache_keep.specs.declared.collecting.Collected.{Collected}
-use Rattle.cacache_keep.specs.declared.compacting.Compacted.{Compacted}
-use Rattle.cacache_keep.specs.declared.planning.Planned.{Planned}
-use Rattle.cacache_keep.specs.declared.repairing.Repaired.{Repaired}
-use Rattle.cacache_keep.specs.declared.sweeping.Swept.{Swept}
-use Rattle.cacache_keep.specs.declared.verifying.Verdict.{Verdict}
-use Rattle.cacache_program.specs.WordCollect.{collected_text}
-use Rattle.cacache_program.specs.WordCompact.{compacted_text}
-use Rattle.cacache_program.specs.WordList.{TellsList, listed_text}
-use Rattle.cacache_program.specs.WordPlan.{planned_text}
-use Rattle.cacache_program.specs.WordRepair.{repaired_text}
-use Rattle.cacache_program.specs.WordSweep.{swept_text}
-use Rattle.cacache_program.specs.WordVerify.{TellsVerdict, verdict_status, verdict_text}
+use Rattle.cacache_keep.specs.declared.{collecting.Collected.{Collected}, compacting.Compacted.{Compacted}, planning.Planned.{Planned}, repairing.Repaired.{Repaired}, sweeping.Swept.{Swept}, verifying.Verdict.{Verdict}}
+use Rattle.cacache_program.specs.{WordCollect.{collected_text}, WordCompact.{compacted_text}, WordList.{TellsList, listed_text}, WordPlan.{planned_text}, WordRepair.{repaired_text}, WordSweep.{swept_text}, WordVerify.{TellsVerdict, verdict_status, verdict_text}}
 
 -- ---- a verification
 

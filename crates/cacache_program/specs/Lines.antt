@@ -1,8 +1,6 @@
 -- Lines as the program holds them.
 use Rattle.std.specs.Prelude.{List, map, string_bytes}
-use Rattle.cacache_program.specs.declared.lines.Line.{Line as HeldLine}
-use Rattle.cacache_program.specs.declared.lines.Lines.{Lines}
-use Rattle.cacache_program.specs.WordLs.{Line}
+use Rattle.cacache_program.specs.{declared.lines.{Line.{Line as HeldLine}, Lines.{Lines}}, WordLs.{Line}}
 
 -- the line that a value stands for
 abbrev pub line_view : HeldLine → Line

@@ -1,6 +1,5 @@
 -- How a word ends: what it put out, and its status.
-use Rattle.std.specs.Prelude.{◌≡◌, ◌<◌, ◌⊎◌, ℕ, List, Option, Some, None, length, take}
-use Rattle.std.specs.Io.KnownBytes.{Appends}
+use Rattle.std.specs.{Prelude.{◌≡◌, ◌<◌, ◌⊎◌, ℕ, List, Option, Some, None, length, take}, Io.KnownBytes.{Appends}}
 use Rattle.cacache.specs.Calls.{Reply, Refused}
 
 -- known bytes grow by a beginning of these, and not by all of them

@@ -1,7 +1,6 @@
 -- The word `clear`.
 use Rattle.std.specs.Prelude.{◌≡◌, ℕ, List, Option}
-use Rattle.cacache.specs.Stores.{LogItem}
-use Rattle.cacache.specs.Calls.{Env, Reply, Clear, Calls}
+use Rattle.cacache.specs.{Stores.{LogItem}, Calls.{Env, Reply, Clear, Calls}}
 use Rattle.cacache_program.specs.Output.{status_of}
 
 -- the log gained a run of the clearing, whose reply gives the status

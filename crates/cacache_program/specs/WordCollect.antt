@@ -1,13 +1,10 @@
 -- The word `collect` of the program `cacache-keep`.
-use Rattle.std.specs.Prelude.{◌⊎◌, ◌++◌, ℕ, List, Option, codes, length}
-use Rattle.std.specs.Fmt.{decimal}
+use Rattle.std.specs.{Prelude.{◌⊎◌, ◌++◌, ℕ, List, Option, codes, length}, Fmt.{decimal}}
 use Rattle.cacache_core.specs.declared.integrity.digest.Hash.{Hash}
-use Rattle.cacache.specs.Stores.{LogItem}
-use Rattle.cacache.specs.Calls.{Env, KeepsRest}
+use Rattle.cacache.specs.{Stores.{LogItem}, Calls.{Env, KeepsRest}}
 use Rattle.cacache_jobs.specs.Sites.{site_of}
 use Rattle.cacache_keep.specs.Keeping.{Collects, StopsCollecting}
-use Rattle.cacache_program.specs.KeepFails.{Fails}
-use Rattle.cacache_program.specs.Output.{PutsOut}
+use Rattle.cacache_program.specs.{KeepFails.{Fails}, Output.{PutsOut}}
 
 -- how many contents were kept and dropped, a line each
 abbrev pub collected_text : ℕ → ℕ → List ℕ

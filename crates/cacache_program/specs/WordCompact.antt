@@ -1,11 +1,8 @@
 -- The word `compact` of the program `cacache-keep`.
-use Rattle.std.specs.Prelude.{◌≡◌, ◌⊎◌, ◌++◌, ℕ, List, false, Option, codes}
-use Rattle.std.specs.Fmt.{decimal}
-use Rattle.cacache.specs.Stores.{LogItem}
-use Rattle.cacache.specs.Calls.{Env}
+use Rattle.std.specs.{Prelude.{◌≡◌, ◌⊎◌, ◌++◌, ℕ, List, false, Option, codes}, Fmt.{decimal}}
+use Rattle.cacache.specs.{Stores.{LogItem}, Calls.{Env}}
 use Rattle.cacache_keep.specs.Compacting.{CompactsCache, StopsCompacting}
-use Rattle.cacache_program.specs.KeepFails.{Fails}
-use Rattle.cacache_program.specs.Output.{PutsOut}
+use Rattle.cacache_program.specs.{KeepFails.{Fails}, Output.{PutsOut}}
 
 -- how many buckets were written anew, and how many bytes that saved, a line each
 abbrev pub compacted_text : ℕ → ℕ → List ℕ

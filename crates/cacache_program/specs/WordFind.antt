@@ -1,10 +1,7 @@
 -- The word `find`.
 use Rattle.std.specs.Prelude.{ℕ, List, [], ◌∷◌, ◌++◌, Option, Some, None, codes}
-use Rattle.cacache.specs.Stores.{LogItem}
-use Rattle.cacache.specs.Calls.{Env, Reply, Find, LookedUp, Calls}
-use Rattle.cacache.specs.Entries.{Found}
-use Rattle.cacache_program.specs.Output.{PutsOutOrFails}
-use Rattle.cacache_program.specs.PrintedEntries.{entry_text}
+use Rattle.cacache.specs.{Stores.{LogItem}, Calls.{Env, Reply, Find, LookedUp, Calls}, Entries.{Found}}
+use Rattle.cacache_program.specs.{Output.{PutsOutOrFails}, PrintedEntries.{entry_text}}
 
 -- the entry's text or `none`, and a line feed
 abbrev pub found_line : Option Found → List ℕ

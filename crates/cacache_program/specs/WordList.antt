@@ -1,14 +1,8 @@
 -- The words `verify --list` of the program `cacache-keep`.
-use Rattle.std.specs.Prelude.{◌≡◌, ◌++◌, ℕ, List, [], ◌∷◌, Option, codes, length}
-use Rattle.std.specs.List.{flat_map}
+use Rattle.std.specs.{Prelude.{◌≡◌, ◌++◌, ℕ, List, [], ◌∷◌, Option, codes, length}, List.{flat_map}}
 use Rattle.cacache_core.specs.declared.integrity.digest.Hash.{Hash}
-use Rattle.cacache.specs.Stores.{LogItem}
-use Rattle.cacache.specs.Calls.{Env}
-use Rattle.cacache.specs.Entries.{Found}
-use Rattle.cacache.specs.Integrities.{integrity_text}
-use Rattle.cacache_program.specs.Output.{PutsOutWith}
-use Rattle.cacache_program.specs.PrintedEntries.{entry_text}
-use Rattle.cacache_program.specs.WordVerify.{VerifiesTelling, verdict_status, verdict_text}
+use Rattle.cacache.specs.{Stores.{LogItem}, Calls.{Env}, Entries.{Found}, Integrities.{integrity_text}}
+use Rattle.cacache_program.specs.{Output.{PutsOutWith}, PrintedEntries.{entry_text}, WordVerify.{VerifiesTelling, verdict_status, verdict_text}}
 
 -- the line of a damaged content: its address
 abbrev pub damaged_line : List Hash → List ℕ

@@ -1,16 +1,7 @@
 -- The word `ls`.
-use Rattle.std.specs.Prelude.{◌≡◌, ◌⊎◌, ◌++◌, ◌∷◌, [], ℕ, List, Option, Some, None, Bool, true, false, Ok, Err, is_err, map, filter_map}
-use Rattle.std.specs.List.{list_any, flat_map}
-use Rattle.std.specs.List.Sorted.{IsPermutation, IsSorted}
-use Rattle.std.specs.Io.KnownBytes.{Appends}
-use Rattle.std.specs.Ordering.{nat_cmp, ordering_then}
-use Rattle.std.specs.Cmp.Lexicographic.{slice_cmp}
-use Rattle.std.specs.declared.cmp.Ordering.{Ordering}
-use Rattle.cacache.specs.Stores.{LogItem}
-use Rattle.cacache.specs.Calls.{Env, Reply, Ls, Listed, Calls, Item, plain_item}
-use Rattle.cacache.specs.Entries.{Found}
-use Rattle.cacache_program.specs.PrintedEntries.{entry_text}
-use Rattle.cacache_program.specs.Output.{AppendsPart, PutsOut}
+use Rattle.std.specs.{Prelude.{◌≡◌, ◌⊎◌, ◌++◌, ◌∷◌, [], ℕ, List, Option, Some, None, Bool, true, false, Ok, Err, is_err, map, filter_map}, List.{list_any, flat_map, Sorted.{IsPermutation, IsSorted}}, Io.KnownBytes.{Appends}, Ordering.{nat_cmp, ordering_then}, Cmp.Lexicographic.{slice_cmp}, declared.cmp.Ordering.{Ordering}}
+use Rattle.cacache.specs.{Stores.{LogItem}, Calls.{Env, Reply, Ls, Listed, Calls, Item, plain_item}, Entries.{Found}}
+use Rattle.cacache_program.specs.{PrintedEntries.{entry_text}, Output.{AppendsPart, PutsOut}}
 
 -- ---- the lines
 

@@ -1,12 +1,9 @@
 -- The word `plan` of the program `cacache-keep`.
-use Rattle.std.specs.Prelude.{◌⊎◌, ◌++◌, ℕ, List, Option, codes, length}
-use Rattle.std.specs.Fmt.{decimal}
-use Rattle.cacache.specs.Stores.{LogItem}
-use Rattle.cacache.specs.Calls.{Env, KeepsRest}
+use Rattle.std.specs.{Prelude.{◌⊎◌, ◌++◌, ℕ, List, Option, codes, length}, Fmt.{decimal}}
+use Rattle.cacache.specs.{Stores.{LogItem}, Calls.{Env, KeepsRest}}
 use Rattle.cacache_jobs.specs.Sites.{site_of}
 use Rattle.cacache_keep.specs.Planning.{PlansCache, Sized, StopsPlanning}
-use Rattle.cacache_program.specs.KeepFails.{Fails}
-use Rattle.cacache_program.specs.Output.{PutsOut}
+use Rattle.cacache_program.specs.{KeepFails.{Fails}, Output.{PutsOut}}
 
 -- how many contents a collection would keep, and how many no entry has, a line each
 abbrev pub planned_text : ℕ → ℕ → List ℕ

@@ -1,7 +1,6 @@
 -- The word `read`.
 use Rattle.std.specs.Prelude.{ℕ, List, Option, Some, None}
-use Rattle.cacache.specs.Stores.{LogItem}
-use Rattle.cacache.specs.Calls.{Env, Reply, Get, Read, Calls}
+use Rattle.cacache.specs.{Stores.{LogItem}, Calls.{Env, Reply, Get, Read, Calls}}
 use Rattle.cacache_program.specs.Output.{PutsOutOrFails}
 
 -- what is put out for a reply: the bytes alone

@@ -1,7 +1,6 @@
 -- The word `remove`.
 use Rattle.std.specs.Prelude.{◌≡◌, ℕ, List, Option, None}
-use Rattle.cacache.specs.Stores.{LogItem}
-use Rattle.cacache.specs.Calls.{Env, Reply, Delete, RunsTimed, delete_of}
+use Rattle.cacache.specs.{Stores.{LogItem}, Calls.{Env, Reply, Delete, RunsTimed, delete_of}}
 use Rattle.cacache_program.specs.Output.{status_of}
 
 -- the log gained a run of the deletion, whose reply gives the status

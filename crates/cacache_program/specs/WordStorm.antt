@@ -1,8 +1,5 @@
 -- The word `storm`.
-use Rattle.std.specs.Prelude.{◌≡◌, ◌⊎◌, ◌++◌, ◌&&◌, ℕ, Bool, false, List, Option, Some, None, codes, nat_le}
-use Rattle.std.specs.Fmt.{decimal}
-use Rattle.std.specs.Str.{all_ascii_digits}
-use Rattle.std.specs.Str.Parse.{digits_value}
+use Rattle.std.specs.{Prelude.{◌≡◌, ◌⊎◌, ◌++◌, ◌&&◌, ℕ, Bool, false, List, Option, Some, None, codes, nat_le}, Fmt.{decimal}, Str.{all_ascii_digits, Parse.{digits_value}}}
 use Rattle.cacache_program.specs.Output.{PutsOutOrFails}
 
 -- decimal digits alone, whose number is at least 1 and at most this

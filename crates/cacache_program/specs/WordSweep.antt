@@ -1,11 +1,8 @@
 -- The word `sweep` of the program `cacache-keep`.
-use Rattle.std.specs.Prelude.{◌⊎◌, ◌++◌, ℕ, List, Option, codes, length}
-use Rattle.std.specs.Fmt.{decimal}
-use Rattle.cacache.specs.Stores.{LogItem}
-use Rattle.cacache.specs.Calls.{Env, KeepsRest}
+use Rattle.std.specs.{Prelude.{◌⊎◌, ◌++◌, ℕ, List, Option, codes, length}, Fmt.{decimal}}
+use Rattle.cacache.specs.{Stores.{LogItem}, Calls.{Env, KeepsRest}}
 use Rattle.cacache_keep.specs.Sweeping.{StopsSweeping, SweepsCache}
-use Rattle.cacache_program.specs.KeepFails.{Fails}
-use Rattle.cacache_program.specs.Output.{PutsOut}
+use Rattle.cacache_program.specs.{KeepFails.{Fails}, Output.{PutsOut}}
 
 -- how many files were removed, how many bytes they had, and how many others are there, a line each
 abbrev pub swept_text : ℕ → ℕ → ℕ → List ℕ

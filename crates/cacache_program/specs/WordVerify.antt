@@ -1,14 +1,10 @@
 -- The word `verify` of the program `cacache-keep`.
-use Rattle.std.specs.Prelude.{◌⊎◌, ◌++◌, ◌==◌, ◌&&◌, ℕ, Bool, cond, List, Option, codes, length}
-use Rattle.std.specs.Fmt.{decimal}
+use Rattle.std.specs.{Prelude.{◌⊎◌, ◌++◌, ◌==◌, ◌&&◌, ℕ, Bool, cond, List, Option, codes, length}, Fmt.{decimal}}
 use Rattle.cacache_core.specs.declared.integrity.digest.Hash.{Hash}
-use Rattle.cacache.specs.Stores.{LogItem}
-use Rattle.cacache.specs.Calls.{Env, KeepsRest}
-use Rattle.cacache.specs.Entries.{Found}
+use Rattle.cacache.specs.{Stores.{LogItem}, Calls.{Env, KeepsRest}, Entries.{Found}}
 use Rattle.cacache_jobs.specs.Sites.{site_of}
 use Rattle.cacache_keep.specs.Keeping.{StopsVerifying, VerifiesCache}
-use Rattle.cacache_program.specs.KeepFails.{Fails}
-use Rattle.cacache_program.specs.Output.{PutsOutWith}
+use Rattle.cacache_program.specs.{KeepFails.{Fails}, Output.{PutsOutWith}}
 
 -- how many contents are good and damaged, entries dangle, and other files are there, a line each
 abbrev pub verdict_text : ℕ → ℕ → ℕ → ℕ → List ℕ

@@ -1,10 +1,7 @@
 -- The word `write`.
 use Rattle.std.specs.Prelude.{◌≡◌, ◌⊎◌, ℕ, List, [], ◌∷◌, ◌++◌, Option, IfSome, codes}
-use Rattle.cacache.specs.Integrities.{Sha256, integrity_under, integrity_text}
-use Rattle.cacache.specs.Stores.{LogItem}
-use Rattle.cacache.specs.Calls.{Env, Error, Reply, Stored, Refused, RunsPut, keyed_put}
-use Rattle.cacache_program.specs.Output.{PutsOut}
-use Rattle.cacache_program.specs.Words.{Asked, Keyed}
+use Rattle.cacache.specs.{Integrities.{Sha256, integrity_under, integrity_text}, Stores.{LogItem}, Calls.{Env, Error, Reply, Stored, Refused, RunsPut, keyed_put}}
+use Rattle.cacache_program.specs.{Output.{PutsOut}, Words.{Asked, Keyed}}
 
 -- the text of the integrity, and a line feed
 abbrev pub integrity_line : List ℕ → List ℕ

@@ -1,18 +1,10 @@
 -- A link's integrity is that of its whole target.
-use Rattle.std.proofs.Common.{◌≡◌, ℕ, List, Option, Some, None, Result, Ok, Err, subst}
-use Rattle.std.specs.Prelude.{IfOk}
-use Rattle.cacache_core.specs.declared.errors.Error.{Error}
-use Rattle.cacache_core.specs.declared.integrity.digest.Hash.{Hash}
+use Rattle.std.{proofs.Common.{◌≡◌, ℕ, List, Option, Some, None, Result, Ok, Err, subst}, specs.Prelude.{IfOk}}
+use Rattle.cacache_core.specs.declared.{errors.Error.{Error}, integrity.{digest.Hash.{Hash}, algorithm.Algorithm.TheVariants.{Sha256}}}
 use Rattle.cacache_store.specs.declared.store.log.LogItem.{LogItem}
-use Rattle.cacache_core.specs.declared.integrity.algorithm.Algorithm.TheVariants.{Sha256}
 use Rattle.cacache_table.specs.declared.command.Command.TheVariants as commands
-use Rattle.cacache_table.specs.declared.command.Options.{Options}
-use Rattle.cacache_table.specs.Runs.{reply_of}
-use Rattle.cacache_table.specs.declared.reply.Reply.TheVariants.{Stored}
-use Rattle.cacache_table.specs.Linking.{based, link_target}
-use Rattle.cacache_jobs.specs.ReadFirst.{Linked, ReadsFirst}
-use Rattle.cacache_jobs.specs.Sites.{site_of}
-use Rattle.cacache_table.specs.Blank.{blank}
+use Rattle.cacache_table.specs.{declared.{command.Options.{Options}, reply.Reply.TheVariants.{Stored}}, Runs.{reply_of}, Linking.{based, link_target}, Blank.{blank}}
+use Rattle.cacache_jobs.specs.{ReadFirst.{Linked, ReadsFirst}, Sites.{site_of}}
 use Rattle.cacache_put.specs.LinkCalls.{link_to, HoldsTarget}
 
 -- a link of blank options, by what its parts are

@@ -1,36 +1,14 @@
 -- How the openings and the rest of a link follow the table.
-use Rattle.std.proofs.Common.{◌≡◌, ◌==◌, inl, inr, ℕ, List, [], ◌∷◌, ◌++◌, map, length, Option, Some, None, Result, Ok, Err, true, false, refl, sym, ◌∙◌, ap, subst, append_assoc, arith}
-use Rattle.std.proofs.lemmas.Bool.{eqb-true}
-use Rattle.std.proofs.lemmas.List.{map-append}
-use Rattle.cacache_core.specs.declared.errors.Error.{Error}
-use Rattle.cacache_core.specs.declared.errors.Error.TheVariants.{OutOfMemory}
+use Rattle.std.proofs.{Common.{◌≡◌, ◌==◌, inl, inr, ℕ, List, [], ◌∷◌, ◌++◌, map, length, Option, Some, None, Result, Ok, Err, true, false, refl, sym, ◌∙◌, ap, subst, append_assoc, arith}, lemmas.{Bool.{eqb-true}, List.{map-append}}}
+use Rattle.cacache_core.specs.declared.errors.Error.{Error, TheVariants.{OutOfMemory}}
 use Rattle.cacache_store.specs.declared.store.answer.Answer.TheVariants as answers
-use Rattle.cacache_store.specs.declared.store.log.LogItem.{LogItem}
-use Rattle.cacache_store.specs.declared.store.log.LogItem.TheVariants.{Made}
-use Rattle.cacache_store.specs.declared.store.plain.PlainFile.{PlainFile}
+use Rattle.cacache_store.specs.{declared.store.{log.LogItem.{LogItem, TheVariants.{Made}}, plain.PlainFile.{PlainFile}}, Fits.{Fits, Logs, is_no_memory}, Plain.{PlainStep, PlainAnswer}}
 use Rattle.cacache_store.specs.declared.store.step.Step.TheVariants as steps
-use Rattle.cacache_store.specs.Fits.{Fits, Logs, is_no_memory}
-use Rattle.cacache_store.specs.Plain.{PlainStep, PlainAnswer}
-use Rattle.cacache_table.specs.declared.answers.Refusal.{Refusal}
-use Rattle.cacache_table.specs.declared.reply.Reply.{Reply}
-use Rattle.cacache_table.specs.declared.reply.Reply.TheVariants.{Refused}
-use Rattle.cacache_table.specs.Answers.{file_in, got_in, length_in}
-use Rattle.cacache_table.specs.Common.{fails, go_on, refuse}
-use Rattle.cacache_table.specs.Linking.{after_size, after_read}
-use Rattle.cacache_table.specs.Runs.{Moves, Runs, Goes, Gone, Gains, Ran, EndsAs, without_message}
-use Rattle.cacache_table.specs.State.{State, hashing, over, Hashing, to_link}
-use Rattle.cacache_table.specs.declared.target.Target.{Target}
-use Rattle.cacache_table.specs.Table.{wants, after, piece}
-use Rattle.cacache_table.proofs.Going.{answer_cases, no_gain, gone_nowhere, gone_on, gone_over, gone_lost, unmoved}
-use Rattle.cacache_table.proofs.Memory.{no_memory_after}
+use Rattle.cacache_table.specs.{declared.{answers.Refusal.{Refusal}, reply.Reply.{Reply, TheVariants.{Refused}}, target.Target.{Target}}, Answers.{file_in, got_in, length_in}, Common.{fails, go_on, refuse}, Linking.{after_size, after_read, target_at}, Runs.{Moves, Runs, Goes, Gone, Gains, Ran, EndsAs, without_message}, State.{State, hashing, over, Hashing, to_link}, Table.{wants, after, piece}, SingleSteps.{Does, FailsAt}}
+use Rattle.cacache_table.proofs.{Going.{answer_cases, no_gain, gone_nowhere, gone_on, gone_over, gone_lost, unmoved}, Memory.{no_memory_after}}
 use Rattle.cacache_jobs.proofs.Hashed.{more_read}
-use Rattle.cacache_put.specs.declared.linker.SyncToLinker.{SyncToLinker}
-use Rattle.cacache_content.specs.OpenReads.{FailsToOpen}
-use Rattle.cacache_table.specs.SingleSteps.{Does, FailsAt}
-use Rattle.cacache_content.proofs.StepAnswers.{Refuses, file_refused, refused_fails}
-use Rattle.cacache_put.specs.OpenLinkers.{AsksSize, HasSize, FailsToSize, OpensLinker, OpensSized, OpensTarget, LinkTarget, asks_size, asks_file}
-use Rattle.cacache_table.specs.Linking.{target_at}
-use Rattle.cacache_put.specs.Rest.{links}
+use Rattle.cacache_put.specs.{declared.linker.SyncToLinker.{SyncToLinker}, OpenLinkers.{AsksSize, HasSize, FailsToSize, OpensLinker, OpensSized, OpensTarget, LinkTarget, asks_size, asks_file}, Rest.{links}}
+use Rattle.cacache_content.{specs.OpenReads.{FailsToOpen}, proofs.StepAnswers.{Refuses, file_refused, refused_fails}}
 
 -- ---- one part of a run after another
 

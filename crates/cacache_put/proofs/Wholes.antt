@@ -1,32 +1,14 @@
 -- A link that is made stores its whole target.
-use Rattle.std.proofs.Common.{◌≡◌, inl, inr, ℕ, List, [], ◌∷◌, ◌++◌, Option, Result, Ok, Err, refl, sym, subst, append_assoc, append-nil}
-use Rattle.std.proofs.lemmas.Option.{same_Some}
+use Rattle.std.proofs.{Common.{◌≡◌, inl, inr, ℕ, List, [], ◌∷◌, ◌++◌, Option, Result, Ok, Err, refl, sym, subst, append_assoc, append-nil}, lemmas.Option.{same_Some}}
 use Rattle.std.specs.Prelude.{IfOk}
-use Rattle.cacache_core.specs.declared.errors.Error.{Error}
-use Rattle.cacache_core.specs.declared.errors.Error.TheVariants.{IoError, OutOfMemory}
-use Rattle.cacache_core.specs.declared.integrity.digest.Hash.{Hash}
+use Rattle.cacache_core.specs.declared.{errors.Error.{Error, TheVariants.{IoError, OutOfMemory}}, integrity.digest.Hash.{Hash}}
 use Rattle.cacache_store.specs.declared.store.answer.Answer.TheVariants as answers
-use Rattle.cacache_store.specs.declared.store.log.LogItem.{LogItem}
-use Rattle.cacache_store.specs.declared.store.plain.PlainFile.{PlainFile}
+use Rattle.cacache_store.specs.{declared.store.{log.LogItem.{LogItem}, plain.PlainFile.{PlainFile}}, Plain.{PlainAnswer}}
 use Rattle.cacache_store.specs.declared.store.step.Step.TheVariants as steps
-use Rattle.cacache_store.specs.Plain.{PlainAnswer}
-use Rattle.cacache_table.specs.declared.answers.Refusal.{Refusal}
-use Rattle.cacache_table.specs.declared.answers.Refusal.TheVariants as refusals
-use Rattle.cacache_table.specs.declared.reply.Reply.TheVariants.{Stored, Refused}
-use Rattle.cacache_table.specs.Answers.{got_in, refusal_in}
-use Rattle.cacache_table.specs.Common.{ends_with, fails, go_on, refuse}
-use Rattle.cacache_table.specs.Linking.{after_read, commit_for}
-use Rattle.cacache_table.specs.Promises.{Stores}
-use Rattle.cacache_table.specs.Runs.{Moves, Runs, Ran, reply_of}
-use Rattle.cacache_table.specs.State.{hashing, to_link}
-use Rattle.cacache_table.specs.declared.target.Target.{Target}
-use Rattle.cacache_table.specs.Table.{piece}
-use Rattle.cacache_table.specs.Verifying.{Gives}
+use Rattle.cacache_table.specs.{declared.{answers.Refusal.{Refusal}, reply.Reply.TheVariants.{Stored, Refused}, target.Target.{Target}}, Answers.{got_in, refusal_in}, Common.{ends_with, fails, go_on, refuse}, Linking.{after_read, commit_for, target_at}, Promises.{Stores}, Runs.{Moves, Runs, Ran, reply_of}, State.{hashing, to_link}, Table.{piece}, Verifying.{Gives}}
 use Rattle.cacache_table.proofs.Promises.{runs_keep}
-use Rattle.cacache_put.specs.declared.linker.SyncToLinker.{SyncToLinker}
-use Rattle.cacache_table.specs.Linking.{target_at}
-use Rattle.cacache_put.specs.OpenLinkers.{StoresWhole, stands_at}
-use Rattle.cacache_put.specs.Rest.{links}
+use Rattle.cacache_table.specs.declared.answers.Refusal.TheVariants as refusals
+use Rattle.cacache_put.specs.{declared.linker.SyncToLinker.{SyncToLinker}, OpenLinkers.{StoresWhole, stands_at}, Rest.{links}}
 
 module _ (t : Target ℕ) (i : List Hash) where
   -- a call that was refused stores nothing

@@ -1,15 +1,10 @@
 -- Open writers: how they are opened, and what their commit does.
 use Rattle.std.specs.Prelude.{◌≡◌, ℕ, List, Option, Result, Ok, Err}
 use Rattle.cacache_core.specs.declared.errors.Error.{Error}
-use Rattle.cacache_store.specs.declared.env.Env.{Env}
-use Rattle.cacache_store.specs.declared.store.log.LogItem.{LogItem}
-use Rattle.cacache_store.specs.declared.store.plain.PlainTemp.{PlainTemp}
-use Rattle.cacache_store.specs.Given.{AddsAnswer}
-use Rattle.cacache_table.specs.declared.reply.Reply.{Reply}
-use Rattle.cacache_table.specs.declared.carried.Commit.{Commit}
+use Rattle.cacache_store.specs.{declared.{env.Env.{Env}, store.{log.LogItem.{LogItem}, plain.PlainTemp.{PlainTemp}}}, Given.{AddsAnswer}}
+use Rattle.cacache_table.specs.declared.{reply.Reply.{Reply}, carried.Commit.{Commit}}
 use Rattle.cacache_content.specs.OpenWrites.{IsFresh, Makes, FailsToMake, EndsWriter, content_commit}
-use Rattle.cacache_put.specs.declared.writer.SyncWriter.{SyncWriter}
-use Rattle.cacache_put.specs.Options.{Said, options_of}
+use Rattle.cacache_put.specs.{declared.writer.SyncWriter.{SyncWriter}, Options.{Said, options_of}}
 use Rattle.cacache_jobs.specs.Environment.{MomentOf}
 
 -- the writer took nothing yet, and commits under this key with what was said

@@ -1,23 +1,12 @@
 -- What a link is asked to do, and what its integrity is that of.
 use Rattle.std.specs.Prelude.{◌≡◌, ℕ, List, ◌∷◌, Option, None}
-use Rattle.cacache_core.specs.declared.integrity.algorithm.Algorithm.TheVariants.{Sha256}
-use Rattle.cacache_core.specs.declared.integrity.digest.Hash.{Hash}
-use Rattle.cacache_core.specs.Integrity.{integrity_under}
-use Rattle.cacache_store.specs.declared.env.Env.{Env}
+use Rattle.cacache_core.specs.{declared.integrity.{algorithm.Algorithm.TheVariants.{Sha256}, digest.Hash.{Hash}}, Integrity.{integrity_under}}
+use Rattle.cacache_store.specs.declared.{env.Env.{Env}, store.log.LogItem.{LogItem}}
 use Rattle.cacache_store.specs.declared.store.step.Step.TheVariants as steps
 use Rattle.cacache_store.specs.declared.store.answer.Answer.TheVariants as answers
-use Rattle.cacache_store.specs.declared.store.log.LogItem.{LogItem}
 use Rattle.cacache_table.specs.declared.command.Command.TheVariants as commands
-use Rattle.cacache_table.specs.declared.command.Link.{Link}
-use Rattle.cacache_table.specs.declared.reply.Reply.{Reply}
-use Rattle.cacache_table.specs.declared.reply.Reply.TheVariants.{Stored}
-use Rattle.cacache_table.specs.Linking.{link_target}
-use Rattle.cacache_table.specs.Runs.{Moves, Gains}
-use Rattle.cacache_table.specs.Verifying.{ReadsWhole}
-use Rattle.cacache_table.specs.Blank.{blank}
-use Rattle.cacache_jobs.specs.Environment.{RunsTimed}
-use Rattle.cacache_jobs.specs.ReadFirst.{Linked}
-use Rattle.cacache_jobs.specs.Sites.{site_of}
+use Rattle.cacache_table.specs.{declared.{command.Link.{Link}, reply.Reply.{Reply, TheVariants.{Stored}}}, Linking.{link_target}, Runs.{Moves, Gains}, Verifying.{ReadsWhole}, Blank.{blank}}
+use Rattle.cacache_jobs.specs.{Environment.{RunsTimed}, ReadFirst.{Linked}, Sites.{site_of}}
 
 -- a link to a file; without a key the moment has no effect
 abbrev pub link_to : Option (List ℕ) → List ℕ → ℕ → Link

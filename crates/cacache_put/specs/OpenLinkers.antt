@@ -1,25 +1,12 @@
 -- Links whose target is read in pieces before they are made.
 use Rattle.std.specs.Prelude.{◌≡◌, ◌⊎◌, ◌-◌, ◌^◌, ◌++◌, ℕ, List, [], Option, None, Some, Result, Ok, Err, length, min}
-use Rattle.cacache_core.specs.declared.errors.Error.{Error}
-use Rattle.cacache_core.specs.declared.integrity.digest.Hash.{Hash}
-use Rattle.cacache_core.specs.Hashers.{Holds, algorithm_of}
-use Rattle.cacache_store.specs.declared.env.Env.{Env}
+use Rattle.cacache_core.specs.{declared.{errors.Error.{Error}, integrity.digest.Hash.{Hash}}, Hashers.{Holds, algorithm_of}}
+use Rattle.cacache_store.specs.declared.{env.Env.{Env}, store.{log.LogItem.{LogItem}, plain.PlainFile.{PlainFile}}}
 use Rattle.cacache_store.specs.declared.store.answer.Answer.TheVariants as answers
-use Rattle.cacache_store.specs.declared.store.log.LogItem.{LogItem}
-use Rattle.cacache_store.specs.declared.store.plain.PlainFile.{PlainFile}
 use Rattle.cacache_store.specs.declared.store.step.Step.TheVariants as steps
-use Rattle.cacache_table.specs.declared.reply.Reply.{Reply}
-use Rattle.cacache_table.specs.declared.reply.Reply.TheVariants.{Stored, Refused}
-use Rattle.cacache_table.specs.Linking.{commit_for, linked_to, with_size, target_at}
-use Rattle.cacache_table.specs.Promises.{Stores}
-use Rattle.cacache_table.specs.Runs.{Moves, Gains, Gone, Ran, without_message}
-use Rattle.cacache_table.specs.State.{State, sizing, opening_file, hashing, to_link}
-use Rattle.cacache_table.specs.Verifying.{Gives}
-use Rattle.cacache_put.specs.declared.linker.SyncToLinker.{SyncToLinker}
+use Rattle.cacache_table.specs.{declared.{reply.Reply.{Reply, TheVariants.{Stored, Refused}}, target.Target.{Target}}, Linking.{commit_for, linked_to, with_size, target_at}, Promises.{Stores}, Runs.{Moves, Gains, Gone, Ran, without_message}, State.{State, sizing, opening_file, hashing, to_link}, Verifying.{Gives}, SingleSteps.{Does, FailsAt}}
+use Rattle.cacache_put.specs.{declared.linker.SyncToLinker.{SyncToLinker}, Options.{Said, options_of}}
 use Rattle.cacache_content.specs.OpenReads.{OpensFile, FailsToOpen}
-use Rattle.cacache_table.specs.SingleSteps.{Does, FailsAt}
-use Rattle.cacache_put.specs.Options.{Said, options_of}
-use Rattle.cacache_table.specs.declared.target.Target.{Target}
 use Rattle.cacache_jobs.specs.Environment.{HasMoment, KeepsRest}
 
 -- a target that is to be linked to; where it has no moment, the clock is asked for it

@@ -1,9 +1,7 @@
 -- What the options of a writer say.
 use Rattle.std.specs.Prelude.{ℕ, Bool, false, List, Option, None}
 use Rattle.serde_json.specs.Data.{Data, null}
-use Rattle.cacache_core.specs.declared.integrity.algorithm.Algorithm.{Algorithm}
-use Rattle.cacache_core.specs.declared.integrity.algorithm.Algorithm.TheVariants.{Sha256}
-use Rattle.cacache_core.specs.declared.integrity.digest.Hash.{Hash}
+use Rattle.cacache_core.specs.declared.integrity.{algorithm.Algorithm.{Algorithm, TheVariants.{Sha256}}, digest.Hash.{Hash}}
 use Rattle.cacache_table.specs.declared.command.Options.{Options}
 
 -- what was said of a content and of its entry

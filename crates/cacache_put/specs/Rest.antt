@@ -1,19 +1,8 @@
 -- What reading the rest of a target does.
 use Rattle.std.specs.Prelude.{◌≡◌, ℕ, List, Option, Result, Ok, Err, length}
-use Rattle.cacache_core.specs.declared.errors.Error.{Error}
-use Rattle.cacache_core.specs.declared.integrity.digest.Hash.{Hash}
-use Rattle.cacache_core.specs.declared.integrity.hasher.Hasher.{Hasher}
-use Rattle.cacache_core.specs.Hashers.{Holds, algorithm_of}
-use Rattle.cacache_core.specs.Integrity.{integrity_under}
-use Rattle.cacache_store.specs.declared.store.log.LogItem.{LogItem}
-use Rattle.cacache_store.specs.declared.store.plain.PlainFile.{PlainFile}
-use Rattle.cacache_table.specs.declared.reply.Reply.{Reply}
-use Rattle.cacache_table.specs.declared.reply.Reply.TheVariants.{Refused}
-use Rattle.cacache_table.specs.Linking.{commit_for}
-use Rattle.cacache_table.specs.Runs.{Gone, Ran, without_message}
-use Rattle.cacache_table.specs.State.{State, hashing, to_link}
-use Rattle.cacache_table.specs.declared.target.Target.{Target}
-use Rattle.cacache_table.specs.Storing.{link}
+use Rattle.cacache_core.specs.{declared.{errors.Error.{Error}, integrity.{digest.Hash.{Hash}, hasher.Hasher.{Hasher}}}, Hashers.{Holds, algorithm_of}, Integrity.{integrity_under}}
+use Rattle.cacache_store.specs.declared.store.{log.LogItem.{LogItem}, plain.PlainFile.{PlainFile}}
+use Rattle.cacache_table.specs.{declared.{reply.Reply.{Reply, TheVariants.{Refused}}, target.Target.{Target}}, Linking.{commit_for}, Runs.{Gone, Ran, without_message}, State.{State, hashing, to_link}, Storing.{link}}
 
 -- a link is made of its target once these bytes were read of it, and no more
 abbrev pub links : Target ℕ → List ℕ → State

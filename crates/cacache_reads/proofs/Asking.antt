@@ -1,21 +1,11 @@
 -- A question is a run of one step.
 use Rattle.std.proofs.Common.{◌≡◌, inl, inr, ℕ, Bool, List, [], ◌∷◌, Option, Result, Ok, Err, refl, subst, ◌∙◌}
-use Rattle.cacache_core.specs.declared.errors.Error.{Error}
-use Rattle.cacache_core.specs.declared.integrity.digest.Hash.{Hash}
+use Rattle.cacache_core.specs.declared.{errors.Error.{Error}, integrity.digest.Hash.{Hash}}
 use Rattle.cacache_store.specs.declared.store.step.Step.TheVariants as steps
 use Rattle.cacache_store.specs.declared.store.answer.Answer.TheVariants as answers
-use Rattle.cacache_store.specs.declared.store.log.LogItem.{LogItem}
-use Rattle.cacache_store.specs.Plain.{PlainAnswer}
-use Rattle.cacache_store.specs.Fits.{Fits, Logs}
+use Rattle.cacache_store.specs.{declared.store.log.LogItem.{LogItem}, Plain.{PlainAnswer}, Fits.{Fits, Logs}}
 use Rattle.cacache_table.specs.declared.command.Command.TheVariants as commands
-use Rattle.cacache_table.specs.declared.reply.Reply.{Reply}
-use Rattle.cacache_table.specs.declared.reply.Reply.TheVariants.{Exists}
-use Rattle.cacache_table.specs.Answers.{there_in}
-use Rattle.cacache_table.specs.StepPaths.{content_path}
-use Rattle.cacache_table.specs.Replies.{there_reply}
-use Rattle.cacache_table.specs.Runs.{Ran, reply_of}
-use Rattle.cacache_table.specs.State.{Site}
-use Rattle.cacache_table.specs.Table.{opening}
+use Rattle.cacache_table.specs.{declared.reply.Reply.{Reply, TheVariants.{Exists}}, Answers.{there_in}, StepPaths.{content_path}, Replies.{there_reply}, Runs.{Ran, reply_of}, State.{Site}, Table.{opening}}
 use Rattle.cacache_table.proofs.Going.{no_gain}
 use Rattle.cacache_reads.specs.Reads.{AsksContent}
 

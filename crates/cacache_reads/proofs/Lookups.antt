@@ -1,25 +1,15 @@
 -- What a run of a lookup shows: it read the bucket once, or memory was refused before.
 use Rattle.std.proofs.Common.{◌≡◌, ◌≢◌, ◌⊎◌, inl, inr, ℕ, List, [], Option, Result, Ok, Err, sym, ◌∙◌}
-use Rattle.cacache_core.specs.declared.errors.Error.{Error}
-use Rattle.cacache_core.specs.declared.errors.Error.TheVariants.{IoError, OutOfMemory}
-use Rattle.cacache_core.specs.declared.errors.Fault.{Fault}
+use Rattle.cacache_core.specs.declared.errors.{Error.{Error, TheVariants.{IoError, OutOfMemory}}, Fault.{Fault}}
 use Rattle.cacache_core.specs.declared.errors.Fault.TheVariants as faults
 use Rattle.cacache_store.specs.declared.store.step.Step.TheVariants as steps
 use Rattle.cacache_store.specs.declared.store.answer.Answer.TheVariants as answers
-use Rattle.cacache_store.specs.declared.store.log.LogItem.{LogItem}
-use Rattle.cacache_store.specs.Plain.{PlainAnswer}
-use Rattle.cacache_store.specs.Fits.{Fits}
+use Rattle.cacache_store.specs.{declared.store.log.LogItem.{LogItem}, Plain.{PlainAnswer}, Fits.{Fits}}
 use Rattle.cacache_entry.specs.declared.metadata.Metadata.{Metadata}
 use Rattle.cacache_table.specs.declared.answers.Refusal.TheVariants as refusals
 use Rattle.cacache_table.specs.declared.command.Command.TheVariants as commands
-use Rattle.cacache_table.specs.declared.reply.Reply.TheVariants.{Refused}
-use Rattle.cacache_table.specs.StepPaths.{bucket_path}
-use Rattle.cacache_table.specs.Replies.{bucket_shown, entries_shown, find_reply, looked_up}
-use Rattle.cacache_table.specs.Runs.{Gains, Ran, reply_of, without_message}
-use Rattle.cacache_table.specs.State.{Site}
-use Rattle.cacache_table.specs.Table.{opening}
-use Rattle.cacache_table.proofs.Going.{no_gain}
-use Rattle.cacache_table.proofs.Replies.{find_run}
+use Rattle.cacache_table.specs.{declared.reply.Reply.TheVariants.{Refused}, StepPaths.{bucket_path}, Replies.{bucket_shown, entries_shown, find_reply, looked_up}, Runs.{Gains, Ran, reply_of, without_message}, State.{Site}, Table.{opening}}
+use Rattle.cacache_table.proofs.{Going.{no_gain}, Replies.{find_run}}
 use Rattle.cacache_reads.specs.Lookups.{LooksUp, ReadsBucket}
 
 lost_after : (cache key : List ℕ) (t : PlainAnswer) (e : Error) (old new : Option (List LogItem)) → ReadsBucket cache key old new t ⊎ (new ≡ old) → Refused (without_message e) ≡ Refused OutOfMemory → LooksUp cache key old new (Err e)

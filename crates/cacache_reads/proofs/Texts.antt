@@ -1,10 +1,7 @@
 -- Where the text of an entry stands in its line.
-use Rattle.std.proofs.Common.{◌≡◌, ℕ, ◌+◌, ◌*◌, ◌≤◌, List, ◌∷◌, ◌++◌, length, drop, subst, ap, ◌∙◌, arith, length-append}
-use Rattle.std.proofs.Math.Seq.{drop-append-add}
-use Rattle.hex.specs.Hex.{lower_digits}
-use Rattle.hex.proofs.HexLemmas.{length-encode_with}
-use Rattle.sha2.specs.Sha256.{sha256}
-use Rattle.sha2.proofs.Facts256.{length-sha256}
+use Rattle.std.proofs.{Common.{◌≡◌, ℕ, ◌+◌, ◌*◌, ◌≤◌, List, ◌∷◌, ◌++◌, length, drop, subst, ap, ◌∙◌, arith, length-append}, Math.Seq.{drop-append-add}}
+use Rattle.hex.{specs.Hex.{lower_digits}, proofs.HexLemmas.{length-encode_with}}
+use Rattle.sha2.{specs.Sha256.{sha256}, proofs.Facts256.{length-sha256}}
 use Rattle.cacache_core.specs.Digests.{sha256_hex}
 use Rattle.cacache_entry.specs.Entry.{Entry, text_of, line_of}
 

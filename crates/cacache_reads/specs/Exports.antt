@@ -1,15 +1,8 @@
 -- What exports are asked to do, and what the checked ones read first.
 use Rattle.std.specs.Prelude.{ℕ, List, Bool, true, false, ⊤}
 use Rattle.cacache_core.specs.Integrity.{IsIntegrity}
-use Rattle.cacache_table.specs.declared.command.Command.{Command}
+use Rattle.cacache_table.specs.{declared.{command.{Command.{Command}, Source.{Source, TheVariants.{Key, Hash}}, How.{How}}, reply.Reply.{Reply, TheVariants.{Done}}}, Promises.{Answers, Only, OnlyCopies}, State.{Site}}
 use Rattle.cacache_table.specs.declared.command.Command.TheVariants as commands
-use Rattle.cacache_table.specs.declared.command.Source.{Source}
-use Rattle.cacache_table.specs.declared.command.Source.TheVariants.{Key, Hash}
-use Rattle.cacache_table.specs.declared.command.How.{How}
-use Rattle.cacache_table.specs.declared.reply.Reply.{Reply}
-use Rattle.cacache_table.specs.declared.reply.Reply.TheVariants.{Done}
-use Rattle.cacache_table.specs.Promises.{Answers, Only, OnlyCopies}
-use Rattle.cacache_table.specs.State.{Site}
 use Rattle.cacache_reads.specs.declared.exporting.Named.{Named}
 use Rattle.cacache_reads.specs.declared.exporting.Named.TheVariants as named
 

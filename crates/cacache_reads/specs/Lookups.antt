@@ -1,22 +1,12 @@
 -- What a lookup answers by the one step that it makes, a read of the key's bucket; and tombstones.
 use Rattle.std.specs.Prelude.{◌≡◌, ◌≢◌, ◌⊎◌, ℕ, List, Option, None, Result, Ok, Err, option_map}
-use Rattle.cacache_core.specs.declared.errors.Error.{Error}
-use Rattle.cacache_core.specs.declared.errors.Error.TheVariants.{IoError, OutOfMemory}
-use Rattle.cacache_core.specs.declared.errors.Fault.TheVariants.{NotFound}
-use Rattle.cacache_store.specs.declared.env.Env.{Env}
+use Rattle.cacache_core.specs.declared.errors.{Error.{Error, TheVariants.{IoError, OutOfMemory}}, Fault.TheVariants.{NotFound}}
+use Rattle.cacache_store.specs.{declared.{env.Env.{Env}, store.log.LogItem.{LogItem}}, Plain.{PlainAnswer}}
 use Rattle.cacache_store.specs.declared.store.answer.Answer.TheVariants as answers
-use Rattle.cacache_store.specs.declared.store.log.LogItem.{LogItem}
 use Rattle.cacache_store.specs.declared.store.step.Step.TheVariants as steps
-use Rattle.cacache_store.specs.Plain.{PlainAnswer}
-use Rattle.cacache_entry.specs.declared.metadata.Metadata.{Metadata}
-use Rattle.cacache_entry.specs.Bucket.{entries_of}
-use Rattle.cacache_entry.specs.Latest.{Found, latest}
-use Rattle.cacache_entry.specs.View.{found_view}
+use Rattle.cacache_entry.specs.{declared.metadata.Metadata.{Metadata}, Bucket.{entries_of}, Latest.{Found, latest}, View.{found_view}}
 use Rattle.cacache_table.specs.declared.command.Command.TheVariants as commands
-use Rattle.cacache_table.specs.declared.command.Delete.{Delete}
-use Rattle.cacache_table.specs.declared.reply.Reply.{Reply}
-use Rattle.cacache_table.specs.StepPaths.{bucket_path}
-use Rattle.cacache_table.specs.SingleSteps.{Does}
+use Rattle.cacache_table.specs.{declared.{command.Delete.{Delete}, reply.Reply.{Reply}}, StepPaths.{bucket_path}, SingleSteps.{Does}}
 use Rattle.cacache_jobs.specs.Environment.{RunsTimed}
 
 -- a tombstone of the key

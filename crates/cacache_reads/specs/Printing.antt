@@ -1,8 +1,7 @@
 -- Entries that were found, as entries again.
 use Rattle.std.specs.Prelude.{Some}
 use Rattle.cacache_core.specs.Texts.{integrity_text}
-use Rattle.cacache_entry.specs.Entry.{Entry}
-use Rattle.cacache_entry.specs.Latest.{Found}
+use Rattle.cacache_entry.specs.{Entry.{Entry}, Latest.{Found}}
 
 -- an entry that was found, as its line says it
 abbrev pub printed_entry : Found → Entry

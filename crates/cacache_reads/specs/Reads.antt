@@ -1,18 +1,10 @@
 -- Which commands read bytes, and what a reading call answers.
 use Rattle.std.specs.Prelude.{◌≡◌, ◌⊎◌, ℕ, Bool, true, false, List, Vec, Option, None, Some, Result, Ok, Err}
-use Rattle.cacache_core.specs.declared.errors.Error.{Error}
-use Rattle.cacache_core.specs.declared.errors.Fault.{Fault}
-use Rattle.cacache_core.specs.declared.integrity.digest.Hash.{Hash}
+use Rattle.cacache_core.specs.declared.{errors.{Error.{Error}, Fault.{Fault}}, integrity.digest.Hash.{Hash}}
 use Rattle.cacache_store.specs.declared.store.answer.Answer.TheVariants as answers
 use Rattle.cacache_store.specs.declared.store.log.LogItem.{LogItem}
 use Rattle.cacache_store.specs.declared.store.step.Step.TheVariants as steps
-use Rattle.cacache_table.specs.declared.command.Command.{Command}
-use Rattle.cacache_table.specs.declared.reply.Reply.{Reply}
-use Rattle.cacache_table.specs.declared.reply.Reply.TheVariants.{Read, Exists}
-use Rattle.cacache_table.specs.StepPaths.{content_path}
-use Rattle.cacache_table.specs.State.{Site}
-use Rattle.cacache_table.specs.Promises.{Answers, OnlyReads}
-use Rattle.cacache_table.specs.SingleSteps.{Does}
+use Rattle.cacache_table.specs.{declared.{command.Command.{Command}, reply.Reply.{Reply, TheVariants.{Read, Exists}}}, StepPaths.{content_path}, State.{Site}, Promises.{Answers, OnlyReads}, SingleSteps.{Does}}
 
 -- wherever the command is called, it answers bytes
 abbrev pub ReadsBytes : Command → Type 0

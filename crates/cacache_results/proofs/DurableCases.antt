@@ -1,48 +1,18 @@
 -- Histories of one durable commit, on a disk that holds nothing.
 use Rattle.std.proofs.Common.{◌≡◌, ℕ, true, List, [], ◌∷◌, ◌++◌, None, Some, Ok, append-nil, codes, refl, sym, ap, subst, ◌∙◌, arith}
-use Rattle.cacache_core.specs.PathNames.{Names, names_of}
-use Rattle.cacache_core.specs.Paths.{bucket_names, content_names}
-use Rattle.cacache_core.specs.declared.integrity.digest.Hash.{Hash}
+use Rattle.cacache_core.specs.{PathNames.{Names, names_of}, Paths.{bucket_names, content_names}, declared.integrity.digest.Hash.{Hash}}
 use Rattle.cacache_store.specs.Plain.{PlainStep}
 use Rattle.cacache_store.specs.declared.store.step.Step.TheVariants as steps
-use Rattle.cacache_disk.specs.Tree.{bare}
-use Rattle.cacache_disk.proofs.Roots.{bare_below}
+use Rattle.cacache_disk.{specs.Tree.{bare}, proofs.Roots.{bare_below}}
 use Rattle.cacache_entry.proofs.EntryCauses.{no_cause_is_fit}
-use Rattle.cacache_table.specs.Inserting.{insert, insertion, refused_cause, unless_refused}
-use Rattle.cacache_table.specs.Runs.{Moves}
-use Rattle.cacache_table.specs.State.{State, creating, doing, Insertion, make_folder}
-use Rattle.cacache_table.specs.StepPaths.{bucket_folder, temp_folder}
-use Rattle.cacache_table.specs.Storing.{insertion_of, put_commit}
-use Rattle.cacache_table.specs.Sound.{MayBegin}
-use Rattle.cacache_table.specs.Table.{opening, wants}
-use Rattle.cacache_table.specs.declared.command.Command.{Command}
+use Rattle.cacache_table.specs.{Inserting.{insert, insertion, refused_cause, unless_refused}, Runs.{Moves}, State.{State, creating, doing, Insertion, make_folder}, StepPaths.{bucket_folder, temp_folder}, Storing.{insertion_of, put_commit}, Sound.{MayBegin}, Table.{opening, wants}, declared.{command.{Command.{Command}, Insert.{Insert}, Put.{Put}}, reply.Reply.{Reply, TheVariants.{Stored}}}}
 use Rattle.cacache_table.specs.declared.command.Command.TheVariants as commands
-use Rattle.cacache_table.specs.declared.command.Insert.{Insert}
-use Rattle.cacache_table.specs.declared.command.Put.{Put}
-use Rattle.cacache_table.specs.declared.reply.Reply.{Reply}
-use Rattle.cacache_table.specs.declared.reply.Reply.TheVariants.{Stored}
-use Rattle.cacache_value.specs.OpeningTrees.{IsOpening}
-use Rattle.cacache_value.specs.Placed.{Placed}
-use Rattle.cacache_value.specs.Value.{AtLink, Value}
-use Rattle.cacache_value.proofs.OpeningTrees.{files_open}
-use Rattle.cacache_history.specs.AddedEntries.{address_of_put}
-use Rattle.cacache_history.specs.declared.record.Record.{Record}
-use Rattle.cacache_history.specs.declared.record.Record.TheVariants.{Began}
-use Rattle.cacache_history.specs.History.{Call, History, IsLegal, Made, NamesIntegrity, Now, initial, new_call, replayed}
-use Rattle.cacache_history.specs.Setup.{Setup, call_site, home, is_outside, may_export}
-use Rattle.cacache_history.specs.Values.{value_at}
-use Rattle.cacache_sequence.specs.Sequence.{AreAnswered}
-use Rattle.cacache_sequence.proofs.Emptied.{home_is}
-use Rattle.cacache_sequence.proofs.SureSteps.{Ground}
-use Rattle.cacache_durable.specs.Ending.{CallEndsWith, EndsFrom}
-use Rattle.cacache_durable.specs.Outlasting.{DurablePut, IsNoLink}
-use Rattle.cacache_durable.specs.QuietMoves.{AreQuiet, IsQuietMove, PutsDurably}
-use Rattle.cacache_results.specs.DurableCases.{CanBeWritten, GoElsewhere, InsertsStandInOne, IsLastPut, PutsStandInOne, PutsStandLast, StandsIn, StoresDurably}
-use Rattle.cacache_results.specs.Losses.{entry_written}
-use Rattle.cacache_results.proofs.LastPuts.{none_last}
-use Rattle.cacache_results.proofs.PlainRecords.{quiet_more, records_end, records_legal, records_of, records_quiet}
-use Rattle.cacache_results.proofs.PlainRuns.{Plays, Reaches, inserts_play}
-use Rattle.cacache_results.proofs.PlainPuts.{put_plays}
+use Rattle.cacache_value.{specs.{OpeningTrees.{IsOpening}, Placed.{Placed}, Value.{AtLink, Value}}, proofs.OpeningTrees.{files_open}}
+use Rattle.cacache_history.specs.{AddedEntries.{address_of_put}, declared.record.Record.{Record, TheVariants.{Began}}, History.{Call, History, IsLegal, Made, NamesIntegrity, Now, initial, new_call, replayed}, Setup.{Setup, call_site, home, is_outside, may_export}, Values.{value_at}}
+use Rattle.cacache_sequence.{specs.Sequence.{AreAnswered}, proofs.{Emptied.{home_is}, SureSteps.{Ground}}}
+use Rattle.cacache_durable.specs.{Ending.{CallEndsWith, EndsFrom}, Outlasting.{DurablePut, IsNoLink}, QuietMoves.{AreQuiet, IsQuietMove, PutsDurably}}
+use Rattle.cacache_results.specs.{DurableCases.{CanBeWritten, GoElsewhere, InsertsStandInOne, IsLastPut, PutsStandInOne, PutsStandLast, StandsIn, StoresDurably}, Losses.{entry_written}}
+use Rattle.cacache_results.proofs.{LastPuts.{none_last}, PlainRecords.{quiet_more, records_end, records_legal, records_of, records_quiet}, PlainRuns.{Plays, Reaches, inserts_play}, PlainPuts.{put_plays}}
 
 -- the moves of a call that makes one
 record Moving (s : State) (r : Reply) : Type 0 where

@@ -1,39 +1,16 @@
 -- What exports gave and left.
-use Rattle.std.proofs.Common.{◌≡◌, ℕ, Bool, List, Option, None, Some, Result, Ok, Err, length, refl, ap}
-use Rattle.std.specs.Prelude.{MatchResult}
+use Rattle.std.{proofs.Common.{◌≡◌, ℕ, Bool, List, Option, None, Some, Result, Ok, Err, length, refl, ap}, specs.Prelude.{MatchResult}}
 use Rattle.cacache_core.specs.declared.errors.Error.{Error}
-use Rattle.cacache_store.specs.declared.env.Env.{Env}
-use Rattle.cacache_store.specs.declared.store.log.LogItem.{LogItem}
-use Rattle.cacache_disk.specs.declared.node.Node.{Node}
-use Rattle.cacache_disk.specs.Tree.{Names, Tree, look}
-use Rattle.cacache_disk.specs.LedTo.{followed, free, leads, place, where_free, writable}
-use Rattle.cacache_disk.proofs.FoundNodes.{and_then_ok}
+use Rattle.cacache_store.specs.declared.{env.Env.{Env}, store.log.LogItem.{LogItem}}
+use Rattle.cacache_disk.{specs.{declared.node.Node.{Node}, Tree.{Names, Tree, look}, LedTo.{followed, free, leads, place, where_free, writable}}, proofs.FoundNodes.{and_then_ok}}
 use Rattle.cacache_memory.specs.Replay.{IsLog, shown, tree_of}
-use Rattle.cacache_table.specs.declared.command.Command.{Command}
-use Rattle.cacache_table.specs.declared.command.How.{How}
-use Rattle.cacache_table.specs.declared.command.How.TheVariants.{Copy, Reflink, HardLink}
-use Rattle.cacache_table.specs.declared.command.Source.{Source}
-use Rattle.cacache_table.specs.declared.reply.Reply.{Reply}
-use Rattle.cacache_table.specs.declared.reply.Reply.TheVariants.{Copied}
-use Rattle.cacache_table.specs.Replies.{done}
-use Rattle.cacache_table.specs.Runs.{reply_of}
+use Rattle.cacache_table.specs.{declared.{command.{Command.{Command}, How.{How, TheVariants.{Copy, Reflink, HardLink}}, Source.{Source}}, reply.Reply.{Reply, TheVariants.{Copied}}}, Replies.{done}, Runs.{reply_of}}
 use Rattle.cacache_reads.specs.Exports.{exporting}
 use Rattle.cacache_history.specs.History.{NamesSource}
-use Rattle.cacache_sequence.specs.Caches.{Called, IsCache, IsExcused}
-use Rattle.cacache_sequence.specs.Exported.{Arrives, export_by}
-use Rattle.cacache_sequence.specs.ExportEffects.{IsApart}
-use Rattle.cacache_sequence.specs.OpenWriters.{LeavesKnownCache}
-use Rattle.cacache_sequence.specs.OpenSucceeds.{MayTake, exported}
-use Rattle.cacache_sequence.proofs.Standing.{caches_stand}
-use Rattle.cacache_sequence.specs.Succeeds.{NamesFolder}
-use Rattle.cacache_sequence.proofs.SureExports.{exports_answer, exports_succeed}
-use Rattle.cacache_sequence.proofs.Exported.{exports_arrive}
-use Rattle.cacache_sequence.proofs.ExportEffects.{exports_keep}
-use Rattle.cacache_sequence.proofs.Logs.{calls_grow}
+use Rattle.cacache_sequence.specs.{Caches.{Called, IsCache, IsExcused}, Exported.{Arrives, export_by}, ExportEffects.{IsApart}, OpenWriters.{LeavesKnownCache}, OpenSucceeds.{MayTake, exported}, Succeeds.{NamesFolder}}
+use Rattle.cacache_sequence.proofs.{Standing.{caches_stand}, SureExports.{exports_answer, exports_succeed}, Exported.{exports_arrive}, ExportEffects.{exports_keep}, Logs.{calls_grow}}
 use Rattle.cacache_results.specs.Exports.{CopyMeans, SharingMeans}
-use Rattle.cacache_results.proofs.ExportErrors.{Answered, copy_missing, fails_so, missing_fails, refuses_so}
-use Rattle.cacache_results.proofs.SureResults.{IsGiven, for_memory}
-use Rattle.cacache_results.proofs.Told.{called, excused}
+use Rattle.cacache_results.proofs.{ExportErrors.{Answered, copy_missing, fails_so, missing_fails, refuses_so}, SureResults.{IsGiven, for_memory}, Told.{called, excused}}
 
 leaves : (cache : List ℕ) (source : Source) (how : How) (checked : Bool) (to : List ℕ) (r : Reply) (old new : List LogItem) → IsApart cache to → NamesSource source → IsCache cache old
     → Called cache (export_by how source checked to) r old new → LeavesKnownCache cache old new

@@ -2,30 +2,15 @@
 use Rattle.std.proofs.Common.{◌≡◌, ◌==◌, nat_le, ℕ, List, [], ◌∷◌, ◌++◌, None, Some, false, length, drop, refl, sym, subst}
 use Rattle.cacache_core.specs.PathNames.{Names}
 use Rattle.cacache_core.specs.declared.errors.Fault.TheVariants as faults
-use Rattle.cacache_store.specs.Plain.{PlainStep, PlainAnswer}
-use Rattle.cacache_store.specs.declared.store.plain.PlainTemp.{PlainTemp}
+use Rattle.cacache_store.specs.{Plain.{PlainStep, PlainAnswer}, declared.store.plain.PlainTemp.{PlainTemp}}
 use Rattle.cacache_store.specs.declared.store.step.Step.TheVariants as steps
 use Rattle.cacache_disk.specs.declared.luck.Luck.TheVariants.{Plain}
 use Rattle.cacache_entry.specs.Entry.{Entry}
-use Rattle.cacache_table.specs.Answers.{done_in, synced_in, taken_in, temp_in, there_in, written_in}
-use Rattle.cacache_table.specs.Common.{fails}
-use Rattle.cacache_table.specs.Inserting.{after_append, bucket_line, recorded}
-use Rattle.cacache_table.specs.Runs.{Moves}
-use Rattle.cacache_table.specs.State.{State, appending, confirming, creating, doing, over, persisting, syncing, writing, Errand, Insertion, hard_link, make_folder, reflink, remove, sync_dir, sync_file}
-use Rattle.cacache_table.specs.Storing.{after_confirm, after_write, secured, secured_found, write_rest}
-use Rattle.cacache_table.specs.Table.{after, wants}
-use Rattle.cacache_table.specs.declared.carried.Commit.{Commit}
-use Rattle.cacache_table.specs.declared.reply.Reply.{Reply}
-use Rattle.cacache_table.proofs.Branches.{cond_leads, go_on_leads}
-use Rattle.cacache_table.proofs.Leading.{moves_on, places, records, secures, secures_found}
-use Rattle.cacache_history.specs.History.{Made}
-use Rattle.cacache_history.specs.Values.{steps_of}
-use Rattle.cacache_history.specs.declared.record.Record.{Record}
-use Rattle.cacache_history.specs.declared.record.Record.TheVariants.{Began, Moved, Stopped}
-use Rattle.cacache_durable.specs.Behind.{NoneAppends, appends_at}
-use Rattle.cacache_durable.specs.Outlasting.{IsAppendOf}
-use Rattle.cacache_results.proofs.PlainRuns.{Reaches}
-use Rattle.cacache_results.proofs.PlainRecords.{records_of}
+use Rattle.cacache_table.specs.{Answers.{done_in, synced_in, taken_in, temp_in, there_in, written_in}, Common.{fails}, Inserting.{after_append, bucket_line, recorded}, Runs.{Moves}, State.{State, appending, confirming, creating, doing, over, persisting, syncing, writing, Errand, Insertion, hard_link, make_folder, reflink, remove, sync_dir, sync_file}, Storing.{after_confirm, after_write, secured, secured_found, write_rest}, Table.{after, wants}, declared.{carried.Commit.{Commit}, reply.Reply.{Reply}}}
+use Rattle.cacache_table.proofs.{Branches.{cond_leads, go_on_leads}, Leading.{moves_on, places, records, secures, secures_found}}
+use Rattle.cacache_history.specs.{History.{Made}, Values.{steps_of}, declared.record.Record.{Record, TheVariants.{Began, Moved, Stopped}}}
+use Rattle.cacache_durable.specs.{Behind.{NoneAppends, appends_at}, Outlasting.{IsAppendOf}}
+use Rattle.cacache_results.proofs.{PlainRuns.{Reaches}, PlainRecords.{records_of}}
 
 -- ---- states
 

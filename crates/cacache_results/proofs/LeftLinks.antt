@@ -1,27 +1,17 @@
 -- What a loss of power left of durable puts, where their contents may be links.
 use Rattle.std.proofs.Common.{◌≡◌, ℕ, List, [], ◌∷◌, ◌++◌, Option, None, Some, option_map, sym, ap, subst, ◌∙◌}
 use Rattle.sha1.specs.Sha1.{sha1}
-use Rattle.cacache_core.specs.declared.integrity.digest.Hash.{Hash}
-use Rattle.cacache_core.specs.Digests.{digest}
-use Rattle.cacache_core.specs.PathNames.{Names, home_of}
+use Rattle.cacache_core.specs.{declared.integrity.digest.Hash.{Hash}, Digests.{digest}, PathNames.{Names, home_of}}
 use Rattle.cacache_store.specs.declared.store.log.LogItem.{LogItem}
 use Rattle.cacache_disk.specs.Tree.{Tree}
 use Rattle.cacache_memory.specs.Replay.{tree_of}
-use Rattle.cacache_entry.specs.Entry.{Entry}
-use Rattle.cacache_entry.specs.Latest.{Found, NoneAnswers, latest}
-use Rattle.cacache_entry.proofs.Lookups.{last_answer_decides}
+use Rattle.cacache_entry.{specs.{Entry.{Entry}, Latest.{Found, NoneAnswers, latest}}, proofs.Lookups.{last_answer_decides}}
 use Rattle.cacache_table.specs.declared.command.Put.{Put}
-use Rattle.cacache_value.specs.Acts.{list_of}
-use Rattle.cacache_value.specs.Shows.{blob_bytes}
-use Rattle.cacache_value.specs.Value.{value_of_tree}
+use Rattle.cacache_value.specs.{Acts.{list_of}, Shows.{blob_bytes}, Value.{value_of_tree}}
 use Rattle.cacache_loss.specs.Loss.{Lost}
-use Rattle.cacache_history.specs.AddedEntries.{address_of_put}
-use Rattle.cacache_history.specs.Lookups.{found_of_put}
-use Rattle.cacache_history.proofs.Digests.{own_integrity}
+use Rattle.cacache_history.{specs.{AddedEntries.{address_of_put}, Lookups.{found_of_put}}, proofs.Digests.{own_integrity}}
 use Rattle.cacache_durable.specs.Outlasting.{EntryOutlasts, KeyOutlasts, moment_at}
-use Rattle.cacache_results.specs.FoundLinks.{GivesDigest}
-use Rattle.cacache_results.specs.LeftLinks.{LeadsThrough, LossesLeaveLastLinks, LossesLeaveLinks}
-use Rattle.cacache_results.specs.Losses.{entry_written}
+use Rattle.cacache_results.specs.{FoundLinks.{GivesDigest}, LeftLinks.{LeadsThrough, LossesLeaveLastLinks, LossesLeaveLinks}, Losses.{entry_written}}
 use Rattle.cacache_results.proofs.LossResults.{met_by, put_answers}
 
 -- what lies at the put's address is what the key leads to

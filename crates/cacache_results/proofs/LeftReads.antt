@@ -1,52 +1,22 @@
 -- A read by key of a store that stands gives what lies under the integrity, or where a link there leads.
-use Rattle.std.proofs.Common.{◌≡◌, ◌⊎◌, inl, inr, ℕ, List, [], ◌∷◌, ◌++◌, Option, None, Some, Result, Ok, Err, map, option_map, refl, sym, ap, subst, ◌∙◌, arith}
-use Rattle.std.proofs.lemmas.List.Elements.{All-head}
+use Rattle.std.proofs.{Common.{◌≡◌, ◌⊎◌, inl, inr, ℕ, List, [], ◌∷◌, ◌++◌, Option, None, Some, Result, Ok, Err, map, option_map, refl, sym, ap, subst, ◌∙◌, arith}, lemmas.List.Elements.{All-head}}
 use Rattle.sha1.specs.Sha1.{sha1}
-use Rattle.cacache_core.specs.declared.errors.Error.TheVariants.{IoError}
-use Rattle.cacache_core.specs.declared.errors.Fault.{Fault}
+use Rattle.cacache_core.specs.{declared.{errors.{Error.TheVariants.{IoError}, Fault.{Fault}}, integrity.digest.Hash.{Hash}}, Integrity.{IsHash, IsIntegrity, Meets}, PathNames.{home_of}}
 use Rattle.cacache_core.specs.declared.errors.Fault.TheVariants as faults
-use Rattle.cacache_core.specs.declared.integrity.digest.Hash.{Hash}
-use Rattle.cacache_core.specs.Integrity.{IsHash, IsIntegrity, Meets}
-use Rattle.cacache_core.specs.PathNames.{home_of}
 use Rattle.cacache_store.specs.declared.store.answer.Answer.TheVariants as answers
-use Rattle.cacache_store.specs.declared.store.log.LogItem.{LogItem}
-use Rattle.cacache_store.specs.declared.store.log.LogItem.TheVariants.{Made}
+use Rattle.cacache_store.specs.{declared.store.log.LogItem.{LogItem, TheVariants.{Made}}, Plain.{PlainAnswer}}
 use Rattle.cacache_store.specs.declared.store.step.Step.TheVariants as steps
-use Rattle.cacache_store.specs.Plain.{PlainAnswer}
-use Rattle.cacache_disk.specs.declared.luck.Luck.TheVariants.{Plain}
-use Rattle.cacache_disk.specs.Apply.{apply}
-use Rattle.cacache_disk.specs.Tree.{Tree}
+use Rattle.cacache_disk.specs.{declared.luck.Luck.TheVariants.{Plain}, Apply.{apply}, Tree.{Tree}}
 use Rattle.cacache_memory.specs.Replay.{tree_of}
-use Rattle.cacache_entry.specs.Entry.{Entry}
-use Rattle.cacache_entry.specs.Latest.{Found, latest}
-use Rattle.cacache_table.specs.declared.answers.Refusal.{Refusal}
+use Rattle.cacache_entry.specs.{Entry.{Entry}, Latest.{Found, latest}}
+use Rattle.cacache_table.specs.{declared.{answers.Refusal.{Refusal}, reply.Reply.{Reply}}, Answers.{bytes_in, refusal_in}, Causes.{HasCause, own_of}, Replies.{ReadsOn, bucket_shown, content_reply, lookup, refusal_reply}, Runs.{Moves}, State.{Site}, StepPaths.{bucket_path, content_path}}
+use Rattle.cacache_table.proofs.{EarnedErrors.{io_errors_have_causes}, Replies.{gets_shown}}
 use Rattle.cacache_table.specs.declared.answers.Refusal.TheVariants as refusals
 use Rattle.cacache_table.specs.declared.command.Command.TheVariants as commands
-use Rattle.cacache_table.specs.declared.reply.Reply.{Reply}
-use Rattle.cacache_table.specs.Answers.{bytes_in, refusal_in}
-use Rattle.cacache_table.specs.Causes.{HasCause, own_of}
-use Rattle.cacache_table.specs.Replies.{ReadsOn, bucket_shown, content_reply, lookup, refusal_reply}
-use Rattle.cacache_table.specs.Runs.{Moves}
-use Rattle.cacache_table.specs.State.{Site}
-use Rattle.cacache_table.specs.StepPaths.{bucket_path, content_path}
-use Rattle.cacache_table.proofs.EarnedErrors.{io_errors_have_causes}
-use Rattle.cacache_table.proofs.Replies.{gets_shown}
-use Rattle.cacache_value.specs.Acts.{list_of}
-use Rattle.cacache_value.specs.Shows.{ReadsShow, ShowsBucket, ShowsContent, blob_bytes}
-use Rattle.cacache_value.specs.Value.{Value, value_of_tree}
-use Rattle.cacache_value.proofs.Shows.{trees_show}
+use Rattle.cacache_value.{specs.{Acts.{list_of}, Shows.{ReadsShow, ShowsBucket, ShowsContent, blob_bytes}, Value.{Value, value_of_tree}}, proofs.Shows.{trees_show}}
 use Rattle.cacache_history.proofs.ShownTurns.{bucket_below, content_below}
-use Rattle.cacache_sequence.specs.Caches.{Called, GivesBytes, setup_at}
-use Rattle.cacache_sequence.specs.Inserts.{leads_to}
-use Rattle.cacache_sequence.specs.Keeping.{found_under}
-use Rattle.cacache_sequence.specs.Looks.{bytes_under}
-use Rattle.cacache_sequence.specs.Sequence.{AreAnswered}
-use Rattle.cacache_sequence.specs.Standing.{IsStanding}
-use Rattle.cacache_sequence.proofs.InParts.{logs_lead}
-use Rattle.cacache_sequence.proofs.Known.{excused_by}
-use Rattle.cacache_sequence.proofs.Logs.{some_same}
-use Rattle.cacache_sequence.proofs.ReadsStay.{reading_keeps}
-use Rattle.cacache_sequence.proofs.Standing.{met_reply}
+use Rattle.cacache_sequence.specs.{Caches.{Called, GivesBytes, setup_at}, Inserts.{leads_to}, Keeping.{found_under}, Looks.{bytes_under}, Sequence.{AreAnswered}, Standing.{IsStanding}}
+use Rattle.cacache_sequence.proofs.{InParts.{logs_lead}, Known.{excused_by}, Logs.{some_same}, ReadsStay.{reading_keeps}, Standing.{met_reply}}
 
 -- ---- what answers show
 

@@ -1,29 +1,13 @@
 -- What a write gave and left on a store that stands.
-use Rattle.std.proofs.Common.{◌≡◌, ◌<◌, ◌^◌, ℕ, List, Option, Some, Result, Ok, Err, length, refl, sym, subst}
-use Rattle.std.specs.Prelude.{IfErr, IfOk, IsUtf8}
-use Rattle.cacache_core.specs.declared.errors.Error.{Error}
-use Rattle.cacache_core.specs.declared.integrity.algorithm.Algorithm.{Algorithm}
-use Rattle.cacache_core.specs.declared.integrity.digest.Hash.{Hash}
-use Rattle.cacache_core.specs.Integrity.{integrity_under}
-use Rattle.cacache_core.specs.Texts.{integrity_text}
-use Rattle.cacache_store.specs.declared.env.Env.{Env}
-use Rattle.cacache_store.specs.declared.store.log.LogItem.{LogItem}
+use Rattle.std.{proofs.Common.{◌≡◌, ◌<◌, ◌^◌, ℕ, List, Option, Some, Result, Ok, Err, length, refl, sym, subst}, specs.Prelude.{IfErr, IfOk, IsUtf8}}
+use Rattle.cacache_core.specs.{declared.{errors.Error.{Error}, integrity.{algorithm.Algorithm.{Algorithm}, digest.Hash.{Hash}}}, Integrity.{integrity_under}, Texts.{integrity_text}}
+use Rattle.cacache_store.specs.declared.{env.Env.{Env}, store.log.LogItem.{LogItem}}
 use Rattle.cacache_memory.specs.Replay.{IsLog}
 use Rattle.cacache_table.specs.declared.command.Command.TheVariants as commands
-use Rattle.cacache_table.specs.declared.reply.Reply.TheVariants.{Stored}
-use Rattle.cacache_table.specs.Inserting.{refused_cause}
-use Rattle.cacache_table.specs.Runs.{reply_of, without_message}
-use Rattle.cacache_table.proofs.IntegrityUtf8.{integrity_utf8}
-use Rattle.cacache_sequence.specs.CallErrors.{IsPlainPut}
-use Rattle.cacache_sequence.specs.Caches.{HasKey, IsExcused, plain_put}
-use Rattle.cacache_sequence.specs.Puts.{entry_of_put}
-use Rattle.cacache_sequence.specs.Standing.{PutStands}
-use Rattle.cacache_sequence.proofs.Beside.{plain_writes_fit}
-use Rattle.cacache_sequence.proofs.Forms.{bare_written}
-use Rattle.cacache_sequence.proofs.StandingPuts.{standing_writes}
-use Rattle.cacache_results.specs.Losses.{LeftWriteMeans}
-use Rattle.cacache_results.proofs.Told.{called, excused}
-use Rattle.cacache_results.proofs.WriteResults.{leads_so}
+use Rattle.cacache_table.{specs.{declared.reply.Reply.TheVariants.{Stored}, Inserting.{refused_cause}, Runs.{reply_of, without_message}}, proofs.IntegrityUtf8.{integrity_utf8}}
+use Rattle.cacache_sequence.specs.{CallErrors.{IsPlainPut}, Caches.{HasKey, IsExcused, plain_put}, Puts.{entry_of_put}, Standing.{PutStands}}
+use Rattle.cacache_sequence.proofs.{Beside.{plain_writes_fit}, Forms.{bare_written}, StandingPuts.{standing_writes}}
+use Rattle.cacache_results.{specs.Losses.{LeftWriteMeans}, proofs.{Told.{called, excused}, WriteResults.{leads_so}}}
 
 left_told : (a : Algorithm) (cache key bytes : List ℕ) (moment : ℕ) (r : Result (List Hash) Error) (old new : List LogItem) → PutStands cache (plain_put a key bytes moment) (reply_of Stored r) old new
     → IsPlainPut cache key (plain_put a key bytes moment)

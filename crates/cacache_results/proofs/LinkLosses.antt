@@ -1,39 +1,18 @@
 -- What losses leave of durable puts that found a link, in a legal history.
 use Rattle.std.proofs.Common.{◌≡◌, ◌⊎◌, inl, inr, ℕ, List, [], ◌∷◌, ◌++◌, None, Some, Ok, refl, sym, ap, subst, ◌∙◌, append-nil}
-use Rattle.cacache_core.specs.declared.errors.Fault.TheVariants.{IsADirectory}
-use Rattle.cacache_core.specs.PathNames.{Names}
-use Rattle.cacache_disk.specs.declared.node.Node.TheVariants.{File}
-use Rattle.cacache_disk.specs.Apply.{apply}
-use Rattle.cacache_disk.specs.LedTo.{file_at, followed, leads, place, standing}
-use Rattle.cacache_disk.specs.Rooted.{Rooted}
-use Rattle.cacache_disk.specs.Tree.{Tree, look}
+use Rattle.cacache_core.specs.{declared.errors.Fault.TheVariants.{IsADirectory}, PathNames.{Names}}
+use Rattle.cacache_disk.specs.{declared.node.Node.TheVariants.{File}, Apply.{apply}, LedTo.{file_at, followed, leads, place, standing}, Rooted.{Rooted}, Tree.{Tree, look}}
 use Rattle.cacache_disk.proofs.Standing.{way_clear}
 use Rattle.cacache_table.specs.declared.command.Put.{Put}
-use Rattle.cacache_value.specs.Shows.{blob_bytes, link_end}
-use Rattle.cacache_value.specs.Traces.{IsTrace}
-use Rattle.cacache_value.specs.Value.{AtLink, value_of_tree}
-use Rattle.cacache_history.specs.declared.record.Record.{Record}
-use Rattle.cacache_history.specs.declared.record.Record.TheVariants.{Began, Moved, Stopped}
-use Rattle.cacache_history.specs.AddedEntries.{address_of_put}
-use Rattle.cacache_history.specs.History.{History, IsLegal, initial}
-use Rattle.cacache_history.specs.LinkedContents.{StaysHeld}
-use Rattle.cacache_history.specs.Setup.{home}
-use Rattle.cacache_history.specs.Values.{steps_of}
-use Rattle.cacache_history.proofs.Digests.{digest_hash}
-use Rattle.cacache_history.proofs.LinkedContents.{links_are_right}
-use Rattle.cacache_loss.specs.Loss.{Loss}
-use Rattle.cacache_loss.specs.LostTrees.{OfCache, StoodWell}
-use Rattle.cacache_loss.specs.LostValues.{HoldsContent, LeftOf}
-use Rattle.cacache_loss.specs.Moments.{EachMove, Moment, next}
-use Rattle.cacache_loss.specs.Syncs.{Leaves}
+use Rattle.cacache_value.specs.{Shows.{blob_bytes, link_end}, Traces.{IsTrace}, Value.{AtLink, value_of_tree}}
+use Rattle.cacache_history.specs.{declared.record.Record.{Record, TheVariants.{Began, Moved, Stopped}}, AddedEntries.{address_of_put}, History.{History, IsLegal, initial}, LinkedContents.{StaysHeld}, Setup.{home}, Values.{steps_of}}
+use Rattle.cacache_history.proofs.{Digests.{digest_hash}, LinkedContents.{links_are_right}}
+use Rattle.cacache_loss.specs.{Loss.{Loss}, LostTrees.{OfCache, StoodWell}, LostValues.{HoldsContent, LeftOf}, Moments.{EachMove, Moment, next}, Syncs.{Leaves}}
 use Rattle.cacache_loss.proofs.LostTrees.{losses_leave_trees}
-use Rattle.cacache_durable.specs.FewCalls.{FewCalls}
-use Rattle.cacache_durable.specs.Outlasting.{AnsweredPut, FoundLink, moment_at}
-use Rattle.cacache_durable.proofs.Outlasting.{entries_have_behind, puts_or_links_outlast}
-use Rattle.cacache_durable.proofs.Traces.{made_move, of_cache_at, trace_at, tree_at}
+use Rattle.cacache_durable.specs.{FewCalls.{FewCalls}, Outlasting.{AnsweredPut, FoundLink, moment_at}}
+use Rattle.cacache_durable.proofs.{Outlasting.{entries_have_behind, puts_or_links_outlast}, Traces.{made_move, of_cache_at, trace_at, tree_at}}
 use Rattle.cacache_results.specs.FoundLinks.{GivesDigest, HistoriesKeepLinks, LeadsUnchanged, PutsOrLinksGive, StaysUnchanged, UnchangedFilesStay}
-use Rattle.cacache_results.proofs.OutsideFiles.{links_lead_unchanged}
-use Rattle.cacache_results.proofs.UnchangedFiles.{Holds, file_left, holds_after, holds_first}
+use Rattle.cacache_results.proofs.{OutsideFiles.{links_lead_unchanged}, UnchangedFiles.{Holds, file_left, holds_after, holds_first}}
 
 -- ---- files that no step changed
 

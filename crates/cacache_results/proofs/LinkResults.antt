@@ -1,44 +1,21 @@
 -- What links gave and left.
 use Rattle.std.proofs.Common.{◌≡◌, ◌⊎◌, inl, inr, ◌<◌, ◌^◌, ℕ, List, [], Option, None, Some, option_map, Result, Ok, Err, length, refl, sym, ap, subst, ◌∙◌}
 use Rattle.std.specs.Prelude.{IsUtf8}
-use Rattle.cacache_core.specs.declared.errors.Error.{Error}
-use Rattle.cacache_core.specs.declared.errors.Error.TheVariants.{IoError}
-use Rattle.cacache_core.specs.declared.integrity.algorithm.Algorithm.TheVariants.{Sha256}
-use Rattle.cacache_core.specs.declared.integrity.digest.Hash.{Hash}
-use Rattle.cacache_core.specs.Integrity.{integrity_under}
-use Rattle.cacache_core.specs.Texts.{integrity_text}
-use Rattle.cacache_store.specs.declared.env.Env.{Env}
-use Rattle.cacache_store.specs.declared.store.log.LogItem.{LogItem}
+use Rattle.cacache_core.specs.{declared.{errors.Error.{Error, TheVariants.{IoError}}, integrity.{algorithm.Algorithm.TheVariants.{Sha256}, digest.Hash.{Hash}}}, Integrity.{integrity_under}, Texts.{integrity_text}}
+use Rattle.cacache_store.specs.declared.{env.Env.{Env}, store.log.LogItem.{LogItem}}
 use Rattle.cacache_memory.specs.Replay.{IsLog, tree_of}
 use Rattle.cacache_entry.specs.Latest.{Found}
-use Rattle.cacache_table.specs.declared.carried.Commit.{Commit}
-use Rattle.cacache_table.specs.declared.command.Command.TheVariants as commands
-use Rattle.cacache_table.specs.declared.reply.Reply.TheVariants.{Stored}
-use Rattle.cacache_table.specs.Inserting.{refused_cause}
-use Rattle.cacache_table.specs.Linking.{based, commit_for, link_target, with_size}
-use Rattle.cacache_table.specs.Replies.{OrMemory}
-use Rattle.cacache_table.specs.Runs.{Ran, reply_of}
-use Rattle.cacache_table.specs.Table.{opening}
+use Rattle.cacache_table.specs.{declared.{carried.Commit.{Commit}, reply.Reply.TheVariants.{Stored}}, Inserting.{refused_cause}, Linking.{based, commit_for, link_target, with_size}, Replies.{OrMemory}, Runs.{Ran, reply_of}, Table.{opening}}
 use Rattle.cacache_table.proofs.IntegrityUtf8.{integrity_utf8}
+use Rattle.cacache_table.specs.declared.command.Command.TheVariants as commands
 use Rattle.cacache_value.specs.Value.{AtLink}
 use Rattle.cacache_history.specs.Values.{IsThere}
 use Rattle.cacache_jobs.specs.Sites.{site_of}
 use Rattle.cacache_put.specs.LinkCalls.{link_to}
-use Rattle.cacache_sequence.specs.Caches.{IsCache, lies_under}
-use Rattle.cacache_sequence.specs.ExportEffects.{IsApart}
-use Rattle.cacache_sequence.specs.LinkAnswers.{link_reply, target_bytes}
-use Rattle.cacache_sequence.specs.Succeeds.{NamesFolder}
-use Rattle.cacache_sequence.specs.Links.{FitsLink, HasLinked, LeavesLink, put_like}
-use Rattle.cacache_sequence.proofs.Beside.{plain_writes_fit}
-use Rattle.cacache_sequence.proofs.Forms.{bare_written}
-use Rattle.cacache_sequence.proofs.Linking.{links_last}
-use Rattle.cacache_sequence.proofs.Logs.{calls_grow}
-use Rattle.cacache_sequence.proofs.Standing.{caches_stand}
-use Rattle.cacache_sequence.proofs.SureLinks.{links_answer}
+use Rattle.cacache_sequence.specs.{Caches.{IsCache, lies_under}, ExportEffects.{IsApart}, LinkAnswers.{link_reply, target_bytes}, Succeeds.{NamesFolder}, Links.{FitsLink, HasLinked, LeavesLink, put_like}}
+use Rattle.cacache_sequence.proofs.{Beside.{plain_writes_fit}, Forms.{bare_written}, Linking.{links_last}, Logs.{calls_grow}, Standing.{caches_stand}, SureLinks.{links_answer}}
 use Rattle.cacache_results.specs.Links.{ContentLinkMeans, LiesLinked, LinkMeans, LinkedFile, LinksBytes}
-use Rattle.cacache_results.proofs.SureLinkResults.{IsWritten, commit_succeeds, shown_read}
-use Rattle.cacache_results.proofs.SureResults.{fails_for, or_as}
-use Rattle.cacache_results.proofs.Told.{called}
+use Rattle.cacache_results.proofs.{SureLinkResults.{IsWritten, commit_succeeds, shown_read}, SureResults.{fails_for, or_as}, Told.{called}}
 
 -- the integrity of a link of which nothing was said is that of its bytes
 own_is : (cache : List ℕ) (key : Option (List ℕ)) (target : List ℕ) (moment : ℕ) (path held : List ℕ) (i : List Hash) (old new : List LogItem)

@@ -1,63 +1,23 @@
 -- What open linkers did.
-use Rattle.std.proofs.Common.{◌≡◌, inl, inr, ◌<◌, ◌^◌, ◌+◌, false, ℕ, List, [], ◌∷◌, ◌++◌, Option, None, Some, Result, Ok, Err, length, map, take, refl, sym, ap, subst, ◌∙◌, append_assoc, arith}
-use Rattle.std.proofs.lemmas.List.{append_cancel_left, length-append}
-use Rattle.std.specs.Prelude.{IsUtf8}
+use Rattle.std.proofs.{Common.{◌≡◌, inl, inr, ◌<◌, ◌^◌, ◌+◌, false, ℕ, List, [], ◌∷◌, ◌++◌, Option, None, Some, Result, Ok, Err, length, map, take, refl, sym, ap, subst, ◌∙◌, append_assoc, arith}, lemmas.List.{append_cancel_left, length-append}}
+use Rattle.std.specs.{Prelude.{IsUtf8}, Io.{ReadsAtMost, KnownBytes.{Consumes, Keeps, ReadConsumes}}}
 use Rattle.serde_json.specs.Data.{Data, null}
-use Rattle.std.specs.Io.{ReadsAtMost}
-use Rattle.std.specs.Io.KnownBytes.{Consumes, Keeps, ReadConsumes}
 use Rattle.cacache_store.specs.Failures as io
-use Rattle.cacache_core.specs.declared.errors.Error.{Error}
-use Rattle.cacache_core.specs.declared.integrity.digest.Hash.{Hash}
-use Rattle.cacache_core.specs.Texts.{integrity_text}
-use Rattle.cacache_entry.specs.Entry.{Entry}
-use Rattle.cacache_entry.specs.FittingEntries.{AreBytes, IsJson, cause_of}
-use Rattle.cacache_entry.proofs.WellRead.{IsJson-null}
-use Rattle.cacache_store.specs.declared.env.Env.{Env}
+use Rattle.cacache_core.specs.{declared.{errors.Error.{Error}, integrity.digest.Hash.{Hash}}, Texts.{integrity_text}}
+use Rattle.cacache_entry.{specs.{Entry.{Entry}, FittingEntries.{AreBytes, IsJson, cause_of}}, proofs.WellRead.{IsJson-null}}
+use Rattle.cacache_store.specs.{declared.{env.Env.{Env}, store.{log.LogItem.{LogItem, TheVariants.{Made}}, plain.PlainFile.{PlainFile}}}, Handles.{LeftFalls}}
 use Rattle.cacache_store.specs.declared.store.answer.Answer.TheVariants as answers
-use Rattle.cacache_store.specs.declared.store.log.LogItem.{LogItem}
-use Rattle.cacache_store.specs.declared.store.log.LogItem.TheVariants.{Made}
-use Rattle.cacache_store.specs.declared.store.plain.PlainFile.{PlainFile}
 use Rattle.cacache_store.specs.declared.store.step.Step.TheVariants as steps
-use Rattle.cacache_store.specs.Handles.{LeftFalls}
 use Rattle.cacache_disk.specs.Apply.{opened}
 use Rattle.cacache_memory.specs.Replay.{IsLog, shown, tree_of}
-use Rattle.cacache_table.specs.declared.command.Link.{Link}
-use Rattle.cacache_table.specs.declared.reply.Reply.TheVariants.{Stored}
-use Rattle.cacache_table.specs.Inserting.{entry_of, given_or, refused_cause}
-use Rattle.cacache_table.specs.Promises.{answered}
+use Rattle.cacache_table.specs.{declared.{command.Link.{Link}, reply.Reply.TheVariants.{Stored}}, Inserting.{entry_of, given_or, refused_cause}, Promises.{answered}, Linking.{based, commit_for, link_target, linked_to, target_at}, Runs.{Gains, Goes, Gone, Moves, Ran, reply_of, without_message}, State.{hashing, to_link}}
 use Rattle.cacache_table.proofs.IntegrityUtf8.{integrity_utf8}
-use Rattle.cacache_table.specs.Linking.{based, commit_for, link_target, linked_to, target_at}
-use Rattle.cacache_table.specs.Runs.{Gains, Goes, Gone, Moves, Ran, reply_of, without_message}
-use Rattle.cacache_table.specs.State.{hashing, to_link}
 use Rattle.cacache_content.specs.Passed.{passed}
-use Rattle.cacache_put.specs.OpenLinkers.{HasHashed, LinkTarget, OpensLinker, OpensSized, OpensTarget, asks_file, asks_size, stands_at}
-use Rattle.cacache_put.specs.Options.{Said, options_of}
-use Rattle.cacache_sequence.specs.Caches.{Grows, IsCache, IsExcused}
-use Rattle.cacache_sequence.specs.ExportEffects.{IsApart}
-use Rattle.cacache_sequence.specs.LinkAnswers.{OpensAs, target_bytes}
-use Rattle.cacache_sequence.specs.Links.{FitsLink, HasLinked, LeavesLink, put_like}
-use Rattle.cacache_sequence.specs.OpenLinkers.{CanWrite, CommitsRest, SuitsSize, TargetOpened}
-use Rattle.cacache_sequence.specs.OpenWriters.{LeavesKnownCache}
-use Rattle.cacache_sequence.specs.Puts.{entry_of_put}
-use Rattle.cacache_sequence.specs.Succeeds.{NamesFolder}
-use Rattle.cacache_sequence.proofs.Forms.{bare_written}
-use Rattle.cacache_sequence.proofs.Logs.{some_same}
-use Rattle.cacache_sequence.proofs.OpenLinkers.{linkers_commit, linkers_fail}
-use Rattle.cacache_sequence.proofs.Standing.{caches_stand}
-use Rattle.cacache_sequence.proofs.SureLinks.{linkers_answer}
-use Rattle.cacache_sequence.proofs.SureReaders.{linker_openings_answer, sized_openings_answer}
-use Rattle.cacache_sequence.proofs.TargetBytes.{linkers_open, linkers_open_sized}
-use Rattle.cacache_sequence.proofs.OpenWriters.{gains_join}
-use Rattle.cacache_results.specs.Handles.{IsText, LeadsToEntry, SaysFit, said_integrity}
-use Rattle.cacache_results.specs.Writes.{SaysPlain}
-use Rattle.cacache_results.specs.Linkers.{IsLinking, PlainSaysFit, LinkCommitsMean, LinkOpeningsMean, LinkedBytes, LinkersGoOn, MemLinker, OpenedLinker, SizedOpeningsMean}
-use Rattle.cacache_results.specs.Links.{LeadsOn}
-use Rattle.cacache_results.specs.Success.{FailsForMemory}
-use Rattle.cacache_results.proofs.LinkResults.{lies_so}
-use Rattle.cacache_results.proofs.SureLinkResults.{commit_succeeds, shown_read}
-use Rattle.cacache_results.proofs.Told.{excused, plain_result}
-use Rattle.cacache_results.proofs.WriteResults.{early_of}
-use Rattle.cacache_results.proofs.WriterResults.{fits}
+use Rattle.cacache_put.specs.{OpenLinkers.{HasHashed, LinkTarget, OpensLinker, OpensSized, OpensTarget, asks_file, asks_size, stands_at}, Options.{Said, options_of}}
+use Rattle.cacache_sequence.specs.{Caches.{Grows, IsCache, IsExcused}, ExportEffects.{IsApart}, LinkAnswers.{OpensAs, target_bytes}, Links.{FitsLink, HasLinked, LeavesLink, put_like}, OpenLinkers.{CanWrite, CommitsRest, SuitsSize, TargetOpened}, OpenWriters.{LeavesKnownCache}, Puts.{entry_of_put}, Succeeds.{NamesFolder}}
+use Rattle.cacache_sequence.proofs.{Forms.{bare_written}, Logs.{some_same}, OpenLinkers.{linkers_commit, linkers_fail}, Standing.{caches_stand}, SureLinks.{linkers_answer}, SureReaders.{linker_openings_answer, sized_openings_answer}, TargetBytes.{linkers_open, linkers_open_sized}, OpenWriters.{gains_join}}
+use Rattle.cacache_results.specs.{Handles.{IsText, LeadsToEntry, SaysFit, said_integrity}, Writes.{SaysPlain}, Linkers.{IsLinking, PlainSaysFit, LinkCommitsMean, LinkOpeningsMean, LinkedBytes, LinkersGoOn, MemLinker, OpenedLinker, SizedOpeningsMean}, Links.{LeadsOn}, Success.{FailsForMemory}}
+use Rattle.cacache_results.proofs.{LinkResults.{lies_so}, SureLinkResults.{commit_succeeds, shown_read}, Told.{excused, plain_result}, WriteResults.{early_of}, WriterResults.{fits}}
 
 -- ---- the moves of an opening
 

@@ -1,27 +1,15 @@
 -- What a listing gave and left.
-use Rattle.std.proofs.Common.{◌≡◌, inl, inr, ℕ, List, [], ◌∷◌, Some, Result, Ok, Err, map, refl, sym, ap, subst, ◌∙◌}
+use Rattle.std.proofs.{Common.{◌≡◌, inl, inr, ℕ, List, [], ◌∷◌, Some, Result, Ok, Err, map, refl, sym, ap, subst, ◌∙◌}, lemmas.List.Elements.{All-nil, All-cons, All-head, All-tail}}
 use Rattle.std.specs.Prelude.{All}
-use Rattle.std.proofs.lemmas.List.Elements.{All-nil, All-cons, All-head, All-tail}
-use Rattle.cacache_store.specs.declared.env.Env.{Env}
-use Rattle.cacache_store.specs.declared.store.log.LogItem.{LogItem}
+use Rattle.cacache_store.specs.declared.{env.Env.{Env}, store.log.LogItem.{LogItem}}
 use Rattle.cacache_memory.specs.Replay.{IsLog}
 use Rattle.cacache_entry.specs.Latest.{Found}
 use Rattle.cacache_table.specs.declared.command.Command.TheVariants as commands
-use Rattle.cacache_table.specs.declared.reply.Reply.{Reply}
+use Rattle.cacache_table.specs.{declared.reply.Reply.{Reply}, ListReplies.{In}, Runs.{plain_item, plain_reply}, State.{Item}}
 use Rattle.cacache_table.specs.declared.reply.Reply.TheVariants as replies
-use Rattle.cacache_table.specs.ListReplies.{In}
-use Rattle.cacache_table.specs.Runs.{plain_item, plain_reply}
-use Rattle.cacache_table.specs.State.{Item}
-use Rattle.cacache_sequence.specs.Caches.{Called}
-use Rattle.cacache_sequence.specs.Keeping.{found_under}
-use Rattle.cacache_sequence.specs.ListedKeys.{AreAllFound, GivesKeys, IsShown, ListsKeys}
-use Rattle.cacache_sequence.proofs.Known.{caches_last}
-use Rattle.cacache_sequence.proofs.ListedKeys.{listings_give}
-use Rattle.cacache_sequence.proofs.Standing.{caches_stand}
-use Rattle.cacache_sequence.proofs.SureLists.{listings_answer}
-use Rattle.cacache_sequence.proofs.Looks.{tree_stays}
-use Rattle.cacache_results.specs.Lists.{AreAllEntries, ListingMeans}
-use Rattle.cacache_results.proofs.Told.{looks_leave, plain_twice}
+use Rattle.cacache_sequence.specs.{Caches.{Called}, Keeping.{found_under}, ListedKeys.{AreAllFound, GivesKeys, IsShown, ListsKeys}}
+use Rattle.cacache_sequence.proofs.{Known.{caches_last}, ListedKeys.{listings_give}, Standing.{caches_stand}, SureLists.{listings_answer}, Looks.{tree_stays}}
+use Rattle.cacache_results.{specs.Lists.{AreAllEntries, ListingMeans}, proofs.Told.{looks_leave, plain_twice}}
 
 -- ---- replies without messages
 

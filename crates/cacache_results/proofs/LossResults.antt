@@ -1,48 +1,24 @@
 -- What a loss of power left of durable puts, and what a read of it gives.
 use Rattle.std.proofs.Common.{◌≡◌, ℕ, List, [], ◌∷◌, ◌++◌, Option, None, Some, Vec, Global, Result, Contains, arith, refl, sym, ap, subst, ◌∙◌}
 use Rattle.sha1.specs.Sha1.{sha1}
-use Rattle.cacache_core.specs.declared.errors.Error.{Error}
-use Rattle.cacache_core.specs.declared.integrity.digest.Hash.{Hash}
-use Rattle.cacache_core.specs.Digests.{digest}
-use Rattle.cacache_core.specs.Integrity.{Meets, hash_of, integrity_under}
-use Rattle.cacache_core.specs.PathNames.{Names, home_of}
-use Rattle.cacache_core.specs.Texts.{integrity_text}
+use Rattle.cacache_core.specs.{declared.{errors.Error.{Error}, integrity.digest.Hash.{Hash}}, Digests.{digest}, Integrity.{Meets, hash_of, integrity_under}, PathNames.{Names, home_of}, Texts.{integrity_text}}
 use Rattle.cacache_core.proofs.Printed.{printed}
-use Rattle.cacache_store.specs.declared.env.Env.{Env}
-use Rattle.cacache_store.specs.declared.store.log.LogItem.{LogItem}
-use Rattle.cacache_disk.specs.Rooted.{Rooted}
-use Rattle.cacache_disk.specs.Tree.{Tree}
+use Rattle.cacache_store.specs.declared.{env.Env.{Env}, store.log.LogItem.{LogItem}}
+use Rattle.cacache_disk.specs.{Rooted.{Rooted}, Tree.{Tree}}
 use Rattle.cacache_memory.specs.Replay.{IsLog, tree_of}
-use Rattle.cacache_entry.specs.Entry.{Entry}
-use Rattle.cacache_entry.specs.Latest.{Found, NoneAnswers, answer_to, latest}
-use Rattle.cacache_entry.proofs.Lookups.{last_answer_decides}
+use Rattle.cacache_entry.{specs.{Entry.{Entry}, Latest.{Found, NoneAnswers, answer_to, latest}}, proofs.Lookups.{last_answer_decides}}
 use Rattle.cacache_table.specs.declared.command.Command.TheVariants as commands
-use Rattle.cacache_table.specs.declared.command.Put.{Put}
-use Rattle.cacache_table.specs.Inserting.{given_or}
-use Rattle.cacache_table.specs.Runs.{reply_of}
-use Rattle.cacache_value.specs.Acts.{list_of}
-use Rattle.cacache_value.specs.Placed.{Placed}
-use Rattle.cacache_value.specs.Value.{Value, value_of_tree}
-use Rattle.cacache_loss.specs.Loss.{Loss, Lost}
-use Rattle.cacache_loss.specs.LostValues.{HoldsContent}
-use Rattle.cacache_history.specs.AddedEntries.{address_of_put}
-use Rattle.cacache_history.specs.History.{History}
-use Rattle.cacache_history.specs.Lookups.{found_of_put}
-use Rattle.cacache_history.specs.Setup.{home}
-use Rattle.cacache_history.proofs.Digests.{own_integrity}
-use Rattle.cacache_history.proofs.PlacedAnswers.{answers_so}
-use Rattle.cacache_durable.specs.FewCalls.{FewCalls}
-use Rattle.cacache_durable.specs.Outlasting.{DurablePut, EntryOutlasts, KeyOutlasts, Outlives, moment_at}
+use Rattle.cacache_table.specs.{declared.command.Put.{Put}, Inserting.{given_or}, Runs.{reply_of}}
+use Rattle.cacache_value.specs.{Acts.{list_of}, Placed.{Placed}, Value.{Value, value_of_tree}}
+use Rattle.cacache_loss.specs.{Loss.{Loss, Lost}, LostValues.{HoldsContent}}
+use Rattle.cacache_history.specs.{AddedEntries.{address_of_put}, History.{History}, Lookups.{found_of_put}, Setup.{home}}
+use Rattle.cacache_history.proofs.{Digests.{own_integrity}, PlacedAnswers.{answers_so}}
+use Rattle.cacache_durable.specs.{FewCalls.{FewCalls}, Outlasting.{DurablePut, EntryOutlasts, KeyOutlasts, Outlives, moment_at}}
 use Rattle.cacache_reads.specs.Reads.{bytes_read}
-use Rattle.cacache_sequence.specs.Caches.{HasContent, HasKey}
-use Rattle.cacache_sequence.specs.Standing.{IsStanding}
-use Rattle.cacache_sequence.proofs.Looked.{same_stays_known}
-use Rattle.cacache_sequence.proofs.Looks.{looks_keep, tree_stays}
-use Rattle.cacache_sequence.proofs.Standing.{looks_leave_standing, standing_reads}
+use Rattle.cacache_sequence.specs.{Caches.{HasContent, HasKey}, Standing.{IsStanding}}
+use Rattle.cacache_sequence.proofs.{Looked.{same_stays_known}, Looks.{looks_keep, tree_stays}, Standing.{looks_leave_standing, standing_reads}}
 use Rattle.cacache_results.specs.Losses.{IsLeft, LeadsToDigest, LeftReadMeans, LossesLeaveLast, LossesLeavePuts, LossesLeaveStanding, PutIsLeft, entry_written}
-use Rattle.cacache_results.proofs.LeftReads.{left_read}
-use Rattle.cacache_results.proofs.ReadResults.{given}
-use Rattle.cacache_results.proofs.Told.{called}
+use Rattle.cacache_results.proofs.{LeftReads.{left_read}, ReadResults.{given}, Told.{called}}
 
 pub losses_leave_standing : LossesLeaveStanding
 losses_leave_standing h loss log outlives left =

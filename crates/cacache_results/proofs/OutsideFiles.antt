@@ -1,43 +1,17 @@
 -- Where no call exports or removes, each link of a content leads to a file that no step changes.
 use Rattle.std.proofs.Common.{◌≡◌, ◌==◌, ◌-◌, ℕ, Bool, true, false, cond, List, [], ◌∷◌, ◌++◌, Option, None, Some, Result, Ok, length, refl, sym, ap, subst, ◌∙◌, append_assoc}
-use Rattle.cacache_core.specs.declared.errors.Fault.{Fault}
-use Rattle.cacache_core.specs.declared.errors.Fault.TheVariants.{IsADirectory}
-use Rattle.cacache_core.specs.declared.integrity.digest.Hash.{Hash}
-use Rattle.cacache_core.specs.PathNames.{Names, names_of}
-use Rattle.cacache_core.specs.Paths.{content_names}
+use Rattle.cacache_core.specs.{declared.{errors.Fault.{Fault, TheVariants.{IsADirectory}}, integrity.digest.Hash.{Hash}}, PathNames.{Names, names_of}, Paths.{content_names}}
 use Rattle.cacache_store.specs.declared.store.step.Step.TheVariants as steps
 use Rattle.cacache_store.specs.Plain.{PlainStep, PlainAnswer}
-use Rattle.cacache_disk.specs.declared.luck.Luck.{Luck}
-use Rattle.cacache_disk.specs.declared.node.Node.{Node}
-use Rattle.cacache_disk.specs.declared.node.Node.TheVariants.{Folder, File, Link}
-use Rattle.cacache_disk.specs.Apply.{above_last, apply, if_missing, make_some, planted}
-use Rattle.cacache_disk.specs.LedTo.{bytes_there, dirs_fault, file_at, followed, leads, on_link, or_fault, place, where_no_folder}
-use Rattle.cacache_disk.specs.Tree.{Tree, bare, look, put, same_path}
-use Rattle.cacache_disk.proofs.FoundNodes.{and_then_ok, place_ok}
-use Rattle.cacache_disk.proofs.PutNodes.{look-put}
-use Rattle.cacache_disk.proofs.Roots.{look-bare}
-use Rattle.cacache_value.specs.Kinds.{Content, Elsewhere, IsFor, path_kind}
-use Rattle.cacache_value.specs.OpeningTrees.{with_files}
-use Rattle.cacache_value.specs.Placed.{MayStand, Placed}
-use Rattle.cacache_value.specs.Value.{AtLink, blob_in, value_of_tree}
-use Rattle.cacache_value.proofs.FoundPaths.{of_names, suits}
-use Rattle.cacache_value.proofs.KindsApart.{kind-below}
-use Rattle.cacache_history.specs.declared.record.Record.{Record}
-use Rattle.cacache_history.specs.declared.record.Record.TheVariants.{Began, Moved, Stopped}
-use Rattle.cacache_history.specs.AddedEntries.{address_of_put}
-use Rattle.cacache_history.specs.History.{History, IsLegal, initial, now_at}
-use Rattle.cacache_history.specs.Setup.{home}
-use Rattle.cacache_history.specs.Values.{steps_of}
-use Rattle.cacache_history.proofs.Digests.{digest_hash}
-use Rattle.cacache_history.proofs.Holding.{held_at}
-use Rattle.cacache_history.proofs.LinkedContents.{links_were_right}
-use Rattle.cacache_loss.specs.Moments.{EachMove, Moment, after, next}
-use Rattle.cacache_loss.specs.Syncs.{Leaves, LeavesStep}
-use Rattle.cacache_loss.proofs.KeptPaths.{sync_tree}
-use Rattle.cacache_durable.specs.Outlasting.{moment_at}
-use Rattle.cacache_durable.proofs.Traces.{made_move, tree_at}
-use Rattle.cacache_results.specs.FoundLinks.{LinksLeadUnchanged}
-use Rattle.cacache_results.proofs.OutsideSteps.{all_leave}
+use Rattle.cacache_disk.specs.{declared.{luck.Luck.{Luck}, node.Node.{Node, TheVariants.{Folder, File, Link}}}, Apply.{above_last, apply, if_missing, make_some, planted}, LedTo.{bytes_there, dirs_fault, file_at, followed, leads, on_link, or_fault, place, where_no_folder}, Tree.{Tree, bare, look, put, same_path}}
+use Rattle.cacache_disk.proofs.{FoundNodes.{and_then_ok, place_ok}, PutNodes.{look-put}, Roots.{look-bare}}
+use Rattle.cacache_value.specs.{Kinds.{Content, Elsewhere, IsFor, path_kind}, OpeningTrees.{with_files}, Placed.{MayStand, Placed}, Value.{AtLink, blob_in, value_of_tree}}
+use Rattle.cacache_value.proofs.{FoundPaths.{of_names, suits}, KindsApart.{kind-below}}
+use Rattle.cacache_history.specs.{declared.record.Record.{Record, TheVariants.{Began, Moved, Stopped}}, AddedEntries.{address_of_put}, History.{History, IsLegal, initial, now_at}, Setup.{home}, Values.{steps_of}}
+use Rattle.cacache_history.proofs.{Digests.{digest_hash}, Holding.{held_at}, LinkedContents.{links_were_right}}
+use Rattle.cacache_loss.{specs.{Moments.{EachMove, Moment, after, next}, Syncs.{Leaves, LeavesStep}}, proofs.KeptPaths.{sync_tree}}
+use Rattle.cacache_durable.{specs.Outlasting.{moment_at}, proofs.Traces.{made_move, tree_at}}
+use Rattle.cacache_results.{specs.FoundLinks.{LinksLeadUnchanged}, proofs.OutsideSteps.{all_leave}}
 
 -- ---- no link stands in what a history begins with
 

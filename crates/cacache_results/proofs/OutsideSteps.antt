@@ -3,39 +3,16 @@ use Rattle.std.proofs.Common.{◌≡◌, ◌==◌, ℕ, Bool, true, false, cond,
 use Rattle.cacache_core.specs.PathNames.{Names, names_of}
 use Rattle.cacache_store.specs.declared.store.step.Step.TheVariants as steps
 use Rattle.cacache_store.specs.Plain.{PlainStep, PlainAnswer}
-use Rattle.cacache_disk.specs.declared.luck.Luck.{Luck}
-use Rattle.cacache_disk.specs.declared.node.Node.TheVariants.{Link}
-use Rattle.cacache_disk.specs.Tree.{Tree, look}
-use Rattle.cacache_disk.specs.LedTo.{free}
-use Rattle.cacache_disk.specs.Apply.{apply}
-use Rattle.cacache_disk.proofs.FoundNodes.{free_ok}
-use Rattle.cacache_disk.proofs.KeptFolders.{apply_tree, unless_tree}
-use Rattle.cacache_table.specs.declared.reply.Reply.{Reply}
-use Rattle.cacache_table.specs.Licence.{KeepsTo, May, allows}
-use Rattle.cacache_table.specs.Sound.{Allowed}
-use Rattle.cacache_table.specs.Table.{opening, wants}
-use Rattle.cacache_table.proofs.Within.{begins_within, goes_within, step_allowed}
-use Rattle.cacache_table.proofs.Sound.{steps_allowed}
-use Rattle.cacache_value.specs.Kinds.{Bucket, Content, Elsewhere, Temporary, IsFor, path_kind}
-use Rattle.cacache_value.specs.OpeningTrees.{LieApart}
-use Rattle.cacache_value.specs.Placed.{Placed, Proper}
-use Rattle.cacache_history.specs.declared.record.Record.{Record}
-use Rattle.cacache_history.specs.declared.record.Record.TheVariants.{Began, Moved, Stopped}
-use Rattle.cacache_history.specs.Setup.{Setup, call_site, home, is_outside, may_export}
-use Rattle.cacache_history.specs.History.{Call, History, IsLegal, Legal, Made, Now, call_after, initial, now_after, unless_over}
-use Rattle.cacache_history.specs.Turns.{made_in}
-use Rattle.cacache_history.specs.Values.{steps_of}
+use Rattle.cacache_disk.specs.{declared.{luck.Luck.{Luck}, node.Node.TheVariants.{Link}}, Tree.{Tree, look}, LedTo.{free}, Apply.{apply}}
+use Rattle.cacache_disk.proofs.{FoundNodes.{free_ok}, KeptFolders.{apply_tree, unless_tree}}
+use Rattle.cacache_table.specs.{declared.reply.Reply.{Reply}, Licence.{KeepsTo, May, allows}, Sound.{Allowed}, Table.{opening, wants}}
+use Rattle.cacache_table.proofs.{Within.{begins_within, goes_within, step_allowed}, Sound.{steps_allowed}}
+use Rattle.cacache_value.specs.{Kinds.{Bucket, Content, Elsewhere, Temporary, IsFor, path_kind}, OpeningTrees.{LieApart}, Placed.{Placed, Proper}}
+use Rattle.cacache_history.specs.{declared.record.Record.{Record, TheVariants.{Began, Moved, Stopped}}, Setup.{Setup, call_site, home, is_outside, may_export}, History.{Call, History, IsLegal, Legal, Made, Now, call_after, initial, now_after, unless_over}, Turns.{made_in}, Values.{steps_of}}
 use Rattle.cacache_history.proofs.Holding.{AllHold, CallHolds, first_holds, made_proper, next_holds, of_caller}
-use Rattle.cacache_loss.specs.CalmMoves.{is_calm}
-use Rattle.cacache_loss.specs.Fixing.{moved_to, moves_file, rewrites_at, writes_at}
-use Rattle.cacache_loss.specs.Moments.{EachMove, Moment, next}
-use Rattle.cacache_loss.specs.Syncs.{Leaves, LeavesStep}
-use Rattle.cacache_loss.proofs.KeptPaths.{keeps}
-use Rattle.cacache_loss.proofs.StepCases.{make_apart, put_misses}
-use Rattle.cacache_loss.proofs.UnchangedPaths.{Misses, at_false, at_names, moved_false, rewrites_false, writes_false}
-use Rattle.cacache_durable.specs.Outlasting.{moment_at}
-use Rattle.cacache_durable.proofs.QuietSteps.{temp_for}
-use Rattle.cacache_durable.proofs.Traces.{made_move}
+use Rattle.cacache_loss.specs.{CalmMoves.{is_calm}, Fixing.{moved_to, moves_file, rewrites_at, writes_at}, Moments.{EachMove, Moment, next}, Syncs.{Leaves, LeavesStep}}
+use Rattle.cacache_loss.proofs.{KeptPaths.{keeps}, StepCases.{make_apart, put_misses}, UnchangedPaths.{Misses, at_false, at_names, moved_false, rewrites_false, writes_false}}
+use Rattle.cacache_durable.{specs.Outlasting.{moment_at}, proofs.{QuietSteps.{temp_for}, Traces.{made_move}}}
 use Rattle.cacache_results.specs.FoundLinks.{OnlyLinksIn, linking_in}
 
 -- ---- steps

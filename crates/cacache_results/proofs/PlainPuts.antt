@@ -1,40 +1,17 @@
 -- A durable put whose steps all go well.
-use Rattle.std.proofs.Common.{◌≡◌, ◌==◌, ℕ, Bool, true, false, cond, List, [], ◌∷◌, ◌++◌, Option, None, Some, Ok, length, take, drop, refl, sym, ap, subst, ◌∙◌, arith}
-use Rattle.std.proofs.lemmas.Bool.{ne_eqb}
-use Rattle.std.proofs.lemmas.List.{drop_all}
+use Rattle.std.proofs.{Common.{◌≡◌, ◌==◌, ℕ, Bool, true, false, cond, List, [], ◌∷◌, ◌++◌, Option, None, Some, Ok, length, take, drop, refl, sym, ap, subst, ◌∙◌, arith}, lemmas.{Bool.{ne_eqb}, List.{drop_all}}}
 use Rattle.hex.specs.Hex.{encode_lower}
-use Rattle.cacache_core.specs.Digests.{digest}
-use Rattle.cacache_core.specs.Integrity.{IsHash, hash_of}
-use Rattle.cacache_core.specs.PathNames.{Names, names_of}
-use Rattle.cacache_core.specs.Paths.{content_names, folder_names, temp_names}
+use Rattle.cacache_core.specs.{Digests.{digest}, Integrity.{IsHash, hash_of}, PathNames.{Names, names_of}, Paths.{content_names, folder_names, temp_names}, declared.integrity.digest.Hash.{Hash}}
 use Rattle.cacache_core.specs.declared.errors.Fault.TheVariants as faults
-use Rattle.cacache_core.specs.declared.integrity.digest.Hash.{Hash}
 use Rattle.cacache_store.specs.declared.store.plain.PlainTemp.{PlainTemp}
 use Rattle.cacache_store.specs.declared.store.step.Step.TheVariants as steps
 use Rattle.cacache_store.specs.declared.store.answer.Answer.TheVariants as answers
-use Rattle.cacache_disk.specs.declared.luck.Luck.TheVariants.{Plain}
-use Rattle.cacache_disk.specs.declared.node.Node.TheVariants.{File}
-use Rattle.cacache_disk.specs.Apply.{apply, make_some, made_temp}
-use Rattle.cacache_disk.specs.LedTo.{place}
-use Rattle.cacache_disk.specs.Tree.{Tree, cut, look, put}
-use Rattle.cacache_table.specs.Common.{fails, sync_up}
-use Rattle.cacache_table.specs.State.{State, creating, doing, persisting, syncing, writing, make_folder}
-use Rattle.cacache_table.specs.StepPaths.{content_folder, content_folders, content_path, temp_folder, temp_path}
-use Rattle.cacache_table.specs.Storing.{compared, indexed, insertion_of, move_in, persist, placed, put_commit, secured, sized, write_rest}
-use Rattle.cacache_table.specs.declared.carried.Commit.{Commit}
-use Rattle.cacache_table.specs.declared.command.Put.{Put}
-use Rattle.cacache_table.specs.declared.reply.Reply.{Reply}
-use Rattle.cacache_table.specs.declared.reply.Reply.TheVariants.{Stored}
-use Rattle.cacache_value.specs.Kinds.{Content, Temporary, Way, IsFor}
-use Rattle.cacache_value.specs.Placed.{Proper}
-use Rattle.cacache_value.proofs.FoundPaths.{suits}
+use Rattle.cacache_disk.specs.{declared.{luck.Luck.TheVariants.{Plain}, node.Node.TheVariants.{File}}, Apply.{apply, make_some, made_temp}, LedTo.{place}, Tree.{Tree, cut, look, put}}
+use Rattle.cacache_table.specs.{Common.{fails, sync_up}, State.{State, creating, doing, persisting, syncing, writing, make_folder}, StepPaths.{content_folder, content_folders, content_path, temp_folder, temp_path}, Storing.{compared, indexed, insertion_of, move_in, persist, placed, put_commit, secured, sized, write_rest}, declared.{carried.Commit.{Commit}, command.Put.{Put}, reply.Reply.{Reply, TheVariants.{Stored}}}}
+use Rattle.cacache_value.{specs.{Kinds.{Content, Temporary, Way, IsFor}, Placed.{Proper}}, proofs.FoundPaths.{suits}}
 use Rattle.cacache_history.proofs.Digests.{digest_hash}
-use Rattle.cacache_sequence.proofs.MadeNodes.{Stands}
-use Rattle.cacache_sequence.proofs.SureInserts.{one_behind}
-use Rattle.cacache_sequence.proofs.SureSteps.{Ground, Lies, dirs_ground, dirs_keep, dirs_stand, goes_to, is_for, look_own, makes_dirs, persists, place_in}
-use Rattle.cacache_sequence.proofs.SureTemps.{content_folder_lies, content_lies, content_synced, file_ground, made_file, stands, temp_folder_lies, temp_lies, with_file, with_folder}
-use Rattle.cacache_results.specs.DurableCases.{CanBeWritten}
-use Rattle.cacache_results.proofs.PlainRuns.{Plays, goes, inserts_play, syncs}
+use Rattle.cacache_sequence.proofs.{MadeNodes.{Stands}, SureInserts.{one_behind}, SureSteps.{Ground, Lies, dirs_ground, dirs_keep, dirs_stand, goes_to, is_for, look_own, makes_dirs, persists, place_in}, SureTemps.{content_folder_lies, content_lies, content_synced, file_ground, made_file, stands, temp_folder_lies, temp_lies, with_file, with_folder}}
+use Rattle.cacache_results.{specs.DurableCases.{CanBeWritten}, proofs.PlainRuns.{Plays, goes, inserts_play, syncs}}
 
 module _ (cache : List ℕ) (folder : Names) (is : names_of cache ≡ Ok folder) (p : Put) (durable : p.options.durable ≡ true)
     (no_integrity : p.options.integrity ≡ None) (no_size : p.options.size ≡ None)

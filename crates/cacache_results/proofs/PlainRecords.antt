@@ -1,19 +1,11 @@
 -- The moves of one call whose steps all go well, as records of a history.
 use Rattle.std.proofs.Common.{◌≡◌, inl, List, [], ◌∷◌, ◌++◌, Some, None, option_map, refl, sym, ap, subst}
-use Rattle.cacache_core.specs.PathNames.{Names}
-use Rattle.cacache_core.specs.declared.integrity.digest.Hash.{Hash}
+use Rattle.cacache_core.specs.{PathNames.{Names}, declared.integrity.digest.Hash.{Hash}}
 use Rattle.cacache_disk.specs.declared.luck.Luck.TheVariants.{Plain}
-use Rattle.cacache_table.specs.Runs.{Moves}
-use Rattle.cacache_table.specs.declared.command.Command.{Command}
-use Rattle.cacache_table.specs.declared.reply.Reply.{Reply}
-use Rattle.cacache_table.specs.declared.reply.Reply.TheVariants.{Stored}
-use Rattle.cacache_history.specs.declared.record.Record.{Record}
-use Rattle.cacache_history.specs.declared.record.Record.TheVariants.{Moved}
-use Rattle.cacache_history.specs.History.{Call, Legal, Made, Now, call_after, now_after, replayed}
-use Rattle.cacache_history.specs.Setup.{Setup}
+use Rattle.cacache_table.specs.{Runs.{Moves}, declared.{command.Command.{Command}, reply.Reply.{Reply, TheVariants.{Stored}}}}
+use Rattle.cacache_history.specs.{declared.record.Record.{Record, TheVariants.{Moved}}, History.{Call, Legal, Made, Now, call_after, now_after, replayed}, Setup.{Setup}}
 use Rattle.cacache_sequence.specs.Sequence.{AreAnswered}
-use Rattle.cacache_durable.specs.Ending.{CallEndsWith}
-use Rattle.cacache_durable.specs.QuietMoves.{AreQuiet, IsQuietMove}
+use Rattle.cacache_durable.specs.{Ending.{CallEndsWith}, QuietMoves.{AreQuiet, IsQuietMove}}
 use Rattle.cacache_results.proofs.PlainRuns.{Reaches}
 
 -- a first move and those behind it, the last with this reply

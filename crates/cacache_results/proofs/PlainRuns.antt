@@ -2,35 +2,18 @@
 use Rattle.std.proofs.Common.{◌≡◌, nat_le, ℕ, Bool, true, false, cond, List, [], ◌∷◌, ◌++◌, Some, Ok, length, take, drop, refl, sym, ap, subst, ◌∙◌, arith, le-leb}
 use Rattle.sha1.specs.Sha1.{sha1}
 use Rattle.hex.specs.Hex.{encode_lower}
-use Rattle.cacache_core.specs.PathNames.{Names, names_of}
-use Rattle.cacache_core.specs.Paths.{bucket_names, folder_names}
+use Rattle.cacache_core.{specs.{PathNames.{Names, names_of}, Paths.{bucket_names, folder_names}}, proofs.{PathLemmas.{keys_have_digests}, ProperNames.{names_are_proper}}}
 use Rattle.cacache_core.specs.declared.errors.Fault.TheVariants as faults
-use Rattle.cacache_core.proofs.PathLemmas.{keys_have_digests}
-use Rattle.cacache_core.proofs.ProperNames.{names_are_proper}
-use Rattle.cacache_store.specs.Fits.{Fits}
-use Rattle.cacache_store.specs.Plain.{PlainStep, PlainAnswer}
+use Rattle.cacache_store.specs.{Fits.{Fits}, Plain.{PlainStep, PlainAnswer}}
 use Rattle.cacache_store.specs.declared.store.step.Step.TheVariants as steps
 use Rattle.cacache_store.specs.declared.store.answer.Answer.TheVariants as answers
-use Rattle.cacache_disk.specs.declared.luck.Luck.TheVariants.{Plain}
-use Rattle.cacache_disk.specs.declared.node.Node.TheVariants.{File}
-use Rattle.cacache_disk.specs.Apply.{apply, make_some}
-use Rattle.cacache_disk.specs.LedTo.{place}
-use Rattle.cacache_disk.specs.Rooted.{Rooted}
-use Rattle.cacache_disk.specs.Tree.{Tree, bytes_of, look, put}
+use Rattle.cacache_disk.specs.{declared.{luck.Luck.TheVariants.{Plain}, node.Node.TheVariants.{File}}, Apply.{apply, make_some}, LedTo.{place}, Rooted.{Rooted}, Tree.{Tree, bytes_of, look, put}}
 use Rattle.cacache_disk.proofs.KeptFolders.{outcome_rooted}
 use Rattle.cacache_entry.proofs.EntryCauses.{no_cause_is_fit}
-use Rattle.cacache_table.specs.Common.{fails, sync_up}
-use Rattle.cacache_table.specs.Inserting.{bucket_line, insert, recorded, refused_cause, unless_refused}
-use Rattle.cacache_table.specs.Runs.{Moves}
-use Rattle.cacache_table.specs.State.{State, appending, doing, over, Insertion, make_folder, sync_dir, sync_file}
-use Rattle.cacache_table.specs.StepPaths.{bucket_folder, bucket_folders, bucket_path}
-use Rattle.cacache_table.specs.Table.{after, wants}
-use Rattle.cacache_table.specs.declared.reply.Reply.{Reply}
-use Rattle.cacache_value.specs.Kinds.{Bucket, Way}
-use Rattle.cacache_value.proofs.FoundPaths.{suits}
+use Rattle.cacache_table.specs.{Common.{fails, sync_up}, Inserting.{bucket_line, insert, recorded, refused_cause, unless_refused}, Runs.{Moves}, State.{State, appending, doing, over, Insertion, make_folder, sync_dir, sync_file}, StepPaths.{bucket_folder, bucket_folders, bucket_path}, Table.{after, wants}, declared.reply.Reply.{Reply}}
+use Rattle.cacache_value.{specs.Kinds.{Bucket, Way}, proofs.FoundPaths.{suits}}
 use Rattle.cacache_sequence.specs.Sequence.{AreAnswered}
-use Rattle.cacache_sequence.proofs.SureInserts.{bucket_folder_lies, bucket_lies, one_behind}
-use Rattle.cacache_sequence.proofs.SureSteps.{Ground, Lies, SyncsAll, appends, dirs_ground, dirs_stand, look_own, makes_dirs, place_at, place_in, syncs_file, syncs_folders}
+use Rattle.cacache_sequence.proofs.{SureInserts.{bucket_folder_lies, bucket_lies, one_behind}, SureSteps.{Ground, Lies, SyncsAll, appends, dirs_ground, dirs_stand, look_own, makes_dirs, place_at, place_in, syncs_file, syncs_folders}}
 use Rattle.cacache_results.specs.DurableCases.{CanBeWritten}
 
 -- ---- a run that goes well

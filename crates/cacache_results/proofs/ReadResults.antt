@@ -1,44 +1,20 @@
 -- What reads and questions gave and left.
 use Rattle.std.proofs.Common.{◌≡◌, inl, inr, ℕ, Bool, true, false, List, [], Option, None, Some, Vec, Global, Result, Ok, Err, refl, sym, ap, subst, ◌∙◌}
 use Rattle.std.specs.Prelude.{IfOk, IfErr, option_map}
-use Rattle.cacache_core.specs.declared.errors.Error.{Error}
-use Rattle.cacache_core.specs.declared.errors.Error.TheVariants.{OutOfMemory}
-use Rattle.cacache_core.specs.declared.integrity.digest.Hash.{Hash}
-use Rattle.cacache_core.specs.Integrity.{IsIntegrity}
-use Rattle.cacache_store.specs.declared.env.Env.{Env}
-use Rattle.cacache_store.specs.declared.store.log.LogItem.{LogItem}
-use Rattle.cacache_entry.specs.declared.metadata.Metadata.{Metadata}
-use Rattle.cacache_entry.specs.Latest.{Found}
-use Rattle.cacache_entry.specs.View.{found_view}
+use Rattle.cacache_core.specs.{declared.{errors.Error.{Error, TheVariants.{OutOfMemory}}, integrity.digest.Hash.{Hash}}, Integrity.{IsIntegrity}, PathNames.{home_of}}
+use Rattle.cacache_store.specs.declared.{env.Env.{Env}, store.log.LogItem.{LogItem}}
+use Rattle.cacache_entry.specs.{declared.metadata.Metadata.{Metadata}, Latest.{Found}, View.{found_view}}
 use Rattle.cacache_table.specs.declared.command.Command.TheVariants as commands
 use Rattle.cacache_table.specs.declared.reply.Reply.TheVariants as replies
-use Rattle.cacache_table.specs.Replies.{looked_up}
-use Rattle.cacache_table.specs.Runs.{reply_of, without_message}
+use Rattle.cacache_table.specs.{Replies.{looked_up, OrMemory, content_reply}, Runs.{reply_of, without_message}}
 use Rattle.cacache_reads.specs.Reads.{bytes_read}
-use Rattle.cacache_sequence.specs.Caches.{Called, IsCache, HasContent, HasKey, LacksKey, IsExcused, AStepFailed, GivesBytes, FindsNone, SaysThere}
-use Rattle.cacache_sequence.specs.Inserts.{leads_to}
-use Rattle.cacache_sequence.specs.Keeping.{found_under}
-use Rattle.cacache_sequence.specs.Looks.{GivesFound, GivesHeld, GivesOfKey, SaysAbsent}
-use Rattle.cacache_sequence.proofs.AskedContents.{asks_absent, asks_content}
-use Rattle.cacache_sequence.proofs.GivenReads.{content_reads_give, key_reads_give}
-use Rattle.cacache_sequence.proofs.LinkedReads.{links_show}
-use Rattle.cacache_sequence.proofs.Known.{caches_last}
-use Rattle.cacache_sequence.proofs.Looked.{finds_found}
-use Rattle.cacache_sequence.proofs.Looks.{tree_stays}
-use Rattle.cacache_sequence.proofs.ReadsKeep.{reads_content, reads_key, reads_none}
+use Rattle.cacache_sequence.specs.{Caches.{Called, IsCache, HasContent, HasKey, LacksKey, IsExcused, AStepFailed, GivesBytes, FindsNone, SaysThere, setup_at}, Inserts.{leads_to}, Keeping.{found_under}, Looks.{GivesFound, GivesHeld, GivesOfKey, SaysAbsent}, ReadAnswers.{get_on, read_on}, Succeeds.{exists_reply, is_yes}}
+use Rattle.cacache_sequence.proofs.{AskedContents.{asks_absent, asks_content}, GivenReads.{content_reads_give, key_reads_give}, LinkedReads.{links_show}, Known.{caches_last}, Looked.{finds_found}, Looks.{tree_stays}, ReadsKeep.{reads_content, reads_key, reads_none}, Standing.{caches_stand, met_reply}, Succeeds.{content_reads_answer, key_reads_answer, lookups_answer, questions_answer}}
 use Rattle.cacache_results.specs.Reads.{AskedContent, ContentReadMeans, EntryFound, GivesJust, GivesNoEntry, LinksToFile, LiesWhole, KeyLiesWhole, KeyReadMeans, LookupMeans, QuestionMeans, ContentRead, KeyRead}
-use Rattle.cacache_core.specs.PathNames.{home_of}
+use Rattle.cacache_results.proofs.{SureResults.{for_memory, for_missing, or_as}, Told.{called, excused, looks_leave, of_memory, of_missing}}
 use Rattle.cacache_memory.specs.Replay.{IsLog, tree_of}
-use Rattle.cacache_table.specs.Replies.{OrMemory, content_reply}
 use Rattle.cacache_value.specs.Shows.{blob_bytes, blob_there}
 use Rattle.cacache_history.specs.ShownTurns.{as_refusal}
-use Rattle.cacache_sequence.specs.Caches.{setup_at}
-use Rattle.cacache_sequence.specs.ReadAnswers.{get_on, read_on}
-use Rattle.cacache_sequence.specs.Succeeds.{exists_reply, is_yes}
-use Rattle.cacache_sequence.proofs.Standing.{caches_stand, met_reply}
-use Rattle.cacache_sequence.proofs.Succeeds.{content_reads_answer, key_reads_answer, lookups_answer, questions_answer}
-use Rattle.cacache_results.proofs.SureResults.{for_memory, for_missing, or_as}
-use Rattle.cacache_results.proofs.Told.{called, excused, looks_leave, of_memory, of_missing}
 
 -- ---- reads
 

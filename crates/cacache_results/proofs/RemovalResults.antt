@@ -1,43 +1,18 @@
 -- What removals and clearings gave and left.
-use Rattle.std.proofs.Common.{◌≡◌, inl, inr, ℕ, List, [], Option, None, Some, Result, Ok, Err, refl, ap, ◌∙◌, arith}
-use Rattle.std.specs.Prelude.{OnOk, IfErr, IsUtf8}
-use Rattle.cacache_core.specs.declared.errors.Error.{Error}
-use Rattle.cacache_core.specs.declared.errors.Error.TheVariants.{IoError, OutOfMemory}
-use Rattle.cacache_core.specs.declared.errors.Fault.TheVariants.{NotFound, TooDeep}
+use Rattle.std.{proofs.Common.{◌≡◌, inl, inr, ℕ, List, [], Option, None, Some, Result, Ok, Err, refl, ap, ◌∙◌, arith}, specs.Prelude.{OnOk, IfErr, IsUtf8}}
+use Rattle.cacache_core.specs.{declared.{errors.{Error.{Error, TheVariants.{IoError, OutOfMemory}}, Fault.TheVariants.{NotFound, TooDeep}}, integrity.digest.Hash.{Hash}}, Integrity.{IsIntegrity}, PathNames.{home_of}}
 use Rattle.cacache_disk.specs.declared.node.Node.{Node}
-use Rattle.cacache_value.specs.Kinds.{node_below}
-use Rattle.cacache_core.specs.declared.integrity.digest.Hash.{Hash}
-use Rattle.cacache_core.specs.Integrity.{IsIntegrity}
-use Rattle.cacache_store.specs.declared.env.Env.{Env}
-use Rattle.cacache_store.specs.declared.store.log.LogItem.{LogItem}
+use Rattle.cacache_value.specs.{Kinds.{node_below}, Value.{Blob}}
+use Rattle.cacache_store.specs.declared.{env.Env.{Env}, store.log.LogItem.{LogItem}}
 use Rattle.cacache_table.specs.declared.command.Command.TheVariants as commands
-use Rattle.cacache_table.specs.Inserting.{refused_cause}
-use Rattle.cacache_table.specs.Replies.{OrMemory, done}
-use Rattle.cacache_table.specs.Runs.{reply_of, without_message}
+use Rattle.cacache_table.specs.{Inserting.{refused_cause}, Replies.{OrMemory, done}, Runs.{reply_of, without_message}, declared.reply.Reply.TheVariants.{Done, Refused}}
 use Rattle.cacache_reads.specs.Lookups.{delete_of}
-use Rattle.cacache_sequence.specs.Caches.{HasKey, IsEmptyCache, IsExcused, LacksKey, Empties, RemovesKey, lies_under}
-use Rattle.cacache_sequence.specs.Removed.{RemovesContent}
-use Rattle.cacache_sequence.proofs.Beside.{removals_keep}
-use Rattle.cacache_sequence.proofs.Logs.{calls_grow}
-use Rattle.cacache_table.specs.declared.reply.Reply.TheVariants.{Done, Refused}
-use Rattle.cacache_core.specs.PathNames.{home_of}
+use Rattle.cacache_sequence.specs.{Caches.{HasKey, IsEmptyCache, IsExcused, LacksKey, Empties, RemovesKey, lies_under}, Removed.{RemovesContent}, Keeping.{found_under}, Succeeds.{Clears, fully_reply, removal_reply, unless_unwritable}}
+use Rattle.cacache_sequence.proofs.{Beside.{removals_keep}, Logs.{calls_grow}, Forms.{bare_written}, Standing.{caches_stand}, Succeeds.{deletions_answer, removals_answer}, SureClears.{clearings_answer}, SureRemovals.{full_removals_answer}, Unused.{others_leave_none, stays_ready}, Removals.{clearings_empty, removals_last}, Removed.{contents_go}, RemovedKeys.{keys_go}}
 use Rattle.cacache_memory.specs.Replay.{IsLog, tree_of}
-use Rattle.cacache_value.specs.Value.{Blob}
 use Rattle.cacache_history.specs.Values.{IsThere}
-use Rattle.cacache_sequence.specs.Keeping.{found_under}
-use Rattle.cacache_sequence.specs.Succeeds.{Clears, fully_reply, removal_reply, unless_unwritable}
-use Rattle.cacache_sequence.proofs.Forms.{bare_written}
-use Rattle.cacache_sequence.proofs.Standing.{caches_stand}
-use Rattle.cacache_sequence.proofs.Succeeds.{deletions_answer, removals_answer}
-use Rattle.cacache_sequence.proofs.SureClears.{clearings_answer}
-use Rattle.cacache_sequence.proofs.SureRemovals.{full_removals_answer}
-use Rattle.cacache_sequence.proofs.Unused.{others_leave_none, stays_ready}
-use Rattle.cacache_sequence.proofs.Removals.{clearings_empty, removals_last}
-use Rattle.cacache_sequence.proofs.Removed.{contents_go}
-use Rattle.cacache_sequence.proofs.RemovedKeys.{keys_go}
 use Rattle.cacache_results.specs.Removals.{FailsClearing, ClearingMeans, ContentRemovalMeans, FullRemovalMeans, RemovalMeans}
-use Rattle.cacache_results.proofs.SureResults.{for_memory, or_as}
-use Rattle.cacache_results.proofs.Told.{called, excused, of_memory}
+use Rattle.cacache_results.proofs.{SureResults.{for_memory, or_as}, Told.{called, excused, of_memory}}
 
 gone : (r : Result (Unit {0}) Error) (cache key : List ℕ) (old new : List LogItem) → RemovesKey cache key (reply_of done r) old new → OnOk r (LacksKey cache key new) × IfErr r (λ e. IsExcused e old new)
 gone (Ok u) cache key old new h = (h, tt)

@@ -1,33 +1,15 @@
 -- Results of links whose steps all go well.
-use Rattle.std.proofs.Common.{◌≡◌, ◌⊎◌, inl, inr, ℕ, true, cond, List, [], Option, None, Some, Result, Ok, Err, refl, ap, ◌∙◌}
-use Rattle.std.specs.Prelude.{IfSome}
-use Rattle.std.proofs.lemmas.Bool.{eq-eqb}
-use Rattle.cacache_core.specs.declared.errors.Error.{Error}
-use Rattle.cacache_core.specs.declared.errors.Error.TheVariants.{IoError, SizeMismatch}
-use Rattle.cacache_core.specs.declared.errors.Fault.{Fault}
+use Rattle.std.{proofs.{Common.{◌≡◌, ◌⊎◌, inl, inr, ℕ, true, cond, List, [], Option, None, Some, Result, Ok, Err, refl, ap, ◌∙◌}, lemmas.Bool.{eq-eqb}}, specs.Prelude.{IfSome}}
+use Rattle.cacache_core.specs.declared.{errors.{Error.{Error, TheVariants.{IoError, SizeMismatch}}, Fault.{Fault}}, integrity.digest.Hash.{Hash}}
 use Rattle.cacache_core.specs.declared.errors.Fault.TheVariants as faults
-use Rattle.cacache_core.specs.declared.integrity.digest.Hash.{Hash}
 use Rattle.cacache_store.specs.declared.store.answer.Answer.TheVariants as answers
 use Rattle.cacache_store.specs.declared.store.log.LogItem.{LogItem}
-use Rattle.cacache_disk.specs.Apply.{apply, unless}
-use Rattle.cacache_disk.specs.LedTo.{file_at}
-use Rattle.cacache_disk.specs.Tree.{Tree}
+use Rattle.cacache_disk.specs.{Apply.{apply, unless}, LedTo.{file_at}, Tree.{Tree}}
 use Rattle.cacache_memory.specs.Replay.{bytes_told, shown, tree_of}
-use Rattle.cacache_table.specs.declared.carried.Commit.{Commit}
-use Rattle.cacache_table.specs.declared.reply.Reply.{Reply}
-use Rattle.cacache_table.specs.declared.reply.Reply.TheVariants.{Refused, Stored}
-use Rattle.cacache_table.specs.Inserting.{given_or, refused_cause}
-use Rattle.cacache_table.specs.Replies.{OrMemory}
-use Rattle.cacache_table.specs.Runs.{reply_of}
-use Rattle.cacache_table.specs.Storing.{insertion_of}
-use Rattle.cacache_value.specs.Shows.{blob_there}
-use Rattle.cacache_value.specs.Value.{Blob}
-use Rattle.cacache_sequence.specs.Caches.{lies_under}
-use Rattle.cacache_sequence.specs.LinkAnswers.{linked_reply, unless_dangling}
-use Rattle.cacache_sequence.specs.Succeeds.{compared_reply, is_yes, keyed_reply, sized_reply, unless_unwritable}
-use Rattle.cacache_results.specs.Links.{LeadsOn}
-use Rattle.cacache_results.specs.Success.{FailsForMemory}
-use Rattle.cacache_results.proofs.SureResults.{for_memory, or_as}
+use Rattle.cacache_table.specs.{declared.{carried.Commit.{Commit}, reply.Reply.{Reply, TheVariants.{Refused, Stored}}}, Inserting.{given_or, refused_cause}, Replies.{OrMemory}, Runs.{reply_of}, Storing.{insertion_of}}
+use Rattle.cacache_value.specs.{Shows.{blob_there}, Value.{Blob}}
+use Rattle.cacache_sequence.specs.{Caches.{lies_under}, LinkAnswers.{linked_reply, unless_dangling}, Succeeds.{compared_reply, is_yes, keyed_reply, sized_reply, unless_unwritable}}
+use Rattle.cacache_results.{specs.{Links.{LeadsOn}, Success.{FailsForMemory}}, proofs.SureResults.{for_memory, or_as}}
 
 -- what a path shows is read there
 pub shown_read : (t : Tree) (path held : List ℕ) → shown t path ≡ Some held → file_at t path faults.IsADirectory ≡ Ok held

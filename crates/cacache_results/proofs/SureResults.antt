@@ -1,17 +1,11 @@
 -- Results of calls whose steps all go well.
-use Rattle.std.proofs.Common.{◌≡◌, ◌⊎◌, inl, inr, ℕ, Bool, true, false, cond, List, Option, None, Some, Result, Ok, Err, refl, sym, ap, subst, ◌∙◌}
-use Rattle.std.specs.Prelude.{IfOk, IfErr}
-use Rattle.cacache_core.specs.declared.errors.Error.{Error}
-use Rattle.cacache_core.specs.declared.errors.Error.TheVariants.{EntryNotFound, OutOfMemory}
-use Rattle.cacache_core.specs.declared.integrity.digest.Hash.{Hash}
+use Rattle.std.{proofs.Common.{◌≡◌, ◌⊎◌, inl, inr, ℕ, Bool, true, false, cond, List, Option, None, Some, Result, Ok, Err, refl, sym, ap, subst, ◌∙◌}, specs.Prelude.{IfOk, IfErr}}
+use Rattle.cacache_core.specs.declared.{errors.Error.{Error, TheVariants.{EntryNotFound, OutOfMemory}}, integrity.digest.Hash.{Hash}}
 use Rattle.cacache_store.specs.declared.store.log.LogItem.{LogItem}
-use Rattle.cacache_table.specs.declared.reply.Reply.{Reply}
+use Rattle.cacache_table.specs.{declared.reply.Reply.{Reply}, Replies.{OrMemory}, Runs.{reply_of, without_message}}
 use Rattle.cacache_table.specs.declared.reply.Reply.TheVariants as replies
-use Rattle.cacache_table.specs.Replies.{OrMemory}
-use Rattle.cacache_table.specs.Runs.{reply_of, without_message}
 use Rattle.cacache_sequence.specs.Succeeds.{IsReady, IsTidy, NamesFolder}
-use Rattle.cacache_results.specs.Success.{FailsAs, FailsFor, FailsForMemory}
-use Rattle.cacache_results.proofs.Told.{of_memory, of_missing}
+use Rattle.cacache_results.{specs.Success.{FailsAs, FailsFor, FailsForMemory}, proofs.Told.{of_memory, of_missing}}
 
 -- a reply that refuses nothing
 abbrev pub IsGiven : Reply → Type 0

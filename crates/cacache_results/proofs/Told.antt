@@ -1,21 +1,12 @@
 -- What laws say of replies, as results say it: errors with their messages.
 use Rattle.std.proofs.Common.{◌≡◌, inl, inr, ℕ, List, Some, Result, Ok, Err, refl, ap}
-use Rattle.cacache_core.specs.declared.errors.Error.{Error}
-use Rattle.cacache_core.specs.declared.errors.Error.TheVariants.{EntryNotFound, SizeMismatch, IoError, SerdeError, IntegrityError, OutOfMemory}
+use Rattle.cacache_core.specs.declared.errors.Error.{Error, TheVariants.{EntryNotFound, SizeMismatch, IoError, SerdeError, IntegrityError, OutOfMemory}}
 use Rattle.cacache_store.specs.declared.store.log.LogItem.{LogItem}
 use Rattle.cacache_memory.specs.Replay.{IsLog}
-use Rattle.cacache_table.specs.declared.command.Command.{Command}
-use Rattle.cacache_table.specs.declared.reply.Reply.{Reply}
-use Rattle.cacache_table.specs.declared.reply.Reply.TheVariants.{Refused}
-use Rattle.cacache_table.specs.Runs.{Ran, plain_reply, reply_of, without_message}
-use Rattle.cacache_table.specs.Table.{opening}
+use Rattle.cacache_table.specs.{declared.{command.Command.{Command}, reply.Reply.{Reply, TheVariants.{Refused}}}, Runs.{Ran, plain_reply, reply_of, without_message}, Table.{opening}}
 use Rattle.cacache_jobs.specs.Sites.{site_of}
-use Rattle.cacache_sequence.specs.Caches.{Called, IsCache, IsExcused}
-use Rattle.cacache_sequence.specs.Looks.{OnlyLooks}
-use Rattle.cacache_sequence.specs.OpenWriters.{LeavesKnownCache}
-use Rattle.cacache_sequence.proofs.Logs.{calls_grow}
-use Rattle.cacache_sequence.proofs.Looked.{same_stays_known}
-use Rattle.cacache_sequence.proofs.Looks.{looks_keep}
+use Rattle.cacache_sequence.specs.{Caches.{Called, IsCache, IsExcused}, Looks.{OnlyLooks}, OpenWriters.{LeavesKnownCache}}
+use Rattle.cacache_sequence.proofs.{Logs.{calls_grow}, Looked.{same_stays_known}, Looks.{looks_keep}}
 
 -- ---- errors
 

@@ -2,31 +2,12 @@
 use Rattle.std.proofs.Common.{◌≡◌, inr, ℕ, Bool, true, false, cond, List, [], ◌∷◌, ◌++◌, Option, None, Some, refl, sym, ap, subst, ◌∙◌, append_assoc, append-nil}
 use Rattle.std.specs.Prelude.{unwrap_or}
 use Rattle.cacache_core.specs.PathNames.{Names, names_of}
-use Rattle.cacache_store.specs.declared.store.step.Step.TheVariants.{Persist, SyncTemp, SyncFile, SyncDir}
-use Rattle.cacache_store.specs.Plain.{PlainStep, PlainAnswer}
-use Rattle.cacache_disk.specs.declared.luck.Luck.{Luck}
-use Rattle.cacache_disk.specs.declared.node.Node.{Node}
-use Rattle.cacache_disk.specs.declared.node.Node.TheVariants.{Folder, File}
-use Rattle.cacache_disk.specs.Tree.{Tree, bytes_of, look}
-use Rattle.cacache_disk.specs.LedTo.{leads}
-use Rattle.cacache_disk.specs.Apply.{apply}
-use Rattle.cacache_disk.specs.Rooted.{Rooted, is_folder}
-use Rattle.cacache_disk.proofs.KeptFolders.{steps_keep_rooted}
-use Rattle.cacache_disk.proofs.Standing.{upper_folder}
-use Rattle.cacache_value.specs.Kinds.{Content, Temporary, path_kind}
-use Rattle.cacache_value.specs.Placed.{MayStand, Placed, Proper}
-use Rattle.cacache_value.specs.Traces.{IsTrace, Move}
-use Rattle.cacache_loss.specs.ChangedNames.{opening}
-use Rattle.cacache_loss.specs.declared.fixing.Fixing.{Fixing}
-use Rattle.cacache_loss.specs.declared.fixing.Place.{Place}
-use Rattle.cacache_loss.specs.Fixing.{Fixed, file_synced, fixed_after, folder_synced, is_at, is_child_of, is_sync, is_synced, moved_to, moves_file, name_after, place_now, temp_synced}
-use Rattle.cacache_loss.specs.Loss.{Loss, lead_folders, left_at, node_left}
-use Rattle.cacache_loss.specs.LostTrees.{OfCache}
-use Rattle.cacache_loss.specs.Moments.{EachMove, Moment, after, lost_then, next}
-use Rattle.cacache_loss.specs.Syncs.{Leaves, LeavesStep}
-use Rattle.cacache_loss.proofs.KeptPaths.{cache_next, cond_none, cond_whole, sync_tree}
-use Rattle.cacache_loss.proofs.SyncedFolders.{left_firm}
-use Rattle.cacache_loss.proofs.UnchangedPaths.{at_false, file_kept, moved_false, name_kept}
+use Rattle.cacache_store.specs.{declared.store.step.Step.TheVariants.{Persist, SyncTemp, SyncFile, SyncDir}, Plain.{PlainStep, PlainAnswer}}
+use Rattle.cacache_disk.specs.{declared.{luck.Luck.{Luck}, node.Node.{Node, TheVariants.{Folder, File}}}, Tree.{Tree, bytes_of, look}, LedTo.{leads}, Apply.{apply}, Rooted.{Rooted, is_folder}}
+use Rattle.cacache_disk.proofs.{KeptFolders.{steps_keep_rooted}, Standing.{upper_folder}}
+use Rattle.cacache_value.specs.{Kinds.{Content, Temporary, path_kind}, Placed.{MayStand, Placed, Proper}, Traces.{IsTrace, Move}}
+use Rattle.cacache_loss.specs.{ChangedNames.{opening}, declared.fixing.{Fixing.{Fixing}, Place.{Place}}, Fixing.{Fixed, file_synced, fixed_after, folder_synced, is_at, is_child_of, is_sync, is_synced, moved_to, moves_file, name_after, place_now, temp_synced}, Loss.{Loss, lead_folders, left_at, node_left}, LostTrees.{OfCache}, Moments.{EachMove, Moment, after, lost_then, next}, Syncs.{Leaves, LeavesStep}}
+use Rattle.cacache_loss.proofs.{KeptPaths.{cache_next, cond_none, cond_whole, sync_tree}, SyncedFolders.{left_firm}, UnchangedPaths.{at_false, file_kept, moved_false, name_kept}}
 
 module _ (home : Option Names) (path : Names) (bytes : List ℕ) where
   -- no name on the way to the path changed since its folder was synced, nor the path's own

@@ -2,50 +2,19 @@
 use Rattle.std.proofs.Common.{◌≡◌, ◌⊎◌, inl, inr, ◌<◌, ◌^◌, ℕ, List, Option, None, Some, option_map, Result, Ok, Err, length, refl, sym, ap, subst, ◌∙◌, arith}
 use Rattle.std.specs.Prelude.{IfOk, IfErr, IsUtf8}
 use Rattle.serde_json.specs.Data.{Data, null}
-use Rattle.cacache_core.specs.declared.errors.Error.{Error}
-use Rattle.cacache_core.specs.declared.errors.Error.TheVariants.{EntryNotFound, SizeMismatch, IoError, SerdeError, IntegrityError, OutOfMemory}
-use Rattle.cacache_core.specs.declared.integrity.algorithm.Algorithm.{Algorithm}
-use Rattle.cacache_core.specs.declared.integrity.digest.Hash.{Hash}
-use Rattle.cacache_core.specs.Integrity.{integrity_under}
-use Rattle.cacache_store.specs.declared.env.Env.{Env}
-use Rattle.cacache_store.specs.declared.store.log.LogItem.{LogItem}
+use Rattle.cacache_core.specs.{declared.{errors.Error.{Error, TheVariants.{EntryNotFound, SizeMismatch, IoError, SerdeError, IntegrityError, OutOfMemory}}, integrity.{algorithm.Algorithm.{Algorithm}, digest.Hash.{Hash}}}, Integrity.{integrity_under}, Texts.{integrity_text}}
+use Rattle.cacache_store.specs.declared.{env.Env.{Env}, store.log.LogItem.{LogItem}}
 use Rattle.cacache_memory.specs.Replay.{IsLog}
-use Rattle.cacache_entry.specs.Entry.{Entry}
-use Rattle.cacache_entry.specs.FittingEntries.{IsUtf8IfAny}
-use Rattle.cacache_entry.specs.Latest.{Found}
+use Rattle.cacache_entry.specs.{Entry.{Entry}, FittingEntries.{IsUtf8IfAny}, Latest.{Found}}
 use Rattle.cacache_table.specs.declared.command.Command.TheVariants as commands
-use Rattle.cacache_table.specs.declared.command.Insert.{Insert}
-use Rattle.cacache_table.specs.declared.reply.Reply.TheVariants.{Refused, Stored}
-use Rattle.cacache_table.specs.Inserting.{entry_of, given_size, given_text, insertion, refused_cause}
-use Rattle.cacache_table.specs.Runs.{reply_of, without_message}
-use Rattle.cacache_table.specs.Storing.{insertion_of, put_commit}
-use Rattle.cacache_core.specs.Texts.{integrity_text}
-use Rattle.cacache_jobs.specs.Environment.{HasMoment}
-use Rattle.cacache_jobs.specs.Sites.{site_of}
-use Rattle.cacache_put.specs.Options.{Said, options_of}
-use Rattle.cacache_put.specs.Puts.{insert_of, unkeyed_put}
+use Rattle.cacache_table.specs.{declared.{command.Insert.{Insert}, reply.Reply.TheVariants.{Refused, Stored}}, Inserting.{entry_of, given_size, given_text, insertion, refused_cause}, Runs.{reply_of, without_message}, Storing.{insertion_of, put_commit}}
 use Rattle.cacache_table.proofs.IntegrityUtf8.{integrity_utf8}
-use Rattle.cacache_sequence.specs.Beside.{FitsEntry, KeepsBeside}
-use Rattle.cacache_sequence.specs.Caches.{Called, IsCache, HasContent, HasKey, IsExcused, WritesKey, plain_put}
-use Rattle.cacache_sequence.specs.Inserts.{InsertsKey, leads_to}
-use Rattle.cacache_sequence.specs.Keeping.{found_under}
-use Rattle.cacache_sequence.specs.Puts.{MayLeadToPut}
-use Rattle.cacache_sequence.proofs.Beside.{plain_writes_fit, writes_keep}
-use Rattle.cacache_sequence.proofs.CallErrors.{contents_fail}
-use Rattle.cacache_sequence.proofs.Forms.{Written, bare_written}
-use Rattle.cacache_sequence.proofs.Inserting.{inserts_last}
-use Rattle.cacache_sequence.proofs.Known.{excuse, known}
-use Rattle.cacache_sequence.proofs.Logs.{calls_grow}
-use Rattle.cacache_sequence.proofs.Puts.{puts_leave, puts_may_lead}
-use Rattle.cacache_sequence.proofs.Standing.{caches_stand}
-use Rattle.cacache_sequence.proofs.Succeeds.{puts_answer, insertions_answer}
-use Rattle.cacache_sequence.proofs.Unused.{others_leave_none, puts_leave_tidy, stays_ready}
-use Rattle.cacache_sequence.proofs.WritesLast.{writes_last}
-use Rattle.cacache_sequence.specs.Succeeds.{NamesFolder, IsReady, put_reply, unless_unwritable}
-use Rattle.cacache_results.specs.Success.{FailsForMemory}
-use Rattle.cacache_results.proofs.SureResults.{for_memory, so_ready}
-use Rattle.cacache_results.specs.Writes.{ContentWriteMeans, InsertionMeans, KeepsUntouched, SaysPlain, WriteMeans}
-use Rattle.cacache_results.proofs.Told.{called, excused}
+use Rattle.cacache_jobs.specs.{Environment.{HasMoment}, Sites.{site_of}}
+use Rattle.cacache_put.specs.{Options.{Said, options_of}, Puts.{insert_of, unkeyed_put}}
+use Rattle.cacache_sequence.specs.{Beside.{FitsEntry, KeepsBeside}, Caches.{Called, IsCache, HasContent, HasKey, IsExcused, WritesKey, plain_put}, Inserts.{InsertsKey, leads_to}, Keeping.{found_under}, Puts.{MayLeadToPut}, Succeeds.{NamesFolder, IsReady, put_reply, unless_unwritable}}
+use Rattle.cacache_sequence.proofs.{Beside.{plain_writes_fit, writes_keep}, CallErrors.{contents_fail}, Forms.{Written, bare_written}, Inserting.{inserts_last}, Known.{excuse, known}, Logs.{calls_grow}, Puts.{puts_leave, puts_may_lead}, Standing.{caches_stand}, Succeeds.{puts_answer, insertions_answer}, Unused.{others_leave_none, puts_leave_tidy, stays_ready}, WritesLast.{writes_last}}
+use Rattle.cacache_results.specs.{Success.{FailsForMemory}, Writes.{ContentWriteMeans, InsertionMeans, KeepsUntouched, SaysPlain, WriteMeans}}
+use Rattle.cacache_results.proofs.{SureResults.{for_memory, so_ready}, Told.{called, excused}}
 
 -- ---- what stays
 

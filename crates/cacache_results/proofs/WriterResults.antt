@@ -1,52 +1,21 @@
 -- What open writers did.
 use Rattle.std.proofs.Common.{◌≡◌, inl, inr, ◌<◌, ◌^◌, ◌++◌, ℕ, Bool, List, Option, None, Some, Result, Ok, Err, length, refl, sym, ap, subst, ◌∙◌, arith}
-use Rattle.std.specs.Prelude.{IsUtf8}
-use Rattle.std.specs.Io.KnownBytes.{Appends}
-use Rattle.cacache_core.specs.declared.errors.Error.{Error}
-use Rattle.cacache_core.specs.declared.errors.Error.TheVariants.{EntryNotFound, SizeMismatch, IoError, SerdeError, IntegrityError, OutOfMemory}
+use Rattle.std.specs.{Prelude.{IsUtf8}, Io.KnownBytes.{Appends}}
+use Rattle.cacache_core.specs.{declared.{errors.Error.{Error, TheVariants.{EntryNotFound, SizeMismatch, IoError, SerdeError, IntegrityError, OutOfMemory}}, integrity.{algorithm.Algorithm.{Algorithm}, digest.Hash.{Hash}}}, Integrity.{integrity_under}, Texts.{integrity_text}}
 use Rattle.serde_json.specs.Data.{Data, null}
-use Rattle.cacache_core.specs.declared.integrity.algorithm.Algorithm.{Algorithm}
-use Rattle.cacache_core.specs.declared.integrity.digest.Hash.{Hash}
-use Rattle.cacache_core.specs.Integrity.{integrity_under}
-use Rattle.cacache_core.specs.Texts.{integrity_text}
-use Rattle.cacache_store.specs.declared.env.Env.{Env}
+use Rattle.cacache_store.specs.{declared.{env.Env.{Env}, store.{log.LogItem.{LogItem}, plain.PlainTemp.{PlainTemp}}}, Plain.{PlainAnswer}}
 use Rattle.cacache_store.specs.declared.store.answer.Answer.TheVariants as answers
-use Rattle.cacache_store.specs.declared.store.log.LogItem.{LogItem}
-use Rattle.cacache_store.specs.declared.store.plain.PlainTemp.{PlainTemp}
 use Rattle.cacache_store.specs.declared.store.step.Step.TheVariants as steps
-use Rattle.cacache_store.specs.Plain.{PlainAnswer}
 use Rattle.cacache_memory.specs.Replay.{IsLog}
-use Rattle.cacache_table.specs.declared.command.Put.{Put}
-use Rattle.cacache_table.specs.declared.reply.Reply.{Reply}
-use Rattle.cacache_table.specs.declared.reply.Reply.TheVariants.{Stored}
-use Rattle.cacache_table.specs.Inserting.{given_or, refused_cause}
-use Rattle.cacache_table.specs.Runs.{reply_of}
-use Rattle.cacache_table.specs.SingleSteps.{Does}
-use Rattle.cacache_table.specs.StepPaths.{temp_path}
+use Rattle.cacache_table.specs.{declared.{command.Put.{Put}, reply.Reply.{Reply, TheVariants.{Stored}}}, Inserting.{given_or, refused_cause}, Runs.{reply_of}, SingleSteps.{Does}, StepPaths.{temp_path}}
 use Rattle.cacache_table.proofs.IntegrityUtf8.{integrity_utf8}
 use Rattle.cacache_content.specs.OpenWrites.{RemovesTemp, TriesToRemove, counted_bytes}
 use Rattle.cacache_jobs.specs.Environment.{MomentOf}
-use Rattle.cacache_put.specs.KeyedWriters.{CommitsWriter, OpensAt}
-use Rattle.cacache_put.specs.Options.{Said, options_of}
-use Rattle.cacache_sequence.specs.Beside.{FitsEntry}
-use Rattle.cacache_sequence.specs.Caches.{IsCache}
-use Rattle.cacache_sequence.specs.GivenUp.{GivesUpTemp}
-use Rattle.cacache_sequence.specs.OpenWriters.{CommitsBytes}
-use Rattle.cacache_sequence.specs.Puts.{HasCommitted, entry_of_put}
-use Rattle.cacache_sequence.specs.OpenSucceeds.{FileAt}
-use Rattle.cacache_sequence.specs.Succeeds.{put_reply, unless_unwritable}
-use Rattle.cacache_sequence.proofs.Committing.{commits_last}
-use Rattle.cacache_sequence.proofs.Forms.{bare_written}
-use Rattle.cacache_sequence.proofs.Standing.{caches_stand}
-use Rattle.cacache_sequence.proofs.SureWriters.{commits_answer, openings_succeed}
-use Rattle.cacache_sequence.proofs.GivenUp.{giving_up_lasts}
-use Rattle.cacache_sequence.proofs.OpenWriters.{writers_open}
-use Rattle.cacache_sequence.proofs.Puts.{commits_keep, commits_leave}
-use Rattle.cacache_results.specs.Handles.{CommitsMean, CommitsSucceed, FailedWritesMean, GivingUpMeans, IsText, IsWriting, LeadsToEntry, MemWriter, OpenedWriter, OpeningsMean, SaysFit, WritersGoOn, said_integrity}
-use Rattle.cacache_results.specs.Writes.{SaysPlain}
-use Rattle.cacache_results.proofs.SureResults.{for_memory}
-use Rattle.cacache_results.proofs.Told.{plain_result}
-use Rattle.cacache_results.proofs.WriteResults.{early_of, untouched}
+use Rattle.cacache_put.specs.{KeyedWriters.{CommitsWriter, OpensAt}, Options.{Said, options_of}}
+use Rattle.cacache_sequence.specs.{Beside.{FitsEntry}, Caches.{IsCache}, GivenUp.{GivesUpTemp}, OpenWriters.{CommitsBytes}, Puts.{HasCommitted, entry_of_put}, OpenSucceeds.{FileAt}, Succeeds.{put_reply, unless_unwritable}}
+use Rattle.cacache_sequence.proofs.{Committing.{commits_last}, Forms.{bare_written}, Standing.{caches_stand}, SureWriters.{commits_answer, openings_succeed}, GivenUp.{giving_up_lasts}, OpenWriters.{writers_open}, Puts.{commits_keep, commits_leave}}
+use Rattle.cacache_results.specs.{Handles.{CommitsMean, CommitsSucceed, FailedWritesMean, GivingUpMeans, IsText, IsWriting, LeadsToEntry, MemWriter, OpenedWriter, OpeningsMean, SaysFit, WritersGoOn, said_integrity}, Writes.{SaysPlain}}
+use Rattle.cacache_results.proofs.{SureResults.{for_memory}, Told.{plain_result}, WriteResults.{early_of, untouched}}
 
 -- ---- openings
 

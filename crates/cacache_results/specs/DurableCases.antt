@@ -1,21 +1,10 @@
 -- Histories of one durable commit: the laws of losses speak of some history.
 use Rattle.std.specs.Prelude.{◌≡◌, ◌++◌, ℕ, List, Ok, None, Some, true}
-use Rattle.cacache_core.specs.PathNames.{Names, names_of}
-use Rattle.cacache_core.specs.Paths.{bucket_names, content_names}
-use Rattle.cacache_entry.specs.Entry.{Entry}
-use Rattle.cacache_entry.specs.FittingEntries.{IsEntry, IsWritable}
-use Rattle.cacache_table.specs.declared.command.Insert.{Insert}
-use Rattle.cacache_table.specs.declared.command.Put.{Put}
-use Rattle.cacache_table.specs.Inserting.{insertion}
-use Rattle.cacache_table.specs.Storing.{insertion_of, put_commit}
-use Rattle.cacache_history.specs.AddedEntries.{address_of_put}
-use Rattle.cacache_history.specs.declared.record.Record.{Record}
-use Rattle.cacache_history.specs.History.{History, IsLegal, now_at}
-use Rattle.cacache_history.specs.Setup.{home}
-use Rattle.cacache_history.specs.Values.{steps_of}
-use Rattle.cacache_durable.specs.Behind.{NoneAppends}
-use Rattle.cacache_durable.specs.Outlasting.{DurableInsert, DurablePut}
-use Rattle.cacache_durable.specs.QuietMoves.{AreQuiet}
+use Rattle.cacache_core.specs.{PathNames.{Names, names_of}, Paths.{bucket_names, content_names}}
+use Rattle.cacache_entry.specs.{Entry.{Entry}, FittingEntries.{IsEntry, IsWritable}}
+use Rattle.cacache_table.specs.{declared.command.{Insert.{Insert}, Put.{Put}}, Inserting.{insertion}, Storing.{insertion_of, put_commit}}
+use Rattle.cacache_history.specs.{AddedEntries.{address_of_put}, declared.record.Record.{Record}, History.{History, IsLegal, now_at}, Setup.{home}, Values.{steps_of}}
+use Rattle.cacache_durable.specs.{Behind.{NoneAppends}, Outlasting.{DurableInsert, DurablePut}, QuietMoves.{AreQuiet}}
 use Rattle.cacache_results.specs.Losses.{IsLast}
 
 -- an entry that can be written

@@ -1,34 +1,14 @@
 -- What exports gave their caller and left, by their results, on a store in memory.
 use Rattle.std.specs.Prelude.{◌≡◌, ◌⊎◌, ℕ, Bool, true, List, [], None, Some, Result, Err, IfErr, MatchResult, length}
-use Rattle.cacache_core.specs.declared.errors.Error.{Error}
-use Rattle.cacache_core.specs.declared.errors.Error.TheVariants.{EntryNotFound, IoError, IntegrityError, OutOfMemory}
-use Rattle.cacache_core.specs.declared.errors.Fault.{Fault}
-use Rattle.cacache_core.specs.declared.errors.Fault.TheVariants.{NotFound, IsADirectory, InvalidInput}
-use Rattle.cacache_core.specs.declared.errors.IntegrityFault.{IntegrityFault}
-use Rattle.cacache_core.specs.declared.integrity.digest.Hash.{Hash}
-use Rattle.cacache_core.specs.PathNames.{Names}
-use Rattle.cacache_store.specs.declared.env.Env.{Env}
-use Rattle.cacache_store.specs.declared.store.log.LogItem.{LogItem}
-use Rattle.cacache_disk.specs.LedTo.{free, writable}
-use Rattle.cacache_disk.specs.Tree.{Tree}
+use Rattle.cacache_core.specs.{declared.{errors.{Error.{Error, TheVariants.{EntryNotFound, IoError, IntegrityError, OutOfMemory}}, Fault.{Fault, TheVariants.{NotFound, IsADirectory, InvalidInput}}, IntegrityFault.{IntegrityFault}}, integrity.digest.Hash.{Hash}}, PathNames.{Names}}
+use Rattle.cacache_store.specs.declared.{env.Env.{Env}, store.log.LogItem.{LogItem}}
+use Rattle.cacache_disk.specs.{LedTo.{free, writable}, Tree.{Tree}}
 use Rattle.cacache_memory.specs.Replay.{shown, tree_of}
-use Rattle.cacache_table.specs.declared.command.How.{How}
-use Rattle.cacache_table.specs.declared.command.How.TheVariants.{Copy, HardLink, Reflink}
-use Rattle.cacache_table.specs.declared.command.Source.{Source}
-use Rattle.cacache_table.specs.declared.command.Source.TheVariants.{Hash as OfHash, Key as OfKey}
-use Rattle.cacache_table.specs.declared.reply.Reply.TheVariants.{Copied}
-use Rattle.cacache_table.specs.Replies.{done}
-use Rattle.cacache_table.specs.Runs.{reply_of, without_message}
+use Rattle.cacache_table.specs.{declared.{command.{How.{How, TheVariants.{Copy, HardLink, Reflink}}, Source.{Source, TheVariants.{Hash as OfHash, Key as OfKey}}}, reply.Reply.TheVariants.{Copied}}, Replies.{done}, Runs.{reply_of, without_message}}
 use Rattle.cacache_jobs.specs.Environment.{Calls}
 use Rattle.cacache_reads.specs.Exports.{exporting}
 use Rattle.cacache_history.specs.History.{NamesSource}
-use Rattle.cacache_sequence.specs.Caches.{IsCache, IsExcused, LacksKey, lies_under}
-use Rattle.cacache_sequence.specs.ExportEffects.{IsApart, NamesBytes}
-use Rattle.cacache_sequence.specs.Inserts.{leads_to}
-use Rattle.cacache_sequence.specs.Looks.{IsDamaged, bytes_under}
-use Rattle.cacache_sequence.specs.OpenSucceeds.{MayTake}
-use Rattle.cacache_sequence.specs.OpenWriters.{LeavesKnownCache}
-use Rattle.cacache_sequence.specs.Succeeds.{NamesFolder}
+use Rattle.cacache_sequence.specs.{Caches.{IsCache, IsExcused, LacksKey, lies_under}, ExportEffects.{IsApart, NamesBytes}, Inserts.{leads_to}, Looks.{IsDamaged, bytes_under}, OpenSucceeds.{MayTake}, OpenWriters.{LeavesKnownCache}, Succeeds.{NamesFolder}}
 use Rattle.cacache_results.specs.Success.{FailsAs, FailsFor, FailsForMemory}
 
 -- ---- why nothing is exported

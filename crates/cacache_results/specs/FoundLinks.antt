@@ -1,26 +1,12 @@
 -- What losses of power leave of a durable put that found a link at its content's address.
 use Rattle.std.specs.Prelude.{◌≡◌, ℕ, List, [], ◌∷◌, ◌++◌, Some, true, Ok}
-use Rattle.cacache_core.specs.declared.integrity.digest.Hash.{Hash}
-use Rattle.cacache_core.specs.PathNames.{Names, names_of}
-use Rattle.cacache_disk.specs.declared.node.Node.TheVariants.{File}
-use Rattle.cacache_disk.specs.Tree.{Tree, look}
-use Rattle.cacache_table.specs.declared.command.Put.{Put}
-use Rattle.cacache_table.specs.Licence.{KeepsTo, Licence, taking_in}
-use Rattle.cacache_value.specs.Shows.{blob_bytes}
-use Rattle.cacache_value.specs.Value.{AtLink, value_of_tree}
-use Rattle.cacache_loss.specs.Loss.{Loss}
-use Rattle.cacache_loss.specs.LossLaws.{HasDigest}
-use Rattle.cacache_loss.specs.LostValues.{LeftOf}
-use Rattle.cacache_loss.specs.Moments.{EachMove}
-use Rattle.cacache_loss.specs.Syncs.{Leaves}
-use Rattle.cacache_history.specs.declared.record.Record.{Record}
-use Rattle.cacache_history.specs.declared.record.Record.TheVariants.{Began, Moved, Stopped}
-use Rattle.cacache_history.specs.AddedEntries.{address_of_put}
-use Rattle.cacache_history.specs.History.{History, IsLegal, initial}
-use Rattle.cacache_history.specs.Setup.{home}
-use Rattle.cacache_history.specs.Values.{steps_of, value_at}
-use Rattle.cacache_durable.specs.FewCalls.{FewCalls}
-use Rattle.cacache_durable.specs.Outlasting.{AnsweredPut, EntriesHaveBehind, PutsOrLinksOutlast, moment_at}
+use Rattle.cacache_core.specs.{declared.integrity.digest.Hash.{Hash}, PathNames.{Names, names_of}}
+use Rattle.cacache_disk.specs.{declared.node.Node.TheVariants.{File}, Tree.{Tree, look}}
+use Rattle.cacache_table.specs.{declared.command.Put.{Put}, Licence.{KeepsTo, Licence, taking_in}}
+use Rattle.cacache_value.specs.{Shows.{blob_bytes}, Value.{AtLink, value_of_tree}}
+use Rattle.cacache_loss.specs.{Loss.{Loss}, LossLaws.{HasDigest}, LostValues.{LeftOf}, Moments.{EachMove}, Syncs.{Leaves}}
+use Rattle.cacache_history.specs.{declared.record.Record.{Record, TheVariants.{Began, Moved, Stopped}}, AddedEntries.{address_of_put}, History.{History, IsLegal, initial}, Setup.{home}, Values.{steps_of, value_at}}
+use Rattle.cacache_durable.specs.{FewCalls.{FewCalls}, Outlasting.{AnsweredPut, EntriesHaveBehind, PutsOrLinksOutlast, moment_at}}
 
 -- ---- what is left
 

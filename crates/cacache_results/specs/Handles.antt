@@ -1,31 +1,14 @@
 -- What open writers did, by their results, on a store in memory.
-use Rattle.std.specs.Prelude.{◌≡◌, ◌⊎◌, ◌<◌, ◌^◌, ◌++◌, ℕ, List, [], Option, None, Some, Result, Ok, Err, IfOk, IfErr, IfSome, IsUtf8, length}
-use Rattle.std.specs.Io.KnownBytes.{Appends}
-use Rattle.cacache_core.specs.declared.errors.Error.{Error}
-use Rattle.cacache_core.specs.declared.integrity.digest.Hash.{Hash}
-use Rattle.cacache_core.specs.Hashers.{algorithm_of}
-use Rattle.cacache_core.specs.Integrity.{IsIntegrity, integrity_under}
-use Rattle.cacache_store.specs.declared.env.Env.{Env}
-use Rattle.cacache_store.specs.declared.store.log.LogItem.{LogItem}
-use Rattle.cacache_store.specs.declared.store.plain.PlainTemp.{PlainTemp}
-use Rattle.cacache_entry.specs.FittingEntries.{AreBytes, IsJson}
-use Rattle.cacache_entry.specs.Latest.{Found}
-use Rattle.cacache_table.specs.declared.reply.Reply.TheVariants.{Stored}
-use Rattle.cacache_table.specs.Promises.{answered}
-use Rattle.cacache_table.specs.Runs.{reply_of}
-use Rattle.cacache_table.specs.StepPaths.{temp_path}
+use Rattle.std.specs.{Prelude.{◌≡◌, ◌⊎◌, ◌<◌, ◌^◌, ◌++◌, ℕ, List, [], Option, None, Some, Result, Ok, Err, IfOk, IfErr, IfSome, IsUtf8, length}, Io.KnownBytes.{Appends}}
+use Rattle.cacache_core.specs.{declared.{errors.Error.{Error}, integrity.digest.Hash.{Hash}}, Hashers.{algorithm_of}, Integrity.{IsIntegrity, integrity_under}}
+use Rattle.cacache_store.specs.declared.{env.Env.{Env}, store.{log.LogItem.{LogItem}, plain.PlainTemp.{PlainTemp}}}
+use Rattle.cacache_entry.specs.{FittingEntries.{AreBytes, IsJson}, Latest.{Found}}
+use Rattle.cacache_table.specs.{declared.reply.Reply.TheVariants.{Stored}, Promises.{answered}, Runs.{reply_of}, StepPaths.{temp_path}}
 use Rattle.cacache_history.specs.Values.{IsThere}
 use Rattle.cacache_content.specs.OpenWrites.{HasTaken, IsSameWriter, RemovesTemp, Takes, TriesToRemove}
-use Rattle.cacache_put.specs.declared.writer.SyncWriter.{SyncWriter}
-use Rattle.cacache_put.specs.KeyedWriters.{CommitsWriter, OpensKeyed}
-use Rattle.cacache_put.specs.Options.{Said, options_of}
-use Rattle.cacache_sequence.specs.Caches.{IsCache, HasContent, IsExcused, Grows, lies_under}
-use Rattle.cacache_sequence.specs.Keeping.{found_under}
-use Rattle.cacache_sequence.specs.OpenWriters.{IsOpened, LeavesKnownCache}
-use Rattle.cacache_sequence.specs.OpenSucceeds.{FileAt}
-use Rattle.cacache_sequence.specs.Succeeds.{NamesFolder, IsReady}
-use Rattle.cacache_results.specs.Success.{FailsForMemory}
-use Rattle.cacache_results.specs.Writes.{KeepsUntouched, SaysPlain}
+use Rattle.cacache_put.specs.{declared.writer.SyncWriter.{SyncWriter}, KeyedWriters.{CommitsWriter, OpensKeyed}, Options.{Said, options_of}}
+use Rattle.cacache_sequence.specs.{Caches.{IsCache, HasContent, IsExcused, Grows, lies_under}, Keeping.{found_under}, OpenWriters.{IsOpened, LeavesKnownCache}, OpenSucceeds.{FileAt}, Succeeds.{NamesFolder, IsReady}}
+use Rattle.cacache_results.specs.{Success.{FailsForMemory}, Writes.{KeepsUntouched, SaysPlain}}
 
 -- a writer of a store in memory
 abbrev pub MemWriter : Type 0

@@ -1,10 +1,8 @@
 -- What calls left after one another.
 use Rattle.std.specs.Prelude.{ℕ, List, Option}
-use Rattle.cacache_core.specs.declared.errors.Error.{Error}
-use Rattle.cacache_core.specs.declared.integrity.digest.Hash.{Hash}
+use Rattle.cacache_core.specs.declared.{errors.Error.{Error}, integrity.digest.Hash.{Hash}}
 use Rattle.cacache_store.specs.declared.store.log.LogItem.{LogItem}
-use Rattle.cacache_sequence.specs.Caches.{Grows, IsExcused}
-use Rattle.cacache_sequence.specs.OpenWriters.{LeavesKnownCache}
+use Rattle.cacache_sequence.specs.{Caches.{Grows, IsExcused}, OpenWriters.{LeavesKnownCache}}
 use Rattle.cacache_results.specs.Writes.{KeepsUntouched}
 
 -- what was known twice is known

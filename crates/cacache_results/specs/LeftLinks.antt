@@ -1,25 +1,16 @@
 -- What a store in memory holds that began with what a loss of power left of a durable put, where its content may be a link.
 use Rattle.std.specs.Prelude.{◌≡◌, ℕ, List, None, Some}
-use Rattle.cacache_core.specs.declared.integrity.digest.Hash.{Hash}
-use Rattle.cacache_core.specs.Digests.{digest}
-use Rattle.cacache_core.specs.Integrity.{IsIntegrity, integrity_under}
-use Rattle.cacache_core.specs.PathNames.{Names}
+use Rattle.cacache_core.specs.{declared.integrity.digest.Hash.{Hash}, Digests.{digest}, Integrity.{IsIntegrity, integrity_under}, PathNames.{Names}}
 use Rattle.cacache_store.specs.declared.store.log.LogItem.{LogItem}
 use Rattle.cacache_disk.specs.Tree.{Tree}
 use Rattle.cacache_memory.specs.Replay.{tree_of}
-use Rattle.cacache_entry.specs.Entry.{Entry}
-use Rattle.cacache_entry.specs.Latest.{NoneAnswers}
+use Rattle.cacache_entry.specs.{Entry.{Entry}, Latest.{NoneAnswers}}
 use Rattle.cacache_table.specs.declared.command.Put.{Put}
 use Rattle.cacache_loss.specs.Loss.{Loss}
-use Rattle.cacache_history.specs.AddedEntries.{address_of_put}
-use Rattle.cacache_history.specs.History.{History}
-use Rattle.cacache_history.specs.Setup.{home}
-use Rattle.cacache_durable.specs.FewCalls.{FewCalls}
-use Rattle.cacache_durable.specs.Outlasting.{AnsweredPut}
+use Rattle.cacache_history.specs.{AddedEntries.{address_of_put}, History.{History}, Setup.{home}}
+use Rattle.cacache_durable.specs.{FewCalls.{FewCalls}, Outlasting.{AnsweredPut}}
 use Rattle.cacache_sequence.specs.Inserts.{leads_to}
-use Rattle.cacache_results.specs.FoundLinks.{LeadsUnchanged, LinksOutlast}
-use Rattle.cacache_results.specs.Losses.{IsLast, IsLeft, StandsBefore}
-use Rattle.cacache_results.specs.Reads.{LiesWhole}
+use Rattle.cacache_results.specs.{FoundLinks.{LeadsUnchanged, LinksOutlast}, Losses.{IsLast, IsLeft, StandsBefore}, Reads.{LiesWhole}}
 
 -- ---- what is left
 

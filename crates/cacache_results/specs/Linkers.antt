@@ -1,37 +1,15 @@
 -- What open linkers did, by their results, on a store in memory.
-use Rattle.std.specs.Prelude.{◌≡◌, ◌<◌, ◌^◌, ◌++◌, ℕ, List, [], Option, None, Some, Result, Err, IfOk, IfErr, length}
-use Rattle.std.specs.Io.{ReadsAtMost}
-use Rattle.std.specs.Io.KnownBytes.{ReadConsumes}
+use Rattle.std.specs.{Prelude.{◌≡◌, ◌<◌, ◌^◌, ◌++◌, ℕ, List, [], Option, None, Some, Result, Err, IfOk, IfErr, length}, Io.{ReadsAtMost, KnownBytes.{ReadConsumes}}}
 use Rattle.cacache_store.specs.Failures as io
-use Rattle.cacache_core.specs.declared.errors.Error.{Error}
-use Rattle.cacache_core.specs.declared.errors.Error.TheVariants.{IoError}
-use Rattle.cacache_core.specs.declared.errors.Fault.{Fault}
-use Rattle.cacache_core.specs.declared.integrity.digest.Hash.{Hash}
-use Rattle.cacache_store.specs.declared.env.Env.{Env}
-use Rattle.cacache_store.specs.declared.store.log.LogItem.{LogItem}
-use Rattle.cacache_store.specs.declared.store.plain.PlainFile.{PlainFile}
-use Rattle.cacache_store.specs.Handles.{LeftFalls}
+use Rattle.cacache_core.specs.declared.{errors.{Error.{Error, TheVariants.{IoError}}, Fault.{Fault}}, integrity.digest.Hash.{Hash}}
+use Rattle.cacache_store.specs.{declared.{env.Env.{Env}, store.{log.LogItem.{LogItem}, plain.PlainFile.{PlainFile}}}, Handles.{LeftFalls}}
 use Rattle.cacache_disk.specs.Apply.{opened}
 use Rattle.cacache_memory.specs.Replay.{shown, tree_of}
-use Rattle.cacache_table.specs.declared.reply.Reply.TheVariants.{Stored}
-use Rattle.cacache_table.specs.Linking.{based, linked_to}
-use Rattle.cacache_table.specs.Promises.{answered}
-use Rattle.cacache_table.specs.Runs.{reply_of}
+use Rattle.cacache_table.specs.{declared.reply.Reply.TheVariants.{Stored}, Linking.{based, linked_to}, Promises.{answered}, Runs.{reply_of}}
 use Rattle.cacache_content.specs.Passed.{passed}
-use Rattle.cacache_put.specs.declared.linker.SyncToLinker.{SyncToLinker}
-use Rattle.cacache_put.specs.OpenLinkers.{BeginsLink, CommitsLink, HasHashed, OpensLink, OpensWithSize, asks_file, asks_size, linked_by}
-use Rattle.cacache_put.specs.Options.{Said, options_of}
-use Rattle.cacache_sequence.specs.Caches.{IsCache, IsExcused, Grows}
-use Rattle.cacache_sequence.specs.ExportEffects.{IsApart}
-use Rattle.cacache_sequence.specs.LinkAnswers.{target_bytes}
-use Rattle.cacache_sequence.specs.Links.{KeepsBesideLink}
-use Rattle.cacache_sequence.specs.OpenLinkers.{SuitsSize, TargetOpened}
-use Rattle.cacache_sequence.specs.OpenWriters.{LeavesKnownCache}
-use Rattle.cacache_sequence.specs.Succeeds.{NamesFolder}
-use Rattle.cacache_results.specs.Handles.{IsText, LeadsToEntry, SaysFit, said_integrity}
-use Rattle.cacache_results.specs.Links.{LeadsOn, LiesLinked}
-use Rattle.cacache_results.specs.Success.{FailsFor, FailsForMemory}
-use Rattle.cacache_results.specs.Writes.{SaysPlain}
+use Rattle.cacache_put.specs.{declared.linker.SyncToLinker.{SyncToLinker}, OpenLinkers.{BeginsLink, CommitsLink, HasHashed, OpensLink, OpensWithSize, asks_file, asks_size, linked_by}, Options.{Said, options_of}}
+use Rattle.cacache_sequence.specs.{Caches.{IsCache, IsExcused, Grows}, ExportEffects.{IsApart}, LinkAnswers.{target_bytes}, Links.{KeepsBesideLink}, OpenLinkers.{SuitsSize, TargetOpened}, OpenWriters.{LeavesKnownCache}, Succeeds.{NamesFolder}}
+use Rattle.cacache_results.specs.{Handles.{IsText, LeadsToEntry, SaysFit, said_integrity}, Links.{LeadsOn, LiesLinked}, Success.{FailsFor, FailsForMemory}, Writes.{SaysPlain}}
 
 -- a linker of a store in memory
 abbrev pub MemLinker : Type 0

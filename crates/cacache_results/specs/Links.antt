@@ -1,28 +1,14 @@
 -- What links gave their caller and left, by their results, on a store in memory.
 use Rattle.std.specs.Prelude.{◌≡◌, ◌⊎◌, ◌<◌, ◌^◌, ℕ, true, List, [], Option, None, Some, Result, Err, IfOk, IfSome, length}
-use Rattle.cacache_core.specs.declared.errors.Error.{Error}
-use Rattle.cacache_core.specs.declared.errors.Error.TheVariants.{IoError}
-use Rattle.cacache_core.specs.declared.errors.Fault.{Fault}
-use Rattle.cacache_core.specs.declared.integrity.algorithm.Algorithm.TheVariants.{Sha256}
-use Rattle.cacache_core.specs.declared.integrity.digest.Hash.{Hash}
-use Rattle.cacache_core.specs.Integrity.{integrity_under}
-use Rattle.cacache_store.specs.declared.env.Env.{Env}
-use Rattle.cacache_store.specs.declared.store.log.LogItem.{LogItem}
+use Rattle.cacache_core.specs.{declared.{errors.{Error.{Error, TheVariants.{IoError}}, Fault.{Fault}}, integrity.{algorithm.Algorithm.TheVariants.{Sha256}, digest.Hash.{Hash}}}, Integrity.{integrity_under}}
+use Rattle.cacache_store.specs.declared.{env.Env.{Env}, store.log.LogItem.{LogItem}}
 use Rattle.cacache_memory.specs.Replay.{shown, tree_of}
 use Rattle.cacache_table.specs.declared.command.Command.TheVariants as commands
-use Rattle.cacache_table.specs.declared.reply.Reply.TheVariants.{Stored}
-use Rattle.cacache_table.specs.Linking.{based}
-use Rattle.cacache_table.specs.Runs.{reply_of}
-use Rattle.cacache_value.specs.Shows.{blob_there}
-use Rattle.cacache_value.specs.Value.{AtLink, Blob}
+use Rattle.cacache_table.specs.{declared.reply.Reply.TheVariants.{Stored}, Linking.{based}, Runs.{reply_of}}
+use Rattle.cacache_value.specs.{Shows.{blob_there}, Value.{AtLink, Blob}}
 use Rattle.cacache_jobs.specs.Environment.{Calls, RunsTimed}
 use Rattle.cacache_put.specs.LinkCalls.{link_to}
-use Rattle.cacache_sequence.specs.Caches.{IsCache, Grows, lies_under}
-use Rattle.cacache_sequence.specs.ExportEffects.{IsApart}
-use Rattle.cacache_sequence.specs.Inserts.{leads_to}
-use Rattle.cacache_sequence.specs.LinkAnswers.{target_bytes}
-use Rattle.cacache_sequence.specs.Links.{KeepsBesideLink}
-use Rattle.cacache_sequence.specs.Succeeds.{NamesFolder, is_yes}
+use Rattle.cacache_sequence.specs.{Caches.{IsCache, Grows, lies_under}, ExportEffects.{IsApart}, Inserts.{leads_to}, LinkAnswers.{target_bytes}, Links.{KeepsBesideLink}, Succeeds.{NamesFolder, is_yes}}
 use Rattle.cacache_results.specs.Success.{FailsFor, FailsForMemory}
 
 -- under this integrity lies a link to the path, unless something lay there before

@@ -1,26 +1,15 @@
 -- What a listing gave its caller and left, by its reply, on a store in memory.
 use Rattle.std.specs.Prelude.{◌≡◌, ℕ, All, List, [], ◌∷◌, Option, Some, Ok, map}
-use Rattle.cacache_store.specs.declared.env.Env.{Env}
-use Rattle.cacache_store.specs.declared.store.log.LogItem.{LogItem}
-use Rattle.cacache_core.specs.PathNames.{home_of}
-use Rattle.cacache_core.specs.Paths.{index_area}
+use Rattle.cacache_store.specs.declared.{env.Env.{Env}, store.log.LogItem.{LogItem}}
+use Rattle.cacache_core.specs.{PathNames.{home_of}, Paths.{index_area}}
 use Rattle.cacache_disk.specs.declared.node.Node.{Node}
 use Rattle.cacache_memory.specs.Replay.{tree_of}
 use Rattle.cacache_entry.specs.Latest.{Found}
 use Rattle.cacache_table.specs.declared.command.Command.TheVariants as commands
-use Rattle.cacache_table.specs.declared.reply.Reply.{Reply}
-use Rattle.cacache_table.specs.declared.reply.Reply.TheVariants.{Listed}
-use Rattle.cacache_table.specs.ListReplies.{In}
-use Rattle.cacache_table.specs.Replies.{OrMemory}
-use Rattle.cacache_table.specs.Runs.{Ran, plain_reply}
-use Rattle.cacache_table.specs.Table.{opening}
+use Rattle.cacache_table.specs.{declared.reply.Reply.{Reply, TheVariants.{Listed}}, ListReplies.{In}, Replies.{OrMemory}, Runs.{Ran, plain_reply}, Table.{opening}}
 use Rattle.cacache_value.specs.Kinds.{node_below}
 use Rattle.cacache_jobs.specs.Sites.{site_of}
-use Rattle.cacache_sequence.specs.Caches.{IsCache}
-use Rattle.cacache_sequence.specs.Keeping.{found_under}
-use Rattle.cacache_sequence.specs.ListedKeys.{GivesKeys}
-use Rattle.cacache_sequence.specs.OpenWriters.{LeavesKnownCache}
-use Rattle.cacache_sequence.specs.Succeeds.{NamesFolder, ListsAll}
+use Rattle.cacache_sequence.specs.{Caches.{IsCache}, Keeping.{found_under}, ListedKeys.{GivesKeys}, OpenWriters.{LeavesKnownCache}, Succeeds.{NamesFolder, ListsAll}}
 
 -- these are the entries that keys lead to, all of them
 pub record AreAllEntries (cache : List ℕ) (log : List LogItem) (entries : List Found) : Type 0 where

@@ -1,41 +1,19 @@
 -- What a store in memory holds that began with what a loss of power left, and what is read and written there.
-use Rattle.std.specs.Prelude.{◌≡◌, ◌⊎◌, ℕ, List, ◌∷◌, ◌++◌, Option, None, Some, Vec, Result, IfErr, IfOk}
-use Rattle.std.specs.Global.{Global}
-use Rattle.cacache_core.specs.declared.errors.Error.{Error}
-use Rattle.cacache_core.specs.declared.integrity.algorithm.Algorithm.{Algorithm}
-use Rattle.cacache_core.specs.declared.integrity.digest.Hash.{Hash}
-use Rattle.cacache_core.specs.Digests.{digest}
-use Rattle.cacache_core.specs.Integrity.{IsIntegrity, integrity_under}
-use Rattle.cacache_core.specs.PathNames.{Names, home_of}
-use Rattle.cacache_core.specs.Paths.{bucket_names}
-use Rattle.cacache_store.specs.declared.env.Env.{Env}
-use Rattle.cacache_store.specs.declared.store.log.LogItem.{LogItem}
+use Rattle.std.specs.{Prelude.{◌≡◌, ◌⊎◌, ℕ, List, ◌∷◌, ◌++◌, Option, None, Some, Vec, Result, IfErr, IfOk}, Global.{Global}}
+use Rattle.cacache_core.specs.{declared.{errors.Error.{Error}, integrity.{algorithm.Algorithm.{Algorithm}, digest.Hash.{Hash}}}, Digests.{digest}, Integrity.{IsIntegrity, integrity_under}, PathNames.{Names, home_of}, Paths.{bucket_names}}
+use Rattle.cacache_store.specs.declared.{env.Env.{Env}, store.log.LogItem.{LogItem}}
 use Rattle.cacache_disk.specs.Tree.{Tree}
 use Rattle.cacache_memory.specs.Replay.{tree_of}
-use Rattle.cacache_entry.specs.Entry.{Entry}
-use Rattle.cacache_entry.specs.Latest.{NoneAnswers}
+use Rattle.cacache_entry.specs.{Entry.{Entry}, Latest.{NoneAnswers}}
 use Rattle.cacache_table.specs.declared.command.Command.TheVariants as commands
-use Rattle.cacache_table.specs.declared.command.Put.{Put}
-use Rattle.cacache_table.specs.declared.reply.Reply.TheVariants.{Stored}
-use Rattle.cacache_table.specs.Runs.{reply_of}
-use Rattle.cacache_table.specs.Storing.{insertion_of, put_commit}
+use Rattle.cacache_table.specs.{declared.{command.Put.{Put}, reply.Reply.TheVariants.{Stored}}, Runs.{reply_of}, Storing.{insertion_of, put_commit}}
 use Rattle.cacache_loss.specs.Loss.{Loss, Lost}
-use Rattle.cacache_history.specs.declared.record.Record.{Record}
-use Rattle.cacache_history.specs.History.{History}
-use Rattle.cacache_history.specs.Setup.{home}
-use Rattle.cacache_history.specs.Values.{steps_of}
-use Rattle.cacache_durable.specs.FewCalls.{FewCalls}
-use Rattle.cacache_durable.specs.Behind.{NoneAppends}
-use Rattle.cacache_durable.specs.Outlasting.{DurablePut, IsAppendOf, Outlives, moment_at}
+use Rattle.cacache_history.specs.{declared.record.Record.{Record}, History.{History}, Setup.{home}, Values.{steps_of}}
+use Rattle.cacache_durable.specs.{FewCalls.{FewCalls}, Behind.{NoneAppends}, Outlasting.{DurablePut, IsAppendOf, Outlives, moment_at}}
 use Rattle.cacache_jobs.specs.Environment.{Calls, RunsPut}
 use Rattle.cacache_put.specs.Puts.{keyed_put}
 use Rattle.cacache_reads.specs.Reads.{bytes_read}
-use Rattle.cacache_sequence.specs.Beside.{KeepsBeside}
-use Rattle.cacache_sequence.specs.Caches.{HasKey, IsExcused}
-use Rattle.cacache_sequence.specs.Inserts.{leads_to}
-use Rattle.cacache_sequence.specs.Keeping.{found_under, StaysKnown}
-use Rattle.cacache_sequence.specs.ReadAnswers.{entries_on}
-use Rattle.cacache_sequence.specs.Standing.{IsStanding}
+use Rattle.cacache_sequence.specs.{Beside.{KeepsBeside}, Caches.{HasKey, IsExcused}, Inserts.{leads_to}, Keeping.{found_under, StaysKnown}, ReadAnswers.{entries_on}, Standing.{IsStanding}}
 use Rattle.cacache_results.specs.Reads.{GivesJust, LiesWhole}
 
 -- ---- what is left

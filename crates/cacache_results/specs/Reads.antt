@@ -1,29 +1,16 @@
 -- What calls that only look gave their caller and left, by their results, on a store in memory.
-use Rattle.std.specs.Prelude.{◌≡◌, ◌⊎◌, ℕ, Bool, true, false, List, Option, None, Some, Vec, Result, Ok, IfOk, IfErr, MatchResult, option_map}
-use Rattle.std.specs.Global.{Global}
-use Rattle.cacache_core.specs.declared.errors.Error.{Error}
-use Rattle.cacache_core.specs.declared.errors.Error.TheVariants.{EntryNotFound, OutOfMemory}
-use Rattle.cacache_core.specs.declared.integrity.digest.Hash.{Hash}
-use Rattle.cacache_core.specs.Integrity.{Meets}
-use Rattle.cacache_store.specs.declared.env.Env.{Env}
-use Rattle.cacache_store.specs.declared.store.log.LogItem.{LogItem}
+use Rattle.std.specs.{Prelude.{◌≡◌, ◌⊎◌, ℕ, Bool, true, false, List, Option, None, Some, Vec, Result, Ok, IfOk, IfErr, MatchResult, option_map}, Global.{Global}}
+use Rattle.cacache_core.specs.{declared.{errors.Error.{Error, TheVariants.{EntryNotFound, OutOfMemory}}, integrity.digest.Hash.{Hash}}, Integrity.{Meets}}
+use Rattle.cacache_store.specs.declared.{env.Env.{Env}, store.log.LogItem.{LogItem}}
 use Rattle.cacache_memory.specs.Replay.{shown, tree_of}
-use Rattle.cacache_entry.specs.declared.metadata.Metadata.{Metadata}
-use Rattle.cacache_entry.specs.Latest.{Found}
-use Rattle.cacache_entry.specs.View.{found_view}
+use Rattle.cacache_entry.specs.{declared.metadata.Metadata.{Metadata}, Latest.{Found}, View.{found_view}}
 use Rattle.cacache_table.specs.declared.command.Command.TheVariants as commands
 use Rattle.cacache_table.specs.declared.reply.Reply.TheVariants as replies
-use Rattle.cacache_table.specs.Replies.{looked_up}
-use Rattle.cacache_table.specs.Runs.{reply_of}
+use Rattle.cacache_table.specs.{Replies.{looked_up}, Runs.{reply_of}}
 use Rattle.cacache_value.specs.Value.{AtLink}
 use Rattle.cacache_jobs.specs.Environment.{Calls}
 use Rattle.cacache_reads.specs.Reads.{bytes_read}
-use Rattle.cacache_sequence.specs.Caches.{IsCache, HasContent, HasKey, LacksKey, IsExcused, AStepFailed, lies_under}
-use Rattle.cacache_sequence.specs.Inserts.{leads_to}
-use Rattle.cacache_sequence.specs.Keeping.{found_under}
-use Rattle.cacache_sequence.specs.Looks.{GivesHeld, GivesOfKey, bytes_under}
-use Rattle.cacache_sequence.specs.OpenWriters.{LeavesKnownCache}
-use Rattle.cacache_sequence.specs.Succeeds.{NamesFolder}
+use Rattle.cacache_sequence.specs.{Caches.{IsCache, HasContent, HasKey, LacksKey, IsExcused, AStepFailed, lies_under}, Inserts.{leads_to}, Keeping.{found_under}, Looks.{GivesHeld, GivesOfKey, bytes_under}, OpenWriters.{LeavesKnownCache}, Succeeds.{NamesFolder}}
 use Rattle.cacache_results.specs.Success.{FailsForMemory}
 
 -- Each of these calls leaves the whole store as it was: files apart from the cache too.

@@ -1,24 +1,15 @@
 -- What calls that remove gave their caller and left, by their results, on a store in memory.
 use Rattle.std.specs.Prelude.{◌≡◌, ◌⊎◌, ℕ, List, [], Option, None, Some, Result, OnOk, IfErr}
-use Rattle.cacache_core.specs.declared.errors.Error.{Error}
-use Rattle.cacache_core.specs.declared.errors.Error.TheVariants.{IoError, OutOfMemory}
-use Rattle.cacache_core.specs.declared.errors.Fault.TheVariants.{NotFound, TooDeep}
-use Rattle.cacache_core.specs.PathNames.{home_of}
-use Rattle.cacache_core.specs.declared.integrity.digest.Hash.{Hash}
-use Rattle.cacache_store.specs.declared.env.Env.{Env}
-use Rattle.cacache_store.specs.declared.store.log.LogItem.{LogItem}
+use Rattle.cacache_core.specs.{declared.{errors.{Error.{Error, TheVariants.{IoError, OutOfMemory}}, Fault.TheVariants.{NotFound, TooDeep}}, integrity.digest.Hash.{Hash}}, PathNames.{home_of}}
+use Rattle.cacache_store.specs.declared.{env.Env.{Env}, store.log.LogItem.{LogItem}}
 use Rattle.cacache_table.specs.declared.command.Command.TheVariants as commands
-use Rattle.cacache_table.specs.Replies.{done}
-use Rattle.cacache_table.specs.Runs.{reply_of, without_message}
+use Rattle.cacache_table.specs.{Replies.{done}, Runs.{reply_of, without_message}}
 use Rattle.cacache_value.specs.Kinds.{node_below}
 use Rattle.cacache_memory.specs.Replay.{tree_of}
 use Rattle.cacache_jobs.specs.Environment.{Calls, RunsTimed}
 use Rattle.cacache_reads.specs.Lookups.{delete_of}
 use Rattle.cacache_history.specs.Values.{IsThere}
-use Rattle.cacache_sequence.specs.Caches.{IsCache, IsEmptyCache, IsExcused, Grows, HasKey, LacksKey, lies_under}
-use Rattle.cacache_sequence.specs.Keeping.{KeepsOthers}
-use Rattle.cacache_sequence.specs.Removed.{KeepsApart, KeepsApartFrom}
-use Rattle.cacache_sequence.specs.Succeeds.{NamesFolder, IsReady}
+use Rattle.cacache_sequence.specs.{Caches.{IsCache, IsEmptyCache, IsExcused, Grows, HasKey, LacksKey, lies_under}, Keeping.{KeepsOthers}, Removed.{KeepsApart, KeepsApartFrom}, Succeeds.{NamesFolder, IsReady}}
 use Rattle.cacache_results.specs.Success.{FailsForMemory}
 
 -- a removal of a key: it leads to nothing, or the error is excused, and all else stays

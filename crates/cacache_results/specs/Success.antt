@@ -1,7 +1,6 @@
 -- Results of calls whose steps all go well.
 use Rattle.std.specs.Prelude.{◌≡◌, ◌⊎◌, Result, IfErr, MatchResult}
-use Rattle.cacache_core.specs.declared.errors.Error.{Error}
-use Rattle.cacache_core.specs.declared.errors.Error.TheVariants.{OutOfMemory}
+use Rattle.cacache_core.specs.declared.errors.Error.{Error, TheVariants.{OutOfMemory}}
 use Rattle.cacache_table.specs.Runs.{without_message}
 
 -- an error says that memory was refused

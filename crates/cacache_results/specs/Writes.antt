@@ -1,23 +1,13 @@
 -- What calls that store or insert gave their caller and left, by their results, on a store in memory.
 use Rattle.std.specs.Prelude.{◌≡◌, ◌⊎◌, ◌<◌, ◌^◌, ℕ, List, Option, None, Some, Result, IfOk, IfErr, IfSome}
 use Rattle.serde_json.specs.Data.{null}
-use Rattle.cacache_core.specs.declared.errors.Error.{Error}
-use Rattle.cacache_core.specs.declared.integrity.algorithm.Algorithm.{Algorithm}
-use Rattle.cacache_core.specs.declared.integrity.digest.Hash.{Hash}
-use Rattle.cacache_core.specs.Integrity.{IsIntegrity, integrity_under}
-use Rattle.cacache_store.specs.declared.env.Env.{Env}
-use Rattle.cacache_store.specs.declared.store.log.LogItem.{LogItem}
+use Rattle.cacache_core.specs.{declared.{errors.Error.{Error}, integrity.{algorithm.Algorithm.{Algorithm}, digest.Hash.{Hash}}}, Integrity.{IsIntegrity, integrity_under}}
+use Rattle.cacache_store.specs.declared.{env.Env.{Env}, store.log.LogItem.{LogItem}}
 use Rattle.cacache_table.specs.declared.command.Command.TheVariants as commands
-use Rattle.cacache_table.specs.declared.reply.Reply.TheVariants.{Stored}
-use Rattle.cacache_table.specs.Runs.{reply_of}
+use Rattle.cacache_table.specs.{declared.reply.Reply.TheVariants.{Stored}, Runs.{reply_of}}
 use Rattle.cacache_jobs.specs.Environment.{RunsNumbered, RunsPut, RunsTimed}
-use Rattle.cacache_put.specs.Options.{Said}
-use Rattle.cacache_put.specs.Puts.{keyed_put, unkeyed_put, insert_of}
-use Rattle.cacache_sequence.specs.Beside.{IsOther, ShareAddress}
-use Rattle.cacache_sequence.specs.Caches.{IsCache, HasContent, HasKey, IsExcused, Grows}
-use Rattle.cacache_sequence.specs.Inserts.{leads_to}
-use Rattle.cacache_sequence.specs.Keeping.{found_under, KeepsOthers}
-use Rattle.cacache_sequence.specs.Succeeds.{NamesFolder, IsReady}
+use Rattle.cacache_put.specs.{Options.{Said}, Puts.{keyed_put, unkeyed_put, insert_of}}
+use Rattle.cacache_sequence.specs.{Beside.{IsOther, ShareAddress}, Caches.{IsCache, HasContent, HasKey, IsExcused, Grows}, Inserts.{leads_to}, Keeping.{found_under, KeepsOthers}, Succeeds.{NamesFolder, IsReady}}
 use Rattle.cacache_results.specs.Success.{FailsForMemory}
 
 -- ---- what stays

@@ -13,9 +13,7 @@ use Rattle.cacache_table.specs.contracts.data.Json as Json
 use Rattle.cacache_table.specs.contracts.reply.Found as Found
 use Rattle.cacache_table.specs.contracts.reply.Items as Items
 use Rattle.cacache_table.specs.contracts.reply.Reply as Reply
-use Rattle.cacache_send.proofs.Core.{crosses_core}
-use Rattle.cacache_send.proofs.Entry.{Metadata-send, Metadata-sync}
-use Rattle.cacache_send.proofs.Json.{Value-send, Value-sync}
+use Rattle.cacache_send.proofs.{Core.{crosses_core}, Entry.{Metadata-send, Metadata-sync}, Json.{Value-send, Value-sync}}
 
 pub Json-send : IsSend (Json.the_field).row
 Json-send = search (Value-send, crosses_core, crosses, sendable) depth 30 fits 20000

@@ -2,8 +2,7 @@
 use denote.Param.Send.{IsSend, IsSync, sendable}
 use Rattle.std.proofs.Crossing.{crosses}
 use Rattle.cacache_entry.specs.contracts.metadata.Metadata as Metadata
-use Rattle.cacache_send.proofs.Core.{crosses_core}
-use Rattle.cacache_send.proofs.Json.{Value-send, Value-sync}
+use Rattle.cacache_send.proofs.{Core.{crosses_core}, Json.{Value-send, Value-sync}}
 
 pub Metadata-send : IsSend (Metadata.the_field).row
 Metadata-send = search (Value-send, crosses_core, crosses, sendable) depth 30

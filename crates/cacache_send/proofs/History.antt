@@ -2,8 +2,7 @@
 use denote.Param.Send.{IsSend, IsSync, sendable}
 use Rattle.std.proofs.Crossing.{crosses}
 use Rattle.cacache_history.specs.contracts.record.Record as Record
-use Rattle.cacache_send.proofs.Steps.{Step-send, Step-sync, Answer-send, Answer-sync, PlainFile-send, PlainFile-sync, PlainTemp-send, PlainTemp-sync}
-use Rattle.cacache_send.proofs.Commands.{Command-send, Command-sync, Reply-send, Reply-sync}
+use Rattle.cacache_send.proofs.{Steps.{Step-send, Step-sync, Answer-send, Answer-sync, PlainFile-send, PlainFile-sync, PlainTemp-send, PlainTemp-sync}, Commands.{Command-send, Command-sync, Reply-send, Reply-sync}}
 
 pub Record-send : IsSend (Record.the_field).row
 Record-send = search (Command-send, Reply-send, Step-send, Answer-send, PlainFile-send, PlainTemp-send, crosses, sendable) depth 30 fits 20000

@@ -4,8 +4,7 @@ use Rattle.std.proofs.Crossing.{crosses}
 use Rattle.cacache_table.specs.contracts.visit.Visit as Visit
 use Rattle.cacache_table.specs.contracts.visit.Task as Task
 use Rattle.cacache_walks.specs.contracts.walk.Walk as Walk
-use Rattle.cacache_send.proofs.Commands.{Found-send, Found-sync}
-use Rattle.cacache_send.proofs.Core.{crosses_core}
+use Rattle.cacache_send.proofs.{Commands.{Found-send, Found-sync}, Core.{crosses_core}}
 
 pub Visit-send : IsSend (Visit.the_field).row
 Visit-send = search (crosses_core, crosses, sendable) depth 30 fits 20000

@@ -1,69 +1,24 @@
 -- The bytes of a content stand where a copy of it went.
-use Rattle.std.proofs.Common.{◌≡◌, ◌⊎◌, inl, inr, ℕ, Bool, true, false, List, [], ◌∷◌, Option, None, Some, Result, Ok, Err, length, refl, sym, ap, subst, ◌∙◌, arith}
-use Rattle.std.proofs.lemmas.List.Elements.{All-head}
+use Rattle.std.proofs.{Common.{◌≡◌, ◌⊎◌, inl, inr, ℕ, Bool, true, false, List, [], ◌∷◌, Option, None, Some, Result, Ok, Err, length, refl, sym, ap, subst, ◌∙◌, arith}, lemmas.List.Elements.{All-head}}
 use Rattle.sha1.specs.Sha1.{sha1}
-use Rattle.cacache_core.specs.declared.errors.Error.{Error}
-use Rattle.cacache_core.specs.declared.errors.Error.TheVariants.{EntryNotFound, IntegrityError, IoError, OutOfMemory}
-use Rattle.cacache_core.specs.declared.errors.Fault.{Fault}
+use Rattle.cacache_core.specs.{declared.{errors.{Error.{Error, TheVariants.{EntryNotFound, IntegrityError, IoError, OutOfMemory}}, Fault.{Fault}, IntegrityFault.TheVariants.{Check}}, integrity.digest.Hash.{Hash}}, Integrity.{IsHash, actual}, Meeting.{meets}, PathNames.{Names, home_of}}
 use Rattle.cacache_core.specs.declared.errors.Fault.TheVariants as faults
-use Rattle.cacache_core.specs.declared.errors.IntegrityFault.TheVariants.{Check}
-use Rattle.cacache_core.specs.declared.integrity.digest.Hash.{Hash}
-use Rattle.cacache_core.specs.Integrity.{IsHash, actual}
-use Rattle.cacache_core.specs.Meeting.{meets}
-use Rattle.cacache_core.specs.PathNames.{Names, home_of}
 use Rattle.cacache_store.specs.declared.store.answer.Answer.TheVariants as answers
-use Rattle.cacache_store.specs.declared.store.log.LogItem.{LogItem}
-use Rattle.cacache_store.specs.declared.store.plain.PlainFile.{PlainFile}
+use Rattle.cacache_store.specs.{declared.store.{log.LogItem.{LogItem}, plain.PlainFile.{PlainFile}}, Plain.{PlainStep, PlainAnswer}}
 use Rattle.cacache_store.specs.declared.store.step.Step.TheVariants as steps
-use Rattle.cacache_store.specs.Plain.{PlainStep, PlainAnswer}
-use Rattle.cacache_disk.specs.declared.luck.Luck.TheVariants.{Plain}
-use Rattle.cacache_disk.specs.declared.node.Node.{Node}
-use Rattle.cacache_disk.specs.declared.node.Node.TheVariants.{Folder, File, Link}
-use Rattle.cacache_disk.specs.Apply.{apply, unless}
-use Rattle.cacache_disk.specs.LedTo.{and_then, bytes_there, file_at, leads}
-use Rattle.cacache_disk.specs.Tree.{Tree, look}
+use Rattle.cacache_disk.specs.{declared.{luck.Luck.TheVariants.{Plain}, node.Node.{Node, TheVariants.{Folder, File, Link}}}, Apply.{apply, unless}, LedTo.{and_then, bytes_there, file_at, leads}, Tree.{Tree, look}}
 use Rattle.cacache_memory.specs.Replay.{shown, tree_of}
 use Rattle.cacache_entry.specs.Latest.{Found}
-use Rattle.cacache_table.specs.declared.command.Export.{Export}
-use Rattle.cacache_table.specs.declared.command.How.TheVariants.{Copy}
-use Rattle.cacache_table.specs.declared.command.Source.{Source}
-use Rattle.cacache_table.specs.declared.command.Source.TheVariants as sources
-use Rattle.cacache_table.specs.declared.answers.Refusal.{Refusal}
-use Rattle.cacache_table.specs.declared.command.Command.{Command}
-use Rattle.cacache_table.specs.declared.reply.Reply.TheVariants as replies
-use Rattle.cacache_table.specs.Answers.{file_in, got_in}
-use Rattle.cacache_table.specs.Common.{ends_with, fails}
-use Rattle.cacache_table.specs.Exporting.{copied_count, export, export_content, verified}
-use Rattle.cacache_table.specs.Linking.{after_read, hashed, hashed_path}
-use Rattle.cacache_table.specs.Looking.{found_for, found_in}
-use Rattle.cacache_table.specs.Replies.{lookup}
-use Rattle.cacache_table.specs.Runs.{Moves, Runs, plain_reply}
-use Rattle.cacache_table.specs.State.{Hashing, State, copying, hashing, opening_file, over, to_verify}
-use Rattle.cacache_table.specs.declared.carried.Content.{Content}
-use Rattle.cacache_table.specs.declared.carried.Aim.TheVariants as aims
-use Rattle.cacache_table.specs.StepPaths.{bucket_path, content_path}
-use Rattle.cacache_table.specs.Table.{after, opening, piece}
+use Rattle.cacache_table.specs.{declared.{command.{Export.{Export}, How.TheVariants.{Copy}, Source.{Source}, Command.{Command}}, answers.Refusal.{Refusal}, carried.Content.{Content}}, Answers.{file_in, got_in}, Common.{ends_with, fails}, Exporting.{copied_count, export, export_content, verified}, Linking.{after_read, hashed, hashed_path}, Looking.{found_for, found_in}, Replies.{lookup}, Runs.{Moves, Runs, plain_reply}, State.{Hashing, State, copying, hashing, opening_file, over, to_verify}, StepPaths.{bucket_path, content_path}, Table.{after, opening, piece}}
 use Rattle.cacache_table.proofs.Branches.{cond_leads, go_on_leads}
-use Rattle.cacache_value.specs.Shows.{ShowsContent, blob_bytes}
-use Rattle.cacache_value.proofs.Shows.{trees_show}
-use Rattle.cacache_history.specs.History.{Turn, turn_of}
-use Rattle.cacache_history.specs.Setup.{call_site}
-use Rattle.cacache_history.specs.ShownTurns.{bucket_read, shown_result as shown_in}
-use Rattle.cacache_history.specs.TurnReplies.{ExportsHeld, ReadsValue, VerifiesHeld}
-use Rattle.cacache_history.proofs.Holding.{TurnHolds}
-use Rattle.cacache_history.proofs.ShownTurns.{content_below}
-use Rattle.cacache_sequence.specs.Caches.{IsCache, HasContent, HasKey, setup_at}
-use Rattle.cacache_sequence.specs.ExportEffects.{CopiesArrive, copy_from}
-use Rattle.cacache_sequence.specs.ReadAnswers.{entries_on}
-use Rattle.cacache_sequence.specs.Sequence.{AreAnswered, tree_on, turns_on}
-use Rattle.cacache_sequence.proofs.Copying.{counts_held}
-use Rattle.cacache_sequence.proofs.ExportEffects.{exports_apart}
-use Rattle.cacache_sequence.proofs.Known.{Known, known}
-use Rattle.cacache_sequence.proofs.ReadAnswers.{is_shown}
-use Rattle.cacache_sequence.proofs.ReadsStay.{opening_keeps, piece_keeps, reading_keeps}
-use Rattle.cacache_sequence.proofs.Removed.{over_run}
-use Rattle.cacache_sequence.proofs.RemovedKeys.{found_held}
-use Rattle.cacache_sequence.proofs.WrittenFiles.{copied}
+use Rattle.cacache_table.specs.declared.command.Source.TheVariants as sources
+use Rattle.cacache_table.specs.declared.reply.Reply.TheVariants as replies
+use Rattle.cacache_table.specs.declared.carried.Aim.TheVariants as aims
+use Rattle.cacache_value.{specs.Shows.{ShowsContent, blob_bytes}, proofs.Shows.{trees_show}}
+use Rattle.cacache_history.specs.{History.{Turn, turn_of}, Setup.{call_site}, ShownTurns.{bucket_read, shown_result as shown_in}, TurnReplies.{ExportsHeld, ReadsValue, VerifiesHeld}}
+use Rattle.cacache_history.proofs.{Holding.{TurnHolds}, ShownTurns.{content_below}}
+use Rattle.cacache_sequence.specs.{Caches.{IsCache, HasContent, HasKey, setup_at}, ExportEffects.{CopiesArrive, copy_from}, ReadAnswers.{entries_on}, Sequence.{AreAnswered, tree_on, turns_on}}
+use Rattle.cacache_sequence.proofs.{Copying.{counts_held}, ExportEffects.{exports_apart}, Known.{Known, known}, ReadAnswers.{is_shown}, ReadsStay.{opening_keeps, piece_keeps, reading_keeps}, Removed.{over_run}, RemovedKeys.{found_held}, WrittenFiles.{copied}}
 
 -- ---- the bytes that a copy takes
 

@@ -1,36 +1,17 @@
 -- A question whether a content is there is answered by what the cache has.
 use Rattle.std.proofs.Common.{◌≡◌, ◌⊎◌, inl, inr, ℕ, true, false, List, [], ◌∷◌, Option, None, Some, Ok, refl, sym, ap, subst, ◌∙◌}
-use Rattle.cacache_core.specs.declared.errors.Error.{Error}
-use Rattle.cacache_core.specs.declared.errors.Error.TheVariants.{EntryNotFound, SizeMismatch, IoError, SerdeError, IntegrityError, OutOfMemory}
-use Rattle.cacache_core.specs.declared.errors.Fault.{Fault}
-use Rattle.cacache_core.specs.declared.integrity.digest.Hash.{Hash}
-use Rattle.cacache_store.specs.declared.store.log.LogItem.{LogItem}
+use Rattle.cacache_core.specs.declared.{errors.{Error.{Error, TheVariants.{EntryNotFound, SizeMismatch, IoError, SerdeError, IntegrityError, OutOfMemory}}, Fault.{Fault}}, integrity.digest.Hash.{Hash}}
+use Rattle.cacache_store.specs.{declared.store.log.LogItem.{LogItem}, Plain.{PlainStep, PlainAnswer}}
 use Rattle.cacache_store.specs.declared.store.answer.Answer.TheVariants as answers
-use Rattle.cacache_store.specs.Plain.{PlainStep, PlainAnswer}
-use Rattle.cacache_disk.specs.declared.luck.Luck.TheVariants.{Plain}
-use Rattle.cacache_disk.specs.Tree.{Tree}
-use Rattle.cacache_disk.specs.Apply.{apply}
+use Rattle.cacache_disk.specs.{declared.luck.Luck.TheVariants.{Plain}, Tree.{Tree}, Apply.{apply}}
 use Rattle.cacache_memory.specs.Replay.{tree_of}
-use Rattle.cacache_table.specs.declared.command.Command.{Command}
+use Rattle.cacache_table.specs.{declared.{command.Command.{Command}, reply.Reply.{Reply}}, Answers.{there_in}, Causes.{Faults, Faulted}, Replies.{there_reply}, Runs.{Moves, plain_reply}}
 use Rattle.cacache_table.specs.declared.command.Command.TheVariants as commands
-use Rattle.cacache_table.specs.declared.reply.Reply.{Reply}
 use Rattle.cacache_table.specs.declared.reply.Reply.TheVariants as replies
-use Rattle.cacache_table.specs.Answers.{there_in}
-use Rattle.cacache_table.specs.Causes.{Faults, Faulted}
-use Rattle.cacache_table.specs.Replies.{there_reply}
-use Rattle.cacache_table.specs.Runs.{Moves, plain_reply}
-use Rattle.cacache_value.specs.Shows.{blob_there}
-use Rattle.cacache_value.specs.Value.{Blob, InFile}
-use Rattle.cacache_history.specs.History.{Turn, turn_of}
-use Rattle.cacache_history.specs.ShownTurns.{unless_failed, there_read}
-use Rattle.cacache_history.specs.TurnReplies.{AsksHeld, ReadsValue}
-use Rattle.cacache_sequence.specs.Sequence.{turns_on}
-use Rattle.cacache_sequence.specs.Caches.{HasContent, lies_under, setup_at, SaysThere, AsksWhetherHeld}
-use Rattle.cacache_sequence.specs.Looks.{SaysAbsent, AsksAbsent}
-use Rattle.cacache_sequence.proofs.ReadAnswers.{no_moves}
-use Rattle.cacache_sequence.proofs.Known.{Known, known}
-use Rattle.cacache_sequence.proofs.Looks.{looks_keep}
-use Rattle.cacache_sequence.proofs.ReadsKeep.{content_stays}
+use Rattle.cacache_value.specs.{Shows.{blob_there}, Value.{Blob, InFile}}
+use Rattle.cacache_history.specs.{History.{Turn, turn_of}, ShownTurns.{unless_failed, there_read}, TurnReplies.{AsksHeld, ReadsValue}}
+use Rattle.cacache_sequence.specs.{Sequence.{turns_on}, Caches.{HasContent, lies_under, setup_at, SaysThere, AsksWhetherHeld}, Looks.{SaysAbsent, AsksAbsent}}
+use Rattle.cacache_sequence.proofs.{ReadAnswers.{no_moves}, Known.{Known, known}, Looks.{looks_keep}, ReadsKeep.{content_stays}}
 
 -- the one step of a question, and the reply by its answer
 record Asked (t : Tree) (blob : Option Blob) (moves : Moves) (r : Reply) : Type 0 where

@@ -1,42 +1,18 @@
 -- What a put leaves beside its key and its bytes.
-use Rattle.std.proofs.Common.{◌≡◌, ◌⊎◌, inl, inr, ℕ, Bool, true, false, cond, List, [], ◌∷◌, Option, None, Some, length, refl, sym, ap, subst, ◌∙◌, arith}
-use Rattle.std.proofs.lemmas.List.Elements.{All-head}
+use Rattle.std.proofs.{Common.{◌≡◌, ◌⊎◌, inl, inr, ℕ, Bool, true, false, cond, List, [], ◌∷◌, Option, None, Some, length, refl, sym, ap, subst, ◌∙◌, arith}, lemmas.List.Elements.{All-head}}
 use Rattle.sha1.specs.Sha1.{sha1}
-use Rattle.cacache_core.specs.declared.integrity.digest.Hash.{Hash}
-use Rattle.cacache_core.specs.Integrity.{IsHash, IsIntegrity, Meets, integrity_under}
-use Rattle.cacache_core.specs.PathNames.{home_of}
-use Rattle.cacache_core.specs.Paths.{content_names}
-use Rattle.cacache_core.specs.Texts.{integrity_text}
+use Rattle.cacache_core.specs.{declared.integrity.digest.Hash.{Hash}, Integrity.{IsHash, IsIntegrity, Meets, integrity_under}, PathNames.{home_of}, Paths.{content_names}, Texts.{integrity_text}}
 use Rattle.cacache_store.specs.declared.store.log.LogItem.{LogItem}
 use Rattle.cacache_memory.specs.Replay.{tree_of}
-use Rattle.cacache_entry.specs.Latest.{latest}
-use Rattle.cacache_entry.specs.FittingEntries.{IsEntry}
-use Rattle.cacache_table.specs.declared.command.Command.{Command}
-use Rattle.cacache_table.specs.declared.command.Command.TheVariants as commands
-use Rattle.cacache_table.specs.declared.command.Delete.{Delete}
-use Rattle.cacache_table.specs.declared.command.Put.{Put}
-use Rattle.cacache_table.specs.declared.reply.Reply.{Reply}
-use Rattle.cacache_table.specs.Inserting.{deletion, refused_cause}
-use Rattle.cacache_table.specs.Storing.{insertion_of, put_commit}
-use Rattle.cacache_value.specs.Acts.{PutBytes, change, list_of}
-use Rattle.cacache_value.specs.Kinds.{is_path_of}
-use Rattle.cacache_value.specs.Value.{Value, Blob, InFile, value_of_tree}
-use Rattle.cacache_history.specs.Commits.{Deed, does, finds, deeds, PutsContent, AddsAfter, CommitsAs, IsCase}
-use Rattle.cacache_history.specs.Setup.{call_site}
-use Rattle.cacache_history.proofs.Digests.{digest_hash}
+use Rattle.cacache_entry.specs.{Latest.{latest}, FittingEntries.{IsEntry}}
+use Rattle.cacache_table.specs.{declared.{command.{Command.{Command}, Delete.{Delete}, Put.{Put}}, reply.Reply.{Reply}}, Inserting.{deletion, refused_cause}, Storing.{insertion_of, put_commit}}
 use Rattle.cacache_table.proofs.IntegrityUtf8.{integrity_utf8}
-use Rattle.cacache_history.proofs.Righted.{one_address}
-use Rattle.cacache_history.proofs.ShownTurns.{content_below}
-use Rattle.cacache_sequence.specs.Beside.{IsOther, ShareAddress, KeepsBeside, own_integrity, WritesKeep, PlainWritesFit, RemovalsKeep}
-use Rattle.cacache_sequence.specs.Caches.{HasContent, HasKey, lies_under, plain_put, setup_at}
-use Rattle.cacache_sequence.specs.Keeping.{found_under}
-use Rattle.cacache_sequence.specs.Sequence.{Alike, after_deeds, turns_on}
-use Rattle.cacache_sequence.specs.Stored.{own_hash}
-use Rattle.cacache_sequence.proofs.Forms.{bare_written}
-use Rattle.cacache_sequence.proofs.KeptKeys.{adds_contents, adds_keep, adds_lookups, alike_lookup}
-use Rattle.cacache_sequence.proofs.Known.{Known, known}
-use Rattle.cacache_sequence.proofs.Stored.{first_deed, keeps_entries}
-use Rattle.cacache_sequence.proofs.WritesLast.{keyed_formed}
+use Rattle.cacache_table.specs.declared.command.Command.TheVariants as commands
+use Rattle.cacache_value.specs.{Acts.{PutBytes, change, list_of}, Kinds.{is_path_of}, Value.{Value, Blob, InFile, value_of_tree}}
+use Rattle.cacache_history.specs.{Commits.{Deed, does, finds, deeds, PutsContent, AddsAfter, CommitsAs, IsCase}, Setup.{call_site}}
+use Rattle.cacache_history.proofs.{Digests.{digest_hash}, Righted.{one_address}, ShownTurns.{content_below}}
+use Rattle.cacache_sequence.specs.{Beside.{IsOther, ShareAddress, KeepsBeside, own_integrity, WritesKeep, PlainWritesFit, RemovalsKeep}, Caches.{HasContent, HasKey, lies_under, plain_put, setup_at}, Keeping.{found_under}, Sequence.{Alike, after_deeds, turns_on}, Stored.{own_hash}}
+use Rattle.cacache_sequence.proofs.{Forms.{bare_written}, KeptKeys.{adds_contents, adds_keep, adds_lookups, alike_lookup}, Known.{Known, known}, Stored.{first_deed, keeps_entries}, WritesLast.{keyed_formed}}
 
 -- ---- deeds
 

@@ -1,24 +1,11 @@
 -- Calls that store, remove or clear give no error but that of a step, or out of memory.
 use Rattle.std.proofs.Common.{◌≡◌, ◌⊎◌, inl, inr, ℕ, Bool, true, List, [], ◌∷◌, Option, None, Some, get_or, refl, sym, subst, ◌∙◌}
-use Rattle.cacache_core.specs.declared.errors.SerdeCause.{SerdeCause}
-use Rattle.cacache_core.specs.declared.errors.Error.TheVariants.{SerdeError}
-use Rattle.cacache_core.specs.declared.integrity.digest.Hash.{Hash}
+use Rattle.cacache_core.specs.declared.{errors.{SerdeCause.{SerdeCause}, Error.TheVariants.{SerdeError}}, integrity.digest.Hash.{Hash}}
 use Rattle.cacache_store.specs.Plain.{PlainAnswer}
 use Rattle.cacache_table.specs.declared.command.Command.TheVariants as commands
-use Rattle.cacache_table.specs.declared.command.Insert.{Insert}
-use Rattle.cacache_table.specs.declared.command.Put.{Put}
-use Rattle.cacache_table.specs.declared.reply.Reply.{Reply}
-use Rattle.cacache_table.specs.declared.reply.Reply.TheVariants.{Refused}
-use Rattle.cacache_table.specs.Inserting.{unless_refused, insertion, deletion, refused_cause}
-use Rattle.cacache_table.specs.State.{State, Site, doing, creating, writing, syncing, persisting, linking, confirming, appending, walking, over, Insertion}
-use Rattle.cacache_table.specs.declared.carried.Commit.{Commit}
-use Rattle.cacache_table.specs.Storing.{insertion_of, indexed, sized, compared, placed, put_commit}
-use Rattle.cacache_table.specs.Table.{after, opening}
-use Rattle.cacache_table.specs.Runs.{Moves, Runs}
-use Rattle.cacache_table.proofs.Closed.{AnyAnswer, ClosedCommit, ClosedWalk, Closed, kept_always}
-use Rattle.cacache_table.proofs.Visits.{MayMeet}
-use Rattle.cacache_sequence.specs.CallErrors.{FailsOnly, CallsFailOnly}
-use Rattle.cacache_sequence.proofs.Tasks.{Clears, ClearsAt}
+use Rattle.cacache_table.specs.{declared.{command.{Insert.{Insert}, Put.{Put}}, reply.Reply.{Reply, TheVariants.{Refused}}, carried.Commit.{Commit}}, Inserting.{unless_refused, insertion, deletion, refused_cause}, State.{State, Site, doing, creating, writing, syncing, persisting, linking, confirming, appending, walking, over, Insertion}, Storing.{insertion_of, indexed, sized, compared, placed, put_commit}, Table.{after, opening}, Runs.{Moves, Runs}}
+use Rattle.cacache_table.proofs.{Closed.{AnyAnswer, ClosedCommit, ClosedWalk, Closed, kept_always}, Visits.{MayMeet}}
+use Rattle.cacache_sequence.{specs.CallErrors.{FailsOnly, CallsFailOnly}, proofs.Tasks.{Clears, ClearsAt}}
 
 -- a commit that expects no integrity and no size, and whose entry can be written
 pub record Plain (c : Commit) : Type 0 where

@@ -1,32 +1,15 @@
 -- A clearing that ends as done has removed what its tasks name.
 use Rattle.std.proofs.Common.{◌≡◌, inl, inr, ◌==◌, ◌-◌, ℕ, Bool, true, false, cond, nat_le, List, [], ◌∷◌, ◌++◌, Some, length, refl, sym, ap, subst, ◌∙◌}
-use Rattle.cacache_core.specs.declared.errors.Fault.{Fault}
+use Rattle.cacache_core.specs.declared.errors.{Fault.{Fault}, Error.TheVariants.{IoError, OutOfMemory}}
 use Rattle.cacache_core.specs.declared.errors.Fault.TheVariants as faults
-use Rattle.cacache_core.specs.declared.errors.Error.TheVariants.{IoError, OutOfMemory}
 use Rattle.cacache_store.specs.declared.store.step.Step.TheVariants as steps
 use Rattle.cacache_store.specs.declared.store.answer.Answer.TheVariants as answers
-use Rattle.cacache_store.specs.declared.store.answer.Name.{Name}
-use Rattle.cacache_store.specs.Plain.{PlainAnswer}
-use Rattle.cacache_disk.specs.declared.luck.Luck.TheVariants.{Plain}
-use Rattle.cacache_disk.specs.Tree.{Tree}
-use Rattle.cacache_disk.specs.Apply.{apply}
-use Rattle.cacache_table.specs.declared.reply.Reply.{Reply}
-use Rattle.cacache_table.specs.declared.reply.Reply.TheVariants.{Listed, Done, Refused}
-use Rattle.cacache_table.specs.declared.answers.Refusal.{Refusal}
+use Rattle.cacache_store.specs.{declared.store.answer.Name.{Name}, Plain.{PlainAnswer}}
+use Rattle.cacache_disk.specs.{declared.luck.Luck.TheVariants.{Plain}, Tree.{Tree}, Apply.{apply}}
+use Rattle.cacache_table.specs.{declared.{reply.Reply.{Reply, TheVariants.{Listed, Done, Refused}}, answers.Refusal.{Refusal}, visit.{Visit.{Visit, TheVariants.{Enter, ReadBucket, RemoveFile, RemoveFolder}}, Task.{Task, TheVariants.{Make, Stumble}}}}, Answers.{done_in, names_in}, Common.{fails, ends_with, go_on, refuse}, State.{State, walking, over, Walk}, Walking.{failed, give, miss, walk_on, tasks_of, leaving, too_many, entered}, Runs.{Moves, Runs}}
 use Rattle.cacache_table.specs.declared.answers.Refusal.TheVariants as refusals
-use Rattle.cacache_table.specs.Answers.{done_in, names_in}
-use Rattle.cacache_table.specs.Common.{fails, ends_with, go_on, refuse}
-use Rattle.cacache_table.specs.State.{State, walking, over, Walk}
-use Rattle.cacache_table.specs.declared.visit.Visit.{Visit}
-use Rattle.cacache_table.specs.declared.visit.Task.{Task}
-use Rattle.cacache_table.specs.declared.visit.Visit.TheVariants.{Enter, ReadBucket, RemoveFile, RemoveFolder}
-use Rattle.cacache_table.specs.declared.visit.Task.TheVariants.{Make, Stumble}
-use Rattle.cacache_table.specs.Walking.{failed, give, miss, walk_on, tasks_of, leaving, too_many, entered}
-use Rattle.cacache_table.specs.Runs.{Moves, Runs}
 use Rattle.cacache_sequence.specs.Sequence.{tree_on, AreAnswered}
-use Rattle.cacache_sequence.proofs.Tasks.{Clears, ClearsAt, clears_more, names_clear, leaves_clear}
-use Rattle.cacache_sequence.proofs.ReadsStay.{listing_keeps}
-use Rattle.cacache_sequence.proofs.Cutting.{Shrinks, Gone, Removes, file_removed, folder_removed}
+use Rattle.cacache_sequence.proofs.{Tasks.{Clears, ClearsAt, clears_more, names_clear, leaves_clear}, ReadsStay.{listing_keeps}, Cutting.{Shrinks, Gone, Removes, file_removed, folder_removed}}
 
 -- a folder below the top one is removed, and so is all else
 abbrev pub TaskGone : Tree → Task → Type 0

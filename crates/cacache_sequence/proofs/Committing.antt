@@ -1,54 +1,19 @@
 -- What the commit of a writer leaves in a cache.
-use Rattle.std.proofs.Common.{◌≡◌, ◌⊎◌, inl, inr, ℕ, List, [], ◌∷◌, ◌++◌, Option, None, Some, map, refl, sym, ap, subst, ◌∙◌, append-nil, append_assoc}
-use Rattle.cacache_core.specs.declared.errors.Error.TheVariants.{IoError}
-use Rattle.cacache_core.specs.declared.errors.Fault.{Fault}
-use Rattle.cacache_core.specs.PathNames.{home_of}
+use Rattle.std.{proofs.Common.{◌≡◌, ◌⊎◌, inl, inr, ℕ, List, [], ◌∷◌, ◌++◌, Option, None, Some, map, refl, sym, ap, subst, ◌∙◌, append-nil, append_assoc}, specs.Prelude.{length}}
+use Rattle.cacache_core.specs.{declared.{errors.{Error.TheVariants.{IoError}, Fault.{Fault}}, integrity.{algorithm.Algorithm.{Algorithm}, digest.Hash.{Hash}}}, PathNames.{home_of}, Integrity.{IsHash, integrity_under}, Texts.{integrity_text}}
 use Rattle.cacache_store.specs.declared.store.answer.Answer.TheVariants as answers
-use Rattle.cacache_store.specs.declared.store.log.LogItem.{LogItem}
-use Rattle.cacache_store.specs.declared.store.log.LogItem.TheVariants.{Made}
+use Rattle.cacache_store.specs.declared.store.log.LogItem.{LogItem, TheVariants.{Made}}
 use Rattle.cacache_disk.specs.Apply.{made_temp}
 use Rattle.cacache_memory.specs.Replay.{tree_of}
 use Rattle.cacache_table.specs.declared.command.Command.TheVariants as commands
-use Rattle.cacache_table.specs.declared.command.Put.{Put}
-use Rattle.cacache_table.specs.declared.reply.Reply.{Reply}
+use Rattle.cacache_table.specs.{declared.{command.Put.{Put}, reply.Reply.{Reply}}, Causes.{Faulted, HasCause, own_of}, StepPaths.{content_path, temp_folder, temp_path}, Runs.{Moves, Runs, plain_reply}, Sound.{FormedIfWritten}, Storing.{insertion_of, put_commit, persist, write_rest}, Table.{opening}, Inserting.{refused_cause}, Promises.{Stores}}
+use Rattle.cacache_table.proofs.{Promises.{calls_answer}, IntegrityUtf8.{integrity_utf8}}
 use Rattle.cacache_table.specs.declared.reply.Reply.TheVariants as replies
-use Rattle.cacache_table.specs.Causes.{Faulted, HasCause, own_of}
-use Rattle.cacache_table.specs.StepPaths.{content_path, temp_folder, temp_path}
-use Rattle.cacache_table.specs.Runs.{Moves, Runs, plain_reply}
-use Rattle.cacache_table.specs.Sound.{FormedIfWritten}
-use Rattle.cacache_table.specs.Storing.{insertion_of, put_commit, persist, write_rest}
-use Rattle.cacache_table.specs.Table.{opening}
-use Rattle.cacache_value.specs.Acts.{PutBytes}
-use Rattle.cacache_value.specs.Value.{Blob, InFile, value_of_tree}
-use Rattle.cacache_history.specs.Setup.{call_site}
-use Rattle.cacache_history.specs.History.{Turn}
-use Rattle.cacache_history.specs.Commits.{Deed, finds, deeds_of, deeds, CommitsAs}
-use Rattle.cacache_history.specs.Values.{IsThere}
-use Rattle.cacache_history.proofs.Digests.{digest_hash}
-use Rattle.cacache_sequence.specs.Sequence.{tree_on, turns_on, Alike, after_deeds, IsSound}
-use Rattle.cacache_sequence.specs.Stored.{own_hash}
-use Rattle.cacache_sequence.specs.InParts.{moves_in, Begun, with_part, IsOnItsWay}
-use Rattle.cacache_sequence.specs.Caches.{IsCache, setup_at, plain_put, WritesKey}
-use Rattle.cacache_sequence.specs.OpenWriters.{NothingElse, make_folder, make_file, IsOpened, CommitsBytes, CommitsLast, CommitsStore}
-use Rattle.cacache_sequence.proofs.Logs.{some_same}
-use Rattle.cacache_sequence.proofs.InParts.{logs_lead, runs_through, calls_begin, parts_go_on, parts_answer}
-use Rattle.cacache_sequence.proofs.Handed.{writes_are_parts}
-use Rattle.std.specs.Prelude.{length}
-use Rattle.cacache_core.specs.declared.integrity.algorithm.Algorithm.{Algorithm}
-use Rattle.cacache_core.specs.Integrity.{IsHash, integrity_under}
-use Rattle.cacache_core.specs.declared.integrity.digest.Hash.{Hash}
-use Rattle.cacache_core.specs.Texts.{integrity_text}
+use Rattle.cacache_value.specs.{Acts.{PutBytes}, Value.{Blob, InFile, value_of_tree}}
+use Rattle.cacache_history.{specs.{Setup.{call_site}, History.{Turn}, Commits.{Deed, finds, deeds_of, deeds, CommitsAs}, Values.{IsThere}}, proofs.Digests.{digest_hash}}
+use Rattle.cacache_sequence.specs.{Sequence.{tree_on, turns_on, Alike, after_deeds, IsSound}, Stored.{own_hash}, InParts.{moves_in, Begun, with_part, IsOnItsWay}, Caches.{IsCache, setup_at, plain_put, WritesKey}, OpenWriters.{NothingElse, make_folder, make_file, IsOpened, CommitsBytes, CommitsLast, CommitsStore}}
+use Rattle.cacache_sequence.proofs.{Logs.{some_same}, InParts.{logs_lead, runs_through, calls_begin, parts_go_on, parts_answer}, Handed.{writes_are_parts}, CallErrors.{calls_fail_only}, Forms.{bare_written}, Known.{excused_by}, Stored.{stores as stores_so}, OpenWriters.{gains_join, gains_grow, folder_first}, WritesLast.{has_key, keyed_formed}}
 use Rattle.cacache_entry.specs.FittingEntries.{IsEntry}
-use Rattle.cacache_table.specs.Inserting.{refused_cause}
-use Rattle.cacache_table.specs.Promises.{Stores}
-use Rattle.cacache_table.proofs.Promises.{calls_answer}
-use Rattle.cacache_table.proofs.IntegrityUtf8.{integrity_utf8}
-use Rattle.cacache_sequence.proofs.CallErrors.{calls_fail_only}
-use Rattle.cacache_sequence.proofs.Forms.{bare_written}
-use Rattle.cacache_sequence.proofs.Known.{excused_by}
-use Rattle.cacache_sequence.proofs.Stored.{stores as stores_so}
-use Rattle.cacache_sequence.proofs.OpenWriters.{gains_join, gains_grow, folder_first}
-use Rattle.cacache_sequence.proofs.WritesLast.{has_key, keyed_formed}
 
 deeds_through : (xs ys : List Turn) → deeds (xs ++ ys) ≡ deeds xs ++ deeds ys
 deeds_through [] ys = refl

@@ -1,24 +1,15 @@
 -- A checked copy answers how many bytes the cache has.
 use Rattle.std.proofs.Common.{◌≡◌, ◌⊎◌, inl, inr, ℕ, List, [], ◌∷◌, Ok, length, sym, ap, subst, ◌∙◌}
-use Rattle.cacache_core.specs.declared.integrity.digest.Hash.{Hash}
-use Rattle.cacache_core.specs.declared.errors.Error.TheVariants.{OutOfMemory}
+use Rattle.cacache_core.specs.declared.{integrity.digest.Hash.{Hash}, errors.Error.TheVariants.{OutOfMemory}}
 use Rattle.cacache_store.specs.declared.store.log.LogItem.{LogItem}
 use Rattle.cacache_disk.specs.declared.luck.Luck.TheVariants.{Plain}
 use Rattle.cacache_memory.specs.Replay.{tree_of}
-use Rattle.cacache_table.specs.declared.command.Command.{Command}
-use Rattle.cacache_table.specs.declared.reply.Reply.{Reply}
+use Rattle.cacache_table.specs.{declared.{command.Command.{Command}, reply.Reply.{Reply}}, Runs.{Moves, plain_reply}, Verifying.{CountsAs}}
 use Rattle.cacache_table.specs.declared.reply.Reply.TheVariants as replies
-use Rattle.cacache_table.specs.Runs.{Moves, plain_reply}
-use Rattle.cacache_table.specs.Verifying.{CountsAs}
 use Rattle.cacache_value.specs.Shows.{blob_bytes}
-use Rattle.cacache_history.specs.History.{Turn, turn_of}
-use Rattle.cacache_history.specs.ShownTurns.{content_at}
-use Rattle.cacache_history.specs.TurnReplies.{VerifiesHeld, ReadsValue}
-use Rattle.cacache_sequence.specs.Sequence.{turns_on}
-use Rattle.cacache_sequence.specs.Caches.{HasContent, setup_at}
-use Rattle.cacache_sequence.specs.ExportEffects.{copy_of, CopiesCount}
-use Rattle.cacache_sequence.proofs.Known.{known}
-use Rattle.cacache_sequence.proofs.ExportEffects.{exports_apart}
+use Rattle.cacache_history.specs.{History.{Turn, turn_of}, ShownTurns.{content_at}, TurnReplies.{VerifiesHeld, ReadsValue}}
+use Rattle.cacache_sequence.specs.{Sequence.{turns_on}, Caches.{HasContent, setup_at}, ExportEffects.{copy_of, CopiesCount}}
+use Rattle.cacache_sequence.proofs.{Known.{known}, ExportEffects.{exports_apart}}
 
 module _ (cache base bytes to : List ℕ) (i : List Hash) (old : List LogItem) (has : HasContent cache i bytes old) where
   pub counts_held : (moves : Moves) (n : ℕ) → VerifiesHeld (setup_at cache base) i (turns_on (tree_of old) moves) (replies.Copied n) → n ≡ length bytes

@@ -1,17 +1,11 @@
 -- What steps that remove do to a tree.
 use Rattle.std.proofs.Common.{◌≡◌, ℕ, Bool, true, false, cond, List, None, Result, Ok, Err, refl, sym, ap, subst, ◌∙◌}
-use Rattle.cacache_core.specs.declared.errors.Fault.{Fault}
-use Rattle.cacache_core.specs.PathNames.{Names, names_of}
+use Rattle.cacache_core.specs.{declared.errors.Fault.{Fault}, PathNames.{Names, names_of}}
 use Rattle.cacache_store.specs.declared.store.step.Step.TheVariants as steps
 use Rattle.cacache_store.specs.declared.store.answer.Answer.TheVariants as answers
 use Rattle.cacache_store.specs.Plain.{PlainAnswer}
-use Rattle.cacache_disk.specs.declared.luck.Luck.TheVariants.{Plain}
-use Rattle.cacache_disk.specs.Tree.{Tree, look, cut, same_path}
-use Rattle.cacache_disk.specs.LedTo.{removable, emptied}
-use Rattle.cacache_disk.specs.Apply.{apply, unless}
-use Rattle.cacache_disk.proofs.FoundNodes.{removable_ok, emptied_ok}
-use Rattle.cacache_disk.proofs.PutNodes.{look-cut}
-use Rattle.cacache_disk.proofs.Roots.{same_self}
+use Rattle.cacache_disk.specs.{declared.luck.Luck.TheVariants.{Plain}, Tree.{Tree, look, cut, same_path}, LedTo.{removable, emptied}, Apply.{apply, unless}}
+use Rattle.cacache_disk.proofs.{FoundNodes.{removable_ok, emptied_ok}, PutNodes.{look-cut}, Roots.{same_self}}
 
 -- nothing comes
 abbrev pub Shrinks : Tree → Tree → Type 0

@@ -1,45 +1,20 @@
 -- A clearing that ends as done leaves an empty cache.
-use Rattle.std.proofs.Common.{◌≡◌, inl, inr, ◌==◌, ◌+◌, ◌-◌, ℕ, Bool, true, false, cond, List, [], ◌∷◌, ◌++◌, Option, None, Some, Result, Ok, Err, length, take, refl, sym, ap, subst, ◌∙◌, arith, eq-eqb, length-append, append_assoc, append-nil}
-use Rattle.std.specs.Prelude.{filter, IfSome, slice_index_or}
-use Rattle.std.specs.Ordering.{nat_cmp}
-use Rattle.std.specs.Bool.{nat_eq}
-use Rattle.std.specs.Cmp.Lexicographic.{pointwise, slice_cmp, lists_ties, texts_ties}
-use Rattle.std.specs.List.{filter_map, cons_option}
+use Rattle.std.proofs.{Common.{◌≡◌, inl, inr, ◌==◌, ◌+◌, ◌-◌, ℕ, Bool, true, false, cond, List, [], ◌∷◌, ◌++◌, Option, None, Some, Result, Ok, Err, length, take, refl, sym, ap, subst, ◌∙◌, arith, eq-eqb, length-append, append_assoc, append-nil}, Math.Seq.{take-append_seam}, lemmas.List.Elements.{All-cons, All-nil}}
+use Rattle.std.specs.{Prelude.{filter, IfSome, slice_index_or}, Ordering.{nat_cmp}, Bool.{nat_eq}, Cmp.Lexicographic.{pointwise, slice_cmp, lists_ties, texts_ties}, List.{filter_map, cons_option}}
 use Rattle.std.specs.FinMap as map
-use Rattle.std.proofs.Math.Seq.{take-append_seam}
-use Rattle.std.proofs.lemmas.List.Elements.{All-cons, All-nil}
-use Rattle.cacache_core.specs.declared.errors.Fault.{Fault}
-use Rattle.cacache_core.specs.declared.errors.Fault.TheVariants as faults
-use Rattle.cacache_core.specs.Paths.{join}
-use Rattle.cacache_core.specs.PathNames.{Names, pieces, is_name, is_bad, names_of, home_of, names_below, IsProperName}
+use Rattle.cacache_core.specs.{declared.errors.Fault.{Fault}, Paths.{join}, PathNames.{Names, pieces, is_name, is_bad, names_of, home_of, names_below, IsProperName}}
 use Rattle.cacache_core.proofs.JoinedNames.{joined_texts_name}
+use Rattle.cacache_core.specs.declared.errors.Fault.TheVariants as faults
 use Rattle.cacache_store.specs.declared.store.step.Step.TheVariants as steps
 use Rattle.cacache_store.specs.declared.store.answer.Answer.TheVariants as answers
-use Rattle.cacache_store.specs.declared.store.answer.Kind.{Kind}
+use Rattle.cacache_store.specs.declared.store.answer.{Kind.{Kind}, Name.{Name}}
 use Rattle.cacache_store.specs.declared.store.answer.Kind.TheVariants as kinds
-use Rattle.cacache_store.specs.declared.store.answer.Name.{Name}
-use Rattle.cacache_disk.specs.declared.luck.Luck.TheVariants.{Plain}
-use Rattle.cacache_disk.specs.declared.node.Node.{Node}
-use Rattle.cacache_disk.specs.declared.node.Node.TheVariants.{Folder, File, Link}
-use Rattle.cacache_disk.specs.Rooted.{is_folder, StandsIn, AreProper, Rooted}
-use Rattle.cacache_disk.specs.Tree.{Tree, look, same_path, names_cmp, listing, child_of, is_child, kind_of}
-use Rattle.cacache_disk.specs.LedTo.{place, where_folder, folder}
-use Rattle.cacache_disk.specs.Apply.{apply, unless}
-use Rattle.cacache_disk.proofs.FoundNodes.{and_then_ok, place_ok}
-use Rattle.cacache_disk.proofs.Maps.{same_path-true}
-use Rattle.cacache_disk.proofs.Roots.{same_self}
-use Rattle.cacache_table.specs.declared.reply.Reply.TheVariants.{Done}
-use Rattle.cacache_table.specs.State.{walking, Walk}
-use Rattle.cacache_table.specs.declared.visit.Visit.TheVariants.{Enter}
-use Rattle.cacache_table.specs.Walking.{task_for_name, tasks_of, leaving, most, walk}
-use Rattle.cacache_table.specs.Runs.{Moves, Runs}
-use Rattle.cacache_value.specs.Value.{blob_in, bucket_in, folders_below, empty_value, value_of_tree}
-use Rattle.cacache_value.proofs.PutValues.{same_value}
+use Rattle.cacache_disk.specs.{declared.{luck.Luck.TheVariants.{Plain}, node.Node.{Node, TheVariants.{Folder, File, Link}}}, Rooted.{is_folder, StandsIn, AreProper, Rooted}, Tree.{Tree, look, same_path, names_cmp, listing, child_of, is_child, kind_of}, LedTo.{place, where_folder, folder}, Apply.{apply, unless}}
+use Rattle.cacache_disk.proofs.{FoundNodes.{and_then_ok, place_ok}, Maps.{same_path-true}, Roots.{same_self}}
+use Rattle.cacache_table.specs.{declared.{reply.Reply.TheVariants.{Done}, visit.Visit.TheVariants.{Enter}}, State.{walking, Walk}, Walking.{task_for_name, tasks_of, leaving, most, walk}, Runs.{Moves, Runs}}
+use Rattle.cacache_value.{specs.Value.{blob_in, bucket_in, folders_below, empty_value, value_of_tree}, proofs.PutValues.{same_value}}
 use Rattle.cacache_sequence.specs.Sequence.{tree_on, AreAnswered}
-use Rattle.cacache_sequence.proofs.Tasks.{clears_more, names_clear, leaves_clear}
-use Rattle.cacache_sequence.proofs.ReadsStay.{listing_keeps}
-use Rattle.cacache_sequence.proofs.Cutting.{Shrinks, Gone}
-use Rattle.cacache_sequence.proofs.Clearing.{TaskGone, TasksGone, Ends, goes_on, tasks_front, entered_so, cleared}
+use Rattle.cacache_sequence.proofs.{Tasks.{clears_more, names_clear, leaves_clear}, ReadsStay.{listing_keeps}, Cutting.{Shrinks, Gone}, Clearing.{TaskGone, TasksGone, Ends, goes_on, tasks_front, entered_so, cleared}}
 
 -- ---- what a folder's listing names
 

@@ -1,31 +1,18 @@
 -- An export to a path apart from the cache leaves what the cache holds.
 use Rattle.std.proofs.Common.{◌≡◌, ◌&&◌, ℕ, zero, suc, Bool, true, false, cond, List, [], ◌∷◌, ◌++◌, Option, None, Some, Result, Ok, Err, refl, sym, ap, subst, ◌∙◌}
 use Rattle.std.specs.Prelude.{IfOk, bytes_eq}
-use Rattle.cacache_core.specs.Paths.{content_area, index_area, temp_area}
-use Rattle.cacache_core.specs.declared.errors.Fault.{Fault}
-use Rattle.cacache_core.specs.PathNames.{Names, names_of, home_of}
+use Rattle.cacache_core.specs.{Paths.{content_area, index_area, temp_area}, declared.errors.Fault.{Fault}, PathNames.{Names, names_of, home_of}}
 use Rattle.cacache_store.specs.declared.store.answer.Answer.TheVariants as answers
 use Rattle.cacache_store.specs.declared.store.step.Step.TheVariants as steps
 use Rattle.cacache_store.specs.Plain.{PlainStep, PlainAnswer}
 use Rattle.cacache_memory.specs.Replay.{tree_of}
 use Rattle.cacache_table.specs.declared.command.Command.TheVariants as commands
-use Rattle.cacache_table.specs.Runs.{Goes}
-use Rattle.cacache_table.specs.Table.{opening}
-use Rattle.cacache_value.specs.Kinds.{PathKind, Content as OfContent, Bucket, Temporary, Stray, Elsewhere, IsFor, kind_in_area, kind_beside, path_kind}
-use Rattle.cacache_value.specs.Value.{Value, value_of_tree}
-use Rattle.cacache_history.specs.Setup.{may_export, call_site, apart_from_home, are_apart, may_take}
-use Rattle.cacache_history.specs.History.{Turn}
-use Rattle.cacache_history.specs.Turns.{EachTurn, made_in}
-use Rattle.cacache_history.specs.Commits.{Deed, deeds, deeds_of_act, finds_in}
-use Rattle.cacache_history.specs.ReadingCalls.{TurnDoesNothing}
+use Rattle.cacache_table.specs.{Runs.{Goes}, Table.{opening}}
+use Rattle.cacache_value.specs.{Kinds.{PathKind, Content as OfContent, Bucket, Temporary, Stray, Elsewhere, IsFor, kind_in_area, kind_beside, path_kind}, Value.{Value, value_of_tree}}
+use Rattle.cacache_history.specs.{Setup.{may_export, call_site, apart_from_home, are_apart, may_take}, History.{Turn}, Turns.{EachTurn, made_in}, Commits.{Deed, deeds, deeds_of_act, finds_in}, ReadingCalls.{TurnDoesNothing}}
 use Rattle.cacache_history.proofs.ReadingCalls.{readings_do_nothing}
-use Rattle.cacache_sequence.specs.Sequence.{Alike, turns_on, after_deeds}
-use Rattle.cacache_sequence.specs.Caches.{setup_at}
-use Rattle.cacache_sequence.specs.ExportEffects.{ExportsKeep}
-use Rattle.cacache_sequence.proofs.KeptKeys.{stays_known}
-use Rattle.cacache_sequence.proofs.Known.{known}
-use Rattle.cacache_sequence.proofs.InParts.{run_goes}
-use Rattle.cacache_sequence.proofs.Sequence.{turns_made}
+use Rattle.cacache_sequence.specs.{Sequence.{Alike, turns_on, after_deeds}, Caches.{setup_at}, ExportEffects.{ExportsKeep}}
+use Rattle.cacache_sequence.proofs.{KeptKeys.{stays_known}, Known.{known}, InParts.{run_goes}, Sequence.{turns_made}}
 
 -- ---- turns that do nothing
 

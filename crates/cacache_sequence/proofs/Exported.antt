@@ -1,66 +1,24 @@
 -- Each export of bytes that are there leaves them at its path, or fails for a step of its own.
-use Rattle.std.proofs.Common.{◌≡◌, ◌⊎◌, inl, inr, ◌==◌, ◌<◌, ℕ, zero, suc, Bool, true, false, cond, List, [], ◌∷◌, ◌++◌, Option, None, Some, Result, Ok, length, take, drop, take-append-drop, refl, sym, ap, subst, ◌∙◌, append-nil, append_assoc, arith}
-use Rattle.std.proofs.lemmas.List.Elements.{All-head}
+use Rattle.std.proofs.{Common.{◌≡◌, ◌⊎◌, inl, inr, ◌==◌, ◌<◌, ℕ, zero, suc, Bool, true, false, cond, List, [], ◌∷◌, ◌++◌, Option, None, Some, Result, Ok, length, take, drop, take-append-drop, refl, sym, ap, subst, ◌∙◌, append-nil, append_assoc, arith}, lemmas.List.Elements.{All-head}}
 use Rattle.sha1.specs.Sha1.{sha1}
-use Rattle.cacache_core.specs.declared.errors.Error.TheVariants.{IntegrityError, IoError, OutOfMemory}
-use Rattle.cacache_core.specs.declared.errors.Fault.{Fault}
-use Rattle.cacache_core.specs.declared.errors.Fault.TheVariants as faults
-use Rattle.cacache_core.specs.declared.errors.IntegrityFault.TheVariants.{Check}
-use Rattle.cacache_core.specs.declared.integrity.digest.Hash.{Hash}
-use Rattle.cacache_core.specs.Integrity.{IsHash, actual}
-use Rattle.cacache_core.specs.Meeting.{meets}
-use Rattle.cacache_core.specs.PathNames.{Names, home_of, names_of}
+use Rattle.cacache_core.specs.{declared.{errors.{Error.TheVariants.{IntegrityError, IoError, OutOfMemory}, Fault.{Fault}, IntegrityFault.TheVariants.{Check}}, integrity.digest.Hash.{Hash}}, Integrity.{IsHash, actual}, Meeting.{meets}, PathNames.{Names, home_of, names_of}}
 use Rattle.cacache_core.proofs.Meeting.{meets_finds}
+use Rattle.cacache_core.specs.declared.errors.Fault.TheVariants as faults
 use Rattle.cacache_store.specs.declared.store.answer.Answer.TheVariants as answers
-use Rattle.cacache_store.specs.declared.store.log.LogItem.{LogItem}
-use Rattle.cacache_store.specs.declared.store.plain.PlainFile.{PlainFile}
+use Rattle.cacache_store.specs.{declared.store.{log.LogItem.{LogItem}, plain.PlainFile.{PlainFile}}, Plain.{PlainAnswer}}
 use Rattle.cacache_store.specs.declared.store.step.Step.TheVariants as steps
-use Rattle.cacache_store.specs.Plain.{PlainAnswer}
-use Rattle.cacache_disk.specs.declared.luck.Luck.TheVariants.{Plain}
-use Rattle.cacache_disk.specs.declared.node.Node.TheVariants.{File}
-use Rattle.cacache_disk.specs.Apply.{apply, given, rest_of, unless}
-use Rattle.cacache_disk.specs.LedTo.{file_at}
-use Rattle.cacache_disk.specs.Tree.{Tree, look}
+use Rattle.cacache_disk.specs.{declared.{luck.Luck.TheVariants.{Plain}, node.Node.TheVariants.{File}}, Apply.{apply, given, rest_of, unless}, LedTo.{file_at}, Tree.{Tree, look}}
 use Rattle.cacache_memory.specs.Replay.{shown, tree_of}
 use Rattle.cacache_entry.specs.Latest.{Found, latest}
 use Rattle.cacache_table.specs.declared.carried.Aim.TheVariants as aims
-use Rattle.cacache_table.specs.declared.carried.Content.{Content}
-use Rattle.cacache_table.specs.declared.command.Export.{Export}
-use Rattle.cacache_table.specs.declared.command.How.{How}
-use Rattle.cacache_table.specs.declared.command.How.TheVariants.{Copy, Reflink, HardLink}
-use Rattle.cacache_table.specs.declared.command.Source.{Source}
-use Rattle.cacache_table.specs.declared.command.Source.TheVariants as sources
-use Rattle.cacache_table.specs.declared.reply.Reply.{Reply}
-use Rattle.cacache_table.specs.declared.reply.Reply.TheVariants as replies
-use Rattle.cacache_table.specs.Common.{ends_with, errand_step}
-use Rattle.cacache_table.specs.Exporting.{copied_count, export, export_content, export_from, verified}
-use Rattle.cacache_table.specs.Linking.{after_read, hashed_path}
-use Rattle.cacache_table.specs.Looking.{found_for, found_in}
-use Rattle.cacache_table.specs.Runs.{Moves, Runs}
-use Rattle.cacache_table.specs.State.{Errand, State, copying, doing, hard_link, hashing, opening_file, over, reflink, to_verify}
-use Rattle.cacache_table.specs.StepPaths.{bucket_path, content_path}
-use Rattle.cacache_table.specs.Table.{after, opening, piece}
+use Rattle.cacache_table.specs.{declared.{carried.Content.{Content}, command.{Export.{Export}, How.{How, TheVariants.{Copy, Reflink, HardLink}}, Source.{Source}}, reply.Reply.{Reply}}, Common.{ends_with, errand_step}, Exporting.{copied_count, export, export_content, export_from, verified}, Linking.{after_read, hashed_path}, Looking.{found_for, found_in}, Runs.{Moves, Runs}, State.{Errand, State, copying, doing, hard_link, hashing, opening_file, over, reflink, to_verify}, StepPaths.{bucket_path, content_path}, Table.{after, opening, piece}}
 use Rattle.cacache_table.proofs.Branches.{cond_leads}
-use Rattle.cacache_value.specs.Acts.{list_of}
-use Rattle.cacache_value.specs.Shows.{ShowsBucket, ShowsContent, blob_bytes}
-use Rattle.cacache_value.specs.Value.{value_of_tree}
-use Rattle.cacache_value.proofs.Shows.{trees_show}
-use Rattle.cacache_history.specs.History.{turn_of}
-use Rattle.cacache_history.specs.Setup.{call_site}
-use Rattle.cacache_history.proofs.Holding.{TurnHolds}
-use Rattle.cacache_history.proofs.ShownTurns.{bucket_below, content_below}
-use Rattle.cacache_sequence.specs.CallErrors.{FailsOnly}
-use Rattle.cacache_sequence.specs.Caches.{IsCache, HasContent, HasKey, setup_at}
-use Rattle.cacache_sequence.specs.Exported.{Arrives, ExportsArrive, export_by}
-use Rattle.cacache_sequence.specs.Sequence.{AreAnswered, tree_on}
-use Rattle.cacache_sequence.proofs.Arriving.{content_bytes}
-use Rattle.cacache_sequence.proofs.ExportEffects.{exports_apart}
-use Rattle.cacache_sequence.proofs.Known.{Known, excuse, known}
-use Rattle.cacache_sequence.proofs.ReadsStay.{opening_keeps, piece_keeps, reading_keeps}
-use Rattle.cacache_sequence.proofs.Removed.{over_run}
-use Rattle.cacache_sequence.proofs.RemovedKeys.{found_held}
-use Rattle.cacache_sequence.proofs.Sharing.{content_stands, hard_linked, reflinked}
-use Rattle.cacache_sequence.proofs.WrittenFiles.{copied}
+use Rattle.cacache_table.specs.declared.command.Source.TheVariants as sources
+use Rattle.cacache_table.specs.declared.reply.Reply.TheVariants as replies
+use Rattle.cacache_value.{specs.{Acts.{list_of}, Shows.{ShowsBucket, ShowsContent, blob_bytes}, Value.{value_of_tree}}, proofs.Shows.{trees_show}}
+use Rattle.cacache_history.{specs.{History.{turn_of}, Setup.{call_site}}, proofs.{Holding.{TurnHolds}, ShownTurns.{bucket_below, content_below}}}
+use Rattle.cacache_sequence.specs.{CallErrors.{FailsOnly}, Caches.{IsCache, HasContent, HasKey, setup_at}, Exported.{Arrives, ExportsArrive, export_by}, Sequence.{AreAnswered, tree_on}}
+use Rattle.cacache_sequence.proofs.{Arriving.{content_bytes}, ExportEffects.{exports_apart}, Known.{Known, excuse, known}, ReadsStay.{opening_keeps, piece_keeps, reading_keeps}, Removed.{over_run}, RemovedKeys.{found_held}, Sharing.{content_stands, hard_linked, reflinked}, WrittenFiles.{copied}}
 
 -- ---- the content
 

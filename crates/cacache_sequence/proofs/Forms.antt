@@ -1,10 +1,6 @@
 -- An entry without metadata is well-formed, and can be written.
-use Rattle.std.proofs.Common.{◌≡◌, ℕ, ◌<◌, ◌^◌, List, Option, None}
-use Rattle.std.specs.Prelude.{IsUtf8}
-use Rattle.cacache_entry.specs.Entry.{Entry}
-use Rattle.cacache_entry.specs.FittingEntries.{IsUtf8IfAny, IsEntry, cause_of}
-use Rattle.cacache_entry.specs.EntryLaws.{bare_entry}
-use Rattle.cacache_entry.proofs.EntryCauses.{no_cause_is_fit, bare_entries_fit}
+use Rattle.std.{proofs.Common.{◌≡◌, ℕ, ◌<◌, ◌^◌, List, Option, None}, specs.Prelude.{IsUtf8}}
+use Rattle.cacache_entry.{specs.{Entry.{Entry}, FittingEntries.{IsUtf8IfAny, IsEntry, cause_of}, EntryLaws.{bare_entry}}, proofs.EntryCauses.{no_cause_is_fit, bare_entries_fit}}
 
 -- what is so of an entry that can be written
 pub record Written (e : Entry) : Type 0 where

@@ -1,28 +1,15 @@
 -- What the first deed of a call finds was there before the call.
 use Rattle.std.proofs.Common.{◌≡◌, true, List, [], ◌∷◌, ◌++◌, Option, None, Some, Ok, refl, sym, ap, subst, ◌∙◌, append_assoc}
-use Rattle.cacache_core.specs.declared.integrity.digest.Hash.{Hash}
-use Rattle.cacache_core.specs.Integrity.{IsHash}
+use Rattle.cacache_core.specs.{declared.integrity.digest.Hash.{Hash}, Integrity.{IsHash}}
 use Rattle.cacache_store.specs.declared.store.step.Step.TheVariants as steps
 use Rattle.cacache_store.specs.declared.store.answer.Answer.TheVariants as answers
 use Rattle.cacache_store.specs.Plain.{PlainStep, PlainAnswer}
-use Rattle.cacache_disk.specs.declared.luck.Luck.TheVariants.{Plain}
-use Rattle.cacache_disk.specs.Tree.{Tree}
-use Rattle.cacache_disk.specs.Apply.{apply}
-use Rattle.cacache_table.specs.Answers.{there_in}
-use Rattle.cacache_table.specs.StepPaths.{content_path}
-use Rattle.cacache_table.specs.Runs.{Moves}
-use Rattle.cacache_value.specs.Value.{Blob, Value, wide_value, value_of_tree}
-use Rattle.cacache_value.specs.Shows.{blob_there}
-use Rattle.cacache_value.specs.Acts.{Act, Nothing, PutBytes, PutLink, AddEntries, Drop, MakeFolders, DropFolder, act_of, change}
-use Rattle.cacache_value.specs.Placed.{Placed}
-use Rattle.cacache_value.specs.Traces.{IsTrace}
+use Rattle.cacache_disk.specs.{declared.luck.Luck.TheVariants.{Plain}, Tree.{Tree}, Apply.{apply}}
+use Rattle.cacache_table.specs.{Answers.{there_in}, StepPaths.{content_path}, Runs.{Moves}}
+use Rattle.cacache_value.specs.{Value.{Blob, Value, wide_value, value_of_tree}, Shows.{blob_there}, Acts.{Act, Nothing, PutBytes, PutLink, AddEntries, Drop, MakeFolders, DropFolder, act_of, change}, Placed.{Placed}, Traces.{IsTrace}}
 use Rattle.cacache_value.proofs.Traces.{steps_act, steps_keep_placed}
-use Rattle.cacache_history.specs.Setup.{Setup, home}
-use Rattle.cacache_history.specs.History.{turn_of}
-use Rattle.cacache_history.specs.Commits.{Deed, finds, deeds_of_act, finds_in, deeds}
-use Rattle.cacache_history.specs.Values.{IsThere}
-use Rattle.cacache_history.proofs.Holding.{TurnHolds, TurnsHold}
-use Rattle.cacache_history.proofs.ShownTurns.{there_at}
+use Rattle.cacache_history.specs.{Setup.{Setup, home}, History.{turn_of}, Commits.{Deed, finds, deeds_of_act, finds_in, deeds}, Values.{IsThere}}
+use Rattle.cacache_history.proofs.{Holding.{TurnHolds, TurnsHold}, ShownTurns.{there_at}}
 use Rattle.cacache_sequence.specs.Sequence.{turns_on, plain_moves}
 
 -- what an answer of yes is about

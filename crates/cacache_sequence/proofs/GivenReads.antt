@@ -1,30 +1,16 @@
 -- What reads answer in any cache, be the content there or not, whole or damaged.
 use Rattle.std.proofs.Common.{◌≡◌, ℕ, Bool, true, false, cond, List, [], Option, None, Some, Result, Ok, Err, refl, sym, ap, subst, ◌∙◌}
-use Rattle.cacache_core.specs.declared.errors.Error.TheVariants.{EntryNotFound, SizeMismatch, IoError, SerdeError, IntegrityError, OutOfMemory}
-use Rattle.cacache_core.specs.declared.errors.Fault.{Fault}
-use Rattle.cacache_core.specs.declared.errors.IntegrityFault.TheVariants.{Check}
-use Rattle.cacache_core.specs.declared.integrity.digest.Hash.{Hash}
-use Rattle.cacache_core.specs.Integrity.{Meets, actual}
-use Rattle.cacache_core.specs.Meeting.{meets}
-use Rattle.cacache_core.specs.PathNames.{home_of}
+use Rattle.cacache_core.specs.{declared.{errors.{Error.TheVariants.{EntryNotFound, SizeMismatch, IoError, SerdeError, IntegrityError, OutOfMemory}, Fault.{Fault}, IntegrityFault.TheVariants.{Check}}, integrity.digest.Hash.{Hash}}, Integrity.{Meets, actual}, Meeting.{meets}, PathNames.{home_of}}
 use Rattle.cacache_core.proofs.Meeting.{meets_finds}
 use Rattle.cacache_store.specs.declared.store.log.LogItem.{LogItem}
 use Rattle.cacache_memory.specs.Replay.{tree_of}
 use Rattle.cacache_entry.specs.Latest.{Found}
-use Rattle.cacache_table.specs.declared.command.Command.{Command}
+use Rattle.cacache_table.specs.{declared.{command.Command.{Command}, reply.Reply.{Reply}}, Causes.{own_of}, Replies.{content_reply}, Runs.{plain_reply}}
 use Rattle.cacache_table.specs.declared.command.Command.TheVariants as commands
-use Rattle.cacache_table.specs.declared.reply.Reply.{Reply}
 use Rattle.cacache_table.specs.declared.reply.Reply.TheVariants as replies
-use Rattle.cacache_table.specs.Causes.{own_of}
-use Rattle.cacache_table.specs.Replies.{content_reply}
-use Rattle.cacache_table.specs.Runs.{plain_reply}
 use Rattle.cacache_history.specs.ShownTurns.{as_refusal}
-use Rattle.cacache_sequence.specs.Caches.{IsExcused, setup_at}
-use Rattle.cacache_sequence.specs.Keeping.{found_under}
-use Rattle.cacache_sequence.specs.Looks.{bytes_under, GivesHeld, ContentReadsGive, GivesOfKey, KeyReadsGive}
-use Rattle.cacache_sequence.specs.ReadAnswers.{UnlessFailed, read_on, get_on}
-use Rattle.cacache_sequence.proofs.Known.{Known, known, excuse}
-use Rattle.cacache_sequence.proofs.ReadsKeep.{answered}
+use Rattle.cacache_sequence.specs.{Caches.{IsExcused, setup_at}, Keeping.{found_under}, Looks.{bytes_under, GivesHeld, ContentReadsGive, GivesOfKey, KeyReadsGive}, ReadAnswers.{UnlessFailed, read_on, get_on}}
+use Rattle.cacache_sequence.proofs.{Known.{Known, known, excuse}, ReadsKeep.{answered}}
 
 -- ---- what is to be answered
 

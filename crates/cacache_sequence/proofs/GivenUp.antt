@@ -1,42 +1,19 @@
 -- The removal of a temporary file leaves what the cache holds.
 use Rattle.std.proofs.Common.{◌≡◌, inl, inr, ℕ, Bool, true, false, cond, List, [], ◌∷◌, ◌++◌, Option, None, Result, Ok, Err, refl, sym, ap, subst, ◌∙◌, append-nil}
 use Rattle.std.specs.Prelude.{IfOk}
-use Rattle.cacache_core.specs.declared.errors.Fault.{Fault}
-use Rattle.cacache_core.specs.Paths.{content_names, bucket_names_of}
-use Rattle.cacache_core.specs.PathNames.{Names, home_of, names_of}
+use Rattle.cacache_core.specs.{declared.errors.Fault.{Fault}, Paths.{content_names, bucket_names_of}, PathNames.{Names, home_of, names_of}}
 use Rattle.cacache_store.specs.declared.store.answer.Answer.TheVariants as answers
-use Rattle.cacache_store.specs.declared.store.log.LogItem.{LogItem}
+use Rattle.cacache_store.specs.{declared.store.log.LogItem.{LogItem}, Plain.{PlainAnswer}}
 use Rattle.cacache_store.specs.declared.store.step.Step.TheVariants as steps
-use Rattle.cacache_store.specs.Plain.{PlainAnswer}
-use Rattle.cacache_disk.specs.declared.luck.Luck.TheVariants.{Plain}
-use Rattle.cacache_disk.specs.Tree.{Tree}
-use Rattle.cacache_disk.specs.Apply.{apply}
-use Rattle.cacache_disk.proofs.KeptFolders.{steps_keep_rooted}
+use Rattle.cacache_disk.{specs.{declared.luck.Luck.TheVariants.{Plain}, Tree.{Tree}, Apply.{apply}}, proofs.KeptFolders.{steps_keep_rooted}}
 use Rattle.cacache_memory.specs.Replay.{tree_of}
 use Rattle.cacache_table.specs.declared.command.Command.TheVariants as commands
-use Rattle.cacache_table.specs.Runs.{Moves}
-use Rattle.cacache_table.specs.StepPaths.{temp_path}
-use Rattle.cacache_value.specs.Acts.{Act, Drop, act_at, act_if_done, list_of}
-use Rattle.cacache_value.specs.Kinds.{Content, Bucket, Temporary, IsFor, is_path_of, path_kind}
-use Rattle.cacache_value.specs.Value.{Value, value_of_tree}
-use Rattle.cacache_value.proofs.KindsApart.{unseen}
-use Rattle.cacache_value.proofs.PathKinds.{paths_are_for}
-use Rattle.cacache_value.proofs.Traces.{steps_keep_placed, traces_act}
-use Rattle.cacache_history.specs.Commits.{deeds, deeds_of_act}
-use Rattle.cacache_history.proofs.Formed.{step_formed}
-use Rattle.cacache_history.proofs.Keyed.{step_keyed}
-use Rattle.cacache_history.proofs.Owned.{step_own}
-use Rattle.cacache_history.proofs.Righted.{stays_right}
-use Rattle.cacache_sequence.specs.Caches.{IsCache, setup_at}
-use Rattle.cacache_sequence.specs.GivenUp.{GivingUpLasts, drop_temp}
-use Rattle.cacache_sequence.specs.OpenWriters.{LeavesKnownCache}
-use Rattle.cacache_sequence.specs.Sequence.{Alike, IsSound, after_deeds, plain_moves, turns_on}
-use Rattle.cacache_sequence.proofs.InParts.{logs_lead}
-use Rattle.cacache_sequence.proofs.KeptKeys.{stays_known}
-use Rattle.cacache_sequence.proofs.Looked.{same_stays_known}
-use Rattle.cacache_sequence.proofs.OpenWriters.{gains_grow}
-use Rattle.cacache_sequence.proofs.Logs.{some_same}
-use Rattle.cacache_sequence.proofs.Sequence.{moves_after, moves_follow}
+use Rattle.cacache_table.specs.{Runs.{Moves}, StepPaths.{temp_path}}
+use Rattle.cacache_value.specs.{Acts.{Act, Drop, act_at, act_if_done, list_of}, Kinds.{Content, Bucket, Temporary, IsFor, is_path_of, path_kind}, Value.{Value, value_of_tree}}
+use Rattle.cacache_value.proofs.{KindsApart.{unseen}, PathKinds.{paths_are_for}, Traces.{steps_keep_placed, traces_act}}
+use Rattle.cacache_history.{specs.Commits.{deeds, deeds_of_act}, proofs.{Formed.{step_formed}, Keyed.{step_keyed}, Owned.{step_own}, Righted.{stays_right}}}
+use Rattle.cacache_sequence.specs.{Caches.{IsCache, setup_at}, GivenUp.{GivingUpLasts, drop_temp}, OpenWriters.{LeavesKnownCache}, Sequence.{Alike, IsSound, after_deeds, plain_moves, turns_on}}
+use Rattle.cacache_sequence.proofs.{InParts.{logs_lead}, KeptKeys.{stays_known}, Looked.{same_stays_known}, OpenWriters.{gains_grow}, Logs.{some_same}, Sequence.{moves_after, moves_follow}}
 
 -- ---- what a removal does
 

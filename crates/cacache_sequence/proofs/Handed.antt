@@ -1,31 +1,16 @@
 -- What goes through a handle itself counts as steps of its call.
-use Rattle.std.proofs.Common.{◌≡◌, inl, inr, ◌==◌, ℕ, Bool, true, false, cond, List, [], ◌∷◌, ◌++◌, Option, Some, length, take, drop, refl, sym, ap, subst, ◌∙◌, append-nil, append_assoc, arith, eqb-true}
-use Rattle.std.proofs.lemmas.Bool.{eq-eqb}
-use Rattle.cacache_history.specs.Commits.{deeds}
-use Rattle.std.proofs.Math.Seq.{drop-length}
-use Rattle.std.proofs.lemmas.List.{take_all}
+use Rattle.std.proofs.{Common.{◌≡◌, inl, inr, ◌==◌, ℕ, Bool, true, false, cond, List, [], ◌∷◌, ◌++◌, Option, Some, length, take, drop, refl, sym, ap, subst, ◌∙◌, append-nil, append_assoc, arith, eqb-true}, lemmas.{Bool.{eq-eqb}, List.{take_all}}, Math.Seq.{drop-length}}
+use Rattle.cacache_history.specs.{Commits.{deeds}, Setup.{Setup, home}}
 use Rattle.cacache_core.specs.declared.errors.Fault.{Fault}
 use Rattle.cacache_core.specs.declared.errors.Fault.TheVariants as faults
-use Rattle.cacache_store.specs.declared.store.plain.PlainFile.{PlainFile}
-use Rattle.cacache_store.specs.declared.store.plain.PlainTemp.{PlainTemp}
+use Rattle.cacache_store.specs.{declared.store.plain.{PlainFile.{PlainFile}, PlainTemp.{PlainTemp}}, Fits.{Fits}, Plain.{PlainAnswer}}
 use Rattle.cacache_store.specs.declared.store.step.Step.TheVariants as steps
 use Rattle.cacache_store.specs.declared.store.answer.Answer.TheVariants as answers
-use Rattle.cacache_disk.specs.declared.luck.Luck.TheVariants.{Plain}
-use Rattle.cacache_disk.specs.Tree.{Tree}
-use Rattle.cacache_disk.specs.Apply.{apply, given, grown, rest_of, opened}
-use Rattle.cacache_table.specs.Causes.{Faulted, Faults}
-use Rattle.cacache_table.specs.Common.{fails}
-use Rattle.cacache_table.specs.Runs.{Moves, Goes}
-use Rattle.cacache_table.specs.State.{Hashing, hashing}
-use Rattle.cacache_table.specs.Storing.{persist, write_rest}
-use Rattle.cacache_table.specs.Table.{piece, after}
+use Rattle.cacache_disk.specs.{declared.luck.Luck.TheVariants.{Plain}, Tree.{Tree}, Apply.{apply, given, grown, rest_of, opened}}
+use Rattle.cacache_table.specs.{Causes.{Faulted, Faults}, Common.{fails}, Runs.{Moves, Goes}, State.{Hashing, hashing}, Storing.{persist, write_rest}, Table.{piece, after}}
 use Rattle.cacache_table.proofs.Branches.{cond_leads}
-use Rattle.cacache_history.specs.Setup.{Setup, home}
-use Rattle.cacache_sequence.specs.Sequence.{IsSound}
-use Rattle.cacache_sequence.specs.InParts.{Begun, IsOnItsWay, Part, took, moves_in, turns_in, AreParts, ReadsAreParts, WritesAreParts}
+use Rattle.cacache_sequence.specs.{Sequence.{IsSound}, InParts.{Begun, IsOnItsWay, Part, took, moves_in, turns_in, AreParts, ReadsAreParts, WritesAreParts}}
 use Rattle.cacache_sequence.proofs.InParts.{with_parts, with_part_goes}
-use Rattle.cacache_store.specs.Fits.{Fits}
-use Rattle.cacache_store.specs.Plain.{PlainAnswer}
 
 -- ---- bytes that a writer handed to its file
 

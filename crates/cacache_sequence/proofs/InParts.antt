@@ -1,39 +1,18 @@
 -- A call that is made in parts holds at each of them, and answers as a whole call.
-use Rattle.std.proofs.Common.{◌≡◌, inl, inr, ℕ, List, [], ◌∷◌, ◌++◌, None, Some, refl, sym, ap, subst, ◌∙◌, append-nil, append_assoc}
-use Rattle.std.specs.Prelude.{map}
+use Rattle.std.{proofs.Common.{◌≡◌, inl, inr, ℕ, List, [], ◌∷◌, ◌++◌, None, Some, refl, sym, ap, subst, ◌∙◌, append-nil, append_assoc}, specs.Prelude.{map}}
 use Rattle.cacache_core.specs.declared.errors.Error.TheVariants.{OutOfMemory}
-use Rattle.cacache_store.specs.declared.store.log.LogItem.TheVariants.{Made}
-use Rattle.cacache_store.specs.declared.store.plain.PlainFile.{PlainFile}
+use Rattle.cacache_store.specs.declared.store.{log.LogItem.TheVariants.{Made}, plain.PlainFile.{PlainFile}}
 use Rattle.cacache_store.specs.declared.store.step.Step.TheVariants as steps
-use Rattle.cacache_disk.specs.declared.luck.Luck.TheVariants.{Plain, Take}
-use Rattle.cacache_disk.specs.Tree.{Tree, bare}
-use Rattle.cacache_disk.specs.Apply.{apply, given}
+use Rattle.cacache_disk.specs.{declared.luck.Luck.TheVariants.{Plain, Take}, Tree.{Tree, bare}, Apply.{apply, given}}
 use Rattle.cacache_memory.specs.Replay.{replay, IsReplayable, tree_of, IsLog}
-use Rattle.cacache_table.specs.declared.command.Command.{Command}
-use Rattle.cacache_table.specs.declared.reply.Reply.{Reply}
-use Rattle.cacache_table.specs.declared.reply.Reply.TheVariants.{Refused}
-use Rattle.cacache_table.specs.Runs.{Moves, Runs, Goes, plain_reply}
-use Rattle.cacache_table.specs.State.{State}
-use Rattle.cacache_table.specs.Table.{piece, after, opening}
-use Rattle.cacache_table.proofs.EarnedErrors.{io_errors_have_causes}
-use Rattle.cacache_table.proofs.Going.{goes_lost}
-use Rattle.cacache_value.specs.OpeningTrees.{LieApart}
-use Rattle.cacache_value.specs.Value.{value_of_tree}
-use Rattle.cacache_value.proofs.Traces.{traces_act}
-use Rattle.cacache_history.specs.Setup.{Setup, call_site, home}
-use Rattle.cacache_history.specs.History.{Turn, turn_of}
+use Rattle.cacache_table.specs.{declared.{command.Command.{Command}, reply.Reply.{Reply, TheVariants.{Refused}}}, Runs.{Moves, Runs, Goes, plain_reply}, State.{State}, Table.{piece, after, opening}}
+use Rattle.cacache_table.proofs.{EarnedErrors.{io_errors_have_causes}, Going.{goes_lost}}
+use Rattle.cacache_value.{specs.{OpeningTrees.{LieApart}, Value.{value_of_tree}}, proofs.Traces.{traces_act}}
+use Rattle.cacache_history.specs.{Setup.{Setup, call_site, home}, History.{Turn, turn_of}, Turns.{made_in, EachTurn}}
+use Rattle.cacache_history.proofs.{Bucketed.{KeyedTurn}, Holding.{CallHolds, TurnsHold, begins_hold, moved_holds}, Runs.{memory_plain}, TurnReplies.{reads_value}, Commits.{cases, plain_refused}}
 use Rattle.cacache_history.specs.History as histories
-use Rattle.cacache_history.specs.Turns.{made_in, EachTurn}
-use Rattle.cacache_history.proofs.Bucketed.{KeyedTurn}
-use Rattle.cacache_history.proofs.Holding.{CallHolds, TurnsHold, begins_hold, moved_holds}
-use Rattle.cacache_history.proofs.Runs.{memory_plain}
-use Rattle.cacache_history.proofs.TurnReplies.{reads_value}
-use Rattle.cacache_history.proofs.Commits.{cases, plain_refused}
-use Rattle.cacache_sequence.specs.Sequence.{tree_on, turns_on, AreAnswered, plain_moves, IsSound}
-use Rattle.cacache_sequence.specs.InParts.{Part, made, took, byte_read, moves_in, turns_in, AreParts, Begun, with_part, IsOnItsWay, Changes, AnswersInParts, LogsLead, CallsBegin, PartsGoOn, LeftAreCases, PartsAnswer}
-use Rattle.cacache_sequence.proofs.Found.{found_before}
-use Rattle.cacache_sequence.proofs.Replays.{replay_more, replayable_rest, moves_lead, moves_answered}
-use Rattle.cacache_sequence.proofs.Sequence.{alone, on_its_way, run_ends, turns_made, moves_after, RunHolds, run_holds, moves_follow, holds_alone, keeps_alone, sound_alone}
+use Rattle.cacache_sequence.specs.{Sequence.{tree_on, turns_on, AreAnswered, plain_moves, IsSound}, InParts.{Part, made, took, byte_read, moves_in, turns_in, AreParts, Begun, with_part, IsOnItsWay, Changes, AnswersInParts, LogsLead, CallsBegin, PartsGoOn, LeftAreCases, PartsAnswer}}
+use Rattle.cacache_sequence.proofs.{Found.{found_before}, Replays.{replay_more, replayable_rest, moves_lead, moves_answered}, Sequence.{alone, on_its_way, run_ends, turns_made, moves_after, RunHolds, run_holds, moves_follow, holds_alone, keeps_alone, sound_alone}}
 
 -- ---- the log
 

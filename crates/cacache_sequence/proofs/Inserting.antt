@@ -1,40 +1,18 @@
 -- What an insertion leaves in a cache.
-use Rattle.std.proofs.Common.{◌≡◌, ◌⊎◌, inl, inr, ℕ, List, [], ◌∷◌, ◌++◌, Option, None, Some, option_map, refl, sym, ap, subst, ◌∙◌, arith}
-use Rattle.std.specs.Prelude.{IfSome}
-use Rattle.cacache_core.specs.declared.errors.Error.{Error}
-use Rattle.cacache_core.specs.declared.errors.Error.TheVariants.{EntryNotFound, SizeMismatch, IoError, SerdeError, IntegrityError, OutOfMemory}
-use Rattle.cacache_core.specs.declared.errors.SerdeCause.{SerdeCause}
-use Rattle.cacache_core.specs.declared.integrity.digest.Hash.{Hash}
-use Rattle.cacache_core.specs.Integrity.{IsIntegrity}
-use Rattle.cacache_core.specs.PathNames.{home_of}
+use Rattle.std.{proofs.Common.{◌≡◌, ◌⊎◌, inl, inr, ℕ, List, [], ◌∷◌, ◌++◌, Option, None, Some, option_map, refl, sym, ap, subst, ◌∙◌, arith}, specs.Prelude.{IfSome}}
+use Rattle.cacache_core.specs.{declared.{errors.{Error.{Error, TheVariants.{EntryNotFound, SizeMismatch, IoError, SerdeError, IntegrityError, OutOfMemory}}, SerdeCause.{SerdeCause}}, integrity.digest.Hash.{Hash}}, Integrity.{IsIntegrity}, PathNames.{home_of}}
 use Rattle.cacache_core.proofs.Printed.{printed}
 use Rattle.cacache_store.specs.declared.store.log.LogItem.{LogItem}
 use Rattle.cacache_memory.specs.Replay.{tree_of}
-use Rattle.cacache_entry.specs.FittingEntries.{IsUtf8IfAny}
-use Rattle.cacache_entry.specs.Latest.{Found, found_of, answer_read, answer_of}
+use Rattle.cacache_entry.specs.{FittingEntries.{IsUtf8IfAny}, Latest.{Found, found_of, answer_read, answer_of}}
 use Rattle.cacache_table.specs.declared.command.Command.TheVariants as commands
-use Rattle.cacache_table.specs.declared.command.Insert.{Insert}
-use Rattle.cacache_table.specs.declared.reply.Reply.{Reply}
+use Rattle.cacache_table.specs.{declared.{command.Insert.{Insert}, reply.Reply.{Reply}}, Inserting.{insertion, given_or, given_text, no_integrity, refused_cause}, Promises.{Only}}
+use Rattle.cacache_table.proofs.{Promises.{calls_answer}, IntegrityUtf8.{integrity_utf8}}
 use Rattle.cacache_table.specs.declared.reply.Reply.TheVariants as replies
-use Rattle.cacache_table.specs.Inserting.{insertion, given_or, given_text, no_integrity, refused_cause}
-use Rattle.cacache_table.specs.Promises.{Only}
-use Rattle.cacache_table.proofs.Promises.{calls_answer}
 use Rattle.cacache_value.specs.Value.{value_of_tree}
-use Rattle.cacache_history.specs.Setup.{call_site}
-use Rattle.cacache_history.specs.Commits.{deeds, InsertionAdds, IsCase}
-use Rattle.cacache_table.proofs.IntegrityUtf8.{integrity_utf8}
-use Rattle.cacache_sequence.specs.Sequence.{turns_on, Alike, after_deeds}
-use Rattle.cacache_sequence.specs.ReadAnswers.{entries_on}
-use Rattle.cacache_sequence.specs.CallErrors.{FailsOnly}
-use Rattle.cacache_sequence.specs.Caches.{HasContent, HasKey, setup_at}
-use Rattle.cacache_sequence.specs.Keeping.{found_under}
-use Rattle.cacache_sequence.specs.Inserts.{leads_to, InsertsKey, InsertsLast, PlainInsertsFit, KeysJoin, NoneLacks}
-use Rattle.cacache_sequence.proofs.Stored.{inserts_add}
-use Rattle.cacache_sequence.proofs.CallErrors.{inserts_fail}
-use Rattle.cacache_sequence.proofs.Forms.{bare_written}
-use Rattle.cacache_sequence.proofs.KeptKeys.{adds_keep}
-use Rattle.cacache_sequence.proofs.Known.{Known, known, excuse}
-use Rattle.cacache_sequence.proofs.Looking.{finds_last}
+use Rattle.cacache_history.specs.{Setup.{call_site}, Commits.{deeds, InsertionAdds, IsCase}}
+use Rattle.cacache_sequence.specs.{Sequence.{turns_on, Alike, after_deeds}, ReadAnswers.{entries_on}, CallErrors.{FailsOnly}, Caches.{HasContent, HasKey, setup_at}, Keeping.{found_under}, Inserts.{leads_to, InsertsKey, InsertsLast, PlainInsertsFit, KeysJoin, NoneLacks}}
+use Rattle.cacache_sequence.proofs.{Stored.{inserts_add}, CallErrors.{inserts_fail}, Forms.{bare_written}, KeptKeys.{adds_keep}, Known.{Known, known, excuse}, Looking.{finds_last}}
 
 -- the entry that is added last is found
 leads : (cache : List ℕ) (i : Insert) (old new : List LogItem) → (given : Option (List Hash)) → i.options.integrity ≡ given → IfSome given IsIntegrity

@@ -1,29 +1,16 @@
 -- An added entry leaves what other keys lead to, and all contents.
-use Rattle.std.proofs.Common.{◌≡◌, inl, inr, ℕ, Bool, true, false, cond, List, [], ◌∷◌, ◌++◌, Option, None, Some, refl, sym, ap, ◌∙◌}
-use Rattle.std.specs.Prelude.{bytes_eq}
-use Rattle.std.specs.Option.{unwrap_or}
-use Rattle.std.proofs.lemmas.List.Sums.{fold-append}
-use Rattle.std.proofs.lemmas.Slice.Eq.{bytes_eq-Decides}
+use Rattle.std.proofs.{Common.{◌≡◌, inl, inr, ℕ, Bool, true, false, cond, List, [], ◌∷◌, ◌++◌, Option, None, Some, refl, sym, ap, ◌∙◌}, lemmas.{List.Sums.{fold-append}, Slice.Eq.{bytes_eq-Decides}}}
+use Rattle.std.specs.{Prelude.{bytes_eq}, Option.{unwrap_or}}
 use Rattle.sha1.specs.Sha1.{sha1}
-use Rattle.cacache_core.specs.declared.integrity.digest.Hash.{Hash}
-use Rattle.cacache_core.specs.Integrity.{address}
-use Rattle.cacache_core.specs.Paths.{bucket_names_of}
-use Rattle.cacache_core.specs.PathNames.{Names, home_of}
+use Rattle.cacache_core.specs.{declared.integrity.digest.Hash.{Hash}, Integrity.{address}, Paths.{bucket_names_of}, PathNames.{Names, home_of}}
 use Rattle.cacache_store.specs.declared.store.log.LogItem.{LogItem}
 use Rattle.cacache_disk.proofs.Roots.{not_true}
 use Rattle.cacache_memory.specs.Replay.{tree_of}
-use Rattle.cacache_entry.specs.Entry.{Entry}
-use Rattle.cacache_entry.specs.Latest.{answer_of, answer_to, after_entry, latest}
-use Rattle.cacache_table.specs.declared.reply.Reply.{Reply}
-use Rattle.cacache_table.specs.State.{Insertion}
-use Rattle.cacache_value.specs.Kinds.{is_path_of}
-use Rattle.cacache_value.specs.Value.{Value, value_of_tree}
-use Rattle.cacache_value.specs.Acts.{change, list_of}
-use Rattle.cacache_history.specs.ShownTurns.{blob_at}
-use Rattle.cacache_history.specs.Commits.{Deed, does, finds, IsAdded, InsertionAdds}
-use Rattle.cacache_sequence.specs.Sequence.{Alike, after_deeds}
-use Rattle.cacache_sequence.specs.Caches.{HasContent, HasKey, lies_under}
-use Rattle.cacache_sequence.specs.Keeping.{found_under, StaysKnown, KeepsOthers}
+use Rattle.cacache_entry.specs.{Entry.{Entry}, Latest.{answer_of, answer_to, after_entry, latest}}
+use Rattle.cacache_table.specs.{declared.reply.Reply.{Reply}, State.{Insertion}}
+use Rattle.cacache_value.specs.{Kinds.{is_path_of}, Value.{Value, value_of_tree}, Acts.{change, list_of}}
+use Rattle.cacache_history.specs.{ShownTurns.{blob_at}, Commits.{Deed, does, finds, IsAdded, InsertionAdds}}
+use Rattle.cacache_sequence.specs.{Sequence.{Alike, after_deeds}, Caches.{HasContent, HasKey, lies_under}, Keeping.{found_under, StaysKnown, KeepsOthers}}
 
 -- ---- lookups
 

@@ -1,26 +1,14 @@
 -- What is known of a call that was made on a cache in a store in memory.
 use Rattle.std.proofs.Common.{◌≡◌, inl, inr, ℕ, List, [], ◌++◌, map, refl, sym, subst}
-use Rattle.cacache_core.specs.declared.errors.Error.{Error}
-use Rattle.cacache_core.specs.declared.errors.Error.TheVariants.{EntryNotFound, SizeMismatch, IoError, SerdeError, IntegrityError, OutOfMemory}
-use Rattle.cacache_core.specs.declared.errors.Fault.{Fault}
-use Rattle.cacache_core.specs.PathNames.{home_of}
-use Rattle.cacache_store.specs.declared.store.log.LogItem.{LogItem}
-use Rattle.cacache_store.specs.declared.store.log.LogItem.TheVariants.{Made}
+use Rattle.cacache_core.specs.{declared.errors.{Error.{Error, TheVariants.{EntryNotFound, SizeMismatch, IoError, SerdeError, IntegrityError, OutOfMemory}}, Fault.{Fault}}, PathNames.{home_of}}
+use Rattle.cacache_store.specs.declared.store.log.LogItem.{LogItem, TheVariants.{Made}}
 use Rattle.cacache_disk.specs.Tree.{bare}
 use Rattle.cacache_memory.specs.Replay.{tree_of}
-use Rattle.cacache_table.specs.declared.command.Command.{Command}
-use Rattle.cacache_table.specs.declared.reply.Reply.{Reply}
+use Rattle.cacache_table.specs.{declared.{command.Command.{Command}, reply.Reply.{Reply}}, Causes.{HasCause, own_of}, Runs.{Moves, Runs, plain_reply}, Sound.{MayBegin}, Table.{opening}}
 use Rattle.cacache_table.specs.declared.reply.Reply.TheVariants as replies
-use Rattle.cacache_table.specs.Causes.{HasCause, own_of}
-use Rattle.cacache_table.specs.Runs.{Moves, Runs, plain_reply}
-use Rattle.cacache_table.specs.Sound.{MayBegin}
-use Rattle.cacache_table.specs.Table.{opening}
 use Rattle.cacache_value.proofs.OpeningTrees.{files_open}
-use Rattle.cacache_history.specs.Setup.{call_site, may_export, is_outside}
-use Rattle.cacache_history.specs.History.{NamesIntegrity}
-use Rattle.cacache_sequence.specs.Sequence.{SequenceCall, IsMadeOn, tree_on, CallIsAnswered}
-use Rattle.cacache_sequence.specs.CallErrors.{FailsOnly}
-use Rattle.cacache_sequence.specs.Caches.{IsCache, IsExcused, Called, setup_at, FreshIsEmpty, CachesLast}
+use Rattle.cacache_history.specs.{Setup.{call_site, may_export, is_outside}, History.{NamesIntegrity}}
+use Rattle.cacache_sequence.specs.{Sequence.{SequenceCall, IsMadeOn, tree_on, CallIsAnswered}, CallErrors.{FailsOnly}, Caches.{IsCache, IsExcused, Called, setup_at, FreshIsEmpty, CachesLast}}
 use Rattle.cacache_sequence.proofs.Sequence.{openings_are_sound, calls_answer_alone}
 
 pub fresh_is_empty : FreshIsEmpty

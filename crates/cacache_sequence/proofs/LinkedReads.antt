@@ -1,17 +1,11 @@
 -- Where a link lies, a read shows what its target shows.
 use Rattle.std.proofs.Common.{◌≡◌, ℕ, zero, suc, List, Option, None, Some, Result, Ok, Err, refl, sym, ap, ◌∙◌}
-use Rattle.cacache_core.specs.declared.errors.Fault.{Fault}
+use Rattle.cacache_core.specs.{declared.errors.Fault.{Fault}, PathNames.{Names}}
 use Rattle.cacache_core.specs.declared.errors.Fault.TheVariants as faults
-use Rattle.cacache_core.specs.PathNames.{Names}
 use Rattle.cacache_store.specs.declared.store.answer.Answer.TheVariants as answers
-use Rattle.cacache_disk.specs.declared.node.Node.{Node}
-use Rattle.cacache_disk.specs.declared.node.Node.TheVariants.{Folder, File, Link}
-use Rattle.cacache_disk.specs.Apply.{apply, unless}
-use Rattle.cacache_disk.specs.LedTo.{and_then, bytes_there, file_at, followed, leads, on_link, place, standing, where_there}
-use Rattle.cacache_disk.specs.Tree.{Tree, look}
+use Rattle.cacache_disk.specs.{declared.node.Node.{Node, TheVariants.{Folder, File, Link}}, Apply.{apply, unless}, LedTo.{and_then, bytes_there, file_at, followed, leads, on_link, place, standing, where_there}, Tree.{Tree, look}}
 use Rattle.cacache_memory.specs.Replay.{bytes_told, shown, tree_of}
-use Rattle.cacache_value.specs.Shows.{blob_bytes, link_end}
-use Rattle.cacache_value.specs.Value.{AtLink}
+use Rattle.cacache_value.specs.{Shows.{blob_bytes, link_end}, Value.{AtLink}}
 use Rattle.cacache_sequence.specs.Looks.{LinksShow}
 
 module _ (t : Tree) where

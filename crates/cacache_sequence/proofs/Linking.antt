@@ -1,68 +1,23 @@
 -- What a link leaves: its bytes are those that the target shows, and its deeds are those of its commit.
-use Rattle.std.proofs.Common.{◌≡◌, ◌⊎◌, inl, inr, ℕ, Bool, true, false, cond, List, [], ◌∷◌, ◌++◌, ◌||◌, Option, None, Some, Result, Ok, Err, length, map, refl, sym, ap, subst, ◌∙◌}
-use Rattle.std.proofs.lemmas.List.Elements.{All-head}
+use Rattle.std.proofs.{Common.{◌≡◌, ◌⊎◌, inl, inr, ℕ, Bool, true, false, cond, List, [], ◌∷◌, ◌++◌, ◌||◌, Option, None, Some, Result, Ok, Err, length, map, refl, sym, ap, subst, ◌∙◌}, lemmas.List.Elements.{All-head}}
 use Rattle.sha1.specs.Sha1.{sha1}
-use Rattle.cacache_core.specs.declared.errors.Error.TheVariants.{IoError}
-use Rattle.cacache_core.specs.declared.errors.Fault.{Fault}
+use Rattle.cacache_core.specs.{declared.{errors.{Error.TheVariants.{IoError}, Fault.{Fault}}, integrity.digest.Hash.{Hash}}, Integrity.{IsHash, IsIntegrity}, PathNames.{Names, home_of, names_of}, Paths.{content_names}}
 use Rattle.cacache_core.specs.declared.errors.Fault.TheVariants as faults
-use Rattle.cacache_core.specs.declared.integrity.digest.Hash.{Hash}
-use Rattle.cacache_core.specs.Integrity.{IsHash, IsIntegrity}
-use Rattle.cacache_core.specs.PathNames.{Names, home_of, names_of}
-use Rattle.cacache_core.specs.Paths.{content_names}
 use Rattle.cacache_store.specs.declared.store.answer.Answer.TheVariants as answers
-use Rattle.cacache_store.specs.declared.store.log.LogItem.{LogItem}
-use Rattle.cacache_store.specs.declared.store.log.LogItem.TheVariants.{Made}
-use Rattle.cacache_store.specs.declared.store.plain.PlainFile.{PlainFile}
+use Rattle.cacache_store.specs.declared.store.{log.LogItem.{LogItem, TheVariants.{Made}}, plain.PlainFile.{PlainFile}}
 use Rattle.cacache_store.specs.declared.store.step.Step.TheVariants as steps
-use Rattle.cacache_disk.specs.declared.luck.Luck.TheVariants.{Plain}
-use Rattle.cacache_disk.specs.Tree.{Tree}
-use Rattle.cacache_disk.specs.Apply.{apply, opened, unless}
-use Rattle.cacache_disk.specs.LedTo.{file_at, leads, place}
-use Rattle.cacache_disk.proofs.Roots.{same_self}
+use Rattle.cacache_disk.{specs.{declared.luck.Luck.TheVariants.{Plain}, Tree.{Tree}, Apply.{apply, opened, unless}, LedTo.{file_at, leads, place}}, proofs.Roots.{same_self}}
 use Rattle.cacache_memory.specs.Replay.{bytes_told, shown, tree_of}
 use Rattle.cacache_entry.specs.Latest.{latest}
 use Rattle.cacache_table.specs.declared.command.Command.TheVariants as commands
-use Rattle.cacache_table.specs.declared.command.Link.{Link}
-use Rattle.cacache_table.specs.declared.command.Put.{Put}
-use Rattle.cacache_table.specs.declared.reply.Reply.{Reply}
-use Rattle.cacache_table.specs.declared.reply.Reply.TheVariants as replies
-use Rattle.cacache_table.specs.Linking.{based, commit_for, link_target, with_size}
-use Rattle.cacache_table.specs.Promises.{Stores}
-use Rattle.cacache_table.specs.Runs.{Moves, Runs}
-use Rattle.cacache_table.specs.Sound.{SoundTarget}
-use Rattle.cacache_table.specs.StepPaths.{content_path}
-use Rattle.cacache_table.specs.Storing.{insertion_of, put_commit}
-use Rattle.cacache_table.specs.State.{sizing}
-use Rattle.cacache_table.specs.Table.{after, opening}
-use Rattle.cacache_table.specs.declared.target.Target.{Target}
+use Rattle.cacache_table.specs.{declared.{command.{Link.{Link}, Put.{Put}}, reply.Reply.{Reply}, target.Target.{Target}}, Linking.{based, commit_for, link_target, with_size}, Promises.{Stores}, Runs.{Moves, Runs}, Sound.{SoundTarget}, StepPaths.{content_path}, Storing.{insertion_of, put_commit}, State.{sizing}, Table.{after, opening}}
 use Rattle.cacache_table.proofs.Verifying.{links_read_whole}
-use Rattle.cacache_value.specs.Acts.{PutLink, change, list_of}
-use Rattle.cacache_value.specs.Kinds.{is_path_of}
-use Rattle.cacache_value.specs.Value.{AtLink, Blob, Value, value_of_tree}
-use Rattle.cacache_history.specs.Commits.{AddsAfter, CommitsAs, Deed, IsNotOk, InsertionAdds, LinksTo, PutsContent, ReadsTarget, deeds, does, finds}
-use Rattle.cacache_history.specs.Setup.{Setup, call_site, same_place}
-use Rattle.cacache_history.specs.Values.{IsThere}
-use Rattle.cacache_history.proofs.Digests.{digest_hash}
-use Rattle.cacache_history.proofs.OpenedContents.{EachAsks, OnDisks, gives_all, run_asks}
-use Rattle.cacache_history.proofs.Righted.{one_address}
-use Rattle.cacache_history.proofs.ShownTurns.{content_below}
-use Rattle.cacache_sequence.specs.Beside.{IsOther, ShareAddress, own_integrity}
-use Rattle.cacache_sequence.specs.Caches.{Called, HasContent, IsCache, lies_under, setup_at}
-use Rattle.cacache_sequence.specs.Keeping.{found_under}
-use Rattle.cacache_sequence.specs.ExportEffects.{IsApart}
-use Rattle.cacache_sequence.specs.Links.{FitsLink, KeepsBesideLink, LeavesLink, LinksLast, put_like}
-use Rattle.cacache_sequence.specs.Puts.{ExpectsIntegrity, LeadsToPut, MayLeadToPut, stored_as}
-use Rattle.cacache_sequence.specs.Sequence.{Alike, AreAnswered, CallIsAnswered, IsMadeOn, IsSound, SequenceCall, after_deeds, tree_on, turns_on}
-use Rattle.cacache_sequence.specs.Stored.{own_hash}
-use Rattle.cacache_sequence.proofs.Beside.{later_contents, later_lookups}
-use Rattle.cacache_sequence.proofs.KeptKeys.{alike_lookup}
-use Rattle.cacache_sequence.proofs.Logs.{some_same}
-use Rattle.cacache_sequence.proofs.Puts.{led_by}
-use Rattle.cacache_sequence.proofs.InParts.{logs_lead}
-use Rattle.cacache_sequence.proofs.ReadsStay.{sizing_keeps}
-use Rattle.cacache_sequence.proofs.Removed.{over_run}
-use Rattle.cacache_sequence.proofs.Sequence.{calls_answer_alone, turns_made}
-use Rattle.cacache_sequence.proofs.Stored.{adds_entry, below_is, first_deed, new_blob}
+use Rattle.cacache_table.specs.declared.reply.Reply.TheVariants as replies
+use Rattle.cacache_value.specs.{Acts.{PutLink, change, list_of}, Kinds.{is_path_of}, Value.{AtLink, Blob, Value, value_of_tree}}
+use Rattle.cacache_history.specs.{Commits.{AddsAfter, CommitsAs, Deed, IsNotOk, InsertionAdds, LinksTo, PutsContent, ReadsTarget, deeds, does, finds}, Setup.{Setup, call_site, same_place}, Values.{IsThere}}
+use Rattle.cacache_history.proofs.{Digests.{digest_hash}, OpenedContents.{EachAsks, OnDisks, gives_all, run_asks}, Righted.{one_address}, ShownTurns.{content_below}}
+use Rattle.cacache_sequence.specs.{Beside.{IsOther, ShareAddress, own_integrity}, Caches.{Called, HasContent, IsCache, lies_under, setup_at}, Keeping.{found_under}, ExportEffects.{IsApart}, Links.{FitsLink, KeepsBesideLink, LeavesLink, LinksLast, put_like}, Puts.{ExpectsIntegrity, LeadsToPut, MayLeadToPut, stored_as}, Sequence.{Alike, AreAnswered, CallIsAnswered, IsMadeOn, IsSound, SequenceCall, after_deeds, tree_on, turns_on}, Stored.{own_hash}}
+use Rattle.cacache_sequence.proofs.{Beside.{later_contents, later_lookups}, KeptKeys.{alike_lookup}, Logs.{some_same}, Puts.{led_by}, InParts.{logs_lead}, ReadsStay.{sizing_keeps}, Removed.{over_run}, Sequence.{calls_answer_alone, turns_made}, Stored.{adds_entry, below_is, first_deed, new_blob}}
 
 -- ---- the bytes that the target shows
 

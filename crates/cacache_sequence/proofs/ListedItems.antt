@@ -1,15 +1,8 @@
 -- Items of a listing, and the entries of a bucket among them.
-use Rattle.std.proofs.Common.{◌≡◌, ◌⊎◌, inl, inr, ℕ, zero, suc, Bool, true, false, cond, List, [], ◌∷◌, ◌++◌, Option, None, Some, Ok, Err, option_map, map, take, fold, refl, sym, ap, subst, ◌∙◌}
-use Rattle.std.specs.Prelude.{All, bytes_eq, unwrap_or}
-use Rattle.std.specs.List.{filter_map, cons_option}
-use Rattle.std.proofs.lemmas.List.Elements.{All-nil, All-cons, All-head, All-tail, All-append, All-take}
-use Rattle.std.proofs.lemmas.Slice.Eq.{bytes_eq-Decides}
-use Rattle.cacache_entry.specs.Entry.{Entry}
-use Rattle.cacache_entry.specs.Latest.{Found, answer_of, after_entry, latest}
-use Rattle.cacache_table.specs.ListReplies.{In, keys_of, too_deep}
-use Rattle.cacache_table.specs.State.{Item}
-use Rattle.cacache_table.specs.Walking.{once, items_of}
-use Rattle.cacache_table.proofs.Keys.{each_key_once}
+use Rattle.std.proofs.{Common.{◌≡◌, ◌⊎◌, inl, inr, ℕ, zero, suc, Bool, true, false, cond, List, [], ◌∷◌, ◌++◌, Option, None, Some, Ok, Err, option_map, map, take, fold, refl, sym, ap, subst, ◌∙◌}, lemmas.{List.Elements.{All-nil, All-cons, All-head, All-tail, All-append, All-take}, Slice.Eq.{bytes_eq-Decides}}}
+use Rattle.std.specs.{Prelude.{All, bytes_eq, unwrap_or}, List.{filter_map, cons_option}}
+use Rattle.cacache_entry.specs.{Entry.{Entry}, Latest.{Found, answer_of, after_entry, latest}}
+use Rattle.cacache_table.{specs.{ListReplies.{In, keys_of, too_deep}, State.{Item}, Walking.{once, items_of}}, proofs.Keys.{each_key_once}}
 use Rattle.cacache_history.specs.ListingTurns.{OtherKey, NoKeyTwice}
 use Rattle.cacache_sequence.specs.ListedKeys.{AreAllFound}
 

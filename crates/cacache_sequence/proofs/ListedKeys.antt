@@ -1,37 +1,17 @@
 -- What a listing of a cache answers, by what the keys lead to.
-use Rattle.std.proofs.Common.{◌≡◌, ◌⊎◌, inl, inr, ℕ, Bool, true, false, cond, List, [], ◌∷◌, ◌++◌, Ok, Err, take, refl, sym, subst, ◌∙◌}
+use Rattle.std.proofs.{Common.{◌≡◌, ◌⊎◌, inl, inr, ℕ, Bool, true, false, cond, List, [], ◌∷◌, ◌++◌, Ok, Err, take, refl, sym, subst, ◌∙◌}, lemmas.List.Elements.{All-nil, All-cons, All-append, All-take}}
 use Rattle.std.specs.Prelude.{All}
-use Rattle.std.proofs.lemmas.List.Elements.{All-nil, All-cons, All-append, All-take}
-use Rattle.cacache_core.specs.declared.errors.Error.TheVariants.{OutOfMemory}
-use Rattle.cacache_core.specs.declared.errors.Fault.{Fault}
+use Rattle.cacache_core.specs.declared.errors.{Error.TheVariants.{OutOfMemory}, Fault.{Fault}}
 use Rattle.cacache_store.specs.declared.store.log.LogItem.{LogItem}
 use Rattle.cacache_memory.specs.Replay.{tree_of}
-use Rattle.cacache_table.specs.declared.command.Command.{Command}
+use Rattle.cacache_table.specs.{declared.{command.Command.{Command}, reply.Reply.{Reply}}, Causes.{Faulted}, ListReplies.{items_given, too_deep, ListsGiven}, Runs.{plain_reply}, State.{Site, Item}, Table.{opening}, Walking.{most}, Licence.{looking_on, AllMay}}
+use Rattle.cacache_table.proofs.{ListReplies.{lists_shown}, Within.{calls_keep_to}}
 use Rattle.cacache_table.specs.declared.command.Command.TheVariants as commands
-use Rattle.cacache_table.specs.declared.reply.Reply.{Reply}
 use Rattle.cacache_table.specs.declared.reply.Reply.TheVariants as replies
-use Rattle.cacache_table.specs.Causes.{Faulted}
-use Rattle.cacache_table.specs.ListReplies.{items_given, too_deep, ListsGiven}
-use Rattle.cacache_table.specs.Runs.{plain_reply}
-use Rattle.cacache_table.specs.State.{Site, Item}
-use Rattle.cacache_table.specs.Table.{opening}
-use Rattle.cacache_table.specs.Walking.{most}
-use Rattle.cacache_table.proofs.ListReplies.{lists_shown}
-use Rattle.cacache_history.specs.History.{Turn}
-use Rattle.cacache_history.specs.ListingTurns.{NoKeyTwice, is_past, listing_of, ListsHeld}
-use Rattle.cacache_history.specs.TurnReplies.{ReadsValue}
-use Rattle.cacache_history.specs.Turns.{made_in, EachTurn}
+use Rattle.cacache_history.specs.{History.{Turn}, ListingTurns.{NoKeyTwice, is_past, listing_of, ListsHeld}, TurnReplies.{ReadsValue}, Turns.{made_in, EachTurn}}
 use Rattle.cacache_history.proofs.Holding.{TurnsHold}
-use Rattle.cacache_sequence.specs.Sequence.{turns_on}
-use Rattle.cacache_sequence.specs.Caches.{AStepFailed, IsCache, setup_at}
-use Rattle.cacache_sequence.specs.ListedKeys.{IsShown, AreAllFound, AllListed, ListsKeys, GivesKeys, ListingsGive}
-use Rattle.cacache_sequence.proofs.Known.{Known, known}
-use Rattle.cacache_table.specs.Licence.{looking_on, AllMay}
-use Rattle.cacache_table.proofs.Within.{calls_keep_to}
-use Rattle.cacache_sequence.proofs.Looks.{moves_place, run_turns}
-use Rattle.cacache_sequence.proofs.Sequence.{turns_made}
-use Rattle.cacache_sequence.proofs.ListedItems.{both_all, once_front}
-use Rattle.cacache_sequence.proofs.ListedTurns.{Explained, turns_explained, Leads, turns_lead, has_bucket, turns_list}
+use Rattle.cacache_sequence.specs.{Sequence.{turns_on}, Caches.{AStepFailed, IsCache, setup_at}, ListedKeys.{IsShown, AreAllFound, AllListed, ListsKeys, GivesKeys, ListingsGive}}
+use Rattle.cacache_sequence.proofs.{Known.{Known, known}, Looks.{moves_place, run_turns}, Sequence.{turns_made}, ListedItems.{both_all, once_front}, ListedTurns.{Explained, turns_explained, Leads, turns_lead, has_bucket, turns_list}}
 
 module _ (cache base : List ℕ) (old new : List LogItem) where
   shown_item : (Why : Fault → Type 0) → ((fault : Fault) → Why fault → AStepFailed old new) → (item : Item) → Leads (setup_at cache base) (tree_of old) item → Explained Why item → IsShown cache old new item

@@ -1,44 +1,21 @@
 -- The turns of a listing that finds one tree at all of them: what they give, and that they find all.
-use Rattle.std.proofs.Common.{◌≡◌, ◌⊎◌, inl, inr, ℕ, List, [], ◌∷◌, Option, None, Some, Result, Ok, Err, refl, sym, ap, subst, ◌∙◌}
+use Rattle.std.proofs.{Common.{◌≡◌, ◌⊎◌, inl, inr, ℕ, List, [], ◌∷◌, Option, None, Some, Result, Ok, Err, refl, sym, ap, subst, ◌∙◌}, lemmas.List.Elements.{All-nil, All-cons, All-append, All-weaker}}
 use Rattle.std.specs.Prelude.{All}
-use Rattle.std.proofs.lemmas.List.Elements.{All-nil, All-cons, All-append, All-weaker}
 use Rattle.sha1.specs.Sha1.{sha1}
-use Rattle.cacache_core.specs.declared.errors.Fault.{Fault}
+use Rattle.cacache_core.specs.{declared.errors.Fault.{Fault}, Paths.{bucket_names_of}}
 use Rattle.cacache_core.specs.declared.errors.Fault.TheVariants as faults
-use Rattle.cacache_core.specs.Paths.{bucket_names_of}
-use Rattle.cacache_store.specs.declared.store.answer.Name.{Name}
+use Rattle.cacache_store.specs.{declared.store.answer.Name.{Name}, Plain.{PlainStep, PlainAnswer}, Fits.{Fits}}
 use Rattle.cacache_store.specs.declared.store.answer.Answer.TheVariants as answers
 use Rattle.cacache_store.specs.declared.store.step.Step.TheVariants as steps
-use Rattle.cacache_store.specs.Plain.{PlainStep, PlainAnswer}
-use Rattle.cacache_store.specs.Fits.{Fits}
-use Rattle.cacache_disk.specs.Tree.{Tree, listing}
-use Rattle.cacache_disk.specs.LedTo.{file_at, folder}
-use Rattle.cacache_disk.specs.Apply.{apply, unless}
-use Rattle.cacache_entry.specs.Entry.{Entry}
-use Rattle.cacache_entry.specs.Latest.{Found, latest}
-use Rattle.cacache_table.specs.declared.answers.Refusal.{Refusal}
+use Rattle.cacache_disk.specs.{Tree.{Tree, listing}, LedTo.{file_at, folder}, Apply.{apply, unless}}
+use Rattle.cacache_entry.specs.{Entry.{Entry}, Latest.{Found, latest}}
+use Rattle.cacache_table.specs.{declared.answers.Refusal.{Refusal}, Answers.{names_in}, Causes.{Faults, Faulted}, ListReplies.{by_folder, In}, StepPaths.{bucket_path}, State.{Item}, Walking.{failed}}
 use Rattle.cacache_table.specs.declared.answers.Refusal.TheVariants as refusals
-use Rattle.cacache_table.specs.Answers.{names_in}
-use Rattle.cacache_table.specs.Causes.{Faults, Faulted}
-use Rattle.cacache_table.specs.ListReplies.{by_folder, In}
-use Rattle.cacache_table.specs.StepPaths.{bucket_path}
-use Rattle.cacache_table.specs.State.{Item}
-use Rattle.cacache_table.specs.Walking.{failed}
-use Rattle.cacache_value.specs.Acts.{list_of}
-use Rattle.cacache_value.specs.Kinds.{NamesBelow}
-use Rattle.cacache_value.specs.Value.{value_of_tree}
-use Rattle.cacache_value.proofs.Shows.{apply_answer}
-use Rattle.cacache_history.specs.Setup.{Setup, home}
-use Rattle.cacache_history.specs.History.{Turn}
-use Rattle.cacache_history.specs.ShownTurns.{entries_at, shown_result, bucket_read, by_entries}
-use Rattle.cacache_history.specs.Turns.{made_in, EachTurn}
-use Rattle.cacache_history.specs.ListingTurns.{IsFound, TurnGives, TurnsGive, AnyTurn, HasBucket, TurnReadsBucket, FailsAbove}
-use Rattle.cacache_history.proofs.Holding.{TurnHolds, TurnsHold}
-use Rattle.cacache_history.proofs.ShownTurns.{bucket_below, bucket_at_turn}
-use Rattle.cacache_sequence.specs.ReadAnswers.{entries_on}
-use Rattle.cacache_sequence.specs.ListedKeys.{AreAllFound}
-use Rattle.cacache_sequence.proofs.ReadAnswers.{is_shown}
-use Rattle.cacache_sequence.proofs.ListedItems.{in_left, in_right, entries_left, entries_right, lists_entries, lists_found}
+use Rattle.cacache_value.{specs.{Acts.{list_of}, Kinds.{NamesBelow}, Value.{value_of_tree}}, proofs.Shows.{apply_answer}}
+use Rattle.cacache_history.specs.{Setup.{Setup, home}, History.{Turn}, ShownTurns.{entries_at, shown_result, bucket_read, by_entries}, Turns.{made_in, EachTurn}, ListingTurns.{IsFound, TurnGives, TurnsGive, AnyTurn, HasBucket, TurnReadsBucket, FailsAbove}}
+use Rattle.cacache_history.proofs.{Holding.{TurnHolds, TurnsHold}, ShownTurns.{bucket_below, bucket_at_turn}}
+use Rattle.cacache_sequence.specs.{ReadAnswers.{entries_on}, ListedKeys.{AreAllFound}}
+use Rattle.cacache_sequence.proofs.{ReadAnswers.{is_shown}, ListedItems.{in_left, in_right, entries_left, entries_right, lists_entries, lists_found}}
 
 -- ---- errors come from steps
 

@@ -1,11 +1,8 @@
 -- How a log grows by calls, one part after another.
-use Rattle.std.proofs.Common.{◌≡◌, inl, inr, List, [], ◌∷◌, ◌++◌, Some, map, sym, ap, ◌∙◌, append_assoc}
-use Rattle.std.proofs.lemmas.List.{map-append}
+use Rattle.std.proofs.{Common.{◌≡◌, inl, inr, List, [], ◌∷◌, ◌++◌, Some, map, sym, ap, ◌∙◌, append_assoc}, lemmas.List.{map-append}}
 use Rattle.cacache_core.specs.declared.errors.Fault.{Fault}
-use Rattle.cacache_store.specs.declared.store.log.LogItem.{LogItem}
-use Rattle.cacache_store.specs.declared.store.log.LogItem.TheVariants.{Made}
-use Rattle.cacache_table.specs.Causes.{Faulted}
-use Rattle.cacache_table.specs.Runs.{Moves}
+use Rattle.cacache_store.specs.declared.store.log.LogItem.{LogItem, TheVariants.{Made}}
+use Rattle.cacache_table.specs.{Causes.{Faulted}, Runs.{Moves}}
 use Rattle.cacache_sequence.specs.Caches.{CallsGrow, GrowthsJoin, ExcusesLast}
 
 pub some_same : (a b : List LogItem) → Some a ≡ Some b → a ≡ b

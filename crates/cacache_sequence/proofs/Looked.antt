@@ -1,24 +1,14 @@
 -- What is known of a cache stays while it holds the same, and a lookup finds what its key leads to.
 use Rattle.std.proofs.Common.{◌≡◌, ℕ, List, Option, None, Some, refl, ap, ◌∙◌}
-use Rattle.cacache_core.specs.declared.errors.Error.{Error}
-use Rattle.cacache_core.specs.declared.errors.Error.TheVariants.{EntryNotFound, SizeMismatch, IoError, SerdeError, IntegrityError, OutOfMemory}
-use Rattle.cacache_core.specs.declared.integrity.digest.Hash.{Hash}
+use Rattle.cacache_core.specs.declared.{errors.Error.{Error, TheVariants.{EntryNotFound, SizeMismatch, IoError, SerdeError, IntegrityError, OutOfMemory}}, integrity.digest.Hash.{Hash}}
 use Rattle.cacache_store.specs.declared.store.log.LogItem.{LogItem}
 use Rattle.cacache_entry.specs.Latest.{Found}
 use Rattle.cacache_table.specs.declared.command.Command.TheVariants as commands
-use Rattle.cacache_table.specs.declared.reply.Reply.{Reply}
+use Rattle.cacache_table.specs.{declared.reply.Reply.{Reply}, Runs.{plain_reply}}
 use Rattle.cacache_table.specs.declared.reply.Reply.TheVariants as replies
-use Rattle.cacache_table.specs.Runs.{plain_reply}
 use Rattle.cacache_value.specs.Acts.{list_of}
-use Rattle.cacache_sequence.specs.ReadAnswers.{UnlessFailed}
-use Rattle.cacache_sequence.specs.CallErrors.{FailsOnly}
-use Rattle.cacache_sequence.specs.Caches.{HasKey, GivesEntry, FindsKey}
-use Rattle.cacache_sequence.specs.Keeping.{found_under}
-use Rattle.cacache_sequence.specs.Looks.{SameStaysKnown, GivesFound, FindsFound}
-use Rattle.cacache_sequence.proofs.Known.{Known, known, excuse}
-use Rattle.cacache_sequence.proofs.KeptKeys.{stays_known}
-use Rattle.cacache_sequence.proofs.Looks.{looks_keep}
-use Rattle.cacache_sequence.proofs.ReadsKeep.{key_stays, answered}
+use Rattle.cacache_sequence.specs.{ReadAnswers.{UnlessFailed}, CallErrors.{FailsOnly}, Caches.{HasKey, GivesEntry, FindsKey}, Keeping.{found_under}, Looks.{SameStaysKnown, GivesFound, FindsFound}}
+use Rattle.cacache_sequence.proofs.{Known.{Known, known, excuse}, KeptKeys.{stays_known}, Looks.{looks_keep}, ReadsKeep.{key_stays, answered}}
 
 pub same_stays_known : SameStaysKnown
 same_stays_known cache old new same = stays_known cache old new (record { contents = λ a. ap (λ v. v.contents a) same; lists = λ d. ap (λ v. list_of (v.buckets d)) same })

@@ -1,10 +1,6 @@
 -- A lookup finds the entry that was added last.
-use Rattle.std.proofs.Common.{◌≡◌, ℕ, cond, List, [], ◌∷◌, ◌++◌, Option, None, Some, refl, ap, ◌∙◌}
-use Rattle.std.specs.Prelude.{bytes_eq}
-use Rattle.std.proofs.lemmas.Slice.Eq.{bytes_eq-Decides}
-use Rattle.cacache_entry.specs.Entry.{Entry}
-use Rattle.cacache_entry.specs.Latest.{Found, answer_of, latest}
-use Rattle.cacache_entry.proofs.Lookups.{last_answer_decides}
+use Rattle.std.{proofs.{Common.{◌≡◌, ℕ, cond, List, [], ◌∷◌, ◌++◌, Option, None, Some, refl, ap, ◌∙◌}, lemmas.Slice.Eq.{bytes_eq-Decides}}, specs.Prelude.{bytes_eq}}
+use Rattle.cacache_entry.{specs.{Entry.{Entry}, Latest.{Found, answer_of, latest}}, proofs.Lookups.{last_answer_decides}}
 
 same_key : (key : List ℕ) (x : Option (Option Found)) → cond (bytes_eq key key) x None ≡ x
 same_key key x = ap (λ b. cond b x None) ((bytes_eq-Decides key key).1 refl)

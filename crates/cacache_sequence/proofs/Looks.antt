@@ -1,29 +1,16 @@
 -- Calls that only look leave the tree.
-use Rattle.std.proofs.Common.{◌≡◌, [], ◌∷◌, ◌++◌, refl, sym, ap, subst, ◌∙◌}
-use Rattle.std.specs.Prelude.{map}
+use Rattle.std.{proofs.Common.{◌≡◌, [], ◌∷◌, ◌++◌, refl, sym, ap, subst, ◌∙◌}, specs.Prelude.{map}}
 use Rattle.cacache_core.specs.PathNames.{home_of}
-use Rattle.cacache_store.specs.declared.store.log.LogItem.TheVariants.{Made}
+use Rattle.cacache_store.specs.{declared.store.log.LogItem.TheVariants.{Made}, Plain.{PlainStep}}
 use Rattle.cacache_store.specs.declared.store.step.Step.TheVariants as steps
-use Rattle.cacache_store.specs.Plain.{PlainStep}
-use Rattle.cacache_disk.specs.declared.luck.Luck.TheVariants.{Plain}
-use Rattle.cacache_disk.specs.Tree.{Tree, bare}
-use Rattle.cacache_disk.specs.Apply.{apply}
+use Rattle.cacache_disk.specs.{declared.luck.Luck.TheVariants.{Plain}, Tree.{Tree, bare}, Apply.{apply}}
 use Rattle.cacache_memory.specs.Replay.{replay, tree_of}
-use Rattle.cacache_table.specs.declared.reply.Reply.{Reply}
-use Rattle.cacache_table.specs.Runs.{Moves, Runs}
-use Rattle.cacache_table.specs.State.{State, Site}
-use Rattle.cacache_table.specs.Table.{after}
-use Rattle.cacache_value.specs.Value.{value_of_tree}
-use Rattle.cacache_history.specs.Setup.{Setup, home}
-use Rattle.cacache_history.specs.Turns.{EachTurn}
-use Rattle.cacache_history.proofs.Holding.{TurnsHold}
-use Rattle.cacache_sequence.specs.Sequence.{tree_on, turns_on, AreAnswered, IsSound}
-use Rattle.cacache_sequence.specs.Looks.{LooksKeep, LooksLeave}
-use Rattle.cacache_sequence.proofs.ReadsStay.{reading_keeps, listing_keeps, asking_keeps, opening_keeps, piece_keeps, sizing_keeps}
-use Rattle.cacache_sequence.proofs.Logs.{some_same}
-use Rattle.cacache_sequence.proofs.Replays.{replay_more, moves_lead}
-use Rattle.cacache_table.specs.Licence.{May, allows, looking_on, AllMay}
+use Rattle.cacache_table.specs.{declared.reply.Reply.{Reply}, Runs.{Moves, Runs}, State.{State, Site}, Table.{after}, Licence.{May, allows, looking_on, AllMay}}
 use Rattle.cacache_table.proofs.Within.{calls_keep_to}
+use Rattle.cacache_value.specs.Value.{value_of_tree}
+use Rattle.cacache_history.{specs.{Setup.{Setup, home}, Turns.{EachTurn}}, proofs.Holding.{TurnsHold}}
+use Rattle.cacache_sequence.specs.{Sequence.{tree_on, turns_on, AreAnswered, IsSound}, Looks.{LooksKeep, LooksLeave}}
+use Rattle.cacache_sequence.proofs.{ReadsStay.{reading_keeps, listing_keeps, asking_keeps, opening_keeps, piece_keeps, sizing_keeps}, Logs.{some_same}, Replays.{replay_more, moves_lead}}
 
 -- ---- steps that leave the tree
 

@@ -1,25 +1,12 @@
 -- What steps that are done make: folders keep what stands, and a file can be put into them.
 use Rattle.std.proofs.Common.{◌≡◌, ◌==◌, ◌-◌, ℕ, Bool, true, false, cond, List, [], ◌∷◌, ◌++◌, Option, None, Some, Result, Ok, Err, length, take, refl, sym, ap, subst, ◌∙◌, arith, append_assoc}
-use Rattle.cacache_core.specs.declared.errors.Fault.{Fault}
-use Rattle.cacache_core.specs.PathNames.{Names, names_of}
+use Rattle.cacache_core.specs.{declared.errors.Fault.{Fault}, PathNames.{Names, names_of}}
 use Rattle.cacache_store.specs.declared.store.plain.PlainTemp.{PlainTemp}
 use Rattle.cacache_store.specs.declared.store.step.Step.TheVariants as steps
 use Rattle.cacache_store.specs.declared.store.answer.Answer.TheVariants as answers
-use Rattle.cacache_disk.specs.declared.luck.Luck.TheVariants.{Plain}
-use Rattle.cacache_disk.specs.declared.node.Node.{Node}
-use Rattle.cacache_disk.specs.declared.node.Node.TheVariants.{Folder, File, Link}
-use Rattle.cacache_disk.specs.Tree.{Tree, look, put, same_path}
-use Rattle.cacache_disk.specs.LedTo.{or_fault, way_fault, place, where_no_folder, free, known, kept, replaceable, dirs, dirs_fault}
-use Rattle.cacache_disk.specs.Rooted.{Rooted}
-use Rattle.cacache_disk.specs.Apply.{apply, unless, make_some, if_missing, grown, taken, made_temp}
-use Rattle.cacache_disk.proofs.FoundNodes.{and_then_ok, or_fault_none, free_ok}
-use Rattle.cacache_disk.proofs.Maps.{same_path-true}
-use Rattle.cacache_disk.proofs.PlantedNodes.{full}
-use Rattle.cacache_disk.proofs.PutNodes.{look-put}
-use Rattle.cacache_disk.proofs.Roots.{not_true, same_self}
-use Rattle.cacache_disk.proofs.Standing.{upper_folder}
-use Rattle.cacache_value.specs.Kinds.{Content}
-use Rattle.cacache_value.specs.Placed.{MayStand}
+use Rattle.cacache_disk.specs.{declared.{luck.Luck.TheVariants.{Plain}, node.Node.{Node, TheVariants.{Folder, File, Link}}}, Tree.{Tree, look, put, same_path}, LedTo.{or_fault, way_fault, place, where_no_folder, free, known, kept, replaceable, dirs, dirs_fault}, Rooted.{Rooted}, Apply.{apply, unless, make_some, if_missing, grown, taken, made_temp}}
+use Rattle.cacache_disk.proofs.{FoundNodes.{and_then_ok, or_fault_none, free_ok}, Maps.{same_path-true}, PlantedNodes.{full}, PutNodes.{look-put}, Roots.{not_true, same_self}, Standing.{upper_folder}}
+use Rattle.cacache_value.specs.{Kinds.{Content}, Placed.{MayStand}}
 
 -- ---- folders that are made
 

@@ -1,56 +1,19 @@
 -- What the commit of a linker leaves: it reads the rest of what its target showed, and makes the link.
-use Rattle.std.proofs.Common.{◌≡◌, inl, inr, ◌<◌, ◌^◌, ℕ, List, [], ◌∷◌, ◌++◌, Some, Result, Ok, Err, length, refl, sym, ap, subst, ◌∙◌, append-nil}
-use Rattle.std.specs.Prelude.{IfSome}
-use Rattle.cacache_core.specs.declared.errors.Fault.{Fault}
-use Rattle.cacache_core.specs.declared.integrity.digest.Hash.{Hash}
-use Rattle.cacache_core.specs.Integrity.{IsIntegrity}
-use Rattle.cacache_core.specs.PathNames.{Names, home_of, names_of}
+use Rattle.std.{proofs.Common.{◌≡◌, inl, inr, ◌<◌, ◌^◌, ℕ, List, [], ◌∷◌, ◌++◌, Some, Result, Ok, Err, length, refl, sym, ap, subst, ◌∙◌, append-nil}, specs.Prelude.{IfSome}}
+use Rattle.cacache_core.specs.{declared.{errors.Fault.{Fault}, integrity.digest.Hash.{Hash}}, Integrity.{IsIntegrity}, PathNames.{Names, home_of, names_of}}
 use Rattle.cacache_store.specs.declared.store.answer.Answer.TheVariants as answers
-use Rattle.cacache_store.specs.declared.store.log.LogItem.{LogItem}
-use Rattle.cacache_store.specs.declared.store.plain.PlainFile.{PlainFile}
+use Rattle.cacache_store.specs.declared.store.{log.LogItem.{LogItem}, plain.PlainFile.{PlainFile}}
 use Rattle.cacache_store.specs.declared.store.step.Step.TheVariants as steps
-use Rattle.cacache_disk.specs.declared.luck.Luck.TheVariants.{Plain}
-use Rattle.cacache_disk.specs.Apply.{apply, opened}
+use Rattle.cacache_disk.specs.{declared.luck.Luck.TheVariants.{Plain}, Apply.{apply, opened}}
 use Rattle.cacache_memory.specs.Replay.{tree_of}
 use Rattle.cacache_table.specs.declared.command.Command.TheVariants as commands
-use Rattle.cacache_table.specs.declared.command.Link.{Link}
-use Rattle.cacache_table.specs.declared.reply.Reply.{Reply}
-use Rattle.cacache_table.specs.declared.reply.Reply.TheVariants as replies
-use Rattle.cacache_table.specs.declared.target.Target.{Target}
-use Rattle.cacache_table.specs.Causes.{Faulted, HasCause, own_of}
-use Rattle.cacache_table.specs.Linking.{based, commit_for, link_target, with_size}
-use Rattle.cacache_table.specs.Promises.{Stores}
-use Rattle.cacache_table.specs.Runs.{Goes, Moves, Runs, plain_reply}
-use Rattle.cacache_table.specs.Sound.{SoundTarget}
-use Rattle.cacache_table.specs.State.{Site, hashing, to_link}
-use Rattle.cacache_table.specs.Storing.{put_commit}
-use Rattle.cacache_table.specs.Table.{opening}
+use Rattle.cacache_table.specs.{declared.{command.Link.{Link}, reply.Reply.{Reply}, target.Target.{Target}}, Causes.{Faulted, HasCause, own_of}, Linking.{based, commit_for, link_target, with_size}, Promises.{Stores}, Runs.{Goes, Moves, Runs, plain_reply}, Sound.{SoundTarget}, State.{Site, hashing, to_link}, Storing.{put_commit}, Table.{opening}}
 use Rattle.cacache_table.proofs.Verifying.{links_read_whole}
-use Rattle.cacache_value.specs.Acts.{PutLink}
-use Rattle.cacache_value.specs.OpeningTrees.{LieApart}
-use Rattle.cacache_value.specs.Value.{value_of_tree}
-use Rattle.cacache_history.specs.Commits.{CommitsAs, DidNothing, LinksTo, ReadsTarget, deeds}
-use Rattle.cacache_history.specs.Setup.{Setup, home}
-use Rattle.cacache_history.proofs.Digests.{digest_hash}
-use Rattle.cacache_history.proofs.OpenedContents.{run_asks}
-use Rattle.cacache_sequence.specs.Caches.{IsCache, IsExcused, Grows}
-use Rattle.cacache_sequence.specs.ExportEffects.{IsApart}
-use Rattle.cacache_sequence.specs.InParts.{Begun, Changes, AnswersInParts, IsOnItsWay, Part, made, moves_in, turns_in, with_part}
-use Rattle.cacache_sequence.specs.Links.{FitsLink, LeavesLink, put_like}
-use Rattle.cacache_sequence.specs.OpenLinkers.{LinkersFail, CommitsRest, LinkersCommit, TargetOpened}
-use Rattle.cacache_sequence.specs.Puts.{ExpectsIntegrity, stored_as}
-use Rattle.cacache_sequence.specs.Sequence.{Alike, AreAnswered, IsSound, after_deeds, tree_on, turns_on}
-use Rattle.cacache_sequence.specs.Stored.{own_hash}
-use Rattle.cacache_sequence.proofs.Committing.{cause_later, deeds_later}
-use Rattle.cacache_sequence.proofs.Handed.{bytes_taken}
-use Rattle.cacache_sequence.proofs.InParts.{all_made, calls_begin, logs_lead, moves_then, parts_answer, parts_go_on, run_goes, runs_through}
-use Rattle.cacache_sequence.proofs.Known.{excused_by}
-use Rattle.cacache_sequence.proofs.Linking.{is_there, leaves_by, nothing_shown, on_disks, setup_to}
-use Rattle.cacache_sequence.proofs.Logs.{some_same}
-use Rattle.cacache_sequence.proofs.OpenWriters.{gains_grow}
-use Rattle.cacache_sequence.proofs.ReadsStay.{sizing_keeps}
-use Rattle.cacache_sequence.proofs.TargetBytes.{ReadOf, file_held, held_of, parts_on_disks, told_held, turns_more}
-use Rattle.cacache_sequence.proofs.ExpectedSizes.{fails_only, suited_run}
+use Rattle.cacache_table.specs.declared.reply.Reply.TheVariants as replies
+use Rattle.cacache_value.specs.{Acts.{PutLink}, OpeningTrees.{LieApart}, Value.{value_of_tree}}
+use Rattle.cacache_history.{specs.{Commits.{CommitsAs, DidNothing, LinksTo, ReadsTarget, deeds}, Setup.{Setup, home}}, proofs.{Digests.{digest_hash}, OpenedContents.{run_asks}}}
+use Rattle.cacache_sequence.specs.{Caches.{IsCache, IsExcused, Grows}, ExportEffects.{IsApart}, InParts.{Begun, Changes, AnswersInParts, IsOnItsWay, Part, made, moves_in, turns_in, with_part}, Links.{FitsLink, LeavesLink, put_like}, OpenLinkers.{LinkersFail, CommitsRest, LinkersCommit, TargetOpened}, Puts.{ExpectsIntegrity, stored_as}, Sequence.{Alike, AreAnswered, IsSound, after_deeds, tree_on, turns_on}, Stored.{own_hash}}
+use Rattle.cacache_sequence.proofs.{Committing.{cause_later, deeds_later}, Handed.{bytes_taken}, InParts.{all_made, calls_begin, logs_lead, moves_then, parts_answer, parts_go_on, run_goes, runs_through}, Known.{excused_by}, Linking.{is_there, leaves_by, nothing_shown, on_disks, setup_to}, Logs.{some_same}, OpenWriters.{gains_grow}, ReadsStay.{sizing_keeps}, TargetBytes.{ReadOf, file_held, held_of, parts_on_disks, told_held, turns_more}, ExpectedSizes.{fails_only, suited_run}}
 
 -- ---- a commit, as the last part of a link
 

@@ -1,54 +1,23 @@
 -- What the opening of a reader finds in a cache, and that it leaves the tree.
-use Rattle.std.proofs.Common.{◌≡◌, ◌⊎◌, inl, inr, ℕ, List, [], ◌∷◌, ◌++◌, Option, None, Some, Result, Ok, Err, map, refl, sym, ap, subst, ◌∙◌, arith}
-use Rattle.std.proofs.lemmas.List.Elements.{All-head}
-use Rattle.cacache_core.specs.declared.errors.Error.{Error}
-use Rattle.cacache_core.specs.declared.errors.Error.TheVariants.{EntryNotFound, SizeMismatch, IoError, SerdeError, IntegrityError, OutOfMemory}
-use Rattle.cacache_core.specs.declared.errors.Fault.{Fault}
+use Rattle.std.proofs.{Common.{◌≡◌, ◌⊎◌, inl, inr, ℕ, List, [], ◌∷◌, ◌++◌, Option, None, Some, Result, Ok, Err, map, refl, sym, ap, subst, ◌∙◌, arith}, lemmas.List.Elements.{All-head}}
+use Rattle.cacache_core.specs.{declared.{errors.{Error.{Error, TheVariants.{EntryNotFound, SizeMismatch, IoError, SerdeError, IntegrityError, OutOfMemory}}, Fault.{Fault}}, integrity.digest.Hash.{Hash}}, Integrity.{IsHash}, PathNames.{home_of}}
 use Rattle.cacache_core.specs.declared.errors.Fault.TheVariants as faults
-use Rattle.cacache_core.specs.declared.integrity.digest.Hash.{Hash}
-use Rattle.cacache_core.specs.Integrity.{IsHash}
-use Rattle.cacache_core.specs.PathNames.{home_of}
 use Rattle.cacache_store.specs.declared.store.answer.Answer.TheVariants as answers
-use Rattle.cacache_store.specs.declared.store.log.LogItem.{LogItem}
-use Rattle.cacache_store.specs.declared.store.log.LogItem.TheVariants.{Made}
-use Rattle.cacache_store.specs.declared.store.plain.PlainFile.{PlainFile}
+use Rattle.cacache_store.specs.{declared.store.{log.LogItem.{LogItem, TheVariants.{Made}}, plain.PlainFile.{PlainFile}}, Plain.{PlainAnswer}}
 use Rattle.cacache_store.specs.declared.store.step.Step.TheVariants as steps
-use Rattle.cacache_store.specs.Plain.{PlainAnswer}
-use Rattle.cacache_disk.specs.declared.luck.Luck.TheVariants.{Plain}
-use Rattle.cacache_disk.specs.Tree.{Tree, bare}
-use Rattle.cacache_disk.specs.Apply.{apply, opened}
+use Rattle.cacache_disk.specs.{declared.luck.Luck.TheVariants.{Plain}, Tree.{Tree, bare}, Apply.{apply, opened}}
 use Rattle.cacache_memory.specs.Replay.{after, IsReplayable, tree_of, IsLog}
 use Rattle.cacache_entry.specs.Latest.{Found, latest}
 use Rattle.cacache_table.specs.declared.command.Command.TheVariants as commands
-use Rattle.cacache_table.specs.declared.reply.Reply.{Reply}
+use Rattle.cacache_table.specs.{declared.{reply.Reply.{Reply}, carried.Lookup.{Lookup}}, Answers.{bytes_in}, Looking.{found_in, found_for, no_bucket, after_bucket}, StepPaths.{bucket_path, content_path}, Runs.{Moves, Runs, Gains, plain_reply, without_message}, State.{State, looking, over}, SingleSteps.{FailsAt}}
+use Rattle.cacache_table.proofs.Branches.{go_on_leads}
 use Rattle.cacache_table.specs.declared.reply.Reply.TheVariants as replies
-use Rattle.cacache_table.specs.Answers.{bytes_in}
-use Rattle.cacache_table.specs.Looking.{found_in, found_for, no_bucket, after_bucket}
-use Rattle.cacache_table.specs.StepPaths.{bucket_path, content_path}
-use Rattle.cacache_table.specs.Runs.{Moves, Runs, Gains, plain_reply, without_message}
-use Rattle.cacache_table.specs.State.{State, looking, over}
-use Rattle.cacache_table.specs.declared.carried.Lookup.{Lookup}
 use Rattle.cacache_table.specs.declared.carried.Aim.TheVariants as aims
 use Rattle.cacache_table.specs.Table as table
-use Rattle.cacache_table.proofs.Branches.{go_on_leads}
-use Rattle.cacache_value.specs.Shows.{blob_bytes, ShowsContent}
-use Rattle.cacache_value.specs.Value.{value_of_tree}
-use Rattle.cacache_value.proofs.Shows.{trees_show}
+use Rattle.cacache_value.{specs.{Shows.{blob_bytes, ShowsContent}, Value.{value_of_tree}}, proofs.Shows.{trees_show}}
 use Rattle.cacache_history.proofs.ShownTurns.{content_below}
-use Rattle.cacache_sequence.specs.Sequence.{tree_on, IsSound}
-use Rattle.cacache_sequence.specs.ReadAnswers.{entries_on, UnlessFailed}
-use Rattle.cacache_sequence.specs.CallErrors.{FailsOnly}
-use Rattle.cacache_sequence.specs.Caches.{IsCache, HasContent, HasKey, LacksKey, Grows, IsExcused, Called, setup_at}
-use Rattle.cacache_table.specs.SingleSteps.{FailsAt}
-use Rattle.cacache_sequence.specs.OpenWriters.{LeavesKnownCache}
-use Rattle.cacache_sequence.specs.OpenReaders.{OpensContent, LookupRan, OpensWhatWasFound, OpensByKey, GivesFile, ReadersOpen, GivesNone, ReadersOpenKey}
-use Rattle.cacache_sequence.proofs.ReadsStay.{reading_keeps, opening_keeps, opened_so}
-use Rattle.cacache_sequence.proofs.Known.{Known, known, excuse}
-use Rattle.cacache_sequence.proofs.Looked.{same_stays_known}
-use Rattle.cacache_sequence.proofs.Logs.{some_same, growths_join, excuses_last}
-use Rattle.cacache_sequence.proofs.InParts.{logs_lead}
-use Rattle.cacache_sequence.proofs.ReadsKeep.{content_stays, answered}
-use Rattle.cacache_sequence.proofs.OpenWriters.{gains_none, gains_grow, excused_step}
+use Rattle.cacache_sequence.specs.{Sequence.{tree_on, IsSound}, ReadAnswers.{entries_on, UnlessFailed}, CallErrors.{FailsOnly}, Caches.{IsCache, HasContent, HasKey, LacksKey, Grows, IsExcused, Called, setup_at}, OpenWriters.{LeavesKnownCache}, OpenReaders.{OpensContent, LookupRan, OpensWhatWasFound, OpensByKey, GivesFile, ReadersOpen, GivesNone, ReadersOpenKey}}
+use Rattle.cacache_sequence.proofs.{ReadsStay.{reading_keeps, opening_keeps, opened_so}, Known.{Known, known, excuse}, Looked.{same_stays_known}, Logs.{some_same, growths_join, excuses_last}, InParts.{logs_lead}, ReadsKeep.{content_stays, answered}, OpenWriters.{gains_none, gains_grow, excused_step}}
 
 -- ---- a tree that stays
 

@@ -1,44 +1,18 @@
 -- What the opening of a writer leaves in a cache.
 use Rattle.std.proofs.Common.{◌≡◌, ◌⊎◌, inl, inr, ℕ, false, List, [], ◌∷◌, ◌++◌, Option, None, Some, option_map, Result, Ok, Err, map, refl, sym, ap, subst, ◌∙◌, append-nil}
 use Rattle.serde_json.specs.Data.{null}
-use Rattle.cacache_core.specs.declared.errors.Error.{Error}
-use Rattle.cacache_core.specs.declared.errors.Error.TheVariants.{EntryNotFound, SizeMismatch, IoError, SerdeError, IntegrityError, OutOfMemory}
-use Rattle.cacache_core.specs.declared.errors.Fault.{Fault}
-use Rattle.cacache_core.specs.declared.integrity.algorithm.Algorithm.TheVariants.{Sha256}
-use Rattle.cacache_core.specs.PathNames.{Names, names_of, home_of}
+use Rattle.cacache_core.specs.{declared.{errors.{Error.{Error, TheVariants.{EntryNotFound, SizeMismatch, IoError, SerdeError, IntegrityError, OutOfMemory}}, Fault.{Fault}}, integrity.algorithm.Algorithm.TheVariants.{Sha256}}, PathNames.{Names, names_of, home_of}}
 use Rattle.cacache_store.specs.declared.store.answer.Answer.TheVariants as answers
-use Rattle.cacache_store.specs.declared.store.log.LogItem.{LogItem}
-use Rattle.cacache_store.specs.declared.store.log.LogItem.TheVariants.{Made}
-use Rattle.cacache_store.specs.declared.store.plain.PlainTemp.{PlainTemp}
+use Rattle.cacache_store.specs.{declared.store.{log.LogItem.{LogItem, TheVariants.{Made}}, plain.PlainTemp.{PlainTemp}}, Plain.{PlainAnswer}}
 use Rattle.cacache_store.specs.declared.store.step.Step.TheVariants as steps
-use Rattle.cacache_store.specs.Plain.{PlainAnswer}
-use Rattle.cacache_disk.specs.declared.luck.Luck.TheVariants.{Plain}
-use Rattle.cacache_disk.specs.declared.node.Node.TheVariants.{File}
-use Rattle.cacache_disk.specs.Tree.{Tree, put}
-use Rattle.cacache_disk.specs.LedTo.{free}
-use Rattle.cacache_disk.specs.Apply.{apply, unless, made_temp}
+use Rattle.cacache_disk.specs.{declared.{luck.Luck.TheVariants.{Plain}, node.Node.TheVariants.{File}}, Tree.{Tree, put}, LedTo.{free}, Apply.{apply, unless, made_temp}}
 use Rattle.cacache_memory.specs.Replay.{tree_of, IsLog}
 use Rattle.cacache_table.specs.declared.command.Command.TheVariants as commands
-use Rattle.cacache_table.specs.declared.command.Put.{Put}
-use Rattle.cacache_table.specs.Causes.{Faulted}
-use Rattle.cacache_table.specs.Common.{fails}
-use Rattle.cacache_table.specs.StepPaths.{temp_folder, temp_path}
-use Rattle.cacache_table.specs.Runs.{Moves, Goes, Gains}
-use Rattle.cacache_table.specs.State.{State}
-use Rattle.cacache_table.specs.Storing.{put_commit, persist}
-use Rattle.cacache_table.specs.Table.{opening}
-use Rattle.cacache_value.specs.Acts.{MakeFolders, act_at, act_with, folders_left}
-use Rattle.cacache_value.specs.Value.{value_of_tree}
-use Rattle.cacache_history.specs.Setup.{call_site}
-use Rattle.cacache_history.specs.Commits.{deeds_of_act, deeds}
-use Rattle.cacache_sequence.specs.Sequence.{tree_on, turns_on, Alike, after_deeds, IsSound}
-use Rattle.cacache_sequence.specs.InParts.{Begun}
-use Rattle.cacache_sequence.specs.Caches.{IsCache, Grows, IsExcused, setup_at}
-use Rattle.cacache_table.specs.SingleSteps.{Does, FailsAt}
-use Rattle.cacache_sequence.specs.OpenWriters.{LeavesKnownCache, make_folder, make_file, OpensWriter, HasOpened, WritersOpen}
-use Rattle.cacache_sequence.proofs.KeptKeys.{stays_known}
-use Rattle.cacache_sequence.proofs.Logs.{some_same, joined}
-use Rattle.cacache_sequence.proofs.InParts.{logs_lead, calls_begin, parts_go_on}
+use Rattle.cacache_table.specs.{declared.command.Put.{Put}, Causes.{Faulted}, Common.{fails}, StepPaths.{temp_folder, temp_path}, Runs.{Moves, Goes, Gains}, State.{State}, Storing.{put_commit, persist}, Table.{opening}, SingleSteps.{Does, FailsAt}}
+use Rattle.cacache_value.specs.{Acts.{MakeFolders, act_at, act_with, folders_left}, Value.{value_of_tree}}
+use Rattle.cacache_history.specs.{Setup.{call_site}, Commits.{deeds_of_act, deeds}}
+use Rattle.cacache_sequence.specs.{Sequence.{tree_on, turns_on, Alike, after_deeds, IsSound}, InParts.{Begun}, Caches.{IsCache, Grows, IsExcused, setup_at}, OpenWriters.{LeavesKnownCache, make_folder, make_file, OpensWriter, HasOpened, WritersOpen}}
+use Rattle.cacache_sequence.proofs.{KeptKeys.{stays_known}, Logs.{some_same, joined}, InParts.{logs_lead, calls_begin, parts_go_on}}
 
 -- ---- logs
 

@@ -1,53 +1,22 @@
 -- The content of a put comes to its place: nothing keeps its temporary file from it.
-use Rattle.std.proofs.Common.{◌≡◌, ◌==◌, ℕ, List, ◌∷◌, ◌++◌, Option, None, Some, Ok, nat_le, length, drop, refl, sym, ap, subst, ◌∙◌, arith, append_assoc}
+use Rattle.std.proofs.{Common.{◌≡◌, ◌==◌, ℕ, List, ◌∷◌, ◌++◌, Option, None, Some, Ok, nat_le, length, drop, refl, sym, ap, subst, ◌∙◌, arith, append_assoc}, lemmas.List.Elements.{All-nil, All-cons, All-head, All-tail}}
 use Rattle.std.specs.Prelude.{All, []}
 use Rattle.hex.specs.Hex.{encode_lower}
-use Rattle.std.proofs.lemmas.List.Elements.{All-nil, All-cons, All-head, All-tail}
 use Rattle.cacache_core.specs.declared.errors.Fault.TheVariants as faults
-use Rattle.cacache_core.specs.declared.errors.SerdeCause.{SerdeCause}
-use Rattle.cacache_core.specs.declared.integrity.digest.Hash.{Hash}
-use Rattle.cacache_core.specs.Digests.{digest}
-use Rattle.cacache_core.specs.Integrity.{hash_of}
-use Rattle.cacache_core.specs.PathNames.{Names, names_of, home_of, names_below, IsProperName}
-use Rattle.cacache_core.specs.Paths.{content_names, folder_names}
-use Rattle.cacache_core.proofs.JoinedNames.{joined_texts_name}
-use Rattle.cacache_core.proofs.ProperNames.{names_are_proper}
-use Rattle.cacache_store.specs.declared.store.plain.PlainTemp.{PlainTemp}
+use Rattle.cacache_core.specs.{declared.{errors.SerdeCause.{SerdeCause}, integrity.digest.Hash.{Hash}}, Digests.{digest}, Integrity.{hash_of}, PathNames.{Names, names_of, home_of, names_below, IsProperName}, Paths.{content_names, folder_names}}
+use Rattle.cacache_core.proofs.{JoinedNames.{joined_texts_name}, ProperNames.{names_are_proper}}
+use Rattle.cacache_store.specs.{declared.store.plain.PlainTemp.{PlainTemp}, Plain.{PlainStep, PlainAnswer}}
 use Rattle.cacache_store.specs.declared.store.step.Step.TheVariants as steps
 use Rattle.cacache_store.specs.declared.store.answer.Answer.TheVariants as answers
-use Rattle.cacache_store.specs.Plain.{PlainStep, PlainAnswer}
-use Rattle.cacache_disk.specs.declared.luck.Luck.TheVariants.{Plain}
-use Rattle.cacache_disk.specs.Tree.{Tree}
-use Rattle.cacache_disk.specs.LedTo.{place, file_at, folder}
-use Rattle.cacache_disk.specs.Rooted.{Rooted}
-use Rattle.cacache_disk.specs.Apply.{apply, plain}
-use Rattle.cacache_disk.proofs.FoundNodes.{place_ok}
-use Rattle.cacache_disk.proofs.KeptFolders.{steps_keep_rooted, apply_tree, unless_tree}
-use Rattle.cacache_table.specs.declared.command.Put.{Put}
+use Rattle.cacache_disk.specs.{declared.luck.Luck.TheVariants.{Plain}, Tree.{Tree}, LedTo.{place, file_at, folder}, Rooted.{Rooted}, Apply.{apply, plain}}
+use Rattle.cacache_disk.proofs.{FoundNodes.{place_ok}, KeptFolders.{steps_keep_rooted, apply_tree, unless_tree}}
+use Rattle.cacache_table.specs.{declared.{command.Put.{Put}, reply.Reply.{Reply}, carried.Commit.{Commit}}, Answers.{done_in, temp_in, written_in, synced_in, taken_in}, Common.{fails, errand_step}, Inserting.{unless_refused, bucket_line, recorded, after_append, refused_cause}, StepPaths.{content_path, content_folder, temp_path, bucket_path}, Runs.{Moves, Runs}, State.{State, doing, creating, writing, syncing, persisting, appending, over, Site, Insertion, make_folder, sync_file, sync_dir, Errand}, Storing.{insertion_of, indexed, sized, compared, matches, write_rest, after_write, put_commit}, Table.{wants, after, opening}}
+use Rattle.cacache_table.proofs.{Branches.{cond_leads, go_on_leads}, Leading.{moves_on, secures, records}}
 use Rattle.cacache_table.specs.declared.command.Command.TheVariants as commands
-use Rattle.cacache_table.specs.declared.reply.Reply.{Reply}
-use Rattle.cacache_table.specs.Answers.{done_in, temp_in, written_in, synced_in, taken_in}
-use Rattle.cacache_table.specs.Common.{fails, errand_step}
-use Rattle.cacache_table.specs.Inserting.{unless_refused, bucket_line, recorded, after_append, refused_cause}
-use Rattle.cacache_table.specs.StepPaths.{content_path, content_folder, temp_path, bucket_path}
-use Rattle.cacache_table.specs.Runs.{Moves, Runs}
-use Rattle.cacache_table.specs.State.{State, doing, creating, writing, syncing, persisting, appending, over, Site, Insertion, make_folder, sync_file, sync_dir, Errand}
-use Rattle.cacache_table.specs.declared.carried.Commit.{Commit}
-use Rattle.cacache_table.specs.Storing.{insertion_of, indexed, sized, compared, matches, write_rest, after_write, put_commit}
-use Rattle.cacache_table.specs.Table.{wants, after, opening}
-use Rattle.cacache_table.proofs.Branches.{cond_leads, go_on_leads}
-use Rattle.cacache_table.proofs.Leading.{moves_on, secures, records}
-use Rattle.cacache_value.specs.Acts.{Act, Nothing, PutBytes, PutLink, AddEntries, Drop, MakeFolders, DropFolder, act_of}
-use Rattle.cacache_value.specs.Kinds.{Content, IsFor, path_kind}
-use Rattle.cacache_value.specs.Placed.{Placed, Proper}
-use Rattle.cacache_value.specs.Traces.{IsTrace}
-use Rattle.cacache_value.proofs.FoundPaths.{of_names, suits}
-use Rattle.cacache_value.proofs.Traces.{steps_keep_placed}
-use Rattle.cacache_history.specs.Commits.{Deed, finds, deeds_of_act, finds_in, deeds}
-use Rattle.cacache_history.proofs.Digests.{digest_hash}
-use Rattle.cacache_sequence.specs.Sequence.{turns_on, plain_moves}
-use Rattle.cacache_sequence.proofs.MadeNodes.{FoldersMade, made_so, made_place, Stands, created_so, wrote_so, still_stands, persisted_so}
-use Rattle.cacache_history.proofs.Syncing.{temp_synced}
+use Rattle.cacache_value.specs.{Acts.{Act, Nothing, PutBytes, PutLink, AddEntries, Drop, MakeFolders, DropFolder, act_of}, Kinds.{Content, IsFor, path_kind}, Placed.{Placed, Proper}, Traces.{IsTrace}}
+use Rattle.cacache_value.proofs.{FoundPaths.{of_names, suits}, Traces.{steps_keep_placed}}
+use Rattle.cacache_history.{specs.Commits.{Deed, finds, deeds_of_act, finds_in, deeds}, proofs.{Digests.{digest_hash}, Syncing.{temp_synced}}}
+use Rattle.cacache_sequence.{specs.Sequence.{turns_on, plain_moves}, proofs.MadeNodes.{FoldersMade, made_so, made_place, Stands, created_so, wrote_so, still_stands, persisted_so}}
 
 -- ---- the path of a content and its folder
 

@@ -1,17 +1,10 @@
 -- A file that is planted apart from the cache makes no bucket.
 use Rattle.std.proofs.Common.{◌≡◌, ◌==◌, ℕ, Bool, true, false, cond, List, [], ◌∷◌, ◌++◌, Option, None, Some, Ok, length, sym, ap, subst, ◌∙◌, bytes_eq}
 use Rattle.cacache_core.specs.PathNames.{Names, names_of}
-use Rattle.cacache_disk.specs.declared.node.Node.TheVariants.{File}
-use Rattle.cacache_disk.specs.Tree.{Tree, look, put}
-use Rattle.cacache_disk.specs.LedTo.{or_fault, dirs_fault, where_no_folder}
-use Rattle.cacache_disk.specs.Apply.{planted, above_last, make_some}
-use Rattle.cacache_disk.proofs.FoundNodes.{no_folder_at, and_then_ok, or_fault_none}
-use Rattle.cacache_disk.proofs.PlantedNodes.{Ends, empty, last, ends, above_last-snoc}
-use Rattle.cacache_value.specs.Kinds.{PathKind, Bucket, Elsewhere, kind_beside, path_kind, IsFor}
-use Rattle.cacache_value.proofs.KindsApart.{further, inner_used}
-use Rattle.cacache_value.proofs.FoundPaths.{of_names}
-use Rattle.cacache_history.specs.Buckets.{BucketsHaveKeys}
-use Rattle.cacache_history.proofs.Keyed.{put_keyed, make_at}
+use Rattle.cacache_disk.specs.{declared.node.Node.TheVariants.{File}, Tree.{Tree, look, put}, LedTo.{or_fault, dirs_fault, where_no_folder}, Apply.{planted, above_last, make_some}}
+use Rattle.cacache_disk.proofs.{FoundNodes.{no_folder_at, and_then_ok, or_fault_none}, PlantedNodes.{Ends, empty, last, ends, above_last-snoc}}
+use Rattle.cacache_value.{specs.Kinds.{PathKind, Bucket, Elsewhere, kind_beside, path_kind, IsFor}, proofs.{KindsApart.{further, inner_used}, FoundPaths.{of_names}}}
+use Rattle.cacache_history.{specs.Buckets.{BucketsHaveKeys}, proofs.Keyed.{put_keyed, make_at}}
 
 -- ---- above a path apart from the cache no bucket may stand
 

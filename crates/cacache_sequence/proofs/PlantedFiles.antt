@@ -1,22 +1,13 @@
 -- A file that is planted apart from the cache leaves what it holds.
-use Rattle.std.proofs.Common.{◌≡◌, [], ◌∷◌, sym, ap, subst, ◌∙◌}
-use Rattle.std.specs.Prelude.{All}
+use Rattle.std.{proofs.Common.{◌≡◌, [], ◌∷◌, sym, ap, subst, ◌∙◌}, specs.Prelude.{All}}
 use Rattle.cacache_core.specs.PathNames.{home_of}
 use Rattle.cacache_store.specs.declared.store.log.LogItem.TheVariants.{Foreign}
-use Rattle.cacache_disk.specs.Tree.{Tree, bare}
-use Rattle.cacache_disk.specs.Apply.{planted}
-use Rattle.cacache_disk.proofs.PlantedNodes.{planted_rooted}
+use Rattle.cacache_disk.{specs.{Tree.{Tree, bare}, Apply.{planted}}, proofs.PlantedNodes.{planted_rooted}}
 use Rattle.cacache_memory.specs.Replay.{changed, replay, IsReplayable, tree_of, IsLog}
 use Rattle.cacache_entry.specs.FittingEntries.{IsEntry}
-use Rattle.cacache_value.specs.Acts.{list_of}
-use Rattle.cacache_value.specs.Value.{Value, value_of_tree}
-use Rattle.cacache_value.proofs.OpeningTrees.{planted_apart}
-use Rattle.cacache_history.specs.Buckets.{HoldOwn}
-use Rattle.cacache_history.specs.Values.{AreRight}
-use Rattle.cacache_sequence.proofs.Planted.{planted_keyed}
-use Rattle.cacache_sequence.specs.Sequence.{IsSound}
-use Rattle.cacache_sequence.specs.Caches.{PlantsLast}
-use Rattle.cacache_sequence.proofs.Replays.{replay_more, replayable_rest, planted_so}
+use Rattle.cacache_value.{specs.{Acts.{list_of}, Value.{Value, value_of_tree}}, proofs.OpeningTrees.{planted_apart}}
+use Rattle.cacache_history.specs.{Buckets.{HoldOwn}, Values.{AreRight}}
+use Rattle.cacache_sequence.{proofs.{Planted.{planted_keyed}, Replays.{replay_more, replayable_rest, planted_so}}, specs.{Sequence.{IsSound}, Caches.{PlantsLast}}}
 
 pub plants_last : PlantsLast
 unfolding tree_of IsLog

@@ -1,41 +1,18 @@
 -- What a put and a writer's commit leave, with any options.
-use Rattle.std.proofs.Common.{◌≡◌, ◌⊎◌, inl, inr, ℕ, List, [], ◌∷◌, ◌++◌, Option, None, Some, option_map, refl, sym, ap, subst, ◌∙◌}
-use Rattle.std.specs.Prelude.{IfSome}
+use Rattle.std.{proofs.Common.{◌≡◌, ◌⊎◌, inl, inr, ℕ, List, [], ◌∷◌, ◌++◌, Option, None, Some, option_map, refl, sym, ap, subst, ◌∙◌}, specs.Prelude.{IfSome}}
 use Rattle.sha1.specs.Sha1.{sha1}
-use Rattle.cacache_core.specs.declared.integrity.digest.Hash.{Hash}
-use Rattle.cacache_core.specs.Integrity.{IsIntegrity}
-use Rattle.cacache_core.specs.PathNames.{home_of}
-use Rattle.cacache_core.proofs.Meeting.{own_is_met}
-use Rattle.cacache_core.proofs.Printed.{printed}
+use Rattle.cacache_core.{specs.{declared.integrity.digest.Hash.{Hash}, Integrity.{IsIntegrity}, PathNames.{home_of}}, proofs.{Meeting.{own_is_met}, Printed.{printed}}}
 use Rattle.cacache_store.specs.declared.store.log.LogItem.{LogItem}
 use Rattle.cacache_memory.specs.Replay.{tree_of}
 use Rattle.cacache_entry.specs.Latest.{answer_of, answer_read, found_of, latest}
 use Rattle.cacache_table.specs.declared.command.Command.TheVariants as commands
-use Rattle.cacache_table.specs.declared.command.Put.{Put}
-use Rattle.cacache_table.specs.declared.reply.Reply.{Reply}
-use Rattle.cacache_table.specs.declared.reply.Reply.TheVariants as replies
-use Rattle.cacache_table.specs.Inserting.{given_or}
-use Rattle.cacache_table.specs.StepPaths.{content_path}
-use Rattle.cacache_table.specs.Storing.{insertion_of, put_commit}
+use Rattle.cacache_table.specs.{declared.{command.Put.{Put}, reply.Reply.{Reply}}, Inserting.{given_or}, StepPaths.{content_path}, Storing.{insertion_of, put_commit}}
 use Rattle.cacache_table.proofs.Promises.{calls_answer}
-use Rattle.cacache_value.specs.Acts.{PutBytes, list_of}
-use Rattle.cacache_value.specs.Value.{Value, InFile, value_of_tree}
-use Rattle.cacache_history.specs.Commits.{Deed, does, finds, deeds, AddsAfter, CommitsAs, InsertionAdds, IsNotOk, PutsContent}
-use Rattle.cacache_history.specs.Setup.{call_site}
-use Rattle.cacache_history.proofs.Digests.{digest_hash}
-use Rattle.cacache_sequence.specs.Beside.{own_integrity}
-use Rattle.cacache_sequence.specs.Caches.{HasContent, lies_under, setup_at}
-use Rattle.cacache_sequence.specs.Keeping.{found_under}
-use Rattle.cacache_sequence.specs.Puts.{ExpectsIntegrity, LeadsToPut, MayLeadToPut, PutsLeave, PutsMayLead, CommitsLeave, CommitsKeep, entry_of_put}
-use Rattle.cacache_sequence.specs.ReadAnswers.{entries_on}
-use Rattle.cacache_sequence.specs.Sequence.{Alike, after_deeds, turns_on}
-use Rattle.cacache_sequence.specs.Stored.{own_hash}
-use Rattle.cacache_sequence.proofs.Beside.{later_contents, put_keeps, case_of, follows_of}
-use Rattle.cacache_sequence.proofs.Committing.{Ended, ended}
-use Rattle.cacache_sequence.proofs.Known.{known}
-use Rattle.cacache_sequence.proofs.Looking.{finds_last}
-use Rattle.cacache_sequence.proofs.Stored.{adds_entry, first_deed, keeps_entries, puts_blob}
-use Rattle.cacache_sequence.proofs.WritesLast.{own_integrity as own_formed}
+use Rattle.cacache_table.specs.declared.reply.Reply.TheVariants as replies
+use Rattle.cacache_value.specs.{Acts.{PutBytes, list_of}, Value.{Value, InFile, value_of_tree}}
+use Rattle.cacache_history.{specs.{Commits.{Deed, does, finds, deeds, AddsAfter, CommitsAs, InsertionAdds, IsNotOk, PutsContent}, Setup.{call_site}}, proofs.Digests.{digest_hash}}
+use Rattle.cacache_sequence.specs.{Beside.{own_integrity}, Caches.{HasContent, lies_under, setup_at}, Keeping.{found_under}, Puts.{ExpectsIntegrity, LeadsToPut, MayLeadToPut, PutsLeave, PutsMayLead, CommitsLeave, CommitsKeep, entry_of_put}, ReadAnswers.{entries_on}, Sequence.{Alike, after_deeds, turns_on}, Stored.{own_hash}}
+use Rattle.cacache_sequence.proofs.{Beside.{later_contents, put_keeps, case_of, follows_of}, Committing.{Ended, ended}, Known.{known}, Looking.{finds_last}, Stored.{adds_entry, first_deed, keeps_entries, puts_blob}, WritesLast.{own_integrity as own_formed}}
 
 -- ---- values
 

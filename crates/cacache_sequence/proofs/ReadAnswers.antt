@@ -2,31 +2,19 @@
 use Rattle.std.proofs.Common.{◌≡◌, ◌⊎◌, inl, inr, ℕ, List, [], ◌∷◌, Option, None, Some, Result, Ok, Err, refl, sym, ap, subst, ◌∙◌}
 use Rattle.sha1.specs.Sha1.{sha1}
 use Rattle.cacache_core.specs.declared.errors.Fault.TheVariants as faults
-use Rattle.cacache_core.specs.declared.errors.Error.TheVariants.{IoError, OutOfMemory}
-use Rattle.cacache_core.specs.declared.integrity.digest.Hash.{Hash}
+use Rattle.cacache_core.specs.declared.{errors.Error.TheVariants.{IoError, OutOfMemory}, integrity.digest.Hash.{Hash}}
 use Rattle.cacache_store.specs.declared.store.step.Step.TheVariants as steps
 use Rattle.cacache_store.specs.declared.store.answer.Answer.TheVariants as answers
 use Rattle.cacache_store.specs.Plain.{PlainStep, PlainAnswer}
-use Rattle.cacache_disk.specs.declared.luck.Luck.TheVariants.{Plain}
-use Rattle.cacache_disk.specs.Tree.{Tree}
-use Rattle.cacache_disk.specs.Apply.{apply}
+use Rattle.cacache_disk.specs.{declared.luck.Luck.TheVariants.{Plain}, Tree.{Tree}, Apply.{apply}}
 use Rattle.cacache_entry.specs.Latest.{Found, latest}
-use Rattle.cacache_table.specs.declared.answers.Refusal.{Refusal}
+use Rattle.cacache_table.specs.{declared.{answers.Refusal.{Refusal}, command.Command.{Command}, reply.Reply.{Reply}}, StepPaths.{bucket_path, content_path}, Replies.{find_reply, content_reply, refusal_reply, lookup}, Runs.{Moves, plain_reply}}
 use Rattle.cacache_table.specs.declared.answers.Refusal.TheVariants as refusals
-use Rattle.cacache_table.specs.declared.command.Command.{Command}
 use Rattle.cacache_table.specs.declared.command.Command.TheVariants as commands
-use Rattle.cacache_table.specs.declared.reply.Reply.{Reply}
 use Rattle.cacache_table.specs.declared.reply.Reply.TheVariants as replies
-use Rattle.cacache_table.specs.StepPaths.{bucket_path, content_path}
-use Rattle.cacache_table.specs.Replies.{find_reply, content_reply, refusal_reply, lookup}
-use Rattle.cacache_table.specs.Runs.{Moves, plain_reply}
 use Rattle.cacache_value.specs.Shows.{blob_bytes}
-use Rattle.cacache_history.specs.Setup.{Setup, home}
-use Rattle.cacache_history.specs.History.{Turn, turn_of}
-use Rattle.cacache_history.specs.ShownTurns.{shown_result, as_refusal, content_at, bucket_read, content_read}
-use Rattle.cacache_history.specs.TurnReplies.{FindsHeld, ReadsHeld, ReadsNext, GetsHeld, ReadsValue}
-use Rattle.cacache_sequence.specs.Sequence.{turns_on, tree_on}
-use Rattle.cacache_sequence.specs.ReadAnswers.{entries_on, read_on, get_on, reply_on, UnlessFailed, RepliesFollow, ReadsKeep}
+use Rattle.cacache_history.specs.{Setup.{Setup, home}, History.{Turn, turn_of}, ShownTurns.{shown_result, as_refusal, content_at, bucket_read, content_read}, TurnReplies.{FindsHeld, ReadsHeld, ReadsNext, GetsHeld, ReadsValue}}
+use Rattle.cacache_sequence.specs.{Sequence.{turns_on, tree_on}, ReadAnswers.{entries_on, read_on, get_on, reply_on, UnlessFailed, RepliesFollow, ReadsKeep}}
 use Rattle.cacache_sequence.proofs.ReadsStay.{reading_keeps}
 
 -- ---- what is shown, unless a step failed

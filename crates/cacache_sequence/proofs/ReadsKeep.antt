@@ -1,36 +1,18 @@
 -- What reads answer by what a cache has, and that it stays.
 use Rattle.std.proofs.Common.{◌≡◌, inl, inr, ℕ, Bool, true, false, cond, List, Some, ap, subst, ◌∙◌, refl}
 use Rattle.sha1.specs.Sha1.{sha1}
-use Rattle.cacache_core.specs.declared.errors.Error.{Error}
-use Rattle.cacache_core.specs.declared.errors.Error.TheVariants.{EntryNotFound, SizeMismatch, IoError, SerdeError, IntegrityError, OutOfMemory}
-use Rattle.cacache_core.specs.declared.errors.Fault.{Fault}
-use Rattle.cacache_core.specs.declared.errors.IntegrityFault.TheVariants.{Check}
-use Rattle.cacache_core.specs.declared.integrity.digest.Hash.{Hash}
-use Rattle.cacache_core.specs.Integrity.{actual, address}
-use Rattle.cacache_core.specs.Meeting.{meets}
-use Rattle.cacache_core.specs.PathNames.{home_of}
+use Rattle.cacache_core.specs.{declared.{errors.{Error.{Error, TheVariants.{EntryNotFound, SizeMismatch, IoError, SerdeError, IntegrityError, OutOfMemory}}, Fault.{Fault}, IntegrityFault.TheVariants.{Check}}, integrity.digest.Hash.{Hash}}, Integrity.{actual, address}, Meeting.{meets}, PathNames.{home_of}}
 use Rattle.cacache_core.proofs.Meeting.{meets_finds}
 use Rattle.cacache_store.specs.declared.store.log.LogItem.{LogItem}
 use Rattle.cacache_memory.specs.Replay.{tree_of}
 use Rattle.cacache_entry.specs.Latest.{latest}
-use Rattle.cacache_table.specs.declared.command.Command.{Command}
+use Rattle.cacache_table.specs.{declared.{command.Command.{Command}, reply.Reply.{Reply}}, Causes.{own_of}, Replies.{content_reply}, Runs.{plain_reply}}
 use Rattle.cacache_table.specs.declared.command.Command.TheVariants as commands
-use Rattle.cacache_table.specs.declared.reply.Reply.{Reply}
 use Rattle.cacache_table.specs.declared.reply.Reply.TheVariants as replies
-use Rattle.cacache_table.specs.Causes.{own_of}
-use Rattle.cacache_table.specs.Replies.{content_reply}
-use Rattle.cacache_table.specs.Runs.{plain_reply}
-use Rattle.cacache_value.specs.Acts.{list_of}
-use Rattle.cacache_value.specs.Shows.{blob_bytes}
-use Rattle.cacache_history.specs.Setup.{Setup, home}
-use Rattle.cacache_history.specs.ShownTurns.{blob_at, as_refusal}
-use Rattle.cacache_sequence.specs.ReadAnswers.{entries_on, read_on, get_on, reply_on, UnlessFailed}
-use Rattle.cacache_sequence.specs.CallErrors.{FailsOnly}
-use Rattle.cacache_sequence.specs.Caches.{HasContent, HasKey, setup_at, GivesBytes, ReadsKey, ReadsContent, FindsNone, ReadsNone}
-use Rattle.cacache_sequence.specs.Looks.{HoldsSame}
-use Rattle.cacache_sequence.proofs.ReadAnswers.{replies_follow}
-use Rattle.cacache_sequence.proofs.Known.{Known, known, excuse}
-use Rattle.cacache_sequence.proofs.Looks.{looks_keep}
+use Rattle.cacache_value.specs.{Acts.{list_of}, Shows.{blob_bytes}}
+use Rattle.cacache_history.specs.{Setup.{Setup, home}, ShownTurns.{blob_at, as_refusal}}
+use Rattle.cacache_sequence.specs.{ReadAnswers.{entries_on, read_on, get_on, reply_on, UnlessFailed}, CallErrors.{FailsOnly}, Caches.{HasContent, HasKey, setup_at, GivesBytes, ReadsKey, ReadsContent, FindsNone, ReadsNone}, Looks.{HoldsSame}}
+use Rattle.cacache_sequence.proofs.{ReadAnswers.{replies_follow}, Known.{Known, known, excuse}, Looks.{looks_keep}}
 
 -- a reply that is these bytes, unless it failed, fails for a step or memory
 fails_for : (bytes : List ℕ) (e : Error) → UnlessFailed (replies.Read bytes) (plain_reply (replies.Refused e)) → FailsOnly (replies.Refused e)

@@ -4,12 +4,8 @@ use Rattle.cacache_core.specs.declared.errors.Fault.{Fault}
 use Rattle.cacache_core.specs.declared.errors.Fault.TheVariants as faults
 use Rattle.cacache_store.specs.declared.store.step.Step.TheVariants as steps
 use Rattle.cacache_store.specs.declared.store.answer.Answer.TheVariants as answers
-use Rattle.cacache_store.specs.declared.store.plain.PlainFile.{PlainFile}
-use Rattle.cacache_store.specs.Plain.{PlainAnswer}
-use Rattle.cacache_disk.specs.declared.luck.Luck.TheVariants.{Plain}
-use Rattle.cacache_disk.specs.Tree.{Tree, listing}
-use Rattle.cacache_disk.specs.LedTo.{file_at, folder}
-use Rattle.cacache_disk.specs.Apply.{apply, unless, opened}
+use Rattle.cacache_store.specs.{declared.store.plain.PlainFile.{PlainFile}, Plain.{PlainAnswer}}
+use Rattle.cacache_disk.specs.{declared.luck.Luck.TheVariants.{Plain}, Tree.{Tree, listing}, LedTo.{file_at, folder}, Apply.{apply, unless, opened}}
 
 -- a step that answers a value or a fault, and leaves the tree
 unless_keeps : {A : Type 0} (r : Result A Fault) (t : Tree) (answer : A → PlainAnswer) → (unless r t (λ x. (answer x, t))).1 ≡ t

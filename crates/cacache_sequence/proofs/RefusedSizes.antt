@@ -1,35 +1,16 @@
 -- The commit of a linker of which another size was said than its target's.
-use Rattle.std.proofs.Common.{◌≡◌, inl, inr, ◌==◌, ℕ, Bool, true, false, cond, List, [], ◌∷◌, ◌++◌, Option, None, Some, length, take, drop, refl, sym, ap, subst, ◌∙◌, arith, append_assoc, append-nil, take-append-drop, eqb-true}
-use Rattle.std.proofs.lemmas.List.{length-take, nil_from_length}
-use Rattle.cacache_core.specs.declared.errors.Error.TheVariants.{IntegrityError, IoError, OutOfMemory, SizeMismatch}
-use Rattle.cacache_core.specs.declared.errors.Fault.{Fault}
+use Rattle.std.proofs.{Common.{◌≡◌, inl, inr, ◌==◌, ℕ, Bool, true, false, cond, List, [], ◌∷◌, ◌++◌, Option, None, Some, length, take, drop, refl, sym, ap, subst, ◌∙◌, arith, append_assoc, append-nil, take-append-drop, eqb-true}, lemmas.List.{length-take, nil_from_length}}
+use Rattle.cacache_core.specs.declared.{errors.{Error.TheVariants.{IntegrityError, IoError, OutOfMemory, SizeMismatch}, Fault.{Fault}, IntegrityFault.TheVariants.{Check}}, integrity.digest.Hash.{Hash}}
 use Rattle.cacache_core.specs.declared.errors.Fault.TheVariants as faults
-use Rattle.cacache_core.specs.declared.errors.IntegrityFault.TheVariants.{Check}
-use Rattle.cacache_core.specs.declared.integrity.digest.Hash.{Hash}
 use Rattle.cacache_store.specs.declared.store.answer.Answer.TheVariants as answers
 use Rattle.cacache_store.specs.declared.store.step.Step.TheVariants as steps
 use Rattle.cacache_store.specs.Plain.{PlainAnswer}
-use Rattle.cacache_disk.specs.declared.luck.Luck.TheVariants.{Plain}
-use Rattle.cacache_disk.specs.Apply.{apply, opened}
-use Rattle.cacache_disk.specs.Tree.{Tree}
+use Rattle.cacache_disk.specs.{declared.luck.Luck.TheVariants.{Plain}, Apply.{apply, opened}, Tree.{Tree}}
 use Rattle.cacache_memory.specs.Replay.{tree_of}
-use Rattle.cacache_table.specs.declared.carried.Commit.{Commit}
-use Rattle.cacache_table.specs.declared.command.Link.{Link}
-use Rattle.cacache_table.specs.declared.reply.Reply.{Reply}
+use Rattle.cacache_table.specs.{declared.{carried.Commit.{Commit}, command.Link.{Link}, reply.Reply.{Reply}, target.Target.{Target}}, Common.{ends_with}, Linking.{after_read, commit_for, link_target}, Runs.{Moves, Runs}, State.{State, confirming, hashing, linking, over, to_link}, Storing.{compared, indexed, link, matches, placed, sized}, Table.{after, piece}}
 use Rattle.cacache_table.specs.declared.reply.Reply.TheVariants as replies
-use Rattle.cacache_table.specs.declared.target.Target.{Target}
-use Rattle.cacache_table.specs.Common.{ends_with}
-use Rattle.cacache_table.specs.Linking.{after_read, commit_for, link_target}
-use Rattle.cacache_table.specs.Runs.{Moves, Runs}
-use Rattle.cacache_table.specs.State.{State, confirming, hashing, linking, over, to_link}
-use Rattle.cacache_table.specs.Storing.{compared, indexed, link, matches, placed, sized}
-use Rattle.cacache_table.specs.Table.{after, piece}
-use Rattle.cacache_sequence.specs.OpenLinkers.{CommitsRest, IsRefused, LinkersRefuse}
-use Rattle.cacache_sequence.specs.Sequence.{AreAnswered}
-use Rattle.cacache_sequence.proofs.InParts.{logs_lead}
-use Rattle.cacache_sequence.proofs.OpenLinkers.{linkers_commit}
-use Rattle.cacache_sequence.proofs.Removed.{over_run}
-use Rattle.cacache_sequence.proofs.SureFiles.{reads}
+use Rattle.cacache_sequence.specs.{OpenLinkers.{CommitsRest, IsRefused, LinkersRefuse}, Sequence.{AreAnswered}}
+use Rattle.cacache_sequence.proofs.{InParts.{logs_lead}, OpenLinkers.{linkers_commit}, Removed.{over_run}, SureFiles.{reads}}
 
 -- ---- a commit that is refused once its content is there
 

@@ -1,30 +1,17 @@
 -- What removals and clearings leave.
 use Rattle.std.proofs.Common.{◌≡◌, ◌⊎◌, inl, inr, ℕ, List, [], None, refl, sym, ap, subst, ◌∙◌, arith}
-use Rattle.cacache_core.specs.declared.errors.Error.{Error}
-use Rattle.cacache_core.specs.declared.errors.Error.TheVariants.{EntryNotFound, SizeMismatch, IoError, SerdeError, IntegrityError, OutOfMemory}
-use Rattle.cacache_core.specs.PathNames.{home_of}
+use Rattle.cacache_core.specs.{declared.errors.Error.{Error, TheVariants.{EntryNotFound, SizeMismatch, IoError, SerdeError, IntegrityError, OutOfMemory}}, PathNames.{home_of}}
 use Rattle.cacache_store.specs.declared.store.log.LogItem.{LogItem}
 use Rattle.cacache_disk.specs.Rooted.{Rooted}
 use Rattle.cacache_memory.specs.Replay.{tree_of}
 use Rattle.cacache_table.specs.declared.command.Command.TheVariants as commands
-use Rattle.cacache_table.specs.declared.command.Delete.{Delete}
-use Rattle.cacache_table.specs.declared.reply.Reply.{Reply}
-use Rattle.cacache_table.specs.declared.reply.Reply.TheVariants as replies
-use Rattle.cacache_table.specs.Causes.{HasCause, own_of, OfWalk, Faulted}
-use Rattle.cacache_table.specs.Inserting.{deletion, refused_cause}
-use Rattle.cacache_table.specs.Promises.{Only}
-use Rattle.cacache_table.specs.Runs.{plain_reply}
+use Rattle.cacache_table.specs.{declared.{command.Delete.{Delete}, reply.Reply.{Reply}}, Causes.{HasCause, own_of, OfWalk, Faulted}, Inserting.{deletion, refused_cause}, Promises.{Only}, Runs.{plain_reply}}
 use Rattle.cacache_table.proofs.Promises.{calls_answer}
+use Rattle.cacache_table.specs.declared.reply.Reply.TheVariants as replies
 use Rattle.cacache_value.specs.Value.{value_of_tree}
 use Rattle.cacache_history.specs.Setup.{call_site}
-use Rattle.cacache_sequence.specs.ReadAnswers.{entries_on}
-use Rattle.cacache_sequence.specs.Caches.{IsCache, setup_at, RemovesKey, RemovalsLast, Empties, ClearingsEmpty}
-use Rattle.cacache_sequence.proofs.Stored.{deletes_add}
-use Rattle.cacache_sequence.proofs.CallErrors.{calls_fail_only}
-use Rattle.cacache_sequence.proofs.Emptied.{clears_all}
-use Rattle.cacache_sequence.proofs.Forms.{bare_written}
-use Rattle.cacache_sequence.proofs.Known.{Known, known, excuse}
-use Rattle.cacache_sequence.proofs.Looking.{finds_last}
+use Rattle.cacache_sequence.specs.{ReadAnswers.{entries_on}, Caches.{IsCache, setup_at, RemovesKey, RemovalsLast, Empties, ClearingsEmpty}}
+use Rattle.cacache_sequence.proofs.{Stored.{deletes_add}, CallErrors.{calls_fail_only}, Emptied.{clears_all}, Forms.{bare_written}, Known.{Known, known, excuse}, Looking.{finds_last}}
 
 removes : (cache base key : List ℕ) (moment : ℕ) (old new : List LogItem) → refused_cause (deletion cache (record { key = key; moment = moment })) ≡ None → (r : Reply)
     → Known cache base (commands.Delete (record { key = key; moment = moment })) r old new → Only replies.Done r → RemovesKey cache key r old new

@@ -1,53 +1,22 @@
 -- What the removal of a content, and of a key with its content, leaves in a cache.
-use Rattle.std.proofs.Common.{◌≡◌, ◌⊎◌, inl, inr, ℕ, Bool, true, false, cond, List, [], ◌∷◌, ◌++◌, Option, None, Some, Result, Ok, Err, refl, sym, ap, subst, ◌∙◌, arith}
-use Rattle.std.proofs.lemmas.List.{append_cancel_left}
-use Rattle.std.proofs.lemmas.List.Elements.{All-head}
+use Rattle.std.proofs.{Common.{◌≡◌, ◌⊎◌, inl, inr, ℕ, Bool, true, false, cond, List, [], ◌∷◌, ◌++◌, Option, None, Some, Result, Ok, Err, refl, sym, ap, subst, ◌∙◌, arith}, lemmas.List.{append_cancel_left, Elements.{All-head}}}
 use Rattle.sha1.specs.Sha1.{sha1}
-use Rattle.cacache_core.specs.declared.errors.Error.{Error}
-use Rattle.cacache_core.specs.declared.errors.Error.TheVariants.{IoError, OutOfMemory}
-use Rattle.cacache_core.specs.declared.errors.Fault.{Fault}
+use Rattle.cacache_core.specs.{declared.{errors.{Error.{Error, TheVariants.{IoError, OutOfMemory}}, Fault.{Fault}}, integrity.digest.Hash.{Hash}}, Integrity.{IsHash, IsIntegrity}, PathNames.{Names, names_of, names_below, home_of}, Paths.{joined, content_names, bucket_names_of}}
+use Rattle.cacache_core.proofs.{PathLemmas.{keys_have_digests}, PathTexts.{paths_differ}}
 use Rattle.cacache_core.specs.declared.errors.Fault.TheVariants as faults
-use Rattle.cacache_core.specs.declared.integrity.digest.Hash.{Hash}
-use Rattle.cacache_core.specs.Integrity.{IsHash, IsIntegrity}
-use Rattle.cacache_core.specs.PathNames.{Names, names_of, names_below, home_of}
-use Rattle.cacache_core.specs.Paths.{joined, content_names, bucket_names_of}
-use Rattle.cacache_core.proofs.PathLemmas.{keys_have_digests}
-use Rattle.cacache_core.proofs.PathTexts.{paths_differ}
 use Rattle.cacache_store.specs.declared.store.answer.Answer.TheVariants as answers
-use Rattle.cacache_store.specs.declared.store.log.LogItem.{LogItem}
+use Rattle.cacache_store.specs.{declared.store.log.LogItem.{LogItem}, Plain.{PlainStep, PlainAnswer}}
 use Rattle.cacache_store.specs.declared.store.step.Step.TheVariants as steps
-use Rattle.cacache_store.specs.Plain.{PlainStep, PlainAnswer}
-use Rattle.cacache_disk.specs.declared.luck.Luck.TheVariants.{Plain}
-use Rattle.cacache_disk.specs.Apply.{apply}
-use Rattle.cacache_disk.specs.Tree.{Tree}
-use Rattle.cacache_disk.proofs.Maps.{same_path-true}
-use Rattle.cacache_disk.proofs.Roots.{same_self}
+use Rattle.cacache_disk.{specs.{declared.luck.Luck.TheVariants.{Plain}, Apply.{apply}, Tree.{Tree}}, proofs.{Maps.{same_path-true}, Roots.{same_self}}}
 use Rattle.cacache_memory.specs.Replay.{tree_of}
-use Rattle.cacache_entry.specs.Entry.{Entry}
-use Rattle.cacache_entry.specs.Latest.{latest}
-use Rattle.cacache_table.specs.declared.command.Command.{Command}
+use Rattle.cacache_entry.specs.{Entry.{Entry}, Latest.{latest}}
+use Rattle.cacache_table.specs.{declared.{command.Command.{Command}, reply.Reply.{Reply}}, Causes.{own_of}, Runs.{Moves, Runs}, State.{State, doing, over, remove}, StepPaths.{content_path}}
 use Rattle.cacache_table.specs.declared.command.Command.TheVariants as commands
-use Rattle.cacache_table.specs.declared.reply.Reply.{Reply}
 use Rattle.cacache_table.specs.declared.reply.Reply.TheVariants as replies
-use Rattle.cacache_table.specs.Causes.{own_of}
-use Rattle.cacache_table.specs.Runs.{Moves, Runs}
-use Rattle.cacache_table.specs.State.{State, doing, over, remove}
-use Rattle.cacache_table.specs.StepPaths.{content_path}
-use Rattle.cacache_value.specs.Acts.{Drop, act_at, act_if_done, act_of, list_of}
-use Rattle.cacache_value.specs.Kinds.{is_path_of}
-use Rattle.cacache_value.specs.Value.{Value, Blob, value_of_tree}
-use Rattle.cacache_history.specs.Commits.{Deed, deeds, deeds_of_act, finds_in}
-use Rattle.cacache_history.proofs.Righted.{one_address}
-use Rattle.cacache_history.proofs.ShownTurns.{content_below}
-use Rattle.cacache_sequence.specs.Beside.{ShareAddress}
-use Rattle.cacache_sequence.specs.CallErrors.{FailsOnly}
-use Rattle.cacache_sequence.specs.Caches.{HasContent, IsExcused, lies_under, setup_at}
-use Rattle.cacache_sequence.specs.Keeping.{found_under}
-use Rattle.cacache_sequence.specs.Removed.{KeepsApart, RemovesContent, ContentsGo}
-use Rattle.cacache_sequence.specs.Sequence.{after_deeds, turns_on}
-use Rattle.cacache_sequence.proofs.Beside.{follows_of}
-use Rattle.cacache_sequence.proofs.KeptKeys.{alike_lookup}
-use Rattle.cacache_sequence.proofs.Known.{Known, known, excuse}
+use Rattle.cacache_value.specs.{Acts.{Drop, act_at, act_if_done, act_of, list_of}, Kinds.{is_path_of}, Value.{Value, Blob, value_of_tree}}
+use Rattle.cacache_history.{specs.Commits.{Deed, deeds, deeds_of_act, finds_in}, proofs.{Righted.{one_address}, ShownTurns.{content_below}}}
+use Rattle.cacache_sequence.specs.{Beside.{ShareAddress}, CallErrors.{FailsOnly}, Caches.{HasContent, IsExcused, lies_under, setup_at}, Keeping.{found_under}, Removed.{KeepsApart, RemovesContent, ContentsGo}, Sequence.{after_deeds, turns_on}}
+use Rattle.cacache_sequence.proofs.{Beside.{follows_of}, KeptKeys.{alike_lookup}, Known.{Known, known, excuse}}
 
 -- ---- runs of removals
 

@@ -1,52 +1,23 @@
 -- What the removal of a key with its content leaves in a cache.
-use Rattle.std.proofs.Common.{◌≡◌, ◌⊎◌, inl, inr, ℕ, List, [], ◌∷◌, ◌++◌, Option, None, Some, option_map, refl, sym, ap, subst, ◌∙◌, arith}
+use Rattle.std.proofs.{Common.{◌≡◌, ◌⊎◌, inl, inr, ℕ, List, [], ◌∷◌, ◌++◌, Option, None, Some, option_map, refl, sym, ap, subst, ◌∙◌, arith}, lemmas.List.Elements.{All-head}}
 use Rattle.std.specs.Prelude.{IfSome}
-use Rattle.std.proofs.lemmas.List.Elements.{All-head}
 use Rattle.sha1.specs.Sha1.{sha1}
-use Rattle.cacache_core.specs.declared.errors.Error.TheVariants.{IoError, OutOfMemory}
+use Rattle.cacache_core.specs.{declared.{errors.Error.TheVariants.{IoError, OutOfMemory}, integrity.digest.Hash.{Hash}}, Integrity.{IsHash, IsIntegrity, address}, PathNames.{names_of, names_below, home_of}, Paths.{content_names, bucket_names_of}}
 use Rattle.cacache_core.specs.declared.errors.Fault.TheVariants as faults
-use Rattle.cacache_core.specs.declared.integrity.digest.Hash.{Hash}
-use Rattle.cacache_core.specs.Integrity.{IsHash, IsIntegrity, address}
-use Rattle.cacache_core.specs.PathNames.{names_of, names_below, home_of}
-use Rattle.cacache_core.specs.Paths.{content_names, bucket_names_of}
 use Rattle.cacache_store.specs.declared.store.answer.Answer.TheVariants as answers
-use Rattle.cacache_store.specs.declared.store.log.LogItem.{LogItem}
+use Rattle.cacache_store.specs.{declared.store.log.LogItem.{LogItem}, Plain.{PlainStep, PlainAnswer}}
 use Rattle.cacache_store.specs.declared.store.step.Step.TheVariants as steps
-use Rattle.cacache_store.specs.Plain.{PlainStep, PlainAnswer}
-use Rattle.cacache_disk.specs.declared.luck.Luck.TheVariants.{Plain}
-use Rattle.cacache_disk.specs.Apply.{apply}
-use Rattle.cacache_disk.specs.Tree.{Tree}
+use Rattle.cacache_disk.specs.{declared.luck.Luck.TheVariants.{Plain}, Apply.{apply}, Tree.{Tree}}
 use Rattle.cacache_memory.specs.Replay.{tree_of}
-use Rattle.cacache_entry.specs.Bucket.{entries_of}
-use Rattle.cacache_entry.specs.Latest.{Found, latest}
+use Rattle.cacache_entry.specs.{Bucket.{entries_of}, Latest.{Found, latest}}
 use Rattle.cacache_table.specs.declared.command.Command.TheVariants as commands
-use Rattle.cacache_table.specs.declared.reply.Reply.{Reply}
+use Rattle.cacache_table.specs.{declared.reply.Reply.{Reply}, Looking.{found_in}, Removing.{remove_bucket, remove_found}, Replies.{bucket_shown}, Runs.{Moves, Runs}, State.{over}, StepPaths.{bucket_path, content_path}, Table.{opening}}
 use Rattle.cacache_table.specs.declared.reply.Reply.TheVariants as replies
-use Rattle.cacache_table.specs.Looking.{found_in}
-use Rattle.cacache_table.specs.Removing.{remove_bucket, remove_found}
-use Rattle.cacache_table.specs.Replies.{bucket_shown}
-use Rattle.cacache_table.specs.Runs.{Moves, Runs}
-use Rattle.cacache_table.specs.State.{over}
-use Rattle.cacache_table.specs.StepPaths.{bucket_path, content_path}
-use Rattle.cacache_table.specs.Table.{opening}
-use Rattle.cacache_value.specs.Acts.{act_of, list_of}
-use Rattle.cacache_value.specs.Value.{Value, value_of_tree}
-use Rattle.cacache_history.specs.Commits.{deeds, deeds_of_act, finds_in}
-use Rattle.cacache_history.specs.History.{turn_of}
-use Rattle.cacache_history.specs.Setup.{call_site}
-use Rattle.cacache_history.specs.ShownTurns.{bucket_read}
-use Rattle.cacache_history.proofs.Holding.{TurnHolds}
-use Rattle.cacache_history.proofs.ShownTurns.{bucket_at_turn, bucket_below, content_below}
-use Rattle.cacache_history.proofs.Spelled.{latest_has}
-use Rattle.cacache_sequence.specs.Caches.{IsCache, LacksKey, RemovesKey, lies_under, setup_at}
-use Rattle.cacache_sequence.specs.Keeping.{found_under}
-use Rattle.cacache_sequence.specs.ReadAnswers.{entries_on}
-use Rattle.cacache_sequence.specs.Removed.{LeadsThere, KeepsApartFrom, KeysGo}
-use Rattle.cacache_sequence.specs.Sequence.{AreAnswered, after_deeds, turns_on}
-use Rattle.cacache_sequence.proofs.Beside.{follows_of}
-use Rattle.cacache_sequence.proofs.Known.{Known, known}
-use Rattle.cacache_sequence.proofs.ReadsStay.{reading_keeps}
-use Rattle.cacache_sequence.proofs.Removed.{IsRefused, LastRemoval, Ends, Says, removed_at, refused_run, removal, last_removal, then_deeds, cut_contents, uncut_buckets, cut_buckets, uncut_contents, bucket_gone, nowhere, says}
+use Rattle.cacache_value.specs.{Acts.{act_of, list_of}, Value.{Value, value_of_tree}}
+use Rattle.cacache_history.specs.{Commits.{deeds, deeds_of_act, finds_in}, History.{turn_of}, Setup.{call_site}, ShownTurns.{bucket_read}}
+use Rattle.cacache_history.proofs.{Holding.{TurnHolds}, ShownTurns.{bucket_at_turn, bucket_below, content_below}, Spelled.{latest_has}}
+use Rattle.cacache_sequence.specs.{Caches.{IsCache, LacksKey, RemovesKey, lies_under, setup_at}, Keeping.{found_under}, ReadAnswers.{entries_on}, Removed.{LeadsThere, KeepsApartFrom, KeysGo}, Sequence.{AreAnswered, after_deeds, turns_on}}
+use Rattle.cacache_sequence.proofs.{Beside.{follows_of}, Known.{Known, known}, ReadsStay.{reading_keeps}, Removed.{IsRefused, LastRemoval, Ends, Says, removed_at, refused_run, removal, last_removal, then_deeds, cut_contents, uncut_buckets, cut_buckets, uncut_contents, bucket_gone, nowhere, says}}
 
 -- ---- values
 

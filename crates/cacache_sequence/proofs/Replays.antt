@@ -1,14 +1,8 @@
 -- The log of a store in memory, part by part.
-use Rattle.std.proofs.Common.{◌≡◌, ℕ, List, [], ◌∷◌, ◌++◌, None, Result, Ok, Err, refl, sym, ap, ◌∙◌, append-nil, append_assoc}
-use Rattle.std.specs.Prelude.{map}
-use Rattle.std.specs.Result.{result_err}
+use Rattle.std.{proofs.Common.{◌≡◌, ℕ, List, [], ◌∷◌, ◌++◌, None, Result, Ok, Err, refl, sym, ap, ◌∙◌, append-nil, append_assoc}, specs.{Prelude.{map}, Result.{result_err}}}
 use Rattle.cacache_core.specs.declared.errors.Fault.{Fault}
-use Rattle.cacache_store.specs.declared.store.log.LogItem.{LogItem}
-use Rattle.cacache_store.specs.declared.store.log.LogItem.TheVariants.{Made}
-use Rattle.cacache_disk.specs.declared.luck.Luck.TheVariants.{Plain}
-use Rattle.cacache_disk.specs.Tree.{Tree}
-use Rattle.cacache_disk.specs.Apply.{apply, planted}
-use Rattle.cacache_disk.specs.LedTo.{and_then}
+use Rattle.cacache_store.specs.declared.store.log.LogItem.{LogItem, TheVariants.{Made}}
+use Rattle.cacache_disk.specs.{declared.luck.Luck.TheVariants.{Plain}, Tree.{Tree}, Apply.{apply, planted}, LedTo.{and_then}}
 use Rattle.cacache_memory.specs.Replay.{changed, after, replay, IsReplayable}
 use Rattle.cacache_table.specs.Runs.{Moves}
 use Rattle.cacache_value.specs.OpeningTrees.{with_files}

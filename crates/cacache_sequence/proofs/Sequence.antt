@@ -1,43 +1,17 @@
 -- Calls in sequence: each keeps what holds of the tree, and answers by it.
-use Rattle.std.proofs.Common.{◌≡◌, inl, inr, List, [], ◌∷◌, ◌++◌, Option, None, Some, refl, sym, ap, subst, ◌∙◌, append-nil, append_assoc}
-use Rattle.std.specs.Prelude.{map}
-use Rattle.cacache_store.specs.declared.store.log.LogItem.{LogItem}
-use Rattle.cacache_store.specs.declared.store.log.LogItem.TheVariants.{Made}
-use Rattle.cacache_disk.specs.declared.luck.Luck.TheVariants.{Plain}
-use Rattle.cacache_disk.specs.Tree.{Tree, bare}
-use Rattle.cacache_disk.specs.Apply.{apply}
+use Rattle.std.{proofs.Common.{◌≡◌, inl, inr, List, [], ◌∷◌, ◌++◌, Option, None, Some, refl, sym, ap, subst, ◌∙◌, append-nil, append_assoc}, specs.Prelude.{map}}
+use Rattle.cacache_store.specs.declared.store.log.LogItem.{LogItem, TheVariants.{Made}}
+use Rattle.cacache_disk.specs.{declared.luck.Luck.TheVariants.{Plain}, Tree.{Tree, bare}, Apply.{apply}}
 use Rattle.cacache_memory.specs.Replay.{replay, IsReplayable, tree_of, IsLog}
-use Rattle.cacache_table.specs.declared.reply.Reply.{Reply}
-use Rattle.cacache_table.specs.Runs.{Moves, Runs, plain_reply}
-use Rattle.cacache_table.specs.Sound.{MayBegin}
-use Rattle.cacache_table.specs.State.{State}
-use Rattle.cacache_table.specs.Table.{after, opening}
+use Rattle.cacache_table.specs.{declared.reply.Reply.{Reply}, Runs.{Moves, Runs, plain_reply}, Sound.{MayBegin}, State.{State}, Table.{after, opening}}
 use Rattle.cacache_table.proofs.EarnedErrors.{io_errors_have_causes}
-use Rattle.cacache_value.specs.OpeningTrees.{LieApart}
-use Rattle.cacache_value.specs.Traces.{IsTrace, tree_after, acts}
-use Rattle.cacache_value.specs.Value.{wide_value, cache_part, value_of_tree}
-use Rattle.cacache_value.proofs.OpeningTrees.{files_open}
-use Rattle.cacache_value.proofs.Traces.{traces_act}
-use Rattle.cacache_history.specs.Setup.{Setup, call_site, home, may_export, is_outside}
-use Rattle.cacache_history.specs.History.{Now, Ends, MayMove, NamesIntegrity, new_call, call_after, turn_of}
+use Rattle.cacache_value.specs.{OpeningTrees.{LieApart}, Traces.{IsTrace, tree_after, acts}, Value.{wide_value, cache_part, value_of_tree}}
+use Rattle.cacache_value.proofs.{OpeningTrees.{files_open}, Traces.{traces_act}}
+use Rattle.cacache_history.specs.{Setup.{Setup, call_site, home, may_export, is_outside}, History.{Now, Ends, MayMove, NamesIntegrity, new_call, call_after, turn_of}, Turns.{made_in, EachTurn}, Commits.{deeds}}
+use Rattle.cacache_history.proofs.{Bucketed.{Keeps, KeyedTurn, move_keyed}, Holding.{AllHold, CallHolds, TurnsHold, begins_hold, moved_holds, made_proper, tree_holds}, Carrying.{own_of, Makes}, Formed.{opening_formed}, Keyed.{opening_keyed}, Owned.{opening_own}, Righted.{opening_right}, Runs.{memory_plain}, TurnReplies.{reads_value}, Commits.{cases, plain_refused}}
 use Rattle.cacache_history.specs.History as histories
-use Rattle.cacache_history.specs.Turns.{made_in, EachTurn}
-use Rattle.cacache_history.specs.Commits.{deeds}
-use Rattle.cacache_history.proofs.Bucketed.{Keeps, KeyedTurn, move_keyed}
-use Rattle.cacache_history.proofs.Holding.{AllHold, CallHolds, TurnsHold, begins_hold, moved_holds, made_proper, tree_holds}
-use Rattle.cacache_history.proofs.Carrying.{own_of, Makes}
-use Rattle.cacache_history.proofs.Formed.{opening_formed}
-use Rattle.cacache_history.proofs.Keyed.{opening_keyed}
-use Rattle.cacache_history.proofs.Owned.{opening_own}
-use Rattle.cacache_history.proofs.Righted.{opening_right}
-use Rattle.cacache_history.proofs.Runs.{memory_plain}
-use Rattle.cacache_history.proofs.TurnReplies.{reads_value}
-use Rattle.cacache_history.proofs.Commits.{cases, plain_refused}
 use Rattle.cacache_sequence.specs.Sequence.{SequenceCall, AreMade, MayBeMade, planted_log, tree_on, turns_on, AreAnswered, plain_moves, Alike, after_deeds, CallIsAnswered, IsSound, AllAnswer, RunsAreCalls, OpeningsAreSound, CallsAreAnswered, SequencesAnswer}
-use Rattle.cacache_sequence.proofs.Alike.{moves_alike}
-use Rattle.cacache_sequence.proofs.Found.{found_before}
-use Rattle.cacache_sequence.proofs.Persisting.{puts_find_nothing}
-use Rattle.cacache_sequence.proofs.Replays.{replay_more, replayable_rest, moves_lead, moves_answered, files_lead, calls_lengthen}
+use Rattle.cacache_sequence.proofs.{Alike.{moves_alike}, Found.{found_before}, Persisting.{puts_find_nothing}, Replays.{replay_more, replayable_rest, moves_lead, moves_answered, files_lead, calls_lengthen}}
 
 -- the moves of a run, as those of a call
 pub runs_are_calls : RunsAreCalls

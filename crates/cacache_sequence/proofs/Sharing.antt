@@ -1,27 +1,16 @@
 -- What a reflink or a hard link of a content leaves at its path.
 use Rattle.std.proofs.Common.{◌≡◌, ℕ, List, [], ◌∷◌, ◌++◌, Option, None, Some, Result, Ok, Err, refl, sym, ap, ◌∙◌}
-use Rattle.cacache_core.specs.declared.errors.Fault.{Fault}
+use Rattle.cacache_core.specs.{declared.{errors.Fault.{Fault}, integrity.digest.Hash.{Hash}}, Integrity.{IsHash}, PathNames.{Names, home_of, names_below, names_of}, Paths.{content_names}}
 use Rattle.cacache_core.specs.declared.errors.Fault.TheVariants as faults
-use Rattle.cacache_core.specs.declared.integrity.digest.Hash.{Hash}
-use Rattle.cacache_core.specs.Integrity.{IsHash}
-use Rattle.cacache_core.specs.PathNames.{Names, home_of, names_below, names_of}
-use Rattle.cacache_core.specs.Paths.{content_names}
 use Rattle.cacache_store.specs.declared.store.answer.Answer.TheVariants as answers
 use Rattle.cacache_store.specs.declared.store.step.Step.TheVariants as steps
-use Rattle.cacache_disk.specs.declared.luck.Luck.TheVariants.{Plain}
-use Rattle.cacache_disk.specs.declared.node.Node.{Node}
-use Rattle.cacache_disk.specs.declared.node.Node.TheVariants.{Folder, File, Link}
-use Rattle.cacache_disk.specs.Apply.{apply, unless}
-use Rattle.cacache_disk.specs.LedTo.{and_then, file_at, followed, free, leads, linked, linked_in, on_link, place, standing, where_free, where_no_folder, writable}
-use Rattle.cacache_disk.specs.Tree.{Tree, look, put}
+use Rattle.cacache_disk.specs.{declared.{luck.Luck.TheVariants.{Plain}, node.Node.{Node, TheVariants.{Folder, File, Link}}}, Apply.{apply, unless}, LedTo.{and_then, file_at, followed, free, leads, linked, linked_in, on_link, place, standing, where_free, where_no_folder, writable}, Tree.{Tree, look, put}}
 use Rattle.cacache_disk.proofs.FoundNodes.{place_ok}
 use Rattle.cacache_memory.specs.Replay.{shown}
 use Rattle.cacache_table.specs.StepPaths.{content_path}
-use Rattle.cacache_value.specs.Kinds.{node_below}
-use Rattle.cacache_value.specs.Value.{InFile, blob_in}
+use Rattle.cacache_value.specs.{Kinds.{node_below}, Value.{InFile, blob_in}}
 use Rattle.cacache_history.proofs.ShownTurns.{content_below}
-use Rattle.cacache_sequence.specs.Caches.{setup_at}
-use Rattle.cacache_sequence.proofs.WrittenFiles.{written_shown}
+use Rattle.cacache_sequence.{specs.Caches.{setup_at}, proofs.WrittenFiles.{written_shown}}
 
 -- ---- a path where nothing stands
 

@@ -1,16 +1,10 @@
 -- Trees without what stood at some paths and below them.
-use Rattle.std.proofs.Common.{◌≡◌, ◌⊎◌, inl, inr, ℕ, Bool, true, false, cond, List, [], ◌∷◌, ◌++◌, Option, None, refl, sym, ap, ap₂, ◌∙◌, append_assoc, append-nil}
+use Rattle.std.proofs.{Common.{◌≡◌, ◌⊎◌, inl, inr, ℕ, Bool, true, false, cond, List, [], ◌∷◌, ◌++◌, Option, None, refl, sym, ap, ap₂, ◌∙◌, append_assoc, append-nil}, lemmas.Slice.Eq.{bytes_eq-Decides}}
 use Rattle.std.specs.Prelude.{bytes_eq}
-use Rattle.std.proofs.lemmas.Slice.Eq.{bytes_eq-Decides}
 use Rattle.cacache_core.specs.PathNames.{Names}
 use Rattle.cacache_store.specs.declared.store.answer.Name.{Name}
-use Rattle.cacache_disk.specs.declared.node.Node.{Node}
-use Rattle.cacache_disk.specs.Tree.{Tree, look, cut, same_path}
-use Rattle.cacache_disk.specs.Rooted.{Rooted}
-use Rattle.cacache_disk.proofs.Maps.{same_path-true}
-use Rattle.cacache_disk.proofs.PutNodes.{look-cut}
-use Rattle.cacache_disk.proofs.Roots.{same_self}
-use Rattle.cacache_disk.proofs.Standing.{above_missing}
+use Rattle.cacache_disk.specs.{declared.node.Node.{Node}, Tree.{Tree, look, cut, same_path}, Rooted.{Rooted}}
+use Rattle.cacache_disk.proofs.{Maps.{same_path-true}, PutNodes.{look-cut}, Roots.{same_self}, Standing.{above_missing}}
 use Rattle.cacache_history.proofs.ToldFolders.{IsAmong}
 
 -- ---- at a path or below it

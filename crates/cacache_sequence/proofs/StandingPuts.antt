@@ -1,73 +1,22 @@
 -- What a put leaves of a store that stands. The laws of calls on a cache ask for well-formed entries, which what a loss left needn't have.
-use Rattle.std.proofs.Common.{◌≡◌, ◌⊎◌, inl, inr, ℕ, List, [], ◌∷◌, ◌++◌, Option, None, Some, Result, Ok, Err, map, refl, sym, ap, subst, ◌∙◌, append-nil}
+use Rattle.std.proofs.{Common.{◌≡◌, ◌⊎◌, inl, inr, ℕ, List, [], ◌∷◌, ◌++◌, Option, None, Some, Result, Ok, Err, map, refl, sym, ap, subst, ◌∙◌, append-nil}, lemmas.List.Elements.{All-nil}}
 use Rattle.std.specs.Prelude.{IfOk}
-use Rattle.std.proofs.lemmas.List.Elements.{All-nil}
-use Rattle.cacache_core.specs.declared.errors.Error.{Error}
-use Rattle.cacache_core.specs.declared.errors.Fault.{Fault}
-use Rattle.cacache_core.specs.declared.integrity.digest.Hash.{Hash}
-use Rattle.cacache_core.specs.PathNames.{Names, names_of, home_of}
-use Rattle.cacache_store.specs.Fits.{Fits}
-use Rattle.cacache_store.specs.Plain.{PlainStep, PlainAnswer}
-use Rattle.cacache_store.specs.declared.store.log.LogItem.{LogItem}
-use Rattle.cacache_store.specs.declared.store.log.LogItem.TheVariants.{Made}
-use Rattle.cacache_disk.specs.declared.luck.Luck.TheVariants.{Plain}
-use Rattle.cacache_disk.specs.declared.node.Node.{Node}
-use Rattle.cacache_disk.specs.declared.node.Node.TheVariants.{Folder, File, Link}
-use Rattle.cacache_disk.specs.Apply.{apply}
-use Rattle.cacache_disk.specs.Rooted.{Rooted}
-use Rattle.cacache_disk.specs.Tree.{Tree, look}
+use Rattle.cacache_core.specs.{declared.{errors.{Error.{Error}, Fault.{Fault}}, integrity.digest.Hash.{Hash}}, PathNames.{Names, names_of, home_of}}
+use Rattle.cacache_store.specs.{Fits.{Fits}, Plain.{PlainStep, PlainAnswer}, declared.store.log.LogItem.{LogItem, TheVariants.{Made}}}
+use Rattle.cacache_disk.specs.{declared.{luck.Luck.TheVariants.{Plain}, node.Node.{Node, TheVariants.{Folder, File, Link}}}, Apply.{apply}, Rooted.{Rooted}, Tree.{Tree, look}}
 use Rattle.cacache_disk.proofs.KeptFolders.{steps_keep_rooted}
 use Rattle.cacache_memory.specs.Replay.{tree_of}
-use Rattle.cacache_entry.specs.FittingEntries.{IsEntry}
-use Rattle.cacache_entry.proofs.EntryCauses.{Fits-no_cause}
-use Rattle.cacache_table.specs.declared.command.Command.{Command}
+use Rattle.cacache_entry.{specs.FittingEntries.{IsEntry}, proofs.EntryCauses.{Fits-no_cause}}
+use Rattle.cacache_table.specs.{declared.{command.{Command.{Command}, Put.{Put}}, reply.Reply.{Reply}}, Causes.{HasCause, own_of as faults_of}, Effects.{Commits, Effect, Indexes, Inserts, IsRefused, TookAll, effects_of, sent, stored}, Inserting.{bucket_line, refused_cause}, Runs.{Moves, Runs, plain_reply}, Sound.{Sound}, State.{Insertion, Site, State}, StepPaths.{bucket_path, content_path}, Storing.{insertion_of, put_commit}, Table.{after, opening}}
+use Rattle.cacache_table.proofs.{EarnedErrors.{io_errors_have_causes}, Effects.{puts_commit}, Promises.{calls_answer}, Sound.{begins_sound, stays_sound}}
 use Rattle.cacache_table.specs.declared.command.Command.TheVariants as commands
-use Rattle.cacache_table.specs.declared.command.Put.{Put}
-use Rattle.cacache_table.specs.declared.reply.Reply.{Reply}
 use Rattle.cacache_table.specs.declared.reply.Reply.TheVariants as replies
-use Rattle.cacache_table.specs.Causes.{HasCause, own_of as faults_of}
-use Rattle.cacache_table.specs.Effects.{Commits, Effect, Indexes, Inserts, IsRefused, TookAll, effects_of, sent, stored}
-use Rattle.cacache_table.specs.Inserting.{bucket_line, refused_cause}
-use Rattle.cacache_table.specs.Runs.{Moves, Runs, plain_reply}
-use Rattle.cacache_table.specs.Sound.{Sound}
-use Rattle.cacache_table.specs.State.{Insertion, Site, State}
-use Rattle.cacache_table.specs.StepPaths.{bucket_path, content_path}
-use Rattle.cacache_table.specs.Storing.{insertion_of, put_commit}
-use Rattle.cacache_table.specs.Table.{after, opening}
-use Rattle.cacache_table.proofs.EarnedErrors.{io_errors_have_causes}
-use Rattle.cacache_table.proofs.Effects.{puts_commit}
-use Rattle.cacache_table.proofs.Promises.{calls_answer}
-use Rattle.cacache_table.proofs.Sound.{begins_sound, stays_sound}
-use Rattle.cacache_value.specs.Acts.{AddEntries, PutBytes}
-use Rattle.cacache_value.specs.Kinds.{Elsewhere, path_kind}
-use Rattle.cacache_value.specs.OpeningTrees.{LieApart}
-use Rattle.cacache_value.specs.Placed.{MayStand, Placed}
-use Rattle.cacache_value.specs.Traces.{IsTrace}
-use Rattle.cacache_value.specs.Value.{value_of_tree}
+use Rattle.cacache_value.specs.{Acts.{AddEntries, PutBytes}, Kinds.{Elsewhere, path_kind}, OpeningTrees.{LieApart}, Placed.{MayStand, Placed}, Traces.{IsTrace}, Value.{value_of_tree}}
 use Rattle.cacache_value.proofs.Traces.{steps_keep_placed, traces_act}
-use Rattle.cacache_history.specs.Commits.{AddsAfter, CommitsAs, Deed, InsertionAdds, IsNotOk, PutsContent, deeds, does, finds}
-use Rattle.cacache_history.specs.History.{turn_of}
-use Rattle.cacache_history.specs.Setup.{Setup, call_site, home, is_outside, may_export}
-use Rattle.cacache_history.specs.Turns.{EachTurn, made_in}
-use Rattle.cacache_history.proofs.Carrying.{Carries, Makes, Own, carries_makes, carries_on, opening_carries, own_bytes, own_of}
-use Rattle.cacache_history.proofs.Deeds.{PutsAt, Realizes, SendsEntry, took_entry, turns_realize}
-use Rattle.cacache_history.proofs.Formed.{TreeFormed}
-use Rattle.cacache_history.proofs.Holding.{TurnHolds, TurnsHold}
-use Rattle.cacache_history.proofs.Proper.{sound_proper}
-use Rattle.cacache_sequence.specs.Beside.{FitsEntry, own_integrity}
-use Rattle.cacache_sequence.specs.CallErrors.{IsPlainPut}
-use Rattle.cacache_sequence.specs.Caches.{Called, IsExcused, setup_at}
-use Rattle.cacache_sequence.specs.Puts.{ExpectsIntegrity, HasPut}
-use Rattle.cacache_sequence.specs.Sequence.{Alike, AreAnswered, after_deeds, plain_moves, tree_on, turns_on}
-use Rattle.cacache_sequence.specs.Standing.{IsStanding, PutStands, StandingWrites}
-use Rattle.cacache_sequence.proofs.Beside.{put_keeps}
-use Rattle.cacache_sequence.proofs.CallErrors.{calls_fail_only}
-use Rattle.cacache_sequence.proofs.InParts.{logs_lead}
-use Rattle.cacache_sequence.proofs.Known.{excused_by}
-use Rattle.cacache_sequence.proofs.Logs.{some_same}
-use Rattle.cacache_sequence.proofs.Persisting.{puts_find_nothing}
-use Rattle.cacache_sequence.proofs.Puts.{has_or_found, leads, may_lead}
-use Rattle.cacache_sequence.proofs.Sequence.{moves_after, moves_follow, turns_made}
+use Rattle.cacache_history.specs.{Commits.{AddsAfter, CommitsAs, Deed, InsertionAdds, IsNotOk, PutsContent, deeds, does, finds}, History.{turn_of}, Setup.{Setup, call_site, home, is_outside, may_export}, Turns.{EachTurn, made_in}}
+use Rattle.cacache_history.proofs.{Carrying.{Carries, Makes, Own, carries_makes, carries_on, opening_carries, own_bytes, own_of}, Deeds.{PutsAt, Realizes, SendsEntry, took_entry, turns_realize}, Formed.{TreeFormed}, Holding.{TurnHolds, TurnsHold}, Proper.{sound_proper}}
+use Rattle.cacache_sequence.specs.{Beside.{FitsEntry, own_integrity}, CallErrors.{IsPlainPut}, Caches.{Called, IsExcused, setup_at}, Puts.{ExpectsIntegrity, HasPut}, Sequence.{Alike, AreAnswered, after_deeds, plain_moves, tree_on, turns_on}, Standing.{IsStanding, PutStands, StandingWrites}}
+use Rattle.cacache_sequence.proofs.{Beside.{put_keeps}, CallErrors.{calls_fail_only}, InParts.{logs_lead}, Known.{excused_by}, Logs.{some_same}, Persisting.{puts_find_nothing}, Puts.{has_or_found, leads, may_lead}, Sequence.{moves_after, moves_follow, turns_made}}
 
 -- ---- turns of a cache whose text names no folder: whatever stands on the disk, it holds no entry
 

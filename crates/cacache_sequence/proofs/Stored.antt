@@ -1,33 +1,16 @@
 -- What a put, an insertion and a removal that are done leave in the cache.
 use Rattle.std.proofs.Common.{◌≡◌, inl, inr, ℕ, Bool, true, false, cond, List, [], ◌∷◌, ◌++◌, Option, None, Some, Result, Ok, Err, refl, sym, ap, subst, ◌∙◌}
 use Rattle.sha1.specs.Sha1.{sha1}
-use Rattle.cacache_core.specs.declared.errors.Fault.{Fault}
-use Rattle.cacache_core.specs.declared.integrity.digest.Hash.{Hash}
-use Rattle.cacache_core.specs.Integrity.{IsHash}
-use Rattle.cacache_core.specs.PathNames.{Names, names_of, names_below}
-use Rattle.cacache_core.specs.Paths.{content_names, bucket_names_of}
-use Rattle.cacache_disk.specs.Tree.{Tree}
-use Rattle.cacache_disk.proofs.Roots.{same_self}
+use Rattle.cacache_core.specs.{declared.{errors.Fault.{Fault}, integrity.digest.Hash.{Hash}}, Integrity.{IsHash}, PathNames.{Names, names_of, names_below}, Paths.{content_names, bucket_names_of}}
+use Rattle.cacache_disk.{specs.Tree.{Tree}, proofs.Roots.{same_self}}
 use Rattle.cacache_entry.specs.Entry.{Entry}
-use Rattle.cacache_table.specs.declared.command.Put.{Put}
+use Rattle.cacache_table.specs.{declared.{command.Put.{Put}, reply.Reply.{Reply}, carried.Commit.{Commit}}, Inserting.{insertion, deletion}, StepPaths.{content_path, bucket_path}, State.{Insertion}, Storing.{insertion_of, put_commit}}
 use Rattle.cacache_table.specs.declared.command.Command.TheVariants as commands
-use Rattle.cacache_table.specs.declared.reply.Reply.{Reply}
 use Rattle.cacache_table.specs.declared.reply.Reply.TheVariants as replies
-use Rattle.cacache_table.specs.Inserting.{insertion, deletion}
-use Rattle.cacache_table.specs.StepPaths.{content_path, bucket_path}
-use Rattle.cacache_table.specs.State.{Insertion}
-use Rattle.cacache_table.specs.declared.carried.Commit.{Commit}
-use Rattle.cacache_table.specs.Storing.{insertion_of, put_commit}
-use Rattle.cacache_value.specs.Kinds.{is_path_of}
-use Rattle.cacache_value.specs.Value.{Blob, InFile, Value, value_of_tree}
-use Rattle.cacache_value.specs.Acts.{PutBytes, change, list_of}
-use Rattle.cacache_history.specs.Setup.{Setup, call_site, home}
-use Rattle.cacache_history.specs.Commits.{Deed, does, finds, deeds, PutsContent, IsAdded, IsNotOk, InsertionAdds, AddsAfter, CommitsAs, IsCase}
-use Rattle.cacache_history.proofs.Digests.{digest_hash}
-use Rattle.cacache_history.proofs.ShownTurns.{bucket_below, content_below}
-use Rattle.cacache_sequence.specs.Sequence.{turns_on, tree_on, Alike, after_deeds}
-use Rattle.cacache_sequence.specs.ReadAnswers.{entries_on}
-use Rattle.cacache_sequence.specs.Stored.{own_hash, HasStored, PutsStore, InsertsAdd, DeletesAdd}
+use Rattle.cacache_value.specs.{Kinds.{is_path_of}, Value.{Blob, InFile, Value, value_of_tree}, Acts.{PutBytes, change, list_of}}
+use Rattle.cacache_history.specs.{Setup.{Setup, call_site, home}, Commits.{Deed, does, finds, deeds, PutsContent, IsAdded, IsNotOk, InsertionAdds, AddsAfter, CommitsAs, IsCase}}
+use Rattle.cacache_history.proofs.{Digests.{digest_hash}, ShownTurns.{bucket_below, content_below}}
+use Rattle.cacache_sequence.specs.{Sequence.{turns_on, tree_on, Alike, after_deeds}, ReadAnswers.{entries_on}, Stored.{own_hash, HasStored, PutsStore, InsertsAdd, DeletesAdd}}
 
 -- a path that names these below the cache is the path of these names in its folder
 pub below_is : (folder : Option Names) (names all : Names) (r : Result Names Fault) → r ≡ names_below folder names → r ≡ Ok all → is_path_of folder names all ≡ true

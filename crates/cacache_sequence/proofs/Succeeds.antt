@@ -1,46 +1,18 @@
 -- What calls answer whose steps all go well.
-use Rattle.std.proofs.Common.{◌≡◌, inl, inr, ℕ, List, [], ◌∷◌, ◌++◌, Option, None, Some, Ok, refl, sym, ap, subst, ◌∙◌, arith}
-use Rattle.std.proofs.lemmas.List.Elements.{All-head}
+use Rattle.std.proofs.{Common.{◌≡◌, inl, inr, ℕ, List, [], ◌∷◌, ◌++◌, Option, None, Some, Ok, refl, sym, ap, subst, ◌∙◌, arith}, lemmas.List.Elements.{All-head}}
 use Rattle.sha1.specs.Sha1.{sha1}
-use Rattle.cacache_core.specs.declared.errors.Error.TheVariants.{EntryNotFound}
-use Rattle.cacache_core.specs.declared.integrity.digest.Hash.{Hash}
-use Rattle.cacache_core.specs.Integrity.{IsHash, IsIntegrity, address}
-use Rattle.cacache_core.specs.PathNames.{Names, names_of, home_of}
-use Rattle.cacache_core.specs.Paths.{temp_names}
+use Rattle.cacache_core.specs.{declared.{errors.Error.TheVariants.{EntryNotFound}, integrity.digest.Hash.{Hash}}, Integrity.{IsHash, IsIntegrity, address}, PathNames.{Names, names_of, home_of}, Paths.{temp_names}}
 use Rattle.cacache_store.specs.declared.store.log.LogItem.{LogItem}
 use Rattle.cacache_disk.specs.Tree.{Tree}
 use Rattle.cacache_memory.specs.Replay.{tree_of}
 use Rattle.cacache_entry.specs.Latest.{Found, latest}
 use Rattle.cacache_table.specs.declared.carried.Aim.TheVariants as aims
-use Rattle.cacache_table.specs.declared.carried.Lookup.{Lookup}
-use Rattle.cacache_table.specs.declared.command.Command.{Command}
+use Rattle.cacache_table.specs.{declared.{carried.Lookup.{Lookup}, command.Command.{Command}, reply.Reply.{Reply, TheVariants.{LookedUp, Exists, Done, Refused}}}, Inserting.{insert, insertion, deletion}, Removing.{remove_content}, Looking.{found_for}, Replies.{OrMemory}, State.{Insertion, reading, asking, over}, Table.{opening}}
 use Rattle.cacache_table.specs.declared.command.Command.TheVariants as commands
-use Rattle.cacache_table.specs.declared.reply.Reply.{Reply}
-use Rattle.cacache_table.specs.declared.reply.Reply.TheVariants.{LookedUp, Exists, Done, Refused}
-use Rattle.cacache_table.specs.Inserting.{insert, insertion, deletion}
-use Rattle.cacache_table.specs.Removing.{remove_content}
-use Rattle.cacache_table.specs.Looking.{found_for}
-use Rattle.cacache_table.specs.Replies.{OrMemory}
-use Rattle.cacache_table.specs.State.{Insertion, reading, asking, over}
-use Rattle.cacache_table.specs.Table.{opening}
-use Rattle.cacache_value.specs.Kinds.{node_below}
-use Rattle.cacache_value.specs.Placed.{Placed}
-use Rattle.cacache_value.specs.Shows.{blob_there}
-use Rattle.cacache_value.specs.Value.{Blob, value_of_tree}
-use Rattle.cacache_history.specs.ShownTurns.{blob_at}
-use Rattle.cacache_history.proofs.Spelled.{HasIntegrity, latest_has}
-use Rattle.cacache_sequence.specs.Caches.{Called, setup_at}
-use Rattle.cacache_sequence.specs.ReadAnswers.{entries_on, get_on, read_on}
-use Rattle.cacache_sequence.specs.Standing.{IsStanding}
-use Rattle.cacache_sequence.specs.Succeeds.{NamesFolder, insertion_reply, put_reply, is_yes, removal_reply, PutsAnswer, InsertionsAnswer, DeletionsAnswer, LookupsAnswer, ContentReadsAnswer, KeyReadsAnswer, QuestionsAnswer, RemovalsAnswer}
-use Rattle.cacache_sequence.proofs.Emptied.{home_is}
-use Rattle.cacache_sequence.proofs.Standing.{caches_stand}
-use Rattle.cacache_sequence.proofs.SureInserts.{Inserted, inserts_so}
-use Rattle.cacache_sequence.proofs.SurePuts.{PutSo, puts_so}
-use Rattle.cacache_sequence.proofs.SureTemps.{own_temporary_at}
-use Rattle.cacache_sequence.proofs.SureReads.{looks_so, reads_so, asks_so, removes_so}
-use Rattle.cacache_sequence.proofs.SureRuns.{EndsSo, ends, of_log}
-use Rattle.cacache_sequence.proofs.SureSteps.{Ground}
+use Rattle.cacache_value.specs.{Kinds.{node_below}, Placed.{Placed}, Shows.{blob_there}, Value.{Blob, value_of_tree}}
+use Rattle.cacache_history.{specs.ShownTurns.{blob_at}, proofs.Spelled.{HasIntegrity, latest_has}}
+use Rattle.cacache_sequence.specs.{Caches.{Called, setup_at}, ReadAnswers.{entries_on, get_on, read_on}, Standing.{IsStanding}, Succeeds.{NamesFolder, insertion_reply, put_reply, is_yes, removal_reply, PutsAnswer, InsertionsAnswer, DeletionsAnswer, LookupsAnswer, ContentReadsAnswer, KeyReadsAnswer, QuestionsAnswer, RemovalsAnswer}}
+use Rattle.cacache_sequence.proofs.{Emptied.{home_is}, Standing.{caches_stand}, SureInserts.{Inserted, inserts_so}, SurePuts.{PutSo, puts_so}, SureTemps.{own_temporary_at}, SureReads.{looks_so, reads_so, asks_so, removes_so}, SureRuns.{EndsSo, ends, of_log}, SureSteps.{Ground}}
 
 -- ---- a store on which no step fails
 

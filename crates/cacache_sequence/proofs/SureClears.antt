@@ -1,48 +1,21 @@
 -- A clearing whose steps all go well.
-use Rattle.std.proofs.Common.{◌≡◌, ◌⊎◌, inl, inr, ◌==◌, ◌<◌, ◌+◌, ◌-◌, ℕ, zero, suc, Bool, true, false, cond, nat_le, nat_lt, List, [], ◌∷◌, ◌++◌, Option, None, Some, Ok, length, refl, sym, ap, subst, ◌∙◌, arith, append_assoc, append-nil, length-append}
+use Rattle.std.proofs.{Common.{◌≡◌, ◌⊎◌, inl, inr, ◌==◌, ◌<◌, ◌+◌, ◌-◌, ℕ, zero, suc, Bool, true, false, cond, nat_le, nat_lt, List, [], ◌∷◌, ◌++◌, Option, None, Some, Ok, length, refl, sym, ap, subst, ◌∙◌, arith, append_assoc, append-nil, length-append}, lemmas.Bool.{ltb-true, ne_eqb}}
 use Rattle.std.specs.Prelude.{IfSome, bytes_eq}
-use Rattle.std.proofs.lemmas.Bool.{ltb-true, ne_eqb}
-use Rattle.cacache_core.specs.declared.errors.Error.TheVariants.{IoError}
+use Rattle.cacache_core.specs.{declared.errors.Error.TheVariants.{IoError}, PathNames.{Names, names_of, IsProperName}, Paths.{content_area, index_area, temp_area, join}}
 use Rattle.cacache_core.specs.declared.errors.Fault.TheVariants as faults
-use Rattle.cacache_core.specs.PathNames.{Names, names_of, IsProperName}
-use Rattle.cacache_core.specs.Paths.{content_area, index_area, temp_area, join}
 use Rattle.cacache_store.specs.declared.store.answer.Answer.TheVariants as answers
-use Rattle.cacache_store.specs.declared.store.answer.Kind.{Kind}
+use Rattle.cacache_store.specs.declared.store.answer.{Kind.{Kind}, Name.{Name}}
 use Rattle.cacache_store.specs.declared.store.answer.Kind.TheVariants as kinds
-use Rattle.cacache_store.specs.declared.store.answer.Name.{Name}
 use Rattle.cacache_store.specs.declared.store.step.Step.TheVariants as steps
-use Rattle.cacache_disk.specs.declared.luck.Luck.TheVariants.{Plain}
-use Rattle.cacache_disk.specs.declared.node.Node.{Node}
-use Rattle.cacache_disk.specs.declared.node.Node.TheVariants.{Folder, File, Link}
-use Rattle.cacache_disk.specs.Tree.{Tree, look, cut, listing, kind_of}
-use Rattle.cacache_disk.specs.LedTo.{folder, emptied, removable}
-use Rattle.cacache_disk.specs.Rooted.{AreProper, Rooted}
-use Rattle.cacache_disk.specs.Apply.{apply}
-use Rattle.cacache_disk.proofs.KeptFolders.{outcome_rooted}
-use Rattle.cacache_disk.proofs.Standing.{upper_folder}
+use Rattle.cacache_disk.specs.{declared.{luck.Luck.TheVariants.{Plain}, node.Node.{Node, TheVariants.{Folder, File, Link}}}, Tree.{Tree, look, cut, listing, kind_of}, LedTo.{folder, emptied, removable}, Rooted.{AreProper, Rooted}, Apply.{apply}}
+use Rattle.cacache_disk.proofs.{KeptFolders.{outcome_rooted}, Standing.{upper_folder}}
 use Rattle.cacache_memory.specs.Replay.{tree_of}
 use Rattle.cacache_table.specs.declared.command.Command.TheVariants as commands
-use Rattle.cacache_table.specs.declared.reply.Reply.{Reply}
-use Rattle.cacache_table.specs.declared.reply.Reply.TheVariants.{Done, Refused}
-use Rattle.cacache_table.specs.declared.visit.Task.{Task}
-use Rattle.cacache_table.specs.declared.visit.Task.TheVariants.{Make, Stumble}
-use Rattle.cacache_table.specs.declared.visit.Visit.TheVariants.{Enter, RemoveFile, RemoveFolder}
-use Rattle.cacache_table.specs.Replies.{OrMemory}
-use Rattle.cacache_table.specs.State.{walking, over, Walk}
-use Rattle.cacache_table.specs.Table.{opening}
-use Rattle.cacache_table.specs.Walking.{most, task_for_name, tasks_of, too_many, walk, walk_on}
-use Rattle.cacache_value.specs.Kinds.{Way, Stray, kind_below, node_below, path_kind, is_used}
-use Rattle.cacache_value.specs.Placed.{MayStand}
-use Rattle.cacache_value.proofs.FoundPaths.{suits}
-use Rattle.cacache_value.proofs.KindsApart.{kind-below}
+use Rattle.cacache_table.specs.{declared.{reply.Reply.{Reply, TheVariants.{Done, Refused}}, visit.{Task.{Task, TheVariants.{Make, Stumble}}, Visit.TheVariants.{Enter, RemoveFile, RemoveFolder}}}, Replies.{OrMemory}, State.{walking, over, Walk}, Table.{opening}, Walking.{most, task_for_name, tasks_of, too_many, walk, walk_on}}
+use Rattle.cacache_value.{specs.{Kinds.{Way, Stray, kind_below, node_below, path_kind, is_used}, Placed.{MayStand}}, proofs.{FoundPaths.{suits}, KindsApart.{kind-below}}}
 use Rattle.cacache_history.proofs.ToldFolders.{AreDistinct, Each, Told, child_listed, listing_distinct, listing_told}
 use Rattle.cacache_sequence.specs.Succeeds.{Clears, ClearingsAnswer}
-use Rattle.cacache_sequence.proofs.Emptied.{last_proper}
-use Rattle.cacache_sequence.proofs.Sheds.{Shed, ShedAll, among, among_below, cut_sheds, folder_apart, listed_among, sheds_more, under, under_other, under_self}
-use Rattle.cacache_sequence.proofs.Succeeds.{back, ground}
-use Rattle.cacache_sequence.proofs.SureLists.{lists_at, no_folder}
-use Rattle.cacache_sequence.proofs.SureRuns.{EndsSo, ends, goes, of_log}
-use Rattle.cacache_sequence.proofs.SureSteps.{Ground, one_deeper, place_at, reached}
+use Rattle.cacache_sequence.proofs.{Emptied.{last_proper}, Sheds.{Shed, ShedAll, among, among_below, cut_sheds, folder_apart, listed_among, sheds_more, under, under_other, under_self}, Succeeds.{back, ground}, SureLists.{lists_at, no_folder}, SureRuns.{EndsSo, ends, goes, of_log}, SureSteps.{Ground, one_deeper, place_at, reached}}
 
 -- ---- steps
 

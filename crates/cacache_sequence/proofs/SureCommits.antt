@@ -1,29 +1,12 @@
 -- A commit whose steps all go well, once its content is there.
 use Rattle.std.proofs.Common.{◌≡◌, ◌==◌, ℕ, List, [], ◌∷◌, ◌++◌, Option, None, Some, Ok, length, drop, refl, sym, ap, ◌∙◌}
 use Rattle.hex.specs.Hex.{encode_lower}
-use Rattle.cacache_core.specs.declared.errors.Error.TheVariants.{SizeMismatch, IntegrityError}
-use Rattle.cacache_core.specs.declared.errors.IntegrityFault.TheVariants.{Check}
-use Rattle.cacache_core.specs.declared.integrity.digest.Hash.{Hash}
-use Rattle.cacache_core.specs.Integrity.{IsHash}
-use Rattle.cacache_core.specs.PathNames.{Names, names_of}
-use Rattle.cacache_core.specs.Paths.{content_names, folder_names}
-use Rattle.cacache_disk.specs.Tree.{Tree}
-use Rattle.cacache_disk.specs.LedTo.{place}
-use Rattle.cacache_disk.specs.Apply.{make_some}
-use Rattle.cacache_table.specs.declared.carried.Commit.{Commit}
-use Rattle.cacache_table.specs.declared.reply.Reply.{Reply}
-use Rattle.cacache_table.specs.declared.reply.Reply.TheVariants.{Stored, Refused}
-use Rattle.cacache_table.specs.Common.{ends_with}
-use Rattle.cacache_table.specs.Inserting.{insert}
-use Rattle.cacache_table.specs.State.{State}
-use Rattle.cacache_table.specs.StepPaths.{content_path, content_folder}
-use Rattle.cacache_table.specs.Storing.{insertion_of, indexed, sized, compared, placed, matches}
+use Rattle.cacache_core.specs.{declared.{errors.{Error.TheVariants.{SizeMismatch, IntegrityError}, IntegrityFault.TheVariants.{Check}}, integrity.digest.Hash.{Hash}}, Integrity.{IsHash}, PathNames.{Names, names_of}, Paths.{content_names, folder_names}}
+use Rattle.cacache_disk.specs.{Tree.{Tree}, LedTo.{place}, Apply.{make_some}}
+use Rattle.cacache_table.specs.{declared.{carried.Commit.{Commit}, reply.Reply.{Reply, TheVariants.{Stored, Refused}}}, Common.{ends_with}, Inserting.{insert}, State.{State}, StepPaths.{content_path, content_folder}, Storing.{insertion_of, indexed, sized, compared, placed, matches}}
 use Rattle.cacache_value.specs.Kinds.{Content, Way}
 use Rattle.cacache_sequence.specs.Succeeds.{keyed_reply, sized_reply, compared_reply}
-use Rattle.cacache_sequence.proofs.SureInserts.{Inserted, Spares, inserts_so, one_behind}
-use Rattle.cacache_sequence.proofs.SureRuns.{EndsSo, ends, ends_too, both}
-use Rattle.cacache_sequence.proofs.SureSteps.{Ground, Lies, dirs_ground, dirs_stand, place_in}
-use Rattle.cacache_sequence.proofs.SureTemps.{content_folder_lies, content_lies}
+use Rattle.cacache_sequence.proofs.{SureInserts.{Inserted, Spares, inserts_so, one_behind}, SureRuns.{EndsSo, ends, ends_too, both}, SureSteps.{Ground, Lies, dirs_ground, dirs_stand, place_in}, SureTemps.{content_folder_lies, content_lies}}
 
 -- ---- its reply, and something of the tree that an insertion keeps
 

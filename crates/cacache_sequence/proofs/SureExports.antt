@@ -1,63 +1,23 @@
 -- An export whose steps all go well.
-use Rattle.std.proofs.Common.{◌≡◌, ℕ, Bool, true, false, cond, List, [], ◌∷◌, ◌++◌, Option, None, Some, Result, Ok, Err, length, take, refl, sym, ap, subst, ◌∙◌, arith}
-use Rattle.std.proofs.lemmas.List.Elements.{All-head}
+use Rattle.std.proofs.{Common.{◌≡◌, ℕ, Bool, true, false, cond, List, [], ◌∷◌, ◌++◌, Option, None, Some, Result, Ok, Err, length, take, refl, sym, ap, subst, ◌∙◌, arith}, lemmas.List.Elements.{All-head}}
 use Rattle.sha1.specs.Sha1.{sha1}
-use Rattle.cacache_core.specs.declared.errors.Error.TheVariants.{EntryNotFound, IoError, IntegrityError}
-use Rattle.cacache_core.specs.declared.errors.Fault.{Fault}
-use Rattle.cacache_core.specs.declared.errors.Fault.TheVariants as faults
-use Rattle.cacache_core.specs.declared.errors.IntegrityFault.TheVariants.{Check}
-use Rattle.cacache_core.specs.declared.integrity.digest.Hash.{Hash}
-use Rattle.cacache_core.specs.Integrity.{IsHash, IsIntegrity, Meets, actual, address}
-use Rattle.cacache_core.specs.Meeting.{meets}
-use Rattle.cacache_core.specs.PathNames.{Names, home_of, names_of}
-use Rattle.cacache_core.specs.Paths.{content_names}
+use Rattle.cacache_core.specs.{declared.{errors.{Error.TheVariants.{EntryNotFound, IoError, IntegrityError}, Fault.{Fault}, IntegrityFault.TheVariants.{Check}}, integrity.digest.Hash.{Hash}}, Integrity.{IsHash, IsIntegrity, Meets, actual, address}, Meeting.{meets}, PathNames.{Names, home_of, names_of}, Paths.{content_names}}
 use Rattle.cacache_core.proofs.Meeting.{meets_finds}
+use Rattle.cacache_core.specs.declared.errors.Fault.TheVariants as faults
 use Rattle.cacache_store.specs.declared.store.answer.Answer.TheVariants as answers
 use Rattle.cacache_store.specs.declared.store.log.LogItem.{LogItem}
 use Rattle.cacache_store.specs.declared.store.step.Step.TheVariants as steps
-use Rattle.cacache_disk.specs.declared.luck.Luck.TheVariants.{Plain}
-use Rattle.cacache_disk.specs.declared.node.Node.{Node}
-use Rattle.cacache_disk.specs.declared.node.Node.TheVariants.{Folder, File, Link}
-use Rattle.cacache_disk.specs.Tree.{Tree, look, put}
-use Rattle.cacache_disk.specs.LedTo.{and_then, bytes_there, file_at, free, linked, writable}
-use Rattle.cacache_disk.specs.Apply.{apply, opened, unless}
+use Rattle.cacache_disk.specs.{declared.{luck.Luck.TheVariants.{Plain}, node.Node.{Node, TheVariants.{Folder, File, Link}}}, Tree.{Tree, look, put}, LedTo.{and_then, bytes_there, file_at, free, linked, writable}, Apply.{apply, opened, unless}}
 use Rattle.cacache_memory.specs.Replay.{tree_of}
 use Rattle.cacache_entry.specs.Latest.{Found, latest}
 use Rattle.cacache_table.specs.declared.carried.Aim.TheVariants as aims
-use Rattle.cacache_table.specs.declared.carried.Content.{Content}
-use Rattle.cacache_table.specs.declared.carried.Lookup.{Lookup}
+use Rattle.cacache_table.specs.{declared.{carried.{Content.{Content}, Lookup.{Lookup}}, command.{Export.{Export}, How.{How, TheVariants.{Copy, HardLink, Reflink}}}, reply.Reply.{Reply, TheVariants.{Copied, Done, Refused}}}, Common.{ends_with}, Exporting.{copied_count, export, export_content, export_from, verified}, Looking.{found_for}, Replies.{OrMemory}, State.{State, copying, doing, hard_link, opening_file, over, reflink, to_verify}, StepPaths.{content_path}, Table.{opening}}
 use Rattle.cacache_table.specs.declared.command.Command.TheVariants as commands
-use Rattle.cacache_table.specs.declared.command.Export.{Export}
-use Rattle.cacache_table.specs.declared.command.How.{How}
-use Rattle.cacache_table.specs.declared.command.How.TheVariants.{Copy, HardLink, Reflink}
 use Rattle.cacache_table.specs.declared.command.Source.TheVariants as sources
-use Rattle.cacache_table.specs.declared.reply.Reply.{Reply}
-use Rattle.cacache_table.specs.declared.reply.Reply.TheVariants.{Copied, Done, Refused}
-use Rattle.cacache_table.specs.Common.{ends_with}
-use Rattle.cacache_table.specs.Exporting.{copied_count, export, export_content, export_from, verified}
-use Rattle.cacache_table.specs.Looking.{found_for}
-use Rattle.cacache_table.specs.Replies.{OrMemory}
-use Rattle.cacache_table.specs.State.{State, copying, doing, hard_link, opening_file, over, reflink, to_verify}
-use Rattle.cacache_table.specs.StepPaths.{content_path}
-use Rattle.cacache_table.specs.Table.{opening}
-use Rattle.cacache_value.specs.Kinds.{Content as AtContent}
-use Rattle.cacache_value.specs.Placed.{MayStand}
-use Rattle.cacache_value.specs.Shows.{blob_bytes, link_end}
-use Rattle.cacache_value.specs.Value.{AtLink, Blob, InFile, blob_in, value_of_tree}
-use Rattle.cacache_history.specs.ShownTurns.{blob_at}
-use Rattle.cacache_history.proofs.Spelled.{HasIntegrity, latest_has}
-use Rattle.cacache_sequence.specs.Caches.{HasContent}
-use Rattle.cacache_sequence.specs.ExportAnswers.{ExportsAnswer, StaysIfRefused, blob_named, blob_read, exported_reply, led_reply, made_reply, or_told, verified_reply}
-use Rattle.cacache_sequence.specs.Exported.{export_by}
-use Rattle.cacache_sequence.specs.OpenSucceeds.{ExportsSucceed, MayTake, exported}
-use Rattle.cacache_sequence.specs.ReadAnswers.{entries_on}
-use Rattle.cacache_sequence.proofs.Emptied.{home_is}
-use Rattle.cacache_sequence.proofs.Standing.{caches_stand}
-use Rattle.cacache_sequence.proofs.Succeeds.{back, either, ground}
-use Rattle.cacache_sequence.proofs.SureFiles.{opens_as, reads_whole}
-use Rattle.cacache_sequence.proofs.SureReads.{bytes_at, held, led_there, looks_so, read_at, suited}
-use Rattle.cacache_sequence.proofs.SureRuns.{EndsSo, both, ends, goes, of_log}
-use Rattle.cacache_sequence.proofs.SureSteps.{Ground, Reached, arrives, missing}
+use Rattle.cacache_value.specs.{Kinds.{Content as AtContent}, Placed.{MayStand}, Shows.{blob_bytes, link_end}, Value.{AtLink, Blob, InFile, blob_in, value_of_tree}}
+use Rattle.cacache_history.{specs.ShownTurns.{blob_at}, proofs.Spelled.{HasIntegrity, latest_has}}
+use Rattle.cacache_sequence.specs.{Caches.{HasContent}, ExportAnswers.{ExportsAnswer, StaysIfRefused, blob_named, blob_read, exported_reply, led_reply, made_reply, or_told, verified_reply}, Exported.{export_by}, OpenSucceeds.{ExportsSucceed, MayTake, exported}, ReadAnswers.{entries_on}}
+use Rattle.cacache_sequence.proofs.{Emptied.{home_is}, Standing.{caches_stand}, Succeeds.{back, either, ground}, SureFiles.{opens_as, reads_whole}, SureReads.{bytes_at, held, led_there, looks_so, read_at, suited}, SureRuns.{EndsSo, both, ends, goes, of_log}, SureSteps.{Ground, Reached, arrives, missing}}
 
 -- ---- what lies there
 

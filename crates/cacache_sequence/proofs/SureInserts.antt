@@ -1,41 +1,21 @@
 -- An insertion whose steps all go well.
-use Rattle.std.proofs.Common.{◌≡◌, ℕ, true, false, nat_le, List, [], ◌∷◌, ◌++◌, Option, None, Some, Ok, length, take, drop, refl, sym, ap, ◌∙◌, arith, append_assoc}
-use Rattle.std.proofs.lemmas.Bool.{le-leb}
+use Rattle.std.proofs.{Common.{◌≡◌, ℕ, true, false, nat_le, List, [], ◌∷◌, ◌++◌, Option, None, Some, Ok, length, take, drop, refl, sym, ap, ◌∙◌, arith, append_assoc}, lemmas.{Bool.{le-leb}, List.Elements.{All-nil, All-cons, All-head, All-tail}}}
 use Rattle.std.specs.Prelude.{All}
 use Rattle.hex.specs.Hex.{encode_lower}
 use Rattle.sha1.specs.Sha1.{sha1}
-use Rattle.cacache_core.specs.declared.errors.Error.TheVariants.{SerdeError}
+use Rattle.cacache_core.specs.{declared.errors.{Error.TheVariants.{SerdeError}, SerdeCause.{SerdeCause}}, PathNames.{Names, names_of, IsProperName}, Paths.{bucket_names, folder_names}}
+use Rattle.cacache_core.proofs.{PathLemmas.{keys_have_digests}, ProperNames.{names_are_proper}}
 use Rattle.cacache_core.specs.declared.errors.Fault.TheVariants as faults
-use Rattle.cacache_core.specs.declared.errors.SerdeCause.{SerdeCause}
-use Rattle.cacache_core.specs.PathNames.{Names, names_of, IsProperName}
-use Rattle.cacache_core.specs.Paths.{bucket_names, folder_names}
-use Rattle.cacache_core.proofs.PathLemmas.{keys_have_digests}
-use Rattle.cacache_core.proofs.ProperNames.{names_are_proper}
-use Rattle.std.proofs.lemmas.List.Elements.{All-nil, All-cons, All-head, All-tail}
 use Rattle.cacache_store.specs.declared.store.step.Step.TheVariants as steps
 use Rattle.cacache_store.specs.declared.store.answer.Answer.TheVariants as answers
 use Rattle.cacache_store.specs.Plain.{PlainAnswer}
-use Rattle.cacache_disk.specs.declared.luck.Luck.TheVariants.{Plain}
-use Rattle.cacache_disk.specs.declared.node.Node.{Node}
-use Rattle.cacache_disk.specs.declared.node.Node.TheVariants.{File}
-use Rattle.cacache_disk.specs.Tree.{Tree, look, put, bytes_of}
-use Rattle.cacache_disk.specs.LedTo.{place}
-use Rattle.cacache_disk.specs.Rooted.{Rooted}
-use Rattle.cacache_disk.specs.Apply.{apply, make_some}
+use Rattle.cacache_disk.specs.{declared.{luck.Luck.TheVariants.{Plain}, node.Node.{Node, TheVariants.{File}}}, Tree.{Tree, look, put, bytes_of}, LedTo.{place}, Rooted.{Rooted}, Apply.{apply, make_some}}
 use Rattle.cacache_disk.proofs.KeptFolders.{outcome_rooted}
-use Rattle.cacache_table.specs.declared.reply.Reply.{Reply}
-use Rattle.cacache_table.specs.declared.reply.Reply.TheVariants.{Refused}
-use Rattle.cacache_table.specs.Common.{fails, sync_up}
-use Rattle.cacache_table.specs.Inserting.{bucket_line, insert, recorded, refused_cause, unless_refused}
-use Rattle.cacache_table.specs.State.{doing, appending, over, Insertion, make_folder, sync_file}
-use Rattle.cacache_table.specs.StepPaths.{bucket_path, bucket_folder, bucket_folders}
+use Rattle.cacache_table.specs.{declared.reply.Reply.{Reply, TheVariants.{Refused}}, Common.{fails, sync_up}, Inserting.{bucket_line, insert, recorded, refused_cause, unless_refused}, State.{doing, appending, over, Insertion, make_folder, sync_file}, StepPaths.{bucket_path, bucket_folder, bucket_folders}}
 use Rattle.cacache_table.proofs.Branches.{cond_leads}
-use Rattle.cacache_value.specs.Kinds.{Bucket, Temporary, Way, path_kind}
-use Rattle.cacache_value.proofs.FoundPaths.{suits}
+use Rattle.cacache_value.{specs.Kinds.{Bucket, Temporary, Way, path_kind}, proofs.FoundPaths.{suits}}
 use Rattle.cacache_sequence.specs.Succeeds.{insertion_reply, unless_unwritable}
-use Rattle.cacache_sequence.proofs.SureRuns.{EndsSo, ends, goes, syncs}
-use Rattle.cacache_sequence.proofs.SureSpares.{dirs_spare, put_other}
-use Rattle.cacache_sequence.proofs.SureSteps.{Ground, Lies, SyncsAll, joined_lies, is_for, place_at, place_in, makes_dirs, dirs_ground, dirs_stand, syncs_folders, look_own, appends, syncs_file}
+use Rattle.cacache_sequence.proofs.{SureRuns.{EndsSo, ends, goes, syncs}, SureSpares.{dirs_spare, put_other}, SureSteps.{Ground, Lies, SyncsAll, joined_lies, is_for, place_at, place_in, makes_dirs, dirs_ground, dirs_stand, syncs_folders, look_own, appends, syncs_file}}
 
 -- without the last name, proper names are proper too
 pub proper_folder : (ns : Names) → All IsProperName ns → All IsProperName (folder_names ns)

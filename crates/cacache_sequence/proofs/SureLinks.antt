@@ -1,56 +1,20 @@
 -- A link, and an open linker's commit, whose steps all go well.
-use Rattle.std.proofs.Common.{◌≡◌, ℕ, cond, List, [], ◌∷◌, ◌++◌, Option, None, Some, Result, Ok, Err, length, refl, sym, ap, subst, ◌∙◌, arith, append_assoc}
-use Rattle.std.proofs.lemmas.List.{length-append}
-use Rattle.cacache_core.specs.declared.errors.Error.TheVariants.{IoError}
-use Rattle.cacache_core.specs.declared.errors.Fault.{Fault}
+use Rattle.std.proofs.{Common.{◌≡◌, ℕ, cond, List, [], ◌∷◌, ◌++◌, Option, None, Some, Result, Ok, Err, length, refl, sym, ap, subst, ◌∙◌, arith, append_assoc}, lemmas.List.{length-append}}
+use Rattle.cacache_core.specs.{declared.{errors.{Error.TheVariants.{IoError}, Fault.{Fault}}, integrity.digest.Hash.{Hash}}, Digests.{digest}, Integrity.{IsHash, hash_of}, PathNames.{Names, names_of}, Paths.{content_names}}
 use Rattle.cacache_core.specs.declared.errors.Fault.TheVariants as faults
-use Rattle.cacache_core.specs.declared.integrity.digest.Hash.{Hash}
-use Rattle.cacache_core.specs.Digests.{digest}
-use Rattle.cacache_core.specs.Integrity.{IsHash, hash_of}
-use Rattle.cacache_core.specs.PathNames.{Names, names_of}
-use Rattle.cacache_core.specs.Paths.{content_names}
 use Rattle.cacache_store.specs.declared.store.answer.Answer.TheVariants as answers
-use Rattle.cacache_store.specs.declared.store.log.LogItem.{LogItem}
+use Rattle.cacache_store.specs.{declared.store.log.LogItem.{LogItem}, Plain.{PlainAnswer}}
 use Rattle.cacache_store.specs.declared.store.step.Step.TheVariants as steps
-use Rattle.cacache_store.specs.Plain.{PlainAnswer}
-use Rattle.cacache_disk.specs.declared.luck.Luck.TheVariants.{Plain}
-use Rattle.cacache_disk.specs.declared.node.Node.{Node}
-use Rattle.cacache_disk.specs.declared.node.Node.TheVariants.{Folder, File, Link}
-use Rattle.cacache_disk.specs.Tree.{Tree, look, put}
-use Rattle.cacache_disk.specs.LedTo.{file_at, free, place}
-use Rattle.cacache_disk.specs.Apply.{apply, make_some, opened}
-use Rattle.cacache_disk.specs.Rooted.{Rooted}
-use Rattle.cacache_disk.proofs.PlantedNodes.{deeper}
-use Rattle.cacache_disk.proofs.Standing.{upper_folder}
+use Rattle.cacache_disk.specs.{declared.{luck.Luck.TheVariants.{Plain}, node.Node.{Node, TheVariants.{Folder, File, Link}}}, Tree.{Tree, look, put}, LedTo.{file_at, free, place}, Apply.{apply, make_some, opened}, Rooted.{Rooted}}
+use Rattle.cacache_disk.proofs.{PlantedNodes.{deeper}, Standing.{upper_folder}}
 use Rattle.cacache_memory.specs.Replay.{tree_of}
-use Rattle.cacache_table.specs.declared.carried.Commit.{Commit}
+use Rattle.cacache_table.specs.{declared.{carried.Commit.{Commit}, reply.Reply.{Reply, TheVariants.{Refused}}, target.Target.{Target}}, Common.{fails}, Linking.{commit_for, link_target, with_size}, State.{confirming, hashing, linking, opening_file, sizing, to_link}, StepPaths.{content_path, content_folder}, Storing.{link, placed, secured_found}, Table.{opening}}
 use Rattle.cacache_table.specs.declared.command.Command.TheVariants as commands
-use Rattle.cacache_table.specs.declared.reply.Reply.{Reply}
-use Rattle.cacache_table.specs.declared.reply.Reply.TheVariants.{Refused}
-use Rattle.cacache_table.specs.declared.target.Target.{Target}
-use Rattle.cacache_table.specs.Common.{fails}
-use Rattle.cacache_table.specs.Linking.{commit_for, link_target, with_size}
-use Rattle.cacache_table.specs.State.{confirming, hashing, linking, opening_file, sizing, to_link}
-use Rattle.cacache_table.specs.StepPaths.{content_path, content_folder}
-use Rattle.cacache_table.specs.Storing.{link, placed, secured_found}
-use Rattle.cacache_table.specs.Table.{opening}
-use Rattle.cacache_value.specs.Kinds.{Content, Elsewhere, IsFor}
-use Rattle.cacache_value.specs.Placed.{MayStand, Proper}
-use Rattle.cacache_value.specs.Shows.{blob_there}
-use Rattle.cacache_value.specs.Value.{AtLink, Blob, InFile, blob_in, value_of_tree}
-use Rattle.cacache_history.specs.ShownTurns.{blob_at}
-use Rattle.cacache_history.proofs.Digests.{digest_hash}
-use Rattle.cacache_sequence.specs.LinkAnswers.{LinkersAnswer, LinksAnswer, link_reply, linked_reply, unless_dangling}
-use Rattle.cacache_sequence.specs.Succeeds.{compared_reply, is_yes}
-use Rattle.cacache_sequence.proofs.Emptied.{home_is}
-use Rattle.cacache_sequence.proofs.Succeeds.{back, ground}
+use Rattle.cacache_value.specs.{Kinds.{Content, Elsewhere, IsFor}, Placed.{MayStand, Proper}, Shows.{blob_there}, Value.{AtLink, Blob, InFile, blob_in, value_of_tree}}
+use Rattle.cacache_history.{specs.ShownTurns.{blob_at}, proofs.Digests.{digest_hash}}
+use Rattle.cacache_sequence.specs.{LinkAnswers.{LinkersAnswer, LinksAnswer, link_reply, linked_reply, unless_dangling}, Succeeds.{compared_reply, is_yes}}
+use Rattle.cacache_sequence.proofs.{Emptied.{home_is}, Succeeds.{back, ground}, SureCommits.{CommitSo, placed_ends}, SureFiles.{opens_as, reads_whole, sizes_as}, SureInserts.{one_behind}, SureReads.{IsAsked, asks, content_there, is_asked, suited}, SureRuns.{EndsSo, both, ends, ends_too, goes, of_log}, SureSteps.{Ground, arrives, goes_to, is_for, makes_dirs}}
 use Rattle.cacache_sequence.proofs.SureCommits as commits
-use Rattle.cacache_sequence.proofs.SureCommits.{CommitSo, placed_ends}
-use Rattle.cacache_sequence.proofs.SureFiles.{opens_as, reads_whole, sizes_as}
-use Rattle.cacache_sequence.proofs.SureInserts.{one_behind}
-use Rattle.cacache_sequence.proofs.SureReads.{IsAsked, asks, content_there, is_asked, suited}
-use Rattle.cacache_sequence.proofs.SureRuns.{EndsSo, both, ends, ends_too, goes, of_log}
-use Rattle.cacache_sequence.proofs.SureSteps.{Ground, arrives, goes_to, is_for, makes_dirs}
 
 -- ---- folders that stand
 

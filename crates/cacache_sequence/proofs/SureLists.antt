@@ -1,56 +1,24 @@
 -- A listing whose steps all go well.
-use Rattle.std.proofs.Common.{◌≡◌, inl, inr, ◌+◌, ◌-◌, ℕ, Bool, true, false, cond, nat_le, nat_lt, List, [], ◌∷◌, ◌++◌, Option, None, Some, Ok, option_map, length, take, refl, sym, ap, subst, ◌∙◌, append_assoc}
-use Rattle.std.specs.Prelude.{IfSome, filter_map, zero, suc, map as each}
-use Rattle.std.specs.List.{AllByRecursion, cons_option}
-use Rattle.std.proofs.lemmas.List.Elements.{All-head}
+use Rattle.std.proofs.{Common.{◌≡◌, inl, inr, ◌+◌, ◌-◌, ℕ, Bool, true, false, cond, nat_le, nat_lt, List, [], ◌∷◌, ◌++◌, Option, None, Some, Ok, option_map, length, take, refl, sym, ap, subst, ◌∙◌, append_assoc}, lemmas.List.Elements.{All-head}}
+use Rattle.std.specs.{Prelude.{IfSome, filter_map, zero, suc, map as each}, List.{AllByRecursion, cons_option}}
 use Rattle.hex.specs.Hex.{encode_lower}
 use Rattle.sha1.specs.Sha1.{sha1}
-use Rattle.cacache_core.specs.declared.errors.Error.TheVariants.{IoError}
+use Rattle.cacache_core.specs.{declared.errors.Error.TheVariants.{IoError}, PathNames.{Names, names_of, IsProperName}, Paths.{cut_digits, index_area, join}}
+use Rattle.cacache_core.proofs.{PathLemmas.{keys_have_digests}, ProperNames.{names_are_proper}}
 use Rattle.cacache_core.specs.declared.errors.Fault.TheVariants as faults
-use Rattle.cacache_core.specs.PathNames.{Names, names_of, IsProperName}
-use Rattle.cacache_core.specs.Paths.{cut_digits, index_area, join}
-use Rattle.cacache_core.proofs.PathLemmas.{keys_have_digests}
-use Rattle.cacache_core.proofs.ProperNames.{names_are_proper}
 use Rattle.cacache_store.specs.declared.store.answer.Answer.TheVariants as answers
-use Rattle.cacache_store.specs.declared.store.answer.Kind.{Kind}
+use Rattle.cacache_store.specs.{declared.store.answer.{Kind.{Kind}, Name.{Name}}, Plain.{PlainStep, PlainAnswer}}
 use Rattle.cacache_store.specs.declared.store.answer.Kind.TheVariants as kinds
-use Rattle.cacache_store.specs.declared.store.answer.Name.{Name}
 use Rattle.cacache_store.specs.declared.store.step.Step.TheVariants as steps
-use Rattle.cacache_store.specs.Plain.{PlainStep, PlainAnswer}
-use Rattle.cacache_disk.specs.declared.luck.Luck.TheVariants.{Plain}
-use Rattle.cacache_disk.specs.declared.node.Node.{Node}
-use Rattle.cacache_disk.specs.declared.node.Node.TheVariants.{Folder, File, Link}
-use Rattle.cacache_disk.specs.Tree.{Tree, look, listing, kind_of}
-use Rattle.cacache_disk.specs.LedTo.{folder}
-use Rattle.cacache_disk.specs.Rooted.{AreProper, Rooted}
-use Rattle.cacache_disk.specs.Apply.{apply}
+use Rattle.cacache_disk.specs.{declared.{luck.Luck.TheVariants.{Plain}, node.Node.{Node, TheVariants.{Folder, File, Link}}}, Tree.{Tree, look, listing, kind_of}, LedTo.{folder}, Rooted.{AreProper, Rooted}, Apply.{apply}}
 use Rattle.cacache_memory.specs.Replay.{tree_of}
-use Rattle.cacache_entry.specs.Bucket.{entries_of}
-use Rattle.cacache_entry.specs.Entry.{Entry}
-use Rattle.cacache_entry.specs.Latest.{Found, latest}
+use Rattle.cacache_entry.specs.{Bucket.{entries_of}, Entry.{Entry}, Latest.{Found, latest}}
 use Rattle.cacache_table.specs.declared.command.Command.TheVariants as commands
-use Rattle.cacache_table.specs.declared.reply.Reply.{Reply}
-use Rattle.cacache_table.specs.declared.reply.Reply.TheVariants.{Listed}
-use Rattle.cacache_table.specs.declared.visit.Task.{Task}
-use Rattle.cacache_table.specs.declared.visit.Task.TheVariants.{Make, Stumble}
-use Rattle.cacache_table.specs.declared.visit.Visit.{Visit}
-use Rattle.cacache_table.specs.declared.visit.Visit.TheVariants.{Enter, ReadBucket, RemoveFile, RemoveFolder}
-use Rattle.cacache_table.specs.Replies.{OrMemory}
-use Rattle.cacache_table.specs.Runs.{Moves, Runs}
-use Rattle.cacache_table.specs.State.{State, walking, over, Item, Walk}
-use Rattle.cacache_table.specs.Table.{opening}
-use Rattle.cacache_table.specs.Walking.{after_visit, failed, items_in, listed, most, once, task_for_name, tasks_of, too_many, walk, walk_on}
-use Rattle.cacache_value.specs.Kinds.{Bucket, Way, kind_in_area, node_below, path_kind, is_used}
-use Rattle.cacache_value.specs.Placed.{MayStand}
-use Rattle.cacache_value.proofs.FoundPaths.{suits}
-use Rattle.cacache_value.proofs.KindsApart.{kind-below}
+use Rattle.cacache_table.specs.{declared.{reply.Reply.{Reply, TheVariants.{Listed}}, visit.{Task.{Task, TheVariants.{Make, Stumble}}, Visit.{Visit, TheVariants.{Enter, ReadBucket, RemoveFile, RemoveFolder}}}}, Replies.{OrMemory}, Runs.{Moves, Runs}, State.{State, walking, over, Item, Walk}, Table.{opening}, Walking.{after_visit, failed, items_in, listed, most, once, task_for_name, tasks_of, too_many, walk, walk_on}}
+use Rattle.cacache_value.{specs.{Kinds.{Bucket, Way, kind_in_area, node_below, path_kind, is_used}, Placed.{MayStand}}, proofs.{FoundPaths.{suits}, KindsApart.{kind-below}}}
 use Rattle.cacache_history.proofs.ToldFolders.{Each, Told, listing_told}
-use Rattle.cacache_sequence.specs.Sequence.{AreAnswered}
-use Rattle.cacache_sequence.specs.Succeeds.{IsItemOrTooDeep, ListsAll, ListingsAnswer}
-use Rattle.cacache_sequence.proofs.Emptied.{last_proper}
-use Rattle.cacache_sequence.proofs.Succeeds.{back, ground}
-use Rattle.cacache_sequence.proofs.SureRuns.{EndsSo, ends, goes, of_log}
-use Rattle.cacache_sequence.proofs.SureSteps.{Ground, Reached, arrives, missing, file_so, one_deeper, place_at, reached}
+use Rattle.cacache_sequence.specs.{Sequence.{AreAnswered}, Succeeds.{IsItemOrTooDeep, ListsAll, ListingsAnswer}}
+use Rattle.cacache_sequence.proofs.{Emptied.{last_proper}, Succeeds.{back, ground}, SureRuns.{EndsSo, ends, goes, of_log}, SureSteps.{Ground, Reached, arrives, missing, file_so, one_deeper, place_at, reached}}
 
 -- ---- items
 

@@ -1,45 +1,20 @@
 -- A put whose steps all go well.
-use Rattle.std.proofs.Common.{◌≡◌, ◌==◌, ℕ, true, false, cond, List, [], ◌∷◌, ◌++◌, None, Some, Result, Ok, length, take, drop, refl, sym, ap, subst, ◌∙◌, arith}
-use Rattle.std.proofs.lemmas.Bool.{ne_eqb}
-use Rattle.std.proofs.lemmas.List.{drop_all}
-use Rattle.cacache_core.specs.declared.errors.Fault.{Fault}
+use Rattle.std.proofs.{Common.{◌≡◌, ◌==◌, ℕ, true, false, cond, List, [], ◌∷◌, ◌++◌, None, Some, Result, Ok, length, take, drop, refl, sym, ap, subst, ◌∙◌, arith}, lemmas.{Bool.{ne_eqb}, List.{drop_all}}}
+use Rattle.cacache_core.specs.{declared.{errors.Fault.{Fault}, integrity.digest.Hash.{Hash}}, Digests.{digest}, Integrity.{IsHash, hash_of}, PathNames.{Names, names_of}, Paths.{content_names, folder_names, temp_names}}
 use Rattle.cacache_core.specs.declared.errors.Fault.TheVariants as faults
-use Rattle.cacache_core.specs.declared.integrity.digest.Hash.{Hash}
-use Rattle.cacache_core.specs.Digests.{digest}
-use Rattle.cacache_core.specs.Integrity.{IsHash, hash_of}
-use Rattle.cacache_core.specs.PathNames.{Names, names_of}
-use Rattle.cacache_core.specs.Paths.{content_names, folder_names, temp_names}
 use Rattle.cacache_store.specs.declared.store.plain.PlainTemp.{PlainTemp}
 use Rattle.cacache_store.specs.declared.store.step.Step.TheVariants as steps
 use Rattle.cacache_store.specs.declared.store.answer.Answer.TheVariants as answers
-use Rattle.cacache_disk.specs.declared.luck.Luck.TheVariants.{Plain}
-use Rattle.cacache_disk.specs.declared.node.Node.TheVariants.{File}
-use Rattle.cacache_disk.specs.Tree.{Tree, look, put, cut}
-use Rattle.cacache_disk.specs.LedTo.{place}
-use Rattle.cacache_disk.specs.Apply.{apply}
-use Rattle.cacache_disk.proofs.PutNodes.{look-cut}
-use Rattle.cacache_disk.proofs.Roots.{same_self}
+use Rattle.cacache_disk.specs.{declared.{luck.Luck.TheVariants.{Plain}, node.Node.TheVariants.{File}}, Tree.{Tree, look, put, cut}, LedTo.{place}, Apply.{apply}}
+use Rattle.cacache_disk.proofs.{PutNodes.{look-cut}, Roots.{same_self}}
 use Rattle.cacache_table.specs.declared.command.Command.TheVariants as commands
-use Rattle.cacache_table.specs.declared.command.Put.{Put}
-use Rattle.cacache_table.specs.declared.reply.Reply.{Reply}
-use Rattle.cacache_table.specs.Common.{fails}
-use Rattle.cacache_table.specs.State.{doing, creating, writing, syncing, persisting, make_folder}
-use Rattle.cacache_table.specs.StepPaths.{temp_path, temp_folder, content_path, content_folder, content_folders}
-use Rattle.cacache_table.specs.Table.{opening}
-use Rattle.cacache_table.specs.Storing.{placed, secured, move_in, persist, write_rest, put_commit}
+use Rattle.cacache_table.specs.{declared.{command.Put.{Put}, reply.Reply.{Reply}}, Common.{fails}, State.{doing, creating, writing, syncing, persisting, make_folder}, StepPaths.{temp_path, temp_folder, content_path, content_folder, content_folders}, Table.{opening}, Storing.{placed, secured, move_in, persist, write_rest, put_commit}}
 use Rattle.cacache_table.proofs.Branches.{cond_leads}
-use Rattle.cacache_value.specs.Kinds.{Content, Temporary, Way, path_kind, IsFor}
-use Rattle.cacache_value.specs.Placed.{Proper}
-use Rattle.cacache_value.proofs.FoundPaths.{suits}
+use Rattle.cacache_value.{specs.{Kinds.{Content, Temporary, Way, path_kind, IsFor}, Placed.{Proper}}, proofs.FoundPaths.{suits}}
 use Rattle.cacache_history.proofs.Digests.{digest_hash}
 use Rattle.cacache_sequence.specs.Succeeds.{put_reply}
-use Rattle.cacache_sequence.proofs.MadeNodes.{Stands}
+use Rattle.cacache_sequence.proofs.{MadeNodes.{Stands}, SureCommits.{placed_ends as commit_ends}, SureRuns.{EndsSo, goes, syncs}, SureSpares.{put_other}, SureTemps.{temp_lies, temp_folder_lies, content_synced, own_temporary_at, with_folder, with_file, made_file, file_ground, stands}, SureSteps.{Ground, Lies, goes_to, is_for, makes_dirs, dirs_keep, persists, look_own}}
 use Rattle.cacache_sequence.proofs.SureCommits as commits
-use Rattle.cacache_sequence.proofs.SureCommits.{placed_ends as commit_ends}
-use Rattle.cacache_sequence.proofs.SureRuns.{EndsSo, goes, syncs}
-use Rattle.cacache_sequence.proofs.SureSpares.{put_other}
-use Rattle.cacache_sequence.proofs.SureTemps.{temp_lies, temp_folder_lies, content_synced, own_temporary_at, with_folder, with_file, made_file, file_ground, stands}
-use Rattle.cacache_sequence.proofs.SureSteps.{Ground, Lies, goes_to, is_for, makes_dirs, dirs_keep, persists, look_own}
 
 -- ---- once the content is there
 

@@ -1,55 +1,20 @@
 -- Openings of readers and linkers whose steps all go well.
-use Rattle.std.proofs.Common.{◌≡◌, inl, inr, ℕ, List, [], ◌∷◌, ◌++◌, Option, None, Some, Result, Ok, Err, length, map, refl, sym, ap, subst, ◌∙◌, arith}
-use Rattle.std.proofs.lemmas.List.Elements.{All-head}
+use Rattle.std.proofs.{Common.{◌≡◌, inl, inr, ℕ, List, [], ◌∷◌, ◌++◌, Option, None, Some, Result, Ok, Err, length, map, refl, sym, ap, subst, ◌∙◌, arith}, lemmas.List.Elements.{All-head}}
 use Rattle.sha1.specs.Sha1.{sha1}
-use Rattle.cacache_core.specs.declared.errors.Error.{Error}
-use Rattle.cacache_core.specs.declared.errors.Error.TheVariants.{EntryNotFound, SizeMismatch, IoError, SerdeError, IntegrityError, OutOfMemory}
-use Rattle.cacache_core.specs.declared.errors.Fault.{Fault}
+use Rattle.cacache_core.specs.{declared.{errors.{Error.{Error, TheVariants.{EntryNotFound, SizeMismatch, IoError, SerdeError, IntegrityError, OutOfMemory}}, Fault.{Fault}}, integrity.digest.Hash.{Hash}}, Integrity.{IsHash, IsIntegrity, address}, PathNames.{home_of}}
 use Rattle.cacache_core.specs.declared.errors.Fault.TheVariants as faults
-use Rattle.cacache_core.specs.declared.integrity.digest.Hash.{Hash}
-use Rattle.cacache_core.specs.Integrity.{IsHash, IsIntegrity, address}
-use Rattle.cacache_core.specs.PathNames.{home_of}
 use Rattle.cacache_store.specs.declared.store.answer.Answer.TheVariants as answers
-use Rattle.cacache_store.specs.declared.store.log.LogItem.{LogItem}
-use Rattle.cacache_store.specs.declared.store.log.LogItem.TheVariants.{Made}
-use Rattle.cacache_store.specs.declared.store.plain.PlainFile.{PlainFile}
+use Rattle.cacache_store.specs.{declared.store.{log.LogItem.{LogItem, TheVariants.{Made}}, plain.PlainFile.{PlainFile}}, Plain.{PlainAnswer}}
 use Rattle.cacache_store.specs.declared.store.step.Step.TheVariants as steps
-use Rattle.cacache_store.specs.Plain.{PlainAnswer}
-use Rattle.cacache_disk.specs.Tree.{Tree}
-use Rattle.cacache_disk.specs.LedTo.{file_at}
-use Rattle.cacache_disk.specs.Apply.{opened, unless}
+use Rattle.cacache_disk.specs.{Tree.{Tree}, LedTo.{file_at}, Apply.{opened, unless}}
 use Rattle.cacache_memory.specs.Replay.{tree_of, IsLog}
 use Rattle.cacache_entry.specs.Latest.{Found}
 use Rattle.cacache_table.specs.declared.command.Command.TheVariants as commands
-use Rattle.cacache_table.specs.declared.reply.Reply.{Reply}
-use Rattle.cacache_table.specs.declared.reply.Reply.TheVariants.{LookedUp, Refused}
-use Rattle.cacache_table.specs.Replies.{OrMemory}
-use Rattle.cacache_table.specs.Runs.{Moves, plain_reply, without_message}
-use Rattle.cacache_table.specs.SingleSteps.{Does, FailsAt}
-use Rattle.cacache_table.specs.StepPaths.{content_path}
-use Rattle.cacache_value.specs.Shows.{blob_bytes}
-use Rattle.cacache_value.specs.Value.{value_of_tree}
-use Rattle.cacache_history.specs.ShownTurns.{blob_at}
-use Rattle.cacache_history.proofs.Spelled.{HasIntegrity, latest_has}
-use Rattle.cacache_sequence.specs.Caches.{Called, IsCache}
-use Rattle.cacache_sequence.specs.Keeping.{found_under}
-use Rattle.cacache_sequence.specs.LinkAnswers.{KeyReadersAnswer, LinkerOpeningsAnswer, OpensAs, OpensLed, ReadersAnswer, SizedOpeningsAnswer, target_bytes}
-use Rattle.cacache_sequence.specs.Looks.{bytes_under}
-use Rattle.cacache_sequence.specs.OpenLinkers.{OpensTarget, TellsSize}
-use Rattle.cacache_sequence.specs.OpenReaders.{LookupRan, OpensByKey, OpensContent, OpensWhatWasFound}
-use Rattle.cacache_sequence.specs.ReadAnswers.{entries_on}
-use Rattle.cacache_sequence.specs.Sequence.{IsSound}
-use Rattle.cacache_sequence.specs.Succeeds.{NamesFolder}
-use Rattle.cacache_sequence.proofs.InParts.{logs_lead}
-use Rattle.cacache_sequence.proofs.Logs.{some_same}
-use Rattle.cacache_sequence.proofs.Looks.{tree_stays}
-use Rattle.cacache_sequence.proofs.OpenReaders.{log_front, memory_error, opened_by, plain_error}
-use Rattle.cacache_sequence.proofs.ReadsStay.{sizing_keeps}
-use Rattle.cacache_sequence.proofs.Standing.{caches_stand}
-use Rattle.cacache_sequence.proofs.Succeeds.{back, ground, lookups_answer}
-use Rattle.cacache_sequence.proofs.SureFiles.{opens_as, sizes_as}
-use Rattle.cacache_sequence.proofs.SureReads.{bytes_at}
-use Rattle.cacache_sequence.proofs.TargetBytes.{target_opened}
+use Rattle.cacache_table.specs.{declared.reply.Reply.{Reply, TheVariants.{LookedUp, Refused}}, Replies.{OrMemory}, Runs.{Moves, plain_reply, without_message}, SingleSteps.{Does, FailsAt}, StepPaths.{content_path}}
+use Rattle.cacache_value.specs.{Shows.{blob_bytes}, Value.{value_of_tree}}
+use Rattle.cacache_history.{specs.ShownTurns.{blob_at}, proofs.Spelled.{HasIntegrity, latest_has}}
+use Rattle.cacache_sequence.specs.{Caches.{Called, IsCache}, Keeping.{found_under}, LinkAnswers.{KeyReadersAnswer, LinkerOpeningsAnswer, OpensAs, OpensLed, ReadersAnswer, SizedOpeningsAnswer, target_bytes}, Looks.{bytes_under}, OpenLinkers.{OpensTarget, TellsSize}, OpenReaders.{LookupRan, OpensByKey, OpensContent, OpensWhatWasFound}, ReadAnswers.{entries_on}, Sequence.{IsSound}, Succeeds.{NamesFolder}}
+use Rattle.cacache_sequence.proofs.{InParts.{logs_lead}, Logs.{some_same}, Looks.{tree_stays}, OpenReaders.{log_front, memory_error, opened_by, plain_error}, ReadsStay.{sizing_keeps}, Standing.{caches_stand}, Succeeds.{back, ground, lookups_answer}, SureFiles.{opens_as, sizes_as}, SureReads.{bytes_at}, TargetBytes.{target_opened}}
 
 -- ---- the opening of a file
 

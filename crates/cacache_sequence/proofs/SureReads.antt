@@ -1,46 +1,18 @@
 -- Lookups, reads, questions and removals whose steps all go well.
 use Rattle.std.proofs.Common.{◌≡◌, ◌⊎◌, inl, inr, ℕ, Bool, true, false, cond, List, [], ◌∷◌, ◌++◌, Option, None, Some, Result, Ok, Err, refl, sym, ap, subst, ◌∙◌}
-use Rattle.cacache_core.specs.declared.errors.Error.TheVariants.{IoError, IntegrityError}
-use Rattle.cacache_core.specs.declared.errors.Fault.{Fault}
+use Rattle.cacache_core.specs.{declared.{errors.{Error.TheVariants.{IoError, IntegrityError}, Fault.{Fault}, IntegrityFault.TheVariants.{Check}}, integrity.digest.Hash.{Hash}}, Integrity.{IsHash, actual}, Meeting.{meets}, PathNames.{Names, names_of}, Paths.{bucket_names, content_names}}
 use Rattle.cacache_core.specs.declared.errors.Fault.TheVariants as faults
-use Rattle.cacache_core.specs.declared.errors.IntegrityFault.TheVariants.{Check}
-use Rattle.cacache_core.specs.declared.integrity.digest.Hash.{Hash}
-use Rattle.cacache_core.specs.Integrity.{IsHash, actual}
-use Rattle.cacache_core.specs.Meeting.{meets}
-use Rattle.cacache_core.specs.PathNames.{Names, names_of}
-use Rattle.cacache_core.specs.Paths.{bucket_names, content_names}
 use Rattle.cacache_store.specs.declared.store.step.Step.TheVariants as steps
 use Rattle.cacache_store.specs.declared.store.answer.Answer.TheVariants as answers
 use Rattle.cacache_store.specs.Plain.{PlainAnswer}
-use Rattle.cacache_disk.specs.declared.luck.Luck.TheVariants.{Plain}
-use Rattle.cacache_disk.specs.declared.node.Node.{Node}
-use Rattle.cacache_disk.specs.declared.node.Node.TheVariants.{Folder, File, Link}
-use Rattle.cacache_disk.specs.Tree.{Tree, look, cut}
-use Rattle.cacache_disk.specs.LedTo.{leads, followed, file_at, found, removable}
-use Rattle.cacache_disk.specs.Apply.{apply, is_there}
+use Rattle.cacache_disk.specs.{declared.{luck.Luck.TheVariants.{Plain}, node.Node.{Node, TheVariants.{Folder, File, Link}}}, Tree.{Tree, look, cut}, LedTo.{leads, followed, file_at, found, removable}, Apply.{apply, is_there}}
 use Rattle.cacache_entry.specs.Latest.{Found, latest}
-use Rattle.cacache_table.specs.declared.carried.Lookup.{Lookup}
-use Rattle.cacache_table.specs.declared.reply.Reply.{Reply}
-use Rattle.cacache_table.specs.declared.reply.Reply.TheVariants.{Read, Exists, Refused}
-use Rattle.cacache_table.specs.Common.{ends_with}
-use Rattle.cacache_table.specs.Looking.{found_for, found_in}
-use Rattle.cacache_table.specs.State.{State, doing, looking, reading, asking, over, remove}
-use Rattle.cacache_table.specs.StepPaths.{bucket_path, content_path}
-use Rattle.cacache_table.specs.Replies.{content_reply}
-use Rattle.cacache_value.specs.Kinds.{Content, Bucket, is_used}
-use Rattle.cacache_value.specs.Placed.{MayStand}
-use Rattle.cacache_value.specs.Shows.{link_end, blob_bytes, blob_there}
-use Rattle.cacache_value.specs.Acts.{list_of}
-use Rattle.cacache_value.specs.Value.{Blob, InFile, AtLink, blob_in, bucket_in, value_of_tree}
+use Rattle.cacache_table.specs.{declared.{carried.Lookup.{Lookup}, reply.Reply.{Reply, TheVariants.{Read, Exists, Refused}}}, Common.{ends_with}, Looking.{found_for, found_in}, State.{State, doing, looking, reading, asking, over, remove}, StepPaths.{bucket_path, content_path}, Replies.{content_reply}}
+use Rattle.cacache_value.specs.{Kinds.{Content, Bucket, is_used}, Placed.{MayStand}, Shows.{link_end, blob_bytes, blob_there}, Acts.{list_of}, Value.{Blob, InFile, AtLink, blob_in, bucket_in, value_of_tree}}
 use Rattle.cacache_value.proofs.FoundPaths.{suits}
 use Rattle.cacache_history.specs.ShownTurns.{as_refusal}
-use Rattle.cacache_sequence.specs.ExportAnswers.{blob_read}
-use Rattle.cacache_sequence.specs.ReadAnswers.{entries_on, read_on}
-use Rattle.cacache_sequence.specs.Succeeds.{is_yes}
-use Rattle.cacache_sequence.proofs.SureInserts.{bucket_lies}
-use Rattle.cacache_sequence.proofs.SureTemps.{content_lies}
-use Rattle.cacache_sequence.proofs.SureRuns.{EndsSo, ends, goes}
-use Rattle.cacache_sequence.proofs.SureSteps.{Ground, Lies, Reached, arrives, missing, goes_to, reached}
+use Rattle.cacache_sequence.specs.{ExportAnswers.{blob_read}, ReadAnswers.{entries_on, read_on}, Succeeds.{is_yes}}
+use Rattle.cacache_sequence.proofs.{SureInserts.{bucket_lies}, SureTemps.{content_lies}, SureRuns.{EndsSo, ends, goes}, SureSteps.{Ground, Lies, Reached, arrives, missing, goes_to, reached}}
 
 -- ---- what a bucket's file answers
 

@@ -1,55 +1,21 @@
 -- A full removal of a key whose steps all go well.
-use Rattle.std.proofs.Common.{◌≡◌, ℕ, false, cond, List, [], ◌∷◌, ◌++◌, Option, None, Some, Ok, refl, sym, ap, subst, ◌∙◌, arith}
-use Rattle.std.proofs.lemmas.List.Elements.{All-head}
+use Rattle.std.proofs.{Common.{◌≡◌, ℕ, false, cond, List, [], ◌∷◌, ◌++◌, Option, None, Some, Ok, refl, sym, ap, subst, ◌∙◌, arith}, lemmas.List.Elements.{All-head}}
 use Rattle.sha1.specs.Sha1.{sha1}
-use Rattle.cacache_core.specs.declared.errors.Error.TheVariants.{IoError}
+use Rattle.cacache_core.specs.{declared.{errors.Error.TheVariants.{IoError}, integrity.digest.Hash.{Hash}}, Integrity.{IsHash, IsIntegrity, address}, PathNames.{Names, names_of, home_of}, Paths.{bucket_names, content_names}}
 use Rattle.cacache_core.specs.declared.errors.Fault.TheVariants as faults
-use Rattle.cacache_core.specs.declared.integrity.digest.Hash.{Hash}
-use Rattle.cacache_core.specs.Integrity.{IsHash, IsIntegrity, address}
-use Rattle.cacache_core.specs.PathNames.{Names, names_of, home_of}
-use Rattle.cacache_core.specs.Paths.{bucket_names, content_names}
 use Rattle.cacache_store.specs.declared.store.step.Step.TheVariants as steps
 use Rattle.cacache_store.specs.declared.store.answer.Answer.TheVariants as answers
-use Rattle.cacache_disk.specs.declared.luck.Luck.TheVariants.{Plain}
-use Rattle.cacache_disk.specs.declared.node.Node.{Node}
-use Rattle.cacache_disk.specs.declared.node.Node.TheVariants.{Folder, File, Link}
-use Rattle.cacache_disk.specs.Tree.{Tree, look, cut, same_path}
-use Rattle.cacache_disk.specs.LedTo.{removable}
-use Rattle.cacache_disk.specs.Rooted.{Rooted}
-use Rattle.cacache_disk.specs.Apply.{apply}
-use Rattle.cacache_disk.proofs.Maps.{same_path-true}
-use Rattle.cacache_disk.proofs.PutNodes.{look-cut}
-use Rattle.cacache_disk.proofs.Roots.{not_true}
+use Rattle.cacache_disk.specs.{declared.{luck.Luck.TheVariants.{Plain}, node.Node.{Node, TheVariants.{Folder, File, Link}}}, Tree.{Tree, look, cut, same_path}, LedTo.{removable}, Rooted.{Rooted}, Apply.{apply}}
+use Rattle.cacache_disk.proofs.{Maps.{same_path-true}, PutNodes.{look-cut}, Roots.{not_true}}
 use Rattle.cacache_memory.specs.Replay.{tree_of}
 use Rattle.cacache_entry.specs.Latest.{Found, latest}
 use Rattle.cacache_table.specs.declared.carried.Aim.TheVariants as aims
-use Rattle.cacache_table.specs.declared.carried.Lookup.{Lookup}
+use Rattle.cacache_table.specs.{declared.{carried.Lookup.{Lookup}, reply.Reply.{Reply, TheVariants.{Done, Refused}}}, Looking.{found_for}, Removing.{remove_bucket, remove_content}, Replies.{OrMemory}, State.{doing, over, remove}, StepPaths.{bucket_path}, Table.{opening}}
 use Rattle.cacache_table.specs.declared.command.Command.TheVariants as commands
-use Rattle.cacache_table.specs.declared.reply.Reply.{Reply}
-use Rattle.cacache_table.specs.declared.reply.Reply.TheVariants.{Done, Refused}
-use Rattle.cacache_table.specs.Looking.{found_for}
-use Rattle.cacache_table.specs.Removing.{remove_bucket, remove_content}
-use Rattle.cacache_table.specs.Replies.{OrMemory}
-use Rattle.cacache_table.specs.State.{doing, over, remove}
-use Rattle.cacache_table.specs.StepPaths.{bucket_path}
-use Rattle.cacache_table.specs.Table.{opening}
-use Rattle.cacache_value.specs.Acts.{list_of}
-use Rattle.cacache_value.specs.Kinds.{Bucket, Content, path_kind, is_used}
-use Rattle.cacache_value.specs.Placed.{MayStand}
-use Rattle.cacache_value.specs.Value.{bucket_in, value_of_tree}
-use Rattle.cacache_value.proofs.FoundPaths.{suits}
-use Rattle.cacache_history.specs.ShownTurns.{blob_at}
-use Rattle.cacache_history.proofs.Spelled.{HasIntegrity, latest_has}
-use Rattle.cacache_sequence.specs.ReadAnswers.{entries_on}
-use Rattle.cacache_sequence.specs.Succeeds.{removal_reply, fully_reply, FullRemovalsAnswer}
-use Rattle.cacache_sequence.proofs.Emptied.{home_is}
-use Rattle.cacache_sequence.proofs.Standing.{caches_stand}
-use Rattle.cacache_sequence.proofs.Succeeds.{back, ground}
-use Rattle.cacache_sequence.proofs.SureInserts.{bucket_lies}
-use Rattle.cacache_sequence.proofs.SureTemps.{content_lies}
-use Rattle.cacache_sequence.proofs.SureReads.{looks_so, removes_so}
-use Rattle.cacache_sequence.proofs.SureRuns.{EndsSo, ends, goes, of_log}
-use Rattle.cacache_sequence.proofs.SureSteps.{Ground, Lies, Reached, arrives, missing, place_at, reached}
+use Rattle.cacache_value.{specs.{Acts.{list_of}, Kinds.{Bucket, Content, path_kind, is_used}, Placed.{MayStand}, Value.{bucket_in, value_of_tree}}, proofs.FoundPaths.{suits}}
+use Rattle.cacache_history.{specs.ShownTurns.{blob_at}, proofs.Spelled.{HasIntegrity, latest_has}}
+use Rattle.cacache_sequence.specs.{ReadAnswers.{entries_on}, Succeeds.{removal_reply, fully_reply, FullRemovalsAnswer}}
+use Rattle.cacache_sequence.proofs.{Emptied.{home_is}, Standing.{caches_stand}, Succeeds.{back, ground}, SureInserts.{bucket_lies}, SureTemps.{content_lies}, SureReads.{looks_so, removes_so}, SureRuns.{EndsSo, ends, goes, of_log}, SureSteps.{Ground, Lies, Reached, arrives, missing, place_at, reached}}
 
 -- ---- a bucket
 

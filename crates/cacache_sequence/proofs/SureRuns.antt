@@ -1,22 +1,12 @@
 -- How a call ends whose steps all go well, step by step.
 use Rattle.std.proofs.Common.{◌≡◌, inl, inr, ℕ, Bool, true, false, cond, List, [], ◌∷◌, None, Some, refl, sym, ap, subst, ◌∙◌}
-use Rattle.cacache_store.specs.declared.store.log.LogItem.{LogItem}
+use Rattle.cacache_store.specs.{declared.store.log.LogItem.{LogItem}, Plain.{PlainStep, PlainAnswer}}
 use Rattle.cacache_store.specs.declared.store.step.Step.TheVariants as steps
 use Rattle.cacache_store.specs.declared.store.answer.Answer.TheVariants as answers
-use Rattle.cacache_store.specs.Plain.{PlainStep, PlainAnswer}
-use Rattle.cacache_disk.specs.declared.luck.Luck.TheVariants.{Plain}
-use Rattle.cacache_disk.specs.Tree.{Tree}
-use Rattle.cacache_disk.specs.Apply.{apply}
+use Rattle.cacache_disk.specs.{declared.luck.Luck.TheVariants.{Plain}, Tree.{Tree}, Apply.{apply}}
 use Rattle.cacache_memory.specs.Replay.{tree_of, IsLog}
-use Rattle.cacache_table.specs.declared.reply.Reply.{Reply}
-use Rattle.cacache_table.specs.Common.{sync_up}
-use Rattle.cacache_table.specs.Replies.{OrMemory}
-use Rattle.cacache_table.specs.Runs.{Moves, Runs, Ran}
-use Rattle.cacache_table.specs.State.{State, doing, over, sync_dir}
-use Rattle.cacache_table.specs.Table.{wants, after}
-use Rattle.cacache_sequence.specs.Sequence.{tree_on, AreAnswered}
-use Rattle.cacache_sequence.proofs.InParts.{logs_lead}
-use Rattle.cacache_sequence.proofs.SureSteps.{SyncsAll}
+use Rattle.cacache_table.specs.{declared.reply.Reply.{Reply}, Common.{sync_up}, Replies.{OrMemory}, Runs.{Moves, Runs, Ran}, State.{State, doing, over, sync_dir}, Table.{wants, after}}
+use Rattle.cacache_sequence.{specs.Sequence.{tree_on, AreAnswered}, proofs.{InParts.{logs_lead}, SureSteps.{SyncsAll}}}
 
 -- from this state on this tree a call ends so, or memory is refused
 abbrev pub EndsSo : (Tree → Reply → Type 0) → Tree → State → Type 0

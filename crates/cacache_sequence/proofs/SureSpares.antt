@@ -1,26 +1,13 @@
 -- Where no temporary file stands, no other step of a call makes one.
 use Rattle.std.proofs.Common.{◌≡◌, ◌==◌, ◌-◌, ℕ, Bool, true, false, cond, List, [], ◌∷◌, ◌++◌, Option, None, Some, Result, Ok, Err, take, refl, sym, ap, subst, ◌∙◌}
-use Rattle.cacache_core.specs.declared.errors.Fault.{Fault}
+use Rattle.cacache_core.specs.{declared.errors.Fault.{Fault}, PathNames.{Names, names_of}}
 use Rattle.cacache_core.specs.declared.errors.Fault.TheVariants as faults
-use Rattle.cacache_core.specs.PathNames.{Names, names_of}
 use Rattle.cacache_store.specs.declared.store.step.Step.TheVariants as steps
 use Rattle.cacache_store.specs.Plain.{PlainStep}
-use Rattle.cacache_disk.specs.declared.luck.Luck.TheVariants.{Plain}
-use Rattle.cacache_disk.specs.declared.node.Node.{Node}
-use Rattle.cacache_disk.specs.declared.node.Node.TheVariants.{Folder, File, Link}
-use Rattle.cacache_disk.specs.Tree.{Tree, look, put, cut, same_path}
-use Rattle.cacache_disk.specs.LedTo.{dirs, free, known, kept, replaceable, writable, file_at, linked, folder, removable, emptied}
-use Rattle.cacache_disk.specs.Apply.{apply, make_some, making, if_missing, lengthened, taken}
-use Rattle.cacache_disk.proofs.FoundNodes.{free_ok, replaceable_ok}
-use Rattle.cacache_disk.proofs.KeptFolders.{apply_tree, unless_tree}
-use Rattle.cacache_disk.proofs.Maps.{same_path-true}
-use Rattle.cacache_disk.proofs.PutNodes.{look-put, look-cut}
-use Rattle.cacache_disk.proofs.Roots.{not_true}
-use Rattle.cacache_value.specs.Kinds.{PathKind, Content, Bucket, Temporary, Way, Elsewhere, path_kind, IsFor}
-use Rattle.cacache_value.specs.Placed.{MayStand, Placed, Proper}
-use Rattle.cacache_value.proofs.FoundPaths.{of_names, writable_out, bucket_reached, unreachable, Reaches, found, missing}
-use Rattle.cacache_value.specs.Traces.{IsTrace}
-use Rattle.cacache_value.proofs.Traces.{steps_keep_placed}
+use Rattle.cacache_disk.specs.{declared.{luck.Luck.TheVariants.{Plain}, node.Node.{Node, TheVariants.{Folder, File, Link}}}, Tree.{Tree, look, put, cut, same_path}, LedTo.{dirs, free, known, kept, replaceable, writable, file_at, linked, folder, removable, emptied}, Apply.{apply, make_some, making, if_missing, lengthened, taken}}
+use Rattle.cacache_disk.proofs.{FoundNodes.{free_ok, replaceable_ok}, KeptFolders.{apply_tree, unless_tree}, Maps.{same_path-true}, PutNodes.{look-put, look-cut}, Roots.{not_true}}
+use Rattle.cacache_value.specs.{Kinds.{PathKind, Content, Bucket, Temporary, Way, Elsewhere, path_kind, IsFor}, Placed.{MayStand, Placed, Proper}, Traces.{IsTrace}}
+use Rattle.cacache_value.proofs.{FoundPaths.{of_names, writable_out, bucket_reached, unreachable, Reaches, found, missing}, Traces.{steps_keep_placed}}
 use Rattle.cacache_table.specs.Runs.{Moves}
 use Rattle.cacache_sequence.specs.Sequence.{tree_on, plain_moves}
 

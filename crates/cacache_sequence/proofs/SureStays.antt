@@ -1,49 +1,20 @@
 -- A temporary file stays while calls neither move it nor remove anything.
 use Rattle.std.proofs.Common.{◌≡◌, ℕ, Bool, true, false, cond, List, [], ◌∷◌, ◌++◌, Option, None, Some, Result, Ok, Err, take, refl, sym, ap, subst, ◌∙◌}
-use Rattle.cacache_core.specs.declared.errors.Fault.{Fault}
+use Rattle.cacache_core.specs.{declared.errors.Fault.{Fault}, PathNames.{Names, names_of, home_of, names_below}, Paths.{temp_names}}
 use Rattle.cacache_core.specs.declared.errors.Fault.TheVariants as faults
-use Rattle.cacache_core.specs.PathNames.{Names, names_of, home_of, names_below}
-use Rattle.cacache_core.specs.Paths.{temp_names}
-use Rattle.cacache_store.specs.declared.store.log.LogItem.{LogItem}
+use Rattle.cacache_store.specs.{declared.store.log.LogItem.{LogItem}, Plain.{PlainStep}}
 use Rattle.cacache_store.specs.declared.store.step.Step.TheVariants as steps
-use Rattle.cacache_store.specs.Plain.{PlainStep}
-use Rattle.cacache_disk.specs.declared.luck.Luck.TheVariants.{Plain}
-use Rattle.cacache_disk.specs.declared.node.Node.{Node}
-use Rattle.cacache_disk.specs.declared.node.Node.TheVariants.{File, Link}
-use Rattle.cacache_disk.specs.Tree.{Tree, look, put, cut, same_path}
-use Rattle.cacache_disk.specs.LedTo.{dirs, file_at, folder, free, kept, known, linked, place, replaceable, where_free, writable}
-use Rattle.cacache_disk.specs.Apply.{apply, lengthened, making, taken}
-use Rattle.cacache_disk.proofs.FoundNodes.{and_then_ok, free_ok, kept_ok, replaceable_ok}
-use Rattle.cacache_disk.proofs.KeptFolders.{apply_tree, unless_tree}
-use Rattle.cacache_disk.proofs.Maps.{same_path-true}
-use Rattle.cacache_disk.proofs.PutNodes.{look-cut, look-put}
-use Rattle.cacache_disk.proofs.Roots.{not_true}
+use Rattle.cacache_disk.specs.{declared.{luck.Luck.TheVariants.{Plain}, node.Node.{Node, TheVariants.{File, Link}}}, Tree.{Tree, look, put, cut, same_path}, LedTo.{dirs, file_at, folder, free, kept, known, linked, place, replaceable, where_free, writable}, Apply.{apply, lengthened, making, taken}}
+use Rattle.cacache_disk.proofs.{FoundNodes.{and_then_ok, free_ok, kept_ok, replaceable_ok}, KeptFolders.{apply_tree, unless_tree}, Maps.{same_path-true}, PutNodes.{look-cut, look-put}, Roots.{not_true}}
 use Rattle.cacache_memory.specs.Replay.{tree_of}
-use Rattle.cacache_table.specs.declared.command.Command.{Command}
+use Rattle.cacache_table.specs.{declared.{command.Command.{Command}, reply.Reply.{Reply}}, Licence.{AllMay, Licence, May, allows}, Runs.{Moves, Runs}, Sound.{Allowed, MayBegin, Sound}, State.{Site, State}, StepPaths.{temp_path}, Table.{after, opening}}
+use Rattle.cacache_table.proofs.{Sound.{begins_sound, stays_sound, steps_allowed}, Within.{calls_keep_to}}
 use Rattle.cacache_table.specs.declared.command.Command.TheVariants as commands
-use Rattle.cacache_table.specs.declared.reply.Reply.{Reply}
-use Rattle.cacache_table.specs.Licence.{AllMay, Licence, May, allows}
-use Rattle.cacache_table.specs.Runs.{Moves, Runs}
-use Rattle.cacache_table.specs.Sound.{Allowed, MayBegin, Sound}
-use Rattle.cacache_table.specs.State.{Site, State}
-use Rattle.cacache_table.specs.StepPaths.{temp_path}
-use Rattle.cacache_table.specs.Table.{after, opening}
-use Rattle.cacache_table.proofs.Sound.{begins_sound, stays_sound, steps_allowed}
-use Rattle.cacache_table.proofs.Within.{calls_keep_to}
-use Rattle.cacache_value.specs.Kinds.{Bucket, Content, Elsewhere, IsFor, PathKind, Temporary, path_kind}
-use Rattle.cacache_value.specs.Placed.{Placed, Proper}
-use Rattle.cacache_value.specs.Traces.{IsTrace}
-use Rattle.cacache_value.proofs.FoundPaths.{Reaches, bucket_reached, found, missing, of_names, unreachable, writable_out}
-use Rattle.cacache_value.proofs.KindsApart.{kind-below}
-use Rattle.cacache_value.proofs.Traces.{steps_keep_placed}
-use Rattle.cacache_history.specs.History.{NamesIntegrity}
-use Rattle.cacache_history.specs.Setup.{call_site, is_outside, may_export}
-use Rattle.cacache_sequence.specs.Caches.{Called, IsCache, setup_at}
-use Rattle.cacache_sequence.specs.OpenSucceeds.{FileAt, OthersKeepFiles, PutsKeepFiles, without_takings}
-use Rattle.cacache_sequence.specs.Sequence.{plain_moves, tree_on}
-use Rattle.cacache_sequence.proofs.InParts.{logs_lead}
-use Rattle.cacache_sequence.proofs.MadeNodes.{stays}
-use Rattle.cacache_sequence.proofs.Unused.{calls_trace, own_file, same_number, temp_named}
+use Rattle.cacache_value.specs.{Kinds.{Bucket, Content, Elsewhere, IsFor, PathKind, Temporary, path_kind}, Placed.{Placed, Proper}, Traces.{IsTrace}}
+use Rattle.cacache_value.proofs.{FoundPaths.{Reaches, bucket_reached, found, missing, of_names, unreachable, writable_out}, KindsApart.{kind-below}, Traces.{steps_keep_placed}}
+use Rattle.cacache_history.specs.{History.{NamesIntegrity}, Setup.{call_site, is_outside, may_export}}
+use Rattle.cacache_sequence.specs.{Caches.{Called, IsCache, setup_at}, OpenSucceeds.{FileAt, OthersKeepFiles, PutsKeepFiles, without_takings}, Sequence.{plain_moves, tree_on}}
+use Rattle.cacache_sequence.proofs.{InParts.{logs_lead}, MadeNodes.{stays}, Unused.{calls_trace, own_file, same_number, temp_named}}
 
 -- ---- nodes
 

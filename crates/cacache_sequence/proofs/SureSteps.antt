@@ -1,36 +1,17 @@
 -- What a step does on a tree where nothing keeps it from going well.
-use Rattle.std.proofs.Common.{◌≡◌, ◌<◌, ℕ, true, cond, List, [], ◌∷◌, ◌++◌, Option, None, Some, Ok, Err, length, take, refl, sym, ap, subst, ◌∙◌, arith, append_assoc}
+use Rattle.std.proofs.{Common.{◌≡◌, ◌<◌, ℕ, true, cond, List, [], ◌∷◌, ◌++◌, Option, None, Some, Ok, Err, length, take, refl, sym, ap, subst, ◌∙◌, arith, append_assoc}, lemmas.List.Elements.{All-cons, All-nil, All-head, All-tail}}
 use Rattle.std.specs.Prelude.{All, IfOk}
-use Rattle.std.proofs.lemmas.List.Elements.{All-cons, All-nil, All-head, All-tail}
-use Rattle.cacache_core.specs.declared.errors.Fault.{Fault}
-use Rattle.cacache_core.specs.declared.errors.Fault.TheVariants as faults
-use Rattle.cacache_core.specs.PathNames.{Names, names_of, names_below, IsProperName}
-use Rattle.cacache_core.specs.Paths.{join, joined, folders_to}
+use Rattle.cacache_core.specs.{declared.errors.Fault.{Fault}, PathNames.{Names, names_of, names_below, IsProperName}, Paths.{join, joined, folders_to}}
 use Rattle.cacache_core.proofs.JoinedNames.{joined_texts_name}
-use Rattle.cacache_store.specs.declared.store.plain.PlainTemp.{PlainTemp}
+use Rattle.cacache_core.specs.declared.errors.Fault.TheVariants as faults
+use Rattle.cacache_store.specs.{declared.store.plain.PlainTemp.{PlainTemp}, Plain.{PlainStep, PlainAnswer}}
 use Rattle.cacache_store.specs.declared.store.step.Step.TheVariants as steps
 use Rattle.cacache_store.specs.declared.store.answer.Answer.TheVariants as answers
-use Rattle.cacache_store.specs.Plain.{PlainStep, PlainAnswer}
-use Rattle.cacache_disk.specs.declared.luck.Luck.TheVariants.{Plain}
-use Rattle.cacache_disk.specs.declared.node.Node.{Node}
-use Rattle.cacache_disk.specs.declared.node.Node.TheVariants.{Folder, File, Link}
-use Rattle.cacache_disk.specs.Tree.{Tree, look, put, cut, bytes_of}
-use Rattle.cacache_disk.specs.LedTo.{way_fault, place, known, leads, followed, free, writable, file_at, folder, dirs}
-use Rattle.cacache_disk.specs.Rooted.{Rooted}
-use Rattle.cacache_disk.specs.Apply.{apply, make_some, made_temp}
-use Rattle.cacache_disk.proofs.KeptFolders.{outcome_rooted}
-use Rattle.cacache_disk.proofs.PlantedNodes.{full}
-use Rattle.cacache_disk.proofs.PutNodes.{look-put}
-use Rattle.cacache_disk.proofs.Roots.{same_self}
-use Rattle.cacache_disk.proofs.Standing.{upper_folder, way_clear}
-use Rattle.cacache_value.specs.Kinds.{PathKind, Content, Bucket, Way, path_kind, is_used, kind_below, IsFor}
-use Rattle.cacache_value.specs.Placed.{MayStand, Placed, Proper}
-use Rattle.cacache_value.proofs.FoundPaths.{OnlyMissing, way_missing}
-use Rattle.cacache_value.proofs.KindsApart.{kind-below}
-use Rattle.cacache_value.proofs.MadeFolders.{no_dirs_fault}
-use Rattle.cacache_value.proofs.Traces.{steps_keep_placed}
-use Rattle.cacache_sequence.proofs.Emptied.{home_is}
-use Rattle.cacache_sequence.proofs.MadeNodes.{Stands, way_into, stays, kept_so, replaceable_so}
+use Rattle.cacache_disk.specs.{declared.{luck.Luck.TheVariants.{Plain}, node.Node.{Node, TheVariants.{Folder, File, Link}}}, Tree.{Tree, look, put, cut, bytes_of}, LedTo.{way_fault, place, known, leads, followed, free, writable, file_at, folder, dirs}, Rooted.{Rooted}, Apply.{apply, make_some, made_temp}}
+use Rattle.cacache_disk.proofs.{KeptFolders.{outcome_rooted}, PlantedNodes.{full}, PutNodes.{look-put}, Roots.{same_self}, Standing.{upper_folder, way_clear}}
+use Rattle.cacache_value.specs.{Kinds.{PathKind, Content, Bucket, Way, path_kind, is_used, kind_below, IsFor}, Placed.{MayStand, Placed, Proper}}
+use Rattle.cacache_value.proofs.{FoundPaths.{OnlyMissing, way_missing}, KindsApart.{kind-below}, MadeFolders.{no_dirs_fault}, Traces.{steps_keep_placed}}
+use Rattle.cacache_sequence.proofs.{Emptied.{home_is}, MadeNodes.{Stands, way_into, stays, kept_so, replaceable_so}}
 
 -- each thing stands where it may
 pub record Ground (home : Names) (t : Tree) : Type 0 where

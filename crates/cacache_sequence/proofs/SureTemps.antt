@@ -1,29 +1,15 @@
 -- The paths of contents and temporary files, and how a temporary file is made.
-use Rattle.std.proofs.Common.{◌≡◌, ℕ, List, [], ◌∷◌, ◌++◌, None, Some, Ok, length, refl, sym, ap, ◌∙◌, arith}
-use Rattle.std.specs.Prelude.{All, codes}
-use Rattle.std.specs.Int.{to_be_bytes, w64}
+use Rattle.std.{proofs.Common.{◌≡◌, ℕ, List, [], ◌∷◌, ◌++◌, None, Some, Ok, length, refl, sym, ap, ◌∙◌, arith}, specs.{Prelude.{All, codes}, Int.{to_be_bytes, w64}}}
 use Rattle.hex.specs.Hex.{encode_lower}
-use Rattle.cacache_core.specs.declared.integrity.digest.Hash.{Hash}
-use Rattle.cacache_core.specs.Integrity.{IsHash}
-use Rattle.cacache_core.specs.PathNames.{Names, names_of, IsProperName}
-use Rattle.cacache_core.specs.Paths.{content_names, folder_names, temp_names}
+use Rattle.cacache_core.specs.{declared.integrity.digest.Hash.{Hash}, Integrity.{IsHash}, PathNames.{Names, names_of, IsProperName}, Paths.{content_names, folder_names, temp_names}}
 use Rattle.cacache_core.proofs.ProperNames.{names_are_proper}
-use Rattle.cacache_store.specs.declared.store.plain.PlainTemp.{PlainTemp}
+use Rattle.cacache_store.specs.{declared.store.plain.PlainTemp.{PlainTemp}, Plain.{PlainAnswer}}
 use Rattle.cacache_store.specs.declared.store.step.Step.TheVariants as steps
 use Rattle.cacache_store.specs.declared.store.answer.Answer.TheVariants as answers
-use Rattle.cacache_store.specs.Plain.{PlainAnswer}
-use Rattle.cacache_disk.specs.declared.luck.Luck.TheVariants.{Plain}
-use Rattle.cacache_disk.specs.declared.node.Node.{Node}
-use Rattle.cacache_disk.specs.declared.node.Node.TheVariants.{File}
-use Rattle.cacache_disk.specs.Tree.{Tree, look, put}
-use Rattle.cacache_disk.specs.Rooted.{Rooted}
-use Rattle.cacache_disk.specs.Apply.{apply, make_some, made_temp}
+use Rattle.cacache_disk.specs.{declared.{luck.Luck.TheVariants.{Plain}, node.Node.{Node, TheVariants.{File}}}, Tree.{Tree, look, put}, Rooted.{Rooted}, Apply.{apply, make_some, made_temp}}
 use Rattle.cacache_table.specs.StepPaths.{temp_path, temp_folder, content_path, content_folder, content_folders}
 use Rattle.cacache_value.specs.Kinds.{Content, Temporary, Way, path_kind}
-use Rattle.cacache_sequence.proofs.MadeNodes.{Stands}
-use Rattle.cacache_sequence.proofs.SureInserts.{one_behind, proper_folder}
-use Rattle.cacache_sequence.proofs.SureSpares.{dirs_spare}
-use Rattle.cacache_sequence.proofs.SureSteps.{Ground, Lies, SyncsAll, goes_to, joined_lies, is_for, makes_dirs, dirs_ground, dirs_stand, creates, look_own, syncs_folders}
+use Rattle.cacache_sequence.proofs.{MadeNodes.{Stands}, SureInserts.{one_behind, proper_folder}, SureSpares.{dirs_spare}, SureSteps.{Ground, Lies, SyncsAll, goes_to, joined_lies, is_for, makes_dirs, dirs_ground, dirs_stand, creates, look_own, syncs_folders}}
 
 -- ---- paths
 

@@ -1,35 +1,14 @@
 -- Open writers whose steps all go well.
 use Rattle.std.proofs.Common.{◌≡◌, inl, inr, ℕ, List, [], ◌∷◌, ◌++◌, Option, None, Some, Ok, Err, refl, sym, ap, subst, ◌∙◌}
-use Rattle.cacache_core.specs.declared.errors.Error.TheVariants.{IoError, OutOfMemory}
-use Rattle.cacache_core.specs.declared.errors.Fault.{Fault}
-use Rattle.cacache_core.specs.PathNames.{Names, names_of}
-use Rattle.cacache_core.specs.Paths.{folder_names, temp_names}
+use Rattle.cacache_core.specs.{declared.errors.{Error.TheVariants.{IoError, OutOfMemory}, Fault.{Fault}}, PathNames.{Names, names_of}, Paths.{folder_names, temp_names}}
 use Rattle.cacache_store.specs.declared.store.answer.Answer.TheVariants as answers
-use Rattle.cacache_store.specs.declared.store.log.LogItem.{LogItem}
-use Rattle.cacache_store.specs.declared.store.plain.PlainTemp.{PlainTemp}
-use Rattle.cacache_store.specs.Plain.{PlainAnswer}
-use Rattle.cacache_disk.specs.declared.luck.Luck.TheVariants.{Plain}
-use Rattle.cacache_disk.specs.Tree.{Tree, look}
-use Rattle.cacache_disk.specs.Apply.{apply, made_temp}
+use Rattle.cacache_store.specs.{declared.store.{log.LogItem.{LogItem}, plain.PlainTemp.{PlainTemp}}, Plain.{PlainAnswer}}
+use Rattle.cacache_disk.specs.{declared.luck.Luck.TheVariants.{Plain}, Tree.{Tree, look}, Apply.{apply, made_temp}}
 use Rattle.cacache_memory.specs.Replay.{tree_of, IsLog}
-use Rattle.cacache_table.specs.Replies.{OrMemory}
-use Rattle.cacache_table.specs.Runs.{Gains, Moves}
-use Rattle.cacache_table.specs.StepPaths.{temp_folder, temp_path}
-use Rattle.cacache_table.specs.Storing.{persist, put_commit}
+use Rattle.cacache_table.specs.{Replies.{OrMemory}, Runs.{Gains, Moves}, StepPaths.{temp_folder, temp_path}, Storing.{persist, put_commit}}
 use Rattle.cacache_value.specs.Kinds.{node_below}
-use Rattle.cacache_sequence.specs.OpenSucceeds.{FileAt, OpeningsSucceed, CommitsAnswer}
-use Rattle.cacache_sequence.specs.OpenWriters.{make_file, make_folder}
-use Rattle.cacache_sequence.specs.Succeeds.{NamesFolder, IsUnused, put_reply}
-use Rattle.cacache_sequence.specs.Standing.{IsStanding}
-use Rattle.cacache_sequence.proofs.Emptied.{home_is}
-use Rattle.cacache_sequence.proofs.InParts.{logs_lead}
-use Rattle.cacache_sequence.proofs.MadeNodes.{Stands, created_so}
-use Rattle.cacache_sequence.proofs.OpenWriters.{gains_join}
-use Rattle.cacache_sequence.proofs.Succeeds.{back, ground}
-use Rattle.cacache_sequence.proofs.SurePuts.{PutSo, persist_ends}
-use Rattle.cacache_sequence.proofs.SureTemps.{made_file, own_temporary_at, temp_folder_lies, with_folder}
-use Rattle.cacache_sequence.proofs.SureRuns.{of_log}
-use Rattle.cacache_sequence.proofs.SureSteps.{Ground, makes_dirs}
+use Rattle.cacache_sequence.specs.{OpenSucceeds.{FileAt, OpeningsSucceed, CommitsAnswer}, OpenWriters.{make_file, make_folder}, Succeeds.{NamesFolder, IsUnused, put_reply}, Standing.{IsStanding}}
+use Rattle.cacache_sequence.proofs.{Emptied.{home_is}, InParts.{logs_lead}, MadeNodes.{Stands, created_so}, OpenWriters.{gains_join}, Succeeds.{back, ground}, SurePuts.{PutSo, persist_ends}, SureTemps.{made_file, own_temporary_at, temp_folder_lies, with_folder}, SureRuns.{of_log}, SureSteps.{Ground, makes_dirs}}
 
 -- ---- openings
 

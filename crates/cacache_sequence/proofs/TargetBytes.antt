@@ -1,38 +1,16 @@
 -- What a linker's target showed when it was opened, and what its opening leaves.
 use Rattle.std.proofs.Common.{◌≡◌, ◌⊎◌, inl, inr, ℕ, List, [], ◌∷◌, ◌++◌, Some, Result, Ok, Err, length, map, refl, sym, ap, subst, ◌∙◌, append_assoc}
-use Rattle.cacache_core.specs.declared.errors.Error.{Error}
-use Rattle.cacache_core.specs.declared.errors.Error.TheVariants.{EntryNotFound, IntegrityError, IoError, OutOfMemory, SerdeError, SizeMismatch}
-use Rattle.cacache_core.specs.declared.errors.Fault.{Fault}
+use Rattle.cacache_core.specs.{declared.errors.{Error.{Error, TheVariants.{EntryNotFound, IntegrityError, IoError, OutOfMemory, SerdeError, SizeMismatch}}, Fault.{Fault}}, PathNames.{home_of}}
 use Rattle.cacache_core.specs.declared.errors.Fault.TheVariants as faults
-use Rattle.cacache_core.specs.PathNames.{home_of}
 use Rattle.cacache_store.specs.declared.store.answer.Answer.TheVariants as answers
-use Rattle.cacache_store.specs.declared.store.log.LogItem.{LogItem}
-use Rattle.cacache_store.specs.declared.store.log.LogItem.TheVariants.{Made}
-use Rattle.cacache_store.specs.declared.store.plain.PlainFile.{PlainFile}
+use Rattle.cacache_store.specs.declared.store.{log.LogItem.{LogItem, TheVariants.{Made}}, plain.PlainFile.{PlainFile}}
 use Rattle.cacache_store.specs.declared.store.step.Step.TheVariants as steps
-use Rattle.cacache_disk.specs.declared.luck.Luck.TheVariants.{Plain, Take}
-use Rattle.cacache_disk.specs.Tree.{Tree}
-use Rattle.cacache_disk.specs.Apply.{apply, opened, unless}
-use Rattle.cacache_disk.specs.LedTo.{file_at}
+use Rattle.cacache_disk.specs.{declared.luck.Luck.TheVariants.{Plain, Take}, Tree.{Tree}, Apply.{apply, opened, unless}, LedTo.{file_at}}
 use Rattle.cacache_memory.specs.Replay.{IsLog, bytes_told, shown, tree_of}
-use Rattle.cacache_table.specs.Runs.{Gains, Moves}
-use Rattle.cacache_table.specs.SingleSteps.{FailsAt}
-use Rattle.cacache_history.specs.Commits.{ReadsTarget}
-use Rattle.cacache_history.specs.History.{turn_of}
-use Rattle.cacache_history.specs.Setup.{Setup}
-use Rattle.cacache_history.proofs.OpenedContents.{EachAsks, OnDisks, gives_all}
-use Rattle.cacache_sequence.specs.Caches.{IsCache, Grows}
-use Rattle.cacache_sequence.specs.InParts.{AreParts, Part, byte_read, made, took, moves_in, turns_in}
-use Rattle.cacache_sequence.specs.OpenLinkers.{GivesSized, GivesTarget, LinkersOpen, LinkersOpenSized, OpensSized, OpensTarget}
-use Rattle.cacache_sequence.specs.OpenWriters.{LeavesKnownCache}
-use Rattle.cacache_sequence.specs.Sequence.{AreAnswered, IsSound, tree_on, turns_on}
-use Rattle.cacache_sequence.proofs.InParts.{byte_answered, logs_lead}
-use Rattle.cacache_sequence.proofs.Linking.{on_disks, opened_held}
-use Rattle.cacache_sequence.proofs.GivenUp.{unchanged}
-use Rattle.cacache_sequence.proofs.Logs.{excuses_last, growths_join, some_same}
-use Rattle.cacache_sequence.proofs.OpenReaders.{Opened, errs, leaves as known_left, log_front, opened_keeps}
-use Rattle.cacache_sequence.proofs.OpenWriters.{excused_step, gains_grow}
-use Rattle.cacache_sequence.proofs.ReadsStay.{opened_so, sizing_keeps}
+use Rattle.cacache_table.specs.{Runs.{Gains, Moves}, SingleSteps.{FailsAt}}
+use Rattle.cacache_history.{specs.{Commits.{ReadsTarget}, History.{turn_of}, Setup.{Setup}}, proofs.OpenedContents.{EachAsks, OnDisks, gives_all}}
+use Rattle.cacache_sequence.specs.{Caches.{IsCache, Grows}, InParts.{AreParts, Part, byte_read, made, took, moves_in, turns_in}, OpenLinkers.{GivesSized, GivesTarget, LinkersOpen, LinkersOpenSized, OpensSized, OpensTarget}, OpenWriters.{LeavesKnownCache}, Sequence.{AreAnswered, IsSound, tree_on, turns_on}}
+use Rattle.cacache_sequence.proofs.{InParts.{byte_answered, logs_lead}, Linking.{on_disks, opened_held}, GivenUp.{unchanged}, Logs.{excuses_last, growths_join, some_same}, OpenReaders.{Opened, errs, leaves as known_left, log_front, opened_keeps}, OpenWriters.{excused_step, gains_grow}, ReadsStay.{opened_so, sizing_keeps}}
 
 -- ---- the bytes that the target showed
 

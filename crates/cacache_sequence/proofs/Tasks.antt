@@ -1,10 +1,7 @@
 -- The tasks of a clearing.
 use Rattle.std.proofs.Common.{ℕ, true, List, ◌++◌}
 use Rattle.cacache_store.specs.declared.store.answer.Name.{Name}
-use Rattle.cacache_table.specs.declared.visit.Visit.{Visit}
-use Rattle.cacache_table.specs.declared.visit.Task.{Task}
-use Rattle.cacache_table.specs.declared.visit.Visit.TheVariants.{ReadBucket}
-use Rattle.cacache_table.specs.Walking.{EachVisit, tasks_of, leaving}
+use Rattle.cacache_table.specs.{declared.visit.{Visit.{Visit, TheVariants.{ReadBucket}}, Task.{Task}}, Walking.{EachVisit, tasks_of, leaving}}
 use Rattle.cacache_table.proofs.Visits.{each_append, each_name, each_leaving}
 
 -- what a clearing may visit: it reads no bucket

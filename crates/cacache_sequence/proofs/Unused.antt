@@ -1,47 +1,18 @@
 -- Which temporary files calls leave.
-use Rattle.std.proofs.Common.{◌≡◌, inl, inr, ◌<◌, ◌^◌, ℕ, Bool, true, false, List, [], ◌∷◌, ◌++◌, Option, None, Some, Result, Ok, refl, sym, ap, subst, ◌∙◌, arith}
-use Rattle.std.proofs.lemmas.List.{append_cancel_left}
-use Rattle.cacache_core.specs.declared.errors.Fault.{Fault}
-use Rattle.cacache_core.specs.PathNames.{Names, names_of, home_of, names_below}
-use Rattle.cacache_core.specs.Paths.{joined, temp_names}
-use Rattle.cacache_core.proofs.JoinedNames.{joined_texts_name}
-use Rattle.cacache_core.proofs.PathTexts.{paths_differ}
-use Rattle.cacache_core.proofs.ProperNames.{names_are_proper}
-use Rattle.cacache_store.specs.declared.store.log.LogItem.{LogItem}
+use Rattle.std.proofs.{Common.{◌≡◌, inl, inr, ◌<◌, ◌^◌, ℕ, Bool, true, false, List, [], ◌∷◌, ◌++◌, Option, None, Some, Result, Ok, refl, sym, ap, subst, ◌∙◌, arith}, lemmas.List.{append_cancel_left}}
+use Rattle.cacache_core.specs.{declared.errors.Fault.{Fault}, PathNames.{Names, names_of, home_of, names_below}, Paths.{joined, temp_names}}
+use Rattle.cacache_core.proofs.{JoinedNames.{joined_texts_name}, PathTexts.{paths_differ}, ProperNames.{names_are_proper}}
+use Rattle.cacache_store.specs.{declared.store.log.LogItem.{LogItem}, Plain.{PlainStep}}
 use Rattle.cacache_store.specs.declared.store.step.Step.TheVariants as steps
-use Rattle.cacache_store.specs.Plain.{PlainStep}
-use Rattle.cacache_disk.specs.Tree.{Tree, bare, same_path}
-use Rattle.cacache_disk.proofs.Maps.{same_path-true}
-use Rattle.cacache_disk.proofs.Roots.{bare_below, same_self}
+use Rattle.cacache_disk.{specs.Tree.{Tree, bare, same_path}, proofs.{Maps.{same_path-true}, Roots.{bare_below, same_self}}}
 use Rattle.cacache_memory.specs.Replay.{tree_of}
-use Rattle.cacache_table.specs.declared.command.Command.{Command}
+use Rattle.cacache_table.specs.{declared.{command.{Command.{Command}, Put.{Put}}, reply.Reply.{Reply}}, Licence.{May, allows, AllMay}, Runs.{Moves, Runs}, Sound.{MayBegin, Sound, Allowed}, State.{State, Site}, StepPaths.{temp_path}, Table.{opening, after}}
+use Rattle.cacache_table.proofs.{Sound.{begins_sound, steps_allowed, stays_sound}, Within.{calls_keep_to}}
 use Rattle.cacache_table.specs.declared.command.Command.TheVariants as commands
-use Rattle.cacache_table.specs.declared.command.Put.{Put}
-use Rattle.cacache_table.specs.declared.reply.Reply.{Reply}
-use Rattle.cacache_table.specs.Licence.{May, allows, AllMay}
-use Rattle.cacache_table.specs.Runs.{Moves, Runs}
-use Rattle.cacache_table.specs.Sound.{MayBegin, Sound, Allowed}
-use Rattle.cacache_table.specs.State.{State, Site}
-use Rattle.cacache_table.specs.StepPaths.{temp_path}
-use Rattle.cacache_table.specs.Table.{opening, after}
-use Rattle.cacache_table.proofs.Sound.{begins_sound, steps_allowed, stays_sound}
-use Rattle.cacache_table.proofs.Within.{calls_keep_to}
-use Rattle.cacache_value.specs.Kinds.{node_below}
-use Rattle.cacache_value.specs.Placed.{Placed}
-use Rattle.cacache_value.specs.Traces.{IsTrace}
-use Rattle.cacache_value.proofs.KindsApart.{kind-below}
-use Rattle.cacache_history.specs.Setup.{call_site, may_export, is_outside}
-use Rattle.cacache_history.specs.History.{NamesIntegrity, new_call}
-use Rattle.cacache_history.proofs.Holding.{begins_hold}
-use Rattle.cacache_sequence.specs.Beside.{FitsEntry}
-use Rattle.cacache_sequence.specs.Caches.{IsCache, Called, setup_at}
-use Rattle.cacache_sequence.specs.Sequence.{tree_on, plain_moves}
-use Rattle.cacache_sequence.specs.Succeeds.{IsUnused, IsTidy, StaysUnused, without_commits, OthersLeaveNone, PutsLeaveOwn, PutsLeaveTidy, IsReady, FreshIsReady, SameIsReady}
-use Rattle.cacache_sequence.proofs.InParts.{logs_lead}
-use Rattle.cacache_sequence.proofs.Sequence.{run_holds, holds_alone, keeps_alone}
-use Rattle.cacache_sequence.proofs.Standing.{caches_stand}
-use Rattle.cacache_sequence.proofs.Succeeds.{puts_answer}
-use Rattle.cacache_sequence.proofs.SureSpares.{Creates, NoneCreates, moves_spare}
+use Rattle.cacache_value.{specs.{Kinds.{node_below}, Placed.{Placed}, Traces.{IsTrace}}, proofs.KindsApart.{kind-below}}
+use Rattle.cacache_history.{specs.{Setup.{call_site, may_export, is_outside}, History.{NamesIntegrity, new_call}}, proofs.Holding.{begins_hold}}
+use Rattle.cacache_sequence.specs.{Beside.{FitsEntry}, Caches.{IsCache, Called, setup_at}, Sequence.{tree_on, plain_moves}, Succeeds.{IsUnused, IsTidy, StaysUnused, without_commits, OthersLeaveNone, PutsLeaveOwn, PutsLeaveTidy, IsReady, FreshIsReady, SameIsReady}}
+use Rattle.cacache_sequence.proofs.{InParts.{logs_lead}, Sequence.{run_holds, holds_alone, keeps_alone}, Standing.{caches_stand}, Succeeds.{puts_answer}, SureSpares.{Creates, NoneCreates, moves_spare}}
 
 -- ---- moves of a call
 

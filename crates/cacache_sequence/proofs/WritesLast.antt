@@ -1,41 +1,19 @@
 -- What a write leaves in a cache.
-use Rattle.std.proofs.Common.{◌≡◌, ℕ, List, [], ◌∷◌, None, Some, option_map, length, refl, sym, ap, subst, ◌∙◌, arith}
-use Rattle.std.proofs.lemmas.List.Elements.{All-cons, All-nil}
-use Rattle.cacache_core.specs.declared.integrity.algorithm.Algorithm.{Algorithm}
-use Rattle.cacache_core.specs.declared.integrity.algorithm.Algorithm.TheVariants.{Sha1, Sha256, Sha384, Sha512}
-use Rattle.cacache_core.specs.declared.integrity.digest.Hash.{Hash}
-use Rattle.cacache_core.specs.Digests.{digest}
-use Rattle.cacache_core.specs.Integrity.{IsHash, IsIntegrity, Meets, address, hash_of, integrity_under, strongest_first}
-use Rattle.cacache_core.specs.PathNames.{home_of}
-use Rattle.cacache_core.specs.Texts.{integrity_text}
-use Rattle.cacache_core.proofs.Meeting.{own_is_met}
-use Rattle.cacache_core.proofs.Printed.{printed}
+use Rattle.std.proofs.{Common.{◌≡◌, ℕ, List, [], ◌∷◌, None, Some, option_map, length, refl, sym, ap, subst, ◌∙◌, arith}, lemmas.List.Elements.{All-cons, All-nil}}
+use Rattle.cacache_core.specs.{declared.integrity.{algorithm.Algorithm.{Algorithm, TheVariants.{Sha1, Sha256, Sha384, Sha512}}, digest.Hash.{Hash}}, Digests.{digest}, Integrity.{IsHash, IsIntegrity, Meets, address, hash_of, integrity_under, strongest_first}, PathNames.{home_of}, Texts.{integrity_text}}
+use Rattle.cacache_core.proofs.{Meeting.{own_is_met}, Printed.{printed}}
 use Rattle.cacache_store.specs.declared.store.log.LogItem.{LogItem}
 use Rattle.cacache_disk.specs.Tree.{Tree}
 use Rattle.cacache_memory.specs.Replay.{tree_of}
-use Rattle.cacache_entry.specs.FittingEntries.{IsEntry}
-use Rattle.cacache_entry.specs.Latest.{found_of, answer_read, answer_of}
+use Rattle.cacache_entry.specs.{FittingEntries.{IsEntry}, Latest.{found_of, answer_read, answer_of}}
 use Rattle.cacache_table.specs.declared.command.Command.TheVariants as commands
-use Rattle.cacache_table.specs.declared.reply.Reply.{Reply}
+use Rattle.cacache_table.specs.{declared.reply.Reply.{Reply}, Inserting.{refused_cause}, Promises.{Stores}, Storing.{insertion_of, put_commit}}
+use Rattle.cacache_table.proofs.{Promises.{calls_answer}, IntegrityUtf8.{integrity_utf8}}
 use Rattle.cacache_table.specs.declared.reply.Reply.TheVariants as replies
-use Rattle.cacache_table.specs.Inserting.{refused_cause}
-use Rattle.cacache_table.specs.Promises.{Stores}
-use Rattle.cacache_table.specs.Storing.{insertion_of, put_commit}
-use Rattle.cacache_table.proofs.Promises.{calls_answer}
 use Rattle.cacache_value.specs.Value.{value_of_tree}
-use Rattle.cacache_history.specs.Setup.{call_site}
-use Rattle.cacache_history.specs.ShownTurns.{blob_at}
-use Rattle.cacache_history.proofs.Digests.{digest_hash}
-use Rattle.cacache_table.proofs.IntegrityUtf8.{integrity_utf8}
-use Rattle.cacache_sequence.specs.Sequence.{tree_on}
-use Rattle.cacache_sequence.specs.ReadAnswers.{entries_on}
-use Rattle.cacache_sequence.specs.Stored.{HasStored}
-use Rattle.cacache_sequence.specs.Caches.{HasKey, plain_put, setup_at, WritesKey, WritesLast}
-use Rattle.cacache_sequence.proofs.Stored.{puts_store}
-use Rattle.cacache_sequence.proofs.CallErrors.{calls_fail_only}
-use Rattle.cacache_sequence.proofs.Forms.{bare_written}
-use Rattle.cacache_sequence.proofs.Known.{Known, known, excuse}
-use Rattle.cacache_sequence.proofs.Looking.{finds_last}
+use Rattle.cacache_history.{specs.{Setup.{call_site}, ShownTurns.{blob_at}}, proofs.Digests.{digest_hash}}
+use Rattle.cacache_sequence.specs.{Sequence.{tree_on}, ReadAnswers.{entries_on}, Stored.{HasStored}, Caches.{HasKey, plain_put, setup_at, WritesKey, WritesLast}}
+use Rattle.cacache_sequence.proofs.{Stored.{puts_store}, CallErrors.{calls_fail_only}, Forms.{bare_written}, Known.{Known, known, excuse}, Looking.{finds_last}}
 
 -- ---- the integrity of the bytes
 

@@ -1,17 +1,11 @@
 -- What writes and removals leave beside what they are for.
 use Rattle.std.specs.Prelude.{◌≡◌, ◌⊎◌, ◌<◌, ◌^◌, ℕ, List, Option, None, Some, IsUtf8, length}
-use Rattle.cacache_core.specs.declared.integrity.algorithm.Algorithm.{Algorithm}
-use Rattle.cacache_core.specs.declared.integrity.digest.Hash.{Hash}
-use Rattle.cacache_core.specs.Integrity.{IsIntegrity, address, integrity_under}
+use Rattle.cacache_core.specs.{declared.integrity.{algorithm.Algorithm.{Algorithm}, digest.Hash.{Hash}}, Integrity.{IsIntegrity, address, integrity_under}}
 use Rattle.cacache_store.specs.declared.store.log.LogItem.{LogItem}
 use Rattle.cacache_table.specs.declared.command.Command.TheVariants as commands
-use Rattle.cacache_table.specs.declared.command.Put.{Put}
-use Rattle.cacache_table.specs.declared.reply.Reply.{Reply}
-use Rattle.cacache_table.specs.Sound.{FormedIfWritten}
-use Rattle.cacache_table.specs.Storing.{insertion_of, put_commit}
+use Rattle.cacache_table.specs.{declared.{command.Put.{Put}, reply.Reply.{Reply}}, Sound.{FormedIfWritten}, Storing.{insertion_of, put_commit}}
 use Rattle.cacache_value.specs.Value.{InFile}
-use Rattle.cacache_sequence.specs.Caches.{IsCache, HasContent, HasKey, Called, lies_under, plain_put}
-use Rattle.cacache_sequence.specs.Keeping.{found_under, KeepsOthers}
+use Rattle.cacache_sequence.specs.{Caches.{IsCache, HasContent, HasKey, Called, lies_under, plain_put}, Keeping.{found_under, KeepsOthers}}
 
 -- ---- a write
 

@@ -1,33 +1,15 @@
 -- What a store in memory holds in words of its user, and what each call does in these words.
 use Rattle.std.specs.Prelude.{◌≡◌, ◌⊎◌, ◌<◌, ◌^◌, ℕ, true, false, List, [], ◌∷◌, ◌++◌, Option, None, Some, IsUtf8, length, map}
 use Rattle.serde_json.specs.Data.{null}
-use Rattle.cacache_core.specs.declared.errors.Error.{Error}
-use Rattle.cacache_core.specs.declared.errors.Error.TheVariants.{EntryNotFound, IoError, OutOfMemory}
-use Rattle.cacache_core.specs.declared.errors.Fault.{Fault}
-use Rattle.cacache_core.specs.declared.integrity.algorithm.Algorithm.{Algorithm}
-use Rattle.cacache_core.specs.declared.integrity.digest.Hash.{Hash}
-use Rattle.cacache_core.specs.Integrity.{IsIntegrity, Meets, address}
-use Rattle.cacache_core.specs.PathNames.{home_of}
-use Rattle.cacache_store.specs.declared.store.log.LogItem.{LogItem}
-use Rattle.cacache_store.specs.declared.store.log.LogItem.TheVariants.{Made, Foreign}
+use Rattle.cacache_core.specs.{declared.{errors.{Error.{Error, TheVariants.{EntryNotFound, IoError, OutOfMemory}}, Fault.{Fault}}, integrity.{algorithm.Algorithm.{Algorithm}, digest.Hash.{Hash}}}, Integrity.{IsIntegrity, Meets, address}, PathNames.{home_of}}
+use Rattle.cacache_store.specs.declared.store.log.LogItem.{LogItem, TheVariants.{Made, Foreign}}
 use Rattle.cacache_memory.specs.Replay.{tree_of, IsLog}
 use Rattle.cacache_entry.specs.Latest.{Found, latest}
-use Rattle.cacache_table.specs.declared.command.Command.{Command}
+use Rattle.cacache_table.specs.{declared.{command.{Command.{Command}, Put.{Put}}, reply.Reply.{Reply, TheVariants.{Stored, Read, LookedUp, Exists, Done, Refused}}}, Causes.{Faulted, OfWalk}, Runs.{Moves, Ran, plain_reply}, Sound.{MayBegin}, Table.{opening}}
 use Rattle.cacache_table.specs.declared.command.Command.TheVariants as commands
-use Rattle.cacache_table.specs.declared.command.Put.{Put}
-use Rattle.cacache_table.specs.declared.reply.Reply.{Reply}
-use Rattle.cacache_table.specs.declared.reply.Reply.TheVariants.{Stored, Read, LookedUp, Exists, Done, Refused}
-use Rattle.cacache_table.specs.Causes.{Faulted, OfWalk}
-use Rattle.cacache_table.specs.Runs.{Moves, Ran, plain_reply}
-use Rattle.cacache_table.specs.Sound.{MayBegin}
-use Rattle.cacache_table.specs.Table.{opening}
-use Rattle.cacache_value.specs.Kinds.{Elsewhere, IsFor}
-use Rattle.cacache_value.specs.Value.{Blob, InFile, empty_value, value_of_tree}
-use Rattle.cacache_history.specs.History.{NamesIntegrity}
-use Rattle.cacache_history.specs.Setup.{Setup, call_site, may_export, is_outside}
-use Rattle.cacache_history.specs.ShownTurns.{blob_at}
-use Rattle.cacache_sequence.specs.Sequence.{IsSound}
-use Rattle.cacache_sequence.specs.ReadAnswers.{entries_on}
+use Rattle.cacache_value.specs.{Kinds.{Elsewhere, IsFor}, Value.{Blob, InFile, empty_value, value_of_tree}}
+use Rattle.cacache_history.specs.{History.{NamesIntegrity}, Setup.{Setup, call_site, may_export, is_outside}, ShownTurns.{blob_at}}
+use Rattle.cacache_sequence.specs.{Sequence.{IsSound}, ReadAnswers.{entries_on}}
 
 -- ---- what a store in memory holds, by its log
 

@@ -1,22 +1,13 @@
 -- What an export leaves of a cache in a store in memory, and what a checked copy answers.
 use Rattle.std.specs.Prelude.{◌≡◌, ℕ, Bool, true, List, Some, length}
-use Rattle.cacache_core.specs.declared.integrity.digest.Hash.{Hash}
-use Rattle.cacache_core.specs.PathNames.{home_of}
+use Rattle.cacache_core.specs.{declared.integrity.digest.Hash.{Hash}, PathNames.{home_of}}
 use Rattle.cacache_store.specs.declared.store.log.LogItem.{LogItem}
 use Rattle.cacache_memory.specs.Replay.{shown, tree_of}
-use Rattle.cacache_table.specs.declared.command.Command.{Command}
+use Rattle.cacache_table.specs.{declared.{command.{Command.{Command}, Export.{Export}, How.TheVariants.{Copy}, Source.{Source, TheVariants.{Hash as OfHash, Key as OfKey}}}, reply.Reply.{Reply, TheVariants.{Copied}}}, Verifying.{CountsAs}}
 use Rattle.cacache_table.specs.declared.command.Command.TheVariants as commands
-use Rattle.cacache_table.specs.declared.command.Export.{Export}
-use Rattle.cacache_table.specs.declared.command.How.TheVariants.{Copy}
-use Rattle.cacache_table.specs.declared.command.Source.{Source}
-use Rattle.cacache_table.specs.declared.command.Source.TheVariants.{Hash as OfHash, Key as OfKey}
-use Rattle.cacache_table.specs.declared.reply.Reply.{Reply}
-use Rattle.cacache_table.specs.declared.reply.Reply.TheVariants.{Copied}
-use Rattle.cacache_table.specs.Verifying.{CountsAs}
 use Rattle.cacache_value.specs.Kinds.{Elsewhere, IsFor}
 use Rattle.cacache_history.specs.History.{NamesIntegrity}
-use Rattle.cacache_sequence.specs.Caches.{IsCache, HasContent, HasKey, Called}
-use Rattle.cacache_sequence.specs.Keeping.{StaysKnown}
+use Rattle.cacache_sequence.specs.{Caches.{IsCache, HasContent, HasKey, Called}, Keeping.{StaysKnown}}
 
 -- the path is apart from the cache: neither lies in the other
 abbrev pub IsApart : List ℕ → List ℕ → Type 0

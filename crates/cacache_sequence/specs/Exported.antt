@@ -2,14 +2,9 @@
 use Rattle.std.specs.Prelude.{◌≡◌, ℕ, Bool, List, Some, length}
 use Rattle.cacache_store.specs.declared.store.log.LogItem.{LogItem}
 use Rattle.cacache_memory.specs.Replay.{shown, tree_of}
-use Rattle.cacache_table.specs.declared.command.Command.{Command}
+use Rattle.cacache_table.specs.declared.{command.{Command.{Command}, How.{How}, Source.{Source}}, reply.Reply.{Reply, TheVariants.{Copied, Done, Refused}}}
 use Rattle.cacache_table.specs.declared.command.Command.TheVariants as commands
-use Rattle.cacache_table.specs.declared.command.How.{How}
-use Rattle.cacache_table.specs.declared.command.Source.{Source}
-use Rattle.cacache_table.specs.declared.reply.Reply.{Reply}
-use Rattle.cacache_table.specs.declared.reply.Reply.TheVariants.{Copied, Done, Refused}
-use Rattle.cacache_sequence.specs.Caches.{IsCache, IsExcused, Called}
-use Rattle.cacache_sequence.specs.ExportEffects.{IsApart, NamesBytes}
+use Rattle.cacache_sequence.specs.{Caches.{IsCache, IsExcused, Called}, ExportEffects.{IsApart, NamesBytes}}
 
 -- what the source names goes to the path: as a copy, by shared storage or as one more name, verified first or
 -- not

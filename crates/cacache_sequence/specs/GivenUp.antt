@@ -1,13 +1,10 @@
 -- A writer that is given up, on a store in memory.
 use Rattle.std.specs.Prelude.{◌≡◌, ◌⊎◌, ℕ, List, Option, Some}
-use Rattle.cacache_store.specs.declared.store.log.LogItem.{LogItem}
+use Rattle.cacache_store.specs.{declared.store.log.LogItem.{LogItem}, Plain.{PlainStep, PlainAnswer}}
 use Rattle.cacache_store.specs.declared.store.step.Step.TheVariants as steps
-use Rattle.cacache_store.specs.Plain.{PlainStep, PlainAnswer}
 use Rattle.cacache_memory.specs.Replay.{IsLog}
-use Rattle.cacache_table.specs.SingleSteps.{Does}
-use Rattle.cacache_table.specs.StepPaths.{temp_path}
-use Rattle.cacache_sequence.specs.Caches.{IsCache}
-use Rattle.cacache_sequence.specs.OpenWriters.{LeavesKnownCache}
+use Rattle.cacache_table.specs.{SingleSteps.{Does}, StepPaths.{temp_path}}
+use Rattle.cacache_sequence.specs.{Caches.{IsCache}, OpenWriters.{LeavesKnownCache}}
 
 -- the step that removes the temporary file of this number
 abbrev pub drop_temp : List ℕ → ℕ → PlainStep

@@ -1,37 +1,13 @@
 -- Calls that are made in parts on one store in memory, with other calls in between.
 use Rattle.std.specs.Prelude.{◌≡◌, ◌⊎◌, ℕ, List, [], ◌∷◌, ◌++◌, None, Some}
-use Rattle.cacache_core.specs.declared.errors.Error.TheVariants.{OutOfMemory}
-use Rattle.cacache_core.specs.declared.errors.Fault.{Fault}
-use Rattle.cacache_core.specs.declared.integrity.digest.Hash.{Hash}
-use Rattle.cacache_core.specs.Integrity.{IsHash}
-use Rattle.cacache_store.specs.declared.store.log.LogItem.{LogItem}
-use Rattle.cacache_store.specs.declared.store.plain.PlainFile.{PlainFile}
-use Rattle.cacache_store.specs.declared.store.plain.PlainTemp.{PlainTemp}
+use Rattle.cacache_core.specs.{declared.{errors.{Error.TheVariants.{OutOfMemory}, Fault.{Fault}}, integrity.digest.Hash.{Hash}}, Integrity.{IsHash}}
+use Rattle.cacache_store.specs.{declared.store.{log.LogItem.{LogItem}, plain.{PlainFile.{PlainFile}, PlainTemp.{PlainTemp}}}, Plain.{PlainStep, PlainAnswer}}
 use Rattle.cacache_store.specs.declared.store.step.Step.TheVariants as steps
-use Rattle.cacache_store.specs.Plain.{PlainStep, PlainAnswer}
-use Rattle.cacache_disk.specs.declared.luck.Luck.TheVariants.{Take}
-use Rattle.cacache_disk.specs.Tree.{Tree}
-use Rattle.cacache_disk.specs.Apply.{given, opened}
+use Rattle.cacache_disk.specs.{declared.luck.Luck.TheVariants.{Take}, Tree.{Tree}, Apply.{given, opened}}
 use Rattle.cacache_memory.specs.Replay.{tree_of, IsLog}
-use Rattle.cacache_table.specs.declared.command.Command.{Command}
-use Rattle.cacache_table.specs.declared.reply.Reply.{Reply}
-use Rattle.cacache_table.specs.declared.reply.Reply.TheVariants.{Refused}
-use Rattle.cacache_table.specs.Causes.{Faulted, HasCause, own_of}
-use Rattle.cacache_table.specs.StepPaths.{content_path}
-use Rattle.cacache_table.specs.Runs.{Moves, Runs, Goes, Gains, plain_reply}
-use Rattle.cacache_table.specs.Sound.{MayBegin}
-use Rattle.cacache_table.specs.State.{State, hashing, Hashing}
-use Rattle.cacache_table.specs.declared.carried.Commit.{Commit}
-use Rattle.cacache_table.specs.Storing.{persist, write_rest}
-use Rattle.cacache_table.specs.Table.{piece, opening}
-use Rattle.cacache_value.specs.OpeningTrees.{LieApart}
-use Rattle.cacache_value.specs.Traces.{acts}
-use Rattle.cacache_value.specs.Value.{wide_value, cache_part, value_of_tree}
-use Rattle.cacache_history.specs.Setup.{Setup, call_site, home, may_export, is_outside}
-use Rattle.cacache_history.specs.History.{Turn, turn_of, NamesIntegrity}
-use Rattle.cacache_history.specs.Commits.{Deed, finds, deeds, IsCase}
-use Rattle.cacache_history.specs.TurnReplies.{ReadsValue}
-use Rattle.cacache_history.specs.Values.{IsThere}
+use Rattle.cacache_table.specs.{declared.{command.Command.{Command}, reply.Reply.{Reply, TheVariants.{Refused}}, carried.Commit.{Commit}}, Causes.{Faulted, HasCause, own_of}, StepPaths.{content_path}, Runs.{Moves, Runs, Goes, Gains, plain_reply}, Sound.{MayBegin}, State.{State, hashing, Hashing}, Storing.{persist, write_rest}, Table.{piece, opening}}
+use Rattle.cacache_value.specs.{OpeningTrees.{LieApart}, Traces.{acts}, Value.{wide_value, cache_part, value_of_tree}}
+use Rattle.cacache_history.specs.{Setup.{Setup, call_site, home, may_export, is_outside}, History.{Turn, turn_of, NamesIntegrity}, Commits.{Deed, finds, deeds, IsCase}, TurnReplies.{ReadsValue}, Values.{IsThere}}
 use Rattle.cacache_sequence.specs.Sequence.{tree_on, turns_on, AreAnswered, plain_moves, Alike, after_deeds, IsSound}
 
 -- ---- parts

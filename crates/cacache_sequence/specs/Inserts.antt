@@ -1,20 +1,12 @@
 -- What an insertion does to a cache in a store in memory, in words of its caller.
 use Rattle.std.specs.Prelude.{◌≡◌, ◌<◌, ◌^◌, ℕ, false, List, Option, None, Some, IfSome, IsUtf8, option_map}
 use Rattle.serde_json.specs.Data.{null}
-use Rattle.cacache_core.specs.declared.errors.Error.TheVariants.{SerdeError}
-use Rattle.cacache_core.specs.declared.integrity.algorithm.Algorithm.{Algorithm}
-use Rattle.cacache_core.specs.declared.integrity.digest.Hash.{Hash}
-use Rattle.cacache_core.specs.Integrity.{IsIntegrity}
+use Rattle.cacache_core.specs.{declared.{errors.Error.TheVariants.{SerdeError}, integrity.{algorithm.Algorithm.{Algorithm}, digest.Hash.{Hash}}}, Integrity.{IsIntegrity}}
 use Rattle.cacache_store.specs.declared.store.log.LogItem.{LogItem}
 use Rattle.cacache_entry.specs.Latest.{Found}
 use Rattle.cacache_table.specs.declared.command.Command.TheVariants as commands
-use Rattle.cacache_table.specs.declared.command.Insert.{Insert}
-use Rattle.cacache_table.specs.declared.reply.Reply.{Reply}
-use Rattle.cacache_table.specs.declared.reply.Reply.TheVariants.{Stored, Refused}
-use Rattle.cacache_table.specs.Inserting.{insertion, refused_cause}
-use Rattle.cacache_table.specs.Sound.{FormedIfWritten}
-use Rattle.cacache_sequence.specs.Caches.{IsCache, IsExcused, HasContent, HasKey, LacksKey, Called}
-use Rattle.cacache_sequence.specs.Keeping.{found_under, KeepsOthers}
+use Rattle.cacache_table.specs.{declared.{command.Insert.{Insert}, reply.Reply.{Reply, TheVariants.{Stored, Refused}}}, Inserting.{insertion, refused_cause}, Sound.{FormedIfWritten}}
+use Rattle.cacache_sequence.specs.{Caches.{IsCache, IsExcused, HasContent, HasKey, LacksKey, Called}, Keeping.{found_under, KeepsOthers}}
 
 -- the integrity that the key leads to, whatever lies under it; none where no entry answers
 abbrev pub leads_to : List ℕ → List ℕ → List LogItem → Option (List Hash)

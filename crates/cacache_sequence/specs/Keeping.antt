@@ -1,12 +1,10 @@
 -- What was known of a cache in a store in memory, and is so still.
 use Rattle.std.specs.Prelude.{◌≡◌, ℕ, List, Option}
-use Rattle.cacache_core.specs.declared.integrity.digest.Hash.{Hash}
-use Rattle.cacache_core.specs.PathNames.{home_of}
+use Rattle.cacache_core.specs.{declared.integrity.digest.Hash.{Hash}, PathNames.{home_of}}
 use Rattle.cacache_store.specs.declared.store.log.LogItem.{LogItem}
 use Rattle.cacache_memory.specs.Replay.{tree_of}
 use Rattle.cacache_entry.specs.Latest.{Found, latest}
-use Rattle.cacache_sequence.specs.ReadAnswers.{entries_on}
-use Rattle.cacache_sequence.specs.Caches.{HasContent, HasKey, lies_under}
+use Rattle.cacache_sequence.specs.{ReadAnswers.{entries_on}, Caches.{HasContent, HasKey, lies_under}}
 
 -- the entry that the key leads to, if any
 abbrev pub found_under : List ℕ → List ℕ → List LogItem → Option Found

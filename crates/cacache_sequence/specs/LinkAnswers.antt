@@ -1,37 +1,14 @@
 -- What links, open linkers and the openings of readers answer whose steps all go well.
 use Rattle.std.specs.Prelude.{◌≡◌, ◌⊎◌, ℕ, List, [], ◌++◌, Option, None, Some, Result, Ok, Err, if◌then◌else◌, length}
-use Rattle.cacache_core.specs.declared.errors.Error.{Error}
-use Rattle.cacache_core.specs.declared.errors.Error.TheVariants.{EntryNotFound, IoError, OutOfMemory}
-use Rattle.cacache_core.specs.declared.errors.Fault.{Fault}
-use Rattle.cacache_core.specs.declared.errors.Fault.TheVariants.{AlreadyExists, IsADirectory}
-use Rattle.cacache_core.specs.declared.integrity.digest.Hash.{Hash}
-use Rattle.cacache_core.specs.Integrity.{IsIntegrity}
-use Rattle.cacache_store.specs.declared.store.log.LogItem.{LogItem}
-use Rattle.cacache_store.specs.declared.store.plain.PlainFile.{PlainFile}
-use Rattle.cacache_disk.specs.Apply.{opened}
-use Rattle.cacache_disk.specs.LedTo.{file_at}
-use Rattle.cacache_disk.specs.Tree.{Tree}
+use Rattle.cacache_core.specs.{declared.{errors.{Error.{Error, TheVariants.{EntryNotFound, IoError, OutOfMemory}}, Fault.{Fault, TheVariants.{AlreadyExists, IsADirectory}}}, integrity.digest.Hash.{Hash}}, Integrity.{IsIntegrity}}
+use Rattle.cacache_store.specs.declared.store.{log.LogItem.{LogItem}, plain.PlainFile.{PlainFile}}
+use Rattle.cacache_disk.specs.{Apply.{opened}, LedTo.{file_at}, Tree.{Tree}}
 use Rattle.cacache_memory.specs.Replay.{tree_of, IsLog}
 use Rattle.cacache_entry.specs.Latest.{Found}
-use Rattle.cacache_table.specs.declared.carried.Commit.{Commit}
+use Rattle.cacache_table.specs.{declared.{carried.Commit.{Commit}, command.Link.{Link}, reply.Reply.{Reply, TheVariants.{Refused}}, target.Target.{Target}}, Linking.{based, commit_for, link_target, with_size}, Replies.{OrMemory}, Runs.{without_message}}
 use Rattle.cacache_table.specs.declared.command.Command.TheVariants as commands
-use Rattle.cacache_table.specs.declared.command.Link.{Link}
-use Rattle.cacache_table.specs.declared.reply.Reply.{Reply}
-use Rattle.cacache_table.specs.declared.reply.Reply.TheVariants.{Refused}
-use Rattle.cacache_table.specs.declared.target.Target.{Target}
-use Rattle.cacache_table.specs.Linking.{based, commit_for, link_target, with_size}
-use Rattle.cacache_table.specs.Replies.{OrMemory}
-use Rattle.cacache_table.specs.Runs.{without_message}
-use Rattle.cacache_value.specs.Shows.{blob_there}
-use Rattle.cacache_value.specs.Value.{Blob}
-use Rattle.cacache_sequence.specs.Caches.{Called, IsCache, lies_under}
-use Rattle.cacache_sequence.specs.ExportEffects.{IsApart}
-use Rattle.cacache_sequence.specs.Keeping.{found_under}
-use Rattle.cacache_sequence.specs.Looks.{bytes_under}
-use Rattle.cacache_sequence.specs.OpenLinkers.{CommitsRest, OpensSized, OpensTarget}
-use Rattle.cacache_sequence.specs.OpenReaders.{OpensByKey, OpensContent}
-use Rattle.cacache_sequence.specs.Standing.{IsStanding}
-use Rattle.cacache_sequence.specs.Succeeds.{NamesFolder, compared_reply, is_yes}
+use Rattle.cacache_value.specs.{Shows.{blob_there}, Value.{Blob}}
+use Rattle.cacache_sequence.specs.{Caches.{Called, IsCache, lies_under}, ExportEffects.{IsApart}, Keeping.{found_under}, Looks.{bytes_under}, OpenLinkers.{CommitsRest, OpensSized, OpensTarget}, OpenReaders.{OpensByKey, OpensContent}, Standing.{IsStanding}, Succeeds.{NamesFolder, compared_reply, is_yes}}
 
 -- ---- openings
 

@@ -1,22 +1,13 @@
 -- What a link leaves in a cache in a store in memory, in words of its caller.
 use Rattle.std.specs.Prelude.{◌≡◌, ◌⊎◌, ◌<◌, ◌^◌, ℕ, false, List, Option, Some, length}
-use Rattle.cacache_core.specs.declared.integrity.digest.Hash.{Hash}
-use Rattle.cacache_core.specs.Integrity.{IsIntegrity}
+use Rattle.cacache_core.specs.{declared.integrity.digest.Hash.{Hash}, Integrity.{IsIntegrity}}
 use Rattle.cacache_store.specs.declared.store.log.LogItem.{LogItem}
 use Rattle.cacache_memory.specs.Replay.{shown, tree_of}
 use Rattle.cacache_table.specs.declared.command.Command.TheVariants as commands
-use Rattle.cacache_table.specs.declared.command.Link.{Link}
-use Rattle.cacache_table.specs.declared.command.Put.{Put}
-use Rattle.cacache_table.specs.declared.reply.Reply.{Reply}
-use Rattle.cacache_table.specs.declared.reply.Reply.TheVariants.{Stored}
-use Rattle.cacache_table.specs.Linking.{based}
+use Rattle.cacache_table.specs.{declared.{command.{Link.{Link}, Put.{Put}}, reply.Reply.{Reply, TheVariants.{Stored}}}, Linking.{based}}
 use Rattle.cacache_value.specs.Value.{AtLink}
 use Rattle.cacache_history.specs.Values.{IsThere}
-use Rattle.cacache_sequence.specs.Beside.{FitsEntry, IsOther, ShareAddress, own_integrity}
-use Rattle.cacache_sequence.specs.Caches.{IsCache, HasContent, HasKey, Called, lies_under}
-use Rattle.cacache_sequence.specs.ExportEffects.{IsApart}
-use Rattle.cacache_sequence.specs.Keeping.{found_under}
-use Rattle.cacache_sequence.specs.Puts.{ExpectsIntegrity, LeadsToPut, MayLeadToPut, stored_as}
+use Rattle.cacache_sequence.specs.{Beside.{FitsEntry, IsOther, ShareAddress, own_integrity}, Caches.{IsCache, HasContent, HasKey, Called, lies_under}, ExportEffects.{IsApart}, Keeping.{found_under}, Puts.{ExpectsIntegrity, LeadsToPut, MayLeadToPut, stored_as}}
 
 -- ---- what is linked to
 

@@ -1,17 +1,12 @@
 -- What a listing of a cache in a store in memory answers.
 use Rattle.std.specs.Prelude.{◌≡◌, ◌⊎◌, ℕ, All, List, [], ◌∷◌, Some, Ok, Err}
-use Rattle.cacache_core.specs.declared.errors.Error.TheVariants.{IoError, OutOfMemory}
-use Rattle.cacache_core.specs.declared.errors.Fault.TheVariants.{TooDeep}
+use Rattle.cacache_core.specs.declared.errors.{Error.TheVariants.{IoError, OutOfMemory}, Fault.TheVariants.{TooDeep}}
 use Rattle.cacache_store.specs.declared.store.log.LogItem.{LogItem}
 use Rattle.cacache_entry.specs.Latest.{Found}
 use Rattle.cacache_table.specs.declared.command.Command.TheVariants as commands
-use Rattle.cacache_table.specs.declared.reply.Reply.{Reply}
-use Rattle.cacache_table.specs.declared.reply.Reply.TheVariants.{Listed, Refused}
-use Rattle.cacache_table.specs.ListReplies.{In}
-use Rattle.cacache_table.specs.State.{Item}
+use Rattle.cacache_table.specs.{declared.reply.Reply.{Reply, TheVariants.{Listed, Refused}}, ListReplies.{In}, State.{Item}}
 use Rattle.cacache_history.specs.ListingTurns.{NoKeyTwice}
-use Rattle.cacache_sequence.specs.Caches.{IsCache, Called, AStepFailed}
-use Rattle.cacache_sequence.specs.Keeping.{found_under}
+use Rattle.cacache_sequence.specs.{Caches.{IsCache, Called, AStepFailed}, Keeping.{found_under}}
 
 -- an entry is what its key leads to; an error says that a step failed, or that there was too much
 abbrev pub IsShown : List ℕ → List LogItem → List LogItem → Item → Type 0

@@ -4,26 +4,12 @@
 use Rattle.std.specs.Prelude.{◌≡◌, ◌⊎◌, ◌<◌, ◌^◌, ◌++◌, ℕ, List, Option, None, Some, Result, Ok, Err, length}
 use Rattle.cacache_core.specs.declared.errors.Error.{Error}
 use Rattle.cacache_store.specs.declared.store.answer.Answer.TheVariants as answers
-use Rattle.cacache_store.specs.declared.store.log.LogItem.{LogItem}
-use Rattle.cacache_store.specs.declared.store.plain.PlainFile.{PlainFile}
+use Rattle.cacache_store.specs.declared.store.{log.LogItem.{LogItem}, plain.PlainFile.{PlainFile}}
 use Rattle.cacache_store.specs.declared.store.step.Step.TheVariants as steps
 use Rattle.cacache_disk.specs.Apply.{opened}
 use Rattle.cacache_memory.specs.Replay.{IsLog, shown, tree_of}
-use Rattle.cacache_table.specs.declared.command.Link.{Link}
-use Rattle.cacache_table.specs.declared.reply.Reply.{Reply}
-use Rattle.cacache_table.specs.declared.reply.Reply.TheVariants.{Refused}
-use Rattle.cacache_table.specs.Inserting.{refused_cause}
-use Rattle.cacache_table.specs.Linking.{based, link_target}
-use Rattle.cacache_table.specs.Runs.{Ran, plain_reply}
-use Rattle.cacache_table.specs.SingleSteps.{Does, FailsAt}
-use Rattle.cacache_table.specs.State.{hashing, to_link}
-use Rattle.cacache_table.specs.Storing.{insertion_of, put_commit}
-use Rattle.cacache_sequence.specs.Beside.{own_integrity}
-use Rattle.cacache_sequence.specs.Caches.{IsCache, IsExcused, Grows}
-use Rattle.cacache_sequence.specs.ExportEffects.{IsApart}
-use Rattle.cacache_sequence.specs.Links.{FitsLink, KeepsBesideLink, LeavesLink, put_like}
-use Rattle.cacache_sequence.specs.OpenWriters.{LeavesKnownCache}
-use Rattle.cacache_sequence.specs.Puts.{ExpectsIntegrity}
+use Rattle.cacache_table.specs.{declared.{command.Link.{Link}, reply.Reply.{Reply, TheVariants.{Refused}}}, Inserting.{refused_cause}, Linking.{based, link_target}, Runs.{Ran, plain_reply}, SingleSteps.{Does, FailsAt}, State.{hashing, to_link}, Storing.{insertion_of, put_commit}}
+use Rattle.cacache_sequence.specs.{Beside.{own_integrity}, Caches.{IsCache, IsExcused, Grows}, ExportEffects.{IsApart}, Links.{FitsLink, KeepsBesideLink, LeavesLink, put_like}, OpenWriters.{LeavesKnownCache}, Puts.{ExpectsIntegrity}}
 
 -- ---- an opening
 

@@ -1,34 +1,13 @@
 -- Open writers and exports on a store in memory whose steps all go well.
 use Rattle.std.specs.Prelude.{◌≡◌, ◌<◌, ◌^◌, ℕ, Bool, true, false, List, Some, Result, Ok, IfOk, IfErr, length}
-use Rattle.cacache_core.specs.declared.errors.Error.{Error}
-use Rattle.cacache_core.specs.declared.errors.Error.TheVariants.{OutOfMemory}
-use Rattle.cacache_core.specs.PathNames.{Names, names_of}
-use Rattle.cacache_store.specs.declared.store.log.LogItem.{LogItem}
-use Rattle.cacache_store.specs.declared.store.plain.PlainTemp.{PlainTemp}
-use Rattle.cacache_disk.specs.declared.node.Node.TheVariants.{File}
-use Rattle.cacache_disk.specs.LedTo.{free, writable}
-use Rattle.cacache_disk.specs.Tree.{look}
+use Rattle.cacache_core.specs.{declared.errors.Error.{Error, TheVariants.{OutOfMemory}}, PathNames.{Names, names_of}}
+use Rattle.cacache_store.specs.declared.store.{log.LogItem.{LogItem}, plain.PlainTemp.{PlainTemp}}
+use Rattle.cacache_disk.specs.{declared.node.Node.TheVariants.{File}, LedTo.{free, writable}, Tree.{look}}
 use Rattle.cacache_memory.specs.Replay.{tree_of, IsLog}
-use Rattle.cacache_table.specs.declared.command.Command.{Command}
+use Rattle.cacache_table.specs.{declared.{command.{Command.{Command}, How.{How, TheVariants.{Copy, Reflink, HardLink}}, Put.{Put}, Source.{Source}}, reply.Reply.{Reply, TheVariants.{Copied, Done}}}, Licence.{KeepsTo, Licence}, Replies.{OrMemory}, Sound.{MayBegin}, StepPaths.{temp_path}}
 use Rattle.cacache_table.specs.declared.command.Command.TheVariants as commands
-use Rattle.cacache_table.specs.declared.command.How.{How}
-use Rattle.cacache_table.specs.declared.command.How.TheVariants.{Copy, Reflink, HardLink}
-use Rattle.cacache_table.specs.declared.command.Put.{Put}
-use Rattle.cacache_table.specs.declared.command.Source.{Source}
-use Rattle.cacache_table.specs.declared.reply.Reply.{Reply}
-use Rattle.cacache_table.specs.declared.reply.Reply.TheVariants.{Copied, Done}
-use Rattle.cacache_table.specs.Licence.{KeepsTo, Licence}
-use Rattle.cacache_table.specs.Replies.{OrMemory}
-use Rattle.cacache_table.specs.Sound.{MayBegin}
-use Rattle.cacache_table.specs.StepPaths.{temp_path}
-use Rattle.cacache_history.specs.History.{NamesIntegrity}
-use Rattle.cacache_history.specs.Setup.{call_site, is_outside, may_export}
-use Rattle.cacache_sequence.specs.Caches.{Called, IsCache, setup_at}
-use Rattle.cacache_sequence.specs.ExportEffects.{NamesBytes}
-use Rattle.cacache_sequence.specs.Exported.{export_by}
-use Rattle.cacache_sequence.specs.OpenWriters.{CommitsBytes, OpensWriter}
-use Rattle.cacache_sequence.specs.Standing.{IsStanding}
-use Rattle.cacache_sequence.specs.Succeeds.{NamesFolder, IsUnused, put_reply}
+use Rattle.cacache_history.specs.{History.{NamesIntegrity}, Setup.{call_site, is_outside, may_export}}
+use Rattle.cacache_sequence.specs.{Caches.{Called, IsCache, setup_at}, ExportEffects.{NamesBytes}, Exported.{export_by}, OpenWriters.{CommitsBytes, OpensWriter}, Standing.{IsStanding}, Succeeds.{NamesFolder, IsUnused, put_reply}}
 
 -- a file stands at this path
 abbrev pub FileAt : List ℕ → List LogItem → Type 0

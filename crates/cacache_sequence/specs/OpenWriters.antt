@@ -1,27 +1,15 @@
 -- What an open writer does on a store in memory, in words of its user. Between its opening and its
 -- commit any calls may be made that leave a cache.
 use Rattle.std.specs.Prelude.{◌≡◌, ◌⊎◌, ◌<◌, ◌^◌, ℕ, List, [], Option, None, Some, Result, Ok, Err, IsUtf8, length}
-use Rattle.cacache_core.specs.declared.errors.Error.{Error}
-use Rattle.cacache_core.specs.declared.integrity.algorithm.Algorithm.{Algorithm}
-use Rattle.cacache_core.specs.declared.integrity.digest.Hash.{Hash}
-use Rattle.cacache_core.specs.Integrity.{integrity_under}
+use Rattle.cacache_core.specs.{declared.{errors.Error.{Error}, integrity.{algorithm.Algorithm.{Algorithm}, digest.Hash.{Hash}}}, Integrity.{integrity_under}}
 use Rattle.cacache_store.specs.declared.store.answer.Answer.TheVariants as answers
-use Rattle.cacache_store.specs.declared.store.log.LogItem.{LogItem}
-use Rattle.cacache_store.specs.declared.store.plain.PlainTemp.{PlainTemp}
+use Rattle.cacache_store.specs.{declared.store.{log.LogItem.{LogItem}, plain.PlainTemp.{PlainTemp}}, Plain.{PlainStep}}
 use Rattle.cacache_store.specs.declared.store.step.Step.TheVariants as steps
-use Rattle.cacache_store.specs.Plain.{PlainStep}
 use Rattle.cacache_disk.specs.Apply.{made_temp}
 use Rattle.cacache_memory.specs.Replay.{IsLog}
-use Rattle.cacache_table.specs.declared.command.Put.{Put}
-use Rattle.cacache_table.specs.declared.reply.Reply.{Reply}
-use Rattle.cacache_table.specs.StepPaths.{temp_folder, temp_path}
-use Rattle.cacache_table.specs.Runs.{Ran, plain_reply}
-use Rattle.cacache_table.specs.SingleSteps.{Does, FailsAt}
-use Rattle.cacache_table.specs.Sound.{FormedIfWritten}
-use Rattle.cacache_table.specs.Storing.{insertion_of, put_commit, persist}
+use Rattle.cacache_table.specs.{declared.{command.Put.{Put}, reply.Reply.{Reply}}, StepPaths.{temp_folder, temp_path}, Runs.{Ran, plain_reply}, SingleSteps.{Does, FailsAt}, Sound.{FormedIfWritten}, Storing.{insertion_of, put_commit, persist}}
 use Rattle.cacache_value.specs.Value.{InFile}
-use Rattle.cacache_sequence.specs.Caches.{IsCache, lies_under, Grows, IsExcused, plain_put, WritesKey}
-use Rattle.cacache_sequence.specs.Keeping.{StaysKnown}
+use Rattle.cacache_sequence.specs.{Caches.{IsCache, lies_under, Grows, IsExcused, plain_put, WritesKey}, Keeping.{StaysKnown}}
 
 -- nothing lies under the integrity, or these bytes do already
 abbrev pub NothingElse : List ℕ → List Hash → List ℕ → List LogItem → Type 0

@@ -1,21 +1,12 @@
 -- What a put and a writer's commit leave, with any options, in words of their caller.
 use Rattle.std.specs.Prelude.{◌≡◌, ◌⊎◌, ℕ, List, Some, IfSome}
-use Rattle.cacache_core.specs.declared.integrity.digest.Hash.{Hash}
-use Rattle.cacache_core.specs.Integrity.{IsIntegrity}
+use Rattle.cacache_core.specs.{declared.integrity.digest.Hash.{Hash}, Integrity.{IsIntegrity}}
 use Rattle.cacache_store.specs.declared.store.log.LogItem.{LogItem}
 use Rattle.cacache_entry.specs.Latest.{Found, found_of}
 use Rattle.cacache_table.specs.declared.command.Command.TheVariants as commands
-use Rattle.cacache_table.specs.declared.command.Put.{Put}
-use Rattle.cacache_table.specs.declared.reply.Reply.{Reply}
-use Rattle.cacache_table.specs.declared.reply.Reply.TheVariants.{Stored}
-use Rattle.cacache_table.specs.Inserting.{given_or}
-use Rattle.cacache_table.specs.Promises.{answered}
-use Rattle.cacache_table.specs.Storing.{insertion_of, put_commit}
+use Rattle.cacache_table.specs.{declared.{command.Put.{Put}, reply.Reply.{Reply, TheVariants.{Stored}}}, Inserting.{given_or}, Promises.{answered}, Storing.{insertion_of, put_commit}}
 use Rattle.cacache_history.specs.Values.{IsThere}
-use Rattle.cacache_sequence.specs.Caches.{IsCache, HasContent, Called, lies_under}
-use Rattle.cacache_sequence.specs.Keeping.{found_under}
-use Rattle.cacache_sequence.specs.Beside.{FitsEntry, KeepsBeside, own_integrity}
-use Rattle.cacache_sequence.specs.OpenWriters.{CommitsBytes, IsOpened}
+use Rattle.cacache_sequence.specs.{Caches.{IsCache, HasContent, Called, lies_under}, Keeping.{found_under}, Beside.{FitsEntry, KeepsBeside, own_integrity}, OpenWriters.{CommitsBytes, IsOpened}}
 
 -- ---- keys
 

@@ -1,24 +1,13 @@
 -- What a call that reads answers by what the cache holds, and that it leaves the tree.
 use Rattle.std.specs.Prelude.{◌≡◌, ◌⊎◌, ℕ, List, Option, None, Some}
 use Rattle.sha1.specs.Sha1.{sha1}
-use Rattle.cacache_core.specs.declared.errors.Error.TheVariants.{EntryNotFound, IoError, OutOfMemory}
-use Rattle.cacache_core.specs.declared.integrity.digest.Hash.{Hash}
-use Rattle.cacache_core.specs.Integrity.{address}
-use Rattle.cacache_core.specs.PathNames.{Names}
+use Rattle.cacache_core.specs.{declared.{errors.Error.TheVariants.{EntryNotFound, IoError, OutOfMemory}, integrity.digest.Hash.{Hash}}, Integrity.{address}, PathNames.{Names}}
 use Rattle.cacache_disk.specs.Tree.{Tree}
-use Rattle.cacache_entry.specs.Entry.{Entry}
-use Rattle.cacache_entry.specs.Latest.{Found, latest}
-use Rattle.cacache_table.specs.declared.command.Command.{Command}
+use Rattle.cacache_entry.specs.{Entry.{Entry}, Latest.{Found, latest}}
+use Rattle.cacache_table.specs.{declared.{command.Command.{Command}, reply.Reply.{Reply, TheVariants.{LookedUp, Refused}}}, Replies.{content_reply}, Runs.{plain_reply}}
 use Rattle.cacache_table.specs.declared.command.Command.TheVariants as commands
-use Rattle.cacache_table.specs.declared.reply.Reply.{Reply}
-use Rattle.cacache_table.specs.declared.reply.Reply.TheVariants.{LookedUp, Refused}
-use Rattle.cacache_table.specs.Replies.{content_reply}
-use Rattle.cacache_table.specs.Runs.{plain_reply}
-use Rattle.cacache_value.specs.Acts.{list_of}
-use Rattle.cacache_value.specs.Shows.{blob_bytes}
-use Rattle.cacache_value.specs.Value.{value_of_tree}
-use Rattle.cacache_history.specs.Setup.{Setup, home}
-use Rattle.cacache_history.specs.ShownTurns.{blob_at, as_refusal}
+use Rattle.cacache_value.specs.{Acts.{list_of}, Shows.{blob_bytes}, Value.{value_of_tree}}
+use Rattle.cacache_history.specs.{Setup.{Setup, home}, ShownTurns.{blob_at, as_refusal}}
 use Rattle.cacache_sequence.specs.Sequence.{SequenceCall, tree_on, CallIsAnswered}
 
 -- ---- what a command that reads is to answer

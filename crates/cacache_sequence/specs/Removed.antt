@@ -1,16 +1,11 @@
 -- What the removal of a content, and of a key with its content, leaves in a cache in a store in memory.
 use Rattle.std.specs.Prelude.{◌≡◌, ◌⊎◌, ℕ, List, None, Some}
 use Rattle.sha1.specs.Sha1.{sha1}
-use Rattle.cacache_core.specs.declared.integrity.digest.Hash.{Hash}
-use Rattle.cacache_core.specs.Integrity.{IsIntegrity}
+use Rattle.cacache_core.specs.{declared.integrity.digest.Hash.{Hash}, Integrity.{IsIntegrity}}
 use Rattle.cacache_store.specs.declared.store.log.LogItem.{LogItem}
 use Rattle.cacache_table.specs.declared.command.Command.TheVariants as commands
-use Rattle.cacache_table.specs.declared.reply.Reply.{Reply}
-use Rattle.cacache_table.specs.declared.reply.Reply.TheVariants.{Done, Refused}
-use Rattle.cacache_sequence.specs.Caches.{IsCache, HasContent, HasKey, IsExcused, Called, RemovesKey, lies_under}
-use Rattle.cacache_sequence.specs.Keeping.{found_under}
-use Rattle.cacache_sequence.specs.Inserts.{leads_to}
-use Rattle.cacache_sequence.specs.Beside.{ShareAddress}
+use Rattle.cacache_table.specs.declared.reply.Reply.{Reply, TheVariants.{Done, Refused}}
+use Rattle.cacache_sequence.specs.{Caches.{IsCache, HasContent, HasKey, IsExcused, Called, RemovesKey, lies_under}, Keeping.{found_under}, Inserts.{leads_to}, Beside.{ShareAddress}}
 
 -- ---- of a content
 

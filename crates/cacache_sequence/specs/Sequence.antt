@@ -1,38 +1,14 @@
 -- Calls that are made one after another on one store in memory.
 use Rattle.std.specs.Prelude.{◌≡◌, ◌⊎◌, ℕ, List, [], ◌∷◌, ◌++◌, Option, Some, map, All}
-use Rattle.cacache_core.specs.declared.errors.Error.TheVariants.{OutOfMemory}
-use Rattle.cacache_core.specs.declared.integrity.digest.Hash.{Hash}
-use Rattle.cacache_core.specs.Integrity.{IsHash}
-use Rattle.cacache_core.specs.PathNames.{Names}
-use Rattle.cacache_store.specs.declared.store.log.LogItem.{LogItem}
-use Rattle.cacache_store.specs.declared.store.log.LogItem.TheVariants.{Made, Foreign}
-use Rattle.cacache_disk.specs.declared.luck.Luck.TheVariants.{Plain}
-use Rattle.cacache_disk.specs.Tree.{Tree}
-use Rattle.cacache_disk.specs.Apply.{apply}
-use Rattle.cacache_disk.specs.Rooted.{Rooted}
+use Rattle.cacache_core.specs.{declared.{errors.Error.TheVariants.{OutOfMemory}, integrity.digest.Hash.{Hash}}, Integrity.{IsHash}, PathNames.{Names}}
+use Rattle.cacache_store.specs.declared.store.log.LogItem.{LogItem, TheVariants.{Made, Foreign}}
+use Rattle.cacache_disk.specs.{declared.luck.Luck.TheVariants.{Plain}, Tree.{Tree}, Apply.{apply}, Rooted.{Rooted}}
 use Rattle.cacache_entry.specs.FittingEntries.{IsEntry}
 use Rattle.cacache_memory.specs.Replay.{tree_of, IsLog}
-use Rattle.cacache_table.specs.declared.command.Command.{Command}
+use Rattle.cacache_table.specs.{declared.{command.{Command.{Command}, Put.{Put}}, reply.Reply.{Reply, TheVariants.{Refused}}}, Causes.{HasCause, own_of}, StepPaths.{content_path}, Runs.{Moves, Runs, Ran, plain_reply}, Sound.{MayBegin}, Table.{opening}}
 use Rattle.cacache_table.specs.declared.command.Command.TheVariants as commands
-use Rattle.cacache_table.specs.declared.command.Put.{Put}
-use Rattle.cacache_table.specs.declared.reply.Reply.{Reply}
-use Rattle.cacache_table.specs.declared.reply.Reply.TheVariants.{Refused}
-use Rattle.cacache_table.specs.Causes.{HasCause, own_of}
-use Rattle.cacache_table.specs.StepPaths.{content_path}
-use Rattle.cacache_table.specs.Runs.{Moves, Runs, Ran, plain_reply}
-use Rattle.cacache_table.specs.Sound.{MayBegin}
-use Rattle.cacache_table.specs.Table.{opening}
-use Rattle.cacache_value.specs.Acts.{list_of, change}
-use Rattle.cacache_value.specs.OpeningTrees.{LieApart, IsOpening}
-use Rattle.cacache_value.specs.Placed.{Placed}
-use Rattle.cacache_value.specs.Traces.{Move, acts}
-use Rattle.cacache_value.specs.Value.{Value, wide_value, cache_part, value_of_tree}
-use Rattle.cacache_history.specs.Setup.{Setup, call_site, home, may_export, is_outside}
-use Rattle.cacache_history.specs.History.{Turn, turn_of, NamesIntegrity}
-use Rattle.cacache_history.specs.Buckets.{BucketsHaveKeys, HoldOwn}
-use Rattle.cacache_history.specs.Commits.{Deed, does, finds, deeds, IsCase}
-use Rattle.cacache_history.specs.TurnReplies.{ReadsValue}
-use Rattle.cacache_history.specs.Values.{AreRight, IsThere}
+use Rattle.cacache_value.specs.{Acts.{list_of, change}, OpeningTrees.{LieApart, IsOpening}, Placed.{Placed}, Traces.{Move, acts}, Value.{Value, wide_value, cache_part, value_of_tree}}
+use Rattle.cacache_history.specs.{Setup.{Setup, call_site, home, may_export, is_outside}, History.{Turn, turn_of, NamesIntegrity}, Buckets.{BucketsHaveKeys, HoldOwn}, Commits.{Deed, does, finds, deeds, IsCase}, TurnReplies.{ReadsValue}, Values.{AreRight, IsThere}}
 
 -- a call that was made: its command, its number, the steps that it made, and its reply
 pub record SequenceCall : Type 0 where

@@ -1,23 +1,13 @@
 -- Stores in memory of which less is known than of a cache: a loss of power may have damaged contents and buckets.
 use Rattle.std.specs.Prelude.{◌≡◌, ℕ, List}
-use Rattle.cacache_core.specs.declared.errors.Error.{Error}
-use Rattle.cacache_core.specs.declared.integrity.digest.Hash.{Hash}
-use Rattle.cacache_core.specs.PathNames.{home_of}
+use Rattle.cacache_core.specs.{declared.{errors.Error.{Error}, integrity.digest.Hash.{Hash}}, PathNames.{home_of}}
 use Rattle.cacache_store.specs.declared.store.log.LogItem.{LogItem}
 use Rattle.cacache_disk.specs.Rooted.{Rooted}
 use Rattle.cacache_memory.specs.Replay.{tree_of}
-use Rattle.cacache_table.specs.declared.command.Command.{Command}
+use Rattle.cacache_table.specs.declared.{command.{Command.{Command}, Put.{Put}}, reply.Reply.{Reply, TheVariants.{Refused, Stored}}}
 use Rattle.cacache_table.specs.declared.command.Command.TheVariants as commands
-use Rattle.cacache_table.specs.declared.command.Put.{Put}
-use Rattle.cacache_table.specs.declared.reply.Reply.{Reply}
-use Rattle.cacache_table.specs.declared.reply.Reply.TheVariants.{Refused, Stored}
 use Rattle.cacache_value.specs.Placed.{Placed}
-use Rattle.cacache_sequence.specs.Beside.{FitsEntry, KeepsBeside, own_integrity}
-use Rattle.cacache_sequence.specs.CallErrors.{IsPlainPut}
-use Rattle.cacache_sequence.specs.Caches.{IsCache, HasKey, IsExcused, Called, GivesBytes}
-use Rattle.cacache_sequence.specs.Keeping.{found_under}
-use Rattle.cacache_sequence.specs.Looks.{OnlyLooks, GivesFound}
-use Rattle.cacache_sequence.specs.Puts.{ExpectsIntegrity, HasPut, MayLeadToPut}
+use Rattle.cacache_sequence.specs.{Beside.{FitsEntry, KeepsBeside, own_integrity}, CallErrors.{IsPlainPut}, Caches.{IsCache, HasKey, IsExcused, Called, GivesBytes}, Keeping.{found_under}, Looks.{OnlyLooks, GivesFound}, Puts.{ExpectsIntegrity, HasPut, MayLeadToPut}}
 
 -- everything stands where it may: of the bytes of contents and buckets nothing is known
 pub record IsStanding (cache : List ℕ) (log : List LogItem) : Type 0 where

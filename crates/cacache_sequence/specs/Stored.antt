@@ -1,20 +1,12 @@
 -- What a put, an insertion and a removal that are done leave in the cache.
 use Rattle.std.specs.Prelude.{◌≡◌, ℕ, List, [], ◌∷◌, ◌++◌, Some}
-use Rattle.cacache_core.specs.declared.integrity.digest.Hash.{Hash}
-use Rattle.cacache_core.specs.Digests.{digest}
-use Rattle.cacache_core.specs.Integrity.{hash_of}
+use Rattle.cacache_core.specs.{declared.integrity.digest.Hash.{Hash}, Digests.{digest}, Integrity.{hash_of}}
 use Rattle.cacache_disk.specs.Tree.{Tree}
-use Rattle.cacache_table.specs.declared.command.Put.{Put}
-use Rattle.cacache_table.specs.declared.command.Delete.{Delete}
-use Rattle.cacache_table.specs.declared.command.Insert.{Insert}
+use Rattle.cacache_table.specs.{declared.{command.{Put.{Put}, Delete.{Delete}, Insert.{Insert}}, reply.Reply.TheVariants.{Stored, Done}}, Inserting.{insertion, deletion}, Storing.{insertion_of, put_commit}}
 use Rattle.cacache_table.specs.declared.command.Command.TheVariants as commands
-use Rattle.cacache_table.specs.declared.reply.Reply.TheVariants.{Stored, Done}
-use Rattle.cacache_table.specs.Inserting.{insertion, deletion}
-use Rattle.cacache_table.specs.Storing.{insertion_of, put_commit}
 use Rattle.cacache_value.specs.Value.{InFile, value_of_tree}
 use Rattle.cacache_history.specs.Setup.{Setup, home}
-use Rattle.cacache_sequence.specs.Sequence.{SequenceCall, tree_on, CallIsAnswered}
-use Rattle.cacache_sequence.specs.ReadAnswers.{entries_on}
+use Rattle.cacache_sequence.specs.{Sequence.{SequenceCall, tree_on, CallIsAnswered}, ReadAnswers.{entries_on}}
 
 -- the hash that the bytes are known by, under the algorithm of the options
 abbrev pub own_hash : Put → Hash

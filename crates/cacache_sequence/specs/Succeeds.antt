@@ -1,48 +1,16 @@
 -- Calls on a store in memory whose steps all go well: what they answer, if memory isn't refused.
-use Rattle.std.specs.Prelude.{◌≡◌, ◌⊎◌, ◌<◌, ◌^◌, ◌==◌, ℕ, Bool, true, false, List, [], ◌∷◌, Option, None, Some, Ok, Err, if◌then◌else◌}
-use Rattle.std.specs.List.{AllByRecursion}
+use Rattle.std.specs.{Prelude.{◌≡◌, ◌⊎◌, ◌<◌, ◌^◌, ◌==◌, ℕ, Bool, true, false, List, [], ◌∷◌, Option, None, Some, Ok, Err, if◌then◌else◌}, List.{AllByRecursion}}
 use Rattle.sha1.specs.Sha1.{sha1}
-use Rattle.cacache_core.specs.declared.errors.Error.TheVariants.{SizeMismatch, SerdeError, IoError, IntegrityError}
-use Rattle.cacache_core.specs.declared.errors.Fault.TheVariants.{NotFound, TooDeep}
-use Rattle.cacache_core.specs.declared.errors.IntegrityFault.TheVariants.{Check}
-use Rattle.cacache_core.specs.declared.errors.SerdeCause.{SerdeCause}
-use Rattle.cacache_core.specs.declared.integrity.digest.Hash.{Hash}
-use Rattle.cacache_core.specs.Integrity.{IsIntegrity, address}
-use Rattle.cacache_core.specs.PathNames.{Names, names_of, home_of}
-use Rattle.cacache_core.specs.Paths.{index_area, temp_names}
-use Rattle.cacache_store.specs.declared.store.answer.Answer.TheVariants.{There}
-use Rattle.cacache_store.specs.declared.store.log.LogItem.{LogItem}
-use Rattle.cacache_store.specs.Plain.{PlainAnswer}
-use Rattle.cacache_disk.specs.declared.node.Node.{Node}
-use Rattle.cacache_disk.specs.Tree.{Tree}
+use Rattle.cacache_core.specs.{declared.{errors.{Error.TheVariants.{SizeMismatch, SerdeError, IoError, IntegrityError}, Fault.TheVariants.{NotFound, TooDeep}, IntegrityFault.TheVariants.{Check}, SerdeCause.{SerdeCause}}, integrity.digest.Hash.{Hash}}, Integrity.{IsIntegrity, address}, PathNames.{Names, names_of, home_of}, Paths.{index_area, temp_names}}
+use Rattle.cacache_store.specs.{declared.store.{answer.Answer.TheVariants.{There}, log.LogItem.{LogItem}}, Plain.{PlainAnswer}}
+use Rattle.cacache_disk.specs.{declared.node.Node.{Node}, Tree.{Tree}}
 use Rattle.cacache_memory.specs.Replay.{tree_of}
 use Rattle.cacache_entry.specs.Latest.{Found}
-use Rattle.cacache_table.specs.declared.carried.Commit.{Commit}
-use Rattle.cacache_table.specs.declared.command.Command.{Command}
+use Rattle.cacache_table.specs.{declared.{carried.Commit.{Commit}, command.{Command.{Command}, Delete.{Delete}, Insert.{Insert}, Put.{Put}}, reply.Reply.{Reply, TheVariants.{Stored, LookedUp, Exists, Listed, Done, Refused}}}, Inserting.{insertion, deletion, refused_cause}, Licence.{Licence, KeepsTo}, Replies.{OrMemory}, Sound.{MayBegin}, State.{Insertion, Item}, Walking.{failed}, Storing.{insertion_of, matches, put_commit}}
 use Rattle.cacache_table.specs.declared.command.Command.TheVariants as commands
-use Rattle.cacache_table.specs.declared.command.Delete.{Delete}
-use Rattle.cacache_table.specs.declared.command.Insert.{Insert}
-use Rattle.cacache_table.specs.declared.command.Put.{Put}
-use Rattle.cacache_table.specs.declared.reply.Reply.{Reply}
-use Rattle.cacache_table.specs.declared.reply.Reply.TheVariants.{Stored, LookedUp, Exists, Listed, Done, Refused}
-use Rattle.cacache_table.specs.Inserting.{insertion, deletion, refused_cause}
-use Rattle.cacache_table.specs.Licence.{Licence, KeepsTo}
-use Rattle.cacache_table.specs.Replies.{OrMemory}
-use Rattle.cacache_table.specs.Sound.{MayBegin}
-use Rattle.cacache_table.specs.State.{Insertion, Item}
-use Rattle.cacache_table.specs.Walking.{failed}
-use Rattle.cacache_table.specs.Storing.{insertion_of, matches, put_commit}
-use Rattle.cacache_value.specs.Kinds.{node_below}
-use Rattle.cacache_value.specs.Shows.{blob_there}
-use Rattle.cacache_value.specs.Value.{value_of_tree}
-use Rattle.cacache_history.specs.History.{NamesIntegrity}
-use Rattle.cacache_history.specs.ShownTurns.{blob_at}
-use Rattle.cacache_history.specs.Setup.{call_site, may_export, is_outside}
-use Rattle.cacache_sequence.specs.Beside.{FitsEntry}
-use Rattle.cacache_sequence.specs.Caches.{IsCache, Called, setup_at, lies_under}
-use Rattle.cacache_sequence.specs.Keeping.{found_under}
-use Rattle.cacache_sequence.specs.ReadAnswers.{get_on, read_on}
-use Rattle.cacache_sequence.specs.Standing.{IsStanding}
+use Rattle.cacache_value.specs.{Kinds.{node_below}, Shows.{blob_there}, Value.{value_of_tree}}
+use Rattle.cacache_history.specs.{History.{NamesIntegrity}, ShownTurns.{blob_at}, Setup.{call_site, may_export, is_outside}}
+use Rattle.cacache_sequence.specs.{Beside.{FitsEntry}, Caches.{IsCache, Called, setup_at, lies_under}, Keeping.{found_under}, ReadAnswers.{get_on, read_on}, Standing.{IsStanding}}
 
 -- ---- where no step fails
 

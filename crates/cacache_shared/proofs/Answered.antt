@@ -1,27 +1,13 @@
 -- Each reply of a caller was given to the command that it began last, since a call that is over has one reply.
-use Rattle.std.proofs.Common.{◌≡◌, inl, inr, ℕ, ◌==◌, List, [], ◌∷◌, ◌++◌, take, drop, Option, None, Some, option_map, Bool, true, false, refl, sym, ap, subst, ◌∙◌, append_assoc, arith}
-use Rattle.std.proofs.lemmas.Bool.{eqb-true}
-use Rattle.std.proofs.lemmas.Bool.Decides.{nat_tests}
-use Rattle.std.proofs.lemmas.List.{take-append-drop}
+use Rattle.std.proofs.{Common.{◌≡◌, inl, inr, ℕ, ◌==◌, List, [], ◌∷◌, ◌++◌, take, drop, Option, None, Some, option_map, Bool, true, false, refl, sym, ap, subst, ◌∙◌, append_assoc, arith}, lemmas.{Bool.{eqb-true, Decides.{nat_tests}}, List.{take-append-drop}}}
 use Rattle.std.specs.Prelude.{filter_map, map}
-use Rattle.cacache_disk.specs.declared.luck.Luck.{Luck}
-use Rattle.cacache_disk.specs.Tree.{Tree}
-use Rattle.cacache_table.specs.declared.command.Command.{Command}
-use Rattle.cacache_table.specs.declared.reply.Reply.{Reply}
-use Rattle.cacache_table.specs.Promises.{Answers}
-use Rattle.cacache_table.specs.Runs.{plain_reply}
-use Rattle.cacache_table.proofs.Promises.{calls_answer}
-use Rattle.cacache_history.specs.declared.record.Record.{Record}
-use Rattle.cacache_history.specs.declared.record.Record.TheVariants.{Began, Moved, Stopped}
-use Rattle.cacache_history.specs.Setup.{Setup, call_site}
-use Rattle.cacache_history.specs.History.{History, Call, Made, Now, IsLegal, Reaches, call_after, initial, new_call, now_after, now_at, moved_call, unless_over, set_call}
-use Rattle.cacache_history.specs.Turns.{made_in}
-use Rattle.cacache_history.proofs.Holding.{legal_after, replay_more}
-use Rattle.cacache_history.proofs.Runs.{calls_are_runs}
+use Rattle.cacache_disk.specs.{declared.luck.Luck.{Luck}, Tree.{Tree}}
+use Rattle.cacache_table.{specs.{declared.{command.Command.{Command}, reply.Reply.{Reply}}, Promises.{Answers}, Runs.{plain_reply}}, proofs.Promises.{calls_answer}}
+use Rattle.cacache_history.specs.{declared.record.Record.{Record, TheVariants.{Began, Moved, Stopped}}, Setup.{Setup, call_site}, History.{History, Call, Made, Now, IsLegal, Reaches, call_after, initial, new_call, now_after, now_at, moved_call, unless_over, set_call}, Turns.{made_in}}
+use Rattle.cacache_history.proofs.{Holding.{legal_after, replay_more}, Runs.{calls_are_runs}}
 use Rattle.cacache_agree.specs.Said.{said_command, said_reply}
-use Rattle.cacache_shared.specs.Lines.{caller_of, commands_of, replies_of}
+use Rattle.cacache_shared.specs.{Lines.{caller_of, commands_of, replies_of}, Answered.{own_reply, answered_in, IsGiven, AreAnswered, SeatsAreAnswered}}
 use Rattle.cacache_shared.proofs.SaidAnswers.{said_answers}
-use Rattle.cacache_shared.specs.Answered.{own_reply, answered_in, IsGiven, AreAnswered, SeatsAreAnswered}
 
 -- the replies among what was answered
 abbrev replies_in : List (Command × Option Reply) → List Reply

@@ -1,15 +1,8 @@
 -- In a legal history each record is one of the callers', so that their counts add up to all records.
-use Rattle.std.proofs.Common.{◌≡◌, ℕ, zero, suc, ◌+◌, ◌<◌, ◌≤◌, ◌==◌, List, [], ◌∷◌, ◌++◌, refl, sym, ◌∙◌, ap, subst, arith, length, Option, Some, None, Bool, true, false, cond}
-use Rattle.std.proofs.lemmas.Bool.{eqb-true}
-use Rattle.std.proofs.lemmas.Bool.Decides.{nat_tests}
-use Rattle.std.proofs.lemmas.List.Sums.{sum_by-cons}
+use Rattle.std.proofs.{Common.{◌≡◌, ℕ, zero, suc, ◌+◌, ◌<◌, ◌≤◌, ◌==◌, List, [], ◌∷◌, ◌++◌, refl, sym, ◌∙◌, ap, subst, arith, length, Option, Some, None, Bool, true, false, cond}, lemmas.{Bool.{eqb-true, Decides.{nat_tests}}, List.Sums.{sum_by-cons}}}
 use Rattle.std.specs.Prelude.{if◌then◌else◌, nat_lt, count_by}
-use Rattle.cacache_history.specs.declared.record.Record.{Record}
-use Rattle.cacache_history.specs.declared.record.Record.TheVariants.{Began, Moved, Stopped}
-use Rattle.cacache_history.specs.Setup.{Setup}
-use Rattle.cacache_history.specs.History.{History, Call, Now, IsLegal, Legal, now_after, initial, set_call}
-use Rattle.cacache_shared.specs.Lines.{caller_of, is_record_of, records_of, is_move_of, moves_of}
-use Rattle.cacache_shared.specs.Seats.{Taken, fresh_seat, fresh_seats}
+use Rattle.cacache_history.specs.{declared.record.Record.{Record, TheVariants.{Began, Moved, Stopped}}, Setup.{Setup}, History.{History, Call, Now, IsLegal, Legal, now_after, initial, set_call}}
+use Rattle.cacache_shared.specs.{Lines.{caller_of, is_record_of, records_of, is_move_of, moves_of}, Seats.{Taken, fresh_seat, fresh_seats}}
 
 -- the records of the first callers
 abbrev pub records_below : List Record → ℕ → ℕ

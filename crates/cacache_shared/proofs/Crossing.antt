@@ -1,18 +1,11 @@
 -- A shared world may be shared by threads, and a seat and what a thread hands back may go to another thread.
 use denote.RattleType.{RattleType}
 use denote.Param.Send.{IsSend, IsSync, sendable}
-use Rattle.std.proofs.Crossing.{crosses}
-use Rattle.std.proofs.sync.ledger.Book.TheSendSync.{the_send as book_send}
-use Rattle.std.proofs.sync.ledger.Share.TheSendSync.{the_send as share_send}
-use Rattle.std.specs.contracts.alloc.Global as Global
+use Rattle.std.proofs.{Crossing.{crosses}, sync.ledger.{Book.TheSendSync.{the_send as book_send}, Share.TheSendSync.{the_send as share_send}}}
 use Rattle.std.specs.declared.sync.ledger.Ledger.{Ghosts}
+use Rattle.std.specs.contracts.alloc.Global as Global
 use Rattle.cacache_world.specs.contracts.world.World as World
-use Rattle.cacache_send.proofs.Steps.{PlainFile-send, PlainTemp-send}
-use Rattle.cacache_send.proofs.Commands.{Command-send, Reply-send}
-use Rattle.cacache_send.proofs.Core.{crosses_core}
-use Rattle.cacache_send.proofs.Disk.{Disk-send}
-use Rattle.cacache_send.proofs.History.{Record-send}
-use Rattle.cacache_send.proofs.Jobs.{Job-send}
+use Rattle.cacache_send.proofs.{Steps.{PlainFile-send, PlainTemp-send}, Commands.{Command-send, Reply-send}, Core.{crosses_core}, Disk.{Disk-send}, History.{Record-send}, Jobs.{Job-send}}
 use Rattle.cacache_shared.specs.contracts.inside.Inside as Inside
 use Rattle.cacache_shared.specs.contracts.seat.Seat as Seat
 use Rattle.cacache_shared.specs.contracts.shared.SharedWorld as SharedWorld

@@ -1,14 +1,10 @@
 -- What the events of a world add to its records.
-use Rattle.std.proofs.Common.{◌≡◌, ℕ, ◌+◌, ◌∙◌, ap, length, subst, sym}
-use Rattle.std.proofs.lemmas.List.{length_push}
+use Rattle.std.proofs.{Common.{◌≡◌, ℕ, ◌+◌, ◌∙◌, ap, length, subst, sym}, lemmas.List.{length_push}}
 use Rattle.cacache_disk.specs.declared.luck.Luck.{Luck}
-use Rattle.cacache_history.specs.declared.record.Record.{Record}
-use Rattle.cacache_history.specs.History.{History}
-use Rattle.cacache_world.specs.declared.event.Move.{Move}
+use Rattle.cacache_history.specs.{declared.record.Record.{Record}, History.{History}}
+use Rattle.cacache_world.specs.{declared.event.Move.{Move}, WorldKept.{AddsRecord, MovesOn}}
 use Rattle.cacache_world.specs.declared.event.Move.TheVariants as told
-use Rattle.cacache_world.specs.WorldKept.{AddsRecord, MovesOn}
-use Rattle.cacache_shared.specs.declared.seat.Went.{Went}
-use Rattle.cacache_shared.specs.Seats.{Taken, SeatMoves, SeatGoes, after_move, went_of}
+use Rattle.cacache_shared.specs.{declared.seat.Went.{Went}, Seats.{Taken, SeatMoves, SeatGoes, after_move, went_of}}
 
 pub one_more : (h h' : History) (r : Record) → AddsRecord h r h' → length h'.records ≡ length h.records + 1
 one_more h h' r a = ap (λ (x : History). length x.records) a.added ∙ length_push h.records r

@@ -1,16 +1,12 @@
 -- A listing of a world's first caller, event by event.
 use Rattle.std.proofs.Common.{◌≡◌, List, [], ◌∷◌, ◌++◌, Some, None, option_map, refl, sym, ap, subst, ◌∙◌, append_assoc}
 use Rattle.cacache_disk.specs.declared.luck.Luck.{Luck}
-use Rattle.cacache_table.specs.declared.command.Command.TheVariants.{Ls}
-use Rattle.cacache_table.specs.declared.reply.Reply.{Reply}
-use Rattle.cacache_history.specs.declared.record.Record.{Record}
-use Rattle.cacache_history.specs.declared.record.Record.TheVariants.{Began, Moved}
-use Rattle.cacache_history.specs.History.{History, call_after, initial, new_call, now_after}
+use Rattle.cacache_table.specs.declared.{command.Command.TheVariants.{Ls}, reply.Reply.{Reply}}
+use Rattle.cacache_history.specs.{declared.record.Record.{Record, TheVariants.{Began, Moved}}, History.{History, call_after, initial, new_call, now_after}}
 use Rattle.cacache_history.proofs.Holding.{replay_more}
 use Rattle.cacache_world.specs.declared.event.Move.TheVariants as told
 use Rattle.cacache_world.specs.WorldKept.{AddsRecord, MovesOn, adding, history_of, last}
-use Rattle.cacache_shared.proofs.Answered.{same_command}
-use Rattle.cacache_shared.specs.Storms.{GrewBy, IsListing, IsListed}
+use Rattle.cacache_shared.{proofs.Answered.{same_command}, specs.Storms.{GrewBy, IsListing, IsListed}}
 
 -- the calls behind one record more
 calls_behind : (h : History) (r : Record) → last (adding h r) ≡ now_after h.setup (last h) r

@@ -1,15 +1,8 @@
 -- What each command of a seat was answered.
 use Rattle.std.specs.Prelude.{◌≡◌, ◌⊎◌, ℕ, ◌==◌, List, [], ◌∷◌, Option, None, Some, filter_map, map, option_map, take, if◌then◌else◌}
 use Rattle.cacache_core.specs.declared.errors.Error.TheVariants.{OutOfMemory}
-use Rattle.cacache_table.specs.declared.command.Command.{Command}
-use Rattle.cacache_table.specs.declared.reply.Reply.{Reply}
-use Rattle.cacache_table.specs.declared.reply.Reply.TheVariants.{Refused}
-use Rattle.cacache_table.specs.Promises.{Answers}
-use Rattle.cacache_table.specs.Runs.{plain_reply}
-use Rattle.cacache_history.specs.declared.record.Record.{Record}
-use Rattle.cacache_history.specs.declared.record.Record.TheVariants.{Began, Moved, Stopped}
-use Rattle.cacache_history.specs.Setup.{call_site}
-use Rattle.cacache_history.specs.History.{History, Call, IsLegal, Reaches, now_at}
+use Rattle.cacache_table.specs.{declared.{command.Command.{Command}, reply.Reply.{Reply, TheVariants.{Refused}}}, Promises.{Answers}, Runs.{plain_reply}}
+use Rattle.cacache_history.specs.{declared.record.Record.{Record, TheVariants.{Began, Moved, Stopped}}, Setup.{call_site}, History.{History, Call, IsLegal, Reaches, now_at}}
 pub use Rattle.cacache_agree.specs.Said.{said_command, said_reply}
 use Rattle.cacache_shared.specs.Seats.{Taken, SeatAgrees}
 

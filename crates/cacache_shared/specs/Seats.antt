@@ -1,18 +1,12 @@
 -- Seats as contracts see them.
 use Rattle.std.specs.Prelude.{◌≡◌, ℕ, zero, suc, ◌+◌, List, [], ◌∷◌, ◌++◌, drop, map}
 use Rattle.cacache_disk.specs.declared.luck.Luck.{Luck}
-use Rattle.cacache_table.specs.declared.command.Command.{Command}
-use Rattle.cacache_table.specs.declared.reply.Reply.{Reply}
-use Rattle.cacache_history.specs.declared.record.Record.{Record}
-use Rattle.cacache_history.specs.declared.record.Record.TheVariants.{Began}
-use Rattle.cacache_history.specs.History.{History}
-use Rattle.cacache_world.specs.declared.event.Move.{Move}
+use Rattle.cacache_table.specs.declared.{command.Command.{Command}, reply.Reply.{Reply}}
+use Rattle.cacache_history.specs.{declared.record.Record.{Record, TheVariants.{Began}}, History.{History}}
+use Rattle.cacache_world.specs.{declared.event.Move.{Move}, WorldKept.{AddsRecord, MovesOn}}
 use Rattle.cacache_world.specs.declared.event.Move.TheVariants as told
-use Rattle.cacache_world.specs.WorldKept.{AddsRecord, MovesOn}
 use Rattle.cacache_agree.specs.Said.{said_command, said_reply}
-use Rattle.cacache_shared.specs.declared.seat.Went.{Went}
-use Rattle.cacache_shared.specs.declared.seat.Went.TheVariants.{More, Done}
-use Rattle.cacache_shared.specs.Lines.{records_of, moves_of, commands_of, replies_of}
+use Rattle.cacache_shared.specs.{declared.seat.Went.{Went, TheVariants.{More, Done}}, Lines.{records_of, moves_of, commands_of, replies_of}}
 
 -- a caller, how many records and how many moves are its own, what it began and what it was answered
 pub record Taken : Type 0 where

@@ -1,14 +1,9 @@
 -- Which storms there are, and what their numbers count.
 use Rattle.std.specs.Prelude.{◌≡◌, ◌<◌, ◌⊎◌, ℕ, List, ◌++◌, Some, length}
-use Rattle.cacache_table.specs.declared.command.Command.TheVariants.{Ls}
-use Rattle.cacache_table.specs.declared.reply.Reply.{Reply}
-use Rattle.cacache_table.specs.declared.reply.Reply.TheVariants.{Listed}
-use Rattle.cacache_table.specs.State.{Item}
-use Rattle.cacache_history.specs.declared.record.Record.{Record}
-use Rattle.cacache_history.specs.History.{History, Call, IsLegal, Reaches}
+use Rattle.cacache_table.specs.{declared.{command.Command.TheVariants.{Ls}, reply.Reply.{Reply, TheVariants.{Listed}}}, State.{Item}}
+use Rattle.cacache_history.specs.{declared.record.Record.{Record}, History.{History, Call, IsLegal, Reaches}}
 use Rattle.cacache_world.specs.WorldKept.{history_of, last}
-use Rattle.cacache_shared.specs.declared.outcome.Storm.{Storm}
-use Rattle.cacache_shared.specs.Lines.{moves}
+use Rattle.cacache_shared.specs.{declared.outcome.Storm.{Storm}, Lines.{moves}}
 
 -- there are 1 to 64 threads, and 1 to 1000 keys
 abbrev pub IsOutOfRange : ℕ → ℕ → Type 0

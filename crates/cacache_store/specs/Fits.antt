@@ -1,12 +1,7 @@
 -- Which answers fit a step, and what a log gains.
 use Rattle.std.specs.Prelude.{◌≡◌, ◌+◌, ◌^◌, ◌≤◌, ◌<◌, Bool, true, false, if◌then◌else◌, List, [], ◌∷◌, ◌++◌, Option, All, length, option_map}
 use Rattle.cacache_core.specs.PathNames.{IsProperName}
-use Rattle.cacache_store.specs.declared.store.step.Step.TheVariants.{MakeDirs, CreateTemp, Write, Persist, Append, ReadAll, Open, Read, Exists, Size, Symlink, Copy, Reflink, HardLink, ReadDir, RemoveFile, RemoveDir, SyncTemp, SyncFile, SyncDir}
-use Rattle.cacache_store.specs.declared.store.answer.Answer.TheVariants.{Done, Temp, Wrote, Took, Bytes, File, Got, There, Length, Names, Synced, Failed, NoMemory}
-use Rattle.cacache_store.specs.declared.store.answer.Name.{Name}
-use Rattle.cacache_store.specs.declared.store.log.LogItem.{LogItem}
-use Rattle.cacache_store.specs.declared.store.log.LogItem.TheVariants.{Made}
-use Rattle.cacache_store.specs.Plain.{PlainStep, PlainAnswer}
+use Rattle.cacache_store.specs.{declared.store.{step.Step.TheVariants.{MakeDirs, CreateTemp, Write, Persist, Append, ReadAll, Open, Read, Exists, Size, Symlink, Copy, Reflink, HardLink, ReadDir, RemoveFile, RemoveDir, SyncTemp, SyncFile, SyncDir}, answer.{Answer.TheVariants.{Done, Temp, Wrote, Took, Bytes, File, Got, There, Length, Names, Synced, Failed, NoMemory}, Name.{Name}}, log.LogItem.{LogItem, TheVariants.{Made}}}, Plain.{PlainStep, PlainAnswer}}
 
 -- a listing of proper names leads nowhere but into its own folder
 abbrev pub AreProperNames : List Name → Type 0

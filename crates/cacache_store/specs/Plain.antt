@@ -1,9 +1,6 @@
 -- Plain steps and plain answers: what contracts see of a step and an answer.
-use Rattle.cacache_store.specs.declared.store.plain.PlainFile.{PlainFile}
-use Rattle.cacache_store.specs.declared.store.plain.PlainTemp.{PlainTemp}
-use Rattle.cacache_store.specs.declared.store.step.Step.{Step}
+use Rattle.cacache_store.specs.declared.store.{plain.{PlainFile.{PlainFile}, PlainTemp.{PlainTemp}}, step.Step.{Step}, answer.Answer.{Answer}}
 use Rattle.cacache_store.specs.declared.store.step.Step.TheVariants as steps
-use Rattle.cacache_store.specs.declared.store.answer.Answer.{Answer}
 use Rattle.cacache_store.specs.declared.store.answer.Answer.TheVariants as answers
 
 -- a step on plain files

@@ -2,18 +2,11 @@
 use Rattle.std.specs.Prelude.{◌≡◌, ◌-◌, ◌^◌, ◌==◌, ◌&&◌, not, ℕ, length, min, Bool, true, false, if◌then◌else◌, List, [], Option}
 use Rattle.std_io.specs.declared.io.kind.ErrorKind.{ErrorKind}
 use Rattle.std_io.specs.declared.io.kind.ErrorKind.TheVariants as kind
-use Rattle.cacache_core.specs.Contexts.{fault_of}
-use Rattle.cacache_core.specs.declared.errors.Fault.TheVariants.{Device}
+use Rattle.cacache_core.specs.{Contexts.{fault_of}, declared.errors.Fault.TheVariants.{Device}}
 use Rattle.cacache_store.specs.declared.store.step.Step.TheVariants as steps
 use Rattle.cacache_store.specs.declared.store.answer.Answer.TheVariants as answers
-use Rattle.cacache_system.specs.declared.call.FileInfo.{FileInfo}
-use Rattle.cacache_system.specs.declared.call.SystemCall.{SystemCall}
+use Rattle.cacache_system.specs.{declared.call.{FileInfo.{FileInfo}, SystemCall.{SystemCall}, CallResult.{CallResult, TheVariants.{Done, Opened, Count, Bytes, Info, Names, Failed}}, CallItem.{CallItem}}, Seen.{NumberedFile, NumberedTemp, NumberedStep, NumberedAnswer}, CallsOf.{Stage, over, only, trying, taking_memory, opening, to_give, to_sync, to_sync_folder, to_read, appending, sizing, asking_source, standing, making, comparing, opening_folder, RunLogged}}
 use Rattle.cacache_system.specs.declared.call.SystemCall.TheVariants as asks
-use Rattle.cacache_system.specs.declared.call.CallResult.{CallResult}
-use Rattle.cacache_system.specs.declared.call.CallResult.TheVariants.{Done, Opened, Count, Bytes, Info, Names, Failed}
-use Rattle.cacache_system.specs.declared.call.CallItem.{CallItem}
-use Rattle.cacache_system.specs.Seen.{NumberedFile, NumberedTemp, NumberedStep, NumberedAnswer}
-use Rattle.cacache_system.specs.CallsOf.{Stage, over, only, trying, taking_memory, opening, to_give, to_sync, to_sync_folder, to_read, appending, sizing, asking_source, standing, making, comparing, opening_folder, RunLogged}
 
 -- What a store remembers of its steps chooses no more than how the calls of a step begin: nothing that matters, that the
 -- folder is guessed to be missing, that a listing named it, or a walk whose folders are looked at before a removal. It

@@ -1,12 +1,7 @@
 -- What a log of system calls gains.
-use Rattle.std.specs.Prelude.{◌≡◌, ℕ, List, [], ◌∷◌, ◌++◌, take, Option, option_map, Result, Ok, Err}
-use Rattle.std.specs.Io.{appended_bytes}
-use Rattle.std_io.specs.declared.io.error.Error.{Error}
-use Rattle.std_io.specs.IoError.{error_kind}
-use Rattle.cacache_system.specs.declared.call.SystemCall.{SystemCall}
-use Rattle.cacache_system.specs.declared.call.CallResult.{CallResult}
-use Rattle.cacache_system.specs.declared.call.CallResult.TheVariants.{Bytes, Failed}
-use Rattle.cacache_system.specs.declared.call.CallItem.{CallItem}
+use Rattle.std.specs.{Prelude.{◌≡◌, ℕ, List, [], ◌∷◌, ◌++◌, take, Option, option_map, Result, Ok, Err}, Io.{appended_bytes}}
+use Rattle.std_io.specs.{declared.io.error.Error.{Error}, IoError.{error_kind}}
+use Rattle.cacache_system.specs.declared.call.{SystemCall.{SystemCall}, CallResult.{CallResult, TheVariants.{Bytes, Failed}}, CallItem.{CallItem}}
 
 -- what the system said, where a method gives this
 abbrev pub said : {A : Type 0} → (A → CallResult) → Result A Error → CallResult

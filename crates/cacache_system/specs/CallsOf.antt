@@ -1,22 +1,11 @@
 -- The system calls of each kind of step as one table: the call that each stage wants, where what the system says takes it,
 -- and what the calls may end with.
-use Rattle.std.specs.Prelude.{◌≡◌, ◌-◌, ◌^◌, ◌⊎◌, ◌==◌, ◌&&◌, ◌||◌, not, ℕ, zero, suc, get_or, take, length, min, Bool, true, false, if◌then◌else◌, List, [], ◌∷◌, ◌++◌, Option, None, Some, option_map}
-use Rattle.std.specs.Bool.{nat_eq}
-use Rattle.std.specs.Cmp.Lexicographic.{pointwise}
-use Rattle.std.specs.Str.{is_utf8}
+use Rattle.std.specs.{Prelude.{◌≡◌, ◌-◌, ◌^◌, ◌⊎◌, ◌==◌, ◌&&◌, ◌||◌, not, ℕ, zero, suc, get_or, take, length, min, Bool, true, false, if◌then◌else◌, List, [], ◌∷◌, ◌++◌, Option, None, Some, option_map}, Bool.{nat_eq}, Cmp.Lexicographic.{pointwise}, Str.{is_utf8}}
 use Rattle.std_io.specs.declared.io.kind.ErrorKind.{ErrorKind}
 use Rattle.std_io.specs.declared.io.kind.ErrorKind.TheVariants as kind
 use Rattle.cacache_store.specs.declared.store.answer.Kind.TheVariants as kinds
-use Rattle.cacache_store.specs.declared.store.answer.Kind.{Kind}
-use Rattle.cacache_store.specs.declared.store.answer.Name.{Name}
-use Rattle.cacache_system.specs.declared.call.SystemCall.{SystemCall}
-use Rattle.cacache_system.specs.declared.call.SystemCall.TheVariants.{OpenToRead, OpenToAppend, OpenFolder, Read, ReadNames, ReadRest, Write, Sync, StatFile, Stat, StatLink, MakeFolder, CopyFile}
-use Rattle.cacache_system.specs.declared.call.FileInfo.{FileInfo}
-use Rattle.cacache_system.specs.declared.call.CallResult.{CallResult}
-use Rattle.cacache_system.specs.declared.call.CallResult.TheVariants.{Done, Opened, Count, Bytes, Info, Names, Failed}
-use Rattle.cacache_system.specs.declared.call.CallItem.{CallItem}
-use Rattle.cacache_system.specs.CallLog.{GainsCalls}
-use Rattle.cacache_system.specs.ListedNames.{text_of, is_proper, is_passed, names_in, with_slash}
+use Rattle.cacache_store.specs.declared.store.answer.{Kind.{Kind}, Name.{Name}}
+use Rattle.cacache_system.specs.{declared.call.{SystemCall.{SystemCall, TheVariants.{OpenToRead, OpenToAppend, OpenFolder, Read, ReadNames, ReadRest, Write, Sync, StatFile, Stat, StatLink, MakeFolder, CopyFile}}, FileInfo.{FileInfo}, CallResult.{CallResult, TheVariants.{Done, Opened, Count, Bytes, Info, Names, Failed}}, CallItem.{CallItem}}, CallLog.{GainsCalls}, ListedNames.{text_of, is_proper, is_passed, names_in, with_slash}}
 
 -- what a file is opened for: to be handed out, to be synced, to be synced as a folder, or to be read whole
 pub data Purpose : Type 0 where

@@ -1,8 +1,5 @@
 -- The names that a folder gives, and how a listing tells them.
-use Rattle.std.specs.Prelude.{ℕ, Bool, ◌||◌, ◌&&◌, ◌==◌, ◌-◌, not, if◌then◌else◌, List, [], ◌∷◌, ◌++◌, codes, length, get_or}
-use Rattle.std.specs.Bool.{nat_eq}
-use Rattle.std.specs.List.{starts_with, list_any, slice_split}
-use Rattle.std.specs.Str.{is_utf8}
+use Rattle.std.specs.{Prelude.{ℕ, Bool, ◌||◌, ◌&&◌, ◌==◌, ◌-◌, not, if◌then◌else◌, List, [], ◌∷◌, ◌++◌, codes, length, get_or}, Bool.{nat_eq}, List.{starts_with, list_any, slice_split}, Str.{is_utf8}}
 use Rattle.hex.specs.Hex.{encode_lower}
 use Rattle.cacache_core.specs.PathNames.{is_name, is_above, ends_name}
 

@@ -1,8 +1,7 @@
 -- What the calls of a step are about: open files by their numbers.
 use Rattle.std.specs.Prelude.{ℕ, List}
-use Rattle.cacache_store.specs.declared.store.step.Step.{Step}
+use Rattle.cacache_store.specs.declared.store.{step.Step.{Step}, answer.Answer.{Answer}}
 use Rattle.cacache_store.specs.declared.store.step.Step.TheVariants as steps
-use Rattle.cacache_store.specs.declared.store.answer.Answer.{Answer}
 use Rattle.cacache_store.specs.declared.store.answer.Answer.TheVariants as answers
 
 -- an open file: its number, and how many bytes it may still give

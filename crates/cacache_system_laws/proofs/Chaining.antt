@@ -1,35 +1,15 @@
 -- Many steps on a system and on a disk that mirrors it.
 use Rattle.std.proofs.Common.{◌≡◌, ◌⊎◌, ℕ, Bool, true, false, cond, if◌then◌else◌, List, [], ◌∷◌, ◌++◌, take, refl, sym, ap, subst, ◌∙◌, inl, inr}
 use Rattle.std.specs.Prelude.{Option, None, Some}
-use Rattle.cacache_core.specs.declared.errors.Fault.{Fault}
-use Rattle.cacache_core.specs.PathNames.{Names}
-use Rattle.cacache_store.specs.declared.store.plain.PlainTemp.{PlainTemp}
+use Rattle.cacache_core.specs.{declared.errors.Fault.{Fault}, PathNames.{Names}}
+use Rattle.cacache_store.specs.{declared.store.plain.PlainTemp.{PlainTemp}, Plain.{PlainStep, PlainAnswer}}
 use Rattle.cacache_store.specs.declared.store.step.Step.TheVariants as steps
 use Rattle.cacache_store.specs.declared.store.answer.Answer.TheVariants as answers
-use Rattle.cacache_store.specs.Plain.{PlainStep, PlainAnswer}
-use Rattle.cacache_disk.specs.declared.luck.Luck.{Luck}
-use Rattle.cacache_disk.specs.declared.luck.Luck.TheVariants.{Plain, Fail, Take}
-use Rattle.cacache_disk.specs.declared.node.Node.{Node}
-use Rattle.cacache_disk.specs.declared.node.Node.TheVariants.{File}
-use Rattle.cacache_disk.specs.Tree.{Tree, look, put, same_path, bytes_of}
-use Rattle.cacache_disk.specs.Apply.{apply, plain, fails, fault_told, lengthened}
-use Rattle.cacache_disk.proofs.Maps.{same_path-true}
-use Rattle.cacache_disk.proofs.PutNodes.{look-put}
-use Rattle.cacache_system.specs.declared.call.CallItem.{CallItem}
-use Rattle.cacache_system.specs.declared.call.CallResult.{CallResult}
-use Rattle.cacache_system.specs.Seen.{NumberedTemp, NumberedStep}
-use Rattle.cacache_system.specs.CallsOf.{Runs}
-use Rattle.cacache_system.specs.AnswersOf.{Hint, first, answer_of}
-use Rattle.cacache_system_laws.specs.Machine.{Machine}
-use Rattle.cacache_system_laws.specs.Calls.{OccursSomehow, EachCall}
-use Rattle.cacache_system_laws.specs.Laws.{temp_on, step_on, answer_on, outcome, IsLucky}
-use Rattle.cacache_system_laws.specs.Writing.{WritesSome}
-use Rattle.cacache_system_laws.specs.Mirrors.{hollow, Mirrors, temps_after, SparesOpen}
-use Rattle.cacache_system_laws.specs.Chains.{StepMade, temps_left, HasLaw, WritesTemp, DiskDoes, RunsMirror}
-use Rattle.cacache_system_laws.proofs.Refused.{same_outcome}
-use Rattle.cacache_system_laws.proofs.Writing.{write_agrees}
-use Rattle.cacache_system_laws.proofs.Covered.{each_may_break}
-use Rattle.cacache_system_laws.proofs.Keeping.{steps_mirror}
+use Rattle.cacache_disk.specs.{declared.{luck.Luck.{Luck, TheVariants.{Plain, Fail, Take}}, node.Node.{Node, TheVariants.{File}}}, Tree.{Tree, look, put, same_path, bytes_of}, Apply.{apply, plain, fails, fault_told, lengthened}}
+use Rattle.cacache_disk.proofs.{Maps.{same_path-true}, PutNodes.{look-put}}
+use Rattle.cacache_system.specs.{declared.call.{CallItem.{CallItem}, CallResult.{CallResult}}, Seen.{NumberedTemp, NumberedStep}, CallsOf.{Runs}, AnswersOf.{Hint, first, answer_of}}
+use Rattle.cacache_system_laws.specs.{Machine.{Machine}, Calls.{OccursSomehow, EachCall}, Laws.{temp_on, step_on, answer_on, outcome, IsLucky}, Writing.{WritesSome}, Mirrors.{hollow, Mirrors, temps_after, SparesOpen}, Chains.{StepMade, temps_left, HasLaw, WritesTemp, DiskDoes, RunsMirror}}
+use Rattle.cacache_system_laws.proofs.{Refused.{same_outcome}, Writing.{write_agrees}, Covered.{each_may_break}, Keeping.{steps_mirror}}
 
 -- ---- steps that came back
 

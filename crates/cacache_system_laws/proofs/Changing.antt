@@ -3,32 +3,17 @@ use Rattle.std.proofs.Common.{◌≡◌, ℕ, Bool, true, false, cond, List, [],
 use Rattle.std.specs.Prelude.{Option, None, Some, Result, Ok, Err, MatchResult, option_map}
 use Rattle.std_io.specs.declared.io.kind.ErrorKind.{ErrorKind}
 use Rattle.std_io.specs.declared.io.kind.ErrorKind.TheVariants as kind
-use Rattle.cacache_core.specs.Contexts.{fault_of}
-use Rattle.cacache_core.specs.declared.errors.Fault.{Fault}
-use Rattle.cacache_core.specs.PathNames.{Names, names_of}
+use Rattle.cacache_core.specs.{Contexts.{fault_of}, declared.errors.Fault.{Fault}, PathNames.{Names, names_of}}
 use Rattle.cacache_store.specs.declared.store.step.Step.TheVariants as steps
 use Rattle.cacache_store.specs.declared.store.answer.Answer.TheVariants as answers
 use Rattle.cacache_store.specs.Plain.{PlainAnswer}
-use Rattle.cacache_disk.specs.declared.luck.Luck.TheVariants.{Plain}
-use Rattle.cacache_disk.specs.declared.node.Node.{Node}
-use Rattle.cacache_disk.specs.declared.node.Node.TheVariants.{File, Link}
-use Rattle.cacache_disk.specs.Tree.{Tree, look, put, cut, bytes_of}
-use Rattle.cacache_disk.specs.LedTo.{and_then, or_fault, where_file, way_fault, place, kept, known, free, replaceable, found, linked}
-use Rattle.cacache_disk.specs.Apply.{apply, unless, made_temp, is_there}
-use Rattle.cacache_disk.proofs.PutNodes.{look-put}
-use Rattle.cacache_disk.proofs.Roots.{same_self}
+use Rattle.cacache_disk.specs.{declared.{luck.Luck.TheVariants.{Plain}, node.Node.{Node, TheVariants.{File, Link}}}, Tree.{Tree, look, put, cut, bytes_of}, LedTo.{and_then, or_fault, where_file, way_fault, place, kept, known, free, replaceable, found, linked}, Apply.{apply, unless, made_temp, is_there}}
+use Rattle.cacache_disk.proofs.{PutNodes.{look-put}, Roots.{same_self}}
 use Rattle.cacache_system.specs.declared.call.SystemCall.TheVariants as asks
-use Rattle.cacache_system.specs.declared.call.CallResult.{CallResult}
+use Rattle.cacache_system.specs.{declared.call.CallResult.{CallResult}, Seen.{NumberedTemp, NumberedStep}, AnswersOf.{answer_of, failed_with, refuses_memory, misses}}
 use Rattle.cacache_system.specs.declared.call.CallResult.TheVariants as says
-use Rattle.cacache_system.specs.Seen.{NumberedTemp, NumberedStep}
-use Rattle.cacache_system.specs.AnswersOf.{answer_of, failed_with, refuses_memory, misses}
-use Rattle.cacache_system_laws.specs.Machine.{OpenFile, Machine, IsRefused, ChangesTree, OpensIf, ShowsEnd, LinksNode, MovesNode, unread}
-use Rattle.cacache_system_laws.specs.Calls.{GoesWell, OccursSomehow}
-use Rattle.cacache_system_laws.specs.Laws.{answer_on, step_on, outcome, led_to, IsLucky}
-use Rattle.cacache_system_laws.specs.OneCall.{StillStands, CreateAgrees, ExistsAgrees, SymlinkAgrees, HardLinkAgrees, ReflinkBreaks, PersistAgrees}
-use Rattle.cacache_system_laws.proofs.Refused.{same_outcome, refused_agrees, plainly_refused, broken_agrees}
-use Rattle.cacache_system_laws.proofs.OneCalls.{one_agrees}
-use Rattle.cacache_system_laws.proofs.Leading.{over_leads}
+use Rattle.cacache_system_laws.specs.{Machine.{OpenFile, Machine, IsRefused, ChangesTree, OpensIf, ShowsEnd, LinksNode, MovesNode, unread}, Calls.{GoesWell, OccursSomehow}, Laws.{answer_on, step_on, outcome, led_to, IsLucky}, OneCall.{StillStands, CreateAgrees, ExistsAgrees, SymlinkAgrees, HardLinkAgrees, ReflinkBreaks, PersistAgrees}}
+use Rattle.cacache_system_laws.proofs.{Refused.{same_outcome, refused_agrees, plainly_refused, broken_agrees}, OneCalls.{one_agrees}, Leading.{over_leads}}
 
 -- a step that answers that it is done, where its call changed the tree
 pub changed : (ends : Result Names Fault) (new : Names → Tree) (step : NumberedStep) (m n : Machine) (end : CallResult) → answer_of step says.Done ≡ answers.Done

@@ -1,22 +1,12 @@
 -- Both laws of a step at once: calls that go well, and calls that may fail without cause.
-use Rattle.std.proofs.Common.{◌≡◌, ◌⊎◌, ℕ, Bool, true, false, [], ◌∷◌, refl, sym, subst, inl, inr}
-use Rattle.std.specs.Prelude.{Option, None, Some}
+use Rattle.std.{proofs.Common.{◌≡◌, ◌⊎◌, ℕ, Bool, true, false, [], ◌∷◌, refl, sym, subst, inl, inr}, specs.Prelude.{Option, None, Some}}
 use Rattle.std_io.specs.declared.io.kind.ErrorKind.{ErrorKind}
 use Rattle.std_io.specs.declared.io.kind.ErrorKind.TheVariants as kind
-use Rattle.cacache_disk.specs.declared.luck.Luck.{Luck}
-use Rattle.cacache_disk.specs.declared.luck.Luck.TheVariants.{Plain, Fail, Take}
-use Rattle.cacache_disk.specs.Apply.{apply}
-use Rattle.cacache_system.specs.declared.call.SystemCall.{SystemCall}
-use Rattle.cacache_system.specs.declared.call.CallResult.{CallResult}
+use Rattle.cacache_disk.specs.{declared.luck.Luck.{Luck, TheVariants.{Plain, Fail, Take}}, Apply.{apply}}
+use Rattle.cacache_system.specs.{declared.call.{SystemCall.{SystemCall}, CallResult.{CallResult}}, CallsOf.{Stage, taking_memory}, Seen.{NumberedStep}, AnswersOf.{Hint, first, answer_of, failed_with, misses}}
 use Rattle.cacache_system.specs.declared.call.CallResult.TheVariants as says
-use Rattle.cacache_system.specs.CallsOf.{Stage, taking_memory}
-use Rattle.cacache_system.specs.Seen.{NumberedStep}
-use Rattle.cacache_system.specs.AnswersOf.{Hint, first, answer_of, failed_with, misses}
-use Rattle.cacache_system_laws.specs.Machine.{Machine}
-use Rattle.cacache_system_laws.specs.Calls.{GoesWell, Occurs, OccursSomehow, LeavesPart}
-use Rattle.cacache_system_laws.specs.Laws.{step_on, led_to, Leads, IsPlain, IsDone, IsLucky, Agrees}
-use Rattle.cacache_system_laws.proofs.Leading.{Way, Claim}
-use Rattle.cacache_system_laws.proofs.Refused.{broken_agrees}
+use Rattle.cacache_system_laws.specs.{Machine.{Machine}, Calls.{GoesWell, Occurs, OccursSomehow, LeavesPart}, Laws.{step_on, led_to, Leads, IsPlain, IsDone, IsLucky, Agrees}}
+use Rattle.cacache_system_laws.proofs.{Leading.{Way, Claim}, Refused.{broken_agrees}}
 
 -- how calls happen: well, or somehow
 abbrev pub way_of : Bool → Way

@@ -1,37 +1,18 @@
 -- Files that are copied.
 use Rattle.std.proofs.Common.{◌≡◌, ◌⊎◌, ◌==◌, ◌&&◌, ◌||◌, not, ℕ, Bool, true, false, if◌then◌else◌, List, [], ◌∷◌, length, take, refl, sym, ap, subst, ◌∙◌, ⊎_elim, inl, inr, arith, take_all, eqb-true, nat_eq}
-use Rattle.std.specs.Cmp.Lexicographic.{pointwise}
-use Rattle.std.specs.Prelude.{Option, None, Some, Result, Ok, Err}
+use Rattle.std.specs.{Cmp.Lexicographic.{pointwise}, Prelude.{Option, None, Some, Result, Ok, Err}}
 use Rattle.std_io.specs.declared.io.kind.ErrorKind.{ErrorKind}
-use Rattle.cacache_core.specs.declared.errors.Fault.{Fault}
-use Rattle.cacache_core.specs.declared.errors.Fault.TheVariants.{InvalidInput}
-use Rattle.cacache_core.specs.PathNames.{Names}
+use Rattle.cacache_core.specs.{declared.errors.Fault.{Fault, TheVariants.{InvalidInput}}, PathNames.{Names}}
 use Rattle.cacache_store.specs.declared.store.step.Step.TheVariants as steps
 use Rattle.cacache_store.specs.declared.store.answer.Answer.TheVariants as answers
 use Rattle.cacache_store.specs.Plain.{PlainAnswer}
-use Rattle.cacache_disk.specs.declared.luck.Luck.TheVariants.{Plain}
-use Rattle.cacache_disk.specs.declared.node.Node.{Node}
-use Rattle.cacache_disk.specs.declared.node.Node.TheVariants.{Folder, File}
-use Rattle.cacache_disk.specs.Tree.{Tree, look, put}
-use Rattle.cacache_disk.specs.LedTo.{and_then, leads, found, file_at, writable, where_no_folder}
-use Rattle.cacache_disk.specs.Apply.{apply, unless, taken, left_by}
+use Rattle.cacache_disk.specs.{declared.{luck.Luck.TheVariants.{Plain}, node.Node.{Node, TheVariants.{Folder, File}}}, Tree.{Tree, look, put}, LedTo.{and_then, leads, found, file_at, writable, where_no_folder}, Apply.{apply, unless, taken, left_by}}
 use Rattle.cacache_disk.proofs.Maps.{put_same}
-use Rattle.cacache_system.specs.declared.call.FileInfo.{FileInfo}
+use Rattle.cacache_system.specs.{declared.call.{FileInfo.{FileInfo}, CallResult.{CallResult}}, CallsOf.{over, only, asking_source, asking_target, copied, is_same_node, after}, AnswersOf.{answer_of}}
 use Rattle.cacache_system.specs.declared.call.SystemCall.TheVariants as asks
-use Rattle.cacache_system.specs.declared.call.CallResult.{CallResult}
 use Rattle.cacache_system.specs.declared.call.CallResult.TheVariants as says
-use Rattle.cacache_system.specs.CallsOf.{over, only, asking_source, asking_target, copied, is_same_node, after}
-use Rattle.cacache_system.specs.AnswersOf.{answer_of}
-use Rattle.cacache_system_laws.specs.Machine.{Machine, IsRefused, ShowsEnd, ShowsNode, Describes, CopiesBytes}
-use Rattle.cacache_system_laws.specs.Calls.{part_copied}
-use Rattle.cacache_system_laws.specs.Laws.{answer_on, outcome, led_to, Leads, IsDone}
-use Rattle.cacache_system_laws.specs.Writing.{TellsFilesApart, CopyAgrees}
-use Rattle.cacache_system_laws.proofs.Refused.{same_outcome, broken_part}
-use Rattle.cacache_system_laws.proofs.Leading.{over_leads, call_leads, only_leads}
-use Rattle.cacache_system_laws.proofs.Claims.{way_of, claim_of, cases_of, agrees_of, claim_plain, claim_lucky, claim_broken}
-use Rattle.cacache_system_laws.proofs.Opening.{said_leads, of_some}
-use Rattle.cacache_system_laws.proofs.Views.{View, nowhere, a_folder, a_file, view}
-use Rattle.cacache_system_laws.proofs.Looking.{table_fails, file_there}
+use Rattle.cacache_system_laws.specs.{Machine.{Machine, IsRefused, ShowsEnd, ShowsNode, Describes, CopiesBytes}, Calls.{part_copied}, Laws.{answer_on, outcome, led_to, Leads, IsDone}, Writing.{TellsFilesApart, CopyAgrees}}
+use Rattle.cacache_system_laws.proofs.{Refused.{same_outcome, broken_part}, Leading.{over_leads, call_leads, only_leads}, Claims.{way_of, claim_of, cases_of, agrees_of, claim_plain, claim_lucky, claim_broken}, Opening.{said_leads, of_some}, Views.{View, nowhere, a_folder, a_file, view}, Looking.{table_fails, file_there}}
 
 -- ---- truth values and texts
 

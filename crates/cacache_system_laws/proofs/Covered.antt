@@ -1,16 +1,7 @@
 -- Each step's law, where it has what it asks.
 use Rattle.cacache_store.specs.declared.store.step.Step.TheVariants as steps
 use Rattle.cacache_system_laws.specs.Premises.{EachMayBreak}
-use Rattle.cacache_system_laws.proofs.Changing.{create_agrees, exists_agrees, persist_agrees, symlink_agrees, hard_link_agrees, reflink_breaks}
-use Rattle.cacache_system_laws.proofs.Copying.{copy_agrees}
-use Rattle.cacache_system_laws.proofs.Dirs.{make_dirs_agrees}
-use Rattle.cacache_system_laws.proofs.Listing.{read_dir_breaks}
-use Rattle.cacache_system_laws.proofs.Looking.{open_agrees, size_agrees}
-use Rattle.cacache_system_laws.proofs.Reading.{read_breaks}
-use Rattle.cacache_system_laws.proofs.Removing.{remove_file_agrees, remove_dir_agrees}
-use Rattle.cacache_system_laws.proofs.Syncing.{sync_temp_agrees, sync_file_agrees, sync_dir_agrees}
-use Rattle.cacache_system_laws.proofs.Whole.{read_all_agrees}
-use Rattle.cacache_system_laws.proofs.Writing.{append_agrees}
+use Rattle.cacache_system_laws.proofs.{Changing.{create_agrees, exists_agrees, persist_agrees, symlink_agrees, hard_link_agrees, reflink_breaks}, Copying.{copy_agrees}, Dirs.{make_dirs_agrees}, Listing.{read_dir_breaks}, Looking.{open_agrees, size_agrees}, Reading.{read_breaks}, Removing.{remove_file_agrees, remove_dir_agrees}, Syncing.{sync_temp_agrees, sync_file_agrees, sync_dir_agrees}, Whole.{read_all_agrees}, Writing.{append_agrees}}
 
 pub each_may_break : EachMayBreak
 each_may_break m hint (steps.MakeDirs p) (rooted, link) = (make_dirs_agrees m hint p rooted link).breaking

@@ -3,39 +3,17 @@ use Rattle.std.proofs.Common.{◌≡◌, ◌==◌, ℕ, Bool, true, false, if◌
 use Rattle.std.specs.Prelude.{Option, None, Some, Result, Ok, Err}
 use Rattle.std_io.specs.declared.io.kind.ErrorKind.{ErrorKind}
 use Rattle.std_io.specs.declared.io.kind.ErrorKind.TheVariants as kind
-use Rattle.cacache_core.specs.Contexts.{fault_of}
-use Rattle.cacache_core.specs.declared.errors.Fault.{Fault}
-use Rattle.cacache_core.specs.declared.errors.Fault.TheVariants.{NotFound, AlreadyExists, NotADirectory, InvalidInput}
-use Rattle.cacache_core.specs.PathNames.{Names, names_of, pieces, is_bad, is_name}
+use Rattle.cacache_core.specs.{Contexts.{fault_of}, declared.errors.Fault.{Fault, TheVariants.{NotFound, AlreadyExists, NotADirectory, InvalidInput}}, PathNames.{Names, names_of, pieces, is_bad, is_name}}
 use Rattle.cacache_store.specs.declared.store.answer.Kind.{Kind}
 use Rattle.cacache_store.specs.declared.store.step.Step.TheVariants as steps
 use Rattle.cacache_store.specs.declared.store.answer.Answer.TheVariants as answers
-use Rattle.cacache_disk.specs.declared.luck.Luck.TheVariants.{Plain}
-use Rattle.cacache_disk.specs.declared.node.Node.{Node}
-use Rattle.cacache_disk.specs.declared.node.Node.TheVariants.{Folder, File}
-use Rattle.cacache_disk.specs.Tree.{Tree, look, put}
-use Rattle.cacache_disk.specs.LedTo.{and_then, or_fault, way_fault, place, free, leads, followed, found, where_there, where_free, dirs, dirs_fault}
-use Rattle.cacache_disk.specs.Apply.{apply, unless, make_some, making as how_many, left_by, fault_told}
-use Rattle.cacache_disk.specs.Rooted.{Rooted}
+use Rattle.cacache_disk.specs.{declared.{luck.Luck.TheVariants.{Plain}, node.Node.{Node, TheVariants.{Folder, File}}}, Tree.{Tree, look, put}, LedTo.{and_then, or_fault, way_fault, place, free, leads, followed, found, where_there, where_free, dirs, dirs_fault}, Apply.{apply, unless, make_some, making as how_many, left_by, fault_told}, Rooted.{Rooted}}
 use Rattle.cacache_disk.proofs.NameLemmas.{names_proper}
-use Rattle.cacache_system.specs.declared.call.FileInfo.{FileInfo}
+use Rattle.cacache_system.specs.{declared.call.{FileInfo.{FileInfo}, CallResult.{CallResult}}, CallsOf.{Stage, over, standing, making, confirming, below, unmade, climb, above_of, is_absent, if_folder, after}, AnswersOf.{Hint, no_hint, is_missing, was_named, in_walk, make_dirs, refuses_memory}}
 use Rattle.cacache_system.specs.declared.call.SystemCall.TheVariants as asks
-use Rattle.cacache_system.specs.declared.call.CallResult.{CallResult}
 use Rattle.cacache_system.specs.declared.call.CallResult.TheVariants as says
-use Rattle.cacache_system.specs.CallsOf.{Stage, over, standing, making, confirming, below, unmade, climb, above_of, is_absent, if_folder, after}
-use Rattle.cacache_system.specs.AnswersOf.{Hint, no_hint, is_missing, was_named, in_walk, make_dirs, refuses_memory}
-use Rattle.cacache_system_laws.specs.Machine.{Machine, IsRefused, ChangesTree, ShowsEnd, ShowsNode, Describes}
-use Rattle.cacache_system_laws.specs.Calls.{GoesWell}
-use Rattle.cacache_system_laws.specs.Laws.{outcome, Leads, IsPlain, IsDone}
-use Rattle.cacache_system_laws.specs.Making.{HasNoLink, MakeDirsAgrees}
-use Rattle.cacache_system_laws.proofs.Refused.{broken_part}
-use Rattle.cacache_system_laws.proofs.Leading.{Claim, over_leads, call_leads}
-use Rattle.cacache_system_laws.proofs.Claims.{way_of, claim_of, agrees_of, claim_plain, claim_lucky}
-use Rattle.cacache_system_laws.proofs.Opening.{said_leads, of_some}
-use Rattle.cacache_system_laws.proofs.Views.{leads_straight, found_at}
-use Rattle.cacache_system_laws.proofs.Looking.{table_fails}
-use Rattle.cacache_system_laws.proofs.Growing.{none_grown, grown_left, grown_whole, Blocked, on_way, at_last, blocked}
-use Rattle.cacache_system_laws.proofs.Making.{absent_fault, never_absent, DirsEnd, up_leads, stand_leads, place_so, free_so}
+use Rattle.cacache_system_laws.specs.{Machine.{Machine, IsRefused, ChangesTree, ShowsEnd, ShowsNode, Describes}, Calls.{GoesWell}, Laws.{outcome, Leads, IsPlain, IsDone}, Making.{HasNoLink, MakeDirsAgrees}}
+use Rattle.cacache_system_laws.proofs.{Refused.{broken_part}, Leading.{Claim, over_leads, call_leads}, Claims.{way_of, claim_of, agrees_of, claim_plain, claim_lucky}, Opening.{said_leads, of_some}, Views.{leads_straight, found_at}, Looking.{table_fails}, Growing.{none_grown, grown_left, grown_whole, Blocked, on_way, at_last, blocked}, Making.{absent_fault, never_absent, DirsEnd, up_leads, stand_leads, place_so, free_so}}
 
 apply_dirs : (t : Tree) (path : List ℕ) (r : Result Names Fault) → dirs t path ≡ r → apply t (steps.MakeDirs path) Plain ≡ unless r t (λ names. outcome answers.Done (make_some t [] names (length names)))
 unfolding apply

@@ -1,37 +1,20 @@
 -- What syncs fix.
 use Rattle.std.proofs.Common.{◌≡◌, ◌&&◌, not, ℕ, Bool, true, false, cond, if◌then◌else◌, List, [], ◌∷◌, refl, sym, ap, subst, ◌∙◌}
-use Rattle.std.specs.Prelude.{Option, None, Some, Result, Ok, option_map}
-use Rattle.std.specs.Option.{unwrap_or}
+use Rattle.std.specs.{Prelude.{Option, None, Some, Result, Ok, option_map}, Option.{unwrap_or}}
 use Rattle.std_io.specs.declared.io.kind.ErrorKind.{ErrorKind}
 use Rattle.std_io.specs.declared.io.kind.ErrorKind.TheVariants as kind
-use Rattle.cacache_core.specs.Contexts.{fault_of}
-use Rattle.cacache_core.specs.declared.errors.Fault.{Fault}
-use Rattle.cacache_core.specs.PathNames.{Names, names_of}
+use Rattle.cacache_core.specs.{Contexts.{fault_of}, declared.errors.Fault.{Fault}, PathNames.{Names, names_of}}
 use Rattle.cacache_store.specs.declared.store.answer.Kind.{Kind}
 use Rattle.cacache_store.specs.declared.store.step.Step.TheVariants as steps
 use Rattle.cacache_store.specs.declared.store.answer.Answer.TheVariants as answers
-use Rattle.cacache_disk.specs.declared.node.Node.{Node}
-use Rattle.cacache_disk.specs.declared.node.Node.TheVariants.{Folder, File, Link}
-use Rattle.cacache_disk.specs.Tree.{Tree, look, bytes_of, same_path}
-use Rattle.cacache_disk.specs.LedTo.{found, leads}
-use Rattle.cacache_disk.proofs.Maps.{same_path-true}
-use Rattle.cacache_disk.proofs.FoundNodes.{place_ok}
+use Rattle.cacache_disk.specs.{declared.node.Node.{Node, TheVariants.{Folder, File, Link}}, Tree.{Tree, look, bytes_of, same_path}, LedTo.{found, leads}}
+use Rattle.cacache_disk.proofs.{Maps.{same_path-true}, FoundNodes.{place_ok}}
 use Rattle.cacache_loss.specs.Fixing.{Fixed, synced, is_at, is_child_of, is_synced, temp_synced, file_synced, folder_synced}
-use Rattle.cacache_system.specs.declared.call.FileInfo.{FileInfo}
+use Rattle.cacache_system.specs.{declared.call.FileInfo.{FileInfo}, CallsOf.{to_sync, to_sync_folder, only, if_folder, opened}, Seen.{NumberedTemp, NumberedStep}, AnswersOf.{failed_with, refuses_memory, leaves_a_part}}
 use Rattle.cacache_system.specs.declared.call.SystemCall.TheVariants as asks
 use Rattle.cacache_system.specs.declared.call.CallResult.TheVariants as says
-use Rattle.cacache_system.specs.CallsOf.{to_sync, to_sync_folder, only, if_folder, opened}
-use Rattle.cacache_system.specs.Seen.{NumberedTemp, NumberedStep}
-use Rattle.cacache_system.specs.AnswersOf.{failed_with, refuses_memory, leaves_a_part}
-use Rattle.cacache_system_laws.specs.Machine.{OpenFile, Machine, SyncedNode, Describes}
-use Rattle.cacache_system_laws.specs.Laws.{bytes_in, temp_on, answer_on, Leads}
-use Rattle.cacache_system_laws.specs.Syncing.{EndsInNoLink}
-use Rattle.cacache_system_laws.specs.Fixing.{with_synced, FixesSynced, SyncTempFixes, SyncFileFixes, SyncDirFixes}
-use Rattle.cacache_system_laws.proofs.Claims.{way_of}
-use Rattle.cacache_system_laws.proofs.Opening.{OpenedOn, Openings, opening_leads}
-use Rattle.cacache_system_laws.proofs.Views.{nowhere, a_folder, a_file, view, leads_straight}
-use Rattle.cacache_system_laws.proofs.Looking.{link_there, refused_folder, wanted_file}
-use Rattle.cacache_system_laws.proofs.Syncing.{WasSynced, sync_leads, refused_other, open_under}
+use Rattle.cacache_system_laws.specs.{Machine.{OpenFile, Machine, SyncedNode, Describes}, Laws.{bytes_in, temp_on, answer_on, Leads}, Syncing.{EndsInNoLink}, Fixing.{with_synced, FixesSynced, SyncTempFixes, SyncFileFixes, SyncDirFixes}}
+use Rattle.cacache_system_laws.proofs.{Claims.{way_of}, Opening.{OpenedOn, Openings, opening_leads}, Views.{nowhere, a_folder, a_file, view, leads_straight}, Looking.{link_there, refused_folder, wanted_file}, Syncing.{WasSynced, sync_leads, refused_other, open_under}}
 
 -- ---- a sync that failed
 

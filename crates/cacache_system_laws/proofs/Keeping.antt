@@ -1,24 +1,12 @@
 -- Trees that mirror each other still do after a step.
 use Rattle.std.proofs.Common.{◌≡◌, ◌-◌, ◌==◌, ℕ, Bool, true, false, cond, if◌then◌else◌, List, [], ◌∷◌, ◌++◌, take, refl, sym, ap, subst, ◌∙◌}
 use Rattle.std.specs.Prelude.{Option, None, Some, Result, Ok, Err}
-use Rattle.cacache_core.specs.declared.errors.Fault.{Fault}
-use Rattle.cacache_core.specs.declared.errors.Fault.TheVariants.{IsADirectory, InvalidInput}
-use Rattle.cacache_core.specs.PathNames.{Names, names_of}
-use Rattle.cacache_store.specs.declared.store.plain.PlainTemp.{PlainTemp}
+use Rattle.cacache_core.specs.{declared.errors.Fault.{Fault, TheVariants.{IsADirectory, InvalidInput}}, PathNames.{Names, names_of}}
+use Rattle.cacache_store.specs.{declared.store.{plain.PlainTemp.{PlainTemp}, answer.Name.{Name}}, Plain.{PlainStep, PlainAnswer}}
 use Rattle.cacache_store.specs.declared.store.step.Step.TheVariants as steps
 use Rattle.cacache_store.specs.declared.store.answer.Answer.TheVariants as answers
-use Rattle.cacache_store.specs.declared.store.answer.Name.{Name}
-use Rattle.cacache_store.specs.Plain.{PlainStep, PlainAnswer}
-use Rattle.cacache_disk.specs.declared.luck.Luck.{Luck}
-use Rattle.cacache_disk.specs.declared.luck.Luck.TheVariants.{Plain, Fail, Take}
-use Rattle.cacache_disk.specs.declared.node.Node.{Node}
-use Rattle.cacache_disk.specs.declared.node.Node.TheVariants.{Folder, File, Link}
-use Rattle.cacache_disk.specs.Tree.{Tree, look, put, cut, same_path, bytes_of}
-use Rattle.cacache_disk.specs.LedTo.{place, leads, file_at, writable, free, replaceable, kept, known, linked, removable, folder, emptied, dirs, where_free}
-use Rattle.cacache_disk.specs.Apply.{apply, plain, unless, if_missing, make_some, making, taken, lengthened, is_there, is_taking, is_parted, left_by, fails, fault_told, made_up}
-use Rattle.cacache_disk.proofs.Maps.{same_path-true}
-use Rattle.cacache_disk.proofs.PutNodes.{look-put, look-cut}
-use Rattle.cacache_disk.proofs.FoundNodes.{free_ok, replaceable_ok, kept_ok, removable_ok, emptied_ok, and_then_ok}
+use Rattle.cacache_disk.specs.{declared.{luck.Luck.{Luck, TheVariants.{Plain, Fail, Take}}, node.Node.{Node, TheVariants.{Folder, File, Link}}}, Tree.{Tree, look, put, cut, same_path, bytes_of}, LedTo.{place, leads, file_at, writable, free, replaceable, kept, known, linked, removable, folder, emptied, dirs, where_free}, Apply.{apply, plain, unless, if_missing, make_some, making, taken, lengthened, is_there, is_taking, is_parted, left_by, fails, fault_told, made_up}}
+use Rattle.cacache_disk.proofs.{Maps.{same_path-true}, PutNodes.{look-put, look-cut}, FoundNodes.{free_ok, replaceable_ok, kept_ok, removable_ok, emptied_ok, and_then_ok}}
 use Rattle.cacache_system_laws.specs.Mirrors.{hollow, Mirrors, all_but, without, with_new, temps_after, IsNoTemp, SparesOpen, StepsMirror}
 use Rattle.cacache_system_laws.proofs.Mirroring.{shapes, found_same, writable_same, free_same, replaceable_same, removable_same, folder_same, kept_same, dirs_same, listing_same, emptied_same, look_same_at, file_same, linked_same}
 

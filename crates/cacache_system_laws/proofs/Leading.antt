@@ -1,15 +1,9 @@
 -- Where calls lead from a stage.
-use Rattle.std.proofs.Common.{◌≡◌, Bool, true, false, if◌then◌else◌, List, [], ◌∷◌, refl, sym, subst, ◌⊎◌, inl, inr}
-use Rattle.std.specs.Prelude.{None, Some}
+use Rattle.std.{proofs.Common.{◌≡◌, Bool, true, false, if◌then◌else◌, List, [], ◌∷◌, refl, sym, subst, ◌⊎◌, inl, inr}, specs.Prelude.{None, Some}}
 use Rattle.std_io.specs.declared.io.kind.ErrorKind.TheVariants as kind
-use Rattle.cacache_system.specs.declared.call.SystemCall.{SystemCall}
-use Rattle.cacache_system.specs.declared.call.CallItem.{CallItem}
-use Rattle.cacache_system.specs.declared.call.CallResult.{CallResult}
+use Rattle.cacache_system.specs.{declared.call.{SystemCall.{SystemCall}, CallItem.{CallItem}, CallResult.{CallResult}}, CallsOf.{Stage, over, only, trying, wants, after, was_interrupted, Ends, Runs}}
 use Rattle.cacache_system.specs.declared.call.CallResult.TheVariants as says
-use Rattle.cacache_system.specs.CallsOf.{Stage, over, only, trying, wants, after, was_interrupted, Ends, Runs}
-use Rattle.cacache_system_laws.specs.Machine.{Machine}
-use Rattle.cacache_system_laws.specs.Calls.{EachCall}
-use Rattle.cacache_system_laws.specs.Laws.{Leads}
+use Rattle.cacache_system_laws.specs.{Machine.{Machine}, Calls.{EachCall}, Laws.{Leads}}
 
 -- a way in which calls may happen
 abbrev pub Way : Type 1

@@ -1,42 +1,18 @@
 -- A folder is listed call by call.
 use Rattle.std.proofs.Common.{◌≡◌, ◌≢◌, ◌==◌, ◌||◌, ◌&&◌, not, ◌⊎◌, ◌+◌, ◌-◌, ◌^◌, ℕ, zero, suc, Bool, true, false, if◌then◌else◌, List, [], ◌∷◌, ◌++◌, length, refl, sym, ap, ap₂, subst, ◌∙◌, ⊎_elim, inl, inr, arith, ne_eqb, length-append}
-use Rattle.std.specs.Prelude.{Option, None, Some, Result, Ok, Err, IfSome}
-use Rattle.std.specs.List.{AllByRecursion, list_any}
-use Rattle.std.specs.Str.{is_utf8}
+use Rattle.std.specs.{Prelude.{Option, None, Some, Result, Ok, Err, IfSome}, List.{AllByRecursion, list_any}, Str.{is_utf8}}
 use Rattle.std_io.specs.declared.io.kind.ErrorKind.{ErrorKind}
 use Rattle.std_io.specs.declared.io.kind.ErrorKind.TheVariants as kind
-use Rattle.cacache_core.proofs.Splits.{split-append, split_none}
-use Rattle.cacache_core.specs.declared.errors.Fault.{Fault}
-use Rattle.cacache_core.specs.PathNames.{Names, is_name, is_above, ends_name, IsProperName}
-use Rattle.cacache_store.specs.declared.store.answer.Kind.{Kind}
-use Rattle.cacache_store.specs.declared.store.answer.Kind.TheVariants.{File}
-use Rattle.cacache_store.specs.declared.store.answer.Name.{Name}
+use Rattle.cacache_core.{proofs.Splits.{split-append, split_none}, specs.{declared.errors.Fault.{Fault}, PathNames.{Names, is_name, is_above, ends_name, IsProperName}}}
+use Rattle.cacache_store.specs.declared.store.answer.{Kind.{Kind, TheVariants.{File}}, Name.{Name}}
 use Rattle.cacache_store.specs.declared.store.step.Step.TheVariants as steps
 use Rattle.cacache_store.specs.declared.store.answer.Answer.TheVariants as answers
-use Rattle.cacache_disk.specs.declared.luck.Luck.TheVariants.{Plain}
-use Rattle.cacache_disk.specs.declared.node.Node.{Node}
-use Rattle.cacache_disk.specs.declared.node.Node.TheVariants.{Folder}
-use Rattle.cacache_disk.specs.Tree.{Tree, look, listing, kind_of}
-use Rattle.cacache_disk.specs.LedTo.{standing, folder}
-use Rattle.cacache_disk.specs.Apply.{apply, unless}
-use Rattle.cacache_system.specs.declared.call.FileInfo.{FileInfo}
-use Rattle.cacache_system.specs.declared.call.SystemCall.{SystemCall}
+use Rattle.cacache_disk.specs.{declared.{luck.Luck.TheVariants.{Plain}, node.Node.{Node, TheVariants.{Folder}}}, Tree.{Tree, look, listing, kind_of}, LedTo.{standing, folder}, Apply.{apply, unless}}
+use Rattle.cacache_system.specs.{declared.call.{FileInfo.{FileInfo}, SystemCall.{SystemCall}, CallItem.{CallItem}, CallResult.{CallResult}}, ListedNames.{text_of, is_proper, is_passed, names_in, with_slash}, CallsOf.{Stage, Reader, over, taking_memory, opening_folder, following, unopened, is_no_folder, is_absent, interrupts, reading_names, asking_kind, reader, read_once, more_names, entered, ask_kind, next_name, names_read, after, Ends, Runs}, AnswersOf.{Hint, is_named, list, misses}}
 use Rattle.cacache_system.specs.declared.call.SystemCall.TheVariants as asks
-use Rattle.cacache_system.specs.declared.call.CallItem.{CallItem}
-use Rattle.cacache_system.specs.declared.call.CallResult.{CallResult}
 use Rattle.cacache_system.specs.declared.call.CallResult.TheVariants as says
-use Rattle.cacache_system.specs.ListedNames.{text_of, is_proper, is_passed, names_in, with_slash}
-use Rattle.cacache_system.specs.CallsOf.{Stage, Reader, over, taking_memory, opening_folder, following, unopened, is_no_folder, is_absent, interrupts, reading_names, asking_kind, reader, read_once, more_names, entered, ask_kind, next_name, names_read, after, Ends, Runs}
-use Rattle.cacache_system.specs.AnswersOf.{Hint, is_named, list, misses}
-use Rattle.cacache_system_laws.specs.Machine.{Machine, ShowsNode, ShowsEnd, Describes}
-use Rattle.cacache_system_laws.specs.Folders.{IsDots, GivesNames, ended, HasLeft, OpensNames, OpensFolder, ReadsSome, ReadsFolder}
-use Rattle.cacache_system_laws.specs.Calls.{GoesWell, EachCall}
-use Rattle.cacache_system_laws.specs.Laws.{outcome, led_to, Leads, IsDone, IsLucky}
-use Rattle.cacache_system_laws.specs.Listing.{IsPlainEntry, ListsPlainly, IsListed, ReadDirGoesPlainly, ReadDirBreaks}
-use Rattle.cacache_system_laws.proofs.Leading.{Claim, over_leads, call_leads}
-use Rattle.cacache_system_laws.proofs.Refused.{broken_agrees}
-use Rattle.cacache_system_laws.proofs.Claims.{way_of, cases_of, taking_leads}
-use Rattle.cacache_system_laws.proofs.Opening.{of_some}
+use Rattle.cacache_system_laws.specs.{Machine.{Machine, ShowsNode, ShowsEnd, Describes}, Folders.{IsDots, GivesNames, ended, HasLeft, OpensNames, OpensFolder, ReadsSome, ReadsFolder}, Calls.{GoesWell, EachCall}, Laws.{outcome, led_to, Leads, IsDone, IsLucky}, Listing.{IsPlainEntry, ListsPlainly, IsListed, ReadDirGoesPlainly, ReadDirBreaks}}
+use Rattle.cacache_system_laws.proofs.{Leading.{Claim, over_leads, call_leads}, Refused.{broken_agrees}, Claims.{way_of, cases_of, taking_leads}, Opening.{of_some}}
 
 -- what a listing's calls come to: where they go well, and where they may fail
 abbrev ListClaim : Bool → Machine → List ℕ → Claim

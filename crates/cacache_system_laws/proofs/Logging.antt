@@ -1,11 +1,7 @@
 -- Runs that a log gained.
-use Rattle.std.proofs.Common.{◌≡◌, List, [], ◌∷◌, ◌++◌, sym, subst}
-use Rattle.std.specs.Prelude.{Some}
-use Rattle.cacache_system.specs.declared.call.CallItem.{CallItem}
-use Rattle.cacache_system.specs.Seen.{NumberedAnswer}
-use Rattle.cacache_system_laws.specs.Calls.{OccursSomehow, EachCall}
-use Rattle.cacache_system_laws.specs.Logged.{IsDisks, LogsAgree}
-use Rattle.cacache_system_laws.proofs.Covered.{each_may_break}
+use Rattle.std.{proofs.Common.{◌≡◌, List, [], ◌∷◌, ◌++◌, sym, subst}, specs.Prelude.{Some}}
+use Rattle.cacache_system.specs.{declared.call.CallItem.{CallItem}, Seen.{NumberedAnswer}}
+use Rattle.cacache_system_laws.{specs.{Calls.{OccursSomehow, EachCall}, Logged.{IsDisks, LogsAgree}}, proofs.Covered.{each_may_break}}
 
 -- what stands behind one list
 same_end : (old xs ys : List CallItem) → old ++ xs ≡ old ++ ys → xs ≡ ys

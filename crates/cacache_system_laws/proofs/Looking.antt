@@ -1,39 +1,19 @@
 -- Steps that open a file or ask for its size.
 use Rattle.std.proofs.Common.{◌≡◌, ℕ, Bool, false, List, [], refl, sym, ap, subst, ◌∙◌, ⊎_elim, length, drop}
-use Rattle.std.specs.Prelude.{Option, Some, Result, Ok, Err, option_map}
-use Rattle.std.specs.Option.{unwrap_or}
+use Rattle.std.specs.{Prelude.{Option, Some, Result, Ok, Err, option_map}, Option.{unwrap_or}}
 use Rattle.std_io.specs.declared.io.kind.ErrorKind.{ErrorKind}
 use Rattle.std_io.specs.declared.io.kind.ErrorKind.TheVariants as kind
-use Rattle.cacache_core.specs.Contexts.{fault_of}
-use Rattle.cacache_core.specs.declared.errors.Fault.{Fault}
-use Rattle.cacache_core.specs.declared.errors.Fault.TheVariants.{IsADirectory}
-use Rattle.cacache_core.specs.PathNames.{Names}
-use Rattle.cacache_store.specs.declared.store.answer.Kind.{Kind}
+use Rattle.cacache_core.specs.{Contexts.{fault_of}, declared.errors.Fault.{Fault, TheVariants.{IsADirectory}}, PathNames.{Names}}
+use Rattle.cacache_store.specs.{declared.store.answer.Kind.{Kind}, Plain.{PlainAnswer}}
 use Rattle.cacache_store.specs.declared.store.answer.Kind.TheVariants as kinds
 use Rattle.cacache_store.specs.declared.store.step.Step.TheVariants as steps
 use Rattle.cacache_store.specs.declared.store.answer.Answer.TheVariants as answers
-use Rattle.cacache_store.specs.Plain.{PlainAnswer}
-use Rattle.cacache_disk.specs.declared.luck.Luck.TheVariants.{Plain}
-use Rattle.cacache_disk.specs.declared.node.Node.{Node}
-use Rattle.cacache_disk.specs.declared.node.Node.TheVariants.{Folder, File, Link}
-use Rattle.cacache_disk.specs.Tree.{Tree, look, bytes_of}
-use Rattle.cacache_disk.specs.LedTo.{found, file_at, leads}
-use Rattle.cacache_disk.specs.Apply.{apply, unless}
-use Rattle.cacache_system.specs.declared.call.FileInfo.{FileInfo}
+use Rattle.cacache_disk.specs.{declared.{luck.Luck.TheVariants.{Plain}, node.Node.{Node, TheVariants.{Folder, File, Link}}}, Tree.{Tree, look, bytes_of}, LedTo.{found, file_at, leads}, Apply.{apply, unless}}
+use Rattle.cacache_system.specs.{declared.call.{FileInfo.{FileInfo}, CallResult.{CallResult}}, CallsOf.{Stage, to_give, over, opening, sizing, unless_folder, opened, after}, Seen.{NumberedStep}, AnswersOf.{answer_of, failed_with, refuses_memory}}
 use Rattle.cacache_system.specs.declared.call.SystemCall.TheVariants as asks
-use Rattle.cacache_system.specs.declared.call.CallResult.{CallResult}
 use Rattle.cacache_system.specs.declared.call.CallResult.TheVariants as says
-use Rattle.cacache_system.specs.CallsOf.{Stage, to_give, over, opening, sizing, unless_folder, opened, after}
-use Rattle.cacache_system.specs.Seen.{NumberedStep}
-use Rattle.cacache_system.specs.AnswersOf.{answer_of, failed_with, refuses_memory}
-use Rattle.cacache_system_laws.specs.Machine.{Machine, IsRefused, ShowsEnd, ShowsNode, Describes}
-use Rattle.cacache_system_laws.specs.Laws.{answer_on, left_in, outcome, led_to, Leads, IsDone}
-use Rattle.cacache_system_laws.specs.Opening.{OpenAgrees, SizeAgrees}
-use Rattle.cacache_system_laws.proofs.Refused.{same_outcome, failed, refused_on}
-use Rattle.cacache_system_laws.proofs.Leading.{Claim, over_leads, call_leads}
-use Rattle.cacache_system_laws.proofs.Claims.{way_of, claim_of, cases_of, agrees_of, taking_leads, claim_plain, claim_broken, claim_memory}
-use Rattle.cacache_system_laws.proofs.Opening.{OpenedOn, Openings, opening_leads, said_leads, of_some}
-use Rattle.cacache_system_laws.proofs.Views.{View, nowhere, a_folder, a_file, view}
+use Rattle.cacache_system_laws.specs.{Machine.{Machine, IsRefused, ShowsEnd, ShowsNode, Describes}, Laws.{answer_on, left_in, outcome, led_to, Leads, IsDone}, Opening.{OpenAgrees, SizeAgrees}}
+use Rattle.cacache_system_laws.proofs.{Refused.{same_outcome, failed, refused_on}, Leading.{Claim, over_leads, call_leads}, Claims.{way_of, claim_of, cases_of, agrees_of, taking_leads, claim_plain, claim_broken, claim_memory}, Opening.{OpenedOn, Openings, opening_leads, said_leads, of_some}, Views.{View, nowhere, a_folder, a_file, view}}
 
 -- a step that fails in the disk's table fails with the error that a call says
 pub table_fails : (step : NumberedStep) (fault : Fault) (why : ErrorKind) (m n : Machine) → answer_of step (says.Failed why) ≡ failed_with step why → fault_of why ≡ fault → refuses_memory why ≡ false → n.tree ≡ m.tree

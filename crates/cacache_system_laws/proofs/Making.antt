@@ -3,30 +3,14 @@ use Rattle.std.proofs.Common.{◌≡◌, ◌⊎◌, ◌≤◌, ℕ, zero, suc, B
 use Rattle.std.specs.Prelude.{Option, None, Some, Result, Ok, Err}
 use Rattle.std_io.specs.declared.io.kind.ErrorKind.{ErrorKind}
 use Rattle.std_io.specs.declared.io.kind.ErrorKind.TheVariants as kind
-use Rattle.cacache_core.specs.Contexts.{fault_of}
-use Rattle.cacache_core.specs.declared.errors.Fault.{Fault}
-use Rattle.cacache_core.specs.declared.errors.Fault.TheVariants.{NotFound, AlreadyExists}
-use Rattle.cacache_core.specs.PathNames.{Names, names_of}
+use Rattle.cacache_core.specs.{Contexts.{fault_of}, declared.errors.Fault.{Fault, TheVariants.{NotFound, AlreadyExists}}, PathNames.{Names, names_of}}
 use Rattle.cacache_store.specs.declared.store.answer.Kind.{Kind}
-use Rattle.cacache_disk.specs.declared.node.Node.{Node}
-use Rattle.cacache_disk.specs.declared.node.Node.TheVariants.{Folder, File, Link}
-use Rattle.cacache_disk.specs.Tree.{Tree, look, put}
-use Rattle.cacache_disk.specs.LedTo.{and_then, or_fault, way_fault, through, place, free, leads, found, where_there, where_free, is_in_way}
-use Rattle.cacache_disk.specs.Rooted.{AreProper}
+use Rattle.cacache_disk.specs.{declared.node.Node.{Node, TheVariants.{Folder, File, Link}}, Tree.{Tree, look, put}, LedTo.{and_then, or_fault, way_fault, through, place, free, leads, found, where_there, where_free, is_in_way}, Rooted.{AreProper}}
 use Rattle.cacache_system.specs.declared.call.SystemCall.TheVariants as asks
-use Rattle.cacache_system.specs.declared.call.CallResult.{CallResult}
+use Rattle.cacache_system.specs.{declared.call.CallResult.{CallResult}, CallsOf.{over, standing, making, confirming, below, unmade, climb, is_absent, if_folder, after}, AnswersOf.{misses, refuses_memory}}
 use Rattle.cacache_system.specs.declared.call.CallResult.TheVariants as says
-use Rattle.cacache_system.specs.CallsOf.{over, standing, making, confirming, below, unmade, climb, is_absent, if_folder, after}
-use Rattle.cacache_system.specs.AnswersOf.{misses, refuses_memory}
-use Rattle.cacache_system_laws.specs.Machine.{Machine, IsRefused, ChangesTree, ShowsEnd, ShowsNode, Describes}
-use Rattle.cacache_system_laws.specs.Laws.{Leads}
-use Rattle.cacache_system_laws.proofs.Leading.{Claim, over_leads, call_leads}
-use Rattle.cacache_system_laws.proofs.Claims.{way_of, cases_of}
-use Rattle.cacache_system_laws.proofs.Opening.{said_leads, of_some}
-use Rattle.cacache_system_laws.proofs.Views.{leads_straight, found_at}
-use Rattle.cacache_system_laws.proofs.Slashes.{OneMore, Above, above}
-use Rattle.cacache_system_laws.proofs.Writing.{look_same}
-use Rattle.cacache_system_laws.proofs.Growing.{clear_at, way_at, way_more, WayOrGone, Grown, grown_more}
+use Rattle.cacache_system_laws.specs.{Machine.{Machine, IsRefused, ChangesTree, ShowsEnd, ShowsNode, Describes}, Laws.{Leads}}
+use Rattle.cacache_system_laws.proofs.{Leading.{Claim, over_leads, call_leads}, Claims.{way_of, cases_of}, Opening.{said_leads, of_some}, Views.{leads_straight, found_at}, Slashes.{OneMore, Above, above}, Writing.{look_same}, Growing.{clear_at, way_at, way_more, WayOrGone, Grown, grown_more}}
 
 -- ---- what the system finds where a folder is to be
 

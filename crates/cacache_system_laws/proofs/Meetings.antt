@@ -1,23 +1,14 @@
 -- Each call can go well.
 use Rattle.std.proofs.Common.{◌≡◌, ◌+◌, ℕ, List, [], ◌∷◌, ◌++◌, length, take, drop, refl, sym, ap, subst, inr}
 use Rattle.std.specs.Prelude.{Option, None, Some, Result, Ok, Err, IfSome, MatchResult}
-use Rattle.cacache_core.specs.declared.errors.Fault.{Fault}
-use Rattle.cacache_core.specs.declared.errors.Fault.TheVariants.{IsADirectory, InvalidInput}
-use Rattle.cacache_core.specs.PathNames.{Names}
-use Rattle.cacache_disk.specs.declared.node.Node.{Node}
-use Rattle.cacache_disk.specs.declared.node.Node.TheVariants.{Folder, File, Link}
-use Rattle.cacache_disk.specs.Tree.{Tree, look, put, cut, kind_of, listing}
-use Rattle.cacache_disk.specs.LedTo.{place, standing, found, file_at, writable, free, replaceable, linked, removable, emptied}
-use Rattle.cacache_disk.specs.Apply.{taken, readable, lengthened}
-use Rattle.cacache_system.specs.declared.call.FileInfo.{FileInfo}
+use Rattle.cacache_core.specs.{declared.errors.Fault.{Fault, TheVariants.{IsADirectory, InvalidInput}}, PathNames.{Names}}
+use Rattle.cacache_disk.specs.{declared.node.Node.{Node, TheVariants.{Folder, File, Link}}, Tree.{Tree, look, put, cut, kind_of, listing}, LedTo.{place, standing, found, file_at, writable, free, replaceable, linked, removable, emptied}, Apply.{taken, readable, lengthened}}
+use Rattle.cacache_system.specs.declared.call.{FileInfo.{FileInfo}, CallResult.{CallResult}}
 use Rattle.cacache_system.specs.declared.call.SystemCall.TheVariants as asks
-use Rattle.cacache_system.specs.declared.call.CallResult.{CallResult}
 use Rattle.cacache_system.specs.declared.call.CallResult.TheVariants as says
-use Rattle.cacache_system_laws.specs.Machine.{OpenFile, Machine, Became, IsRefused, ChangesTree, OpensIf, with_file, unread, is_regular, Describes, ShowsNode, ShowsEnd, ReadsFile, link_fault, LinksNode, CopiesBytes, CopiesTo, MovesNode, with_empty}
-use Rattle.cacache_store.specs.declared.store.answer.Name.{Name}
-use Rattle.cacache_system_laws.specs.Folders.{GivesNames, ended, HasLeft, OpensNames, OpensFolder, ReadsSome}
-use Rattle.cacache_system_laws.specs.Meeting.{HasRoom, CallsCanGoWell}
+use Rattle.cacache_system_laws.specs.{Machine.{OpenFile, Machine, Became, IsRefused, ChangesTree, OpensIf, with_file, unread, is_regular, Describes, ShowsNode, ShowsEnd, ReadsFile, link_fault, LinksNode, CopiesBytes, CopiesTo, MovesNode, with_empty}, Folders.{GivesNames, ended, HasLeft, OpensNames, OpensFolder, ReadsSome}, Meeting.{HasRoom, CallsCanGoWell}}
 use Rattle.cacache_system_laws.proofs.Saying.{CanSay, a_folder, Sayable, place_say, standing_say, found_say, writable_say, free_say, replaceable_say, removable_say, emptied_say, file_say, LinkSayable, linked_say}
+use Rattle.cacache_store.specs.declared.store.answer.Name.{Name}
 
 -- ---- calls
 

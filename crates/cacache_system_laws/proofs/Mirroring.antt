@@ -1,18 +1,10 @@
 -- The disk's table answers the same whether open temporary files have their bytes in the tree or are empty there.
 use Rattle.std.proofs.Common.{◌≡◌, ◌==◌, ◌&&◌, T, ℕ, zero, suc, Bool, true, false, cond, if◌then◌else◌, List, [], ◌∷◌, ◌++◌, length, map, refl, sym, ap, subst, ◌∙◌}
-use Rattle.std.specs.Prelude.{Option, None, Some, Result, Ok, Err, IfOk}
+use Rattle.std.specs.{Prelude.{Option, None, Some, Result, Ok, Err, IfOk}, FinMap.Entries.{below_all}, List.{filter_map, cons_option}, Ordering.{is_lt, eq_by_cmp}}
 use Rattle.std.specs.FinMap as finite
-use Rattle.std.specs.FinMap.Entries.{below_all}
-use Rattle.std.specs.List.{filter_map, cons_option}
-use Rattle.std.specs.Ordering.{is_lt, eq_by_cmp}
-use Rattle.cacache_core.specs.declared.errors.Fault.{Fault}
-use Rattle.cacache_core.specs.declared.errors.Fault.TheVariants.{NotEmpty, AlreadyExists, NotADirectory, TooDeep}
-use Rattle.cacache_core.specs.PathNames.{Names, names_of}
+use Rattle.cacache_core.specs.{declared.errors.Fault.{Fault, TheVariants.{NotEmpty, AlreadyExists, NotADirectory, TooDeep}}, PathNames.{Names, names_of}}
 use Rattle.cacache_store.specs.declared.store.answer.Name.{Name}
-use Rattle.cacache_disk.specs.declared.node.Node.{Node}
-use Rattle.cacache_disk.specs.declared.node.Node.TheVariants.{Folder, File, Link}
-use Rattle.cacache_disk.specs.Tree.{Tree, look, names_cmp, child_of, listing}
-use Rattle.cacache_disk.specs.LedTo.{and_then, or_fault, through, way_fault, place, where_there, where_free, where_no_folder, where_removable, where_folder, where_file, bytes_there, linked_in, on_link, standing, followed, leads, found, file_at, writable, free, replaceable, kept, linked, removable, folder, where_empty, emptied, is_in_way, dirs_fault, dirs}
+use Rattle.cacache_disk.specs.{declared.node.Node.{Node, TheVariants.{Folder, File, Link}}, Tree.{Tree, look, names_cmp, child_of, listing}, LedTo.{and_then, or_fault, through, way_fault, place, where_there, where_free, where_no_folder, where_removable, where_folder, where_file, bytes_there, linked_in, on_link, standing, followed, leads, found, file_at, writable, free, replaceable, kept, linked, removable, folder, where_empty, emptied, is_in_way, dirs_fault, dirs}}
 use Rattle.cacache_disk.proofs.Maps.{total, only}
 use Rattle.cacache_system_laws.specs.Mirrors.{hollow, Mirrors}
 

@@ -1,22 +1,12 @@
 -- Steps that make one call.
-use Rattle.std.proofs.Common.{◌≡◌, ℕ, false, refl, sym, ap, subst, ◌∙◌, inl}
-use Rattle.std.specs.Prelude.{Option, None, Some}
+use Rattle.std.{proofs.Common.{◌≡◌, ℕ, false, refl, sym, ap, subst, ◌∙◌, inl}, specs.Prelude.{Option, None, Some}}
 use Rattle.std_io.specs.declared.io.kind.ErrorKind.{ErrorKind}
 use Rattle.std_io.specs.declared.io.kind.ErrorKind.TheVariants as kind
-use Rattle.cacache_disk.specs.declared.luck.Luck.{Luck}
-use Rattle.cacache_disk.specs.declared.luck.Luck.TheVariants.{Plain, Fail, Take}
-use Rattle.cacache_disk.specs.Apply.{apply}
-use Rattle.cacache_system.specs.declared.call.SystemCall.{SystemCall}
-use Rattle.cacache_system.specs.declared.call.CallResult.{CallResult}
+use Rattle.cacache_disk.specs.{declared.luck.Luck.{Luck, TheVariants.{Plain, Fail, Take}}, Apply.{apply}}
+use Rattle.cacache_system.specs.{declared.call.{SystemCall.{SystemCall}, CallResult.{CallResult}}, CallsOf.{Stage, over, wants, after, Ends}, Seen.{NumberedStep}, AnswersOf.{Hint, first, answer_of, failed_with, misses}}
 use Rattle.cacache_system.specs.declared.call.CallResult.TheVariants as says
-use Rattle.cacache_system.specs.CallsOf.{Stage, over, wants, after, Ends}
-use Rattle.cacache_system.specs.Seen.{NumberedStep}
-use Rattle.cacache_system.specs.AnswersOf.{Hint, first, answer_of, failed_with, misses}
-use Rattle.cacache_system_laws.specs.Machine.{Machine}
-use Rattle.cacache_system_laws.specs.Calls.{GoesWell, Occurs, OccursSomehow, LeavesPart}
-use Rattle.cacache_system_laws.specs.Laws.{step_on, led_to, Leads, IsPlain, IsDone, IsLucky, Agrees}
-use Rattle.cacache_system_laws.proofs.Leading.{over_leads, call_leads}
-use Rattle.cacache_system_laws.proofs.Refused.{broken_agrees}
+use Rattle.cacache_system_laws.specs.{Machine.{Machine}, Calls.{GoesWell, Occurs, OccursSomehow, LeavesPart}, Laws.{step_on, led_to, Leads, IsPlain, IsDone, IsLucky, Agrees}}
+use Rattle.cacache_system_laws.proofs.{Leading.{over_leads, call_leads}, Refused.{broken_agrees}}
 
 -- A stage with one call. It moves no bytes, and a failure gets the usual answer.
 pub record OneCall (m : Machine) (step : NumberedStep) (s : Stage) (call : SystemCall) : Type 0 where

@@ -1,25 +1,13 @@
 -- Files that are opened, and what is said of them.
-use Rattle.std.proofs.Common.{◌≡◌, ◌==◌, ℕ, Bool, true, false, cond, List, refl, sym, ap, subst, ◌∙◌, ⊎_elim, eq-eqb}
-use Rattle.std.specs.Prelude.{Option, Some, Result, Ok, Err, IfSome}
+use Rattle.std.{proofs.Common.{◌≡◌, ◌==◌, ℕ, Bool, true, false, cond, List, refl, sym, ap, subst, ◌∙◌, ⊎_elim, eq-eqb}, specs.Prelude.{Option, Some, Result, Ok, Err, IfSome}}
 use Rattle.std_io.specs.declared.io.kind.ErrorKind.{ErrorKind}
-use Rattle.cacache_core.specs.Contexts.{fault_of}
-use Rattle.cacache_core.specs.declared.errors.Fault.{Fault}
-use Rattle.cacache_core.specs.PathNames.{Names}
-use Rattle.cacache_disk.specs.declared.node.Node.{Node}
-use Rattle.cacache_disk.specs.declared.node.Node.TheVariants.{Folder, File}
-use Rattle.cacache_disk.specs.Tree.{Tree, look}
-use Rattle.cacache_disk.specs.LedTo.{found}
-use Rattle.cacache_system.specs.declared.call.FileInfo.{FileInfo}
+use Rattle.cacache_core.specs.{Contexts.{fault_of}, declared.errors.Fault.{Fault}, PathNames.{Names}}
+use Rattle.cacache_disk.specs.{declared.node.Node.{Node, TheVariants.{Folder, File}}, Tree.{Tree, look}, LedTo.{found}}
+use Rattle.cacache_system.specs.{declared.call.{FileInfo.{FileInfo}, CallResult.{CallResult}}, CallsOf.{Stage, Purpose, opening, checking, opened, after}, AnswersOf.{misses, refuses_memory}}
 use Rattle.cacache_system.specs.declared.call.SystemCall.TheVariants as asks
-use Rattle.cacache_system.specs.declared.call.CallResult.{CallResult}
 use Rattle.cacache_system.specs.declared.call.CallResult.TheVariants as says
-use Rattle.cacache_system.specs.CallsOf.{Stage, Purpose, opening, checking, opened, after}
-use Rattle.cacache_system.specs.AnswersOf.{misses, refuses_memory}
-use Rattle.cacache_system_laws.specs.Machine.{OpenFile, Machine, Describes, IsRefused, OpensIf, ShowsNode, unread, with_file}
-use Rattle.cacache_system_laws.specs.Laws.{Leads}
-use Rattle.cacache_system_laws.proofs.Leading.{Claim, over_leads, call_leads}
-use Rattle.cacache_system_laws.proofs.Claims.{way_of, cases_of}
-use Rattle.cacache_system_laws.proofs.Views.{View, nowhere, a_folder, a_file, view}
+use Rattle.cacache_system_laws.specs.{Machine.{OpenFile, Machine, Describes, IsRefused, OpensIf, ShowsNode, unread, with_file}, Laws.{Leads}}
+use Rattle.cacache_system_laws.proofs.{Leading.{Claim, over_leads, call_leads}, Claims.{way_of, cases_of}, Views.{View, nowhere, a_folder, a_file, view}}
 
 pub same_number : (number : ℕ) → (number == number) ≡ true
 same_number number = eq-eqb number number refl

@@ -1,30 +1,17 @@
 -- Reads of open files, and files that are read whole.
 use Rattle.std.proofs.Common.{◌≡◌, ◌≤◌, ◌<◌, ◌+◌, ◌-◌, ◌==◌, ◌&&◌, not, ℕ, zero, suc, min, max, Bool, true, false, if◌then◌else◌, List, [], ◌⊎◌, length, take, drop, refl, sym, ap, subst, ◌∙◌, ⊎_elim, inl, inr, arith, drop_of_length-le, length-take, length-drop, drop-drop, eqb-true, eq-eqb, true≢false}
-use Rattle.std.specs.Prelude.{Option, None, Some, option_map}
-use Rattle.std.specs.Option.{unwrap_or}
+use Rattle.std.specs.{Prelude.{Option, None, Some, option_map}, Option.{unwrap_or}}
 use Rattle.std_io.specs.declared.io.kind.ErrorKind.TheVariants as kind
 use Rattle.cacache_core.specs.declared.errors.Fault.TheVariants.{Closed}
 use Rattle.cacache_store.specs.declared.store.step.Step.TheVariants as steps
 use Rattle.cacache_store.specs.declared.store.answer.Answer.TheVariants as answers
 use Rattle.cacache_store.specs.Plain.{PlainAnswer}
-use Rattle.cacache_disk.specs.declared.luck.Luck.TheVariants.{Plain, Take}
-use Rattle.cacache_disk.specs.declared.node.Node.{Node}
-use Rattle.cacache_disk.specs.Tree.{Tree, look, bytes_of}
-use Rattle.cacache_disk.specs.Apply.{apply, readable, given, rest_of}
+use Rattle.cacache_disk.specs.{declared.{luck.Luck.TheVariants.{Plain, Take}, node.Node.{Node}}, Tree.{Tree, look, bytes_of}, Apply.{apply, readable, given, rest_of}}
 use Rattle.cacache_system.specs.declared.call.SystemCall.TheVariants as asks
-use Rattle.cacache_system.specs.declared.call.CallResult.{CallResult}
+use Rattle.cacache_system.specs.{declared.call.CallResult.{CallResult}, CallsOf.{over, trying, taking_memory}, Seen.{NumberedFile}, AnswersOf.{read_piece}}
 use Rattle.cacache_system.specs.declared.call.CallResult.TheVariants as says
-use Rattle.cacache_system.specs.CallsOf.{over, trying, taking_memory}
-use Rattle.cacache_system.specs.Seen.{NumberedFile}
-use Rattle.cacache_system.specs.AnswersOf.{read_piece}
-use Rattle.cacache_system_laws.specs.Machine.{OpenFile, Machine, ReadsFile, Gives, with_file}
-use Rattle.cacache_system_laws.specs.Laws.{left_in, step_on, outcome, led_to, Leads, IsDone}
-use Rattle.cacache_system_laws.specs.Reading.{StaysOpen, ReadBreaks, PiecesReadPlainly}
-use Rattle.cacache_system_laws.proofs.Refused.{same_outcome, broken_agrees}
-use Rattle.cacache_system_laws.proofs.Leading.{Claim, over_leads, trying_leads}
-use Rattle.cacache_system_laws.proofs.Claims.{way_of, claim_of, Well, taking_leads, claim_broken, claim_memory}
-use Rattle.cacache_system_laws.proofs.Trying.{SaidWell, tried_so}
-use Rattle.cacache_system_laws.proofs.Opening.{same_number, newly_open, of_some}
+use Rattle.cacache_system_laws.specs.{Machine.{OpenFile, Machine, ReadsFile, Gives, with_file}, Laws.{left_in, step_on, outcome, led_to, Leads, IsDone}, Reading.{StaysOpen, ReadBreaks, PiecesReadPlainly}}
+use Rattle.cacache_system_laws.proofs.{Refused.{same_outcome, broken_agrees}, Leading.{Claim, over_leads, trying_leads}, Claims.{way_of, claim_of, Well, taking_leads, claim_broken, claim_memory}, Trying.{SaidWell, tried_so}, Opening.{same_number, newly_open, of_some}}
 
 -- ---- counts
 

@@ -1,21 +1,14 @@
 -- Calls that the tree refuses, and calls that fail without cause.
-use Rattle.std.proofs.Common.{◌≡◌, ◌&&◌, not, Bool, true, false, if◌then◌else◌, refl, sym, ap, ◌∙◌, inl, inr, ℕ}
-use Rattle.std.specs.Prelude.{Option, None}
+use Rattle.std.{proofs.Common.{◌≡◌, ◌&&◌, not, Bool, true, false, if◌then◌else◌, refl, sym, ap, ◌∙◌, inl, inr, ℕ}, specs.Prelude.{Option, None}}
 use Rattle.std_io.specs.declared.io.kind.ErrorKind.{ErrorKind}
 use Rattle.std_io.specs.declared.io.kind.ErrorKind.TheVariants as kind
-use Rattle.cacache_core.specs.Contexts.{fault_of}
-use Rattle.cacache_core.specs.declared.errors.Fault.{Fault}
+use Rattle.cacache_core.specs.{Contexts.{fault_of}, declared.errors.Fault.{Fault}}
 use Rattle.cacache_store.specs.declared.store.answer.Answer.TheVariants as answers
 use Rattle.cacache_store.specs.Plain.{PlainStep, PlainAnswer}
-use Rattle.cacache_disk.specs.declared.luck.Luck.TheVariants.{Plain, Fail}
-use Rattle.cacache_disk.specs.Tree.{Tree}
-use Rattle.cacache_disk.specs.Apply.{apply, fails, fault_told, made_up, left_by}
-use Rattle.cacache_system.specs.declared.call.CallResult.{CallResult}
+use Rattle.cacache_disk.specs.{declared.luck.Luck.TheVariants.{Plain, Fail}, Tree.{Tree}, Apply.{apply, fails, fault_told, made_up, left_by}}
+use Rattle.cacache_system.specs.{declared.call.CallResult.{CallResult}, Seen.{NumberedStep, NumberedAnswer}, AnswersOf.{answer_of, failed_with, refuses_memory, leaves_a_part, misses}}
 use Rattle.cacache_system.specs.declared.call.CallResult.TheVariants as says
-use Rattle.cacache_system.specs.Seen.{NumberedStep, NumberedAnswer}
-use Rattle.cacache_system.specs.AnswersOf.{answer_of, failed_with, refuses_memory, leaves_a_part, misses}
-use Rattle.cacache_system_laws.specs.Machine.{Machine, IsRefused}
-use Rattle.cacache_system_laws.specs.Laws.{answer_on, step_on, outcome, led_to, IsDone, IsLucky}
+use Rattle.cacache_system_laws.specs.{Machine.{Machine, IsRefused}, Laws.{answer_on, step_on, outcome, led_to, IsDone, IsLucky}}
 
 -- two outcomes with equal parts
 pub same_outcome : (a c : PlainAnswer) (b d : Tree) → a ≡ c → b ≡ d → outcome a b ≡ outcome c d

@@ -1,15 +1,12 @@
 -- Calls that are no run of a step.
 use Rattle.std.proofs.Common.{◌≡◌, ◌&&◌, ◌||◌, ℕ, Bool, true, false, if◌then◌else◌, List, [], ◌∷◌, ◌++◌, refl, ap, subst, ◌∙◌, nat_eq, eq-eqb}
-use Rattle.std.specs.Cmp.Lexicographic.{pointwise}
-use Rattle.std.specs.Prelude.{None, Some}
+use Rattle.std.specs.{Cmp.Lexicographic.{pointwise}, Prelude.{None, Some}}
 use Rattle.std_io.specs.declared.io.kind.ErrorKind.TheVariants as kind
 use Rattle.cacache_store.specs.declared.store.answer.Kind.{Kind}
 use Rattle.cacache_store.specs.declared.store.answer.Kind.TheVariants as kinds
-use Rattle.cacache_system.specs.declared.call.SystemCall.{SystemCall}
+use Rattle.cacache_system.specs.{declared.call.SystemCall.{SystemCall}, CallLog.{item}, CallsOf.{Stage, Runs, over, only, wants, if_folder, descend, compared, is_same_node, copied}}
 use Rattle.cacache_system.specs.declared.call.SystemCall.TheVariants as asks
 use Rattle.cacache_system.specs.declared.call.CallResult.TheVariants as says
-use Rattle.cacache_system.specs.CallLog.{item}
-use Rattle.cacache_system.specs.CallsOf.{Stage, Runs, over, only, wants, if_folder, descend, compared, is_same_node, copied}
 use Rattle.cacache_system_laws.specs.Refusals.{NoSecondWrite, NoRemovalBeforePut, NoOtherMode, NoOtherSync, NoFileForFolder, NoCopyOntoItself, NoRemovalThroughLink}
 
 pub no_second_write : NoSecondWrite

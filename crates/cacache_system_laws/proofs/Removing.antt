@@ -1,36 +1,18 @@
 -- Removals, which may be part of a walk.
 use Rattle.std.proofs.Common.{◌≡◌, ℕ, Bool, true, false, List, [], ◌∷◌, ◌++◌, refl, sym, ap, subst, ◌∙◌, ⊎_elim}
-use Rattle.std.specs.Prelude.{Option, None, Some, Result, Ok, Err}
-use Rattle.std.specs.List.{AllByRecursion}
+use Rattle.std.specs.{Prelude.{Option, None, Some, Result, Ok, Err}, List.{AllByRecursion}}
 use Rattle.std_io.specs.declared.io.kind.ErrorKind.{ErrorKind}
 use Rattle.std_io.specs.declared.io.kind.ErrorKind.TheVariants as kind
-use Rattle.cacache_core.specs.declared.errors.Fault.{Fault}
-use Rattle.cacache_core.specs.PathNames.{Names}
+use Rattle.cacache_core.specs.{declared.errors.Fault.{Fault}, PathNames.{Names}}
 use Rattle.cacache_store.specs.declared.store.answer.Kind.{Kind}
 use Rattle.cacache_store.specs.declared.store.answer.Kind.TheVariants as kinds
 use Rattle.cacache_store.specs.declared.store.step.Step.TheVariants as steps
-use Rattle.cacache_disk.specs.declared.luck.Luck.TheVariants.{Plain}
-use Rattle.cacache_disk.specs.declared.node.Node.{Node}
-use Rattle.cacache_disk.specs.declared.node.Node.TheVariants.{Folder, File, Link}
-use Rattle.cacache_disk.specs.Tree.{Tree, look, cut}
-use Rattle.cacache_disk.specs.LedTo.{and_then, place, folder, standing, where_there, where_folder, removable, emptied}
-use Rattle.cacache_disk.specs.Apply.{apply}
-use Rattle.cacache_system.specs.declared.call.FileInfo.{FileInfo}
-use Rattle.cacache_system.specs.declared.call.SystemCall.{SystemCall}
+use Rattle.cacache_disk.specs.{declared.{luck.Luck.TheVariants.{Plain}, node.Node.{Node, TheVariants.{Folder, File, Link}}}, Tree.{Tree, look, cut}, LedTo.{and_then, place, folder, standing, where_there, where_folder, removable, emptied}, Apply.{apply}}
+use Rattle.cacache_system.specs.{declared.call.{FileInfo.{FileInfo}, SystemCall.{SystemCall}, CallResult.{CallResult}}, CallsOf.{Stage, over, only, comparing, descending, descend, compared, is_same_node, if_folder, after}, Seen.{NumberedStep}, AnswersOf.{Hint, no_hint, is_missing, was_named, in_walk, remove, first, answer_of, failed_with, misses}}
 use Rattle.cacache_system.specs.declared.call.SystemCall.TheVariants as asks
-use Rattle.cacache_system.specs.declared.call.CallResult.{CallResult}
 use Rattle.cacache_system.specs.declared.call.CallResult.TheVariants as says
-use Rattle.cacache_system.specs.CallsOf.{Stage, over, only, comparing, descending, descend, compared, is_same_node, if_folder, after}
-use Rattle.cacache_system.specs.Seen.{NumberedStep}
-use Rattle.cacache_system.specs.AnswersOf.{Hint, no_hint, is_missing, was_named, in_walk, remove, first, answer_of, failed_with, misses}
-use Rattle.cacache_system_laws.specs.Machine.{Machine, Describes, ShowsEnd, ShowsNode}
-use Rattle.cacache_system_laws.specs.Laws.{step_on, led_to, Leads, Agrees}
-use Rattle.cacache_system_laws.specs.Calls.{GoesWell, LeavesPart}
-use Rattle.cacache_system_laws.specs.Removing.{IsFolderAt, WalkStands, RemoveFileAgrees, RemoveDirAgrees}
-use Rattle.cacache_system_laws.proofs.Leading.{Claim, over_leads, call_leads, only_leads}
-use Rattle.cacache_system_laws.proofs.Claims.{way_of, claim_of, cases_of, agrees_of, claim_plain, claim_broken}
-use Rattle.cacache_system_laws.proofs.Opening.{said_leads, of_some}
-use Rattle.cacache_system_laws.proofs.Changing.{changed}
+use Rattle.cacache_system_laws.specs.{Machine.{Machine, Describes, ShowsEnd, ShowsNode}, Laws.{step_on, led_to, Leads, Agrees}, Calls.{GoesWell, LeavesPart}, Removing.{IsFolderAt, WalkStands, RemoveFileAgrees, RemoveDirAgrees}}
+use Rattle.cacache_system_laws.proofs.{Leading.{Claim, over_leads, call_leads, only_leads}, Claims.{way_of, claim_of, cases_of, agrees_of, claim_plain, claim_broken}, Opening.{said_leads, of_some}, Changing.{changed}}
 
 folder_names : (o : Option Node) (names n : Names) → where_folder o names ≡ Ok n → (o ≡ Some Folder) × (names ≡ n)
 folder_names None names n is = absurd cc

@@ -3,14 +3,8 @@ use Rattle.std.proofs.Common.{◌≡◌, ◌==◌, ℕ, zero, suc, Bool, true, f
 use Rattle.std.specs.Prelude.{Option, None, Some, Result, Ok, Err, IfSome, IfErr}
 use Rattle.std_io.specs.declared.io.kind.ErrorKind.{ErrorKind}
 use Rattle.std_io.specs.declared.io.kind.ErrorKind.TheVariants as kind
-use Rattle.cacache_core.specs.Contexts.{fault_of}
-use Rattle.cacache_core.specs.declared.errors.Fault.{Fault}
-use Rattle.cacache_core.specs.declared.errors.Fault.TheVariants.{NotFound, AlreadyExists, NotADirectory, IsADirectory, NotEmpty, InvalidInput, TooDeep}
-use Rattle.cacache_core.specs.PathNames.{Names, names_of, pieces, is_bad, is_name}
-use Rattle.cacache_disk.specs.declared.node.Node.{Node}
-use Rattle.cacache_disk.specs.declared.node.Node.TheVariants.{Folder, File, Link}
-use Rattle.cacache_disk.specs.Tree.{Tree, look, listing}
-use Rattle.cacache_disk.specs.LedTo.{and_then, or_fault, through, way_fault, place, where_there, where_free, where_no_folder, where_removable, where_folder, bytes_there, linked_in, on_link, standing, followed, leads, found, file_at, writable, free, replaceable, linked, removable, folder, where_empty, emptied}
+use Rattle.cacache_core.specs.{Contexts.{fault_of}, declared.errors.Fault.{Fault, TheVariants.{NotFound, AlreadyExists, NotADirectory, IsADirectory, NotEmpty, InvalidInput, TooDeep}}, PathNames.{Names, names_of, pieces, is_bad, is_name}}
+use Rattle.cacache_disk.specs.{declared.node.Node.{Node, TheVariants.{Folder, File, Link}}, Tree.{Tree, look, listing}, LedTo.{and_then, or_fault, through, way_fault, place, where_there, where_free, where_no_folder, where_removable, where_folder, bytes_there, linked_in, on_link, standing, followed, leads, found, file_at, writable, free, replaceable, linked, removable, folder, where_empty, emptied}}
 use Rattle.cacache_system.specs.AnswersOf.{refuses_memory}
 use Rattle.cacache_system_laws.specs.Machine.{link_fault}
 

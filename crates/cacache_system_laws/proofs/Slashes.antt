@@ -1,11 +1,7 @@
 -- The names of the path above.
-use Rattle.std.proofs.Common.{◌≡◌, ◌⊎◌, ◌≤◌, ◌<◌, ◌==◌, ◌||◌, ℕ, zero, suc, Bool, true, false, cond, if◌then◌else◌, List, [], ◌∷◌, ◌++◌, filter, get_or, take, drop, length, refl, sym, ap, subst, ◌∙◌, inl, inr, arith, append-nil, take-append-drop, drop-cons, drop_of_length-le, eqb-true, ne_eqb, length-take, length-append}
-use Rattle.std.specs.Prelude.{Option, None, Some, Ok, Err, option_map}
-use Rattle.std.specs.List.{list_any}
-use Rattle.std.proofs.lemmas.List.Elements.{filter-append}
-use Rattle.std.proofs.lemmas.List.Folds.{list_any-append}
-use Rattle.cacache_core.specs.declared.errors.Fault.TheVariants.{NotFound, InvalidInput}
-use Rattle.cacache_core.specs.PathNames.{Names, names_of, pieces, is_bad, is_above, is_name}
+use Rattle.std.proofs.{Common.{◌≡◌, ◌⊎◌, ◌≤◌, ◌<◌, ◌==◌, ◌||◌, ℕ, zero, suc, Bool, true, false, cond, if◌then◌else◌, List, [], ◌∷◌, ◌++◌, filter, get_or, take, drop, length, refl, sym, ap, subst, ◌∙◌, inl, inr, arith, append-nil, take-append-drop, drop-cons, drop_of_length-le, eqb-true, ne_eqb, length-take, length-append}, lemmas.List.{Elements.{filter-append}, Folds.{list_any-append}}}
+use Rattle.std.specs.{Prelude.{Option, None, Some, Ok, Err, option_map}, List.{list_any}}
+use Rattle.cacache_core.specs.{declared.errors.Fault.TheVariants.{NotFound, InvalidInput}, PathNames.{Names, names_of, pieces, is_bad, is_above, is_name}}
 use Rattle.cacache_core.proofs.Splits.{split-append, split_none}
 use Rattle.cacache_system.specs.CallsOf.{last_slash, above_of}
 

@@ -1,38 +1,18 @@
 -- Steps that sync a file or a folder.
-use Rattle.std.proofs.Common.{◌≡◌, ℕ, Bool, false, List, ◌∷◌, refl, sym, ap, subst, ◌∙◌, ⊎_elim}
-use Rattle.std.specs.Prelude.{Option, None, Some, Result, Ok, Err, option_map}
+use Rattle.std.{proofs.Common.{◌≡◌, ℕ, Bool, false, List, ◌∷◌, refl, sym, ap, subst, ◌∙◌, ⊎_elim}, specs.Prelude.{Option, None, Some, Result, Ok, Err, option_map}}
 use Rattle.std_io.specs.declared.io.kind.ErrorKind.{ErrorKind}
 use Rattle.std_io.specs.declared.io.kind.ErrorKind.TheVariants as kind
-use Rattle.cacache_core.specs.declared.errors.Fault.{Fault}
-use Rattle.cacache_core.specs.declared.errors.Fault.TheVariants.{IsADirectory, NotADirectory}
-use Rattle.cacache_core.specs.PathNames.{Names}
-use Rattle.cacache_store.specs.declared.store.answer.Kind.{Kind}
+use Rattle.cacache_core.specs.{declared.errors.Fault.{Fault, TheVariants.{IsADirectory, NotADirectory}}, PathNames.{Names}}
+use Rattle.cacache_store.specs.{declared.store.answer.Kind.{Kind}, Plain.{PlainAnswer}}
 use Rattle.cacache_store.specs.declared.store.answer.Kind.TheVariants as kinds
 use Rattle.cacache_store.specs.declared.store.step.Step.TheVariants as steps
 use Rattle.cacache_store.specs.declared.store.answer.Answer.TheVariants as answers
-use Rattle.cacache_store.specs.Plain.{PlainAnswer}
-use Rattle.cacache_disk.specs.declared.luck.Luck.TheVariants.{Plain}
-use Rattle.cacache_disk.specs.declared.node.Node.{Node}
-use Rattle.cacache_disk.specs.declared.node.Node.TheVariants.{Folder, File, Link}
-use Rattle.cacache_disk.specs.Tree.{Tree, look, bytes_of}
-use Rattle.cacache_disk.specs.LedTo.{and_then, found, file_at, folder, where_folder}
-use Rattle.cacache_disk.specs.Apply.{apply, unless}
-use Rattle.cacache_system.specs.declared.call.FileInfo.{FileInfo}
+use Rattle.cacache_disk.specs.{declared.{luck.Luck.TheVariants.{Plain}, node.Node.{Node, TheVariants.{Folder, File, Link}}}, Tree.{Tree, look, bytes_of}, LedTo.{and_then, found, file_at, folder, where_folder}, Apply.{apply, unless}}
+use Rattle.cacache_system.specs.{declared.call.{FileInfo.{FileInfo}, CallResult.{CallResult}}, CallsOf.{Stage, to_sync, to_sync_folder, only, if_folder, opened}, Seen.{NumberedTemp}, AnswersOf.{misses}}
 use Rattle.cacache_system.specs.declared.call.SystemCall.TheVariants as asks
-use Rattle.cacache_system.specs.declared.call.CallResult.{CallResult}
 use Rattle.cacache_system.specs.declared.call.CallResult.TheVariants as says
-use Rattle.cacache_system.specs.CallsOf.{Stage, to_sync, to_sync_folder, only, if_folder, opened}
-use Rattle.cacache_system.specs.Seen.{NumberedTemp}
-use Rattle.cacache_system.specs.AnswersOf.{misses}
-use Rattle.cacache_system_laws.specs.Machine.{OpenFile, Machine, Describes, Became}
-use Rattle.cacache_system_laws.specs.Laws.{bytes_in, temp_on, step_on, outcome, Leads, IsDone}
-use Rattle.cacache_system_laws.specs.Syncing.{EndsInNoLink, SyncTempAgrees, SyncFileAgrees, SyncDirAgrees}
-use Rattle.cacache_system_laws.proofs.Refused.{same_outcome}
-use Rattle.cacache_system_laws.proofs.Leading.{Claim, over_leads, only_leads}
-use Rattle.cacache_system_laws.proofs.Claims.{way_of, claim_of, cases_of, agrees_of, claim_plain, claim_broken}
-use Rattle.cacache_system_laws.proofs.Opening.{OpenedOn, Openings, opening_leads, of_some}
-use Rattle.cacache_system_laws.proofs.Views.{folder_found}
-use Rattle.cacache_system_laws.proofs.Looking.{table_fails, no_file, file_there, folder_there, link_there, refused_folder, wanted_file}
+use Rattle.cacache_system_laws.specs.{Machine.{OpenFile, Machine, Describes, Became}, Laws.{bytes_in, temp_on, step_on, outcome, Leads, IsDone}, Syncing.{EndsInNoLink, SyncTempAgrees, SyncFileAgrees, SyncDirAgrees}}
+use Rattle.cacache_system_laws.proofs.{Refused.{same_outcome}, Leading.{Claim, over_leads, only_leads}, Claims.{way_of, claim_of, cases_of, agrees_of, claim_plain, claim_broken}, Opening.{OpenedOn, Openings, opening_leads, of_some}, Views.{folder_found}, Looking.{table_fails, no_file, file_there, folder_there, link_there, refused_folder, wanted_file}}
 
 -- an open file was synced
 pub record WasSynced (n l : Machine) (names : Names) : Type 0 where

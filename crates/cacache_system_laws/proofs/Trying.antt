@@ -1,17 +1,10 @@
 -- Calls that are tried until no signal interrupts them.
-use Rattle.std.proofs.Common.{◌≡◌, ℕ, Bool, true, false, refl, sym, ap, subst, ◌∙◌, ⊎_elim, inl, inr}
-use Rattle.std.specs.Prelude.{Option}
+use Rattle.std.{proofs.Common.{◌≡◌, ℕ, Bool, true, false, refl, sym, ap, subst, ◌∙◌, ⊎_elim, inl, inr}, specs.Prelude.{Option}}
 use Rattle.std_io.specs.declared.io.kind.ErrorKind.{ErrorKind}
 use Rattle.std_io.specs.declared.io.kind.ErrorKind.TheVariants as kind
-use Rattle.cacache_system.specs.declared.call.SystemCall.{SystemCall}
-use Rattle.cacache_system.specs.declared.call.CallResult.{CallResult}
+use Rattle.cacache_system.specs.{declared.call.{SystemCall.{SystemCall}, CallResult.{CallResult}}, CallsOf.{interrupts, was_interrupted}, AnswersOf.{misses}}
 use Rattle.cacache_system.specs.declared.call.CallResult.TheVariants as says
-use Rattle.cacache_system.specs.CallsOf.{interrupts, was_interrupted}
-use Rattle.cacache_system.specs.AnswersOf.{misses}
-use Rattle.cacache_system_laws.specs.Machine.{Machine}
-use Rattle.cacache_system_laws.specs.Calls.{LeavesPart}
-use Rattle.cacache_system_laws.proofs.Leading.{Claim, Tried}
-use Rattle.cacache_system_laws.proofs.Claims.{way_of, Well, cases_of}
+use Rattle.cacache_system_laws.{specs.{Machine.{Machine}, Calls.{LeavesPart}}, proofs.{Leading.{Claim, Tried}, Claims.{way_of, Well, cases_of}}}
 
 -- what a call that went well said, and what holds then
 pub record SaidWell (P : Claim) (said : CallResult) (n : Machine) : Type 0 where

@@ -3,34 +3,16 @@ use Rattle.std.proofs.Common.{◌≡◌, ◌⊎◌, ◌==◌, ◌+◌, ℕ, min,
 use Rattle.std.specs.Prelude.{Option, Some, Result, Ok, Err}
 use Rattle.std_io.specs.declared.io.kind.ErrorKind.{ErrorKind}
 use Rattle.std_io.specs.declared.io.kind.ErrorKind.TheVariants as kind
-use Rattle.cacache_core.specs.Contexts.{fault_of}
-use Rattle.cacache_core.specs.declared.errors.Fault.{Fault}
-use Rattle.cacache_core.specs.declared.errors.Fault.TheVariants.{IsADirectory}
-use Rattle.cacache_core.specs.PathNames.{Names}
+use Rattle.cacache_core.specs.{Contexts.{fault_of}, declared.errors.Fault.{Fault, TheVariants.{IsADirectory}}, PathNames.{Names}}
 use Rattle.cacache_store.specs.declared.store.step.Step.TheVariants as steps
 use Rattle.cacache_store.specs.declared.store.answer.Answer.TheVariants as answers
 use Rattle.cacache_store.specs.Plain.{PlainAnswer}
-use Rattle.cacache_disk.specs.declared.luck.Luck.TheVariants.{Plain}
-use Rattle.cacache_disk.specs.declared.node.Node.{Node}
-use Rattle.cacache_disk.specs.declared.node.Node.TheVariants.{Folder, File, Link}
-use Rattle.cacache_disk.specs.Tree.{Tree, look}
-use Rattle.cacache_disk.specs.LedTo.{found, file_at}
-use Rattle.cacache_disk.specs.Apply.{apply, unless, readable}
+use Rattle.cacache_disk.specs.{declared.{luck.Luck.TheVariants.{Plain}, node.Node.{Node, TheVariants.{Folder, File, Link}}}, Tree.{Tree, look}, LedTo.{found, file_at}, Apply.{apply, unless, readable}}
 use Rattle.cacache_system.specs.declared.call.SystemCall.TheVariants as asks
-use Rattle.cacache_system.specs.declared.call.CallItem.{CallItem}
-use Rattle.cacache_system.specs.declared.call.CallResult.{CallResult}
+use Rattle.cacache_system.specs.{declared.call.{CallItem.{CallItem}, CallResult.{CallResult}}, CallsOf.{to_read, over, taking_memory, reading_front, reading_rest, read_whole, interrupts, after, Ends, Runs}}
 use Rattle.cacache_system.specs.declared.call.CallResult.TheVariants as says
-use Rattle.cacache_system.specs.CallsOf.{to_read, over, taking_memory, reading_front, reading_rest, read_whole, interrupts, after, Ends, Runs}
-use Rattle.cacache_system_laws.specs.Machine.{OpenFile, Machine, IsRefused, ReadsFile, unread}
-use Rattle.cacache_system_laws.specs.Calls.{EachCall}
-use Rattle.cacache_system_laws.specs.Laws.{outcome, Leads, IsDone}
-use Rattle.cacache_system_laws.specs.Reading.{ReadAllAgrees}
-use Rattle.cacache_system_laws.proofs.Refused.{same_outcome}
-use Rattle.cacache_system_laws.proofs.Leading.{Way, Claim, over_leads, call_leads}
-use Rattle.cacache_system_laws.proofs.Claims.{way_of, claim_of, cases_of, agrees_of, taking_leads, claim_plain, claim_broken, claim_memory}
-use Rattle.cacache_system_laws.proofs.Opening.{OpenedOn, Openings, opening_leads, newly_open, said_leads, of_some}
-use Rattle.cacache_system_laws.proofs.Looking.{table_fails, no_file, file_there, folder_there, link_there}
-use Rattle.cacache_system_laws.proofs.Reading.{drop_taken}
+use Rattle.cacache_system_laws.specs.{Machine.{OpenFile, Machine, IsRefused, ReadsFile, unread}, Calls.{EachCall}, Laws.{outcome, Leads, IsDone}, Reading.{ReadAllAgrees}}
+use Rattle.cacache_system_laws.proofs.{Refused.{same_outcome}, Leading.{Way, Claim, over_leads, call_leads}, Claims.{way_of, claim_of, cases_of, agrees_of, taking_leads, claim_plain, claim_broken, claim_memory}, Opening.{OpenedOn, Openings, opening_leads, newly_open, said_leads, of_some}, Looking.{table_fails, no_file, file_there, folder_there, link_there}, Reading.{drop_taken}}
 
 -- What becomes of the first read of a file: it gave the front, it failed, or a signal came and it may be given up.
 abbrev FrontTried : Way → Claim → Machine → ℕ → CallResult → Machine → Type 0

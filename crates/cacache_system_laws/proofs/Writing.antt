@@ -4,40 +4,17 @@ use Rattle.std.specs.Prelude.{Option, None, Some, Result, Ok, Err, option_map}
 use Rattle.std.specs.FinMap as map
 use Rattle.std_io.specs.declared.io.kind.ErrorKind.{ErrorKind}
 use Rattle.std_io.specs.declared.io.kind.ErrorKind.TheVariants as kind
-use Rattle.cacache_core.specs.Contexts.{fault_of}
-use Rattle.cacache_core.specs.declared.errors.Fault.{Fault}
-use Rattle.cacache_core.specs.PathNames.{Names}
+use Rattle.cacache_core.specs.{Contexts.{fault_of}, declared.errors.Fault.{Fault}, PathNames.{Names}}
 use Rattle.cacache_store.specs.declared.store.step.Step.TheVariants as steps
 use Rattle.cacache_store.specs.declared.store.answer.Answer.TheVariants as answers
 use Rattle.cacache_store.specs.Plain.{PlainAnswer}
-use Rattle.cacache_disk.specs.declared.luck.Luck.TheVariants.{Plain, Fail}
-use Rattle.cacache_disk.specs.declared.node.Node.{Node}
-use Rattle.cacache_disk.specs.declared.node.Node.TheVariants.{Folder, File, Link}
-use Rattle.cacache_disk.specs.Tree.{Tree, look, put, bytes_of, same_path}
-use Rattle.cacache_disk.specs.LedTo.{leads, writable, where_no_folder}
-use Rattle.cacache_disk.specs.Apply.{apply, unless, if_missing, taken, lengthened, grown, left_by, fault_told}
-use Rattle.cacache_disk.proofs.Maps.{total, only, put_same}
-use Rattle.cacache_disk.proofs.PutNodes.{look-put}
-use Rattle.cacache_disk.proofs.Roots.{same_self}
-use Rattle.cacache_disk.proofs.FoundNodes.{and_then_ok}
+use Rattle.cacache_disk.specs.{declared.{luck.Luck.TheVariants.{Plain, Fail}, node.Node.{Node, TheVariants.{Folder, File, Link}}}, Tree.{Tree, look, put, bytes_of, same_path}, LedTo.{leads, writable, where_no_folder}, Apply.{apply, unless, if_missing, taken, lengthened, grown, left_by, fault_told}}
+use Rattle.cacache_disk.proofs.{Maps.{total, only, put_same}, PutNodes.{look-put}, Roots.{same_self}, FoundNodes.{and_then_ok}}
 use Rattle.cacache_system.specs.declared.call.SystemCall.TheVariants as asks
-use Rattle.cacache_system.specs.declared.call.CallResult.{CallResult}
+use Rattle.cacache_system.specs.{declared.call.CallResult.{CallResult}, CallsOf.{trying, appending, interrupts, was_interrupted, after}, Seen.{NumberedTemp}, AnswersOf.{misses, refuses_memory, leaves_a_part}}
 use Rattle.cacache_system.specs.declared.call.CallResult.TheVariants as says
-use Rattle.cacache_system.specs.CallsOf.{trying, appending, interrupts, was_interrupted, after}
-use Rattle.cacache_system.specs.Seen.{NumberedTemp}
-use Rattle.cacache_system.specs.AnswersOf.{misses, refuses_memory, leaves_a_part}
-use Rattle.cacache_system_laws.specs.Machine.{OpenFile, Machine, HasTree, OpensIf, unread, with_empty}
-use Rattle.cacache_system_laws.specs.Calls.{GoesWell, OccursSomehow, did_nothing, part_written, LeavesWritten, LeavesPart}
-use Rattle.cacache_system_laws.specs.Laws.{bytes_in, step_on, outcome, led_to, Leads, IsDone}
-use Rattle.cacache_system_laws.specs.Writing.{AppendAgrees, WritesAll, WritesSome, WriteAgrees}
-use Rattle.cacache_system_laws.specs.OneCall.{StillStands}
-use Rattle.cacache_system_laws.proofs.Refused.{same_outcome, failed, refused_on, never_missing, failing_apply, broken_part}
-use Rattle.cacache_system_laws.proofs.Leading.{over_leads, call_leads, trying_leads}
-use Rattle.cacache_system_laws.proofs.Claims.{way_of, claim_of, luck_of, Well, cases_of, agrees_of, claim_plain, claim_taken, claim_lucky, claim_broken}
-use Rattle.cacache_system_laws.proofs.Trying.{SaidWell, tried_so}
-use Rattle.cacache_system_laws.proofs.Opening.{newly_open, said_leads, of_some}
-use Rattle.cacache_system_laws.proofs.Views.{leads_no_link}
-use Rattle.cacache_system_laws.proofs.Looking.{table_fails}
+use Rattle.cacache_system_laws.specs.{Machine.{OpenFile, Machine, HasTree, OpensIf, unread, with_empty}, Calls.{GoesWell, OccursSomehow, did_nothing, part_written, LeavesWritten, LeavesPart}, Laws.{bytes_in, step_on, outcome, led_to, Leads, IsDone}, Writing.{AppendAgrees, WritesAll, WritesSome, WriteAgrees}, OneCall.{StillStands}}
+use Rattle.cacache_system_laws.proofs.{Refused.{same_outcome, failed, refused_on, never_missing, failing_apply, broken_part}, Leading.{over_leads, call_leads, trying_leads}, Claims.{way_of, claim_of, luck_of, Well, cases_of, agrees_of, claim_plain, claim_taken, claim_lucky, claim_broken}, Trying.{SaidWell, tried_so}, Opening.{newly_open, said_leads, of_some}, Views.{leads_no_link}, Looking.{table_fails}}
 
 -- ---- trees
 

@@ -1,25 +1,12 @@
 -- What each call says and leaves, as POSIX has it where no folder on the way is a link.
 use Rattle.std.specs.Prelude.{◌≡◌, ◌||◌, ℕ, Bool, true, false, List, [], ◌∷◌, Option, None, Some, Result, Ok, MatchResult, take}
 use Rattle.std_io.specs.declared.io.kind.ErrorKind.{ErrorKind}
-use Rattle.cacache_core.specs.Contexts.{fault_of}
-use Rattle.cacache_core.specs.declared.errors.Fault.{Fault}
-use Rattle.cacache_core.specs.declared.errors.Fault.TheVariants.{InvalidInput}
-use Rattle.cacache_core.specs.PathNames.{Names}
-use Rattle.cacache_disk.specs.declared.luck.Luck.{Luck}
-use Rattle.cacache_disk.specs.declared.luck.Luck.TheVariants.{Plain, Fail, Take}
-use Rattle.cacache_disk.specs.declared.node.Node.TheVariants.{Folder, File, Link}
-use Rattle.cacache_disk.specs.Tree.{Tree, look, put, cut}
-use Rattle.cacache_disk.specs.LedTo.{place, standing, found, writable, free, replaceable, file_at, linked, removable, emptied}
-use Rattle.cacache_disk.specs.Apply.{taken, readable, lengthened}
-use Rattle.cacache_system.specs.declared.call.SystemCall.{SystemCall}
+use Rattle.cacache_core.specs.{Contexts.{fault_of}, declared.errors.Fault.{Fault, TheVariants.{InvalidInput}}, PathNames.{Names}}
+use Rattle.cacache_disk.specs.{declared.{luck.Luck.{Luck, TheVariants.{Plain, Fail, Take}}, node.Node.TheVariants.{Folder, File, Link}}, Tree.{Tree, look, put, cut}, LedTo.{place, standing, found, writable, free, replaceable, file_at, linked, removable, emptied}, Apply.{taken, readable, lengthened}}
+use Rattle.cacache_system.specs.{declared.call.{SystemCall.{SystemCall}, CallItem.{CallItem}, CallResult.{CallResult}}, CallsOf.{interrupts}, AnswersOf.{misses, refuses_memory}}
 use Rattle.cacache_system.specs.declared.call.SystemCall.TheVariants as asks
-use Rattle.cacache_system.specs.declared.call.CallItem.{CallItem}
-use Rattle.cacache_system.specs.declared.call.CallResult.{CallResult}
 use Rattle.cacache_system.specs.declared.call.CallResult.TheVariants as says
-use Rattle.cacache_system.specs.CallsOf.{interrupts}
-use Rattle.cacache_system.specs.AnswersOf.{misses, refuses_memory}
-use Rattle.cacache_system_laws.specs.Folders.{OpensFolder, ReadsFolder}
-use Rattle.cacache_system_laws.specs.Machine.{OpenFile, Machine, HasTree, IsRefused, ChangesTree, OpensIf, with_empty, ShowsEnd, ShowsOpen, ReadsOpen, WritesOpen, SyncsOpen, LinksNode, CopiesBytes, MovesNode}
+use Rattle.cacache_system_laws.specs.{Folders.{OpensFolder, ReadsFolder}, Machine.{OpenFile, Machine, HasTree, IsRefused, ChangesTree, OpensIf, with_empty, ShowsEnd, ShowsOpen, ReadsOpen, WritesOpen, SyncsOpen, LinksNode, CopiesBytes, MovesNode}}
 
 -- What a call says and leaves where it doesn't fail without cause. A read or a write moves all the bytes that it may, or at
 -- most so many. A folder gives its names in the order of the tree's.

@@ -3,20 +3,9 @@ use Rattle.std.specs.Prelude.{◌≡◌, ◌⊎◌, ℕ, Bool, true, List, [], �
 use Rattle.cacache_core.specs.PathNames.{Names}
 use Rattle.cacache_store.specs.declared.store.step.Step.TheVariants as steps
 use Rattle.cacache_store.specs.declared.store.answer.Answer.TheVariants as answers
-use Rattle.cacache_disk.specs.declared.luck.Luck.{Luck}
-use Rattle.cacache_disk.specs.Tree.{Tree}
-use Rattle.cacache_disk.specs.Apply.{apply}
-use Rattle.cacache_system.specs.declared.call.CallItem.{CallItem}
-use Rattle.cacache_system.specs.declared.call.CallResult.{CallResult}
-use Rattle.cacache_system.specs.Seen.{NumberedStep}
-use Rattle.cacache_system.specs.CallsOf.{Runs}
-use Rattle.cacache_system.specs.AnswersOf.{Hint, first, answer_of}
-use Rattle.cacache_system_laws.specs.Machine.{Machine}
-use Rattle.cacache_system_laws.specs.Calls.{OccursSomehow, EachCall}
-use Rattle.cacache_system_laws.specs.Laws.{step_on, answer_on, outcome, IsDone}
-use Rattle.cacache_system_laws.specs.OneCall.{StillStands}
-use Rattle.cacache_system_laws.specs.Premises.{Premise}
-use Rattle.cacache_system_laws.specs.Mirrors.{Mirrors, temps_after, SparesOpen}
+use Rattle.cacache_disk.specs.{declared.luck.Luck.{Luck}, Tree.{Tree}, Apply.{apply}}
+use Rattle.cacache_system.specs.{declared.call.{CallItem.{CallItem}, CallResult.{CallResult}}, Seen.{NumberedStep}, CallsOf.{Runs}, AnswersOf.{Hint, first, answer_of}}
+use Rattle.cacache_system_laws.specs.{Machine.{Machine}, Calls.{OccursSomehow, EachCall}, Laws.{step_on, answer_on, outcome, IsDone}, OneCall.{StillStands}, Premises.{Premise}, Mirrors.{Mirrors, temps_after, SparesOpen}}
 
 -- a step that was made: the machine before and after it, how its calls began, what they were, and their end
 pub record StepMade : Type 0 where

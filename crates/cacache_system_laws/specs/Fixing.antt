@@ -2,18 +2,10 @@
 use Rattle.std.specs.Prelude.{◌≡◌, ◌++◌, ℕ, List, [], ◌∷◌, Option, None, Some, if◌then◌else◌}
 use Rattle.cacache_core.specs.PathNames.{Names}
 use Rattle.cacache_store.specs.declared.store.step.Step.TheVariants as steps
-use Rattle.cacache_disk.specs.declared.node.Node.{Node}
-use Rattle.cacache_disk.specs.declared.node.Node.TheVariants.{Folder, File}
-use Rattle.cacache_disk.specs.Tree.{same_path, is_child}
+use Rattle.cacache_disk.specs.{declared.node.Node.{Node, TheVariants.{Folder, File}}, Tree.{same_path, is_child}}
 use Rattle.cacache_loss.specs.Fixing.{Fixed, synced, fixed_after}
-use Rattle.cacache_system.specs.declared.call.CallResult.{CallResult}
-use Rattle.cacache_system.specs.Seen.{NumberedTemp, NumberedStep}
-use Rattle.cacache_system.specs.AnswersOf.{Hint, first, answer_of}
-use Rattle.cacache_system_laws.specs.Machine.{Machine, SyncedNode}
-use Rattle.cacache_system_laws.specs.Calls.{OccursSomehow}
-use Rattle.cacache_system_laws.specs.Laws.{step_on, answer_on, Leads}
-use Rattle.cacache_system_laws.specs.OneCall.{StillStands}
-use Rattle.cacache_system_laws.specs.Syncing.{EndsInNoLink}
+use Rattle.cacache_system.specs.{declared.call.CallResult.{CallResult}, Seen.{NumberedTemp, NumberedStep}, AnswersOf.{Hint, first, answer_of}}
+use Rattle.cacache_system_laws.specs.{Machine.{Machine, SyncedNode}, Calls.{OccursSomehow}, Laws.{step_on, answer_on, Leads}, OneCall.{StillStands}, Syncing.{EndsInNoLink}}
 
 -- what is fixed once a file's bytes, or the names in a folder, are synced
 abbrev pub with_synced : Names → Option Node → Fixed → Fixed

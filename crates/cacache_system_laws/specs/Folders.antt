@@ -1,11 +1,8 @@
 -- Folders that are opened to be listed, and the names that they give.
 use Rattle.std.specs.Prelude.{◌≡◌, ◌⊎◌, ℕ, List, [], ◌∷◌, ◌++◌, Option, Some, IfSome, Result, MatchResult}
-use Rattle.cacache_core.specs.declared.errors.Fault.{Fault}
-use Rattle.cacache_core.specs.PathNames.{Names}
+use Rattle.cacache_core.specs.{declared.errors.Fault.{Fault}, PathNames.{Names}}
 use Rattle.cacache_store.specs.declared.store.answer.Name.{Name}
-use Rattle.cacache_disk.specs.declared.node.Node.{Node}
-use Rattle.cacache_disk.specs.declared.node.Node.TheVariants.{Folder}
-use Rattle.cacache_disk.specs.Tree.{look, listing}
+use Rattle.cacache_disk.specs.{declared.node.Node.{Node, TheVariants.{Folder}}, Tree.{look, listing}}
 use Rattle.cacache_system.specs.declared.call.CallResult.{CallResult}
 use Rattle.cacache_system.specs.declared.call.CallResult.TheVariants as says
 use Rattle.cacache_system_laws.specs.Machine.{Machine, IsRefused}

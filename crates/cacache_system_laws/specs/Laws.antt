@@ -1,24 +1,11 @@
 -- That the calls of a step answer and leave what the disk's table of steps says.
-use Rattle.std.specs.Prelude.{◌≡◌, ◌⊎◌, ℕ, List, [], None, option_map, length, drop}
-use Rattle.std.specs.Option.{unwrap_or}
+use Rattle.std.specs.{Prelude.{◌≡◌, ◌⊎◌, ℕ, List, [], None, option_map, length, drop}, Option.{unwrap_or}}
 use Rattle.std_io.specs.declared.io.kind.ErrorKind.TheVariants as kind
-use Rattle.cacache_store.specs.declared.store.plain.PlainTemp.{PlainTemp}
-use Rattle.cacache_store.specs.declared.store.plain.PlainFile.{PlainFile}
+use Rattle.cacache_store.specs.{declared.store.plain.{PlainTemp.{PlainTemp}, PlainFile.{PlainFile}}, Plain.{PlainStep, PlainAnswer}}
 use Rattle.cacache_store.specs.declared.store.answer.Answer.TheVariants as answers
-use Rattle.cacache_store.specs.Plain.{PlainStep, PlainAnswer}
-use Rattle.cacache_disk.specs.declared.luck.Luck.{Luck}
-use Rattle.cacache_disk.specs.declared.luck.Luck.TheVariants.{Plain}
-use Rattle.cacache_disk.specs.Tree.{Tree, look, bytes_of}
-use Rattle.cacache_disk.specs.Apply.{apply, fault_told}
-use Rattle.cacache_system.specs.declared.call.SystemCall.{SystemCall}
-use Rattle.cacache_system.specs.declared.call.CallItem.{CallItem}
-use Rattle.cacache_system.specs.declared.call.CallResult.{CallResult}
-use Rattle.cacache_system.specs.declared.call.CallResult.TheVariants.{Failed}
-use Rattle.cacache_system.specs.Seen.{NumberedFile, NumberedTemp, NumberedStep, NumberedAnswer, step_as, answer_as}
-use Rattle.cacache_system.specs.CallsOf.{Stage, Runs}
-use Rattle.cacache_system.specs.AnswersOf.{Hint, first, answer_of}
-use Rattle.cacache_system_laws.specs.Machine.{OpenFile, Machine}
-use Rattle.cacache_system_laws.specs.Calls.{GoesWell, OccursSomehow, EachCall}
+use Rattle.cacache_disk.specs.{declared.luck.Luck.{Luck, TheVariants.{Plain}}, Tree.{Tree, look, bytes_of}, Apply.{apply, fault_told}}
+use Rattle.cacache_system.specs.{declared.call.{SystemCall.{SystemCall}, CallItem.{CallItem}, CallResult.{CallResult, TheVariants.{Failed}}}, Seen.{NumberedFile, NumberedTemp, NumberedStep, NumberedAnswer, step_as, answer_as}, CallsOf.{Stage, Runs}, AnswersOf.{Hint, first, answer_of}}
+use Rattle.cacache_system_laws.specs.{Machine.{OpenFile, Machine}, Calls.{GoesWell, OccursSomehow, EachCall}}
 
 -- ---- handles on a machine
 

@@ -1,17 +1,9 @@
 -- What the log of a store says of a step, on a machine on which its calls happened.
 use Rattle.std.specs.Prelude.{◌≡◌, ◌⊎◌, ◌++◌, List, Some}
 use Rattle.cacache_store.specs.declared.store.answer.Answer.TheVariants as answers
-use Rattle.cacache_disk.specs.declared.luck.Luck.{Luck}
-use Rattle.cacache_disk.specs.Apply.{apply}
-use Rattle.cacache_system.specs.declared.call.CallItem.{CallItem}
-use Rattle.cacache_system.specs.declared.call.CallResult.{CallResult}
-use Rattle.cacache_system.specs.Seen.{NumberedStep, NumberedAnswer}
-use Rattle.cacache_system.specs.CallsOf.{RunLogged}
-use Rattle.cacache_system.specs.AnswersOf.{Hint, first, answer_of}
-use Rattle.cacache_system_laws.specs.Machine.{Machine}
-use Rattle.cacache_system_laws.specs.Calls.{OccursSomehow, EachCall}
-use Rattle.cacache_system_laws.specs.Laws.{step_on, answer_on, outcome, IsDone}
-use Rattle.cacache_system_laws.specs.Premises.{Premise}
+use Rattle.cacache_disk.specs.{declared.luck.Luck.{Luck}, Apply.{apply}}
+use Rattle.cacache_system.specs.{declared.call.{CallItem.{CallItem}, CallResult.{CallResult}}, Seen.{NumberedStep, NumberedAnswer}, CallsOf.{RunLogged}, AnswersOf.{Hint, first, answer_of}}
+use Rattle.cacache_system_laws.specs.{Machine.{Machine}, Calls.{OccursSomehow, EachCall}, Laws.{step_on, answer_on, outcome, IsDone}, Premises.{Premise}}
 
 -- the answer and the tree are the disk's under some luck, or the step came back and nothing changed
 abbrev pub IsDisks : Machine → NumberedStep → NumberedAnswer → Machine → Type 0

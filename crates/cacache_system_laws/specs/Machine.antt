@@ -1,18 +1,10 @@
 -- A model of the system: what stands, which files are open, and what a call may say and leave.
 use Rattle.std.specs.Prelude.{◌≡◌, ◌+◌, ◌==◌, ℕ, Bool, true, false, if◌then◌else◌, List, [], ◌∷◌, Option, None, Some, Result, MatchResult, IfSome, length, take, drop}
 use Rattle.std_io.specs.declared.io.kind.ErrorKind.{ErrorKind}
-use Rattle.cacache_core.specs.Contexts.{fault_of}
-use Rattle.cacache_core.specs.declared.errors.Fault.{Fault}
-use Rattle.cacache_core.specs.declared.errors.Fault.TheVariants.{IsADirectory, Device}
-use Rattle.cacache_core.specs.PathNames.{Names}
-use Rattle.cacache_disk.specs.declared.node.Node.{Node}
-use Rattle.cacache_disk.specs.declared.node.Node.TheVariants.{Folder, File, Link}
-use Rattle.cacache_disk.specs.Tree.{Tree, look, put, cut, kind_of}
-use Rattle.cacache_disk.specs.Apply.{if_missing, taken, lengthened}
-use Rattle.cacache_system.specs.declared.call.FileInfo.{FileInfo}
-use Rattle.cacache_system.specs.declared.call.CallResult.{CallResult}
+use Rattle.cacache_core.specs.{Contexts.{fault_of}, declared.errors.Fault.{Fault, TheVariants.{IsADirectory, Device}}, PathNames.{Names}}
+use Rattle.cacache_disk.specs.{declared.node.Node.{Node, TheVariants.{Folder, File, Link}}, Tree.{Tree, look, put, cut, kind_of}, Apply.{if_missing, taken, lengthened}}
+use Rattle.cacache_system.specs.{declared.call.{FileInfo.{FileInfo}, CallResult.{CallResult}}, AnswersOf.{refuses_memory}}
 use Rattle.cacache_system.specs.declared.call.CallResult.TheVariants as says
-use Rattle.cacache_system.specs.AnswersOf.{refuses_memory}
 
 -- an open file: the names at which it was found, and how many bytes were read from it
 pub record OpenFile : Type 0 where

@@ -2,12 +2,9 @@
 use Rattle.std.specs.Prelude.{◌≡◌, ◌++◌, ℕ, List, Some, Ok}
 use Rattle.cacache_core.specs.PathNames.{Names, names_of}
 use Rattle.cacache_store.specs.declared.store.step.Step.TheVariants as steps
-use Rattle.cacache_disk.specs.declared.node.Node.TheVariants.{Link}
-use Rattle.cacache_disk.specs.Tree.{Tree, look}
-use Rattle.cacache_disk.specs.Rooted.{Rooted}
+use Rattle.cacache_disk.specs.{declared.node.Node.TheVariants.{Link}, Tree.{Tree, look}, Rooted.{Rooted}}
 use Rattle.cacache_system.specs.AnswersOf.{Hint}
-use Rattle.cacache_system_laws.specs.Machine.{Machine}
-use Rattle.cacache_system_laws.specs.Laws.{Agrees}
+use Rattle.cacache_system_laws.specs.{Machine.{Machine}, Laws.{Agrees}}
 
 -- no link stands on a path, nor at its last name
 abbrev pub HasNoLink : Tree → List ℕ → Type 0

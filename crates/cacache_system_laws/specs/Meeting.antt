@@ -1,9 +1,7 @@
 -- That the model can be met.
 use Rattle.std.specs.Prelude.{◌≡◌, ℕ, Option, None}
-use Rattle.cacache_system.specs.declared.call.SystemCall.{SystemCall}
-use Rattle.cacache_system.specs.declared.call.CallResult.{CallResult}
-use Rattle.cacache_system_laws.specs.Machine.{Machine}
-use Rattle.cacache_system_laws.specs.Calls.{GoesWell}
+use Rattle.cacache_system.specs.declared.call.{SystemCall.{SystemCall}, CallResult.{CallResult}}
+use Rattle.cacache_system_laws.specs.{Machine.{Machine}, Calls.{GoesWell}}
 
 -- some number has no open file
 abbrev pub HasRoom : Machine → Type 0

@@ -2,14 +2,9 @@
 use Rattle.std.specs.Prelude.{◌≡◌, ℕ, List, [], None, Some, Ok, option_map}
 use Rattle.cacache_core.specs.PathNames.{Names, names_of}
 use Rattle.cacache_store.specs.declared.store.step.Step.TheVariants as steps
-use Rattle.cacache_disk.specs.declared.node.Node.{Node}
-use Rattle.cacache_disk.specs.declared.node.Node.TheVariants.{File}
-use Rattle.cacache_disk.specs.Tree.{look}
-use Rattle.cacache_disk.specs.LedTo.{way_fault, linked}
-use Rattle.cacache_system.specs.Seen.{NumberedTemp}
-use Rattle.cacache_system.specs.AnswersOf.{Hint}
-use Rattle.cacache_system_laws.specs.Machine.{OpenFile, Machine}
-use Rattle.cacache_system_laws.specs.Laws.{Agrees, MayBreak}
+use Rattle.cacache_disk.specs.{declared.node.Node.{Node, TheVariants.{File}}, Tree.{look}, LedTo.{way_fault, linked}}
+use Rattle.cacache_system.specs.{Seen.{NumberedTemp}, AnswersOf.{Hint}}
+use Rattle.cacache_system_laws.specs.{Machine.{OpenFile, Machine}, Laws.{Agrees, MayBreak}}
 
 -- a temporary file is made
 abbrev pub CreateAgrees : Type 0

@@ -2,8 +2,7 @@
 use Rattle.std.specs.Prelude.{ℕ, List}
 use Rattle.cacache_store.specs.declared.store.step.Step.TheVariants as steps
 use Rattle.cacache_system.specs.AnswersOf.{Hint}
-use Rattle.cacache_system_laws.specs.Machine.{Machine}
-use Rattle.cacache_system_laws.specs.Laws.{Agrees}
+use Rattle.cacache_system_laws.specs.{Machine.{Machine}, Laws.{Agrees}}
 
 -- a file is opened
 abbrev pub OpenAgrees : Type 0

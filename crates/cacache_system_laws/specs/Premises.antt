@@ -2,20 +2,9 @@
 use Rattle.std.specs.Prelude.{◌≡◌, ℕ, false, List, Ok}
 use Rattle.cacache_core.specs.PathNames.{Names}
 use Rattle.cacache_store.specs.declared.store.step.Step.TheVariants.{MakeDirs, Write, Persist, Read, Copy, HardLink, ReadDir, RemoveFile, RemoveDir, SyncTemp, SyncDir}
-use Rattle.cacache_disk.specs.declared.node.Node.{Node}
-use Rattle.cacache_disk.specs.LedTo.{linked}
-use Rattle.cacache_disk.specs.Rooted.{Rooted}
-use Rattle.cacache_system.specs.Seen.{NumberedFile, NumberedTemp, NumberedStep}
-use Rattle.cacache_system.specs.AnswersOf.{Hint, is_named}
-use Rattle.cacache_system_laws.specs.Machine.{OpenFile, Machine}
-use Rattle.cacache_system_laws.specs.Laws.{MayBreak}
-use Rattle.cacache_system_laws.specs.OneCall.{StillStands}
-use Rattle.cacache_system_laws.specs.Reading.{StaysOpen}
-use Rattle.cacache_system_laws.specs.Writing.{TellsFilesApart}
-use Rattle.cacache_system_laws.specs.Making.{HasNoLink}
-use Rattle.cacache_system_laws.specs.Listing.{ListsPlainly}
-use Rattle.cacache_system_laws.specs.Removing.{WalkStands}
-use Rattle.cacache_system_laws.specs.Syncing.{EndsInNoLink}
+use Rattle.cacache_disk.specs.{declared.node.Node.{Node}, LedTo.{linked}, Rooted.{Rooted}}
+use Rattle.cacache_system.specs.{Seen.{NumberedFile, NumberedTemp, NumberedStep}, AnswersOf.{Hint, is_named}}
+use Rattle.cacache_system_laws.specs.{Machine.{OpenFile, Machine}, Laws.{MayBreak}, OneCall.{StillStands}, Reading.{StaysOpen}, Writing.{TellsFilesApart}, Making.{HasNoLink}, Listing.{ListsPlainly}, Removing.{WalkStands}, Syncing.{EndsInNoLink}}
 
 -- a temporary file still stands at its path
 abbrev pub IsStill : Machine → NumberedTemp → Type 0

@@ -1,12 +1,9 @@
 -- Laws on reads.
 use Rattle.std.specs.Prelude.{◌≡◌, ◌≤◌, ℕ, List, Some}
 use Rattle.cacache_store.specs.declared.store.step.Step.TheVariants as steps
-use Rattle.cacache_disk.specs.declared.node.Node.TheVariants.{File}
-use Rattle.cacache_disk.specs.Tree.{look}
-use Rattle.cacache_system.specs.Seen.{NumberedFile}
-use Rattle.cacache_system.specs.AnswersOf.{Hint}
-use Rattle.cacache_system_laws.specs.Machine.{OpenFile, Machine}
-use Rattle.cacache_system_laws.specs.Laws.{Agrees, GoesPlainly, MayBreak}
+use Rattle.cacache_disk.specs.{declared.node.Node.TheVariants.{File}, Tree.{look}}
+use Rattle.cacache_system.specs.{Seen.{NumberedFile}, AnswersOf.{Hint}}
+use Rattle.cacache_system_laws.specs.{Machine.{OpenFile, Machine}, Laws.{Agrees, GoesPlainly, MayBreak}}
 
 -- a file is read whole
 abbrev pub ReadAllAgrees : Type 0

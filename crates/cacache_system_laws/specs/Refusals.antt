@@ -3,14 +3,7 @@ use Rattle.std.specs.Prelude.{◌≡◌, ℕ, List, [], ◌∷◌, true}
 use Rattle.cacache_store.specs.declared.store.answer.Kind.TheVariants as kinds
 use Rattle.cacache_store.specs.declared.store.step.Step.TheVariants as steps
 use Rattle.cacache_system.specs.declared.call.SystemCall.TheVariants as asks
-use Rattle.cacache_system.specs.declared.call.FileInfo.{FileInfo}
-use Rattle.cacache_system.specs.declared.call.CallItem.{CallItem}
-use Rattle.cacache_system.specs.declared.call.CallResult.{CallResult}
-use Rattle.cacache_system.specs.declared.call.CallResult.TheVariants.{Opened, Count, Info}
-use Rattle.cacache_system.specs.CallLog.{item}
-use Rattle.cacache_system.specs.Seen.{NumberedTemp, NumberedStep}
-use Rattle.cacache_system.specs.CallsOf.{Runs}
-use Rattle.cacache_system.specs.AnswersOf.{Hint, in_walk, first}
+use Rattle.cacache_system.specs.{declared.call.{FileInfo.{FileInfo}, CallItem.{CallItem}, CallResult.{CallResult, TheVariants.{Opened, Count, Info}}}, CallLog.{item}, Seen.{NumberedTemp, NumberedStep}, CallsOf.{Runs}, AnswersOf.{Hint, in_walk, first}}
 
 -- the calls are no run of the step, however it begins and whatever they end with
 abbrev pub IsNoRun : NumberedStep → List CallItem → Type 0

@@ -1,13 +1,10 @@
 -- Laws on removals, which may be part of a walk.
-use Rattle.std.specs.Prelude.{◌≡◌, ℕ, List, ◌∷◌, Ok}
-use Rattle.std.specs.List.{AllByRecursion}
+use Rattle.std.specs.{Prelude.{◌≡◌, ℕ, List, ◌∷◌, Ok}, List.{AllByRecursion}}
 use Rattle.cacache_core.specs.PathNames.{Names}
 use Rattle.cacache_store.specs.declared.store.step.Step.TheVariants as steps
-use Rattle.cacache_disk.specs.Tree.{Tree}
-use Rattle.cacache_disk.specs.LedTo.{folder}
+use Rattle.cacache_disk.specs.{Tree.{Tree}, LedTo.{folder}}
 use Rattle.cacache_system.specs.AnswersOf.{Hint, no_hint, is_missing, was_named, in_walk}
-use Rattle.cacache_system_laws.specs.Machine.{Machine}
-use Rattle.cacache_system_laws.specs.Laws.{Agrees}
+use Rattle.cacache_system_laws.specs.{Machine.{Machine}, Laws.{Agrees}}
 
 -- a folder stands at a path
 abbrev pub IsFolderAt : Tree → List ℕ → Type 0

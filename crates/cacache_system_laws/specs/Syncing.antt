@@ -2,14 +2,9 @@
 use Rattle.std.specs.Prelude.{◌≡◌, ℕ, List, Some, Ok}
 use Rattle.cacache_core.specs.PathNames.{Names}
 use Rattle.cacache_store.specs.declared.store.step.Step.TheVariants as steps
-use Rattle.cacache_disk.specs.declared.node.Node.TheVariants.{Link}
-use Rattle.cacache_disk.specs.Tree.{Tree, look}
-use Rattle.cacache_disk.specs.LedTo.{place}
-use Rattle.cacache_system.specs.Seen.{NumberedTemp}
-use Rattle.cacache_system.specs.AnswersOf.{Hint}
-use Rattle.cacache_system_laws.specs.Machine.{Machine}
-use Rattle.cacache_system_laws.specs.Laws.{Agrees}
-use Rattle.cacache_system_laws.specs.OneCall.{StillStands}
+use Rattle.cacache_disk.specs.{declared.node.Node.TheVariants.{Link}, Tree.{Tree, look}, LedTo.{place}}
+use Rattle.cacache_system.specs.{Seen.{NumberedTemp}, AnswersOf.{Hint}}
+use Rattle.cacache_system_laws.specs.{Machine.{Machine}, Laws.{Agrees}, OneCall.{StillStands}}
 
 -- no link stands at the last name of a path
 abbrev pub EndsInNoLink : Tree → List ℕ → Type 0

@@ -3,17 +3,9 @@ use Rattle.std.specs.Prelude.{◌≡◌, ◌⊎◌, ℕ, List, None, take}
 use Rattle.cacache_core.specs.PathNames.{Names}
 use Rattle.cacache_store.specs.declared.store.step.Step.TheVariants as steps
 use Rattle.cacache_store.specs.declared.store.answer.Answer.TheVariants as answers
-use Rattle.cacache_disk.specs.declared.luck.Luck.{Luck}
-use Rattle.cacache_disk.specs.declared.luck.Luck.TheVariants.{Plain}
-use Rattle.cacache_disk.specs.Tree.{look}
-use Rattle.cacache_disk.specs.Apply.{apply, lengthened}
-use Rattle.cacache_system.specs.declared.call.CallResult.{CallResult}
-use Rattle.cacache_system.specs.Seen.{NumberedTemp}
-use Rattle.cacache_system.specs.AnswersOf.{Hint, first, answer_of}
-use Rattle.cacache_system_laws.specs.Machine.{Machine}
-use Rattle.cacache_system_laws.specs.Calls.{GoesWell, OccursSomehow}
-use Rattle.cacache_system_laws.specs.Laws.{step_on, outcome, led_to, Leads, Agrees}
-use Rattle.cacache_system_laws.specs.OneCall.{StillStands}
+use Rattle.cacache_disk.specs.{declared.luck.Luck.{Luck, TheVariants.{Plain}}, Tree.{look}, Apply.{apply, lengthened}}
+use Rattle.cacache_system.specs.{declared.call.CallResult.{CallResult}, Seen.{NumberedTemp}, AnswersOf.{Hint, first, answer_of}}
+use Rattle.cacache_system_laws.specs.{Machine.{Machine}, Calls.{GoesWell, OccursSomehow}, Laws.{step_on, outcome, led_to, Leads, Agrees}, OneCall.{StillStands}}
 
 -- a line is appended
 abbrev pub AppendAgrees : Type 0

@@ -3,25 +3,13 @@ use Rattle.std.proofs.Common.{◌≡◌, ◌∙◌, Bool, true, false, List, ref
 use Rattle.std.specs.Prelude.{◌⊎◌, ⊤, Option, None, Some, Result, Ok, Err, IfSome, IsSomeAnd, MatchResult}
 use Rattle.std_io.specs.declared.io.kind.ErrorKind.{ErrorKind}
 use Rattle.std_io.specs.declared.io.kind.ErrorKind.TheVariants as kind
-use Rattle.cacache_core.specs.Contexts.{fault_of}
-use Rattle.cacache_core.specs.declared.errors.Fault.{Fault}
-use Rattle.cacache_core.specs.declared.errors.Fault.TheVariants.{Unsupported, ShortAppend, Closed, OtherBytes, Cancelled}
-use Rattle.cacache_core.specs.PathNames.{Names}
-use Rattle.cacache_disk.specs.declared.node.Node.{Node}
-use Rattle.cacache_disk.specs.declared.node.Node.TheVariants.{Folder, File, Link}
-use Rattle.cacache_disk.specs.declared.stop.Stop.{Stop}
+use Rattle.cacache_core.specs.{Contexts.{fault_of}, declared.errors.Fault.{Fault, TheVariants.{Unsupported, ShortAppend, Closed, OtherBytes, Cancelled}}, PathNames.{Names}}
+use Rattle.cacache_disk.specs.{declared.{node.Node.{Node, TheVariants.{Folder, File, Link}}, stop.Stop.{Stop}}, Tree.{Tree, look, put, cut}}
 use Rattle.cacache_disk.specs.declared.stop.Stop.TheVariants as stop
-use Rattle.cacache_disk.specs.Tree.{Tree, look, put, cut}
-use Rattle.cacache_system.specs.declared.call.FileInfo.{FileInfo}
-use Rattle.cacache_system.specs.declared.call.CallResult.{CallResult}
+use Rattle.cacache_system.specs.{declared.call.{FileInfo.{FileInfo}, CallResult.{CallResult}}, AnswersOf.{refuses_memory}}
 use Rattle.cacache_system.specs.declared.call.CallResult.TheVariants as says
-use Rattle.cacache_system.specs.AnswersOf.{refuses_memory}
-use Rattle.cacache_system_laws.specs.Machine.{link_fault, IsRefused, ChangesTree, Describes, ShowsEnd, LinksNode, MovesNode}
-use Rattle.cacache_system_laws.proofs.Saying.{CanSay, Sayable, LinkSayable}
-use Rattle.cacache_system_memory.specs.declared.memory.OpenFile.{OpenFile}
-use Rattle.cacache_system_memory.specs.Stopping.{kind_for, outcome}
-use Rattle.cacache_system_memory.specs.Changes.{Changed, Stopped, MovedNode, Shown, info_of}
-use Rattle.cacache_system_memory.specs.Machines.{machine, GivesUp}
+use Rattle.cacache_system_laws.{specs.Machine.{link_fault, IsRefused, ChangesTree, Describes, ShowsEnd, LinksNode, MovesNode}, proofs.Saying.{CanSay, Sayable, LinkSayable}}
+use Rattle.cacache_system_memory.specs.{declared.memory.OpenFile.{OpenFile}, Stopping.{kind_for, outcome}, Changes.{Changed, Stopped, MovedNode, Shown, info_of}, Machines.{machine, GivesUp}}
 
 -- ---- faults
 

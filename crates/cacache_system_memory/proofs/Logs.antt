@@ -1,9 +1,6 @@
 -- A run of a step's calls in a log that is kept.
-use Rattle.std.proofs.Common.{◌≡◌, ◌++◌, List}
-use Rattle.std.specs.Prelude.{Some}
-use Rattle.cacache_system.specs.declared.call.CallItem.{CallItem}
-use Rattle.cacache_system.specs.Seen.{NumberedStep, NumberedAnswer}
-use Rattle.cacache_system.specs.AnswersOf.{StepRuns}
+use Rattle.std.{proofs.Common.{◌≡◌, ◌++◌, List}, specs.Prelude.{Some}}
+use Rattle.cacache_system.specs.{declared.call.CallItem.{CallItem}, Seen.{NumberedStep, NumberedAnswer}, AnswersOf.{StepRuns}}
 use Rattle.cacache_system_memory.specs.Runs.{LogsRun}
 
 same_log : (one other : List CallItem) → Some one ≡ Some other → one ≡ other

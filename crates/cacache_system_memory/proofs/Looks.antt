@@ -1,14 +1,8 @@
 -- What is asked of a path.
-use Rattle.std.proofs.Common.{◌≡◌, ℕ, List, refl}
-use Rattle.std.specs.Prelude.{None, Some, Ok, Err}
-use Rattle.cacache_core.specs.declared.errors.Fault.TheVariants.{NotFound}
-use Rattle.cacache_core.specs.PathNames.{Names}
-use Rattle.cacache_disk.specs.declared.node.Node.{Node}
-use Rattle.cacache_disk.specs.declared.stop.Stop.{Stop}
+use Rattle.std.{proofs.Common.{◌≡◌, ℕ, List, refl}, specs.Prelude.{None, Some, Ok, Err}}
+use Rattle.cacache_core.specs.{declared.errors.Fault.TheVariants.{NotFound}, PathNames.{Names}}
+use Rattle.cacache_disk.specs.{declared.{node.Node.{Node}, stop.Stop.{Stop}}, Tree.{Tree, look}, LedTo.{place, leads, found, standing}, Stops.{Stops}}
 use Rattle.cacache_disk.specs.declared.stop.Stop.TheVariants as stop
-use Rattle.cacache_disk.specs.Tree.{Tree, look}
-use Rattle.cacache_disk.specs.LedTo.{place, leads, found, standing}
-use Rattle.cacache_disk.specs.Stops.{Stops}
 use Rattle.cacache_system_memory.specs.Changes.{Shown, info_of}
 
 pub found_there : (t : Tree) (path : List ℕ) (names : Names) (node : Node) → leads t path ≡ Ok names → Some node ≡ look t names → Shown (found t path) t (Ok (info_of node))

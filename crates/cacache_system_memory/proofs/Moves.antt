@@ -1,20 +1,11 @@
 -- Hard links and moves, whose source is looked at first.
-use Rattle.std.proofs.Common.{◌≡◌, ℕ, List, refl, sym, ap}
-use Rattle.std.specs.Prelude.{⊤, Option, None, Some, Result, Ok, Err, MatchResult, IsOk, IsOkAnd}
-use Rattle.cacache_core.specs.declared.errors.Fault.{Fault}
-use Rattle.cacache_core.specs.PathNames.{Names}
+use Rattle.std.{proofs.Common.{◌≡◌, ℕ, List, refl, sym, ap}, specs.Prelude.{⊤, Option, None, Some, Result, Ok, Err, MatchResult, IsOk, IsOkAnd}}
+use Rattle.cacache_core.specs.{declared.errors.Fault.{Fault}, PathNames.{Names}}
 use Rattle.cacache_store.specs.declared.store.step.Step.TheVariants as steps
-use Rattle.cacache_disk.specs.declared.node.Node.{Node}
-use Rattle.cacache_disk.specs.declared.node.Node.TheVariants.{Folder, File, Link}
-use Rattle.cacache_disk.specs.declared.stop.Stop.{Stop}
+use Rattle.cacache_disk.specs.{declared.{node.Node.{Node, TheVariants.{Folder, File, Link}}, stop.Stop.{Stop}}, Tree.{Tree, look, put, cut}, LedTo.{place, free, replaceable, kept, linked, linked_in}, Apply.{apply}, Stops.{Stops}}
 use Rattle.cacache_disk.specs.declared.stop.Stop.TheVariants as stop
-use Rattle.cacache_disk.specs.Tree.{Tree, look, put, cut}
-use Rattle.cacache_disk.specs.LedTo.{place, free, replaceable, kept, linked, linked_in}
-use Rattle.cacache_disk.specs.Apply.{apply}
-use Rattle.cacache_disk.specs.Stops.{Stops}
-use Rattle.cacache_system_memory.specs.Changes.{Does, Changed, Linked, Movable, Moved, MovedNode, IsUnmoved, Stopped, link_stop}
+use Rattle.cacache_system_memory.{specs.Changes.{Does, Changed, Linked, Movable, Moved, MovedNode, IsUnmoved, Stopped, link_stop}, proofs.Steps.{changes, place_parts}}
 use Rattle.cacache_system_laws.specs.Machine.{link_fault}
-use Rattle.cacache_system_memory.proofs.Steps.{changes, place_parts}
 
 -- ---- hard links
 

@@ -1,17 +1,11 @@
 -- What goes as the model says, or fails for want of memory, happens under some luck.
-use Rattle.std.proofs.Common.{◌≡◌, ℕ, List, refl, inl, inr}
-use Rattle.std.specs.Prelude.{None, Result, Ok, Err}
+use Rattle.std.{proofs.Common.{◌≡◌, ℕ, List, refl, inl, inr}, specs.Prelude.{None, Result, Ok, Err}}
 use Rattle.std_io.specs.declared.io.kind.ErrorKind.TheVariants as kind
-use Rattle.cacache_core.specs.declared.errors.Fault.{Fault}
-use Rattle.cacache_core.specs.declared.errors.Fault.TheVariants.{Unsupported, Device, InvalidInput}
-use Rattle.cacache_core.specs.PathNames.{Names}
-use Rattle.cacache_disk.specs.declared.luck.Luck.TheVariants.{Plain, Fail}
-use Rattle.cacache_disk.specs.Tree.{Tree}
-use Rattle.cacache_disk.specs.LedTo.{file_at, writable}
+use Rattle.cacache_core.specs.{declared.errors.Fault.{Fault, TheVariants.{Unsupported, Device, InvalidInput}}, PathNames.{Names}}
+use Rattle.cacache_disk.specs.{declared.luck.Luck.TheVariants.{Plain, Fail}, Tree.{Tree}, LedTo.{file_at, writable}}
 use Rattle.cacache_system.specs.declared.call.SystemCall.{SystemCall}
 use Rattle.cacache_system.specs.declared.call.SystemCall.TheVariants as asks
-use Rattle.cacache_system_laws.specs.Machine.{Machine}
-use Rattle.cacache_system_laws.specs.Calls.{part_copied, LeavesPart}
+use Rattle.cacache_system_laws.specs.{Machine.{Machine}, Calls.{part_copied, LeavesPart}}
 use Rattle.cacache_system_memory.specs.Machines.{GoesOccur, MovesOccur}
 
 none_copied : (source : Result (List ℕ) Fault) (ends : Result Names Fault) (t : Tree) → t ≡ part_copied source ends None t

@@ -1,14 +1,9 @@
 -- The folders on the way of a path, one by one.
-use Rattle.std.proofs.Common.{◌≡◌, ◌+◌, ◌-◌, ◌<◌, ◌≤◌, ℕ, List, [], ◌∷◌, length, take, drop, refl, arith}
-use Rattle.std.specs.Prelude.{None, Ok}
-use Rattle.std.proofs.lemmas.List.{length-drop}
+use Rattle.std.{proofs.{Common.{◌≡◌, ◌+◌, ◌-◌, ◌<◌, ◌≤◌, ℕ, List, [], ◌∷◌, length, take, drop, refl, arith}, lemmas.List.{length-drop}}, specs.Prelude.{None, Ok}}
 use Rattle.cacache_core.specs.PathNames.{Names, names_of}
-use Rattle.cacache_disk.specs.declared.stop.Stop.{Stop}
-use Rattle.cacache_disk.specs.declared.stop.Stop.TheVariants as stop
-use Rattle.cacache_disk.specs.Tree.{Tree, look}
-use Rattle.cacache_disk.specs.LedTo.{through, way_fault, place}
-use Rattle.cacache_disk.specs.Stops.{Stops, Blocks}
+use Rattle.cacache_disk.specs.{declared.stop.Stop.{Stop}, Tree.{Tree, look}, LedTo.{through, way_fault, place}, Stops.{Stops, Blocks}}
 use Rattle.cacache_disk.proofs.PathFolders.{drop_here, front_next}
+use Rattle.cacache_disk.specs.declared.stop.Stop.TheVariants as stop
 
 -- a text without names leads nowhere
 pub place_bad : (t : Tree) (path : List ℕ) (why : Stop) → Stops why (names_of path) → Stops why (place t path)

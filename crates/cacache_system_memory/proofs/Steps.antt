@@ -1,24 +1,12 @@
 -- What the disk's table says of the steps that stand for calls.
-use Rattle.std.proofs.Common.{◌≡◌, ◌∙◌, ◌<◌, ◌==◌, ℕ, suc, false, List, [], ◌∷◌, ◌++◌, length, refl, sym, ap, subst, append_assoc, arith}
-use Rattle.std.proofs.lemmas.Bool.Decides.{nat_tests}
+use Rattle.std.proofs.{Common.{◌≡◌, ◌∙◌, ◌<◌, ◌==◌, ℕ, suc, false, List, [], ◌∷◌, ◌++◌, length, refl, sym, ap, subst, append_assoc, arith}, lemmas.Bool.Decides.{nat_tests}}
 use Rattle.std.specs.Prelude.{⊤, Option, None, Some, Result, Ok, Err}
-use Rattle.cacache_core.specs.declared.errors.Fault.{Fault}
-use Rattle.cacache_core.specs.declared.errors.Fault.TheVariants.{AlreadyExists}
-use Rattle.cacache_core.specs.PathNames.{Names, names_of}
-use Rattle.cacache_store.specs.Plain.{PlainStep, PlainAnswer}
+use Rattle.cacache_core.specs.{declared.errors.Fault.{Fault, TheVariants.{AlreadyExists}}, PathNames.{Names, names_of}}
+use Rattle.cacache_store.specs.{Plain.{PlainStep, PlainAnswer}, declared.store.answer.Answer.TheVariants.{Done, Failed}}
 use Rattle.cacache_store.specs.declared.store.step.Step.TheVariants as steps
-use Rattle.cacache_store.specs.declared.store.answer.Answer.TheVariants.{Done, Failed}
-use Rattle.cacache_disk.specs.declared.luck.Luck.TheVariants.{Plain}
-use Rattle.cacache_disk.specs.declared.node.Node.{Node}
-use Rattle.cacache_disk.specs.declared.node.Node.TheVariants.{Folder, File, Link}
-use Rattle.cacache_disk.specs.declared.stop.Stop.{Stop}
-use Rattle.cacache_disk.specs.declared.stop.Stop.TheVariants as stop
-use Rattle.cacache_disk.specs.Tree.{Tree, look, put, cut}
-use Rattle.cacache_disk.specs.LedTo.{through, way_fault, or_fault, dirs_fault, dirs, place, free, removable, emptied}
-use Rattle.cacache_disk.specs.Apply.{unless, apply, fault_told, make_some}
-use Rattle.cacache_disk.specs.Rooted.{Rooted}
-use Rattle.cacache_disk.specs.Stops.{Stops}
+use Rattle.cacache_disk.specs.{declared.{luck.Luck.TheVariants.{Plain}, node.Node.{Node, TheVariants.{Folder, File, Link}}, stop.Stop.{Stop}}, Tree.{Tree, look, put, cut}, LedTo.{through, way_fault, or_fault, dirs_fault, dirs, place, free, removable, emptied}, Apply.{unless, apply, fault_told, make_some}, Rooted.{Rooted}, Stops.{Stops}}
 use Rattle.cacache_disk.proofs.FoundNodes.{and_then_ok, or_fault_none}
+use Rattle.cacache_disk.specs.declared.stop.Stop.TheVariants as stop
 use Rattle.cacache_system_memory.specs.Changes.{Does, Changed}
 
 clash : (fault : Fault) → Some fault ≡ None → ⊥

@@ -1,19 +1,9 @@
 -- What the calls do to the tree, where memory may be refused.
 use Rattle.std.specs.Prelude.{◌≡◌, ⊤, ℕ, List, Option, None, Some, IsSomeAnd, Result, Ok, Err, MatchResult, IsOkAnd, length}
-use Rattle.cacache_core.specs.declared.errors.Fault.{Fault}
-use Rattle.cacache_core.specs.declared.errors.Fault.TheVariants.{Unsupported}
-use Rattle.cacache_core.specs.PathNames.{Names}
-use Rattle.cacache_store.specs.Plain.{PlainStep, PlainAnswer}
-use Rattle.cacache_store.specs.declared.store.answer.Answer.TheVariants.{Failed}
-use Rattle.cacache_disk.specs.declared.luck.Luck.TheVariants.{Plain}
-use Rattle.cacache_disk.specs.declared.node.Node.{Node}
-use Rattle.cacache_disk.specs.declared.node.Node.TheVariants.{Folder, File, Link}
-use Rattle.cacache_disk.specs.declared.stop.Stop.{Stop}
+use Rattle.cacache_core.specs.{declared.errors.Fault.{Fault, TheVariants.{Unsupported}}, PathNames.{Names}}
+use Rattle.cacache_store.specs.{Plain.{PlainStep, PlainAnswer}, declared.store.answer.Answer.TheVariants.{Failed}}
+use Rattle.cacache_disk.specs.{declared.{luck.Luck.TheVariants.{Plain}, node.Node.{Node, TheVariants.{Folder, File, Link}}, stop.Stop.{Stop}}, Tree.{Tree, look, put, cut, kind_of}, Stops.{Stops}, LedTo.{place, free, replaceable, linked}, Apply.{apply, fault_told}}
 use Rattle.cacache_disk.specs.declared.stop.Stop.TheVariants as stop
-use Rattle.cacache_disk.specs.Tree.{Tree, look, put, cut, kind_of}
-use Rattle.cacache_disk.specs.Stops.{Stops}
-use Rattle.cacache_disk.specs.LedTo.{place, free, replaceable, linked}
-use Rattle.cacache_disk.specs.Apply.{apply, fault_told}
 use Rattle.cacache_system.specs.declared.call.FileInfo.{FileInfo}
 use Rattle.cacache_system_laws.specs.Machine.{link_fault, is_regular}
 

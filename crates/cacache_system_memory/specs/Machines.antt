@@ -3,17 +3,12 @@ use Rattle.std.specs.Prelude.{◌≡◌, ◌⊎◌, ℕ, List, [], None, option_
 use Rattle.std_io.specs.declared.io.kind.ErrorKind.{ErrorKind}
 use Rattle.std_io.specs.declared.io.kind.ErrorKind.TheVariants as kind
 use Rattle.cacache_disk.specs.Tree.{Tree}
-use Rattle.cacache_system.specs.declared.call.SystemCall.{SystemCall}
+use Rattle.cacache_system.specs.declared.call.{SystemCall.{SystemCall}, CallResult.{CallResult}, CallItem.{CallItem}}
 use Rattle.cacache_system.specs.declared.call.SystemCall.TheVariants as asks
-use Rattle.cacache_system.specs.declared.call.CallResult.{CallResult}
 use Rattle.cacache_system.specs.declared.call.CallResult.TheVariants as says
-use Rattle.cacache_system.specs.declared.call.CallItem.{CallItem}
 use Rattle.cacache_system_laws.specs.Machine as model
-use Rattle.cacache_system_laws.specs.Machine.{Machine}
-use Rattle.cacache_system_laws.specs.Calls.{GoesWell, OccursSomehow}
-use Rattle.cacache_system_memory.specs.declared.memory.OpenFile.{OpenFile}
-use Rattle.cacache_system_memory.specs.declared.system.MemorySystem.{MemorySystem}
-use Rattle.cacache_system_memory.specs.Noted.{items_of}
+use Rattle.cacache_system_laws.specs.{Machine.{Machine}, Calls.{GoesWell, OccursSomehow}}
+use Rattle.cacache_system_memory.specs.{declared.{memory.OpenFile.{OpenFile}, system.MemorySystem.{MemorySystem}}, Noted.{items_of}}
 
 -- all calls so far, oldest first
 abbrev pub calls_of : MemorySystem → List CallItem

@@ -1,18 +1,11 @@
 -- What a log of calls says of a note.
 use Rattle.std.specs.Prelude.{List, [], Option, None, Some}
-use Rattle.cacache_system.specs.declared.call.SystemCall.{SystemCall}
+use Rattle.cacache_system.specs.{declared.call.{SystemCall.{SystemCall}, CallResult.{CallResult}, CallItem.{CallItem}}, CallLog.{item}}
 use Rattle.cacache_system.specs.declared.call.SystemCall.TheVariants as asks
-use Rattle.cacache_system.specs.declared.call.CallResult.{CallResult}
 use Rattle.cacache_system.specs.declared.call.CallResult.TheVariants as says
-use Rattle.cacache_system.specs.declared.call.CallItem.{CallItem}
-use Rattle.cacache_system.specs.CallLog.{item}
-use Rattle.cacache_system_memory.specs.declared.log.Asked.{Asked}
+use Rattle.cacache_system_memory.specs.declared.log.{Asked.{Asked}, Said.{Said}, Note.{Note}, LoggedCalls.{LoggedCalls}, Log.{Log}}
 use Rattle.cacache_system_memory.specs.declared.log.Asked.TheVariants as ask
-use Rattle.cacache_system_memory.specs.declared.log.Said.{Said}
 use Rattle.cacache_system_memory.specs.declared.log.Said.TheVariants as say
-use Rattle.cacache_system_memory.specs.declared.log.Note.{Note}
-use Rattle.cacache_system_memory.specs.declared.log.LoggedCalls.{LoggedCalls}
-use Rattle.cacache_system_memory.specs.declared.log.Log.{Log}
 
 -- the call
 abbrev pub asked : Asked → SystemCall

@@ -1,10 +1,6 @@
 -- The runs that steps leave in a log.
 use Rattle.std.specs.Prelude.{◌≡◌, ◌++◌, ℕ, List}
-use Rattle.cacache_system.specs.declared.call.CallItem.{CallItem}
-use Rattle.cacache_system.specs.declared.call.CallResult.{CallResult}
-use Rattle.cacache_system.specs.Seen.{NumberedStep, NumberedAnswer}
-use Rattle.cacache_system.specs.CallsOf.{Runs}
-use Rattle.cacache_system.specs.AnswersOf.{Hint, first, answer_of}
+use Rattle.cacache_system.specs.{declared.call.{CallItem.{CallItem}, CallResult.{CallResult}}, Seen.{NumberedStep, NumberedAnswer}, CallsOf.{Runs}, AnswersOf.{Hint, first, answer_of}}
 use Rattle.cacache_system_memory.specs.declared.memory.MemoryFile.{MemoryFile}
 
 -- the number of an open file

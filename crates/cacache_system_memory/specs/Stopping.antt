@@ -6,8 +6,7 @@ use Rattle.cacache_core.specs.declared.errors.Fault.{Fault}
 use Rattle.cacache_core.specs.declared.errors.Fault.TheVariants as faults
 use Rattle.cacache_disk.specs.declared.stop.Stop.{Stop}
 use Rattle.cacache_disk.specs.declared.stop.Stop.TheVariants as stop
-use Rattle.cacache_system.specs.declared.call.CallResult.{CallResult}
-use Rattle.cacache_system.specs.declared.call.CallResult.TheVariants.{Failed}
+use Rattle.cacache_system.specs.declared.call.CallResult.{CallResult, TheVariants.{Failed}}
 
 -- the kind of error that says a fault
 abbrev pub kind_for : Fault → ErrorKind

@@ -1,12 +1,8 @@
 -- What holds wherever an answer leads.
 use Rattle.std.proofs.Common.{◌≡◌, Bool, true, false, cond, Result, Ok, Err, refl}
-use Rattle.cacache_core.specs.declared.errors.Fault.{Fault}
-use Rattle.cacache_core.specs.declared.errors.Error.TheVariants.{OutOfMemory}
-use Rattle.cacache_table.specs.declared.answers.Refusal.{Refusal}
+use Rattle.cacache_core.specs.declared.errors.{Fault.{Fault}, Error.TheVariants.{OutOfMemory}}
+use Rattle.cacache_table.specs.{declared.answers.Refusal.{Refusal}, State.{State}, Common.{ends_with, go_on}, Walking.{failed}}
 use Rattle.cacache_table.specs.declared.answers.Refusal.TheVariants as refusals
-use Rattle.cacache_table.specs.State.{State}
-use Rattle.cacache_table.specs.Common.{ends_with, go_on}
-use Rattle.cacache_table.specs.Walking.{failed}
 
 module _ (P : State → Type 0) where
   pub cond_leads : (b : Bool) (s t : State) → (b ≡ true → P s) → (b ≡ false → P t) → P (cond b s t)

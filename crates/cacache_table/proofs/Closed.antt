@@ -1,43 +1,13 @@
 -- Which state leads to which, gone through once: a property of states that a few moves keep is kept by every call.
 use Rattle.std.proofs.Common.{◌≡◌, ◌+◌, ◌-◌, ◌==◌, ℕ, Bool, true, false, cond, nat_le, List, [], ◌∷◌, ◌++◌, Option, None, Some, Result, Ok, length, take, drop, sym, subst}
 use Rattle.std.specs.Prelude.{All}
-use Rattle.cacache_core.specs.declared.errors.Fault.{Fault}
+use Rattle.cacache_core.specs.{declared.errors.{Fault.{Fault}, Error.TheVariants.{IntegrityError, OutOfMemory}, IntegrityFault.TheVariants.{Check}}, Integrity.{actual}, Meeting.{meets}}
 use Rattle.cacache_core.specs.declared.errors.Fault.TheVariants as faults
-use Rattle.cacache_core.specs.declared.errors.Error.TheVariants.{IntegrityError, OutOfMemory}
-use Rattle.cacache_core.specs.declared.errors.IntegrityFault.TheVariants.{Check}
-use Rattle.cacache_core.specs.Integrity.{actual}
-use Rattle.cacache_core.specs.Meeting.{meets}
-use Rattle.cacache_store.specs.declared.store.answer.Name.{Name}
-use Rattle.cacache_store.specs.declared.store.plain.PlainFile.{PlainFile}
-use Rattle.cacache_store.specs.declared.store.plain.PlainTemp.{PlainTemp}
+use Rattle.cacache_store.specs.{declared.store.{answer.Name.{Name}, plain.{PlainFile.{PlainFile}, PlainTemp.{PlainTemp}}}, Plain.{PlainStep, PlainAnswer}}
 use Rattle.cacache_store.specs.declared.store.step.Step.TheVariants as steps
-use Rattle.cacache_store.specs.Plain.{PlainStep, PlainAnswer}
 use Rattle.cacache_entry.specs.Latest.{Found}
-use Rattle.cacache_table.specs.declared.answers.Refusal.{Refusal}
-use Rattle.cacache_table.specs.declared.reply.Reply.TheVariants.{Copied, Done, Exists, Listed, Read}
-use Rattle.cacache_table.specs.Answers.{done_in, temp_in, written_in, synced_in, there_in, taken_in, bytes_in, file_in, got_in, length_in, names_in}
-use Rattle.cacache_table.specs.Common.{ends_with, fails, go_on}
-use Rattle.cacache_table.specs.ContentReads.{checked, answer_there, answer_absent}
-use Rattle.cacache_table.specs.Exporting.{copied_count}
-use Rattle.cacache_table.specs.Inserting.{bucket_line, recorded, after_append}
-use Rattle.cacache_table.specs.Linking.{with_size, after_size, after_read, hashed_path}
-use Rattle.cacache_table.specs.Looking.{found_in, found_for, after_bucket, no_bucket}
-use Rattle.cacache_table.specs.State.{State, doing, creating, writing, syncing, persisting, linking, confirming, appending, looking, reading, asking, sizing, opening_file, hashing, copying, walking, over, Insertion, Hashing, to_link, Errand, make_folder, sync_file, sync_dir, Item, Walk}
-use Rattle.cacache_table.specs.declared.carried.Commit.{Commit}
-use Rattle.cacache_table.specs.declared.carried.Lookup.{Lookup}
-use Rattle.cacache_table.specs.declared.carried.Content.{Content}
-use Rattle.cacache_table.specs.declared.target.Target.{Target}
-use Rattle.cacache_table.specs.declared.visit.Visit.{Visit}
-use Rattle.cacache_table.specs.declared.visit.Task.{Task}
-use Rattle.cacache_table.specs.declared.visit.Visit.TheVariants.{Enter, ReadBucket, RemoveFile, RemoveFolder}
-use Rattle.cacache_table.specs.declared.visit.Task.TheVariants.{Make, Stumble}
-use Rattle.cacache_table.specs.StepPaths.{temp_path, content_folder}
-use Rattle.cacache_table.specs.Storing.{placed, secured, write_rest, after_write, after_confirm}
-use Rattle.cacache_table.specs.Table.{piece, wants, after}
-use Rattle.cacache_table.specs.Walking.{EachVisit, most, failed, give, miss, walk_on, tasks_of, leaving, too_many, entered, unread_bucket, listed, visit_step, after_visit, items_in}
-use Rattle.cacache_table.proofs.Branches.{cond_leads, go_on_leads}
-use Rattle.cacache_table.proofs.Leading.{moves_on, secures, secures_found, records}
-use Rattle.cacache_table.proofs.Visits.{each_append, MayMeet, each_name, each_leaving}
+use Rattle.cacache_table.specs.{declared.{answers.Refusal.{Refusal}, reply.Reply.TheVariants.{Copied, Done, Exists, Listed, Read}, carried.{Commit.{Commit}, Lookup.{Lookup}, Content.{Content}}, target.Target.{Target}, visit.{Visit.{Visit, TheVariants.{Enter, ReadBucket, RemoveFile, RemoveFolder}}, Task.{Task, TheVariants.{Make, Stumble}}}}, Answers.{done_in, temp_in, written_in, synced_in, there_in, taken_in, bytes_in, file_in, got_in, length_in, names_in}, Common.{ends_with, fails, go_on}, ContentReads.{checked, answer_there, answer_absent}, Exporting.{copied_count}, Inserting.{bucket_line, recorded, after_append}, Linking.{with_size, after_size, after_read, hashed_path}, Looking.{found_in, found_for, after_bucket, no_bucket}, State.{State, doing, creating, writing, syncing, persisting, linking, confirming, appending, looking, reading, asking, sizing, opening_file, hashing, copying, walking, over, Insertion, Hashing, to_link, Errand, make_folder, sync_file, sync_dir, Item, Walk}, StepPaths.{temp_path, content_folder}, Storing.{placed, secured, write_rest, after_write, after_confirm}, Table.{piece, wants, after}, Walking.{EachVisit, most, failed, give, miss, walk_on, tasks_of, leaving, too_many, entered, unread_bucket, listed, visit_step, after_visit, items_in}}
+use Rattle.cacache_table.proofs.{Branches.{cond_leads, go_on_leads}, Leading.{moves_on, secures, secures_found, records}, Visits.{each_append, MayMeet, each_name, each_leaving}}
 
 -- nothing is asked of a walk
 abbrev pub AnyWalk : Bool → Type 0

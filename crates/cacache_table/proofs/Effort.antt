@@ -1,53 +1,15 @@
 -- Runs end: each answer lowers the effort that is still to come.
-use Rattle.std.proofs.Common.{◌≡◌, ℕ, zero, suc, ◌+◌, ◌*◌, ◌-◌, ◌^◌, ◌<◌, ◌≤◌, ◌==◌, List, [], ◌∷◌, ◌++◌, Option, Some, None, Bool, true, false, cond, nat_le, nat_lt, Ok, refl, ap, ◌∙◌, length, drop, take, arith, length-drop}
-use Rattle.std.proofs.lemmas.Bool.{eqb-false, leb-true}
-use Rattle.cacache_core.specs.declared.errors.Fault.{Fault}
+use Rattle.std.proofs.{Common.{◌≡◌, ℕ, zero, suc, ◌+◌, ◌*◌, ◌-◌, ◌^◌, ◌<◌, ◌≤◌, ◌==◌, List, [], ◌∷◌, ◌++◌, Option, Some, None, Bool, true, false, cond, nat_le, nat_lt, Ok, refl, ap, ◌∙◌, length, drop, take, arith, length-drop}, lemmas.Bool.{eqb-false, leb-true}}
+use Rattle.cacache_core.specs.{declared.{errors.{Fault.{Fault}, SerdeCause.{SerdeCause}, IntegrityFault.TheVariants.{Check}, Error.TheVariants.{SizeMismatch, IntegrityError}}, integrity.digest.Hash.{Hash}}, Integrity.{actual, address}, Paths.{join, folders_to, content_names}, Meeting.{meets}}
 use Rattle.cacache_core.specs.declared.errors.Fault.TheVariants as faults
-use Rattle.cacache_core.specs.declared.errors.SerdeCause.{SerdeCause}
-use Rattle.cacache_core.specs.declared.errors.IntegrityFault.TheVariants.{Check}
-use Rattle.cacache_core.specs.declared.errors.Error.TheVariants.{SizeMismatch, IntegrityError}
-use Rattle.cacache_core.specs.declared.integrity.digest.Hash.{Hash}
-use Rattle.cacache_core.specs.Integrity.{actual}
-use Rattle.cacache_core.specs.Integrity.{address}
-use Rattle.cacache_core.specs.Paths.{join, folders_to, content_names}
-use Rattle.cacache_store.specs.declared.store.plain.PlainTemp.{PlainTemp}
-use Rattle.cacache_store.specs.declared.store.plain.PlainFile.{PlainFile}
-use Rattle.cacache_store.specs.declared.store.answer.Kind.{Kind}
+use Rattle.cacache_store.specs.{declared.store.{plain.{PlainTemp.{PlainTemp}, PlainFile.{PlainFile}}, answer.{Kind.{Kind}, Name.{Name}}}, Plain.{PlainStep, PlainAnswer}, Fits.{Fits}}
 use Rattle.cacache_store.specs.declared.store.answer.Kind.TheVariants as kinds
-use Rattle.cacache_store.specs.declared.store.answer.Name.{Name}
 use Rattle.cacache_store.specs.declared.store.answer.Answer.TheVariants as answers
 use Rattle.cacache_store.specs.declared.store.step.Step.TheVariants as steps
-use Rattle.cacache_store.specs.Plain.{PlainStep, PlainAnswer}
-use Rattle.cacache_store.specs.Fits.{Fits}
 use Rattle.cacache_entry.specs.Latest.{Found}
-use Rattle.cacache_table.specs.declared.command.Export.{Export}
-use Rattle.cacache_table.specs.declared.command.How.{How}
-use Rattle.cacache_table.specs.declared.command.How.TheVariants.{Copy, Reflink, HardLink}
-use Rattle.cacache_table.specs.declared.reply.Reply.TheVariants.{Read, Exists, Copied, Listed, Done}
-use Rattle.cacache_table.specs.Answers.{done_in, temp_in, written_in, synced_in, there_in, taken_in, bytes_in, file_in, got_in, length_in, names_in}
-use Rattle.cacache_core.specs.Meeting.{meets}
-use Rattle.cacache_table.specs.StepPaths.{content_path, addressed, content_folders, bucket_path, bucket_folders}
-use Rattle.cacache_table.specs.State.{State, doing, creating, writing, syncing, persisting, linking, confirming, appending, looking, reading, asking, sizing, opening_file, hashing, copying, walking, over, Insertion, Hashing, to_verify, to_link, Item, Walk, sync_file, sync_dir}
-use Rattle.cacache_table.specs.declared.carried.Commit.{Commit}
-use Rattle.cacache_table.specs.declared.carried.Aim.{Aim}
-use Rattle.cacache_table.specs.declared.carried.Lookup.{Lookup}
-use Rattle.cacache_table.specs.declared.carried.Content.{Content}
-use Rattle.cacache_table.specs.declared.visit.Visit.{Visit}
-use Rattle.cacache_table.specs.declared.visit.Task.{Task}
-use Rattle.cacache_table.specs.declared.visit.Visit.TheVariants.{Enter, ReadBucket, RemoveFile, RemoveFolder}
-use Rattle.cacache_table.specs.declared.visit.Task.TheVariants.{Make, Stumble}
-use Rattle.cacache_table.specs.declared.carried.Aim.TheVariants as aims
-use Rattle.cacache_table.specs.Common.{ends_with, fails, sync_up}
-use Rattle.cacache_table.specs.Inserting.{unless_refused, refused_cause, bucket_line, recorded, after_append}
-use Rattle.cacache_table.specs.Storing.{insertion_of, indexed, sized, matches, compared, placed, secured, secured_found, move_in, write_rest, after_write, after_confirm}
-use Rattle.cacache_table.specs.ContentReads.{checked}
-use Rattle.cacache_table.specs.Exporting.{export_from, export, copied_count}
-use Rattle.cacache_table.specs.Linking.{after_size, hashed_path, hashed, after_read}
-use Rattle.cacache_table.specs.Looking.{found_in, found_for, after_bucket, no_bucket}
-use Rattle.cacache_table.specs.Walking.{most, failed, give, miss, walk_on, go_deeper, task_for_name, tasks_of, leaving, too_many, entered, unread_bucket, after_visit, items_in}
-use Rattle.cacache_table.specs.Table.{piece, wants, after}
-use Rattle.cacache_table.specs.Runs.{weight, weights, effort}
+use Rattle.cacache_table.specs.{declared.{command.{Export.{Export}, How.{How, TheVariants.{Copy, Reflink, HardLink}}}, reply.Reply.TheVariants.{Read, Exists, Copied, Listed, Done}, carried.{Commit.{Commit}, Aim.{Aim}, Lookup.{Lookup}, Content.{Content}}, visit.{Visit.{Visit, TheVariants.{Enter, ReadBucket, RemoveFile, RemoveFolder}}, Task.{Task, TheVariants.{Make, Stumble}}}}, Answers.{done_in, temp_in, written_in, synced_in, there_in, taken_in, bytes_in, file_in, got_in, length_in, names_in}, StepPaths.{content_path, addressed, content_folders, bucket_path, bucket_folders}, State.{State, doing, creating, writing, syncing, persisting, linking, confirming, appending, looking, reading, asking, sizing, opening_file, hashing, copying, walking, over, Insertion, Hashing, to_verify, to_link, Item, Walk, sync_file, sync_dir}, Common.{ends_with, fails, sync_up}, Inserting.{unless_refused, refused_cause, bucket_line, recorded, after_append}, Storing.{insertion_of, indexed, sized, matches, compared, placed, secured, secured_found, move_in, write_rest, after_write, after_confirm}, ContentReads.{checked}, Exporting.{export_from, export, copied_count}, Linking.{after_size, hashed_path, hashed, after_read}, Looking.{found_in, found_for, after_bucket, no_bucket}, Walking.{most, failed, give, miss, walk_on, go_deeper, task_for_name, tasks_of, leaving, too_many, entered, unread_bucket, after_visit, items_in}, Table.{piece, wants, after}, Runs.{weight, weights, effort}}
 use Rattle.cacache_table.proofs.Branches.{cond_leads, go_on_leads}
+use Rattle.cacache_table.specs.declared.carried.Aim.TheVariants as aims
 
 abbrev Below : ℕ → State → Type 0
 Below n s = effort s < n

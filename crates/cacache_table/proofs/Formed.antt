@@ -1,19 +1,13 @@
 -- The entries that a command or a commit may add are well-formed, since those of their key and options are.
-use Rattle.std.proofs.Common.{◌≡◌, ℕ, ◌<◌, ◌^◌, List, Option, None, Some, sym, subst, ◌∙◌, arith}
-use Rattle.std.specs.Prelude.{IsUtf8}
+use Rattle.std.{proofs.Common.{◌≡◌, ℕ, ◌<◌, ◌^◌, List, Option, None, Some, sym, subst, ◌∙◌, arith}, specs.Prelude.{IsUtf8}}
 use Rattle.cacache_core.specs.declared.integrity.digest.Hash.{Hash}
-use Rattle.cacache_entry.specs.FittingEntries.{IsUtf8IfAny, AreBytes, IsJson}
-use Rattle.cacache_entry.proofs.WellRead.{IsJson-null}
-use Rattle.cacache_table.specs.declared.carried.Commit.{Commit}
-use Rattle.cacache_table.specs.declared.command.Options.{Options}
+use Rattle.cacache_entry.{specs.FittingEntries.{IsUtf8IfAny, AreBytes, IsJson}, proofs.WellRead.{IsJson-null}}
+use Rattle.cacache_table.specs.{declared.{carried.Commit.{Commit}, command.Options.{Options}}, Formed.{FormsCommand, FormsCommit, FormsEntries}, Inserting.{given_text, given_size, refused_cause}, State.{Site}}
+use Rattle.cacache_table.proofs.IntegrityUtf8.{integrity_utf8}
 use Rattle.cacache_table.specs.declared.command.Link as links
 use Rattle.cacache_table.specs.declared.command.Insert as inserts
 use Rattle.cacache_table.specs.declared.command.Delete as deletes
 use Rattle.cacache_table.specs.declared.command.Command.TheVariants as commands
-use Rattle.cacache_table.specs.Formed.{FormsCommand, FormsCommit, FormsEntries}
-use Rattle.cacache_table.specs.Inserting.{given_text, given_size, refused_cause}
-use Rattle.cacache_table.specs.State.{Site}
-use Rattle.cacache_table.proofs.IntegrityUtf8.{integrity_utf8}
 
 text_utf8 : (o : Option (List Hash)) → IsUtf8IfAny (given_text o)
 text_utf8 None = tt

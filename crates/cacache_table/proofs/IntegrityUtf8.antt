@@ -1,16 +1,8 @@
 -- The text of an integrity is UTF-8.
-use Rattle.std.proofs.Common.{◌≡◌, ◌&&◌, ℕ, Bool, true, List, [], ◌∷◌, refl}
-use Rattle.std.specs.Prelude.{IsUtf8, nat_lt}
-use Rattle.std.specs.Str.{IsAscii}
-use Rattle.std.proofs.lemmas.Bool.{ltb-true, and_parts}
-use Rattle.std.proofs.lemmas.Str.{IsUtf8-append, IsUtf8-from_ascii, IsUtf8-nil}
-use Rattle.std.proofs.lemmas.Str.Ascii.{IsAscii-nil, IsAscii-cons}
-use Rattle.base64.specs.Engines.{standard}
-use Rattle.base64.proofs.EngineFacts.{IsAscii-encode_of}
-use Rattle.cacache_core.specs.declared.integrity.algorithm.Algorithm.{Algorithm}
-use Rattle.cacache_core.specs.declared.integrity.algorithm.Algorithm.TheVariants.{Sha1, Sha256, Sha384, Sha512}
-use Rattle.cacache_core.specs.declared.integrity.digest.Hash.{Hash}
-use Rattle.cacache_core.specs.Texts.{name_of, hash_text, integrity_text}
+use Rattle.std.proofs.{Common.{◌≡◌, ◌&&◌, ℕ, Bool, true, List, [], ◌∷◌, refl}, lemmas.{Bool.{ltb-true, and_parts}, Str.{IsUtf8-append, IsUtf8-from_ascii, IsUtf8-nil, Ascii.{IsAscii-nil, IsAscii-cons}}}}
+use Rattle.std.specs.{Prelude.{IsUtf8, nat_lt}, Str.{IsAscii}}
+use Rattle.base64.{specs.Engines.{standard}, proofs.EngineFacts.{IsAscii-encode_of}}
+use Rattle.cacache_core.specs.{declared.integrity.{algorithm.Algorithm.{Algorithm, TheVariants.{Sha1, Sha256, Sha384, Sha512}}, digest.Hash.{Hash}}, Texts.{name_of, hash_text, integrity_text}}
 
 abbrev are_ascii : List ℕ → Bool
 are_ascii [] = true

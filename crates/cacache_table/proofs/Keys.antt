@@ -1,11 +1,8 @@
 -- Each key of a bucket is looked up once.
-use Rattle.std.proofs.Common.{◌≡◌, inl, inr, ℕ, List, [], ◌∷◌, Bool, true, false, cond, bytes_eq, refl}
-use Rattle.std.specs.Prelude.{◌↔◌}
-use Rattle.std.specs.List.{list_any}
-use Rattle.std.proofs.lemmas.Slice.Eq.{bytes_eq-Decides}
+use Rattle.std.proofs.{Common.{◌≡◌, inl, inr, ℕ, List, [], ◌∷◌, Bool, true, false, cond, bytes_eq, refl}, lemmas.Slice.Eq.{bytes_eq-Decides}}
+use Rattle.std.specs.{Prelude.{◌↔◌}, List.{list_any}}
 use Rattle.cacache_entry.specs.Entry.{Entry}
-use Rattle.cacache_table.specs.Walking.{once}
-use Rattle.cacache_table.specs.ListReplies.{In, Distinct, keys_of}
+use Rattle.cacache_table.specs.{Walking.{once}, ListReplies.{In, Distinct, keys_of}}
 
 any_in : (k : List ℕ) (ks : List (List ℕ)) → list_any (bytes_eq k) ks ≡ true → In k ks
 any_in k [] h = absurd cc

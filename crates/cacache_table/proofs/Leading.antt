@@ -1,17 +1,8 @@
 -- Where the last states of a commit and of an insertion lead.
 use Rattle.std.proofs.Common.{◌==◌, ℕ, List, [], ◌∷◌, Option, None, Some}
-use Rattle.cacache_core.specs.declared.errors.SerdeCause.{SerdeCause}
-use Rattle.cacache_core.specs.declared.errors.Error.TheVariants.{SizeMismatch, IntegrityError}
-use Rattle.cacache_core.specs.declared.errors.IntegrityFault.TheVariants.{Check}
-use Rattle.cacache_core.specs.declared.integrity.digest.Hash.{Hash}
+use Rattle.cacache_core.specs.declared.{errors.{SerdeCause.{SerdeCause}, Error.TheVariants.{SizeMismatch, IntegrityError}, IntegrityFault.TheVariants.{Check}}, integrity.digest.Hash.{Hash}}
 use Rattle.cacache_store.specs.declared.store.plain.PlainTemp.{PlainTemp}
-use Rattle.cacache_table.specs.declared.reply.Reply.{Reply}
-use Rattle.cacache_table.specs.Common.{ends_with, sync_up}
-use Rattle.cacache_table.specs.Inserting.{unless_refused, refused_cause, recorded}
-use Rattle.cacache_table.specs.State.{State, doing, syncing, persisting, appending, over, Insertion, make_folder, sync_file, sync_dir}
-use Rattle.cacache_table.specs.declared.carried.Commit.{Commit}
-use Rattle.cacache_table.specs.StepPaths.{content_path, content_folders, bucket_path, bucket_folders}
-use Rattle.cacache_table.specs.Storing.{insertion_of, indexed, sized, matches, compared, placed, secured, secured_found, move_in}
+use Rattle.cacache_table.specs.{declared.{reply.Reply.{Reply}, carried.Commit.{Commit}}, Common.{ends_with, sync_up}, Inserting.{unless_refused, refused_cause, recorded}, State.{State, doing, syncing, persisting, appending, over, Insertion, make_folder, sync_file, sync_dir}, StepPaths.{content_path, content_folders, bucket_path, bucket_folders}, Storing.{insertion_of, indexed, sized, matches, compared, placed, secured, secured_found, move_in}}
 use Rattle.cacache_table.proofs.Branches.{cond_leads}
 
 module _ (P : State → Type 0) where

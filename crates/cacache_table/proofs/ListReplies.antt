@@ -1,32 +1,13 @@
 -- A listing answers what its own steps were shown.
-use Rattle.std.proofs.Common.{◌≡◌, ◌⊎◌, inl, inr, ℕ, ◌+◌, ◌-◌, ◌<◌, List, [], ◌∷◌, ◌++◌, Option, Some, None, Bool, true, false, cond, nat_le, nat_lt, Result, Ok, Err, refl, ap, ◌∙◌, length, take, length-append, append_assoc, append-nil, arith}
-use Rattle.std.proofs.lemmas.Bool.{leb-false}
-use Rattle.std.proofs.lemmas.List.{length-take}
-use Rattle.cacache_core.specs.declared.errors.Fault.{Fault}
+use Rattle.std.proofs.{Common.{◌≡◌, ◌⊎◌, inl, inr, ℕ, ◌+◌, ◌-◌, ◌<◌, List, [], ◌∷◌, ◌++◌, Option, Some, None, Bool, true, false, cond, nat_le, nat_lt, Result, Ok, Err, refl, ap, ◌∙◌, length, take, length-append, append_assoc, append-nil, arith}, lemmas.{Bool.{leb-false}, List.{length-take}}}
+use Rattle.cacache_core.specs.{declared.errors.{Fault.{Fault}, Error.TheVariants.{OutOfMemory}}, Paths.{join}}
 use Rattle.cacache_core.specs.declared.errors.Fault.TheVariants as faults
-use Rattle.cacache_core.specs.declared.errors.Error.TheVariants.{OutOfMemory}
-use Rattle.cacache_core.specs.Paths.{join}
-use Rattle.cacache_store.specs.declared.store.answer.Kind.{Kind}
+use Rattle.cacache_store.specs.{declared.store.answer.{Kind.{Kind}, Name.{Name}}, Plain.{PlainStep, PlainAnswer}}
 use Rattle.cacache_store.specs.declared.store.answer.Kind.TheVariants as kinds
-use Rattle.cacache_store.specs.declared.store.answer.Name.{Name}
-use Rattle.cacache_store.specs.Plain.{PlainStep, PlainAnswer}
-use Rattle.cacache_table.specs.declared.answers.Refusal.{Refusal}
+use Rattle.cacache_table.specs.{declared.{answers.Refusal.{Refusal}, reply.Reply.{Reply, TheVariants.{Stored, Read, LookedUp, Exists, Copied, Listed, Done, Refused}}, visit.{Visit.{Visit, TheVariants.{Enter, ReadBucket, RemoveFile, RemoveFolder}}, Task.{Task, TheVariants.{Make, Stumble}}}}, Answers.{bytes_in, names_in}, State.{State, walking, over, Site, Item, Walk}, Common.{fails, go_on}, Walking.{most, failed, give, miss, walk_on, task_for_name, tasks_of, leaving, too_many, entered, unread_bucket, listed, items_in}, Table.{wants, after, opening}, Runs.{Moves, Runs}, ListReplies.{by_bucket, by_folder, given_by, items_given, too_deep, AddsTooDeep, ListsGiven}}
+use Rattle.cacache_table.proofs.Branches.{cond_leads}
 use Rattle.cacache_table.specs.declared.answers.Refusal.TheVariants as refusals
 use Rattle.cacache_table.specs.declared.command.Command.TheVariants as commands
-use Rattle.cacache_table.specs.declared.reply.Reply.{Reply}
-use Rattle.cacache_table.specs.declared.reply.Reply.TheVariants.{Stored, Read, LookedUp, Exists, Copied, Listed, Done, Refused}
-use Rattle.cacache_table.specs.Answers.{bytes_in, names_in}
-use Rattle.cacache_table.specs.State.{State, walking, over, Site, Item, Walk}
-use Rattle.cacache_table.specs.declared.visit.Visit.{Visit}
-use Rattle.cacache_table.specs.declared.visit.Task.{Task}
-use Rattle.cacache_table.specs.declared.visit.Visit.TheVariants.{Enter, ReadBucket, RemoveFile, RemoveFolder}
-use Rattle.cacache_table.specs.declared.visit.Task.TheVariants.{Make, Stumble}
-use Rattle.cacache_table.specs.Common.{fails, go_on}
-use Rattle.cacache_table.specs.Walking.{most, failed, give, miss, walk_on, task_for_name, tasks_of, leaving, too_many, entered, unread_bucket, listed, items_in}
-use Rattle.cacache_table.specs.Table.{wants, after, opening}
-use Rattle.cacache_table.specs.Runs.{Moves, Runs}
-use Rattle.cacache_table.proofs.Branches.{cond_leads}
-use Rattle.cacache_table.specs.ListReplies.{by_bucket, by_folder, given_by, items_given, too_deep, AddsTooDeep, ListsGiven}
 
 -- ---- what is still to do on a listing
 

@@ -1,15 +1,9 @@
 -- Out of memory ends every call, and nothing else leaves a call without a step.
 use Rattle.std.proofs.Common.{◌≡◌, Some, None, refl}
-use Rattle.cacache_core.specs.declared.errors.Error.{Error}
-use Rattle.cacache_core.specs.declared.errors.Error.TheVariants.{EntryNotFound, SizeMismatch, IoError, SerdeError, IntegrityError, OutOfMemory}
+use Rattle.cacache_core.specs.declared.errors.Error.{Error, TheVariants.{EntryNotFound, SizeMismatch, IoError, SerdeError, IntegrityError, OutOfMemory}}
 use Rattle.cacache_store.specs.declared.store.answer.Answer.TheVariants as answers
 use Rattle.cacache_store.specs.Plain.{PlainStep}
-use Rattle.cacache_table.specs.declared.reply.Reply.{Reply}
-use Rattle.cacache_table.specs.declared.reply.Reply.TheVariants.{Refused}
-use Rattle.cacache_table.specs.Runs.{without_message}
-use Rattle.cacache_table.specs.State.{State, walking, over}
-use Rattle.cacache_table.specs.declared.visit.Visit.TheVariants.{Enter, ReadBucket, RemoveFile, RemoveFolder}
-use Rattle.cacache_table.specs.Table.{wants, after}
+use Rattle.cacache_table.specs.{declared.{reply.Reply.{Reply, TheVariants.{Refused}}, visit.Visit.TheVariants.{Enter, ReadBucket, RemoveFile, RemoveFolder}}, Runs.{without_message}, State.{State, walking, over}, Table.{wants, after}}
 
 pub no_memory_after : (s : State) (a b : PlainStep) → wants s ≡ Some a → after s (answers.NoMemory b) ≡ over (Refused OutOfMemory)
 no_memory_after (walking w (Enter p level) todo) a b e = refl

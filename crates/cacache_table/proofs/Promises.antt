@@ -1,46 +1,14 @@
 -- A call's replies keep what its state promises, whatever the answers are.
-use Rattle.std.proofs.Common.{◌≡◌, inl, inr, ℕ, ◌==◌, List, [], ◌∷◌, ◌++◌, Option, Some, None, Bool, true, false, refl, subst, ◌∙◌, length, append_assoc, append-nil}
-use Rattle.std.proofs.lemmas.Bool.{eqb-true}
-use Rattle.cacache_core.specs.declared.errors.Fault.{Fault}
-use Rattle.cacache_core.specs.declared.errors.SerdeCause.{SerdeCause}
-use Rattle.cacache_core.specs.declared.errors.IntegrityFault.TheVariants.{Check}
-use Rattle.cacache_core.specs.declared.errors.Error.{Error}
-use Rattle.cacache_core.specs.declared.errors.Error.TheVariants.{SizeMismatch, IoError, SerdeError, EntryNotFound, IntegrityError, OutOfMemory}
-use Rattle.cacache_core.specs.declared.integrity.digest.Hash.{Hash}
-use Rattle.cacache_core.specs.Integrity.{Meets, actual}
-use Rattle.cacache_store.specs.declared.store.plain.PlainFile.{PlainFile}
-use Rattle.cacache_store.specs.Plain.{PlainAnswer}
+use Rattle.std.proofs.{Common.{◌≡◌, inl, inr, ℕ, ◌==◌, List, [], ◌∷◌, ◌++◌, Option, Some, None, Bool, true, false, refl, subst, ◌∙◌, length, append_assoc, append-nil}, lemmas.Bool.{eqb-true}}
+use Rattle.cacache_core.specs.{declared.{errors.{Fault.{Fault}, SerdeCause.{SerdeCause}, IntegrityFault.TheVariants.{Check}, Error.{Error, TheVariants.{SizeMismatch, IoError, SerdeError, EntryNotFound, IntegrityError, OutOfMemory}}}, integrity.digest.Hash.{Hash}}, Integrity.{Meets, actual}, Meeting.{meets}}
+use Rattle.cacache_core.proofs.Meeting.{meets_finds}
+use Rattle.cacache_store.specs.{declared.store.plain.PlainFile.{PlainFile}, Plain.{PlainAnswer}}
 use Rattle.cacache_entry.specs.Latest.{Found}
-use Rattle.cacache_table.specs.declared.command.Command.{Command}
+use Rattle.cacache_table.specs.{declared.{command.{Command.{Command}, Export.{Export}, How.{How, TheVariants.{Copy, Reflink, HardLink}}}, reply.Reply.{Reply, TheVariants.{Stored, Read, LookedUp, Exists, Copied, Listed, Done, Refused}}, carried.{Commit.{Commit}, Aim.{Aim}, Lookup.{Lookup}, Content.{Content}}, target.Target.{Target}}, StepPaths.{content_path}, State.{State, doing, looking, opening_file, hashing, walking, over, Site, Insertion, Hashing, to_verify, to_link}, Common.{ends_with, fails}, Inserting.{insertion, deletion, unless_refused, refused_cause}, Storing.{insertion_of, indexed, sized, matches, compared, placed}, Exporting.{export_from, export_content, export, verified, copied_count}, Linking.{with_size, commit_for, hashed, after_read}, Looking.{found_content, found_for}, Table.{after, opening}, Runs.{Moves, Runs}, Promises.{Only, OnlyReads, OnlyExists, OnlyCopies, Copies, MadeOf, ReadsMeeting, answered, Suits, StoresIf, StoresSized, Stores, StoresRead, Exports, Aims, Hashes, Walks, Promises, Answers}}
+use Rattle.cacache_table.proofs.{Branches.{cond_leads}, Closed.{AnyAnswer, ClosedCommit, ClosedReads, ClosedFiles, ClosedWalk, Closed, kept_always}, Visits.{AnyVisit, any_visits}}
 use Rattle.cacache_table.specs.declared.command.Command.TheVariants as commands
 use Rattle.cacache_table.specs.declared.command.Source.TheVariants as sources
-use Rattle.cacache_table.specs.declared.command.Export.{Export}
-use Rattle.cacache_table.specs.declared.command.How.{How}
-use Rattle.cacache_table.specs.declared.command.How.TheVariants.{Copy, Reflink, HardLink}
-use Rattle.cacache_table.specs.declared.reply.Reply.{Reply}
-use Rattle.cacache_table.specs.declared.reply.Reply.TheVariants.{Stored, Read, LookedUp, Exists, Copied, Listed, Done, Refused}
-use Rattle.cacache_core.specs.Meeting.{meets}
-use Rattle.cacache_table.specs.StepPaths.{content_path}
-use Rattle.cacache_table.specs.State.{State, doing, looking, opening_file, hashing, walking, over, Site, Insertion, Hashing, to_verify, to_link}
-use Rattle.cacache_table.specs.declared.carried.Commit.{Commit}
-use Rattle.cacache_table.specs.declared.carried.Aim.{Aim}
-use Rattle.cacache_table.specs.declared.carried.Lookup.{Lookup}
-use Rattle.cacache_table.specs.declared.carried.Content.{Content}
-use Rattle.cacache_table.specs.declared.target.Target.{Target}
 use Rattle.cacache_table.specs.declared.carried.Aim.TheVariants as aims
-use Rattle.cacache_table.specs.Common.{ends_with, fails}
-use Rattle.cacache_table.specs.Inserting.{insertion, deletion, unless_refused, refused_cause}
-use Rattle.cacache_table.specs.Storing.{insertion_of, indexed, sized, matches, compared, placed}
-use Rattle.cacache_table.specs.Exporting.{export_from, export_content, export, verified, copied_count}
-use Rattle.cacache_table.specs.Linking.{with_size, commit_for, hashed, after_read}
-use Rattle.cacache_table.specs.Looking.{found_content, found_for}
-use Rattle.cacache_table.specs.Table.{after, opening}
-use Rattle.cacache_table.specs.Runs.{Moves, Runs}
-use Rattle.cacache_table.proofs.Branches.{cond_leads}
-use Rattle.cacache_table.proofs.Closed.{AnyAnswer, ClosedCommit, ClosedReads, ClosedFiles, ClosedWalk, Closed, kept_always}
-use Rattle.cacache_table.proofs.Visits.{AnyVisit, any_visits}
-use Rattle.cacache_table.specs.Promises.{Only, OnlyReads, OnlyExists, OnlyCopies, Copies, MadeOf, ReadsMeeting, answered, Suits, StoresIf, StoresSized, Stores, StoresRead, Exports, Aims, Hashes, Walks, Promises, Answers}
-use Rattle.cacache_core.proofs.Meeting.{meets_finds}
 
 -- ---- refusals keep every promise
 

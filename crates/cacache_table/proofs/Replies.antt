@@ -1,33 +1,15 @@
 -- Lookups and reads answer by what their own steps were shown.
-use Rattle.std.proofs.Common.{◌≡◌, ◌⊎◌, inl, inr, ℕ, List, [], ◌∷◌, Option, Some, None, Bool, true, false, cond, Result, Ok, Err, refl, sym, ◌∙◌}
-use Rattle.std.proofs.lemmas.Option.{same_Some}
+use Rattle.std.proofs.{Common.{◌≡◌, ◌⊎◌, inl, inr, ℕ, List, [], ◌∷◌, Option, Some, None, Bool, true, false, cond, Result, Ok, Err, refl, sym, ◌∙◌}, lemmas.Option.{same_Some}}
 use Rattle.cacache_core.specs.declared.errors.Fault.TheVariants as faults
-use Rattle.cacache_core.specs.declared.errors.IntegrityFault.TheVariants.{Check}
-use Rattle.cacache_core.specs.declared.errors.Error.TheVariants.{EntryNotFound, IntegrityError, OutOfMemory}
-use Rattle.cacache_core.specs.declared.integrity.digest.Hash.{Hash}
-use Rattle.cacache_core.specs.Integrity.{Meets, actual}
+use Rattle.cacache_core.specs.{declared.{errors.{IntegrityFault.TheVariants.{Check}, Error.TheVariants.{EntryNotFound, IntegrityError, OutOfMemory}}, integrity.digest.Hash.{Hash}}, Integrity.{Meets, actual}, Meeting.{meets}}
+use Rattle.cacache_core.proofs.Meeting.{meets_finds}
 use Rattle.cacache_store.specs.declared.store.step.Step.TheVariants as steps
 use Rattle.cacache_store.specs.Plain.{PlainStep, PlainAnswer}
 use Rattle.cacache_entry.specs.Latest.{Found}
-use Rattle.cacache_table.specs.declared.answers.Refusal.{Refusal}
+use Rattle.cacache_table.specs.{declared.{answers.Refusal.{Refusal}, reply.Reply.{Reply, TheVariants.{Read, Refused}}, carried.{Lookup.{Lookup}, Content.{Content}}}, Answers.{there_in, bytes_in}, StepPaths.{content_path, bucket_path}, State.{State, looking, reading, asking, over, Site}, Common.{ends_with, fails, go_on}, ContentReads.{checked, answer_there, answer_absent}, Looking.{found_in, found_for, after_bucket, no_bucket}, Table.{wants, after, opening}, Runs.{Moves, Runs}, Replies.{bucket_shown, entries_shown, lookup, refusal_reply, find_reply, content_reply, there_reply, OneStep, OneRun, ReadsBucketOnce, ReadsContentOnce, AsksContentOnce, ReadsOn, ReadsByKey, BeginsWithBucket, MeetsFound, OrMemory}}
 use Rattle.cacache_table.specs.declared.answers.Refusal.TheVariants as refusals
 use Rattle.cacache_table.specs.declared.command.Command.TheVariants as commands
-use Rattle.cacache_table.specs.declared.reply.Reply.{Reply}
-use Rattle.cacache_table.specs.declared.reply.Reply.TheVariants.{Read, Refused}
-use Rattle.cacache_table.specs.Answers.{there_in, bytes_in}
-use Rattle.cacache_core.specs.Meeting.{meets}
-use Rattle.cacache_table.specs.StepPaths.{content_path, bucket_path}
-use Rattle.cacache_table.specs.State.{State, looking, reading, asking, over, Site}
-use Rattle.cacache_table.specs.declared.carried.Lookup.{Lookup}
-use Rattle.cacache_table.specs.declared.carried.Content.{Content}
 use Rattle.cacache_table.specs.declared.carried.Aim.TheVariants as aims
-use Rattle.cacache_table.specs.Common.{ends_with, fails, go_on}
-use Rattle.cacache_table.specs.ContentReads.{checked, answer_there, answer_absent}
-use Rattle.cacache_table.specs.Looking.{found_in, found_for, after_bucket, no_bucket}
-use Rattle.cacache_table.specs.Table.{wants, after, opening}
-use Rattle.cacache_table.specs.Runs.{Moves, Runs}
-use Rattle.cacache_table.specs.Replies.{bucket_shown, entries_shown, lookup, refusal_reply, find_reply, content_reply, there_reply, OneStep, OneRun, ReadsBucketOnce, ReadsContentOnce, AsksContentOnce, ReadsOn, ReadsByKey, BeginsWithBucket, MeetsFound, OrMemory}
-use Rattle.cacache_core.proofs.Meeting.{meets_finds}
 
 -- a call that is over makes no step
 pub over_run : (reply : Reply) (moves : Moves) (r : Reply) → Runs (over reply) moves r → OrMemory ((moves ≡ []) × (r ≡ reply)) r

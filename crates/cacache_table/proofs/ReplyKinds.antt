@@ -1,13 +1,7 @@
 -- Which kind of reply a call gives, by what it promises.
-use Rattle.std.proofs.Common.{◌≡◌, ℕ, List, Result, Ok, Err}
-use Rattle.std.specs.Prelude.{IfOk}
-use Rattle.cacache_core.specs.declared.errors.Error.{Error}
-use Rattle.cacache_core.specs.declared.integrity.digest.Hash.{Hash}
-use Rattle.cacache_table.specs.declared.reply.Reply.{Reply}
-use Rattle.cacache_table.specs.declared.reply.Reply.TheVariants.{Stored, Read, LookedUp, Exists, Copied, Listed, Done, Refused}
-use Rattle.cacache_table.specs.Promises.{Only, OnlyStores, OnlyReads, ReadsMeeting, StoresIf, StoresSized}
-use Rattle.cacache_table.specs.Runs.{reply_of}
-use Rattle.cacache_table.specs.declared.target.Target.{Target}
+use Rattle.std.{proofs.Common.{◌≡◌, ℕ, List, Result, Ok, Err}, specs.Prelude.{IfOk}}
+use Rattle.cacache_core.specs.declared.{errors.Error.{Error}, integrity.digest.Hash.{Hash}}
+use Rattle.cacache_table.specs.{declared.{reply.Reply.{Reply, TheVariants.{Stored, Read, LookedUp, Exists, Copied, Listed, Done, Refused}}, target.Target.{Target}}, Promises.{Only, OnlyStores, OnlyReads, ReadsMeeting, StoresIf, StoresSized}, Runs.{reply_of}}
 
 -- a reply that may store one integrity stores
 pub stores_only : (i : List Hash) (P : Type 0) (r : Reply) → StoresIf i P r → OnlyStores r

@@ -1,9 +1,6 @@
 -- The rows hold by computing.
-use Rattle.std.proofs.Common.{◌≡◌, ℕ, true, nat_le, refl}
-use Rattle.std.proofs.lemmas.Bool.{le-leb}
-use Rattle.std.proofs.Math.Nat.{le_refl}
-use Rattle.cacache_table.specs.StepPaths.{content_folders, bucket_folders}
-use Rattle.cacache_table.specs.Rows.{Rows}
+use Rattle.std.proofs.{Common.{◌≡◌, ℕ, true, nat_le, refl}, lemmas.Bool.{le-leb}, Math.Nat.{le_refl}}
+use Rattle.cacache_table.specs.{StepPaths.{content_folders, bucket_folders}, Rows.{Rows}}
 
 whole : (n : ℕ) → nat_le n n ≡ true
 whole n = le-leb n n (le_refl n)

@@ -1,53 +1,15 @@
 -- Sound states make allowed steps, and stay sound.
-use Rattle.std.proofs.Common.{◌≡◌, inl, inr, ℕ, ◌+◌, ◌<◌, ◌^◌, ◌==◌, List, [], ◌∷◌, ◌++◌, Option, Some, None, Bool, true, false, Ok, refl, ap, ap₂, sym, subst, ◌∙◌, length, length-append, arith}
-use Rattle.cacache_core.specs.declared.errors.SerdeCause.{SerdeCause}
-use Rattle.cacache_core.specs.declared.errors.IntegrityFault.TheVariants.{Check}
-use Rattle.cacache_core.specs.declared.errors.Error.TheVariants.{SizeMismatch, IntegrityError}
-use Rattle.cacache_core.specs.declared.integrity.digest.Hash.{Hash}
-use Rattle.cacache_core.specs.Integrity.{actual}
-use Rattle.cacache_core.specs.Paths.{index_area, join}
-use Rattle.cacache_store.specs.declared.store.plain.PlainTemp.{PlainTemp}
-use Rattle.cacache_store.specs.declared.store.plain.PlainFile.{PlainFile}
-use Rattle.cacache_store.specs.declared.store.answer.Name.{Name}
+use Rattle.std.proofs.{Common.{◌≡◌, inl, inr, ℕ, ◌+◌, ◌<◌, ◌^◌, ◌==◌, List, [], ◌∷◌, ◌++◌, Option, Some, None, Bool, true, false, Ok, refl, ap, ap₂, sym, subst, ◌∙◌, length, length-append, arith}, lemmas.List.Elements.{All-append, All-nil, All-cons, All-weaker}}
+use Rattle.cacache_core.specs.{declared.{errors.{SerdeCause.{SerdeCause}, IntegrityFault.TheVariants.{Check}, Error.TheVariants.{SizeMismatch, IntegrityError}}, integrity.digest.Hash.{Hash}}, Integrity.{actual}, Paths.{index_area, join, joined}, PathNames.{IsProperName}, Meeting.{meets}}
+use Rattle.cacache_store.specs.{declared.store.{plain.{PlainTemp.{PlainTemp}, PlainFile.{PlainFile}}, answer.Name.{Name}}, Plain.{PlainStep, PlainAnswer}, Fits.{Fits, AreProperNames}}
 use Rattle.cacache_store.specs.declared.store.answer.Answer.TheVariants as answers
 use Rattle.cacache_store.specs.declared.store.step.Step.TheVariants as steps
-use Rattle.cacache_store.specs.Plain.{PlainStep, PlainAnswer}
-use Rattle.cacache_store.specs.Fits.{Fits, AreProperNames}
-use Rattle.cacache_core.specs.PathNames.{IsProperName}
-use Rattle.std.proofs.lemmas.List.Elements.{All-append, All-nil, All-cons, All-weaker}
 use Rattle.cacache_entry.specs.Latest.{Found}
-use Rattle.cacache_table.specs.declared.command.Command.{Command}
+use Rattle.cacache_table.specs.{declared.{command.{Command.{Command}, Export.{Export}, How.{How, TheVariants.{Copy, Reflink, HardLink}}}, carried.{Commit.{Commit}, Aim.{Aim}, Lookup.{Lookup}, Content.{Content}}, target.Target.{Target}, visit.Visit.{Visit, TheVariants.{Enter, ReadBucket, RemoveFile, RemoveFolder}}}, Answers.{temp_in, written_in, synced_in, file_in, got_in, names_in}, StepPaths.{temp_path, content_path, content_folder, bucket_path, bucket_folder}, State.{State, doing, creating, writing, syncing, persisting, linking, confirming, appending, looking, reading, asking, sizing, opening_file, hashing, copying, walking, over, Site, Insertion, Hashing, to_verify, to_link}, Common.{ends_with}, Inserting.{insertion, deletion, unless_refused, refused_cause, bucket_line}, Storing.{insertion_of, indexed, sized, matches, compared, placed}, Removing.{remove_found}, Exporting.{export_from, export_content, export}, Linking.{commit_for, hashed_path, hashed, after_read}, Looking.{found_content, found_for}, Walking.{visit_step}, Table.{piece, wants, after, opening}, Sound.{SoundCommit, SoundInsertion, SoundTarget, IsBelow, IsContent, IsFolder, IsLine, SoundVisit, Allowed, SoundAim, SoundHashing, Sound, MayBegin}}
+use Rattle.cacache_table.proofs.{Closed.{AnyWalk, ClosedCommit, ClosedFiles, ClosedWalk, Closed, kept}, Branches.{cond_leads}, Visits.{MayMeet}}
 use Rattle.cacache_table.specs.declared.command.Command.TheVariants as commands
 use Rattle.cacache_table.specs.declared.command.Source.TheVariants as sources
-use Rattle.cacache_table.specs.declared.command.Export.{Export}
-use Rattle.cacache_table.specs.declared.command.How.{How}
-use Rattle.cacache_table.specs.declared.command.How.TheVariants.{Copy, Reflink, HardLink}
-use Rattle.cacache_table.specs.Answers.{temp_in, written_in, synced_in, file_in, got_in, names_in}
-use Rattle.cacache_core.specs.Meeting.{meets}
-use Rattle.cacache_table.specs.StepPaths.{temp_path, content_path, content_folder, bucket_path, bucket_folder}
-use Rattle.cacache_table.specs.State.{State, doing, creating, writing, syncing, persisting, linking, confirming, appending, looking, reading, asking, sizing, opening_file, hashing, copying, walking, over, Site, Insertion, Hashing, to_verify, to_link}
-use Rattle.cacache_table.specs.declared.carried.Commit.{Commit}
-use Rattle.cacache_table.specs.declared.carried.Aim.{Aim}
-use Rattle.cacache_table.specs.declared.carried.Lookup.{Lookup}
-use Rattle.cacache_table.specs.declared.carried.Content.{Content}
-use Rattle.cacache_table.specs.declared.target.Target.{Target}
-use Rattle.cacache_table.specs.declared.visit.Visit.{Visit}
-use Rattle.cacache_table.specs.declared.visit.Visit.TheVariants.{Enter, ReadBucket, RemoveFile, RemoveFolder}
 use Rattle.cacache_table.specs.declared.carried.Aim.TheVariants as aims
-use Rattle.cacache_table.specs.Common.{ends_with}
-use Rattle.cacache_table.specs.Inserting.{insertion, deletion, unless_refused, refused_cause, bucket_line}
-use Rattle.cacache_table.specs.Storing.{insertion_of, indexed, sized, matches, compared, placed}
-use Rattle.cacache_table.specs.Removing.{remove_found}
-use Rattle.cacache_table.specs.Exporting.{export_from, export_content, export}
-use Rattle.cacache_table.specs.Linking.{commit_for, hashed_path, hashed, after_read}
-use Rattle.cacache_table.specs.Looking.{found_content, found_for}
-use Rattle.cacache_table.specs.Walking.{visit_step}
-use Rattle.cacache_table.specs.Table.{piece, wants, after, opening}
-use Rattle.cacache_table.proofs.Closed.{AnyWalk, ClosedCommit, ClosedFiles, ClosedWalk, Closed, kept}
-use Rattle.cacache_table.proofs.Branches.{cond_leads}
-use Rattle.cacache_table.proofs.Visits.{MayMeet}
-use Rattle.cacache_core.specs.Paths.{joined}
-use Rattle.cacache_table.specs.Sound.{SoundCommit, SoundInsertion, SoundTarget, IsBelow, IsContent, IsFolder, IsLine, SoundVisit, Allowed, SoundAim, SoundHashing, Sound, MayBegin}
 
 -- what follows from an equation of steps
 pub some_is : (P : PlainStep → Type 0) (a b : PlainStep) → Some a ≡ Some b → P a → P b

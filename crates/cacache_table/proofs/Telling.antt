@@ -1,22 +1,10 @@
 -- A value prints as UTF-8, in order and in range, since its parts do.
-use Rattle.std.proofs.Common.{◌≡◌, ℕ, pos, negsuc, List, [], ◌∷◌, Bool, true, false, refl, arith, string_bytes, String, Global, BTreeMap, string_cmp, Less, Vec, subst, sym, rules}
-use Rattle.std.specs.Prelude.{IsUtf8, decimal}
-use Rattle.std.specs.Fmt.{signed_decimal}
-use Rattle.std.proofs.lemmas.Bool.{or_parts}
-use Rattle.std.proofs.lemmas.Fmt.{IsAscii-decimal, IsAscii-signed}
-use Rattle.std.proofs.lemmas.Str.{IsUtf8-append, IsUtf8-from_ascii, IsUtf8-nil, IsUtf8-string_bytes}
-use Rattle.std.specs.List.{AllByRecursion}
-use Rattle.std.specs.List.Sorted.{IsStrictlySortedBy}
-use Rattle.std.specs.Map.{keys_of}
-use Rattle.json.specs.Print.{quoted}
-use Rattle.json.proofs.Printed.Utf8.{IsUtf8-are_ascii, IsUtf8-quoted}
-use Rattle.serde_json.specs.Data.{Num, unsigned, negative, float, null, boolean, number, string, array, object, Items, no_items, item, Members, no_members, member}
-use Rattle.serde_json.specs.Written.{comma_if, compact_text, number_text, items_text, members_text, has_float, items_have_float, members_have_float}
-use Rattle.serde_json.specs.View.{view, number_view, items_view, members_view}
-use Rattle.serde_json.specs.declared.number.Number.{Number}
-use Rattle.serde_json.specs.declared.value.Value.{Value, the_lemmas}
-use Rattle.serde_json.specs.declared.value.Value as value
+use Rattle.std.proofs.{Common.{◌≡◌, ℕ, pos, negsuc, List, [], ◌∷◌, Bool, true, false, refl, arith, string_bytes, String, Global, BTreeMap, string_cmp, Less, Vec, subst, sym, rules}, lemmas.{Bool.{or_parts}, Fmt.{IsAscii-decimal, IsAscii-signed}, Str.{IsUtf8-append, IsUtf8-from_ascii, IsUtf8-nil, IsUtf8-string_bytes}}}
+use Rattle.std.specs.{Prelude.{IsUtf8, decimal}, Fmt.{signed_decimal}, List.{AllByRecursion, Sorted.{IsStrictlySortedBy}}, Map.{keys_of}}
+use Rattle.json.{specs.Print.{quoted}, proofs.Printed.Utf8.{IsUtf8-are_ascii, IsUtf8-quoted}}
+use Rattle.serde_json.specs.{Data.{Num, unsigned, negative, float, null, boolean, number, string, array, object, Items, no_items, item, Members, no_members, member}, Written.{comma_if, compact_text, number_text, items_text, members_text, has_float, items_have_float, members_have_float}, View.{view, number_view, items_view, members_view}, declared.{number.Number.{Number}, value.Value.{Value, the_lemmas}}}
 use Rattle.serde_json.proofs.Views.{view-Array, view-Object}
+use Rattle.serde_json.specs.declared.value.Value as value
 use Rattle.cacache_entry.specs.FittingEntries.{IsJson, AreAbove, ItemsAreOrdered, MembersAreOrdered, IsWholeNumber, ItemsAreWhole, MembersAreWhole}
 use Rattle.cacache_table.specs.Known.{IsRanged, AllJson, NamedJson}
 

@@ -1,48 +1,18 @@
 -- A checked export verified what it opened, and a link read its whole target.
-use Rattle.std.proofs.Common.{◌≡◌, inl, inr, ℕ, List, [], ◌∷◌, ◌++◌, Option, Some, None, Bool, true, false, cond, Result, Ok, Err, refl, ap, sym, length, append_assoc, append-nil}
-use Rattle.std.proofs.lemmas.Option.{same_Some}
+use Rattle.std.proofs.{Common.{◌≡◌, inl, inr, ℕ, List, [], ◌∷◌, ◌++◌, Option, Some, None, Bool, true, false, cond, Result, Ok, Err, refl, ap, sym, length, append_assoc, append-nil}, lemmas.Option.{same_Some}}
 use Rattle.cacache_core.specs.declared.errors.Fault.TheVariants as faults
-use Rattle.cacache_core.specs.declared.errors.Error.{Error}
-use Rattle.cacache_core.specs.declared.errors.Error.TheVariants.{IntegrityError, OutOfMemory}
-use Rattle.cacache_core.specs.declared.errors.IntegrityFault.TheVariants.{Check}
-use Rattle.cacache_core.specs.Integrity.{Meets, actual}
-use Rattle.cacache_core.specs.Meeting.{meets}
+use Rattle.cacache_core.specs.{declared.errors.{Error.{Error, TheVariants.{IntegrityError, OutOfMemory}}, IntegrityFault.TheVariants.{Check}}, Integrity.{Meets, actual}, Meeting.{meets}}
 use Rattle.cacache_core.proofs.Meeting.{meets_finds}
-use Rattle.cacache_store.specs.declared.store.plain.PlainFile.{PlainFile}
+use Rattle.cacache_store.specs.{declared.store.plain.PlainFile.{PlainFile}, Plain.{PlainStep, PlainAnswer}}
 use Rattle.cacache_store.specs.declared.store.step.Step.TheVariants as steps
 use Rattle.cacache_store.specs.declared.store.answer.Answer.TheVariants as answers
-use Rattle.cacache_store.specs.Plain.{PlainStep, PlainAnswer}
 use Rattle.cacache_entry.specs.Latest.{Found}
-use Rattle.cacache_table.specs.declared.answers.Refusal.{Refusal}
+use Rattle.cacache_table.specs.{declared.{answers.Refusal.{Refusal}, command.{Source.{Source}, How.{How, TheVariants.{Copy, Reflink, HardLink}}, Export.{Export}, Link.{Link}}, reply.Reply.{Reply, TheVariants.{Stored, Read, LookedUp, Exists, Copied, Listed, Done, Refused}}, carried.{Lookup.{Lookup}, Content.{Content}}, target.Target.{Target}}, Answers.{file_in, got_in, bytes_in, length_in, refusal_in}, StepPaths.{content_path, bucket_path}, State.{State, looking, sizing, opening_file, hashing, over, Site, Hashing, to_verify, to_link}, Common.{ends_with, fails, refuse, go_on}, Exporting.{export_from, export_content, export, verified}, Looking.{found_in, found_for, found_content, after_bucket, no_bucket}, Linking.{link_target, with_size, after_size, commit_for, hashed_path, hashed, after_read}, Storing.{link}, Table.{wants, opening, piece}, Runs.{Moves, Runs}, Replies.{entries_shown, lookup}, Verifying.{Gives, ReadsWhole, CountsAs, VerifiesContent, Verifies, LinksWhole, UnlessRefused}, Promises.{Promises}}
+use Rattle.cacache_table.proofs.{Promises.{runs_keep}, Replies.{over_run}}
 use Rattle.cacache_table.specs.declared.answers.Refusal.TheVariants as refusals
 use Rattle.cacache_table.specs.declared.command.Command.TheVariants as commands
-use Rattle.cacache_table.specs.declared.command.Source.{Source}
 use Rattle.cacache_table.specs.declared.command.Source.TheVariants as sources
-use Rattle.cacache_table.specs.declared.command.How.{How}
-use Rattle.cacache_table.specs.declared.command.How.TheVariants.{Copy, Reflink, HardLink}
-use Rattle.cacache_table.specs.declared.command.Export.{Export}
-use Rattle.cacache_table.specs.declared.command.Link.{Link}
-use Rattle.cacache_table.specs.declared.reply.Reply.{Reply}
-use Rattle.cacache_table.specs.declared.reply.Reply.TheVariants.{Stored, Read, LookedUp, Exists, Copied, Listed, Done, Refused}
-use Rattle.cacache_table.specs.Answers.{file_in, got_in, bytes_in, length_in, refusal_in}
-use Rattle.cacache_table.specs.StepPaths.{content_path, bucket_path}
-use Rattle.cacache_table.specs.State.{State, looking, sizing, opening_file, hashing, over, Site, Hashing, to_verify, to_link}
-use Rattle.cacache_table.specs.declared.carried.Lookup.{Lookup}
-use Rattle.cacache_table.specs.declared.carried.Content.{Content}
-use Rattle.cacache_table.specs.declared.target.Target.{Target}
 use Rattle.cacache_table.specs.declared.carried.Aim.TheVariants as aims
-use Rattle.cacache_table.specs.Common.{ends_with, fails, refuse, go_on}
-use Rattle.cacache_table.specs.Exporting.{export_from, export_content, export, verified}
-use Rattle.cacache_table.specs.Looking.{found_in, found_for, found_content, after_bucket, no_bucket}
-use Rattle.cacache_table.specs.Linking.{link_target, with_size, after_size, commit_for, hashed_path, hashed, after_read}
-use Rattle.cacache_table.specs.Storing.{link}
-use Rattle.cacache_table.specs.Table.{wants, opening, piece}
-use Rattle.cacache_table.specs.Runs.{Moves, Runs}
-use Rattle.cacache_table.specs.Replies.{entries_shown, lookup}
-use Rattle.cacache_table.specs.Verifying.{Gives, ReadsWhole, CountsAs, VerifiesContent, Verifies, LinksWhole, UnlessRefused}
-use Rattle.cacache_table.specs.Promises.{Promises}
-use Rattle.cacache_table.proofs.Promises.{runs_keep}
-use Rattle.cacache_table.proofs.Replies.{over_run}
 
 -- what is so for every reply but a refusal
 unless : (P : Type 0) (r : Reply) → (((e : Error) → r ≡ Refused e → ⊥) → P) → UnlessRefused P r

@@ -1,44 +1,14 @@
 -- A call keeps to its licence.
 use Rattle.std.proofs.Common.{◌≡◌, ℕ, Bool, true, false, cond, List, [], ◌∷◌, Option, None, Some, length, get_or, subst}
-use Rattle.cacache_core.specs.declared.errors.Error.TheVariants.{IntegrityError}
-use Rattle.cacache_core.specs.declared.errors.IntegrityFault.TheVariants.{Check}
-use Rattle.cacache_core.specs.Integrity.{actual}
-use Rattle.cacache_core.specs.Meeting.{meets}
-use Rattle.cacache_store.specs.declared.store.answer.Name.{Name}
-use Rattle.cacache_store.specs.declared.store.plain.PlainFile.{PlainFile}
+use Rattle.cacache_core.specs.{declared.errors.{Error.TheVariants.{IntegrityError}, IntegrityFault.TheVariants.{Check}}, Integrity.{actual}, Meeting.{meets}}
+use Rattle.cacache_store.specs.{declared.store.{answer.Name.{Name}, plain.PlainFile.{PlainFile}}, Plain.{PlainStep, PlainAnswer}}
 use Rattle.cacache_store.specs.declared.store.step.Step.TheVariants as steps
-use Rattle.cacache_store.specs.Plain.{PlainStep, PlainAnswer}
 use Rattle.cacache_entry.specs.Latest.{Found}
-use Rattle.cacache_table.specs.declared.command.Command.{Command}
+use Rattle.cacache_table.specs.{declared.{command.{Command.{Command}, Export.{Export}, How.{How, TheVariants.{Copy, Reflink, HardLink}}}, reply.Reply.{Reply}, carried.{Commit.{Commit}, Aim.{Aim}, Lookup.{Lookup}, Content.{Content}}, visit.Visit.{Visit}}, Common.{ends_with, errand_step}, Exporting.{export_from, export_content, export}, Inserting.{insertion, deletion, unless_refused, refused_cause, bucket_line}, Licence.{Licence, May, allows, as_far, KeepsTo, AllMay}, Linking.{after_read, hashed_path}, Looking.{found_for, found_content}, Runs.{Moves, Runs, Goes}, State.{State, doing, creating, writing, syncing, persisting, linking, confirming, appending, looking, reading, asking, sizing, opening_file, hashing, copying, walking, over, Site, Insertion, Hashing, to_verify, to_link}, StepPaths.{temp_path, bucket_path, content_path}, Storing.{placed}, Table.{piece, wants, after, opening}, Walking.{EachVisit, visit_step}}
+use Rattle.cacache_table.proofs.{Branches.{cond_leads}, Closed.{AnyAnswer, ClosedCommit, ClosedWalk, Closed, kept_always}, Leading.{inserts, places}, Sound.{some_is}, Visits.{MayMeet}}
 use Rattle.cacache_table.specs.declared.command.Command.TheVariants as commands
-use Rattle.cacache_table.specs.declared.command.Export.{Export}
-use Rattle.cacache_table.specs.declared.command.How.{How}
-use Rattle.cacache_table.specs.declared.command.How.TheVariants.{Copy, Reflink, HardLink}
 use Rattle.cacache_table.specs.declared.command.Source.TheVariants as sources
-use Rattle.cacache_table.specs.declared.reply.Reply.{Reply}
-use Rattle.cacache_table.specs.Common.{ends_with, errand_step}
-use Rattle.cacache_table.specs.Exporting.{export_from, export_content, export}
-use Rattle.cacache_table.specs.Inserting.{insertion, deletion, unless_refused, refused_cause, bucket_line}
-use Rattle.cacache_table.specs.Licence.{Licence, May, allows, as_far, KeepsTo, AllMay}
-use Rattle.cacache_table.specs.Linking.{after_read, hashed_path}
-use Rattle.cacache_table.specs.Looking.{found_for, found_content}
-use Rattle.cacache_table.specs.Runs.{Moves, Runs, Goes}
-use Rattle.cacache_table.specs.State.{State, doing, creating, writing, syncing, persisting, linking, confirming, appending, looking, reading, asking, sizing, opening_file, hashing, copying, walking, over, Site, Insertion, Hashing, to_verify, to_link}
-use Rattle.cacache_table.specs.declared.carried.Commit.{Commit}
-use Rattle.cacache_table.specs.declared.carried.Aim.{Aim}
-use Rattle.cacache_table.specs.declared.carried.Lookup.{Lookup}
-use Rattle.cacache_table.specs.declared.carried.Content.{Content}
-use Rattle.cacache_table.specs.declared.visit.Visit.{Visit}
 use Rattle.cacache_table.specs.declared.carried.Aim.TheVariants as aims
-use Rattle.cacache_table.specs.StepPaths.{temp_path, bucket_path, content_path}
-use Rattle.cacache_table.specs.Storing.{placed}
-use Rattle.cacache_table.specs.Table.{piece, wants, after, opening}
-use Rattle.cacache_table.specs.Walking.{EachVisit, visit_step}
-use Rattle.cacache_table.proofs.Branches.{cond_leads}
-use Rattle.cacache_table.proofs.Closed.{AnyAnswer, ClosedCommit, ClosedWalk, Closed, kept_always}
-use Rattle.cacache_table.proofs.Leading.{inserts, places}
-use Rattle.cacache_table.proofs.Sound.{some_is}
-use Rattle.cacache_table.proofs.Visits.{MayMeet}
 
 -- entries may be added
 pub record MayInsert (l : Licence) : Type 0 where

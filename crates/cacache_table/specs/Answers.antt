@@ -1,13 +1,9 @@
 -- What an answer says to a step of one kind: its value, or why the step was refused.
 use Rattle.std.specs.Prelude.{ℕ, List, Result, Ok, Err, Bool}
 use Rattle.cacache_core.specs.declared.errors.Fault.TheVariants.{Device}
-use Rattle.cacache_store.specs.declared.store.plain.PlainFile.{PlainFile}
-use Rattle.cacache_store.specs.declared.store.plain.PlainTemp.{PlainTemp}
-use Rattle.cacache_store.specs.declared.store.answer.Name.{Name}
+use Rattle.cacache_store.specs.{declared.store.{plain.{PlainFile.{PlainFile}, PlainTemp.{PlainTemp}}, answer.Name.{Name}}, Plain.{PlainAnswer}}
 use Rattle.cacache_store.specs.declared.store.answer.Answer.TheVariants as answers
-use Rattle.cacache_store.specs.Plain.{PlainAnswer}
-use Rattle.cacache_table.specs.declared.answers.Refusal.{Refusal}
-use Rattle.cacache_table.specs.declared.answers.Refusal.TheVariants.{Fault, Memory}
+use Rattle.cacache_table.specs.declared.answers.Refusal.{Refusal, TheVariants.{Fault, Memory}}
 
 -- why an answer refuses a step; one of another kind counts as a failure of the device
 abbrev pub refusal_in : PlainAnswer → Refusal

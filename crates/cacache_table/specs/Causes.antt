@@ -1,19 +1,12 @@
 -- A call's `IoError` has a cause: one of its own steps failed so, was short or took nothing, or a
 -- walk stumbled.
 use Rattle.std.specs.Prelude.{◌≡◌, ◌⊎◌, ◌<◌, [], ◌∷◌, Bool, true, false, length}
-use Rattle.cacache_core.specs.declared.errors.Fault.{Fault}
+use Rattle.cacache_core.specs.declared.errors.{Fault.{Fault}, Error.TheVariants.{IoError}}
 use Rattle.cacache_core.specs.declared.errors.Fault.TheVariants as faults
-use Rattle.cacache_core.specs.declared.errors.Error.TheVariants.{IoError}
 use Rattle.cacache_store.specs.declared.store.answer.Answer.TheVariants as answers
 use Rattle.cacache_store.specs.declared.store.step.Step.TheVariants as steps
 use Rattle.cacache_store.specs.Plain.{PlainStep, PlainAnswer}
-use Rattle.cacache_table.specs.declared.command.Command.{Command}
-use Rattle.cacache_table.specs.declared.reply.Reply.{Reply}
-use Rattle.cacache_table.specs.declared.reply.Reply.TheVariants.{Refused}
-use Rattle.cacache_table.specs.Licence.{licence}
-use Rattle.cacache_table.specs.State.{Site}
-use Rattle.cacache_table.specs.Table.{opening}
-use Rattle.cacache_table.specs.Runs.{Moves, Runs}
+use Rattle.cacache_table.specs.{declared.{command.Command.{Command}, reply.Reply.{Reply, TheVariants.{Refused}}}, Licence.{licence}, State.{Site}, Table.{opening}, Runs.{Moves, Runs}}
 
 -- the answer to the step says this fault
 abbrev pub Faults : PlainStep → PlainAnswer → Fault → Type 0

@@ -1,14 +1,10 @@
 -- Where an answer takes a call, in the words that all calls share. An error's message is left out.
 use Rattle.std.specs.Prelude.{ℕ, List, [], ◌∷◌, Result, Ok, Err}
-use Rattle.cacache_core.specs.declared.errors.Fault.{Fault}
-use Rattle.cacache_core.specs.declared.errors.Error.{Error}
-use Rattle.cacache_core.specs.declared.errors.Error.TheVariants.{IoError, OutOfMemory}
+use Rattle.cacache_core.specs.declared.errors.{Fault.{Fault}, Error.{Error, TheVariants.{IoError, OutOfMemory}}}
 use Rattle.cacache_store.specs.declared.store.step.Step.TheVariants as steps
 use Rattle.cacache_store.specs.Plain.{PlainStep}
-use Rattle.cacache_table.specs.declared.answers.Refusal.{Refusal}
+use Rattle.cacache_table.specs.{declared.{answers.Refusal.{Refusal}, reply.Reply.TheVariants.{Refused}}, State.{State, doing, over, Errand, make_folder, remove, reflink, hard_link, sync_file, sync_dir}}
 use Rattle.cacache_table.specs.declared.answers.Refusal.TheVariants as refusals
-use Rattle.cacache_table.specs.declared.reply.Reply.TheVariants.{Refused}
-use Rattle.cacache_table.specs.State.{State, doing, over, Errand, make_folder, remove, reflink, hard_link, sync_file, sync_dir}
 
 -- the call is over with this error
 abbrev pub ends_with : Error → State

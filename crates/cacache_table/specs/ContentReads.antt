@@ -1,14 +1,7 @@
 -- Reads of contents, and the question whether one is there.
 use Rattle.std.specs.Prelude.{ℕ, List, Bool, false, if◌then◌else◌}
-use Rattle.cacache_core.specs.declared.errors.Fault.{Fault}
-use Rattle.cacache_core.specs.declared.errors.IntegrityFault.TheVariants.{Check}
-use Rattle.cacache_core.specs.declared.errors.Error.TheVariants.{IntegrityError}
-use Rattle.cacache_core.specs.Integrity.{actual}
-use Rattle.cacache_table.specs.declared.reply.Reply.TheVariants.{Read, Exists}
-use Rattle.cacache_core.specs.Meeting.{meets}
-use Rattle.cacache_table.specs.State.{State, over}
-use Rattle.cacache_table.specs.declared.carried.Content.{Content}
-use Rattle.cacache_table.specs.Common.{ends_with}
+use Rattle.cacache_core.specs.{declared.errors.{Fault.{Fault}, IntegrityFault.TheVariants.{Check}, Error.TheVariants.{IntegrityError}}, Integrity.{actual}, Meeting.{meets}}
+use Rattle.cacache_table.specs.{declared.{reply.Reply.TheVariants.{Read, Exists}, carried.Content.{Content}}, State.{State, over}, Common.{ends_with}}
 
 -- only bytes that meet the integrity are answered
 abbrev pub checked : Content → List ℕ → State

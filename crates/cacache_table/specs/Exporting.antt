@@ -1,17 +1,7 @@
 -- Exports: an unchecked one is one step; a checked one reads the content to its end first.
 use Rattle.std.specs.Prelude.{ℕ, List, Option, None, Some, if◌then◌else◌, length}
-use Rattle.cacache_core.specs.declared.errors.IntegrityFault.TheVariants.{Check}
-use Rattle.cacache_core.specs.declared.errors.Error.TheVariants.{IntegrityError}
-use Rattle.cacache_core.specs.Integrity.{actual}
-use Rattle.cacache_table.specs.declared.command.How.{How}
-use Rattle.cacache_table.specs.declared.command.How.TheVariants.{Copy, Reflink, HardLink}
-use Rattle.cacache_table.specs.declared.command.Export.{Export}
-use Rattle.cacache_table.specs.declared.reply.Reply.TheVariants.{Done}
-use Rattle.cacache_core.specs.Meeting.{meets}
-use Rattle.cacache_table.specs.StepPaths.{content_path}
-use Rattle.cacache_table.specs.State.{State, doing, opening_file, copying, over, to_verify, reflink, hard_link}
-use Rattle.cacache_table.specs.declared.carried.Content.{Content}
-use Rattle.cacache_table.specs.Common.{ends_with}
+use Rattle.cacache_core.specs.{declared.errors.{IntegrityFault.TheVariants.{Check}, Error.TheVariants.{IntegrityError}}, Integrity.{actual}, Meeting.{meets}}
+use Rattle.cacache_table.specs.{declared.{command.{How.{How, TheVariants.{Copy, Reflink, HardLink}}, Export.{Export}}, reply.Reply.TheVariants.{Done}, carried.Content.{Content}}, StepPaths.{content_path}, State.{State, doing, opening_file, copying, over, to_verify, reflink, hard_link}, Common.{ends_with}}
 
 -- an export of the file at a path, with the count that was verified, if any
 abbrev pub export_from : How → List ℕ → List ℕ → Option ℕ → State

@@ -1,16 +1,8 @@
 -- Which entries a command or a commit may add: well-formed ones, if they can be written.
 use Rattle.std.specs.Prelude.{◌≡◌, ◌<◌, ◌^◌, ℕ, List, Option, None, Some, length}
-use Rattle.cacache_entry.specs.Entry.{Entry}
-use Rattle.cacache_entry.specs.FittingEntries.{IsUtf8IfAny, IsEntry, cause_of}
-use Rattle.cacache_table.specs.declared.carried.Commit.{Commit}
-use Rattle.cacache_table.specs.declared.command.Command.{Command}
+use Rattle.cacache_entry.specs.{Entry.{Entry}, FittingEntries.{IsUtf8IfAny, IsEntry, cause_of}}
+use Rattle.cacache_table.specs.{declared.{carried.Commit.{Commit}, command.{Command.{Command}, Options.{Options}}}, State.{Site}, Inserting.{deletion, entry_of, insertion}, Linking.{commit_for, link_target}, Sound.{FormedIfWritten}, Storing.{insertion_of, put_commit}}
 use Rattle.cacache_table.specs.declared.command.Command.TheVariants as commands
-use Rattle.cacache_table.specs.declared.command.Options.{Options}
-use Rattle.cacache_table.specs.State.{Site}
-use Rattle.cacache_table.specs.Inserting.{deletion, entry_of, insertion}
-use Rattle.cacache_table.specs.Linking.{commit_for, link_target}
-use Rattle.cacache_table.specs.Sound.{FormedIfWritten}
-use Rattle.cacache_table.specs.Storing.{insertion_of, put_commit}
 
 -- an entry that is well-formed, if it can be written
 abbrev pub IsFormed : Entry → Type 0

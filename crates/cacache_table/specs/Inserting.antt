@@ -2,21 +2,9 @@
 use Rattle.std.specs.Prelude.{ℕ, List, [], ◌∷◌, Option, None, Some, false, if◌then◌else◌, nat_le, length}
 use Rattle.serde_json.specs.Data.{null}
 use Rattle.cacache_core.specs.declared.errors.Fault.TheVariants as faults
-use Rattle.cacache_core.specs.declared.errors.SerdeCause.{SerdeCause}
-use Rattle.cacache_core.specs.declared.errors.Error.TheVariants.{SerdeError}
-use Rattle.cacache_core.specs.declared.integrity.digest.Hash.{Hash}
-use Rattle.cacache_core.specs.declared.integrity.algorithm.Algorithm.TheVariants.{Sha1}
-use Rattle.cacache_core.specs.Integrity.{hash_of}
-use Rattle.cacache_core.specs.Texts.{integrity_text}
-use Rattle.cacache_entry.specs.Entry.{Entry, closed_line}
-use Rattle.cacache_entry.specs.FittingEntries.{cause_of}
-use Rattle.cacache_table.specs.declared.command.Options.{Options}
-use Rattle.cacache_table.specs.declared.command.Insert.{Insert}
-use Rattle.cacache_table.specs.declared.command.Delete.{Delete}
-use Rattle.cacache_table.specs.declared.reply.Reply.TheVariants.{Stored, Done}
-use Rattle.cacache_table.specs.StepPaths.{bucket_path, bucket_folder, bucket_folders}
-use Rattle.cacache_table.specs.State.{State, doing, appending, over, Insertion, make_folder, sync_file}
-use Rattle.cacache_table.specs.Common.{ends_with, fails, sync_up}
+use Rattle.cacache_core.specs.{declared.{errors.{SerdeCause.{SerdeCause}, Error.TheVariants.{SerdeError}}, integrity.{digest.Hash.{Hash}, algorithm.Algorithm.TheVariants.{Sha1}}}, Integrity.{hash_of}, Texts.{integrity_text}}
+use Rattle.cacache_entry.specs.{Entry.{Entry, closed_line}, FittingEntries.{cause_of}}
+use Rattle.cacache_table.specs.{declared.{command.{Options.{Options}, Insert.{Insert}, Delete.{Delete}}, reply.Reply.TheVariants.{Stored, Done}}, StepPaths.{bucket_path, bucket_folder, bucket_folders}, State.{State, doing, appending, over, Insertion, make_folder, sync_file}, Common.{ends_with, fails, sync_up}}
 
 -- the line that is appended; a durable one is closed
 unfoldable pub bucket_line : Insertion → List ℕ

@@ -1,8 +1,6 @@
 -- How the logic stores JSON data: as a tree of numbers that gives the data back.
-use Rattle.std.specs.Prelude.{◌≡◌, ◌⊎◌, ℕ, ℤ, List, refl}
+use Rattle.std.specs.{Prelude.{◌≡◌, ◌⊎◌, ℕ, ℤ, List, refl}, Float.{Float}, Coded.{Coded, code_by, coded⊎, coded_ℕ, coded_ℤ, coded_bool, coded_list}}
 use Rattle.std.proofs.Common.{inl, inr, ap, sym, subst}
-use Rattle.std.specs.Float.{Float}
-use Rattle.std.specs.Coded.{Coded, code_by, coded⊎, coded_ℕ, coded_ℤ, coded_bool, coded_list}
 use base.Stored.{coded_float, Gv, gnil, gnum, gcons}
 use Rattle.serde_json.specs.Data.{Num, unsigned, negative, float, Data, null, boolean, number, string, array, object, Items, no_items, item, Members, no_members, member}
 

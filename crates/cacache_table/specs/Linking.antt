@@ -1,18 +1,8 @@
 -- Links: the target is read to its end, and a link to it becomes the content.
 use Rattle.std.specs.Prelude.{◌≡◌, ℕ, ◌==◌, List, [], ◌∷◌, ◌++◌, Option, Some, false, if◌then◌else◌, length}
-use Rattle.cacache_core.specs.declared.integrity.algorithm.Algorithm.{Algorithm}
-use Rattle.cacache_core.specs.declared.integrity.digest.Hash.{Hash}
-use Rattle.cacache_core.specs.Integrity.{integrity_under}
-use Rattle.cacache_core.specs.Paths.{join}
+use Rattle.cacache_core.specs.{declared.integrity.{algorithm.Algorithm.{Algorithm}, digest.Hash.{Hash}}, Integrity.{integrity_under}, Paths.{join}}
 use Rattle.cacache_store.specs.declared.store.plain.PlainFile.{PlainFile}
-use Rattle.cacache_table.specs.declared.command.Link.{Link}
-use Rattle.cacache_table.specs.declared.command.Options.{Options}
-use Rattle.cacache_table.specs.StepPaths.{content_path}
-use Rattle.cacache_table.specs.State.{State, opening_file, hashing, Site, Hashing, to_verify, to_link}
-use Rattle.cacache_table.specs.declared.carried.Commit.{Commit}
-use Rattle.cacache_table.specs.declared.target.Target.{Target}
-use Rattle.cacache_table.specs.Storing.{link}
-use Rattle.cacache_table.specs.Exporting.{verified}
+use Rattle.cacache_table.specs.{declared.{command.{Link.{Link}, Options.{Options}}, carried.Commit.{Commit}, target.Target.{Target}}, StepPaths.{content_path}, State.{State, opening_file, hashing, Site, Hashing, to_verify, to_link}, Storing.{link}, Exporting.{verified}}
 
 -- a target that doesn't begin with `/` starts at the base folder
 abbrev pub based : List ℕ → List ℕ → List ℕ

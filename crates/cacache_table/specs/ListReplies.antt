@@ -2,20 +2,12 @@
 use Rattle.std.specs.Prelude.{◌≡◌, ◌⊎◌, ◌↔◌, ◌<◌, ℕ, List, [], ◌∷◌, ◌++◌, Result, Ok, Err, length, map}
 use Rattle.cacache_core.specs.declared.errors.Fault.TheVariants as faults
 use Rattle.cacache_core.specs.declared.errors.Error.TheVariants.{OutOfMemory}
-use Rattle.cacache_store.specs.declared.store.answer.Name.{Name}
+use Rattle.cacache_store.specs.{declared.store.answer.Name.{Name}, Plain.{PlainStep, PlainAnswer}}
 use Rattle.cacache_store.specs.declared.store.step.Step.TheVariants as steps
-use Rattle.cacache_store.specs.Plain.{PlainStep, PlainAnswer}
 use Rattle.cacache_entry.specs.Entry.{Entry}
-use Rattle.cacache_table.specs.declared.answers.Refusal.{Refusal}
+use Rattle.cacache_table.specs.{declared.{answers.Refusal.{Refusal}, reply.Reply.{Reply, TheVariants.{Listed, Refused}}}, Answers.{bytes_in, names_in}, State.{Site, Item}, Walking.{most, once, items_in, failed}, Table.{opening}, Runs.{Moves, Runs}}
 use Rattle.cacache_table.specs.declared.answers.Refusal.TheVariants as refusals
 use Rattle.cacache_table.specs.declared.command.Command.TheVariants as commands
-use Rattle.cacache_table.specs.declared.reply.Reply.{Reply}
-use Rattle.cacache_table.specs.declared.reply.Reply.TheVariants.{Listed, Refused}
-use Rattle.cacache_table.specs.Answers.{bytes_in, names_in}
-use Rattle.cacache_table.specs.State.{Site, Item}
-use Rattle.cacache_table.specs.Walking.{most, once, items_in, failed}
-use Rattle.cacache_table.specs.Table.{opening}
-use Rattle.cacache_table.specs.Runs.{Moves, Runs}
 
 -- ---- what the steps gave
 

@@ -1,19 +1,10 @@
 -- Lookups of keys: what the found entry is wanted for.
 use Rattle.std.specs.Prelude.{ℕ, List, Option, None, Some}
-use Rattle.cacache_core.specs.declared.errors.Fault.{Fault}
+use Rattle.cacache_core.specs.declared.errors.{Fault.{Fault}, Error.TheVariants.{EntryNotFound}}
 use Rattle.cacache_core.specs.declared.errors.Fault.TheVariants as faults
-use Rattle.cacache_core.specs.declared.errors.Error.TheVariants.{EntryNotFound}
-use Rattle.cacache_entry.specs.Bucket.{entries_of}
-use Rattle.cacache_entry.specs.Latest.{Found, latest}
-use Rattle.cacache_table.specs.declared.reply.Reply.TheVariants.{LookedUp}
-use Rattle.cacache_table.specs.State.{State, reading, over}
-use Rattle.cacache_table.specs.declared.carried.Aim.{Aim}
-use Rattle.cacache_table.specs.declared.carried.Lookup.{Lookup}
-use Rattle.cacache_table.specs.declared.carried.Content.{Content}
+use Rattle.cacache_entry.specs.{Bucket.{entries_of}, Latest.{Found, latest}}
+use Rattle.cacache_table.specs.{declared.{reply.Reply.TheVariants.{LookedUp}, carried.{Aim.{Aim}, Lookup.{Lookup}, Content.{Content}}}, State.{State, reading, over}, Common.{ends_with, fails}, Exporting.{export}, Removing.{remove_found}}
 use Rattle.cacache_table.specs.declared.carried.Aim.TheVariants as aims
-use Rattle.cacache_table.specs.Common.{ends_with, fails}
-use Rattle.cacache_table.specs.Exporting.{export}
-use Rattle.cacache_table.specs.Removing.{remove_found}
 
 -- what the bytes of a bucket answer to a lookup of the key
 unfoldable pub found_in : List ℕ → List ℕ → Option Found

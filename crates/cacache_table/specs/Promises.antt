@@ -1,24 +1,10 @@
 -- What every reply of a call keeps, whatever its store answered. Each call may also be refused.
 use Rattle.std.specs.Prelude.{◌≡◌, ℕ, List, [], ◌++◌, Option, None, Some, Bool, true, false, length}
-use Rattle.cacache_core.specs.declared.integrity.digest.Hash.{Hash}
-use Rattle.cacache_core.specs.Integrity.{Meets}
-use Rattle.cacache_table.specs.declared.command.Command.{Command}
+use Rattle.cacache_core.specs.{declared.integrity.digest.Hash.{Hash}, Integrity.{Meets}}
+use Rattle.cacache_table.specs.{declared.{command.{Command.{Command}, How.{How, TheVariants.{Copy, Reflink, HardLink}}}, reply.Reply.{Reply, TheVariants.{Stored, Read, LookedUp, Exists, Copied, Listed, Done, Refused}}, carried.{Commit.{Commit}, Aim.{Aim}}, target.Target.{Target}}, State.{State, doing, creating, writing, syncing, persisting, linking, confirming, appending, looking, reading, asking, sizing, opening_file, hashing, copying, walking, over, Site, Hashing, to_verify, to_link}, Inserting.{given_or, no_integrity}, Storing.{matches, put_commit}, Linking.{commit_for, with_size, link_target}, Table.{opening}, Runs.{Moves, Runs}}
 use Rattle.cacache_table.specs.declared.command.Command.TheVariants as commands
 use Rattle.cacache_table.specs.declared.command.Source.TheVariants as sources
-use Rattle.cacache_table.specs.declared.command.How.{How}
-use Rattle.cacache_table.specs.declared.command.How.TheVariants.{Copy, Reflink, HardLink}
-use Rattle.cacache_table.specs.declared.reply.Reply.{Reply}
-use Rattle.cacache_table.specs.declared.reply.Reply.TheVariants.{Stored, Read, LookedUp, Exists, Copied, Listed, Done, Refused}
-use Rattle.cacache_table.specs.State.{State, doing, creating, writing, syncing, persisting, linking, confirming, appending, looking, reading, asking, sizing, opening_file, hashing, copying, walking, over, Site, Hashing, to_verify, to_link}
-use Rattle.cacache_table.specs.declared.carried.Commit.{Commit}
-use Rattle.cacache_table.specs.declared.carried.Aim.{Aim}
-use Rattle.cacache_table.specs.declared.target.Target.{Target}
 use Rattle.cacache_table.specs.declared.carried.Aim.TheVariants as aims
-use Rattle.cacache_table.specs.Inserting.{given_or, no_integrity}
-use Rattle.cacache_table.specs.Storing.{matches, put_commit}
-use Rattle.cacache_table.specs.Linking.{commit_for, with_size, link_target}
-use Rattle.cacache_table.specs.Table.{opening}
-use Rattle.cacache_table.specs.Runs.{Moves, Runs}
 
 -- ---- of a reply: which kind it may have
 

@@ -2,9 +2,7 @@
 use Rattle.std.specs.Prelude.{ℕ, List, Option, None, Some}
 use Rattle.cacache_core.specs.declared.integrity.digest.Hash.{Hash}
 use Rattle.cacache_entry.specs.Latest.{Found}
-use Rattle.cacache_table.specs.declared.reply.Reply.TheVariants.{Done}
-use Rattle.cacache_table.specs.StepPaths.{content_path, bucket_path}
-use Rattle.cacache_table.specs.State.{State, doing, over, remove}
+use Rattle.cacache_table.specs.{declared.reply.Reply.TheVariants.{Done}, StepPaths.{content_path, bucket_path}, State.{State, doing, over, remove}}
 
 -- the content of an integrity is removed, and the call goes on
 abbrev pub remove_content : List ℕ → List Hash → State → State

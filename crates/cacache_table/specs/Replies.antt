@@ -1,29 +1,13 @@
 -- What lookups, reads and questions answer, by what their own steps were shown.
 use Rattle.std.specs.Prelude.{◌≡◌, ◌⊎◌, ℕ, List, [], ◌∷◌, Option, None, Some, option_map, Result, Ok, Err, Bool, false, if◌then◌else◌}
 use Rattle.cacache_core.specs.declared.errors.Fault.TheVariants as faults
-use Rattle.cacache_core.specs.declared.errors.IntegrityFault.TheVariants.{Check}
-use Rattle.cacache_core.specs.declared.errors.Error.TheVariants.{EntryNotFound, IoError, IntegrityError, OutOfMemory}
-use Rattle.cacache_core.specs.declared.integrity.digest.Hash.{Hash}
-use Rattle.cacache_core.specs.Integrity.{Meets, actual}
+use Rattle.cacache_core.specs.{declared.{errors.{IntegrityFault.TheVariants.{Check}, Error.TheVariants.{EntryNotFound, IoError, IntegrityError, OutOfMemory}}, integrity.digest.Hash.{Hash}}, Integrity.{Meets, actual}, Meeting.{meets}}
 use Rattle.cacache_store.specs.declared.store.step.Step.TheVariants as steps
-use Rattle.cacache_store.specs.Fits.{Fits}
-use Rattle.cacache_store.specs.Plain.{PlainStep, PlainAnswer}
-use Rattle.cacache_entry.specs.Entry.{Entry}
-use Rattle.cacache_entry.specs.Bucket.{entries_of}
-use Rattle.cacache_entry.specs.Latest.{Found, latest}
-use Rattle.cacache_entry.specs.View.{found_view}
-use Rattle.cacache_entry.specs.declared.metadata.Metadata.{Metadata}
-use Rattle.cacache_table.specs.declared.answers.Refusal.{Refusal}
+use Rattle.cacache_store.specs.{Fits.{Fits}, Plain.{PlainStep, PlainAnswer}}
+use Rattle.cacache_entry.specs.{Entry.{Entry}, Bucket.{entries_of}, Latest.{Found, latest}, View.{found_view}, declared.metadata.Metadata.{Metadata}}
+use Rattle.cacache_table.specs.{declared.{answers.Refusal.{Refusal}, reply.Reply.{Reply, TheVariants.{Read, LookedUp, Exists, Done, Refused}}}, Answers.{bytes_in, there_in}, StepPaths.{content_path, bucket_path}, State.{Site}, Table.{opening}, Runs.{Moves, Runs}}
 use Rattle.cacache_table.specs.declared.answers.Refusal.TheVariants as refusals
 use Rattle.cacache_table.specs.declared.command.Command.TheVariants as commands
-use Rattle.cacache_table.specs.declared.reply.Reply.{Reply}
-use Rattle.cacache_table.specs.declared.reply.Reply.TheVariants.{Read, LookedUp, Exists, Done, Refused}
-use Rattle.cacache_table.specs.Answers.{bytes_in, there_in}
-use Rattle.cacache_core.specs.Meeting.{meets}
-use Rattle.cacache_table.specs.StepPaths.{content_path, bucket_path}
-use Rattle.cacache_table.specs.State.{Site}
-use Rattle.cacache_table.specs.Table.{opening}
-use Rattle.cacache_table.specs.Runs.{Moves, Runs}
 
 -- ---- what a step shows at its place
 

@@ -2,37 +2,13 @@
 use Rattle.std.specs.Prelude.{◌≡◌, ℕ, zero, suc, List, [], ◌∷◌, Option, None, Some, Ok, true, false, codes, length}
 use Rattle.serde_json.specs.Data.{null}
 use Rattle.cacache_core.specs.declared.errors.Fault.TheVariants as faults
-use Rattle.cacache_core.specs.declared.errors.Error.TheVariants.{IoError}
-use Rattle.cacache_core.specs.declared.integrity.algorithm.Algorithm.TheVariants.{Sha256}
-use Rattle.cacache_core.specs.declared.integrity.digest.Hash.{Hash}
-use Rattle.cacache_core.specs.Integrity.{integrity_under}
-use Rattle.cacache_core.specs.Paths.{content_area, index_area, temp_area}
-use Rattle.cacache_store.specs.declared.store.plain.PlainTemp.{PlainTemp}
-use Rattle.cacache_store.specs.declared.store.plain.PlainFile.{PlainFile}
-use Rattle.cacache_store.specs.declared.store.answer.Kind.{Kind}
-use Rattle.cacache_store.specs.declared.store.answer.Kind.TheVariants.{File, Folder}
-use Rattle.cacache_store.specs.declared.store.answer.Name.{Name}
+use Rattle.cacache_core.specs.{declared.{errors.Error.TheVariants.{IoError}, integrity.{algorithm.Algorithm.TheVariants.{Sha256}, digest.Hash.{Hash}}}, Integrity.{integrity_under}, Paths.{content_area, index_area, temp_area}, Meeting.{meets}}
+use Rattle.cacache_store.specs.{declared.store.{plain.{PlainTemp.{PlainTemp}, PlainFile.{PlainFile}}, answer.{Kind.{Kind, TheVariants.{File, Folder}}, Name.{Name}}}, Plain.{PlainStep, PlainAnswer}}
 use Rattle.cacache_store.specs.declared.store.answer.Answer.TheVariants as answers
-use Rattle.cacache_store.specs.Plain.{PlainStep, PlainAnswer}
 use Rattle.cacache_entry.specs.Latest.{Found}
-use Rattle.cacache_table.specs.declared.command.Options.{Options}
-use Rattle.cacache_table.specs.declared.command.Put.{Put}
-use Rattle.cacache_table.specs.declared.command.Link.{Link}
-use Rattle.cacache_table.specs.declared.command.Export.{Export}
-use Rattle.cacache_table.specs.declared.command.How.TheVariants.{Copy}
-use Rattle.cacache_table.specs.declared.command.Command.{Command}
+use Rattle.cacache_table.specs.{declared.{command.{Options.{Options}, Put.{Put}, Link.{Link}, Export.{Export}, How.TheVariants.{Copy}, Command.{Command}}, reply.Reply.{Reply, TheVariants.{Stored, Read, Exists, Copied, Listed, Done, Refused}}}, State.{State, over, Site, Insertion}, Inserting.{bucket_line, refused_cause}, Storing.{insertion_of, put_commit}, Linking.{commit_for, with_size, link_target}, Looking.{found_in}, Walking.{items_in, failed}, Table.{wants, after, opening}}
 use Rattle.cacache_table.specs.declared.command.Command.TheVariants as commands
 use Rattle.cacache_table.specs.declared.command.Source.TheVariants as sources
-use Rattle.cacache_table.specs.declared.reply.Reply.{Reply}
-use Rattle.cacache_table.specs.declared.reply.Reply.TheVariants.{Stored, Read, Exists, Copied, Listed, Done, Refused}
-use Rattle.cacache_core.specs.Meeting.{meets}
-use Rattle.cacache_table.specs.State.{State, over, Site, Insertion}
-use Rattle.cacache_table.specs.Inserting.{bucket_line, refused_cause}
-use Rattle.cacache_table.specs.Storing.{insertion_of, put_commit}
-use Rattle.cacache_table.specs.Linking.{commit_for, with_size, link_target}
-use Rattle.cacache_table.specs.Looking.{found_in}
-use Rattle.cacache_table.specs.Walking.{items_in, failed}
-use Rattle.cacache_table.specs.Table.{wants, after, opening}
 
 -- nothing where the call wanted no step
 abbrev pub played : Option PlainStep → Option State → Option State

@@ -1,10 +1,7 @@
 -- What a step brought, as plain data.
 use Rattle.std.specs.Prelude.{ℕ, List, Result, Ok, Err}
-use Rattle.cacache_store.specs.declared.store.plain.PlainFile.{PlainFile}
-use Rattle.cacache_store.specs.declared.store.plain.PlainTemp.{PlainTemp}
-use Rattle.cacache_table.specs.declared.answers.Refusal.{Refusal}
-use Rattle.cacache_table.specs.declared.answers.Written.{Written}
-use Rattle.cacache_table.specs.declared.answers.Got.{Got}
+use Rattle.cacache_store.specs.declared.store.plain.{PlainFile.{PlainFile}, PlainTemp.{PlainTemp}}
+use Rattle.cacache_table.specs.declared.answers.{Refusal.{Refusal}, Written.{Written}, Got.{Got}}
 
 -- a result whose value is seen so
 abbrev pub seen_by : {X Y : Type 0} → (X → Y) → Result X Refusal → Result Y Refusal

@@ -1,19 +1,9 @@
 -- How far a call is, and what it needs from there on.
 use Rattle.std.specs.Prelude.{ℕ, List, Option, Bool, Result}
-use Rattle.cacache_core.specs.declared.errors.Fault.{Fault}
-use Rattle.cacache_core.specs.declared.errors.Error.{Error}
-use Rattle.cacache_store.specs.declared.store.plain.PlainFile.{PlainFile}
-use Rattle.cacache_store.specs.declared.store.plain.PlainTemp.{PlainTemp}
-use Rattle.cacache_entry.specs.Entry.{Entry}
-use Rattle.cacache_entry.specs.Latest.{Found}
-use Rattle.cacache_table.specs.declared.command.Export.{Export}
-use Rattle.cacache_table.specs.declared.reply.Reply.{Reply}
-use Rattle.cacache_table.specs.declared.carried.Commit.{Commit}
-use Rattle.cacache_table.specs.declared.carried.Lookup.{Lookup}
-use Rattle.cacache_table.specs.declared.carried.Content.{Content}
-use Rattle.cacache_table.specs.declared.target.Target.{Target}
-use Rattle.cacache_table.specs.declared.visit.Visit.{Visit}
-use Rattle.cacache_table.specs.declared.visit.Task.{Task}
+use Rattle.cacache_core.specs.declared.errors.{Fault.{Fault}, Error.{Error}}
+use Rattle.cacache_store.specs.declared.store.plain.{PlainFile.{PlainFile}, PlainTemp.{PlainTemp}}
+use Rattle.cacache_entry.specs.{Entry.{Entry}, Latest.{Found}}
+use Rattle.cacache_table.specs.declared.{command.Export.{Export}, reply.Reply.{Reply}, carried.{Commit.{Commit}, Lookup.{Lookup}, Content.{Content}}, target.Target.{Target}, visit.{Visit.{Visit}, Task.{Task}}}
 
 -- where a call works
 pub record Site : Type 0 where

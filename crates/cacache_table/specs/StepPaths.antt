@@ -1,8 +1,6 @@
 -- The paths that a call's steps name, as texts.
 use Rattle.std.specs.Prelude.{ℕ, List, [], Option, None, Some}
-use Rattle.cacache_core.specs.declared.integrity.digest.Hash.{Hash}
-use Rattle.cacache_core.specs.Integrity.{address}
-use Rattle.cacache_core.specs.Paths.{joined, content_names, bucket_names, temp_names, folder_names, folders_to}
+use Rattle.cacache_core.specs.{declared.integrity.digest.Hash.{Hash}, Integrity.{address}, Paths.{joined, content_names, bucket_names, temp_names, folder_names, folders_to}}
 
 -- where a temporary file lies, and its folder
 unfoldable pub temp_path : List ℕ → ℕ → List ℕ

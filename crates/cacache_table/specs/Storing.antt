@@ -1,21 +1,9 @@
 -- Commits: bytes, or a link, become a content, and with a key its entry follows.
 use Rattle.std.specs.Prelude.{ℕ, ◌==◌, List, [], ◌∷◌, Option, None, Some, Bool, is_some, if◌then◌else◌, length, drop}
-use Rattle.cacache_core.specs.declared.errors.Fault.{Fault}
+use Rattle.cacache_core.specs.{declared.{errors.{Fault.{Fault}, IntegrityFault.TheVariants.{Check}, Error.TheVariants.{SizeMismatch, IntegrityError}}, integrity.digest.Hash.{Hash}}, Integrity.{integrity_under}, Texts.{integrity_text}, Meeting.{matching}}
 use Rattle.cacache_core.specs.declared.errors.Fault.TheVariants as faults
-use Rattle.cacache_core.specs.declared.errors.IntegrityFault.TheVariants.{Check}
-use Rattle.cacache_core.specs.declared.errors.Error.TheVariants.{SizeMismatch, IntegrityError}
-use Rattle.cacache_core.specs.declared.integrity.digest.Hash.{Hash}
-use Rattle.cacache_core.specs.Integrity.{integrity_under}
-use Rattle.cacache_core.specs.Texts.{integrity_text}
 use Rattle.cacache_store.specs.declared.store.plain.PlainTemp.{PlainTemp}
-use Rattle.cacache_table.specs.declared.command.Put.{Put}
-use Rattle.cacache_table.specs.declared.reply.Reply.TheVariants.{Stored}
-use Rattle.cacache_core.specs.Meeting.{matching}
-use Rattle.cacache_table.specs.StepPaths.{temp_folder, content_path, content_folder, content_folders}
-use Rattle.cacache_table.specs.State.{State, doing, creating, writing, syncing, persisting, linking, over, Site, Insertion, make_folder, sync_file}
-use Rattle.cacache_table.specs.declared.carried.Commit.{Commit}
-use Rattle.cacache_table.specs.Common.{ends_with, fails, sync_up}
-use Rattle.cacache_table.specs.Inserting.{insert, entry_of, given_or}
+use Rattle.cacache_table.specs.{declared.{command.Put.{Put}, reply.Reply.TheVariants.{Stored}, carried.Commit.{Commit}}, StepPaths.{temp_folder, content_path, content_folder, content_folders}, State.{State, doing, creating, writing, syncing, persisting, linking, over, Site, Insertion, make_folder, sync_file}, Common.{ends_with, fails, sync_up}, Inserting.{insert, entry_of, given_or}}
 
 -- ---- once the content is there: the integrity, then the size, then the entry
 

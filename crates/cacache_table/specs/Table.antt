@@ -3,23 +3,10 @@ use Rattle.std.specs.Prelude.{ℕ, Option, None, Some, true, false, []}
 use Rattle.cacache_core.specs.Paths.{index_area, join}
 use Rattle.cacache_store.specs.declared.store.step.Step.TheVariants as steps
 use Rattle.cacache_store.specs.Plain.{PlainStep, PlainAnswer}
-use Rattle.cacache_table.specs.declared.command.Command.{Command}
+use Rattle.cacache_table.specs.{declared.{command.Command.{Command}, reply.Reply.TheVariants.{Copied, Done}}, Answers.{done_in, temp_in, written_in, synced_in, there_in, taken_in, bytes_in, file_in, got_in, length_in}, StepPaths.{temp_path, content_path, bucket_path}, State.{State, doing, creating, writing, syncing, persisting, linking, confirming, appending, looking, reading, asking, sizing, opening_file, hashing, copying, walking, over, Site}, Common.{fails, go_on, errand_step}, Inserting.{insert, insertion, deletion, bucket_line, after_append}, Storing.{secured, write_rest, after_write, after_confirm, store}, Looking.{after_bucket, no_bucket}, ContentReads.{checked, answer_there, answer_absent}, Exporting.{export, copied_count}, Linking.{link_target, after_size, hashed_path, after_read}, Removing.{remove_content}, Walking.{visit_step, after_visit, walk}}
 use Rattle.cacache_table.specs.declared.command.Command.TheVariants as commands
 use Rattle.cacache_table.specs.declared.command.Source.TheVariants as sources
-use Rattle.cacache_table.specs.declared.reply.Reply.TheVariants.{Copied, Done}
-use Rattle.cacache_table.specs.Answers.{done_in, temp_in, written_in, synced_in, there_in, taken_in, bytes_in, file_in, got_in, length_in}
-use Rattle.cacache_table.specs.StepPaths.{temp_path, content_path, bucket_path}
-use Rattle.cacache_table.specs.State.{State, doing, creating, writing, syncing, persisting, linking, confirming, appending, looking, reading, asking, sizing, opening_file, hashing, copying, walking, over, Site}
 use Rattle.cacache_table.specs.declared.carried.Aim.TheVariants as aims
-use Rattle.cacache_table.specs.Common.{fails, go_on, errand_step}
-use Rattle.cacache_table.specs.Inserting.{insert, insertion, deletion, bucket_line, after_append}
-use Rattle.cacache_table.specs.Storing.{secured, write_rest, after_write, after_confirm, store}
-use Rattle.cacache_table.specs.Looking.{after_bucket, no_bucket}
-use Rattle.cacache_table.specs.ContentReads.{checked, answer_there, answer_absent}
-use Rattle.cacache_table.specs.Exporting.{export, copied_count}
-use Rattle.cacache_table.specs.Linking.{link_target, after_size, hashed_path, after_read}
-use Rattle.cacache_table.specs.Removing.{remove_content}
-use Rattle.cacache_table.specs.Walking.{visit_step, after_visit, walk}
 
 -- a read asks for at most so many bytes
 abbrev pub piece : ℕ

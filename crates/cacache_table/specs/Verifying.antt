@@ -1,27 +1,13 @@
 -- What checked exports and links read before they made anything.
 use Rattle.std.specs.Prelude.{◌≡◌, ℕ, List, [], ◌∷◌, ◌++◌, Ok, Some, true, length}
-use Rattle.cacache_core.specs.declared.integrity.digest.Hash.{Hash}
-use Rattle.cacache_core.specs.Integrity.{Meets}
-use Rattle.cacache_store.specs.declared.store.plain.PlainFile.{PlainFile}
+use Rattle.cacache_core.specs.{declared.integrity.digest.Hash.{Hash}, Integrity.{Meets}}
+use Rattle.cacache_store.specs.{declared.store.plain.PlainFile.{PlainFile}, Plain.{PlainAnswer}}
 use Rattle.cacache_store.specs.declared.store.step.Step.TheVariants as steps
 use Rattle.cacache_store.specs.declared.store.answer.Answer.TheVariants as answers
-use Rattle.cacache_store.specs.Plain.{PlainAnswer}
 use Rattle.cacache_entry.specs.Latest.{Found}
 use Rattle.cacache_table.specs.declared.command.Command.TheVariants as commands
-use Rattle.cacache_table.specs.declared.command.Source.{Source}
+use Rattle.cacache_table.specs.{declared.{command.{Source.{Source}, Export.{Export}, Link.{Link}}, reply.Reply.{Reply, TheVariants.{Copied, Refused}}, target.Target.{Target}}, Linking.{link_target, with_size, commit_for}, StepPaths.{content_path}, Promises.{Stores}, Replies.{BeginsWithBucket, bucket_shown, lookup}, Runs.{Moves, Runs}, State.{Site}, Table.{opening}}
 use Rattle.cacache_table.specs.declared.command.Source.TheVariants as sources
-use Rattle.cacache_table.specs.declared.command.Export.{Export}
-use Rattle.cacache_table.specs.declared.command.Link.{Link}
-use Rattle.cacache_table.specs.declared.reply.Reply.{Reply}
-use Rattle.cacache_table.specs.declared.reply.Reply.TheVariants.{Copied, Refused}
-use Rattle.cacache_table.specs.Linking.{link_target, with_size, commit_for}
-use Rattle.cacache_table.specs.StepPaths.{content_path}
-use Rattle.cacache_table.specs.Promises.{Stores}
-use Rattle.cacache_table.specs.Replies.{BeginsWithBucket, bucket_shown, lookup}
-use Rattle.cacache_table.specs.Runs.{Moves, Runs}
-use Rattle.cacache_table.specs.State.{Site}
-use Rattle.cacache_table.specs.declared.target.Target.{Target}
-use Rattle.cacache_table.specs.Table.{opening}
 
 -- the moves begin with reads of the file to its end, which gave these bytes
 abbrev pub Gives : PlainFile → List ℕ → Moves → Type 0

@@ -1,26 +1,12 @@
 -- Walks through folders: a listing reads each bucket, a clearing removes all.
-use Rattle.std.specs.Prelude.{ℕ, ◌+◌, ◌-◌, ◌^◌, ◌==◌, List, [], ◌∷◌, ◌++◌, Ok, Err, Bool, true, false, if◌then◌else◌, nat_le, nat_lt, length, take, map, filter_map, option_map, bytes_eq}
-use Rattle.std.specs.List.{list_any}
-use Rattle.cacache_core.specs.declared.errors.Fault.{Fault}
+use Rattle.std.specs.{Prelude.{ℕ, ◌+◌, ◌-◌, ◌^◌, ◌==◌, List, [], ◌∷◌, ◌++◌, Ok, Err, Bool, true, false, if◌then◌else◌, nat_le, nat_lt, length, take, map, filter_map, option_map, bytes_eq}, List.{list_any}}
+use Rattle.cacache_core.specs.{declared.errors.{Fault.{Fault}, Error.TheVariants.{IoError}}, Paths.{join}}
 use Rattle.cacache_core.specs.declared.errors.Fault.TheVariants as faults
-use Rattle.cacache_core.specs.declared.errors.Error.TheVariants.{IoError}
-use Rattle.cacache_core.specs.Paths.{join}
-use Rattle.cacache_store.specs.declared.store.answer.Kind.{Kind}
+use Rattle.cacache_store.specs.{declared.store.answer.{Kind.{Kind}, Name.{Name}}, Plain.{PlainStep, PlainAnswer}}
 use Rattle.cacache_store.specs.declared.store.answer.Kind.TheVariants as kinds
-use Rattle.cacache_store.specs.declared.store.answer.Name.{Name}
 use Rattle.cacache_store.specs.declared.store.step.Step.TheVariants as steps
-use Rattle.cacache_store.specs.Plain.{PlainStep, PlainAnswer}
-use Rattle.cacache_entry.specs.Entry.{Entry}
-use Rattle.cacache_entry.specs.Bucket.{entries_of}
-use Rattle.cacache_entry.specs.Latest.{latest}
-use Rattle.cacache_table.specs.declared.reply.Reply.TheVariants.{Listed, Done}
-use Rattle.cacache_table.specs.Answers.{done_in, bytes_in, names_in}
-use Rattle.cacache_table.specs.State.{State, walking, over, Item, Walk}
-use Rattle.cacache_table.specs.declared.visit.Visit.{Visit}
-use Rattle.cacache_table.specs.declared.visit.Task.{Task}
-use Rattle.cacache_table.specs.declared.visit.Visit.TheVariants.{Enter, ReadBucket, RemoveFile, RemoveFolder}
-use Rattle.cacache_table.specs.declared.visit.Task.TheVariants.{Make, Stumble}
-use Rattle.cacache_table.specs.Common.{fails, go_on}
+use Rattle.cacache_entry.specs.{Entry.{Entry}, Bucket.{entries_of}, Latest.{latest}}
+use Rattle.cacache_table.specs.{declared.{reply.Reply.TheVariants.{Listed, Done}, visit.{Visit.{Visit, TheVariants.{Enter, ReadBucket, RemoveFile, RemoveFolder}}, Task.{Task, TheVariants.{Make, Stumble}}}}, Answers.{done_in, bytes_in, names_in}, State.{State, walking, over, Item, Walk}, Common.{fails, go_on}}
 
 -- a walk takes at most so many names, and gives at most so many items
 abbrev pub most : ℕ

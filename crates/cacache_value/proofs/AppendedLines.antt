@@ -1,24 +1,12 @@
 -- What an append leaves of a bucket.
-use Rattle.std.proofs.Common.{◌≡◌, ◌≤◌, ◌<◌, ◌+◌, length, ℕ, zero, suc, Bool, true, false, nat_le, arith, length-append, List, ◌∷◌, ◌++◌, Option, None, Some, Ok, Err, take, refl, sym, ap, ◌∙◌, append-nil}
-use Rattle.std.proofs.lemmas.List.{take_all, take-append-le}
-use Rattle.std.proofs.lemmas.Bool.{leb-true, leb-false}
+use Rattle.std.proofs.{Common.{◌≡◌, ◌≤◌, ◌<◌, ◌+◌, length, ℕ, zero, suc, Bool, true, false, nat_le, arith, length-append, List, ◌∷◌, ◌++◌, Option, None, Some, Ok, Err, take, refl, sym, ap, ◌∙◌, append-nil}, lemmas.{List.{take_all, take-append-le}, Bool.{leb-true, leb-false}}}
 use Rattle.std.specs.Prelude.{Result, []}
-use Rattle.cacache_core.specs.declared.errors.Fault.{Fault}
-use Rattle.cacache_core.specs.PathNames.{Names, names_of}
-use Rattle.cacache_store.specs.declared.store.step.Step.TheVariants.{Append}
-use Rattle.cacache_store.specs.Plain.{PlainAnswer}
-use Rattle.cacache_disk.specs.declared.luck.Luck.{Luck}
-use Rattle.cacache_disk.specs.declared.node.Node.{Node}
-use Rattle.cacache_disk.specs.declared.node.Node.TheVariants.{Folder, File, Link}
-use Rattle.cacache_disk.specs.Tree.{bytes_of}
-use Rattle.cacache_entry.specs.Entry.{Entry, line_of, closing, closed_line}
-use Rattle.cacache_entry.specs.FittingEntries.{IsEntry, IsWritable}
-use Rattle.cacache_entry.specs.Bucket.{entries_of}
-use Rattle.cacache_entry.proofs.Pieces.{entries_split}
-use Rattle.cacache_entry.proofs.Lines.{lines_append, empty_holds_nothing, torn_lines_add_nothing}
-use Rattle.cacache_value.specs.Value.{bucket_in}
-use Rattle.cacache_value.specs.Acts.{Act, Nothing, AddEntries, act_at, act_with, amount_left, act_of, list_of}
-use Rattle.cacache_value.specs.ValueLaws.{WholeLinesAdd, TornLinesAddNone, NothingLeftIsNothing}
+use Rattle.cacache_core.specs.{declared.errors.Fault.{Fault}, PathNames.{Names, names_of}}
+use Rattle.cacache_store.specs.{declared.store.step.Step.TheVariants.{Append}, Plain.{PlainAnswer}}
+use Rattle.cacache_disk.specs.{declared.{luck.Luck.{Luck}, node.Node.{Node, TheVariants.{Folder, File, Link}}}, Tree.{bytes_of}}
+use Rattle.cacache_entry.specs.{Entry.{Entry, line_of, closing, closed_line}, FittingEntries.{IsEntry, IsWritable}, Bucket.{entries_of}}
+use Rattle.cacache_entry.proofs.{Pieces.{entries_split}, Lines.{lines_append, empty_holds_nothing, torn_lines_add_nothing}}
+use Rattle.cacache_value.specs.{Value.{bucket_in}, Acts.{Act, Nothing, AddEntries, act_at, act_with, amount_left, act_of, list_of}, ValueLaws.{WholeLinesAdd, TornLinesAddNone, NothingLeftIsNothing}}
 
 -- bytes that begin with a line feed add the entries of as many of them as are left
 entries_left : (x y : List ℕ) (n : ℕ) → entries_of (x ++ take n (10 ∷ y)) ≡ entries_of x ++ entries_of (take n (10 ∷ y))

@@ -1,16 +1,9 @@
 -- What every step has in common, whatever its luck.
-use Rattle.std.proofs.Common.{◌≡◌, ℕ, false, cond, Option, None, Some, Ok, Err, refl, sym, ap, subst, ◌∙◌}
-use Rattle.std.specs.Prelude.{Result}
-use Rattle.cacache_core.specs.declared.errors.Fault.{Fault}
-use Rattle.cacache_core.specs.declared.errors.Fault.TheVariants.{NotFound}
-use Rattle.cacache_store.specs.declared.store.answer.Answer.TheVariants.{Failed}
-use Rattle.cacache_store.specs.Plain.{PlainStep, PlainAnswer}
-use Rattle.cacache_disk.specs.declared.luck.Luck.{Luck}
-use Rattle.cacache_disk.specs.declared.luck.Luck.TheVariants.{Plain, Fail, Take}
-use Rattle.cacache_disk.specs.Tree.{Tree, Names}
-use Rattle.cacache_disk.specs.Apply.{apply, plain, unless, is_taking, is_parted, fails, fault_told, left_by, made_up}
-use Rattle.cacache_value.specs.Value.{wide_value}
-use Rattle.cacache_value.specs.Acts.{Nothing, amount_left, act_of, change}
+use Rattle.std.{proofs.Common.{◌≡◌, ℕ, false, cond, Option, None, Some, Ok, Err, refl, sym, ap, subst, ◌∙◌}, specs.Prelude.{Result}}
+use Rattle.cacache_core.specs.declared.errors.Fault.{Fault, TheVariants.{NotFound}}
+use Rattle.cacache_store.specs.{declared.store.answer.Answer.TheVariants.{Failed}, Plain.{PlainStep, PlainAnswer}}
+use Rattle.cacache_disk.specs.{declared.luck.Luck.{Luck, TheVariants.{Plain, Fail, Take}}, Tree.{Tree, Names}, Apply.{apply, plain, unless, is_taking, is_parted, fails, fault_told, left_by, made_up}}
+use Rattle.cacache_value.specs.{Value.{wide_value}, Acts.{Nothing, amount_left, act_of, change}}
 
 -- ---- the act of a step that is done whole or not at all
 

@@ -1,16 +1,9 @@
 -- What is known of a path where a step found what it wanted.
-use Rattle.std.proofs.Common.{◌≡◌, ℕ, zero, suc, true, List, [], ◌∷◌, ◌++◌, Option, None, Some, Ok, Err, refl, sym, ap, subst, ◌∙◌}
-use Rattle.std.specs.Prelude.{Result, IfOk}
-use Rattle.cacache_core.specs.declared.errors.Fault.{Fault}
-use Rattle.cacache_core.specs.declared.errors.Fault.TheVariants.{NotFound}
-use Rattle.cacache_disk.specs.declared.node.Node.{Node}
-use Rattle.cacache_disk.specs.declared.node.Node.TheVariants.{Folder, File, Link}
-use Rattle.cacache_core.specs.PathNames.{names_of}
-use Rattle.cacache_disk.specs.Tree.{Tree, Names, look}
-use Rattle.cacache_disk.specs.LedTo.{and_then, or_fault, through, way_fault, place, standing, followed, leads, on_link, where_no_folder, linked_in, linked, writable, dirs}
-use Rattle.cacache_value.specs.Kinds.{PathKind, Content, Bucket, Temporary, Way, Stray, Elsewhere, path_kind, is_used, IsFor}
-use Rattle.cacache_value.specs.Placed.{MayStand, Placed}
+use Rattle.std.{proofs.Common.{◌≡◌, ℕ, zero, suc, true, List, [], ◌∷◌, ◌++◌, Option, None, Some, Ok, Err, refl, sym, ap, subst, ◌∙◌}, specs.Prelude.{Result, IfOk}}
+use Rattle.cacache_core.specs.{declared.errors.Fault.{Fault, TheVariants.{NotFound}}, PathNames.{names_of}}
+use Rattle.cacache_disk.specs.{declared.node.Node.{Node, TheVariants.{Folder, File, Link}}, Tree.{Tree, Names, look}, LedTo.{and_then, or_fault, through, way_fault, place, standing, followed, leads, on_link, where_no_folder, linked_in, linked, writable, dirs}}
 use Rattle.cacache_disk.proofs.FoundNodes.{NoFolder, and_then_ok, place_ok, no_folder_at, standing_ok}
+use Rattle.cacache_value.specs.{Kinds.{PathKind, Content, Bucket, Temporary, Way, Stray, Elsewhere, path_kind, is_used, IsFor}, Placed.{MayStand, Placed}}
 use Rattle.cacache_value.proofs.KindsApart.{above, further}
 
 -- ---- links lead out of the cache

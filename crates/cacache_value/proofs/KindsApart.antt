@@ -1,8 +1,7 @@
 -- Paths of two kinds are apart, and above a path of the cache there are ways alone.
 use Rattle.std.proofs.Common.{◌≡◌, ℕ, zero, suc, Bool, true, false, cond, List, [], ◌∷◌, ◌++◌, Option, None, Some, bytes_eq, refl, sym, ap, ◌∙◌, eq-eqb, append_assoc}
 use Rattle.cacache_core.specs.Paths.{content_area, index_area, temp_area}
-use Rattle.cacache_disk.specs.Tree.{Names, same_path}
-use Rattle.cacache_disk.proofs.Maps.{same_path-true}
+use Rattle.cacache_disk.{specs.Tree.{Names, same_path}, proofs.Maps.{same_path-true}}
 use Rattle.cacache_value.specs.Kinds.{PathKind, Content, Bucket, Temporary, Way, Stray, Elsewhere, kind_in_area, kind_below, kind_beside, path_kind, is_used, is_path_of}
 
 bytes_eq_same : (xs : List ℕ) → bytes_eq xs xs ≡ true

@@ -1,18 +1,9 @@
 -- Folders that are made on a way of the cache.
 use Rattle.std.proofs.Common.{◌≡◌, ◌-◌, ◌==◌, ℕ, Bool, true, false, cond, [], ◌∷◌, ◌++◌, Option, None, Some, refl, sym, ap, subst, ◌∙◌, eqb-true}
-use Rattle.cacache_disk.specs.declared.node.Node.{Node}
-use Rattle.cacache_disk.specs.declared.node.Node.TheVariants.{Folder, File, Link}
-use Rattle.cacache_disk.specs.Tree.{Tree, Names, look, put}
-use Rattle.cacache_disk.specs.Rooted.{is_folder}
-use Rattle.cacache_disk.specs.LedTo.{dirs_fault, is_in_way}
-use Rattle.cacache_disk.specs.Apply.{make_some, if_missing}
+use Rattle.cacache_disk.specs.{declared.node.Node.{Node, TheVariants.{Folder, File, Link}}, Tree.{Tree, Names, look, put}, Rooted.{is_folder}, LedTo.{dirs_fault, is_in_way}, Apply.{make_some, if_missing}}
 use Rattle.cacache_disk.proofs.PathFolders.{make_none}
-use Rattle.cacache_value.specs.Kinds.{Way, path_kind}
-use Rattle.cacache_value.specs.Value.{wide_value}
-use Rattle.cacache_value.specs.Acts.{make_folders, set_folder, with_folders}
-use Rattle.cacache_value.specs.Placed.{MayStand, Placed}
-use Rattle.cacache_value.proofs.KindsApart.{further, way_here}
-use Rattle.cacache_value.proofs.PutValues.{placed_put, put_folder}
+use Rattle.cacache_value.specs.{Kinds.{Way, path_kind}, Value.{wide_value}, Acts.{make_folders, set_folder, with_folders}, Placed.{MayStand, Placed}}
+use Rattle.cacache_value.proofs.{KindsApart.{further, way_here}, PutValues.{placed_put, put_folder}}
 
 -- the folders of a tree
 abbrev folders_of : Tree → Names → Bool

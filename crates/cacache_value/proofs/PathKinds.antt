@@ -1,13 +1,9 @@
 -- The paths of contents, buckets and temporary files are for what they should be.
-use Rattle.std.proofs.Common.{◌≡◌, ◌<◌, ℕ, List, [], ◌∷◌, Option, None, Some, length, refl, sym, subst, ◌∙◌, arith}
+use Rattle.std.proofs.{Common.{◌≡◌, ◌<◌, ℕ, List, [], ◌∷◌, Option, None, Some, length, refl, sym, subst, ◌∙◌, arith}, lemmas.List.Elements.{All-nil, All-cons, All-head, All-tail}}
 use Rattle.std.specs.Prelude.{All, IfOk}
-use Rattle.std.proofs.lemmas.List.Elements.{All-nil, All-cons, All-head, All-tail}
-use Rattle.cacache_core.specs.PathNames.{Names, home_of, names_below, IsProperName}
-use Rattle.cacache_core.specs.Paths.{content_names, bucket_names_of, temp_names, folder_names}
-use Rattle.cacache_core.proofs.JoinedNames.{joined_texts_name}
-use Rattle.cacache_core.proofs.ProperNames.{names_are_proper}
-use Rattle.cacache_value.specs.Kinds.{PathKind, Content, Bucket, Temporary, Way, kind_below, path_kind}
-use Rattle.cacache_value.specs.PathKinds.{IsTextFor, PathsAreFor, FoldersAreWays}
+use Rattle.cacache_core.specs.{PathNames.{Names, home_of, names_below, IsProperName}, Paths.{content_names, bucket_names_of, temp_names, folder_names}}
+use Rattle.cacache_core.proofs.{JoinedNames.{joined_texts_name}, ProperNames.{names_are_proper}}
+use Rattle.cacache_value.specs.{Kinds.{PathKind, Content, Bucket, Temporary, Way, kind_below, path_kind}, PathKinds.{IsTextFor, PathsAreFor, FoldersAreWays}}
 use Rattle.cacache_value.proofs.KindsApart.{kind-below}
 
 -- without the last name, proper names are proper too

@@ -1,20 +1,11 @@
 -- What a tree stands for after a node is put or cut.
 use Rattle.std.proofs.Common.{◌≡◌, ℕ, Bool, true, false, cond, List, ◌++◌, Option, None, Some, refl, sym, ap, subst, ◌∙◌}
 use Rattle.std.specs.FinMap as map
-use Rattle.cacache_core.specs.declared.integrity.digest.Hash.{Hash}
-use Rattle.cacache_core.specs.Paths.{content_names, bucket_names_of}
-use Rattle.cacache_disk.specs.declared.node.Node.{Node}
-use Rattle.cacache_disk.specs.declared.node.Node.TheVariants.{Folder, File}
-use Rattle.cacache_disk.specs.Tree.{Tree, Names, look, put, cut, same_path}
-use Rattle.cacache_disk.specs.Rooted.{is_folder}
-use Rattle.cacache_disk.proofs.Maps.{same_path-true}
-use Rattle.cacache_disk.proofs.PutNodes.{look-put, look-cut, folders-put, folders-cut}
-use Rattle.cacache_entry.specs.Entry.{Entry}
-use Rattle.cacache_entry.specs.Bucket.{entries_of}
-use Rattle.cacache_value.specs.Kinds.{PathKind, Content, Bucket, Way, kind_below, path_kind, node_below, is_path_of}
-use Rattle.cacache_value.specs.Value.{Value, blob_in, bucket_in, wide_value}
-use Rattle.cacache_value.specs.Acts.{put_blob, list_of, add_entries, drop_file, set_folder, with_folders}
-use Rattle.cacache_value.specs.Placed.{MayStand, Placed}
+use Rattle.cacache_core.specs.{declared.integrity.digest.Hash.{Hash}, Paths.{content_names, bucket_names_of}}
+use Rattle.cacache_disk.specs.{declared.node.Node.{Node, TheVariants.{Folder, File}}, Tree.{Tree, Names, look, put, cut, same_path}, Rooted.{is_folder}}
+use Rattle.cacache_disk.proofs.{Maps.{same_path-true}, PutNodes.{look-put, look-cut, folders-put, folders-cut}}
+use Rattle.cacache_entry.specs.{Entry.{Entry}, Bucket.{entries_of}}
+use Rattle.cacache_value.specs.{Kinds.{PathKind, Content, Bucket, Way, kind_below, path_kind, node_below, is_path_of}, Value.{Value, blob_in, bucket_in, wide_value}, Acts.{put_blob, list_of, add_entries, drop_file, set_folder, with_folders}, Placed.{MayStand, Placed}}
 use Rattle.cacache_value.proofs.KindsApart.{unseen}
 
 -- values that answer alike are the same

@@ -1,31 +1,12 @@
 -- Reading steps show what the value holds.
-use Rattle.std.proofs.Common.{◌≡◌, ℕ, true, false, cond, List, [], ◌++◌, Option, None, Some, Ok, Err, refl, sym, ap, subst, ◌∙◌, length}
-use Rattle.std.specs.Prelude.{Result}
-use Rattle.cacache_core.specs.declared.errors.Fault.{Fault}
-use Rattle.cacache_core.specs.declared.errors.Fault.TheVariants.{NotFound, IsADirectory, InvalidInput}
-use Rattle.cacache_core.specs.declared.integrity.digest.Hash.{Hash}
-use Rattle.cacache_core.specs.Paths.{content_names, bucket_names_of}
-use Rattle.cacache_store.specs.declared.store.step.Step.TheVariants.{ReadAll, Open, Size, Exists}
-use Rattle.cacache_store.specs.declared.store.answer.Answer.TheVariants.{Done, Temp, Wrote, Took, Bytes, File as Opened, Got, There, Length, Names as Listed, Synced, Failed, NoMemory}
-use Rattle.cacache_store.specs.Plain.{PlainStep, PlainAnswer}
-use Rattle.cacache_disk.specs.declared.luck.Luck.{Luck}
-use Rattle.cacache_disk.specs.declared.luck.Luck.TheVariants.{Plain, Fail, Take}
-use Rattle.cacache_disk.specs.declared.node.Node.{Node}
-use Rattle.cacache_disk.specs.declared.node.Node.TheVariants.{Folder, File, Link}
-use Rattle.cacache_core.specs.PathNames.{names_of, names_below}
-use Rattle.cacache_disk.specs.Tree.{Tree, Names, look}
-use Rattle.cacache_disk.specs.LedTo.{way_fault, place, followed, leads, found, file_at, bytes_there}
-use Rattle.cacache_disk.specs.Apply.{apply, plain, unless, is_there, is_taking, fails, fault_told, left_by, made_up}
-use Rattle.cacache_entry.specs.Entry.{Entry}
-use Rattle.cacache_value.specs.Kinds.{Content, Bucket, path_kind, is_used}
-use Rattle.cacache_value.specs.Value.{blob_in, bucket_in, wide_value}
-use Rattle.cacache_value.specs.Placed.{MayStand, Placed}
-use Rattle.cacache_disk.specs.Rooted.{Rooted}
+use Rattle.std.{proofs.Common.{◌≡◌, ℕ, true, false, cond, List, [], ◌++◌, Option, None, Some, Ok, Err, refl, sym, ap, subst, ◌∙◌, length}, specs.Prelude.{Result}}
+use Rattle.cacache_core.specs.{declared.{errors.Fault.{Fault, TheVariants.{NotFound, IsADirectory, InvalidInput}}, integrity.digest.Hash.{Hash}}, Paths.{content_names, bucket_names_of}, PathNames.{names_of, names_below}}
+use Rattle.cacache_store.specs.{declared.store.{step.Step.TheVariants.{ReadAll, Open, Size, Exists}, answer.Answer.TheVariants.{Done, Temp, Wrote, Took, Bytes, File as Opened, Got, There, Length, Names as Listed, Synced, Failed, NoMemory}}, Plain.{PlainStep, PlainAnswer}}
+use Rattle.cacache_disk.specs.{declared.{luck.Luck.{Luck, TheVariants.{Plain, Fail, Take}}, node.Node.{Node, TheVariants.{Folder, File, Link}}}, Tree.{Tree, Names, look}, LedTo.{way_fault, place, followed, leads, found, file_at, bytes_there}, Apply.{apply, plain, unless, is_there, is_taking, fails, fault_told, left_by, made_up}, Rooted.{Rooted}}
 use Rattle.cacache_disk.proofs.Standing.{way_clear}
-use Rattle.cacache_value.specs.Shows.{link_end, blob_bytes, blob_there, ShowsBucket, ShowsContent, ShowsThere}
-use Rattle.cacache_value.specs.ValueLaws.{TreesShow}
-use Rattle.cacache_value.proofs.KindsApart.{kind-below}
-use Rattle.cacache_value.proofs.FoundPaths.{OnlyMissing, way_missing, suits}
+use Rattle.cacache_entry.specs.Entry.{Entry}
+use Rattle.cacache_value.specs.{Kinds.{Content, Bucket, path_kind, is_used}, Value.{blob_in, bucket_in, wide_value}, Placed.{MayStand, Placed}, Shows.{link_end, blob_bytes, blob_there, ShowsBucket, ShowsContent, ShowsThere}, ValueLaws.{TreesShow}}
+use Rattle.cacache_value.proofs.{KindsApart.{kind-below}, FoundPaths.{OnlyMissing, way_missing, suits}}
 
 -- ---- an answer under any luck
 

@@ -2,18 +2,9 @@
 use Rattle.std.proofs.Common.{◌≡◌, ℕ, Bool, true, false, cond, List, [], ◌∷◌, ◌++◌, Option, Some, refl, sym, ap, ◌∙◌, append-nil, append_assoc}
 use Rattle.cacache_entry.specs.Entry.{Entry}
 use Rattle.cacache_core.specs.Paths.{bucket_names_of}
-use Rattle.cacache_value.specs.Kinds.{is_path_of}
-use Rattle.cacache_disk.specs.Rooted.{Rooted}
-use Rattle.cacache_disk.proofs.KeptFolders.{steps_keep_rooted}
-use Rattle.cacache_value.proofs.Shows.{trees_show}
-use Rattle.cacache_disk.specs.Tree.{Tree, Names}
-use Rattle.cacache_disk.specs.Apply.{apply}
-use Rattle.cacache_value.specs.Value.{Value, wide_value, cache_part}
-use Rattle.cacache_value.specs.Acts.{Act, Nothing, PutBytes, PutLink, AddEntries, Drop, MakeFolders, DropFolder, act_of, change, list_of}
-use Rattle.cacache_value.specs.Placed.{Placed}
-use Rattle.cacache_value.specs.Traces.{Move, IsTrace, tree_after, acts}
-use Rattle.cacache_value.specs.ValueLaws.{StepsKeepPlaced, StepsAct, TracesAct, TracesShow, KeepsBucket, IsLonger, BucketsGrow}
-use Rattle.cacache_value.proofs.Steps.{step_kept}
+use Rattle.cacache_value.specs.{Kinds.{is_path_of}, Value.{Value, wide_value, cache_part}, Acts.{Act, Nothing, PutBytes, PutLink, AddEntries, Drop, MakeFolders, DropFolder, act_of, change, list_of}, Placed.{Placed}, Traces.{Move, IsTrace, tree_after, acts}, ValueLaws.{StepsKeepPlaced, StepsAct, TracesAct, TracesShow, KeepsBucket, IsLonger, BucketsGrow}}
+use Rattle.cacache_value.proofs.{Shows.{trees_show}, Steps.{step_kept}}
+use Rattle.cacache_disk.{specs.{Rooted.{Rooted}, Tree.{Tree, Names}, Apply.{apply}}, proofs.KeptFolders.{steps_keep_rooted}}
 
 pub steps_keep_placed : StepsKeepPlaced
 steps_keep_placed home t step luck placed proper = (step_kept home t placed step luck proper).0

@@ -1,9 +1,7 @@
 -- What each path of a tree is for, as a cache sees it.
 use Rattle.std.specs.Prelude.{◌≡◌, ℕ, zero, suc, Bool, true, false, List, [], ◌∷◌, ◌++◌, Option, None, Some, IfOk, bytes_eq, if◌then◌else◌}
-use Rattle.cacache_core.specs.Paths.{content_area, index_area, temp_area}
-use Rattle.cacache_core.specs.PathNames.{Names, names_of, names_below}
-use Rattle.cacache_disk.specs.Tree.{Tree, look, same_path}
-use Rattle.cacache_disk.specs.declared.node.Node.{Node}
+use Rattle.cacache_core.specs.{Paths.{content_area, index_area, temp_area}, PathNames.{Names, names_of, names_below}}
+use Rattle.cacache_disk.specs.{Tree.{Tree, look, same_path}, declared.node.Node.{Node}}
 
 -- ---- below the cache's folder
 

@@ -1,14 +1,8 @@
 -- The trees that a cache begins in: outside files, and nothing of its own.
 use Rattle.std.specs.Prelude.{◌≡◌, ℕ, List, [], ◌∷◌, Option, Result, Ok}
-use Rattle.cacache_core.specs.declared.errors.Fault.{Fault}
-use Rattle.cacache_core.specs.PathNames.{Names}
-use Rattle.cacache_disk.specs.Tree.{Tree}
-use Rattle.cacache_disk.specs.LedTo.{and_then}
-use Rattle.cacache_disk.specs.Apply.{planted}
-use Rattle.cacache_value.specs.Kinds.{Elsewhere, IsFor}
-use Rattle.cacache_value.specs.Value.{value_of_tree, empty_value}
-use Rattle.cacache_disk.specs.Rooted.{Rooted}
-use Rattle.cacache_value.specs.Placed.{Placed}
+use Rattle.cacache_core.specs.{declared.errors.Fault.{Fault}, PathNames.{Names}}
+use Rattle.cacache_disk.specs.{Tree.{Tree}, LedTo.{and_then}, Apply.{planted}, Rooted.{Rooted}}
+use Rattle.cacache_value.specs.{Kinds.{Elsewhere, IsFor}, Value.{value_of_tree, empty_value}, Placed.{Placed}}
 
 -- the tree with these files put into it, each at its path
 abbrev pub with_files : Tree → List (List ℕ × List ℕ) → Result Tree Fault

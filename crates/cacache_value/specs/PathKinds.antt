@@ -1,10 +1,6 @@
 -- What the paths of contents, buckets and temporary files are for.
 use Rattle.std.specs.Prelude.{ℕ, List}
-use Rattle.cacache_core.specs.declared.integrity.digest.Hash.{Hash}
-use Rattle.cacache_core.specs.Integrity.{IsHash}
-use Rattle.cacache_core.specs.PathLaws.{IsKeyDigest}
-use Rattle.cacache_core.specs.PathNames.{Names, home_of}
-use Rattle.cacache_core.specs.Paths.{joined, content_names, bucket_names_of, temp_names, folder_names}
+use Rattle.cacache_core.specs.{declared.integrity.digest.Hash.{Hash}, Integrity.{IsHash}, PathLaws.{IsKeyDigest}, PathNames.{Names, home_of}, Paths.{joined, content_names, bucket_names_of, temp_names, folder_names}}
 use Rattle.cacache_value.specs.Kinds.{PathKind, Content, Bucket, Temporary, Way, IsFor}
 
 -- the text of names below a cache's folder is for this

@@ -1,13 +1,9 @@
 -- Which trees a cache's steps lead to, and which steps its calls make.
 use Rattle.std.specs.Prelude.{◌≡◌, ℕ, Bool, List, Option, None, Some}
-use Rattle.cacache_store.specs.declared.store.step.Step.TheVariants.{MakeDirs, CreateTemp, Persist, Append, Symlink, Copy, Reflink, HardLink}
-use Rattle.cacache_store.specs.Plain.{PlainStep}
+use Rattle.cacache_store.specs.{declared.store.step.Step.TheVariants.{MakeDirs, CreateTemp, Persist, Append, Symlink, Copy, Reflink, HardLink}, Plain.{PlainStep}}
 use Rattle.cacache_core.specs.PathNames.{Names}
-use Rattle.cacache_disk.specs.declared.node.Node.{Node}
-use Rattle.cacache_disk.specs.declared.node.Node.TheVariants.{Folder, File, Link}
-use Rattle.cacache_disk.specs.Tree.{Tree, look}
-use Rattle.cacache_entry.specs.Entry.{Entry, closed_line}
-use Rattle.cacache_entry.specs.FittingEntries.{IsEntry, IsWritable}
+use Rattle.cacache_disk.specs.{declared.node.Node.{Node, TheVariants.{Folder, File, Link}}, Tree.{Tree, look}}
+use Rattle.cacache_entry.specs.{Entry.{Entry, closed_line}, FittingEntries.{IsEntry, IsWritable}}
 use Rattle.cacache_value.specs.Kinds.{PathKind, Content, Bucket, Temporary, Way, Stray, Elsewhere, path_kind, IsFor}
 
 -- what may stand at a path of a kind: each link leads to a path apart from the cache

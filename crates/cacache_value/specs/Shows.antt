@@ -1,21 +1,10 @@
 -- What a reading step shows of a cache's value.
 use Rattle.std.specs.Prelude.{◌≡◌, ℕ, true, false, List, Option, None, Some, Result, Ok, Err, length}
-use Rattle.cacache_core.specs.declared.errors.Fault.{Fault}
-use Rattle.cacache_core.specs.declared.errors.Fault.TheVariants.{NotFound, IsADirectory}
-use Rattle.cacache_core.specs.declared.integrity.digest.Hash.{Hash}
-use Rattle.cacache_core.specs.PathNames.{Names}
-use Rattle.cacache_core.specs.Paths.{content_names, bucket_names_of}
-use Rattle.cacache_store.specs.declared.store.step.Step.TheVariants.{ReadAll, Open, Size, Exists}
-use Rattle.cacache_store.specs.declared.store.answer.Answer.TheVariants.{Bytes, File, There, Length, Failed}
-use Rattle.cacache_store.specs.Plain.{PlainStep, PlainAnswer}
-use Rattle.cacache_disk.specs.declared.luck.Luck.{Luck}
-use Rattle.cacache_disk.specs.Tree.{Tree, look}
-use Rattle.cacache_disk.specs.LedTo.{and_then, standing, followed, bytes_there, where_there}
-use Rattle.cacache_disk.specs.Apply.{apply, is_there}
-use Rattle.cacache_entry.specs.Entry.{Entry}
-use Rattle.cacache_entry.specs.Bucket.{entries_of}
-use Rattle.cacache_value.specs.Kinds.{NamesBelow}
-use Rattle.cacache_value.specs.Value.{Blob, InFile, AtLink, value_of_tree}
+use Rattle.cacache_core.specs.{declared.{errors.Fault.{Fault, TheVariants.{NotFound, IsADirectory}}, integrity.digest.Hash.{Hash}}, PathNames.{Names}, Paths.{content_names, bucket_names_of}}
+use Rattle.cacache_store.specs.{declared.store.{step.Step.TheVariants.{ReadAll, Open, Size, Exists}, answer.Answer.TheVariants.{Bytes, File, There, Length, Failed}}, Plain.{PlainStep, PlainAnswer}}
+use Rattle.cacache_disk.specs.{declared.luck.Luck.{Luck}, Tree.{Tree, look}, LedTo.{and_then, standing, followed, bytes_there, where_there}, Apply.{apply, is_there}}
+use Rattle.cacache_entry.specs.{Entry.{Entry}, Bucket.{entries_of}}
+use Rattle.cacache_value.specs.{Kinds.{NamesBelow}, Value.{Blob, InFile, AtLink, value_of_tree}}
 
 -- where the link of a content leads, through at most fifteen further links
 unfoldable pub link_end : Tree → List ℕ → Result Names Fault

@@ -1,26 +1,10 @@
 -- Single cases, which show that the definitions say what they should.
 use Rattle.std.specs.Prelude.{◌≡◌, ◌≢◌, ◌≤◌, ◌<◌, ℕ, List, [], ◌∷◌, ◌++◌, Option, Some, None, Ok, Err, Bool, true, false, codes, length}
-use Rattle.cacache_core.specs.declared.errors.Fault.TheVariants.{Device, NotFound, IsADirectory}
-use Rattle.cacache_core.specs.declared.integrity.digest.Hash.{Hash}
-use Rattle.cacache_core.specs.Integrity.{IsHash}
-use Rattle.cacache_core.specs.PathLaws.{IsKeyDigest}
-use Rattle.cacache_core.specs.PathNames.{Names, names_of}
-use Rattle.cacache_core.specs.Paths.{content_names, bucket_names_of}
-use Rattle.cacache_store.specs.declared.store.plain.PlainTemp.{PlainTemp}
-use Rattle.cacache_store.specs.declared.store.step.Step.TheVariants.{MakeDirs, Persist, Append, Symlink, RemoveFile, RemoveDir}
-use Rattle.cacache_store.specs.declared.store.answer.Answer.TheVariants.{Done, Took, Failed}
-use Rattle.cacache_store.specs.Plain.{PlainStep, PlainAnswer}
-use Rattle.cacache_disk.specs.declared.luck.Luck.{Luck}
-use Rattle.cacache_disk.specs.declared.luck.Luck.TheVariants.{Fail}
-use Rattle.cacache_disk.specs.declared.node.Node.TheVariants.{Folder, File, Link}
-use Rattle.cacache_disk.specs.Tree.{Tree, look}
-use Rattle.cacache_entry.specs.Entry.{Entry, line_of}
-use Rattle.cacache_entry.specs.FittingEntries.{IsEntry, IsWritable}
-use Rattle.cacache_entry.specs.Bucket.{entries_of}
-use Rattle.cacache_value.specs.Kinds.{Content, Bucket, Temporary, Way, Stray, Elsewhere, path_kind}
-use Rattle.cacache_value.specs.Value.{Value, InFile, AtLink, empty_value, value_of_tree}
-use Rattle.cacache_value.specs.Acts.{act_of, change, list_of}
-use Rattle.cacache_value.specs.Shows.{link_end, blob_bytes}
+use Rattle.cacache_core.specs.{declared.{errors.Fault.TheVariants.{Device, NotFound, IsADirectory}, integrity.digest.Hash.{Hash}}, Integrity.{IsHash}, PathLaws.{IsKeyDigest}, PathNames.{Names, names_of}, Paths.{content_names, bucket_names_of}}
+use Rattle.cacache_store.specs.{declared.store.{plain.PlainTemp.{PlainTemp}, step.Step.TheVariants.{MakeDirs, Persist, Append, Symlink, RemoveFile, RemoveDir}, answer.Answer.TheVariants.{Done, Took, Failed}}, Plain.{PlainStep, PlainAnswer}}
+use Rattle.cacache_disk.specs.{declared.{luck.Luck.{Luck, TheVariants.{Fail}}, node.Node.TheVariants.{Folder, File, Link}}, Tree.{Tree, look}}
+use Rattle.cacache_entry.specs.{Entry.{Entry, line_of}, FittingEntries.{IsEntry, IsWritable}, Bucket.{entries_of}}
+use Rattle.cacache_value.specs.{Kinds.{Content, Bucket, Temporary, Way, Stray, Elsewhere, path_kind}, Value.{Value, InFile, AtLink, empty_value, value_of_tree}, Acts.{act_of, change, list_of}, Shows.{link_end, blob_bytes}}
 
 -- ---- what paths are for, of a cache in the folder `/c`
 

@@ -2,12 +2,8 @@
 use Rattle.std.specs.Prelude.{◌≡◌, List, [], ◌∷◌, Option}
 use Rattle.cacache_store.specs.Plain.{PlainStep, PlainAnswer}
 use Rattle.cacache_core.specs.PathNames.{Names}
-use Rattle.cacache_disk.specs.declared.luck.Luck.{Luck}
-use Rattle.cacache_disk.specs.Tree.{Tree}
-use Rattle.cacache_disk.specs.Apply.{apply}
-use Rattle.cacache_value.specs.Value.{Value}
-use Rattle.cacache_value.specs.Acts.{act_of, change}
-use Rattle.cacache_value.specs.Placed.{Proper}
+use Rattle.cacache_disk.specs.{declared.luck.Luck.{Luck}, Tree.{Tree}, Apply.{apply}}
+use Rattle.cacache_value.specs.{Value.{Value}, Acts.{act_of, change}, Placed.{Proper}}
 
 -- a step that was made, with its luck and its answer
 pub record Move : Type 0 where

@@ -1,13 +1,8 @@
 -- How the items of a bucket come together, entry by entry.
-use Rattle.std.proofs.Common.{◌≡◌, string_bytes, ℕ, List, [], ◌∷◌, ◌++◌, Bool, true, false, cond, Option, Some, None, bytes_eq, refl, sym, ap, ◌∙◌, map}
+use Rattle.std.proofs.{Common.{◌≡◌, string_bytes, ℕ, List, [], ◌∷◌, ◌++◌, Bool, true, false, cond, Option, Some, None, bytes_eq, refl, sym, ap, ◌∙◌, map}, lemmas.Slice.Eq.{bytes_eq-Decides}}
 use Rattle.std.specs.List.{list_any}
-use Rattle.cacache_entry.specs.Entry.{Entry}
-use Rattle.std.proofs.lemmas.Slice.Eq.{bytes_eq-Decides}
-use Rattle.cacache_entry.specs.Latest.{Found, answer_of, answer_to, latest, NoneAnswers}
+use Rattle.cacache_entry.specs.{Entry.{Entry}, Latest.{Found, answer_of, answer_to, latest, NoneAnswers}, View.{entry_view}, declared.metadata.SerializableMetadata.{SerializableMetadata}, Bucket.{entries_of}}
 use Rattle.cacache_entry.proofs.Lookups.{last_answer_decides}
-use Rattle.cacache_entry.specs.View.{entry_view}
-use Rattle.cacache_entry.specs.declared.metadata.SerializableMetadata.{SerializableMetadata}
-use Rattle.cacache_entry.specs.Bucket.{entries_of}
 use Rattle.cacache_table.specs.Walking.{once, items_in}
 use Rattle.cacache_walks.specs.Listed.{keys_in, lookups, added_at, EndsWith}
 

@@ -1,17 +1,9 @@
 -- How a listing stands after a visit, and after an item was given.
-use Rattle.std.proofs.Common.{◌≡◌, inr, ℕ, ◌+◌, ◌<◌, ◌≤◌, List, [], ◌∷◌, ◌++◌, map, reverse, Option, Some, None, Ok, Err, refl, sym, ◌∙◌, ap, append_assoc, append-nil, length, length-append, arith}
-use Rattle.std.proofs.lemmas.List.{length-map, reverse-append, reverse-reverse}
+use Rattle.std.proofs.{Common.{◌≡◌, inr, ℕ, ◌+◌, ◌<◌, ◌≤◌, List, [], ◌∷◌, ◌++◌, map, reverse, Option, Some, None, Ok, Err, refl, sym, ◌∙◌, ap, append_assoc, append-nil, length, length-append, arith}, lemmas.List.{length-map, reverse-append, reverse-reverse}}
 use Rattle.cacache_core.specs.declared.errors.Error.TheVariants.{OutOfMemory}
-use Rattle.cacache_store.specs.declared.env.Env.{Env}
-use Rattle.cacache_store.specs.declared.store.log.LogItem.{LogItem}
-use Rattle.cacache_table.specs.declared.reply.Reply.TheVariants.{Refused}
-use Rattle.cacache_table.specs.State.{Item}
-use Rattle.cacache_table.specs.Runs.{Ran, plain_item}
-use Rattle.cacache_table.specs.declared.visit.Visit.{Visit}
-use Rattle.cacache_walks.specs.declared.walk.Walk.{Walk}
-use Rattle.cacache_walks.specs.declared.iterator.Ls.{Ls}
-use Rattle.cacache_walks.specs.WalkStates.{walk_of}
-use Rattle.cacache_walks.specs.Iterating.{KeepsEnv, Lists, listing_state, ready, StandsBy, Gave, steps_left, items_left, left}
+use Rattle.cacache_store.specs.declared.{env.Env.{Env}, store.log.LogItem.{LogItem}}
+use Rattle.cacache_table.specs.{declared.{reply.Reply.TheVariants.{Refused}, visit.Visit.{Visit}}, State.{Item}, Runs.{Ran, plain_item}}
+use Rattle.cacache_walks.specs.{declared.{walk.Walk.{Walk}, iterator.Ls.{Ls}}, WalkStates.{walk_of}, Iterating.{KeepsEnv, Lists, listing_state, ready, StandsBy, Gave, steps_left, items_left, left}}
 use Rattle.cacache_walks.proofs.VisitAnswers.{Stepped}
 
 module _ {S C N : Type 0} (log : S → Option (List LogItem)) (cache : List ℕ) (old : Option (List LogItem)) where

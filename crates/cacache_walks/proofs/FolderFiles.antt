@@ -1,7 +1,5 @@
 -- The files of a folder, name by name.
-use Rattle.std.proofs.Common.{◌≡◌, ◌+◌, ◌<◌, ℕ, List, [], ◌∷◌, ◌++◌, sym, ap, ◌∙◌, length, get_or, take, append_assoc}
-use Rattle.std.proofs.lemmas.List.{take_more}
-use Rattle.std.proofs.lemmas.List.Elements.{filter_map-append}
+use Rattle.std.proofs.{Common.{◌≡◌, ◌+◌, ◌<◌, ℕ, List, [], ◌∷◌, ◌++◌, sym, ap, ◌∙◌, length, get_or, take, append_assoc}, lemmas.List.{take_more, Elements.{filter_map-append}}}
 use Rattle.std.specs.List.{cons_option}
 use Rattle.cacache_core.specs.Paths.{join}
 use Rattle.cacache_store.specs.declared.store.answer.Name.{Name}

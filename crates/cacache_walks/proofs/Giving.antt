@@ -1,17 +1,9 @@
 -- How a walk goes on with more items, and what it stumbles over.
-use Rattle.std.proofs.Common.{◌≡◌, ℕ, ◌+◌, ◌<◌, List, [], ◌∷◌, ◌++◌, Bool, Ok, true, false, nat_le, refl, sym, ◌∙◌, ap, length, take, map, length-append, arith}
-use Rattle.std.proofs.Math.Seq.{take-append-add}
-use Rattle.std.proofs.lemmas.List.{take-map, length-map}
-use Rattle.std.proofs.lemmas.Bool.{lt-leb}
-use Rattle.cacache_table.specs.State.{State, Item, Walk}
-use Rattle.cacache_table.specs.Walking.{most, give, miss, too_many, walk_on, walk_ends}
-use Rattle.cacache_table.specs.Runs.{plain_item}
+use Rattle.std.proofs.{Common.{◌≡◌, ℕ, ◌+◌, ◌<◌, List, [], ◌∷◌, ◌++◌, Bool, Ok, true, false, nat_le, refl, sym, ◌∙◌, ap, length, take, map, length-append, arith}, Math.Seq.{take-append-add}, lemmas.{List.{take-map, length-map}, Bool.{lt-leb}}}
+use Rattle.cacache_table.specs.{State.{State, Item, Walk}, Walking.{most, give, miss, too_many, walk_on, walk_ends}, Runs.{plain_item}, declared.visit.Task.{Task, TheVariants.{Stumble}}}
 use Rattle.cacache_core.specs.declared.errors.Fault.{Fault}
-use Rattle.cacache_table.specs.declared.visit.Task.{Task}
-use Rattle.cacache_table.specs.declared.visit.Task.TheVariants.{Stumble}
 use Rattle.cacache_walks.specs.declared.walk.Walk as walks
-use Rattle.cacache_walks.specs.WalkStates.{Counts, Bounds, WalkGives, pending, walk_of}
-use Rattle.cacache_walks.proofs.Walks.{taken_more, pending_push}
+use Rattle.cacache_walks.{specs.WalkStates.{Counts, Bounds, WalkGives, pending, walk_of}, proofs.Walks.{taken_more, pending_push}}
 
 module _ (taken xs ys : List Item) (room : ℕ) (counts : length taken + length xs + room ≡ most) (over : room < length ys) where
   abbrev before : List Item

@@ -1,20 +1,7 @@
 -- The order of what is listed: sorted, and each once.
-use Rattle.std.proofs.Common.{◌≡◌, ◌+◌, List, [], ◌∷◌, Bool, true, false, cond, length, map, refl, sym, ap, ap₂, subst, ◌∙◌, arith}
-use Rattle.std.specs.Prelude.{Contains, ◌&&◌, ◌↔◌}
-use Rattle.std.specs.Option.{option_cmp}
-use Rattle.std.specs.declared.cmp.Ordering.{Ordering}
-use Rattle.std.proofs.lemmas.List.{get_or-map, length-map}
-use Rattle.std.specs.Ordering.{is_lt, eq_by_cmp}
-use Rattle.std.specs.Cmp.{IsTotalOrder, IsEquivalence, then_total, on_total, nat_cmp_total, unsigned_ties, both_tied}
-use Rattle.std.specs.Cmp.Lexicographic.{nat_list_cmp_total, texts_ties}
-use Rattle.std.specs.List.{dedup, dedup_from}
-use Rattle.std.specs.List.Sorted.{IsPermutation, IsSorted}
-use Rattle.std.proofs.lemmas.List.Elements.{Contains-push, Contains-append_left, Contains-append_right}
-use Rattle.std.proofs.lemmas.List.Kept.{IsStrictlySortedBy-dedup, Contains-dedup, Contains-from_dedup}
-use Rattle.std.proofs.lemmas.List.Sorted.{Contains-permutation, IsPermutation-sym}
-use Rattle.cacache_core.specs.declared.integrity.digest.Hash.{Hash}
-use Rattle.cacache_core.specs.Integrity.{address, rank}
-use Rattle.cacache_core.specs.Same.{same_hash, same_hashes}
+use Rattle.std.proofs.{Common.{◌≡◌, ◌+◌, List, [], ◌∷◌, Bool, true, false, cond, length, map, refl, sym, ap, ap₂, subst, ◌∙◌, arith}, lemmas.List.{get_or-map, length-map, Elements.{Contains-push, Contains-append_left, Contains-append_right}, Kept.{IsStrictlySortedBy-dedup, Contains-dedup, Contains-from_dedup}, Sorted.{Contains-permutation, IsPermutation-sym}}}
+use Rattle.std.specs.{Prelude.{Contains, ◌&&◌, ◌↔◌}, Option.{option_cmp}, declared.cmp.Ordering.{Ordering}, Ordering.{is_lt, eq_by_cmp}, Cmp.{IsTotalOrder, IsEquivalence, then_total, on_total, nat_cmp_total, unsigned_ties, both_tied, Lexicographic.{nat_list_cmp_total, texts_ties}}, List.{dedup, dedup_from, Sorted.{IsPermutation, IsSorted}}}
+use Rattle.cacache_core.specs.{declared.integrity.digest.Hash.{Hash}, Integrity.{address, rank}, Same.{same_hash, same_hashes}}
 use Rattle.cacache_walks.specs.Listing.{IsByHash, hash_cmp}
 
 -- ---- hashes

@@ -1,12 +1,8 @@
 -- Files that are sorted one by one.
-use Rattle.std.proofs.Common.{◌≡◌, inl, inr, ℕ, List, [], ◌∷◌, ◌++◌, refl, sym, ap, ◌∙◌, subst}
+use Rattle.std.proofs.{Common.{◌≡◌, inl, inr, ℕ, List, [], ◌∷◌, ◌++◌, refl, sym, ap, ◌∙◌, subst}, lemmas.List.Elements.{Contains-push, Contains-push_cases, Contains-append_left}}
 use Rattle.std.specs.Prelude.{◌↔◌, Contains}
-use Rattle.std.proofs.lemmas.List.Elements.{Contains-push, Contains-push_cases, Contains-append_left}
-use Rattle.cacache_core.proofs.PathTexts.{paths_differ}
-use Rattle.cacache_core.specs.declared.integrity.digest.Hash.{Hash}
-use Rattle.cacache_core.specs.Paths.{joined, content_names}
-use Rattle.cacache_walks.specs.Addresses.{IsContentPath, IsStrange}
-use Rattle.cacache_walks.specs.Listing.{Sorts, ListedAreShown}
+use Rattle.cacache_core.{proofs.PathTexts.{paths_differ}, specs.{declared.integrity.digest.Hash.{Hash}, Paths.{joined, content_names}}}
+use Rattle.cacache_walks.specs.{Addresses.{IsContentPath, IsStrange}, Listing.{Sorts, ListedAreShown}}
 
 unique : (cache path : List ℕ) (i j : List Hash) → IsContentPath cache path i → IsContentPath cache path j → i ≡ j
 unique cache path i j a b = a.2 ∙ ap (λ (h : Hash). h ∷ []) ((paths_differ.contents cache a.0 b.0 a.1 b.1).0 (sym a.3 ∙ b.3)) ∙ sym b.2

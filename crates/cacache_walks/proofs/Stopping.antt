@@ -1,33 +1,13 @@
 -- How an error ends the walk.
-use Rattle.std.proofs.Common.{◌≡◌, ◌≤◌, ◌≢◌, ℕ, List, [], ◌∷◌, ◌++◌, Option, None, Some, Result, Ok, Err, IfOk, IfErr, inl, inr, refl, sym, subst, ◌-◌, Bool, true, false, cond, nat_le, length, append-nil}
+use Rattle.std.proofs.{Common.{◌≡◌, ◌≤◌, ◌≢◌, ℕ, List, [], ◌∷◌, ◌++◌, Option, None, Some, Result, Ok, Err, IfOk, IfErr, inl, inr, refl, sym, subst, ◌-◌, Bool, true, false, cond, nat_le, length, append-nil}, lemmas.Bool.{leb-false}}
 use Rattle.std.specs.Prelude.{IsErrAnd}
-use Rattle.std.proofs.lemmas.Bool.{leb-false}
-use Rattle.cacache_core.specs.declared.errors.Error.{Error}
-use Rattle.cacache_core.specs.declared.errors.Error.TheVariants.{IoError, OutOfMemory}
-use Rattle.cacache_core.specs.declared.errors.Fault.{Fault}
-use Rattle.cacache_core.specs.declared.errors.Fault.TheVariants.{NotFound, TooDeep}
-use Rattle.cacache_store.specs.declared.store.log.LogItem.{LogItem}
-use Rattle.cacache_store.specs.declared.store.answer.Name.{Name}
-use Rattle.cacache_store.specs.declared.store.answer.Answer.TheVariants.{Names, Failed, NoMemory}
-use Rattle.cacache_store.specs.declared.store.step.Step.TheVariants.{ReadDir}
-use Rattle.cacache_store.specs.Plain.{PlainAnswer}
-use Rattle.cacache_store.specs.Fits.{Fits, Logs}
-use Rattle.cacache_table.specs.Answers.{names_in}
+use Rattle.cacache_core.specs.declared.errors.{Error.{Error, TheVariants.{IoError, OutOfMemory}}, Fault.{Fault, TheVariants.{NotFound, TooDeep}}}
+use Rattle.cacache_store.specs.{declared.store.{log.LogItem.{LogItem}, answer.{Name.{Name}, Answer.TheVariants.{Names, Failed, NoMemory}}, step.Step.TheVariants.{ReadDir}}, Plain.{PlainAnswer}, Fits.{Fits, Logs}}
+use Rattle.cacache_table.specs.{Answers.{names_in}, Runs.{Moves, Gains}, declared.visit.{Task.{Task, TheVariants.{Make}}, Visit.{Visit, TheVariants.{Enter, ReadBucket, RemoveFile, RemoveFolder}}}, Walking.{after_visit, entered, tasks_of, too_many, walk_on}}
 use Rattle.cacache_table.specs.declared.answers.Refusal.TheVariants as refusals
-use Rattle.cacache_table.specs.Runs.{Moves, Gains}
-use Rattle.cacache_table.specs.declared.visit.Task.{Task}
-use Rattle.cacache_table.specs.declared.visit.Task.TheVariants.{Make}
-use Rattle.cacache_table.specs.Walking.{after_visit, entered, tasks_of, too_many, walk_on}
-use Rattle.cacache_table.specs.declared.visit.Visit.{Visit}
-use Rattle.cacache_table.specs.declared.visit.Visit.TheVariants.{Enter, ReadBucket, RemoveFile, RemoveFolder}
 use Rattle.cacache_walks.specs.declared.walk.Walk as walks
-use Rattle.cacache_walks.specs.WalkStates.{Counts, WalksAt, pending, walk_of}
-use Rattle.cacache_walks.specs.Reading.{Folder, HasDeeper, IsErrorOf, IsOwnError, ReadsFolders, StopsWalk, files_shown, folders_in, names_shown}
-use Rattle.cacache_walks.specs.Listing.{StopsAt}
-use Rattle.cacache_walks.specs.WalkSteps.{AnswerShows, Answered, GoesFrom, Matches, WalkStands, StopsIn, StopsVisit}
-use Rattle.cacache_walks.proofs.Stumbling.{deeper_or_none, lists}
-use Rattle.cacache_walks.proofs.VisitSteps.{lists_nothing, tasks_match, unmoved}
-use Rattle.cacache_walks.proofs.WholeWalk.{gains_both}
+use Rattle.cacache_walks.specs.{WalkStates.{Counts, WalksAt, pending, walk_of}, Reading.{Folder, HasDeeper, IsErrorOf, IsOwnError, ReadsFolders, StopsWalk, files_shown, folders_in, names_shown}, Listing.{StopsAt}, WalkSteps.{AnswerShows, Answered, GoesFrom, Matches, WalkStands, StopsIn, StopsVisit}}
+use Rattle.cacache_walks.proofs.{Stumbling.{deeper_or_none, lists}, VisitSteps.{lists_nothing, tasks_match, unmoved}, WholeWalk.{gains_both}}
 
 -- ---- in one folder
 

@@ -1,19 +1,9 @@
 -- A walk that met something too deep has items; one without leads on to its first task.
-use Rattle.std.proofs.Common.{◌≡◌, ◌+◌, ◌<◌, ℕ, List, [], ◌∷◌, ◌++◌, Bool, true, false, cond, nat_le, Option, None, Some, inl, inr, ◌⊎◌, refl, sym, ap, subst, ◌∙◌, length, map, take, arith, length-append}
-use Rattle.std.proofs.lemmas.List.Elements.{Contains-push, Contains-append_left}
-use Rattle.cacache_core.specs.declared.errors.Error.{Error}
-use Rattle.cacache_core.specs.declared.errors.Fault.{Fault}
-use Rattle.cacache_table.specs.declared.reply.Reply.TheVariants.{Listed, Done}
-use Rattle.cacache_table.specs.State.{State, Item, walking, over, Walk}
-use Rattle.cacache_table.specs.declared.visit.Task.{Task}
-use Rattle.cacache_table.specs.declared.visit.Task.TheVariants.{Make, Stumble}
-use Rattle.cacache_table.specs.Walking.{failed, walk_on, too_many, most}
-use Rattle.cacache_table.specs.Runs.{Moves, plain_item}
-use Rattle.cacache_table.specs.declared.visit.Visit.{Visit}
+use Rattle.std.proofs.{Common.{◌≡◌, ◌+◌, ◌<◌, ℕ, List, [], ◌∷◌, ◌++◌, Bool, true, false, cond, nat_le, Option, None, Some, inl, inr, ◌⊎◌, refl, sym, ap, subst, ◌∙◌, length, map, take, arith, length-append}, lemmas.List.Elements.{Contains-push, Contains-append_left}}
+use Rattle.cacache_core.specs.declared.errors.{Error.{Error}, Fault.{Fault}}
+use Rattle.cacache_table.specs.{declared.{reply.Reply.TheVariants.{Listed, Done}, visit.{Task.{Task, TheVariants.{Make, Stumble}}, Visit.{Visit}}}, State.{State, Item, walking, over, Walk}, Walking.{failed, walk_on, too_many, most}, Runs.{Moves, plain_item}}
 use Rattle.cacache_walks.specs.declared.walk.Walk as walks
-use Rattle.cacache_walks.specs.WalkStates.{WalksAt, pending, walk_of}
-use Rattle.cacache_walks.specs.Reading.{Folder, HasDeeper, StopsWalk}
-use Rattle.cacache_walks.specs.WalkSteps.{Matches, WalkStands}
+use Rattle.cacache_walks.specs.{WalkStates.{WalksAt, pending, walk_of}, Reading.{Folder, HasDeeper, StopsWalk}, WalkSteps.{Matches, WalkStands}}
 
 abbrev pub items_at : State → List Item
 items_at (walking w v todo) = w.items

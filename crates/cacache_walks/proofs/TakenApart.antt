@@ -1,23 +1,10 @@
 -- A path that is taken apart: what its text tells.
-use Rattle.std.proofs.Common.{◌≡◌, ℕ, ◌<◌, ◌≤◌, ◌+◌, ◌-◌, List, [], ◌∷◌, ◌++◌, Some, Ok, Err, length, slice_index, take, drop, refl, sym, ap, ap₂, ◌∙◌, subst, arith, append-nil, length-append}
+use Rattle.std.proofs.{Common.{◌≡◌, ℕ, ◌<◌, ◌≤◌, ◌+◌, ◌-◌, List, [], ◌∷◌, ◌++◌, Some, Ok, Err, length, slice_index, take, drop, refl, sym, ap, ap₂, ◌∙◌, subst, arith, append-nil, length-append}, lemmas.{Bool.{le-ltb}, List.{take_all, length-drop, Elements.{All-nil, All-cons}}}}
 use Rattle.std.specs.Prelude.{IfSome}
-use Rattle.std.proofs.lemmas.Bool.{le-ltb}
-use Rattle.std.proofs.lemmas.List.{take_all, length-drop}
-use Rattle.std.proofs.lemmas.List.Elements.{All-nil, All-cons}
 use Rattle.base64.specs.GeneralPurpose.{IsBytes}
-use Rattle.hex.specs.Hex.{encode_lower, lower_digits, decode_of}
-use Rattle.hex.proofs.HexLemmas.{length-encode_with, decode_of-encode_lower}
-use Rattle.cacache_core.proofs.PathTexts.{joined_texts_spell}
-use Rattle.cacache_core.proofs.ProperNames.{proper_content_folder, proper_content}
-use Rattle.cacache_core.specs.declared.integrity.algorithm.Algorithm.{Algorithm}
-use Rattle.cacache_core.specs.declared.integrity.algorithm.Algorithm.TheVariants.{Sha1, Sha256, Sha384, Sha512}
-use Rattle.cacache_core.specs.declared.integrity.digest.Hash.{Hash}
-use Rattle.cacache_core.specs.Integrity.{IsHash, hash_of, address}
-use Rattle.cacache_core.specs.Paths.{join, joined, slashed, cut_digits, content_area, content_names}
-use Rattle.cacache_core.specs.Texts.{name_of, long_hash}
-use Rattle.cacache_core.specs.declared.errors.Error.{Error}
-use Rattle.cacache_core.specs.declared.errors.Error.TheVariants.{IntegrityError, OutOfMemory}
-use Rattle.cacache_core.specs.Refusals.{IsReadFailure}
+use Rattle.hex.{specs.Hex.{encode_lower, lower_digits, decode_of}, proofs.HexLemmas.{length-encode_with, decode_of-encode_lower}}
+use Rattle.cacache_core.proofs.{PathTexts.{joined_texts_spell}, ProperNames.{proper_content_folder, proper_content}}
+use Rattle.cacache_core.specs.{declared.{integrity.{algorithm.Algorithm.{Algorithm, TheVariants.{Sha1, Sha256, Sha384, Sha512}}, digest.Hash.{Hash}}, errors.Error.{Error, TheVariants.{IntegrityError, OutOfMemory}}}, Integrity.{IsHash, hash_of, address}, Paths.{join, joined, slashed, cut_digits, content_area, content_names}, Texts.{name_of, long_hash}, Refusals.{IsReadFailure}}
 use Rattle.cacache_walks.specs.Addresses.{names_text, by_letter, digits_of}
 
 -- ---- taken apart

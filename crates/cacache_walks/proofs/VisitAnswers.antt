@@ -1,25 +1,11 @@
 -- Where the answer to a visit's step takes a listing.
 use Rattle.std.proofs.Common.{◌≡◌, inl, inr, ℕ, ◌+◌, ◌<◌, ◌≤◌, List, [], ◌++◌, map, Option, Some, None, Bool, true, false, cond, Result, Ok, Err, refl, ap, length, arith}
-use Rattle.cacache_core.specs.declared.errors.Error.{Error}
-use Rattle.cacache_core.specs.declared.errors.Error.TheVariants.{OutOfMemory}
-use Rattle.cacache_store.specs.declared.store.log.LogItem.{LogItem}
-use Rattle.cacache_store.specs.Plain.{PlainStep, PlainAnswer}
-use Rattle.cacache_store.specs.Fits.{Fits, Logs}
+use Rattle.cacache_core.specs.declared.errors.Error.{Error, TheVariants.{OutOfMemory}}
+use Rattle.cacache_store.specs.{declared.store.log.LogItem.{LogItem}, Plain.{PlainStep, PlainAnswer}, Fits.{Fits, Logs}}
 use Rattle.cacache_table.specs.declared.command.Command.TheVariants as commands
-use Rattle.cacache_table.specs.declared.reply.Reply.TheVariants.{Listed, Done, Refused}
-use Rattle.cacache_table.specs.State.{State, Item, Site, over}
-use Rattle.cacache_table.specs.Table.{wants, after}
-use Rattle.cacache_table.specs.Runs.{Gone, Ran, EndsAs, plain_item, without_message, effort}
-use Rattle.cacache_table.specs.Walking.{visit_step, walk_ends, most}
-use Rattle.cacache_table.proofs.Effort.{falls}
-use Rattle.cacache_table.proofs.Going.{answer_cases, gone_on, gone_over, gone_lost, unmoved}
-use Rattle.cacache_table.proofs.ListReplies.{lists_shown}
-use Rattle.cacache_table.proofs.Memory.{no_memory_after, memory_said}
-use Rattle.cacache_table.proofs.Promises.{calls_answer}
-use Rattle.cacache_table.specs.declared.visit.Visit.{Visit}
-use Rattle.cacache_walks.specs.declared.walk.Walk.{Walk}
-use Rattle.cacache_walks.specs.WalkStates.{Bounds, WalksAt, WalkLeads, walk_of}
-use Rattle.cacache_walks.specs.Iterating.{Lists, listing_state, steps_left, items_left}
+use Rattle.cacache_table.specs.{declared.{reply.Reply.TheVariants.{Listed, Done, Refused}, visit.Visit.{Visit}}, State.{State, Item, Site, over}, Table.{wants, after}, Runs.{Gone, Ran, EndsAs, plain_item, without_message, effort}, Walking.{visit_step, walk_ends, most}}
+use Rattle.cacache_table.proofs.{Effort.{falls}, Going.{answer_cases, gone_on, gone_over, gone_lost, unmoved}, ListReplies.{lists_shown}, Memory.{no_memory_after, memory_said}, Promises.{calls_answer}}
+use Rattle.cacache_walks.specs.{declared.walk.Walk.{Walk}, WalkStates.{Bounds, WalksAt, WalkLeads, walk_of}, Iterating.{Lists, listing_state, steps_left, items_left}}
 
 module _ (cache : List ℕ) (old new : Option (List LogItem)) where
   abbrev site : Site

@@ -1,9 +1,6 @@
 -- How the stack of a walk stands for the table's list of tasks, and how its items grow.
-use Rattle.std.proofs.Common.{◌≡◌, List, [], ◌∷◌, ◌++◌, map, sym, ◌∙◌, ap, append_assoc}
-use Rattle.std.proofs.lemmas.List.{map-append, reverse-append}
-use Rattle.cacache_table.specs.State.{Item}
-use Rattle.cacache_table.specs.Runs.{plain_item}
-use Rattle.cacache_table.specs.declared.visit.Task.{Task}
+use Rattle.std.proofs.{Common.{◌≡◌, List, [], ◌∷◌, ◌++◌, map, sym, ◌∙◌, ap, append_assoc}, lemmas.List.{map-append, reverse-append}}
+use Rattle.cacache_table.specs.{State.{Item}, Runs.{plain_item}, declared.visit.Task.{Task}}
 use Rattle.cacache_walks.specs.WalkStates.{pending}
 
 -- a task that is put on the stack comes first

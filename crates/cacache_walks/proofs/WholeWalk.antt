@@ -1,22 +1,10 @@
 -- A whole walk, visit by visit.
-use Rattle.std.proofs.Common.{◌≡◌, ℕ, List, [], ◌∷◌, ◌++◌, false, Option, None, Some, refl, sym, ap, subst, ◌∙◌, map, arith, append_assoc, append-nil}
-use Rattle.std.proofs.lemmas.List.{map-append}
-use Rattle.std.proofs.lemmas.Grind.{flat_map-append}
-use Rattle.cacache_store.specs.declared.store.log.LogItem.{LogItem}
-use Rattle.cacache_store.specs.declared.store.log.LogItem.TheVariants.{Made}
-use Rattle.cacache_store.specs.Plain.{PlainStep, PlainAnswer}
-use Rattle.cacache_table.specs.State.{walking}
-use Rattle.cacache_table.specs.declared.visit.Task.TheVariants.{Make}
-use Rattle.cacache_table.specs.Walking.{walk, most}
-use Rattle.cacache_table.specs.Runs.{Moves, Gains}
-use Rattle.cacache_table.specs.declared.visit.Visit.{Visit}
-use Rattle.cacache_table.specs.declared.visit.Visit.TheVariants.{Enter}
+use Rattle.std.proofs.{Common.{◌≡◌, ℕ, List, [], ◌∷◌, ◌++◌, false, Option, None, Some, refl, sym, ap, subst, ◌∙◌, map, arith, append_assoc, append-nil}, lemmas.{List.{map-append}, Grind.{flat_map-append}}}
+use Rattle.cacache_store.specs.{declared.store.log.LogItem.{LogItem, TheVariants.{Made}}, Plain.{PlainStep, PlainAnswer}}
+use Rattle.cacache_table.specs.{State.{walking}, declared.visit.{Task.TheVariants.{Make}, Visit.{Visit, TheVariants.{Enter}}}, Walking.{walk, most}, Runs.{Moves, Gains}}
 use Rattle.cacache_walks.specs.declared.walk.Walk as walks
-use Rattle.cacache_walks.specs.WalkStates.{WalksAt, pending, walk_of}
-use Rattle.cacache_walks.specs.Reading.{Folder, ReadsFolders, files_shown, shown_by, top_folder, StopsWalk}
-use Rattle.cacache_walks.specs.WalkSteps.{Matches, GoesFrom}
-use Rattle.cacache_walks.proofs.Stumbling.{at_most, clears_at, lists}
-use Rattle.cacache_walks.proofs.VisitSteps.{unmoved}
+use Rattle.cacache_walks.specs.{WalkStates.{WalksAt, pending, walk_of}, Reading.{Folder, ReadsFolders, files_shown, shown_by, top_folder, StopsWalk}, WalkSteps.{Matches, GoesFrom}}
+use Rattle.cacache_walks.proofs.{Stumbling.{at_most, clears_at, lists}, VisitSteps.{unmoved}}
 
 -- ---- the whole walk
 

@@ -1,19 +1,11 @@
 -- A listing that walks as it is asked: what it gave, and where it stands.
 use Rattle.std.specs.Prelude.{◌≡◌, ◌⊎◌, ◌<◌, ◌≤◌, ◌+◌, ◌*◌, ℕ, List, [], ◌∷◌, ◌++◌, Option, Some, None, Result, Ok, Err, length, map, reverse}
-use Rattle.cacache_core.specs.declared.errors.Error.{Error}
-use Rattle.cacache_core.specs.declared.errors.Error.TheVariants.{OutOfMemory}
+use Rattle.cacache_core.specs.declared.errors.Error.{Error, TheVariants.{OutOfMemory}}
 use Rattle.cacache_store.specs.declared.store.log.LogItem.{LogItem}
-use Rattle.cacache_entry.specs.declared.metadata.Metadata.{Metadata}
-use Rattle.cacache_entry.specs.View.{found_view}
+use Rattle.cacache_entry.specs.{declared.metadata.Metadata.{Metadata}, View.{found_view}}
 use Rattle.cacache_table.specs.declared.command.Command.TheVariants as commands
-use Rattle.cacache_table.specs.declared.reply.Reply.TheVariants.{Listed, Refused}
-use Rattle.cacache_table.specs.State.{State, Item}
-use Rattle.cacache_table.specs.Table.{opening}
-use Rattle.cacache_table.specs.Runs.{Ran, Gone, plain_item, without_message, weight, weights}
-use Rattle.cacache_table.specs.declared.visit.Visit.{Visit}
-use Rattle.cacache_walks.specs.declared.walk.Walk.{Walk}
-use Rattle.cacache_walks.specs.declared.iterator.Ls.{Ls}
-use Rattle.cacache_walks.specs.WalkStates.{WalksAt, pending}
+use Rattle.cacache_table.specs.{declared.{reply.Reply.TheVariants.{Listed, Refused}, visit.Visit.{Visit}}, State.{State, Item}, Table.{opening}, Runs.{Ran, Gone, plain_item, without_message, weight, weights}}
+use Rattle.cacache_walks.specs.{declared.{walk.Walk.{Walk}, iterator.Ls.{Ls}}, WalkStates.{WalksAt, pending}}
 
 -- ---- what a listing gives
 

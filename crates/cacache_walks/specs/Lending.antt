@@ -1,9 +1,7 @@
 -- What the environment of a listing ends as.
-use Rattle.std.specs.Prelude.{◌≡◌, Result}
-use Rattle.std.specs.Borrow.{Fml, RattleType, MutBor, RestsIfErr}
+use Rattle.std.specs.{Prelude.{◌≡◌, Result}, Borrow.{Fml, RattleType, MutBor, RestsIfErr}}
 use Rattle.cacache_core.specs.declared.errors.Error.{Error}
-use Rattle.cacache_store.specs.declared.env.Env.{Env}
-use Rattle.cacache_store.specs.contracts.env.Env.{the_row}
+use Rattle.cacache_store.specs.{declared.env.Env.{Env}, contracts.env.Env.{the_row}}
 use Rattle.cacache_walks.specs.declared.iterator.Ls.{Ls}
 
 -- where there is no listing it is as it was, and else as the listing leaves it

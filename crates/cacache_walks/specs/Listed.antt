@@ -1,10 +1,6 @@
 -- What one entry of a bucket adds to a listing.
-use Rattle.std.specs.Prelude.{◌≡◌, List, [], ◌∷◌, ◌++◌, ℕ, Ok, if◌then◌else◌, map, filter_map, option_map, bytes_eq, string_bytes}
-use Rattle.std.specs.List.{list_any}
-use Rattle.cacache_entry.specs.Entry.{Entry}
-use Rattle.cacache_entry.specs.Latest.{latest}
-use Rattle.cacache_entry.specs.View.{entry_view}
-use Rattle.cacache_entry.specs.declared.metadata.SerializableMetadata.{SerializableMetadata}
+use Rattle.std.specs.{Prelude.{◌≡◌, List, [], ◌∷◌, ◌++◌, ℕ, Ok, if◌then◌else◌, map, filter_map, option_map, bytes_eq, string_bytes}, List.{list_any}}
+use Rattle.cacache_entry.specs.{Entry.{Entry}, Latest.{latest}, View.{entry_view}, declared.metadata.SerializableMetadata.{SerializableMetadata}}
 use Rattle.cacache_table.specs.State.{Item}
 
 -- the keys of entries

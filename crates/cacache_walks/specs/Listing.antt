@@ -1,19 +1,9 @@
 -- What a listing of the contents holds.
-use Rattle.std.specs.Prelude.{◌≡◌, ◌↔◌, ℕ, List, [], ◌∷◌, Option, Contains, map, string_bytes}
-use Rattle.std.specs.declared.cmp.Ordering.{Ordering}
-use Rattle.std.specs.Ordering.{nat_cmp, on, then_cmp}
-use Rattle.std.specs.Cmp.Lexicographic.{slice_cmp}
-use Rattle.std.specs.List.Sorted.{IsStrictlySortedBy}
-use Rattle.cacache_core.specs.declared.errors.Error.{Error}
-use Rattle.cacache_core.specs.declared.integrity.digest.Hash.{Hash}
-use Rattle.cacache_core.specs.Integrity.{IsHash, rank}
-use Rattle.cacache_core.specs.Paths.{join, joined, content_area, content_names}
+use Rattle.std.specs.{Prelude.{◌≡◌, ◌↔◌, ℕ, List, [], ◌∷◌, Option, Contains, map, string_bytes}, declared.cmp.Ordering.{Ordering}, Ordering.{nat_cmp, on, then_cmp}, Cmp.Lexicographic.{slice_cmp}, List.Sorted.{IsStrictlySortedBy}}
+use Rattle.cacache_core.specs.{declared.{errors.Error.{Error}, integrity.digest.Hash.{Hash}}, Integrity.{IsHash, rank}, Paths.{join, joined, content_area, content_names}}
 use Rattle.cacache_store.specs.declared.store.log.LogItem.{LogItem}
-use Rattle.cacache_table.specs.Runs.{Moves, Gains}
-use Rattle.cacache_table.specs.Walking.{most}
-use Rattle.cacache_walks.specs.declared.contents.Contents.{Contents}
-use Rattle.cacache_walks.specs.Addresses.{IsContentPath, IsStrange}
-use Rattle.cacache_walks.specs.Reading.{Folder, ReadsFolders, StopsWalk, top_folder, files_shown}
+use Rattle.cacache_table.specs.{Runs.{Moves, Gains}, Walking.{most}}
+use Rattle.cacache_walks.specs.{declared.contents.Contents.{Contents}, Addresses.{IsContentPath, IsStrange}, Reading.{Folder, ReadsFolders, StopsWalk, top_folder, files_shown}}
 
 -- ---- what it holds
 

@@ -1,17 +1,8 @@
 -- A walk that reads a folder and all folders below it, and the files and links that it finds.
-use Rattle.std.specs.Prelude.{◌≡◌, ◌⊎◌, ◌≤◌, ◌<◌, ◌+◌, ◌-◌, ℕ, List, [], ◌∷◌, ◌++◌, Option, None, Some, Contains, length, filter_map, unwrap_or}
-use Rattle.std.specs.List.{flat_map}
-use Rattle.cacache_core.specs.declared.errors.Error.{Error}
-use Rattle.cacache_core.specs.declared.errors.Error.TheVariants.{IoError, OutOfMemory}
-use Rattle.cacache_core.specs.declared.errors.Fault.TheVariants.{NotFound, TooDeep}
-use Rattle.cacache_core.specs.Paths.{join}
-use Rattle.cacache_store.specs.declared.store.answer.Kind.{Kind}
+use Rattle.std.specs.{Prelude.{◌≡◌, ◌⊎◌, ◌≤◌, ◌<◌, ◌+◌, ◌-◌, ℕ, List, [], ◌∷◌, ◌++◌, Option, None, Some, Contains, length, filter_map, unwrap_or}, List.{flat_map}}
+use Rattle.cacache_core.specs.{declared.errors.{Error.{Error, TheVariants.{IoError, OutOfMemory}}, Fault.TheVariants.{NotFound, TooDeep}}, Paths.{join}}
+use Rattle.cacache_store.specs.{declared.store.{answer.{Kind.{Kind}, Name.{Name}, Answer.TheVariants.{Names, Failed}}, step.Step.TheVariants.{ReadDir}}, Plain.{PlainStep, PlainAnswer}, Fits.{Fits}}
 use Rattle.cacache_store.specs.declared.store.answer.Kind.TheVariants as kinds
-use Rattle.cacache_store.specs.declared.store.answer.Name.{Name}
-use Rattle.cacache_store.specs.declared.store.answer.Answer.TheVariants.{Names, Failed}
-use Rattle.cacache_store.specs.declared.store.step.Step.TheVariants.{ReadDir}
-use Rattle.cacache_store.specs.Plain.{PlainStep, PlainAnswer}
-use Rattle.cacache_store.specs.Fits.{Fits}
 use Rattle.cacache_table.specs.Runs.{Moves}
 
 -- a folder that is to be read, and its level below the first one

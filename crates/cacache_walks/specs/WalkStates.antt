@@ -2,11 +2,7 @@
 use Rattle.std.specs.Prelude.{◌≡◌, ◌+◌, ◌≤◌, List, ◌++◌, Option, Some, None, Bool, true, false, Result, Ok, Err, length, map, reverse}
 use Rattle.cacache_core.specs.declared.errors.Error.{Error}
 use Rattle.cacache_table.specs.State as states
-use Rattle.cacache_table.specs.State.{State, Item, walking}
-use Rattle.cacache_table.specs.declared.visit.Visit.{Visit}
-use Rattle.cacache_table.specs.declared.visit.Task.{Task}
-use Rattle.cacache_table.specs.Walking.{most, walk_ends}
-use Rattle.cacache_table.specs.Runs.{plain_item, EndsAs}
+use Rattle.cacache_table.specs.{State.{State, Item, walking}, declared.visit.{Visit.{Visit}, Task.{Task}}, Walking.{most, walk_ends}, Runs.{plain_item, EndsAs}}
 use Rattle.cacache_walks.specs.declared.walk.Walk.{Walk}
 
 -- ---- what a walk carries, as the table has it

@@ -1,22 +1,9 @@
 -- Where the walk stands between two visits, and what one visit adds.
 use Rattle.std.specs.Prelude.{◌≡◌, ◌≤◌, ◌<◌, ◌+◌, ◌*◌, ℕ, List, [], ◌∷◌, ◌++◌, Option, None, Some, false}
-use Rattle.cacache_core.specs.declared.errors.Error.{Error}
-use Rattle.cacache_core.specs.declared.errors.Fault.TheVariants.{NotFound}
-use Rattle.cacache_store.specs.declared.store.log.LogItem.{LogItem}
-use Rattle.cacache_store.specs.declared.store.answer.Name.{Name}
-use Rattle.cacache_store.specs.declared.store.answer.Answer.TheVariants.{Names, Failed}
-use Rattle.cacache_store.specs.declared.store.step.Step.TheVariants.{ReadDir}
-use Rattle.cacache_store.specs.Plain.{PlainAnswer, plain_answer}
-use Rattle.cacache_store.specs.Fits.{Fits}
-use Rattle.cacache_table.specs.declared.visit.Task.{Task}
-use Rattle.cacache_table.specs.declared.visit.Task.TheVariants.{Make, Stumble}
-use Rattle.cacache_table.specs.Runs.{Moves, Gains, weight, weights}
-use Rattle.cacache_table.specs.declared.visit.Visit.{Visit}
-use Rattle.cacache_table.specs.declared.visit.Visit.TheVariants.{Enter, ReadBucket, RemoveFile, RemoveFolder}
-use Rattle.cacache_walks.specs.declared.walk.Walk.{Walk}
-use Rattle.cacache_walks.specs.WalkStates.{Counts, pending}
-use Rattle.cacache_walks.specs.Reading.{Folder, ReadsFolders, StopsWalk, names_shown, file_paths, files_shown}
-use Rattle.cacache_walks.specs.Listing.{StopsAt}
+use Rattle.cacache_core.specs.declared.errors.{Error.{Error}, Fault.TheVariants.{NotFound}}
+use Rattle.cacache_store.specs.{declared.store.{log.LogItem.{LogItem}, answer.{Name.{Name}, Answer.TheVariants.{Names, Failed}}, step.Step.TheVariants.{ReadDir}}, Plain.{PlainAnswer, plain_answer}, Fits.{Fits}}
+use Rattle.cacache_table.specs.{declared.visit.{Task.{Task, TheVariants.{Make, Stumble}}, Visit.{Visit, TheVariants.{Enter, ReadBucket, RemoveFile, RemoveFolder}}}, Runs.{Moves, Gains, weight, weights}}
+use Rattle.cacache_walks.specs.{declared.walk.Walk.{Walk}, WalkStates.{Counts, pending}, Reading.{Folder, ReadsFolders, StopsWalk, names_shown, file_paths, files_shown}, Listing.{StopsAt}}
 
 -- ---- one visit
 

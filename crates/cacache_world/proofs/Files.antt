@@ -1,20 +1,11 @@
 -- Outside files, one by one.
-use Rattle.std.proofs.Common.{◌≡◌, ◌<◌, ◌≤◌, ◌+◌, ◌==◌, ℕ, zero, suc, Bool, true, false, List, [], ◌∷◌, ◌++◌, Option, None, Some, Ok, take, length, get_or, slice_get, refl, sym, ap, subst, ◌∙◌, arith}
+use Rattle.std.proofs.{Common.{◌≡◌, ◌<◌, ◌≤◌, ◌+◌, ◌==◌, ℕ, zero, suc, Bool, true, false, List, [], ◌∷◌, ◌++◌, Option, None, Some, Ok, take, length, get_or, slice_get, refl, sym, ap, subst, ◌∙◌, arith}, lemmas.{Bool.{eqb-true, eqb-false}, List.{take_more}}}
 use Rattle.std.specs.Prelude.{Result, Err}
-use Rattle.std.proofs.lemmas.Bool.{eqb-true, eqb-false}
-use Rattle.std.proofs.lemmas.List.{take_more}
-use Rattle.cacache_core.specs.declared.errors.Fault.{Fault}
-use Rattle.cacache_core.specs.PathNames.{Names}
-use Rattle.cacache_disk.specs.Tree.{Tree, bare}
-use Rattle.cacache_disk.specs.Apply.{planted}
-use Rattle.cacache_disk.specs.LedTo.{and_then}
-use Rattle.cacache_disk.proofs.FoundNodes.{and_then_ok}
-use Rattle.cacache_value.specs.Kinds.{Elsewhere, IsFor}
-use Rattle.cacache_value.specs.OpeningTrees.{with_files, LieApart}
-use Rattle.cacache_world.specs.WorldKept.{LiesApart, FilesAreApart}
-use Rattle.cacache_world.specs.declared.event.WorldFault.{WorldFault}
+use Rattle.cacache_core.specs.{declared.errors.Fault.{Fault}, PathNames.{Names}}
+use Rattle.cacache_disk.{specs.{Tree.{Tree, bare}, Apply.{planted}, LedTo.{and_then}}, proofs.FoundNodes.{and_then_ok}}
+use Rattle.cacache_value.specs.{Kinds.{Elsewhere, IsFor}, OpeningTrees.{with_files, LieApart}}
+use Rattle.cacache_world.specs.{WorldKept.{LiesApart, FilesAreApart}, declared.event.WorldFault.{WorldFault}, Faults.{CantPlace, CantOpen}}
 use Rattle.cacache_world.specs.declared.event.WorldFault.TheVariants as faults
-use Rattle.cacache_world.specs.Faults.{CantPlace, CantOpen}
 
 -- ---- one file more
 

@@ -1,27 +1,14 @@
 -- What a loss of power leaves of a world's disk.
-use Rattle.std.proofs.Common.{◌≡◌, ◌<◌, ◌+◌, ℕ, List, [], ◌∷◌, ◌++◌, None, Some, Ok, length, get_or, take, refl, sym, ap, subst, ◌∙◌}
+use Rattle.std.proofs.{Common.{◌≡◌, ◌<◌, ◌+◌, ℕ, List, [], ◌∷◌, ◌++◌, None, Some, Ok, length, get_or, take, refl, sym, ap, subst, ◌∙◌}, lemmas.List.{take_more}}
 use Rattle.std.specs.Prelude.{IfOk, Result, Err}
-use Rattle.std.proofs.lemmas.List.{take_more}
 use Rattle.cacache_core.specs.PathNames.{home_of}
-use Rattle.cacache_disk.specs.Rooted.{Rooted}
-use Rattle.cacache_disk.specs.Tree.{Tree, bare}
-use Rattle.cacache_value.specs.OpeningTrees.{with_files}
-use Rattle.cacache_value.specs.Traces.{Move}
-use Rattle.cacache_loss.specs.declared.loss.Loss.{Loss}
-use Rattle.cacache_loss.specs.ChangedNames.{opening}
-use Rattle.cacache_loss.specs.Chosen.{chosen}
-use Rattle.cacache_loss.specs.Loss.{Lost}
-use Rattle.cacache_loss.specs.Moments.{Moment, after, next}
+use Rattle.cacache_disk.specs.{Rooted.{Rooted}, Tree.{Tree, bare}}
+use Rattle.cacache_value.specs.{OpeningTrees.{with_files}, Traces.{Move}}
+use Rattle.cacache_loss.specs.{declared.loss.Loss.{Loss}, ChangedNames.{opening}, Chosen.{chosen}, Loss.{Lost}, Moments.{Moment, after, next}}
 use Rattle.cacache_loss.proofs.ChangedNames.{histories_leave_caches}
-use Rattle.cacache_history.specs.declared.record.Record.{Record}
-use Rattle.cacache_history.specs.declared.record.Record.TheVariants.{Began, Moved, Stopped}
-use Rattle.cacache_history.specs.History.{History, IsLegal, initial, tree_in}
-use Rattle.cacache_history.specs.Setup.{home}
-use Rattle.cacache_history.specs.Values.{steps_of}
-use Rattle.cacache_history.proofs.Holding.{first_holds, first_opens}
-use Rattle.cacache_history.proofs.Values.{traced}
-use Rattle.cacache_world.specs.Losses.{LeftBy}
-use Rattle.cacache_world.specs.WorldKept.{history_of, setup_of}
+use Rattle.cacache_history.specs.{declared.record.Record.{Record, TheVariants.{Began, Moved, Stopped}}, History.{History, IsLegal, initial, tree_in}, Setup.{home}, Values.{steps_of}}
+use Rattle.cacache_history.proofs.{Holding.{first_holds, first_opens}, Values.{traced}}
+use Rattle.cacache_world.specs.{Losses.{LeftBy}, WorldKept.{history_of, setup_of}}
 
 -- ---- one record after another
 

@@ -2,12 +2,9 @@
 use Rattle.std.proofs.Common.{◌≡◌, ℕ, Bool, true, false, refl, sym}
 use Rattle.cacache_table.specs.declared.command.Link as links
 use Rattle.cacache_table.specs.declared.command.Export as exports
-use Rattle.cacache_table.specs.declared.command.Source.{Source}
+use Rattle.cacache_table.specs.{declared.command.Source.{Source}, Formed.{FormsCommand}, Linking.{based}}
 use Rattle.cacache_table.specs.declared.command.Command.TheVariants as commands
-use Rattle.cacache_table.specs.Formed.{FormsCommand}
-use Rattle.cacache_table.specs.Linking.{based}
-use Rattle.cacache_history.specs.History.{NamesSource}
-use Rattle.cacache_history.specs.Setup.{Setup, call_site, may_export, is_outside}
+use Rattle.cacache_history.specs.{History.{NamesSource}, Setup.{Setup, call_site, may_export, is_outside}}
 use Rattle.cacache_world.specs.Admitted.{Judges}
 
 pub judges_link : (s : Setup) (n : ℕ) (l : links.Link) (leads : Bool) → leads ≡ is_outside s (based s.base l.target)

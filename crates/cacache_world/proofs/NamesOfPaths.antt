@@ -1,15 +1,7 @@
 -- Paths as names: what a loop over pieces or files has found.
-use Rattle.std.proofs.Common.{◌≡◌, ◌==◌, ◌<◌, ◌≤◌, ◌+◌, ◌||◌, ◌&&◌, ◌⊎◌, inl, inr, ℕ, zero, suc, Bool, true, false, cond, not, List, [], ◌∷◌, None, Some, length, take, filter, get_or, refl, sym, ap, subst, ◌∙◌, arith}
-use Rattle.std.specs.Prelude.{Ok, Err, Result, min, nat_le}
-use Rattle.std.proofs.lemmas.Bool.{leb-true, leb-false}
-use Rattle.std.specs.Bool.{nat_eq}
-use Rattle.std.specs.Result.{result_ok}
-use Rattle.std.specs.List.{list_any}
-use Rattle.std.specs.Cmp.Lexicographic.{pointwise}
-use Rattle.std.proofs.lemmas.List.{take_all}
-use Rattle.cacache_core.specs.declared.errors.Fault.{Fault}
-use Rattle.cacache_core.specs.declared.errors.Fault.TheVariants.{InvalidInput}
-use Rattle.cacache_core.specs.PathNames.{Names, home_of, names_of, pieces, is_above, is_name, is_bad}
+use Rattle.std.proofs.{Common.{◌≡◌, ◌==◌, ◌<◌, ◌≤◌, ◌+◌, ◌||◌, ◌&&◌, ◌⊎◌, inl, inr, ℕ, zero, suc, Bool, true, false, cond, not, List, [], ◌∷◌, None, Some, length, take, filter, get_or, refl, sym, ap, subst, ◌∙◌, arith}, lemmas.{Bool.{leb-true, leb-false}, List.{take_all}}}
+use Rattle.std.specs.{Prelude.{Ok, Err, Result, min, nat_le}, Bool.{nat_eq}, Result.{result_ok}, List.{list_any}, Cmp.Lexicographic.{pointwise}}
+use Rattle.cacache_core.specs.{declared.errors.Fault.{Fault, TheVariants.{InvalidInput}}, PathNames.{Names, home_of, names_of, pieces, is_above, is_name, is_bad}}
 use Rattle.cacache_history.specs.Setup.{are_apart, apart_from_text, apart_from_files, same_place, has_file}
 
 -- ---- the names of a text

@@ -1,10 +1,7 @@
 -- One event more.
-use Rattle.std.proofs.Common.{◌≡◌, ◌<◌, ◌+◌, ℕ, zero, suc, List, [], ◌∷◌, ◌++◌, Some, take, length, get_or, slice_get, refl, sym, ap, subst, ◌∙◌, arith}
-use Rattle.std.proofs.lemmas.List.{take_more}
+use Rattle.std.proofs.{Common.{◌≡◌, ◌<◌, ◌+◌, ℕ, zero, suc, List, [], ◌∷◌, ◌++◌, Some, take, length, get_or, slice_get, refl, sym, ap, subst, ◌∙◌, arith}, lemmas.List.{take_more}}
 use Rattle.cacache_history.specs.History.{History}
-use Rattle.cacache_world.specs.declared.event.Event.{Event}
-use Rattle.cacache_world.specs.declared.event.WorldFault.{WorldFault}
-use Rattle.cacache_world.specs.Played.{Happens, HappenAll, CantBe, StopAt}
+use Rattle.cacache_world.specs.{declared.event.{Event.{Event}, WorldFault.{WorldFault}}, Played.{Happens, HappenAll, CantBe, StopAt}}
 
 happen_more : (events : List Event) (event : Event) (h m h' : History) → HappenAll events h m → Happens event m h' → HappenAll (events ++ event ∷ []) h h'
 happen_more [] event h m h' all one = (h', subst (λ x. Happens event x h') all one, refl)

@@ -1,17 +1,12 @@
 -- Why an event can't be, or an outside file.
 use Rattle.std.specs.Prelude.{◌≡◌, ◌⊎◌, ◌≤◌, ◌<◌, ℕ, List, Option, None, Some, Ok, Err, false, slice_get, take}
 use Rattle.cacache_core.specs.declared.errors.Fault.{Fault}
-use Rattle.cacache_disk.specs.Tree.{Tree, bare}
-use Rattle.cacache_disk.specs.Apply.{planted}
+use Rattle.cacache_disk.specs.{Tree.{Tree, bare}, Apply.{planted}}
 use Rattle.cacache_value.specs.OpeningTrees.{with_files}
-use Rattle.cacache_history.specs.History.{History, Call}
+use Rattle.cacache_history.specs.{History.{History, Call}, Setup.{Setup, may_export}}
 use Rattle.cacache_table.specs.declared.command.Command.{Command}
-use Rattle.cacache_history.specs.Setup.{Setup, may_export}
-use Rattle.cacache_world.specs.declared.event.WorldFault.{WorldFault}
+use Rattle.cacache_world.specs.{declared.event.WorldFault.{WorldFault}, Turned.{DiskJob}, WorldKept.{setup_of, last}, Admitted.{IsBad}}
 use Rattle.cacache_world.specs.declared.event.WorldFault.TheVariants as faults
-use Rattle.cacache_world.specs.Turned.{DiskJob}
-use Rattle.cacache_world.specs.WorldKept.{setup_of, last}
-use Rattle.cacache_world.specs.Admitted.{IsBad}
 
 -- ---- what the list of jobs shows
 

@@ -1,12 +1,8 @@
 -- What a loss of power leaves where a history ends.
 use Rattle.std.specs.Prelude.{ℕ, List}
 use Rattle.cacache_disk.specs.Tree.{Tree}
-use Rattle.cacache_loss.specs.declared.loss.Loss.{Loss}
-use Rattle.cacache_loss.specs.Chosen.{chosen}
-use Rattle.cacache_loss.specs.Loss.{Lost}
-use Rattle.cacache_history.specs.declared.record.Record.{Record}
-use Rattle.cacache_history.specs.History.{History}
-use Rattle.cacache_history.specs.Setup.{home}
+use Rattle.cacache_loss.specs.{declared.loss.Loss.{Loss}, Chosen.{chosen}, Loss.{Lost}}
+use Rattle.cacache_history.specs.{declared.record.Record.{Record}, History.{History}, Setup.{home}}
 use Rattle.cacache_durable.specs.Outlasting.{moment_at}
 use Rattle.cacache_world.specs.WorldKept.{history_of, setup_of}
 

@@ -1,14 +1,9 @@
 -- Events in their order.
 use Rattle.std.specs.Prelude.{◌≡◌, ℕ, List, [], ◌∷◌, Some, slice_get, take}
-use Rattle.cacache_history.specs.History.{History}
-use Rattle.cacache_history.specs.declared.record.Record.TheVariants.{Began, Stopped}
-use Rattle.cacache_world.specs.declared.event.Event.{Event}
+use Rattle.cacache_history.specs.{History.{History}, declared.record.Record.TheVariants.{Began, Stopped}}
+use Rattle.cacache_world.specs.{declared.event.{Event.{Event}, Move.{Move}, WorldFault.{WorldFault}}, WorldKept.{AddsRecord, MovesOn}, Faults.{CantBegin, CantMove}}
 use Rattle.cacache_world.specs.declared.event.Event.TheVariants as events
-use Rattle.cacache_world.specs.declared.event.Move.{Move}
-use Rattle.cacache_world.specs.declared.event.WorldFault.{WorldFault}
 use Rattle.cacache_world.specs.declared.event.WorldFault.TheVariants as faults
-use Rattle.cacache_world.specs.WorldKept.{AddsRecord, MovesOn}
-use Rattle.cacache_world.specs.Faults.{CantBegin, CantMove}
 
 -- the second history is the first with this event's record
 abbrev pub Happens : Event → History → History → Type 0

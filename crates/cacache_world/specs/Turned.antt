@@ -1,23 +1,14 @@
 -- One move of one call.
 use Rattle.std.specs.Prelude.{◌≡◌, ◌⊎◌, Option, Some, None, IsTrue}
 use Rattle.cacache_core.specs.declared.errors.Error.TheVariants.{OutOfMemory}
-use Rattle.cacache_store.specs.declared.store.plain.PlainFile.{PlainFile}
-use Rattle.cacache_store.specs.declared.store.plain.PlainTemp.{PlainTemp}
-use Rattle.cacache_disk.specs.declared.luck.Luck.{Luck}
-use Rattle.cacache_disk.specs.Tree.{Tree}
-use Rattle.cacache_disk.specs.Apply.{apply}
-use Rattle.cacache_table.specs.declared.reply.Reply.{Reply}
-use Rattle.cacache_table.specs.declared.reply.Reply.TheVariants.{Refused}
-use Rattle.cacache_table.specs.State.{State}
-use Rattle.cacache_table.specs.Table.{after}
-use Rattle.cacache_jobs.specs.declared.job.Job.{Job}
-use Rattle.cacache_jobs.specs.Jobs.{Stands, GoesTo, Tells, can_go_on}
+use Rattle.cacache_store.specs.declared.store.plain.{PlainFile.{PlainFile}, PlainTemp.{PlainTemp}}
+use Rattle.cacache_disk.specs.{declared.luck.Luck.{Luck}, Tree.{Tree}, Apply.{apply}}
+use Rattle.cacache_table.specs.{declared.reply.Reply.{Reply, TheVariants.{Refused}}, State.{State}, Table.{after}}
+use Rattle.cacache_jobs.specs.{declared.job.Job.{Job}, Jobs.{Stands, GoesTo, Tells, can_go_on}}
 use Rattle.cacache_history.specs.History.{Made, Ends, MayMove}
-use Rattle.cacache_world.specs.declared.event.Move.{Move}
+use Rattle.cacache_world.specs.declared.{event.Move.{Move}, turn.{After.{After}, Turn.{Turn}}}
 use Rattle.cacache_world.specs.declared.event.Move.TheVariants as moves
-use Rattle.cacache_world.specs.declared.turn.After.{After}
 use Rattle.cacache_world.specs.declared.turn.After.TheVariants as ways
-use Rattle.cacache_world.specs.declared.turn.Turn.{Turn}
 use Rattle.cacache_world.specs.declared.turn.Turn.TheVariants as turns
 
 -- a call on a disk in memory, whose files contracts see as they are

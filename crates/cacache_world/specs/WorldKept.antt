@@ -1,18 +1,11 @@
 -- What each world keeps, and what its events add.
 use Rattle.std.specs.Prelude.{◌≡◌, ℕ, List, [], ◌++◌, ◌∷◌, Option, None, Some, codes, slice_get, slice_set, take, true, vec_len, IsTrue}
-use Rattle.cacache_disk.specs.declared.luck.Luck.{Luck}
-use Rattle.cacache_disk.specs.Tree.{Tree}
-use Rattle.cacache_table.specs.State.{over}
-use Rattle.cacache_table.specs.Runs.{plain_reply}
+use Rattle.cacache_disk.specs.{declared.luck.Luck.{Luck}, Tree.{Tree}}
+use Rattle.cacache_table.specs.{State.{over}, Runs.{plain_reply}}
 use Rattle.cacache_jobs.specs.Jobs.{can_go_on}
-use Rattle.cacache_history.specs.declared.record.Record.{Record}
-use Rattle.cacache_history.specs.declared.record.Record.TheVariants.{Moved}
-use Rattle.cacache_history.specs.Setup.{Setup, may_export}
-use Rattle.cacache_history.specs.History.{History, Call, Made, IsLegal, MayCome, Now, now_at}
-use Rattle.cacache_world.specs.declared.event.Move.{Move}
+use Rattle.cacache_history.specs.{declared.record.Record.{Record, TheVariants.{Moved}}, Setup.{Setup, may_export}, History.{History, Call, Made, IsLegal, MayCome, Now, now_at}}
+use Rattle.cacache_world.specs.{declared.{event.Move.{Move}, world.World.TheInside.{Inside}}, Turned.{DiskJob, JobStands, told_by}}
 use Rattle.cacache_world.specs.declared.event.Move.TheVariants as moves
-use Rattle.cacache_world.specs.declared.world.World.TheInside.{Inside}
-use Rattle.cacache_world.specs.Turned.{DiskJob, JobStands, told_by}
 
 -- ---- what a world tells
 

@@ -1,24 +1,11 @@
 -- The commit of a polled writer: what it answers, and what it does.
 use Rattle.std.specs.Prelude.{◌≡◌, ◌≢◌, ◌⊎◌, ℕ, List, Option, Some, Result, Ok, Err}
-use Rattle.cacache_core.specs.declared.errors.Error.{Error}
-use Rattle.cacache_core.specs.declared.errors.Error.TheVariants.{OutOfMemory}
-use Rattle.cacache_core.specs.declared.errors.Fault.{Fault}
+use Rattle.cacache_core.specs.{declared.{errors.{Error.{Error, TheVariants.{OutOfMemory}}, Fault.{Fault}}, integrity.digest.Hash.{Hash}}, Integrity.{strongest}}
 use Rattle.cacache_core.specs.declared.errors.Fault.TheVariants as fault
-use Rattle.cacache_core.specs.declared.integrity.digest.Hash.{Hash}
-use Rattle.cacache_core.specs.Integrity.{strongest}
-use Rattle.cacache_store.specs.declared.env.Env.{Env}
-use Rattle.cacache_store.specs.declared.store.log.LogItem.{LogItem}
-use Rattle.cacache_store.specs.declared.store.plain.PlainTemp.{PlainTemp}
-use Rattle.cacache_table.specs.declared.reply.Reply.{Reply}
-use Rattle.cacache_table.specs.declared.reply.Reply.TheVariants.{Stored}
-use Rattle.cacache_table.specs.declared.carried.Commit.{Commit}
-use Rattle.cacache_table.specs.Runs.{Ran, reply_of}
-use Rattle.cacache_table.specs.Storing.{persist}
+use Rattle.cacache_store.specs.declared.{env.Env.{Env}, store.{log.LogItem.{LogItem}, plain.PlainTemp.{PlainTemp}}}
+use Rattle.cacache_table.specs.{declared.{reply.Reply.{Reply, TheVariants.{Stored}}, carried.Commit.{Commit}}, Runs.{Ran, reply_of}, Storing.{persist}}
 use Rattle.cacache_jobs.specs.Environment.{MomentOf}
-use Rattle.cacache_polled.specs.declared.writer_core.WriterCore.{WriterCore}
-use Rattle.cacache_polled.specs.declared.kinds.Finish.{Finish}
-use Rattle.cacache_polled.specs.declared.kinds.Finish.TheVariants.{Busy, Closed, Cancelled, Failed, Held}
-use Rattle.cacache_polled.specs.Events.{CommitFinds}
+use Rattle.cacache_polled.specs.{declared.{writer_core.WriterCore.{WriterCore}, kinds.Finish.{Finish, TheVariants.{Busy, Closed, Cancelled, Failed, Held}}}, Events.{CommitFinds}}
 use Rattle.cacache_async.specs.Waiting.{TellsFault}
 use Rattle.cacache_writers.specs.declared.about.About.{About}
 

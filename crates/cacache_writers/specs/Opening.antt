@@ -1,15 +1,10 @@
 -- The opening of a polled writer: its temporary file, and what was said of the content.
 use Rattle.std.specs.Prelude.{◌≡◌, ◌⊎◌, ℕ, List, Option, Result, Ok, Err}
-use Rattle.cacache_core.specs.declared.errors.Error.{Error}
-use Rattle.cacache_core.specs.declared.errors.Error.TheVariants.{OutOfMemory}
-use Rattle.cacache_store.specs.declared.env.Env.{Env}
-use Rattle.cacache_store.specs.declared.store.log.LogItem.{LogItem}
-use Rattle.cacache_store.specs.declared.store.plain.PlainTemp.{PlainTemp}
-use Rattle.cacache_store.specs.Given.{AddsAnswer}
+use Rattle.cacache_core.specs.declared.errors.Error.{Error, TheVariants.{OutOfMemory}}
+use Rattle.cacache_store.specs.{declared.{env.Env.{Env}, store.{log.LogItem.{LogItem}, plain.PlainTemp.{PlainTemp}}}, Given.{AddsAnswer}}
 use Rattle.cacache_content.specs.OpenWrites.{Makes, FailsToMake}
 use Rattle.cacache_put.specs.Options.{Said, options_of}
-use Rattle.cacache_writers.specs.declared.about.About.{About}
-use Rattle.cacache_writers.specs.declared.writer.Writer.{Writer}
+use Rattle.cacache_writers.specs.declared.{about.About.{About}, writer.Writer.{Writer}}
 
 -- what was said of a content under this key
 pub record IsAbout (cache : List ℕ) (key : Option (List ℕ)) (s : Said) (a : About) : Type 0 where

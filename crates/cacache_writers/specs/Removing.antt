@@ -1,8 +1,6 @@
 -- How a removal is told.
-use Rattle.std.specs.Prelude.{◌≡◌, Result, Ok, Err, ⊤, MatchResult}
-use Rattle.std.specs.IoError.{error_kind}
-use Rattle.cacache_core.specs.declared.errors.Fault.{Fault}
-use Rattle.cacache_core.specs.Contexts.{fault_of}
+use Rattle.std.specs.{Prelude.{◌≡◌, Result, Ok, Err, ⊤, MatchResult}, IoError.{error_kind}}
+use Rattle.cacache_core.specs.{declared.errors.Fault.{Fault}, Contexts.{fault_of}}
 use Rattle.cacache_store.specs.Failures as io
 
 -- a removal that was done is told so, and one that failed with the fault of its error

@@ -1,15 +1,8 @@
 -- What a poll, a taking and an ending do to what lies under the lock.
 use Rattle.std.specs.Prelude.{◌≡◌, ◌⊎◌, ℕ, List, Option, Some, None, Result, Ok, Err, ◌++◌, [], ◌∷◌}
-use Rattle.cacache_core.specs.declared.errors.Error.{Error}
-use Rattle.cacache_core.specs.declared.errors.Error.TheVariants.{OutOfMemory}
-use Rattle.cacache_core.specs.declared.integrity.algorithm.Algorithm.{Algorithm}
-use Rattle.cacache_core.specs.Hashers.{algorithm_of}
-use Rattle.cacache_polled.specs.declared.kinds.Work.{Work}
-use Rattle.cacache_polled.specs.declared.kinds.Polled.{Polled}
+use Rattle.cacache_core.specs.{declared.{errors.Error.{Error, TheVariants.{OutOfMemory}}, integrity.algorithm.Algorithm.{Algorithm}}, Hashers.{algorithm_of}}
+use Rattle.cacache_polled.specs.{declared.kinds.{Work.{Work}, Polled.{Polled}, Completion.{Completion}}, Table.{Ask, polled}, Events.{Event, asks, ends, HasSeen}}
 use Rattle.cacache_polled.specs.declared.kinds.Polled.TheVariants as polls
-use Rattle.cacache_polled.specs.declared.kinds.Completion.{Completion}
-use Rattle.cacache_polled.specs.Table.{Ask, polled}
-use Rattle.cacache_polled.specs.Events.{Event, asks, ends, HasSeen}
 use Rattle.cacache_async.specs.Waiting.{TellsFault}
 use Rattle.cacache_writers.specs.declared.kept.Kept.{Kept}
 

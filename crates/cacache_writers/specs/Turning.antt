@@ -1,13 +1,8 @@
 -- What a worker's turn does, by what it asks and makes.
-use Rattle.std.specs.Prelude.{◌≡◌, ◌⊎◌, ◌+◌, ◌-◌, ◌^◌, ℕ, Bool, true, false, Option, Some, None, min}
-use Rattle.std.specs.Arc.{arc_value}
+use Rattle.std.specs.{Prelude.{◌≡◌, ◌⊎◌, ◌+◌, ◌-◌, ◌^◌, ℕ, Bool, true, false, Option, Some, None, min}, Arc.{arc_value}}
 use Rattle.cacache_jobs.specs.declared.gate.Pass.{Pass}
 use Rattle.cacache_jobs.specs.declared.gate.Pass.TheVariants as passes
-use Rattle.cacache_writers.specs.declared.kept.Told.{Told}
-use Rattle.cacache_writers.specs.declared.shared.Shared.{Shared}
-use Rattle.cacache_writers.specs.declared.worker.Turned.{Turned}
-use Rattle.cacache_writers.specs.declared.worker.Turned.TheVariants.{Did, NoWork, NotYet, Over}
-use Rattle.cacache_writers.specs.declared.worker.Worker.{Worker}
+use Rattle.cacache_writers.specs.declared.{kept.Told.{Told}, shared.Shared.{Shared}, worker.{Turned.{Turned, TheVariants.{Did, NoWork, NotYet, Over}}, Worker.{Worker}}}
 
 -- one more; a count of 2^64 - 1 stays there
 abbrev pub one_more : ℕ → ℕ

@@ -1,16 +1,9 @@
 -- What work does to a temporary file, and how it ends.
-use Rattle.std.specs.Prelude.{◌≡◌, ◌≤◌, ℕ, List, Option, Some, None, Result, Ok, Err, ⊤, take, length}
-use Rattle.std.specs.Io.KnownBytes.{Appends, Keeps}
-use Rattle.std.specs.IoError.{error_kind}
-use Rattle.cacache_core.specs.declared.errors.Fault.{Fault}
-use Rattle.cacache_core.specs.declared.errors.Fault.TheVariants.{Closed}
-use Rattle.cacache_core.specs.Contexts.{fault_of}
+use Rattle.std.specs.{Prelude.{◌≡◌, ◌≤◌, ℕ, List, Option, Some, None, Result, Ok, Err, ⊤, take, length}, Io.KnownBytes.{Appends, Keeps}, IoError.{error_kind}}
+use Rattle.cacache_core.specs.{declared.errors.Fault.{Fault, TheVariants.{Closed}}, Contexts.{fault_of}}
 use Rattle.cacache_store.specs.Failures as io
 use Rattle.cacache_store.specs.declared.store.plain.PlainTemp.{PlainTemp}
-use Rattle.cacache_polled.specs.declared.kinds.Work.{Work}
-use Rattle.cacache_polled.specs.declared.kinds.Work.TheVariants.{Write, Flush, Remove}
-use Rattle.cacache_polled.specs.declared.kinds.Completion.{Completion}
-use Rattle.cacache_polled.specs.declared.kinds.Completion.TheVariants.{Wrote, Failed, Flushed, Removed}
+use Rattle.cacache_polled.specs.declared.kinds.{Work.{Work, TheVariants.{Write, Flush, Remove}}, Completion.{Completion, TheVariants.{Wrote, Failed, Flushed, Removed}}}
 use Rattle.cacache_writers.specs.declared.kept.Told.{Told}
 
 -- the ending fits the work

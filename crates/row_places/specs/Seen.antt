@@ -1,13 +1,7 @@
 -- What is seen of the files of a store that fail.
 use Rattle.std.specs.Prelude.{None}
-use Rattle.cacache_store.specs.declared.store.answer.Answer.{Answer}
-use Rattle.cacache_store.specs.declared.store.plain.PlainFile.{PlainFile}
-use Rattle.cacache_store.specs.declared.store.plain.PlainTemp.{PlainTemp}
-use Rattle.cacache_store.specs.declared.store.step.Step.{Step}
-use Rattle.cacache_store.specs.Fits.{Fits}
-use Rattle.cacache_store.specs.Plain.{plain_answer, plain_step}
-use Rattle.row_places.specs.declared.faulty.Failing.{Failing}
-use Rattle.row_places.specs.declared.faulty.Short.{Short}
+use Rattle.cacache_store.specs.{declared.store.{answer.Answer.{Answer}, plain.{PlainFile.{PlainFile}, PlainTemp.{PlainTemp}}, step.Step.{Step}}, Fits.{Fits}, Plain.{plain_answer, plain_step}}
+use Rattle.row_places.specs.declared.faulty.{Failing.{Failing}, Short.{Short}}
 
 -- an open file: the one that it stands for
 abbrev pub failing_seen : Failing → PlainFile

@@ -1,27 +1,14 @@
 -- What the contracts of questions say, in words of their caller.
-use Rattle.std.proofs.Common.{◌≡◌, inl, inr, ℕ, Bool, true, false, List, [], ◌∷◌, ◌++◌, Option, None, Some, option_map, Result, Ok, Err, map, refl, sym, ap, ◌∙◌, append_assoc}
-use Rattle.std.proofs.lemmas.List.{map-append}
+use Rattle.std.proofs.{Common.{◌≡◌, inl, inr, ℕ, Bool, true, false, List, [], ◌∷◌, ◌++◌, Option, None, Some, option_map, Result, Ok, Err, map, refl, sym, ap, ◌∙◌, append_assoc}, lemmas.List.{map-append}}
 use Rattle.std.specs.Prelude.{IfOk, IfErr}
-use Rattle.cacache_core.specs.declared.errors.Error.{Error}
-use Rattle.cacache_core.specs.declared.errors.Fault.{Fault}
-use Rattle.cacache_core.specs.declared.integrity.digest.Hash.{Hash}
-use Rattle.cacache_core.specs.Integrity.{IsIntegrity}
-use Rattle.cacache_store.specs.declared.store.log.LogItem.{LogItem}
-use Rattle.cacache_store.specs.declared.store.log.LogItem.TheVariants.{Made}
-use Rattle.cacache_entry.specs.declared.metadata.Metadata.{Metadata}
-use Rattle.cacache_entry.specs.Latest.{Found}
-use Rattle.cacache_entry.specs.View.{found_view}
+use Rattle.cacache_core.specs.{declared.{errors.{Error.{Error}, Fault.{Fault}}, integrity.digest.Hash.{Hash}}, Integrity.{IsIntegrity}}
+use Rattle.cacache_store.specs.declared.store.log.LogItem.{LogItem, TheVariants.{Made}}
+use Rattle.cacache_entry.specs.{declared.metadata.Metadata.{Metadata}, Latest.{Found}, View.{found_view}}
 use Rattle.cacache_table.specs.declared.command.Command.TheVariants as commands
 use Rattle.cacache_table.specs.declared.reply.Reply.TheVariants as replies
-use Rattle.cacache_table.specs.Causes.{Faulted}
-use Rattle.cacache_table.specs.Runs.{Moves, reply_of}
-use Rattle.cacache_table.specs.Replies.{looked_up}
-use Rattle.cacache_sequence.specs.Caches.{IsCache, HasKey, HasContent, LacksKey, AStepFailed, IsExcused, Called, Grows, ExcusesLast, lies_under, SaysThere, AsksWhetherHeld}
-use Rattle.cacache_sequence.specs.Keeping.{found_under}
-use Rattle.cacache_sequence.specs.Inserts.{leads_to}
-use Rattle.cacache_sequence.specs.Looks.{GivesFound, FindsFound, SaysAbsent, AsksAbsent}
-use Rattle.uses.specs.Asked.{IsEntryOf}
-use Rattle.uses.proofs.Told.{excused}
+use Rattle.cacache_table.specs.{Causes.{Faulted}, Runs.{Moves, reply_of}, Replies.{looked_up}}
+use Rattle.cacache_sequence.specs.{Caches.{IsCache, HasKey, HasContent, LacksKey, AStepFailed, IsExcused, Called, Grows, ExcusesLast, lies_under, SaysThere, AsksWhetherHeld}, Keeping.{found_under}, Inserts.{leads_to}, Looks.{GivesFound, FindsFound, SaysAbsent, AsksAbsent}}
+use Rattle.uses.{specs.Asked.{IsEntryOf}, proofs.Told.{excused}}
 
 -- ---- whether a content is there
 

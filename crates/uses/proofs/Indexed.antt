@@ -1,25 +1,13 @@
 -- What the contract of an insertion says, in words of its caller.
-use Rattle.std.proofs.Common.{◌≡◌, ◌<◌, ◌^◌, ℕ, List, Option, Some, Result, Ok, Err, subst}
-use Rattle.std.specs.Prelude.{IsUtf8, IfErr, OnOk}
-use Rattle.cacache_core.specs.declared.errors.Error.{Error}
-use Rattle.cacache_core.specs.declared.errors.Error.TheVariants.{EntryNotFound, SizeMismatch, IoError, SerdeError, IntegrityError, OutOfMemory}
-use Rattle.cacache_core.specs.declared.integrity.algorithm.Algorithm.TheVariants.{Sha256}
-use Rattle.cacache_core.specs.declared.integrity.digest.Hash.{Hash}
-use Rattle.cacache_core.specs.Integrity.{IsIntegrity}
-use Rattle.cacache_store.specs.declared.store.log.LogItem.{LogItem}
+use Rattle.std.{proofs.Common.{◌≡◌, ◌<◌, ◌^◌, ℕ, List, Option, Some, Result, Ok, Err, subst}, specs.Prelude.{IsUtf8, IfErr, OnOk}}
+use Rattle.cacache_core.specs.{declared.{errors.Error.{Error, TheVariants.{EntryNotFound, SizeMismatch, IoError, SerdeError, IntegrityError, OutOfMemory}}, integrity.{algorithm.Algorithm.TheVariants.{Sha256}, digest.Hash.{Hash}}}, Integrity.{IsIntegrity}}
+use Rattle.cacache_store.specs.declared.{store.log.LogItem.{LogItem}, env.Env.{Env}}
 use Rattle.cacache_table.specs.declared.command.Command.TheVariants as commands
 use Rattle.cacache_table.specs.declared.reply.Reply.TheVariants as replies
-use Rattle.cacache_table.specs.Runs.{Ran, reply_of, without_message}
-use Rattle.cacache_store.specs.declared.env.Env.{Env}
-use Rattle.cacache_table.specs.declared.reply.Reply.{Reply}
-use Rattle.cacache_table.specs.Table.{opening}
-use Rattle.cacache_jobs.specs.Sites.{site_of}
-use Rattle.cacache_put.specs.Options.{Said, nothing_said}
-use Rattle.cacache_jobs.specs.Environment.{RunsTimed}
-use Rattle.cacache_put.specs.Puts.{insert_of}
-use Rattle.cacache_sequence.specs.Caches.{IsCache, IsExcused, Called}
-use Rattle.cacache_sequence.specs.Keeping.{KeepsOthers}
-use Rattle.cacache_sequence.specs.Inserts.{leads_to, InsertsKey, InsertsLast, plain_insert, PlainInsertsFit}
+use Rattle.cacache_table.specs.{Runs.{Ran, reply_of, without_message}, declared.reply.Reply.{Reply}, Table.{opening}}
+use Rattle.cacache_jobs.specs.{Sites.{site_of}, Environment.{RunsTimed}}
+use Rattle.cacache_put.specs.{Options.{Said, nothing_said}, Puts.{insert_of}}
+use Rattle.cacache_sequence.specs.{Caches.{IsCache, IsExcused, Called}, Keeping.{KeepsOthers}, Inserts.{leads_to, InsertsKey, InsertsLast, plain_insert, PlainInsertsFit}}
 use Rattle.uses.proofs.Told.{excused}
 
 -- blank options with this integrity

@@ -1,26 +1,15 @@
 -- What the contract of a listing says, in words of its caller.
-use Rattle.std.proofs.Common.{◌≡◌, ◌⊎◌, inl, inr, ◌<◌, ℕ, zero, suc, length, get_or, arith, List, [], ◌∷◌, Some, Ok, Err, Result, map, refl, sym, ap, subst, ◌∙◌}
+use Rattle.std.proofs.{Common.{◌≡◌, ◌⊎◌, inl, inr, ◌<◌, ℕ, zero, suc, length, get_or, arith, List, [], ◌∷◌, Some, Ok, Err, Result, map, refl, sym, ap, subst, ◌∙◌}, lemmas.List.Elements.{All-nil, All-cons, All-head, All-tail}}
 use Rattle.std.specs.Prelude.{All, Vec, IfOk, IfErr}
-use Rattle.std.proofs.lemmas.List.Elements.{All-nil, All-cons, All-head, All-tail}
-use Rattle.cacache_core.specs.declared.errors.Error.{Error}
-use Rattle.cacache_core.specs.declared.errors.Error.TheVariants.{IoError, OutOfMemory}
-use Rattle.cacache_core.specs.declared.errors.Fault.TheVariants.{TooDeep}
-use Rattle.cacache_core.specs.declared.integrity.digest.Hash.{Hash}
-use Rattle.cacache_core.specs.Integrity.{Meets}
+use Rattle.cacache_core.specs.{declared.{errors.{Error.{Error, TheVariants.{IoError, OutOfMemory}}, Fault.TheVariants.{TooDeep}}, integrity.digest.Hash.{Hash}}, Integrity.{Meets}}
 use Rattle.cacache_store.specs.declared.store.log.LogItem.{LogItem}
 use Rattle.cacache_memory.specs.Replay.{IsLog}
 use Rattle.cacache_entry.specs.Latest.{Found}
 use Rattle.cacache_table.specs.declared.command.Command.TheVariants as commands
-use Rattle.cacache_table.specs.declared.reply.Reply.{Reply}
+use Rattle.cacache_table.specs.{declared.reply.Reply.{Reply}, ListReplies.{In}, Runs.{Ran, plain_item, plain_reply, without_message}, State.{Item}, Table.{opening}}
 use Rattle.cacache_table.specs.declared.reply.Reply.TheVariants as replies
-use Rattle.cacache_table.specs.ListReplies.{In}
-use Rattle.cacache_table.specs.Runs.{Ran, plain_item, plain_reply, without_message}
-use Rattle.cacache_table.specs.State.{Item}
-use Rattle.cacache_table.specs.Table.{opening}
 use Rattle.cacache_jobs.specs.Sites.{site_of}
-use Rattle.cacache_sequence.specs.Caches.{HasKey, Grows, IsExcused, Called, ExcusesLast}
-use Rattle.cacache_sequence.specs.Keeping.{found_under}
-use Rattle.cacache_sequence.specs.ListedKeys.{IsShown, AreAllFound, ListsKeys, GivesKeys}
+use Rattle.cacache_sequence.specs.{Caches.{HasKey, Grows, IsExcused, Called, ExcusesLast}, Keeping.{found_under}, ListedKeys.{IsShown, AreAllFound, ListsKeys, GivesKeys}}
 use Rattle.uses.proofs.Told.{plain_error, memory_error}
 
 -- ---- a listing was made

@@ -1,21 +1,12 @@
 -- What the contracts of calls say, in words of their caller.
-use Rattle.std.proofs.Common.{◌≡◌, inl, inr, ◌<◌, ◌^◌, ℕ, List, Some, Result, Ok, Err, length, refl, ap}
-use Rattle.std.specs.Prelude.{Vec, IsUtf8, IfOk, IfErr, OnOk}
-use Rattle.cacache_core.specs.declared.errors.Error.{Error}
-use Rattle.cacache_core.specs.declared.errors.Error.TheVariants.{EntryNotFound, SizeMismatch, IoError, SerdeError, IntegrityError, OutOfMemory}
-use Rattle.cacache_core.specs.declared.integrity.algorithm.Algorithm.TheVariants.{Sha256}
-use Rattle.cacache_core.specs.declared.integrity.digest.Hash.{Hash}
+use Rattle.std.{proofs.Common.{◌≡◌, inl, inr, ◌<◌, ◌^◌, ℕ, List, Some, Result, Ok, Err, length, refl, ap}, specs.Prelude.{Vec, IsUtf8, IfOk, IfErr, OnOk}}
+use Rattle.cacache_core.specs.declared.{errors.Error.{Error, TheVariants.{EntryNotFound, SizeMismatch, IoError, SerdeError, IntegrityError, OutOfMemory}}, integrity.{algorithm.Algorithm.TheVariants.{Sha256}, digest.Hash.{Hash}}}
 use Rattle.cacache_store.specs.declared.store.log.LogItem.{LogItem}
 use Rattle.cacache_memory.specs.Replay.{IsLog}
-use Rattle.cacache_table.specs.declared.command.Command.{Command}
+use Rattle.cacache_table.specs.{declared.{command.Command.{Command}, reply.Reply.{Reply}}, Runs.{Ran, plain_reply, reply_of, without_message}, Table.{opening}, Verifying.{CountsAs}, Replies.{done}}
 use Rattle.cacache_table.specs.declared.command.Command.TheVariants as commands
-use Rattle.cacache_table.specs.declared.reply.Reply.{Reply}
 use Rattle.cacache_table.specs.declared.reply.Reply.TheVariants as replies
-use Rattle.cacache_table.specs.Runs.{Ran, plain_reply, reply_of, without_message}
-use Rattle.cacache_table.specs.Table.{opening}
-use Rattle.cacache_table.specs.Verifying.{CountsAs}
 use Rattle.cacache_jobs.specs.Sites.{site_of}
-use Rattle.cacache_table.specs.Replies.{done}
 use Rattle.cacache_sequence.specs.Caches.{IsCache, IsEmptyCache, HasKey, HasContent, LacksKey, Grows, IsExcused, Called, plain_put, GivesBytes, FindsNone, WritesLast, ReadsKey, ReadsContent, ReadsNone, RemovalsLast, ClearingsEmpty, ExcusesLast}
 use Rattle.cacache.specs.Calls.{bytes_read}
 use Rattle.uses.specs.Missing.{FindsNothing}

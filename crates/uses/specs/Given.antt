@@ -1,7 +1,6 @@
 -- What a read gives of what lies in a cache.
 use Rattle.std.specs.Prelude.{◌≡◌, ℕ, List, IfErr, IfOk, Result, Vec}
-use Rattle.cacache_core.specs.declared.errors.Error.{Error}
-use Rattle.cacache_core.specs.declared.integrity.digest.Hash.{Hash}
+use Rattle.cacache_core.specs.declared.{errors.Error.{Error}, integrity.digest.Hash.{Hash}}
 use Rattle.cacache_store.specs.declared.store.log.LogItem.{LogItem}
 use Rattle.cacache_sequence.specs.Caches.{HasContent, HasKey, IsExcused}
 

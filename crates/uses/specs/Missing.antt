@@ -1,7 +1,6 @@
 -- What a read of a key that leads to nothing answers.
 use Rattle.std.specs.Prelude.{◌≡◌, ◌⊎◌, ℕ, List, Vec, Result, Ok, Err}
-use Rattle.cacache_core.specs.declared.errors.Error.{Error}
-use Rattle.cacache_core.specs.declared.errors.Error.TheVariants.{EntryNotFound}
+use Rattle.cacache_core.specs.declared.errors.Error.{Error, TheVariants.{EntryNotFound}}
 use Rattle.cacache_store.specs.declared.store.log.LogItem.{LogItem}
 use Rattle.cacache_sequence.specs.Caches.{IsExcused}
 

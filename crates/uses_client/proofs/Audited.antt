@@ -1,14 +1,8 @@
 -- What the answers of an audit's calls say of the cache.
-use Rattle.std.proofs.Common.{◌≡◌, inl, inr, ℕ, Bool, true, false, List, [], ◌∷◌, ◌++◌, Vec, Result, Ok, Err, map, refl, sym, ap, subst, ◌∙◌}
+use Rattle.std.proofs.{Common.{◌≡◌, inl, inr, ℕ, Bool, true, false, List, [], ◌∷◌, ◌++◌, Vec, Result, Ok, Err, map, refl, sym, ap, subst, ◌∙◌}, lemmas.List.Elements.{All-nil, All-cons, All-head, All-tail}}
 use Rattle.std.specs.Prelude.{IfOk}
-use Rattle.std.proofs.lemmas.List.Elements.{All-nil, All-cons, All-head, All-tail}
-use Rattle.cacache.specs.Calls.{Error, Refused, without_message}
-use Rattle.cacache.specs.Entries.{Found}
-use Rattle.cacache.specs.Integrities.{Hash}
-use Rattle.cacache.specs.Laws.{AreAllEntries, EntryNotFound, GivesHeld, IntegrityError, IoError, OutOfMemory, SerdeError, SizeMismatch, bytes_under, tree_of}
-use Rattle.cacache.specs.Stores.{LogItem}
-use Rattle.uses_client.specs.declared.auditing.Verdict.{Verdict}
-use Rattle.uses_client.specs.Audits.{AreRight, IsRight, entries_in}
+use Rattle.cacache.specs.{Calls.{Error, Refused, without_message}, Entries.{Found}, Integrities.{Hash}, Laws.{AreAllEntries, EntryNotFound, GivesHeld, IntegrityError, IoError, OutOfMemory, SerdeError, SizeMismatch, bytes_under, tree_of}, Stores.{LogItem}}
+use Rattle.uses_client.specs.{declared.auditing.Verdict.{Verdict}, Audits.{AreRight, IsRight, entries_in}}
 
 -- an error but out of memory says that the bytes are damaged, or that a step failed
 not_whole : (cache : List ℕ) (i : List Hash) (e : Error) (old new : List LogItem) → (e ≡ OutOfMemory → ⊥) → GivesHeld cache i (Refused (without_message e)) old new → IsRight cache i old false

@@ -1,10 +1,6 @@
 -- What a commit left, since before its writer was opened.
-use Rattle.std.proofs.Common.{◌≡◌, inl, inr, ℕ, List, None, Some, Result, Ok, Err, refl, subst, ◌∙◌}
-use Rattle.std.specs.Prelude.{IfOk, OnOk}
-use Rattle.cacache.specs.Calls.{Error, Said}
-use Rattle.cacache.specs.Integrities.{Hash}
-use Rattle.cacache.specs.Laws.{HasContent, IsThere, LeadsToEntry, LeavesKnownCache, LiesOrStayed, lies_under}
-use Rattle.cacache.specs.Stores.{LogItem}
+use Rattle.std.{proofs.Common.{◌≡◌, inl, inr, ℕ, List, None, Some, Result, Ok, Err, refl, subst, ◌∙◌}, specs.Prelude.{IfOk, OnOk}}
+use Rattle.cacache.specs.{Calls.{Error, Said}, Integrities.{Hash}, Laws.{HasContent, IsThere, LeadsToEntry, LeavesKnownCache, LiesOrStayed, lies_under}, Stores.{LogItem}}
 
 -- of the key alone
 pub key_leads : (cache key : List ℕ) (s : Said) (count : ℕ) (r : Result (List Hash) Error) (new : List LogItem)

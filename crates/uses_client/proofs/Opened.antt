@@ -1,8 +1,6 @@
 -- What an opening tells of the bytes that are to be opened.
 use Rattle.std.proofs.Common.{◌≡◌, ◌⊎◌, inl, inr, ℕ, List, [], Result, Ok, Err, refl}
-use Rattle.cacache.specs.Calls.{Error, without_message}
-use Rattle.cacache.specs.Laws.{Fault, IoError, OpensAs, OutOfMemory}
-use Rattle.cacache.specs.Stores.{PlainFile}
+use Rattle.cacache.specs.{Calls.{Error, without_message}, Laws.{Fault, IoError, OpensAs, OutOfMemory}, Stores.{PlainFile}}
 
 pub some_opened : (content : Result (List ℕ) Fault) (file : PlainFile) → OpensAs content (Ok file) → (bytes : List ℕ) × (content ≡ Ok bytes)
 some_opened (Ok bytes) file h = (bytes, refl)

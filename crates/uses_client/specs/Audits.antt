@@ -1,9 +1,6 @@
 -- What an audit says of the entries of a cache.
 use Rattle.std.specs.Prelude.{◌≡◌, ◌⊎◌, ℕ, All, Bool, true, false, List, map}
-use Rattle.cacache.specs.Entries.{Found}
-use Rattle.cacache.specs.Integrities.{Hash}
-use Rattle.cacache.specs.Laws.{AStepFailed, IntegrityFault, IsDamaged, LiesWhole, tree_of}
-use Rattle.cacache.specs.Stores.{LogItem}
+use Rattle.cacache.specs.{Entries.{Found}, Integrities.{Hash}, Laws.{AStepFailed, IntegrityFault, IsDamaged, LiesWhole, tree_of}, Stores.{LogItem}}
 use Rattle.uses_client.specs.declared.auditing.Verdict.{Verdict}
 
 -- other bytes lie under the integrity

@@ -1,10 +1,6 @@
 -- What calls give of what lies in a cache, and what lies there then.
-use Rattle.std.specs.Prelude.{◌≡◌, ◌⊎◌, ◌<◌, ◌^◌, ℕ, List, [], Some, None, IfOk, MatchResult, Result, Ok, Err, Vec, length}
-use Rattle.std.specs.Global.{Global}
-use Rattle.cacache.specs.Calls.{Error, without_message}
-use Rattle.cacache.specs.Integrities.{Hash, Sha256, integrity_under}
-use Rattle.cacache.specs.Laws.{DontClash, FailsFor, FailsForMemory, Fault, GivesJust, HasContent, HasKey, IntegrityError, IntegrityFault, IoError, IsDamaged, IsExcused, LeadsOn, NotFound, OutOfMemory, bytes_under, leads_to, lies_under, shown, tree_of}
-use Rattle.cacache.specs.Stores.{LogItem}
+use Rattle.std.specs.{Prelude.{◌≡◌, ◌⊎◌, ◌<◌, ◌^◌, ℕ, List, [], Some, None, IfOk, MatchResult, Result, Ok, Err, Vec, length}, Global.{Global}}
+use Rattle.cacache.specs.{Calls.{Error, without_message}, Integrities.{Hash, Sha256, integrity_under}, Laws.{DontClash, FailsFor, FailsForMemory, Fault, GivesJust, HasContent, HasKey, IntegrityError, IntegrityFault, IoError, IsDamaged, IsExcused, LeadsOn, NotFound, OutOfMemory, bytes_under, leads_to, lies_under, shown, tree_of}, Stores.{LogItem}}
 
 -- ---- what is given
 

@@ -1,7 +1,6 @@
 -- What is said of a package.
 use Rattle.std.specs.Prelude.{ℕ, Some}
-use Rattle.cacache.specs.Calls.{Said, nothing_said}
-use Rattle.cacache.specs.Laws.{Data}
+use Rattle.cacache.specs.{Calls.{Said, nothing_said}, Laws.{Data}}
 
 -- its metadata, and how many bytes it has
 abbrev pub package_said : Data → ℕ → Said

@@ -1,31 +1,17 @@
 -- What the values that calls give tell of a cache in memory.
 use Rattle.std.specs.Prelude.{◌≡◌, ◌⊎◌, ℕ, List, [], Some, IfOk, Result, Vec, map, string_bytes}
-use Rattle.cacache_core.specs.declared.errors.Error.{Error}
-use Rattle.cacache_core.specs.declared.integrity.digest.Hash.{Hash}
-use Rattle.cacache_core.specs.Integrity.{Meets}
-use Rattle.cacache_core.specs.PathNames.{Names, home_of}
+use Rattle.cacache_core.specs.{declared.{errors.Error.{Error}, integrity.digest.Hash.{Hash}}, Integrity.{Meets}, PathNames.{Names, home_of}}
 use Rattle.cacache_store.specs.declared.store.log.LogItem.{LogItem}
 use Rattle.cacache_memory.specs.Replay.{tree_of}
-use Rattle.cacache_entry.specs.Latest.{Found}
-use Rattle.cacache_entry.specs.View.{found_view}
+use Rattle.cacache_entry.specs.{Latest.{Found}, View.{found_view}}
 use Rattle.cacache_table.specs.declared.command.Command.TheVariants as commands
 use Rattle.cacache_table.specs.declared.reply.Reply.TheVariants as replies
 use Rattle.cacache_table.specs.State.{Site}
 use Rattle.cacache_value.specs.Placed.{Placed}
 use Rattle.cacache_jobs.specs.Sites.{site_of}
-use Rattle.cacache_sequence.specs.Caches.{HasKey, IsCache}
-use Rattle.cacache_sequence.specs.ExportEffects.{IsApart}
-use Rattle.cacache_keep_laws.specs.Answers.{AnswersOn}
-use Rattle.cacache_keep_laws.specs.Collecting.{LeavesLive, LinksLeadOut}
-use Rattle.cacache_keep_laws.specs.Contents.{content_in}
-use Rattle.cacache_keep_laws.specs.Housed.{Housed}
-use Rattle.cacache_keep_laws.specs.Idle.{Removed}
-use Rattle.cacache_keep_laws.specs.Mending.{found_in}
-use Rattle.cacache_keep_laws.specs.Verifying.{Judges}
-use Rattle.cacache_keep.specs.declared.collecting.Collected.{Collected}
-use Rattle.cacache_keep.specs.declared.repairing.Repaired.{Repaired}
-use Rattle.cacache_keep.specs.declared.verifying.Verdict.{Verdict}
-use Rattle.cacache_keep.specs.Kept.{LeadsToGood, MendsCache}
+use Rattle.cacache_sequence.specs.{Caches.{HasKey, IsCache}, ExportEffects.{IsApart}}
+use Rattle.cacache_keep_laws.specs.{Answers.{AnswersOn}, Collecting.{LeavesLive, LinksLeadOut}, Contents.{content_in}, Housed.{Housed}, Idle.{Removed}, Mending.{found_in}, Verifying.{Judges}}
+use Rattle.cacache_keep.specs.{declared.{collecting.Collected.{Collected}, repairing.Repaired.{Repaired}, verifying.Verdict.{Verdict}}, Kept.{LeadsToGood, MendsCache}}
 
 -- ---- verdicts
 

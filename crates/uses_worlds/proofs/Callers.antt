@@ -1,9 +1,6 @@
 -- What a user says of many callers follows from the laws of places.
 use Rattle.std.proofs.Common.{◌≡◌, ◌⊎◌, inl, inr, ℕ, suc, List, [], ◌∷◌, Option, None, Some, slice_get, sym, ap, subst, ◌∙◌, arith}
-use Rattle.cacache.specs.Calls.{Reply}
-use Rattle.cacache.specs.Entries.{Found}
-use Rattle.cacache.specs.Histories.{Call, Command, FoundOfPuts, Headline, History, IsCase, MetDigestsAreSame, MoveAt, Moved, Put, Reaches, SparesKey, call_site, found_of_put, now_before}
-use Rattle.cacache.specs.Integrities.{Meets}
+use Rattle.cacache.specs.{Calls.{Reply}, Entries.{Found}, Histories.{Call, Command, FoundOfPuts, Headline, History, IsCase, MetDigestsAreSame, MoveAt, Moved, Put, Reaches, SparesKey, call_site, found_of_put, now_before}, Integrities.{Meets}}
 use Rattle.uses_worlds.specs.Callers.{CrashesAreSafe, OneOfTwo, PutThenGet, ReadersNeverLie, RemovalsAreSafe}
 
 -- ---- puts

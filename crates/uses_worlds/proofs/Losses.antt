@@ -1,13 +1,7 @@
 -- What a user says of a loss of power follows from the laws of what it leaves.
-use Rattle.std.proofs.Common.{◌≡◌, inl, inr, ℕ, List, Some, Vec, Global, Result, Ok, Err, refl, sym, ap, subst, ◌∙◌}
-use Rattle.std.specs.Prelude.{IsErrAnd}
-use Rattle.cacache.specs.Calls.{Error}
-use Rattle.cacache.specs.Histories.{FewCalls, HistoriesOutlive, History, IsStanding, LeadsToDigest, LeftBy, LeftRead, LeftWritten, LinksOutlast, Loss, LossesLeaveLast, LossesLeaveLastLinks, LossesLeavePuts, LossesLeaveStanding, MetDigestsAreSame, Outlives, Put, PutsStandLast, chosen, digest}
-use Rattle.cacache.specs.Laws.{GivesJust, KeepsBeside, OutOfMemory, StaysKnown, tree_of}
-use Rattle.cacache.specs.Stores.{LogItem}
-use Rattle.cacache.specs.Integrities.{Hash, Sha256}
-use Rattle.uses_worlds.specs.Losses.{GivesPut, GivesPutLeft, GoesOn, LinkSurvives, LinkedSurvives, SomeSurvive, Survives, SurvivesAlone}
-use Rattle.uses_worlds.specs.declared.losing.Reads.{Reads}
+use Rattle.std.{proofs.Common.{◌≡◌, inl, inr, ℕ, List, Some, Vec, Global, Result, Ok, Err, refl, sym, ap, subst, ◌∙◌}, specs.Prelude.{IsErrAnd}}
+use Rattle.cacache.specs.{Calls.{Error}, Histories.{FewCalls, HistoriesOutlive, History, IsStanding, LeadsToDigest, LeftBy, LeftRead, LeftWritten, LinksOutlast, Loss, LossesLeaveLast, LossesLeaveLastLinks, LossesLeavePuts, LossesLeaveStanding, MetDigestsAreSame, Outlives, Put, PutsStandLast, chosen, digest}, Laws.{GivesJust, KeepsBeside, OutOfMemory, StaysKnown, tree_of}, Stores.{LogItem}, Integrities.{Hash, Sha256}}
+use Rattle.uses_worlds.specs.{Losses.{GivesPut, GivesPutLeft, GoesOn, LinkSurvives, LinkedSurvives, SomeSurvive, Survives, SurvivesAlone}, declared.losing.Reads.{Reads}}
 
 -- what `?` hands on where memory was refused
 pub handed_on : {X : Type 0} (P : Result X Error → Type 0) (r : Result X Error) (e : Error) → IsErrAnd r (λ x. x ≡ e) → e ≡ OutOfMemory → P (Err OutOfMemory) → P r

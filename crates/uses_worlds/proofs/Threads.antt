@@ -1,12 +1,7 @@
 -- What a user says of threads follows from what each command of a seat was answered.
-use Rattle.std.proofs.Common.{◌≡◌, inl, inr, List, [], ◌∷◌, Option, None, Some, refl, sym, ap, subst, ◌∙◌}
-use Rattle.std.specs.Prelude.{All, filter_map, map, slice_index_or}
-use Rattle.cacache.specs.Calls.{Read, Refused, Reply, plain_reply}
+use Rattle.std.{proofs.Common.{◌≡◌, inl, inr, List, [], ◌∷◌, Option, None, Some, refl, sym, ap, subst, ◌∙◌}, specs.Prelude.{All, filter_map, map, slice_index_or}}
+use Rattle.cacache.specs.{Calls.{Read, Refused, Reply, plain_reply}, Histories.{Answers, Command, History, IsLegal, call_site}, Integrities.{Meets}, Laws.{OutOfMemory}, Shared.{AreAnswered, IsGiven, SeatAgrees, SeatIsAnswered, SeatsAreAnswered, Taken, said_command, said_reply}}
 use Rattle.cacache.specs.Calls as commands
-use Rattle.cacache.specs.Histories.{Answers, Command, History, IsLegal, call_site}
-use Rattle.cacache.specs.Integrities.{Meets}
-use Rattle.cacache.specs.Laws.{OutOfMemory}
-use Rattle.cacache.specs.Shared.{AreAnswered, IsGiven, SeatAgrees, SeatIsAnswered, SeatsAreAnswered, Taken, said_command, said_reply}
 use Rattle.uses_worlds.specs.Threads.{ReadIsRight}
 
 -- the one command has the one reply

@@ -1,10 +1,7 @@
 -- What a user says of many callers.
 use Rattle.std.specs.Prelude.{◌≡◌, ◌⊎◌, ◌≤◌, ℕ, suc, List, [], ◌∷◌, Option, None, Some}
-use Rattle.cacache.specs.Calls.{LookedUp, Read, Reply, Stored}
+use Rattle.cacache.specs.{Calls.{LookedUp, Read, Reply, Stored}, Entries.{Found}, Histories.{AreRemovals, Call, CallIn, CommitsAs, DropsAmong, History, IsOneOfPuts, MoveAt, MovesAre, Put, PutBytes, Reaches, RemovesFound, SparesKey, WasWritten, content_path, deeds, digest, found_of_put, lookup_at, now_before, put_commit}, Integrities.{Hash, Meets}}
 use Rattle.cacache.specs.Calls as commands
-use Rattle.cacache.specs.Entries.{Found}
-use Rattle.cacache.specs.Histories.{AreRemovals, Call, CallIn, CommitsAs, DropsAmong, History, IsOneOfPuts, MoveAt, MovesAre, Put, PutBytes, Reaches, RemovesFound, SparesKey, WasWritten, content_path, deeds, digest, found_of_put, lookup_at, now_before, put_commit}
-use Rattle.cacache.specs.Integrities.{Hash, Meets}
 
 -- a put is answered, and since it began each other call spares its key; then a read of the key
 -- begins, and is answered bytes: they have the digest of what was put

@@ -1,11 +1,6 @@
 -- What a user says of a loss of power.
-use Rattle.std.specs.Prelude.{◌≡◌, ◌⊎◌, ℕ, List, None, Some, Ok, Vec, Result, IfOk, MatchResult}
-use Rattle.std.specs.Global.{Global}
-use Rattle.cacache.specs.Calls.{Error}
-use Rattle.cacache.specs.Entries.{Entry}
-use Rattle.cacache.specs.Histories.{AnsweredPut, DurablePut, FewCalls, GoElsewhere, History, IsLast, IsLegal, LeadsToDigest, LeadsUnchanged, LeftBy, Loss, Names, NoneAnswers, OnlyLinksIn, Put, Record, StandsBefore, StandsIn, StoresDurably, Tree, address_of_put, digest, followed_by, home, names_of}
-use Rattle.cacache.specs.Laws.{IsExcused, OutOfMemory, tree_of}
-use Rattle.cacache.specs.Stores.{LogItem}
+use Rattle.std.specs.{Prelude.{◌≡◌, ◌⊎◌, ℕ, List, None, Some, Ok, Vec, Result, IfOk, MatchResult}, Global.{Global}}
+use Rattle.cacache.specs.{Calls.{Error}, Entries.{Entry}, Histories.{AnsweredPut, DurablePut, FewCalls, GoElsewhere, History, IsLast, IsLegal, LeadsToDigest, LeadsUnchanged, LeftBy, Loss, Names, NoneAnswers, OnlyLinksIn, Put, Record, StandsBefore, StandsIn, StoresDurably, Tree, address_of_put, digest, followed_by, home, names_of}, Laws.{IsExcused, OutOfMemory, tree_of}, Stores.{LogItem}}
 use Rattle.uses_worlds.specs.declared.losing.Reads.{Reads}
 
 -- memory was refused, or a step failed on a store with this tree that excuses the error

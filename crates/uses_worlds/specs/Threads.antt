@@ -1,9 +1,7 @@
 -- What a user says of threads that shared a world.
 use Rattle.std.specs.Prelude.{◌≡◌, ℕ, List, [], ◌∷◌}
-use Rattle.cacache.specs.Calls.{Read}
+use Rattle.cacache.specs.{Calls.{Read}, Integrities.{Hash, Meets}, Shared.{Taken}}
 use Rattle.cacache.specs.Calls as commands
-use Rattle.cacache.specs.Integrities.{Hash, Meets}
-use Rattle.cacache.specs.Shared.{Taken}
 
 -- bytes that a thread was answered which read this content alone meet its integrity
 abbrev pub ReadIsRight : Taken → Type 0

@@ -1,6 +1,5 @@
 use denote.Param.Send.{sendable}
-use Rattle.cacache_send.proofs.Commands.{Command-send, Command-sync, Reply-send, Reply-sync}
-use Rattle.cacache_send.proofs.Json.{Value-send, Value-sync}
+use Rattle.cacache_send.proofs.{Commands.{Command-send, Command-sync, Reply-send, Reply-sync}, Json.{Value-send, Value-sync}}
 use Rattle.cacache_send.proofs.send_laws.Goals as goal
 
 pub returns-clause-sent_value : goal.returns-clause-sent_value

@@ -1,14 +1,11 @@
 -- The law of a key behind a collection, an export and a write, and that of the read.
 use Rattle.std.proofs.Common.{◌≡◌, ◌⊎◌, inl, inr, ◌<◌, ◌^◌, true, [], ◌∷◌, length, refl, sym, subst, ◌∙◌, arith}
-use Rattle.cacache_core.specs.Integrity.{Meets}
-use Rattle.cacache_core.specs.declared.integrity.algorithm.Algorithm.TheVariants.{Sha256}
+use Rattle.cacache_core.specs.{Integrity.{Meets}, declared.integrity.algorithm.Algorithm.TheVariants.{Sha256}}
 use Rattle.cacache_table.specs.declared.command.Command.TheVariants as commands
-use Rattle.cacache_table.specs.declared.command.How.TheVariants.{Copy}
-use Rattle.cacache_table.specs.declared.command.Source.TheVariants.{Key}
+use Rattle.cacache_table.specs.declared.command.{How.TheVariants.{Copy}, Source.TheVariants.{Key}}
 use Rattle.cacache_table.specs.declared.reply.Reply.TheVariants as replies
 use Rattle.cacache_jobs.specs.Sites.{site_of}
-use Rattle.cacache_sequence.specs.Caches.{Called, plain_put}
-use Rattle.cacache_sequence.specs.ExportEffects.{copy_from}
+use Rattle.cacache_sequence.specs.{Caches.{Called, plain_put}, ExportEffects.{copy_from}}
 use Rattle.cacache_keep.specs.Behind.{collects, exports, puts}
 use Rattle.uses_keep.proofs.Texts.{only}
 use Rattle.uses_keep.proofs.read_beside.Goals as goal

@@ -7,8 +7,7 @@ use Rattle.cacache_table.specs.declared.command.Command.TheVariants as commands
 use Rattle.cacache_table.specs.declared.reply.Reply.TheVariants as replies
 use Rattle.cacache_sequence.specs.Caches.{Called}
 use Rattle.cacache_jobs.specs.Sites.{site_of}
-use Rattle.cacache_keep_laws.specs.Contents.{content_in}
-use Rattle.cacache_keep_laws.specs.Mending.{found_in}
+use Rattle.cacache_keep_laws.specs.{Contents.{content_in}, Mending.{found_in}}
 use Rattle.cacache_keep.specs.Repairing.{RepairsCache}
 use Rattle.uses_keep.proofs.read_tended.Goals as goal
 

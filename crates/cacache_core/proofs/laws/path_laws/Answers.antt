@@ -1,7 +1,4 @@
-use Rattle.cacache_core.proofs.JoinedNames.{joined_texts_name}
-use Rattle.cacache_core.proofs.PathLemmas.{keys_have_digests, none_begins, kinds_are_apart}
-use Rattle.cacache_core.proofs.PathTexts.{joined_texts_spell, paths_differ}
-use Rattle.cacache_core.proofs.ProperNames.{names_are_proper}
+use Rattle.cacache_core.proofs.{JoinedNames.{joined_texts_name}, PathLemmas.{keys_have_digests, none_begins, kinds_are_apart}, PathTexts.{joined_texts_spell, paths_differ}, ProperNames.{names_are_proper}}
 use Rattle.cacache_core.proofs.laws.path_laws.Goals as goal
 
 pub returns-clause-digests : goal.returns-clause-digests

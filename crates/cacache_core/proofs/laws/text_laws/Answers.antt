@@ -1,5 +1,4 @@
-use Rattle.cacache_core.proofs.Printed.{printed}
-use Rattle.cacache_core.proofs.Relation.{is_text, text_reads, read_is_integrity}
+use Rattle.cacache_core.proofs.{Printed.{printed}, Relation.{is_text, text_reads, read_is_integrity}}
 use Rattle.cacache_core.proofs.laws.text_laws.Goals as goal
 
 pub returns-clause-printed : goal.returns-clause-printed

@@ -1,5 +1,4 @@
-use Rattle.std.proofs.lemmas.List.{take_rest}
-use Rattle.std.proofs.lemmas.Result.{IfOk-equal}
+use Rattle.std.proofs.lemmas.{List.{take_rest}, Result.{IfOk-equal}}
 use Rattle.cacache_core.proofs.PathLemmas.{digits_rest}
 use Rattle.cacache_core.proofs.paths.push_last_name.Goals as goal
 

@@ -1,7 +1,5 @@
-use Rattle.std.proofs.Common.{◌≡◌, drop}
-use Rattle.std.specs.Prelude.{nat_le}
-use Rattle.serde_json.specs.Data.{items_depth, members_depth}
-use Rattle.serde_json.specs.View.{items_view, members_view}
+use Rattle.std.{proofs.Common.{◌≡◌, drop}, specs.Prelude.{nat_le}}
+use Rattle.serde_json.specs.{Data.{items_depth, members_depth}, View.{items_view, members_view}}
 use Rattle.cacache_entry.proofs.limits.+nested.Given as goal
 
 abbrev pub invariant-items_nest_within-loop-item : goal.invariant-items_nest_within-loop-item

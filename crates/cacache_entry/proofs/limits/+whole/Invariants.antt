@@ -1,6 +1,5 @@
 use Rattle.std.proofs.Common.{◌≡◌, drop}
-use Rattle.serde_json.specs.Written.{items_have_float, members_have_float}
-use Rattle.serde_json.specs.View.{items_view, members_view}
+use Rattle.serde_json.specs.{Written.{items_have_float, members_have_float}, View.{items_view, members_view}}
 use Rattle.cacache_entry.proofs.limits.+whole.Given as goal
 
 abbrev pub invariant-items_are_whole-loop-item : goal.invariant-items_are_whole-loop-item

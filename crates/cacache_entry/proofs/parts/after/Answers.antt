@@ -1,7 +1,4 @@
-use Rattle.std.proofs.Common.{◌≡◌, ◌++◌, ℕ, List, sym, ap₂, ◌∙◌}
-use Rattle.std.proofs.lemmas.List.{take-append-drop}
-use Rattle.std.proofs.lemmas.Slice.Eq.{slice_eq-Decides}
-use Rattle.std.specs.Cmp.{unsigned_Decides}
+use Rattle.std.{proofs.{Common.{◌≡◌, ◌++◌, ℕ, List, sym, ap₂, ◌∙◌}, lemmas.{List.{take-append-drop}, Slice.Eq.{slice_eq-Decides}}}, specs.Cmp.{unsigned_Decides}}
 use Rattle.cacache_entry.proofs.parts.after.Goals as goal
 
 pub returns-then-eq : goal.returns-then-eq

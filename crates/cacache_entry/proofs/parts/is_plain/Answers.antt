@@ -1,6 +1,4 @@
-use Rattle.std.proofs.Common.{◌≡◌, ◌∷◌, ◌+◌, drop, slice_index_or, sym, ap, ◌∙◌}
-use Rattle.std.proofs.lemmas.List.{drop_more}
-use Rattle.std.proofs.lemmas.Bool.{and_parts, leb-true, not-true, eqb-false}
+use Rattle.std.proofs.{Common.{◌≡◌, ◌∷◌, ◌+◌, drop, slice_index_or, sym, ap, ◌∙◌}, lemmas.{List.{drop_more}, Bool.{and_parts, leb-true, not-true, eqb-false}}}
 use Rattle.json.specs.Print.{escape}
 use Rattle.cacache_entry.proofs.PlainTexts.{escape-more}
 use Rattle.cacache_entry.proofs.parts.is_plain.Goals as goal

@@ -1,8 +1,5 @@
-use Rattle.std.proofs.Common.{◌≤◌, ◌+◌, ◌++◌, map, length, drop, sym, ap, ◌∙◌, subst, arith, append_assoc, length-drop}
-use Rattle.std.proofs.lemmas.List.{take_rest}
-use Rattle.cacache_entry.specs.Bucket.{entries_of}
-use Rattle.cacache_entry.specs.View.{entry_view}
-use Rattle.cacache_entry.proofs.Pieces.{entries-first}
+use Rattle.std.proofs.{Common.{◌≤◌, ◌+◌, ◌++◌, map, length, drop, sym, ap, ◌∙◌, subst, arith, append_assoc, length-drop}, lemmas.List.{take_rest}}
+use Rattle.cacache_entry.{specs.{Bucket.{entries_of}, View.{entry_view}}, proofs.Pieces.{entries-first}}
 use Rattle.cacache_entry.proofs.read.entries.Goals as goal
 
 pub loop-at-preserved : goal.loop-at-preserved

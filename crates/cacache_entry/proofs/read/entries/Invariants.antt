@@ -1,6 +1,5 @@
 use Rattle.std.proofs.Common.{◌≡◌, ◌++◌, ◌≤◌, map, length}
-use Rattle.cacache_entry.specs.Bucket.{entries_of}
-use Rattle.cacache_entry.specs.View.{entry_view}
+use Rattle.cacache_entry.specs.{Bucket.{entries_of}, View.{entry_view}}
 use Rattle.cacache_entry.proofs.read.entries.Given as goal
 
 abbrev pub invariant-loop-at : goal.invariant-loop-at

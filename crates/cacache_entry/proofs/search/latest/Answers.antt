@@ -1,7 +1,5 @@
-use Rattle.std.proofs.Common.{◌+◌, Some, None, option_map, sym, ap, ◌∙◌, arith, length-take}
-use Rattle.std.proofs.lemmas.List.{take_rest}
-use Rattle.cacache_entry.specs.View.{found_view}
-use Rattle.cacache_entry.proofs.Lookups.{latest-last, latest-alone, pieces_read-last, pieces_read-alone}
+use Rattle.std.proofs.{Common.{◌+◌, Some, None, option_map, sym, ap, ◌∙◌, arith, length-take}, lemmas.List.{take_rest}}
+use Rattle.cacache_entry.{specs.View.{found_view}, proofs.Lookups.{latest-last, latest-alone, pieces_read-last, pieces_read-alone}}
 use Rattle.cacache_entry.proofs.search.latest.Goals as goal
 
 pub returns-in-Some-2-clause-found : goal.returns-in-Some-2-clause-found

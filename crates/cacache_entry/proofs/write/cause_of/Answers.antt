@@ -1,8 +1,5 @@
-use Rattle.std.proofs.Common.{◌≡◌, ◌<◌, ◌^◌, ℕ, false, Result, Ok, Err, sym, ◌∙◌}
-use Rattle.std.specs.Result.{OkIff, is_err}
-use Rattle.std.proofs.lemmas.Bool.{leb-true, not-true}
-use Rattle.cacache_entry.specs.View.{entry_view}
-use Rattle.cacache_entry.proofs.EntryCauses.{cause_of-none}
+use Rattle.std.{proofs.{Common.{◌≡◌, ◌<◌, ◌^◌, ℕ, false, Result, Ok, Err, sym, ◌∙◌}, lemmas.Bool.{leb-true, not-true}}, specs.Result.{OkIff, is_err}}
+use Rattle.cacache_entry.{specs.View.{entry_view}, proofs.EntryCauses.{cause_of-none}}
 use Rattle.cacache_entry.proofs.write.cause_of.Goals as goal
 
 converted : {E : Type 0} (r : Result ℕ E) (t : ℕ) → OkIff r (t < 2 ^ 64) t → is_err r ≡ false → t < 2 ^ 64

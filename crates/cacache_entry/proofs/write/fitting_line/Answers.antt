@@ -1,12 +1,7 @@
-use Rattle.std.proofs.Common.{rules, ◌<◌, ◌≤◌, ◌^◌, arith}
-use Rattle.std.proofs.lemmas.Str.{IsUtf8-string_bytes}
-use Rattle.serde_json.specs.Data.{depth}
-use Rattle.serde_json.specs.View.{view}
-use Rattle.cacache_entry.specs.FittingEntries.{AreBytes, IsJson, IsEntry}
-use Rattle.cacache_entry.specs.View.{entry_view}
-use Rattle.cacache_entry.specs.declared.metadata.SerializableMetadata.{SerializableMetadata}
-use Rattle.cacache_entry.proofs.PlainEntries.{utf8_if_any}
-use Rattle.cacache_entry.proofs.EntryCauses.{is_early, has_no_float, flat_metadata, Fits-no_cause}
+use Rattle.std.proofs.{Common.{rules, ◌<◌, ◌≤◌, ◌^◌, arith}, lemmas.Str.{IsUtf8-string_bytes}}
+use Rattle.serde_json.specs.{Data.{depth}, View.{view}}
+use Rattle.cacache_entry.specs.{FittingEntries.{AreBytes, IsJson, IsEntry}, View.{entry_view}, declared.metadata.SerializableMetadata.{SerializableMetadata}}
+use Rattle.cacache_entry.proofs.{PlainEntries.{utf8_if_any}, EntryCauses.{is_early, has_no_float, flat_metadata, Fits-no_cause}}
 use Rattle.cacache_entry.proofs.write.fitting_line.Goals as goal
 
 is_entry : (e : SerializableMetadata) → e.size < 2 ^ 64 → IsJson (view e.metadata) → AreBytes (entry_view e).raw_metadata → IsEntry (entry_view e)

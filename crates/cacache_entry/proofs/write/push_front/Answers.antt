@@ -1,10 +1,7 @@
 use Rattle.std.proofs.Common.{ℕ, List, ◌++◌, codes, decimal, ap, ap₂, ◌∙◌}
 use Rattle.json.specs.Print.{quoted}
 use Rattle.serde_json.specs.Written.{compact_text}
-use Rattle.cacache_entry.specs.Entry.{text_or_null}
-use Rattle.cacache_entry.specs.View.{entry_view}
-use Rattle.cacache_entry.proofs.Appends.{appended}
-use Rattle.cacache_entry.proofs.TextParts.{front-pushed}
+use Rattle.cacache_entry.{specs.{Entry.{text_or_null}, View.{entry_view}}, proofs.{Appends.{appended}, TextParts.{front-pushed}}}
 use Rattle.cacache_entry.proofs.write.push_front.Goals as goal
 
 pub returns : goal.returns

@@ -1,8 +1,6 @@
 use Rattle.std.proofs.Common.{rules, ◌≡◌, [], ◌∷◌, ℕ, List, ◌++◌, ap, ap₂, ◌∙◌}
-use Rattle.json.specs.Print.{print}
-use Rattle.json.specs.Token.{Token, string}
-use Rattle.cacache_entry.proofs.Appends.{appended}
-use Rattle.cacache_entry.proofs.TextParts.{print-string}
+use Rattle.json.specs.{Print.{print}, Token.{Token, string}}
+use Rattle.cacache_entry.proofs.{Appends.{appended}, TextParts.{print-string}}
 use Rattle.cacache_entry.proofs.write.push_quoted.Goals as goal
 
 pub returns : goal.returns

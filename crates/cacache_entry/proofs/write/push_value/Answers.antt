@@ -1,10 +1,6 @@
-use Rattle.std.proofs.Common.{◌≡◌, ℕ, List, ◌++◌, ap, ◌∙◌, subst}
-use Rattle.serde_json.specs.Read.{read}
-use Rattle.serde_json.specs.View.{view}
-use Rattle.serde_json.specs.Written.{compact_text}
-use Rattle.std.specs.Prelude.{IsUtf8, Some}
-use Rattle.cacache_entry.proofs.Appends.{if_ok, appended}
-use Rattle.cacache_entry.proofs.WellRead.{IsJson-read}
+use Rattle.std.{proofs.Common.{◌≡◌, ℕ, List, ◌++◌, ap, ◌∙◌, subst}, specs.Prelude.{IsUtf8, Some}}
+use Rattle.serde_json.specs.{Read.{read}, View.{view}, Written.{compact_text}}
+use Rattle.cacache_entry.proofs.{Appends.{if_ok, appended}, WellRead.{IsJson-read}}
 use Rattle.cacache_entry.proofs.write.push_value.Goals as goal
 
 pub returns-in_ok-to_vec-in_default : goal.returns-in_ok-to_vec-in_default

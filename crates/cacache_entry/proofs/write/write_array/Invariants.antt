@@ -1,7 +1,6 @@
 use Rattle.std.proofs.Common.{◌≡◌, ◌∷◌, ◌++◌, drop}
 use Rattle.json.specs.Token.{begin_array}
-use Rattle.cacache_entry.specs.FittingEntries.{EachIsByte}
-use Rattle.cacache_entry.specs.Tokens.{byte_tokens}
+use Rattle.cacache_entry.specs.{FittingEntries.{EachIsByte}, Tokens.{byte_tokens}}
 use Rattle.cacache_entry.proofs.write.write_array.Given as goal
 
 abbrev pub invariant-loop-byte : goal.invariant-loop-byte

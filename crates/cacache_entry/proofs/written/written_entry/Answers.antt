@@ -1,5 +1,4 @@
-use Rattle.std.proofs.Common.{List, ℕ, option_map}
-use Rattle.std.specs.Borrow.{Bor}
+use Rattle.std.{proofs.Common.{List, ℕ, option_map}, specs.Borrow.{Bor}}
 use Rattle.cacache_entry.proofs.PlainEntries.{piece-is_entry}
 use Rattle.cacache_entry.proofs.written.written_entry.Goals as goal
 

@@ -1,8 +1,5 @@
-use Rattle.cacache_table.specs.Storing.{persist}
-use Rattle.cacache_table.proofs.ReplyKinds.{stores_only}
-use Rattle.cacache_table.proofs.Promises.{runs_keep}
-use Rattle.cacache_jobs.proofs.WrittenCommits.{moved_promise}
-use Rattle.cacache_jobs.proofs.Running.{memory_lost}
+use Rattle.cacache_table.{specs.Storing.{persist}, proofs.{ReplyKinds.{stores_only}, Promises.{runs_keep}}}
+use Rattle.cacache_jobs.proofs.{WrittenCommits.{moved_promise}, Running.{memory_lost}}
 use Rattle.cacache_jobs.proofs.committing.commit_from.Goals as goal
 
 pub finish-requires : goal.finish-requires

@@ -1,10 +1,6 @@
 use Rattle.std.proofs.Common.{◌≡◌}
-use Rattle.cacache_table.specs.State.{Site}
-use Rattle.cacache_table.specs.Table.{opening}
-use Rattle.cacache_table.proofs.Promises.{calls_answer}
-use Rattle.cacache_jobs.specs.Sites.{site_of}
-use Rattle.cacache_jobs.proofs.Running.{memory_lost}
-use Rattle.cacache_jobs.proofs.Calling.{finds_bytes, reads_first}
+use Rattle.cacache_table.{specs.{State.{Site}, Table.{opening}}, proofs.Promises.{calls_answer}}
+use Rattle.cacache_jobs.{specs.Sites.{site_of}, proofs.{Running.{memory_lost}, Calling.{finds_bytes, reads_first}}}
 use Rattle.cacache_jobs.proofs.run.call.Goals as goal
 
 pub finish-requires : goal.finish-requires

@@ -1,10 +1,7 @@
 use Rattle.std.proofs.Common.{subst}
 use Rattle.cacache_store.specs.Plain.{PlainStep, PlainAnswer, plain_step, plain_answer}
-use Rattle.cacache_table.specs.State.{State}
-use Rattle.cacache_table.specs.Table.{after}
-use Rattle.cacache_table.specs.Runs.{plain_reply}
-use Rattle.cacache_jobs.specs.JobStates.{IsAt, PhaseAt}
-use Rattle.cacache_jobs.proofs.Running.{phase_stands, phase_reached, phase_shrinks, ended, start}
+use Rattle.cacache_table.specs.{State.{State}, Table.{after}, Runs.{plain_reply}}
+use Rattle.cacache_jobs.{specs.JobStates.{IsAt, PhaseAt}, proofs.Running.{phase_stands, phase_reached, phase_shrinks, ended, start}}
 use Rattle.cacache_jobs.proofs.run.go_on.Goals as goal
 
 pub returns-in-Over : goal.returns-in-Over

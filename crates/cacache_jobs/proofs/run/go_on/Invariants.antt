@@ -1,7 +1,5 @@
 use Rattle.cacache_table.specs.State.{State}
-use Rattle.cacache_jobs.specs.JobStates.{PhaseAt}
-use Rattle.cacache_jobs.specs.Effort.{phase_effort}
-use Rattle.cacache_jobs.proofs.Running.{Reached}
+use Rattle.cacache_jobs.{specs.{JobStates.{PhaseAt}, Effort.{phase_effort}}, proofs.Running.{Reached}}
 use Rattle.cacache_jobs.proofs.run.go_on.Given as goal
 
 abbrev pub invariant-steps : goal.invariant-steps

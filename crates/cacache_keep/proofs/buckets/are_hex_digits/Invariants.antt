@@ -1,5 +1,4 @@
-use Rattle.std.proofs.Common.{◌≡◌, drop}
-use Rattle.std.specs.List.{list_all}
+use Rattle.std.{proofs.Common.{◌≡◌, drop}, specs.List.{list_all}}
 use Rattle.cacache_keep.specs.Buckets.{is_hex_digit}
 use Rattle.cacache_keep.proofs.buckets.are_hex_digits.Given as goal
 

@@ -1,14 +1,9 @@
-use Rattle.std.proofs.Common.{◌≡◌, ◌++◌, ℕ, List, false, map, subst}
-use Rattle.std.specs.List.{filter}
-use Rattle.cacache_core.specs.declared.errors.Error.TheVariants.{OutOfMemory}
-use Rattle.cacache_core.specs.Paths.{join}
+use Rattle.std.{proofs.Common.{◌≡◌, ◌++◌, ℕ, List, false, map, subst}, specs.List.{filter}}
+use Rattle.cacache_core.specs.{declared.errors.Error.TheVariants.{OutOfMemory}, Paths.{join}}
 use Rattle.cacache_store.specs.declared.store.step.Step.TheVariants as steps
 use Rattle.cacache_table.specs.SingleSteps.{FailsAt}
-use Rattle.cacache_keep.specs.Reading.{is_gone}
-use Rattle.cacache_keep.specs.Sweeping.{ListsFolder}
-use Rattle.cacache_keep.specs.Buckets.{StopsParts, belongs}
-use Rattle.cacache_keep.proofs.IndexParts.{lost_listed, next_unlisted, one_listed}
-use Rattle.cacache_keep.proofs.Stopped.{error_as}
+use Rattle.cacache_keep.specs.{Reading.{is_gone}, Sweeping.{ListsFolder}, Buckets.{StopsParts, belongs}}
+use Rattle.cacache_keep.proofs.{IndexParts.{lost_listed, next_unlisted, one_listed}, Stopped.{error_as}}
 use Rattle.cacache_keep.proofs.buckets.parts_below.Goals as goal
 
 pub returns-in_err-names-clause-stops : goal.returns-in_err-names-clause-stops

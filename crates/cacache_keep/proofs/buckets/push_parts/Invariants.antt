@@ -1,5 +1,4 @@
-use Rattle.std.proofs.Common.{◌≡◌, ◌++◌, map}
-use Rattle.std.specs.List.{filter}
+use Rattle.std.{proofs.Common.{◌≡◌, ◌++◌, map}, specs.List.{filter}}
 use Rattle.cacache_core.specs.Paths.{join}
 use Rattle.cacache_keep.specs.Buckets.{belongs}
 use Rattle.cacache_keep.proofs.buckets.push_parts.Given as goal

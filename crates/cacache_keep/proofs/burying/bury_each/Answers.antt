@@ -1,16 +1,10 @@
-use Rattle.std.proofs.Common.{◌≡◌, ◌+◌, inl, List, [], ◌∷◌, ◌++◌, ap, drop, length, map, refl, rules, string_bytes, subst, sym, take, take-append-drop, append_assoc, ◌∙◌}
+use Rattle.std.proofs.{Common.{◌≡◌, ◌+◌, inl, List, [], ◌∷◌, ◌++◌, ap, drop, length, map, refl, rules, string_bytes, subst, sym, take, take-append-drop, append_assoc, ◌∙◌}, lemmas.{List.{drop_more, map-append, map-id}, Iterator.{Adapters.{YieldsList-from_vec}, Consumers.{YieldsList-so_far, YieldsList-turn}}}}
 use Rattle.std.specs.Prelude.{IsUtf8}
-use Rattle.std.proofs.lemmas.List.{drop_more, map-append, map-id}
-use Rattle.std.proofs.lemmas.Iterator.Adapters.{YieldsList-from_vec}
-use Rattle.std.proofs.lemmas.Iterator.Consumers.{YieldsList-so_far, YieldsList-turn}
 use Rattle.cacache_core.specs.declared.errors.Error.TheVariants.{OutOfMemory}
-use Rattle.cacache_entry.specs.Latest.{Found}
-use Rattle.cacache_entry.specs.View.{found_view}
+use Rattle.cacache_entry.specs.{Latest.{Found}, View.{found_view}}
 use Rattle.cacache_jobs.specs.Sites.{site_of}
-use Rattle.cacache_keep.specs.Calls.{MadeCalls}
-use Rattle.cacache_keep.specs.Repairing.{BuriesEach, IsFateOf, StopsBurying, StopsFate, calls_for}
-use Rattle.cacache_keep.proofs.Stopped.{at_base, error_as}
-use Rattle.cacache_keep.proofs.Tombs.{buried_so, lost_between, next_stops_burying, none_buried, one_buried, one_spared, spared_so}
+use Rattle.cacache_keep.specs.{Calls.{MadeCalls}, Repairing.{BuriesEach, IsFateOf, StopsBurying, StopsFate, calls_for}}
+use Rattle.cacache_keep.proofs.{Stopped.{at_base, error_as}, Tombs.{buried_so, lost_between, next_stops_burying, none_buried, one_buried, one_spared, spared_so}}
 use Rattle.cacache_keep.proofs.burying.bury_each.Goals as goal
 
 pub loop-entry-init : goal.loop-entry-init

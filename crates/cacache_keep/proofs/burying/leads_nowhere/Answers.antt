@@ -4,10 +4,7 @@ use Rattle.cacache_table.specs.declared.command.Command.TheVariants as commands
 use Rattle.cacache_table.specs.declared.reply.Reply.TheVariants as replies
 use Rattle.cacache_table.specs.Runs.{without_message}
 use Rattle.cacache_jobs.specs.Sites.{site_of}
-use Rattle.cacache_keep.specs.Repairing.{StopsLooking}
-use Rattle.cacache_keep.proofs.Asked.{ran_at}
-use Rattle.cacache_keep.proofs.Stopped.{error_as}
-use Rattle.cacache_keep.proofs.Tombs.{found_some, look_stops, question_stops}
+use Rattle.cacache_keep.{specs.Repairing.{StopsLooking}, proofs.{Asked.{ran_at}, Stopped.{error_as}, Tombs.{found_some, look_stops, question_stops}}}
 use Rattle.cacache_keep.proofs.burying.leads_nowhere.Goals as goal
 
 pub returns-in_err-found-clause-stops : goal.returns-in_err-found-clause-stops

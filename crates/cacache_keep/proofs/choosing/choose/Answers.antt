@@ -1,9 +1,7 @@
 use Rattle.std.proofs.Common.{inl, inr, map, string_bytes}
 use Rattle.cacache_core.specs.declared.errors.Error.TheVariants.{OutOfMemory}
 use Rattle.cacache_jobs.specs.Sites.{site_of}
-use Rattle.cacache_keep.specs.Calls.{ListsEntries, StopsReading}
-use Rattle.cacache_keep.specs.Keeping.{StopsEarly}
-use Rattle.cacache_keep.proofs.Stopped.{at_base, entries_stop, error_as, lost_here}
+use Rattle.cacache_keep.{specs.{Calls.{ListsEntries, StopsReading}, Keeping.{StopsEarly}}, proofs.Stopped.{at_base, entries_stop, error_as, lost_here}}
 use Rattle.cacache_keep.proofs.choosing.choose.Goals as goal
 
 pub returns-in_err-addresses-clause-stops : goal.returns-in_err-addresses-clause-stops

@@ -1,8 +1,6 @@
 use Rattle.std.proofs.Common.{inl, inr, rules}
 use Rattle.cacache_jobs.specs.Sites.{site_of}
-use Rattle.cacache_keep.specs.Calls.{StopsRemoving}
-use Rattle.cacache_keep.specs.Keeping.{StopsCollecting}
-use Rattle.cacache_keep.proofs.Stopped.{at_base, error_as}
+use Rattle.cacache_keep.{specs.{Calls.{StopsRemoving}, Keeping.{StopsCollecting}}, proofs.Stopped.{at_base, error_as}}
 use Rattle.cacache_keep.proofs.collecting.collect.Goals as goal
 
 pub returns-in_err-kept-clause-stops : goal.returns-in_err-kept-clause-stops

@@ -1,7 +1,5 @@
 use Rattle.std.proofs.Common.{ℕ, List, inl, inr, subst}
-use Rattle.cacache_keep.specs.Compacting.{CompactsAll, StopsCompacting, StopsCompactingEach}
-use Rattle.cacache_keep.proofs.Asked.{value_so}
-use Rattle.cacache_keep.proofs.Stopped.{error_as, error_so}
+use Rattle.cacache_keep.{specs.Compacting.{CompactsAll, StopsCompacting, StopsCompactingEach}, proofs.{Asked.{value_so}, Stopped.{error_as, error_so}}}
 use Rattle.cacache_keep.proofs.compacting.compact_all.Goals as goal
 
 pub returns-clause-compacts : goal.returns-clause-compacts

@@ -1,9 +1,7 @@
 use Rattle.std.proofs.Common.{rules}
 use Rattle.cacache_jobs.specs.Sites.{site_of}
 use Rattle.cacache_table.specs.declared.command.Command.TheVariants.{Ls}
-use Rattle.cacache_keep.specs.Calls.{HasNoIndex, StopsReading}
-use Rattle.cacache_keep.proofs.Stopped.{error_as, error_so, item_stops, stops_at}
-use Rattle.cacache_keep.proofs.Asked.{entries_listed, value_so}
+use Rattle.cacache_keep.{specs.Calls.{HasNoIndex, StopsReading}, proofs.{Stopped.{error_as, error_so, item_stops, stops_at}, Asked.{entries_listed, value_so}}}
 use Rattle.cacache_keep.proofs.index.entries.Goals as goal
 
 pub returns-clause-lists : goal.returns-clause-lists

@@ -1,10 +1,6 @@
-use Rattle.std.proofs.Common.{◌≡◌, ◌∙◌, Err, Ok, get_or, length, map, rules, sym, subst}
-use Rattle.std.proofs.lemmas.List.{map-id}
-use Rattle.std.proofs.lemmas.Iterator.Adapters.{YieldsList-from_vec}
-use Rattle.std.proofs.lemmas.Iterator.Consumers.{YieldsList-so_far, YieldsList-turn}
+use Rattle.std.proofs.{Common.{◌≡◌, ◌∙◌, Err, Ok, get_or, length, map, rules, sym, subst}, lemmas.{List.{map-id}, Iterator.{Adapters.{YieldsList-from_vec}, Consumers.{YieldsList-so_far, YieldsList-turn}}}}
 use Rattle.cacache_table.specs.State.{Item}
-use Rattle.cacache_keep.specs.Calls.{IsFirstError}
-use Rattle.cacache_keep.proofs.Stopped.{first_error}
+use Rattle.cacache_keep.{specs.Calls.{IsFirstError}, proofs.Stopped.{first_error}}
 use Rattle.cacache_keep.proofs.index.entries_of.Goals as goal
 
 -- the items before the error are entries

@@ -1,14 +1,4 @@
-use Rattle.cacache_keep.proofs.Behind.{collections_keep_keys, later_keys_stay}
-use Rattle.cacache_keep.proofs.Chosen.{plans_foretell, plans_leave}
-use Rattle.cacache_keep.proofs.WholeCompactions.{compactions_are_unseen, compactions_leave, compactions_stop}
-use Rattle.cacache_keep.proofs.Houses.{repairs_house, sweeps_house, sweeps_keep_good}
-use Rattle.cacache_keep.proofs.Leaving.{collections_lack_idle, collections_leave}
-use Rattle.cacache_keep.proofs.Mends.{repairs_mend}
-use Rattle.cacache_keep.proofs.Settled.{collections_settle}
-use Rattle.cacache_keep.proofs.SweptCaches.{caches_are_swept}
-use Rattle.cacache_keep.proofs.Tidying.{later_reads_stay, looks_stay}
-use Rattle.cacache_keep.proofs.Verdicts.{lists_hold, verdicts_judge}
-use Rattle.cacache_keep.proofs.Whole.{repairs_keep_good, repairs_verify}
+use Rattle.cacache_keep.proofs.{Behind.{collections_keep_keys, later_keys_stay}, Chosen.{plans_foretell, plans_leave}, WholeCompactions.{compactions_are_unseen, compactions_leave, compactions_stop}, Houses.{repairs_house, sweeps_house, sweeps_keep_good}, Leaving.{collections_lack_idle, collections_leave}, Mends.{repairs_mend}, Settled.{collections_settle}, SweptCaches.{caches_are_swept}, Tidying.{later_reads_stay, looks_stay}, Verdicts.{lists_hold, verdicts_judge}, Whole.{repairs_keep_good, repairs_verify}}
 use Rattle.cacache_keep.proofs.laws.keep_laws.Goals as goal
 
 pub returns-clause-lists : goal.returns-clause-lists

@@ -1,7 +1,6 @@
 use Rattle.std.proofs.Common.{◌++◌, List, ap, map, ◌∙◌}
 use Rattle.cacache_keep_laws.specs.Compacting.{Line}
-use Rattle.cacache_keep.specs.Lines.{line_view}
-use Rattle.cacache_keep.proofs.LineLoops.{on_ok, piece_line}
+use Rattle.cacache_keep.{specs.Lines.{line_view}, proofs.LineLoops.{on_ok, piece_line}}
 use Rattle.cacache_keep.proofs.lines.add.Goals as goal
 
 pub returns-clause-line : goal.returns-clause-line

@@ -1,5 +1,4 @@
-use Rattle.std.proofs.Common.{◌≡◌, bytes_eq, length, map}
-use Rattle.std.specs.List.{list_any}
+use Rattle.std.{proofs.Common.{◌≡◌, bytes_eq, length, map}, specs.List.{list_any}}
 use Rattle.cacache_keep_laws.specs.Compacting.{keys_of}
 use Rattle.cacache_keep.specs.Lines.{line_view}
 use Rattle.cacache_keep.proofs.lines.has_key.Given as goal

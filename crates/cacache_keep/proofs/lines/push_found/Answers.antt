@@ -1,10 +1,7 @@
-use Rattle.std.proofs.Common.{◌≡◌, ◌++◌, List, [], ◌∷◌, ℕ, Some, true, false, Option, map, sym, ap, subst, ◌∙◌, append-nil}
-use Rattle.std.specs.Prelude.{OnOk}
-use Rattle.std.specs.Option.{option_to_list}
-use Rattle.std.proofs.lemmas.List.{map-append}
+use Rattle.std.proofs.{Common.{◌≡◌, ◌++◌, List, [], ◌∷◌, ℕ, Some, true, false, Option, map, sym, ap, subst, ◌∙◌, append-nil}, lemmas.List.{map-append}}
+use Rattle.std.specs.{Prelude.{OnOk}, Option.{option_to_list}}
 use Rattle.cacache_keep_laws.specs.Compacting.{Line, line_for, text_of}
-use Rattle.cacache_keep.specs.Lines.{line_view}
-use Rattle.cacache_keep.proofs.LineLoops.{decides_so, none_left}
+use Rattle.cacache_keep.{specs.Lines.{line_view}, proofs.LineLoops.{decides_so, none_left}}
 use Rattle.cacache_keep.proofs.lines.push_found.Goals as goal
 
 pub returns-in-Some-true : goal.returns-in-Some-true

@@ -1,7 +1,6 @@
 use Rattle.std.proofs.Common.{map, sym, ◌∙◌}
 use Rattle.cacache_keep_laws.specs.Compacting.{keys_of}
-use Rattle.cacache_keep.specs.Lines.{line_view}
-use Rattle.cacache_keep.proofs.LineLoops.{key_again, key_last, on_ok}
+use Rattle.cacache_keep.{specs.Lines.{line_view}, proofs.LineLoops.{key_again, key_last, on_ok}}
 use Rattle.cacache_keep.proofs.lines.push_last.Goals as goal
 
 pub returns-then-has_key : goal.returns-then-has_key

@@ -1,5 +1,4 @@
-use Rattle.std.proofs.Common.{◌≡◌, Some, map, take}
-use Rattle.std.specs.Prelude.{All}
+use Rattle.std.{proofs.Common.{◌≡◌, Some, map, take}, specs.Prelude.{All}}
 use Rattle.cacache_core.specs.Integrity.{IsIntegrity, address}
 use Rattle.cacache_keep.proofs.live.addresses_of.Given as goal
 

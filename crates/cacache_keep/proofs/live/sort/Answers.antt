@@ -1,6 +1,4 @@
-use Rattle.std.proofs.Common.{ap}
-use Rattle.std.specs.Ordering.{is_lt}
-use Rattle.std.proofs.lemmas.List.Sorted.{Contains-permutation, IsPermutation-sym, answers_always, ranks_by}
+use Rattle.std.{proofs.{Common.{ap}, lemmas.List.Sorted.{Contains-permutation, IsPermutation-sym, answers_always, ranks_by}}, specs.Ordering.{is_lt}}
 use Rattle.cacache_core.specs.declared.integrity.digest.Hash.{Hash}
 use Rattle.cacache_walks.specs.Listing.{hash_cmp}
 use Rattle.cacache_keep.proofs.Searching.{hash_total}

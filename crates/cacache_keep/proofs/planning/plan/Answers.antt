@@ -1,8 +1,7 @@
 use Rattle.std.proofs.Common.{List, subst, sym, ◌∙◌}
 use Rattle.cacache_core.specs.declared.integrity.digest.Hash.{Hash}
 use Rattle.cacache_jobs.specs.Sites.{site_of}
-use Rattle.cacache_keep.specs.Keeping.{Chooses}
-use Rattle.cacache_keep.proofs.Sizes.{addresses_told}
+use Rattle.cacache_keep.{specs.Keeping.{Chooses}, proofs.Sizes.{addresses_told}}
 use Rattle.cacache_keep.proofs.planning.plan.Goals as goal
 
 pub returns-clause-plans : goal.returns-clause-plans

@@ -1,13 +1,7 @@
-use Rattle.std.proofs.Common.{◌+◌, drop, length, rules, sym, ◌∙◌}
-use Rattle.std.proofs.lemmas.List.{map-id}
-use Rattle.std.proofs.lemmas.Iterator.Adapters.{YieldsList-from_vec}
-use Rattle.std.proofs.lemmas.Iterator.Consumers.{YieldsList-so_far, YieldsList-turn}
+use Rattle.std.proofs.{Common.{◌+◌, drop, length, rules, sym, ◌∙◌}, lemmas.{List.{map-id}, Iterator.{Adapters.{YieldsList-from_vec}, Consumers.{YieldsList-so_far, YieldsList-turn}}}}
 use Rattle.cacache_core.specs.declared.errors.Error.TheVariants.{OutOfMemory}
-use Rattle.cacache_keep.specs.declared.planning.Unused.{Unused}
-use Rattle.cacache_keep.specs.Planning.{StopsTelling}
-use Rattle.cacache_keep.proofs.InTurn.{split_at}
-use Rattle.cacache_keep.proofs.Sizes.{lost_told, next_hidden, one_told}
-use Rattle.cacache_keep.proofs.Stopped.{error_as}
+use Rattle.cacache_keep.specs.{declared.planning.Unused.{Unused}, Planning.{StopsTelling}}
+use Rattle.cacache_keep.proofs.{InTurn.{split_at}, Sizes.{lost_told, next_hidden, one_told}, Stopped.{error_as}}
 use Rattle.cacache_keep.proofs.planning.sizes_of.Goals as goal
 
 pub returns-in_err-bytes-clause-stops : goal.returns-in_err-bytes-clause-stops

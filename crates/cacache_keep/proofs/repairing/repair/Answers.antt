@@ -1,8 +1,7 @@
 use Rattle.std.proofs.Common.{inl, inr, map, rules, string_bytes, ◌∙◌}
 use Rattle.cacache_entry.specs.View.{found_view}
 use Rattle.cacache_jobs.specs.Sites.{site_of}
-use Rattle.cacache_keep.specs.Calls.{AsksEach, ListsEntries, MadeCalls, StopsReading, StopsRemoving, removal}
-use Rattle.cacache_keep.specs.Repairing.{DropsDamaged, StopsBurying, StopsRepairing}
+use Rattle.cacache_keep.specs.{Calls.{AsksEach, ListsEntries, MadeCalls, StopsReading, StopsRemoving, removal}, Repairing.{DropsDamaged, StopsBurying, StopsRepairing}}
 use Rattle.cacache_keep.proofs.Stopped.{at_base, entries_stop, error_as}
 use Rattle.cacache_keep.proofs.repairing.repair.Goals as goal
 

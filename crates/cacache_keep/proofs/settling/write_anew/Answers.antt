@@ -1,7 +1,6 @@
 use Rattle.std.proofs.Common.{IfErr, OnOk, ℕ, List, inl, refl, subst}
 use Rattle.cacache_core.specs.declared.errors.Error.TheVariants.{OutOfMemory}
-use Rattle.cacache_keep.specs.Rewriting.{Rewrites, StopsRewriting}
-use Rattle.cacache_keep.proofs.Stopped.{error_as}
+use Rattle.cacache_keep.{specs.Rewriting.{Rewrites, StopsRewriting}, proofs.Stopped.{error_as}}
 use Rattle.cacache_keep.proofs.settling.write_anew.Goals as goal
 
 pub returns-in_err-bytes-clause-stops : goal.returns-in_err-bytes-clause-stops

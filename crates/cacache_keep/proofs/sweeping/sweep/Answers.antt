@@ -4,10 +4,8 @@ use Rattle.cacache_store.specs.declared.store.answer.Name.{Name}
 use Rattle.cacache_store.specs.declared.store.step.Step.TheVariants as steps
 use Rattle.cacache_table.specs.SingleSteps.{FailsAt}
 use Rattle.cacache_keep_laws.specs.Temporary.{is_temporary, temp_area_in}
-use Rattle.cacache_keep.specs.Reading.{is_gone}
-use Rattle.cacache_keep.specs.Sweeping.{ListsFolder, RemovesFiles, RemovesSized, StopsSized, StopsSweeping, others_in}
-use Rattle.cacache_keep.proofs.Stopped.{error_as}
-use Rattle.cacache_keep.proofs.Sweeps.{counted_all, lost_first}
+use Rattle.cacache_keep.specs.{Reading.{is_gone}, Sweeping.{ListsFolder, RemovesFiles, RemovesSized, StopsSized, StopsSweeping, others_in}}
+use Rattle.cacache_keep.proofs.{Stopped.{error_as}, Sweeps.{counted_all, lost_first}}
 use Rattle.cacache_keep.proofs.sweeping.sweep.Goals as goal
 
 pub returns-in_err-files-clause-stops : goal.returns-in_err-files-clause-stops

@@ -1,9 +1,7 @@
 use Rattle.std.proofs.Common.{inl, inr, map, string_bytes, ◌∙◌}
 use Rattle.cacache_entry.specs.View.{found_view}
 use Rattle.cacache_jobs.specs.Sites.{site_of}
-use Rattle.cacache_keep.specs.Calls.{AsksEach, ListsEntries, StopsReading}
-use Rattle.cacache_keep.specs.Keeping.{StopsVerifying, VerifiesCache}
-use Rattle.cacache_keep.proofs.Stopped.{at_base, entries_stop, error_as}
+use Rattle.cacache_keep.{specs.{Calls.{AsksEach, ListsEntries, StopsReading}, Keeping.{StopsVerifying, VerifiesCache}}, proofs.Stopped.{at_base, entries_stop, error_as}}
 use Rattle.cacache_keep.proofs.verifying.verify.Goals as goal
 
 pub returns-in_err-addresses-clause-stops : goal.returns-in_err-addresses-clause-stops

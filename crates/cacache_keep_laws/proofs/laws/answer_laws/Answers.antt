@@ -1,5 +1,4 @@
-use Rattle.cacache_keep_laws.proofs.Logged.{log_rooted}
-use Rattle.cacache_keep_laws.proofs.Looks.{answers_agree, looks_answer}
+use Rattle.cacache_keep_laws.proofs.{Logged.{log_rooted}, Looks.{answers_agree, looks_answer}}
 use Rattle.cacache_keep_laws.proofs.laws.answer_laws.Goals as goal
 
 pub returns : goal.returns

@@ -1,7 +1,4 @@
-use Rattle.cacache_keep_laws.proofs.Keeping.{removals_leave, collections_keep_reads, collections_keep_lookups}
-use Rattle.cacache_keep_laws.proofs.Links.{caches_link_out}
-use Rattle.cacache_keep_laws.proofs.Removed.{removals_run}
-use Rattle.cacache_keep_laws.proofs.SoundRemovals.{removals_leave_sound}
+use Rattle.cacache_keep_laws.proofs.{Keeping.{removals_leave, collections_keep_reads, collections_keep_lookups}, Links.{caches_link_out}, Removed.{removals_run}, SoundRemovals.{removals_leave_sound}}
 use Rattle.cacache_keep_laws.proofs.laws.collect_laws.Goals as goal
 
 pub returns : goal.returns

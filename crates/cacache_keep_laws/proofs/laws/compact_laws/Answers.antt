@@ -1,8 +1,4 @@
-use Rattle.cacache_keep_laws.proofs.CompactLines.{compact_texts_answer}
-use Rattle.cacache_keep_laws.proofs.CompactTwice.{compact_twice}
-use Rattle.cacache_keep_laws.proofs.LeanCalls.{compactions_answer}
-use Rattle.cacache_keep_laws.proofs.LeanTrees.{compactions_keep}
-use Rattle.cacache_keep_laws.proofs.Led.{houses_are_fit}
+use Rattle.cacache_keep_laws.proofs.{CompactLines.{compact_texts_answer}, CompactTwice.{compact_twice}, LeanCalls.{compactions_answer}, LeanTrees.{compactions_keep}, Led.{houses_are_fit}}
 use Rattle.cacache_keep_laws.proofs.laws.compact_laws.Goals as goal
 
 pub returns : goal.returns

@@ -1,5 +1,4 @@
-use Rattle.cacache_keep_laws.proofs.Agreed.{holdings_agree}
-use Rattle.cacache_keep_laws.proofs.Held.{contents_shown, listings_hold}
+use Rattle.cacache_keep_laws.proofs.{Agreed.{holdings_agree}, Held.{contents_shown, listings_hold}}
 use Rattle.cacache_keep_laws.proofs.laws.contents_laws.Goals as goal
 
 pub returns : goal.returns

@@ -1,6 +1,4 @@
-use Rattle.cacache_keep_laws.proofs.Agreed.{indexes_agree}
-use Rattle.cacache_keep_laws.proofs.Collected.{indexes_find}
-use Rattle.cacache_keep_laws.proofs.Indexed.{lists_each_key}
+use Rattle.cacache_keep_laws.proofs.{Agreed.{indexes_agree}, Collected.{indexes_find}, Indexed.{lists_each_key}}
 use Rattle.cacache_keep_laws.proofs.laws.index_laws.Goals as goal
 
 pub returns : goal.returns

@@ -1,8 +1,4 @@
-use Rattle.cacache_keep_laws.proofs.HiddenKeys.{tombstones_hide}
-use Rattle.cacache_keep_laws.proofs.Housed.{tombstones_house}
-use Rattle.cacache_keep_laws.proofs.Led.{caches_are_housed, indexes_lead}
-use Rattle.cacache_keep_laws.proofs.Mended.{repairs_leave}
-use Rattle.cacache_keep_laws.proofs.Tombstones.{tombstones_keep_contents}
+use Rattle.cacache_keep_laws.proofs.{HiddenKeys.{tombstones_hide}, Housed.{tombstones_house}, Led.{caches_are_housed, indexes_lead}, Mended.{repairs_leave}, Tombstones.{tombstones_keep_contents}}
 use Rattle.cacache_keep_laws.proofs.laws.repair_laws.Goals as goal
 
 pub returns : goal.returns

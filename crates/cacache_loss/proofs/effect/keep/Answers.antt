@@ -1,8 +1,7 @@
 use Rattle.std.proofs.Common.{◌≡◌, ◌∙◌, Some, sym, subst₂}
 use Rattle.std.specs.BTreeMap as btree
 use Rattle.cacache_disk.specs.Tree.{Names, names_cmp}
-use Rattle.cacache_loss.specs.Fixing.{Place}
-use Rattle.cacache_loss.proofs.PathMaps.{unkept, kept_once, kept_first}
+use Rattle.cacache_loss.{specs.Fixing.{Place}, proofs.PathMaps.{unkept, kept_once, kept_first}}
 use Rattle.cacache_loss.proofs.effect.keep.Goals as goal
 
 pub returns-then-not-renames : goal.returns-then-not-renames

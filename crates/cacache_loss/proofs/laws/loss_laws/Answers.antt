@@ -1,7 +1,4 @@
-use Rattle.cacache_loss.proofs.Contents.{contents_survive}
-use Rattle.cacache_loss.proofs.Buckets.{buckets_survive, entries_survive}
-use Rattle.cacache_loss.proofs.Commits.{commits_survive, found_survive, lookups_survive}
-use Rattle.cacache_loss.proofs.SparedTemps.{spared_temps_are_left}
+use Rattle.cacache_loss.proofs.{Contents.{contents_survive}, Buckets.{buckets_survive, entries_survive}, Commits.{commits_survive, found_survive, lookups_survive}, SparedTemps.{spared_temps_are_left}}
 use Rattle.cacache_loss.proofs.laws.loss_laws.Goals as goal
 
 pub returns-clause-contents : goal.returns-clause-contents

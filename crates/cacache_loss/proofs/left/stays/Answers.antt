@@ -1,8 +1,5 @@
-use Rattle.std.proofs.Common.{◌∙◌, arith, ap, sym, take}
-use Rattle.std.specs.Bool.{nat_eq}
-use Rattle.std.specs.Cmp.Lexicographic.{pointwise}
-use Rattle.cacache_loss.specs.Loss.{stays}
-use Rattle.cacache_loss.proofs.LeftNodes.{begins_front, begins_short}
+use Rattle.std.{proofs.Common.{◌∙◌, arith, ap, sym, take}, specs.{Bool.{nat_eq}, Cmp.Lexicographic.{pointwise}}}
+use Rattle.cacache_loss.{specs.Loss.{stays}, proofs.LeftNodes.{begins_front, begins_short}}
 use Rattle.cacache_loss.proofs.left.stays.Goals as goal
 
 pub returns-then-len : goal.returns-then-len

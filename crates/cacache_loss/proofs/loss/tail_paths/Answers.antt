@@ -1,6 +1,5 @@
-use Rattle.std.proofs.Common.{◌∙◌, ℕ, List, Some, sym, ap, subst₂}
+use Rattle.std.{proofs.Common.{◌∙◌, ℕ, List, Some, sym, ap, subst₂}, specs.Result.{result_ok}}
 use Rattle.std.specs.BTreeMap as btree
-use Rattle.std.specs.Result.{result_ok}
 use Rattle.cacache_core.specs.PathNames.{Names, names_of}
 use Rattle.cacache_disk.specs.Tree.{names_cmp}
 use Rattle.cacache_loss.proofs.ChosenLosses.{tails_more, tails_known}

@@ -1,6 +1,4 @@
-use Rattle.std.proofs.Common.{◌≡◌, take}
-use Rattle.std.specs.BTreeSet.{contains}
-use Rattle.std.specs.List.{list_any}
+use Rattle.std.{proofs.Common.{◌≡◌, take}, specs.{BTreeSet.{contains}, List.{list_any}}}
 use Rattle.cacache_core.specs.PathNames.{Names, names_of}
 use Rattle.cacache_disk.specs.Tree.{names_cmp}
 use Rattle.cacache_loss.specs.Fixing.{is_at}

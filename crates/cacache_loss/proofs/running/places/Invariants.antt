@@ -1,6 +1,5 @@
 use Rattle.std.proofs.Common.{◌≡◌, map, take}
-use Rattle.cacache_loss.specs.Fixing.{place_now}
-use Rattle.cacache_loss.specs.Running.{fixed_in}
+use Rattle.cacache_loss.specs.{Fixing.{place_now}, Running.{fixed_in}}
 use Rattle.cacache_loss.proofs.running.places.Given as goal
 
 abbrev pub invariant-loop-i : goal.invariant-loop-i

@@ -1,7 +1,6 @@
 use Rattle.std.specs.BTreeMap.{get}
 use Rattle.cacache_disk.specs.Tree.{names_cmp}
-use Rattle.cacache_loss.specs.Running.{files_in}
-use Rattle.cacache_loss.proofs.PathMaps.{files_more, names_more}
+use Rattle.cacache_loss.{specs.Running.{files_in}, proofs.PathMaps.{files_more, names_more}}
 use Rattle.cacache_loss.proofs.running.settle.Goals as goal
 
 pub loop-i-preserved : goal.loop-i-preserved

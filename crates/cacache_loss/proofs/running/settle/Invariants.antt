@@ -1,5 +1,4 @@
-use Rattle.std.proofs.Common.{take}
-use Rattle.std.specs.BTreeMap.{get}
+use Rattle.std.{proofs.Common.{take}, specs.BTreeMap.{get}}
 use Rattle.cacache_disk.specs.Tree.{Tree, names_cmp}
 use Rattle.cacache_loss.specs.Running.{files_in, FilesSettleAt, NamesSettleAt}
 use Rattle.cacache_loss.proofs.running.settle.Given as goal

@@ -1,7 +1,6 @@
 use Rattle.std.proofs.Common.{◌∙◌, ap}
 use Rattle.cacache_disk.specs.Tree.{bytes_of}
-use Rattle.cacache_loss.specs.Fixing.{synced}
-use Rattle.cacache_loss.proofs.PathMaps.{end_fixed}
+use Rattle.cacache_loss.{specs.Fixing.{synced}, proofs.PathMaps.{end_fixed}}
 use Rattle.cacache_loss.proofs.syncs.file_synced.Goals as goal
 
 pub returns-in-Ok : goal.returns-in-Ok

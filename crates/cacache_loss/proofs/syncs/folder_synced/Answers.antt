@@ -1,6 +1,4 @@
-use Rattle.std.proofs.Common.{◌≡◌, ◌∙◌, refl, sym, rules}
-use Rattle.std.specs.Prelude.{not}
-use Rattle.std.proofs.lemmas.Map.Entries.{filter_from_retain_pairs}
+use Rattle.std.{proofs.{Common.{◌≡◌, ◌∙◌, refl, sym, rules}, lemmas.Map.Entries.{filter_from_retain_pairs}}, specs.Prelude.{not}}
 use Rattle.cacache_core.specs.PathNames.{names_of}
 use Rattle.cacache_disk.specs.Tree.{is_child}
 use Rattle.cacache_loss.proofs.PathMaps.{all_forgot}

@@ -1,7 +1,6 @@
 -- One item more.
 use Rattle.std.proofs.Common.{◌++◌, ◌||◌, List, Bool, is_err, option_to_list, ◌∙◌, ap, sym}
-use Rattle.cacache_program.specs.WordLs.{Line, line_in}
-use Rattle.cacache_program.proofs.PrintedLines.{lines_more, errors_more}
+use Rattle.cacache_program.{specs.WordLs.{Line, line_in}, proofs.PrintedLines.{lines_more, errors_more}}
 use Rattle.cacache_program.proofs.lines.gather.Goals as goal
 
 pub loop-item-preserved : goal.loop-item-preserved

@@ -1,7 +1,6 @@
 -- The items so far are gathered.
 use Rattle.std.proofs.Common.{◌≡◌, is_some, filter_map}
-use Rattle.cacache_program.specs.WordLs.{has_error, line_in}
-use Rattle.cacache_program.specs.Lines.{lines_of}
+use Rattle.cacache_program.specs.{WordLs.{has_error, line_in}, Lines.{lines_of}}
 use Rattle.cacache_program.proofs.lines.gather.Given as goal
 
 abbrev pub invariant-loop-item : goal.invariant-loop-item

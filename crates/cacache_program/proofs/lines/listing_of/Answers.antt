@@ -1,10 +1,6 @@
 -- Sorting keeps the lines, and brings them in order.
-use Rattle.std.proofs.Common.{List, IsPermutation, map, subst, ap, ◌∙◌, is_lt}
-use Rattle.std.proofs.lemmas.List.Sorted.{IsPermutation-map}
-use Rattle.cacache_program.specs.declared.lines.Line.{Line as HeldLine}
-use Rattle.cacache_program.specs.WordLs.{Line, line_cmp, listing_text}
-use Rattle.cacache_program.specs.Lines.{line_view}
-use Rattle.cacache_program.proofs.PrintedLines.{IsSortedBy-map}
+use Rattle.std.proofs.{Common.{List, IsPermutation, map, subst, ap, ◌∙◌, is_lt}, lemmas.List.Sorted.{IsPermutation-map}}
+use Rattle.cacache_program.{specs.{declared.lines.Line.{Line as HeldLine}, WordLs.{Line, line_cmp, listing_text}, Lines.{line_view}}, proofs.PrintedLines.{IsSortedBy-map}}
 use Rattle.cacache_program.proofs.lines.listing_of.Goals as goal
 
 pub returns : goal.returns

@@ -1,7 +1,6 @@
 -- The lines so far are written.
 use Rattle.std.proofs.Common.{◌≡◌, map, take}
-use Rattle.cacache_program.specs.WordLs.{listing_text}
-use Rattle.cacache_program.specs.Lines.{line_view}
+use Rattle.cacache_program.specs.{WordLs.{listing_text}, Lines.{line_view}}
 use Rattle.cacache_program.proofs.lines.text_of.Given as goal
 
 abbrev pub invariant-loop-line : goal.invariant-loop-line

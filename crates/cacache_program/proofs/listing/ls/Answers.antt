@@ -1,6 +1,5 @@
 -- What was listed was told.
-use Rattle.cacache_program.specs.WordLs.{listing_reply}
-use Rattle.cacache_program.proofs.PrintedLines.{plain_listing, plain_puts}
+use Rattle.cacache_program.{specs.WordLs.{listing_reply}, proofs.PrintedLines.{plain_listing, plain_puts}}
 use Rattle.cacache_program.proofs.listing.ls.Goals as goal
 
 pub returns-in-Ok-listing_of-clause-does : goal.returns-in-Ok-listing_of-clause-does

@@ -1,6 +1,5 @@
 -- What was written so far is a beginning of the bytes.
-use Rattle.std.proofs.Common.{◌≤◌, length, take}
-use Rattle.std.specs.Io.KnownBytes.{Appends}
+use Rattle.std.{proofs.Common.{◌≤◌, length, take}, specs.Io.KnownBytes.{Appends}}
 use Rattle.cacache_program.proofs.output.write_whole.Given as goal
 
 abbrev pub invariant-loop : goal.invariant-loop

@@ -1,8 +1,6 @@
 -- What wasn't asked for needn't be done.
-use Rattle.std.proofs.Common.{ap, codes, refl, subst}
-use Rattle.std.specs.Prelude.{option_map}
-use Rattle.cacache_program.specs.Words.{IsWrong}
-use Rattle.cacache_program.proofs.Asking.{asked_as, not_keyed, not_unkeyed, other_keyed, other_unkeyed}
+use Rattle.std.{proofs.Common.{ap, codes, refl, subst}, specs.Prelude.{option_map}}
+use Rattle.cacache_program.{specs.Words.{IsWrong}, proofs.Asking.{asked_as, not_keyed, not_unkeyed, other_keyed, other_unkeyed}}
 use Rattle.cacache_program.proofs.program.run.Goals as goal
 
 -- ---- of `write`

@@ -1,5 +1,4 @@
-use Rattle.std.proofs.Common.{◌≡◌, drop}
-use Rattle.std.specs.Str.{all_ascii_digits}
+use Rattle.std.{proofs.Common.{◌≡◌, drop}, specs.Str.{all_ascii_digits}}
 use Rattle.cacache_program.proofs.storming.are_digits.Given as goal
 
 abbrev pub invariant-loop-byte : goal.invariant-loop-byte

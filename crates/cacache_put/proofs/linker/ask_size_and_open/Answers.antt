@@ -1,5 +1,4 @@
-use Rattle.cacache_put.specs.OpenLinkers.{asks_size, asks_file}
-use Rattle.cacache_put.proofs.Linkers.{opened_after, opened_sized}
+use Rattle.cacache_put.{specs.OpenLinkers.{asks_size, asks_file}, proofs.Linkers.{opened_after, opened_sized}}
 use Rattle.cacache_put.proofs.linker.ask_size_and_open.Goals as goal
 
 pub returns-in-Ok : goal.returns-in-Ok

@@ -1,6 +1,5 @@
 use Rattle.std.proofs.Common.{◌≡◌, ◌∙◌}
-use Rattle.cacache_core.specs.Hashers.{algorithm_of}
-use Rattle.cacache_core.specs.Integrity.{integrity_under}
+use Rattle.cacache_core.specs.{Hashers.{algorithm_of}, Integrity.{integrity_under}}
 use Rattle.cacache_put.proofs.Linkers.{lost_so, ran_through}
 use Rattle.cacache_put.proofs.linker.link_rest.Goals as goal
 

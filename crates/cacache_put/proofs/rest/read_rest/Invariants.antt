@@ -1,8 +1,6 @@
 use Rattle.std.specs.Prelude.{◌≡◌, ℕ, List, length}
 use Rattle.cacache_core.specs.Hashers.{Holds}
-use Rattle.cacache_table.specs.Runs.{Gone}
-use Rattle.cacache_table.specs.State.{hashing, to_link}
-use Rattle.cacache_table.specs.declared.target.Target.{Target}
+use Rattle.cacache_table.specs.{Runs.{Gone}, State.{hashing, to_link}, declared.target.Target.{Target}}
 use Rattle.cacache_put.specs.Rest.{HoldsOn}
 use Rattle.cacache_put.proofs.rest.read_rest.Given as goal
 

@@ -1,5 +1,4 @@
-use Rattle.std.proofs.Common.{subst}
-use Rattle.std.specs.Prelude.{IfOk}
+use Rattle.std.{proofs.Common.{subst}, specs.Prelude.{IfOk}}
 use Rattle.cacache_table.specs.declared.reply.Reply.TheVariants.{Done}
 use Rattle.cacache_jobs.specs.ReadFirst.{Verified}
 use Rattle.cacache_reads.proofs.ExportReplies.{says_nothing, if_checked}

@@ -1,11 +1,7 @@
 use Rattle.std.proofs.Common.{subst, sym}
-use Rattle.cacache_table.specs.declared.command.Command.TheVariants.{Find}
-use Rattle.cacache_table.specs.declared.reply.Reply.{Reply}
-use Rattle.cacache_table.specs.Runs.{Ran}
-use Rattle.cacache_table.specs.Table.{opening}
+use Rattle.cacache_table.specs.{declared.{command.Command.TheVariants.{Find}, reply.Reply.{Reply}}, Runs.{Ran}, Table.{opening}}
 use Rattle.cacache_jobs.specs.Sites.{site_of}
-use Rattle.cacache_reads.specs.Lookups.{LooksUp}
-use Rattle.cacache_reads.proofs.Lookups.{looks_up}
+use Rattle.cacache_reads.{specs.Lookups.{LooksUp}, proofs.Lookups.{looks_up}}
 use Rattle.cacache_reads.proofs.index.find.Goals as goal
 
 pub returns-clause-looks : goal.returns-clause-looks

@@ -1,8 +1,6 @@
 use Rattle.std.proofs.Common.{refl, ap, ◌∙◌}
 use Rattle.cacache_store.specs.Plain.{plain_answer}
-use Rattle.cacache_table.specs.declared.reply.Reply.TheVariants.{Exists}
-use Rattle.cacache_table.specs.Replies.{there_reply}
-use Rattle.cacache_table.specs.Runs.{reply_of}
+use Rattle.cacache_table.specs.{declared.reply.Reply.TheVariants.{Exists}, Replies.{there_reply}, Runs.{reply_of}}
 use Rattle.cacache_reads.proofs.Asking.{asks_at, told_at}
 use Rattle.cacache_reads.proofs.reading.exists_sync.Goals as goal
 

@@ -1,5 +1,4 @@
-use Rattle.std.proofs.Common.{subst}
-use Rattle.std.specs.Prelude.{IfOk}
+use Rattle.std.{proofs.Common.{subst}, specs.Prelude.{IfOk}}
 use Rattle.cacache_jobs.specs.ReadFirst.{ReadsFound}
 use Rattle.cacache_reads.proofs.reading.read_sync.Goals as goal
 

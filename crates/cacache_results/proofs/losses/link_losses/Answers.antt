@@ -1,5 +1,4 @@
-use Rattle.cacache_results.proofs.LeftLinks.{losses_leave_last_links, losses_leave_links}
-use Rattle.cacache_results.proofs.LinkLosses.{histories_keep_links}
+use Rattle.cacache_results.proofs.{LeftLinks.{losses_leave_last_links, losses_leave_links}, LinkLosses.{histories_keep_links}}
 use Rattle.cacache_results.proofs.losses.link_losses.Goals as goal
 
 pub returns : goal.returns

@@ -1,21 +1,4 @@
-use Rattle.cacache_sequence.proofs.Logs.{calls_grow, growths_join, excuses_last}
-use Rattle.cacache_sequence.proofs.Known.{fresh_is_empty, caches_last}
-use Rattle.cacache_sequence.proofs.WritesLast.{writes_last}
-use Rattle.cacache_sequence.proofs.ReadsKeep.{reads_key, reads_content, reads_none}
-use Rattle.cacache_sequence.proofs.Looked.{finds_key}
-use Rattle.cacache_sequence.proofs.AskedContents.{asks_content}
-use Rattle.cacache_sequence.proofs.Removals.{removals_last, clearings_empty}
-use Rattle.cacache_sequence.proofs.PlantedFiles.{plants_last}
-use Rattle.cacache_sequence.proofs.Copying.{copies_count}
-use Rattle.cacache_sequence.proofs.ExportEffects.{exports_keep}
-use Rattle.cacache_sequence.proofs.Inserting.{inserts_last, plain_inserts_fit, keys_join, none_lacks}
-use Rattle.cacache_sequence.proofs.Beside.{writes_keep, plain_writes_fit, removals_keep}
-use Rattle.cacache_sequence.proofs.Removed.{contents_go}
-use Rattle.cacache_sequence.proofs.RemovedKeys.{keys_go}
-use Rattle.cacache_sequence.proofs.Puts.{puts_leave, puts_may_lead}
-use Rattle.cacache_sequence.proofs.Arriving.{copies_arrive}
-use Rattle.cacache_sequence.proofs.Exported.{exports_arrive}
-use Rattle.cacache_sequence.proofs.Linking.{links_last}
+use Rattle.cacache_sequence.proofs.{Logs.{calls_grow, growths_join, excuses_last}, Known.{fresh_is_empty, caches_last}, WritesLast.{writes_last}, ReadsKeep.{reads_key, reads_content, reads_none}, Looked.{finds_key}, AskedContents.{asks_content}, Removals.{removals_last, clearings_empty}, PlantedFiles.{plants_last}, Copying.{copies_count}, ExportEffects.{exports_keep}, Inserting.{inserts_last, plain_inserts_fit, keys_join, none_lacks}, Beside.{writes_keep, plain_writes_fit, removals_keep}, Removed.{contents_go}, RemovedKeys.{keys_go}, Puts.{puts_leave, puts_may_lead}, Arriving.{copies_arrive}, Exported.{exports_arrive}, Linking.{links_last}}
 use Rattle.cacache_sequence.proofs.laws.cache_laws.Goals as goal
 
 pub returns-clause-fresh : goal.returns-clause-fresh

@@ -1,11 +1,4 @@
-use Rattle.cacache_sequence.proofs.OpenWriters.{writers_open}
-use Rattle.cacache_sequence.proofs.Committing.{commits_last, commits_store}
-use Rattle.cacache_sequence.proofs.OpenReaders.{readers_open, readers_open_key}
-use Rattle.cacache_sequence.proofs.Puts.{commits_leave, commits_keep}
-use Rattle.cacache_sequence.proofs.GivenUp.{giving_up_lasts}
-use Rattle.cacache_sequence.proofs.OpenLinkers.{linkers_commit, linkers_fail}
-use Rattle.cacache_sequence.proofs.RefusedSizes.{linkers_refuse}
-use Rattle.cacache_sequence.proofs.TargetBytes.{linkers_open, linkers_open_sized}
+use Rattle.cacache_sequence.proofs.{OpenWriters.{writers_open}, Committing.{commits_last, commits_store}, OpenReaders.{readers_open, readers_open_key}, Puts.{commits_leave, commits_keep}, GivenUp.{giving_up_lasts}, OpenLinkers.{linkers_commit, linkers_fail}, RefusedSizes.{linkers_refuse}, TargetBytes.{linkers_open, linkers_open_sized}}
 use Rattle.cacache_sequence.proofs.laws.handle_laws.Goals as goal
 
 pub returns-clause-opens : goal.returns-clause-opens

@@ -1,9 +1,4 @@
-use Rattle.cacache_sequence.proofs.Looks.{looks_keep, tree_stays}
-use Rattle.cacache_sequence.proofs.Looked.{same_stays_known, finds_found}
-use Rattle.cacache_sequence.proofs.AskedContents.{asks_absent}
-use Rattle.cacache_sequence.proofs.ListedKeys.{listings_give}
-use Rattle.cacache_sequence.proofs.GivenReads.{key_reads_give, content_reads_give}
-use Rattle.cacache_sequence.proofs.LinkedReads.{links_show}
+use Rattle.cacache_sequence.proofs.{Looks.{looks_keep, tree_stays}, Looked.{same_stays_known, finds_found}, AskedContents.{asks_absent}, ListedKeys.{listings_give}, GivenReads.{key_reads_give, content_reads_give}, LinkedReads.{links_show}}
 use Rattle.cacache_sequence.proofs.laws.look_laws.Goals as goal
 
 pub returns-clause-keeps : goal.returns-clause-keeps

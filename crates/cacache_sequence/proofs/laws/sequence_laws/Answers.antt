@@ -1,7 +1,4 @@
-use Rattle.cacache_sequence.proofs.Sequence.{openings_are_sound, runs_are_calls, calls_answer_alone, sequences_answer}
-use Rattle.cacache_sequence.proofs.ReadAnswers.{replies_follow, reads_keep}
-use Rattle.cacache_sequence.proofs.Stored.{puts_store, inserts_add, deletes_add}
-use Rattle.cacache_sequence.proofs.CallErrors.{calls_fail_only}
+use Rattle.cacache_sequence.proofs.{Sequence.{openings_are_sound, runs_are_calls, calls_answer_alone, sequences_answer}, ReadAnswers.{replies_follow, reads_keep}, Stored.{puts_store, inserts_add, deletes_add}, CallErrors.{calls_fail_only}}
 use Rattle.cacache_sequence.proofs.laws.sequence_laws.Goals as goal
 
 pub returns-clause-openings : goal.returns-clause-openings

@@ -1,7 +1,5 @@
-use Rattle.std.proofs.Common.{rules, ◌≡◌, ◌+◌, ◌∙◌, ◌++◌, ◌∷◌, [], ap, arith, sym, is_ok}
-use Rattle.std.specs.Prelude.{if◌then◌else◌}
-use Rattle.cacache_shared.proofs.Callers.{records_below, all_counted, below_more, is_fresh, moves_few, seats_more}
-use Rattle.cacache_shared.specs.Seats.{fresh_seats}
+use Rattle.std.{proofs.Common.{rules, ◌≡◌, ◌+◌, ◌∙◌, ◌++◌, ◌∷◌, [], ap, arith, sym, is_ok}, specs.Prelude.{if◌then◌else◌}}
+use Rattle.cacache_shared.{proofs.Callers.{records_below, all_counted, below_more, is_fresh, moves_few, seats_more}, specs.Seats.{fresh_seats}}
 use Rattle.cacache_shared.proofs.shared.make_seats.Goals as goal
 
 pub returns-clause-total : goal.returns-clause-total

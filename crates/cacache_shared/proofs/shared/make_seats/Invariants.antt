@@ -1,6 +1,5 @@
 use Rattle.std.proofs.Common.{◌≡◌, ◌+◌, ◌≤◌, vec_len, vec_capacity}
-use Rattle.cacache_shared.proofs.Callers.{records_below}
-use Rattle.cacache_shared.specs.Seats.{fresh_seats}
+use Rattle.cacache_shared.{proofs.Callers.{records_below}, specs.Seats.{fresh_seats}}
 use Rattle.cacache_shared.proofs.shared.make_seats.Given as goal
 
 abbrev pub invariant-loop-caller : goal.invariant-loop-caller

@@ -1,5 +1,4 @@
-use Rattle.cacache_system_laws.proofs.Changing.{exists_agrees}
-use Rattle.cacache_system_laws.proofs.Looking.{open_agrees, size_agrees}
+use Rattle.cacache_system_laws.proofs.{Changing.{exists_agrees}, Looking.{open_agrees, size_agrees}}
 use Rattle.cacache_system_laws.proofs.laws.look_laws.Goals as goal
 
 pub returns : goal.returns

@@ -1,5 +1,4 @@
-use Rattle.cacache_system_laws.proofs.Chaining.{runs_mirror}
-use Rattle.cacache_system_laws.proofs.Keeping.{steps_mirror}
+use Rattle.cacache_system_laws.proofs.{Chaining.{runs_mirror}, Keeping.{steps_mirror}}
 use Rattle.cacache_system_laws.proofs.laws.mirror_laws.Goals as goal
 
 pub returns : goal.returns

@@ -1,5 +1,4 @@
-use Rattle.cacache_system_laws.proofs.Reading.{read_breaks, pieces_read_plainly}
-use Rattle.cacache_system_laws.proofs.Whole.{read_all_agrees}
+use Rattle.cacache_system_laws.proofs.{Reading.{read_breaks, pieces_read_plainly}, Whole.{read_all_agrees}}
 use Rattle.cacache_system_laws.proofs.laws.read_laws.Goals as goal
 
 pub returns : goal.returns

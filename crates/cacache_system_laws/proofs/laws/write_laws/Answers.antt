@@ -1,5 +1,4 @@
-use Rattle.cacache_system_laws.proofs.Copying.{copy_agrees}
-use Rattle.cacache_system_laws.proofs.Writing.{append_agrees, write_agrees}
+use Rattle.cacache_system_laws.proofs.{Copying.{copy_agrees}, Writing.{append_agrees, write_agrees}}
 use Rattle.cacache_system_laws.proofs.laws.write_laws.Goals as goal
 
 pub returns : goal.returns

@@ -1,8 +1,6 @@
 use Rattle.cacache_store.specs.declared.store.step.Step.TheVariants as steps
 use Rattle.cacache_folder.specs.FolderNumbers.{answered}
-use Rattle.cacache_system_memory.specs.Machines.{calls_of}
-use Rattle.cacache_system_memory.specs.Runs.{number_of}
-use Rattle.cacache_system_memory.proofs.Logs.{logs_run}
+use Rattle.cacache_system_memory.{specs.{Machines.{calls_of}, Runs.{number_of}}, proofs.Logs.{logs_run}}
 use Rattle.cacache_system_memory.proofs.runs.make_and_append.Goals as goal
 
 pub returns : goal.returns

@@ -1,5 +1,4 @@
-use Rattle.std.proofs.Common.{rules, ◌≡◌}
-use Rattle.std.specs.Prelude.{None}
+use Rattle.std.{proofs.Common.{rules, ◌≡◌}, specs.Prelude.{None}}
 use Rattle.cacache_disk.specs.Tree.{look}
 use Rattle.cacache_system_memory.proofs.Steps.{makes_folder}
 use Rattle.cacache_system_memory.proofs.tree.make_folder.Goals as goal

@@ -1,5 +1,4 @@
-use Rattle.cacache_table.specs.Storing.{put_commit}
-use Rattle.cacache_table.proofs.Formed.{of_commit}
+use Rattle.cacache_table.{specs.Storing.{put_commit}, proofs.Formed.{of_commit}}
 use Rattle.cacache_table.proofs.forming.form_put.Goals as goal
 
 pub returns-in-Some : goal.returns-in-Some

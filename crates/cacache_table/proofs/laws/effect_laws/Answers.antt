@@ -1,8 +1,4 @@
-use Rattle.cacache_table.proofs.Effects.{puts_commit}
-use Rattle.cacache_table.proofs.Effects.{links_commit}
-use Rattle.cacache_table.proofs.Effects.{inserts_send}
-use Rattle.cacache_table.proofs.Effects.{deletes_send}
-use Rattle.cacache_table.proofs.Effects.{errands_only_change}
+use Rattle.cacache_table.proofs.Effects.{puts_commit, links_commit, inserts_send, deletes_send, errands_only_change}
 use Rattle.cacache_table.proofs.laws.effect_laws.Goals as goal
 
 pub returns-clause-puts : goal.returns-clause-puts

@@ -1,5 +1,4 @@
-use Rattle.cacache_table.proofs.Promises.{runs_keep, calls_answer}
-use Rattle.cacache_table.proofs.Verifying.{exports_verify, links_read_whole}
+use Rattle.cacache_table.proofs.{Promises.{runs_keep, calls_answer}, Verifying.{exports_verify, links_read_whole}}
 use Rattle.cacache_table.proofs.laws.promise_laws.Goals as goal
 
 pub returns-clause-states : goal.returns-clause-states

@@ -1,11 +1,4 @@
-use Rattle.cacache_table.proofs.Replies.{finds_shown}
-use Rattle.cacache_table.proofs.Replies.{gets_shown}
-use Rattle.cacache_table.proofs.Replies.{reads_shown}
-use Rattle.cacache_table.proofs.Replies.{exists_shown}
-use Rattle.cacache_table.proofs.ListReplies.{lists_shown}
-use Rattle.cacache_table.proofs.Keys.{each_key_once}
-use Rattle.cacache_table.proofs.Replies.{gets_meet}
-use Rattle.cacache_table.proofs.EarnedErrors.{io_errors_have_causes}
+use Rattle.cacache_table.proofs.{Replies.{finds_shown, gets_shown, reads_shown, exists_shown, gets_meet}, ListReplies.{lists_shown}, Keys.{each_key_once}, EarnedErrors.{io_errors_have_causes}}
 use Rattle.cacache_table.proofs.laws.reply_laws.Goals as goal
 
 pub returns-clause-finds : goal.returns-clause-finds

@@ -1,5 +1,4 @@
-use Rattle.cacache_table.proofs.Effort.{falls}
-use Rattle.cacache_table.proofs.Memory.{no_memory_after, wants_until_over}
+use Rattle.cacache_table.proofs.{Effort.{falls}, Memory.{no_memory_after, wants_until_over}}
 use Rattle.cacache_table.proofs.laws.run_laws.Goals as goal
 
 pub returns-clause-falls : goal.returns-clause-falls

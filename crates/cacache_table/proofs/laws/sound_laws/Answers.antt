@@ -1,6 +1,4 @@
-use Rattle.cacache_table.proofs.Sound.{begins_sound}
-use Rattle.cacache_table.proofs.Sound.{steps_allowed}
-use Rattle.cacache_table.proofs.Sound.{stays_sound}
+use Rattle.cacache_table.proofs.Sound.{begins_sound, steps_allowed, stays_sound}
 use Rattle.cacache_table.proofs.laws.sound_laws.Goals as goal
 
 pub returns-clause-begins : goal.returns-clause-begins

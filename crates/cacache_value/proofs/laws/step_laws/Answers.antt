@@ -1,6 +1,5 @@
 use Rattle.cacache_disk.proofs.KeptFolders.{steps_keep_rooted}
-use Rattle.cacache_value.proofs.Shows.{trees_show}
-use Rattle.cacache_value.proofs.Traces.{steps_keep_placed, steps_act}
+use Rattle.cacache_value.proofs.{Shows.{trees_show}, Traces.{steps_keep_placed, steps_act}}
 use Rattle.cacache_value.proofs.laws.step_laws.Goals as goal
 
 pub returns-clause-placed : goal.returns-clause-placed

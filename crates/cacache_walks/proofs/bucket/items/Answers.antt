@@ -1,12 +1,7 @@
 use Rattle.std.proofs.Common.{◌≡◌, List, [], ◌∷◌, ◌++◌, map, string_bytes, sym, ap, ◌∙◌, append_assoc}
-use Rattle.cacache_entry.specs.Bucket.{entries_of}
-use Rattle.cacache_entry.specs.View.{entry_view}
-use Rattle.cacache_entry.specs.declared.metadata.SerializableMetadata.{SerializableMetadata}
-use Rattle.cacache_table.specs.Runs.{plain_item}
-use Rattle.cacache_table.specs.State.{Item}
-use Rattle.cacache_table.specs.Walking.{once}
-use Rattle.cacache_walks.specs.Listed.{keys_in, lookups, added_at}
-use Rattle.cacache_walks.proofs.BucketItems.{adds_first, all_items}
+use Rattle.cacache_entry.specs.{Bucket.{entries_of}, View.{entry_view}, declared.metadata.SerializableMetadata.{SerializableMetadata}}
+use Rattle.cacache_table.specs.{Runs.{plain_item}, State.{Item}, Walking.{once}}
+use Rattle.cacache_walks.{specs.Listed.{keys_in, lookups, added_at}, proofs.BucketItems.{adds_first, all_items}}
 use Rattle.cacache_walks.proofs.bucket.items.Goals as goal
 
 pub loop-entry-init : goal.loop-entry-init

@@ -1,9 +1,6 @@
 use Rattle.std.proofs.Common.{◌≡◌, ◌++◌, List, map, length}
-use Rattle.cacache_entry.specs.Bucket.{entries_of}
-use Rattle.cacache_entry.specs.Entry.{Entry}
-use Rattle.cacache_entry.specs.View.{entry_view}
-use Rattle.cacache_table.specs.Runs.{plain_item}
-use Rattle.cacache_table.specs.Walking.{once, items_in}
+use Rattle.cacache_entry.specs.{Bucket.{entries_of}, Entry.{Entry}, View.{entry_view}}
+use Rattle.cacache_table.specs.{Runs.{plain_item}, Walking.{once, items_in}}
 use Rattle.cacache_walks.specs.Listed.{keys_in, lookups}
 use Rattle.cacache_walks.proofs.bucket.items.Given as goal
 

@@ -1,6 +1,5 @@
 use Rattle.std.proofs.Common.{option_map, sym, ap, ◌∙◌}
-use Rattle.cacache_entry.specs.Bucket.{entries_of}
-use Rattle.cacache_entry.specs.View.{found_view}
+use Rattle.cacache_entry.specs.{Bucket.{entries_of}, View.{found_view}}
 use Rattle.cacache_walks.proofs.BucketItems.{last_answers}
 use Rattle.cacache_walks.proofs.bucket.look_up.Goals as goal
 

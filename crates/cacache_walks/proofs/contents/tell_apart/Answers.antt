@@ -1,8 +1,6 @@
 use Rattle.std.proofs.Common.{◌++◌, ◌∷◌, [], ℕ, List, sym, subst}
 use Rattle.cacache_core.specs.declared.integrity.digest.Hash.{Hash}
-use Rattle.cacache_walks.specs.Addresses.{IsContentPath, IsStrange}
-use Rattle.cacache_walks.specs.Listing.{Sorts}
-use Rattle.cacache_walks.proofs.Sorting.{sorts_content, sorts_strange}
+use Rattle.cacache_walks.{specs.{Addresses.{IsContentPath, IsStrange}, Listing.{Sorts}}, proofs.Sorting.{sorts_content, sorts_strange}}
 use Rattle.cacache_walks.proofs.contents.tell_apart.Goals as goal
 
 pub loop-file-preserved-in-Some-branch-2 : goal.loop-file-preserved-in-Some-branch-2

@@ -1,5 +1,4 @@
-use Rattle.std.proofs.Common.{◌≡◌, ℕ, List, subst, ◌∙◌}
-use Rattle.std.specs.Prelude.{IfOk}
+use Rattle.std.{proofs.Common.{◌≡◌, ℕ, List, subst, ◌∙◌}, specs.Prelude.{IfOk}}
 use Rattle.cacache_history.specs.Setup.{is_outside}
 use Rattle.cacache_world.specs.WorldKept.{setup_of}
 use Rattle.cacache_world.proofs.admitting.leads_outside.Goals as goal

@@ -1,7 +1,6 @@
 use Rattle.std.proofs.Common.{ap, ◌∙◌}
 use Rattle.cacache_history.specs.Setup.{may_export}
-use Rattle.cacache_world.specs.WorldKept.{setup_of}
-use Rattle.cacache_world.proofs.MayBegin.{judges_export}
+use Rattle.cacache_world.{specs.WorldKept.{setup_of}, proofs.MayBegin.{judges_export}}
 use Rattle.cacache_world.proofs.admitting.may_begin_export.Goals as goal
 
 pub returns : goal.returns

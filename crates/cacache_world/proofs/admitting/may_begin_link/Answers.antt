@@ -1,6 +1,5 @@
 use Rattle.cacache_history.specs.Setup.{call_site}
-use Rattle.cacache_world.specs.WorldKept.{setup_of}
-use Rattle.cacache_world.proofs.MayBegin.{judges_link}
+use Rattle.cacache_world.{specs.WorldKept.{setup_of}, proofs.MayBegin.{judges_link}}
 use Rattle.cacache_world.proofs.admitting.may_begin_link.Goals as goal
 
 pub returns : goal.returns

@@ -1,5 +1,4 @@
-use Rattle.std.proofs.Common.{◌≡◌}
-use Rattle.std.specs.Prelude.{None, replicate, vec_len}
+use Rattle.std.{proofs.Common.{◌≡◌}, specs.Prelude.{None, replicate, vec_len}}
 use Rattle.cacache_world.proofs.callers.idle.Given as goal
 
 abbrev pub invariant-loop : goal.invariant-loop

@@ -1,5 +1,4 @@
-use Rattle.cacache_loss.specs.ChangedNames.{opening}
-use Rattle.cacache_loss.specs.Running.{moment_of}
+use Rattle.cacache_loss.specs.{ChangedNames.{opening}, Running.{moment_of}}
 use Rattle.cacache_world.proofs.Losses.{record_more}
 use Rattle.cacache_world.proofs.losing.replay.Goals as goal
 

@@ -1,8 +1,6 @@
 use Rattle.std.proofs.Common.{◌≡◌, take}
 use Rattle.cacache_history.specs.Values.{steps_of}
-use Rattle.cacache_loss.specs.ChangedNames.{opening}
-use Rattle.cacache_loss.specs.Moments.{after}
-use Rattle.cacache_loss.specs.Running.{moment_of}
+use Rattle.cacache_loss.specs.{ChangedNames.{opening}, Moments.{after}, Running.{moment_of}}
 use Rattle.cacache_world.proofs.losing.replay.Given as goal
 
 abbrev pub invariant-loop-i : goal.invariant-loop-i

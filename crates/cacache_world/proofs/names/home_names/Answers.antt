@@ -1,8 +1,5 @@
-use Rattle.std.proofs.Common.{◌==◌, ◌++◌, ◌∷◌, [], lit<, length, sym, ap, ◌∙◌}
+use Rattle.std.proofs.{Common.{◌==◌, ◌++◌, ◌∷◌, [], lit<, length, sym, ap, ◌∙◌}, lemmas.{List.{length_push}, Iterator.{Consumers.{YieldsList-turn, YieldsList-end}, Splits.{YieldsList-from_str_split}}}}
 use Rattle.std.specs.List.{list_any}
-use Rattle.std.proofs.lemmas.List.{length_push}
-use Rattle.std.proofs.lemmas.Iterator.Consumers.{YieldsList-turn, YieldsList-end}
-use Rattle.std.proofs.lemmas.Iterator.Splits.{YieldsList-from_str_split}
 use Rattle.cacache_core.specs.PathNames.{pieces, is_above, is_name}
 use Rattle.cacache_disk.proofs.NameLemmas.{filter_yes, filter_no, none_yet, one_passes}
 use Rattle.cacache_world.proofs.NamesOfPaths.{home_nul, home_above, home_all}

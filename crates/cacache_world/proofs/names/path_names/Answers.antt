@@ -1,6 +1,4 @@
-use Rattle.std.proofs.Common.{subst, option_map}
-use Rattle.std.proofs.Common.{◌≡◌}
-use Rattle.std.specs.Prelude.{IfOk}
+use Rattle.std.{proofs.Common.{subst, option_map, ◌≡◌}, specs.Prelude.{IfOk}}
 use Rattle.cacache_world.proofs.NamesOfPaths.{no_names, names_home}
 use Rattle.cacache_world.proofs.names.path_names.Goals as goal
 

@@ -1,7 +1,6 @@
 use Rattle.std.proofs.Common.{ap, ◌∙◌, sym}
-use Rattle.cacache_history.specs.Setup.{may_export}
+use Rattle.cacache_history.{specs.Setup.{may_export}, proofs.Proper.{export_elsewhere}}
 use Rattle.cacache_world.specs.WorldKept.{setup_of}
-use Rattle.cacache_history.proofs.Proper.{export_elsewhere}
 use Rattle.cacache_world.proofs.outside.plant.Goals as goal
 
 pub returns-in-Ok-Ok-clause-free : goal.returns-in-Ok-Ok-clause-free

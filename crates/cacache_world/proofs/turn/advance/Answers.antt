@@ -1,10 +1,7 @@
 use Rattle.std.proofs.Common.{Some, sym, ap, subst, ◌∙◌, refl}
-use Rattle.cacache_store.specs.Plain.{plain_step}
-use Rattle.cacache_store.proofs.Plain.{plain_step_same, plain_answer_same}
-use Rattle.cacache_table.specs.Table.{after}
-use Rattle.cacache_table.specs.Runs.{plain_reply}
-use Rattle.cacache_world.specs.Turned.{GoesInto, AreOwn}
-use Rattle.cacache_world.proofs.Turning.{wanted_out, not_over}
+use Rattle.cacache_store.{specs.Plain.{plain_step}, proofs.Plain.{plain_step_same, plain_answer_same}}
+use Rattle.cacache_table.specs.{Table.{after}, Runs.{plain_reply}}
+use Rattle.cacache_world.{specs.Turned.{GoesInto, AreOwn}, proofs.Turning.{wanted_out, not_over}}
 use Rattle.cacache_world.proofs.turn.advance.Goals as goal
 
 pub returns-in-Over : goal.returns-in-Over

@@ -4,8 +4,7 @@ use Rattle.cacache_table.specs.declared.command.Command.TheVariants as commands
 use Rattle.cacache_table.specs.declared.reply.Reply.TheVariants.{Stored}
 use Rattle.cacache_put.specs.Options.{Said}
 use Rattle.cacache_sequence.specs.Inserts.{plain_insert}
-use Rattle.uses.proofs.Told.{called}
-use Rattle.uses.proofs.Indexed.{timed, inserted}
+use Rattle.uses.proofs.{Told.{called}, Indexed.{timed, inserted}}
 use Rattle.uses.proofs.inserting.insert.Goals as goal
 
 pub returns : goal.returns

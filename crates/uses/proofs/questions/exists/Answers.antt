@@ -1,8 +1,7 @@
 use Rattle.std.proofs.Common.{refl}
 use Rattle.cacache_table.specs.declared.command.Command.TheVariants as commands
 use Rattle.cacache_table.specs.declared.reply.Reply.TheVariants.{Exists}
-use Rattle.uses.proofs.Asked.{there_told, absent_told}
-use Rattle.uses.proofs.Told.{called}
+use Rattle.uses.proofs.{Asked.{there_told, absent_told}, Told.{called}}
 use Rattle.uses.proofs.questions.exists.Goals as goal
 
 pub returns : goal.returns

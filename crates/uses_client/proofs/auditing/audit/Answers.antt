@@ -1,9 +1,7 @@
 -- Each verdict is on the store that the listing found.
 use Rattle.std.proofs.Common.{[], ◌∷◌, ◌++◌, ap, subst, sym, ◌∙◌}
 use Rattle.cacache.specs.Entries.{Found}
-use Rattle.uses_client.specs.declared.auditing.Verdict.{Verdict}
-use Rattle.uses_client.specs.Audits.{AreRight, IsRight, entries_in}
-use Rattle.uses_client.proofs.Audited.{entries_more, right_more, right_on}
+use Rattle.uses_client.{specs.{declared.auditing.Verdict.{Verdict}, Audits.{AreRight, IsRight, entries_in}}, proofs.Audited.{entries_more, right_more, right_on}}
 use Rattle.uses_client.proofs.auditing.audit.Goals as goal
 
 pub loop-entry-preserved : goal.loop-entry-preserved

@@ -1,10 +1,7 @@
 -- A writer opens, takes all bytes and commits, or is given up.
 use Rattle.std.proofs.Common.{◌≡◌, Some, [], length, arith, ap, rules, subst, sym, ◌∙◌}
-use Rattle.cacache.specs.Calls.{Said}
-use Rattle.cacache.specs.Integrities.{Sha256, integrity_under}
-use Rattle.cacache.specs.Laws.{LeavesKnownCache, SaysFit, view}
-use Rattle.uses_client.specs.Packages.{package_said}
-use Rattle.uses_client.proofs.Installed.{key_leads, lies_free}
+use Rattle.cacache.specs.{Calls.{Said}, Integrities.{Sha256, integrity_under}, Laws.{LeavesKnownCache, SaysFit, view}}
+use Rattle.uses_client.{specs.Packages.{package_said}, proofs.Installed.{key_leads, lies_free}}
 use Rattle.uses_client.proofs.installing.install.Goals as goal
 
 pub returns-in_err-opened : goal.returns-in_err-opened

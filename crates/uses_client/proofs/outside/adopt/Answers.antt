@@ -1,9 +1,6 @@
 -- A linker opens, is read, and commits; what is read is what the file shows, to which the link leads.
 use Rattle.std.proofs.Common.{◌≡◌, ◌∙◌, Some, [], ap, option_map, refl, rules, sym}
-use Rattle.cacache.specs.Calls.{nothing_said}
-use Rattle.cacache.specs.Entries.{Found}
-use Rattle.cacache.specs.Integrities.{Sha256, integrity_under}
-use Rattle.cacache.specs.Laws.{based, lies_under, shown}
+use Rattle.cacache.specs.{Calls.{nothing_said}, Entries.{Found}, Integrities.{Sha256, integrity_under}, Laws.{based, lies_under, shown}}
 use Rattle.uses_client.proofs.outside.adopt.Goals as goal
 
 pub returns-in_err-linker : goal.returns-in_err-linker

@@ -1,6 +1,5 @@
 use Rattle.std.proofs.Common.{Ok, subst}
-use Rattle.cacache.specs.Histories.{IsStanding, LeftRead, LeftWritten}
-use Rattle.cacache.specs.Integrities.{Sha256}
+use Rattle.cacache.specs.{Histories.{IsStanding, LeftRead, LeftWritten}, Integrities.{Sha256}}
 use Rattle.uses_worlds.proofs.Losses.{goes_on_here}
 use Rattle.uses_worlds.proofs.losing.goes_on.Goals as goal
 

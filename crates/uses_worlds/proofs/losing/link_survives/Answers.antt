@@ -1,7 +1,6 @@
 use Rattle.std.proofs.Common.{subst}
 use Rattle.cacache.specs.Histories.{IsStanding, LeftRead}
-use Rattle.uses_worlds.specs.Losses.{LinkSurvives}
-use Rattle.uses_worlds.proofs.Losses.{handed_on, link_here, linked_too, refused_link}
+use Rattle.uses_worlds.{specs.Losses.{LinkSurvives}, proofs.Losses.{handed_on, link_here, linked_too, refused_link}}
 use Rattle.uses_worlds.proofs.losing.link_survives.Goals as goal
 
 pub returns-in_err-env : goal.returns-in_err-env

@@ -1,7 +1,6 @@
 use Rattle.std.proofs.Common.{subst}
 use Rattle.cacache.specs.Histories.{IsStanding, LeftRead}
-use Rattle.uses_worlds.specs.Losses.{Survives, SurvivesAlone}
-use Rattle.uses_worlds.proofs.Losses.{alone_here, handed_on, refused, refused_alone, survives_here}
+use Rattle.uses_worlds.{specs.Losses.{Survives, SurvivesAlone}, proofs.Losses.{alone_here, handed_on, refused, refused_alone, survives_here}}
 use Rattle.uses_worlds.proofs.losing.survives.Goals as goal
 
 pub returns-in_err-env-clause-left : goal.returns-in_err-env-clause-left

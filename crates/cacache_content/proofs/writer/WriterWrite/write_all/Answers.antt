@@ -1,7 +1,6 @@
 use Rattle.std.proofs.Common.{rules, inl, inr}
-use Rattle.cacache_content.proofs.Writes.{appends_nothing, went_further, went_no_further, part_taken, rest_left, tried_more, too_often}
+use Rattle.cacache_content.proofs.{Writes.{appends_nothing, went_further, went_no_further, part_taken, rest_left, tried_more, too_often}, writer.WriterWrite.write_all.Goals.{in-Ok, in-Err}}
 use Rattle.cacache_content.proofs.writer.WriterWrite.write_all.Goals as goal
-use Rattle.cacache_content.proofs.writer.WriterWrite.write_all.Goals.{in-Ok, in-Err}
 
 -- the write that took nothing
 pub returns-in-Ok-eq0-clause-part : goal.returns-in-Ok-eq0-clause-part

@@ -1,7 +1,6 @@
 -- What was handed over so far is a beginning of the buffer, and each write took some of it or was interrupted.
 use Rattle.std.proofs.Common.{◌≤◌, ◌<◌, ◌^◌, ◌⊎◌, length, take}
-use Rattle.cacache_content.specs.OpenWrites.{IsInterrupted}
-use Rattle.cacache_content.proofs.Writes.{Went}
+use Rattle.cacache_content.{specs.OpenWrites.{IsInterrupted}, proofs.Writes.{Went}}
 use Rattle.cacache_content.proofs.writer.WriterWrite.write_all.Given as goal
 
 abbrev pub invariant-loop-tries : goal.invariant-loop-tries

@@ -1,7 +1,5 @@
-use Rattle.std.proofs.Common.{◌≡◌}
-use Rattle.std.specs.Prelude.{filter}
-use Rattle.cacache_core.specs.declared.integrity.algorithm.Algorithm.TheVariants.{Sha1, Sha256, Sha384, Sha512}
-use Rattle.cacache_core.specs.Integrity.{is_of}
+use Rattle.std.{proofs.Common.{◌≡◌}, specs.Prelude.{filter}}
+use Rattle.cacache_core.specs.{declared.integrity.algorithm.Algorithm.TheVariants.{Sha1, Sha256, Sha384, Sha512}, Integrity.{is_of}}
 use Rattle.cacache_core.proofs.integrity.reading.in_order.Given as goal
 
 abbrev pub invariant-loop-hash : goal.invariant-loop-hash

@@ -1,8 +1,5 @@
-use Rattle.std.proofs.Common.{◌∙◌}
-use Rattle.std.proofs.lemmas.List.Elements.{All-push}
-use Rattle.cacache_core.specs.Integrity.{IsHash}
-use Rattle.cacache_core.specs.Texts.{words}
-use Rattle.cacache_core.proofs.ReadLemmas.{read_more}
+use Rattle.std.proofs.{Common.{◌∙◌}, lemmas.List.Elements.{All-push}}
+use Rattle.cacache_core.{specs.{Integrity.{IsHash}, Texts.{words}}, proofs.ReadLemmas.{read_more}}
 use Rattle.cacache_core.proofs.integrity.reading.read_hashes.Goals as goal
 
 pub loop-word-preserved : goal.loop-word-preserved

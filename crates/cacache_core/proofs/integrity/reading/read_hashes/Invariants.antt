@@ -1,8 +1,5 @@
-use Rattle.std.proofs.Common.{◌≡◌, length}
-use Rattle.std.specs.Prelude.{All}
-use Rattle.cacache_core.proofs.ReadLemmas.{before}
-use Rattle.cacache_core.specs.Integrity.{IsHash}
-use Rattle.cacache_core.specs.Texts.{words, read_words}
+use Rattle.std.{proofs.Common.{◌≡◌, length}, specs.Prelude.{All}}
+use Rattle.cacache_core.{proofs.ReadLemmas.{before}, specs.{Integrity.{IsHash}, Texts.{words, read_words}}}
 use Rattle.cacache_core.proofs.integrity.reading.read_hashes.Given as goal
 
 abbrev pub invariant-loop-word : goal.invariant-loop-word

@@ -1,8 +1,5 @@
 use Rattle.std.proofs.Common.{◌≡◌, sym, subst}
-use Rattle.cacache_disk.specs.Tree.{Tree}
-use Rattle.cacache_disk.specs.Apply.{apply}
-use Rattle.cacache_disk.specs.Plans.{changed}
-use Rattle.cacache_disk.proofs.KeptFolders.{made_or_not, outcome_rooted, on_ok}
+use Rattle.cacache_disk.{specs.{Tree.{Tree}, Apply.{apply}, Plans.{changed}}, proofs.KeptFolders.{made_or_not, outcome_rooted, on_ok}}
 use Rattle.cacache_disk.proofs.disk.Disk.apply_logged.Goals as goal
 
 pub invariant_of-self : goal.invariant_of-self

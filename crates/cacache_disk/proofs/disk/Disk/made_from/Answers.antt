@@ -1,6 +1,5 @@
 use Rattle.std.proofs.Common.{◌∙◌, subst}
-use Rattle.cacache_disk.specs.Deepest.{IsDeepest}
-use Rattle.cacache_disk.proofs.Standing.{dirs_is, makes_from}
+use Rattle.cacache_disk.{specs.Deepest.{IsDeepest}, proofs.Standing.{dirs_is, makes_from}}
 use Rattle.cacache_disk.proofs.disk.Disk.made_from.Goals as goal
 
 pub returns-in-None-clause-ok : goal.returns-in-None-clause-ok

@@ -1,8 +1,5 @@
-use Rattle.std.proofs.Common.{◌≡◌, ◌∙◌, ◌-◌, length, sym, ap, subst, arith}
-use Rattle.std.specs.Prelude.{None, Some}
-use Rattle.cacache_disk.specs.LedTo.{or_fault}
-use Rattle.cacache_disk.specs.Deepest.{IsDeepest, way_past}
-use Rattle.cacache_disk.proofs.Standing.{place_is, missing_whole}
+use Rattle.std.{proofs.Common.{◌≡◌, ◌∙◌, ◌-◌, length, sym, ap, subst, arith}, specs.Prelude.{None, Some}}
+use Rattle.cacache_disk.{specs.{LedTo.{or_fault}, Deepest.{IsDeepest, way_past}}, proofs.Standing.{place_is, missing_whole}}
 use Rattle.cacache_disk.proofs.disk.Disk.place.Goals as goal
 
 pub returns-in-Some-clause-err : goal.returns-in-Some-clause-err

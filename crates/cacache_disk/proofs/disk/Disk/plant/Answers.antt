@@ -1,10 +1,5 @@
-use Rattle.std.proofs.Common.{◌≡◌, sym, subst}
-use Rattle.std.specs.Prelude.{Ok}
-use Rattle.cacache_disk.specs.Tree.{Tree}
-use Rattle.cacache_disk.specs.Apply.{planted}
-use Rattle.cacache_disk.specs.Plans.{changed}
-use Rattle.cacache_disk.proofs.KeptFolders.{made_or_not, if_on_ok}
-use Rattle.cacache_disk.proofs.PlantedNodes.{planted_rooted}
+use Rattle.std.{proofs.Common.{◌≡◌, sym, subst}, specs.Prelude.{Ok}}
+use Rattle.cacache_disk.{specs.{Tree.{Tree}, Apply.{planted}, Plans.{changed}}, proofs.{KeptFolders.{made_or_not, if_on_ok}, PlantedNodes.{planted_rooted}}}
 use Rattle.cacache_disk.proofs.disk.Disk.plant.Goals as goal
 
 pub invariant_of-self : goal.invariant_of-self

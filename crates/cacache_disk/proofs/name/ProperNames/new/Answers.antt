@@ -1,5 +1,4 @@
-use Rattle.std.proofs.Common.{sym, subst}
-use Rattle.std.proofs.lemmas.List.Elements.{All-nil}
+use Rattle.std.proofs.{Common.{sym, subst}, lemmas.List.Elements.{All-nil}}
 use Rattle.cacache_core.specs.PathNames.{IsProperName}
 use Rattle.cacache_store.specs.Fits.{AreProperNames}
 use Rattle.cacache_disk.proofs.name.ProperNames.new.Goals as goal

@@ -1,6 +1,5 @@
 use Rattle.std.proofs.Common.{◌∙◌, ap}
-use Rattle.cacache_disk.specs.Tree.{cut}
-use Rattle.cacache_disk.proofs.Maps.{cut_map}
+use Rattle.cacache_disk.{specs.Tree.{cut}, proofs.Maps.{cut_map}}
 use Rattle.cacache_disk.proofs.nodes.Nodes.cut.Goals as goal
 
 pub returns : goal.returns

@@ -1,5 +1,4 @@
-use Rattle.std.proofs.Common.{◌≡◌, ◌-◌, length, take}
-use Rattle.std.specs.Prelude.{None}
+use Rattle.std.{proofs.Common.{◌≡◌, ◌-◌, length, take}, specs.Prelude.{None}}
 use Rattle.cacache_disk.specs.Tree.{look}
 use Rattle.cacache_disk.proofs.nodes.Nodes.deepest.Given as goal
 

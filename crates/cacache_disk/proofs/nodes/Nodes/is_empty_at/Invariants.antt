@@ -1,7 +1,5 @@
-use Rattle.std.proofs.Common.{◌≡◌}
-use Rattle.std.specs.List.{filter_map}
-use Rattle.cacache_disk.specs.Tree.{listing, child_of}
-use Rattle.cacache_disk.proofs.Below.{Stops}
+use Rattle.std.{proofs.Common.{◌≡◌}, specs.List.{filter_map}}
+use Rattle.cacache_disk.{specs.Tree.{listing, child_of}, proofs.Below.{Stops}}
 use Rattle.cacache_disk.proofs.nodes.Nodes.is_empty_at.Given as goal
 
 abbrev pub invariant-loop-path : goal.invariant-loop-path

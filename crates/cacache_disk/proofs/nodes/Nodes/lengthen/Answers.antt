@@ -1,9 +1,6 @@
-use Rattle.std.proofs.Common.{◌∙◌, ◌++◌, refl, sym, ap, subst}
-use Rattle.std.specs.Prelude.{Result, Ok, Err, OnOk, OnErr, Some, IsSome}
+use Rattle.std.{proofs.Common.{◌∙◌, ◌++◌, refl, sym, ap, subst}, specs.Prelude.{Result, Ok, Err, OnOk, OnErr, Some, IsSome}}
 use Rattle.std.specs.FinMap as map
-use Rattle.cacache_disk.specs.declared.node.Node.TheVariants.{File}
-use Rattle.cacache_disk.specs.Tree.{put, bytes_of}
-use Rattle.cacache_disk.proofs.Maps.{get_map, written_map, put_same}
+use Rattle.cacache_disk.{specs.{declared.node.Node.TheVariants.{File}, Tree.{put, bytes_of}}, proofs.Maps.{get_map, written_map, put_same}}
 use Rattle.cacache_disk.proofs.nodes.Nodes.lengthen.Goals as goal
 
 on_ok : {X E : Type 0} {A B : Type 0} (r : Result X E) → (A → B) → OnOk r A → OnOk r B

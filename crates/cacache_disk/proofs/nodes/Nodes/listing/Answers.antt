@@ -1,7 +1,5 @@
-use Rattle.std.proofs.Common.{◌∙◌, ◌++◌, ap}
-use Rattle.std.specs.List.{filter_map}
-use Rattle.cacache_disk.specs.Tree.{child_of}
-use Rattle.cacache_disk.proofs.Below.{listing_from, stops_from}
+use Rattle.std.{proofs.Common.{◌∙◌, ◌++◌, ap}, specs.List.{filter_map}}
+use Rattle.cacache_disk.{specs.Tree.{child_of}, proofs.Below.{listing_from, stops_from}}
 use Rattle.cacache_disk.proofs.nodes.Nodes.listing.Goals as goal
 
 pub loop-path-init : goal.loop-path-init

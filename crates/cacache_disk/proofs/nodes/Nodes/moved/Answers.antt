@@ -1,7 +1,5 @@
 use Rattle.std.proofs.Common.{◌∙◌, sym, ap}
-use Rattle.cacache_disk.specs.declared.node.Node.TheVariants.{File}
-use Rattle.cacache_disk.specs.Tree.{cut}
-use Rattle.cacache_disk.proofs.PutNodes.{cut-put_apart, put-cut_same, eq-false, eq-true}
+use Rattle.cacache_disk.{specs.{declared.node.Node.TheVariants.{File}, Tree.{cut}}, proofs.PutNodes.{cut-put_apart, put-cut_same, eq-false, eq-true}}
 use Rattle.cacache_disk.proofs.nodes.Nodes.moved.Goals as goal
 
 pub returns-then-not-stays-clause-ok : goal.returns-then-not-stays-clause-ok

@@ -1,6 +1,5 @@
-use Rattle.std.proofs.Common.{◌∙◌, ◌++◌, sym, ap}
+use Rattle.std.{proofs.Common.{◌∙◌, ◌++◌, sym, ap}, specs.Prelude.{map as keys_of}}
 use Rattle.std.specs.FinMap as map
-use Rattle.std.specs.Prelude.{map as keys_of}
 use Rattle.cacache_disk.proofs.Maps.{entries_map}
 use Rattle.cacache_disk.proofs.nodes.Nodes.paths.Goals as goal
 

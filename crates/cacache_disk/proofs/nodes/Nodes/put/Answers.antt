@@ -1,6 +1,5 @@
 use Rattle.std.proofs.Common.{◌∙◌, ap}
-use Rattle.cacache_disk.specs.Tree.{put}
-use Rattle.cacache_disk.proofs.Maps.{put_map}
+use Rattle.cacache_disk.{specs.Tree.{put}, proofs.Maps.{put_map}}
 use Rattle.cacache_disk.proofs.nodes.Nodes.put.Goals as goal
 
 pub returns-clause-ok : goal.returns-clause-ok

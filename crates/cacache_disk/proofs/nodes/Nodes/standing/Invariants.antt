@@ -1,5 +1,4 @@
-use Rattle.std.proofs.Common.{◌≡◌, ◌++◌}
-use Rattle.std.specs.Prelude.{map as each}
+use Rattle.std.{proofs.Common.{◌≡◌, ◌++◌}, specs.Prelude.{map as each}}
 use Rattle.cacache_disk.specs.AllStanding.{item_of, all_standing}
 use Rattle.cacache_disk.proofs.nodes.Nodes.standing.Given as goal
 

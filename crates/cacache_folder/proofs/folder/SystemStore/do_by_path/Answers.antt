@@ -3,15 +3,12 @@ use Rattle.std_io.specs.IoError.{error_kind}
 use Rattle.cacache_system.specs.declared.call.SystemCall.TheVariants as asks
 use Rattle.cacache_system.specs.declared.call.CallResult.TheVariants as says
 use Rattle.std_io.specs.declared.io.kind.ErrorKind.TheVariants as kind
-use Rattle.cacache_system.specs.CallLog.{said}
+use Rattle.cacache_system.specs.{CallLog.{said}, AnswersOf.{StepRuns, failed_with}}
 use Rattle.cacache_system.specs.CallsOf as calls
 use Rattle.cacache_store.specs.declared.store.step.Step.TheVariants as steps
 use Rattle.cacache_store.specs.declared.store.answer.Answer.TheVariants as answers
-use Rattle.cacache_system.specs.AnswersOf.{StepRuns, failed_with}
 use Rattle.cacache_folder.specs.FolderNumbers.{numbered, answered, answered_or, value_or}
-use Rattle.cacache_folder.proofs.CallRuns.{run_one, run_none}
-use Rattle.cacache_folder.proofs.Answering.{answers_run, answers_call, arm_as, arm_run, temp_of}
-use Rattle.cacache_folder.proofs.ByPath.{by_path, by_file, whole_of}
+use Rattle.cacache_folder.proofs.{CallRuns.{run_one, run_none}, Answering.{answers_run, answers_call, arm_as, arm_run, temp_of}, ByPath.{by_path, by_file, whole_of}}
 use Rattle.cacache_folder.proofs.folder.SystemStore.do_by_path.Goals as goal
 
 pub returns-in-MakeDirs-clause-ran : goal.returns-in-MakeDirs-clause-ran

@@ -2,11 +2,10 @@ use Rattle.std.proofs.Common.{◌≡◌, true, false, [], ◌∷◌, take, lengt
 use Rattle.std_io.specs.IoError.{error_kind}
 use Rattle.cacache_system.specs.declared.call.SystemCall.TheVariants as asks
 use Rattle.cacache_system.specs.declared.call.CallResult.TheVariants as says
-use Rattle.cacache_system.specs.CallLog.{said}
+use Rattle.cacache_system.specs.{CallLog.{said}, AnswersOf.{failed_with}}
 use Rattle.cacache_system.specs.CallsOf as calls
 use Rattle.cacache_store.specs.declared.store.step.Step.TheVariants as steps
 use Rattle.cacache_store.specs.declared.store.answer.Answer.TheVariants as answers
-use Rattle.cacache_system.specs.AnswersOf.{failed_with}
 use Rattle.cacache_folder.proofs.Answering.{dirs_answer}
 use Rattle.cacache_folder.proofs.folder.SystemStore.make_dirs.Goals as goal
 

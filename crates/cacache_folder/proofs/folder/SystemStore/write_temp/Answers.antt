@@ -4,8 +4,7 @@ use Rattle.cacache_system.specs.declared.call.SystemCall.TheVariants as asks
 use Rattle.cacache_system.specs.declared.call.CallResult.TheVariants as says
 use Rattle.cacache_system.specs.CallLog.{said}
 use Rattle.cacache_system.specs.CallsOf as calls
-use Rattle.cacache_folder.proofs.CallRuns.{insists_run}
-use Rattle.cacache_folder.proofs.Answering.{answers_run, writes, write_told, write_failed}
+use Rattle.cacache_folder.proofs.{CallRuns.{insists_run}, Answering.{answers_run, writes, write_told, write_failed}}
 use Rattle.cacache_folder.proofs.folder.SystemStore.write_temp.Goals as goal
 
 pub returns-in-Ok-clause-ran : goal.returns-in-Ok-clause-ran

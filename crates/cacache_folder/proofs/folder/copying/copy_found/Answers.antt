@@ -4,8 +4,7 @@ use Rattle.cacache_system.specs.declared.call.SystemCall.TheVariants as asks
 use Rattle.cacache_system.specs.declared.call.CallResult.TheVariants as says
 use Rattle.cacache_system.specs.CallLog.{said}
 use Rattle.cacache_system.specs.CallsOf as calls
-use Rattle.cacache_folder.proofs.Copying.{copied_out}
-use Rattle.cacache_folder.proofs.CallRuns.{run_call, run_as}
+use Rattle.cacache_folder.proofs.{Copying.{copied_out}, CallRuns.{run_call, run_as}}
 use Rattle.cacache_folder.proofs.folder.copying.copy_found.Goals as goal
 
 pub returns-else-is_onto_itself : goal.returns-else-is_onto_itself

@@ -1,5 +1,4 @@
-use Rattle.std.specs.Prelude.{Bool, ◌||◌}
-use Rattle.std.proofs.Common.{◌∙◌, ap₂}
+use Rattle.std.{specs.Prelude.{Bool, ◌||◌}, proofs.Common.{◌∙◌, ap₂}}
 use Rattle.cacache_folder.proofs.FolderNames.{either_ends}
 use Rattle.cacache_folder.proofs.folder.entries.has_end.Goals as goal
 

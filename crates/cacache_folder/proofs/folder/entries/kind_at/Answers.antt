@@ -1,12 +1,10 @@
-use Rattle.std.proofs.Common.{◌≡◌, true, false, if◌then◌else◌, refl, sym, ap, ◌∙◌}
-use Rattle.std.specs.Prelude.{Some}
+use Rattle.std.{proofs.Common.{◌≡◌, true, false, if◌then◌else◌, refl, sym, ap, ◌∙◌}, specs.Prelude.{Some}}
 use Rattle.std_io.specs.IoError.{error_kind}
 use Rattle.std_io.specs.declared.io.kind.ErrorKind.TheVariants as kind
 use Rattle.cacache_system.specs.declared.call.SystemCall.TheVariants as asks
 use Rattle.cacache_system.specs.declared.call.CallResult.TheVariants as says
 use Rattle.cacache_system.specs.CallsOf.{over, asking_kind, next_name, is_absent}
-use Rattle.cacache_folder.proofs.CallRuns.{run_call, run_refused}
-use Rattle.cacache_folder.proofs.Listings.{leads_as, leads_call, fails_call}
+use Rattle.cacache_folder.proofs.{CallRuns.{run_call, run_refused}, Listings.{leads_as, leads_call, fails_call}}
 use Rattle.cacache_folder.proofs.folder.entries.kind_at.Goals as goal
 
 pub returns-in-Ok-note : goal.returns-in-Ok-note

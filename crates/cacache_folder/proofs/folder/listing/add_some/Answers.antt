@@ -1,9 +1,8 @@
 use Rattle.std.proofs.Common.{◌≡◌, ◌≢◌, ◌∙◌, take, length, arith, length-take-le, refl, sym, ap, subst}
 use Rattle.std_io.specs.IoError.{error_kind}
 use Rattle.cacache_system.specs.declared.call.CallResult.TheVariants as says
-use Rattle.cacache_folder.specs.Interruptions.{Insists}
+use Rattle.cacache_folder.{specs.Interruptions.{Insists}, proofs.ListedFolders.{reads_none, reads_some, reads_stops, reads_fails}}
 use Rattle.cacache_system.specs.declared.call.SystemCall.TheVariants.{ReadNames}
-use Rattle.cacache_folder.proofs.ListedFolders.{reads_none, reads_some, reads_stops, reads_fails}
 use Rattle.cacache_folder.proofs.folder.listing.add_some.Goals as goal
 
 pub returns-then-count-eq0-clause-ran : goal.returns-then-count-eq0-clause-ran

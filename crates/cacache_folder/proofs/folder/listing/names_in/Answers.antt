@@ -1,6 +1,5 @@
 use Rattle.std.proofs.Common.{◌≡◌, ◌∙◌, length}
-use Rattle.cacache_folder.specs.declared.folder.entries.Listed.{Listed}
-use Rattle.cacache_folder.proofs.ListedFolders.{not_empty, lists_folder, lists_not}
+use Rattle.cacache_folder.{specs.declared.folder.entries.Listed.{Listed}, proofs.ListedFolders.{not_empty, lists_folder, lists_not}}
 use Rattle.cacache_folder.proofs.folder.listing.names_in.Goals as goal
 
 pub returns-in-Ok-open_folder-clause-ran : goal.returns-in-Ok-open_folder-clause-ran

@@ -1,5 +1,4 @@
-use Rattle.std.proofs.Common.{take, sym, length-take-le}
-use Rattle.std.proofs.lemmas.List.{take-append-le}
+use Rattle.std.proofs.{Common.{take, sym, length-take-le}, lemmas.List.{take-append-le}}
 use Rattle.std_io.specs.IoError.{error_kind}
 use Rattle.cacache_folder.proofs.Reading.{insists_as, insists_fails}
 use Rattle.cacache_folder.proofs.folder.opened.read_front.Goals as goal

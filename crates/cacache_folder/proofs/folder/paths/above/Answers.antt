@@ -1,6 +1,4 @@
-use Rattle.std.proofs.Common.{length, arith, rules, refl}
-use Rattle.std.specs.Prelude.{Some, None}
-use Rattle.std.proofs.lemmas.Str.Pattern.{rfind_char}
+use Rattle.std.{proofs.{Common.{length, arith, rules, refl}, lemmas.Str.Pattern.{rfind_char}}, specs.Prelude.{Some, None}}
 use Rattle.cacache_folder.proofs.Slashes.{found_slash, no_slash}
 use Rattle.cacache_folder.proofs.folder.paths.above.Goals as goal
 

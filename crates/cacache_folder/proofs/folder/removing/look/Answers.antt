@@ -4,8 +4,7 @@ use Rattle.cacache_system.specs.declared.call.SystemCall.TheVariants as asks
 use Rattle.cacache_system.specs.declared.call.CallResult.TheVariants as says
 use Rattle.cacache_system.specs.CallLog.{said}
 use Rattle.cacache_system.specs.CallsOf as calls
-use Rattle.cacache_folder.specs.Looks.{info_of}
-use Rattle.cacache_folder.proofs.Looking.{looks_same, looks_all, looks_fails}
+use Rattle.cacache_folder.{specs.Looks.{info_of}, proofs.Looking.{looks_same, looks_all, looks_fails}}
 use Rattle.cacache_folder.proofs.folder.removing.look.Goals as goal
 
 pub returns-then-is_listed : goal.returns-then-is_listed

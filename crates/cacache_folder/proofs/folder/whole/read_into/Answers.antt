@@ -1,12 +1,10 @@
-use Rattle.std.proofs.Common.{◌≡◌, ◌≤◌, ℕ, true, false, [], ◌∷◌, take, length, min, rules, arith, refl, sym, ap, subst, ◌∙◌}
+use Rattle.std.{proofs.Common.{◌≡◌, ◌≤◌, ℕ, true, false, [], ◌∷◌, take, length, min, rules, arith, refl, sym, ap, subst, ◌∙◌}, specs.Arc.{arc_value}}
 use Rattle.std_io.specs.IoError.{error_kind}
 use Rattle.cacache_system.specs.declared.call.SystemCall.TheVariants as asks
 use Rattle.cacache_system.specs.declared.call.CallResult.TheVariants as says
 use Rattle.cacache_system.specs.CallLog.{said}
 use Rattle.cacache_system.specs.CallsOf as calls
-use Rattle.std.specs.Arc.{arc_value}
-use Rattle.cacache_folder.proofs.CallRuns.{run_as}
-use Rattle.cacache_folder.proofs.Reading.{took_read, took_insists, took_refused, taken_left}
+use Rattle.cacache_folder.proofs.{CallRuns.{run_as}, Reading.{took_read, took_insists, took_refused, taken_left}}
 use Rattle.cacache_folder.proofs.folder.whole.read_into.Goals as goal
 
 pub overflow_sub-file : goal.overflow_sub-file

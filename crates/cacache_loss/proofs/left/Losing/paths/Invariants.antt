@@ -1,5 +1,4 @@
-use Rattle.std.proofs.Common.{◌≡◌, ◌++◌}
-use Rattle.std.specs.BTreeMap.{keys}
+use Rattle.std.{proofs.Common.{◌≡◌, ◌++◌}, specs.BTreeMap.{keys}}
 use Rattle.std.specs.FinMap as map
 use Rattle.cacache_loss.proofs.left.Losing.paths.Given as goal
 

@@ -1,7 +1,5 @@
-use Rattle.std.proofs.Common.{◌∙◌, sym, ap}
-use Rattle.std.specs.Prelude.{Some}
-use Rattle.cacache_memory.specs.Replay.{tree_of}
-use Rattle.cacache_memory.proofs.PlainLuck.{shown-shared}
+use Rattle.std.{proofs.Common.{◌∙◌, sym, ap}, specs.Prelude.{Some}}
+use Rattle.cacache_memory.{specs.Replay.{tree_of}, proofs.PlainLuck.{shown-shared}}
 use Rattle.cacache_memory.proofs.memory.MemStore.bytes.Goals as goal
 
 pub returns-in_ok-from_slice-in-Some-clause-ok : goal.returns-in_ok-from_slice-in-Some-clause-ok

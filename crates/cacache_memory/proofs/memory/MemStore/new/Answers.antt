@@ -1,6 +1,5 @@
 use Rattle.std.proofs.Common.{◌∙◌, sym, ap, subst}
-use Rattle.cacache_memory.specs.Replay.{tree_of, IsLog}
-use Rattle.cacache_memory.proofs.LogSteps.{tree_of-nothing, IsLog-nothing}
+use Rattle.cacache_memory.{specs.Replay.{tree_of, IsLog}, proofs.LogSteps.{tree_of-nothing, IsLog-nothing}}
 use Rattle.cacache_memory.proofs.memory.MemStore.new.Goals as goal
 
 pub invariant_of-result : goal.invariant_of-result

@@ -1,5 +1,4 @@
-use Rattle.std.proofs.Common.{◌≡◌, ◌∷◌, ◌∙◌, subst}
-use Rattle.std.specs.Vec.Iter.{into_iter_items}
+use Rattle.std.{proofs.Common.{◌≡◌, ◌∷◌, ◌∙◌, subst}, specs.Vec.Iter.{into_iter_items}}
 use Rattle.cacache_memory.proofs.Receiving.{Receives, receives_first, receives_next}
 use Rattle.cacache_memory.proofs.memory.MemStore.of.Goals as goal
 

@@ -1,9 +1,7 @@
-use Rattle.std.proofs.Common.{◌∙◌, ◌∷◌, ◌++◌, [], sym, ap}
-use Rattle.std.specs.Result.{result_err}
+use Rattle.std.{proofs.Common.{◌∙◌, ◌∷◌, ◌++◌, [], sym, ap}, specs.Result.{result_err}}
 use Rattle.cacache_store.specs.declared.store.log.LogItem.TheVariants.{Foreign}
 use Rattle.cacache_disk.specs.Apply.{planted}
-use Rattle.cacache_memory.specs.Replay.{changed}
-use Rattle.cacache_memory.proofs.LogSteps.{IsLog-push, tree_of-push}
+use Rattle.cacache_memory.{specs.Replay.{changed}, proofs.LogSteps.{IsLog-push, tree_of-push}}
 use Rattle.cacache_memory.proofs.memory.MemStore.plant_shared.Goals as goal
 
 pub invariant_of-self-in-Ok : goal.invariant_of-self-in-Ok

@@ -1,7 +1,6 @@
 use Rattle.std.proofs.Common.{◌∙◌, ◌∷◌, ◌++◌, [], sym, ap}
 use Rattle.cacache_store.specs.declared.store.log.LogItem.TheVariants.{Made}
-use Rattle.cacache_memory.proofs.LogSteps.{IsLog-push, tree_of-push}
-use Rattle.cacache_memory.proofs.LoggedSteps.{Logs-made}
+use Rattle.cacache_memory.proofs.{LogSteps.{IsLog-push, tree_of-push}, LoggedSteps.{Logs-made}}
 use Rattle.cacache_memory.proofs.memory.MemStoreStore.step.Goals as goal
 
 pub invariant_of-self-2 : goal.invariant_of-self-2

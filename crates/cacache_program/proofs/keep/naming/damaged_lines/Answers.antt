@@ -1,7 +1,6 @@
 -- One line more.
 use Rattle.std.proofs.Common.{sym}
-use Rattle.cacache_program.specs.WordList.{damaged_line}
-use Rattle.cacache_program.proofs.Naming.{line_more}
+use Rattle.cacache_program.{specs.WordList.{damaged_line}, proofs.Naming.{line_more}}
 use Rattle.cacache_program.proofs.keep.naming.damaged_lines.Goals as goal
 
 pub loop-address-preserved : goal.loop-address-preserved

@@ -1,6 +1,5 @@
 -- The lines so far.
-use Rattle.std.proofs.Common.{◌≡◌}
-use Rattle.std.specs.List.{flat_map}
+use Rattle.std.{proofs.Common.{◌≡◌}, specs.List.{flat_map}}
 use Rattle.cacache_program.specs.WordList.{damaged_line}
 use Rattle.cacache_program.proofs.keep.naming.damaged_lines.Given as goal
 

@@ -1,8 +1,7 @@
 -- One line more.
 use Rattle.std.proofs.Common.{sym}
 use Rattle.cacache.specs.Entries.{found_view}
-use Rattle.cacache_program.specs.WordList.{dangling_line}
-use Rattle.cacache_program.proofs.Naming.{viewed_more}
+use Rattle.cacache_program.{specs.WordList.{dangling_line}, proofs.Naming.{viewed_more}}
 use Rattle.cacache_program.proofs.keep.naming.dangling_lines.Goals as goal
 
 pub loop-entry-preserved : goal.loop-entry-preserved

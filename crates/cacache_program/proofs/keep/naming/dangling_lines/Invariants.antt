@@ -1,6 +1,5 @@
 -- The lines so far.
-use Rattle.std.proofs.Common.{◌≡◌, map}
-use Rattle.std.specs.List.{flat_map}
+use Rattle.std.{proofs.Common.{◌≡◌, map}, specs.List.{flat_map}}
 use Rattle.cacache.specs.Entries.{found_view}
 use Rattle.cacache_program.specs.WordList.{dangling_line}
 use Rattle.cacache_program.proofs.keep.naming.dangling_lines.Given as goal

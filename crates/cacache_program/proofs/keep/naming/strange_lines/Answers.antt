@@ -1,7 +1,6 @@
 -- One line more.
 use Rattle.std.proofs.Common.{sym, string_bytes}
-use Rattle.cacache_program.specs.WordList.{strange_line}
-use Rattle.cacache_program.proofs.Naming.{viewed_more}
+use Rattle.cacache_program.{specs.WordList.{strange_line}, proofs.Naming.{viewed_more}}
 use Rattle.cacache_program.proofs.keep.naming.strange_lines.Goals as goal
 
 pub loop-path-preserved : goal.loop-path-preserved

@@ -1,6 +1,5 @@
 -- The lines so far.
-use Rattle.std.proofs.Common.{◌≡◌, map, string_bytes}
-use Rattle.std.specs.List.{flat_map}
+use Rattle.std.{proofs.Common.{◌≡◌, map, string_bytes}, specs.List.{flat_map}}
 use Rattle.cacache_program.specs.WordList.{strange_line}
 use Rattle.cacache_program.proofs.keep.naming.strange_lines.Given as goal
 

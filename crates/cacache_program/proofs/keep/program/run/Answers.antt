@@ -1,15 +1,6 @@
 -- The word that was parsed did what it does, and no other was asked for.
-use Rattle.std.proofs.Common.{◌≡◌, ap, codes, refl, subst}
-use Rattle.std.specs.Prelude.{option_map}
-use Rattle.cacache_program.specs.Words.{asked_of}
-use Rattle.cacache_program.specs.KeepWords.{IsWrong}
-use Rattle.cacache_program.specs.WordVerify.{Verifies}
-use Rattle.cacache_program.specs.WordCollect.{CollectsUnused}
-use Rattle.cacache_program.specs.WordCompact.{Compacts}
-use Rattle.cacache_program.specs.WordPlan.{Plans}
-use Rattle.cacache_program.specs.WordRepair.{Repairs}
-use Rattle.cacache_program.specs.WordSweep.{Sweeps}
-use Rattle.cacache_program.specs.WordList.{ListsVerdict}
+use Rattle.std.{proofs.Common.{◌≡◌, ap, codes, refl, subst}, specs.Prelude.{option_map}}
+use Rattle.cacache_program.specs.{Words.{asked_of}, KeepWords.{IsWrong}, WordVerify.{Verifies}, WordCollect.{CollectsUnused}, WordCompact.{Compacts}, WordPlan.{Plans}, WordRepair.{Repairs}, WordSweep.{Sweeps}, WordList.{ListsVerdict}}
 use Rattle.cacache_program.proofs.Asking.{asked_as, keyed_by, not_keyed, not_unkeyed, other_unkeyed, unkeyed_holds}
 use Rattle.cacache_program.proofs.keep.program.run.Goals as goal
 

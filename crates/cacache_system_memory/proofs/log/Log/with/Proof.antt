@@ -25,13 +25,11 @@ use denote.Triple.Entry.{alive}
 use denote.Triple.Spec.{Meets, triple_of}
 use denote.Triple.Table.{entered}
 use denote.Triple.Walked.{says, Stays, stay_dropped, walk_of, ends_at, walk_Meets, Goes-dropped}
-use Rattle.cacache_system_memory.proofs.Empty.{none, none_made}
+use Rattle.cacache_system_memory.{proofs.Empty.{none, none_made}, specs.{Noted.{items_of, noted}, contracts.log.Log.with.Key.{name as #self}}}
 use Rattle.cacache_system_memory.specs.contracts.log.Log as Log
 use Rattle.cacache_system_memory.specs.contracts.log.LoggedCalls as Kept
 use Rattle.cacache_system_memory.specs.contracts.log.Note as Note
-use Rattle.cacache_system_memory.specs.Noted.{items_of, noted}
 use Rattle.cacache_system_memory.specs.contracts.log.Log.with as F
-use Rattle.cacache_system_memory.specs.contracts.log.Log.with.Key.{name as #self}
 use Rattle.cacache_system_memory.proofs.log.Log.with.Statement as stated
 use Rattle.cacache_system_memory.proofs.log.Log.with.Code as code
 

@@ -1,6 +1,4 @@
-use Rattle.cacache_disk.specs.declared.node.Node.TheVariants.{Folder}
-use Rattle.cacache_disk.specs.Tree.{put}
-use Rattle.cacache_disk.specs.LedTo.{free}
+use Rattle.cacache_disk.specs.{declared.node.Node.TheVariants.{Folder}, Tree.{put}, LedTo.{free}}
 use Rattle.cacache_system_laws.proofs.Saying.{free_say}
 use Rattle.cacache_system_memory.proofs.Goings.{goes_changed}
 use Rattle.cacache_system_memory.proofs.system.MemorySystemSystem.make_folder.Goals as goal

@@ -1,5 +1,4 @@
-use Rattle.cacache_disk.specs.Tree.{cut}
-use Rattle.cacache_disk.specs.LedTo.{removable}
+use Rattle.cacache_disk.specs.{Tree.{cut}, LedTo.{removable}}
 use Rattle.cacache_system_laws.proofs.Saying.{removable_say}
 use Rattle.cacache_system_memory.proofs.Goings.{goes_changed}
 use Rattle.cacache_system_memory.proofs.system.MemorySystemSystem.remove_file.Goals as goal

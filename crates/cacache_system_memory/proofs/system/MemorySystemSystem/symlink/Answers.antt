@@ -1,6 +1,4 @@
-use Rattle.cacache_disk.specs.declared.node.Node.TheVariants.{Link}
-use Rattle.cacache_disk.specs.Tree.{put}
-use Rattle.cacache_disk.specs.LedTo.{free}
+use Rattle.cacache_disk.specs.{declared.node.Node.TheVariants.{Link}, Tree.{put}, LedTo.{free}}
 use Rattle.cacache_system_laws.proofs.Saying.{free_say}
 use Rattle.cacache_system_memory.proofs.Goings.{goes_changed}
 use Rattle.cacache_system_memory.proofs.system.MemorySystemSystem.symlink.Goals as goal

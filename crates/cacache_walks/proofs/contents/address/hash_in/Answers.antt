@@ -1,7 +1,6 @@
 use Rattle.std.proofs.Common.{◌≡◌, ◌+◌, ℕ, List, Some, None, length, sym, ap, ◌∙◌, arith}
 use Rattle.cacache_core.specs.Texts.{name_of}
-use Rattle.cacache_walks.specs.Addresses.{digits_of}
-use Rattle.cacache_walks.proofs.TakenApart.{taken, same_digest, decodes, rest_all}
+use Rattle.cacache_walks.{specs.Addresses.{digits_of}, proofs.TakenApart.{taken, same_digest, decodes, rest_all}}
 use Rattle.cacache_walks.proofs.contents.address.hash_in.Goals as goal
 
 pub returns-in_default-clause-hash : goal.returns-in_default-clause-hash

@@ -1,10 +1,5 @@
-use Rattle.std.proofs.Common.{ap}
-use Rattle.std.specs.Cmp.Lexicographic.{options_total}
-use Rattle.std.specs.Ordering.{is_lt}
-use Rattle.std.proofs.lemmas.List.Filters.{dedup_is}
-use Rattle.std.proofs.lemmas.List.Sorted.{answers_always, ranks_by}
-use Rattle.cacache_core.specs.Integrity.{address}
-use Rattle.cacache_core.specs.Same.{same_hashes-Decides, same_hashes-equiv}
+use Rattle.std.{proofs.{Common.{ap}, lemmas.List.{Filters.{dedup_is}, Sorted.{answers_always, ranks_by}}}, specs.{Cmp.Lexicographic.{options_total}, Ordering.{is_lt}}}
+use Rattle.cacache_core.specs.{Integrity.{address}, Same.{same_hashes-Decides, same_hashes-equiv}}
 use Rattle.cacache_walks.proofs.Orders.{addresses_ordered, by_address, hash_total, same_elements}
 use Rattle.cacache_walks.proofs.contents.order.sort_addresses.Goals as goal
 

@@ -1,8 +1,5 @@
-use Rattle.std.proofs.Common.{◌≡◌, ◌==◌, true, false, length, ap, sym, ◌∙◌, []}
-use Rattle.std.proofs.lemmas.Bool.{eqb-true}
-use Rattle.cacache_walks.proofs.Stopping.{error_as, stops_after, stops_deep, stops_visit}
-use Rattle.cacache_walks.proofs.Stumbling.{nothing_in}
-use Rattle.cacache_walks.proofs.VisitSteps.{goes_after, fewer_after}
+use Rattle.std.proofs.{Common.{◌≡◌, ◌==◌, true, false, length, ap, sym, ◌∙◌, []}, lemmas.Bool.{eqb-true}}
+use Rattle.cacache_walks.proofs.{Stopping.{error_as, stops_after, stops_deep, stops_visit}, Stumbling.{nothing_in}, VisitSteps.{goes_after, fewer_after}}
 use Rattle.cacache_walks.proofs.contents.walk.make.Goals as goal
 
 pub returns-clause-goes : goal.returns-clause-goes

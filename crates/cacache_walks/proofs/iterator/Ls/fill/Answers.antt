@@ -1,7 +1,5 @@
-use Rattle.std.proofs.Common.{◌∙◌, ◌++◌, sym}
-use Rattle.std.proofs.lemmas.Bool.{eqb-true}
-use Rattle.cacache_walks.specs.Iterating.{ready}
-use Rattle.cacache_walks.proofs.Filling.{keeps_on, wants_step, gave_next, fewer_steps_than, fewer_by, nothing_in}
+use Rattle.std.proofs.{Common.{◌∙◌, ◌++◌, sym}, lemmas.Bool.{eqb-true}}
+use Rattle.cacache_walks.{specs.Iterating.{ready}, proofs.Filling.{keeps_on, wants_step, gave_next, fewer_steps_than, fewer_by, nothing_in}}
 use Rattle.cacache_walks.proofs.iterator.Ls.fill.Goals as goal
 
 pub visits-smaller : goal.visits-smaller

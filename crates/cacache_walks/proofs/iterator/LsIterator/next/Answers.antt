@@ -1,7 +1,6 @@
 use Rattle.std.proofs.Common.{◌∙◌, ◌++◌, ◌∷◌, [], Err, refl, sym, append-nil}
 use Rattle.cacache_core.specs.declared.errors.Error.TheVariants.{OutOfMemory}
-use Rattle.cacache_walks.specs.Iterating.{IsListing, item_view}
-use Rattle.cacache_walks.proofs.Filling.{given_one, given_last, given_fewer, all_given, same_gave, nothing_in}
+use Rattle.cacache_walks.{specs.Iterating.{IsListing, item_view}, proofs.Filling.{given_one, given_last, given_fewer, all_given, same_gave, nothing_in}}
 use Rattle.cacache_walks.proofs.iterator.LsIterator.next.Goals as goal
 
 pub returns-in-Err-clause-goes : goal.returns-in-Err-clause-goes

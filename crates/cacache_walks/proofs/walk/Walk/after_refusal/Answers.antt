@@ -1,6 +1,5 @@
 use Rattle.cacache_table.specs.Walking.{walk_on}
-use Rattle.cacache_walks.specs.WalkStates.{pending}
-use Rattle.cacache_walks.proofs.Giving.{gave_no}
+use Rattle.cacache_walks.{specs.WalkStates.{pending}, proofs.Giving.{gave_no}}
 use Rattle.cacache_walks.proofs.walk.Walk.after_refusal.Goals as goal
 
 pub returns-else-branch : goal.returns-else-branch

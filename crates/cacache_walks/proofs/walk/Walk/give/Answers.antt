@@ -1,5 +1,4 @@
-use Rattle.std.proofs.Common.{◌≡◌, ◌+◌, ◌≤◌, ◌<◌, ◌++◌, take, length, length-append, sym, arith}
-use Rattle.std.proofs.lemmas.List.{length-take-le}
+use Rattle.std.proofs.{Common.{◌≡◌, ◌+◌, ◌≤◌, ◌<◌, ◌++◌, take, length, length-append, sym, arith}, lemmas.List.{length-take-le}}
 use Rattle.cacache_walks.proofs.Giving.{given_over}
 use Rattle.cacache_walks.proofs.walk.Walk.give.Goals as goal
 

@@ -1,8 +1,6 @@
 use Rattle.std.proofs.Common.{◌≡◌, map}
-use Rattle.cacache_table.specs.Runs.{plain_item}
-use Rattle.cacache_table.specs.Walking.{walk_on, items_in}
-use Rattle.cacache_walks.specs.WalkStates.{pending}
-use Rattle.cacache_walks.proofs.Giving.{gave_no}
+use Rattle.cacache_table.specs.{Runs.{plain_item}, Walking.{walk_on, items_in}}
+use Rattle.cacache_walks.{specs.WalkStates.{pending}, proofs.Giving.{gave_no}}
 use Rattle.cacache_walks.proofs.walk.Walk.give_listed.Goals as goal
 
 pub returns : goal.returns

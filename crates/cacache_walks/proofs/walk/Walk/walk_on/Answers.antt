@@ -1,7 +1,6 @@
 use Rattle.std.proofs.Common.{sym, ◌∙◌}
 use Rattle.cacache_table.specs.Walking.{walk_on}
-use Rattle.cacache_walks.specs.WalkStates.{pending}
-use Rattle.cacache_walks.proofs.Giving.{stumbled, gave_yes, gave_no}
+use Rattle.cacache_walks.{specs.WalkStates.{pending}, proofs.Giving.{stumbled, gave_yes, gave_no}}
 use Rattle.cacache_walks.proofs.walk.Walk.walk_on.Goals as goal
 
 pub loop-task-preserved : goal.loop-task-preserved

@@ -1,11 +1,8 @@
 use Rattle.std.proofs.Common.{◌∙◌, ◌∷◌, ◌++◌, [], None, Some, sym, ap, subst, vec_len, slice_set}
-use Rattle.cacache_history.specs.declared.record.Record.TheVariants.{Moved}
-use Rattle.cacache_history.specs.History.{Made}
-use Rattle.cacache_world.specs.Turned.{reply_after, told_by}
-use Rattle.cacache_world.specs.WorldKept.{history_told, adding, history_of, setup_of, Keeps, AddsRecord, TellsOwn}
-use Rattle.cacache_world.specs.declared.event.Move.TheVariants as moves
+use Rattle.cacache_history.specs.{declared.record.Record.TheVariants.{Moved}, History.{Made}}
+use Rattle.cacache_world.specs.{Turned.{reply_after, told_by}, WorldKept.{history_told, adding, history_of, setup_of, Keeps, AddsRecord, TellsOwn}, Faults.{HasCall}}
 use Rattle.cacache_world.proofs.Worlds.{keeps_call, over_left, tells_own, back_keeps, move_left, told_is, same_parts, keeps_same, keeps_ready, set_again}
-use Rattle.cacache_world.specs.Faults.{HasCall}
+use Rattle.cacache_world.specs.declared.event.Move.TheVariants as moves
 use Rattle.cacache_world.proofs.world.World.move_one.Goals as goal
 
 pub advance-requires : goal.advance-requires

@@ -1,8 +1,7 @@
 use Rattle.std.proofs.Common.{◌∙◌, ◌∷◌, ◌++◌, [], ap, vec_len, subst}
 use Rattle.cacache_history.specs.declared.record.Record.TheVariants.{Stopped}
-use Rattle.cacache_world.specs.WorldKept.{history_told, adding, history_of, setup_of, AddsRecord}
+use Rattle.cacache_world.specs.{WorldKept.{history_told, adding, history_of, setup_of, AddsRecord}, Faults.{HasCall}}
 use Rattle.cacache_world.proofs.Worlds.{keeps_call, stop_left, same_parts, keeps_same}
-use Rattle.cacache_world.specs.Faults.{HasCall}
 use Rattle.cacache_world.proofs.world.World.stop.Goals as goal
 
 pub invariant_of-self-2 : goal.invariant_of-self-2

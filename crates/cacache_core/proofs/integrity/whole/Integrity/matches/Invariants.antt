@@ -1,5 +1,4 @@
-use Rattle.std.proofs.Common.{◌≡◌, ℕ, ◌<◌, List, get_or}
-use Rattle.std.specs.Prelude.{Contains}
+use Rattle.std.{proofs.Common.{◌≡◌, ℕ, ◌<◌, List, get_or}, specs.Prelude.{Contains}}
 use Rattle.cacache_core.specs.Integrity.{hash_of}
 use Rattle.cacache_core.proofs.integrity.whole.Integrity.matches.Given as goal
 

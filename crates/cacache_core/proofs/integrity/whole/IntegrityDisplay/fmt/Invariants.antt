@@ -1,6 +1,4 @@
-use Rattle.std.proofs.Common.{take}
-use Rattle.std.specs.Fmt.{HasWritten, IsPlainFormatter}
-use Rattle.std.specs.List.{flat_map}
+use Rattle.std.{proofs.Common.{take}, specs.{Fmt.{HasWritten, IsPlainFormatter}, List.{flat_map}}}
 use Rattle.cacache_core.proofs.Printing.{spaced}
 use Rattle.cacache_core.proofs.integrity.whole.IntegrityDisplay.fmt.Given as goal
 

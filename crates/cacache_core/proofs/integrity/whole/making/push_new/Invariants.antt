@@ -1,5 +1,4 @@
-use Rattle.std.proofs.Common.{◌≡◌, take}
-use Rattle.std.specs.List.{fold}
+use Rattle.std.{proofs.Common.{◌≡◌, take}, specs.List.{fold}}
 use Rattle.cacache_core.specs.Joining.{with_hash}
 use Rattle.cacache_core.proofs.integrity.whole.making.push_new.Given as goal
 
