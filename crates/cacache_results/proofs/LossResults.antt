@@ -1,24 +1,24 @@
 -- What a loss of power left of durable puts, and what a read of it gives.
-use Rattle.std.proofs.Common.{◌≡◌, ℕ, List, [], ◌∷◌, ◌++◌, Option, None, Some, Vec, Global, Result, Contains, arith, refl, sym, ap, subst, ◌∙◌}
+use Rattle.std.proofs.Common.{◌≡◌, ℕ, List, [], ◌∷◌, ◌++◌, Option, None, Some, Vec, Global, Result, Contains, arith, option_map, refl, sym, ap, subst, ◌∙◌}
 use Rattle.sha1.specs.Sha1.{sha1}
-use Rattle.cacache_core.specs.{declared.{errors.Error.{Error}, integrity.digest.Hash.{Hash}}, Digests.{digest}, Integrity.{Meets, hash_of, integrity_under}, PathNames.{Names, home_of}, Texts.{integrity_text}}
+use Rattle.cacache_core.specs.{declared.{errors.Error.{Error}, integrity.digest.Hash.{Hash}}, Digests.{digest}, Integrity.{IsIntegrity, Meets, hash_of, integrity_under}, PathNames.{Names, home_of}, Texts.{integrity_text}}
 use Rattle.cacache_core.proofs.Printed.{printed}
 use Rattle.cacache_store.specs.declared.{env.Env.{Env}, store.log.LogItem.{LogItem}}
 use Rattle.cacache_disk.specs.{Rooted.{Rooted}, Tree.{Tree}}
 use Rattle.cacache_memory.specs.Replay.{IsLog, tree_of}
 use Rattle.cacache_entry.{specs.{Entry.{Entry}, Latest.{Found, NoneAnswers, answer_to, latest}}, proofs.Lookups.{last_answer_decides}}
 use Rattle.cacache_table.specs.declared.command.Command.TheVariants as commands
-use Rattle.cacache_table.specs.{declared.command.Put.{Put}, Inserting.{given_or}, Runs.{reply_of}}
+use Rattle.cacache_table.specs.{declared.{command.Put.{Put}, reply.Reply.TheVariants.{Read}}, Inserting.{given_or}, Runs.{reply_of}}
 use Rattle.cacache_value.specs.{Acts.{list_of}, Placed.{Placed}, Value.{Value, value_of_tree}}
 use Rattle.cacache_loss.specs.{Loss.{Loss, Lost}, LostValues.{HoldsContent}}
 use Rattle.cacache_history.specs.{AddedEntries.{address_of_put}, History.{History}, Lookups.{found_of_put}, Setup.{home}}
-use Rattle.cacache_history.proofs.{Digests.{own_integrity}, PlacedAnswers.{answers_so}}
+use Rattle.cacache_history.proofs.{Digests.{own_integrity}, PlacedAnswers.{answers_so}, Spelled.{HasIntegrity}}
 use Rattle.cacache_durable.specs.{FewCalls.{FewCalls}, Outlasting.{DurablePut, EntryOutlasts, KeyOutlasts, Outlives, moment_at}}
 use Rattle.cacache_reads.specs.Reads.{bytes_read}
-use Rattle.cacache_sequence.specs.{Caches.{HasContent, HasKey}, Standing.{IsStanding}}
-use Rattle.cacache_sequence.proofs.{Looked.{same_stays_known}, Looks.{looks_keep, tree_stays}, Standing.{looks_leave_standing, standing_reads}}
-use Rattle.cacache_results.specs.Losses.{IsLeft, LeadsToDigest, LeftReadMeans, LossesLeaveLast, LossesLeavePuts, LossesLeaveStanding, PutIsLeft, entry_written}
-use Rattle.cacache_results.proofs.{LeftReads.{left_read}, ReadResults.{given}, Told.{called}}
+use Rattle.cacache_sequence.specs.{Caches.{HasContent, HasKey, setup_at}, Inserts.{leads_to}, Keeping.{found_under}, ReadAnswers.{get_on, read_on}, Standing.{IsStanding}}
+use Rattle.cacache_sequence.proofs.{Looked.{same_stays_known}, Looks.{looks_keep, tree_stays}, Standing.{looks_leave_standing, standing_reads}, Succeeds.{standing_key_reads}}
+use Rattle.cacache_results.specs.{Reads.{LiesWhole}, Success.{FailsForMemory}, Losses.{IsLeft, LeadsToDigest, LeftReadMeans, LossesLeaveLast, LossesLeavePuts, LossesLeaveStanding, PutIsLeft, entry_written}}
+use Rattle.cacache_results.proofs.{LeftReads.{left_read}, ReadResults.{given, lies_whole, whole_gives}, SureResults.{for_memory, or_as}, Told.{called}}
 
 pub losses_leave_standing : LossesLeaveStanding
 losses_leave_standing h loss log outlives left =
@@ -91,13 +91,33 @@ losses_leave_last h loss folder key p t outlives few left here put keyed none la
 
 -- ---- reads
 
+-- what the key leads to has the integrity, and a read of it gives the bytes
+led_read : (cache key : List ℕ) (i : List Hash) (bytes : List ℕ) (log : List LogItem) (o : Option Found) → option_map (λ (f : Found). f.integrity) o ≡ Some i → IsIntegrity i → LiesWhole cache i log bytes
+    → HasIntegrity o × (get_on (setup_at cache []) (tree_of log) key o ≡ Read bytes)
+led_read cache key i bytes log None leads formed lies = absurd cc
+led_read cache key i bytes log (Some f) leads formed lies =
+    let same : f.integrity ≡ i = cc in (
+      subst IsIntegrity (sym same) formed,
+      ap (read_on (home_of cache) (tree_of log)) same ∙ whole_gives cache i bytes log lies,
+    )
+
 pub left_read_means : {C N : Type 0} (cache key : List ℕ) (r : Result (Vec ℕ Global) Error) (new : Env (List LogItem) C N) → IsLog new.store → LeftReadMeans cache key r new
 left_read_means cache key r new logged old standing ran =
     let c = called bytes_read (λ b. refl) r cache old.base 0 (commands.Get key) old.store new.store ran.0.0 logged in
+    let succeeds : (folder : Names) (i : List Hash) (bytes : List ℕ) → home_of cache ≡ Some folder → leads_to cache key old.store ≡ Some i → IsIntegrity i → LiesWhole cache i old.store bytes → FailsForMemory r
+    = λ folder i bytes home leads formed lies.
+        let led = led_read cache key i bytes old.store (found_under cache key old.store) leads formed lies in
+        for_memory bytes_read r (Read bytes) tt
+        (or_as (reply_of bytes_read r) led.1 (standing_key_reads cache key folder (reply_of bytes_read r) old.store new.store home standing led.0 c)) in
     record {
       same = tree_stays cache (commands.Get key) (reply_of bytes_read r) old.store new.store tt c;
       standing = looks_leave_standing cache (commands.Get key) (reply_of bytes_read r) old.store new.store tt c standing;
       known = same_stays_known cache old.store new.store (looks_keep cache (commands.Get key) (reply_of bytes_read r) old.store new.store tt c);
       reads = λ i bytes leads formed lies. given r (Unit {0}) bytes old.store new.store (left_read cache key (reply_of bytes_read r) old.store new.store standing c i bytes formed lies.0 lies.1 leads);
+      succeeds = λ folder i bytes home has.
+          succeeds folder i bytes home
+          (ap (option_map (λ (f : Found). f.integrity)) has.finds ∙ ap Some has.integrity) has.content.formed
+          (lies_whole cache i bytes old.store has.content);
+      reads_on = succeeds;
       gives = λ i bytes has. given r (HasKey cache key i bytes new.store) bytes old.store new.store (standing_reads cache key bytes i (reply_of bytes_read r) old.store new.store standing has c);
     }

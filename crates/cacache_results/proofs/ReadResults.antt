@@ -48,16 +48,18 @@ linked_held : (r : Result (Vec ℕ Global) Error) (cache target held : List ℕ)
 linked_held (Ok v) cache target held i old at h = linked_whole cache target held v.items i old at h
 linked_held (Err e) cache target held i old at h = tt
 
--- a read of bytes that meet their integrity gives them
-content_gives : (cache : List ℕ) (i : List Hash) (bytes : List ℕ) (log : List LogItem) → HasContent cache i bytes log → read_on (home_of cache) (tree_of log) i ≡ replies.Read bytes
-content_gives cache i bytes log has =
-    ap (λ b. content_reply i (as_refusal (blob_bytes (tree_of log) b))) has.content ∙ met_reply i bytes has.meets
+-- a read of bytes that meet their integrity gives them, also through a link
+pub whole_gives : (cache : List ℕ) (i : List Hash) (bytes : List ℕ) (log : List LogItem) → LiesWhole cache i log bytes → read_on (home_of cache) (tree_of log) i ≡ replies.Read bytes
+whole_gives cache i bytes log lies = ap (λ held. content_reply i (as_refusal held)) lies.0 ∙ met_reply i bytes lies.1
+
+pub lies_whole : (cache : List ℕ) (i : List Hash) (bytes : List ℕ) (log : List LogItem) → HasContent cache i bytes log → LiesWhole cache i log bytes
+lies_whole cache i bytes log has = (ap (blob_bytes (tree_of log)) has.content, has.meets)
 
 key_gives : (cache key : List ℕ) (i : List Hash) (bytes : List ℕ) (log : List LogItem) → HasKey cache key i bytes log → get_on (setup_at cache []) (tree_of log) key (found_under cache key log) ≡ replies.Read bytes
 key_gives cache key i bytes log has =
     ap (get_on (setup_at cache []) (tree_of log) key) has.finds
     ∙ ap (read_on (home_of cache) (tree_of log)) has.integrity
-    ∙ content_gives cache i bytes log has.content
+    ∙ whole_gives cache i bytes log (lies_whole cache i bytes log has.content)
 
 pub key_read_means : {C N : Type 0} (cache key : List ℕ) (r : Result (Vec ℕ Global) Error) (new : Env (List LogItem) C N) → IsLog new.store → KeyReadMeans cache key r new
 key_read_means cache key r new logged old sound ran =
@@ -85,6 +87,10 @@ pub content_read_means : {C N : Type 0} (cache : List ℕ) (i : List Hash) (r : 
 content_read_means cache i r new formed logged old sound ran =
     let c = called bytes_read (λ b. refl) r cache old.base 0 (commands.GetHash i) old.store new.store ran.0.0 logged in
     let any = content_reads_give cache i (reply_of bytes_read r) old.store new.store formed sound c in
+    let reads_on : (bytes : List ℕ) → NamesFolder cache → LiesWhole cache i old.store bytes → FailsForMemory r
+    = λ bytes folder lies.
+        for_memory bytes_read r (replies.Read bytes) tt
+        (or_as (reply_of bytes_read r) (whole_gives cache i bytes old.store lies) (content_reads_answer cache i (reply_of bytes_read r) old.store new.store folder (caches_stand cache old.store sound) formed c)) in
     record {
       leaves = looks_leave cache (commands.GetHash i) (reply_of bytes_read r) old.store new.store tt c (caches_last cache (commands.GetHash i) (reply_of bytes_read r) old.store new.store c tt formed sound);
       same = tree_stays cache (commands.GetHash i) (reply_of bytes_read r) old.store new.store tt c;
@@ -92,9 +98,8 @@ content_read_means cache i r new formed logged old sound ran =
       whole = held_whole r cache i old.store new.store any;
       linked = λ target held at. linked_held r cache target held i old.store at (held_whole r cache i old.store new.store any);
       any = any;
-      succeeds = λ bytes folder has.
-          for_memory bytes_read r (replies.Read bytes) tt
-          (or_as (reply_of bytes_read r) (content_gives cache i bytes old.store has) (content_reads_answer cache i (reply_of bytes_read r) old.store new.store folder (caches_stand cache old.store sound) formed c));
+      succeeds = λ bytes folder has. reads_on bytes folder (lies_whole cache i bytes old.store has);
+      reads_on = reads_on;
     }
 
 -- ---- questions

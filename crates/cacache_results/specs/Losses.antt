@@ -14,7 +14,7 @@ use Rattle.cacache_jobs.specs.Environment.{Calls, RunsPut}
 use Rattle.cacache_put.specs.Puts.{keyed_put}
 use Rattle.cacache_reads.specs.Reads.{bytes_read}
 use Rattle.cacache_sequence.specs.{Beside.{KeepsBeside}, Caches.{HasKey, IsExcused}, Inserts.{leads_to}, Keeping.{found_under, StaysKnown}, ReadAnswers.{entries_on}, Standing.{IsStanding}}
-use Rattle.cacache_results.specs.Reads.{GivesJust, LiesWhole}
+use Rattle.cacache_results.specs.{Reads.{GivesJust, LiesWhole}, Success.{FailsForMemory}}
 
 -- ---- what is left
 
@@ -56,7 +56,8 @@ PutIsLeft cache key p t =
 
 -- ---- reads
 
--- a read by key gives what the key leads to, also through a link, and leaves everything
+-- a read by key gives what the key leads to, also through a link, unless memory is refused, and leaves
+-- everything
 pub record LeftRead (cache key : List ℕ) (r : Result (Vec ℕ Global) Error) (old new : List LogItem)
     : Type 0 where
   pub same : tree_of new ≡ tree_of old
@@ -66,6 +67,11 @@ pub record LeftRead (cache key : List ℕ) (r : Result (Vec ℕ Global) Error) (
       → GivesJust bytes r old new
   pub reads : (i : List Hash) (bytes : List ℕ) → leads_to cache key old ≡ Some i → IsIntegrity i
       → LiesWhole cache i old bytes → GivesJust bytes r old new
+  pub succeeds : (folder : Names) (i : List Hash) (bytes : List ℕ) → home_of cache ≡ Some folder
+      → HasKey cache key i bytes old → FailsForMemory r
+  pub reads_on : (folder : Names) (i : List Hash) (bytes : List ℕ) → home_of cache ≡ Some folder
+      → leads_to cache key old ≡ Some i → IsIntegrity i → LiesWhole cache i old bytes
+      → FailsForMemory r
 
 -- ---- writes
 

@@ -72,6 +72,8 @@ pub record ContentRead (cache : List ℕ) (i : List Hash) (r : Result (Vec ℕ G
   pub any : GivesHeld cache i (reply_of bytes_read r) old new
   pub succeeds : (bytes : List ℕ) → NamesFolder cache → HasContent cache i bytes old
       → FailsForMemory r
+  pub reads_on : (bytes : List ℕ) → NamesFolder cache → LiesWhole cache i old bytes
+      → FailsForMemory r
 
 -- ---- questions
 

@@ -16,11 +16,14 @@ use Rattle.cacache_sequence.proofs.{Emptied.{home_is}, Standing.{caches_stand}, 
 
 -- ---- a store on which no step fails
 
-pub ground : (cache : List ℕ) (log : List LogItem) (home : Names) → names_of cache ≡ Ok home → IsStanding cache log → Ground home (tree_of log)
-ground cache log home is standing = record {
-  placed = subst (λ h. Placed h (tree_of log)) (home_is cache home is) standing.placed;
+home_ground : (cache : List ℕ) (log : List LogItem) (home : Names) → home_of cache ≡ Some home → IsStanding cache log → Ground home (tree_of log)
+home_ground cache log home is standing = record {
+  placed = subst (λ h. Placed h (tree_of log)) is standing.placed;
   rooted = standing.rooted;
 }
+
+pub ground : (cache : List ℕ) (log : List LogItem) (home : Names) → names_of cache ≡ Ok home → IsStanding cache log → Ground home (tree_of log)
+ground cache log home is = home_ground cache log home (home_is cache home is)
 
 -- what is so with the folder's names is so with the cache's
 pub back : (cache : List ℕ) (home : Names) → names_of cache ≡ Ok home → (P : Option Names → Type 0) → P (Some home) → P (home_of cache)
@@ -66,11 +69,11 @@ lookups_answer cache key r old new folder standing c =
     let t = tree_of old in
     back cache home folder.1 (λ h. OrMemory (r ≡ LookedUp (latest key (entries_on h (tree_of old) key))) r)
     (of_log (λ _ x. x ≡ LookedUp (latest key (entries_on (Some home) t key))) (opening (record { cache = cache; base = c.base; number = c.number }) (commands.Find key)) r old new
-    (looks_so (λ _ x. x ≡ LookedUp (latest key (entries_on (Some home) t key))) home t (ground cache old home folder.1 standing) (record { cache = cache; key = key; aim = aims.Report }) folder.1
+    (looks_so (λ _ x. x ≡ LookedUp (latest key (entries_on (Some home) t key))) home t (ground cache old home folder.1 standing) (record { cache = cache; key = key; aim = aims.Report }) (home_is cache home folder.1)
     (ends (λ _ x. x ≡ LookedUp (latest key (entries_on (Some home) t key))) t (LookedUp (latest key (entries_on (Some home) t key))) refl)) c.ran c.logged)
 
 -- a read of an integrity's content
-reads_at : (cache : List ℕ) (home : Names) (is : names_of cache ≡ Ok home) (t : Tree) (g : Ground home t) (i : List Hash) → IsIntegrity i
+reads_at : (cache : List ℕ) (home : Names) (is : home_of cache ≡ Some home) (t : Tree) (g : Ground home t) (i : List Hash) → IsIntegrity i
     → EndsSo (λ _ x. x ≡ read_on (Some home) t i) t (reading (record { cache = cache; integrity = i }))
 reads_at cache home is t g [] formed = absurd (omega (arith, formed.nonempty))
 reads_at cache home is t g (h ∷ hs) formed = reads_so (λ _ x. x ≡ read_on (Some home) t (h ∷ hs)) home t g cache is h hs (All-head IsHash h hs formed.hashes) refl
@@ -80,29 +83,33 @@ content_reads_answer cache i r old new folder standing formed c =
     let home = folder.0 in
     back cache home folder.1 (λ h. OrMemory (r ≡ read_on h (tree_of old) i) r)
     (of_log (λ _ x. x ≡ read_on (Some home) (tree_of old) i) (opening (record { cache = cache; base = c.base; number = c.number }) (commands.GetHash i)) r old new
-    (reads_at cache home folder.1 (tree_of old) (ground cache old home folder.1 standing) i formed) c.ran c.logged)
+    (reads_at cache home (home_is cache home folder.1) (tree_of old) (ground cache old home folder.1 standing) i formed) c.ran c.logged)
 
-module _ (cache key : List ℕ) (home : Names) (is : names_of cache ≡ Ok home) (t : Tree) (g : Ground home t) where
+module _ (cache key : List ℕ) (home : Names) (is : home_of cache ≡ Some home) (t : Tree) (g : Ground home t) where
   abbrev look_up : Lookup
   look_up = record { cache = cache; key = key; aim = aims.Read }
 
   by_found : (found : Option Found) → HasIntegrity found → EndsSo (λ _ x. x ≡ get_on (setup_at cache []) t key found) t (found_for look_up aims.Read found)
   by_found None has = ends (λ _ x. x ≡ Refused (EntryNotFound cache key)) t (Refused (EntryNotFound cache key)) refl
   by_found (Some f) has =
-      back cache home is (λ h. EndsSo (λ _ x. x ≡ read_on h t f.integrity) t (reading (record { cache = cache; integrity = f.integrity }))) (reads_at cache home is t g f.integrity has)
+      subst (λ h. EndsSo (λ _ x. x ≡ read_on h t f.integrity) t (reading (record { cache = cache; integrity = f.integrity }))) (sym is) (reads_at cache home is t g f.integrity has)
+
+-- a read by key of what stands, where what the key leads to has an integrity
+pub standing_key_reads : (cache key : List ℕ) (home : Names) (r : Reply) (old new : List LogItem) → home_of cache ≡ Some home → IsStanding cache old → HasIntegrity (found_under cache key old)
+    → Called cache (commands.Get key) r old new → OrMemory (r ≡ get_on (setup_at cache []) (tree_of old) key (found_under cache key old)) r
+standing_key_reads cache key home r old new is standing formed c =
+    let t = tree_of old in
+    let g = home_ground cache old home is standing in
+    let has : HasIntegrity (latest key (entries_on (Some home) t key)) = subst (λ h. HasIntegrity (latest key (entries_on h (tree_of old) key))) is formed in
+    let Q : Tree → Reply → Type 0 = λ _ x. x ≡ get_on (setup_at cache []) (tree_of old) key (latest key (entries_on (Some home) (tree_of old) key)) in
+    subst (λ h. OrMemory (r ≡ get_on (setup_at cache []) (tree_of old) key (latest key (entries_on h (tree_of old) key))) r) (sym is)
+    (of_log Q (opening (record { cache = cache; base = c.base; number = c.number }) (commands.Get key)) r old new
+    (looks_so Q home t g (look_up cache key home is t g) is (by_found cache key home is t g (latest key (entries_on (Some home) t key)) has)) c.ran c.logged)
 
 pub key_reads_answer : KeyReadsAnswer
 key_reads_answer cache key r old new folder sound c =
-    let home = folder.0 in
-    let t = tree_of old in
-    let g = ground cache old home folder.1 (caches_stand cache old sound) in
-    let led = latest key (entries_on (Some home) t key) in
-    let formed : HasIntegrity (latest key (entries_on (home_of cache) t key)) = latest_has key (entries_on (home_of cache) t key) (sound.formed (sha1 key)) in
-    let has : HasIntegrity led = subst (λ h. HasIntegrity (latest key (entries_on h (tree_of old) key))) (home_is cache home folder.1) formed in
-    let Q : Tree → Reply → Type 0 = λ _ x. x ≡ get_on (setup_at cache []) (tree_of old) key (latest key (entries_on (Some home) (tree_of old) key)) in
-    back cache home folder.1 (λ h. OrMemory (r ≡ get_on (setup_at cache []) (tree_of old) key (latest key (entries_on h (tree_of old) key))) r)
-    (of_log Q (opening (record { cache = cache; base = c.base; number = c.number }) (commands.Get key)) r old new
-    (looks_so Q home t g (look_up cache key home folder.1 t g) folder.1 (by_found cache key home folder.1 t g led has)) c.ran c.logged)
+    standing_key_reads cache key folder.0 r old new (home_is cache folder.0 folder.1) (caches_stand cache old sound)
+    (latest_has key (entries_on (home_of cache) (tree_of old) key) (sound.formed (sha1 key))) c
 
 -- ---- questions and removals
 
@@ -113,12 +120,12 @@ module _ (cache : List ℕ) (home : Names) (is : names_of cache ≡ Ok home) (t 
 
   asks_at : (i : List Hash) → IsIntegrity i → EndsSo (λ _ x. x ≡ Exists (is_yes (blob_there t (lies_at i)))) t (asking (record { cache = cache; integrity = i }))
   asks_at [] formed = absurd (omega (arith, formed.nonempty))
-  asks_at (h ∷ hs) formed = asks_so (λ _ x. x ≡ Exists (is_yes (blob_there t (lies_at (h ∷ hs))))) home t g cache is h hs (All-head IsHash h hs formed.hashes) refl
+  asks_at (h ∷ hs) formed = asks_so (λ _ x. x ≡ Exists (is_yes (blob_there t (lies_at (h ∷ hs))))) home t g cache (home_is cache home is) h hs (All-head IsHash h hs formed.hashes) refl
 
   removes_at : (i : List Hash) → IsIntegrity i → EndsSo (λ _ x. x ≡ removal_reply (lies_at i)) t (remove_content cache i (over Done))
   removes_at [] formed = absurd (omega (arith, formed.nonempty))
   removes_at (h ∷ hs) formed =
-      removes_so (λ _ x. x ≡ removal_reply (lies_at (h ∷ hs))) home t g cache is h hs (All-head IsHash h hs formed.hashes) (over Done)
+      removes_so (λ _ x. x ≡ removal_reply (lies_at (h ∷ hs))) home t g cache (home_is cache home is) h hs (All-head IsHash h hs formed.hashes) (over Done)
       (λ blob there rest. ends (λ _ x. x ≡ removal_reply (lies_at (h ∷ hs))) _ Done (sym (ap removal_reply there)))
       (λ none. sym (ap removal_reply none))
 

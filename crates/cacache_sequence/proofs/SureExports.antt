@@ -80,13 +80,13 @@ module _ (cache : List ℕ) (home : Names) (is : names_of cache ≡ Ok home) (t 
 
     -- what lies there
     abbrev blob : Option Blob
-    blob = held home t g cache is h hs hash
+    blob = held home t g cache (home_is cache home is) h hs hash
 
     abbrev names : Names
     names = home ++ content_names h
 
     from_at : (folder : Fault) → file_at t path folder ≡ blob_read folder t blob
-    from_at folder = read_at home t g cache is h hs hash folder
+    from_at folder = read_at home t g cache (home_is cache home is) h hs hash folder
 
     -- ---- its last step
 
@@ -152,10 +152,10 @@ module _ (cache : List ℕ) (home : Names) (is : names_of cache ≡ Ok home) (t 
 
     made_ends : (how : How) (count : Option ℕ) → Counts count → Leads (made_reply how e.to t blob) (export_from how path e.to count)
     made_ends Copy count counts = copy_ends count (blob_read faults.InvalidInput t blob) (writable t e.to) refl refl counts
-    made_ends Reflink count counts = reflink_ends (free t e.to) (blob_bytes t blob) refl (bytes_at home t g cache is h hs hash)
+    made_ends Reflink count counts = reflink_ends (free t e.to) (blob_bytes t blob) refl (bytes_at home t g cache (home_is cache home is) h hs hash)
     made_ends HardLink count counts =
-        subst (λ reply. Leads (or_told (free t e.to) (λ q. reply)) (doing (hard_link path e.to) (over Done))) (told_so home t path names (look t names) (suited home t g cache is h hs hash))
-        (hard_link_ends (free t e.to) (named (look t names)) refl (named_as home t path names (look t names) refl (suited home t g cache is h hs hash) (led_there home t g cache is h hs hash)))
+        subst (λ reply. Leads (or_told (free t e.to) (λ q. reply)) (doing (hard_link path e.to) (over Done))) (told_so home t path names (look t names) (suited home t g cache (home_is cache home is) h hs hash))
+        (hard_link_ends (free t e.to) (named (look t names)) refl (named_as home t path names (look t names) refl (suited home t g cache (home_is cache home is) h hs hash) (led_there home t g cache (home_is cache home is) h hs hash)))
 
     -- ---- before it
 
@@ -168,10 +168,10 @@ module _ (cache : List ℕ) (home : Names) (is : names_of cache ≡ Ok home) (t 
 
     checked_ends : (r : Result (List ℕ) Fault) → blob_bytes t blob ≡ r → Leads (or_told r (verified_reply (h ∷ hs) (made_reply e.how e.to t blob))) (opening_file (to_verify k e))
     checked_ends (Err fault) from =
-        goes (Gives (Refused (IoError fault []))) t t (opening_file (to_verify k e)) (steps.Open path) (answers.Failed fault) refl (opens_as t path (Err fault) (bytes_at home t g cache is h hs hash ∙ from)) (refused fault)
+        goes (Gives (Refused (IoError fault []))) t t (opening_file (to_verify k e)) (steps.Open path) (answers.Failed fault) refl (opens_as t path (Err fault) (bytes_at home t g cache (home_is cache home is) h hs hash ∙ from)) (refused fault)
     checked_ends (Ok bytes) from =
         let wanted = verified_reply (h ∷ hs) (made_reply e.how e.to t blob) bytes in
-        goes (Gives wanted) t t (opening_file (to_verify k e)) (steps.Open path) (answers.File (opened bytes)) refl (opens_as t path (Ok bytes) (bytes_at home t g cache is h hs hash ∙ from))
+        goes (Gives wanted) t t (opening_file (to_verify k e)) (steps.Open path) (answers.File (opened bytes)) refl (opens_as t path (Ok bytes) (bytes_at home t g cache (home_is cache home is) h hs hash ∙ from))
         (reads_whole (Gives wanted) t (to_verify k e) bytes (verified_ends bytes from) bytes [] refl)
 
     export_ends : Leads (exported_reply (h ∷ hs) e t blob) (export k e)
@@ -216,7 +216,7 @@ exports_answer cache (sources.Key key) e r old new folder formed sound c =
     let Q : Tree → Reply → Type 0 = Gives cache home folder.1 (tree_of old) g e (led_reply cache key e old (latest key (entries_on (Some home) (tree_of old) key))) in
     back cache home folder.1 (λ h. OrMemory ((r ≡ led_reply cache key e old (latest key (entries_on h (tree_of old) key))) × StaysIfRefused r (tree_of old) (tree_of new)) r)
     (of_log Q (opening (record { cache = cache; base = c.base; number = c.number }) (commands.Export (sources.Key key) e)) r old new
-    (looks_so Q home (tree_of old) g (look_up cache key home folder.1 old g e) folder.1 (by_found cache key home folder.1 old g e led led_has)) c.ran c.logged)
+    (looks_so Q home (tree_of old) g (look_up cache key home folder.1 old g e) (home_is cache home folder.1) (by_found cache key home folder.1 old g e led led_has)) c.ran c.logged)
 
 -- ---- of bytes that are there
 
@@ -263,5 +263,5 @@ exports_succeed cache bytes to how (sources.Key key) checked r old new folder st
     (by_content cache bytes to how checked old home folder.1 g may has.0 has.1.content) in
     either r (λ h. h.0)
     (of_log Q (opening (record { cache = cache; base = c.base; number = c.number }) (export_by how (sources.Key key) checked to)) r old new
-    (looks_so Q home (tree_of old) g l folder.1
+    (looks_so Q home (tree_of old) g l (home_is cache home folder.1)
     (subst (λ f. EndsSo Q (tree_of old) (found_for l (aims.Export e) f)) (sym finds) next)) c.ran c.logged)

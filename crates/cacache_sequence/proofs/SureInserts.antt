@@ -15,7 +15,7 @@ use Rattle.cacache_table.specs.{declared.reply.Reply.{Reply, TheVariants.{Refuse
 use Rattle.cacache_table.proofs.Branches.{cond_leads}
 use Rattle.cacache_value.{specs.Kinds.{Bucket, Temporary, Way, path_kind}, proofs.FoundPaths.{suits}}
 use Rattle.cacache_sequence.specs.Succeeds.{insertion_reply, unless_unwritable}
-use Rattle.cacache_sequence.proofs.{SureRuns.{EndsSo, ends, goes, syncs}, SureSpares.{dirs_spare, put_other}, SureSteps.{Ground, Lies, SyncsAll, joined_lies, is_for, place_at, place_in, makes_dirs, dirs_ground, dirs_stand, syncs_folders, look_own, appends, syncs_file}}
+use Rattle.cacache_sequence.proofs.{Emptied.{home_is}, SureRuns.{EndsSo, ends, goes, syncs}, SureSpares.{dirs_spare, put_other}, SureSteps.{Ground, Lies, SyncsAll, joined_lies, is_for, place_at, place_in, makes_dirs, dirs_ground, dirs_stand, syncs_folders, look_own, appends, syncs_file}}
 
 -- without the last name, proper names are proper too
 pub proper_folder : (ns : Names) → All IsProperName ns → All IsProperName (folder_names ns)
@@ -30,7 +30,7 @@ Spares home t new = (q : Names) → path_kind (Some home) q ≡ Temporary → lo
 
 -- ---- the paths of a key's bucket
 
-module _ (cache : List ℕ) (home : Names) (is : names_of cache ≡ Ok home) (key : List ℕ) where
+module _ (cache : List ℕ) (home : Names) (is : home_of cache ≡ Some home) (key : List ℕ) where
   key_names : All IsProperName (bucket_names key)
   key_names = names_are_proper.buckets (sha1 key) (keys_have_digests key)
 
@@ -42,10 +42,11 @@ module _ (cache : List ℕ) (home : Names) (is : names_of cache ≡ Ok home) (ke
   unfolding bucket_folder
   bucket_folder_lies = joined_lies cache home (folder_names (bucket_names key)) Way is (proper_folder (bucket_names key) key_names) (omega arith) refl
 
-  -- the folders that lead to a bucket that stands are synced
+-- the folders that lead to a bucket that stands are synced
+module _ (cache : List ℕ) (home : Names) (is : names_of cache ≡ Ok home) (key : List ℕ) where
   synced_folders : (t : Tree) (node : Node) → Rooted t → look t (home ++ bucket_names key) ≡ Some node → SyncsAll t (bucket_folders cache key)
   unfolding bucket_folders
-  synced_folders t node rooted there = syncs_folders t cache home (bucket_names key) node rooted is key_names there
+  synced_folders t node rooted there = syncs_folders t cache home (bucket_names key) node rooted is (key_names cache home (home_is cache home is) key) there
 
 -- a name more behind those of a folder
 pub one_behind : (home front : Names) (name : List ℕ) → home ++ (front ++ name ∷ []) ≡ (home ++ front) ++ name ∷ []
@@ -59,10 +60,10 @@ module _ (i : Insertion) (home : Names) (is : names_of i.cache ≡ Ok home) (t :
   Inserted wanted new r = (r ≡ wanted) × Spares home t new
 
   folder_lies : Lies home (bucket_folder i.cache i.entry.key) (folder_names (bucket_names i.entry.key)) Way
-  folder_lies = bucket_folder_lies i.cache home is i.entry.key
+  folder_lies = bucket_folder_lies i.cache home (home_is i.cache home is) i.entry.key
 
   lies : Lies home (bucket_path i.cache i.entry.key) (bucket_names i.entry.key) Bucket
-  lies = bucket_lies i.cache home is i.entry.key
+  lies = bucket_lies i.cache home (home_is i.cache home is) i.entry.key
 
   abbrev front : Names
   front = folder_names (bucket_names i.entry.key)

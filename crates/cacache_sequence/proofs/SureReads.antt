@@ -109,7 +109,7 @@ is_blob home (Some (Link target)) s node e = (AtLink target, refl)
 
 -- ---- lookups
 
-module _ (Q : Tree → Reply → Type 0) (home : Names) (t : Tree) (g : Ground home t) (l : Lookup) (is : names_of l.cache ≡ Ok home) where
+module _ (Q : Tree → Reply → Type 0) (home : Names) (t : Tree) (g : Ground home t) (l : Lookup) (is : home_of l.cache ≡ Some home) where
   -- what the key leads to
   abbrev led : Option Found
   led = latest l.key (entries_on (Some home) t l.key)
@@ -139,7 +139,7 @@ module _ (Q : Tree → Reply → Type 0) (home : Names) (t : Tree) (g : Ground h
 
 -- ---- contents
 
-module _ (home : Names) (t : Tree) (g : Ground home t) (cache : List ℕ) (is : names_of cache ≡ Ok home) (h : Hash) (hs : List Hash) (hash : IsHash h) where
+module _ (home : Names) (t : Tree) (g : Ground home t) (cache : List ℕ) (is : home_of cache ≡ Some home) (h : Hash) (hs : List Hash) (hash : IsHash h) where
   abbrev pub content_at : Names
   content_at = home ++ content_names h
 
@@ -163,7 +163,7 @@ module _ (home : Names) (t : Tree) (g : Ground home t) (cache : List ℕ) (is : 
   pub bytes_at : file_at t (content_path cache (h ∷ hs)) faults.IsADirectory ≡ blob_bytes t held
   bytes_at = read_at faults.IsADirectory ∙ as_bytes t held
 
-module _ (Q : Tree → Reply → Type 0) (home : Names) (t : Tree) (g : Ground home t) (cache : List ℕ) (is : names_of cache ≡ Ok home) (h : Hash) (hs : List Hash) (hash : IsHash h) where
+module _ (Q : Tree → Reply → Type 0) (home : Names) (t : Tree) (g : Ground home t) (cache : List ℕ) (is : home_of cache ≡ Some home) (h : Hash) (hs : List Hash) (hash : IsHash h) where
   abbrev names : Names
   names = home ++ content_names h
 

@@ -33,7 +33,7 @@ module _ (Q : Tree → Reply → Type 0) (cache : List ℕ) (home : Names) (is :
   names = home ++ bucket_names key
 
   lies : Lies home (bucket_path cache key) (bucket_names key) Bucket
-  lies = bucket_lies cache home is key
+  lies = bucket_lies cache home (home_is cache home is) key
 
   bucket_there : (bytes : List ℕ) → look t names ≡ Some (File bytes) → Q (cut t names) Done → EndsSo Q t (remove_bucket cache key)
   bucket_there bytes e q =
@@ -58,8 +58,8 @@ module _ (cache : List ℕ) (home : Names) (is : names_of cache ≡ Ok home) (ke
 
   kept_bucket : (h : Hash) (hs : List Hash) → IsHash h → (node : Node) → bucket ≡ Some node → look (cut t (home ++ content_names h)) (home ++ bucket_names key) ≡ Some node
   kept_bucket h hs hash node e =
-      let here = bucket_lies cache home is key in
-      let there = content_lies cache home is h hs hash in
+      let here = bucket_lies cache home (home_is cache home is) key in
+      let there = content_lies cache home (home_is cache home is) h hs hash in
       let apart : same_path (home ++ bucket_names key) (home ++ content_names h) ≡ false
       = not_true (same_path (home ++ bucket_names key) (home ++ content_names h))
       (λ s. let differ : Bucket ≡ Content = sym here.kind ∙ ap (path_kind (Some home)) (same_path-true (home ++ bucket_names key) (home ++ content_names h) s) ∙ there.kind in absurd cc) in
@@ -72,7 +72,7 @@ module _ (cache : List ℕ) (home : Names) (is : names_of cache ≡ Ok home) (ke
       let hash = All-head IsHash h hs formed.hashes in
       let Q : Tree → Reply → Type 0 = λ _ x. x ≡ removal_reply (blob_at (value_of_tree (Some home) t) (address (h ∷ hs))) in
       let blob = (value_of_tree (Some home) t).contents h in
-      removes_so Q home t g cache is h hs hash (remove_bucket cache key)
+      removes_so Q home t g cache (home_is cache home is) h hs hash (remove_bucket cache key)
       (λ b there rest.
       bucket_there Q cache home is key (cut t (home ++ content_names h)) rest bytes (kept_bucket h hs hash (File bytes) e) (sym (ap removal_reply there)))
       (λ none. sym (ap removal_reply none))
@@ -93,7 +93,7 @@ module _ (cache : List ℕ) (home : Names) (is : names_of cache ≡ Ok home) (ke
   by_found (Some (Link target)) e s found led has = absurd s
 
   pub fully_ends : HasIntegrity led_by → EndsSo (λ _ x. x ≡ fully_reply (Some home) t key led_by) t (found_for (record { cache = cache; key = key; aim = aims.Remove }) aims.Remove led_by)
-  fully_ends has = by_found bucket refl (suits (Some home) t (home ++ bucket_names key) Bucket (bucket_lies cache home is key).kind g.placed) led_by refl has
+  fully_ends has = by_found bucket refl (suits (Some home) t (home ++ bucket_names key) Bucket (bucket_lies cache home (home_is cache home is) key).kind g.placed) led_by refl has
 
 pub full_removals_answer : FullRemovalsAnswer
 full_removals_answer cache key r old new folder sound c =
@@ -106,4 +106,4 @@ full_removals_answer cache key r old new folder sound c =
     let l : Lookup = record { cache = cache; key = key; aim = aims.Remove } in
     back cache home folder.1 (λ h. OrMemory (r ≡ fully_reply h (tree_of old) key (latest key (entries_on h (tree_of old) key))) r)
     (of_log Q (opening (record { cache = cache; base = c.base; number = c.number }) (commands.RemoveFully key)) r old new
-    (looks_so Q home t g l folder.1 (fully_ends cache home folder.1 key t g has)) c.ran c.logged)
+    (looks_so Q home t g l (home_is cache home folder.1) (fully_ends cache home folder.1 key t g has)) c.ran c.logged)

@@ -32,9 +32,9 @@ pub record Lies (home : Names) (p : List ℕ) (ns : Names) (k : PathKind) : Type
   pub named : names_of p ≡ Ok (home ++ ns)
   pub kind : path_kind (Some home) (home ++ ns) ≡ k
 
-pub joined_lies : (cache : List ℕ) (home ns : Names) (k : PathKind) → names_of cache ≡ Ok home → All IsProperName ns → 0 < length ns → kind_below ns ≡ k → Lies home (joined cache ns) ns k
+pub joined_lies : (cache : List ℕ) (home ns : Names) (k : PathKind) → home_of cache ≡ Some home → All IsProperName ns → 0 < length ns → kind_below ns ≡ k → Lies home (joined cache ns) ns k
 joined_lies cache home ns k is all some kind = record {
-  named = joined_texts_name cache ns all some ∙ ap (λ h. names_below h ns) (home_is cache home is);
+  named = joined_texts_name cache ns all some ∙ ap (λ h. names_below h ns) is;
   kind = kind-below home ns ∙ kind;
 }
 

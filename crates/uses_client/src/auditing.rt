@@ -57,7 +57,7 @@ fn no_unless_memory(error: Error) -> Result<bool>
     }
 }
 
-/// Whether whole bytes lie under an integrity. A no says that other bytes lie there, or that a step of the read failed.
+/// Whether whole bytes lie under an integrity. A no says that none do, if the cache's path names a folder.
 pub fn is_whole<C: Clock, N: Names>(
     env: &mut Env<MemStore, C, N>,
     cache: &str,

@@ -1,7 +1,7 @@
 -- What a user says of a loss of power follows from the laws of what it leaves.
-use Rattle.std.{proofs.Common.{◌≡◌, inl, inr, ℕ, List, Some, Vec, Global, Result, Ok, Err, refl, sym, ap, subst, ◌∙◌}, specs.Prelude.{IsErrAnd}}
-use Rattle.cacache.specs.{Calls.{Error}, Histories.{FewCalls, HistoriesOutlive, History, IsStanding, LeadsToDigest, LeftBy, LeftRead, LeftWritten, LinksOutlast, Loss, LossesLeaveLast, LossesLeaveLastLinks, LossesLeavePuts, LossesLeaveStanding, MetDigestsAreSame, Outlives, Put, PutsStandLast, chosen, digest}, Laws.{GivesJust, KeepsBeside, OutOfMemory, StaysKnown, tree_of}, Stores.{LogItem}, Integrities.{Hash, Sha256}}
-use Rattle.uses_worlds.specs.{Losses.{GivesPut, GivesPutLeft, GoesOn, LinkSurvives, LinkedSurvives, SomeSurvive, Survives, SurvivesAlone}, declared.losing.Reads.{Reads}}
+use Rattle.std.{proofs.Common.{◌≡◌, inl, inr, ℕ, List, Some, Vec, Global, Result, Ok, Err, refl, sym, ap, subst, ◌∙◌}, specs.Prelude.{IfErr, IsErrAnd}}
+use Rattle.cacache.specs.{Calls.{Error}, Histories.{FewCalls, HistoriesOutlive, History, IsStanding, LeadsToDigest, LeftBy, LeftRead, LeftWritten, LinksOutlast, Loss, LossesLeaveLast, LossesLeaveLastLinks, LossesLeavePuts, LossesLeaveStanding, MetDigestsAreSame, Names, Outlives, Put, PutsStandLast, chosen, digest, home}, Laws.{GivesJust, KeepsBeside, OutOfMemory, StaysKnown, tree_of}, Stores.{LogItem}, Integrities.{Hash, Sha256}}
+use Rattle.uses_worlds.specs.{Losses.{GivesPut, GoesOn, LinkSurvives, LinkedSurvives, SomeSurvive, Survives, SurvivesAlone}, declared.losing.Reads.{Reads}}
 
 -- what `?` hands on where memory was refused
 pub handed_on : {X : Type 0} (P : Result X Error → Type 0) (r : Result X Error) (e : Error) → IsErrAnd r (λ x. x ≡ e) → e ≡ OutOfMemory → P (Err OutOfMemory) → P r
@@ -14,53 +14,46 @@ refused h loss key outlives few puts folder p here put keyed none =
     let lost = chosen loss.undone.items loss.tails.items in
     let one = (outlives.caches lost).one in
     let left = puts h lost folder key p one.tree outlives few one.left here put keyed none in
-    (one.tree, one.left, left.0, left.1, λ last. inl refl)
-
-refused_left : (h : History) (loss : Loss) (p : Put) → Outlives h → GivesPutLeft h loss p (Err OutOfMemory)
-refused_left h loss p outlives = let one = (outlives.caches (chosen loss.undone.items loss.tails.items)).one in (one.tree, one.left, inl refl)
-
-pub refused_alone : (h : History) (loss : Loss) (key : List ℕ) → Outlives h → SurvivesAlone h loss key (Err OutOfMemory)
-refused_alone h loss key outlives folder p here put keyed none last = refused_left h loss p outlives
+    (one.tree, one.left, left.0, left.1, λ last. refl)
 
 -- the put's bytes are read
-gives : (p : Put) (bytes : List ℕ) (r : Result (Vec ℕ Global) Error) (old new : List LogItem) → digest p.options.algorithm bytes ≡ digest p.options.algorithm p.data → GivesJust bytes r old new → GivesPut p r (tree_of old)
-gives p bytes (Ok v) old new same is = ap (digest p.options.algorithm) is ∙ same
-gives p bytes (Err e) old new same excused = inr (old, new, refl, excused)
+gives : (p : Put) (bytes : List ℕ) (r : Result (Vec ℕ Global) Error) (old new : List LogItem) → digest p.options.algorithm bytes ≡ digest p.options.algorithm p.data → GivesJust bytes r old new
+    → IfErr r (λ e. e ≡ OutOfMemory) → GivesPut p r
+gives p bytes (Ok v) old new same is only = ap (digest p.options.algorithm) is ∙ same
+gives p bytes (Err e) old new same excused only = only
 
-led : (cache key : List ℕ) (p : Put) (r : Result (Vec ℕ Global) Error) (old new : List LogItem) → LeadsToDigest cache key p old → LeftRead cache key r old new → GivesPut p r (tree_of old)
-led cache key p r old new leads read = gives p leads.bytes r old new leads.same (read.gives _ leads.bytes leads.held)
+led : (h : History) (key : List ℕ) (folder : Names) (p : Put) (r : Result (Vec ℕ Global) Error) (old new : List LogItem) → home h.setup ≡ Some folder → LeadsToDigest h.setup.cache key p old → LeftRead h.setup.cache key r old new
+    → GivesPut p r
+led h key folder p r old new here leads read = gives p leads.bytes r old new leads.same (read.gives _ leads.bytes leads.held) (read.succeeds folder _ leads.bytes here leads.held)
 
 pub survives_here : (h : History) (loss : Loss) (key : List ℕ) (r : Result (Vec ℕ Global) Error) (old new : List LogItem) → Outlives h → FewCalls h → LossesLeavePuts → LossesLeaveStanding
     → LeftBy h loss (tree_of old) → (IsStanding h.setup.cache old → LeftRead h.setup.cache key r old new) → Survives h loss key r
 survives_here h loss key r old new outlives few puts stands lost read folder p here put keyed none =
     let chosen_loss = chosen loss.undone.items loss.tails.items in
     let left = puts h chosen_loss folder key p (tree_of old) outlives few lost here put keyed none in
-    (tree_of old, lost, left.0, left.1, λ last. led h.setup.cache key p r old new (left.2 last old refl) (read (stands h chosen_loss old outlives lost)))
+    (tree_of old, lost, left.0, left.1, λ last. led h key folder p r old new here (left.2 last old refl) (read (stands h chosen_loss old outlives lost)))
 
 -- nothing is asked of what is left where nobody appended behind the entry
 pub alone_here : (h : History) (loss : Loss) (key : List ℕ) (r : Result (Vec ℕ Global) Error) (old new : List LogItem) → Outlives h → FewCalls h → LossesLeaveLast → LossesLeaveStanding
-    → LeftBy h loss (tree_of old) → (IsStanding h.setup.cache old → LeftRead h.setup.cache key r old new) → SurvivesAlone h loss key r
+    → LeftBy h loss (tree_of old) → (IsStanding h.setup.cache old → LeftRead h.setup.cache key r old new) → SurvivesAlone h key r
 alone_here h loss key r old new outlives few lasts stands lost read folder p here put keyed none last =
     let chosen_loss = chosen loss.undone.items loss.tails.items in
     let leads = lasts h chosen_loss folder key p (tree_of old) outlives few lost here put keyed none last old refl in
-    (tree_of old, lost, led h.setup.cache key p r old new leads (read (stands h chosen_loss old outlives lost)))
+    led h key folder p r old new here leads (read (stands h chosen_loss old outlives lost))
 
 -- ---- where the content may be a link
 
-pub refused_link : (h : History) (loss : Loss) (key : List ℕ) → Outlives h → LinkSurvives h loss key (Err OutOfMemory)
-refused_link h loss key outlives folder p here put keyed none unchanged last = refused_left h loss p outlives
-
 pub link_here : (h : History) (loss : Loss) (key : List ℕ) (r : Result (Vec ℕ Global) Error) (old new : List LogItem) → Outlives h → LinksOutlast h → FewCalls h → LossesLeaveLastLinks → LossesLeaveStanding
-    → LeftBy h loss (tree_of old) → (IsStanding h.setup.cache old → LeftRead h.setup.cache key r old new) → LinkSurvives h loss key r
+    → LeftBy h loss (tree_of old) → (IsStanding h.setup.cache old → LeftRead h.setup.cache key r old new) → LinkSurvives h key r
 link_here h loss key r old new outlives outlast few lasts stands lost read folder p here put keyed none unchanged last =
     let chosen_loss = chosen loss.undone.items loss.tails.items in
     let leads = lasts h chosen_loss folder key p (tree_of old) outlast few lost here put keyed none unchanged last old refl in
-    let given = (read (stands h chosen_loss old outlives lost)).reads _ leads.bytes leads.leads leads.formed leads.lies in
-    (tree_of old, lost, gives p leads.bytes r old new leads.same given)
+    let one = read (stands h chosen_loss old outlives lost) in
+    gives p leads.bytes r old new leads.same (one.reads _ leads.bytes leads.leads leads.formed leads.lies) (one.reads_on folder _ leads.bytes here leads.leads leads.formed leads.lies)
 
 -- no step changes a link's target where no call exports or removes
-pub linked_too : (h : History) (loss : Loss) (key : List ℕ) (r : Result (Vec ℕ Global) Error) → LinksOutlast h → LinkSurvives h loss key r → LinkedSurvives h loss key r
-linked_too h loss key r outlast survives folder p only here put keyed none last =
+pub linked_too : (h : History) (key : List ℕ) (r : Result (Vec ℕ Global) Error) → LinksOutlast h → LinkSurvives h key r → LinkedSurvives h key r
+linked_too h key r outlast survives folder p only here put keyed none last =
     survives folder p here put keyed none (outlast.unchanged only put.before put.rest put.is p) last
 
 -- ---- writes after a loss

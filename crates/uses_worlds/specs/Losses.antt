@@ -1,23 +1,13 @@
 -- What a user says of a loss of power.
-use Rattle.std.specs.{Prelude.{◌≡◌, ◌⊎◌, ℕ, List, None, Some, Ok, Vec, Result, IfOk, MatchResult}, Global.{Global}}
-use Rattle.cacache.specs.{Calls.{Error}, Entries.{Entry}, Histories.{AnsweredPut, DurablePut, FewCalls, GoElsewhere, History, IsLast, IsLegal, LeadsToDigest, LeadsUnchanged, LeftBy, Loss, Names, NoneAnswers, OnlyLinksIn, Put, Record, StandsBefore, StandsIn, StoresDurably, Tree, address_of_put, digest, followed_by, home, names_of}, Laws.{IsExcused, OutOfMemory, tree_of}, Stores.{LogItem}}
+use Rattle.std.specs.{Prelude.{◌≡◌, ℕ, List, None, Some, Ok, Vec, Result, IfOk, MatchResult}, Global.{Global}}
+use Rattle.cacache.specs.{Calls.{Error}, Entries.{Entry}, Histories.{AnsweredPut, DurablePut, FewCalls, GoElsewhere, History, IsLast, IsLegal, LeadsToDigest, LeadsUnchanged, LeftBy, Loss, Names, NoneAnswers, OnlyLinksIn, Put, Record, StandsBefore, StandsIn, StoresDurably, Tree, address_of_put, digest, followed_by, home, names_of}, Laws.{OutOfMemory, tree_of}, Stores.{LogItem}}
 use Rattle.uses_worlds.specs.declared.losing.Reads.{Reads}
 
--- memory was refused, or a step failed on a store with this tree that excuses the error
-abbrev pub FailsOn : Tree → Error → Type 0
-FailsOn t e =
-    (e ≡ OutOfMemory)
-    ⊎ ((old new : List LogItem) × (tree_of old ≡ t) × IsExcused e old new)
-
--- bytes with the digest of the put's, or an error that is excused
-abbrev pub GivesPut : Put → Result (Vec ℕ Global) Error → Tree → Type 0
-GivesPut p r t =
+-- bytes with the digest of the put's, unless memory was refused
+abbrev pub GivesPut : Put → Result (Vec ℕ Global) Error → Type 0
+GivesPut p r =
     MatchResult r (λ v. digest p.options.algorithm v.items ≡ digest p.options.algorithm p.data)
-    (FailsOn t)
-
--- so it is on the tree that this loss leaves
-abbrev pub GivesPutLeft : History → Loss → Put → Result (Vec ℕ Global) Error → Type 0
-GivesPutLeft h loss p r = (left : Tree) × LeftBy h loss left × GivesPut p r left
+    (λ e. e ≡ OutOfMemory)
 
 -- what a durable put stored that answered is read after a loss of power, where in what is left no
 -- entry behind its own answers to its key
@@ -26,30 +16,30 @@ Survives h loss key r =
     (folder : Names) (p : Put) → home h.setup ≡ Some folder → DurablePut h folder p
     → p.key ≡ Some key → p.options.integrity ≡ None
     → (left : Tree) × LeftBy h loss left × (more : List Entry)
-    × StandsBefore h.setup.cache key p more left × (NoneAnswers key more → GivesPut p r left)
+    × StandsBefore h.setup.cache key p more left × (NoneAnswers key more → GivesPut p r)
 
 -- it is read without asking what is left, where nobody appended to the key's bucket behind its entry
-abbrev pub SurvivesAlone : History → Loss → List ℕ → Result (Vec ℕ Global) Error → Type 0
-SurvivesAlone h loss key r =
+abbrev pub SurvivesAlone : History → List ℕ → Result (Vec ℕ Global) Error → Type 0
+SurvivesAlone h key r =
     (folder : Names) (p : Put) → home h.setup ≡ Some folder → (put : DurablePut h folder p)
     → p.key ≡ Some key → p.options.integrity ≡ None
-    → IsLast h folder put.rest put.call.caller key p → GivesPutLeft h loss p r
+    → IsLast h folder put.rest put.call.caller key p → GivesPut p r
 
 -- so it is whatever stood at the address of its content, where a link there led to a file that no step
 -- of the history changed
-abbrev pub LinkSurvives : History → Loss → List ℕ → Result (Vec ℕ Global) Error → Type 0
-LinkSurvives h loss key r =
+abbrev pub LinkSurvives : History → List ℕ → Result (Vec ℕ Global) Error → Type 0
+LinkSurvives h key r =
     (folder : Names) (p : Put) → home h.setup ≡ Some folder → (put : AnsweredPut h folder p)
     → p.key ≡ Some key → p.options.integrity ≡ None
     → LeadsUnchanged h put.before (address_of_put p)
-    → IsLast h folder put.rest put.call.caller key p → GivesPutLeft h loss p r
+    → IsLast h folder put.rest put.call.caller key p → GivesPut p r
 
 -- it is read without asking of links, where no call of the history exports or removes
-abbrev pub LinkedSurvives : History → Loss → List ℕ → Result (Vec ℕ Global) Error → Type 0
-LinkedSurvives h loss key r =
+abbrev pub LinkedSurvives : History → List ℕ → Result (Vec ℕ Global) Error → Type 0
+LinkedSurvives h key r =
     (folder : Names) (p : Put) → OnlyLinksIn h.records → home h.setup ≡ Some folder
     → (put : AnsweredPut h folder p) → p.key ≡ Some key → p.options.integrity ≡ None
-    → IsLast h folder put.rest put.call.caller key p → GivesPutLeft h loss p r
+    → IsLast h folder put.rest put.call.caller key p → GivesPut p r
 
 -- ---- writes after a loss
 

@@ -48,7 +48,8 @@ fn read_left<C: Clock, N: Names>(
     read
 }
 
-/// The power goes in a world, and the key is read from what is left of its disk.
+/// The power goes in a world, and the key is read from what is left of its disk. Only memory fails the read of what a
+/// durable put stored.
 pub fn survives<C: Clock, N: Names>(
     world: &World,
     loss: &Loss,
@@ -57,7 +58,7 @@ pub fn survives<C: Clock, N: Names>(
     names: N,
 ) -> Result<Vec<u8>>
     ensures left { Survives world.now loss.now key.now result }
-    ensures alone { SurvivesAlone world.now loss.now key.now result }
+    ensures alone { SurvivesAlone world.now key.now result }
 {
     world.stands();
     loss_results();
@@ -73,8 +74,8 @@ pub fn link_survives<C: Clock, N: Names>(
     clock: C,
     names: N,
 ) -> Result<Vec<u8>>
-    ensures link { LinkSurvives world.now loss.now key.now result }
-    ensures any { LinkedSurvives world.now loss.now key.now result }
+    ensures link { LinkSurvives world.now key.now result }
+    ensures any { LinkedSurvives world.now key.now result }
 {
     world.stands();
     loss_results();

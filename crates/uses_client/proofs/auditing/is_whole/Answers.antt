@@ -10,7 +10,7 @@ returns-in-Ok g c =
 pub returns-in-Err-clause-right : goal.returns-in-Err-clause-right
 returns-in-Err-clause-right g c =
     let told = c.after_read_hash.ensures c.args.env.now c.requires c.read_hash_sync-read.ensures.ran in
-    no_is_right c.args.cache.now c.args.sri.now _ c.args.env.now.store c.read_hash_sync-read.new.env.store (rw c.in-Err.is at told.any) c.no_unless_memory.result c.no_unless_memory.ensures
+    no_is_right c.args.cache.now c.args.sri.now _ c.args.env.now.store (rw c.in-Err.is at told.reads_on) c.no_unless_memory.result c.no_unless_memory.ensures
 
 pub returns-in-Err-clause-leaves : goal.returns-in-Err-clause-leaves
 returns-in-Err-clause-leaves g c = (c.after_read_hash.ensures c.args.env.now c.requires c.read_hash_sync-read.ensures.ran).leaves

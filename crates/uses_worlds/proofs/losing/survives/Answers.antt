@@ -1,6 +1,6 @@
-use Rattle.std.proofs.Common.{subst}
+use Rattle.std.proofs.Common.{subst, refl}
 use Rattle.cacache.specs.Histories.{IsStanding, LeftRead}
-use Rattle.uses_worlds.{specs.Losses.{Survives, SurvivesAlone}, proofs.Losses.{alone_here, handed_on, refused, refused_alone, survives_here}}
+use Rattle.uses_worlds.{specs.Losses.{Survives, SurvivesAlone}, proofs.Losses.{alone_here, handed_on, refused, survives_here}}
 use Rattle.uses_worlds.proofs.losing.survives.Goals as goal
 
 pub returns-in_err-env-clause-left : goal.returns-in_err-env-clause-left
@@ -10,8 +10,8 @@ returns-in_err-env-clause-left g c =
 
 pub returns-in_err-env-clause-alone : goal.returns-in_err-env-clause-alone
 returns-in_err-env-clause-alone g c =
-    handed_on (SurvivesAlone c.args.world.now c.args.loss.now c.args.key.now) c.from_residual.result c.in_err-env.field-0.0 c.from_residual.ensures.1 c.in_err-env.ensures.memory
-    (refused_alone c.args.world.now c.args.loss.now c.args.key.now c.stands.ensures.durable)
+    handed_on (SurvivesAlone c.args.world.now c.args.key.now) c.from_residual.result c.in_err-env.field-0.0 c.from_residual.ensures.1 c.in_err-env.ensures.memory
+    (λ folder p here put keyed none last. refl)
 
 pub returns : goal.returns
 returns g c =
