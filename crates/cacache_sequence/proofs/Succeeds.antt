@@ -11,7 +11,7 @@ use Rattle.cacache_table.specs.{declared.{carried.Lookup.{Lookup}, command.Comma
 use Rattle.cacache_table.specs.declared.command.Command.TheVariants as commands
 use Rattle.cacache_value.specs.{Kinds.{node_below}, Placed.{Placed}, Shows.{blob_there}, Value.{Blob, value_of_tree}}
 use Rattle.cacache_history.{specs.ShownTurns.{blob_at}, proofs.Spelled.{HasIntegrity, latest_has}}
-use Rattle.cacache_sequence.specs.{Caches.{Called, setup_at}, ReadAnswers.{entries_on, get_on, read_on}, Standing.{IsStanding}, Succeeds.{NamesFolder, insertion_reply, put_reply, is_yes, removal_reply, PutsAnswer, InsertionsAnswer, DeletionsAnswer, LookupsAnswer, ContentReadsAnswer, KeyReadsAnswer, QuestionsAnswer, RemovalsAnswer}}
+use Rattle.cacache_sequence.specs.{Caches.{Called, setup_at}, Keeping.{found_under}, ReadAnswers.{entries_on, get_on, read_on}, Standing.{IsStanding}, Succeeds.{NamesFolder, insertion_reply, put_reply, is_yes, removal_reply, PutsAnswer, InsertionsAnswer, DeletionsAnswer, LookupsAnswer, ContentReadsAnswer, KeyReadsAnswer, QuestionsAnswer, RemovalsAnswer}}
 use Rattle.cacache_sequence.proofs.{Emptied.{home_is}, Standing.{caches_stand}, SureInserts.{Inserted, inserts_so}, SurePuts.{PutSo, puts_so}, SureTemps.{own_temporary_at}, SureReads.{looks_so, reads_so, asks_so, removes_so}, SureRuns.{EndsSo, ends, of_log}, SureSteps.{Ground}}
 
 -- ---- a store on which no step fails

@@ -3,7 +3,7 @@ use Rattle.std.proofs.{Common.{◌≡◌, ℕ, true, false, nat_le, List, [], �
 use Rattle.std.specs.Prelude.{All}
 use Rattle.hex.specs.Hex.{encode_lower}
 use Rattle.sha1.specs.Sha1.{sha1}
-use Rattle.cacache_core.specs.{declared.errors.{Error.TheVariants.{SerdeError}, SerdeCause.{SerdeCause}}, PathNames.{Names, names_of, IsProperName}, Paths.{bucket_names, folder_names}}
+use Rattle.cacache_core.specs.{declared.errors.{Error.TheVariants.{SerdeError}, SerdeCause.{SerdeCause}}, PathNames.{Names, names_of, IsProperName, home_of}, Paths.{bucket_names, folder_names}}
 use Rattle.cacache_core.proofs.{PathLemmas.{keys_have_digests}, ProperNames.{names_are_proper}}
 use Rattle.cacache_core.specs.declared.errors.Fault.TheVariants as faults
 use Rattle.cacache_store.specs.declared.store.step.Step.TheVariants as steps

@@ -130,7 +130,7 @@ module _ (target : Target ℕ) (bytes : List ℕ) (home : Names) (is : names_of 
   link_ends =
       goes (Says (unless_dangling stored t (blob_in (look t names)))) t made (link c target.path) (steps.MakeDirs (content_folder target.cache (h ∷ []))) answers.Done refl
       (makes_dirs home t g (content_folder target.cache (h ∷ [])) front (commits.folder_lies target.cache home is t g h hash))
-      (linked_ends (look t names) refl (suited home t g target.cache is h [] hash))
+      (linked_ends (look t names) refl (suited home t g target.cache (home_is target.cache home is) h [] hash))
 
 -- ---- on a store in memory
 

@@ -1,6 +1,6 @@
 -- Lookups, reads, questions and removals whose steps all go well.
 use Rattle.std.proofs.Common.{◌≡◌, ◌⊎◌, inl, inr, ℕ, Bool, true, false, cond, List, [], ◌∷◌, ◌++◌, Option, None, Some, Result, Ok, Err, refl, sym, ap, subst, ◌∙◌}
-use Rattle.cacache_core.specs.{declared.{errors.{Error.TheVariants.{IoError, IntegrityError}, Fault.{Fault}, IntegrityFault.TheVariants.{Check}}, integrity.digest.Hash.{Hash}}, Integrity.{IsHash, actual}, Meeting.{meets}, PathNames.{Names, names_of}, Paths.{bucket_names, content_names}}
+use Rattle.cacache_core.specs.{declared.{errors.{Error.TheVariants.{IoError, IntegrityError}, Fault.{Fault}, IntegrityFault.TheVariants.{Check}}, integrity.digest.Hash.{Hash}}, Integrity.{IsHash, actual}, Meeting.{meets}, PathNames.{Names, names_of, home_of}, Paths.{bucket_names, content_names}}
 use Rattle.cacache_core.specs.declared.errors.Fault.TheVariants as faults
 use Rattle.cacache_store.specs.declared.store.step.Step.TheVariants as steps
 use Rattle.cacache_store.specs.declared.store.answer.Answer.TheVariants as answers

@@ -1,7 +1,7 @@
 -- The paths of contents and temporary files, and how a temporary file is made.
 use Rattle.std.{proofs.Common.{◌≡◌, ℕ, List, [], ◌∷◌, ◌++◌, None, Some, Ok, length, refl, sym, ap, ◌∙◌, arith}, specs.{Prelude.{All, codes}, Int.{to_be_bytes, w64}}}
 use Rattle.hex.specs.Hex.{encode_lower}
-use Rattle.cacache_core.specs.{declared.integrity.digest.Hash.{Hash}, Integrity.{IsHash}, PathNames.{Names, names_of, IsProperName}, Paths.{content_names, folder_names, temp_names}}
+use Rattle.cacache_core.specs.{declared.integrity.digest.Hash.{Hash}, Integrity.{IsHash}, PathNames.{Names, names_of, IsProperName, home_of}, Paths.{content_names, folder_names, temp_names}}
 use Rattle.cacache_core.proofs.ProperNames.{names_are_proper}
 use Rattle.cacache_store.specs.{declared.store.plain.PlainTemp.{PlainTemp}, Plain.{PlainAnswer}}
 use Rattle.cacache_store.specs.declared.store.step.Step.TheVariants as steps
