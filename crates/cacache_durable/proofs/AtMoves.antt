@@ -6,7 +6,7 @@ use Rattle.cacache_store.specs.declared.store.answer.Answer.TheVariants as answe
 use Rattle.cacache_table.specs.{declared.reply.Reply.{Reply}, Runs.{Moves}}
 use Rattle.cacache_value.specs.Traces.{Move}
 use Rattle.cacache_history.specs.{declared.record.Record.{Record, TheVariants.{Moved}}, Setup.{Setup, home}, History.{Call, History, IsLegal, Made, Now, initial, now_after, now_at, replayed}, Values.{steps_of}}
-use Rattle.cacache_history.proofs.Holding.{replay_more}
+use Rattle.cacache_history.proofs.Histories.Holding.{replay_more}
 use Rattle.cacache_loss.specs.{CalmMoves.{AreCalm, CalmSteps, IsCalm}, CommitFolders.{SyncsTexts}, LostTrees.{OfCache}, Moments.{Moment, after}}
 use Rattle.cacache_loss.specs.Moments as moments
 use Rattle.cacache_durable.specs.{Outlasting.{moment_at}, QuietMoves.{AreQuiet}}

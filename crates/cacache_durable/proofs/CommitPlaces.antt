@@ -10,7 +10,7 @@ use Rattle.cacache_table.specs.{declared.{command.{Command.{Command}, Insert.{In
 use Rattle.cacache_table.specs.declared.command.Command.TheVariants as commands
 use Rattle.cacache_value.{specs.{Acts.{PutBytes, AddEntries}, Traces.{Move}}, proofs.AppendedLines.{whole_closed}}
 use Rattle.cacache_history.specs.{declared.record.Record.{Record}, Setup.{call_site, is_outside, may_export}, History.{History, IsLegal, Made, Turn, now_at}, Turns.{made_in, EachTurn}, Commits.{Deed, does, finds, deeds, deeds_of}}
-use Rattle.cacache_history.proofs.{Carrying.{Makes, own_bytes, own_of}, Holding.{CallHolds, held_at, legal_after, of_caller}}
+use Rattle.cacache_history.proofs.{Contents.Carrying.{Makes, own_bytes, own_of}, Histories.Holding.{CallHolds, held_at, legal_after, of_caller}}
 use Rattle.cacache_durable.specs.Ending.{EndsFrom}
 use Rattle.cacache_durable.proofs.{Ending.{Has, PlaceOf, own_moves, own_runs, place_of}, CommitMoves.{Appends, Stores, inserted}, PutMoves.{Places, put_places, secures_found}}
 

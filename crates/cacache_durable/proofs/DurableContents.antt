@@ -10,7 +10,7 @@ use Rattle.cacache_table.specs.Runs.{Moves}
 use Rattle.cacache_value.specs.{Kinds.{Content, node_below, path_kind}, Placed.{MayStand}, Traces.{Move}, Value.{AtLink, blob_in}}
 use Rattle.cacache_value.proofs.{FoundPaths.{suits}, KindsApart.{kind-below}}
 use Rattle.cacache_history.specs.{declared.record.Record.{Record}, Setup.{home}, History.{History, Made, now_at}, Values.{steps_of, value_at}}
-use Rattle.cacache_history.proofs.Values.{contents_are_right}
+use Rattle.cacache_history.proofs.Histories.Values.{contents_are_right}
 use Rattle.cacache_loss.specs.{CalmMoves.{AreCalm, IsCalm, OfBytes, PutWell, PutsMove, PutsStep}, Fixing.{place_now}, Loss.{Loss}, LossLaws.{GoodNode, HasDigest, IsSafe}, LostTrees.{OfCache}, Moments.{Moment, after, lost_then, next}, Syncs.{IsFileSync, IsPut, SyncsFolders}}
 use Rattle.cacache_loss.proofs.{CommitFolders.{five_for_contents}, Commits.{found_stays, put_safe}, Contents.{GoodOrLink, contents_survive}, KeptPaths.{cache_next}, StepCases.{PersistCase, moved, persist_case, refused}}
 use Rattle.cacache_durable.specs.Outlasting.{moment_at}

@@ -10,7 +10,7 @@ use Rattle.cacache_table.proofs.Sound.{steps_allowed}
 use Rattle.cacache_table.specs.declared.command.Command.TheVariants as commands
 use Rattle.cacache_value.{specs.{Kinds.{Temporary, path_kind}, OpeningTrees.{LieApart}, Placed.{Placed, Proper}}, proofs.FoundPaths.{of_names}}
 use Rattle.cacache_history.specs.{declared.record.Record.{Record, TheVariants.{Began, Moved, Stopped}}, Setup.{Setup, call_site, home, is_outside, may_export}, History.{Call, History, IsLegal, Legal, Made, MayMove, Now, new_call, initial, call_after, now_after, now_at, replayed, unless_over}, Values.{steps_of}}
-use Rattle.cacache_history.proofs.{Holding.{AllHold, CallHolds, ended_at, first_holds, legal_before, made_proper, next_holds, of_caller, replay_more, set_at}, Syncing.{temp_synced}}
+use Rattle.cacache_history.proofs.{Histories.Holding.{AllHold, CallHolds, ended_at, first_holds, legal_before, made_proper, next_holds, of_caller, replay_more, set_at}, Syncing.{temp_synced}}
 use Rattle.cacache_loss.specs.ChangedNames as loss
 use Rattle.cacache_loss.specs.{Fixing.{Fixed, fixed_after, is_synced}, Moments.{Moment, after}}
 use Rattle.cacache_loss.specs.Moments as moments

@@ -9,7 +9,7 @@ use Rattle.cacache_table.specs.{declared.{command.{Command.{Command}, Insert.{In
 use Rattle.cacache_table.specs.declared.command.Command.TheVariants as commands
 use Rattle.cacache_value.specs.Value.{blob_in, value_of_tree}
 use Rattle.cacache_history.specs.{declared.record.Record.{Record}, AddedEntries.{address_of_put}, History.{History, IsLegal, Made, now_at}, Setup.{home}}
-use Rattle.cacache_history.proofs.Digests.{digest_hash}
+use Rattle.cacache_history.proofs.Contents.Digests.{digest_hash}
 use Rattle.cacache_loss.{specs.{Loss.{Loss}, LossLaws.{GoodNode, HasDigest}, LostValues.{HoldsContent, LeftOf}, Moments.{lost_then}}, proofs.LostValues.{contents_are_held}}
 use Rattle.cacache_durable.specs.{Ending.{EndsFrom, CallEndsWith}, FewCalls.{FewCalls}, Outlasting.{AnsweredPut, DurableInsert, DurablePut, EntriesHaveBehind, FindsThere, FoundLink, HistoriesOutlive, InsertsHaveBehind, InsertsOutlast, KeyOutlasts, PutsHaveBehind, PutsOrLinksOutlast, PutsOutlast, moment_at}, QuietMoves.{AreQuiet}}
 use Rattle.cacache_durable.proofs.{AtMoves.{QuietPlace, here, own_record, quiet_here, split}, BehindEntries.{entry_behind}, CommitMoves.{HasDirs}, PutMoves.{Adds, secures}, CommitPlaces.{Secures, insert_appends, insert_formed, line_is, own, place_in, put_formed, put_secures, written_fits}, DurableContents.{content_named, found_left, put_outlasts}, DurableEntries.{WholeEntry, bucket_named, entry_outlasts, whole_append}, SyncedTemps.{put_well_at}, Traces.{losses_leave_caches}}

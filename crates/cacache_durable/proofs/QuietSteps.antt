@@ -7,7 +7,7 @@ use Rattle.cacache_table.specs.{StepPaths.{temp_path}, Sound.{Allowed}, Licence.
 use Rattle.cacache_table.proofs.{Within.{step_allowed, begins_within, goes_within}, Sound.{steps_allowed}}
 use Rattle.cacache_value.{specs.{Kinds.{Temporary, IsFor}, OpeningTrees.{LieApart}}, proofs.PathKinds.{paths_are_for}}
 use Rattle.cacache_history.specs.{declared.record.Record.{Record, TheVariants.{Began, Moved, Stopped}}, Setup.{Setup, call_site, home, is_outside, may_export}, History.{Call, History, IsLegal, Legal, Now, now_after, now_at}, Turns.{made_in}, Values.{steps_of}}
-use Rattle.cacache_history.proofs.Holding.{AllHold, CallHolds, held_at, legal_after, next_holds, of_caller}
+use Rattle.cacache_history.proofs.Histories.Holding.{AllHold, CallHolds, held_at, legal_after, next_holds, of_caller}
 use Rattle.cacache_loss.specs.CalmMoves.{is_calm, AreCalm, CalmStep, CalmSteps, HandlesTemp}
 use Rattle.cacache_durable.{specs.{Outlasting.{moment_at}, QuietMoves.{AreQuiet, IsQuietMove, is_quiet}}, proofs.Traces.{trace_at}}
 

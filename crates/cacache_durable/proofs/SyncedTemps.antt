@@ -11,7 +11,7 @@ use Rattle.cacache_table.specs.{declared.{command.{Command.{Command}, Put.{Put}}
 use Rattle.cacache_table.specs.declared.command.Command.TheVariants as commands
 use Rattle.cacache_value.proofs.Shows.{apply_answer}
 use Rattle.cacache_history.specs.{declared.record.Record.{Record, TheVariants.{Began, Moved, Stopped}}, AddedEntries.{address_of_put}, Setup.{call_site, home}, History.{Call, History, IsLegal, Made, initial, now_after, now_at}, Values.{steps_of}}
-use Rattle.cacache_history.proofs.{Carrying.{Makes, carries_makes, own_of}, Digests.{digest_hash}, Holding.{CallHolds, held_at, legal_after, of_caller, replay_more}}
+use Rattle.cacache_history.proofs.{Contents.{Carrying.{Makes, carries_makes, own_of}, Digests.{digest_hash}}, Histories.Holding.{CallHolds, held_at, legal_after, of_caller, replay_more}}
 use Rattle.cacache_loss.specs.{CalmMoves.{OfBytes, PutWell, PutsMove, PutsStep}, LossLaws.{HasDigest}, Moments.{EachMove, after}}
 use Rattle.cacache_durable.specs.{FewCalls.{FewCalls}, Outlasting.{moment_at}, QuietMoves.{AreQuiet, IsQuiet, IsQuietMove, PutsDurably}}
 use Rattle.cacache_durable.proofs.{DurableStates.{ready_file}, HeldTemps.{IsSynced, TempAt, temps_at}, Traces.{moment_more}}

@@ -3,7 +3,7 @@ use Rattle.std.proofs.Common.{◌≡◌, List, [], ◌∷◌, ◌++◌, None, So
 use Rattle.cacache_disk.specs.{declared.luck.Luck.{Luck}, Apply.{apply}}
 use Rattle.cacache_value.specs.Traces.{IsTrace, Move}
 use Rattle.cacache_history.specs.{declared.record.Record.{Record, TheVariants.{Began, Moved, Stopped}}, Setup.{Setup, home}, History.{History, IsLegal, Made, Now, initial, now_after, now_at, replayed}, Values.{steps_of}}
-use Rattle.cacache_history.proofs.{Holding.{first_holds, held_at, legal_after, legal_before}, Values.{traced}}
+use Rattle.cacache_history.proofs.Histories.{Holding.{first_holds, held_at, legal_after, legal_before}, Values.{traced}}
 use Rattle.cacache_loss.specs.{ChangedNames.{opening}, LostTrees.{OfCache, StoodWell}, Moments.{Moment, after}}
 use Rattle.cacache_loss.proofs.{ChangedNames.{histories_leave_caches}, LostTrees.{moves_keep_moments, openings_stand_well}}
 use Rattle.cacache_loss.specs.Moments as moments

@@ -2,7 +2,7 @@
 use Rattle.std.proofs.{Common.{◌≡◌, ◌⊎◌, inl, inr, ℕ, Bool, true, false, cond, List, [], ◌∷◌, ◌++◌, length, bytes_eq, refl, sym, ap, ◌∙◌, arith, append_assoc, length-append}, lemmas.Slice.Eq.{bytes_eq-Decides}}
 use Rattle.cacache_core.specs.PathNames.{Names}
 use Rattle.cacache_store.specs.declared.store.answer.Name.{Name}
-use Rattle.cacache_history.{specs.Setup.{are_apart}, proofs.ToldFolders.{Each, AreDistinct}}
+use Rattle.cacache_history.{specs.Setup.{are_apart}, proofs.Listings.ToldFolders.{Each, AreDistinct}}
 
 -- ---- paths that are apart
 

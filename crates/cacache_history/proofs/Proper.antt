@@ -13,7 +13,7 @@ use Rattle.cacache_table.specs.Sound as calls
 use Rattle.cacache_value.specs.{Kinds.{Content, Bucket, Temporary, Way, Elsewhere, kind_beside, path_kind, IsFor}, Placed.{IsEntryLine, Proper}, OpeningTrees.{LieApart}}
 use Rattle.cacache_value.proofs.PathKinds.{paths_are_for, folders_are_ways}
 use Rattle.cacache_history.specs.Setup.{Setup, call_site, home, are_apart, apart_from_home, apart_from_files, may_take, may_export, same_place, has_file, is_outside}
-use Rattle.cacache_history.proofs.Digests.{digest_hash}
+use Rattle.cacache_history.proofs.Contents.Digests.{digest_hash}
 
 -- ---- exports and links
 

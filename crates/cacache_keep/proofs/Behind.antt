@@ -11,7 +11,7 @@ use Rattle.cacache_table.specs.State.{Site}
 use Rattle.cacache_value.specs.{Acts.{list_of}, Value.{value_of_tree}}
 use Rattle.cacache_history.specs.ShownTurns.{blob_at}
 use Rattle.cacache_sequence.specs.{Beside.{IsOther, KeepsBeside, own_integrity}, Caches.{IsCache, HasKey, lies_under}, Keeping.{found_under, KeepsOthers, StaysKnown}, ReadAnswers.{entries_on}, Sequence.{IsSound}}
-use Rattle.cacache_sequence.proofs.{Beside.{removals_keep, writes_keep}, Committing.{commits_last}, ExportEffects.{exports_keep}, GivenUp.{giving_up_lasts}, Inserting.{inserts_last}, Looked.{same_stays_known}, OpenWriters.{writers_open}, Puts.{commits_keep}, Removals.{removals_last}}
+use Rattle.cacache_sequence.proofs.{Putting.{Beside.{removals_keep, writes_keep}, Committing.{commits_last}, Inserting.{inserts_last}, OpenWriters.{writers_open}, Puts.{commits_keep}}, Exports.ExportEffects.{exports_keep}, Spares.GivenUp.{giving_up_lasts}, Readings.Looked.{same_stays_known}, Removing.Removals.{removals_last}}
 use Rattle.cacache_keep_laws.specs.{Collecting.{is_live}, Contents.{bucket_in, content_in}, Index.{IndexLists}, Mending.{found_in}}
 use Rattle.cacache_keep_laws.proofs.{Collected.{live_so}, Idle.{address_is}, Led.{found_listed}, Logged.{log_rooted}, Members.{contains_member, member_contains}, SoundRemovals.{removals_leave_sound}}
 use Rattle.cacache_keep.specs.{Behind.{CollectionsKeepKeys, Event, Happen, Happens, KeepsKey, LaterKeysStay, LeadsOn, collects, commits, deletes, exports, gives_up, inserts, looks, opens, puts, text_of}, Kept.{LeavesTree}}

@@ -11,7 +11,7 @@ use Rattle.cacache_table.specs.{declared.{command.Command.{Command}, reply.Reply
 use Rattle.cacache_table.proofs.Within.{calls_keep_to}
 use Rattle.cacache_table.specs.declared.command.Command.TheVariants as commands
 use Rattle.cacache_table.specs.declared.reply.Reply.TheVariants as replies
-use Rattle.cacache_sequence.{specs.Sequence.{tree_on, AreAnswered}, proofs.{InParts.{logs_lead}, Looks.{moves_keep}, ReadsStay.{sizing_keeps}}}
+use Rattle.cacache_sequence.{specs.Sequence.{tree_on, AreAnswered}, proofs.{Calls.InParts.{logs_lead}, Readings.{Looks.{moves_keep}, ReadsStay.{sizing_keeps}}}}
 use Rattle.cacache_walks.specs.{Listing.{content_area_in}, Reading.{top_folder}}
 use Rattle.cacache_keep_laws.specs.{Contents.{HoldsJust}, Index.{IndexLists}}
 use Rattle.cacache_keep_laws.proofs.{Agreed.{holdings_agree, indexes_agree}, Held.{holds_just}, Logged.{answered_rest, answered_split, gains_join, log_rooted, looked, tree_rest, walked}}

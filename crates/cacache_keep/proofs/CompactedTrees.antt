@@ -9,7 +9,7 @@ use Rattle.cacache_disk.specs.{declared.{luck.Luck.TheVariants.{Plain}, node.Nod
 use Rattle.cacache_disk.proofs.{Maps.{same_path-true}, Roots.{same_self}, Standing.{upper_folder}}
 use Rattle.cacache_table.specs.{SingleSteps.{Does}, StepPaths.{temp_folder, temp_path}}
 use Rattle.cacache_value.specs.Kinds.{path_kind}
-use Rattle.cacache_sequence.proofs.ReadsStay.{reading_keeps}
+use Rattle.cacache_sequence.proofs.Readings.ReadsStay.{reading_keeps}
 use Rattle.cacache_keep_laws.specs.{Compacted.{Compacted, CutShort}, Compacting.{compact_text}}
 use Rattle.cacache_keep_laws.proofs.{CompactTwice.{compact_twice}, LeanTrees.{Becomes, compacted_more, compacted_none, cut_later, cut_short}, Led.{file_shown}}
 use Rattle.cacache_keep.specs.{Compacting.{Bucket, CompactsBucket, CompactsEach, RewritesIf, StopsBucket, StopsCompactingEach, is_loose}, Rewriting.{MakesTemp, Rewrites, StopsMaking, StopsRewriting, StopsWriting, SyncsTemp, Took}}

@@ -8,7 +8,7 @@ use Rattle.cacache_store.specs.declared.store.answer.Kind.TheVariants as kinds
 use Rattle.cacache_store.specs.declared.store.step.Step.TheVariants as steps
 use Rattle.cacache_disk.specs.{declared.{luck.Luck.TheVariants.{Plain}, node.Node.{Node, TheVariants.{Folder, File, Link}}}, Tree.{Tree, kind_of, look}, Apply.{apply}, Rooted.{Rooted}}
 use Rattle.cacache_disk.proofs.Standing.{upper_folder}
-use Rattle.cacache_sequence.proofs.ReadsStay.{listing_keeps}
+use Rattle.cacache_sequence.proofs.Readings.ReadsStay.{listing_keeps}
 use Rattle.cacache_walks.specs.Reading.{names_shown}
 use Rattle.cacache_value.{specs.Kinds.{Bucket, path_kind}, proofs.KindsApart.{kind-below}}
 use Rattle.cacache_keep_laws.specs.Temporary.{is_file}

@@ -10,7 +10,7 @@ use Rattle.cacache_table.specs.declared.command.Command.TheVariants as commands
 use Rattle.cacache_table.specs.declared.reply.Reply.TheVariants as replies
 use Rattle.cacache_table.specs.State.{Site}
 use Rattle.cacache_value.{specs.{Placed.{Placed}, Acts.{list_of}}, proofs.Traces.{steps_keep_placed}}
-use Rattle.cacache_sequence.{specs.Sequence.{tree_on}, proofs.InParts.{logs_lead}}
+use Rattle.cacache_sequence.{specs.Sequence.{tree_on}, proofs.Calls.InParts.{logs_lead}}
 use Rattle.cacache_walks.specs.{Listing.{content_area_in}, Reading.{top_folder}}
 use Rattle.cacache_keep_laws.specs.{Collecting.{Removes}, Contents.{HoldsJust}, Index.{IndexLists}, Mending.{found_in}, Verifying.{has_content, is_good}}
 use Rattle.cacache_keep_laws.proofs.{Collected.{from_kept, kept_in, leaves}, Held.{holds_just}, Logged.{answered_rest, answered_split, gains_join, log_rooted, looked, tree_rest, tree_split, walked}, Members.{Member, contains_member, member_contains}, Mended.{repairs_leave}}

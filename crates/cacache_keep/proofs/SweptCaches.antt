@@ -4,7 +4,7 @@ use Rattle.cacache_store.specs.declared.store.step.Step.TheVariants.{ReadDir}
 use Rattle.cacache_disk.specs.Tree.{Tree}
 use Rattle.cacache_memory.specs.Replay.{tree_of}
 use Rattle.cacache_table.specs.Runs.{Moves}
-use Rattle.cacache_sequence.{specs.Sequence.{tree_on, AreAnswered}, proofs.{InParts.{logs_lead}, ReadsStay.{listing_keeps}}}
+use Rattle.cacache_sequence.{specs.Sequence.{tree_on, AreAnswered}, proofs.{Calls.InParts.{logs_lead}, Readings.ReadsStay.{listing_keeps}}}
 use Rattle.cacache_walks.specs.Reading.{names_shown}
 use Rattle.cacache_keep_laws.{specs.Temporary.{LeavesUntemporary, sized_removals, temp_area_in}, proofs.{Logged.{gains_join, log_rooted}, Temporary.{sweeps_leave}}}
 use Rattle.cacache_keep.specs.Kept.{CachesAreSwept}

@@ -6,7 +6,7 @@ use Rattle.cacache_store.specs.{declared.store.log.LogItem.{LogItem}, Plain.{Pla
 use Rattle.cacache_disk.{specs.{declared.luck.Luck.TheVariants.{Plain}, Tree.{Tree}, Apply.{apply}, Rooted.{Rooted}}, proofs.KeptFolders.{steps_keep_rooted}}
 use Rattle.cacache_memory.specs.Replay.{tree_of, IsLog}
 use Rattle.cacache_table.specs.{Runs.{Gains, Moves}, SingleSteps.{Does, FailsAt}}
-use Rattle.cacache_sequence.{specs.Sequence.{tree_on, AreAnswered}, proofs.InParts.{logs_lead}}
+use Rattle.cacache_sequence.{specs.Sequence.{tree_on, AreAnswered}, proofs.Calls.InParts.{logs_lead}}
 use Rattle.cacache_keep_laws.proofs.Logged.{answered_split, gains_join, log_rooted, tree_split}
 use Rattle.cacache_keep.proofs.Parts.{gains_none}
 

@@ -8,7 +8,7 @@ use Rattle.cacache_entry.specs.Latest.{Found}
 use Rattle.cacache_table.specs.declared.command.Command.TheVariants as commands
 use Rattle.cacache_table.specs.declared.reply.Reply.TheVariants as replies
 use Rattle.cacache_table.specs.State.{Site}
-use Rattle.cacache_sequence.proofs.InParts.{logs_lead}
+use Rattle.cacache_sequence.proofs.Calls.InParts.{logs_lead}
 use Rattle.cacache_walks.specs.{Listing.{content_area_in}, Reading.{top_folder}}
 use Rattle.cacache_keep_laws.specs.{Contents.{HoldsJust}, Verifying.{Judges, has_content}}
 use Rattle.cacache_keep_laws.proofs.{Members.{contains_member}, Held.{holds_just}, Logged.{answered_rest, answered_split, gains_join, log_rooted, looked, tree_rest, walked}}

@@ -5,7 +5,7 @@ use Rattle.cacache_store.specs.declared.store.log.LogItem.{LogItem}
 use Rattle.cacache_memory.specs.Replay.{tree_of}
 use Rattle.cacache_table.specs.{declared.command.Command.{Command}, State.{Site}, StepPaths.{content_path}, Table.{opening}}
 use Rattle.cacache_table.specs.declared.command.Command.TheVariants as commands
-use Rattle.cacache_sequence.{specs.Sequence.{tree_on}, proofs.InParts.{logs_lead}}
+use Rattle.cacache_sequence.{specs.Sequence.{tree_on}, proofs.Calls.InParts.{logs_lead}}
 use Rattle.cacache_keep_laws.specs.Idle.{LacksIdle, Removed, StillLacksIdle}
 use Rattle.cacache_keep_laws.proofs.{Cleared.{both_cleared, cleared}, Fully.{Both, key_goes, lacks_at, last_removed}, Logged.{log_rooted}, Stepping.{MadeOn, Whole}}
 

@@ -7,7 +7,7 @@ use Rattle.cacache_disk.{specs.{declared.luck.Luck.TheVariants.{Plain}, Tree.{Tr
 use Rattle.cacache_entry.specs.Latest.{Found}
 use Rattle.cacache_table.specs.{declared.{reply.Reply.{Reply, TheVariants.{Done}}, carried.Lookup.{Lookup}}, State.{State, doing, looking, over, remove}, StepPaths.{bucket_path, content_path}, Looking.{found_in}, Removing.{remove_bucket, remove_content, remove_found}, Table.{wants, after}}
 use Rattle.cacache_table.specs.declared.carried.Aim.TheVariants as aims
-use Rattle.cacache_sequence.{specs.Sequence.{tree_on}, proofs.ReadsStay.{reading_keeps}}
+use Rattle.cacache_sequence.{specs.Sequence.{tree_on}, proofs.Readings.ReadsStay.{reading_keeps}}
 use Rattle.cacache_keep_laws.specs.Idle.{Finds, LacksIdle}
 use Rattle.cacache_keep_laws.proofs.{Idle.{bucket_read}, Stepping.{MadeOn, Whole, goes, stays, leaves}, Twice.{from_both, from_full, from_none, removed_twice}}
 

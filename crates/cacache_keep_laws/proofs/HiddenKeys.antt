@@ -14,7 +14,7 @@ use Rattle.cacache_table.proofs.Sound.{begins_sound, stays_sound}
 use Rattle.cacache_table.specs.Sound as calls
 use Rattle.cacache_value.specs.{Acts.{MakeFolders, act_at, act_of, act_with, change, folders_left, list_of}, Kinds.{is_path_of}, Placed.{Placed, Proper}, Value.{Value, wide_value}}
 use Rattle.cacache_value.proofs.{AppendedLines.{whole_lines_add}, Traces.{steps_act, steps_keep_placed}}
-use Rattle.cacache_history.{specs.Setup.{Setup, is_outside, may_export}, proofs.{Proper.{sound_proper}, ShownTurns.{bucket_below}}}
+use Rattle.cacache_history.{specs.Setup.{Setup, is_outside, may_export}, proofs.{Proper.{sound_proper}, Histories.ShownTurns.{bucket_below}}}
 use Rattle.cacache_sequence.specs.{Caches.{setup_at}, Sequence.{tree_on, AreAnswered}}
 use Rattle.cacache_keep_laws.specs.Mending.{TombstonesHide}
 

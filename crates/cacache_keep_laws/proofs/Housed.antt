@@ -15,7 +15,7 @@ use Rattle.cacache_table.specs.Sound as calls
 use Rattle.cacache_value.specs.{Kinds.{Bucket, Content, Elsewhere, Way, path_kind}, Placed.{Placed, Proper}}
 use Rattle.cacache_value.proofs.{FoundPaths.{Reaches, found, missing, bucket_reached, unreachable}, KindsApart.{kind-below}, Traces.{steps_keep_placed}}
 use Rattle.cacache_history.specs.Setup.{is_outside, may_export}
-use Rattle.cacache_history.proofs.{Formed.{step_formed}, Keyed.{ToKeys, step_keyed}, Owned.{AppendsOwn, step_own}, ShownTurns.{bucket_below}}
+use Rattle.cacache_history.proofs.{Entries.{Formed.{step_formed}, Keyed.{ToKeys, step_keyed}, Owned.{AppendsOwn, step_own}}, Histories.ShownTurns.{bucket_below}}
 use Rattle.cacache_sequence.specs.{Caches.{setup_at}, Sequence.{tree_on}}
 use Rattle.cacache_keep_laws.specs.{Collecting.{Removes}, Housed.{Beside, Housed, Still, TombstonesHouse}}
 use Rattle.cacache_keep_laws.proofs.{HiddenKeys.{AllProper, buried, proper_run}, Keeping.{stays}, Members.{Member}}

@@ -14,9 +14,9 @@ use Rattle.cacache_table.specs.{declared.reply.Reply.{Reply, TheVariants.{Listed
 use Rattle.cacache_table.proofs.{Replies.{finds_shown}, Within.{calls_keep_to}}
 use Rattle.cacache_value.{specs.{Acts.{list_of}, Kinds.{NamesBelow}, Placed.{Placed}, Shows.{ShowsBucket}, Value.{bucket_in, value_of_tree}}, proofs.Shows.{trees_show}}
 use Rattle.cacache_history.specs.{Buckets.{BucketsHaveKeys}, ListingTurns.{is_past, listing_of}, Setup.{Setup}, Turns.{made_in, EachTurn}}
-use Rattle.cacache_history.proofs.{Bucketed.{KeyedTurn}, Formed.{TreeFormed}, Holding.{TurnsHold}, ListingTurns.{lists}, Owned.{TreeOwn}, ShownTurns.{bucket_below}, Spelled.{HasIntegrity, latest_has}}
+use Rattle.cacache_history.proofs.{Entries.{Bucketed.{KeyedTurn}, Formed.{TreeFormed}, Owned.{TreeOwn}, Spelled.{HasIntegrity, latest_has}}, Histories.{Holding.{TurnsHold}, ShownTurns.{bucket_below}}, Listings.ListingTurns.{lists}}
 use Rattle.cacache_sequence.specs.{Caches.{setup_at}, ReadAnswers.{entries_on}, Sequence.{turns_on}}
-use Rattle.cacache_sequence.proofs.{ListedTurns.{Leads, turns_lead}, Looks.{moves_keep, moves_place}, Sequence.{turns_made}}
+use Rattle.cacache_sequence.proofs.{Listings.ListedTurns.{Leads, turns_lead}, Readings.Looks.{moves_keep, moves_place}, Calls.Sequence.{turns_made}}
 use Rattle.cacache_keep_laws.specs.{Answers.{AnsweredBy, AnswersOn}, Compacted.{HousesAreFit}, Housed.{CachesAreHoused, Housed, IndexesLead}, Index.{IndexLists, entries_in}, Mending.{found_in}}
 use Rattle.cacache_keep_laws.proofs.{Agreeing.{said}, Collected.{indexes_find}, Links.{links_out}, Members.{Member, member_contains}, Within.{read_answer}}
 

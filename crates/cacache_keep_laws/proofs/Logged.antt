@@ -8,7 +8,7 @@ use Rattle.cacache_disk.proofs.{KeptFolders.{steps_keep_rooted}, PlantedNodes.{p
 use Rattle.cacache_memory.specs.Replay.{changed, after, replay, tree_of}
 use Rattle.cacache_table.specs.{declared.{command.Command.{Command}, reply.Reply.{Reply}}, State.{Site}, Table.{opening}, Runs.{Moves, Runs, Gains}, Licence.{looking_on}}
 use Rattle.cacache_table.proofs.Within.{calls_keep_to}
-use Rattle.cacache_sequence.{specs.{Looks.{OnlyLooks}, Sequence.{tree_on, turns_on, AreAnswered}}, proofs.{Looks.{moves_keep, moves_place}, ReadsStay.{listing_keeps}}}
+use Rattle.cacache_sequence.{specs.{Looks.{OnlyLooks}, Sequence.{tree_on, turns_on, AreAnswered}}, proofs.Readings.{Looks.{moves_keep, moves_place}, ReadsStay.{listing_keeps}}}
 use Rattle.cacache_history.specs.Turns.{EachTurn}
 use Rattle.cacache_walks.specs.Reading.{Folder, ReadsFolders, folders_in}
 use Rattle.cacache_keep_laws.{specs.{Answers.{AnsweredBy, AnswersOn}, Walks.{ReadAt}}, proofs.Members.{Member, member_contains}}

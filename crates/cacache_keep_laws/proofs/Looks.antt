@@ -4,7 +4,7 @@ use Rattle.cacache_store.specs.Plain.{PlainStep, PlainAnswer}
 use Rattle.cacache_disk.specs.{declared.luck.Luck.TheVariants.{Plain}, Tree.{Tree}, Apply.{apply}}
 use Rattle.cacache_memory.specs.Replay.{tree_of}
 use Rattle.cacache_table.specs.{declared.reply.Reply.{Reply}, State.{State, Site, over}, Table.{after, opening, wants}, Runs.{Moves, Runs}}
-use Rattle.cacache_sequence.proofs.InParts.{logs_lead}
+use Rattle.cacache_sequence.proofs.Calls.InParts.{logs_lead}
 use Rattle.cacache_keep_laws.{specs.Answers.{AnsweredBy, AnswersAgree, IsMemory, LooksAnswer}, proofs.Logged.{looked}}
 
 pub looks_answer : LooksAnswer

@@ -4,7 +4,7 @@ use Rattle.cacache_core.specs.{declared.integrity.digest.Hash.{Hash}, PathNames.
 use Rattle.cacache_store.specs.declared.store.step.Step.TheVariants.{RemoveFile}
 use Rattle.cacache_disk.{specs.{declared.luck.Luck.TheVariants.{Plain}, Tree.{Tree}, Apply.{apply}}, proofs.KeptFolders.{steps_keep_rooted}}
 use Rattle.cacache_table.specs.declared.command.Command.TheVariants as commands
-use Rattle.cacache_history.proofs.Righted.{stays_right}
+use Rattle.cacache_history.proofs.Contents.Righted.{stays_right}
 use Rattle.cacache_sequence.specs.{Caches.{setup_at}, Sequence.{IsSound}}
 use Rattle.cacache_keep_laws.{specs.{Collecting.{Removes, RemovalsLeaveSound}, Housed.{Housed}}, proofs.Housed.{step_housed}}
 

@@ -7,7 +7,7 @@ use Rattle.cacache_disk.proofs.{FoundNodes.{and_then_ok, or_fault_none, there_at
 use Rattle.cacache_table.specs.StepPaths.{content_path}
 use Rattle.cacache_value.specs.{Kinds.{PathKind, Content, Elsewhere, Way, NamesBelow, kind_beside, path_kind, IsFor}, Placed.{MayStand, Placed}, Shows.{ShowsThere, link_end, blob_bytes, blob_there}, Value.{Blob, InFile, AtLink, blob_in}}
 use Rattle.cacache_value.proofs.{FoundPaths.{of_names}, KindsApart.{inner_used, kind-below}, Shows.{trees_show}}
-use Rattle.cacache_history.proofs.ShownTurns.{content_below}
+use Rattle.cacache_history.proofs.Histories.ShownTurns.{content_below}
 use Rattle.cacache_sequence.specs.Caches.{setup_at}
 use Rattle.cacache_keep_laws.specs.{Contents.{content_in}, Housed.{Beside, Still}, Verifying.{is_good, is_met, says_yes}}
 use Rattle.cacache_keep_laws.proofs.Within.{file_there, something_there, through_none}

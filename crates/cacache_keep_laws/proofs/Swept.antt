@@ -12,8 +12,8 @@ use Rattle.cacache_disk.proofs.KeptFolders.{steps_keep_rooted}
 use Rattle.cacache_table.specs.declared.command.Command.TheVariants as commands
 use Rattle.cacache_table.specs.{declared.{reply.Reply.{Reply, TheVariants.{Listed, Refused}}, visit.{Visit.{Visit, TheVariants.{Enter, ReadBucket, RemoveFile, RemoveFolder}}, Task.{Task, TheVariants.{Make, Stumble}}}}, Common.{fails}, State.{State, walking, over, Walk}, Walking.{failed, give, miss, walk_on, task_for_name, tasks_of, leaving, too_many, entered}, Runs.{Moves, Runs}}
 use Rattle.cacache_sequence.specs.Sequence.{tree_on}
-use Rattle.cacache_sequence.proofs.Sheds.{Shed, ShedAll, among, among_below, cut_sheds, folder_apart, listed_among, sheds_more, under, under_other, under_self}
-use Rattle.cacache_history.proofs.ToldFolders.{Each, Told, AreDistinct, listing_told, listing_distinct, child_listed}
+use Rattle.cacache_sequence.proofs.Removing.Sheds.{Shed, ShedAll, among, among_below, cut_sheds, folder_apart, listed_among, sheds_more, under, under_other, under_self}
+use Rattle.cacache_history.proofs.Listings.ToldFolders.{Each, Told, AreDistinct, listing_told, listing_distinct, child_listed}
 use Rattle.cacache_keep_laws.specs.{Walks.{is_leaf}, Idle.{BreaksOff}}
 use Rattle.cacache_keep_laws.proofs.{Children.{none_below, proper_child, folder_there}, Covering.{named_on}, Stepping.{MadeOn, Whole, goes, said_over}, Twice.{leaf_goes}}
 

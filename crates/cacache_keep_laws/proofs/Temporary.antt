@@ -6,7 +6,7 @@ use Rattle.cacache_store.specs.declared.store.{answer.{Kind.{Kind}, Name.{Name},
 use Rattle.cacache_store.specs.declared.store.answer.Kind.TheVariants as kinds
 use Rattle.cacache_disk.specs.{declared.{luck.Luck.TheVariants.{Plain}, node.Node.{Node, TheVariants.{Folder, File, Link}}}, Tree.{Tree, look, cut, kind_of, listing, same_path}, Apply.{apply}, Rooted.{Rooted}}
 use Rattle.cacache_disk.proofs.{Maps.{same_path-true}, PutNodes.{look-cut}, Roots.{same_self}}
-use Rattle.cacache_sequence.{specs.Sequence.{tree_on, AreAnswered}, proofs.ReadsStay.{sizing_keeps}}
+use Rattle.cacache_sequence.{specs.Sequence.{tree_on, AreAnswered}, proofs.Readings.ReadsStay.{sizing_keeps}}
 use Rattle.cacache_value.{specs.{Kinds.{PathKind, Content, Bucket, Temporary, path_kind}, Value.{blob_in, bucket_in}}, proofs.KindsApart.{kind-below}}
 use Rattle.cacache_walks.specs.Reading.{names_shown}
 use Rattle.cacache_keep_laws.specs.Temporary.{IsTemporary, LeavesUntemporary, SweepsLeave, is_file, is_temp_name, is_temporary, sized_removals, temp_area_in, temp_at}

@@ -9,7 +9,7 @@ use Rattle.cacache_table.specs.{Inserting.{insert, insertion, refused_cause, unl
 use Rattle.cacache_table.specs.declared.command.Command.TheVariants as commands
 use Rattle.cacache_value.{specs.{OpeningTrees.{IsOpening}, Placed.{Placed}, Value.{AtLink, Value}}, proofs.OpeningTrees.{files_open}}
 use Rattle.cacache_history.specs.{AddedEntries.{address_of_put}, declared.record.Record.{Record, TheVariants.{Began}}, History.{Call, History, IsLegal, Made, NamesIntegrity, Now, initial, new_call, replayed}, Setup.{Setup, call_site, home, is_outside, may_export}, Values.{value_at}}
-use Rattle.cacache_sequence.{specs.Sequence.{AreAnswered}, proofs.{Emptied.{home_is}, SureSteps.{Ground}}}
+use Rattle.cacache_sequence.{specs.Sequence.{AreAnswered}, proofs.{Removing.Emptied.{home_is}, Sure.SureSteps.{Ground}}}
 use Rattle.cacache_durable.specs.{Ending.{CallEndsWith, EndsFrom}, Outlasting.{DurablePut, IsNoLink}, QuietMoves.{AreQuiet, IsQuietMove, PutsDurably}}
 use Rattle.cacache_results.specs.{DurableCases.{CanBeWritten, GoElsewhere, InsertsStandInOne, IsLastPut, PutsStandInOne, PutsStandLast, StandsIn, StoresDurably}, Losses.{entry_written}}
 use Rattle.cacache_results.proofs.{LastPuts.{none_last}, PlainRecords.{quiet_more, records_end, records_legal, records_of, records_quiet}, PlainRuns.{Plays, Reaches, inserts_play}, PlainPuts.{put_plays}}

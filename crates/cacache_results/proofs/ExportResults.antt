@@ -8,7 +8,7 @@ use Rattle.cacache_table.specs.{declared.{command.{Command.{Command}, How.{How, 
 use Rattle.cacache_reads.specs.Exports.{exporting}
 use Rattle.cacache_history.specs.History.{NamesSource}
 use Rattle.cacache_sequence.specs.{Caches.{Called, IsCache, IsExcused}, Exported.{Arrives, export_by}, ExportEffects.{IsApart}, OpenWriters.{LeavesKnownCache}, OpenSucceeds.{MayTake, exported}, Succeeds.{NamesFolder}}
-use Rattle.cacache_sequence.proofs.{Standing.{caches_stand}, SureExports.{exports_answer, exports_succeed}, Exported.{exports_arrive}, ExportEffects.{exports_keep}, Logs.{calls_grow}}
+use Rattle.cacache_sequence.proofs.{Readings.Standing.{caches_stand}, Sure.SureExports.{exports_answer, exports_succeed}, Exports.{Exported.{exports_arrive}, ExportEffects.{exports_keep}}, Calls.Logs.{calls_grow}}
 use Rattle.cacache_results.specs.Exports.{CopyMeans, SharingMeans}
 use Rattle.cacache_results.proofs.{ExportErrors.{Answered, copy_missing, fails_so, missing_fails, refuses_so}, SureResults.{IsGiven, for_memory}, Told.{called, excused}}
 

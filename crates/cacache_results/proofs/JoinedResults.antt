@@ -3,7 +3,7 @@ use Rattle.std.proofs.Common.{◌≡◌, inl, inr, List, [], ◌∷◌, ◌++◌
 use Rattle.cacache_core.specs.declared.errors.Fault.{Fault}
 use Rattle.cacache_store.specs.declared.store.log.LogItem.{LogItem}
 use Rattle.cacache_table.specs.{Causes.{Faulted}, Runs.{Moves}}
-use Rattle.cacache_sequence.proofs.Logs.{growths_join, joined}
+use Rattle.cacache_sequence.proofs.Calls.Logs.{growths_join, joined}
 use Rattle.cacache_results.specs.Joins.{ExcusesStay, KnownStays, LeavingsJoin, UntouchedJoin}
 
 pub leavings_join : LeavingsJoin

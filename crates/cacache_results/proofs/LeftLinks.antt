@@ -9,7 +9,7 @@ use Rattle.cacache_entry.{specs.{Entry.{Entry}, Latest.{Found, NoneAnswers, late
 use Rattle.cacache_table.specs.declared.command.Put.{Put}
 use Rattle.cacache_value.specs.{Acts.{list_of}, Shows.{blob_bytes}, Value.{value_of_tree}}
 use Rattle.cacache_loss.specs.Loss.{Lost}
-use Rattle.cacache_history.{specs.{AddedEntries.{address_of_put}, Lookups.{found_of_put}}, proofs.Digests.{own_integrity}}
+use Rattle.cacache_history.{specs.{AddedEntries.{address_of_put}, Lookups.{found_of_put}}, proofs.Contents.Digests.{own_integrity}}
 use Rattle.cacache_durable.specs.Outlasting.{EntryOutlasts, KeyOutlasts, moment_at}
 use Rattle.cacache_results.specs.{FoundLinks.{GivesDigest}, LeftLinks.{LeadsThrough, LossesLeaveLastLinks, LossesLeaveLinks}, Losses.{entry_written}}
 use Rattle.cacache_results.proofs.LossResults.{met_by, put_answers}

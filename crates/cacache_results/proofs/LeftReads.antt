@@ -14,9 +14,9 @@ use Rattle.cacache_table.proofs.{EarnedErrors.{io_errors_have_causes}, Replies.{
 use Rattle.cacache_table.specs.declared.answers.Refusal.TheVariants as refusals
 use Rattle.cacache_table.specs.declared.command.Command.TheVariants as commands
 use Rattle.cacache_value.{specs.{Acts.{list_of}, Shows.{ReadsShow, ShowsBucket, ShowsContent, blob_bytes}, Value.{Value, value_of_tree}}, proofs.Shows.{trees_show}}
-use Rattle.cacache_history.proofs.ShownTurns.{bucket_below, content_below}
+use Rattle.cacache_history.proofs.Histories.ShownTurns.{bucket_below, content_below}
 use Rattle.cacache_sequence.specs.{Caches.{Called, GivesBytes, setup_at}, Inserts.{leads_to}, Keeping.{found_under}, Looks.{bytes_under}, Sequence.{AreAnswered}, Standing.{IsStanding}}
-use Rattle.cacache_sequence.proofs.{InParts.{logs_lead}, Known.{excused_by}, Logs.{some_same}, ReadsStay.{reading_keeps}, Standing.{met_reply}}
+use Rattle.cacache_sequence.proofs.{Calls.{InParts.{logs_lead}, Logs.{some_same}}, Readings.{Known.{excused_by}, ReadsStay.{reading_keeps}, Standing.{met_reply}}}
 
 -- ---- what answers show
 

@@ -6,7 +6,7 @@ use Rattle.cacache_memory.specs.Replay.{IsLog}
 use Rattle.cacache_table.specs.declared.command.Command.TheVariants as commands
 use Rattle.cacache_table.{specs.{declared.reply.Reply.TheVariants.{Stored}, Inserting.{refused_cause}, Runs.{reply_of, without_message}}, proofs.IntegrityUtf8.{integrity_utf8}}
 use Rattle.cacache_sequence.specs.{CallErrors.{IsPlainPut}, Caches.{HasKey, IsExcused, plain_put}, Puts.{entry_of_put}, Standing.{PutStands}}
-use Rattle.cacache_sequence.proofs.{Beside.{plain_writes_fit}, Forms.{bare_written}, StandingPuts.{standing_writes}}
+use Rattle.cacache_sequence.proofs.Putting.{Beside.{plain_writes_fit}, Forms.{bare_written}, StandingPuts.{standing_writes}}
 use Rattle.cacache_results.{specs.Losses.{LeftWriteMeans}, proofs.{Told.{called, excused}, WriteResults.{leads_so}}}
 
 left_told : (a : Algorithm) (cache key bytes : List ℕ) (moment : ℕ) (r : Result (List Hash) Error) (old new : List LogItem) → PutStands cache (plain_put a key bytes moment) (reply_of Stored r) old new

@@ -6,7 +6,7 @@ use Rattle.cacache_disk.proofs.Standing.{way_clear}
 use Rattle.cacache_table.specs.declared.command.Put.{Put}
 use Rattle.cacache_value.specs.{Shows.{blob_bytes, link_end}, Traces.{IsTrace}, Value.{AtLink, value_of_tree}}
 use Rattle.cacache_history.specs.{declared.record.Record.{Record, TheVariants.{Began, Moved, Stopped}}, AddedEntries.{address_of_put}, History.{History, IsLegal, initial}, LinkedContents.{StaysHeld}, Setup.{home}, Values.{steps_of}}
-use Rattle.cacache_history.proofs.{Digests.{digest_hash}, LinkedContents.{links_are_right}}
+use Rattle.cacache_history.proofs.Contents.{Digests.{digest_hash}, LinkedContents.{links_are_right}}
 use Rattle.cacache_loss.specs.{Loss.{Loss}, LostTrees.{OfCache, StoodWell}, LostValues.{HoldsContent, LeftOf}, Moments.{EachMove, Moment, next}, Syncs.{Leaves}}
 use Rattle.cacache_loss.proofs.LostTrees.{losses_leave_trees}
 use Rattle.cacache_durable.specs.{FewCalls.{FewCalls}, Outlasting.{AnsweredPut, FoundLink, moment_at}}

@@ -13,7 +13,7 @@ use Rattle.cacache_history.specs.Values.{IsThere}
 use Rattle.cacache_jobs.specs.Sites.{site_of}
 use Rattle.cacache_put.specs.LinkCalls.{link_to}
 use Rattle.cacache_sequence.specs.{Caches.{IsCache, lies_under}, ExportEffects.{IsApart}, LinkAnswers.{link_reply, target_bytes}, Succeeds.{NamesFolder}, Links.{FitsLink, HasLinked, LeavesLink, put_like}}
-use Rattle.cacache_sequence.proofs.{Beside.{plain_writes_fit}, Forms.{bare_written}, Linking.{links_last}, Logs.{calls_grow}, Standing.{caches_stand}, SureLinks.{links_answer}}
+use Rattle.cacache_sequence.proofs.{Putting.{Beside.{plain_writes_fit}, Forms.{bare_written}}, Links.Linking.{links_last}, Calls.Logs.{calls_grow}, Readings.Standing.{caches_stand}, Sure.SureLinks.{links_answer}}
 use Rattle.cacache_results.specs.Links.{ContentLinkMeans, LiesLinked, LinkMeans, LinkedFile, LinksBytes}
 use Rattle.cacache_results.proofs.{SureLinkResults.{IsWritten, commit_succeeds, shown_read}, SureResults.{fails_for, or_as}, Told.{called}}
 

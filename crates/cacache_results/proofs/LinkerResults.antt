@@ -15,7 +15,7 @@ use Rattle.cacache_table.proofs.IntegrityUtf8.{integrity_utf8}
 use Rattle.cacache_content.specs.Passed.{passed}
 use Rattle.cacache_put.specs.{OpenLinkers.{HasHashed, LinkTarget, OpensLinker, OpensSized, OpensTarget, asks_file, asks_size, stands_at}, Options.{Said, options_of}}
 use Rattle.cacache_sequence.specs.{Caches.{Grows, IsCache, IsExcused}, ExportEffects.{IsApart}, LinkAnswers.{OpensAs, target_bytes}, Links.{FitsLink, HasLinked, LeavesLink, put_like}, OpenLinkers.{CanWrite, CommitsRest, SuitsSize, TargetOpened}, OpenWriters.{LeavesKnownCache}, Puts.{entry_of_put}, Succeeds.{NamesFolder}}
-use Rattle.cacache_sequence.proofs.{Forms.{bare_written}, Logs.{some_same}, OpenLinkers.{linkers_commit, linkers_fail}, Standing.{caches_stand}, SureLinks.{linkers_answer}, SureReaders.{linker_openings_answer, sized_openings_answer}, TargetBytes.{linkers_open, linkers_open_sized}, OpenWriters.{gains_join}}
+use Rattle.cacache_sequence.proofs.{Putting.{Forms.{bare_written}, OpenWriters.{gains_join}}, Calls.Logs.{some_same}, Links.{OpenLinkers.{linkers_commit, linkers_fail}, TargetBytes.{linkers_open, linkers_open_sized}}, Readings.Standing.{caches_stand}, Sure.{SureLinks.{linkers_answer}, SureReaders.{linker_openings_answer, sized_openings_answer}}}
 use Rattle.cacache_results.specs.{Handles.{IsText, LeadsToEntry, SaysFit, said_integrity}, Writes.{SaysPlain}, Linkers.{IsLinking, PlainSaysFit, LinkCommitsMean, LinkOpeningsMean, LinkedBytes, LinkersGoOn, MemLinker, OpenedLinker, SizedOpeningsMean}, Links.{LeadsOn}, Success.{FailsForMemory}}
 use Rattle.cacache_results.proofs.{LinkResults.{lies_so}, SureLinkResults.{commit_succeeds, shown_read}, Told.{excused, plain_result}, WriteResults.{early_of}, WriterResults.{fits}}
 

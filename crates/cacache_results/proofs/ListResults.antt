@@ -8,7 +8,7 @@ use Rattle.cacache_table.specs.declared.command.Command.TheVariants as commands
 use Rattle.cacache_table.specs.{declared.reply.Reply.{Reply}, ListReplies.{In}, Runs.{plain_item, plain_reply}, State.{Item}}
 use Rattle.cacache_table.specs.declared.reply.Reply.TheVariants as replies
 use Rattle.cacache_sequence.specs.{Caches.{Called}, Keeping.{found_under}, ListedKeys.{AreAllFound, GivesKeys, IsShown, ListsKeys}}
-use Rattle.cacache_sequence.proofs.{Known.{caches_last}, ListedKeys.{listings_give}, Standing.{caches_stand}, SureLists.{listings_answer}, Looks.{tree_stays}}
+use Rattle.cacache_sequence.proofs.{Readings.{Known.{caches_last}, Standing.{caches_stand}, Looks.{tree_stays}}, Listings.ListedKeys.{listings_give}, Sure.SureLists.{listings_answer}}
 use Rattle.cacache_results.{specs.Lists.{AreAllEntries, ListingMeans}, proofs.Told.{looks_leave, plain_twice}}
 
 -- ---- replies without messages

@@ -12,11 +12,11 @@ use Rattle.cacache_table.specs.{declared.{command.Put.{Put}, reply.Reply.TheVari
 use Rattle.cacache_value.specs.{Acts.{list_of}, Placed.{Placed}, Value.{Value, value_of_tree}}
 use Rattle.cacache_loss.specs.{Loss.{Loss, Lost}, LostValues.{HoldsContent}}
 use Rattle.cacache_history.specs.{AddedEntries.{address_of_put}, History.{History}, Lookups.{found_of_put}, Setup.{home}}
-use Rattle.cacache_history.proofs.{Digests.{own_integrity}, PlacedAnswers.{answers_so}, Spelled.{HasIntegrity}}
+use Rattle.cacache_history.proofs.{Contents.Digests.{own_integrity}, Histories.PlacedAnswers.{answers_so}, Entries.Spelled.{HasIntegrity}}
 use Rattle.cacache_durable.specs.{FewCalls.{FewCalls}, Outlasting.{DurablePut, EntryOutlasts, KeyOutlasts, Outlives, moment_at}}
 use Rattle.cacache_reads.specs.Reads.{bytes_read}
 use Rattle.cacache_sequence.specs.{Caches.{HasContent, HasKey, setup_at}, Inserts.{leads_to}, Keeping.{found_under}, ReadAnswers.{get_on, read_on}, Standing.{IsStanding}}
-use Rattle.cacache_sequence.proofs.{Looked.{same_stays_known}, Looks.{looks_keep, tree_stays}, Standing.{looks_leave_standing, standing_reads}, Succeeds.{standing_key_reads}}
+use Rattle.cacache_sequence.proofs.{Readings.{Looked.{same_stays_known}, Looks.{looks_keep, tree_stays}, Standing.{looks_leave_standing, standing_reads}}, Sure.Succeeds.{standing_key_reads}}
 use Rattle.cacache_results.specs.{Reads.{LiesWhole}, Success.{FailsForMemory}, Losses.{IsLeft, LeadsToDigest, LeftReadMeans, LossesLeaveLast, LossesLeavePuts, LossesLeaveStanding, PutIsLeft, entry_written}}
 use Rattle.cacache_results.proofs.{LeftReads.{left_read}, ReadResults.{given, lies_whole, whole_gives}, SureResults.{for_memory, or_as}, Told.{called}}
 

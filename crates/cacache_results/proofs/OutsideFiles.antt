@@ -8,7 +8,7 @@ use Rattle.cacache_disk.proofs.{FoundNodes.{and_then_ok, place_ok}, PutNodes.{lo
 use Rattle.cacache_value.specs.{Kinds.{Content, Elsewhere, IsFor, path_kind}, OpeningTrees.{with_files}, Placed.{MayStand, Placed}, Value.{AtLink, blob_in, value_of_tree}}
 use Rattle.cacache_value.proofs.{FoundPaths.{of_names, suits}, KindsApart.{kind-below}}
 use Rattle.cacache_history.specs.{declared.record.Record.{Record, TheVariants.{Began, Moved, Stopped}}, AddedEntries.{address_of_put}, History.{History, IsLegal, initial, now_at}, Setup.{home}, Values.{steps_of}}
-use Rattle.cacache_history.proofs.{Digests.{digest_hash}, Holding.{held_at}, LinkedContents.{links_were_right}}
+use Rattle.cacache_history.proofs.{Contents.{Digests.{digest_hash}, LinkedContents.{links_were_right}}, Histories.Holding.{held_at}}
 use Rattle.cacache_loss.{specs.{Moments.{EachMove, Moment, after, next}, Syncs.{Leaves, LeavesStep}}, proofs.KeptPaths.{sync_tree}}
 use Rattle.cacache_durable.{specs.Outlasting.{moment_at}, proofs.Traces.{made_move, tree_at}}
 use Rattle.cacache_results.{specs.FoundLinks.{LinksLeadUnchanged}, proofs.OutsideSteps.{all_leave}}

@@ -9,7 +9,7 @@ use Rattle.cacache_table.specs.{declared.reply.Reply.{Reply}, Licence.{KeepsTo, 
 use Rattle.cacache_table.proofs.{Within.{begins_within, goes_within, step_allowed}, Sound.{steps_allowed}}
 use Rattle.cacache_value.specs.{Kinds.{Bucket, Content, Elsewhere, Temporary, IsFor, path_kind}, OpeningTrees.{LieApart}, Placed.{Placed, Proper}}
 use Rattle.cacache_history.specs.{declared.record.Record.{Record, TheVariants.{Began, Moved, Stopped}}, Setup.{Setup, call_site, home, is_outside, may_export}, History.{Call, History, IsLegal, Legal, Made, Now, call_after, initial, now_after, unless_over}, Turns.{made_in}, Values.{steps_of}}
-use Rattle.cacache_history.proofs.Holding.{AllHold, CallHolds, first_holds, made_proper, next_holds, of_caller}
+use Rattle.cacache_history.proofs.Histories.Holding.{AllHold, CallHolds, first_holds, made_proper, next_holds, of_caller}
 use Rattle.cacache_loss.specs.{CalmMoves.{is_calm}, Fixing.{moved_to, moves_file, rewrites_at, writes_at}, Moments.{EachMove, Moment, next}, Syncs.{Leaves, LeavesStep}}
 use Rattle.cacache_loss.proofs.{KeptPaths.{keeps}, StepCases.{make_apart, put_misses}, UnchangedPaths.{Misses, at_false, at_names, moved_false, rewrites_false, writes_false}}
 use Rattle.cacache_durable.{specs.Outlasting.{moment_at}, proofs.{QuietSteps.{temp_for}, Traces.{made_move}}}

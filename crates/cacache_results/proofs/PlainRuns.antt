@@ -13,7 +13,7 @@ use Rattle.cacache_entry.proofs.EntryCauses.{no_cause_is_fit}
 use Rattle.cacache_table.specs.{Common.{fails, sync_up}, Inserting.{bucket_line, insert, recorded, refused_cause, unless_refused}, Runs.{Moves}, State.{State, appending, doing, over, Insertion, make_folder, sync_dir, sync_file}, StepPaths.{bucket_folder, bucket_folders, bucket_path}, Table.{after, wants}, declared.reply.Reply.{Reply}}
 use Rattle.cacache_value.{specs.Kinds.{Bucket, Way}, proofs.FoundPaths.{suits}}
 use Rattle.cacache_sequence.specs.Sequence.{AreAnswered}
-use Rattle.cacache_sequence.proofs.{Emptied.{home_is}, SureInserts.{bucket_folder_lies, bucket_lies, one_behind}, SureSteps.{Ground, Lies, SyncsAll, appends, dirs_ground, dirs_stand, look_own, makes_dirs, place_at, place_in, syncs_file, syncs_folders}}
+use Rattle.cacache_sequence.proofs.{Removing.Emptied.{home_is}, Sure.{SureInserts.{bucket_folder_lies, bucket_lies, one_behind}, SureSteps.{Ground, Lies, SyncsAll, appends, dirs_ground, dirs_stand, look_own, makes_dirs, place_at, place_in, syncs_file, syncs_folders}}}
 use Rattle.cacache_results.specs.DurableCases.{CanBeWritten}
 
 -- ---- a run that goes well

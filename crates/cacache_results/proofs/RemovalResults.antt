@@ -8,7 +8,7 @@ use Rattle.cacache_table.specs.declared.command.Command.TheVariants as commands
 use Rattle.cacache_table.specs.{Inserting.{refused_cause}, Replies.{OrMemory, done}, Runs.{reply_of, without_message}, declared.reply.Reply.TheVariants.{Done, Refused}}
 use Rattle.cacache_reads.specs.Lookups.{delete_of}
 use Rattle.cacache_sequence.specs.{Caches.{HasKey, IsEmptyCache, IsExcused, LacksKey, Empties, RemovesKey, lies_under}, Removed.{RemovesContent}, Keeping.{found_under}, Succeeds.{Clears, fully_reply, removal_reply, unless_unwritable}}
-use Rattle.cacache_sequence.proofs.{Beside.{removals_keep}, Logs.{calls_grow}, Forms.{bare_written}, Standing.{caches_stand}, Succeeds.{deletions_answer, removals_answer}, SureClears.{clearings_answer}, SureRemovals.{full_removals_answer}, Unused.{others_leave_none, stays_ready}, Removals.{clearings_empty, removals_last}, Removed.{contents_go}, RemovedKeys.{keys_go}}
+use Rattle.cacache_sequence.proofs.{Putting.{Beside.{removals_keep}, Forms.{bare_written}}, Calls.Logs.{calls_grow}, Readings.Standing.{caches_stand}, Sure.{Succeeds.{deletions_answer, removals_answer}, SureClears.{clearings_answer}, SureRemovals.{full_removals_answer}}, Spares.Unused.{others_leave_none, stays_ready}, Removing.{Removals.{clearings_empty, removals_last}, Removed.{contents_go}, RemovedKeys.{keys_go}}}
 use Rattle.cacache_memory.specs.Replay.{IsLog, tree_of}
 use Rattle.cacache_history.specs.Values.{IsThere}
 use Rattle.cacache_results.specs.Removals.{FailsClearing, ClearingMeans, ContentRemovalMeans, FullRemovalMeans, RemovalMeans}

@@ -6,7 +6,7 @@ use Rattle.cacache_memory.specs.Replay.{IsLog}
 use Rattle.cacache_table.specs.{declared.{command.Command.{Command}, reply.Reply.{Reply, TheVariants.{Refused}}}, Runs.{Ran, plain_reply, reply_of, without_message}, Table.{opening}}
 use Rattle.cacache_jobs.specs.Sites.{site_of}
 use Rattle.cacache_sequence.specs.{Caches.{Called, IsCache, IsExcused}, Looks.{OnlyLooks}, OpenWriters.{LeavesKnownCache}}
-use Rattle.cacache_sequence.proofs.{Logs.{calls_grow}, Looked.{same_stays_known}, Looks.{looks_keep}}
+use Rattle.cacache_sequence.proofs.{Calls.Logs.{calls_grow}, Readings.{Looked.{same_stays_known}, Looks.{looks_keep}}}
 
 -- ---- errors
 

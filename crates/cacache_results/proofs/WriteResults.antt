@@ -12,7 +12,7 @@ use Rattle.cacache_table.proofs.IntegrityUtf8.{integrity_utf8}
 use Rattle.cacache_jobs.specs.{Environment.{HasMoment}, Sites.{site_of}}
 use Rattle.cacache_put.specs.{Options.{Said, options_of}, Puts.{insert_of, unkeyed_put}}
 use Rattle.cacache_sequence.specs.{Beside.{FitsEntry, KeepsBeside}, Caches.{Called, IsCache, HasContent, HasKey, IsExcused, WritesKey, plain_put}, Inserts.{InsertsKey, leads_to}, Keeping.{found_under}, Puts.{MayLeadToPut}, Succeeds.{NamesFolder, IsReady, put_reply, unless_unwritable}}
-use Rattle.cacache_sequence.proofs.{Beside.{plain_writes_fit, writes_keep}, CallErrors.{contents_fail}, Forms.{Written, bare_written}, Inserting.{inserts_last}, Known.{excuse, known}, Logs.{calls_grow}, Puts.{puts_leave, puts_may_lead}, Standing.{caches_stand}, Succeeds.{puts_answer, insertions_answer}, Unused.{others_leave_none, puts_leave_tidy, stays_ready}, WritesLast.{writes_last}}
+use Rattle.cacache_sequence.proofs.{Putting.{Beside.{plain_writes_fit, writes_keep}, Forms.{Written, bare_written}, Inserting.{inserts_last}, Puts.{puts_leave, puts_may_lead}, WritesLast.{writes_last}}, Calls.{CallErrors.{contents_fail}, Logs.{calls_grow}}, Readings.{Known.{excuse, known}, Standing.{caches_stand}}, Sure.Succeeds.{puts_answer, insertions_answer}, Spares.Unused.{others_leave_none, puts_leave_tidy, stays_ready}}
 use Rattle.cacache_results.specs.{Success.{FailsForMemory}, Writes.{ContentWriteMeans, InsertionMeans, KeepsUntouched, SaysPlain, WriteMeans}}
 use Rattle.cacache_results.proofs.{SureResults.{for_memory, so_ready}, Told.{called, excused}}
 

@@ -13,7 +13,7 @@ use Rattle.cacache_content.specs.OpenWrites.{RemovesTemp, TriesToRemove, counted
 use Rattle.cacache_jobs.specs.Environment.{MomentOf}
 use Rattle.cacache_put.specs.{KeyedWriters.{CommitsWriter, OpensAt}, Options.{Said, options_of}}
 use Rattle.cacache_sequence.specs.{Beside.{FitsEntry}, Caches.{IsCache}, GivenUp.{GivesUpTemp}, OpenWriters.{CommitsBytes}, Puts.{HasCommitted, entry_of_put}, OpenSucceeds.{FileAt}, Succeeds.{put_reply, unless_unwritable}}
-use Rattle.cacache_sequence.proofs.{Committing.{commits_last}, Forms.{bare_written}, Standing.{caches_stand}, SureWriters.{commits_answer, openings_succeed}, GivenUp.{giving_up_lasts}, OpenWriters.{writers_open}, Puts.{commits_keep, commits_leave}}
+use Rattle.cacache_sequence.proofs.{Putting.{Committing.{commits_last}, Forms.{bare_written}, OpenWriters.{writers_open}, Puts.{commits_keep, commits_leave}}, Readings.Standing.{caches_stand}, Sure.SureWriters.{commits_answer, openings_succeed}, Spares.GivenUp.{giving_up_lasts}}
 use Rattle.cacache_results.specs.{Handles.{CommitsMean, CommitsSucceed, FailedWritesMean, GivingUpMeans, IsText, IsWriting, LeadsToEntry, MemWriter, OpenedWriter, OpeningsMean, SaysFit, WritersGoOn, said_integrity}, Writes.{SaysPlain}}
 use Rattle.cacache_results.proofs.{SureResults.{for_memory}, Told.{plain_result}, WriteResults.{early_of, untouched}}
 

@@ -3,7 +3,7 @@ use Rattle.std.proofs.Common.{◌≡◌, List, [], ◌∷◌, ◌++◌, Some, No
 use Rattle.cacache_disk.specs.declared.luck.Luck.{Luck}
 use Rattle.cacache_table.specs.declared.{command.Command.TheVariants.{Ls}, reply.Reply.{Reply}}
 use Rattle.cacache_history.specs.{declared.record.Record.{Record, TheVariants.{Began, Moved}}, History.{History, call_after, initial, new_call, now_after}}
-use Rattle.cacache_history.proofs.Holding.{replay_more}
+use Rattle.cacache_history.proofs.Histories.Holding.{replay_more}
 use Rattle.cacache_world.specs.declared.event.Move.TheVariants as told
 use Rattle.cacache_world.specs.WorldKept.{AddsRecord, MovesOn, adding, history_of, last}
 use Rattle.cacache_shared.{proofs.Answered.{same_command}, specs.Storms.{GrewBy, IsListing, IsListed}}

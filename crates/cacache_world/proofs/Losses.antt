@@ -7,7 +7,7 @@ use Rattle.cacache_value.specs.{OpeningTrees.{with_files}, Traces.{Move}}
 use Rattle.cacache_loss.specs.{declared.loss.Loss.{Loss}, ChangedNames.{opening}, Chosen.{chosen}, Loss.{Lost}, Moments.{Moment, after, next}}
 use Rattle.cacache_loss.proofs.ChangedNames.{histories_leave_caches}
 use Rattle.cacache_history.specs.{declared.record.Record.{Record, TheVariants.{Began, Moved, Stopped}}, History.{History, IsLegal, initial, tree_in}, Setup.{home}, Values.{steps_of}}
-use Rattle.cacache_history.proofs.{Holding.{first_holds, first_opens}, Values.{traced}}
+use Rattle.cacache_history.proofs.Histories.{Holding.{first_holds, first_opens}, Values.{traced}}
 use Rattle.cacache_world.specs.{Losses.{LeftBy}, WorldKept.{history_of, setup_of}}
 
 -- ---- one record after another

@@ -1,4 +1,4 @@
-use Rattle.cacache_history.proofs.Digests.{own_integrity, same_digest}
+use Rattle.cacache_history.proofs.Contents.Digests.{own_integrity, same_digest}
 use Rattle.cacache_history.proofs.laws.digest_laws.Goals as goal
 
 pub returns : goal.returns

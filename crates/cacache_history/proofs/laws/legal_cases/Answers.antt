@@ -1,4 +1,4 @@
-use Rattle.cacache_history.proofs.LegalCases.{cases_hold, lookup_cases}
+use Rattle.cacache_history.proofs.Histories.LegalCases.{cases_hold, lookup_cases}
 use Rattle.cacache_history.proofs.laws.legal_cases.Goals as goal
 
 pub returns-clause-cases : goal.returns-clause-cases

@@ -1,4 +1,4 @@
-use Rattle.cacache_sequence.proofs.Logs.{excuses_last}
+use Rattle.cacache_sequence.proofs.Calls.Logs.{excuses_last}
 use Rattle.cacache_results.proofs.JoinedResults.{excuses_stay, known_stays, leavings_join, untouched_join}
 use Rattle.cacache_results.proofs.joins.joining_laws.Goals as goal
 

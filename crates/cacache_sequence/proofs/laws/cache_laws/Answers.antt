@@ -1,4 +1,4 @@
-use Rattle.cacache_sequence.proofs.{Logs.{calls_grow, growths_join, excuses_last}, Known.{fresh_is_empty, caches_last}, WritesLast.{writes_last}, ReadsKeep.{reads_key, reads_content, reads_none}, Looked.{finds_key}, AskedContents.{asks_content}, Removals.{removals_last, clearings_empty}, PlantedFiles.{plants_last}, Copying.{copies_count}, ExportEffects.{exports_keep}, Inserting.{inserts_last, plain_inserts_fit, keys_join, none_lacks}, Beside.{writes_keep, plain_writes_fit, removals_keep}, Removed.{contents_go}, RemovedKeys.{keys_go}, Puts.{puts_leave, puts_may_lead}, Arriving.{copies_arrive}, Exported.{exports_arrive}, Linking.{links_last}}
+use Rattle.cacache_sequence.proofs.{Calls.Logs.{calls_grow, growths_join, excuses_last}, Readings.{Known.{fresh_is_empty, caches_last}, ReadsKeep.{reads_key, reads_content, reads_none}, Looked.{finds_key}, AskedContents.{asks_content}, Copying.{copies_count}}, Putting.{WritesLast.{writes_last}, Inserting.{inserts_last, plain_inserts_fit, keys_join, none_lacks}, Beside.{writes_keep, plain_writes_fit, removals_keep}, Puts.{puts_leave, puts_may_lead}, Arriving.{copies_arrive}}, Removing.{Removals.{removals_last, clearings_empty}, Removed.{contents_go}, RemovedKeys.{keys_go}}, Spares.PlantedFiles.{plants_last}, Exports.{ExportEffects.{exports_keep}, Exported.{exports_arrive}}, Links.Linking.{links_last}}
 use Rattle.cacache_sequence.proofs.laws.cache_laws.Goals as goal
 
 pub returns-clause-fresh : goal.returns-clause-fresh

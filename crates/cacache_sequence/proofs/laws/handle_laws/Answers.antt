@@ -1,4 +1,4 @@
-use Rattle.cacache_sequence.proofs.{OpenWriters.{writers_open}, Committing.{commits_last, commits_store}, OpenReaders.{readers_open, readers_open_key}, Puts.{commits_leave, commits_keep}, GivenUp.{giving_up_lasts}, OpenLinkers.{linkers_commit, linkers_fail}, RefusedSizes.{linkers_refuse}, TargetBytes.{linkers_open, linkers_open_sized}}
+use Rattle.cacache_sequence.proofs.{Putting.{OpenWriters.{writers_open}, Committing.{commits_last, commits_store}, Puts.{commits_leave, commits_keep}}, Readings.OpenReaders.{readers_open, readers_open_key}, Spares.GivenUp.{giving_up_lasts}, Links.{OpenLinkers.{linkers_commit, linkers_fail}, RefusedSizes.{linkers_refuse}, TargetBytes.{linkers_open, linkers_open_sized}}}
 use Rattle.cacache_sequence.proofs.laws.handle_laws.Goals as goal
 
 pub returns-clause-opens : goal.returns-clause-opens

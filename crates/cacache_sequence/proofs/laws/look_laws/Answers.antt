@@ -1,4 +1,4 @@
-use Rattle.cacache_sequence.proofs.{Looks.{looks_keep, tree_stays}, Looked.{same_stays_known, finds_found}, AskedContents.{asks_absent}, ListedKeys.{listings_give}, GivenReads.{key_reads_give, content_reads_give}, LinkedReads.{links_show}}
+use Rattle.cacache_sequence.proofs.{Readings.{Looks.{looks_keep, tree_stays}, Looked.{same_stays_known, finds_found}, AskedContents.{asks_absent}, GivenReads.{key_reads_give, content_reads_give}}, Listings.ListedKeys.{listings_give}, Links.LinkedReads.{links_show}}
 use Rattle.cacache_sequence.proofs.laws.look_laws.Goals as goal
 
 pub returns-clause-keeps : goal.returns-clause-keeps

@@ -1,4 +1,4 @@
-use Rattle.cacache_sequence.proofs.{Sequence.{openings_are_sound, runs_are_calls, calls_answer_alone, sequences_answer}, ReadAnswers.{replies_follow, reads_keep}, Stored.{puts_store, inserts_add, deletes_add}, CallErrors.{calls_fail_only}}
+use Rattle.cacache_sequence.proofs.{Calls.{Sequence.{openings_are_sound, runs_are_calls, calls_answer_alone, sequences_answer}, CallErrors.{calls_fail_only}}, Readings.ReadAnswers.{replies_follow, reads_keep}, Putting.Stored.{puts_store, inserts_add, deletes_add}}
 use Rattle.cacache_sequence.proofs.laws.sequence_laws.Goals as goal
 
 pub returns-clause-openings : goal.returns-clause-openings

@@ -1,4 +1,4 @@
-use Rattle.cacache_sequence.proofs.{Standing.{caches_stand, looks_leave_standing, standing_finds, standing_reads}, StandingPuts.{standing_writes}}
+use Rattle.cacache_sequence.proofs.{Readings.Standing.{caches_stand, looks_leave_standing, standing_finds, standing_reads}, Putting.StandingPuts.{standing_writes}}
 use Rattle.cacache_sequence.proofs.left.standing_laws.Goals as goal
 
 pub returns : goal.returns

@@ -1,0 +1,3 @@
+pub mod ExportEffects
+pub mod Sharing
+pub mod Exported

@@ -1,0 +1,6 @@
+pub mod LinkedReads
+pub mod Linking
+pub mod TargetBytes
+pub mod ExpectedSizes
+pub mod OpenLinkers
+pub mod RefusedSizes

@@ -1,0 +1,3 @@
+pub mod ListedItems
+pub mod ListedTurns
+pub mod ListedKeys

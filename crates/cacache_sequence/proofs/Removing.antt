@@ -1,0 +1,8 @@
+pub mod Tasks
+pub mod Cutting
+pub mod Clearing
+pub mod Emptied
+pub mod Removals
+pub mod Removed
+pub mod RemovedKeys
+pub mod Sheds

@@ -1,0 +1,4 @@
+pub mod Planted
+pub mod PlantedFiles
+pub mod GivenUp
+pub mod Unused
