@@ -44,13 +44,14 @@ def crate_tables():
     """The tables of crates, and the list of the kit's crates, against crates.txt."""
     listed = list(crates())
     plain = [[it.strip("`") for it in table_below(name, head)] for name, head in
-             [("docs/ARCHITECTURE.md", "| Crate | Holds |"), ("docs/ARCHITECTURE.md", "| Crate | Shows or tests |"),
-              ("docs/GATE.md", "| Crate | Lines |"), ("CONTRIBUTING.md", "| Crate | A row is |")]]
+             [("docs/ARCHITECTURE.md", "| Crate | Holds |"), ("docs/ARCHITECTURE.md", "| Crate | Proves |"),
+              ("docs/ARCHITECTURE.md", "| Crate | Shows or tests |"), ("docs/GATE.md", "| Crate | Lines |"),
+              ("docs/how-to/add-a-row.md", "| Crate | A row is |")]]
     trusted = told("README.md", r"(?s)its contracts for (.*?), the C library")
     kit = {it for below in crates().values() for it in below} - set(listed)
-    return [*compared("docs/ARCHITECTURE.md", "crates", plain[0] + plain[1], listed),
-            *compared("docs/GATE.md", "crates", plain[2], [*listed, "all"]),
-            *compared("CONTRIBUTING.md", "crates of rows", plain[3], [it for it in listed if it.startswith("rows_")]),
+    return [*compared("docs/ARCHITECTURE.md", "crates", sum(plain[:3], []), listed),
+            *compared("docs/GATE.md", "crates", plain[3], [*listed, "all"]),
+            *compared("docs/how-to/add-a-row.md", "crates of rows", plain[4], [it for it in listed if it.startswith("rows_")]),
             *compared("README.md", "crates of the kit", re.findall(r"`(\w+)`(?! also)", trusted), kit)]
 
 
@@ -74,12 +75,15 @@ def words():
 
 
 def documents():
-    """The lists of documents, against the files."""
-    there = [it.name for it in TOP.glob("docs/*.md")]
+    """The lists of documents, against the files. README lists the pages with names in capital letters alone."""
+    there = [str(it.relative_to(TOP)) for it in TOP.glob("docs/*.md")]
+    how_to = [str(it.relative_to(TOP)) for it in TOP.glob("docs/how-to/*.md")]
+    main = [it for it in there if it.split("/")[1][0].isupper()]
     wrong = []
-    for name, head in [("README.md", "| Question | Document |"), ("CONTRIBUTING.md", "| Fact | Document |")]:
-        links = re.findall(r"\]\(docs/([\w.]+)\)", told(name, rf"(?s){re.escape(head)}(.*?)(?:\n\n|\Z)"))
-        wrong += compared(name, "documents", links, there)
+    for name, head, wanted in [("README.md", "| Question | Document |", main), ("CONTRIBUTING.md", "| Fact | Document |", there),
+                               ("CONTRIBUTING.md", "| To | Page |", how_to)]:
+        links = re.findall(r"\]\((docs/[\w./-]+)\)", told(name, rf"(?s){re.escape(head)}(.*?)(?:\n\n|\Z)"))
+        wrong += compared(name, "documents", links, wanted)
     return wrong
 
 
