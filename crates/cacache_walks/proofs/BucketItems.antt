@@ -3,7 +3,7 @@ use Rattle.std.proofs.{Common.{◌≡◌, string_bytes, ℕ, List, [], ◌∷◌
 use Rattle.std.specs.List.{list_any}
 use Rattle.cacache_entry.specs.{Entry.{Entry}, Latest.{Found, answer_of, answer_to, latest, NoneAnswers}, View.{entry_view}, declared.metadata.SerializableMetadata.{SerializableMetadata}, Bucket.{entries_of}}
 use Rattle.cacache_entry.proofs.Lookups.{last_answer_decides}
-use Rattle.cacache_table.specs.Walking.{once, items_in}
+use Rattle.cacache_table.specs.Walking.{once, items_of, items_in}
 use Rattle.cacache_walks.specs.Listed.{keys_in, lookups, added_at, EndsWith}
 
 -- the keys of entries are those of what they stand for
@@ -28,6 +28,11 @@ pub all_items : (bytes : List ℕ) (es : List SerializableMetadata) → map entr
 unfolding items_in
 all_items bytes es e =
     ap (λ (keys : List (List ℕ)). lookups (entries_of bytes) (once keys)) (sym (keys_in_view es) ∙ ap (map (λ (e : Entry). e.key)) e)
+
+-- the items of a bucket's entries are those of its bytes
+pub items_in-of : (bytes : List ℕ) (es : List SerializableMetadata) → map entry_view es ≡ entries_of bytes → items_of (map entry_view es) ≡ items_in bytes
+unfolding items_in
+items_in-of bytes es e = ap items_of e
 
 -- ---- the last entry of a key
 

@@ -1,4 +1,5 @@
 pub mod BucketItems
+mod DecidingEntries
 pub mod Walks
 pub mod Giving
 mod FolderFiles

@@ -1,18 +1,23 @@
 //! What a bucket lists: each of its keys once, where its lookup finds an entry.
-ghost use Rattle.std.specs.Prelude.{◌≡◌, ◌++◌, IfOk, IfErr, OnOk, false, map, option_map, bytes_eq, string_bytes};
+ghost use Rattle.std.specs.Prelude.{◌≡◌, ◌++◌, IfOk, IfErr, OnOk, Ok, false, map, option_map, bytes_eq, string_bytes};
 ghost use Rattle.std.specs.List.{list_any};
+ghost use Rattle.std.specs.Option.{option_to_list};
 ghost use Rattle.cacache_core.specs.declared.errors.Error.TheVariants.{OutOfMemory};
 ghost use Rattle.cacache_entry.specs.Bucket.{entries_of};
 ghost use Rattle.cacache_entry.specs.Latest.{latest as latest_of};
-ghost use Rattle.cacache_entry.specs.View.{found_view};
+ghost use Rattle.cacache_entry.specs.View.{entry_view, found_view};
 ghost use Rattle.cacache_table.specs.Runs.{plain_item};
-ghost use Rattle.cacache_table.specs.Walking.{items_in};
-ghost use Rattle.cacache_walks.specs.Listed.{keys_in, added_at, EndsWith};
+ghost use Rattle.cacache_table.specs.Walking.{items_in, items_of};
+ghost use Rattle.cacache_walks.specs.Listed.{keys_in, added_at, own_answer, EndsWith};
 
+use crate::deciding::deciders;
 use cacache_core::errors::{self, Error};
 use cacache_entry::{Metadata, SerializableMetadata, answer_of_entry, entries, latest};
 use cacache_table::Found;
 use std::alloc::Global;
+
+/// So many entries are compared with each other; for more a map is made.
+const FEW: usize = 8;
 
 /// Whether one of the entries has this key.
 fn has_key(entries: &[SerializableMetadata], key: &str) -> bool
@@ -73,17 +78,73 @@ fn add(
     Ok(())
 }
 
-/// The items of a bucket's bytes. Each line is read and hashed once, unless its integrity is unreadable.
-pub(crate) fn items(alloc: Global, bytes: &[u8]) -> errors::Result<Vec<Result<Found, Error>>>
+/// The items of a bucket's bytes, whose entries are few enough to compare each key with the later ones.
+fn items_of_few(
+    alloc: Global,
+    bytes: &[u8],
+    entries: &[SerializableMetadata],
+) -> errors::Result<Vec<Result<Found, Error>>>
+    requires { map entry_view entries.now ≡ entries_of bytes.now }
     ensures items { IfOk result (λ items. map plain_item items.items ≡ items_in bytes.now) }
     ensures refused { IfErr result (λ e. e ≡ OutOfMemory) }
 {
-    let entries = entries(alloc, bytes)?;
     let mut items = Vec::new(alloc);
-    let mut rest = entries.as_slice();
+    let mut rest = entries;
     while let Some((entry, later)) = rest.split_first() {
         add(alloc, &mut items, bytes, entry, later)?;
         rest = later;
     }
     Ok(items)
+}
+
+/// Adds what an entry answers to a lookup of its key, unless that is nothing.
+fn push(
+    alloc: Global,
+    items: &mut Vec<Result<Found, Error>>,
+    entry: &SerializableMetadata,
+) -> errors::Result<()>
+    ensures items { OnOk result (map plain_item items.new.items ≡ map plain_item items.old.items
+        ++ option_to_list (option_map Ok (own_answer (entry_view entry.now)))) }
+    ensures refused { IfErr result (λ e. e ≡ OutOfMemory) }
+{
+    if let Some(found) = answer_of_entry(alloc, entry)?.flatten() {
+        items.push(Ok(Found::new(found)))?;
+    }
+    Ok(())
+}
+
+/// The items of any number of entries, from their end: a key that was met has no decider any more.
+fn items_of_many(
+    alloc: Global,
+    entries: &[SerializableMetadata],
+) -> errors::Result<Vec<Result<Found, Error>>>
+    ensures items { IfOk result (λ items.
+        map plain_item items.items ≡ items_of (map entry_view entries.now)) }
+    ensures refused { IfErr result (λ e. e ≡ OutOfMemory) }
+{
+    let mut deciders = deciders(alloc, entries)?;
+    let mut items = Vec::new(alloc);
+    let mut rest = entries;
+    while let Some((entry, earlier)) = rest.split_last() {
+        if let Some(decider) = deciders.remove(entry.key.as_str()) {
+            push(alloc, &mut items, decider)?;
+        }
+        rest = earlier;
+    }
+    items.reverse();
+    Ok(items)
+}
+
+/// The items of a bucket's bytes. Each line is read and hashed once, unless its integrity is unreadable; of many entries,
+/// always.
+pub(crate) fn items(alloc: Global, bytes: &[u8]) -> errors::Result<Vec<Result<Found, Error>>>
+    ensures items { IfOk result (λ items. map plain_item items.items ≡ items_in bytes.now) }
+    ensures refused { IfErr result (λ e. e ≡ OutOfMemory) }
+{
+    let entries = entries(alloc, bytes)?;
+    if entries.len() <= FEW {
+        items_of_few(alloc, bytes, entries.as_slice())
+    } else {
+        items_of_many(alloc, entries.as_slice())
+    }
 }

@@ -3,6 +3,7 @@
 //!
 //! - `bucket`: what a bucket lists: each of its keys once, where its lookup finds an entry
 //! - `contents`: the call that lists the contents
+//! - `deciding`: which entries of a bucket decide the lookups of its keys
 //! - `entering`: the names of a folder that a walk enters, and the tasks that they bring
 //! - `iterator`: a listing that walks as it is asked
 //! - `listing`: the call that lists the index
@@ -12,6 +13,7 @@
 
 mod bucket;
 mod contents;
+mod deciding;
 mod entering;
 mod iterator;
 mod listing;
