@@ -8,9 +8,9 @@ use Rattle.cacache_table.specs.declared.command.Command.TheVariants as commands
 use Rattle.cacache_table.specs.declared.reply.Reply.TheVariants as replies
 use Rattle.cacache_table.specs.{Replies.{looked_up, OrMemory, content_reply}, Runs.{reply_of, without_message}}
 use Rattle.cacache_reads.specs.Reads.{bytes_read}
-use Rattle.cacache_sequence.specs.{Caches.{Called, IsCache, HasContent, HasKey, LacksKey, IsExcused, AStepFailed, GivesBytes, FindsNone, SaysThere, setup_at}, Inserts.{leads_to}, Keeping.{found_under}, Looks.{GivesFound, GivesHeld, GivesOfKey, SaysAbsent}, ReadAnswers.{get_on, read_on}, Succeeds.{exists_reply, is_yes}}
+use Rattle.cacache_sequence.specs.{Caches.{Called, IsCache, HasContent, HasKey, LacksKey, IsExcused, AStepFailed, GivesBytes, FindsNone, SaysThere, setup_at}, Inserts.{leads_to}, Keeping.{found_under}, Looks.{GivesFound, GivesHeld, GivesOfKey, SaysAbsent}, ReadAnswers.{get_on, read_on}, Succeeds.{NamesFolder, exists_reply, is_yes}}
 use Rattle.cacache_sequence.proofs.{Readings.{AskedContents.{asks_absent, asks_content}, GivenReads.{content_reads_give, key_reads_give}, Known.{caches_last}, Looked.{finds_found}, Looks.{tree_stays}, ReadsKeep.{reads_content, reads_key, reads_none}, Standing.{caches_stand, met_reply}}, Links.LinkedReads.{links_show}, Sure.Succeeds.{content_reads_answer, key_reads_answer, lookups_answer, questions_answer}}
-use Rattle.cacache_results.specs.Reads.{AskedContent, ContentReadMeans, EntryFound, GivesJust, GivesNoEntry, LinksToFile, LiesWhole, KeyLiesWhole, KeyReadMeans, LookupMeans, QuestionMeans, ContentRead, KeyRead}
+use Rattle.cacache_results.specs.{Reads.{AskedContent, ContentReadMeans, EntryFound, GivesJust, GivesNoEntry, LinksToFile, LiesWhole, KeyLiesWhole, KeyReadMeans, LookupMeans, QuestionMeans, ContentRead, KeyRead}, Success.{FailsForMemory}}
 use Rattle.cacache_results.proofs.{SureResults.{for_memory, for_missing, or_as}, Told.{called, excused, looks_leave, of_memory, of_missing}}
 use Rattle.cacache_memory.specs.Replay.{IsLog, tree_of}
 use Rattle.cacache_value.specs.Shows.{blob_bytes, blob_there}
