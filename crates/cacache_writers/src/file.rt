@@ -14,11 +14,11 @@ use cacache_core::integrity::Algorithm;
 use cacache_polled::Request as Asked;
 use futures::task::{Context, Poll, Source};
 use std::alloc::Global;
-use std::sync::atomic::{AtomicBool, Ordering};
+use std::sync::atomic::AtomicBool;
 use std::sync::{Arc, Mutex, Wait};
 
 /// A temporary file whose writes a worker does. The polls hand the work out and answer what came of it; one that is
-/// pending wakes its task when the work is done. Dropping it ends its workers.
+/// pending wakes its task when the work is done. Dropping it ends its workers, and lets the file go that none has out.
 pub struct PolledFile<T> {
     /// What it shares with its workers: the core, the temporary file, and the work that is out.
     pub shared: Arc<Shared<T>, Global>,
@@ -28,7 +28,7 @@ pub struct PolledFile<T> {
 impl<T: Drop> Drop for PolledFile<T> {
     fn drop(self) {
         let PolledFile { shared, alloc: _ } = self;
-        shared.is_left.store(true, Ordering::SeqCst);
+        shared.leave();
     }
 }
 

@@ -16,7 +16,7 @@ use std::snapshot::Snapshot;
 #[derive(Drop)]
 pub struct Kept<T> {
     pub core: WriterCore,
-    /// The file, unless a worker has it out.
+    /// The file, unless a worker has it out or the polled file was dropped.
     pub temp: Option<T>,
     /// Work that was handed out and that no worker has taken.
     pub work: Option<Work>,

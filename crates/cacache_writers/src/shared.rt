@@ -3,10 +3,14 @@ ghost use Rattle.std.specs.Prelude.{◌≡◌, IfSome};
 ghost use Rattle.cacache_polled.specs.declared.kinds.Completion.TheVariants.{Gone};
 
 use crate::kept::{Kept, Told};
+use cacache_core::keeping::let_go;
 use cacache_polled::{Completion, Work};
 use futures::task::Source;
 use std::sync::atomic::{AtomicBool, Ordering};
 use std::sync::{Mutex, Wait};
+
+/// How often a drop tries the lock.
+const TRIES: u32 = 1000;
 
 /// The lock, with what stands outside it.
 #[derive(Drop)]
@@ -34,13 +38,37 @@ impl<T: Drop> Shared<T> {
         self.kept.lock(rt).take()
     }
 
-    /// Ends the work that was taken out.
+    /// Ends the work that was taken out. The file goes if the polled file was dropped meanwhile.
     pub(crate) fn end<R: Wait>(&self, rt: &R, temp: Option<T>, completion: Completion) -> Told<T>
         ensures told { (result.ending ≡ completion) × (result.temp.value ≡ temp) }
     {
         let mut guard = self.kept.lock(rt);
         let kept = &mut *guard;
-        kept.end(temp, completion)
+        let told = kept.end(temp, completion);
+        if self.is_left.load(Ordering::SeqCst) {
+            let_go(kept.temp.take());
+        }
+        told
+    }
+
+    /// Lets the file go that lies under the lock, if nobody has the lock.
+    fn lets_go(&self) -> bool {
+        let Some(mut guard) = self.kept.try_lock() else {
+            return false;
+        };
+        let_go(guard.temp.take());
+        true
+    }
+
+    /// Says that the polled file was dropped, and lets the file go, unless a worker has it out or keeps the lock: then it
+    /// goes with the worker's work or with the worker. A drop has no runtime to wait with, so it tries the lock.
+    pub(crate) fn leave(&self) {
+        self.is_left.store(true, Ordering::SeqCst);
+        for _ in 0..TRIES {
+            if self.lets_go() {
+                return;
+            }
+        }
     }
 
     /// Ends the work that no worker has taken: none comes any more.

@@ -68,7 +68,8 @@ impl<T: RemovableTemp> Worker<T> {
     }
 
     /// Takes turns until one is over, a millisecond apart where there was nothing to do. The example of
-    /// `Writer::create` runs one in a thread of its own.
+    /// `Writer::create` runs one in a thread of its own, and joins it: until it returns it may have the temporary file of
+    /// a writer that was dropped.
     ///
     /// `Wait` is for the lock and for sleeping, `Clock` for the millisecond. Unless its gate says `Quit`, it doesn't
     /// return before the polled file was dropped, committed or closed.

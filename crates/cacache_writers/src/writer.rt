@@ -26,7 +26,8 @@ use std::sync::Wait;
 
 /// A content that is written by polls: a worker writes its temporary file, and nothing is saved before the commit. A
 /// writer that is dropped ends its workers, and leaves its file to the store: on real folders it is removed, and on a
-/// disk in memory it stays for `clear`.
+/// disk in memory it stays for `clear`. A worker that is at work then removes it afterwards: join its thread before the
+/// program ends.
 #[derive(Drop)]
 pub struct Writer<T> {
     pub(crate) file: PolledFile<T>,
@@ -58,6 +59,8 @@ impl<T: Drop> Writer<T> {
     /// let writer = block_on(&rt, cacache::Writer::create(&mut env, "my-cache", "key"))??;
     /// let worker = writer.worker()?;
     /// let thread = thread::spawn(&rt, move || worker.run(&rt, &Open))?;
+    /// let came = written(rt, &mut env, writer); // it writes and commits, or fails
+    /// thread.join(&rt);
     /// ```
     pub fn create<'a, S: Store<Temp = T>, C: Clock, N: Names>(
         env: &'a mut Env<S, C, N>,

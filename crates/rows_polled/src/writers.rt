@@ -1,4 +1,5 @@
 //! Writers and their workers: what polls and turns give, one after another.
+use crate::acts::called;
 use crate::answers::bytes_of;
 use crate::ending::{committed, left, unpolled};
 use crate::gates::{turned, worked};
@@ -39,8 +40,9 @@ fn piece<R: Wait + AllocGlobal, T: RemovableTemp>(
 }
 
 /// What a step gives.
-fn stepped<R: Wait + AllocGlobal, T: RemovableTemp>(
+fn stepped<R: Wait + RandomSource + AllocGlobal, S: Store, T: RemovableTemp>(
     rt: &R,
+    env: &mut On<S>,
     desk: &mut Desk<T>,
     step: &str,
 ) -> Result<String, Flaw> {
@@ -51,31 +53,35 @@ fn stepped<R: Wait + AllocGlobal, T: RemovableTemp>(
         "flush" => Ok(flush(rt, alloc, &desk.task, &mut desk.writer)?),
         "close" => Ok(close(rt, alloc, &desk.task, &mut desk.writer)?),
         "piece" => piece(rt, desk, data),
+        "clear" => called(rt, env, name, data),
         _ => worked(rt, &desk.task, &mut desk.worker, step),
     }
 }
 
-/// A desk at which steps are made.
+/// A desk at which steps are made, in its environment.
 #[derive(Drop)]
-struct Shift<'a, R, T> {
+struct Shift<'a, R, S, T> {
     rt: &'a R,
+    env: &'a mut On<S>,
     desk: &'a mut Desk<T>,
 }
 
-impl<'a, R: Wait + AllocGlobal, T: RemovableTemp> Stepped for Shift<'a, R, T> {
+impl<'a, R: Wait + RandomSource + AllocGlobal, S: Store, T: RemovableTemp> Stepped
+    for Shift<'a, R, S, T> {
     fn step(&mut self, step: &str) -> Result<String, Flaw> {
-        stepped(self.rt, self.desk, step)
+        stepped(self.rt, self.env, self.desk, step)
     }
 }
 
 /// What steps give, one after another.
-fn stepped_in_turn<R: Wait + AllocGlobal, T: RemovableTemp>(
+fn stepped_in_turn<R: Wait + RandomSource + AllocGlobal, S: Store, T: RemovableTemp>(
     rt: &R,
+    env: &mut On<S>,
     desk: &mut Desk<T>,
     steps: &str,
 ) -> Result<String, Flaw> {
     let alloc = rt.alloc();
-    let mut shift = Shift { rt, desk };
+    let mut shift = Shift { rt, env, desk };
     in_turn(alloc, &mut shift, steps)
 }
 
@@ -100,18 +106,18 @@ fn made_with<R, S, T>(
     steps: &str,
 ) -> Result<String, Flaw>
 where
-    R: Wait + AllocGlobal,
+    R: Wait + RandomSource + AllocGlobal,
     S: Store<Temp = T>,
     T: RemovableTemp,
 {
     let (before, end, after) = cut_at_end(steps);
-    let line = stepped_in_turn(rt, &mut desk, before);
+    let line = stepped_in_turn(rt, env, &mut desk, before);
     let (line, desk) = beside(line, desk)?;
     match end {
         "; commit" => committed(rt, env, desk, false, after, line),
         "; shut" => committed(rt, env, desk, true, after, line),
         "; leave" => unpolled(rt, env, desk, line),
-        "; drop" => left(rt, desk, after, line),
+        "; drop" => left(rt, env, desk, after, line),
         _ => {
             let_go(desk);
             Ok(line)
