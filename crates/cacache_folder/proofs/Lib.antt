@@ -8,7 +8,6 @@ pub mod MakingFolders
 pub mod Slashes
 pub mod Looking
 pub mod Answering
-pub mod Copying
 pub mod Reading
 pub mod ByPath
 pub mod HandleReads

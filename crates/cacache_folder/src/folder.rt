@@ -20,6 +20,7 @@ mod escaped;
 mod faults;
 mod files;
 mod folders;
+mod fresh;
 mod guess;
 mod listing;
 mod node;

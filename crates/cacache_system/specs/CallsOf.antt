@@ -1,11 +1,12 @@
 -- The system calls of each kind of step as one table: the call that each stage wants, where what the system says takes it,
 -- and what the calls may end with.
-use Rattle.std.specs.{Prelude.{◌≡◌, ◌-◌, ◌^◌, ◌⊎◌, ◌==◌, ◌&&◌, ◌||◌, not, ℕ, zero, suc, get_or, take, length, min, Bool, true, false, if◌then◌else◌, List, [], ◌∷◌, ◌++◌, Option, None, Some, option_map}, Bool.{nat_eq}, Cmp.Lexicographic.{pointwise}, Str.{is_utf8}}
+use Rattle.std.specs.{Prelude.{◌+◌, ◌%◌, codes, ◌≡◌, ◌-◌, ◌^◌, ◌⊎◌, ◌==◌, ◌&&◌, ◌||◌, not, ℕ, zero, suc, get_or, take, length, min, Bool, true, false, if◌then◌else◌, List, [], ◌∷◌, ◌++◌, Option, None, Some, option_map}, Bool.{nat_eq}, Cmp.Lexicographic.{pointwise}, Str.{is_utf8}, Int.{to_be_bytes, w64}}
+use Rattle.hex.specs.Hex.{encode_lower}
 use Rattle.std_io.specs.declared.io.kind.ErrorKind.{ErrorKind}
 use Rattle.std_io.specs.declared.io.kind.ErrorKind.TheVariants as kind
 use Rattle.cacache_store.specs.declared.store.answer.Kind.TheVariants as kinds
 use Rattle.cacache_store.specs.declared.store.answer.{Kind.{Kind}, Name.{Name}}
-use Rattle.cacache_system.specs.{declared.call.{SystemCall.{SystemCall, TheVariants.{OpenToRead, OpenToAppend, OpenFolder, Read, ReadNames, ReadRest, Write, Sync, StatFile, Stat, StatLink, MakeFolder, CopyFile}}, FileInfo.{FileInfo}, CallResult.{CallResult, TheVariants.{Done, Opened, Count, Bytes, Info, Names, Failed}}, CallItem.{CallItem}}, CallLog.{GainsCalls}, ListedNames.{text_of, is_proper, is_passed, names_in, with_slash}}
+use Rattle.cacache_system.specs.{declared.call.{SystemCall.{SystemCall, TheVariants.{OpenToRead, CreateNew, OpenToAppend, OpenFolder, Read, ReadNames, ReadRest, Write, Sync, StatFile, Stat, StatLink, Rename, MakeFolder, RemoveFile, CopyFile, RealPath}}, FileInfo.{FileInfo}, CallResult.{CallResult, TheVariants.{Done, Opened, Count, Bytes, Info, Names, Failed}}, CallItem.{CallItem}}, CallLog.{GainsCalls}, ListedNames.{text_of, is_proper, is_passed, names_in, with_slash}}
 
 -- what a file is opened for: to be handed out, to be synced, to be synced as a folder, or to be read whole
 pub data Purpose : Type 0 where
@@ -23,7 +24,8 @@ pub record Reader : Type 0 where
 
 -- Where the calls of a step are. A truth value says whether a signal interrupted the call before; of a folder that is made,
 -- whether the one above it was made just now, and the list says which ones below it are to be made then; of a folder that
--- is opened to be listed, whether a listing named it. Names that were listed so far come last.
+-- is opened to be listed, whether a listing named it. Names that were listed so far come last. A copy has the number that
+-- the names of its fresh file begin with, and how many more of these may be tried.
 pub data Stage : Type 0 where
   over : CallResult → Stage
   only : SystemCall → Stage
@@ -37,6 +39,13 @@ pub data Stage : Type 0 where
   sizing : List ℕ → Stage
   asking_source : List ℕ → List ℕ → Stage
   asking_target : FileInfo → List ℕ → List ℕ → Stage
+  asking_end : FileInfo → List ℕ → List ℕ → Stage
+  making_end : ℕ → List ℕ → List ℕ → Stage
+  resolving : ℕ → List ℕ → List ℕ → Stage
+  making_fresh : ℕ → ℕ → List ℕ → List ℕ → Stage
+  filling : List ℕ → List ℕ → List ℕ → Stage
+  replacing : ℕ → List ℕ → List ℕ → Stage
+  scrapping : ErrorKind → List ℕ → Stage
   standing : List ℕ → Stage
   making : Bool → List ℕ → List (List ℕ) → Stage
   confirming : ErrorKind → List ℕ → List (List ℕ) → Stage
@@ -46,6 +55,32 @@ pub data Stage : Type 0 where
   following : List ℕ → Stage
   reading_names : Bool → Reader → List Name → Stage
   asking_kind : Reader → List ℕ → List (List ℕ) → List Name → Stage
+
+-- where the last `/` of the first so many bytes is
+abbrev pub last_slash : List ℕ → ℕ → Option ℕ
+last_slash path zero = None
+last_slash path (suc n) = if get_or path n 0 == 47 then Some n else last_slash path n
+
+-- the path of the folder above: all that stands before the last `/`
+abbrev pub above_of : List ℕ → Option (List ℕ)
+above_of path = option_map (λ i. take i path) (last_slash path (length path))
+
+-- the name of a file that a copy fills: `.tmp`, and a number in 16 hex digits
+abbrev pub fresh_name : ℕ → List ℕ
+fresh_name number = codes ".tmp" ++ encode_lower (to_be_bytes w64 number)
+
+-- a name in the folder of which this is the path, if it has one
+abbrev pub in_folder : Option (List ℕ) → List ℕ → List ℕ
+in_folder None name = name
+in_folder (Some folder) name = folder ++ 47 ∷ name
+
+-- such a file beside a path
+abbrev pub fresh_beside : List ℕ → ℕ → List ℕ
+fresh_beside path number = in_folder (above_of path) (fresh_name number)
+
+-- the number of such a file, where so many more may be tried
+abbrev pub fresh_number : ℕ → ℕ → ℕ
+fresh_number left number = (number + left) % 2 ^ 64
 
 -- the call that a stage wants, and none where the step is over
 abbrev pub wants : Stage → Option SystemCall
@@ -60,7 +95,15 @@ wants (reading_rest front file) = Some (ReadRest file)
 wants (appending path bytes) = Some (OpenToAppend path)
 wants (sizing path) = Some (Stat path)
 wants (asking_source from to) = Some (Stat from)
-wants (asking_target source from to) = Some (Stat to)
+wants (asking_target source from to) = Some (StatLink to)
+wants (asking_end source from to) = Some (Stat to)
+wants (making_end number from to) = Some (OpenToAppend to)
+wants (resolving number from to) = Some (RealPath to)
+wants (making_fresh left number from path) =
+    Some (CreateNew (fresh_beside path (fresh_number left number)) 384)
+wants (filling from fresh path) = Some (CopyFile from fresh)
+wants (replacing count fresh path) = Some (Rename fresh path)
+wants (scrapping why fresh) = Some (RemoveFile fresh)
 wants (standing path) = Some (Stat path)
 wants (making again path todo) = Some (MakeFolder path)
 wants (confirming why path todo) = Some (Stat path)
@@ -108,26 +151,51 @@ abbrev pub is_same_node : FileInfo → FileInfo → Bool
 is_same_node one other =
     (not (one.inode == 0) && one.inode == other.inode) && one.device == other.device
 
--- a file is copied, but not onto itself
-abbrev pub copied : FileInfo → FileInfo → List ℕ → List ℕ → Stage
-copied source target from to =
-    if source.regular && (pointwise nat_eq from to || is_same_node source target)
-    then over (Count source.size)
-    else only (CopyFile from to)
+-- something stands there
+abbrev pub already_exists : ErrorKind → Bool
+already_exists kind.AlreadyExists = true
+already_exists _ = false
+
+-- a link stands there
+abbrev pub is_link : Kind → Bool
+is_link kinds.Link = true
+is_link _ = false
 
 -- nothing stands there
 abbrev pub is_absent : ErrorKind → Bool
 is_absent kind.NotFound = true
 is_absent _ = false
 
--- where the last `/` of the first so many bytes is
-abbrev pub last_slash : List ℕ → ℕ → Option ℕ
-last_slash path zero = None
-last_slash path (suc n) = if get_or path n 0 == 47 then Some n else last_slash path n
+-- a fresh file is made beside a path, under one of 256 names
+abbrev pub place_fresh : ℕ → List ℕ → List ℕ → Stage
+place_fresh number from path = taking_memory (making_fresh 255 number from path)
 
--- the path of the folder above: all that stands before the last `/`
-abbrev pub above_of : List ℕ → Option (List ℕ)
-above_of path = option_map (λ i. take i path) (last_slash path (length path))
+-- A file takes the place of another, but not of itself, and is written into what is neither file nor folder. A link was
+-- followed to what stands there, or none.
+abbrev pub copied : Bool → FileInfo → FileInfo → List ℕ → List ℕ → Stage
+copied through source target from to =
+    unless_folder target.kind
+    (if pointwise nat_eq from to || is_same_node source target then over (Count source.size)
+    else if not target.regular then only (CopyFile from to)
+    else if through then resolving source.inode from to
+    else place_fresh source.inode from to)
+
+-- no other thing than a file is copied
+abbrev pub source_known : FileInfo → List ℕ → List ℕ → Stage
+source_known source from to =
+    if source.regular then asking_target source from to else over (Failed kind.InvalidInput)
+
+-- what stands at the target is replaced, or what a link there leads to
+abbrev pub target_known : FileInfo → FileInfo → List ℕ → List ℕ → Stage
+target_known source target from to =
+    if is_link target.kind then asking_end source from to else copied false source target from to
+
+-- the name of the fresh file is taken: another is tried
+abbrev pub name_taken : ℕ → ℕ → ErrorKind → List ℕ → List ℕ → Stage
+name_taken zero number why from path = over (Failed why)
+name_taken (suc left) number why from path =
+    if already_exists why then taking_memory (making_fresh left number from path)
+    else over (Failed why)
 
 -- a folder stands, and those below it are made
 abbrev pub below : List (List ℕ) → Stage
@@ -211,7 +279,7 @@ unopened was_named why path =
     else over (Failed why)
 
 -- Where what the system says takes a stage. A failure ends the step, but for a signal's, a folder that may be made or
--- stands after all, and a target that can't be asked for.
+-- stands after all, and what a copy goes on from.
 abbrev pub after : Stage → CallResult → Stage
 after (trying again call) result =
     if was_interrupted result then trying true call else over result
@@ -224,9 +292,23 @@ after (reading_front again size file) (Failed why) =
 after (reading_rest front file) (Bytes rest) = taking_memory (over (Bytes (front ++ rest)))
 after (appending path bytes) (Opened file) = trying false (Write file bytes)
 after (sizing path) (Info info) = unless_folder info.kind (over (Info info))
-after (asking_source from to) (Info source) = asking_target source from to
-after (asking_target source from to) (Info target) = copied source target from to
-after (asking_target source from to) result = only (CopyFile from to)
+after (asking_source from to) (Info source) = source_known source from to
+after (asking_target source from to) (Info target) = target_known source target from to
+after (asking_target source from to) (Failed why) =
+    if is_absent why then place_fresh source.inode from to else over (Failed why)
+after (asking_end source from to) (Info target) = copied true source target from to
+after (asking_end source from to) (Failed why) =
+    if is_absent why then making_end source.inode from to else over (Failed why)
+after (making_end number from to) (Opened file) = resolving number from to
+after (resolving number from to) (Bytes path) = place_fresh number from path
+after (making_fresh left number from path) (Opened file) =
+    filling from (fresh_beside path (fresh_number left number)) path
+after (making_fresh left number from path) (Failed why) = name_taken left number why from path
+after (filling from fresh path) (Count size) = replacing size fresh path
+after (filling from fresh path) (Failed why) = scrapping why fresh
+after (replacing size fresh path) Done = over (Count size)
+after (replacing size fresh path) (Failed why) = scrapping why fresh
+after (scrapping why fresh) result = over (Failed why)
 after (standing path) (Info info) = if_folder info.kind kind.AlreadyExists (over Done)
 after (standing path) (Failed why) =
     if is_absent why then making false path [] else over (Failed why)

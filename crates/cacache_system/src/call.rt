@@ -45,6 +45,8 @@ pub enum SystemCall {
     HardLink(Text, Text),
     /// Copies the file at the first path to the second.
     CopyFile(Text, Text),
+    /// Asks for the path of what a path leads to, on which no link stands.
+    RealPath(Text),
 }
 
 /// What the system says of a file or folder.

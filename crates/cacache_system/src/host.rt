@@ -3,6 +3,7 @@ ghost use Rattle.std.specs.Prelude.{◌≡◌, None};
 
 use crate::call::FileInfo;
 use crate::system::System;
+use cacache_core::text::Text;
 use cacache_store::store::Kind;
 use std::alloc::{Alloc, AllocError, Global};
 use std::fs::{File, Metadata, OpenFile};
@@ -151,5 +152,9 @@ impl<R: Files + Drop> System for Host<R> {
 
     fn copy_file(&mut self, from: &str, to: &str) -> io::Result<u64> {
         self.rt.copy(from, to)
+    }
+
+    fn real_path(&mut self, alloc: Global, path: &str) -> io::Result<Text> {
+        Ok(Text::new(self.rt.canonicalize(alloc, path)?.into_string()))
     }
 }

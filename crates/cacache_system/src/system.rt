@@ -7,6 +7,8 @@ ghost use Rattle.cacache_system.specs.declared.call.CallResult.TheVariants as sa
 ghost use Rattle.cacache_system.specs.CallLog.{MakesCall, said, said_bytes, said_rest};
 
 use crate::call::FileInfo;
+use cacache_core::text::Text;
+use std::alloc::Global;
 use std::io;
 
 /// What a store of real folders asks of the system: one call a method. Closing is no call: a file that is dropped is
@@ -129,4 +131,9 @@ pub trait System {
     fn copy_file(&mut self, from: &str, to: &str) -> io::Result<u64>
         ensures { MakesCall (calls self.old) (calls self.new) (asks.CopyFile from.now to.now)
             (said says.Count result) };
+
+    /// Asks for the path of what a path leads to, on which no link stands.
+    fn real_path(&mut self, alloc: Global, path: &str) -> io::Result<Text>
+        ensures { MakesCall (calls self.old) (calls self.new) (asks.RealPath path.now)
+            (said says.Bytes result) };
 }

@@ -8,7 +8,7 @@ use Rattle.cacache_store.specs.declared.store.answer.Answer.TheVariants as answe
 use Rattle.cacache_disk.specs.{declared.{luck.Luck.{Luck, TheVariants.{Plain, Fail, Take}}, node.Node.{Node, TheVariants.{File}}}, Tree.{Tree, look, put, same_path, bytes_of}, Apply.{apply, plain, fails, fault_told, lengthened}}
 use Rattle.cacache_disk.proofs.{Maps.{same_path-true}, PutNodes.{look-put}}
 use Rattle.cacache_system.specs.{declared.call.{CallItem.{CallItem}, CallResult.{CallResult}}, Seen.{NumberedTemp, NumberedStep}, CallsOf.{Runs}, AnswersOf.{Hint, first, answer_of}}
-use Rattle.cacache_system_laws.specs.{Machine.{Machine}, Calls.{OccursSomehow, EachCall}, Laws.{temp_on, step_on, answer_on, outcome, IsLucky}, Writing.{WritesSome}, Mirrors.{hollow, Mirrors, temps_after, SparesOpen}, Chains.{StepMade, temps_left, HasLaw, WritesTemp, DiskDoes, RunsMirror}}
+use Rattle.cacache_system_laws.specs.{Machine.{Machine}, Calls.{OccursSomehow, EachCall}, Laws.{temp_on, step_on, answer_on, outcome, LeavesFresh, IsLucky}, Writing.{WritesSome}, Mirrors.{hollow, Mirrors, temps_after, SparesOpen}, Chains.{StepMade, temps_left, HasLaw, WritesTemp, DiskDoes, RunsMirror}}
 use Rattle.cacache_system_laws.proofs.{Refused.{same_outcome}, Writing.{write_agrees}, Covered.{each_may_break}, Keeping.{steps_mirror}}
 
 -- ---- steps that came back
@@ -25,6 +25,7 @@ OnDisk temps d m step end n =
     ((luck : Luck) × (new : Tree) × (apply d (step_on m step) luck ≡ outcome (answer_on n (answer_of step end)) new)
     × Mirrors (temps_after temps (step_on m step) (answer_on n (answer_of step end))) n.tree new)
     ⊎ ((answer_of step end ≡ answers.NoMemory step) × Mirrors (temps_after temps (step_on m step) (answer_on n (answer_of step end))) n.tree d)
+    ⊎ LeavesFresh m step (answer_of step end) n
 
 came_back : (temps : Names → Bool) (d : Tree) (m n : Machine) (step : NumberedStep) (end : CallResult) → Mirrors temps m.tree d → answer_of step end ≡ answers.NoMemory step → n.tree ≡ m.tree
     → Mirrors (temps_after temps (step_on m step) (answer_on n (answer_of step end))) n.tree d
@@ -45,7 +46,8 @@ lucky_on temps d m n step end mirrors spares (inl (luck, is)) =
       subst (λ (t : Tree). Mirrors (temps_after temps (step_on m step) (answer_on n (answer_of step end))) t (apply d (step_on m step) luck).1) tree
           (subst (λ (a : PlainAnswer). Mirrors (temps_after temps (step_on m step) a) (apply m.tree (step_on m step) luck).1 (apply d (step_on m step) luck).1) answer s.mirrors),
     )
-lucky_on temps d m n step end mirrors spares (inr (is, tree)) = inr (is, came_back temps d m n step end mirrors is tree)
+lucky_on temps d m n step end mirrors spares (inr (inl (is, tree))) = inr (inl (is, came_back temps d m n step end mirrors is tree))
+lucky_on temps d m n step end mirrors spares (inr (inr left)) = inr (inr left)
 
 -- ---- temporary files that are written
 
@@ -97,7 +99,7 @@ write_on temps d m n temp more names end mirrors is_open (inl (luck, part, is)) 
           (write_keeps d (temp_on m temp) more luck),
       subst (λ (t : Tree). Mirrors temps t d) tree (written_mirrors temps m.tree d names (bytes_of (look m.tree names) ++ take part more) mirrors is_open),
     )
-write_on temps d m n temp more names end mirrors is_open (inr (is, tree)) = inr (is, came_back temps d m n (steps.Write temp more) end mirrors is tree)
+write_on temps d m n temp more names end mirrors is_open (inr (is, tree)) = inr (inl (is, came_back temps d m n (steps.Write temp more) end mirrors is tree))
 
 -- ---- many steps
 
@@ -116,7 +118,8 @@ step_written temps d m n hint _ items end mirrors runs each writing = absurd wri
 goes_on : (temps : Names → Bool) (d : Tree) (s : StepMade) (made : List StepMade) → OnDisk temps d s.before s.step s.end s.after
     → ((new : Tree) → Mirrors (temps_left temps s) s.after.tree new → DiskDoes new made) → DiskDoes d (s ∷ made)
 goes_on temps d s made (inl (luck, new, is, mirrors)) next = inl (luck, new, is, next new mirrors)
-goes_on temps d s made (inr (is, mirrors)) next = inr (is, next d mirrors)
+goes_on temps d s made (inr (inl (is, mirrors))) next = inr (inl (is, next d mirrors))
+goes_on temps d s made (inr (inr left)) next = inr (inr left)
 
 pub runs_mirror : RunsMirror
 runs_mirror temps d m [] mirrors chain = tt

@@ -1,213 +1,482 @@
 -- Files that are copied.
-use Rattle.std.proofs.Common.{◌≡◌, ◌⊎◌, ◌==◌, ◌&&◌, ◌||◌, not, ℕ, Bool, true, false, if◌then◌else◌, List, [], ◌∷◌, length, take, refl, sym, ap, subst, ◌∙◌, ⊎_elim, inl, inr, arith, take_all, eqb-true, nat_eq}
-use Rattle.std.specs.{Cmp.Lexicographic.{pointwise}, Prelude.{Option, None, Some, Result, Ok, Err}}
+use Rattle.std.proofs.{lemmas.List.Elements.{All-head, All-tail}, Common.{◌≡◌, ◌⊎◌, ◌==◌, ◌&&◌, ◌||◌, not, ℕ, zero, suc, Bool, true, false, if◌then◌else◌, List, [], ◌∷◌, ◌++◌, filter, length, take, refl, sym, ap, subst, ◌∙◌, ⊎_elim, inl, inr, arith, take_all, eqb-true, ne_eqb, nat_eq}}
+use Rattle.std.specs.{Cmp.Lexicographic.{pointwise}, Prelude.{Option, None, Some, Result, Ok, Err, MatchResult}}
 use Rattle.std_io.specs.declared.io.kind.ErrorKind.{ErrorKind}
-use Rattle.cacache_core.specs.{declared.errors.Fault.{Fault, TheVariants.{InvalidInput}}, PathNames.{Names}}
+use Rattle.std_io.specs.declared.io.kind.ErrorKind.TheVariants as kind
+use Rattle.cacache_core.specs.{Contexts.{fault_of}, declared.errors.Fault.{Fault, TheVariants.{NotFound, NotADirectory, IsADirectory, InvalidInput, AlreadyExists}}, PathNames.{Names, names_of, pieces, is_bad, is_name, IsProperName}, Paths.{temp_area}}
+use Rattle.cacache_core.proofs.ProperNames.{names_are_proper}
+use Rattle.cacache_store.specs.declared.store.answer.Kind.{Kind}
 use Rattle.cacache_store.specs.declared.store.step.Step.TheVariants as steps
 use Rattle.cacache_store.specs.declared.store.answer.Answer.TheVariants as answers
 use Rattle.cacache_store.specs.Plain.{PlainAnswer}
-use Rattle.cacache_disk.specs.{declared.{luck.Luck.TheVariants.{Plain}, node.Node.{Node, TheVariants.{Folder, File}}}, Tree.{Tree, look, put}, LedTo.{and_then, leads, found, file_at, writable, where_no_folder}, Apply.{apply, unless, taken, left_by}}
-use Rattle.cacache_disk.proofs.Maps.{put_same}
-use Rattle.cacache_system.specs.{declared.call.{FileInfo.{FileInfo}, CallResult.{CallResult}}, CallsOf.{over, only, asking_source, asking_target, copied, is_same_node, after}, AnswersOf.{answer_of}}
+use Rattle.cacache_disk.specs.{declared.{luck.Luck.TheVariants.{Plain, Fail}, node.Node.{Node, TheVariants.{Folder, File, Link}}}, Tree.{Tree, look, put, cut}, LedTo.{and_then, or_fault, leads, found, file_at, writable, place, standing, free, removable, replaceable, where_there, where_free, where_no_folder}, Apply.{apply, unless, taken, left_by, fault_told, made_up}}
+use Rattle.cacache_disk.proofs.{Maps.{put_same}, FoundNodes.{place_ok, or_fault_none}}
+use Rattle.cacache_system.specs.{declared.call.{FileInfo.{FileInfo}, CallResult.{CallResult}}, CallsOf.{Stage, over, only, taking_memory, asking_source, asking_target, asking_end, making_end, resolving, making_fresh, filling, replacing, scrapping, place_fresh, source_known, target_known, copied, name_taken, already_exists, is_absent, is_link, is_same_node, fresh_name, fresh_number, fresh_beside, after}, AnswersOf.{answer_of, misses, refuses_memory}}
 use Rattle.cacache_system.specs.declared.call.SystemCall.TheVariants as asks
 use Rattle.cacache_system.specs.declared.call.CallResult.TheVariants as says
-use Rattle.cacache_system_laws.specs.{Machine.{Machine, IsRefused, ShowsEnd, ShowsNode, Describes, CopiesBytes}, Calls.{part_copied}, Laws.{answer_on, outcome, led_to, Leads, IsDone}, Writing.{TellsFilesApart, CopyAgrees}}
-use Rattle.cacache_system_laws.proofs.{Refused.{same_outcome, broken_part}, Leading.{over_leads, call_leads, only_leads}, Claims.{way_of, claim_of, cases_of, agrees_of, claim_plain, claim_lucky, claim_broken}, Opening.{said_leads, of_some}, Views.{View, nowhere, a_folder, a_file, view}, Looking.{table_fails, file_there}}
+use Rattle.cacache_system_laws.specs.{Machine.{Machine, IsRefused, ChangesTree, OpensIf, ShowsEnd, ShowsNode, Describes, CopiesBytes, MovesNode, SpellsEnd, EndsInName, with_empty}, Calls.{part_copied}, Laws.{answer_on, outcome, led_to, Leads, IsDone}, Writing.{HasNoFresh, CanCopy, CopyAgrees}}
+use Rattle.cacache_system_laws.proofs.{Refused.{same_outcome, failed, failing_apply, never_missing}, Leading.{Claim, over_leads, call_leads}, Claims.{way_of, claim_of, cases_of, taking_leads, claim_plain, claim_lucky, claim_broken, claim_memory}, Opening.{said_leads, of_some}, Views.{NoLink, View, nowhere, a_folder, a_file, view, found_at, leads_straight}, Looking.{refused_folder, wanted_file}, Fresh.{placed_as, placed_beside, look_new, own_place, own_writable, own_removable, replaceable_still, file_still, cut_new, put_new, free_at_place, dangling}}
+use Rattle.cacache_system_laws.proofs.CopyFacts.{both_true, either_true, same_text, apply_copy, whole_file, writable_found, Source, Ready, same_node_numbers, writable_at, Stands, no_way, nothing, a_folder_here, a_file_here, a_link_here, stands_so, not_absent, exists_fine, absent_fault, not_taken_fault, not_taken, fault_absent, no_place, unnamed, fresh_proper}
 
--- ---- truth values and texts
+module _ (b : Bool) (m : Machine) (from to : List ℕ) (can : CanCopy m to) (done : b ≡ false → IsDone m (steps.Copy from to)) (clear : b ≡ true → HasNoFresh m) where
+  abbrev P : Claim
+  P = claim_of b m (steps.Copy from to)
 
-pub both_true : (a c : Bool) → (a && c) ≡ true → (a ≡ true) × (c ≡ true)
-both_true true c is = (refl, is)
-both_true false c is = absurd cc
+  copy_failed : (why : ErrorKind) (k : Machine) (c : Bool) → refuses_memory why ≡ c → answer_on k (answer_of (steps.Copy from to) (says.Failed why)) ≡ failed (fault_of why)
+  copy_failed why k true is = ap (λ (x : Bool). answer_on k (if x && false then answers.NoMemory (steps.Copy from to) else answers.Failed (fault_of why))) is
+  copy_failed why k false is = ap (λ (x : Bool). answer_on k (if x && false then answers.NoMemory (steps.Copy from to) else answers.Failed (fault_of why))) is
 
-either_true : (a c : Bool) → (a || c) ≡ true → (a ≡ true) ⊎ (c ≡ true)
-either_true true c is = inl refl
-either_true false c is = inr is
+  fails_plain : (fault : Fault) (why : ErrorKind) (k : Machine) → apply m.tree (steps.Copy from to) Plain ≡ outcome (failed fault) m.tree → fault_of why ≡ fault → k.tree ≡ m.tree → P (says.Failed why) k
+  fails_plain fault why k is of stays =
+      claim_plain b m (steps.Copy from to) done (says.Failed why) k
+      (is ∙ sym (same_outcome (answer_on k (answer_of (steps.Copy from to) (says.Failed why))) (failed fault) k.tree m.tree (copy_failed why k (refuses_memory why) refl ∙ ap failed of) stays))
 
-pub same_text : (xs ys : List ℕ) → pointwise nat_eq xs ys ≡ true → xs ≡ ys
-same_text [] [] is = refl
-same_text [] (y ∷ ys) is = absurd cc
-same_text (x ∷ xs) [] is = absurd cc
-same_text (x ∷ xs) (y ∷ ys) is =
-    let parts = both_true (nat_eq x y) (pointwise nat_eq xs ys) is in
-    let first : x ≡ y = eqb-true x y parts.0 in
-    let rest : xs ≡ ys = same_text xs ys parts.1 in
-    cc
+  broke_same : (why : ErrorKind) (k : Machine) → b ≡ false → misses why ≡ false → k.tree ≡ m.tree → P (says.Failed why) k
+  broke_same why k broke fine stays = claim_broken b m (steps.Copy from to) done why k broke refl fine stays
 
--- ---- the disk's line of a copy
+  memory_same : P (says.Failed kind.OutOfMemory) m
+  memory_same = claim_memory b m (steps.Copy from to) done m refl refl
 
-apply_copy : (t : Tree) (from to : List ℕ) (r : Result (List ℕ) Fault) (s : Result Names Fault) → file_at t from InvalidInput ≡ r → writable t to ≡ s
-    → apply t (steps.Copy from to) Plain ≡ unless r t (λ bytes. unless s t (λ names. outcome (answers.Took (length bytes)) (put t names (File (take (length bytes) bytes)))))
-unfolding apply
-apply_copy t from to r s is at =
-    ap (λ (x : Result (List ℕ) Fault). unless x t (λ bytes. unless (writable t to) t (λ names. outcome (answers.Took (length bytes)) (put t names (File (take (length bytes) bytes)))))) is
-    ∙ ap (λ (y : Result Names Fault). unless r t (λ bytes. unless y t (λ names. outcome (answers.Took (length bytes)) (put t names (File (take (length bytes) bytes)))))) at
-
-whole_file : (bytes : List ℕ) → take (length bytes) bytes ≡ bytes
-whole_file bytes = take_all (length bytes) bytes (omega arith)
-
-abbrev left_copied : Tree → Result (List ℕ) Fault → Result Names Fault → ℕ → Tree
-left_copied t r s part = (unless r t (λ bytes. unless s t (λ names. outcome (answers.Took (length bytes)) (put t names (File (take (taken (Some part) bytes) bytes)))))).1
-
-part_same : (t : Tree) (r : Result (List ℕ) Fault) (s : Result Names Fault) (part : ℕ) → part_copied r s (Some part) t ≡ left_copied t r s part
-part_same t (Ok bytes) (Ok names) part = refl
-part_same t (Ok bytes) (Err fault) part = refl
-part_same t (Err fault) (Ok names) part = refl
-part_same t (Err fault) (Err other) part = refl
-
-no_part : (t : Tree) (r : Result (List ℕ) Fault) (s : Result Names Fault) → part_copied r s None t ≡ t
-no_part t (Ok bytes) (Ok names) = refl
-no_part t (Ok bytes) (Err fault) = refl
-no_part t (Err fault) (Ok names) = refl
-no_part t (Err fault) (Err other) = refl
-
-part_left : (t : Tree) (from to : List ℕ) (part : Option ℕ) → part_copied (file_at t from InvalidInput) (writable t to) part t ≡ left_by t (steps.Copy from to) part
-part_left t from to None = no_part t (file_at t from InvalidInput) (writable t to)
-part_left t from to (Some part) = part_same t (file_at t from InvalidInput) (writable t to) part
-
--- a file that stands where a path leads can be written
-writable_found : (t : Tree) (path : List ℕ) (names : Names) (bytes : List ℕ) → found t path ≡ Ok names → look t names ≡ Some (File bytes) → writable t path ≡ Ok names
-unfolding writable
-writable_found t path names bytes is at = elim (view t path) as (λ v. and_then (leads t path) (λ n. where_no_folder (look t n) n) ≡ Ok names) [
-  | nowhere f e file ↦ absurd cc
-  | a_folder other l e stands file ↦ let same : other ≡ names = cc in let differ : look t names ≡ Some Folder = ap (look t) (sym same) ∙ stands in absurd cc
-  | a_file other more l e stands file ↦
-      let same : other ≡ names = cc in
-      ap (λ (r : Result Names Fault). and_then r (λ n. where_no_folder (look t n) n)) (l ∙ ap (λ (n : Names). let r : Result Names Fault = Ok n in r) same)
-      ∙ ap (λ (o : Option Node). where_no_folder o names) at
-]
-
--- what a source is: no file, or a file whose number and size are known
-abbrev SourceIs : Machine → List ℕ → FileInfo → Type 0
-SourceIs m from info =
-    (info.regular ≡ false)
-    ⊎ ((names : Names) × (bytes : List ℕ) × (found m.tree from ≡ Ok names) × (look m.tree names ≡ Some (File bytes)) × Describes (File bytes) (m.inodes names) info)
-
-same_node_numbers : (one other : FileInfo) → is_same_node one other ≡ true → (one.inode ≡ other.inode) × (one.device ≡ other.device)
-same_node_numbers one other is =
-    let parts = both_true (not (one.inode == 0) && one.inode == other.inode) (one.device == other.device) is in
-    let numbers = both_true (not (one.inode == 0)) (one.inode == other.inode) parts.0 in
-    (eqb-true one.inode other.inode numbers.1, eqb-true one.device other.device parts.1)
-
-module _ (b : Bool) (m : Machine) (from to : List ℕ) (apart : TellsFilesApart m) (done : b ≡ false → IsDone m (steps.Copy from to)) where
-  copied_well : (r : Result (List ℕ) Fault) (s : Result Names Fault) (said : CallResult) (n : Machine) → CopiesBytes r s m said n
-      → unless r m.tree (λ bytes. unless s m.tree (λ names. outcome (answers.Took (length bytes)) (put m.tree names (File (take (length bytes) bytes))))) ≡ led_to (steps.Copy from to) said n
-  copied_well (Ok bytes) (Ok names) said n (same, became) =
-      sym (same_outcome (answer_on n (answer_of (steps.Copy from to) said)) (answers.Took (length bytes)) n.tree (put m.tree names (File (take (length bytes) bytes)))
-      (ap (λ (e : CallResult). answer_on n (answer_of (steps.Copy from to) e)) same) (became.0 ∙ ap (λ (l : List ℕ). put m.tree names (File l)) (sym (whole_file bytes))))
-  copied_well (Ok bytes) (Err fault) said n (why, same, of, memory, stays) =
-      table_fails (steps.Copy from to) fault why m n refl of memory (ap (λ (x : Machine). x.tree) stays) ∙ ap (λ (e : CallResult). led_to (steps.Copy from to) e n) (sym same)
-  copied_well (Err fault) s said n (why, same, of, memory, stays) =
-      table_fails (steps.Copy from to) fault why m n refl of memory (ap (λ (x : Machine). x.tree) stays) ∙ ap (λ (e : CallResult). led_to (steps.Copy from to) e n) (sym same)
-
-  copy_call : Leads (way_of b) (only (asks.CopyFile from to)) m (claim_of b m (steps.Copy from to))
-  copy_call =
-      only_leads (way_of b) (asks.CopyFile from to) m (claim_of b m (steps.Copy from to)) (λ said n happens.
-      ⊎_elim
-      (λ (most, all, well). claim_plain b m (steps.Copy from to) done said n
-      (apply_copy m.tree from to (file_at m.tree from InvalidInput) (writable m.tree to) refl refl ∙ copied_well (file_at m.tree from InvalidInput) (writable m.tree to) said n well))
-      (λ (broke, why, same, fine, part, left). claim_lucky b m (steps.Copy from to) done said n broke (λ d.
-      broken_part (steps.Copy from to) why said m n part (ap (answer_of (steps.Copy from to)) same) fine (left.0 ∙ part_left m.tree from to part) (λ whole. absurd cc) d))
-      (cases_of b m (asks.CopyFile from to) said n happens))
-
-  -- a file that is copied onto itself stays
-  stays_same : (names : Names) (bytes : List ℕ) (info : FileInfo) → file_at m.tree from InvalidInput ≡ Ok bytes → writable m.tree to ≡ Ok names → look m.tree names ≡ Some (File bytes) → info.size ≡ length bytes
-      → Leads (way_of b) (over (says.Count info.size)) m (claim_of b m (steps.Copy from to))
-  stays_same names bytes info source target stands size =
-      over_leads (way_of b) (says.Count info.size) m (claim_of b m (steps.Copy from to))
-      (claim_plain b m (steps.Copy from to) done (says.Count info.size) m
+  the_copy : (bytes : List ℕ) (names : Names) (k : Machine) → file_at m.tree from InvalidInput ≡ Ok bytes → writable m.tree to ≡ Ok names → k.tree ≡ put m.tree names (File bytes) → P (says.Count (length bytes)) k
+  the_copy bytes names k source target tree =
+      claim_plain b m (steps.Copy from to) done (says.Count (length bytes)) k
       (apply_copy m.tree from to (Ok bytes) (Ok names) source target
-      ∙ same_outcome (answers.Took (length bytes)) (answers.Took info.size) (put m.tree names (File (take (length bytes) bytes))) m.tree
-      (ap (λ (k : ℕ). let a : PlainAnswer = answers.Took k in a) (sym size))
-      (ap (λ (l : List ℕ). put m.tree names (File l)) (whole_file bytes) ∙ put_same m.tree names (File bytes) (sym stands))))
+      ∙ same_outcome (answers.Took (length bytes)) (answers.Took (length bytes)) (put m.tree names (File (take (length bytes) bytes))) k.tree refl
+      (ap (λ (l : List ℕ). put m.tree names (File l)) (whole_file bytes) ∙ sym tree))
 
-  one_file : (source target : FileInfo) (names other : Names) (node : Node) (bytes : List ℕ) → found m.tree from ≡ Ok names → look m.tree names ≡ Some (File bytes) → Describes (File bytes) (m.inodes names) source
-      → found m.tree to ≡ Ok other → look m.tree other ≡ Some node → Describes node (m.inodes other) target → (pointwise nat_eq from to ≡ true) ⊎ (is_same_node source target ≡ true)
-      → Leads (way_of b) (over (says.Count source.size)) m (claim_of b m (steps.Copy from to))
-  one_file source target names other node bytes is stands described at there shown (inl same) =
-      let to_names : found m.tree to ≡ Ok names = ap (found m.tree) (sym (same_text from to same)) ∙ is in
-      stays_same names bytes source (file_there m.tree from InvalidInput names bytes is stands) (writable_found m.tree to names bytes to_names stands) stands described.size
-  one_file source target names other node bytes is stands described at there shown (inr same) =
+  -- the disk's table refuses the copy
+  refused_target : (source : List ℕ) (fault : Fault) → file_at m.tree from InvalidInput ≡ Ok source → writable m.tree to ≡ Err fault → apply m.tree (steps.Copy from to) Plain ≡ outcome (failed fault) m.tree
+  refused_target source fault is at = apply_copy m.tree from to (Ok source) (Err fault) is at
+
+  -- ---- a fresh file that isn't wanted after all
+
+  fresh_stays : (why : ErrorKind) (k : Machine) (above : Names) (number : ℕ) (bytes : List ℕ) → b ≡ false → misses why ≡ false → look m.tree (above ++ fresh_name number ∷ []) ≡ None
+      → k.tree ≡ put m.tree (above ++ fresh_name number ∷ []) (File bytes) → P (says.Failed why) k
+  fresh_stays why k above number bytes broke fine free_there tree =
+      claim_lucky b m (steps.Copy from to) done (says.Failed why) k broke (λ d. inr (inr (
+        Fail (fault_of why) None,
+        above,
+        number,
+        bytes,
+        free_there,
+        failing_apply m.tree (steps.Copy from to) (fault_of why) None d
+            ∙ sym (same_outcome (answer_on k (answer_of (steps.Copy from to) (says.Failed why))) (failed (made_up (fault_of why))) m.tree m.tree
+            (copy_failed why k (refuses_memory why) refl ∙ ap failed (sym (never_missing why fine))) refl),
+        tree,
+      )))
+
+  scrap_leads : (why : ErrorKind) (fresh : List ℕ) (above : Names) (number : ℕ) (bytes : List ℕ) (l : Machine) → b ≡ false → misses why ≡ false → place m.tree fresh ≡ Ok (above ++ fresh_name number ∷ [])
+      → look m.tree (above ++ fresh_name number ∷ []) ≡ None → l.tree ≡ put m.tree (above ++ fresh_name number ∷ []) (File bytes) → Leads (way_of b) (scrapping why fresh) l P
+  scrap_leads why fresh above number bytes l broke fine placed free_there tree =
+      let fn = above ++ fresh_name number ∷ [] in
+      call_leads (way_of b) (scrapping why fresh) (asks.RemoveFile fresh) l P refl (λ end never. absurd never) (λ said k happens.
+      over_leads (way_of b) (says.Failed why) k P
+      (⊎_elim
+      (λ (most, all, well).
+      let removed : ChangesTree (Ok fn) (cut l.tree) l said k
+      = subst (λ (r : Result Names Fault). ChangesTree r (cut l.tree) l said k) (ap (λ (t : Tree). removable t fresh) tree ∙ own_removable m.tree fn bytes free_there fresh placed) well in
+      broke_same why k broke fine (removed.1.0 ∙ ap (λ (t : Tree). cut t fn) tree ∙ cut_new m.tree fn bytes free_there))
+      (λ (broke, other, same, fair, part, left).
+      let stays : k ≡ l = left in
+      fresh_stays why k above number bytes broke fine free_there (ap (λ (x : Machine). x.tree) stays ∙ tree))
+      (cases_of b l (asks.RemoveFile fresh) said k happens)))
+
+  -- ---- a fresh file that takes the place of what stands
+
+  module _ (path bytes : List ℕ) (names : Names) (ready : Ready m from to path bytes names) (fresh : List ℕ) (above : Names) (number : ℕ)
+      (placed : place m.tree fresh ≡ Ok (above ++ fresh_name number ∷ [])) (free_there : look m.tree (above ++ fresh_name number ∷ []) ≡ None) where
+    abbrev fn : Names
+    fn = above ++ fresh_name number ∷ []
+
+    replace_leads : (l : Machine) → l.tree ≡ put m.tree fn (File bytes) → Leads (way_of b) (replacing (length bytes) fresh path) l P
+    replace_leads l tree =
+        call_leads (way_of b) (replacing (length bytes) fresh path) (asks.Rename fresh path) l P refl (λ end never. absurd never) (λ said k happens.
+        ⊎_elim
+        (λ (most, all, well).
+        let moved : MovesNode fn (look l.tree fn) (replaceable l.tree path) l said k
+        = subst (λ (r : Result Names Fault). MatchResult r (λ old. MovesNode old (look l.tree old) (replaceable l.tree path) l said k) (λ fault. IsRefused fault l said k))
+        (ap (λ (t : Tree). place t fresh) tree ∙ own_place m.tree fn bytes free_there fresh placed) well in
+        let moves : MovesNode fn (Some (File bytes)) (replaceable l.tree path) l said k
+        = subst (λ (o : Option Node). MovesNode fn o (replaceable l.tree path) l said k) (ap (λ (t : Tree). look t fn) tree ∙ look_new m.tree fn bytes free_there) moved in
+        let ends : ChangesTree (Ok names) (λ new. put (cut l.tree fn) new (File bytes)) l said k
+        = subst (λ (r : Result Names Fault). ChangesTree r (λ new. put (cut l.tree fn) new (File bytes)) l said k)
+        (ap (λ (t : Tree). replaceable t path) tree ∙ replaceable_still m.tree fn bytes free_there path names ready.placed ready.replaced) moves in
+        said_leads b (replacing (length bytes) fresh path) said says.Done k P ends.0
+        (over_leads (way_of b) (says.Count (length bytes)) k P
+        (the_copy bytes names k ready.read ready.target
+        (ends.1.0 ∙ ap (λ (t : Tree). put (cut t fn) names (File bytes)) tree ∙ ap (λ (t : Tree). put t names (File bytes)) (cut_new m.tree fn bytes free_there)))))
+        (λ (broke, why, same, fine, part, left).
+        let stays : k ≡ l = left in
+        said_leads b (replacing (length bytes) fresh path) said (says.Failed why) k P same
+        (scrap_leads why fresh above number bytes k broke fine placed free_there (ap (λ (x : Machine). x.tree) stays ∙ tree)))
+        (cases_of b l (asks.Rename fresh path) said k happens))
+
+    part_tree : (n : Machine) (part : Option ℕ) → n.tree ≡ put m.tree fn (File []) → (more : List ℕ) × (part_copied (Ok bytes) (Ok fn) part n.tree ≡ put m.tree fn (File more))
+    part_tree n None tree = ([], tree)
+    part_tree n (Some part) tree =
+        let more = take (taken (Some part) bytes) bytes in
+        (more, ap (λ (t : Tree). put t fn (File more)) tree ∙ put_new m.tree fn [] free_there more)
+
+    fill_leads : (n : Machine) → n.tree ≡ put m.tree fn (File []) → Leads (way_of b) (filling from fresh path) n P
+    fill_leads n tree =
+        let source : file_at n.tree from InvalidInput ≡ Ok bytes = ap (λ (t : Tree). file_at t from InvalidInput) tree ∙ file_still m.tree fn [] free_there from InvalidInput ready.source bytes ready.led ready.stands in
+        let target : writable n.tree fresh ≡ Ok fn = ap (λ (t : Tree). writable t fresh) tree ∙ own_writable m.tree fn [] free_there fresh placed in
+        call_leads (way_of b) (filling from fresh path) (asks.CopyFile from fresh) n P refl (λ end never. absurd never) (λ said l happens.
+        ⊎_elim
+        (λ (most, all, well).
+        let copied : CopiesBytes (Ok bytes) (Ok fn) n said l
+        = subst (λ (s : Result Names Fault). CopiesBytes (Ok bytes) s n said l) target (subst (λ (r : Result (List ℕ) Fault). CopiesBytes r (writable n.tree fresh) n said l) source well) in
+        said_leads b (filling from fresh path) said (says.Count (length bytes)) l P copied.0
+        (replace_leads l (copied.1.0 ∙ ap (λ (t : Tree). put t fn (File bytes)) tree ∙ put_new m.tree fn [] free_there bytes)))
+        (λ (broke, why, same, fine, part, left).
+        let parted = part_tree n part tree in
+        let left_there : l.tree ≡ part_copied (Ok bytes) (Ok fn) part n.tree
+        = left.0 ∙ ap (λ (r : Result (List ℕ) Fault). part_copied r (writable n.tree fresh) part n.tree) source ∙ ap (λ (s : Result Names Fault). part_copied (Ok bytes) s part n.tree) target in
+        said_leads b (filling from fresh path) said (says.Failed why) l P same
+        (scrap_leads why fresh above number parted.0 l broke fine placed free_there (left_there ∙ parted.1)))
+        (cases_of b n (asks.CopyFile from fresh) said l happens))
+
+  module _ (path bytes : List ℕ) (names : Names) (ready : Ready m from to path bytes names) (number : ℕ) where
+    abbrev Taken : ℕ → Type 0
+    Taken left = (why : ErrorKind) → b ≡ false → misses why ≡ false → Leads (way_of b) (name_taken left number why from path) m P
+
+    exists_so : (left : ℕ) (above : Names) (node : Node) (said : CallResult) (n : Machine) (c : Bool) → b ≡ c → Taken left → look m.tree (above ++ fresh_name (fresh_number left number) ∷ []) ≡ Some node
+        → IsRefused AlreadyExists m said n → Leads (way_of b) (after (making_fresh left number from path) said) n P
+    exists_so left above node said n true well taken at refused =
+        let none : look m.tree (above ++ fresh_name (fresh_number left number) ∷ []) ≡ None = clear well above (fresh_number left number) in
+        absurd (let wrong : Some node ≡ None = sym at ∙ none in cc)
+    exists_so left above node said n false broke taken at (why, same, of, memory, stays) =
+        said_leads b (making_fresh left number from path) said (says.Failed why) n P same
+        (subst (λ (x : Machine). Leads (way_of b) (name_taken left number why from path) x P) (sym stays) (taken why broke (exists_fine why of)))
+
+    made_so : (left : ℕ) (above : Names) (said : CallResult) (n : Machine) (o : Option Node) → Taken left → place m.tree (fresh_beside path (fresh_number left number)) ≡ Ok (above ++ fresh_name (fresh_number left number) ∷ [])
+        → look m.tree (above ++ fresh_name (fresh_number left number) ∷ []) ≡ o
+        → OpensIf (where_free o (above ++ fresh_name (fresh_number left number) ∷ [])) (λ x. put m.tree x (File [])) m said n
+        → Leads (way_of b) (after (making_fresh left number from path) said) n P
+    made_so left above said n None taken placed at (opened, same, fresh, became) =
+        said_leads b (making_fresh left number from path) said (says.Opened opened) n P same
+        (fill_leads path bytes names ready (fresh_beside path (fresh_number left number)) above (fresh_number left number) placed at n became.0)
+    made_so left above said n (Some node) taken placed at refused = exists_so left above node said n b refl taken at refused
+
+    fresh_from : (left : ℕ) → Taken left → Leads (way_of b) (making_fresh left number from path) m P
+    fresh_from left taken =
+        let k = fresh_number left number in
+        let named = place_ok m.tree path names ready.placed in
+        let side = placed_beside m.tree path (fresh_name k) names named ready.ends (fresh_proper k) in
+        let whole : side.fault ≡ None = (or_fault_none side.fault (side.front ++ side.last ∷ []) names (sym side.own ∙ ready.placed)).0 in
+        let placed : place m.tree (fresh_beside path k) ≡ Ok (side.front ++ fresh_name k ∷ []) = side.other ∙ ap (λ (o : Option Fault). or_fault o (side.front ++ fresh_name k ∷ [])) whole in
+        call_leads (way_of b) (making_fresh left number from path) (asks.CreateNew (fresh_beside path k) 384) m P refl (λ end never. absurd never) (λ said n happens.
+        ⊎_elim
+        (λ (most, all, well).
+        made_so left side.front said n (look m.tree (side.front ++ fresh_name k ∷ [])) taken placed refl
+        (subst (λ (r : Result Names Fault). OpensIf r (λ x. put m.tree x (File [])) m said n) (free_at_place m.tree (fresh_beside path k) (Ok (side.front ++ fresh_name k ∷ [])) placed) well))
+        (λ (broke, why, same, fine, part, left_there).
+        said_leads b (making_fresh left number from path) said (says.Failed why) n P same
+        (subst (λ (x : Machine). Leads (way_of b) (name_taken left number why from path) x P) (sym left_there) (taken why broke fine)))
+        (cases_of b m (asks.CreateNew (fresh_beside path k) 384) said n happens))
+
+    taken_if : (left : ℕ) (why : ErrorKind) (c : Bool) → Leads (way_of b) (making_fresh left number from path) m P → b ≡ false → misses why ≡ false
+        → Leads (way_of b) (if c then taking_memory (making_fresh left number from path) else over (says.Failed why)) m P
+    taken_if left why true next broke fine = taking_leads (way_of b) (making_fresh left number from path) m P memory_same next
+    taken_if left why false next broke fine = over_leads (way_of b) (says.Failed why) m P (broke_same why m broke fine refl)
+
+    fresh_leads : (left : ℕ) → Leads (way_of b) (making_fresh left number from path) m P
+    fresh_leads zero = fresh_from zero (λ why broke fine. over_leads (way_of b) (says.Failed why) m P (broke_same why m broke fine refl))
+    fresh_leads (suc left) = fresh_from (suc left) (λ why broke fine. taken_if left why (already_exists why) (fresh_leads left) broke fine)
+
+    place_leads : Leads (way_of b) (place_fresh number from path) m P
+    place_leads = taking_leads (way_of b) (making_fresh 255 number from path) m P memory_same (fresh_leads 255)
+
+  -- ---- a file that stays
+
+  -- a file that is copied onto itself
+  stays_same : (names : Names) (bytes : List ℕ) (info : FileInfo) → file_at m.tree from InvalidInput ≡ Ok bytes → writable m.tree to ≡ Ok names → look m.tree names ≡ Some (File bytes) → info.size ≡ length bytes
+      → Leads (way_of b) (over (says.Count info.size)) m P
+  stays_same names bytes info source target stands size =
+      over_leads (way_of b) (says.Count info.size) m P
+      (subst (λ (n : ℕ). P (says.Count n) m) (sym size) (the_copy bytes names m source target (sym (put_same m.tree names (File bytes) (sym stands)))))
+
+  one_file : (source target : FileInfo) (other : Names) (node : Node) (bytes : List ℕ) (is : Source m from source bytes) → found m.tree to ≡ Ok other → look m.tree other ≡ Some node → Describes node (m.inodes other) target
+      → (pointwise nat_eq from to ≡ true) ⊎ (is_same_node source target ≡ true) → Leads (way_of b) (over (says.Count source.size)) m P
+  one_file source target other node bytes is at there shown (inl same) =
+      let to_names : found m.tree to ≡ Ok is.names = ap (found m.tree) (sym (same_text from to same)) ∙ is.is in
+      stays_same is.names bytes source is.read (writable_found m.tree to is.names bytes to_names is.stands) is.stands is.described.size
+  one_file source target other node bytes is at there shown (inr same) =
       let numbers = same_node_numbers source target same in
       let pairs : ◌≡◌ {A = ℕ × ℕ} (source.inode, source.device) (target.inode, target.device) = cc in
-      let alike : look m.tree names ≡ look m.tree other = apart names other (sym described.number ∙ pairs ∙ shown.number) in
-      let here : look m.tree other ≡ Some (File bytes) = sym alike ∙ stands in
-      stays_same other bytes source (file_there m.tree from InvalidInput names bytes is stands) (writable_found m.tree to other bytes at here) here described.size
+      let alike : look m.tree is.names ≡ look m.tree other = can.apart is.names other (sym is.described.number ∙ pairs ∙ shown.number) in
+      let here : look m.tree other ≡ Some (File bytes) = sym alike ∙ is.stands in
+      stays_same other bytes source is.read (writable_found m.tree to other bytes at here) here is.described.size
 
-  copied_so : (source target : FileInfo) (other : Names) (node : Node) (c : Bool) → SourceIs m from source → found m.tree to ≡ Ok other → look m.tree other ≡ Some node → Describes node (m.inodes other) target
-      → (source.regular && (pointwise nat_eq from to || is_same_node source target)) ≡ c
-      → Leads (way_of b) (if c then over (says.Count source.size) else only (asks.CopyFile from to)) m (claim_of b m (steps.Copy from to))
-  copied_so source target other node false what at there shown is = copy_call
-  copied_so source target other node true (inl none) at there shown is =
-      let regular : source.regular ≡ true = (both_true source.regular (pointwise nat_eq from to || is_same_node source target) is).0 in
-      absurd (let wrong : false ≡ true = sym none ∙ regular in cc)
-  copied_so source target other node true (inr (names, bytes, found_at, stands, described)) at there shown is =
-      one_file source target names other node bytes found_at stands described at there shown
-      (either_true (pointwise nat_eq from to) (is_same_node source target) (both_true source.regular (pointwise nat_eq from to || is_same_node source target) is).1)
+  -- ---- what stands at the target, or where it leads
 
-  target_shown : (source : FileInfo) (other : Names) (node : Node) → SourceIs m from source → (said : CallResult) (n : Machine) → found m.tree to ≡ Ok other → look m.tree other ≡ Some node
-      → ShowsNode other m said n → Leads (way_of b) (after (asking_target source from to) said) n (claim_of b m (steps.Copy from to))
-  target_shown source other node what said n at there (info, same, fits, stays) =
-      said_leads b (asking_target source from to) said (says.Info info) n (claim_of b m (steps.Copy from to)) same
-      (subst (λ (x : Machine). Leads (way_of b) (copied source info from to) x (claim_of b m (steps.Copy from to))) (sym stays)
-      (copied_so source info other node (source.regular && (pointwise nat_eq from to || is_same_node source info)) what at there
-      (of_some (look m.tree other) node (λ x. Describes x (m.inodes other) info) there fits) refl))
+  -- where the copy goes on over a file
+  abbrev next : Bool → FileInfo → Stage
+  next through source = if through then resolving source.inode from to else place_fresh source.inode from to
 
-  target_failed : (source : FileInfo) (why : ErrorKind) (said : CallResult) (n : Machine) → said ≡ says.Failed why → n ≡ m → Leads (way_of b) (after (asking_target source from to) said) n (claim_of b m (steps.Copy from to))
-  target_failed source why said n same stays =
-      said_leads b (asking_target source from to) said (says.Failed why) n (claim_of b m (steps.Copy from to)) same
-      (subst (λ (x : Machine). Leads (way_of b) (only (asks.CopyFile from to)) x (claim_of b m (steps.Copy from to))) (sym stays) copy_call)
+  over_file : (through : Bool) (source target : FileInfo) (other : Names) (more bytes : List ℕ) (same regular : Bool) (is : Source m from source bytes) → found m.tree to ≡ Ok other → look m.tree other ≡ Some (File more)
+      → Describes (File more) (m.inodes other) target → (pointwise nat_eq from to || is_same_node source target) ≡ same → target.regular ≡ regular → Leads (way_of b) (next through source) m P
+      → Leads (way_of b) (if same then over (says.Count source.size) else if not regular then only (asks.CopyFile from to) else next through source) m P
+  over_file through source target other more bytes true regular is at there shown same_is regular_is goes =
+      one_file source target other (File more) bytes is at there shown (either_true (pointwise nat_eq from to) (is_same_node source target) same_is)
+  over_file through source target other more bytes false true is at there shown same_is regular_is goes = goes
+  over_file through source target other more bytes false false is at there shown same_is regular_is goes =
+      absurd (let wrong : true ≡ false = sym shown.regular ∙ regular_is in cc)
 
-  target_found : (v : View m.tree to) (source : FileInfo) → SourceIs m from source → (said : CallResult) (n : Machine) → ShowsEnd (found m.tree to) m said n
-      → Leads (way_of b) (after (asking_target source from to) said) n (claim_of b m (steps.Copy from to))
-  target_found (nowhere fault is file) source what said n shows =
-      let refused : IsRefused fault m said n = subst (λ (r : Result Names Fault). ShowsEnd r m said n) is shows in
-      target_failed source refused.0 said n refused.1 refused.4
-  target_found (a_folder names l is stands file) source what said n shows =
-      target_shown source names Folder what said n is stands (subst (λ (r : Result Names Fault). ShowsEnd r m said n) is shows)
-  target_found (a_file names bytes l is stands file) source what said n shows =
-      target_shown source names (File bytes) what said n is stands (subst (λ (r : Result Names Fault). ShowsEnd r m said n) is shows)
+  abbrev kept_or : Bool → FileInfo → FileInfo → Stage
+  kept_or through source target =
+      if pointwise nat_eq from to || is_same_node source target then over (says.Count source.size)
+      else if not target.regular then only (asks.CopyFile from to) else next through source
 
-  target_leads : (source : FileInfo) → SourceIs m from source → Leads (way_of b) (asking_target source from to) m (claim_of b m (steps.Copy from to))
-  target_leads source what =
-      call_leads (way_of b) (asking_target source from to) (asks.Stat to) m (claim_of b m (steps.Copy from to)) refl (λ end never. absurd never) (λ said n happens.
+  copied_over : (through : Bool) (source target : FileInfo) (other : Names) (more bytes : List ℕ) (is : Source m from source bytes) → found m.tree to ≡ Ok other → look m.tree other ≡ Some (File more)
+      → Describes (File more) (m.inodes other) target → Leads (way_of b) (next through source) m P → Leads (way_of b) (copied through source target from to) m P
+  copied_over through source target other more bytes is at there shown goes =
+      wanted_file b target.kind (kept_or through source target) m P shown.kind
+      (over_file through source target other more bytes (pointwise nat_eq from to || is_same_node source target) target.regular is at there shown refl refl goes)
+
+  copied_folder : (through : Bool) (source target : FileInfo) (bytes : List ℕ) (inode : ℕ × ℕ) → file_at m.tree from InvalidInput ≡ Ok bytes → writable m.tree to ≡ Err IsADirectory → Describes Folder inode target
+      → Leads (way_of b) (copied through source target from to) m P
+  copied_folder through source target bytes inode read refused shown =
+      refused_folder b target.kind (kept_or through source target) m P shown.kind (fails_plain IsADirectory kind.IsADirectory m (refused_target bytes IsADirectory read refused) refl refl)
+
+  resolve_leads : (source : FileInfo) (names : Names) (bytes more : List ℕ) (is : Source m from source bytes) → found m.tree to ≡ Ok names → look m.tree names ≡ Some (File more) → writable m.tree to ≡ Ok names
+      → Leads (way_of b) (resolving source.inode from to) m P
+  resolve_leads source names bytes more is at there target =
+      call_leads (way_of b) (resolving source.inode from to) (asks.RealPath to) m P refl (λ end never. absurd never) (λ said n happens.
       ⊎_elim
-      (λ (most, all, well). target_found (view m.tree to) source what said n well)
-      (λ (broke, why, same, fine, part, left). target_failed source why said n same left)
+      (λ (most, all, well).
+      let spelt : SpellsEnd (Ok names) m said n = subst (λ (r : Result Names Fault). SpellsEnd r m said n) at well in
+      let (text, same, spells, stays) = spelt in
+      said_leads b (resolving source.inode from to) said (says.Bytes text) n P same
+      (subst (λ (x : Machine). Leads (way_of b) (place_fresh source.inode from text) x P) (sym stays)
+      (place_leads text bytes names (record {
+        source = is.names;
+        led = is.led;
+        stands = is.stands;
+        read = is.read;
+        target = target;
+        placed = spells.stands;
+        replaced = ap (λ (o : Option Node). where_no_folder o names) there;
+        ends = spells.ends;
+      }) source.inode)))
+      (λ (broke, why, same, fine, part, left).
+      said_leads b (resolving source.inode from to) said (says.Failed why) n P same
+      (over_leads (way_of b) (says.Failed why) n P (broke_same why n broke fine (ap (λ (x : Machine). x.tree) left))))
+      (cases_of b m (asks.RealPath to) said n happens))
+
+  -- a link that leads to nothing
+  end_leads : (source : FileInfo) (bytes : List ℕ) (fault : Fault) → file_at m.tree from InvalidInput ≡ Ok bytes → writable m.tree to ≡ Err fault → Leads (way_of b) (making_end source.inode from to) m P
+  end_leads source bytes fault read refused =
+      call_leads (way_of b) (making_end source.inode from to) (asks.OpenToAppend to) m P refl (λ end never. absurd never) (λ said n happens.
+      ⊎_elim
+      (λ (most, all, well).
+      let is : IsRefused fault m said n = subst (λ (r : Result Names Fault). OpensIf r (with_empty m.tree) m said n) refused well in
+      said_leads b (making_end source.inode from to) said (says.Failed is.0) n P is.1
+      (over_leads (way_of b) (says.Failed is.0) n P (fails_plain fault is.0 n (refused_target bytes fault read refused) is.2 (ap (λ (x : Machine). x.tree) is.4))))
+      (λ (broke, why, same, fine, part, left).
+      said_leads b (making_end source.inode from to) said (says.Failed why) n P same
+      (over_leads (way_of b) (says.Failed why) n P (broke_same why n broke fine (ap (λ (x : Machine). x.tree) left))))
+      (cases_of b m (asks.OpenToAppend to) said n happens))
+
+  end_if : (source : FileInfo) (bytes : List ℕ) (fault : Fault) (why : ErrorKind) (c : Bool) → file_at m.tree from InvalidInput ≡ Ok bytes → writable m.tree to ≡ Err fault → P (says.Failed why) m
+      → Leads (way_of b) (if c then making_end source.inode from to else over (says.Failed why)) m P
+  end_if source bytes fault why true read refused holds = end_leads source bytes fault read refused
+  end_if source bytes fault why false read refused holds = over_leads (way_of b) (says.Failed why) m P holds
+
+  broke_if : (s : Stage) (why : ErrorKind) (n : Machine) (c : Bool) → b ≡ false → misses why ≡ false → is_absent why ≡ c → n.tree ≡ m.tree
+      → Leads (way_of b) (if c then s else over (says.Failed why)) n P
+  broke_if s why n true broke fine is stays = absurd (let wrong : false ≡ true = sym (not_absent why fine) ∙ is in cc)
+  broke_if s why n false broke fine is stays = over_leads (way_of b) (says.Failed why) n P (broke_same why n broke fine stays)
+
+  end_found : (v : View m.tree to) (source : FileInfo) (link : Names) (node : Node) (bytes : List ℕ) (is : Source m from source bytes) → place m.tree to ≡ Ok link → look m.tree link ≡ Some node → (said : CallResult) (n : Machine)
+      → ShowsEnd (found m.tree to) m said n → Leads (way_of b) (after (asking_end source from to) said) n P
+  end_found (nowhere fault at file) source link node bytes is placed there said n shows =
+      let refused_so : IsRefused fault m said n = subst (λ (r : Result Names Fault). ShowsEnd r m said n) at shows in
+      let (why, same, of, memory, stays) = refused_so in
+      let refused = dangling m.tree to link node fault placed there at in
+      said_leads b (asking_end source from to) said (says.Failed why) n P same
+      (subst (λ (x : Machine). Leads (way_of b) (if is_absent why then making_end source.inode from to else over (says.Failed why)) x P) (sym stays)
+      (end_if source bytes fault why (is_absent why) is.read refused (fails_plain fault why m (refused_target bytes fault is.read refused) of refl)))
+  end_found (a_folder names l at stands file) source link node bytes is placed there said n shows =
+      let shown_so : ShowsNode names m said n = subst (λ (r : Result Names Fault). ShowsEnd r m said n) at shows in
+      let (info, same, fits, stays) = shown_so in
+      said_leads b (asking_end source from to) said (says.Info info) n P same
+      (subst (λ (x : Machine). Leads (way_of b) (copied true source info from to) x P) (sym stays)
+      (copied_folder true source info bytes (m.inodes names) is.read (writable_at m.tree to (Ok names) l ∙ ap (λ (o : Option Node). where_no_folder o names) stands)
+      (of_some (look m.tree names) Folder (λ x. Describes x (m.inodes names) info) stands fits)))
+  end_found (a_file names more l at stands file) source link node bytes is placed there said n shows =
+      let shown_so : ShowsNode names m said n = subst (λ (r : Result Names Fault). ShowsEnd r m said n) at shows in
+      let (info, same, fits, stays) = shown_so in
+      said_leads b (asking_end source from to) said (says.Info info) n P same
+      (subst (λ (x : Machine). Leads (way_of b) (copied true source info from to) x P) (sym stays)
+      (copied_over true source info names more bytes is at stands (of_some (look m.tree names) (File more) (λ x. Describes x (m.inodes names) info) stands fits)
+      (resolve_leads source names bytes more is at stands (writable_found m.tree to names more at stands))))
+
+  asking_leads : (source : FileInfo) (link : Names) (node : Node) (bytes : List ℕ) (is : Source m from source bytes) → place m.tree to ≡ Ok link → look m.tree link ≡ Some node → Leads (way_of b) (asking_end source from to) m P
+  asking_leads source link node bytes is placed there =
+      call_leads (way_of b) (asking_end source from to) (asks.Stat to) m P refl (λ end never. absurd never) (λ said n happens.
+      ⊎_elim
+      (λ (most, all, well). end_found (view m.tree to) source link node bytes is placed there said n well)
+      (λ (broke, why, same, fine, part, left).
+      said_leads b (asking_end source from to) said (says.Failed why) n P same
+      (broke_if (making_end source.inode from to) why n (is_absent why) broke fine refl (ap (λ (x : Machine). x.tree) left)))
       (cases_of b m (asks.Stat to) said n happens))
 
-  source_shown : (info : FileInfo) (said : CallResult) (n : Machine) → said ≡ says.Info info → n ≡ m → SourceIs m from info → Leads (way_of b) (after (asking_source from to) said) n (claim_of b m (steps.Copy from to))
-  source_shown info said n same stays what =
-      said_leads b (asking_source from to) said (says.Info info) n (claim_of b m (steps.Copy from to)) same
-      (subst (λ (x : Machine). Leads (way_of b) (asking_target info from to) x (claim_of b m (steps.Copy from to))) (sym stays) (target_leads info what))
+  -- ---- nothing stands at the target
 
-  source_found : (v : View m.tree from) (said : CallResult) (n : Machine) → ShowsEnd (found m.tree from) m said n → Leads (way_of b) (after (asking_source from to) said) n (claim_of b m (steps.Copy from to))
+  -- its folder is missing: no fresh file can be made there
+  missing_leads : (left number : ℕ) (bytes : List ℕ) (ns : Names) → file_at m.tree from InvalidInput ≡ Ok bytes → writable m.tree to ≡ Err NotFound → names_of to ≡ Ok ns → place m.tree to ≡ Err NotFound
+      → Leads (way_of b) (making_fresh left number from to) m P
+  missing_leads left number bytes ns read refused named at =
+      let k = fresh_number left number in
+      let side = placed_beside m.tree to (fresh_name k) ns named can.ends (fresh_proper k) in
+      let none : place m.tree (fresh_beside to k) ≡ Err NotFound = no_place side.fault (side.front ++ side.last ∷ []) (side.front ++ fresh_name k ∷ []) (place m.tree (fresh_beside to k)) (sym side.own ∙ at) side.other in
+      let fails : apply m.tree (steps.Copy from to) Plain ≡ outcome (failed NotFound) m.tree = refused_target bytes NotFound read refused in
+      call_leads (way_of b) (making_fresh left number from to) (asks.CreateNew (fresh_beside to k) 384) m P refl (λ end never. absurd never) (λ said n happens.
+      ⊎_elim
+      (λ (most, all, well).
+      let is : IsRefused NotFound m said n
+      = subst (λ (r : Result Names Fault). OpensIf r (λ x. put m.tree x (File [])) m said n) (free_at_place m.tree (fresh_beside to k) (Err NotFound) none) well in
+      said_leads b (making_fresh left number from to) said (says.Failed is.0) n P is.1
+      (subst (λ (s : Stage). Leads (way_of b) s n P) (sym (not_taken left number is.0 from to (not_taken_fault is.0 is.2)))
+      (over_leads (way_of b) (says.Failed is.0) n P (fails_plain NotFound is.0 n fails is.2 (ap (λ (x : Machine). x.tree) is.4)))))
+      (λ (broke, why, same, fine, part, left_there).
+      let told : Some NotFound ≡ None = ap (λ (r : PlainAnswer × Tree). fault_told r.0) (sym fails) ∙ done broke in
+      absurd cc)
+      (cases_of b m (asks.CreateNew (fresh_beside to k) 384) said n happens))
+
+  no_place_leads : (source : FileInfo) (bytes : List ℕ) (fault : Fault) (why : ErrorKind) (n : Machine) (c : Bool) (r : Result Names Fault) (is : Source m from source bytes) → place m.tree to ≡ Err fault → writable m.tree to ≡ Err fault
+      → fault_of why ≡ fault → n ≡ m → is_absent why ≡ c → names_of to ≡ r → Leads (way_of b) (if c then place_fresh source.inode from to else over (says.Failed why)) n P
+  no_place_leads source bytes fault why n false r is at refused of stays absent named =
+      over_leads (way_of b) (says.Failed why) n P (fails_plain fault why n (refused_target bytes fault is.read refused) of (ap (λ (x : Machine). x.tree) stays))
+  no_place_leads source bytes fault why n true (Ok ns) is at refused of stays absent named =
+      let missing : fault ≡ NotFound = sym of ∙ absent_fault why absent in
+      subst (λ (x : Machine). Leads (way_of b) (place_fresh source.inode from to) x P) (sym stays)
+      (taking_leads (way_of b) (making_fresh 255 source.inode from to) m P memory_same
+      (missing_leads 255 source.inode bytes ns is.read
+      (refused ∙ ap (λ (f : Fault). let r : Result Names Fault = Err f in r) missing) named (at ∙ ap (λ (f : Fault). let r : Result Names Fault = Err f in r) missing)))
+  no_place_leads source bytes fault why n true (Err other) is at refused of stays absent named =
+      absurd (unnamed to other named can.ends (sym (placed_as m.tree to (Err other) named) ∙ at ∙ ap (λ (f : Fault). let r : Result Names Fault = Err f in r) (sym of ∙ absent_fault why absent)))
+
+  free_leads : (source : FileInfo) (names : Names) (bytes : List ℕ) (why : ErrorKind) (n : Machine) (c : Bool) (is : Source m from source bytes) → place m.tree to ≡ Ok names → look m.tree names ≡ None → writable m.tree to ≡ Ok names
+      → fault_of why ≡ NotFound → is_absent why ≡ c → n ≡ m → Leads (way_of b) (if c then place_fresh source.inode from to else over (says.Failed why)) n P
+  free_leads source names bytes why n false is at none target of absent stays = absurd (let wrong : true ≡ false = sym (fault_absent why of) ∙ absent in cc)
+  free_leads source names bytes why n true is at none target of absent stays =
+      subst (λ (x : Machine). Leads (way_of b) (place_fresh source.inode from to) x P) (sym stays)
+      (place_leads to bytes names (record {
+        source = is.names;
+        led = is.led;
+        stands = is.stands;
+        read = is.read;
+        target = target;
+        placed = at;
+        replaced = ap (λ (o : Option Node). where_no_folder o names) none;
+        ends = can.ends;
+      }) source.inode)
+
+  -- ---- the target
+
+  link_if : (k : Kind) (source target : FileInfo) (s : Stage) (c : Bool) (n : Machine) → is_link k ≡ c → Leads (way_of b) (if c then asking_end source from to else s) n P → Leads (way_of b) (if is_link k then asking_end source from to else s) n P
+  link_if k source target s c n is leads = subst (λ (x : Bool). Leads (way_of b) (if x then asking_end source from to else s) n P) (sym is) leads
+
+  target_stands : (v : Stands m.tree to) (source : FileInfo) (bytes : List ℕ) (is : Source m from source bytes) (said : CallResult) (n : Machine) → ShowsEnd (standing m.tree to) m said n
+      → Leads (way_of b) (after (asking_target source from to) said) n P
+  target_stands (no_way fault at shown refused) source bytes is said n shows =
+      let refused_so : IsRefused fault m said n = subst (λ (r : Result Names Fault). ShowsEnd r m said n) shown shows in
+      let (why, same, of, memory, stays) = refused_so in
+      said_leads b (asking_target source from to) said (says.Failed why) n P same
+      (no_place_leads source bytes fault why n (is_absent why) (names_of to) is at refused of stays refl refl)
+  target_stands (nothing names at none shown target) source bytes is said n shows =
+      let refused_so : IsRefused NotFound m said n = subst (λ (r : Result Names Fault). ShowsEnd r m said n) shown shows in
+      let (why, same, of, memory, stays) = refused_so in
+      said_leads b (asking_target source from to) said (says.Failed why) n P same
+      (free_leads source names bytes why n (is_absent why) is at none target of refl stays)
+  target_stands (a_folder_here names there shown at refused) source bytes is said n shows =
+      let shown_so : ShowsNode names m said n = subst (λ (r : Result Names Fault). ShowsEnd r m said n) shown shows in
+      let (info, same, fits, stays) = shown_so in
+      let described = of_some (look m.tree names) Folder (λ x. Describes x (m.inodes names) info) there fits in
+      said_leads b (asking_target source from to) said (says.Info info) n P same
+      (subst (λ (x : Machine). Leads (way_of b) (target_known source info from to) x P) (sym stays)
+      (link_if info.kind source info (copied false source info from to) false m (ap is_link described.kind)
+      (copied_folder false source info bytes (m.inodes names) is.read refused described)))
+  target_stands (a_file_here names more placed there shown at target) source bytes is said n shows =
+      let shown_so : ShowsNode names m said n = subst (λ (r : Result Names Fault). ShowsEnd r m said n) shown shows in
+      let (info, same, fits, stays) = shown_so in
+      let described = of_some (look m.tree names) (File more) (λ x. Describes x (m.inodes names) info) there fits in
+      said_leads b (asking_target source from to) said (says.Info info) n P same
+      (subst (λ (x : Machine). Leads (way_of b) (target_known source info from to) x P) (sym stays)
+      (link_if info.kind source info (copied false source info from to) false m (ap is_link described.kind)
+      (copied_over false source info names more bytes is at there described
+      (place_leads to bytes names (record {
+        source = is.names;
+        led = is.led;
+        stands = is.stands;
+        read = is.read;
+        target = target;
+        placed = placed;
+        replaced = ap (λ (o : Option Node). where_no_folder o names) there;
+        ends = can.ends;
+      }) source.inode))))
+  target_stands (a_link_here names leads_to placed there shown) source bytes is said n shows =
+      let shown_so : ShowsNode names m said n = subst (λ (r : Result Names Fault). ShowsEnd r m said n) shown shows in
+      let (info, same, fits, stays) = shown_so in
+      let described = of_some (look m.tree names) (Link leads_to) (λ x. Describes x (m.inodes names) info) there fits in
+      said_leads b (asking_target source from to) said (says.Info info) n P same
+      (subst (λ (x : Machine). Leads (way_of b) (target_known source info from to) x P) (sym stays)
+      (link_if info.kind source info (copied false source info from to) true m (ap is_link described.kind) (asking_leads source names (Link leads_to) bytes is placed there)))
+
+  target_leads : (source : FileInfo) (bytes : List ℕ) → Source m from source bytes → Leads (way_of b) (asking_target source from to) m P
+  target_leads source bytes is =
+      call_leads (way_of b) (asking_target source from to) (asks.StatLink to) m P refl (λ end never. absurd never) (λ said n happens.
+      ⊎_elim
+      (λ (most, all, well). target_stands (stands_so m.tree to (place m.tree to) refl) source bytes is said n well)
+      (λ (broke, why, same, fine, part, left).
+      said_leads b (asking_target source from to) said (says.Failed why) n P same
+      (broke_if (place_fresh source.inode from to) why n (is_absent why) broke fine refl (ap (λ (x : Machine). x.tree) left)))
+      (cases_of b m (asks.StatLink to) said n happens))
+
+  -- ---- the source
+
+  regular_if : (source : FileInfo) (s : Stage) (c : Bool) (n : Machine) → source.regular ≡ c → Leads (way_of b) (if c then s else over (says.Failed kind.InvalidInput)) n P
+      → Leads (way_of b) (if source.regular then s else over (says.Failed kind.InvalidInput)) n P
+  regular_if source s c n is leads = subst (λ (x : Bool). Leads (way_of b) (if x then s else over (says.Failed kind.InvalidInput)) n P) (sym is) leads
+
+  source_found : (v : View m.tree from) (said : CallResult) (n : Machine) → ShowsEnd (found m.tree from) m said n → Leads (way_of b) (after (asking_source from to) said) n P
   source_found (nowhere fault is file) said n shows =
-      let refused : IsRefused fault m said n = subst (λ (r : Result Names Fault). ShowsEnd r m said n) is shows in
-      said_leads b (asking_source from to) said (says.Failed refused.0) n (claim_of b m (steps.Copy from to)) refused.1
-      (over_leads (way_of b) (says.Failed refused.0) n (claim_of b m (steps.Copy from to))
-      (claim_plain b m (steps.Copy from to) done (says.Failed refused.0) n
-      (apply_copy m.tree from to (Err fault) (writable m.tree to) (file InvalidInput) refl
-      ∙ table_fails (steps.Copy from to) fault refused.0 m n refl refused.2 refused.3 (ap (λ (x : Machine). x.tree) refused.4))))
+      let refused_so : IsRefused fault m said n = subst (λ (r : Result Names Fault). ShowsEnd r m said n) is shows in
+      let (why, same, of, memory, stays) = refused_so in
+      said_leads b (asking_source from to) said (says.Failed why) n P same
+      (over_leads (way_of b) (says.Failed why) n P
+      (fails_plain fault why n (apply_copy m.tree from to (Err fault) (writable m.tree to) (file InvalidInput) refl) of (ap (λ (x : Machine). x.tree) stays)))
   source_found (a_folder names l is stands file) said n shows =
-      let shown : ShowsNode names m said n = subst (λ (r : Result Names Fault). ShowsEnd r m said n) is shows in
-      let described : Describes Folder (m.inodes names) shown.0 = of_some (look m.tree names) Folder (λ x. Describes x (m.inodes names) shown.0) stands shown.2 in
-      source_shown shown.0 said n shown.1 shown.3 (inl described.regular)
+      let shown_so : ShowsNode names m said n = subst (λ (r : Result Names Fault). ShowsEnd r m said n) is shows in
+      let (info, same, fits, stays) = shown_so in
+      let described = of_some (look m.tree names) Folder (λ x. Describes x (m.inodes names) info) stands fits in
+      said_leads b (asking_source from to) said (says.Info info) n P same
+      (regular_if info (asking_target info from to) false n described.regular
+      (over_leads (way_of b) (says.Failed kind.InvalidInput) n P
+      (fails_plain InvalidInput kind.InvalidInput n (apply_copy m.tree from to (Err InvalidInput) (writable m.tree to) (file InvalidInput) refl) refl (ap (λ (x : Machine). x.tree) stays))))
   source_found (a_file names bytes l is stands file) said n shows =
-      let shown : ShowsNode names m said n = subst (λ (r : Result Names Fault). ShowsEnd r m said n) is shows in
-      let described : Describes (File bytes) (m.inodes names) shown.0 = of_some (look m.tree names) (File bytes) (λ x. Describes x (m.inodes names) shown.0) stands shown.2 in
-      source_shown shown.0 said n shown.1 shown.3 (inr (names, bytes, is, stands, described))
+      let shown_so : ShowsNode names m said n = subst (λ (r : Result Names Fault). ShowsEnd r m said n) is shows in
+      let (info, same, fits, stays) = shown_so in
+      let described = of_some (look m.tree names) (File bytes) (λ x. Describes x (m.inodes names) info) stands fits in
+      said_leads b (asking_source from to) said (says.Info info) n P same
+      (subst (λ (x : Machine). Leads (way_of b) (source_known info from to) x P) (sym stays)
+      (regular_if info (asking_target info from to) true m described.regular
+      (target_leads info bytes (record { names = names; led = l; is = is; stands = stands; read = file InvalidInput; described = described }))))
 
-  copy_leads : Leads (way_of b) (asking_source from to) m (claim_of b m (steps.Copy from to))
+  copy_leads : Leads (way_of b) (asking_source from to) m P
   copy_leads =
-      call_leads (way_of b) (asking_source from to) (asks.Stat from) m (claim_of b m (steps.Copy from to)) refl (λ end never. absurd never) (λ said n happens.
+      call_leads (way_of b) (asking_source from to) (asks.Stat from) m P refl (λ end never. absurd never) (λ said n happens.
       ⊎_elim
       (λ (most, all, well). source_found (view m.tree from) said n well)
       (λ (broke, why, same, fine, part, left).
-      said_leads b (asking_source from to) said (says.Failed why) n (claim_of b m (steps.Copy from to)) same
-      (over_leads (way_of b) (says.Failed why) n (claim_of b m (steps.Copy from to))
-      (claim_broken b m (steps.Copy from to) done why n broke refl fine (ap (λ (x : Machine). x.tree) left))))
+      said_leads b (asking_source from to) said (says.Failed why) n P same
+      (over_leads (way_of b) (says.Failed why) n P (broke_same why n broke fine (ap (λ (x : Machine). x.tree) left))))
       (cases_of b m (asks.Stat from) said n happens))
 
 pub copy_agrees : CopyAgrees
-copy_agrees m hint from to apart = agrees_of m hint (steps.Copy from to) (λ b done. copy_leads b m from to apart done)
+copy_agrees m hint from to can = record {
+  plainly = λ clear. copy_leads true m from to can (λ e. absurd cc) (λ e. clear);
+  breaking = λ done. copy_leads false m from to can (λ e. done) (λ e. absurd cc);
+}

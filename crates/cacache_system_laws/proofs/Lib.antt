@@ -11,6 +11,8 @@ mod Removing
 mod Trying
 mod Reading
 mod Writing
+mod Fresh
+mod CopyFacts
 mod Copying
 mod Whole
 mod Slashes

@@ -1,12 +1,12 @@
 -- Each call can go well.
 use Rattle.std.proofs.Common.{◌≡◌, ◌+◌, ℕ, List, [], ◌∷◌, ◌++◌, length, take, drop, refl, sym, ap, subst, inr}
-use Rattle.std.specs.Prelude.{Option, None, Some, Result, Ok, Err, IfSome, MatchResult}
+use Rattle.std.specs.Prelude.{Option, None, Some, Result, Ok, Err, IfSome, IfOk, MatchResult}
 use Rattle.cacache_core.specs.{declared.errors.Fault.{Fault, TheVariants.{IsADirectory, InvalidInput}}, PathNames.{Names}}
 use Rattle.cacache_disk.specs.{declared.node.Node.{Node, TheVariants.{Folder, File, Link}}, Tree.{Tree, look, put, cut, kind_of, listing}, LedTo.{place, standing, found, file_at, writable, free, replaceable, linked, removable, emptied}, Apply.{taken, readable, lengthened}}
 use Rattle.cacache_system.specs.declared.call.{FileInfo.{FileInfo}, CallResult.{CallResult}}
 use Rattle.cacache_system.specs.declared.call.SystemCall.TheVariants as asks
 use Rattle.cacache_system.specs.declared.call.CallResult.TheVariants as says
-use Rattle.cacache_system_laws.specs.{Machine.{OpenFile, Machine, Became, IsRefused, ChangesTree, OpensIf, with_file, unread, is_regular, Describes, ShowsNode, ShowsEnd, ReadsFile, link_fault, LinksNode, CopiesBytes, CopiesTo, MovesNode, with_empty}, Folders.{GivesNames, ended, HasLeft, OpensNames, OpensFolder, ReadsSome}, Meeting.{HasRoom, CallsCanGoWell}}
+use Rattle.cacache_system_laws.specs.{Machine.{OpenFile, Machine, Became, IsRefused, ChangesTree, OpensIf, with_file, unread, is_regular, Describes, ShowsNode, ShowsEnd, ReadsFile, link_fault, LinksNode, CopiesBytes, CopiesTo, MovesNode, with_empty, Spells, SpellsEnd}, Folders.{GivesNames, ended, HasLeft, OpensNames, OpensFolder, ReadsSome}, Meeting.{HasRoom, CallsCanGoWell}}
 use Rattle.cacache_system_laws.proofs.Saying.{CanSay, a_folder, Sayable, place_say, standing_say, found_say, writable_say, free_say, replaceable_say, removable_say, emptied_say, file_say, LinkSayable, linked_say}
 use Rattle.cacache_store.specs.declared.store.answer.Name.{Name}
 
@@ -126,29 +126,34 @@ can_read_names m number None = (says.Done, m, tt)
 can_read_names m number (Some left) =
     (says.Bytes (ended left), folders_on m [], (left, [], append-none left, (λ _. refl), refl, has_left m number []))
 
+can_spell : (m : Machine) (ends : Result Names Fault) → Sayable ends → IfOk ends (λ names. (text : List ℕ) × Spells m.tree text names) → Can (SpellsEnd ends m)
+can_spell m (Ok names) can (text, spells) = (says.Bytes text, m, (text, refl, spells, refl))
+can_spell m (Err fault) can spelt = can_refuse fault m can
+
 pub calls_can_go_well : CallsCanGoWell
-calls_can_go_well most m (asks.OpenToRead path) room = can_open m (found m.tree path) (λ names. m.tree) room (found_say m.tree path)
-calls_can_go_well most m (asks.CreateNew path mode) room = can_open m (free m.tree path) (λ names. put m.tree names (File [])) room (free_say m.tree path)
-calls_can_go_well most m (asks.OpenToAppend path) room = can_open m (writable m.tree path) (with_empty m.tree) room (writable_say m.tree path)
-calls_can_go_well most m (asks.Read number size) room =
+calls_can_go_well most m (asks.OpenToRead path) room spelt = can_open m (found m.tree path) (λ names. m.tree) room (found_say m.tree path)
+calls_can_go_well most m (asks.CreateNew path mode) room spelt = can_open m (free m.tree path) (λ names. put m.tree names (File [])) room (free_say m.tree path)
+calls_can_go_well most m (asks.OpenToAppend path) room spelt = can_open m (writable m.tree path) (with_empty m.tree) room (writable_say m.tree path)
+calls_can_go_well most m (asks.Read number size) room spelt =
     of_open (m.files number) (λ file. ReadsFile (take (readable most size)) number file (look m.tree file.names) m) m (λ file. can_read m (take (readable most size)) number file (look m.tree file.names))
-calls_can_go_well most m (asks.ReadRest number) room =
+calls_can_go_well most m (asks.ReadRest number) room spelt =
     of_open (m.files number) (λ file. ReadsFile (λ bytes. bytes) number file (look m.tree file.names) m) m (λ file. can_read m (λ bytes. bytes) number file (look m.tree file.names))
-calls_can_go_well most m (asks.Write number bytes) room =
+calls_can_go_well most m (asks.Write number bytes) room spelt =
     of_open (m.files number) (λ file said after. (said ≡ says.Count (taken most bytes)) × Became (lengthened m.tree file.names (take (taken most bytes) bytes)) m.files m.synced after) m
     (λ file. (says.Count (taken most bytes), standing_on m (lengthened m.tree file.names (take (taken most bytes) bytes)), (refl, (refl, refl, refl))))
-calls_can_go_well most m (asks.Sync number) room =
+calls_can_go_well most m (asks.Sync number) room spelt =
     of_open (m.files number) (λ file said after. (said ≡ says.Done) × Became m.tree m.files ((file.names, look m.tree file.names) ∷ m.synced) after) m
     (λ file. (says.Done, record { tree = m.tree; files = m.files; synced = (file.names, look m.tree file.names) ∷ m.synced; inodes = m.inodes; folders = m.folders }, (refl, (refl, refl, refl))))
-calls_can_go_well most m (asks.StatFile number) room = of_open (m.files number) (λ file. ShowsNode file.names m) m (λ file. can_show_node m file.names (look m.tree file.names) refl)
-calls_can_go_well most m (asks.Stat path) room = can_show m (found m.tree path) (found_say m.tree path)
-calls_can_go_well most m (asks.StatLink path) room = can_show m (standing m.tree path) (standing_say m.tree path)
-calls_can_go_well most m (asks.Rename from to) room = can_rename m (place m.tree from) (replaceable m.tree to) (place_say m.tree from) (replaceable_say m.tree to)
-calls_can_go_well most m (asks.MakeFolder path) room = can_change m (free m.tree path) (λ names. put m.tree names Folder) (free_say m.tree path)
-calls_can_go_well most m (asks.RemoveFile path) room = can_change m (removable m.tree path) (cut m.tree) (removable_say m.tree path)
-calls_can_go_well most m (asks.RemoveFolder path) room = can_change m (emptied m.tree path) (cut m.tree) (emptied_say m.tree path)
-calls_can_go_well most m (asks.Symlink target path) room = can_change m (free m.tree path) (λ names. put m.tree names (Link target)) (free_say m.tree path)
-calls_can_go_well most m (asks.HardLink from to) room = can_link m (linked m.tree from) (free m.tree to) (linked_say m.tree from) (free_say m.tree to)
-calls_can_go_well most m (asks.CopyFile from to) room = can_copy m (file_at m.tree from InvalidInput) (writable m.tree to) (file_say m.tree from) (writable_say m.tree to)
-calls_can_go_well most m (asks.OpenFolder path) room = can_open_folder m (standing m.tree path) (standing_say m.tree path)
-calls_can_go_well most m (asks.ReadNames number size) room = can_read_names m number (m.folders number)
+calls_can_go_well most m (asks.StatFile number) room spelt = of_open (m.files number) (λ file. ShowsNode file.names m) m (λ file. can_show_node m file.names (look m.tree file.names) refl)
+calls_can_go_well most m (asks.Stat path) room spelt = can_show m (found m.tree path) (found_say m.tree path)
+calls_can_go_well most m (asks.StatLink path) room spelt = can_show m (standing m.tree path) (standing_say m.tree path)
+calls_can_go_well most m (asks.Rename from to) room spelt = can_rename m (place m.tree from) (replaceable m.tree to) (place_say m.tree from) (replaceable_say m.tree to)
+calls_can_go_well most m (asks.MakeFolder path) room spelt = can_change m (free m.tree path) (λ names. put m.tree names Folder) (free_say m.tree path)
+calls_can_go_well most m (asks.RemoveFile path) room spelt = can_change m (removable m.tree path) (cut m.tree) (removable_say m.tree path)
+calls_can_go_well most m (asks.RemoveFolder path) room spelt = can_change m (emptied m.tree path) (cut m.tree) (emptied_say m.tree path)
+calls_can_go_well most m (asks.Symlink target path) room spelt = can_change m (free m.tree path) (λ names. put m.tree names (Link target)) (free_say m.tree path)
+calls_can_go_well most m (asks.HardLink from to) room spelt = can_link m (linked m.tree from) (free m.tree to) (linked_say m.tree from) (free_say m.tree to)
+calls_can_go_well most m (asks.CopyFile from to) room spelt = can_copy m (file_at m.tree from InvalidInput) (writable m.tree to) (file_say m.tree from) (writable_say m.tree to)
+calls_can_go_well most m (asks.OpenFolder path) room spelt = can_open_folder m (standing m.tree path) (standing_say m.tree path)
+calls_can_go_well most m (asks.ReadNames number size) room spelt = can_read_names m number (m.folders number)
+calls_can_go_well most m (asks.RealPath path) room spelt = can_spell m (found m.tree path) (found_say m.tree path) spelt

@@ -53,7 +53,7 @@ broken_so : (step : NumberedStep) (why : ErrorKind) (end : CallResult) (m n : Ma
     → answer_of step end ≡ as_refused step why c
     → misses why ≡ false → n.tree ≡ left_by m.tree (step_on m step) part → (b ≡ false → n.tree ≡ m.tree) → IsDone m step → IsLucky m step end n
 broken_so step why end m n part false true whole memory is fine tree stays done =
-    inr (is ∙ ap (λ (b : Bool). if not b then answers.NoMemory step else answers.Failed (fault_of why)) whole, stays refl)
+    inr (inl (is ∙ ap (λ (b : Bool). if not b then answers.NoMemory step else answers.Failed (fault_of why)) whole, stays refl))
 broken_so step why end m n part true true whole memory is fine tree stays done =
     inl (
       Fail (fault_of why) part,

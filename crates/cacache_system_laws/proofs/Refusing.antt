@@ -1,13 +1,13 @@
 -- Calls that are no run of a step.
-use Rattle.std.proofs.Common.{◌≡◌, ◌&&◌, ◌||◌, ℕ, Bool, true, false, if◌then◌else◌, List, [], ◌∷◌, ◌++◌, refl, ap, subst, ◌∙◌, nat_eq, eq-eqb}
+use Rattle.std.proofs.Common.{◌≡◌, ◌||◌, not, ℕ, Bool, true, false, if◌then◌else◌, List, [], ◌∷◌, ◌++◌, refl, ap, subst, ◌∙◌, nat_eq}
 use Rattle.std.specs.{Cmp.Lexicographic.{pointwise}, Prelude.{None, Some}}
 use Rattle.std_io.specs.declared.io.kind.ErrorKind.TheVariants as kind
 use Rattle.cacache_store.specs.declared.store.answer.Kind.{Kind}
 use Rattle.cacache_store.specs.declared.store.answer.Kind.TheVariants as kinds
-use Rattle.cacache_system.specs.{declared.call.SystemCall.{SystemCall}, CallLog.{item}, CallsOf.{Stage, Runs, over, only, wants, if_folder, descend, compared, is_same_node, copied}}
+use Rattle.cacache_system.specs.{declared.call.{FileInfo.{FileInfo}, SystemCall.{SystemCall}, CallItem.{CallItem}, CallResult.{CallResult}}, CallLog.{item}, CallsOf.{Stage, Runs, over, only, wants, if_folder, unless_folder, descend, compared, is_same_node, is_link, asking_target, asking_end, place_fresh}}
 use Rattle.cacache_system.specs.declared.call.SystemCall.TheVariants as asks
 use Rattle.cacache_system.specs.declared.call.CallResult.TheVariants as says
-use Rattle.cacache_system_laws.specs.Refusals.{NoSecondWrite, NoRemovalBeforePut, NoOtherMode, NoOtherSync, NoFileForFolder, NoCopyOntoItself, NoRemovalThroughLink}
+use Rattle.cacache_system_laws.specs.Refusals.{NoSecondWrite, NoRemovalBeforePut, NoOtherMode, NoOtherSync, NoFileForFolder, NoCopyInPlace, NoRemovalThroughLink}
 
 pub no_second_write : NoSecondWrite
 no_second_write path bytes file k j hint end runs =
@@ -37,18 +37,30 @@ no_file_for_folder path file info said rest is hint end runs =
     let none : None ≡ Some (asks.Sync file) = subst (λ (k : Kind). wants (if_folder k kind.NotADirectory (only (asks.Sync file))) ≡ Some (asks.Sync file)) is wanted in
     cc
 
-same_self : (xs : List ℕ) → pointwise nat_eq xs xs ≡ true
-same_self [] = refl
-same_self (x ∷ xs) = ap (λ (b : Bool). b && pointwise nat_eq xs xs) (eq-eqb x x refl) ∙ same_self xs
+filled : FileInfo → List ℕ → List ℕ → Kind → Bool → Bool → Stage
+filled source from to kind regular same =
+    if is_link kind then asking_end source from to
+    else unless_folder kind (if same then over (says.Count source.size) else if not regular then only (asks.CopyFile from to) else place_fresh source.inode from to)
 
-pub no_copy_onto_itself : NoCopyOntoItself
-no_copy_onto_itself path source target said rest regular hint end runs =
-    let wanted : wants (copied source target path path) ≡ Some (asks.CopyFile path path) = runs.1.1.0 in
-    let over_now : (source.regular && (pointwise nat_eq path path || is_same_node source target)) ≡ true
-    = ap (λ (b : Bool). b && (pointwise nat_eq path path || is_same_node source target)) regular ∙ ap (λ (b : Bool). b || is_same_node source target) (same_self path) in
-    let none : None ≡ Some (asks.CopyFile path path)
-    = subst (λ (b : Bool). wants (if b then over (says.Count source.size) else only (asks.CopyFile path path)) ≡ Some (asks.CopyFile path path)) over_now wanted in
-    cc
+not_opened : (source : FileInfo) (from to onto : List ℕ) (kind : Kind) (regular same : Bool) → kind ≡ kinds.File → regular ≡ true
+    → wants (filled source from to kind regular same) ≡ Some (asks.CopyFile from onto) → ⊥
+unfolding filled
+not_opened source from to onto kinds.File true true k r is = cc
+not_opened source from to onto kinds.File true false k r is = cc
+not_opened source from to onto kinds.File false same k r is = cc
+not_opened source from to onto kinds.Folder regular same k r is = cc
+not_opened source from to onto kinds.Link regular same k r is = cc
+
+no_copy_if : (source target : FileInfo) (from to onto : List ℕ) (said end : CallResult) (rest : List CallItem) (c : Bool) → target.kind ≡ kinds.File → target.regular ≡ true
+    → Runs (if c then asking_target source from to else over (says.Failed kind.InvalidInput)) (item (asks.StatLink to) (says.Info target) ∷ item (asks.CopyFile from onto) said ∷ rest) end → ⊥
+unfolding filled
+no_copy_if source target from to onto said end rest true kind regular runs =
+    not_opened source from to onto target.kind target.regular (pointwise nat_eq from to || is_same_node source target) kind regular runs.1.0
+no_copy_if source target from to onto said end rest false kind regular runs = let none : None ≡ Some (asks.StatLink to) = runs.0 in cc
+
+pub no_copy_in_place : NoCopyInPlace
+no_copy_in_place from to onto source target said rest kind regular hint end runs =
+    no_copy_if source target from to onto said end rest source.regular kind regular runs.1
 
 compared_link : (b : Bool) (entered : List (List ℕ)) (call : SystemCall) → compared b kinds.Link entered call ≡ descend entered call
 compared_link true entered call = refl

@@ -1,9 +1,10 @@
 -- The names of the path above.
 use Rattle.std.proofs.{Common.{◌≡◌, ◌⊎◌, ◌≤◌, ◌<◌, ◌==◌, ◌||◌, ℕ, zero, suc, Bool, true, false, cond, if◌then◌else◌, List, [], ◌∷◌, ◌++◌, filter, get_or, take, drop, length, refl, sym, ap, subst, ◌∙◌, inl, inr, arith, append-nil, take-append-drop, drop-cons, drop_of_length-le, eqb-true, ne_eqb, length-take, length-append}, lemmas.List.{Elements.{filter-append}, Folds.{list_any-append}}}
-use Rattle.std.specs.{Prelude.{Option, None, Some, Ok, Err, option_map}, List.{list_any}}
-use Rattle.cacache_core.specs.{declared.errors.Fault.TheVariants.{NotFound, InvalidInput}, PathNames.{Names, names_of, pieces, is_bad, is_above, is_name}}
+use Rattle.std.specs.{Prelude.{Option, None, Some, Result, Ok, Err, option_map}, List.{list_any}}
+use Rattle.cacache_core.specs.{declared.errors.Fault.{Fault, TheVariants.{NotFound, InvalidInput}}, PathNames.{Names, names_of, pieces, is_bad, is_above, is_name, ends_name, IsProperName}}
 use Rattle.cacache_core.proofs.Splits.{split-append, split_none}
-use Rattle.cacache_system.specs.CallsOf.{last_slash, above_of}
+use Rattle.cacache_system.specs.CallsOf.{last_slash, above_of, in_folder}
+use Rattle.cacache_system_laws.specs.Machine.{EndsInName, behind_slash}
 
 -- the last of the first so many bytes that is a slash, if one is
 data Slash (path : List ℕ) (found : Option ℕ) : Type 0 where
@@ -121,3 +122,82 @@ above_so path ns (a_slash i is within cut none) fine same two =
 -- the path of two names or more has one above it
 pub above : (path : List ℕ) (ns : Names) → names_of path ≡ Ok ns → 2 ≤ length ns → Above path ns
 above path ns is two = let n = named path ns is in above_so path ns (slash_of path) n.0 n.1 two
+
+-- ---- names beside a path
+
+-- the names of a path that ends with one, and of what has another name in its folder
+pub record Beside (path : List ℕ) (ns : Names) : Type 0 where
+  pub front : Names
+  pub last : List ℕ
+  pub is : ns ≡ front ++ last ∷ []
+  pub other : (name : List ℕ) → IsProperName name → names_of (in_folder (above_of path) name) ≡ Ok (front ++ name ∷ [])
+
+proper_fine : (name : List ℕ) → list_any ends_name name ≡ false → (list_any (λ b. b == 47) name ≡ false) × (list_any (λ b. b == 0) name ≡ false)
+proper_fine [] e = (refl, refl)
+proper_fine (x ∷ name) e =
+    let parts = or_parts (ends_name x) (list_any ends_name name) e in
+    let ends = or_parts (x == 47) (x == 0) parts.0 in
+    let later = proper_fine name parts.1 in
+    (ap (λ (c : Bool). c || list_any (λ b. b == 47) name) ends.0 ∙ later.0, ap (λ (c : Bool). c || list_any (λ b. b == 0) name) ends.1 ∙ later.1)
+
+some_name : (name : List ℕ) → is_name name ≡ true → 0 < length name
+some_name [] is = absurd cc
+some_name (x ∷ name) is = omega arith
+
+proper_named : (name : List ℕ) → IsProperName name → filter is_name (name ∷ []) ≡ name ∷ []
+proper_named name proper = ap (λ (c : Bool). cond c (name ∷ []) []) proper.0
+
+lone_fine : (name : List ℕ) → IsProperName name → is_bad name ≡ false
+lone_fine name proper =
+    let fine = proper_fine name proper.2 in
+    ap (λ (c : Bool). c || list_any is_above (pieces name)) fine.1 ∙ ap (list_any is_above) (one_piece name fine.0) ∙ ap (λ (c : Bool). c || false) proper.1
+
+below_fine : (u name : List ℕ) → is_bad u ≡ false → IsProperName name → is_bad (u ++ 47 ∷ name) ≡ false
+below_fine u name fine proper =
+    let parts = or_parts (list_any (λ b. b == 0) u) (list_any is_above (pieces u)) fine in
+    let own = proper_fine name proper.2 in
+    ap (λ (c : Bool). c || list_any is_above (pieces (u ++ 47 ∷ name)))
+    (list_any-append (λ b. b == 0) u (47 ∷ name) ∙ ap (λ (c : Bool). c || list_any (λ b. b == 0) name) parts.0 ∙ own.1)
+    ∙ ap (list_any is_above) (pieces-slash u name ∙ ap (λ (l : Names). pieces u ++ l) (one_piece name own.0))
+    ∙ list_any-append is_above (pieces u) (name ∷ []) ∙ ap (λ (c : Bool). c || (is_above name || false)) parts.1 ∙ ap (λ (c : Bool). c || false) proper.1
+
+named_below : (u name : List ℕ) → is_bad u ≡ false → IsProperName name → names_of (u ++ 47 ∷ name) ≡ Ok (filter is_name (pieces u) ++ name ∷ [])
+named_below u name fine proper =
+    names_so (u ++ 47 ∷ name) (omega (arith, length-append u (47 ∷ name))) (below_fine u name fine proper)
+    ∙ ap (λ (l : Names). let r : Result Names Fault = Ok (filter is_name l) in r) (pieces-slash u name ∙ ap (λ (l : Names). pieces u ++ l) (one_piece name (proper_fine name proper.2).0))
+    ∙ ap (λ (l : Names). let r : Result Names Fault = Ok l in r) (filter-append is_name (pieces u) (name ∷ []) ∙ ap (λ (l : Names). filter is_name (pieces u) ++ l) (proper_named name proper))
+
+beside_so : (path : List ℕ) (ns : Names) → (found : Option ℕ) → Slash path found → found ≡ last_slash path (length path) → is_name (behind_slash found path) ≡ true
+    → is_bad path ≡ false → filter is_name (pieces path) ≡ ns → Beside path ns
+beside_so path ns found (no_slash is none) at named fine same =
+    let lone : last_slash path (length path) ≡ None = sym at ∙ is in
+    let own : is_name path ≡ true = ap (λ (o : Option ℕ). is_name (behind_slash o path)) (sym is) ∙ named in
+    record {
+      front = [];
+      last = path;
+      is = sym same ∙ ap (filter is_name) (one_piece path none) ∙ ap (λ (c : Bool). cond c (path ∷ []) []) own;
+      other = λ name proper.
+          ap (λ (o : Option ℕ). names_of (in_folder (option_map (λ i. take i path) o) name)) lone
+          ∙ names_so name (some_name name proper.0) (lone_fine name proper)
+          ∙ ap (λ (l : Names). let r : Result Names Fault = Ok (filter is_name l) in r) (one_piece name (proper_fine name proper.2).0)
+          ∙ ap (λ (l : Names). let r : Result Names Fault = Ok l in r) (proper_named name proper);
+    }
+beside_so path ns found (a_slash i is within cut none) at named fine same =
+    let u = take i path in
+    let tail = drop (suc i) path in
+    let here : last_slash path (length path) ≡ Some i = sym at ∙ is in
+    let own : is_name tail ≡ true = ap (λ (o : Option ℕ). is_name (behind_slash o path)) (sym is) ∙ named in
+    let all : filter is_name (pieces path) ≡ filter is_name (pieces u) ++ filter is_name (tail ∷ [])
+    = ap (λ (p : List ℕ). filter is_name (pieces p)) cut ∙ ap (filter is_name) (pieces-slash u tail ∙ ap (λ (l : Names). pieces u ++ l) (one_piece tail none)) ∙ filter-append is_name (pieces u) (tail ∷ []) in
+    record {
+      front = filter is_name (pieces u);
+      last = tail;
+      is = sym same ∙ all ∙ ap (λ (c : Bool). filter is_name (pieces u) ++ cond c (tail ∷ []) []) own;
+      other = λ name proper.
+          ap (λ (o : Option ℕ). names_of (in_folder (option_map (λ i. take i path) o) name)) here
+          ∙ named_below u name (front_fine u tail (ap is_bad (sym cut) ∙ fine)) proper;
+    }
+
+-- a name beside a path that ends with one
+pub beside : (path : List ℕ) (ns : Names) → names_of path ≡ Ok ns → EndsInName path → Beside path ns
+beside path ns is ends = let n = named path ns is in beside_so path ns (last_slash path (length path)) (slash_of path) refl ends n.0 n.1

@@ -40,7 +40,7 @@ pub found_at : (t : Tree) (path : List ℕ) (r : Result Names Fault) → leads t
 unfolding found
 found_at t path r is = ap (λ (x : Result Names Fault). and_then x (λ names. where_there (look t names) names)) is
 
-file_from : (t : Tree) (path : List ℕ) (what : Fault) (r : Result Names Fault) → leads t path ≡ r → file_at t path what ≡ and_then r (λ names. bytes_there what (look t names))
+pub file_from : (t : Tree) (path : List ℕ) (what : Fault) (r : Result Names Fault) → leads t path ≡ r → file_at t path what ≡ and_then r (λ names. bytes_there what (look t names))
 unfolding file_at
 file_from t path what r is = ap (λ (x : Result Names Fault). and_then x (λ names. bytes_there what (look t names))) is
 

@@ -6,7 +6,7 @@ use Rattle.cacache_disk.specs.{declared.{luck.Luck.{Luck, TheVariants.{Plain, Fa
 use Rattle.cacache_system.specs.{declared.call.{SystemCall.{SystemCall}, CallItem.{CallItem}, CallResult.{CallResult}}, CallsOf.{interrupts}, AnswersOf.{misses, refuses_memory}}
 use Rattle.cacache_system.specs.declared.call.SystemCall.TheVariants as asks
 use Rattle.cacache_system.specs.declared.call.CallResult.TheVariants as says
-use Rattle.cacache_system_laws.specs.{Folders.{OpensFolder, ReadsFolder}, Machine.{OpenFile, Machine, HasTree, IsRefused, ChangesTree, OpensIf, with_empty, ShowsEnd, ShowsOpen, ReadsOpen, WritesOpen, SyncsOpen, LinksNode, CopiesBytes, MovesNode}}
+use Rattle.cacache_system_laws.specs.{Folders.{OpensFolder, ReadsFolder}, Machine.{OpenFile, Machine, HasTree, IsRefused, ChangesTree, OpensIf, with_empty, ShowsEnd, ShowsOpen, ReadsOpen, WritesOpen, SyncsOpen, LinksNode, CopiesBytes, MovesNode, SpellsEnd}}
 
 -- What a call says and leaves where it doesn't fail without cause. A read or a write moves all the bytes that it may, or at
 -- most so many. A folder gives its names in the order of the tree's.
@@ -41,6 +41,7 @@ GoesWell most m (asks.HardLink from to) said after =
     LinksNode (linked m.tree from) (free m.tree to) m said after
 GoesWell most m (asks.CopyFile from to) said after =
     CopiesBytes (file_at m.tree from InvalidInput) (writable m.tree to) m said after
+GoesWell most m (asks.RealPath path) said after = SpellsEnd (found m.tree path) m said after
 GoesWell most m (asks.OpenFolder path) said after =
     OpensFolder (standing m.tree path) m said after
 GoesWell most m (asks.ReadNames number size) said after = ReadsFolder number m said after

@@ -5,7 +5,7 @@ use Rattle.cacache_store.specs.declared.store.step.Step.TheVariants as steps
 use Rattle.cacache_store.specs.declared.store.answer.Answer.TheVariants as answers
 use Rattle.cacache_disk.specs.{declared.luck.Luck.{Luck}, Tree.{Tree}, Apply.{apply}}
 use Rattle.cacache_system.specs.{declared.call.{CallItem.{CallItem}, CallResult.{CallResult}}, Seen.{NumberedStep}, CallsOf.{Runs}, AnswersOf.{Hint, first, answer_of}}
-use Rattle.cacache_system_laws.specs.{Machine.{Machine}, Calls.{OccursSomehow, EachCall}, Laws.{step_on, answer_on, outcome, IsDone}, OneCall.{StillStands}, Premises.{Premise}, Mirrors.{Mirrors, temps_after, SparesOpen}}
+use Rattle.cacache_system_laws.specs.{Machine.{Machine}, Calls.{OccursSomehow, EachCall}, Laws.{step_on, answer_on, outcome, LeavesFresh, IsDone}, OneCall.{StillStands}, Premises.{Premise}, Mirrors.{Mirrors, temps_after, SparesOpen}}
 
 -- a step that was made: the machine before and after it, how its calls began, what they were, and their end
 pub record StepMade : Type 0 where
@@ -43,7 +43,8 @@ AreMade temps m (s ∷ made) =
     × (HasLaw temps s.before s.hint s.step ⊎ WritesTemp temps s.before s.step)
     × AreMade (temps_left temps s) s.after made
 
--- a disk does each of these steps under some luck with the same answer, but those that came back
+-- A disk does each of these steps under some luck with the same answer, but those that came back. Of what follows a copy
+-- that left its fresh file nothing is said.
 abbrev pub DiskDoes : Tree → List StepMade → Type 0
 DiskDoes d [] = Unit {0}
 DiskDoes d (s ∷ made) =
@@ -52,6 +53,7 @@ DiskDoes d (s ∷ made) =
     ≡ outcome (answer_on s.after (answer_of s.step s.end)) new)
     × DiskDoes new made)
     ⊎ ((answer_of s.step s.end ≡ answers.NoMemory s.step) × DiskDoes d made)
+    ⊎ LeavesFresh s.before s.step (answer_of s.step s.end) s.after
 
 -- what many steps do on a system a disk that mirrors it does
 abbrev pub RunsMirror : Type 0

@@ -1,10 +1,12 @@
 -- That the calls of a step answer and leave what the disk's table of steps says.
-use Rattle.std.specs.{Prelude.{◌≡◌, ◌⊎◌, ℕ, List, [], None, option_map, length, drop}, Option.{unwrap_or}}
+use Rattle.std.specs.{Prelude.{◌≡◌, ◌⊎◌, ◌++◌, ◌∷◌, ℕ, List, [], None, option_map, length, drop}, Option.{unwrap_or}}
 use Rattle.std_io.specs.declared.io.kind.ErrorKind.TheVariants as kind
 use Rattle.cacache_store.specs.{declared.store.plain.{PlainTemp.{PlainTemp}, PlainFile.{PlainFile}}, Plain.{PlainStep, PlainAnswer}}
 use Rattle.cacache_store.specs.declared.store.answer.Answer.TheVariants as answers
-use Rattle.cacache_disk.specs.{declared.luck.Luck.{Luck, TheVariants.{Plain}}, Tree.{Tree, look, bytes_of}, Apply.{apply, fault_told}}
-use Rattle.cacache_system.specs.{declared.call.{SystemCall.{SystemCall}, CallItem.{CallItem}, CallResult.{CallResult, TheVariants.{Failed}}}, Seen.{NumberedFile, NumberedTemp, NumberedStep, NumberedAnswer, step_as, answer_as}, CallsOf.{Stage, Runs}, AnswersOf.{Hint, first, answer_of}}
+use Rattle.cacache_store.specs.declared.store.step.Step.TheVariants as steps
+use Rattle.cacache_core.specs.PathNames.{Names}
+use Rattle.cacache_disk.specs.{declared.{luck.Luck.{Luck, TheVariants.{Plain}}, node.Node.TheVariants.{File}}, Tree.{Tree, look, put, bytes_of}, Apply.{apply, fault_told}}
+use Rattle.cacache_system.specs.{declared.call.{SystemCall.{SystemCall}, CallItem.{CallItem}, CallResult.{CallResult, TheVariants.{Failed}}}, Seen.{NumberedFile, NumberedTemp, NumberedStep, NumberedAnswer, step_as, answer_as}, CallsOf.{Stage, Runs, fresh_name}, AnswersOf.{Hint, first, answer_of}}
 use Rattle.cacache_system_laws.specs.{Machine.{OpenFile, Machine}, Calls.{GoesWell, OccursSomehow, EachCall}}
 
 -- ---- handles on a machine
@@ -62,11 +64,22 @@ IsPlain m step end after =
     (end ≡ Failed kind.OutOfMemory → ⊥)
     → apply m.tree (step_on m step) Plain ≡ led_to step end after
 
--- it is as under some luck, or the step comes back for want of memory and nothing changed
+-- a copy fails, and leaves the fresh file that it made, since that can't be removed either
+abbrev pub LeavesFresh : Machine → NumberedStep → NumberedAnswer → Machine → Type 0
+LeavesFresh m (steps.Copy from to) answer after =
+    (luck : Luck) × (above : Names) × (number : ℕ) × (bytes : List ℕ)
+    × (look m.tree (above ++ fresh_name number ∷ []) ≡ None)
+    × (apply m.tree (steps.Copy from to) luck ≡ outcome (answer_on after answer) m.tree)
+    × (after.tree ≡ put m.tree (above ++ fresh_name number ∷ []) (File bytes))
+LeavesFresh m step answer after = ⊥
+
+-- It is as under some luck, or the step comes back for want of memory and nothing changed, or it is a copy whose fresh
+-- file stays.
 abbrev pub IsLucky : Machine → NumberedStep → CallResult → Machine → Type 0
 IsLucky m step end after =
     ((luck : Luck) × (apply m.tree (step_on m step) luck ≡ led_to step end after))
     ⊎ ((answer_of step end ≡ answers.NoMemory step) × (after.tree ≡ m.tree))
+    ⊎ LeavesFresh m step (answer_of step end) after
 
 -- the disk's table does the step
 abbrev pub IsDone : Machine → NumberedStep → Type 0

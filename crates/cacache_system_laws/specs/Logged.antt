@@ -3,14 +3,16 @@ use Rattle.std.specs.Prelude.{◌≡◌, ◌⊎◌, ◌++◌, List, Some}
 use Rattle.cacache_store.specs.declared.store.answer.Answer.TheVariants as answers
 use Rattle.cacache_disk.specs.{declared.luck.Luck.{Luck}, Apply.{apply}}
 use Rattle.cacache_system.specs.{declared.call.{CallItem.{CallItem}, CallResult.{CallResult}}, Seen.{NumberedStep, NumberedAnswer}, CallsOf.{RunLogged}, AnswersOf.{Hint, first, answer_of}}
-use Rattle.cacache_system_laws.specs.{Machine.{Machine}, Calls.{OccursSomehow, EachCall}, Laws.{step_on, answer_on, outcome, IsDone}, Premises.{Premise}}
+use Rattle.cacache_system_laws.specs.{Machine.{Machine}, Calls.{OccursSomehow, EachCall}, Laws.{step_on, answer_on, outcome, LeavesFresh, IsDone}, Premises.{Premise}}
 
--- the answer and the tree are the disk's under some luck, or the step came back and nothing changed
+-- The answer and the tree are the disk's under some luck, or the step came back and nothing changed, or a copy left its
+-- fresh file.
 abbrev pub IsDisks : Machine → NumberedStep → NumberedAnswer → Machine → Type 0
 IsDisks m step answer after =
     ((luck : Luck)
     × (apply m.tree (step_on m step) luck ≡ outcome (answer_on after answer) after.tree))
     ⊎ ((answer ≡ answers.NoMemory step) × (after.tree ≡ m.tree))
+    ⊎ LeavesFresh m step answer after
 
 -- where a log gained a run of a step's calls, as the contract of a store of real folders says, and they happened so
 abbrev pub LogsAgree : Type 0

@@ -1,9 +1,9 @@
 -- A model of the system: what stands, which files are open, and what a call may say and leave.
-use Rattle.std.specs.Prelude.{◌≡◌, ◌+◌, ◌==◌, ℕ, Bool, true, false, if◌then◌else◌, List, [], ◌∷◌, Option, None, Some, Result, MatchResult, IfSome, length, take, drop}
+use Rattle.std.specs.Prelude.{◌≡◌, suc, Ok, ◌+◌, ◌==◌, ℕ, Bool, true, false, if◌then◌else◌, List, [], ◌∷◌, Option, None, Some, Result, MatchResult, IfSome, length, take, drop}
 use Rattle.std_io.specs.declared.io.kind.ErrorKind.{ErrorKind}
-use Rattle.cacache_core.specs.{Contexts.{fault_of}, declared.errors.Fault.{Fault, TheVariants.{IsADirectory, Device}}, PathNames.{Names}}
-use Rattle.cacache_disk.specs.{declared.node.Node.{Node, TheVariants.{Folder, File, Link}}, Tree.{Tree, look, put, cut, kind_of}, Apply.{if_missing, taken, lengthened}}
-use Rattle.cacache_system.specs.{declared.call.{FileInfo.{FileInfo}, CallResult.{CallResult}}, AnswersOf.{refuses_memory}}
+use Rattle.cacache_core.specs.{Contexts.{fault_of}, declared.errors.Fault.{Fault, TheVariants.{IsADirectory, Device}}, PathNames.{Names, is_name}}
+use Rattle.cacache_disk.specs.{declared.node.Node.{Node, TheVariants.{Folder, File, Link}}, Tree.{Tree, look, put, cut, kind_of}, LedTo.{place}, Apply.{if_missing, taken, lengthened}}
+use Rattle.cacache_system.specs.{declared.call.{FileInfo.{FileInfo}, CallResult.{CallResult}}, CallsOf.{last_slash}, AnswersOf.{refuses_memory}}
 use Rattle.cacache_system.specs.declared.call.CallResult.TheVariants as says
 
 -- an open file: the names at which it was found, and how many bytes were read from it
@@ -23,6 +23,15 @@ pub record Machine : Type 0 where
   pub synced : List SyncedNode
   pub inodes : Names → ℕ × ℕ
   pub folders : ℕ → Option (List (List ℕ))
+
+-- what stands behind the last `/`, if there is one
+abbrev pub behind_slash : Option ℕ → List ℕ → List ℕ
+behind_slash None path = path
+behind_slash (Some i) path = drop (suc i) path
+
+-- a path ends with a name
+abbrev pub EndsInName : List ℕ → Type 0
+EndsInName path = is_name (behind_slash (last_slash path (length path)) path) ≡ true
 
 -- ---- what a call leaves
 
@@ -108,6 +117,18 @@ ShowsEnd ends m said after =
 abbrev pub ShowsOpen : ℕ → Machine → CallResult → Machine → Type 0
 ShowsOpen number m said after =
     IfSome (m.files number) (λ file. ShowsNode file.names m said after)
+
+-- a text names a file or folder, and ends with a name
+pub record Spells (t : Tree) (text : List ℕ) (names : Names) : Type 0 where
+  pub stands : place t text ≡ Ok names
+  pub ends : EndsInName text
+
+-- a path without a link on it is said, and nothing changed
+abbrev pub SpellsEnd : Result Names Fault → Machine → CallResult → Machine → Type 0
+SpellsEnd ends m said after =
+    MatchResult ends
+    (λ names. (text : List ℕ) × (said ≡ says.Bytes text) × Spells m.tree text names × (after ≡ m))
+    (λ fault. IsRefused fault m said after)
 
 -- ---- reads, writes and syncs
 

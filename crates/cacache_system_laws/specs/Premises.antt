@@ -4,7 +4,7 @@ use Rattle.cacache_core.specs.PathNames.{Names}
 use Rattle.cacache_store.specs.declared.store.step.Step.TheVariants.{MakeDirs, Write, Persist, Read, Copy, HardLink, ReadDir, RemoveFile, RemoveDir, SyncTemp, SyncDir}
 use Rattle.cacache_disk.specs.{declared.node.Node.{Node}, LedTo.{linked}, Rooted.{Rooted}}
 use Rattle.cacache_system.specs.{Seen.{NumberedFile, NumberedTemp, NumberedStep}, AnswersOf.{Hint, is_named}}
-use Rattle.cacache_system_laws.specs.{Machine.{OpenFile, Machine}, Laws.{MayBreak}, OneCall.{StillStands}, Reading.{StaysOpen}, Writing.{TellsFilesApart}, Making.{HasNoLink}, Listing.{ListsPlainly}, Removing.{WalkStands}, Syncing.{EndsInNoLink}}
+use Rattle.cacache_system_laws.specs.{Machine.{OpenFile, Machine}, Laws.{MayBreak}, OneCall.{StillStands}, Reading.{StaysOpen}, Writing.{CanCopy}, Making.{HasNoLink}, Listing.{ListsPlainly}, Removing.{WalkStands}, Syncing.{EndsInNoLink}}
 
 -- a temporary file still stands at its path
 abbrev pub IsStill : Machine → NumberedTemp → Type 0
@@ -24,7 +24,7 @@ Premise m hint (MakeDirs p) = Rooted m.tree × HasNoLink m.tree p
 Premise m hint (Write t bytes) = ⊥
 Premise m hint (Persist t p) = IsStill m t
 Premise m hint (Read f max) = IsOpen m f
-Premise m hint (Copy p q) = TellsFilesApart m
+Premise m hint (Copy p q) = CanCopy m q
 Premise m hint (HardLink p q) = IsLinked m p
 Premise m hint (ReadDir p) = ListsPlainly m.tree p × (is_named hint ≡ false)
 Premise m hint (RemoveFile p) = WalkStands m hint

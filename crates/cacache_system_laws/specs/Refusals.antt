@@ -45,14 +45,14 @@ NoFileForFolder =
     (item (asks.OpenToRead path) (Opened file) ∷ item (asks.StatFile file) (Info info)
     ∷ item (asks.Sync file) said ∷ rest)
 
--- a file isn't copied onto itself, which would empty it
-abbrev pub NoCopyOntoItself : Type 0
-NoCopyOntoItself =
-    (path : List ℕ) (source target : FileInfo) (said : CallResult) (rest : List CallItem)
-    → source.regular ≡ true
-    → IsNoRun (steps.Copy path path)
-    (item (asks.Stat path) (Info source) ∷ item (asks.Stat path) (Info target)
-    ∷ item (asks.CopyFile path path) said ∷ rest)
+-- a file that stands at the target of a copy isn't opened, since the copy would empty it for each of its paths
+abbrev pub NoCopyInPlace : Type 0
+NoCopyInPlace =
+    (from to onto : List ℕ) (source target : FileInfo) (said : CallResult) (rest : List CallItem)
+    → target.kind ≡ kinds.File → target.regular ≡ true
+    → IsNoRun (steps.Copy from to)
+    (item (asks.Stat from) (Info source) ∷ item (asks.StatLink to) (Info target)
+    ∷ item (asks.CopyFile from onto) said ∷ rest)
 
 -- where a link took the place of a folder that a walk is in, nothing is removed
 abbrev pub NoRemovalThroughLink : Type 0

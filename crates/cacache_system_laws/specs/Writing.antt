@@ -1,11 +1,11 @@
 -- Laws on writes and copies.
-use Rattle.std.specs.Prelude.{◌≡◌, ◌⊎◌, ℕ, List, None, take}
+use Rattle.std.specs.Prelude.{◌≡◌, ◌⊎◌, ◌++◌, ◌∷◌, [], ℕ, List, None, take}
 use Rattle.cacache_core.specs.PathNames.{Names}
 use Rattle.cacache_store.specs.declared.store.step.Step.TheVariants as steps
 use Rattle.cacache_store.specs.declared.store.answer.Answer.TheVariants as answers
 use Rattle.cacache_disk.specs.{declared.luck.Luck.{Luck, TheVariants.{Plain}}, Tree.{look}, Apply.{apply, lengthened}}
-use Rattle.cacache_system.specs.{declared.call.CallResult.{CallResult}, Seen.{NumberedTemp}, AnswersOf.{Hint, first, answer_of}}
-use Rattle.cacache_system_laws.specs.{Machine.{Machine}, Calls.{GoesWell, OccursSomehow}, Laws.{step_on, outcome, led_to, Leads, Agrees}, OneCall.{StillStands}}
+use Rattle.cacache_system.specs.{declared.call.CallResult.{CallResult}, CallsOf.{fresh_name}, Seen.{NumberedTemp}, AnswersOf.{Hint, first, answer_of}}
+use Rattle.cacache_system_laws.specs.{Machine.{Machine, EndsInName}, Calls.{GoesWell, OccursSomehow}, Laws.{step_on, outcome, led_to, Leads, Agrees, GoesPlainly, MayBreak}, OneCall.{StillStands}}
 
 -- a line is appended
 abbrev pub AppendAgrees : Type 0
@@ -48,8 +48,21 @@ abbrev pub TellsFilesApart : Machine → Type 0
 TellsFilesApart m =
     (a b : Names) → m.inodes a ≡ m.inodes b → look m.tree a ≡ look m.tree b
 
--- a file is copied
+-- nothing stands under a name that a copy gives its fresh file
+abbrev pub HasNoFresh : Machine → Type 0
+HasNoFresh m = (above : Names) (number : ℕ) → look m.tree (above ++ fresh_name number ∷ []) ≡ None
+
+-- what a copy asks, whether or not its calls fail without cause
+pub record CanCopy (m : Machine) (to : List ℕ) : Type 0 where
+  pub apart : TellsFilesApart m
+  pub ends : EndsInName to
+
+-- a file is copied, whether or not its calls fail without cause
+pub record Copies (m : Machine) (hint : Hint) (from to : List ℕ) : Type 0 where
+  pub plainly : HasNoFresh m → GoesPlainly m hint (steps.Copy from to)
+  pub breaking : MayBreak m hint (steps.Copy from to)
+
+-- each file is
 abbrev pub CopyAgrees : Type 0
 CopyAgrees =
-    (m : Machine) (hint : Hint) (from to : List ℕ) → TellsFilesApart m
-    → Agrees m hint (steps.Copy from to)
+    (m : Machine) (hint : Hint) (from to : List ℕ) → CanCopy m to → Copies m hint from to

@@ -10,7 +10,7 @@ ghost use Rattle.cacache_system_laws.specs.OneCall.{CreateAgrees, ExistsAgrees, 
 ghost use Rattle.cacache_system_laws.specs.Opening.{OpenAgrees, SizeAgrees};
 ghost use Rattle.cacache_system_laws.specs.Premises.{EachMayBreak};
 ghost use Rattle.cacache_system_laws.specs.Reading.{PiecesReadPlainly, ReadAllAgrees, ReadBreaks};
-ghost use Rattle.cacache_system_laws.specs.Refusals.{NoCopyOntoItself, NoFileForFolder, NoOtherMode, NoOtherSync, NoRemovalBeforePut, NoRemovalThroughLink, NoSecondWrite};
+ghost use Rattle.cacache_system_laws.specs.Refusals.{NoCopyInPlace, NoFileForFolder, NoOtherMode, NoOtherSync, NoRemovalBeforePut, NoRemovalThroughLink, NoSecondWrite};
 ghost use Rattle.cacache_system_laws.specs.Removing.{RemoveDirAgrees, RemoveFileAgrees};
 ghost use Rattle.cacache_system_laws.specs.Syncing.{SyncDirAgrees, SyncFileAgrees, SyncTempAgrees};
 ghost use Rattle.cacache_system_laws.specs.Writing.{AppendAgrees, CopyAgrees, WriteAgrees};
@@ -108,6 +108,6 @@ pub fn refusal_laws()
     ensures mode { NoOtherMode }
     ensures sync { NoOtherSync }
     ensures folder { NoFileForFolder }
-    ensures copy { NoCopyOntoItself }
+    ensures copy { NoCopyInPlace }
     ensures link { NoRemovalThroughLink }
 {}

@@ -28,6 +28,7 @@ asked (ask.RemoveFolder path) = asks.RemoveFolder path.now
 asked (ask.Symlink target path) = asks.Symlink target.now path.now
 asked (ask.HardLink from to) = asks.HardLink from.now to.now
 asked (ask.CopyFile from to) = asks.CopyFile from.now to.now
+asked (ask.RealPath path) = asks.RealPath path.now
 
 -- what was said
 abbrev pub told : Said → CallResult

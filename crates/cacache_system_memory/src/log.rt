@@ -36,6 +36,7 @@ pub(crate) enum Asked<'a> {
     Symlink(&'a str, &'a str),
     HardLink(&'a str, &'a str),
     CopyFile(&'a str, &'a str),
+    RealPath(&'a str),
 }
 
 /// What is said to a call.

@@ -11,6 +11,7 @@ use crate::tree::{
     hard_link, make_folder, remove_file, remove_folder, rename, shown, shown_link, symlink,
 };
 use cacache_core::errors::Fault;
+use cacache_core::text::Text;
 use cacache_disk::{Disk, Stop};
 use cacache_system::{FileInfo, System};
 use std::alloc::{Alloc, AllocError, Global};
@@ -229,5 +230,9 @@ impl System for MemorySystem {
 
     fn copy_file(&mut self, from: &str, to: &str) -> io::Result<u64> {
         Err(self.log.fail(Asked::CopyFile(from, to), UNSUPPORTED))
+    }
+
+    fn real_path(&mut self, _alloc: Global, path: &str) -> io::Result<Text> {
+        Err(self.log.fail(Asked::RealPath(path), UNSUPPORTED))
     }
 }

@@ -7,6 +7,7 @@ use std::cell::RefCell;
 use std::fs::{Metadata, OpenOptions};
 use std::io;
 use std::io::ErrorKind;
+use std::path::PathBuf;
 use std::rc::Rc;
 use std::rt::Files;
 
@@ -72,6 +73,9 @@ impl Files for Watched {
 
     fn open_file(&self, how: &OpenOptions, path: &str) -> io::Result<WatchedFile> {
         self.asked_to_open(how, path)?;
+        if path.contains("/.tmp") {
+            failing(self.ways.made)?;
+        }
         if path.ends_with("/full") {
             return Err(io::Error::from(ErrorKind::OutOfMemory));
         }
@@ -119,7 +123,14 @@ impl Files for Watched {
 
     fn copy(&self, from: &str, to: &str) -> io::Result<u64> {
         self.asked("copy", &[from, to])?;
-        self.host.copy(from, to)
+        let copied = self.host.copy(from, to);
+        failing(self.ways.copy)?;
+        copied
+    }
+
+    fn canonicalize<B: Allocator>(&self, alloc: B, path: &str) -> io::Result<PathBuf<B>> {
+        self.asked("canonicalize", &[path])?;
+        self.host.canonicalize(alloc, path)
     }
 
     fn rename(&self, from: &str, to: &str) -> io::Result<()> {

@@ -11,13 +11,25 @@ use std::rc::Rc;
 /// What was asked, with a `;` behind each call.
 pub(crate) type Notes = Rc<RefCell<String>>;
 
+/// Notes a path. The number of a fresh file, which differs from run to run, is told as a `*`.
+fn note_path(notes: &mut String, path: &str) -> io::Result<()> {
+    match path.rsplit_once(".tmp") {
+        Some((front, digits)) if digits.len() == 16 => {
+            notes.push_str(front)?;
+            notes.push('*')?;
+        }
+        _ => notes.push_str(path)?,
+    }
+    Ok(())
+}
+
 /// Notes a call with its paths.
 pub(crate) fn note_paths(notes: &Notes, call: &str, paths: &[&str]) -> io::Result<()> {
     if let Ok(mut notes) = notes.try_borrow_mut() {
         notes.push_str(call)?;
         for path in paths {
             notes.push(' ')?;
-            notes.push_str(path)?;
+            note_path(&mut notes, path)?;
         }
         notes.push(';')?;
     }

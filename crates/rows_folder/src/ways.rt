@@ -16,6 +16,10 @@ pub(crate) struct Ways {
     pub(crate) size: Option<u64>,
     /// Why each rename fails.
     pub(crate) rename: Option<ErrorKind>,
+    /// Why each copy fails, after it wrote its bytes.
+    pub(crate) copy: Option<ErrorKind>,
+    /// Why no fresh file is made.
+    pub(crate) made: Option<ErrorKind>,
     /// Why each call on a path fails.
     pub(crate) refused: Option<ErrorKind>,
     /// Whether the paths are noted too.
@@ -29,6 +33,8 @@ const PLAIN: Ways = Ways {
     most: usize::MAX,
     size: None,
     rename: None,
+    copy: None,
+    made: None,
     refused: None,
     paths: false,
 };
@@ -54,6 +60,24 @@ const FULL: Ways = Ways {
 /// Each rename fails.
 const UNMOVED: Ways = Ways {
     rename: Some(ErrorKind::PermissionDenied),
+    ..PLAIN
+};
+
+/// Each copy fails.
+const UNCOPIED: Ways = Ways {
+    copy: Some(ErrorKind::StorageFull),
+    ..PLAIN
+};
+
+/// No fresh file is made.
+const UNMADE: Ways = Ways {
+    made: Some(ErrorKind::PermissionDenied),
+    ..PLAIN
+};
+
+/// Each name of a fresh file is taken.
+const TAKEN: Ways = Ways {
+    made: Some(ErrorKind::AlreadyExists),
     ..PLAIN
 };
 
@@ -112,6 +136,9 @@ fn named(name: &str) -> Result<Ways, Flaw> {
         "broken" => BROKEN,
         "full" => FULL,
         "unmoved" => UNMOVED,
+        "uncopied" => UNCOPIED,
+        "unmade" => UNMADE,
+        "taken" => TAKEN,
         "crowded" => CROWDED,
         "short" => SHORT,
         "once" => ONCE,

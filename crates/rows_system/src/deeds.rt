@@ -43,11 +43,24 @@ impl World {
         }
     }
 
+    /// Keeps what was copied: a new file has the name, unless it was a name of the file that was copied.
+    fn replaced(&mut self, from: &str, to: &str) -> Result<(), Bad> {
+        let number = self.inodes.number_of(from);
+        if number.is_some() && number == self.inodes.number_of(to) {
+            return Ok(());
+        }
+        let bytes = self.bytes_at(to)?;
+        self.inodes.forget(to);
+        self.inodes.make(to, bytes)?;
+        Ok(())
+    }
+
     /// Keeps which names the files have after a step that was done at these paths.
     fn keep_names(&mut self, act: Act, one: &str, two: &str) -> Result<(), Bad> {
         match act {
             Act::Append | Act::CreateTemp => self.wrote(one),
-            Act::Copy | Act::Symlink => self.wrote(two),
+            Act::Copy => self.replaced(one, two),
+            Act::Symlink => self.wrote(two),
             Act::RemoveFile => {
                 self.inodes.forget(one);
                 Ok(())

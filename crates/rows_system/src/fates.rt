@@ -3,7 +3,7 @@
 use crate::acts::{Act, Deed};
 use crate::look::{End, Follow, Halt, Look, What};
 use crate::odds::Odd;
-use cacache_core::keeping::beside;
+use cacache_core::keeping::{beside, let_go};
 use std::io::ErrorKind;
 
 /// What Linux makes of a step.
@@ -47,7 +47,7 @@ fn fault_at(act: Act, end: &End) -> Option<ErrorKind> {
             Some(ErrorKind::IsADirectory)
         }
         _ if end.is_dots() => Some(ErrorKind::AlreadyExists),
-        Act::Append | Act::Copy | Act::CreateTemp if end.slash => Some(ErrorKind::IsADirectory),
+        Act::Append | Act::CreateTemp if end.slash => Some(ErrorKind::IsADirectory),
         _ => None,
     }
 }
@@ -156,13 +156,22 @@ impl<'a> Look<'a> {
         linked
     }
 
+    /// The path to which a file is copied. What has a `/` behind it is looked at as a folder.
+    fn copied_to(&mut self, to: &str) -> Result<String, Halt> {
+        if to.ends_with('/') {
+            let_go(self.spot(to, Follow::All)?);
+            return Err(Halt::Fails(ErrorKind::IsADirectory));
+        }
+        self.place(Act::Copy, to)
+    }
+
     /// The paths of a copy.
     fn copied(&mut self, from: &str, to: &str) -> Result<(String, String), Halt> {
         let (source, what) = self.spot(from, Follow::All)?;
         self.odds.last = false;
         want(!matches!(what, What::Nothing), ErrorKind::NotFound)?;
         want(!matches!(what, What::Folder), ErrorKind::InvalidInput)?;
-        Ok((source, self.place(Act::Copy, to)?))
+        Ok((source, self.copied_to(to)?))
     }
 
     /// The path of a step on one path.

@@ -1,5 +1,5 @@
 //! Copies of files.
-ghost use Rattle.std.specs.Prelude.{◌≡◌, ◌&&◌, ◌||◌};
+ghost use Rattle.std.specs.Prelude.{◌≡◌, ◌||◌};
 ghost use Rattle.std.specs.Bool.{nat_eq};
 ghost use Rattle.std.specs.Cmp.Lexicographic.{pointwise};
 ghost use Rattle.cacache_system.specs.declared.call.SystemCall.TheVariants as asks;
@@ -8,16 +8,14 @@ ghost use Rattle.cacache_system.specs.CallLog.{said};
 ghost use Rattle.cacache_system.specs.CallsOf as calls;
 ghost use Rattle.cacache_system.specs.CallsOf.{RunLogged, is_same_node};
 
+use crate::folder::fresh::{count_of, replace};
 use crate::folder::node::Node;
+use crate::folder::paths::is_absent;
+use crate::folder::refusing::unless_folder;
+use cacache_store::store::Kind;
 use cacache_system::{FileInfo, System};
 use std::io;
-
-/// A count of bytes. A number of bytes in memory has as many bits as one on the system.
-pub(crate) fn count_of(count: u64) -> usize
-    ensures { result ≡ count }
-{
-    usize::try_from(count).unwrap_or(usize::MAX)
-}
+use std::io::ErrorKind;
 
 /// Whether both are of one file or folder.
 fn is_same(one: &FileInfo, other: &FileInfo) -> bool
@@ -26,16 +24,22 @@ fn is_same(one: &FileInfo, other: &FileInfo) -> bool
     Node::of(one).is_same(Node::of(other))
 }
 
-/// Whether a file would be copied onto itself, which the system would empty first.
+/// Whether a file would be copied onto itself.
 fn is_onto_itself(source: &FileInfo, target: &FileInfo, from: &str, to: &str) -> bool
-    ensures { result ≡ (source.now.regular
-        && (pointwise nat_eq from.now to.now || is_same_node source.now target.now)) }
+    ensures { result ≡ (pointwise nat_eq from.now to.now || is_same_node source.now target.now) }
 {
-    source.regular && (from == to || is_same(source, target))
+    from == to || is_same(source, target)
 }
 
-/// The system's copy of the file, and its size in bytes.
-fn copied<Y: System>(system: &mut Y, from: &str, to: &str) -> io::Result<usize>
+/// Whether a link stands there.
+fn is_link(kind: Kind) -> bool
+    ensures { result ≡ calls.is_link kind }
+{
+    matches!(kind, Kind::Link)
+}
+
+/// The system's copy of the file into what stands at the second path, and its size in bytes.
+fn write_into<Y: System>(system: &mut Y, from: &str, to: &str) -> io::Result<usize>
     ensures { RunLogged (calls.only (asks.CopyFile from.now to.now)) (said says.Count result)
         (Y.calls system.old) (Y.calls system.new) }
 {
@@ -45,8 +49,87 @@ fn copied<Y: System>(system: &mut Y, from: &str, to: &str) -> io::Result<usize>
     }
 }
 
+/// Copies the file over what the link at the second path leads to.
+fn replace_end<Y: System + AllocGlobal>(
+    system: &mut Y,
+    number: u64,
+    from: &str,
+    to: &str,
+) -> io::Result<usize>
+    ensures { RunLogged (calls.resolving number from.now to.now) (said says.Count result)
+        (Y.calls system.old) (Y.calls system.new) }
+{
+    let alloc = system.alloc();
+    match system.real_path(alloc, to) {
+        Ok(path) => replace(system, number, from, path.as_str()),
+        Err(error) => Err(error),
+    }
+}
+
+/// Copies the file to where the link at the second path leads, where nothing stands yet.
+fn make_end<Y: System + AllocGlobal>(
+    system: &mut Y,
+    number: u64,
+    from: &str,
+    to: &str,
+) -> io::Result<usize>
+    ensures { RunLogged (calls.making_end number from.now to.now) (said says.Count result)
+        (Y.calls system.old) (Y.calls system.new) }
+{
+    match system.open_to_append(to) {
+        Ok(_) => replace_end(system, number, from, to),
+        Err(error) => Err(error),
+    }
+}
+
+/// Copies the file of which the system said this over what stands at the second path, of which it said that. A folder is
+/// refused, the file itself stays, and what is neither file nor folder is written into.
+fn copy_over<Y: System + AllocGlobal>(
+    system: &mut Y,
+    is_through: bool,
+    source: &FileInfo,
+    target: &FileInfo,
+    from: &str,
+    to: &str,
+) -> io::Result<usize>
+    ensures { RunLogged (calls.copied is_through source.now target.now from.now to.now)
+        (said says.Count result) (Y.calls system.old) (Y.calls system.new) }
+{
+    if let Some(why) = unless_folder(target.kind) {
+        Err(io::Error::from(why))
+    } else if is_onto_itself(source, target, from, to) {
+        Ok(count_of(source.size))
+    } else if !target.regular {
+        write_into(system, from, to)
+    } else if is_through {
+        replace_end(system, source.inode, from, to)
+    } else {
+        replace(system, source.inode, from, to)
+    }
+}
+
+/// Copies the file of which the system said this over what the link at the second path leads to.
+fn copy_through<Y: System + AllocGlobal>(
+    system: &mut Y,
+    source: &FileInfo,
+    from: &str,
+    to: &str,
+) -> io::Result<usize>
+    ensures { RunLogged (calls.asking_end source.now from.now to.now) (said says.Count result)
+        (Y.calls system.old) (Y.calls system.new) }
+{
+    match system.stat(to) {
+        Ok(target) => copy_over(system, true, source, &target, from, to),
+        Err(error) => if is_absent(error.kind()) {
+            make_end(system, source.inode, from, to)
+        } else {
+            Err(error)
+        },
+    }
+}
+
 /// Copies the file of which the system said this.
-fn copy_found<Y: System>(
+fn copy_found<Y: System + AllocGlobal>(
     system: &mut Y,
     source: &FileInfo,
     from: &str,
@@ -55,23 +138,36 @@ fn copy_found<Y: System>(
     ensures { RunLogged (calls.asking_target source.now from.now to.now) (said says.Count result)
         (Y.calls system.old) (Y.calls system.new) }
 {
-    match system.stat(to) {
-        Ok(target) => if is_onto_itself(source, &target, from, to) {
-            Ok(count_of(source.size))
+    match system.stat_link(to) {
+        Ok(target) => if is_link(target.kind) {
+            copy_through(system, source, from, to)
         } else {
-            copied(system, from, to)
+            copy_over(system, false, source, &target, from, to)
         },
-        Err(_) => copied(system, from, to),
+        Err(error) => if is_absent(error.kind()) {
+            replace(system, source.inode, from, to)
+        } else {
+            Err(error)
+        },
     }
 }
 
-/// Copies the file and returns its size in bytes. A file that is copied onto itself stays as it is.
-pub(crate) fn copy<Y: System>(system: &mut Y, from: &str, to: &str) -> io::Result<usize>
+/// Copies the file and returns its size in bytes. A fresh file takes the place of what the target leads to, so that no
+/// other path sees the copy. A file that is copied onto itself stays as it is.
+pub(crate) fn copy<Y: System + AllocGlobal>(
+    system: &mut Y,
+    from: &str,
+    to: &str,
+) -> io::Result<usize>
     ensures { RunLogged (calls.asking_source from.now to.now) (said says.Count result)
         (Y.calls system.old) (Y.calls system.new) }
 {
     match system.stat(from) {
-        Ok(source) => copy_found(system, &source, from, to),
+        Ok(source) => if source.regular {
+            copy_found(system, &source, from, to)
+        } else {
+            Err(io::Error::from(ErrorKind::InvalidInput))
+        },
         Err(error) => Err(error),
     }
 }

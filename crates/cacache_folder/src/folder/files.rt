@@ -18,7 +18,7 @@ use std::io;
 use std::io::ErrorKind;
 
 /// The mode of a temporary file: its owner alone may read and write it.
-const PRIVATE: u32 = 0o600;
+pub(crate) const PRIVATE: u32 = 0o600;
 
 /// A new empty file that only its owner may read and write, with a system that can write and remove it.
 pub(crate) fn create_temp<Y: System + Clone>(system: &mut Y, path: &str) -> io::Result<(Y, Y::File)>

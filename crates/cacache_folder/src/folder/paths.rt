@@ -14,7 +14,7 @@ use std::io;
 use std::io::ErrorKind;
 
 /// The path of the folder above, if the path names one.
-fn above(path: &str) -> Option<&str>
+pub(crate) fn above(path: &str) -> Option<&str>
     ensures value { option_map (λ a. a.now) result ≡ above_of path.now }
     ensures shorter { IfSome result (λ a. length a.now < length path.now) }
 {

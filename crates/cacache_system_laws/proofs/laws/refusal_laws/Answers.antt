@@ -1,4 +1,4 @@
-use Rattle.cacache_system_laws.proofs.Refusing.{no_second_write, no_removal_before_put, no_other_mode, no_other_sync, no_file_for_folder, no_copy_onto_itself, no_removal_through_link}
+use Rattle.cacache_system_laws.proofs.Refusing.{no_second_write, no_removal_before_put, no_other_mode, no_other_sync, no_file_for_folder, no_copy_in_place, no_removal_through_link}
 use Rattle.cacache_system_laws.proofs.laws.refusal_laws.Goals as goal
 
 pub returns : goal.returns
@@ -8,6 +8,6 @@ returns c = record {
   mode = no_other_mode;
   sync = no_other_sync;
   folder = no_file_for_folder;
-  copy = no_copy_onto_itself;
+  copy = no_copy_in_place;
   link = no_removal_through_link;
 }
