@@ -6,7 +6,7 @@ use Rattle.std_io.specs.declared.io.kind.ErrorKind.TheVariants as kind
 use Rattle.cacache_store.specs.declared.store.step.Step.TheVariants as steps
 use Rattle.cacache_store.specs.declared.store.answer.Answer.TheVariants as answers
 use Rattle.cacache_store.specs.declared.store.answer.Name.{Name}
-use Rattle.cacache_system.specs.{declared.call.{SystemCall.TheVariants.{OpenFolder, ReadNames}, CallResult.{CallResult, TheVariants.{Opened, Bytes, Failed, Names}}}, CallLog.{MakesCall}, ListedNames.{names_in, with_slash}, CallsOf.{Stage, Reader, over, taking_memory, opening_folder, following, reading_names, reader, read_once, more_names, next_name, names_read, is_no_folder, unopened, RunLogged}, Seen.{NumberedAnswer}, AnswersOf.{Hint, no_hint, was_named, is_named, list, answer_of, failed_with, StepRuns}}
+use Rattle.cacache_system.specs.{declared.call.{SystemCall.TheVariants.{OpenFolder, ReadNames}, CallResult.{CallResult, TheVariants.{Opened, Bytes, Failed, Names}}}, CallLog.{MakesCall}, ListedNames.{names_in, with_slash}, CallsOf.{Stage, Reader, over, taking_memory, opening_folder, following, reading_names, reader, read_once, more_names, next_name, names_read, broken_off, is_no_folder, unopened, RunLogged}, Seen.{NumberedAnswer}, AnswersOf.{Hint, no_hint, was_named, is_named, list, answer_of, failed_with, StepRuns}}
 use Rattle.cacache_folder.specs.{Interruptions.{Insists}, Listings.{Log, LeadsTo, Proceeds, ListsNames, ReadsNames, ReadsAllNames, OpensFolder, ListsFolder, listed, more_if, reader_of}}
 use Rattle.cacache_folder.proofs.{CallRuns.{run_none}, Listings.{leads_none, leads_on, leads_run, leads_as, leads_same, leads_call, leads_took, run_taken, refused, fails, proceeds_on, proceeds_from, names_leads, names_fails}}
 
@@ -58,7 +58,7 @@ reads_stops number size folder bytes given olds news why old mid new insists siz
 
 -- they couldn't be read
 pub reads_fails : (number size : ℕ) (folder : List ℕ) (olds news : List Name) (why : ErrorKind) (old new : Log) → Insists (ReadNames number size) (Failed why) old new
-    → size ≡ 4096 → ReadsNames number folder olds news (Err why) old new
+    → size ≡ 4096 → ReadsNames number folder olds news (Err (broken_off why)) old new
 reads_fails number size folder olds news why old new insists sized r is at =
     names_fails r olds number size why old new insists is sized
 

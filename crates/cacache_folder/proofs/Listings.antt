@@ -4,7 +4,7 @@ use Rattle.std.specs.Prelude.{Option, None, Some, Result, Ok, Err}
 use Rattle.std_io.specs.declared.io.kind.ErrorKind.{ErrorKind}
 use Rattle.std_io.specs.declared.io.kind.ErrorKind.TheVariants as kind
 use Rattle.cacache_store.specs.declared.store.answer.Name.{Name}
-use Rattle.cacache_system.specs.{declared.call.{SystemCall.{SystemCall, TheVariants.{ReadNames}}, CallResult.{CallResult, TheVariants.{Bytes, Failed, Names}}, CallItem.{CallItem}}, CallLog.{item, GainsCalls, MakesCall}, CallsOf.{Stage, Reader, over, taking_memory, reading_names, names_read, wants, after, interrupts, Ends, Runs, Goes, RunLogged, CallsLogged}}
+use Rattle.cacache_system.specs.{declared.call.{SystemCall.{SystemCall, TheVariants.{ReadNames}}, CallResult.{CallResult, TheVariants.{Bytes, Failed, Names}}, CallItem.{CallItem}}, CallLog.{item, GainsCalls, MakesCall}, CallsOf.{Stage, Reader, over, taking_memory, reading_names, names_read, broken_off, wants, after, interrupts, Ends, Runs, Goes, RunLogged, CallsLogged}}
 use Rattle.cacache_folder.specs.{Interruptions.{interrupted, Insists}, Listings.{Log, LeadsTo, Proceeds, listed}}
 use Rattle.cacache_folder.proofs.CallRuns.{append-more, gains_none, gains_more, goes_run, run_none, run_as, run_call, run_refused, calls_end, interrupted_only}
 
@@ -111,14 +111,14 @@ names_leads r found number size bytes old new insists is sized =
     (insists_names r found (Bytes bytes) old new (as_same number size r (Bytes bytes) old new insists is sized))
 
 names_ends : (r : Reader) (found : List Name) (why : ErrorKind) (b : Bool) → interrupts why ≡ b
-    → Ends (if b then reading_names true r found else over (Failed why)) (Failed why)
-names_ends r found why true is = ap Failed (interrupted_only why is)
+    → Ends (if b then reading_names true r found else over (Failed (broken_off why))) (Failed (broken_off why))
+names_ends r found why true is = ap (λ (k : ErrorKind). Failed (broken_off k)) (interrupted_only why is)
 names_ends r found why false is = refl
 
 -- they can't be read
 pub names_fails : (r : Reader) (found : List Name) (number size : ℕ) (why : ErrorKind) (old new : Log) → Insists (ReadNames number size) (Failed why) old new
-    → number ≡ r.number → size ≡ 4096 → RunLogged (reading_names false r found) (Failed why) old new
+    → number ≡ r.number → size ≡ 4096 → RunLogged (reading_names false r found) (Failed (broken_off why)) old new
 names_fails r found number size why old new insists is sized =
-    calls_end (reading_names false r found) (after (reading_names true r found) (Failed why)) (Failed why) old new
+    calls_end (reading_names false r found) (after (reading_names true r found) (Failed why)) (Failed (broken_off why)) old new
     (insists_names r found (Failed why) old new (as_same number size r (Failed why) old new insists is sized))
     (names_ends r found why (interrupts why) refl)

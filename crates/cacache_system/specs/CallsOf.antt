@@ -259,6 +259,11 @@ next_name r (name ∷ names) found =
     else taking_memory (ask_kind r name names found
     (λ entry. next_name r names (found ++ entry ∷ [])))
 
+-- a folder that is open isn't missing, so its listing breaks off with another error
+abbrev pub broken_off : ErrorKind → ErrorKind
+broken_off kind.NotFound = kind.StaleNetworkFileHandle
+broken_off why = why
+
 -- names were read, or there are no more
 abbrev pub names_read : Reader → List ℕ → List Name → Stage
 names_read r bytes found =
@@ -329,7 +334,7 @@ after (following path) (Failed why) =
     over (Failed (if is_absent why then kind.NotADirectory else why))
 after (reading_names again r found) (Bytes bytes) = names_read r bytes found
 after (reading_names again r found) (Failed why) =
-    if interrupts why then reading_names true r found else over (Failed why)
+    if interrupts why then reading_names true r found else over (Failed (broken_off why))
 after (asking_kind r name names found) (Info info) =
     entered name info.kind (λ entry. next_name r names (found ++ entry ∷ []))
 after (asking_kind r name names found) (Failed why) =

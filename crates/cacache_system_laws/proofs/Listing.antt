@@ -8,7 +8,7 @@ use Rattle.cacache_store.specs.declared.store.answer.{Kind.{Kind, TheVariants.{F
 use Rattle.cacache_store.specs.declared.store.step.Step.TheVariants as steps
 use Rattle.cacache_store.specs.declared.store.answer.Answer.TheVariants as answers
 use Rattle.cacache_disk.specs.{declared.{luck.Luck.TheVariants.{Plain}, node.Node.{Node, TheVariants.{Folder}}}, Tree.{Tree, look, listing, kind_of}, LedTo.{standing, folder}, Apply.{apply, unless}}
-use Rattle.cacache_system.specs.{declared.call.{FileInfo.{FileInfo}, SystemCall.{SystemCall}, CallItem.{CallItem}, CallResult.{CallResult}}, ListedNames.{text_of, is_proper, is_passed, names_in, with_slash}, CallsOf.{Stage, Reader, over, taking_memory, opening_folder, following, unopened, is_no_folder, is_absent, interrupts, reading_names, asking_kind, reader, read_once, more_names, entered, ask_kind, next_name, names_read, after, Ends, Runs}, AnswersOf.{Hint, is_named, list, misses}}
+use Rattle.cacache_system.specs.{declared.call.{FileInfo.{FileInfo}, SystemCall.{SystemCall}, CallItem.{CallItem}, CallResult.{CallResult}}, ListedNames.{text_of, is_proper, is_passed, names_in, with_slash}, CallsOf.{Stage, Reader, over, taking_memory, opening_folder, following, unopened, is_no_folder, is_absent, interrupts, reading_names, asking_kind, reader, read_once, more_names, entered, ask_kind, next_name, names_read, broken_off, after, Ends, Runs}, AnswersOf.{Hint, is_named, list, misses}}
 use Rattle.cacache_system.specs.declared.call.SystemCall.TheVariants as asks
 use Rattle.cacache_system.specs.declared.call.CallResult.TheVariants as says
 use Rattle.cacache_system_laws.specs.{Machine.{Machine, ShowsNode, ShowsEnd, Describes}, Folders.{IsDots, GivesNames, ended, HasLeft, OpensNames, OpensFolder, ReadsSome, ReadsFolder}, Calls.{GoesWell, EachCall}, Laws.{outcome, led_to, Leads, IsDone, IsLucky}, Listing.{IsPlainEntry, ListsPlainly, IsListed, ReadDirGoesPlainly, ReadDirBreaks}}
@@ -70,6 +70,10 @@ not_zero n some = ne_eqb n 0 some
 not_absent : (why : ErrorKind) → misses why ≡ false → is_absent why ≡ false
 not_absent kind.NotFound fine = absurd (let wrong : true ≡ false = fine in cc)
 not_absent _ fine = refl
+
+not_broken : (why : ErrorKind) → misses why ≡ false → broken_off why ≡ why
+not_broken kind.NotFound fine = absurd (let wrong : true ≡ false = fine in cc)
+not_broken _ fine = refl
 
 names_same : (result : CallResult) (again : Bool) (r : Reader) (found : List Name) → after (reading_names again r found) result ≡ after (reading_names true r found) result
 names_same (says.Failed why) again r found = refl
@@ -224,15 +228,15 @@ module _ (b : Bool) (m : Machine) (path : List ℕ) (names : Names) (done : b �
       (names_lead (read_once r) (name ∷ given) rest es found (listing m.tree names) k at tree gives plain sums goes))
 
   broke_on : (c : Bool) (why : ErrorKind) (r : Reader) (found : List Name) (n next last : Machine) (items : List CallItem) (end : CallResult) → interrupts why ≡ c → next ≡ n
-      → ListClaim b m path (says.Failed why) next
+      → ListClaim b m path (says.Failed (broken_off why)) next
       → (Runs (reading_names true r found) items end → EachCall (way_of b) n items last → ListClaim b m path end last)
-      → Runs (if interrupts why then reading_names true r found else over (says.Failed why)) items end → EachCall (way_of b) next items last → ListClaim b m path end last
+      → Runs (if interrupts why then reading_names true r found else over (says.Failed (broken_off why))) items end → EachCall (way_of b) next items last → ListClaim b m path end last
   broke_on true why r found n next last items end is stays holds again runs each =
-      again (subst (λ (c : Bool). Runs (if c then reading_names true r found else over (says.Failed why)) items end) is runs)
+      again (subst (λ (c : Bool). Runs (if c then reading_names true r found else over (says.Failed (broken_off why))) items end) is runs)
       (subst (λ (x : Machine). EachCall (way_of b) x items last) stays each)
   broke_on false why r found n next last items end is stays holds again runs each =
-      over_leads (way_of b) (says.Failed why) next (ListClaim b m path) holds items end last
-      (subst (λ (c : Bool). Runs (if c then reading_names true r found else over (says.Failed why)) items end) is runs) each
+      over_leads (way_of b) (says.Failed (broken_off why)) next (ListClaim b m path) holds items end last
+      (subst (λ (c : Bool). Runs (if c then reading_names true r found else over (says.Failed (broken_off why))) items end) is runs) each
 
   ends_reading : (again : Bool) (r : Reader) (found : List Name) (end : CallResult) (n : Machine) → (again ≡ true → b ≡ false) → n.tree ≡ m.tree → Ends (reading_names again r found) end
       → ListClaim b m path end n
@@ -254,7 +258,8 @@ module _ (b : Bool) (m : Machine) (path : List ℕ) (names : Names) (done : b �
       (λ (most, all, well). wells item.result next well items end last more others)
       (λ (failed, why, same, fine, part, left).
       broke_on (interrupts why) why r found n next last items end refl left
-      (claim_broken why next failed fine (ap (λ (x : Machine). x.tree) left ∙ tree))
+      (subst (λ (k : ErrorKind). ListClaim b m path (says.Failed k) next) (sym (not_broken why fine))
+      (claim_broken why next failed fine (ap (λ (x : Machine). x.tree) left ∙ tree)))
       (λ others_run each. reading_on true r found n (λ _. failed) tree wells items end last others_run each)
       (subst (λ (result : CallResult). Runs (after (reading_names true r found) result) items end) same more) others)
       (cases_of b n (asks.ReadNames r.number 4096) item.result next

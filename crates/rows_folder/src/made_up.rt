@@ -1,4 +1,4 @@
-//! Open folders whose names are made up: `a`, and more in a folder `odd`, `slow`, `torn` or `late`.
+//! Open folders whose names are made up: `a`, and more in a folder `odd`, `slow`, `torn`, `gone` or `late`.
 use crate::watched_file::Notes;
 use std::io;
 use std::io::{ErrorKind, Read};
@@ -17,6 +17,8 @@ enum Giving {
     Slow,
     /// All, but a further read fails.
     Torn,
+    /// All, but a further read says that the folder is missing.
+    Gone,
     /// All, after a signal interrupted the first read.
     Late,
 }
@@ -43,12 +45,13 @@ impl MadeUp {
 /// What the read after so many others gives.
 fn read_after(giving: Giving, made: usize) -> Result<&'static [u8], ErrorKind> {
     match (giving, made) {
-        (Giving::Whole, 0) | (Giving::Torn, 0) | (Giving::Late, 1) => Ok(NAMES),
+        (Giving::Whole, 0) | (Giving::Torn, 0) | (Giving::Gone, 0) | (Giving::Late, 1) => Ok(NAMES),
         (Giving::Odd, 0) => Ok(b".\0..\0a\0\xff\0"),
         (Giving::Slow, 0) => Ok(b".\0..\0"),
         (Giving::Slow, 1) => Ok(b"longer\0"),
         (Giving::Slow, 2) => Ok(b"a\0"),
         (Giving::Torn, _) => Err(ErrorKind::Other),
+        (Giving::Gone, _) => Err(ErrorKind::NotFound),
         (Giving::Late, 0) => Err(ErrorKind::Interrupted),
         _ => Ok(b""),
     }
@@ -74,6 +77,7 @@ fn giving_of(path: &str) -> Giving {
         Some((_, "odd")) => Giving::Odd,
         Some((_, "slow")) => Giving::Slow,
         Some((_, "torn")) => Giving::Torn,
+        Some((_, "gone")) => Giving::Gone,
         Some((_, "late")) => Giving::Late,
         _ => Giving::Whole,
     }

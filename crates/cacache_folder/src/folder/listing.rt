@@ -83,6 +83,17 @@ fn add_all<Y: System + AllocGlobal>(
     Ok(())
 }
 
+/// The error of a listing that broke off. An open folder isn't missing, even if the system says so: who hears that takes
+/// it for one without names.
+fn broken_off(why: ErrorKind) -> ErrorKind
+    ensures { result ≡ calls.broken_off why }
+{
+    match why {
+        ErrorKind::NotFound => ErrorKind::StaleNetworkFileHandle,
+        _ => why,
+    }
+}
+
 /// Adds what stands under the names of one read of an open folder, whose path ends in a `/`. Returns whether it gave
 /// any.
 fn add_some<Y: System + AllocGlobal>(
@@ -110,7 +121,7 @@ fn add_some<Y: System + AllocGlobal>(
                 Err(why) => Err(why),
             }
         },
-        Err(error) => Err(error.kind()),
+        Err(error) => Err(broken_off(error.kind())),
     }
 }
 

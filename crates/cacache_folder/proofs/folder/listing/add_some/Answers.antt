@@ -1,7 +1,7 @@
-use Rattle.std.proofs.Common.{◌≡◌, ◌≢◌, ◌∙◌, take, length, arith, length-take-le, refl, sym, ap, subst}
-use Rattle.std_io.specs.IoError.{error_kind}
+use Rattle.std.{proofs.Common.{◌≡◌, ◌≢◌, ◌∙◌, take, length, arith, length-take-le, refl, sym, ap, subst}, specs.Prelude.{Err}}
+use Rattle.std_io.specs.{declared.io.kind.ErrorKind.{ErrorKind}, IoError.{error_kind}}
 use Rattle.cacache_system.specs.declared.call.CallResult.TheVariants as says
-use Rattle.cacache_folder.{specs.Interruptions.{Insists}, proofs.ListedFolders.{reads_none, reads_some, reads_stops, reads_fails}}
+use Rattle.cacache_folder.{specs.{Interruptions.{Insists}, Listings.{ReadsNames}}, proofs.ListedFolders.{reads_none, reads_some, reads_stops, reads_fails}}
 use Rattle.cacache_system.specs.declared.call.SystemCall.TheVariants.{ReadNames}
 use Rattle.cacache_folder.proofs.folder.listing.add_some.Goals as goal
 
@@ -27,7 +27,9 @@ returns-in-Err-add_all-clause-ran g c =
 
 pub returns-in-Err-clause-ran : goal.returns-in-Err-clause-ran
 returns-in-Err-clause-ran g c =
-    reads_fails (g.Y.System.folder_number c.args.open.now) (length c.args.buf.now) c.args.folder.now.items c.args.listed.now.names.items
+    subst (λ (k : ErrorKind). ReadsNames (g.Y.System.folder_number c.args.open.now) c.args.folder.now.items c.args.listed.now.names.items
+    c.args.listed.now.names.items (Err k) (g.Y.System.calls c.args.system.now) (g.Y.System.calls c.ask_for_names.new.system)) (sym c.broken_off.ensures)
+    (reads_fails (g.Y.System.folder_number c.args.open.now) (length c.args.buf.now) c.args.folder.now.items c.args.listed.now.names.items
     c.args.listed.now.names.items c.kind.result (g.Y.System.calls c.args.system.now) (g.Y.System.calls c.ask_for_names.new.system)
     (subst (λ why. Insists (ReadNames (g.Y.System.folder_number c.args.open.now) (length c.args.buf.now)) (says.Failed why) (g.Y.System.calls c.args.system.now)
-    (g.Y.System.calls c.ask_for_names.new.system)) (sym c.kind.ensures) c.in-Err.ensures.made) c.requires
+    (g.Y.System.calls c.ask_for_names.new.system)) (sym c.kind.ensures) c.in-Err.ensures.made) c.requires)
