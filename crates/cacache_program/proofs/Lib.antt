@@ -3,3 +3,4 @@ pub mod Texts
 pub mod PrintedLines
 pub mod Asking
 pub mod Naming
+pub mod Further

@@ -44,7 +44,7 @@ fn print<W: Write, E: Write>(
 {
     match &listing.first_error {
         Some(error) => {
-            let _is_whole = write_whole(output, &listing.text);
+            let _written = write_whole(output, &listing.text);
             let reason = if listing.has_more_errors {
                 None
             } else {
