@@ -25,8 +25,6 @@ other_further {words = words} {other = other} is named reads writes asks some =
       reads = other_keyed (codes "read-hash") _ is named reads;
       writes = other_keyed (codes "write-hash") _ is named writes;
       asks = other_keyed (codes "exists") _ is named asks;
-      filed = record {
-        copies = not_filed words (codes "copy") other _ called some;
-        stores = not_filed words (codes "store") other _ called some;
-      };
+      copies = not_filed words (codes "copy") other _ called some;
+      stores = not_filed words (codes "store") other _ called some;
     }

@@ -4,3 +4,5 @@ pub mod PrintedLines
 pub mod Asking
 pub mod Naming
 pub mod Further
+pub mod Storing
+pub mod Missing

@@ -11,6 +11,14 @@ Filed (a ∷ b ∷ c ∷ d ∷ []) name P =
     string_bytes a ≡ name → P (string_bytes b) (string_bytes c) (string_bytes d)
 Filed words name P = ⊤
 
+-- so it does, of what was done to the environment and the output
+abbrev pub FiledDoes :
+    {A E : Type 0} → List (String A) → List ℕ
+    → (List ℕ → List ℕ → List ℕ → E → E → Option (List ℕ) → Option (List ℕ) → ℕ → Type 0)
+    → E → E → Option (List ℕ) → Option (List ℕ) → ℕ → Type 0
+FiledDoes words name P old new before after status =
+    Filed words name (λ cache key file. P cache key file old new before after status)
+
 -- four words begin with none that goes with a file
 abbrev pub IsNoFiled : {A : Type 0} → List (String A) → Type 0
 IsNoFiled (a ∷ b ∷ c ∷ d ∷ []) =
@@ -31,24 +39,16 @@ IsWrongFurther words =
 abbrev pub AreWrong : {A : Type 0} → List (String A) → Type 0
 AreWrong words = IsWrong (asked_of words) × IsWrongFurther words
 
--- the log, the moments and the numbers are those of the environment, before and after
-module _ {S C N T : Type 0} (log : S → Option (List LogItem)) (moments : C → Option (List ℕ))
-    (numbers : N → Option (List ℕ)) (temp : T → PlainTemp) where
-  -- what four words ask for is done
-  pub record DoesFiled {A : Type 0} (words : List (String A)) (old new : Env S C N)
-      (before after : Option (List ℕ)) (status : ℕ) : Type 0 where
-    pub copies : Filed words (codes "copy")
-        (λ cache key file. Copies log cache key file old new before after status)
-    pub stores : Filed words (codes "store")
-        (λ cache key file. StoresFile log numbers temp moments cache key file old new before after status)
-
-  -- what the further words ask for is done, with this input
-  pub record DoesFurther {A : Type 0} (words : List (String A)) (input : Option (List ℕ))
-      (old new : Env S C N) (before after : Option (List ℕ)) (status : ℕ) : Type 0 where
-    pub reads : KeyedDoes (asked_of words) (codes "read-hash") (ReadsHash log)
-        old new before after status
-    pub writes : KeyedDoes (asked_of words) (codes "write-hash") (WritesHash log numbers input)
-        old new before after status
-    pub asks : KeyedDoes (asked_of words) (codes "exists") (AsksHash log)
-        old new before after status
-    pub filed : DoesFiled words old new before after status
+-- what the further words ask for is done, with this input
+pub record DoesFurther {A S C N T : Type 0} (log : S → Option (List LogItem))
+    (moments : C → Option (List ℕ)) (numbers : N → Option (List ℕ)) (temp : T → PlainTemp)
+    (words : List (String A)) (input : Option (List ℕ)) (old new : Env S C N)
+    (before after : Option (List ℕ)) (status : ℕ) : Type 0 where
+  pub reads : KeyedDoes (asked_of words) (codes "read-hash") (ReadsHash log)
+      old new before after status
+  pub writes : KeyedDoes (asked_of words) (codes "write-hash") (WritesHash log numbers input)
+      old new before after status
+  pub asks : KeyedDoes (asked_of words) (codes "exists") (AsksHash log) old new before after status
+  pub copies : FiledDoes words (codes "copy") (Copies log) old new before after status
+  pub stores : FiledDoes words (codes "store") (StoresFile log numbers temp moments)
+      old new before after status

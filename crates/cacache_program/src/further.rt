@@ -1,7 +1,12 @@
 //! The words that the usage doesn't list.
 ghost use Rattle.std.specs.Prelude.{◌≡◌, ◌≢◌, ◌≤◌, codes};
-ghost use Rattle.cacache_program.specs.FurtherWords.{DoesFiled, DoesFurther, IsWrongFurther, IsNoFiled};
-ghost use Rattle.cacache_program.specs.Words.{asked_of};
+ghost use Rattle.cacache_program.specs.FurtherWords.{FiledDoes, IsNoFiled, IsWrongFurther};
+ghost use Rattle.cacache_program.specs.WordCopy.{Copies};
+ghost use Rattle.cacache_program.specs.WordExists.{AsksHash};
+ghost use Rattle.cacache_program.specs.WordReadHash.{ReadsHash};
+ghost use Rattle.cacache_program.specs.WordStore.{StoresFile};
+ghost use Rattle.cacache_program.specs.WordWriteHash.{WritesHash};
+ghost use Rattle.cacache_program.specs.Words.{KeyedDoes, asked_of};
 
 use crate::about::USAGE;
 use crate::asking::exists;
@@ -21,7 +26,10 @@ fn run_filed<S: Reasons, C: Clock, N: Names, W: Write, E: Write>(
     output: &mut W,
     errors: &mut Errors<E>,
 ) -> u8
-    ensures does { DoesFiled S.log C.given N.given S.Temp.seen words.now
+    ensures copies { FiledDoes words.now (codes "copy") (Copies S.log)
+        env.old env.new (W.contents output.old) (W.contents output.new) result }
+    ensures stores { FiledDoes words.now (codes "store")
+        (StoresFile S.log N.given S.Temp.seen C.given)
         env.old env.new (W.contents output.old) (W.contents output.new) result }
     ensures status { result ≤ 2 }
     ensures wrong { IsNoFiled words.now → result ≡ 2 }
@@ -60,7 +68,17 @@ pub(crate) fn run_further<S: Reasons, C: Clock, N: Names, R: Read, W: Write, E: 
     output: &mut W,
     errors: &mut Errors<E>,
 ) -> u8
-    ensures does { DoesFurther S.log C.given N.given S.Temp.seen words.now (R.remaining input.old)
+    ensures reads { KeyedDoes (asked_of words.now) (codes "read-hash") (ReadsHash S.log)
+        env.old env.new (W.contents output.old) (W.contents output.new) result }
+    ensures writes { KeyedDoes (asked_of words.now) (codes "write-hash")
+        (WritesHash S.log N.given (R.remaining input.old))
+        env.old env.new (W.contents output.old) (W.contents output.new) result }
+    ensures asks { KeyedDoes (asked_of words.now) (codes "exists") (AsksHash S.log)
+        env.old env.new (W.contents output.old) (W.contents output.new) result }
+    ensures copies { FiledDoes words.now (codes "copy") (Copies S.log)
+        env.old env.new (W.contents output.old) (W.contents output.new) result }
+    ensures stores { FiledDoes words.now (codes "store")
+        (StoresFile S.log N.given S.Temp.seen C.given)
         env.old env.new (W.contents output.old) (W.contents output.new) result }
     ensures status { result ≤ 2 }
     ensures wrong { IsWrongFurther words.now → result ≡ 2 }

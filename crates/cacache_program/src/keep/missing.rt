@@ -31,14 +31,20 @@ fn cache_of(words: &[String]) -> Option<&str>
     }
 }
 
-/// Whether the store says that nothing is at the path.
+/// Whether the store says that nothing is at the path. An empty path, below which a cache may be, isn't asked for.
 fn is_missing<S: Store, C, N>(env: &mut Env<S, C, N>, path: &str) -> bool
     ensures asks { AsksMissing S.log path.now result env.old env.new }
 {
+    if path.is_empty() {
+        return false;
+    }
     let Ok(path) = Text::from_str(env.alloc, path) else {
         return false;
     };
-    there_of(env.store.step(Step::Exists(path))) == Ok(false)
+    match there_of(env.store.step(Step::Exists(path))) {
+        Ok(there) => !there,
+        Err(_) => false,
+    }
 }
 
 /// Prints that no cache is there, unless memory for the line is refused.
@@ -69,7 +75,7 @@ pub fn tell_missing<S: Store, C, N, E: Write>(
     let Some(cache) = cache_of(words) else {
         return;
     };
-    if !cache.is_empty() && is_missing(env, cache) {
+    if is_missing(env, cache) {
         put_missing(env.alloc, cache, errors);
     }
 }
