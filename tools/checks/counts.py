@@ -72,12 +72,12 @@ def helped(file):
 
 def words():
     """The words of the two programs, against the help of the one and the usage of the other."""
-    cells = table_below("README.md", "The program `cacache` has these words:")
+    cells = table_below("docs/PROGRAMS.md", "The program `cacache` has these words:")
     stated = [it for cell in cells for it in re.findall("`([^`]+)`", cell)]
-    wrong = compared("README.md", "words of cacache", stated, helped("about.rt"))
-    shown = told("README.md", r"(?s)In `crates/cacache_keep_cli`.*?\n\n(.*?)\n\n")
+    wrong = compared("docs/PROGRAMS.md", "words of cacache", stated, helped("about.rt"))
+    shown = told("docs/PROGRAMS.md", r"(?s)In `crates/cacache_keep_cli`.*?\n\n(.*?)\n\n")
     names = [it.split()[0] for it in usage("keep/about.rt")]
-    return wrong + compared("README.md", "words of cacache-keep", re.findall(r"rt try -- (\w+)", shown), names)
+    return wrong + compared("docs/PROGRAMS.md", "words of cacache-keep", re.findall(r"rt try -- (\w+)", shown), names)
 
 
 def documents():
