@@ -1,5 +1,6 @@
 -- Files that are opened, read in pieces and taken by a writer.
-use Rattle.std.{proofs.{Common.{◌≡◌, ◌++◌, ℕ, List, [], Option, Some, None, Result, Ok, Err, IfErr, IfOk, IfSome, refl, sym, subst, ap, ◌∙◌, append-nil, append_assoc}, KnownBytes.{Appends-nil, Appends-trans}}, specs.Io.KnownBytes.{Consumes, IsAtEnd}}
+use Rattle.std.proofs.{Common.{◌≡◌, ◌++◌, ℕ, List, [], Option, Some, None, Result, Ok, Err, IfErr, IfOk, IfSome, refl, sym, subst, ap, ◌∙◌, append-nil, append_assoc}, KnownBytes.{Appends-nil, Appends-trans}}
+use Rattle.std.specs.Io.KnownBytes.{Consumes, IsAtEnd}
 use Rattle.cacache_core.specs.{declared.errors.Error.{Error}, Hashers.{Holds}}
 use Rattle.cacache_store.specs.{declared.store.{log.LogItem.{LogItem}, plain.{PlainFile.{PlainFile}, PlainTemp.{PlainTemp}}}, Fits.{Fits, Logs}, Plain.{PlainAnswer}}
 use Rattle.cacache_store.specs.declared.store.answer.Answer.TheVariants as answers

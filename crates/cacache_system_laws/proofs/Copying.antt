@@ -1,20 +1,19 @@
 -- Files that are copied.
-use Rattle.std.proofs.{lemmas.List.Elements.{All-head, All-tail}, Common.{◌≡◌, ◌⊎◌, ◌==◌, ◌&&◌, ◌||◌, not, ℕ, zero, suc, Bool, true, false, if◌then◌else◌, List, [], ◌∷◌, ◌++◌, filter, length, take, refl, sym, ap, subst, ◌∙◌, ⊎_elim, inl, inr, arith, take_all, eqb-true, ne_eqb, nat_eq}}
+use Rattle.std.proofs.Common.{◌≡◌, ◌⊎◌, ◌&&◌, ◌||◌, not, ℕ, zero, suc, Bool, true, false, if◌then◌else◌, List, [], ◌∷◌, ◌++◌, length, take, refl, sym, ap, subst, ◌∙◌, ⊎_elim, inl, inr, nat_eq}
 use Rattle.std.specs.{Cmp.Lexicographic.{pointwise}, Prelude.{Option, None, Some, Result, Ok, Err, MatchResult}}
 use Rattle.std_io.specs.declared.io.kind.ErrorKind.{ErrorKind}
 use Rattle.std_io.specs.declared.io.kind.ErrorKind.TheVariants as kind
-use Rattle.cacache_core.specs.{Contexts.{fault_of}, declared.errors.Fault.{Fault, TheVariants.{NotFound, NotADirectory, IsADirectory, InvalidInput, AlreadyExists}}, PathNames.{Names, names_of, pieces, is_bad, is_name, IsProperName}, Paths.{temp_area}}
-use Rattle.cacache_core.proofs.ProperNames.{names_are_proper}
+use Rattle.cacache_core.specs.{Contexts.{fault_of}, declared.errors.Fault.{Fault, TheVariants.{NotFound, IsADirectory, InvalidInput, AlreadyExists}}, PathNames.{Names, names_of}}
 use Rattle.cacache_store.specs.{declared.store.answer.Kind.{Kind}, Plain.{PlainAnswer}}
 use Rattle.cacache_store.specs.declared.store.step.Step.TheVariants as steps
 use Rattle.cacache_store.specs.declared.store.answer.Answer.TheVariants as answers
-use Rattle.cacache_disk.specs.{declared.{luck.Luck.TheVariants.{Plain, Fail}, node.Node.{Node, TheVariants.{Folder, File, Link}}}, Tree.{Tree, look, put, cut}, LedTo.{and_then, or_fault, leads, found, file_at, writable, place, standing, free, removable, replaceable, where_there, where_free, where_no_folder}, Apply.{apply, unless, taken, left_by, fault_told, made_up}}
+use Rattle.cacache_disk.specs.{declared.{luck.Luck.TheVariants.{Plain, Fail}, node.Node.{Node, TheVariants.{Folder, File, Link}}}, Tree.{Tree, look, put, cut}, LedTo.{or_fault, leads, found, file_at, writable, place, standing, removable, replaceable, where_free, where_no_folder}, Apply.{apply, taken, fault_told, made_up}}
 use Rattle.cacache_disk.proofs.{Maps.{put_same}, FoundNodes.{place_ok, or_fault_none}}
 use Rattle.cacache_system.specs.{declared.call.{FileInfo.{FileInfo}, CallResult.{CallResult}}, CallsOf.{Stage, over, only, taking_memory, asking_source, asking_target, asking_end, making_end, resolving, making_fresh, filling, replacing, scrapping, place_fresh, source_known, target_known, copied, name_taken, already_exists, is_absent, is_link, is_same_node, fresh_name, fresh_number, fresh_beside, after}, AnswersOf.{answer_of, misses, refuses_memory}}
 use Rattle.cacache_system.specs.declared.call.SystemCall.TheVariants as asks
 use Rattle.cacache_system.specs.declared.call.CallResult.TheVariants as says
-use Rattle.cacache_system_laws.specs.{Machine.{Machine, IsRefused, ChangesTree, OpensIf, ShowsEnd, ShowsNode, Describes, CopiesBytes, MovesNode, SpellsEnd, EndsInName, with_empty}, Calls.{part_copied}, Laws.{answer_on, outcome, led_to, Leads, IsDone}, Writing.{HasNoFresh, CanCopy, CopyAgrees}}
-use Rattle.cacache_system_laws.proofs.{Refused.{same_outcome, failed, failing_apply, never_missing}, Leading.{Claim, over_leads, call_leads}, Claims.{way_of, claim_of, cases_of, taking_leads, claim_plain, claim_lucky, claim_broken, claim_memory}, Opening.{said_leads, of_some}, Views.{NoLink, View, nowhere, a_folder, a_file, view, found_at, leads_straight}, Looking.{refused_folder, wanted_file}, Fresh.{placed_as, placed_beside, look_new, own_place, own_writable, own_removable, replaceable_still, file_still, cut_new, put_new, free_at_place, dangling}, CopyFacts.{both_true, either_true, same_text, apply_copy, whole_file, writable_found, Source, Ready, same_node_numbers, writable_at, Stands, no_way, nothing, a_folder_here, a_file_here, a_link_here, stands_so, not_absent, exists_fine, absent_fault, not_taken_fault, not_taken, fault_absent, no_place, unnamed, fresh_proper}}
+use Rattle.cacache_system_laws.specs.{Machine.{Machine, IsRefused, ChangesTree, OpensIf, ShowsEnd, ShowsNode, Describes, CopiesBytes, MovesNode, SpellsEnd, with_empty}, Calls.{part_copied}, Laws.{answer_on, outcome, Leads, IsDone}, Writing.{HasNoFresh, CanCopy, CopyAgrees}}
+use Rattle.cacache_system_laws.proofs.{Refused.{same_outcome, failed, failing_apply, never_missing}, Leading.{Claim, over_leads, call_leads}, Claims.{way_of, claim_of, cases_of, taking_leads, claim_plain, claim_lucky, claim_broken, claim_memory}, Opening.{said_leads, of_some}, Views.{View, nowhere, a_folder, a_file, view}, Looking.{refused_folder, wanted_file}, Fresh.{placed_as, placed_beside, look_new, own_place, own_writable, own_removable, replaceable_still, file_still, cut_new, put_new, free_at_place, dangling}, CopyFacts.{either_true, same_text, apply_copy, whole_file, writable_found, Source, Ready, same_node_numbers, writable_at, Stands, no_way, nothing, a_folder_here, a_file_here, a_link_here, stands_so, not_absent, exists_fine, absent_fault, not_taken_fault, not_taken, fault_absent, no_place, unnamed, fresh_proper}}
 
 module _ (b : Bool) (m : Machine) (from to : List ℕ) (can : CanCopy m to) (done : b ≡ false → IsDone m (steps.Copy from to)) (clear : b ≡ true → HasNoFresh m) where
   abbrev P : Claim
