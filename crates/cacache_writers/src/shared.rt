@@ -56,7 +56,8 @@ impl<T: Drop> Shared<T> {
         let Some(mut guard) = self.kept.try_lock() else {
             return false;
         };
-        let_go(guard.temp.take());
+        let kept = &mut *guard;
+        let_go(kept.temp.take());
         true
     }
 

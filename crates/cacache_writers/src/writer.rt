@@ -59,7 +59,7 @@ impl<T: Drop> Writer<T> {
     /// let writer = block_on(&rt, cacache::Writer::create(&mut env, "my-cache", "key"))??;
     /// let worker = writer.worker()?;
     /// let thread = thread::spawn(&rt, move || worker.run(&rt, &Open))?;
-    /// let came = written(rt, &mut env, writer); // it writes and commits, or fails
+    /// let came = written(rt, &mut env, writer);
     /// thread.join(&rt);
     /// ```
     pub fn create<'a, S: Store<Temp = T>, C: Clock, N: Names>(
