@@ -36,12 +36,11 @@ class LosingDisk:
         """Notes each write and flush from now on, for `beginning`."""
         self.first, self.log = bytes(self.kept), list(self.waiting)
 
-    def beginning(self, count, chance):
-        """A disk of which the power went when so many of the noted writes and flushes had come."""
+    def beginning(self, count):
+        """A disk to which so many of the noted writes and flushes have come."""
         disk = LosingDisk(self.first)
         for it in self.log[:count]:
             disk.flush() if it is None else disk.write(*it)
-        disk.lose(chance)
         return disk
 
     def read(self, at, length):

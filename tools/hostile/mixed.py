@@ -189,11 +189,18 @@ class Mixes:
         self.count("upkeeps answered", sum(it[1:3] == ("did", "keep") for it in told))
         for _ in range(EARLIER):
             moment = self.chance.randrange(start.noted[start.lines.index("begun")], len(disk.log) + 1)
-            self.look(disk.beginning(moment, self.chance), first + count, after(*found, told, moment), f"loss {number} at {moment} requests")
+            earlier = disk.beginning(moment)
+            self.take(earlier)
+            self.look(earlier, first + count, after(*found, told, moment), f"loss {number} at {moment} requests")
         state = after(*found, told, len(disk.log))
+        self.count("writes and flushes", len(disk.log))
+        self.take(disk)
+        return state
+
+    def take(self, disk):
+        """Takes the power from a disk."""
         for name, lost in disk.lose(self.chance).items():
             self.count(f"writes since the last flush {name}", lost)
-        return state
 
     def look(self, disk, count, state, what):
         """Starts the machine to look alone."""
