@@ -21,7 +21,7 @@ WAYS = ["durable", "durable in pieces", "durable by hash", "plain", "plain in pi
 KEEPS = ["compact durably", "collect", "repair", "sweep", "compact"]
 VERSIONS = 4  # how many numbers have one key
 ROUNDS, NUMBERS = 3, 10  # of a start, and of each of its two processes in a round
-PART, EARLIER, REQUESTS = 4, 2, 700  # losses of one disk, earlier moments of a loss, and requests before a loss
+PART, EARLIER, REQUESTS = 4, 2, 500  # losses of one disk, earlier moments of a loss, and requests before a loss
 
 
 def way_of(number):
@@ -212,10 +212,11 @@ class Mixes:
     def run(self, losses):
         """So many losses; whether nothing was wrong and something was lost."""
         count = 2 * ROUNDS * NUMBERS // VERSIONS * VERSIONS
+        state = None
         for number in range(losses):
-            if number % PART == 0:
+            if number % PART == 0 or not state:  # behind a start that failed too
                 disk, first, state = LosingDisk(empty_image(self.folder, self.guest.system)), 0, State({}, {})
-            state = self.lose(disk, number, first, count, state) if state else None
+            state = self.lose(disk, number, first, count, state)
             first += count
             if state and (number % PART == PART - 1 or number == losses - 1):
                 self.look(disk, first, state, f"loss {number}")
