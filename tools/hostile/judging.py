@@ -1,8 +1,8 @@
 """What is wrong with a run of `tools/hostile/each` in which a call went wrong: each finding is a text, and its details."""
 import re
 
-from standing import Cache, bucket_path, content_path, entry, line
-from tried import FOREIGN, GONE, LIVE
+from standing import Cache, bucket_path, content_path, line
+from tried import FOREIGN, GONE, LIVE, ODD
 
 KILLS = ("before", "half", "after")
 MESSAGE = re.compile(r"Failed to |Error |Entry not found for key |Integrity check failed\.\n|out of memory\n|output failed\n|input failed\n")
@@ -78,12 +78,12 @@ def files(word, before, ran, how, gone):
 
 def lines(word, ran, gone):
     """What is wrong with the lines that this port can't read, and their contents."""
-    if word.words[0] != "clear" and "foreign" not in excused(gone):
-        what = ran.tree.get(f"c/{bucket_path('foreign')}", (0, b""))
-        if line(entry("foreign", FOREIGN, metadata={"a": 0.5})) not in what[1]:
-            yield "the line that can't be read is gone", ""
+    if word.words[0] != "clear" and "foreign" not in excused(gone) and not (gone and at_or_below(f"c/{bucket_path('other')}", gone)):
+        for key, text in ODD.items():
+            if line(text) not in ran.tree.get(f"c/{bucket_path(key)}", (0, b""))[1]:
+                yield "a line that can't be read is gone", key
         if f"c/{content_path(FOREIGN)}" not in ran.tree:
-            yield "the content of the line that can't be read is gone", ""
+            yield "the content of a line that can't be read is gone", ""
 
 
 def ended(word, plain, ran, how, gone):

@@ -5,6 +5,7 @@ import hashlib
 import json
 import os
 import pathlib
+import re
 
 NUMBER = range(0, 2**64)  # what a time and a size may be
 
@@ -89,6 +90,11 @@ def lay(root, tree):
             at.chmod(what[0])
 
 
+def is_readable(integrity):
+    """Whether the text of an integrity of one hash is one that this port reads."""
+    return bool(re.fullmatch(r"sha(?:1|256|384|512)-[A-Za-z0-9+/]{4,}={0,2}", integrity))
+
+
 class Cache:
     """What a cache says that is the folder `cache` of a tree."""
 
@@ -98,7 +104,8 @@ class Cache:
         self.entries = {}
         for bytes_of in self.buckets.values():
             for found in filter(None, map(read_entry, bytes_of.split(b"\n"))):
-                self.entries[found["key"]] = found
+                if found["integrity"] is None or is_readable(found["integrity"]):
+                    self.entries[found["key"]] = found
         self.keys = sorted(key for key, found in self.entries.items() if found["integrity"])
 
     def content(self, path):

@@ -8,6 +8,8 @@ BIG, OLD, NEW = b"beta " * 3000, b"old", b"new data " * 2000
 LIVE = {"a": b"alpha", "twin": b"alpha", "b": BIG, "over": b"over", "torn": b"torn", "empty": b"", "linked": b"linked"}
 GONE = {"gone": b"gone", "hurt": b"hurt", "dangling": b"dangling"}
 FOREIGN = b"foreign"
+# Lines that this port can't read and others may, by their keys: metadata that aren't whole, and an integrity of another kind.
+ODD = {"foreign": entry("foreign", FOREIGN, metadata={"a": 0.5}), "other": entry("other", b"other").replace("sha256-", "xxh3-")}
 
 
 class Word:
@@ -56,7 +58,8 @@ def prepared():
     for key, data in LIVE.items():
         buckets[key] += line(entry(key, data, 3)) + b"\n" * (key == "b")
         tree[f"c/{content_path(data)}"] = data
-    buckets["foreign"] += line(entry("foreign", FOREIGN, metadata={"a": 0.5}))
+    for key, text in ODD.items():
+        buckets[key] += line(text)
     tree[f"c/{content_path(FOREIGN)}"] = FOREIGN
     tree[f"c/{content_path(GONE['hurt'])}"] = b"hurT"
     del tree[f"c/{content_path(GONE['dangling'])}"]
