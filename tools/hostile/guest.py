@@ -20,13 +20,13 @@ FORMATS = {"ext4": ["mke2fs", "-q", "-t", "ext4", "-b", "4096", "-i", "4096", "-
 # What the machine does. The kernel hands on `MODULES`, `SYSTEM`, `READS` and `PUTS` from its command line: the reads and the puts, each
 # word with two numbers behind it, all joined by commas. The puts run beside one another, up to a word `wait`.
 INIT = """#!/bin/busybox sh
-for it in mount insmod mkdir sync sleep poweroff; do /bin/busybox ln -s busybox /bin/$it; done
+for it in mount insmod mkdir sync sleep poweroff dmesg tail; do /bin/busybox ln -s busybox /bin/$it; done
 export PATH=/bin
 mount -t devtmpfs dev /dev
 mount -t proc proc /proc
 IFS=,
 for it in $MODULES; do insmod /modules/$it.ko; done
-mount -t $SYSTEM /dev/vda /mnt || { echo not mounted; sleep 1000; }
+mount -t $SYSTEM /dev/vda /mnt || { dmesg | tail -n 4; echo not mounted; sleep 1000; }
 set -- $READS
 while [ $# -gt 2 ]; do
   /bin/program $1 /mnt/cache $2 $3
