@@ -1,7 +1,8 @@
 """A small virtual machine for `tools/hostile/power`: Debian's kernel, busybox, one program with its libraries, and a disk on a socket.
 
 The kernel and busybox come as Debian's packages, by apt-get, and are unpacked, not installed. No device has a driver but the disk and
-the serial console, on which the machine tells what it does, a line each.
+the serial console, on which the machine tells what it does, a line each. The file systems are those of FORMATS; what formats the disk is
+of the packages e2fsprogs, xfsprogs and btrfs-progs.
 """
 import os
 import pathlib
@@ -11,17 +12,21 @@ import subprocess
 KERNEL = "linux-image-cloud-amd64"  # the package that names the newest kernel of its kind: small, with ext4 built in
 MODULES = ["virtio/virtio_ring", "virtio/virtio", "virtio/virtio_pci_legacy_dev", "virtio/virtio_pci_modern_dev",
            "virtio/virtio_pci", "block/virtio_blk"]
+SIZE = 128 << 20  # bytes of the disk
+# How a file system is made, with the options that it has by itself, but for room for many small files.
+FORMATS = {"ext4": ["mke2fs", "-q", "-t", "ext4", "-b", "4096", "-i", "4096", "-E", "lazy_itable_init=0,lazy_journal_init=0"],
+           "xfs": ["mkfs.xfs", "-q", "--unsupported"], "btrfs": ["mkfs.btrfs", "-q", "-M"]}
 
-# What the machine does. The kernel hands on `MODULES`, `READS` and `PUTS` from its command line: the reads and the puts, each word
-# with two numbers behind it, all joined by commas. The puts run beside one another.
+# What the machine does. The kernel hands on `MODULES`, `SYSTEM`, `READS` and `PUTS` from its command line: the reads and the puts, each
+# word with two numbers behind it, all joined by commas. The puts run beside one another, up to a word `wait`.
 INIT = """#!/bin/busybox sh
-for it in mount insmod mkdir sync sleep poweroff; do /bin/busybox ln -s busybox /bin/$it; done
+for it in mount insmod mkdir sync sleep poweroff dmesg tail; do /bin/busybox ln -s busybox /bin/$it; done
 export PATH=/bin
 mount -t devtmpfs dev /dev
 mount -t proc proc /proc
 IFS=,
 for it in $MODULES; do insmod /modules/$it.ko; done
-mount -t ext4 /dev/vda /mnt || { echo not mounted; sleep 1000; }
+mount -t $SYSTEM /dev/vda /mnt || { dmesg | tail -n 4; echo not mounted; sleep 1000; }
 set -- $READS
 while [ $# -gt 2 ]; do
   /bin/program $1 /mnt/cache $2 $3
@@ -31,9 +36,11 @@ mkdir -p /mnt/cache
 sync
 echo begun
 set -- $PUTS
-while [ $# -gt 2 ]; do
-  /bin/program $1 /mnt/cache $2 $3 &
-  shift 3
+while [ $# -gt 0 ]; do
+  case $1 in
+    wait) wait; shift;;
+    *) /bin/program $1 /mnt/cache $2 $3 & shift 3;;
+  esac
 done
 wait
 echo done
@@ -82,23 +89,49 @@ def archive(files, folders):
     return bytes(out)
 
 
+def modules(kernel, system):
+    """The files of the drivers and of a file system, each behind those that it needs."""
+    root = next(kernel.glob("lib/modules/*/kernel"))
+    files = {it.stem.replace("-", "_"): it for it in root.rglob("*.ko")}
+    found = [root / "drivers" / f"{it}.ko" for it in MODULES]
+
+    def add(name):
+        needed = re.search(rb"\0depends=([^\0]*)\0", files[name].read_bytes())[1].decode().split(",")
+        for it in filter(None, needed):
+            add(it.replace("-", "_"))
+        found.extend([files[name]] if files[name] not in found else [])
+
+    if system in files:  # ext4 is in the kernel itself
+        add(system)
+    return found
+
+
+def empty_image(folder, system):
+    """The bytes of an empty file system."""
+    path = folder / "image"
+    with open(path, "wb") as image:
+        image.truncate(SIZE)
+    subprocess.run([*FORMATS[system], path], check=True, stdout=subprocess.DEVNULL)
+    return path.read_bytes()
+
+
 class Guest:
     """A machine that isn't started. Packages are got into the first folder; the second one is for what is made for this machine."""
 
-    def __init__(self, packages, folder, program):
+    def __init__(self, packages, folder, program, system="ext4"):
         kernel, busybox = (fetched(it, pathlib.Path(packages)) for it in (kernel_name(), "busybox-static"))
         self.kernel, self.start_files = next(kernel.glob("boot/vmlinuz-*")), folder / "initramfs"
-        drivers = next(kernel.glob("lib/modules/*/kernel/drivers"))
+        self.system, self.modules = system, modules(kernel, system)
         taken = {"bin/busybox": busybox / "bin/busybox", "bin/program": program}
-        taken.update({f"modules/{os.path.basename(it)}.ko": drivers / f"{it}.ko" for it in MODULES})
+        taken.update({f"modules/{it.name}": it for it in self.modules})
         taken.update({it[1:]: it for it in libraries(program)})
         files = {name: pathlib.Path(path).read_bytes() for name, path in taken.items()}
         self.start_files.write_bytes(archive({"init": INIT.encode(), **files}, ["dev", "mnt", "proc"]))
 
     def start(self, socket, reads, puts):
         """Starts the machine with its disk on this socket; its lines come on the process's output."""
-        modules = ",".join(os.path.basename(it) for it in MODULES)
-        words = f"console=ttyS0 quiet mitigations=off random.trust_cpu=on panic=-1 MODULES={modules} READS={reads} PUTS={puts}"
+        words = f"console=ttyS0 quiet mitigations=off random.trust_cpu=on panic=-1 SYSTEM={self.system} READS={reads} PUTS={puts}"
+        words += f" MODULES={','.join(it.stem for it in self.modules)}"
         return subprocess.Popen(
             ["qemu-system-x86_64", "-accel", "tcg", "-cpu", "max", "-m", "256", "-nodefaults", "-no-user-config", "-no-reboot",
              "-display", "none", "-serial", "stdio", "-kernel", self.kernel, "-initrd", self.start_files, "-append", words,

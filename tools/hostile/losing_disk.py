@@ -30,6 +30,18 @@ class LosingDisk:
         self.now, self.kept, self.waiting = bytearray(image), bytearray(image), []
         self.left = None
         self.cut = threading.Event()
+        self.remember()
+
+    def remember(self):
+        """Notes each write and flush from now on, for `beginning`."""
+        self.first, self.log = bytes(self.kept), list(self.waiting)
+
+    def beginning(self, count):
+        """A disk to which so many of the noted writes and flushes have come."""
+        disk = LosingDisk(self.first)
+        for it in self.log[:count]:
+            disk.flush() if it is None else disk.write(*it)
+        return disk
 
     def read(self, at, length):
         return bytes(self.now[at : at + length])
@@ -37,11 +49,13 @@ class LosingDisk:
     def write(self, at, data):
         self.now[at : at + len(data)] = data
         self.waiting.append((at, bytes(data)))
+        self.log.append(self.waiting[-1])
 
     def flush(self):
         for at, data in self.waiting:
             self.kept[at : at + len(data)] = data
         self.waiting = []
+        self.log.append(None)
 
     def lose(self, chance):
         """The power goes: how many of the writes since the last flush were kept whole, kept in part, and lost."""

@@ -1,0 +1,131 @@
+/* failing_calls: stands before the C library for `tools/hostile/each`, and lets one call on files go wrong.
+
+   It counts the program's calls. The one with the number EACH_AT goes wrong as EACH_HOW says: `errno N` (the call isn't made and says N),
+   `stays N` (and so does each later one of its name on the same path), `short` (a read or a write takes half of its bytes), `before`, `half` and `after` (the process is killed before the call, once a half
+   was read or written, or behind the call). EACH_TELL is a file that gets a line for that call, and for each call where EACH_AT is 0: its
+   name, and the path or what lies open under its number. */
+#define _GNU_SOURCE
+#include <dirent.h>
+#include <dlfcn.h>
+#include <errno.h>
+#include <fcntl.h>
+#include <signal.h>
+#include <stdarg.h>
+#include <stdio.h>
+#include <stdlib.h>
+#include <string.h>
+#include <sys/stat.h>
+#include <sys/syscall.h>
+#include <unistd.h>
+
+enum { WELL, ERRNO, STAYS, SHORT, BEFORE, HALF, AFTER };
+static long made, at = -1, said;
+static int how, telling = -1;
+static char staying[4200]; /* the name and the path of the call whose error stays */
+
+static void begin(void) {
+    const char *text = getenv("EACH_AT"), *kind = getenv("EACH_HOW"), *tell = getenv("EACH_TELL");
+    at = text ? atol(text) : 0;
+    kind = kind ? kind : "";
+    how = !strncmp(kind, "errno ", 6) ? ERRNO : !strncmp(kind, "stays ", 6) ? STAYS : !strcmp(kind, "short") ? SHORT : !strcmp(kind, "before") ? BEFORE
+        : !strcmp(kind, "half") ? HALF : !strcmp(kind, "after") ? AFTER : WELL;
+    said = how == ERRNO || how == STAYS ? atol(kind + 6) : 0;
+    if (tell) telling = syscall(SYS_openat, AT_FDCWD, tell, O_WRONLY | O_CREAT | O_APPEND | O_CLOEXEC, 0600);
+}
+
+/* A call's name, and the path that it is given or what lies open under its number. */
+static int show(char *line, size_t size, const char *name, const char *path, int fd) {
+    char place[64], open_path[4096] = "";
+    if (!path || !*path) {
+        snprintf(place, sizeof place, "/proc/self/fd/%d", fd);
+        long got = syscall(SYS_readlinkat, AT_FDCWD, place, open_path, sizeof open_path - 1);
+        if (got > 0) open_path[got] = 0;
+        path = fd < 3 ? "stream" : open_path;
+    }
+    return snprintf(line, size, "%s %s\n", name, path);
+}
+
+static void end(void) { syscall(SYS_kill, syscall(SYS_getpid), SIGKILL); }
+
+/* What is to go wrong with this call. */
+static int due(const char *name, const char *path, int fd) {
+    if (at < 0) begin();
+    if (fd >= 0 && fd == telling) return WELL;
+    long number = __sync_add_and_fetch(&made, 1);
+    char line[4200];
+    if (at != 0 && number != at && (how != STAYS || number < at)) return WELL;
+    int length = show(line, sizeof line, name, path, fd);
+    if (number > at && at != 0 && strcmp(line, staying)) return WELL;
+    strcpy(staying, line);
+    if (telling >= 0 && (at == 0 || number == at)) syscall(SYS_write, telling, line, length);
+    if (at == 0) return WELL;
+    if (how == BEFORE) end();
+    if (how == ERRNO || how == STAYS) errno = said;
+    return how == STAYS ? ERRNO : how;
+}
+
+#define REAL(name) ((__typeof__(&name))dlsym(RTLD_NEXT, #name))
+/* A call that fails or not: the answer of one that was made, which is the last where the process is to be killed behind it. */
+#define MADE(type, call) type answer = call; int kept = errno; if (wrong == AFTER || wrong == HALF) end(); errno = kept; return answer
+#define WHOLE(type, name, parameters, words, path, fd)            \
+    type name parameters {                                        \
+        int wrong = due(#name, path, fd);                         \
+        if (wrong == ERRNO) return -1;                            \
+        MADE(type, REAL(name) words);                             \
+    }
+#define IN_PART(name, bytes)                                      \
+    ssize_t name(int fd, bytes *data, size_t count) {             \
+        int wrong = due(#name, NULL, fd);                         \
+        if (wrong == ERRNO) return -1;                            \
+        if ((wrong == SHORT || wrong == HALF) && count > 1) count /= 2; \
+        MADE(ssize_t, REAL(name)(fd, data, count));               \
+    }
+
+IN_PART(read, void)
+IN_PART(write, const void)
+WHOLE(ssize_t, getdents64, (int fd, void *data, size_t count), (fd, data, count), NULL, fd)
+WHOLE(int, rename, (const char *from, const char *to), (from, to), to, -1)
+WHOLE(int, link, (const char *from, const char *to), (from, to), to, -1)
+WHOLE(int, symlink, (const char *target, const char *path), (target, path), path, -1)
+WHOLE(int, unlink, (const char *path), (path), path, -1)
+WHOLE(int, rmdir, (const char *path), (path), path, -1)
+WHOLE(int, mkdir, (const char *path, mode_t mode), (path, mode), path, -1)
+WHOLE(int, fsync, (int fd), (fd), NULL, fd)
+WHOLE(int, fdatasync, (int fd), (fd), NULL, fd)
+WHOLE(int, fchmod, (int fd, mode_t mode), (fd, mode), NULL, fd)
+WHOLE(int, ftruncate, (int fd, off_t size), (fd, size), NULL, fd)
+
+/* Of what lies open it is called `fstat` here. */
+int statx(int fd, const char *path, int flags, unsigned mask, struct statx *to) {
+    int wrong = due(*path ? "statx" : "fstat", path, fd);
+    if (wrong == ERRNO) return -1;
+    MADE(int, REAL(statx)(fd, path, flags, mask, to));
+}
+
+int open(const char *path, int flags, ...) {
+    va_list more;
+    va_start(more, flags);
+    mode_t mode = va_arg(more, mode_t);
+    va_end(more);
+    int wrong = due("open", path, -1);
+    if (wrong == ERRNO) return -1;
+    MADE(int, REAL(open)(path, flags, mode));
+}
+
+int openat(int fd, const char *path, int flags, ...) {
+    va_list more;
+    va_start(more, flags);
+    mode_t mode = va_arg(more, mode_t);
+    va_end(more);
+    int wrong = due("openat", path, fd);
+    if (wrong == ERRNO) return -1;
+    MADE(int, REAL(openat)(fd, path, flags, mode));
+}
+
+/* Of a close that fails the file is closed all the same. */
+int close(int fd) {
+    int wrong = due("close", NULL, fd), answer = REAL(close)(fd);
+    if (wrong == AFTER || wrong == HALF) end();
+    if (wrong == ERRNO) { errno = said; return -1; }
+    return answer;
+}
