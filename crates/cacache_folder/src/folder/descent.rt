@@ -1,137 +1,168 @@
-//! Where a walk through folders is, so that nobody leads it out of them by a link.
+//! Which folders walks went through, so that nobody leads a listing or a removal out of them by a link.
 //!
 //! A walk goes by paths: it lists a folder, then those that the listing named, and may remove what it finds. Meanwhile
 //! somebody who may write into these folders can put a link in the place of one.
-use crate::folder::folders::Folders;
+use crate::folder::folders::{Place, number_of};
 use crate::folder::node::Node;
 use std::alloc::{AllocError, Global};
+use std::collections::HashMap;
+use std::mem::swap;
 
 /// After so many steps of a walk, the folder that it removes a folder from is looked at before. A look each time would
 /// cost the clearing of a cache a tenth of its time, and an empty folder is all that is removed through a link.
 const STEPS: u32 = 16;
 
-/// The folders that a walk is in, and those that it may enter next.
-#[derive(Drop)]
-pub(crate) struct Descent {
-    /// Each lies in the one before; the first is where the walk began, and may be a link.
-    entered: Folders,
-    /// What listings named and the walk didn't enter; the next one is on top.
-    named: Folders,
-    /// How many steps were made since a folder was looked at.
-    steps: u32,
-    /// Whether the last step listed the last of the folders that the walk is in.
-    is_fresh: bool,
+/// What a folder was when a listing named it, and whether it was listed itself since.
+#[derive(Clone, Copy)]
+struct Named {
+    node: Node,
+    is_listed: bool,
 }
 
-/// Whether the path names something in the folder.
-fn is_in(path: &[u8], folder: &[u8]) -> bool {
-    let above = folder.strip_suffix(b"/").unwrap_or(folder);
-    match path.strip_prefix(above) {
-        Some([b'/', name @ ..]) => !name.contains(&b'/'),
-        _ => false,
+/// A folder that a walk listed.
+#[derive(Clone, Copy)]
+pub(crate) struct Known {
+    /// What it was when a listing named it.
+    pub(crate) node: Node,
+    /// How long the path of a folder that leads to it is at least, if somebody may have put a link there.
+    pub(crate) from: usize,
+}
+
+/// A walk through a folder and those below it.
+#[derive(Drop)]
+struct Walk {
+    /// How long the path is at which it began, or one more if a link led from there.
+    from: usize,
+    /// The folders that its listings named, by the numbers of their paths.
+    named: HashMap<u64, Named>,
+}
+
+impl Walk {
+    /// None yet.
+    fn new(alloc: Global) -> Walk {
+        Walk {
+            from: 0,
+            named: HashMap::new(alloc),
+        }
     }
+
+    /// The folder whose path has this number, if the walk listed it.
+    fn known(&self, number: u64) -> Option<Known> {
+        match self.named.get(&number) {
+            Some(named) => if named.is_listed {
+                Some(Known {
+                    node: named.node,
+                    from: self.from,
+                })
+            } else {
+                None
+            },
+            None => None,
+        }
+    }
+}
+
+/// The last two walks: a collection goes through the contents and through the index, and then it removes contents.
+#[derive(Drop)]
+pub(crate) struct Descent {
+    last: Walk,
+    before: Walk,
+    /// The number of the folder that the step before listed, or of none.
+    fresh: u64,
+    /// How many steps were made since a folder was looked at.
+    steps: u32,
 }
 
 impl Descent {
     /// Before any walk.
     pub(crate) fn new(alloc: Global) -> Descent {
         Descent {
-            entered: Folders::new(alloc),
-            named: Folders::new(alloc),
+            last: Walk::new(alloc),
+            before: Walk::new(alloc),
+            fresh: 0,
             steps: 0,
-            is_fresh: false,
         }
     }
 
-    /// What the folder at the path was, if a listing named it and the walk may enter it now. Those that it passed over
-    /// are forgotten.
-    pub(crate) fn next(&mut self, path: &str) -> Option<Node> {
-        for _ in 0..self.named.len() {
-            let next = match self.named.top() {
-                Some((named, node)) if named == path.as_bytes() => Some(node),
-                _ => None,
-            };
-            self.named.pop();
-            if next.is_some() {
-                return next;
+    /// Whether a listing of the last walk named the folder at the path, which wasn't listed since.
+    pub(crate) fn enter(&mut self, path: &str) -> bool {
+        match self.last.named.get_mut(&number_of(path)) {
+            Some(named) => {
+                let is_first = !named.is_listed;
+                named.is_listed = true;
+                is_first
             }
+            None => false,
         }
-        None
     }
 
-    /// Enters a folder that a listing named, and leaves those that it doesn't lie in.
-    fn enter(&mut self, path: &str, node: Node) -> Result<(), AllocError> {
-        for _ in 0..self.entered.len() {
-            if self.is_within(path) {
-                break;
-            }
-            self.entered.pop();
-        }
-        self.entered.push(path.as_bytes(), node)
-    }
-
-    /// Begins a walk at the folder with this path.
-    fn begin(&mut self, path: &str) -> Result<(), AllocError> {
-        self.entered.clear();
-        self.named.clear();
+    /// Begins a walk at the folder with this path, to which a link may have led.
+    fn begin(&mut self, path: &str, was_led: bool) {
+        swap(&mut self.last, &mut self.before);
+        self.last.named.clear();
+        let top = path.trim_end_matches('/').len().max(1);
+        self.last.from = if was_led { top.saturating_add(1) } else { top };
         self.steps = 0;
-        self.entered.push(path.as_bytes(), Node::unknown())
     }
 
-    /// Keeps that the folder at the path was listed, and which folders the listing named. It is `next`, or where a walk
-    /// begins.
+    /// Keeps that the folder at the path was listed, and which folders the listing named. A walk begins there unless it
+    /// was named itself.
     pub(crate) fn list(
         &mut self,
         path: &str,
-        next: Option<Node>,
-        named: Folders,
+        was_named: bool,
+        was_led: bool,
+        folders: Vec<Place>,
     ) -> Result<(), AllocError> {
-        match next {
-            Some(node) => self.enter(path, node)?,
-            None => self.begin(path)?,
+        if !was_named {
+            self.begin(path, was_led);
         }
+        self.fresh = number_of(path);
         self.steps = self.steps.saturating_add(1);
-        self.is_fresh = true;
-        let mut named = named;
-        for _ in 0..named.len() {
-            if let Some((path, node)) = named.top() {
-                self.named.push(path, node)?;
-            }
-            named.pop();
+        for place in folders {
+            let named = Named {
+                node: place.node,
+                is_listed: false,
+            };
+            self.last.named.insert(place.number, named)?;
         }
         Ok(())
     }
 
-    /// Whether the path names something in the last of the folders that the walk is in.
-    fn is_within(&self, path: &str) -> bool {
-        matches!(self.entered.top(), Some((last, _)) if is_in(path.as_bytes(), last))
-    }
-
-    /// Before a file or a link is removed: whether its folder is to be looked at. It is in each folder that the walk is
-    /// in, unless that was listed by the step before.
-    pub(crate) fn is_due_for_file(&mut self, path: &str) -> bool {
-        let is_fresh = self.is_fresh;
-        self.is_fresh = false;
-        self.steps = self.steps.saturating_add(1);
-        !is_fresh && self.is_within(path)
-    }
-
-    /// Before a folder is removed, which the walk leaves then: whether the folder that it lies in is to be looked at.
-    pub(crate) fn is_due_for_folder(&mut self, path: &str) -> bool {
-        self.is_fresh = false;
-        self.steps = self.steps.saturating_add(1);
-        if matches!(self.entered.top(), Some((last, _)) if last == path.as_bytes()) {
-            self.entered.pop();
+    /// The folder whose path has this number, if one of the walks listed it.
+    fn known(&self, number: u64) -> Option<Known> {
+        match self.last.known(number) {
+            Some(known) => Some(known),
+            None => self.before.known(number),
         }
-        self.steps > STEPS && self.is_within(path)
     }
 
-    /// The folders that the walk is in. The first is where it began.
-    pub(crate) fn entered(&self) -> &Folders {
-        &self.entered
+    /// Before a file or a link is removed from a folder: what is known of the folder, if it is to be looked at. It is,
+    /// unless the step before listed it.
+    pub(crate) fn due_for_file(&mut self, folder: &str) -> Option<Known> {
+        let number = number_of(folder);
+        let is_fresh = number == self.fresh;
+        self.fresh = 0;
+        self.steps = self.steps.saturating_add(1);
+        if is_fresh { None } else { self.known(number) }
     }
 
-    /// Keeps that the folder was looked at.
+    /// Before the folder at the path is removed from another one, which the walks leave then: what is known of the
+    /// other, if it is to be looked at.
+    pub(crate) fn due_for_folder(&mut self, path: &str, folder: &str) -> Option<Known> {
+        let number = number_of(path);
+        self.last.named.remove(&number);
+        self.before.named.remove(&number);
+        self.fresh = 0;
+        self.steps = self.steps.saturating_add(1);
+        if self.steps > STEPS {
+            self.known(number_of(folder))
+        } else {
+            None
+        }
+    }
+
+    /// Keeps that a folder was looked at.
     pub(crate) fn mark_looked(&mut self) {
         self.steps = 0;
     }

@@ -8,8 +8,7 @@ ghost use Rattle.cacache_system.specs.ListedNames as told;
 ghost use Rattle.cacache_folder.specs.Listings.{NamesEntry, EntersName, AsksKind, AsksKindIfText, FindsKind, ListsName};
 
 use crate::folder::escaped::text_of_name;
-use crate::folder::folders::Folders;
-use crate::folder::node::Node;
+use crate::folder::folders::Place;
 use crate::folder::paths::is_absent;
 use cacache_store::store::{Kind, Name};
 use cacache_system::{FileInfo, System};
@@ -25,7 +24,9 @@ pub(crate) type Looked<T> = Result<T, ErrorKind>;
 pub(crate) struct Listed {
     pub(crate) names: Vec<Name>,
     /// Those of the names that are folders.
-    pub(crate) folders: Folders,
+    pub(crate) folders: Vec<Place>,
+    /// Whether a link led to the folder.
+    pub(crate) was_led: bool,
 }
 
 /// Whether the name has this byte.
@@ -94,15 +95,15 @@ fn enter(alloc: Global, names: &mut Vec<Name>, name: &[u8], kind: Kind) -> Looke
 }
 
 /// Notes what stands at the path, if that is a folder.
-fn note(folders: &mut Folders, path: &str, info: &FileInfo) -> Result<(), AllocError> {
-    match info.kind {
-        Kind::Folder => folders.push(path.as_bytes(), Node::of(info)),
-        _ => Ok(()),
+fn note(folders: &mut Vec<Place>, path: &str, info: &FileInfo) -> Result<(), AllocError> {
+    if matches!(info.kind, Kind::Folder) {
+        folders.push(Place::new(path, info))?;
     }
+    Ok(())
 }
 
 /// What kind of thing stands at the path; None if it was removed since the folder was read. A folder is noted.
-fn kind_at<Y: System>(system: &mut Y, folders: &mut Folders, path: &str) -> Looked<Option<Kind>>
+fn kind_at<Y: System>(system: &mut Y, folders: &mut Vec<Place>, path: &str) -> Looked<Option<Kind>>
     ensures { AsksKind path.now result (Y.calls system.old) (Y.calls system.new) }
 {
     match system.stat_link(path) {
@@ -121,7 +122,7 @@ fn kind_at<Y: System>(system: &mut Y, folders: &mut Folders, path: &str) -> Look
 /// The same where the path is text. The runtime is asked by texts alone: what has a name that is none counts as a file.
 fn kind_if_text<Y: System>(
     system: &mut Y,
-    folders: &mut Folders,
+    folders: &mut Vec<Place>,
     path: &[u8],
 ) -> Looked<Option<Kind>>
     ensures { AsksKindIfText path.now result (Y.calls system.old) (Y.calls system.new) }
@@ -135,7 +136,7 @@ fn kind_if_text<Y: System>(
 /// The same under a name of a folder, whose path ends in a `/`.
 fn kind_below<Y: System>(
     system: &mut Y,
-    folders: &mut Folders,
+    folders: &mut Vec<Place>,
     folder: &mut Vec<u8>,
     name: &[u8],
 ) -> Looked<Option<Kind>>

@@ -13,7 +13,6 @@ ghost use Rattle.cacache_folder.specs.Listings.{ListsNames, CutsName, ReadsNames
 use crate::folder::SystemStore;
 use crate::folder::again::ask_for_names;
 use crate::folder::entries::{Listed, Looked, add};
-use crate::folder::folders::Folders;
 use crate::folder::paths::is_absent;
 use cacache_store::store::Listing;
 use cacache_system::System;
@@ -150,22 +149,30 @@ fn fill<Y: System + AllocGlobal>(
     Err(ErrorKind::FileTooLarge)
 }
 
+/// A folder that was opened, and whether a link led to it.
+#[derive(Drop)]
+struct Opened<D> {
+    folder: D,
+    was_led: bool,
+}
+
 /// The names that an open folder gives, whose path ends in a `/`.
 fn names_from<Y: System + AllocGlobal>(
     system: &mut Y,
-    opened: Y::Folder,
+    opened: Opened<Y::Folder>,
     folder: String,
 ) -> Looked<Listed>
     ensures proper { IfOk result (λ listed. AreProperNames listed.names.items) }
-    ensures ran { ReadsAllNames (Y.folder_number opened) folder.bytes.items []
+    ensures ran { ReadsAllNames (Y.folder_number opened.folder) folder.bytes.items []
         (λ listed. listed.names.items) result (Y.calls system.old) (Y.calls system.new) }
 {
     let alloc = system.alloc();
-    let mut open = opened;
+    let mut open = opened.folder;
     let mut folder = folder.into_bytes();
     let mut listed = Listed {
         names: Vec::new(alloc),
-        folders: Folders::new(alloc),
+        folders: Vec::new(alloc),
+        was_led: opened.was_led,
     };
     match fill(system, &mut listed, &mut open, &mut folder) {
         Ok(()) => Ok(listed),
@@ -182,12 +189,16 @@ fn is_no_folder(kind: ErrorKind) -> bool
 
 /// Opens a folder to which a link may lead; one that leads to nothing is none. `folder` is its path with a `/` behind
 /// it.
-fn open_led<Y: System>(system: &mut Y, folder: &str) -> Looked<Y::Folder>
-    ensures { (path : List ℕ) → folder.now ≡ with_slash path → OpensFolder Y.folder_number
+fn open_led<Y: System>(system: &mut Y, folder: &str) -> Looked<Opened<Y::Folder>>
+    ensures { (path : List ℕ) → folder.now ≡ with_slash path
+        → OpensFolder (λ opened. Y.folder_number opened.folder)
         (calls.following path) path result (Y.calls system.old) (Y.calls system.new) }
 {
     match system.open_folder(folder) {
-        Ok(open) => Ok(open),
+        Ok(folder) => Ok(Opened {
+            folder,
+            was_led: true,
+        }),
         Err(error) => if is_absent(error.kind()) {
             Err(ErrorKind::NotADirectory)
         } else {
@@ -203,12 +214,15 @@ fn open_folder<Y: System>(
     path: &str,
     folder: &str,
     was_named: bool,
-) -> Looked<Y::Folder>
-    ensures { OpensPath Y.folder_number was_named path.now folder.now result
-        (Y.calls system.old) (Y.calls system.new) }
+) -> Looked<Opened<Y::Folder>>
+    ensures { OpensPath (λ opened. Y.folder_number opened.folder) was_named path.now folder.now
+        result (Y.calls system.old) (Y.calls system.new) }
 {
     match system.open_folder(path) {
-        Ok(open) => Ok(open),
+        Ok(folder) => Ok(Opened {
+            folder,
+            was_led: false,
+        }),
         Err(error) => if is_no_folder(error.kind()) {
             if was_named {
                 Err(ErrorKind::NotADirectory)
@@ -248,9 +262,15 @@ impl<Y: System + AllocGlobal + Clone + Drop> SystemStore<Y> {
         ensures ran { ValueRuns (steps.ReadDir path.now) (λ listing. answers.Names listing) result
             (Y.calls self.old.system) (Y.calls self.new.system) }
     {
-        let next = self.descent.next(path);
-        match names_in(&mut self.system, path, next.is_some()) {
-            Ok(Listed { names, folders }) => match self.descent.list(path, next, folders) {
+        let was_named = self.descent.enter(path);
+        match names_in(&mut self.system, path, was_named) {
+            Ok(
+                Listed {
+                    names,
+                    folders,
+                    was_led,
+                },
+            ) => match self.descent.list(path, was_named, was_led, folders) {
                 Ok(()) => Ok(Listing::new(names)),
                 Err(_) => Err(io::Error::from(ErrorKind::OutOfMemory)),
             },

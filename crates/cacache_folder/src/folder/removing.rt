@@ -6,18 +6,14 @@ ghost use Rattle.cacache_folder.specs.Looks.{Descends, LooksFirst, LooksAt, Look
 ghost use Rattle.cacache_folder.specs.StepClauses.{ValueRuns};
 
 use crate::folder::SystemStore;
-use crate::folder::folders::Folders;
+use crate::folder::descent::Known;
+use crate::folder::folders::folder_of;
 use crate::folder::node::Node;
 use crate::folder::refusing::if_folder;
 use cacache_store::store::Kind;
 use cacache_system::{FileInfo, System};
 use std::io;
 use std::io::ErrorKind;
-
-/// The path of a folder as a text, which it is.
-fn text_of(path: &[u8]) -> &str {
-    std::str::from_utf8(path).unwrap_or_default()
-}
 
 /// Looks whether a folder stands at the path, and no link.
 fn look_at<Y: System>(system: &mut Y, path: &str) -> io::Result<()>
@@ -32,12 +28,23 @@ fn look_at<Y: System>(system: &mut Y, path: &str) -> io::Result<()>
     }
 }
 
-/// Looks at the folders between the first and the last that a walk is in.
-fn look_between<Y: System>(system: &mut Y, entered: &Folders) -> io::Result<()>
+/// The path of the folder that ends before this byte of a path, if it is a `/`.
+fn folder_before(path: &str, at: usize) -> Option<&str> {
+    match path.split_at_checked(at) {
+        Some((folder, rest)) if rest.starts_with('/') => Some(folder),
+        _ => None,
+    }
+}
+
+/// Looks at the folders that lead to a folder whose paths have at least so many bytes.
+fn look_above<Y: System>(system: &mut Y, folder: &str, from: usize) -> io::Result<()>
     ensures { Descends result (Y.calls system.old) (Y.calls system.new) }
 {
-    for below in 1..entered.len().saturating_sub(1) {
-        match look_at(system, text_of(entered.path(below).unwrap_or_default())) {
+    for at in from..folder.len() {
+        let Some(above) = folder_before(folder, at) else {
+            continue;
+        };
+        match look_at(system, above) {
             Ok(()) => {}
             Err(error) => return Err(error),
         }
@@ -45,12 +52,12 @@ fn look_between<Y: System>(system: &mut Y, entered: &Folders) -> io::Result<()>
     Ok(())
 }
 
-/// Looks at them, and then at the last.
-fn look_at_all<Y: System>(system: &mut Y, entered: &Folders, last: &str) -> io::Result<()>
-    ensures { LooksToLast last.now result (Y.calls system.old) (Y.calls system.new) }
+/// Looks at them, and then at the folder.
+fn look_at_all<Y: System>(system: &mut Y, folder: &str, from: usize) -> io::Result<()>
+    ensures { LooksToLast folder.now result (Y.calls system.old) (Y.calls system.new) }
 {
-    match look_between(system, entered) {
-        Ok(()) => look_at(system, last),
+    match look_above(system, folder, from) {
+        Ok(()) => look_at(system, folder),
         Err(error) => Err(error),
     }
 }
@@ -65,38 +72,31 @@ fn is_listed(info: &FileInfo, node: Node) -> bool
     }
 }
 
-/// Looks whether the folders that a walk is in are folders still, and no links. The last of them tells it of all, where
-/// it is the one that was listed.
-fn look<Y: System>(system: &mut Y, entered: &Folders) -> io::Result<()>
+/// Looks whether a folder and those that lead to it are folders still, and no links. It tells of all, if it is the one
+/// that was listed.
+fn look<Y: System>(system: &mut Y, folder: &str, known: Known) -> io::Result<()>
     ensures { LooksFirst result (Y.calls system.old) (Y.calls system.new) }
 {
-    let Some((last, node)) = entered.top() else {
-        return Ok(());
-    };
-    if entered.len() < 2 {
-        return Ok(());
-    }
-    let last = text_of(last);
-    match system.stat_link(last) {
-        Ok(info) => if is_listed(&info, node) {
+    match system.stat_link(folder) {
+        Ok(info) => if is_listed(&info, known.node) {
             Ok(())
         } else {
-            look_at_all(system, entered, last)
+            look_at_all(system, folder, known.from)
         },
         Err(error) => Err(error),
     }
 }
 
 impl<Y: System + AllocGlobal + Clone + Drop> SystemStore<Y> {
-    /// Looks at the folders that a walk is in, and refuses where somebody put a link in the place of one.
-    fn look_if(&mut self, is_due: bool) -> io::Result<()>
+    /// Looks at the folder, if it is due, and refuses where somebody put a link in its place or on the way to it.
+    fn look_if(&mut self, folder: &str, due: Option<Known>) -> io::Result<()>
         ensures looks { LooksFirst result (Y.calls self.old.system) (Y.calls self.new.system) }
         ensures kept { self.new.reason ≡ self.old.reason }
     {
-        if !is_due {
+        let Some(known) = due else {
             return Ok(());
-        }
-        match look(&mut self.system, self.descent.entered()) {
+        };
+        match look(&mut self.system, folder, known) {
             Ok(()) => {
                 self.descent.mark_looked();
                 Ok(())
@@ -111,8 +111,9 @@ impl<Y: System + AllocGlobal + Clone + Drop> SystemStore<Y> {
         ensures ran { ValueRuns (steps.RemoveFile path.now) (λ _. answers.Done) result
             (Y.calls self.old.system) (Y.calls self.new.system) }
     {
-        let is_due = self.descent.is_due_for_file(path);
-        match self.look_if(is_due) {
+        let folder = folder_of(path);
+        let due = self.descent.due_for_file(folder);
+        match self.look_if(folder, due) {
             Ok(()) => self.system.remove_file(path),
             Err(error) => Err(error),
         }
@@ -124,8 +125,9 @@ impl<Y: System + AllocGlobal + Clone + Drop> SystemStore<Y> {
         ensures ran { ValueRuns (steps.RemoveDir path.now) (λ _. answers.Done) result
             (Y.calls self.old.system) (Y.calls self.new.system) }
     {
-        let is_due = self.descent.is_due_for_folder(path);
-        match self.look_if(is_due) {
+        let folder = folder_of(path);
+        let due = self.descent.due_for_folder(path, folder);
+        match self.look_if(folder, due) {
             Ok(()) => self.system.remove_folder(path),
             Err(error) => Err(error),
         }

@@ -5,10 +5,10 @@ use Rattle.cacache_folder.proofs.folder.SystemStore.read_dir.Goals as goal
 
 pub returns-in-Ok-list-clause-ran : goal.returns-in-Ok-list-clause-ran
 returns-in-Ok-list-clause-ran g c =
-    lists_run c.args.path.now c.is_some.result (λ listed. listed.names.items) c.in-Ok.field-0 c.new.result
+    lists_run c.args.path.now c.enter-was_named.result (λ listed. listed.names.items) c.in-Ok.field-0 c.new.result
     (g.Y.System.calls c.args.self.now.system) (g.Y.System.calls c.names_in.new.system) c.in-Ok.ensures.ran c.new.ensures
 
 pub returns-in-Err-list-clause-ran : goal.returns-in-Err-list-clause-ran
 returns-in-Err-list-clause-ran g c =
-    lists_lost c.args.path.now c.is_some.result (λ listed. listed.names.items) c.in-Ok.field-0 (error_kind c.from.result)
+    lists_lost c.args.path.now c.enter-was_named.result (λ listed. listed.names.items) c.in-Ok.field-0 (error_kind c.from.result)
     (g.Y.System.calls c.args.self.now.system) (g.Y.System.calls c.names_in.new.system) c.in-Ok.ensures.ran c.from.ensures

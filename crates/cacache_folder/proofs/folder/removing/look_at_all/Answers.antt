@@ -9,8 +9,8 @@ use Rattle.cacache_folder.proofs.folder.removing.look_at_all.Goals as goal
 
 pub returns-in-Ok : goal.returns-in-Ok
 returns-in-Ok g c =
-    descends_last tt c.look_at.result c.args.last.now (g.Y.System.calls c.args.system.now) (g.Y.System.calls c.look_between.new.system) (g.Y.System.calls c.look_at.new.system)
+    descends_last tt c.look_at.result c.args.folder.now (g.Y.System.calls c.args.system.now) (g.Y.System.calls c.look_above.new.system) (g.Y.System.calls c.look_at.new.system)
     c.in-Ok.ensures c.look_at.ensures
 
 pub returns-in-Err : goal.returns-in-Err
-returns-in-Err g c = λ call. c.in-Err.ensures (c.args.last.now ∷ []) call
+returns-in-Err g c = λ call. c.in-Err.ensures (c.args.folder.now ∷ []) call
