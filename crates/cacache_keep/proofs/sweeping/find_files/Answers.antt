@@ -5,9 +5,9 @@ use Rattle.cacache_keep_laws.specs.Temporary.{area_of, cache_folder}
 use Rattle.cacache_keep.{specs.Sweeping.{ListsFolder, StopsFinding, StopsFolder, swept_folder}, proofs.Stopped.{error_as}}
 use Rattle.cacache_keep.proofs.sweeping.find_files.Goals as goal
 
-none_ok : {X E : Type 0} {P : X → Type 0} (r : Result X E) (e : E) → IsErrAnd r (λ x. x ≡ e) → IfOk r P
-none_ok (Ok x) e same = absurd same
-none_ok (Err x) e same = tt
+none_ok : {X E : Type 0} (P : X → Type 0) (r : Result X E) (e : E) → IsErrAnd r (λ x. x ≡ e) → IfOk r P
+none_ok P (Ok x) e same = absurd same
+none_ok P (Err x) e same = tt
 
 pub returns-in_err-around-clause-stops : goal.returns-in_err-around-clause-stops
 returns-in_err-around-clause-stops g c =
@@ -50,7 +50,7 @@ returns-in_err-in_its_place-in-Some g c =
     let around = c.in_ok-around.around.items in
     let lists = subst (λ (f : List ℕ). ListsFolder f around old looked) c.cache_folder.ensures c.in_ok-around.ensures.lists in
     record {
-      finds = none_ok c.from_residual-in_err-in_its_place-in-Some.result OutOfMemory c.from_residual-in_err-in_its_place-in-Some.ensures.1;
+      finds = none_ok _ c.from_residual-in_err-in_its_place-in-Some.result OutOfMemory c.from_residual-in_err-in_its_place-in-Some.ensures.1;
       stops = error_as (λ x. StopsFinding c.args.cache.now x old looked) c.from_residual-in_err-in_its_place-in-Some.result OutOfMemory
           c.from_residual-in_err-in_its_place-in-Some.ensures.1 (inr (around, looked, lists, inl (refl, refl)));
     }
