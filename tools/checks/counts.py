@@ -58,17 +58,23 @@ def crate_tables():
 def usage(file):
     """The words of a program, as its usage text has them."""
     text = told(f"crates/cacache_program/src/{file}", r'USAGE: &str =\s*"usage: [\w-]+ (.*?)\\n"')
-    for part in text.split(" | "):
+    for part in re.sub(r" \[.*?\]", "", text).split(" | "):
         names, *arguments = part.split()
         yield from (" ".join([name, *arguments]) for name in names.split("|"))
 
 
+def helped(file):
+    """The words of a program, as its help has them, but for those that stand before others."""
+    text = told(f"crates/cacache_program/src/{file}", r'(?s)HELP: &str =\s*"[^\n]*\n(.*?)";')
+    for cell in re.findall(r"(?m)^  (\S.*?)  ", text):
+        yield from (it for it in cell.split(", ") if it != "--why")
+
+
 def words():
-    """The words of the two programs, against their usage texts."""
+    """The words of the two programs, against the help of the one and the usage of the other."""
     cells = table_below("docs/PROGRAMS.md", "The program `cacache` has these words:")
     stated = [it for cell in cells for it in re.findall("`([^`]+)`", cell)]
-    options = re.findall(r'"(--\w+)" =>', source(TOP / "crates/cacache_program/src/about.rt"))
-    wrong = compared("docs/PROGRAMS.md", "words of cacache", stated, [*usage("about.rt"), *options])
+    wrong = compared("docs/PROGRAMS.md", "words of cacache", stated, helped("about.rt"))
     shown = told("docs/PROGRAMS.md", r"(?s)In `crates/cacache_keep_cli`.*?\n\n(.*?)\n\n")
     names = [it.split()[0] for it in usage("keep/about.rt")]
     return wrong + compared("docs/PROGRAMS.md", "words of cacache-keep", re.findall(r"rt try -- (\w+)", shown), names)

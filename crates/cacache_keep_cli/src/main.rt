@@ -2,7 +2,7 @@
 #![tactic(auto)]
 
 use cacache::env::folders;
-use cacache_program::keep::{run, said};
+use cacache_program::keep::{run, said, tell_missing};
 use cacache_program::{Errors, asks_why, tell, without_words, words_of};
 use std::io::Write;
 use std::process::ExitCode;
@@ -22,5 +22,6 @@ fn main(rt: HostRuntime) -> ExitCode {
         let _ = errors.output.write_all(b"out of memory\n");
         return ExitCode::from(1);
     };
+    tell_missing(&mut env, words, &mut errors);
     ExitCode::from(run(&mut env, words, &mut rt.stdout(), &mut errors))
 }

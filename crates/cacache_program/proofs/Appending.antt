@@ -1,6 +1,7 @@
 -- What one write after another puts on an output.
-use Rattle.std.proofs.{Common.{ℕ, ◌+◌, ◌-◌, List, [], Option, length, take, drop, subst, append-nil}, Math.Seq.{take-add}, lemmas.List.{take_rest}, KnownBytes.{Appends-nil, Appends-trans, Appends-kept}}
+use Rattle.std.proofs.{Common.{◌⊎◌, inl, inr, OnErr, OnOk, Result, Ok, Err, ℕ, ◌+◌, ◌-◌, List, [], Option, length, take, drop, subst, append-nil}, Math.Seq.{take-add}, lemmas.List.{take_rest}, KnownBytes.{Appends-nil, Appends-trans, Appends-kept}}
 use Rattle.std.specs.Io.KnownBytes.{Appends, Keeps}
+use Rattle.cacache_program.specs.Output.{AppendsPart}
 
 -- bytes that are kept grow by none
 pub kept_appends : (a b : Option (List ℕ)) → Keeps a b → Appends a b []
@@ -15,3 +16,8 @@ appends_more a b c bytes n m p q =
 -- some bytes, and then none
 pub appends_no_more : (a b c : Option (List ℕ)) (bytes : List ℕ) → Appends a b bytes → Appends b c [] → Appends a c bytes
 appends_no_more a b c bytes p q = subst (Appends a c) (append-nil bytes) (Appends-trans a b c bytes [] p q)
+
+-- whatever a write of all the bytes returned, the output has them or a beginning of them
+pub written_so_far : {X E : Type 0} (r : Result X E) (a b : Option (List ℕ)) (bytes : List ℕ) → OnOk r (Appends a b bytes) → OnErr r (AppendsPart a b bytes) → Appends a b bytes ⊎ AppendsPart a b bytes
+written_so_far (Ok x) a b bytes whole part = inl whole
+written_so_far (Err e) a b bytes whole part = inr part

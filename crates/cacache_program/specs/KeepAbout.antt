@@ -3,7 +3,7 @@ use Rattle.std.specs.Prelude.{ℕ, List, ◌++◌, codes}
 
 -- what is said to wrong words
 abbrev pub usage_text : List ℕ
-usage_text = codes "usage: cacache-keep verify|collect|plan|sweep|repair|compact CACHE\n"
+usage_text = codes "usage: cacache-keep verify [--list]|collect|plan|sweep|repair|compact CACHE\n"
 
 -- a line for each word
 abbrev pub words_text : List ℕ
@@ -11,15 +11,16 @@ words_text =
     codes "  verify CACHE   counts good and damaged contents, entries without one, and other files;\n"
     ++ codes "                 the status is 3 if there are any but good contents\n"
     ++ codes "  verify --list CACHE\n"
-    ++ codes "                 the same, and behind it a line for each but the good contents, which names it\n"
+    ++ codes "                 the same, and after it a line for each but the good contents, which names it;\n"
+    ++ codes "                 in a path, \\\\ stands for \\, and \\x and two hex digits for a control character\n"
     ++ codes "  collect CACHE  removes the contents that no entry has, and counts the kept and the dropped\n"
     ++ codes "  plan CACHE     counts what collect would keep and drop, and changes nothing\n"
     ++ codes "  sweep CACHE    removes temporary files, and counts them, their bytes, and other files there\n"
     ++ codes "  repair CACHE   removes damaged contents, and the keys that lead to none, and counts both\n"
     ++ codes "  compact CACHE  writes the index anew without old lines, and counts the buckets and bytes saved\n"
     ++ codes "  --why          before these words: says in brackets why a call failed\n"
-    ++ codes "  --help         prints this\n"
-    ++ codes "  --version      prints the version\n"
+    ++ codes "  --help, -h     prints this\n"
+    ++ codes "  --version, -V  prints the version\n"
 
 -- what is said to `--help`: the usage, and these lines
 abbrev pub help_text : List ℕ

@@ -21,3 +21,12 @@ pub mod WordSweep
 pub mod WordCompact
 pub mod KeepFails
 pub mod KeepValues
+pub mod Escaping
+pub mod KeepMissing
+pub mod WithIntegrity
+pub mod WordCopy
+pub mod WordExists
+pub mod WordReadHash
+pub mod WordStore
+pub mod WordWriteHash
+pub mod FurtherWords

@@ -2,7 +2,7 @@
 use Rattle.std.specs.{Prelude.{◌≡◌, ◌++◌, ℕ, List, [], ◌∷◌, Option, codes, length}, List.{flat_map}}
 use Rattle.cacache_core.specs.declared.integrity.digest.Hash.{Hash}
 use Rattle.cacache.specs.{Stores.{LogItem}, Calls.{Env}, Entries.{Found}, Integrities.{integrity_text}}
-use Rattle.cacache_program.specs.{Output.{PutsOutWith}, PrintedEntries.{entry_text}, WordVerify.{VerifiesTelling, verdict_status, verdict_text}}
+use Rattle.cacache_program.specs.{Escaping.{escaped}, Output.{PutsOutWith}, PrintedEntries.{entry_text}, WordVerify.{VerifiesTelling, verdict_status, verdict_text}}
 
 -- the line of a damaged content: its address
 abbrev pub damaged_line : List Hash → List ℕ
@@ -12,9 +12,9 @@ damaged_line i = codes "damaged " ++ (integrity_text i ++ 10 ∷ [])
 abbrev pub dangling_line : Found → List ℕ
 dangling_line f = codes "dangling " ++ (entry_text f ++ 10 ∷ [])
 
--- the line of what lies among the contents and is none: its path
+-- the line of what lies among the contents and is none: its path, escaped
 abbrev pub strange_line : List ℕ → List ℕ
-strange_line path = codes "strange " ++ (path ++ 10 ∷ [])
+strange_line path = codes "strange " ++ (escaped path ++ 10 ∷ [])
 
 -- a line each
 abbrev pub list_text : List (List Hash) → List Found → List (List ℕ) → List ℕ

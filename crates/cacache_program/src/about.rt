@@ -1,6 +1,6 @@
 //! What a program says of itself.
-ghost use Rattle.std.specs.Prelude.{◌≡◌, ◌⊎◌, IfNone, IfSome, IsSomeAnd, codes};
-ghost use Rattle.cacache_program.specs.About.{IsWord, help_text, usage_text, version_text};
+ghost use Rattle.std.specs.Prelude.{◌≡◌, ◌⊎◌, IfNone, IfSome, IsSomeAnd};
+ghost use Rattle.cacache_program.specs.About.{AsksHelp, AsksVersion, help_text, usage_text, version_text};
 ghost use Rattle.cacache_program.specs.Output.{PutsOut};
 
 use crate::errors::Errors;
@@ -14,16 +14,22 @@ pub const USAGE: &str =
 /// What the program says to `--help`: the usage, and a line for each word.
 pub const HELP: &str =
     "usage: cacache write|read|find|remove CACHE KEY | ls|clear CACHE | storm THREADS KEYS
-  write CACHE KEY     stores standard input under the key, and prints its integrity
-  read CACHE KEY      prints what is stored under the key, once it is verified
-  find CACHE KEY      prints the key's entry, or none
-  remove CACHE KEY    removes the key's entry; what was stored stays
-  ls CACHE            prints the entries of all keys, each on a line
-  clear CACHE         removes all that lies in the folder of the cache
-  storm THREADS KEYS  tries 1 to 64 threads in memory, with 1 to 1000 keys each
-  --why               before these words: says in brackets why a call failed
-  --help              prints this
-  --version           prints the version
+  write CACHE KEY             stores standard input under the key, and prints its integrity
+  read CACHE KEY              prints what is stored under the key, once it is verified
+  find CACHE KEY              prints the key's entry, or none
+  remove CACHE KEY            removes the key's entry; what was stored stays
+  ls CACHE                    prints the entries of all keys, each on a line
+  clear CACHE                 removes all that lies in the folder of the cache
+  storm THREADS KEYS          tries 1 to 64 threads in memory, with 1 to 1000 keys each
+  store CACHE KEY FILE        stores the file under the key, in pieces, and prints its integrity
+  copy CACHE KEY FILE         copies what is stored to the file, once it is verified, and prints its size
+  write-hash CACHE ALGORITHM  stores standard input without a key, and prints its integrity;
+                              the algorithm is sha1, sha256, sha384 or sha512
+  read-hash CACHE INTEGRITY   prints what is stored with this integrity, once it is verified
+  exists CACHE INTEGRITY      prints yes if something is stored with this integrity, and else no
+  --why                       before these words: says in brackets why a call failed
+  --help, -h                  prints this
+  --version, -V               prints the version
 ";
 
 /// The program's name and version, and that of the crate that it is a port of.
@@ -55,25 +61,22 @@ pub fn said() -> About
 
 /// Which of its texts the only word asks for.
 fn text_of(words: &[String], about: About) -> Option<&'static str>
-    ensures help { IsWord words.now (codes "--help")
-        → IsSomeAnd result (λ text. text.now ≡ about.help.now) }
-    ensures version { IsWord words.now (codes "--version")
-        → IsSomeAnd result (λ text. text.now ≡ about.version.now) }
-    ensures known { IfSome result (λ text. IsWord words.now (codes "--help")
-        ⊎ IsWord words.now (codes "--version")) }
+    ensures help { AsksHelp words.now → IsSomeAnd result (λ text. text.now ≡ about.help.now) }
+    ensures version { AsksVersion words.now → IsSomeAnd result (λ text. text.now ≡ about.version.now) }
+    ensures known { IfSome result (λ text. AsksHelp words.now ⊎ AsksVersion words.now) }
 {
     match words {
         [word] => match word.as_str() {
-            "--help" => Some(about.help),
-            "--version" => Some(about.version),
+            "--help" | "-h" => Some(about.help),
+            "--version" | "-V" => Some(about.version),
             _ => None,
         },
         _ => None,
     }
 }
 
-/// Prints the program's help where the only word is `--help`, and its version where it is `--version`, and returns the
-/// status: 0, or 1 if the output failed, which is printed on `errors`. Other words get no status here, and nothing is
+/// Prints the program's help if the only word is `--help` or `-h`, and its version if it is `--version` or `-V`, and returns
+/// the status: 0, or 1 if the output failed, which is printed on `errors`. Other words get no status here, and nothing is
 /// printed.
 pub fn tell<W: Write, E: Write>(
     words: &[String],
@@ -81,12 +84,11 @@ pub fn tell<W: Write, E: Write>(
     output: &mut W,
     errors: &mut Errors<E>,
 ) -> Option<u8>
-    ensures help { IsWord words.now (codes "--help") → IsSomeAnd result
+    ensures help { AsksHelp words.now → IsSomeAnd result
         (PutsOut about.help.now (W.contents output.old) (W.contents output.new)) }
-    ensures version { IsWord words.now (codes "--version") → IsSomeAnd result
+    ensures version { AsksVersion words.now → IsSomeAnd result
         (PutsOut about.version.now (W.contents output.old) (W.contents output.new)) }
-    ensures known { IfSome result (λ status. IsWord words.now (codes "--help")
-        ⊎ IsWord words.now (codes "--version")) }
+    ensures known { IfSome result (λ status. AsksHelp words.now ⊎ AsksVersion words.now) }
     ensures other { IfNone result ((output.new ≡ output.old) × (errors.new ≡ errors.old)) }
 {
     match text_of(words, about) {

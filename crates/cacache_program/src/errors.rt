@@ -2,7 +2,9 @@
 ghost use Rattle.std.specs.Prelude.{◌≡◌, false};
 
 use crate::why::why_of;
-use cacache::errors::Error;
+use cacache::content::path::content_path;
+use cacache::errors::{Error, IntegrityFault};
+use std::alloc::Global;
 use std::io::{ErrorKind, Write};
 
 /// Where errors are printed.
@@ -56,10 +58,62 @@ pub fn tell_failed_call<E: Write>(
     1
 }
 
-/// Prints that a stream failed, and returns the status of a failed call.
-pub(crate) fn tell_failed_stream<E: Write>(errors: &mut Errors<E>, message: &[u8]) -> u8
+/// Prints what failed on a line of its own, and returns the status of a failed call. Where the errors say why, this kind of
+/// error stands behind the text in brackets.
+pub(crate) fn tell_failure<E: Write>(
+    errors: &mut Errors<E>,
+    failure: &str,
+    kind: Option<ErrorKind>,
+) -> u8
     ensures { result ≡ 1 }
 {
-    let _ = errors.output.write_all(message);
+    let _ = match kind {
+        Some(kind) if errors.says_why => writeln!(errors.output, "{failure} ({kind})"),
+        _ => writeln!(errors.output, "{failure}"),
+    };
     1
+}
+
+/// Prints an error about a text or a path, and returns the status of a failed call. Where the errors say why, that stands
+/// behind the error's text in brackets.
+fn tell_about<E: Write>(errors: &mut Errors<E>, error: &Error, about: &str) -> u8
+    ensures { result ≡ 1 }
+{
+    let _ = if errors.says_why {
+        writeln!(errors.output, "{error} ({about})")
+    } else {
+        writeln!(errors.output, "{error}")
+    };
+    1
+}
+
+/// Prints why a text gave no integrity, and returns the status of a failed call. Where the errors say why, the text stands
+/// behind in brackets.
+pub(crate) fn tell_unread<E: Write>(errors: &mut Errors<E>, error: &Error, text: &str) -> u8
+    ensures { result ≡ 1 }
+{
+    match error {
+        Error::IntegrityError(_) => tell_about(errors, error, text),
+        _ => tell_failed_call(errors, error, None),
+    }
+}
+
+/// Prints the error of a read from this cache, and returns the status of a failed call. Where the errors say why and a
+/// content is damaged, its path stands behind the text in brackets; else it is as `tell_failed_call`.
+pub(crate) fn tell_failed_read<E: Write>(
+    alloc: Global,
+    errors: &mut Errors<E>,
+    cache: &str,
+    error: &Error,
+    reason: Option<ErrorKind>,
+) -> u8
+    ensures { result ≡ 1 }
+{
+    let Error::IntegrityError(IntegrityFault::Check(wanted, _)) = error else {
+        return tell_failed_call(errors, error, reason);
+    };
+    match content_path(alloc, cache, wanted) {
+        Ok(path) => tell_about(errors, error, path.as_str()),
+        Err(_) => tell_failed_call(errors, error, reason),
+    }
 }

@@ -1,13 +1,18 @@
 //! What the program `cacache-keep` does with its words and its streams.
 //!
 //! - `about`: what the program says of itself
+//! - `escaping`: names as a list prints them
+//! - `missing`: what is said where no cache is
 //! - `naming`: the list of what a verification found
 //! - `output`: what goes to the output
 //! - `program`: what the program does with its words
 mod about;
+mod escaping;
+mod missing;
 mod naming;
 mod output;
 mod program;
 
 pub use about::{HELP, USAGE, VERSION, said};
+pub use missing::tell_missing;
 pub use program::run;

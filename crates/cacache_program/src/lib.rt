@@ -3,38 +3,50 @@
 //!
 //! - `about`: what a program says of itself
 //! - `clearing`: the word `clear`
+//! - `copying`: the word `copy`
 //! - `entries`: entries as they are printed
 //! - `errors`: what goes to the errors
+//! - `existing`: the word `exists`
 //! - `finding`: the word `find`
+//! - `further`: the words that the usage doesn't list
 //! - `keep`: what the program `cacache-keep` does with its words and its streams
 //! - `lines`: the lines of a listing
 //! - `listing`: the word `ls`
 //! - `output`: what goes to the output
 //! - `program`: what the program does with its words
 //! - `reading`: the word `read`
+//! - `reading_hash`: the word `read-hash`
 //! - `removing`: the word `remove`
+//! - `storing`: the word `store`
 //! - `storming`: the word `storm`
 //! - `why`: why a call failed, where the words ask for it
 //! - `words`: the words of a command line
 //! - `writing`: the word `write`
+//! - `writing_hash`: the word `write-hash`
 #![tactic(auto)]
 
 mod about;
 mod clearing;
+mod copying;
 mod entries;
 mod errors;
+mod existing;
 mod finding;
+mod further;
 pub mod keep;
 mod lines;
 mod listing;
 mod output;
 mod program;
 mod reading;
+mod reading_hash;
 mod removing;
+mod storing;
 mod storming;
 mod why;
 mod words;
 mod writing;
+mod writing_hash;
 
 pub use about::{About, HELP, USAGE, VERSION, said, tell};
 pub use errors::{Errors, tell_failed_call, tell_misuse};

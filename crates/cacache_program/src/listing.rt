@@ -32,6 +32,7 @@ fn items<S: Store, C, N>(
 
 /// Prints the lines and then the first error, if there is one, and returns the status. With an error, a failed output
 /// isn't told. The reason of the last failed step is the first error's if there is no other.
+#[tactic(auto, using(crate::proofs::Appending::written_so_far))]
 fn print<W: Write, E: Write>(
     listing: &Listing,
     reason: Option<ErrorKind>,
@@ -44,7 +45,7 @@ fn print<W: Write, E: Write>(
 {
     match &listing.first_error {
         Some(error) => {
-            let _is_whole = write_whole(output, &listing.text);
+            let _written = write_whole(output, &listing.text);
             let reason = if listing.has_more_errors {
                 None
             } else {

@@ -1,47 +1,52 @@
 //! What goes to the output.
-ghost use Rattle.std.specs.Prelude.{◌≡◌, ◌≤◌, IfSome, IfNone, true, false, [], length, take};
+ghost use Rattle.std.specs.Prelude.{◌≡◌, ◌≤◌, IfErr, IfOk, OnErr, OnOk, [], length, take};
 ghost use Rattle.std.specs.Io.KnownBytes.{Appends};
 ghost use Rattle.cacache_program.specs.Output.{AppendsPart, PutsOut, PutsOutWith};
 
-use crate::errors::{Errors, tell_failed_stream};
+use crate::errors::{Errors, tell_failure};
 use std::io::{ErrorKind, Write};
 
-/// Writes some of the bytes, and returns how many: 0 if the write was interrupted. None if the output
-/// failed.
+/// Writes some of the bytes, and returns how many: 0 if the write was interrupted. Else the kind of error by which the
+/// output failed.
 #[tactic(auto, using(crate::proofs::Appending::kept_appends))]
-fn write_some<W: Write>(output: &mut W, bytes: &[u8]) -> Option<usize>
-    ensures count { IfSome result (λ count. count ≤ length bytes.now) }
-    ensures some { IfSome result (λ count.
+fn write_some<W: Write>(output: &mut W, bytes: &[u8]) -> Result<usize, ErrorKind>
+    ensures count { IfOk result (λ count. count ≤ length bytes.now) }
+    ensures some { IfOk result (λ count.
         Appends (W.contents output.old) (W.contents output.new) (take count bytes.now)) }
-    ensures none { IfNone result (Appends (W.contents output.old) (W.contents output.new) []) }
+    ensures none { IfErr result (λ _. Appends (W.contents output.old) (W.contents output.new) []) }
 {
     match output.write(bytes) {
-        Ok(0) => None,
-        Ok(count) => Some(count),
-        Err(error) if error.kind() == ErrorKind::Interrupted => Some(0),
-        Err(_) => None,
+        Ok(0) => Err(ErrorKind::WriteZero),
+        Ok(count) => Ok(count),
+        Err(error) => match error.kind() {
+            ErrorKind::Interrupted => Ok(0),
+            kind => Err(kind),
+        },
     }
 }
 
-/// Writes the bytes, and returns whether the output took them all. If not, it has a beginning of them.
+/// Writes the bytes. After the kind of error by which the output failed it has a beginning of them.
 #[tactic(auto, using(crate::proofs::Appending::appends_more, crate::proofs::Appending::appends_no_more))]
-pub(crate) fn write_whole<W: Write>(output: &mut W, bytes: &[u8]) -> bool
-    ensures whole { result ≡ true →
-        Appends (W.contents output.old) (W.contents output.new) bytes.now }
-    ensures part { result ≡ false →
-        AppendsPart (W.contents output.old) (W.contents output.new) bytes.now }
+pub(crate) fn write_whole<W: Write>(output: &mut W, bytes: &[u8]) -> Result<(), ErrorKind>
+    ensures whole { OnOk result
+        (Appends (W.contents output.old) (W.contents output.new) bytes.now) }
+    ensures part { OnErr result
+        (AppendsPart (W.contents output.old) (W.contents output.new) bytes.now) }
 {
     let mut written = 0;
     for _ in 0..u64::MAX {
         if written == bytes.len() {
             break;
         }
-        let Some(count) = write_some(output, &bytes[written..]) else {
-            return false;
-        };
-        written += count;
+        match write_some(output, &bytes[written..]) {
+            Ok(count) => written += count,
+            Err(kind) => return Err(kind),
+        }
     }
-    written == bytes.len()
+    if written == bytes.len() {
+        return Ok(());
+    }
+    Err(ErrorKind::TimedOut)
 }
 
 /// Prints the bytes, and returns the status: this one, or 1 if the output failed.
@@ -55,10 +60,10 @@ pub(crate) fn put_out_with<W: Write, E: Write>(
         (W.contents output.old) (W.contents output.new) result }
     ensures quiet { result ≡ 0 → errors.new ≡ errors.old }
 {
-    if write_whole(output, bytes) {
-        return status;
+    match write_whole(output, bytes) {
+        Ok(()) => status,
+        Err(kind) => tell_failure(errors, "output failed", Some(kind)),
     }
-    tell_failed_stream(errors, b"output failed\n")
 }
 
 /// Prints the bytes, and returns the status.

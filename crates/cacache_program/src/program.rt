@@ -1,6 +1,7 @@
 //! What the program does with its words.
 ghost use Rattle.std.specs.Prelude.{◌≡◌, ◌≢◌, ◌≤◌, codes};
-ghost use Rattle.cacache_program.specs.Words.{asked_of, Keyed, KeyedDoes, Unkeyed, UnkeyedDoes, IsWrong};
+ghost use Rattle.cacache_program.specs.Words.{asked_of, Keyed, KeyedDoes, Unkeyed, UnkeyedDoes};
+ghost use Rattle.cacache_program.specs.FurtherWords.{AreWrong, DoesFurther};
 ghost use Rattle.cacache_program.specs.WordWrite.{WritesAsked};
 ghost use Rattle.cacache_program.specs.WordRead.{Reads};
 ghost use Rattle.cacache_program.specs.WordFind.{PrintsFound};
@@ -9,10 +10,10 @@ ghost use Rattle.cacache_program.specs.WordClear.{Clears};
 ghost use Rattle.cacache_program.specs.WordLs.{PrintsListing};
 ghost use Rattle.cacache_program.specs.WordStorm.{StormsAlone};
 
-use crate::about::USAGE;
 use crate::clearing::clear;
-use crate::errors::{Errors, tell_misuse};
+use crate::errors::Errors;
 use crate::finding::find;
+use crate::further::run_further;
 use crate::listing::ls;
 use crate::reading::read;
 use crate::removing::remove;
@@ -47,10 +48,11 @@ pub fn run<
     errors: &mut Errors<E>,
 ) -> u8
     ensures status { result ≤ 2 }
-    ensures wrong { IsWrong (asked_of words.now) → result ≡ 2 }
+    ensures wrong { AreWrong words.now → result ≡ 2 }
     ensures nothing_done { result ≡ 2 → (env.new ≡ env.old) × (output.new ≡ output.old) }
     ensures quiet { result ≡ 0 → errors.new ≡ errors.old }
-    ensures input { (asked_of words.now).name ≢ codes "write" → input.new ≡ input.old }
+    ensures input { (asked_of words.now).name ≢ codes "write"
+        → (asked_of words.now).name ≢ codes "write-hash" → input.new ≡ input.old }
     ensures writes { WritesAsked S.log C.given N.given (asked_of words.now) (R.remaining input.old)
         env.old env.new (W.contents output.old) (W.contents output.new) result }
     ensures reads { KeyedDoes (asked_of words.now) (codes "read") (Reads S.log)
@@ -65,6 +67,9 @@ pub fn run<
         env.old env.new (W.contents output.old) (W.contents output.new) result }
     ensures storms { KeyedDoes (asked_of words.now) (codes "storm") StormsAlone
         env.old env.new (W.contents output.old) (W.contents output.new) result }
+    ensures further { DoesFurther S.log C.given N.given S.Temp.seen words.now
+        (R.remaining input.old) env.old env.new
+        (W.contents output.old) (W.contents output.new) result }
 {
     match parse_words(words) {
         ("write", cache, Some(key)) => write(env, cache, key, input, output, errors),
@@ -74,6 +79,6 @@ pub fn run<
         ("storm", threads, Some(keys)) => storm(rt, threads, keys, output, errors),
         ("clear", cache, None) => clear(env, cache, errors),
         ("ls", cache, None) => ls(env, cache, output, errors),
-        _ => tell_misuse(USAGE, errors),
+        _ => run_further(env, words, input, output, errors),
     }
 }

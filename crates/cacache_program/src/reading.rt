@@ -2,7 +2,7 @@
 ghost use Rattle.std.specs.Prelude.{◌≡◌};
 ghost use Rattle.cacache_program.specs.WordRead.{Reads};
 
-use crate::errors::{Errors, tell_failed_call};
+use crate::errors::{Errors, tell_failed_read};
 use crate::output::put_out;
 use cacache::env::{Clock, Env, Names, Reasons};
 use std::io::Write;
@@ -21,6 +21,6 @@ pub(crate) fn read<S: Reasons, C: Clock, N: Names, W: Write, E: Write>(
 {
     match cacache::read_sync(env, cache, key) {
         Ok(bytes) => put_out(output, &bytes, errors),
-        Err(error) => tell_failed_call(errors, &error, env.store.reason()),
+        Err(error) => tell_failed_read(env.alloc, errors, cache, &error, env.store.reason()),
     }
 }

@@ -6,7 +6,7 @@ ghost use Rattle.cacache.specs.Shared.{Count};
 ghost use Rattle.cacache_program.specs.WordStorm.{Storms, TellsStorm, storm_text};
 
 use crate::about::USAGE;
-use crate::errors::{Errors, tell_failed_call, tell_failed_stream, tell_misuse};
+use crate::errors::{Errors, tell_failed_call, tell_failure, tell_misuse};
 use crate::output::put_out;
 use cacache::errors::Error;
 use cacache::jobs::Open;
@@ -54,10 +54,10 @@ pub fn tell_failed_storm<E: Write>(errors: &mut Errors<E>, fault: StormFault) ->
 {
     match fault {
         StormFault::Count => tell_misuse(USAGE, errors),
-        StormFault::Mismatch => tell_failed_stream(errors, b"storm: mismatch\n"),
-        StormFault::Quit => tell_failed_stream(errors, b"storm: quit\n"),
+        StormFault::Mismatch => tell_failure(errors, "storm: mismatch", None),
+        StormFault::Quit => tell_failure(errors, "storm: quit", None),
         StormFault::Failed(error) => tell_failed_call(errors, &error, None),
-        StormFault::World(_) => tell_failed_stream(errors, b"storm: world\n"),
+        StormFault::World(_) => tell_failure(errors, "storm: world", None),
     }
 }
 

@@ -3,7 +3,7 @@ ghost use Rattle.std.specs.Prelude.{◌≡◌, ◌≢◌, option_map};
 ghost use Rattle.std.specs.IoError.{error_kind};
 ghost use Rattle.cacache_program.specs.Words.{asked_of, these_asked};
 
-use crate::errors::{Errors, tell_failed_stream, tell_misuse};
+use crate::errors::{Errors, tell_failure, tell_misuse};
 use std::env::{Env, args};
 use std::io::{self, ErrorKind, Write};
 
@@ -35,7 +35,7 @@ pub fn without_words<E: Write>(error: &io::Error, usage: &str, errors: &mut Erro
     ensures wrong { error_kind error.now ≢ ErrorKind.OutOfMemory → result ≡ 2 }
 {
     if error.kind() == ErrorKind::OutOfMemory {
-        return tell_failed_stream(errors, b"out of memory\n");
+        return tell_failure(errors, "out of memory", None);
     }
     tell_misuse(usage, errors)
 }

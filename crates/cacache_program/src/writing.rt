@@ -4,7 +4,7 @@ ghost use Rattle.cacache.specs.Integrities.{integrity_text};
 ghost use Rattle.cacache_program.specs.Output.{PutsOut};
 ghost use Rattle.cacache_program.specs.WordWrite.{Writes};
 
-use crate::errors::{Errors, tell_failed_call, tell_failed_stream};
+use crate::errors::{Errors, tell_failed_call, tell_failure};
 use crate::output::put_out;
 use cacache::Integrity;
 use cacache::env::{Clock, Env, Names, Reasons};
@@ -13,7 +13,7 @@ use std::alloc::Global;
 use std::io::{ErrorKind, Read, Write};
 
 /// Prints the integrity's text and a line feed, and returns the status.
-fn print<W: Write, E: Write>(
+pub(crate) fn print<W: Write, E: Write>(
     alloc: Global,
     integrity: &Integrity,
     output: &mut W,
@@ -25,18 +25,18 @@ fn print<W: Write, E: Write>(
 {
     match format!(in alloc; "{integrity}\n") {
         Ok(line) => put_out(output, line.as_bytes(), errors),
-        Err(_) => tell_failed_stream(errors, b"out of memory\n"),
+        Err(_) => tell_failure(errors, "out of memory", None),
     }
 }
 
 /// Prints why the input couldn't be read, and returns the status.
-fn tell_failed_input<E: Write>(errors: &mut Errors<E>, kind: ErrorKind) -> u8
+pub(crate) fn tell_failed_input<E: Write>(errors: &mut Errors<E>, kind: ErrorKind) -> u8
     ensures { result ≡ 1 }
 {
     if kind == ErrorKind::OutOfMemory {
         return tell_failed_call(errors, &Error::OutOfMemory, None);
     }
-    tell_failed_stream(errors, b"input failed\n")
+    tell_failure(errors, "input failed", Some(kind))
 }
 
 /// Stores all that the input gives under the key, and prints the integrity and a line feed.

@@ -5,7 +5,7 @@ use cacache::env::{Clock, Env, Names, Reasons};
 use cacache::store::Store;
 use cacache::{Integrity, Result as Answered, WriteOpts};
 use cacache_keep::{CompactOpts, collect, compact, plan, repair, sweep, verify};
-use cacache_program::keep::{run, said};
+use cacache_program::keep::{run, said, tell_missing};
 use cacache_program::{Errors, asks_why, tell};
 use row_places::planting::{held, make_folder, plant, plant_link};
 use row_places::{On, on};
@@ -43,7 +43,10 @@ fn ran_with<S: Reasons, C: Clock, N: Names>(
     };
     let status = match tell(words, said(), &mut output, &mut errors) {
         Some(status) => status,
-        None => run(env, words, &mut output, &mut errors),
+        None => {
+            tell_missing(env, words, &mut errors);
+            run(env, words, &mut output, &mut errors)
+        }
     };
     printed(alloc, status, &output, &errors.output)
 }
@@ -62,7 +65,8 @@ fn bytes_of(alloc: Global, input: &str) -> Result<Vec<u8>, AllocError> {
 /// Plants a file with the bytes of the input.
 fn planted<S: Store>(env: &mut On<S>, path: &str, input: &str) -> Result<bool, AllocError> {
     let bytes = bytes_of(env.alloc, input)?;
-    plant(env, path, &bytes)
+    let path = string_of(env.alloc, path)?;
+    plant(env, path.as_str(), &bytes)
 }
 
 /// Writes bytes of which another size is expected: the key, and the size.

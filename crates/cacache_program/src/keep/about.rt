@@ -5,22 +5,24 @@ ghost use Rattle.cacache_program.specs.KeepAbout.{help_text, usage_text, version
 use crate::about::About;
 
 /// What the program says to wrong words.
-pub const USAGE: &str = "usage: cacache-keep verify|collect|plan|sweep|repair|compact CACHE\n";
+pub const USAGE: &str =
+    "usage: cacache-keep verify [--list]|collect|plan|sweep|repair|compact CACHE\n";
 
 /// What the program says to `--help`: the usage, and a line for each word.
-pub const HELP: &str = "usage: cacache-keep verify|collect|plan|sweep|repair|compact CACHE
+pub const HELP: &str = "usage: cacache-keep verify [--list]|collect|plan|sweep|repair|compact CACHE
   verify CACHE   counts good and damaged contents, entries without one, and other files;
                  the status is 3 if there are any but good contents
   verify --list CACHE
-                 the same, and behind it a line for each but the good contents, which names it
+                 the same, and after it a line for each but the good contents, which names it;
+                 in a path, \\\\ stands for \\, and \\x and two hex digits for a control character
   collect CACHE  removes the contents that no entry has, and counts the kept and the dropped
   plan CACHE     counts what collect would keep and drop, and changes nothing
   sweep CACHE    removes temporary files, and counts them, their bytes, and other files there
   repair CACHE   removes damaged contents, and the keys that lead to none, and counts both
   compact CACHE  writes the index anew without old lines, and counts the buckets and bytes saved
   --why          before these words: says in brackets why a call failed
-  --help         prints this
-  --version      prints the version
+  --help, -h     prints this
+  --version, -V  prints the version
 ";
 
 /// The program's name and version, and that of the crate that the calls are a port of.

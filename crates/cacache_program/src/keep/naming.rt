@@ -7,6 +7,7 @@ ghost use Rattle.cacache_program.specs.KeepValues.{PutsList, list_of_verdict};
 
 use crate::entries::entry_text;
 use crate::errors::{Errors, tell_failed_call};
+use crate::keep::escaping::push_escaped;
 use crate::keep::output::{status_of, verdict_text};
 use crate::output::put_out_with;
 use cacache::{Integrity, Metadata, Result};
@@ -55,11 +56,14 @@ fn dangling_lines(alloc: Global, dangling: Vec<Metadata>) -> Result<Vec<u8>>
     Ok(text)
 }
 
-/// The line of what lies among the contents and is none: its path.
-fn strange_line(alloc: Global, path: &str) -> std::result::Result<String, AllocError>
-    ensures { IfOk result (λ line. string_bytes line ≡ line_of_strange path.now) }
+/// The line of what lies among the contents and is none: its path, so that it is one line whatever that holds.
+fn strange_line(alloc: Global, path: &str) -> std::result::Result<Vec<u8>, AllocError>
+    ensures { IfOk result (λ line. line.items ≡ line_of_strange path.now) }
 {
-    format!(in alloc; "strange {path}\n")
+    let mut line = Vec::from_slice(alloc, b"strange ")?;
+    push_escaped(&mut line, path)?;
+    line.push(b'\n')?;
+    Ok(line)
 }
 
 /// A line for each of these paths.
@@ -69,7 +73,7 @@ fn strange_lines(alloc: Global, strange: Vec<String>) -> std::result::Result<Vec
 {
     let mut text = Vec::new(alloc);
     for path in strange {
-        text.extend_from_slice(strange_line(alloc, path.as_str())?.as_bytes())?;
+        text.extend_from_slice(&strange_line(alloc, path.as_str())?)?;
     }
     Ok(text)
 }

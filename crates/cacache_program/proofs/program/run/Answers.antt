@@ -1,6 +1,6 @@
 -- What wasn't asked for needn't be done.
 use Rattle.std.{proofs.Common.{ap, codes, refl, subst}, specs.Prelude.{option_map}}
-use Rattle.cacache_program.{specs.Words.{IsWrong}, proofs.Asking.{asked_as, not_keyed, not_unkeyed, other_keyed, other_unkeyed}}
+use Rattle.cacache_program.{specs.Words.{IsWrong}, proofs.{Asking.{asked_as, not_keyed, not_unkeyed, other_keyed, other_unkeyed}, FurtherAsked.{other_further}}}
 use Rattle.cacache_program.proofs.program.run.Goals as goal
 
 -- ---- of `write`
@@ -31,7 +31,11 @@ returns-in-write-default-Some-clause-storms g c =
 
 pub returns-in-write-default-Some-clause-wrong : goal.returns-in-write-default-Some-clause-wrong
 returns-in-write-default-Some-clause-wrong g c =
-    λ wrong. absurd ((subst IsWrong (asked_as c.parse_words.ensures c.in-write-default-Some.is-write-0 (ap (option_map (λ k. k.now)) c.in-write-default-Some.is-2)) wrong).0 refl)
+    λ wrong. absurd ((subst IsWrong (asked_as c.parse_words.ensures c.in-write-default-Some.is-write-0 (ap (option_map (λ k. k.now)) c.in-write-default-Some.is-2)) wrong.0).0 refl)
+
+pub returns-in-write-default-Some-clause-further : goal.returns-in-write-default-Some-clause-further
+returns-in-write-default-Some-clause-further g c =
+    other_further c.parse_words.ensures c.in-write-default-Some.is-write-0 refl refl refl refl
 
 -- ---- of `read`
 
@@ -61,7 +65,11 @@ returns-in-read-default-Some-clause-storms g c =
 
 pub returns-in-read-default-Some-clause-wrong : goal.returns-in-read-default-Some-clause-wrong
 returns-in-read-default-Some-clause-wrong g c =
-    λ wrong. absurd ((subst IsWrong (asked_as c.parse_words.ensures c.in-read-default-Some.is-read-0 (ap (option_map (λ k. k.now)) c.in-read-default-Some.is-2)) wrong).1 refl)
+    λ wrong. absurd ((subst IsWrong (asked_as c.parse_words.ensures c.in-read-default-Some.is-read-0 (ap (option_map (λ k. k.now)) c.in-read-default-Some.is-2)) wrong.0).1 refl)
+
+pub returns-in-read-default-Some-clause-further : goal.returns-in-read-default-Some-clause-further
+returns-in-read-default-Some-clause-further g c =
+    other_further c.parse_words.ensures c.in-read-default-Some.is-read-0 refl refl refl refl
 
 -- ---- of `find`
 
@@ -91,7 +99,11 @@ returns-in-find-default-Some-clause-storms g c =
 
 pub returns-in-find-default-Some-clause-wrong : goal.returns-in-find-default-Some-clause-wrong
 returns-in-find-default-Some-clause-wrong g c =
-    λ wrong. absurd ((subst IsWrong (asked_as c.parse_words.ensures c.in-find-default-Some.is-find-0 (ap (option_map (λ k. k.now)) c.in-find-default-Some.is-2)) wrong).2 refl)
+    λ wrong. absurd ((subst IsWrong (asked_as c.parse_words.ensures c.in-find-default-Some.is-find-0 (ap (option_map (λ k. k.now)) c.in-find-default-Some.is-2)) wrong.0).2 refl)
+
+pub returns-in-find-default-Some-clause-further : goal.returns-in-find-default-Some-clause-further
+returns-in-find-default-Some-clause-further g c =
+    other_further c.parse_words.ensures c.in-find-default-Some.is-find-0 refl refl refl refl
 
 -- ---- of `remove`
 
@@ -121,7 +133,11 @@ returns-in-remove-default-Some-clause-storms g c =
 
 pub returns-in-remove-default-Some-clause-wrong : goal.returns-in-remove-default-Some-clause-wrong
 returns-in-remove-default-Some-clause-wrong g c =
-    λ wrong. absurd ((subst IsWrong (asked_as c.parse_words.ensures c.in-remove-default-Some.is-remove-0 (ap (option_map (λ k. k.now)) c.in-remove-default-Some.is-2)) wrong).3 refl)
+    λ wrong. absurd ((subst IsWrong (asked_as c.parse_words.ensures c.in-remove-default-Some.is-remove-0 (ap (option_map (λ k. k.now)) c.in-remove-default-Some.is-2)) wrong.0).3 refl)
+
+pub returns-in-remove-default-Some-clause-further : goal.returns-in-remove-default-Some-clause-further
+returns-in-remove-default-Some-clause-further g c =
+    other_further c.parse_words.ensures c.in-remove-default-Some.is-remove-0 refl refl refl refl
 
 -- ---- of `storm`
 
@@ -151,7 +167,11 @@ returns-in-storm-default-Some-clause-lists g c =
 
 pub returns-in-storm-default-Some-clause-wrong : goal.returns-in-storm-default-Some-clause-wrong
 returns-in-storm-default-Some-clause-wrong g c =
-    λ wrong. absurd ((subst IsWrong (asked_as c.parse_words.ensures c.in-storm-default-Some.is-storm-0 (ap (option_map (λ k. k.now)) c.in-storm-default-Some.is-2)) wrong).4 refl)
+    λ wrong. absurd ((subst IsWrong (asked_as c.parse_words.ensures c.in-storm-default-Some.is-storm-0 (ap (option_map (λ k. k.now)) c.in-storm-default-Some.is-2)) wrong.0).4 refl)
+
+pub returns-in-storm-default-Some-clause-further : goal.returns-in-storm-default-Some-clause-further
+returns-in-storm-default-Some-clause-further g c =
+    other_further c.parse_words.ensures c.in-storm-default-Some.is-storm-0 refl refl refl refl
 
 -- ---- of `clear`
 
@@ -181,7 +201,11 @@ returns-in-clear-default-None-clause-storms g c =
 
 pub returns-in-clear-default-None-clause-wrong : goal.returns-in-clear-default-None-clause-wrong
 returns-in-clear-default-None-clause-wrong g c =
-    λ wrong. absurd ((subst IsWrong (asked_as c.parse_words.ensures c.in-clear-default-None.is-clear-0 (ap (option_map (λ k. k.now)) c.in-clear-default-None.is-2)) wrong).1 refl)
+    λ wrong. absurd ((subst IsWrong (asked_as c.parse_words.ensures c.in-clear-default-None.is-clear-0 (ap (option_map (λ k. k.now)) c.in-clear-default-None.is-2)) wrong.0).1 refl)
+
+pub returns-in-clear-default-None-clause-further : goal.returns-in-clear-default-None-clause-further
+returns-in-clear-default-None-clause-further g c =
+    other_further c.parse_words.ensures c.in-clear-default-None.is-clear-0 refl refl refl refl
 
 -- ---- of `ls`
 
@@ -211,4 +235,8 @@ returns-in-ls-default-None-clause-storms g c =
 
 pub returns-in-ls-default-None-clause-wrong : goal.returns-in-ls-default-None-clause-wrong
 returns-in-ls-default-None-clause-wrong g c =
-    λ wrong. absurd ((subst IsWrong (asked_as c.parse_words.ensures c.in-ls-default-None.is-ls-0 (ap (option_map (λ k. k.now)) c.in-ls-default-None.is-2)) wrong).0 refl)
+    λ wrong. absurd ((subst IsWrong (asked_as c.parse_words.ensures c.in-ls-default-None.is-ls-0 (ap (option_map (λ k. k.now)) c.in-ls-default-None.is-2)) wrong.0).0 refl)
+
+pub returns-in-ls-default-None-clause-further : goal.returns-in-ls-default-None-clause-further
+returns-in-ls-default-None-clause-further g c =
+    other_further c.parse_words.ensures c.in-ls-default-None.is-ls-0 refl refl refl refl

@@ -1,0 +1,95 @@
+//! The words that the usage doesn't list.
+ghost use Rattle.std.specs.Prelude.{◌≡◌, ◌≢◌, ◌≤◌, codes};
+ghost use Rattle.cacache_program.specs.FurtherWords.{FiledDoes, IsNoFiled, IsWrongFurther};
+ghost use Rattle.cacache_program.specs.WordCopy.{Copies};
+ghost use Rattle.cacache_program.specs.WordExists.{AsksHash};
+ghost use Rattle.cacache_program.specs.WordReadHash.{ReadsHash};
+ghost use Rattle.cacache_program.specs.WordStore.{StoresFile};
+ghost use Rattle.cacache_program.specs.WordWriteHash.{WritesHash};
+ghost use Rattle.cacache_program.specs.Words.{KeyedDoes, asked_of};
+
+use crate::about::USAGE;
+use crate::copying::copy;
+use crate::errors::{Errors, tell_misuse};
+use crate::existing::exists;
+use crate::reading_hash::read_hash;
+use crate::storing::store;
+use crate::words::parse_words;
+use crate::writing_hash::write_hash;
+use cacache::env::{Clock, Env, Names, Reasons};
+use std::io::{Read, Write};
+
+/// Does what four words say: a name, a cache, a key and a file.
+fn run_filed<S: Reasons, C: Clock, N: Names, W: Write, E: Write>(
+    env: &mut Env<S, C, N>,
+    words: &[String],
+    output: &mut W,
+    errors: &mut Errors<E>,
+) -> u8
+    ensures copies { FiledDoes words.now (codes "copy") (Copies S.log)
+        env.old env.new (W.contents output.old) (W.contents output.new) result }
+    ensures stores { FiledDoes words.now (codes "store")
+        (StoresFile S.log N.given S.Temp.seen C.given)
+        env.old env.new (W.contents output.old) (W.contents output.new) result }
+    ensures status { result ≤ 2 }
+    ensures wrong { IsNoFiled words.now → result ≡ 2 }
+    ensures nothing_done { result ≡ 2 → (env.new ≡ env.old) × (output.new ≡ output.old) }
+    ensures quiet { result ≡ 0 → errors.new ≡ errors.old }
+{
+    let [name, cache, key, file] = words else {
+        return tell_misuse(USAGE, errors);
+    };
+    match name.as_str() {
+        "copy" => copy(
+            env,
+            cache.as_str(),
+            key.as_str(),
+            file.as_str(),
+            output,
+            errors,
+        ),
+        "store" => store(
+            env,
+            cache.as_str(),
+            key.as_str(),
+            file.as_str(),
+            output,
+            errors,
+        ),
+        _ => tell_misuse(USAGE, errors),
+    }
+}
+
+/// Does what the words say that the usage doesn't list, and returns the status, as `run` does.
+pub(crate) fn run_further<S: Reasons, C: Clock, N: Names, R: Read, W: Write, E: Write>(
+    env: &mut Env<S, C, N>,
+    words: &[String],
+    input: &mut R,
+    output: &mut W,
+    errors: &mut Errors<E>,
+) -> u8
+    ensures reads { KeyedDoes (asked_of words.now) (codes "read-hash") (ReadsHash S.log)
+        env.old env.new (W.contents output.old) (W.contents output.new) result }
+    ensures writes { KeyedDoes (asked_of words.now) (codes "write-hash")
+        (WritesHash S.log N.given (R.remaining input.old))
+        env.old env.new (W.contents output.old) (W.contents output.new) result }
+    ensures asks { KeyedDoes (asked_of words.now) (codes "exists") (AsksHash S.log)
+        env.old env.new (W.contents output.old) (W.contents output.new) result }
+    ensures copies { FiledDoes words.now (codes "copy") (Copies S.log)
+        env.old env.new (W.contents output.old) (W.contents output.new) result }
+    ensures stores { FiledDoes words.now (codes "store")
+        (StoresFile S.log N.given S.Temp.seen C.given)
+        env.old env.new (W.contents output.old) (W.contents output.new) result }
+    ensures status { result ≤ 2 }
+    ensures wrong { IsWrongFurther words.now → result ≡ 2 }
+    ensures nothing_done { result ≡ 2 → (env.new ≡ env.old) × (output.new ≡ output.old) }
+    ensures quiet { result ≡ 0 → errors.new ≡ errors.old }
+    ensures input { (asked_of words.now).name ≢ codes "write-hash" → input.new ≡ input.old }
+{
+    match parse_words(words) {
+        ("read-hash", cache, Some(text)) => read_hash(env, cache, text, output, errors),
+        ("write-hash", cache, Some(name)) => write_hash(env, cache, name, input, output, errors),
+        ("exists", cache, Some(text)) => exists(env, cache, text, output, errors),
+        _ => run_filed(env, words, output, errors),
+    }
+}

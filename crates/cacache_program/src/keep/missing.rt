@@ -1,0 +1,81 @@
+//! What is said where no cache is.
+ghost use Rattle.std.specs.Prelude.{◌≡◌, IfNone, IfSome, None, true};
+ghost use Rattle.cacache_program.specs.KeepMissing.{AsksFor, AsksMissing, TellsMissing};
+ghost use Rattle.cacache_program.specs.KeepWords.{IsWrong};
+ghost use Rattle.cacache_program.specs.Words.{asked_of};
+
+use crate::errors::Errors;
+use crate::output::write_whole;
+use crate::words::parse_words;
+use cacache::env::Env;
+use cacache::store::{Step, Store};
+use cacache::text::Text;
+use cacache_table::answers::there_of;
+use std::alloc::Global;
+use std::io::Write;
+
+/// The cache that the words name, if they ask for anything.
+fn cache_of(words: &[String]) -> Option<&str>
+    ensures wrong { IsWrong (asked_of words.now) → result ≡ None }
+    ensures alone { IfSome result (λ cache. IfNone (asked_of words.now).key
+        (cache.now ≡ (asked_of words.now).cache)) }
+    ensures listed { IfSome result (λ cache. IfSome (asked_of words.now).key (λ key.
+        cache.now ≡ key)) }
+{
+    match parse_words(words) {
+        ("verify", "--list", Some(cache)) => Some(cache),
+        ("verify" | "collect" | "plan" | "sweep" | "repair" | "compact", cache, None) => {
+            Some(cache)
+        }
+        _ => None,
+    }
+}
+
+/// Whether the store says that nothing is at the path. An empty path, below which a cache may be, isn't asked for.
+fn is_missing<S: Store, C, N>(env: &mut Env<S, C, N>, path: &str) -> bool
+    ensures asks { AsksMissing S.log path.now result env.old env.new }
+{
+    if path.is_empty() {
+        return false;
+    }
+    let Ok(path) = Text::from_str(env.alloc, path) else {
+        return false;
+    };
+    match there_of(env.store.step(Step::Exists(path))) {
+        Ok(there) => !there,
+        Err(_) => false,
+    }
+}
+
+/// Prints that no cache is there, unless memory for the line is refused.
+fn put_missing<E: Write>(alloc: Global, cache: &str, errors: &mut Errors<E>)
+    ensures tells { TellsMissing cache.now true
+        (E.contents errors.old.output) (E.contents errors.new.output) }
+    ensures same { errors.new ≡ record errors.old { output = errors.new.output } }
+{
+    if let Ok(line) = format!(in alloc; "no cache at {cache}\n") {
+        let _written = write_whole(&mut errors.output, line.as_bytes());
+    }
+}
+
+/// Prints `no cache at CACHE` on `errors`, if the words name a cache and nothing is at its path. What the words say is to
+/// be done all the same, as `run` does it.
+pub fn tell_missing<S: Store, C, N, E: Write>(
+    env: &mut Env<S, C, N>,
+    words: &[String],
+    errors: &mut Errors<E>,
+)
+    ensures wrong { IsWrong (asked_of words.now) → (env.new ≡ env.old) × (errors.new ≡ errors.old) }
+    ensures alone { IfNone (asked_of words.now).key (AsksFor S.log (asked_of words.now).cache
+        env.old env.new (E.contents errors.old.output) (E.contents errors.new.output)) }
+    ensures listed { IfSome (asked_of words.now).key (λ cache. AsksFor S.log cache
+        env.old env.new (E.contents errors.old.output) (E.contents errors.new.output)) }
+    ensures same { errors.new ≡ record errors.old { output = errors.new.output } }
+{
+    let Some(cache) = cache_of(words) else {
+        return;
+    };
+    if is_missing(env, cache) {
+        put_missing(env.alloc, cache, errors);
+    }
+}
