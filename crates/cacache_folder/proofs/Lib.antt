@@ -1,6 +1,7 @@
 mod FolderNames
 pub mod Escapes
 pub mod CallRuns
+pub mod Copying
 pub mod Listings
 pub mod Entries
 pub mod ListedFolders

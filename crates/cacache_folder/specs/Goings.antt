@@ -1,7 +1,7 @@
 -- Where calls lead that end here or go on.
 use Rattle.std.specs.Prelude.{ℕ, Bool, false, Option, None, Some, Result, Ok, Err, List, [], if◌then◌else◌}
 use Rattle.std_io.specs.{declared.io.{error.Error.{Error}, kind.ErrorKind.{ErrorKind}}, IoError.{error_kind}}
-use Rattle.cacache_system.specs.{declared.call.{CallItem.{CallItem}, CallResult.{CallResult, TheVariants.{Opened, Failed}}, FileInfo.{FileInfo}, SystemCall.TheVariants.{Read}}, CallLog.{said}, CallsOf.{Stage, Purpose, over, trying, taking_memory, opening, opened, standing, making, confirming, below, unmade, is_absent, CallsLogged}}
+use Rattle.cacache_system.specs.{declared.call.{CallItem.{CallItem}, CallResult.{CallResult, TheVariants.{Opened, Failed}}, FileInfo.{FileInfo}, SystemCall.TheVariants.{Read}}, CallLog.{said}, CallsOf.{Stage, Purpose, over, trying, taking_memory, opening, opened, standing, making, confirming, below, unmade, is_absent, CallsLogged, RunLogged}}
 
 -- the stage, unless there is a cause against it
 abbrev pub unless : Option ErrorKind → Stage → Stage
@@ -12,6 +12,12 @@ unless (Some why) s = over (Failed why)
 abbrev pub onward : {A : Type 0} → (A → Stage) → Result A Error → Stage
 onward go (Ok value) = go value
 onward go (Err error) = over (Failed (error_kind error))
+
+-- the calls take a stage to where it goes on, or are a run that fails
+abbrev pub GoesOrEnds : {A : Type 0} → Stage → (A → Stage) → Result A Error
+    → Option (List CallItem) → Option (List CallItem) → Type 0
+GoesOrEnds s go (Ok value) old new = CallsLogged s (go value) old new
+GoesOrEnds s go (Err error) old new = RunLogged s (Failed (error_kind error)) old new
 
 -- a folder stands now, or can't be made, or the folder above it is missing
 abbrev pub made : {A : Type 0} → Bool → List ℕ → List (List ℕ) → Result A Error → Stage

@@ -1,12 +1,13 @@
 -- What a sweep does, over any store.
-use Rattle.std.specs.Prelude.{◌≡◌, ◌⊎◌, ◌++◌, ℕ, List, [], ◌∷◌, Option, false, filter, length, map, not}
+use Rattle.std.specs.Prelude.{◌≡◌, ◌⊎◌, ◌++◌, ℕ, List, [], ◌∷◌, Option, None, Some, false, filter, length, map, not}
 use Rattle.cacache_core.specs.{declared.errors.Error.{Error, TheVariants.{OutOfMemory}}, Paths.{join}}
 use Rattle.cacache_store.specs.declared.store.answer.Answer.TheVariants as answers
-use Rattle.cacache_store.specs.{declared.store.{answer.Name.{Name}, log.LogItem.{LogItem}}, Plain.{PlainAnswer}}
+use Rattle.cacache_store.specs.declared.store.answer.Kind.TheVariants as kinds
+use Rattle.cacache_store.specs.{declared.store.{answer.{Kind.{Kind}, Name.{Name}}, log.LogItem.{LogItem}}, Plain.{PlainAnswer}}
 use Rattle.cacache_store.specs.declared.store.step.Step.TheVariants as steps
 use Rattle.cacache_table.specs.{Runs.{Gains}, SingleSteps.{Does, FailsAt}}
 use Rattle.cacache_walks.specs.WalkSteps.{AnswerShows}
-use Rattle.cacache_keep_laws.specs.Temporary.{is_temporary, sized_removals, temp_area_in, total}
+use Rattle.cacache_keep_laws.specs.Temporary.{area_of, cache_folder, is_temporary, sized_removals, temp_area_in, total}
 use Rattle.cacache_keep.specs.Reading.{is_gone}
 
 -- ---- temporary files, one after another
@@ -39,20 +40,41 @@ RemovesFiles folder files bytes old new =
 abbrev pub others_in : List ℕ → List Name → List (List ℕ)
 others_in folder names = map (λ n. join folder n.name) (filter (λ n. not (is_temporary n)) names)
 
--- The names in the folder of temporary files are listed. Of the temporary files among them each is
--- asked for its size and removed, in turn; the paths of the others are told.
+-- Where a folder of temporary files stands, the log gained its listing, which tells these files and the paths of what else
+-- lies there. Where something else stands, that is strange itself.
+abbrev pub ListsArea : Option Kind → List ℕ → List Name → List (List ℕ)
+    → Option (List LogItem) → Option (List LogItem) → Type 0
+ListsArea (Some kinds.Folder) folder files strange old new =
+    (names : List Name) × ListsFolder folder names old new
+    × (files ≡ filter is_temporary names) × (strange ≡ others_in folder names)
+ListsArea None folder files strange old new = (files ≡ []) × (strange ≡ []) × (new ≡ old)
+ListsArea (Some kind) folder files strange old new =
+    (files ≡ []) × (strange ≡ folder ∷ []) × (new ≡ old)
+
+-- the path of the folder of temporary files, from that of the cache folder
+abbrev pub swept_folder : List ℕ → List ℕ
+swept_folder cache = temp_area_in (cache_folder cache)
+
+-- the log gained a listing of the cache folder, and of the folder of temporary files if that one told it as a folder
+abbrev pub FindsFiles : List ℕ → List Name → List (List ℕ)
+    → Option (List LogItem) → Option (List LogItem) → Type 0
+FindsFiles cache files strange old new =
+    (around : List Name) × (looked : Option (List LogItem))
+    × ListsFolder (cache_folder cache) around old looked
+    × ListsArea (area_of around) (swept_folder cache) files strange looked new
+
+-- The temporary files are found. Each is asked for its size and removed, in turn; the paths of what else lies there are told.
 pub record SweepsCache
     (cache : List ℕ) (files bytes : ℕ) (strange : List (List ℕ))
     (old new : Option (List LogItem)) : Type 0 where
-  pub names : List Name
+  pub found : List Name
   pub listed : Option (List LogItem)
-  pub listing : ListsFolder (temp_area_in cache) names old listed
+  pub listing : FindsFiles cache found strange old listed
   pub removed : List (Name × ℕ)
-  pub each : map (λ r. r.0) removed ≡ filter is_temporary names
-  pub removing : RemovesSized (temp_area_in cache) removed listed new
+  pub each : map (λ r. r.0) removed ≡ found
+  pub removing : RemovesSized (swept_folder cache) removed listed new
   pub counted : files ≡ length removed
   pub sized : bytes ≡ total (map (λ r. r.1) removed)
-  pub others : strange ≡ others_in (temp_area_in cache) names
 
 -- ---- errors
 
@@ -81,11 +103,30 @@ pub record StopsSized
   pub removing : RemovesSized folder removed old between
   pub stop : StopsFirst folder rest e between new
 
--- the error ended the listing of the folder, though that is there, or the removals
+-- the error ended the listing of the folder, though that is there
+abbrev pub StopsFolder : List ℕ → Error → Option (List LogItem) → Option (List LogItem) → Type 0
+StopsFolder folder e old new = (is_gone e ≡ false) × FailsAt (steps.ReadDir folder) e old new
+
+-- so it ended the one of the folder of temporary files, or memory ran out behind it
+abbrev pub StopsArea : List ℕ → Error → Option (List LogItem) → Option (List LogItem) → Type 0
+StopsArea folder e old new =
+    StopsFolder folder e old new
+    ⊎ ((e ≡ OutOfMemory) × (names : List Name) × ListsFolder folder names old new)
+
+-- the error ended the listing of the cache folder, or what came behind it
+abbrev pub StopsFinding : List ℕ → Error → Option (List LogItem) → Option (List LogItem) → Type 0
+StopsFinding cache e old new =
+    StopsFolder (cache_folder cache) e old new
+    ⊎ ((around : List Name) × (looked : Option (List LogItem))
+    × ListsFolder (cache_folder cache) around old looked
+    × (((e ≡ OutOfMemory) × (new ≡ looked))
+    ⊎ ((area_of around ≡ Some kinds.Folder) × StopsArea (swept_folder cache) e looked new)))
+
+-- the error ended one of the listings, or the removals
 abbrev pub StopsSweeping :
     List ℕ → Error → Option (List LogItem) → Option (List LogItem) → Type 0
 StopsSweeping cache e old new =
-    ((is_gone e ≡ false) × FailsAt (steps.ReadDir (temp_area_in cache)) e old new)
-    ⊎ ((names : List Name) × (listed : Option (List LogItem))
-    × ListsFolder (temp_area_in cache) names old listed
-    × StopsSized (temp_area_in cache) (filter is_temporary names) e listed new)
+    StopsFinding cache e old new
+    ⊎ ((files : List Name) × (strange : List (List ℕ)) × (listed : Option (List LogItem))
+    × FindsFiles cache files strange old listed
+    × StopsSized (swept_folder cache) files e listed new)

@@ -1,10 +1,7 @@
 //! The call that removes temporary files.
-ghost use Rattle.std.specs.Prelude.{◌≡◌, IfOk, IfErr, false, filter, map, string_bytes};
-ghost use Rattle.cacache_store.specs.declared.store.step.Step.TheVariants as steps;
-ghost use Rattle.cacache_table.specs.SingleSteps.{FailsAt};
-ghost use Rattle.cacache_keep_laws.specs.Temporary.{is_temporary as is_temporary_of};
-ghost use Rattle.cacache_keep.specs.Reading.{is_gone};
-ghost use Rattle.cacache_keep.specs.Sweeping.{ListsFolder, RemovesFile, RemovesFiles, StopsRemoval, StopsSized, StopsSweeping, others_in};
+ghost use Rattle.std.specs.Prelude.{◌≡◌, ◌∷◌, [], IfOk, IfErr, filter, map, string_bytes};
+ghost use Rattle.cacache_keep_laws.specs.Temporary.{area_of, cache_folder as cache_folder_of, is_temporary as is_temporary_of};
+ghost use Rattle.cacache_keep.specs.Sweeping.{FindsFiles, ListsFolder, RemovesFile, RemovesFiles, StopsFinding, StopsFolder, StopsRemoval, StopsSized, StopsSweeping, others_in, swept_folder};
 ghost use Rattle.cacache_keep.specs.Told.{SweepsAs};
 
 use crate::reading::says_gone;
@@ -45,8 +42,8 @@ pub(crate) fn names_in<S: Store>(
 ) -> Result<Vec<Name>>
     ensures lists { IfOk result
         (λ names. ListsFolder folder.now names.items (S.log store.old) (S.log store.new)) }
-    ensures stops { IfErr result (λ e. (is_gone e ≡ false)
-        × FailsAt (steps.ReadDir folder.now) e (S.log store.old) (S.log store.new)) }
+    ensures stops { IfErr result
+        (λ e. StopsFolder folder.now e (S.log store.old) (S.log store.new)) }
 {
     let path = Text::from_str(alloc, folder)?;
     match names_of(store.step(Step::ReadDir(path))) {
@@ -94,6 +91,63 @@ fn tell_apart(
     Ok(Parts { files, strange })
 }
 
+/// The path of the cache folder. An empty one is that of the folder from which relative paths start.
+fn cache_folder(cache: &str) -> &str
+    ensures { result.now ≡ cache_folder_of cache.now }
+{
+    if cache.is_empty() { "." } else { cache }
+}
+
+/// What stands in the place of the folder of temporary files, by the names in the cache folder.
+fn area_in(around: &[Name]) -> Option<Kind>
+    ensures { result ≡ area_of around.now }
+{
+    let mut rest = around;
+    while let Some((name, later)) = rest.split_first() {
+        if name.name.as_str() == TEMP_AREA {
+            return Some(name.kind);
+        }
+        rest = later;
+    }
+    None
+}
+
+/// What lies in the folder of temporary files, or what stands in its place and is none. A store follows no link to a
+/// folder that a listing named, so the cache folder is listed first.
+fn find_files<S: Store>(alloc: Global, store: &mut S, cache: &str, folder: &str) -> Result<Parts>
+    requires { folder.now ≡ swept_folder cache.now }
+    ensures finds { IfOk result (λ p. FindsFiles cache.now p.files.items
+        (map string_bytes p.strange.items) (S.log store.old) (S.log store.new)) }
+    ensures stops { IfErr result
+        (λ e. StopsFinding cache.now e (S.log store.old) (S.log store.new)) }
+{
+    let around = names_in(alloc, store, cache_folder(cache), "temporary files")?;
+    match area_in(around.as_slice()) {
+        Some(Kind::Folder) => {
+            let names = names_in(alloc, store, folder, "temporary files")?;
+            Ok(tell_apart(alloc, folder, names)?)
+        }
+        Some(_) => Ok(in_its_place(alloc, folder)?),
+        None => Ok(Parts {
+            files: Vec::new(alloc),
+            strange: Vec::new(alloc),
+        }),
+    }
+}
+
+/// What stands in the place of the folder of temporary files, and is none.
+fn in_its_place(alloc: Global, folder: &str) -> std::result::Result<Parts, AllocError>
+    ensures files { IfOk result (λ f. f.files.items ≡ []) }
+    ensures others { IfOk result (λ f. map string_bytes f.strange.items ≡ folder.now ∷ []) }
+{
+    let mut strange = Vec::new(alloc);
+    strange.push(String::from_str(alloc, folder)?)?;
+    Ok(Parts {
+        files: Vec::new(alloc),
+        strange,
+    })
+}
+
 /// The file didn't tell its size, or wasn't removed.
 fn left(alloc: Global, path: &Text) -> std::result::Result<Text, AllocError> {
     Ok(Text::new(format!(in alloc; "Failed to remove temporary file {path}")?))
@@ -132,11 +186,12 @@ fn remove_files<S: Store>(alloc: Global, store: &mut S, folder: &str, files: &[N
 }
 
 /// Removes the temporary files of a cache: those in its folder `tmp` whose names begin with `.tmp`.
-/// What else lies there stays, be it a file, a folder or a link. A folder that isn't there has none.
+/// What else lies there stays, be it a file, a folder or a link. A folder that isn't there has none. A link or a file in
+/// the place of `tmp` is strange: it stays, and nothing that a link leads to is touched.
 ///
 /// Sweep a cache while nobody writes to it: a write whose temporary file is gone fails.
 ///
-/// Errors: `IoError` where the folder couldn't be listed, or where a file didn't tell its size or
+/// Errors: `IoError` where the cache folder or `tmp` couldn't be listed, or where a file didn't tell its size or
 /// couldn't be removed. Files before it are removed then, in the order of the listing. `OutOfMemory`
 /// may come at any time.
 pub fn sweep<S: Store, C: Clock, N: Names>(env: &mut Env<S, C, N>, cache: &str) -> Result<Swept>
@@ -149,9 +204,8 @@ pub fn sweep<S: Store, C: Clock, N: Names>(env: &mut Env<S, C, N>, cache: &str) 
     ensures base { env.new.base ≡ env.old.base }
 {
     let alloc = env.alloc;
-    let folder = join(alloc, cache, TEMP_AREA)?;
-    let names = names_in(alloc, &mut env.store, folder.as_str(), "temporary files")?;
-    let Parts { files, strange } = tell_apart(alloc, folder.as_str(), names)?;
+    let folder = join(alloc, cache_folder(cache), TEMP_AREA)?;
+    let Parts { files, strange } = find_files(alloc, &mut env.store, cache, folder.as_str())?;
     let bytes = remove_files(alloc, &mut env.store, folder.as_str(), files.as_slice())?;
     let files = files.len() as u64;
     Ok(Swept {

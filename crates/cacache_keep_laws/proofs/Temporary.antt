@@ -1,6 +1,7 @@
 -- A sweep takes the temporary files out of a tree, and nothing else.
-use Rattle.std.proofs.{Common.{◌≡◌, inl, inr, ℕ, Bool, true, false, cond, List, [], ◌∷◌, ◌++◌, None, Some, Ok, map, filter, length, refl, sym, ap, subst, ◌∙◌, append_assoc, arith}, lemmas.{Bool.{and_parts}, List.{length-map, Elements.{All-cons, All-nil}}}}
-use Rattle.cacache_core.specs.{PathNames.{Names, names_of, home_of, IsProperName}, Paths.{join, temp_area, content_names, bucket_names_of}}
+use Rattle.std.proofs.{Common.{◌≡◌, ◌==◌, if◌then◌else◌, inl, inr, ℕ, Bool, true, false, cond, Option, List, [], ◌∷◌, ◌++◌, None, Some, Ok, map, filter, length, refl, sym, ap, subst, ◌∙◌, append_assoc, arith}, lemmas.{Bool.{and_parts, eqb-true}, List.{length-map, nil_from_length, Elements.{All-cons, All-nil}}, Slice.Eq.{bytes_eq-Decides}}}
+use Rattle.std.specs.Prelude.{bytes_eq, codes}
+use Rattle.cacache_core.specs.{PathNames.{Names, names_of, home_of, is_bad, is_name, pieces, IsProperName}, Paths.{join, temp_area, content_names, bucket_names_of}}
 use Rattle.cacache_core.proofs.{JoinedNames.{joined_texts_name}, ProperNames.{proper_temp_folder}}
 use Rattle.cacache_store.specs.declared.store.{answer.{Kind.{Kind}, Name.{Name}, Answer.TheVariants.{Done}}, step.Step.TheVariants.{ReadDir, RemoveFile, Size}}
 use Rattle.cacache_store.specs.declared.store.answer.Kind.TheVariants as kinds
@@ -9,14 +10,91 @@ use Rattle.cacache_disk.proofs.{Maps.{same_path-true}, PutNodes.{look-cut}, Root
 use Rattle.cacache_sequence.{specs.Sequence.{tree_on, AreAnswered}, proofs.Readings.ReadsStay.{sizing_keeps}}
 use Rattle.cacache_value.{specs.{Kinds.{PathKind, Content, Bucket, Temporary, path_kind}, Value.{blob_in, bucket_in}}, proofs.KindsApart.{kind-below}}
 use Rattle.cacache_walks.specs.Reading.{names_shown}
-use Rattle.cacache_keep_laws.specs.Temporary.{IsTemporary, LeavesUntemporary, SweepsLeave, is_file, is_temp_name, is_temporary, sized_removals, temp_area_in, temp_at}
-use Rattle.cacache_keep_laws.proofs.{Children.{FolderShows, Stands, child_listed, folder_shown, listed, listed_child, missing, none_below, proper_child}, Keeping.{removed}, Collected.{from_kept, kept_in}, Covering.{named_on}, Members.{Member}}
+use Rattle.cacache_keep_laws.specs.Temporary.{IsTemporary, LeavesUntemporary, SweepsLeave, area_of, cache_folder, is_file, is_temp_name, is_temporary, sized_removals, temp_area_in, temp_at}
+use Rattle.cacache_keep_laws.proofs.{Children.{FolderShows, NoFolder, Stands, child_listed, folder_shown, listed, listed_child, missing, none_below, proper_child}, Keeping.{removed}, Collected.{from_kept, kept_in}, Covering.{named_on}, Members.{Member}}
 
 -- ---- names in a folder
 
 no_members : {X : Type 0} (xs : List X) → ((x : X) → Member x xs → ⊥) → xs ≡ []
 no_members [] none = refl
 no_members (x ∷ xs) none = absurd (none x (inl refl))
+
+none_listed : (t : Tree) (p : Names) → Rooted t → NoFolder t p → listing t p ≡ []
+none_listed t p rooted none =
+    no_members (listing t p) (λ n m. let s = listed_child t p n m in let wrong : None ≡ Some s.node = sym (none_below t p n.name [] rooted none) ∙ s.stands in cc)
+
+-- what a listing shows are the names that stand there
+all_shown : (t : Tree) (p : Names) (names : List Name) → Rooted t → FolderShows t p names → names ≡ listing t p
+all_shown t p names rooted (listed e) = e
+all_shown t p names rooted (missing none e) = e ∙ sym (none_listed t p rooted none)
+
+pub names_listed : (t : Tree) (path : List ℕ) (p : Names) (names : List Name) → Rooted t → names_of path ≡ Ok p
+    → names_shown (apply t (ReadDir path) Plain).0 ≡ Some names → names ≡ listing t p
+names_listed t path p names rooted is shown = all_shown t p names rooted (folder_shown t path p Plain names rooted is shown)
+
+-- ---- what stands in the place of the folder of temporary files
+
+cache_named_by : (cache : List ℕ) (home : Names) (b : Bool) → (length cache == 0) ≡ b → home_of cache ≡ Some home
+    → (names_of (if b then codes "." else cache) ≡ Ok home) × (home_of (if b then codes "." else cache) ≡ Some home)
+unfolding names_of home_of pieces
+cache_named_by cache home true empty is =
+    let none : cache ≡ [] = nil_from_length cache (eqb-true (length cache) 0 empty) in
+    let here : home_of [] ≡ Some home = ap home_of (sym none) ∙ is in
+    (let same : [] ≡ home = cc in ap Ok same, here)
+cache_named_by cache home false some is = by (is_bad cache) refl
+  where
+    by : (bad : Bool) → is_bad cache ≡ bad → (names_of cache ≡ Ok home) × (home_of cache ≡ Some home)
+    by true bad = let wrong : None ≡ Some home = sym (rw bad refl) ∙ is in absurd cc
+    by false fine = let same : filter is_name (pieces cache) ≡ home = cc in (rw (some, fine) (ap Ok same), is)
+
+-- the path of the cache folder names it
+pub cache_named : (cache : List ℕ) (home : Names) → home_of cache ≡ Some home → (names_of (cache_folder cache) ≡ Ok home) × (home_of (cache_folder cache) ≡ Some home)
+cache_named cache home is = cache_named_by cache home (length cache == 0) refl is
+
+area_first : (n : Name) (names : List Name) (k : Kind) (b : Bool) → bytes_eq n.name temp_area ≡ b → (if b then Some n.kind else area_of names) ≡ Some k
+    → (area_of names ≡ Some k → (m : Name) × Member m names × (m.name ≡ temp_area) × (m.kind ≡ k)) → (m : Name) × Member m (n ∷ names) × (m.name ≡ temp_area) × (m.kind ≡ k)
+area_first n names k true same is more = (n, inl refl, (bytes_eq-Decides n.name temp_area).0 same, let kind : n.kind ≡ k = cc in kind)
+area_first n names k false other is more = let m = more is in (m.0, inr m.1, m.2, m.3)
+
+area_named : (names : List Name) (k : Kind) → area_of names ≡ Some k → (m : Name) × Member m names × (m.name ≡ temp_area) × (m.kind ≡ k)
+area_named [] k is = absurd cc
+area_named (n ∷ names) k is = area_first n names k (bytes_eq n.name temp_area) refl is (area_named names k)
+
+area_passed : (n : Name) (names : List Name) (b : Bool) → bytes_eq n.name temp_area ≡ b → (if b then Some n.kind else area_of names) ≡ None
+    → (n.name ≡ temp_area → ⊥) × (area_of names ≡ None)
+area_passed n names true same is = absurd cc
+area_passed n names false other is = (λ e. let wrong : false ≡ true = sym other ∙ (bytes_eq-Decides n.name temp_area).1 e in cc, is)
+
+area_missing : (names : List Name) (m : Name) → area_of names ≡ None → Member m names → m.name ≡ temp_area → ⊥
+area_missing [] m none at e = absurd at
+area_missing (n ∷ names) m none (inl same) e = (area_passed n names (bytes_eq n.name temp_area) refl none).0 (ap (λ (x : Name). x.name) (sym same) ∙ e)
+area_missing (n ∷ names) m none (inr at) e = area_missing names m (area_passed n names (bytes_eq n.name temp_area) refl none).1 at e
+
+-- only a folder is one
+abbrev pub AreaStands : Tree → Names → Option Kind → Type 0
+AreaStands t p (Some kinds.Folder) = Unit {0}
+AreaStands t p here = NoFolder t p
+
+other_stands : (t : Tree) (home : Names) (k : Kind) (m : Name) → Stands t home m → m.name ≡ temp_area → m.kind ≡ k → (k ≡ kinds.Folder → ⊥) → NoFolder t (home ++ temp_area ∷ [])
+other_stands t home k m s same kind other there =
+    let both : Some s.node ≡ Some Folder = sym s.stands ∙ ap (λ (x : List ℕ). look t (home ++ x ∷ [])) same ∙ there in
+    let node : s.node ≡ Folder = cc in
+    other (sym kind ∙ s.kind ∙ ap kind_of node)
+
+area_by : (t : Tree) (home : Names) (here : Option Kind) → area_of (listing t home) ≡ here → AreaStands t (home ++ temp_area ∷ []) here
+area_by t home None is = λ there. area_missing (listing t home) (record { name = temp_area; kind = kinds.Folder }) is (child_listed t home temp_area Folder there) refl
+area_by t home (Some kinds.Folder) is = tt
+area_by t home (Some kinds.File) is =
+    let m = area_named (listing t home) kinds.File is in other_stands t home kinds.File m.0 (listed_child t home m.0 m.1) m.2 m.3 (λ e. cc)
+area_by t home (Some kinds.Link) is =
+    let m = area_named (listing t home) kinds.Link is in other_stands t home kinds.Link m.0 (listed_child t home m.0 m.1) m.2 m.3 (λ e. cc)
+
+pub area_stands : (t : Tree) (home : Names) (around : List Name) → around ≡ listing t home → AreaStands t (home ++ temp_area ∷ []) (area_of around)
+area_stands t home around is = subst (λ (l : List Name). AreaStands t (home ++ temp_area ∷ []) (area_of l)) (sym is) (area_by t home (area_of (listing t home)) refl)
+
+-- where none stands, none has a name in it
+pub area_empty : (t : Tree) (home : Names) → Rooted t → NoFolder t (home ++ temp_area ∷ []) → [] ≡ listing t (home ++ temp_area ∷ [])
+area_empty t home rooted none = sym (none_listed t (home ++ temp_area ∷ []) rooted none)
 
 -- ---- removals from one folder
 
@@ -93,7 +171,7 @@ not_temporary home q names name kind is of apart e = apart (sym of ∙ ap (path_
 
 module _ (cache : List ℕ) (home : Names) (is : home_of cache ≡ Some home) (t : Tree) (rooted : Rooted t)
     (names : List Name) (rs : List (Name × ℕ))
-    (shown : names_shown (apply t (ReadDir (temp_area_in cache)) Plain).0 ≡ Some names)
+    (are_listed : names ≡ listing t (home ++ temp_area ∷ []))
     (each : names_in rs ≡ filter is_temporary names)
     (answered : AreAnswered t (sized_removals (temp_area_in cache) rs)) where
   abbrev p : Names
@@ -101,14 +179,6 @@ module _ (cache : List ℕ) (home : Names) (is : home_of cache ≡ Some home) (t
 
   abbrev folder : List ℕ
   folder = temp_area_in cache
-
-  all_listed : FolderShows t p names → names ≡ listing t p
-  all_listed (listed e) = e
-  all_listed (missing none e) =
-      e ∙ sym (no_members (listing t p) (λ n m. let s = listed_child t p n m in let wrong : None ≡ Some s.node = sym (none_below t p n.name [] rooted none) ∙ s.stands in cc))
-
-  abbrev are_listed : names ≡ listing t p
-  are_listed = all_listed (folder_shown t folder p Plain names rooted (temp_area_named cache home is) shown)
 
   among : (n : Name) → Member n (names_in rs) → Stands t p n × (is_temporary n ≡ true)
   among n m =
@@ -150,4 +220,4 @@ module _ (cache : List ℕ) (home : Names) (is : home_of cache ≡ Some home) (t
   }
 
 pub sweeps_leave : SweepsLeave
-sweeps_leave cache home t names removed is rooted shown each answered = leaves_untemporary cache home is t rooted names removed shown each answered
+sweeps_leave cache home t names rs is rooted all each answered = leaves_untemporary cache home is t rooted names rs all each answered

@@ -1,14 +1,13 @@
 -- Temporary files, and what a sweep leaves.
-use Rattle.std.specs.{Prelude.{◌≡◌, ◌++◌, ◌&&◌, ℕ, List, [], ◌∷◌, Bool, true, false, None, Some, codes, filter, length, map, min, ◌-◌, ◌^◌}, List.{starts_with, sum}, Bool.{nat_eq}}
+use Rattle.std.specs.{Prelude.{◌≡◌, ◌++◌, ◌&&◌, ◌==◌, if◌then◌else◌, ℕ, List, [], ◌∷◌, Bool, true, false, Option, None, Some, bytes_eq, codes, filter, length, map, min, ◌-◌, ◌^◌}, List.{starts_with, sum}, Bool.{nat_eq}}
 use Rattle.cacache_core.specs.{declared.integrity.digest.Hash.{Hash}, Integrity.{IsHash}, PathLaws.{IsKeyDigest}, PathNames.{Names, home_of}, Paths.{join, temp_area}}
 use Rattle.cacache_store.specs.declared.store.answer.{Kind.{Kind}, Name.{Name}}
 use Rattle.cacache_store.specs.declared.store.answer.Kind.TheVariants as kinds
 use Rattle.cacache_store.specs.declared.store.answer.Answer.TheVariants as answers
 use Rattle.cacache_store.specs.declared.store.step.Step.TheVariants as steps
-use Rattle.cacache_disk.specs.{declared.{luck.Luck.TheVariants.{Plain}, node.Node.TheVariants.{File}}, Tree.{Tree, listing, look}, Rooted.{Rooted}, Apply.{apply}}
+use Rattle.cacache_disk.specs.{declared.node.Node.TheVariants.{File}, Tree.{Tree, listing, look}, Rooted.{Rooted}}
 use Rattle.cacache_table.specs.Runs.{Moves}
 use Rattle.cacache_sequence.specs.Sequence.{tree_on, AreAnswered}
-use Rattle.cacache_walks.specs.Reading.{names_shown}
 use Rattle.cacache_keep_laws.specs.Contents.{bucket_in, content_in}
 
 -- ---- temporary files
@@ -29,6 +28,15 @@ is_temporary n = is_file n.kind && is_temp_name n.name
 -- the folder of temporary files
 abbrev pub temp_area_in : List ℕ → List ℕ
 temp_area_in cache = join cache temp_area
+
+-- the path of the cache folder; an empty one is that of the folder from which relative paths start
+abbrev pub cache_folder : List ℕ → List ℕ
+cache_folder cache = if length cache == 0 then codes "." else cache
+
+-- what stands in the place of the folder of temporary files, by the names in the cache folder
+abbrev pub area_of : List Name → Option Kind
+area_of [] = None
+area_of (n ∷ names) = if bytes_eq n.name temp_area then Some n.kind else area_of names
 
 -- where a temporary file of this name lies in the tree
 abbrev pub temp_at : Names → List ℕ → Names
@@ -63,13 +71,12 @@ pub record LeavesUntemporary (home : Names) (t new : Tree) (files : ℕ) : Type 
   pub buckets : (digest : List ℕ) → IsKeyDigest digest
       → bucket_in home new digest ≡ bucket_in home t digest
 
--- so it is once the names in the folder of temporary files were listed, and those that tell of one
--- were removed
+-- so it is once those of the names in the folder of temporary files that tell of one were removed
 abbrev pub SweepsLeave : Type 0
 SweepsLeave =
     (cache : List ℕ) (home : Names) (t : Tree) (names : List Name) (removed : List (Name × ℕ))
     → home_of cache ≡ Some home → Rooted t
-    → names_shown (apply t (steps.ReadDir (temp_area_in cache)) Plain).0 ≡ Some names
+    → names ≡ listing t (home ++ temp_area ∷ [])
     → map (λ r. r.0) removed ≡ filter is_temporary names
     → AreAnswered t (sized_removals (temp_area_in cache) removed)
     → LeavesUntemporary home t (tree_on t (sized_removals (temp_area_in cache) removed))

@@ -106,9 +106,9 @@ left_read_means cache key r new logged old standing ran =
     let c = called bytes_read (λ b. refl) r cache old.base 0 (commands.Get key) old.store new.store ran.0.0 logged in
     let succeeds : (folder : Names) (i : List Hash) (bytes : List ℕ) → home_of cache ≡ Some folder → leads_to cache key old.store ≡ Some i → IsIntegrity i → LiesWhole cache i old.store bytes → FailsForMemory r
     = λ folder i bytes home leads formed lies.
-        let led = led_read cache key i bytes old.store (found_under cache key old.store) leads formed lies in
-        for_memory bytes_read r (Read bytes) tt
-        (or_as (reply_of bytes_read r) led.1 (standing_key_reads cache key folder (reply_of bytes_read r) old.store new.store home standing led.0 c)) in
+    let led = led_read cache key i bytes old.store (found_under cache key old.store) leads formed lies in
+    for_memory bytes_read r (Read bytes) tt
+    (or_as (reply_of bytes_read r) led.1 (standing_key_reads cache key folder (reply_of bytes_read r) old.store new.store home standing led.0 c)) in
     record {
       same = tree_stays cache (commands.Get key) (reply_of bytes_read r) old.store new.store tt c;
       standing = looks_leave_standing cache (commands.Get key) (reply_of bytes_read r) old.store new.store tt c standing;

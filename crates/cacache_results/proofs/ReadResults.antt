@@ -89,8 +89,8 @@ content_read_means cache i r new formed logged old sound ran =
     let any = content_reads_give cache i (reply_of bytes_read r) old.store new.store formed sound c in
     let reads_on : (bytes : List ℕ) → NamesFolder cache → LiesWhole cache i old.store bytes → FailsForMemory r
     = λ bytes folder lies.
-        for_memory bytes_read r (replies.Read bytes) tt
-        (or_as (reply_of bytes_read r) (whole_gives cache i bytes old.store lies) (content_reads_answer cache i (reply_of bytes_read r) old.store new.store folder (caches_stand cache old.store sound) formed c)) in
+    for_memory bytes_read r (replies.Read bytes) tt
+    (or_as (reply_of bytes_read r) (whole_gives cache i bytes old.store lies) (content_reads_answer cache i (reply_of bytes_read r) old.store new.store folder (caches_stand cache old.store sound) formed c)) in
     record {
       leaves = looks_leave cache (commands.GetHash i) (reply_of bytes_read r) old.store new.store tt c (caches_last cache (commands.GetHash i) (reply_of bytes_read r) old.store new.store c tt formed sound);
       same = tree_stays cache (commands.GetHash i) (reply_of bytes_read r) old.store new.store tt c;

@@ -12,6 +12,7 @@ use crate::folder::fresh::{count_of, replace};
 use crate::folder::node::Node;
 use crate::folder::paths::is_absent;
 use crate::folder::refusing::unless_folder;
+use cacache_core::keeping::let_go;
 use cacache_store::store::Kind;
 use cacache_system::{FileInfo, System};
 use std::io;
@@ -77,7 +78,10 @@ fn make_end<Y: System + AllocGlobal>(
         (Y.calls system.old) (Y.calls system.new) }
 {
     match system.open_to_append(to) {
-        Ok(_) => replace_end(system, number, from, to),
+        Ok(file) => {
+            let_go(file);
+            replace_end(system, number, from, to)
+        }
         Err(error) => Err(error),
     }
 }

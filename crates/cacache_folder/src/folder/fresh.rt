@@ -5,8 +5,8 @@ ghost use Rattle.cacache_system.specs.declared.call.CallResult.{CallResult};
 ghost use Rattle.cacache_system.specs.declared.call.CallResult.TheVariants as says;
 ghost use Rattle.cacache_system.specs.CallLog.{said, MakesCall};
 ghost use Rattle.cacache_system.specs.CallsOf as calls;
-ghost use Rattle.cacache_system.specs.CallsOf.{RunLogged, CallsLogged};
-ghost use Rattle.cacache_folder.specs.Goings.{onward};
+ghost use Rattle.cacache_system.specs.CallsOf.{RunLogged};
+ghost use Rattle.cacache_folder.specs.Goings.{GoesOrEnds};
 
 use crate::folder::files::PRIVATE;
 use crate::folder::paths::above;
@@ -65,9 +65,9 @@ fn make_fresh<Y: System>(
     number: u64,
     path: &str,
 ) -> io::Result<Text>
-    ensures { (from : List ℕ) → CallsLogged
+    ensures { (from : List ℕ) → GoesOrEnds
         (calls.taking_memory (calls.making_fresh left number from path.now))
-        (onward (λ fresh. calls.filling from fresh path.now) result)
+        (λ fresh. calls.filling from fresh path.now) result
         (Y.calls system.old) (Y.calls system.new) }
 {
     let Ok(fresh) = fresh_beside(alloc, path, number.wrapping_add(left)) else {

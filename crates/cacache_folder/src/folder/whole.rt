@@ -12,8 +12,8 @@ ghost use Rattle.cacache_folder.specs.Goings.{piece};
 ghost use Rattle.cacache_folder.specs.Interruptions.{Insists};
 
 use crate::folder::again::ask_to_read;
-use crate::folder::fresh::count_of;
 use crate::folder::files::opened;
+use crate::folder::fresh::count_of;
 use crate::folder::opened::{SystemFile, gives_no_more};
 use cacache_core::bytes::Bytes;
 use cacache_system::System;

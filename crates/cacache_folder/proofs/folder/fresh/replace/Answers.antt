@@ -1,0 +1,19 @@
+use Rattle.std.{proofs.Common.{◌≡◌, true, false, List, refl, sym, ap, subst, ◌∙◌}, specs.Prelude.{Some}}
+use Rattle.std_io.specs.IoError.{error_kind}
+use Rattle.cacache_system.specs.declared.call.SystemCall.TheVariants as asks
+use Rattle.cacache_system.specs.declared.call.CallResult.TheVariants as says
+use Rattle.cacache_system.specs.CallLog.{said}
+use Rattle.cacache_system.specs.CallsOf as calls
+use Rattle.cacache_folder.proofs.CallRuns.{calls_run}
+use Rattle.cacache_folder.proofs.folder.fresh.replace.Goals as goal
+
+pub returns-in-Ok : goal.returns-in-Ok
+returns-in-Ok g c =
+    let from = c.args.from.now in
+    let path = c.args.path.now in
+    let filled = subst (λ (p : List _). calls.RunLogged (calls.filling c.args.from.now p c.args.path.now) (said says.Count c.fill.result) (g.Y.System.calls c.make_fresh.new.system) (g.Y.System.calls c.fill.new.system)) c.as_str.ensures.same c.fill.ensures in
+    calls_run (calls.place_fresh c.args.number from path) (calls.filling from c.in-Ok.fresh path) (said says.Count c.fill.result)
+    (g.Y.System.calls c.args.system.now) (g.Y.System.calls c.make_fresh.new.system) (g.Y.System.calls c.fill.new.system) (c.in-Ok.ensures from) filled
+
+pub returns-in-Err : goal.returns-in-Err
+returns-in-Err g c = c.in-Err.ensures c.args.from.now
