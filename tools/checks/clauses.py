@@ -1,4 +1,6 @@
-"""Which clauses the functions of the crates have, and whether the last column of a table of PROMISES names clauses that are there.
+"""Which clauses the functions of the crates have, and whether the last column of a table of promises names clauses that are there.
+
+These are the tables of PROMISES and of the pages `promises-*`, if their last column is headed Clause, Field or Call.
 
 A cell is read so: parts between semicolons, each with names of functions, a colon, and names of their clauses. Each function must
 have each of them, as `ensures NAME`, as a field of a record that a clause cites, or as what is said beside the functions of its
@@ -154,7 +156,7 @@ class Subject:
 
 
 class Table:
-    """A table of PROMISES: what the paragraph above it names, and the functions of the row before."""
+    """A table of promises: what the paragraph above it names, and the functions of the row before."""
 
     def __init__(self, above, cells):
         self.before = [[]]
@@ -256,6 +258,6 @@ def tables(text):
 def wrong_rows(text):
     """Each wrong name in the tables of a text: the line's number, and what is wrong."""
     for above, rows in tables(text):
-        if rows[0][1][1:2] in (["Clause"], ["Field"], ["Call"]):
-            table = Table(above, [cells[1] for _, cells in rows])
-            yield from ((number, fault) for number, cells in rows[2:] for fault in table.row(cells[1], cells[0]))
+        if rows[0][1][-1] in ("Clause", "Field", "Call"):
+            table = Table(above, [cells[-1] for _, cells in rows])
+            yield from ((number, fault) for number, cells in rows[2:] for fault in table.row(cells[-1], cells[0]))

@@ -94,14 +94,14 @@ def documents():
 
 
 def rows():
-    """The numbers of rows that PROMISES states, those of one file added up, against what `all_rows` prints of it."""
-    text, stated = " ".join(read("docs/PROMISES.md").split()), {}
+    """The numbers of rows that the page of tests states, those of one file added up, against what `all_rows` prints of it."""
+    text, stated = " ".join(read("docs/tested.md").split()), {}
     for count, name in re.findall(r"by ([\d,]+) rows[^(]*\(`(\w+)\.rows`", text):
         stated[name] = stated.get(name, 0) + number(count)
     for name, count in stated.items():
         there = told("crates/all_rows/stdout", rf"(?ms)^== {name}$.*?^all: (\d+) rows hold$")
         if count != int(there):
-            yield f"docs/PROMISES.md: {count} rows of {name}, and there are {there}"
+            yield f"docs/tested.md: {count} rows of {name}, and there are {there}"
 
 
 def lists(name):
@@ -133,7 +133,7 @@ def stated():
             ("README.md", r"\w+ of its (\w+):", play.count("ensures")),
             ("docs/ARCHITECTURE.md", r"`Step` has (\w+) kinds", steps),
             ("docs/ARCHITECTURE.md", r"at once: (\w+) \*\*states\*\*", states),
-            ("docs/PROMISES.md", r"the table of the (\w+) steps", steps),
+            ("docs/promises-model.md", r"the table of the (\w+) steps", steps),
             ("docs/DEFINITIONS.md", r"the table of the (\w+) steps", steps)]:
         found = re.search(form, " ".join(read(name).split()))
         if not found or number(found[1]) != there:
