@@ -47,5 +47,5 @@ filed_by (w ∷ x ∷ []) b c d cache key file name P ib ic id cb kc fd p = tt
 filed_by (w ∷ x ∷ y ∷ []) b c d cache key file name P ib ic id cb kc fd p = tt
 filed_by (w ∷ x ∷ y ∷ z ∷ []) b c d cache key file name P ib ic id cb kc fd p =
     λ named. subst (λ (k : List ℕ). P k (string_bytes y) (string_bytes z)) (cb ∙ ap string_bytes ib)
-        (subst (λ (k : List ℕ). P cache k (string_bytes z)) (kc ∙ ap string_bytes ic) (subst (P cache key) (fd ∙ ap string_bytes id) p))
+    (subst (λ (k : List ℕ). P cache k (string_bytes z)) (kc ∙ ap string_bytes ic) (subst (P cache key) (fd ∙ ap string_bytes id) p))
 filed_by (w ∷ x ∷ y ∷ z ∷ v ∷ more) b c d cache key file name P ib ic id cb kc fd p = tt
