@@ -29,7 +29,7 @@ pub(crate) fn parts_of(words: &str) -> (&str, &str) {
 }
 
 /// How many names a folder has.
-pub(crate) fn names<S: Store>(env: &mut On<S>, path: &str) -> Result<String, AllocError> {
+fn names<S: Store>(env: &mut On<S>, path: &str) -> Result<String, AllocError> {
     match names_in(env, path)? {
         Some(count) => format!(in env.alloc; "{count}"),
         None => String::from_str(env.alloc, "no folder"),
@@ -57,7 +57,7 @@ fn bytes_read(alloc: Global, came: io::Result<Answered<Vec<u8>>>) -> Result<Stri
 }
 
 /// What a call gives whose future is ready at once.
-pub(crate) fn called<R: Wait + RandomSource + AllocGlobal, S: Store>(
+fn called<R: Wait + RandomSource + AllocGlobal, S: Store>(
     rt: &R,
     env: &mut On<S>,
     name: &str,

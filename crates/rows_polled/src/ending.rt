@@ -1,5 +1,4 @@
 //! The end of a writer: a commit, which may be pending at first, or a drop. What comes behind it.
-use crate::acts::names;
 use crate::answers::{add, with};
 use crate::gates::{turned, worked};
 use crate::steps::{Stepped, with_steps};
@@ -14,7 +13,6 @@ use futures::test::MockTask;
 use row_places::{Numbers, On, Still};
 use rows::Flaw;
 use rows::answers::stored;
-use rows::words::cut;
 use std::alloc::{AllocError, AllocGlobal, Global};
 use std::sync::Wait;
 
@@ -118,41 +116,34 @@ where
     Ok(with(line, String::from_str(rt.alloc(), "-"))?)
 }
 
-/// A worker whose writer was dropped, and the environment where that was opened.
+/// A worker whose writer was dropped.
 #[derive(Drop)]
-struct Alone<'a, R, S, T> {
+struct Alone<'a, R, T> {
     rt: &'a R,
-    env: &'a mut On<S>,
     worker: &'a mut Worker<T>,
 }
 
-impl<'a, R: Wait + AllocGlobal, S: Store, T: RemovableTemp> Stepped for Alone<'a, R, S, T> {
+impl<'a, R: Wait + AllocGlobal, T: RemovableTemp> Stepped for Alone<'a, R, T> {
     fn step(&mut self, step: &str) -> Result<String, Flaw> {
-        let (name, path) = cut(step);
-        if name == "names" {
-            return Ok(names(self.env, path)?);
-        }
         let word = turned(self.rt, self.worker, step)?;
         Ok(String::from_str(self.rt.alloc(), word)?)
     }
 }
 
 /// A line with what the turns of such a worker give.
-fn with_turns<R: Wait + AllocGlobal, S: Store, T: RemovableTemp>(
+fn with_turns<R: Wait + AllocGlobal, T: RemovableTemp>(
     rt: &R,
-    env: &mut On<S>,
     worker: &mut Worker<T>,
     after: &str,
     line: String,
 ) -> Result<String, Flaw> {
-    let mut alone = Alone { rt, env, worker };
+    let mut alone = Alone { rt, worker };
     with_steps(line, &mut alone, after)
 }
 
 /// What the worker's turns give once the writer is dropped.
-pub(crate) fn left<R: Wait + AllocGlobal, S: Store, T: RemovableTemp>(
+pub(crate) fn left<R: Wait + AllocGlobal, T: RemovableTemp>(
     rt: &R,
-    env: &mut On<S>,
     desk: Desk<T>,
     after: &str,
     line: String,
@@ -166,5 +157,5 @@ pub(crate) fn left<R: Wait + AllocGlobal, S: Store, T: RemovableTemp>(
     let_go(task);
     let line = with(line, String::from_str(rt.alloc(), "-"));
     let (line, mut worker) = beside(line, worker)?;
-    with_turns(rt, env, &mut worker, after, line)
+    with_turns(rt, &mut worker, after, line)
 }

@@ -1,5 +1,4 @@
 //! Writers and their workers: what polls and turns give, one after another.
-use crate::acts::called;
 use crate::answers::bytes_of;
 use crate::ending::{committed, left, unpolled};
 use crate::gates::{turned, worked};
@@ -40,9 +39,8 @@ fn piece<R: Wait + AllocGlobal, T: RemovableTemp>(
 }
 
 /// What a step gives.
-fn stepped<R: Wait + RandomSource + AllocGlobal, S: Store, T: RemovableTemp>(
+fn stepped<R: Wait + AllocGlobal, T: RemovableTemp>(
     rt: &R,
-    env: &mut On<S>,
     desk: &mut Desk<T>,
     step: &str,
 ) -> Result<String, Flaw> {
@@ -53,35 +51,31 @@ fn stepped<R: Wait + RandomSource + AllocGlobal, S: Store, T: RemovableTemp>(
         "flush" => Ok(flush(rt, alloc, &desk.task, &mut desk.writer)?),
         "close" => Ok(close(rt, alloc, &desk.task, &mut desk.writer)?),
         "piece" => piece(rt, desk, data),
-        "clear" => called(rt, env, name, data),
         _ => worked(rt, &desk.task, &mut desk.worker, step),
     }
 }
 
-/// A desk at which steps are made, in its environment.
+/// A desk at which steps are made.
 #[derive(Drop)]
-struct Shift<'a, R, S, T> {
+struct Shift<'a, R, T> {
     rt: &'a R,
-    env: &'a mut On<S>,
     desk: &'a mut Desk<T>,
 }
 
-impl<'a, R: Wait + RandomSource + AllocGlobal, S: Store, T: RemovableTemp> Stepped
-    for Shift<'a, R, S, T> {
+impl<'a, R: Wait + AllocGlobal, T: RemovableTemp> Stepped for Shift<'a, R, T> {
     fn step(&mut self, step: &str) -> Result<String, Flaw> {
-        stepped(self.rt, self.env, self.desk, step)
+        stepped(self.rt, self.desk, step)
     }
 }
 
 /// What steps give, one after another.
-fn stepped_in_turn<R: Wait + RandomSource + AllocGlobal, S: Store, T: RemovableTemp>(
+fn stepped_in_turn<R: Wait + AllocGlobal, T: RemovableTemp>(
     rt: &R,
-    env: &mut On<S>,
     desk: &mut Desk<T>,
     steps: &str,
 ) -> Result<String, Flaw> {
     let alloc = rt.alloc();
-    let mut shift = Shift { rt, env, desk };
+    let mut shift = Shift { rt, desk };
     in_turn(alloc, &mut shift, steps)
 }
 
@@ -106,18 +100,18 @@ fn made_with<R, S, T>(
     steps: &str,
 ) -> Result<String, Flaw>
 where
-    R: Wait + RandomSource + AllocGlobal,
+    R: Wait + AllocGlobal,
     S: Store<Temp = T>,
     T: RemovableTemp,
 {
     let (before, end, after) = cut_at_end(steps);
-    let line = stepped_in_turn(rt, env, &mut desk, before);
+    let line = stepped_in_turn(rt, &mut desk, before);
     let (line, desk) = beside(line, desk)?;
     match end {
         "; commit" => committed(rt, env, desk, false, after, line),
         "; shut" => committed(rt, env, desk, true, after, line),
         "; leave" => unpolled(rt, env, desk, line),
-        "; drop" => left(rt, env, desk, after, line),
+        "; drop" => left(rt, desk, after, line),
         _ => {
             let_go(desk);
             Ok(line)
