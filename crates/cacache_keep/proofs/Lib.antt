@@ -14,6 +14,7 @@ mod Sweeps
 mod SweptCaches
 mod Sizes
 mod Tombs
+mod Shown
 mod Buried
 mod Mends
 mod Whole

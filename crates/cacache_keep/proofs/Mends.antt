@@ -15,7 +15,7 @@ use Rattle.cacache_walks.specs.{Listing.{content_area_in}, Reading.{top_folder}}
 use Rattle.cacache_keep_laws.specs.{Collecting.{Removes}, Contents.{HoldsJust}, Index.{IndexLists}, Mending.{found_in}, Verifying.{has_content, is_good}}
 use Rattle.cacache_keep_laws.proofs.{Collected.{from_kept, kept_in, leaves}, Held.{holds_just}, Logged.{answered_rest, answered_split, gains_join, log_rooted, looked, tree_rest, tree_split, walked}, Members.{Member, contains_member, member_contains}, Mended.{repairs_leave}}
 use Rattle.cacache_keep.specs.{Calls.{MadeCalls, question_of, removal}, Kept.{IsKeyOf, MendsCache, RepairsMend}, Reading.{Judged}, Repairing.{Fate, RepairsCache, is_buried}}
-use Rattle.cacache_keep.proofs.{Buried.{After, all_told}, Judged.{asks_told, index_lists, others_named, reads_judged}, Leaving.{removals, removals_gain, removed_by}, Parts.{made_looks}, Verdicts.{all_questions}}
+use Rattle.cacache_keep.proofs.{Buried.{After, all_told}, Judged.{asks_told, index_lists, others_named, reads_judged}, Leaving.{removals, removals_gain, removed_by}, Parts.{made_looks}, Shown.{burial_of}, Verdicts.{all_questions}}
 
 pub map_from : {X Y : Type 0} (f : X → Y) (y : Y) (xs : List X) → Member y (map f xs) → (x : X) × Member x xs × (f x ≡ y)
 map_from f y [] m = absurd m
@@ -77,7 +77,7 @@ module _ (site : Site) (home : Names) (is : home_of site.cache ≡ Some home) wh
       pub removes : Removes site.cache bad (tree_of old) mid
       pub index : IndexLists site mid v.entries
       pub absent : v.dangling ≡ filter (λ f. not (has_content site.cache mid f)) v.entries
-      pub after : After site home is v.burying.fates mid (tree_of new)
+      pub after : After site home is (burial_of v).each.fates mid (tree_of new)
 
     pub steps_done : Repaired
     steps_done =
@@ -90,13 +90,16 @@ module _ (site : Site) (home : Names) (is : home_of site.cache ≡ Some home) wh
         let cut = removals site.cache gone.0 in
         let mid = tree_on (tree_of old) cut in
         let a = made_looks site mid (map question_of v.asking.asks) v.listed v.asked (all_questions v.asking.asks) v.asking.asking in
-        let b = all_told site home is v.burying.fates v.asked (Some new) v.burying.keys v.burying.calls in
-        let late = l.0 ++ (a.moves ++ b.moves) in
+        let w = burial_of v in
+        let b = all_told site home is w.each.fates w.looked (Some new) w.each.keys w.each.calls in
+        let last = w.moves ++ b.moves in
+        let late = l.0 ++ (a.moves ++ last) in
         let gains = gains_join (Some old) v.found (Some new) c.0 (r.moves ++ (cut ++ late)) c.1
         (gains_join v.found v.read (Some new) r.moves (cut ++ late) r.gains
         (gains_join v.read v.removed (Some new) cut late rem
-        (gains_join v.removed v.listed (Some new) l.0 (a.moves ++ b.moves) l.2
-        (gains_join v.listed v.asked (Some new) a.moves b.moves a.gains b.gains)))) in
+        (gains_join v.removed v.listed (Some new) l.0 (a.moves ++ last) l.2
+        (gains_join v.listed v.asked (Some new) a.moves last a.gains
+        (gains_join v.asked w.looked (Some new) w.moves b.moves w.gains b.gains))))) in
         let lead = logs_lead old new (c.0 ++ (r.moves ++ (cut ++ late))) gains logged in
         let walk = walked (tree_of old) c.0 (top_folder (content_area_in site.cache) ∷ []) c.2 (answered_split (tree_of old) c.0 (r.moves ++ (cut ++ late)) lead.0).0 in
         let after_walk = answered_rest (tree_of old) c.0 (r.moves ++ (cut ++ late)) walk.1 lead.0 in
@@ -108,13 +111,15 @@ module _ (site : Site) (home : Names) (is : home_of site.cache ≡ Some home) wh
         let same : gone.0 ≡ bad = same_singles gone.0 bad (sym ones ∙ broken) in
         let split = answered_split (tree_of old) cut late after_reads in
         let placed_mid = removals_placed gone.0 (tree_of old) placed in
-        let index = looked site mid commands.Ls (replies.Listed v.listing.0) l.0 tt l.1 (answered_split mid l.0 (a.moves ++ b.moves) split.1).0 in
-        let asked = answered_rest mid l.0 (a.moves ++ b.moves) index.1 split.1 in
-        let questions = a.tells (answered_split mid a.moves b.moves asked).0 in
-        let told = b.tells mid placed_mid (answered_rest mid a.moves b.moves questions.1 asked) in
+        let index = looked site mid commands.Ls (replies.Listed v.listing.0) l.0 tt l.1 (answered_split mid l.0 (a.moves ++ last) split.1).0 in
+        let asked = answered_rest mid l.0 (a.moves ++ last) index.1 split.1 in
+        let questions = a.tells (answered_split mid a.moves last asked).0 in
+        let looking = answered_rest mid a.moves last questions.1 asked in
+        let stays = w.stays mid (answered_split mid w.moves b.moves looking).0 in
+        let told = b.tells mid placed_mid (answered_rest mid w.moves b.moves stays looking) in
         let leads : tree_of new ≡ tree_on mid b.moves
         = lead.1 ∙ tree_rest (tree_of old) c.0 (r.moves ++ (cut ++ late)) walk.1 ∙ tree_rest (tree_of old) r.moves (cut ++ late) reads.1 ∙ tree_split (tree_of old) cut late
-        ∙ tree_rest mid l.0 (a.moves ++ b.moves) index.1 ∙ tree_rest mid a.moves b.moves questions.1 in
+        ∙ tree_rest mid l.0 (a.moves ++ last) index.1 ∙ tree_rest mid a.moves last questions.1 ∙ tree_rest mid w.moves b.moves stays in
         record {
           holds = holds;
           broken = broken;
@@ -122,20 +127,20 @@ module _ (site : Site) (home : Names) (is : home_of site.cache ≡ Some home) wh
           removes = subst (λ (hs : List Hash). Removes site.cache hs (tree_of old) mid) same (removed_by site.cache gone.0 (tree_of old) split.0);
           index = index_lists site mid v.listing.0 v.entries v.listing.1 index.0;
           absent = v.asking.absent ∙ asks_told site mid v.asking.asks questions.0 ∙ ap (λ l. filter (λ f. not (has_content site.cache mid f)) l) v.asking.each;
-          after = subst (After site home is v.burying.fates mid) (sym leads) told;
+          after = subst (After site home is (burial_of v).each.fates mid) (sym leads) told;
         }
 
     -- a key of an entry that is told is that of a fate that was buried
-    buried_key : (key : List ℕ) → IsKeyOf buried key → (f : Found × Fate) × Member f v.burying.fates × (is_buried f.1 ≡ true) × (f.0.key ≡ key)
+    buried_key : (key : List ℕ) → IsKeyOf buried key → (f : Found × Fate) × Member f (burial_of v).each.fates × (is_buried f.1 ≡ true) × (f.0.key ≡ key)
     buried_key key (f, c, e) =
-        let m = map_from (λ (x : Found × Fate). x.0) f (filter (λ (x : Found × Fate). is_buried x.1) v.burying.fates) (subst (Member f) v.burying.which (member_contains f buried c)) in
-        let k = from_kept (λ (x : Found × Fate). is_buried x.1) m.0 v.burying.fates m.1 in
+        let m = map_from (λ (x : Found × Fate). x.0) f (filter (λ (x : Found × Fate). is_buried x.1) (burial_of v).each.fates) (subst (Member f) (burial_of v).each.which (member_contains f buried c)) in
+        let k = from_kept (λ (x : Found × Fate). is_buried x.1) m.0 (burial_of v).each.fates m.1 in
         (m.0, k.0, k.1, ap (λ (x : Found). x.key) m.2 ∙ e)
 
-    fate_told : (key : List ℕ) (f : Found × Fate) → Member f v.burying.fates → is_buried f.1 ≡ true → key ≡ f.0.key → IsKeyOf buried key
+    fate_told : (key : List ℕ) (f : Found × Fate) → Member f (burial_of v).each.fates → is_buried f.1 ≡ true → key ≡ f.0.key → IsKeyOf buried key
     fate_told key f m b e =
-        let k = map_in (λ (x : Found × Fate). x.0) f (filter (λ (x : Found × Fate). is_buried x.1) v.burying.fates) (kept_in (λ (x : Found × Fate). is_buried x.1) f v.burying.fates b m) in
-        (f.0, contains_member f.0 buried (subst (Member f.0) (sym v.burying.which) k), sym e)
+        let k = map_in (λ (x : Found × Fate). x.0) f (filter (λ (x : Found × Fate). is_buried x.1) (burial_of v).each.fates) (kept_in (λ (x : Found × Fate). is_buried x.1) f (burial_of v).each.fates b m) in
+        (f.0, contains_member f.0 buried (subst (Member f.0) (sym (burial_of v).each.which) k), sym e)
 
     pub repaired : MendsCache site home (tree_of old) (tree_of new) damaged buried
     repaired =

@@ -1,5 +1,5 @@
 -- Addresses in order, and which of them entries have.
-use Rattle.std.proofs.{Common.{◌≡◌, ◌+◌, ◌<◌, ◌≤◌, ℕ, List, [], ◌∷◌, ◌++◌, Bool, true, false, cond, Some, Ok, Err, Result, refl, sym, ap, ap₂, subst, ◌∙◌, map, length, length-append, arith, get_or, take}, lemmas.List.{map-append, take_more, Elements.{All-append, All-cons, All-nil}, Sorted.{searchable_from_sorted}}}
+use Rattle.std.proofs.{Common.{◌≡◌, ◌+◌, ◌<◌, ◌≤◌, ℕ, List, [], ◌∷◌, ◌++◌, Bool, true, false, cond, Option, Some, Ok, Err, Result, refl, sym, ap, ap₂, subst, ◌∙◌, map, length, length-append, arith, get_or, take}, lemmas.List.{map-append, take_more, Elements.{All-append, All-cons, All-nil}, Sorted.{searchable_from_sorted}}}
 use Rattle.std.specs.{Prelude.{All, Contains, IsTrue, ◌↔◌, ◌||◌, is_ok, not}, List.{filter, Sorted.{IsBinarySearchResult, IsSearchInRange, IsSorted}}, declared.cmp.Ordering.TheVariants.{Equal}, Ordering.{eq_by_cmp, is_eq}, Cmp.{IsTotalOrder, then_total, on_total, nat_cmp_total, unsigned_ties, both_tied, Lexicographic.{nat_list_cmp_total, texts_ties}}}
 use Rattle.cacache_core.specs.{declared.integrity.digest.Hash.{Hash}, Integrity.{IsIntegrity, address, rank}, Meeting.{lists}, Same.{same_hash, same_hash-Decides}}
 use Rattle.cacache_core.proofs.Meeting.{lists_finds}
@@ -108,7 +108,7 @@ formed_more entries k f low is formed all =
     (All-append (λ (x : Found). IsIntegrity x.integrity) (take k entries) (f ∷ []) all (All-cons (λ (x : Found). IsIntegrity x.integrity) f [] formed (All-nil (λ (x : Found). IsIntegrity x.integrity))))
 
 -- and its address is one more
-pub live_more : (entries : List Found) (k : ℕ) (f : Found) (h : Hash) (live more : List Hash) → k < length entries → f ≡ get_or entries k f → address f.integrity ≡ Some h → more ≡ live ++ h ∷ [] → map Some live ≡ map (λ (x : Found). address x.integrity) (take k entries) → map Some more ≡ map (λ (x : Found). address x.integrity) (take (k + 1) entries)
-live_more entries k f h live more low is at grown of =
-    let front : take (k + 1) entries ≡ take k entries ++ f ∷ [] = take_more entries k f low ∙ ap (λ (x : Found). take k entries ++ x ∷ []) (sym is) in
-    ap (map Some) grown ∙ map-append Some live (h ∷ []) ∙ ap₂ (λ a o. a ++ o ∷ []) of (sym at) ∙ sym (map-append (λ (x : Found). address x.integrity) (take k entries) (f ∷ [])) ∙ ap (map (λ (x : Found). address x.integrity)) (sym front)
+pub live_more : {X : Type 0} (of : X → Option Hash) (xs : List X) (k : ℕ) (x : X) (h : Hash) (live more : List Hash) → k < length xs → x ≡ get_or xs k x → of x ≡ Some h → more ≡ live ++ h ∷ [] → map Some live ≡ map of (take k xs) → map Some more ≡ map of (take (k + 1) xs)
+live_more {X} of xs k x h live more low is at grown so_far =
+    let front : take (k + 1) xs ≡ take k xs ++ x ∷ [] = take_more xs k x low ∙ ap (λ (y : X). take k xs ++ y ∷ []) (sym is) in
+    ap (map Some) grown ∙ map-append Some live (h ∷ []) ∙ ap₂ (λ a o. a ++ o ∷ []) so_far (sym at) ∙ sym (map-append of (take k xs) (x ∷ [])) ∙ ap (map of) (sym front)

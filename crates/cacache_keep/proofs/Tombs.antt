@@ -7,7 +7,7 @@ use Rattle.cacache_entry.specs.Latest.{Found}
 use Rattle.cacache_table.specs.{declared.{command.Command.{Command}, reply.Reply.{Reply}}, State.{Site}, Table.{opening}, Runs.{Ran, without_message}}
 use Rattle.cacache_table.specs.declared.command.Command.TheVariants as commands
 use Rattle.cacache_table.specs.declared.reply.Reply.TheVariants as replies
-use Rattle.cacache_keep.specs.{Calls.{MadeCalls}, Repairing.{BuriesEach, Fate, IsFateOf, Led, LooksOrAsks, StopsBurying, StopsFate, StopsLooking, calls_for, is_buried, leads_nowhere, looks_of, tombstone}}
+use Rattle.cacache_keep.specs.{Calls.{MadeCalls}, Missing.{Doubts, Look, is_missing}, Repairing.{AsksFor, BuriesEach, Fate, IsFateOf, IsSure, Led, LooksOrAsks, LooksUp, StopsAsking, StopsBurying, StopsFate, StopsLooking, calls_for, is_buried, leads_nowhere, looks_of, tombstone}}
 use Rattle.cacache_keep.proofs.{Asked.{kept, passed}, Stopped.{made_both}}
 
 -- ---- one key
@@ -28,19 +28,21 @@ one_added true calls more e = refl
 one_added false calls more e = absurd cc
 
 -- it leads to a content, or to nothing
-pub spared : (site : Site) (key : List ℕ) (led : Led) (old new : Option (List LogItem)) → leads_nowhere led ≡ false → MadeCalls site (looks_of key led) old new → (fate : Fate) × (fate.key ≡ key) × (fate.moment < 2 ^ 64) × (false ≡ is_buried fate) × MadeCalls site (calls_for fate) old new
-spared site key led old new is made =
+pub spared : (site : Site) (look : Look) (key : List ℕ) (led : Led) (old new : Option (List LogItem)) → leads_nowhere led ≡ false → IsSure site.cache look led → MadeCalls site (looks_of key led) old new
+    → (fate : Fate) × (fate.key ≡ key) × (fate.moment < 2 ^ 64) × (false ≡ is_buried fate) × IsSure site.cache look fate.led × MadeCalls site (calls_for fate) old new
+spared site look key led old new is sure made =
     let fate : Fate = record { key = key; led = led; moment = 0 } in
-    (fate, refl, omega arith, sym is, subst (λ (calls : List (Command × Reply)). MadeCalls site calls old new) (sym (none_added (leads_nowhere led) (looks_of key led) (tombstone key 0) is)) made)
+    (fate, refl, omega arith, sym is, sure, subst (λ (calls : List (Command × Reply)). MadeCalls site calls old new) (sym (none_added (leads_nowhere led) (looks_of key led) (tombstone key 0) is)) made)
 
-pub got_one : (site : Site) (key : List ℕ) (led : Led) (moment : ℕ) (old mid new : Option (List LogItem)) → moment < 2 ^ 64 → leads_nowhere led ≡ true → MadeCalls site (looks_of key led) old mid → Ran (opening site (tombstone key moment).0) replies.Done mid new
-    → (fate : Fate) × (fate.key ≡ key) × (fate.moment < 2 ^ 64) × (true ≡ is_buried fate) × MadeCalls site (calls_for fate) old new
-got_one site key led moment old mid new early is made ran =
+pub got_one : (site : Site) (look : Look) (key : List ℕ) (led : Led) (moment : ℕ) (old mid new : Option (List LogItem)) → moment < 2 ^ 64 → leads_nowhere led ≡ true → IsSure site.cache look led → MadeCalls site (looks_of key led) old mid → Ran (opening site (tombstone key moment).0) replies.Done mid new
+    → (fate : Fate) × (fate.key ≡ key) × (fate.moment < 2 ^ 64) × (true ≡ is_buried fate) × IsSure site.cache look fate.led × MadeCalls site (calls_for fate) old new
+got_one site look key led moment old mid new early is sure made ran =
     let fate : Fate = record { key = key; led = led; moment = moment } in (
       fate,
       refl,
       early,
       sym is,
+      sure,
       subst (λ (calls : List (Command × Reply)). MadeCalls site calls old new) (sym (one_added (leads_nowhere led) (looks_of key led) (tombstone key moment) is)) (made_both site (looks_of key led) (tombstone key moment ∷ []) old mid new made (new, ran, refl)),
     )
 
@@ -66,28 +68,33 @@ calls_on site fates x old mid new made more =
     subst (λ (calls : List (Command × Reply)). MadeCalls site calls old new) (flat_map_more (λ (f : Found × Fate). calls_for f.1) [] fates x)
     (made_both site (flat_map (λ f. calls_for f.1) fates) (calls_for x.1) old mid new made more)
 
-pub none_buried : (site : Site) (buried : List Found) (log : Option (List LogItem)) → buried ≡ [] → BuriesEach site [] buried log log
-none_buried site buried log none = record { fates = []; each = refl; keys = All-nil IsFateOf; calls = refl; which = none }
+pub none_buried : (site : Site) (look : Look) (buried : List Found) (log : Option (List LogItem)) → buried ≡ [] → BuriesEach site look [] buried log log
+none_buried site look buried log none = record { fates = []; each = refl; keys = All-nil IsFateOf; sure = All-nil (λ (f : Found × Fate). IsSure site.cache look f.1.led); calls = refl; which = none }
 
 keys_on : (fates : List (Found × Fate)) (f : Found) (fate : Fate) → All IsFateOf fates → IsFateOf (f, fate) → All IsFateOf (fates ++ (f, fate) ∷ [])
 keys_on fates f fate keys same = All-append IsFateOf fates ((f, fate) ∷ []) keys (All-cons IsFateOf (f, fate) [] same (All-nil IsFateOf))
 
-pub one_buried : (site : Site) (entries buried : List Found) (f : Found) (fate : Fate) (old mid new : Option (List LogItem)) → BuriesEach site entries buried old mid → IsFateOf (f, fate) → is_buried fate ≡ true → MadeCalls site (calls_for fate) mid new → BuriesEach site (entries ++ f ∷ []) (buried ++ f ∷ []) old new
-one_buried site entries buried f fate old mid new b same is made =
+sure_on : (cache : List ℕ) (look : Look) (fates : List (Found × Fate)) (f : Found × Fate) → All (λ (x : Found × Fate). IsSure cache look x.1.led) fates → IsSure cache look f.1.led → All (λ (x : Found × Fate). IsSure cache look x.1.led) (fates ++ f ∷ [])
+sure_on cache look fates f all one = All-append (λ (x : Found × Fate). IsSure cache look x.1.led) fates (f ∷ []) all (All-cons (λ (x : Found × Fate). IsSure cache look x.1.led) f [] one (All-nil (λ (x : Found × Fate). IsSure cache look x.1.led)))
+
+pub one_buried : (site : Site) (look : Look) (entries buried : List Found) (f : Found) (fate : Fate) (old mid new : Option (List LogItem)) → BuriesEach site look entries buried old mid → IsFateOf (f, fate) → is_buried fate ≡ true → IsSure site.cache look fate.led → MadeCalls site (calls_for fate) mid new → BuriesEach site look (entries ++ f ∷ []) (buried ++ f ∷ []) old new
+one_buried site look entries buried f fate old mid new b same is sure made =
     let more : Found × Fate = (f, fate) in record {
       fates = b.fates ++ more ∷ [];
       each = map-append (λ (x : Found × Fate). x.0) b.fates (more ∷ []) ∙ ap (λ (l : List Found). l ++ f ∷ []) b.each;
       keys = keys_on b.fates f fate b.keys same;
+      sure = sure_on site.cache look b.fates more b.sure sure;
       calls = calls_on site b.fates more old mid new b.calls made;
       which = ap (λ (l : List Found). l ++ f ∷ []) b.which ∙ sym (map-append (λ (x : Found × Fate). x.0) (filter (λ (x : Found × Fate). is_buried x.1) b.fates) (more ∷ [])) ∙ ap (λ (l : List (Found × Fate)). map (λ x. x.0) l) (sym (kept (λ (x : Found × Fate). is_buried x.1) b.fates more is));
     }
 
-pub one_spared : (site : Site) (entries buried : List Found) (f : Found) (fate : Fate) (old mid new : Option (List LogItem)) → BuriesEach site entries buried old mid → IsFateOf (f, fate) → is_buried fate ≡ false → MadeCalls site (calls_for fate) mid new → BuriesEach site (entries ++ f ∷ []) buried old new
-one_spared site entries buried f fate old mid new b same is made =
+pub one_spared : (site : Site) (look : Look) (entries buried : List Found) (f : Found) (fate : Fate) (old mid new : Option (List LogItem)) → BuriesEach site look entries buried old mid → IsFateOf (f, fate) → is_buried fate ≡ false → IsSure site.cache look fate.led → MadeCalls site (calls_for fate) mid new → BuriesEach site look (entries ++ f ∷ []) buried old new
+one_spared site look entries buried f fate old mid new b same is sure made =
     let more : Found × Fate = (f, fate) in record {
       fates = b.fates ++ more ∷ [];
       each = map-append (λ (x : Found × Fate). x.0) b.fates (more ∷ []) ∙ ap (λ (l : List Found). l ++ f ∷ []) b.each;
       keys = keys_on b.fates f fate b.keys same;
+      sure = sure_on site.cache look b.fates more b.sure sure;
       calls = calls_on site b.fates more old mid new b.calls made;
       which = b.which ∙ ap (λ (l : List (Found × Fate)). map (λ x. x.0) l) (sym (passed (λ (x : Found × Fate). is_buried x.1) b.fates more is));
     }
@@ -95,28 +102,56 @@ one_spared site entries buried f fate old mid new b same is made =
 -- ---- errors
 
 -- the only call was refused
-pub look_stops : (site : Site) (command : Command) (e : Error) (old new : Option (List LogItem)) → LooksOrAsks command → Ran (opening site command) (replies.Refused (without_message e)) old new → StopsLooking site e old new
-look_stops site command e old new looks ran = record {
+pub look_stops : (site : Site) (look : Look) (command : Command) (e : Error) (old new : Option (List LogItem)) → LooksOrAsks command → Ran (opening site command) (replies.Refused (without_message e)) old new → StopsLooking site look e old new
+look_stops site look command e old new looks ran = record {
   calls = (command, replies.Refused (without_message e)) ∷ [];
   made = (new, ran, refl);
   harmless = All-cons (λ (c : Command × Reply). LooksOrAsks c.0) (command, replies.Refused (without_message e)) [] looks (All-nil (λ (c : Command × Reply). LooksOrAsks c.0));
-  why = inr ([], (command, replies.Refused (without_message e)), refl, refl);
+  why = inl (inr ([], (command, replies.Refused (without_message e)), refl, refl));
 }
 
 -- the question for the content that the lookup found was refused
-pub question_stops : (site : Site) (key : List ℕ) (f : Found) (e : Error) (old mid new : Option (List LogItem)) → Ran (opening site (commands.Find key)) (replies.LookedUp (Some f)) old mid → Ran (opening site (commands.Exists f.integrity)) (replies.Refused (without_message e)) mid new → StopsLooking site e old new
-question_stops site key f e old mid new one two =
+question_refused : (site : Site) (look : Look) (key : List ℕ) (f : Found) (e : Error) (old mid new : Option (List LogItem)) → Ran (opening site (commands.Find key)) (replies.LookedUp (Some f)) old mid → Ran (opening site (commands.Exists f.integrity)) (replies.Refused (without_message e)) mid new → StopsLooking site look e old new
+question_refused site look key f e old mid new one two =
     let first : Command × Reply = (commands.Find key, replies.LookedUp (Some f)) in
     let last : Command × Reply = (commands.Exists f.integrity, replies.Refused (without_message e)) in record {
       calls = first ∷ last ∷ [];
       made = (mid, one, (new, two, refl));
       harmless = All-cons (λ (c : Command × Reply). LooksOrAsks c.0) first (last ∷ []) tt (All-cons (λ (c : Command × Reply). LooksOrAsks c.0) last [] tt (All-nil (λ (c : Command × Reply). LooksOrAsks c.0)));
-      why = inr (first ∷ [], last, refl, refl);
+      why = inl (inr (first ∷ [], last, refl, refl));
     }
 
--- memory ran out between two keys
-pub lost_between : (site : Site) (log : Option (List LogItem)) → StopsLooking site OutOfMemory log log
-lost_between site log = record { calls = []; made = refl; harmless = All-nil (λ (c : Command × Reply). LooksOrAsks c.0); why = inl refl }
+-- its no is in doubt
+question_doubted : (site : Site) (look : Look) (key : List ℕ) (f : Found) (e : Error) (old mid new : Option (List LogItem)) → Ran (opening site (commands.Find key)) (replies.LookedUp (Some f)) old mid → Ran (opening site (commands.Exists f.integrity)) (replies.Exists false) mid new → Doubts site.cache look f.integrity e → StopsLooking site look e old new
+question_doubted site look key f e old mid new one two doubt =
+    let first : Command × Reply = (commands.Find key, replies.LookedUp (Some f)) in
+    let last : Command × Reply = (commands.Exists f.integrity, replies.Exists false) in record {
+      calls = first ∷ last ∷ [];
+      made = (mid, one, (new, two, refl));
+      harmless = All-cons (λ (c : Command × Reply). LooksOrAsks c.0) first (last ∷ []) tt (All-cons (λ (c : Command × Reply). LooksOrAsks c.0) last [] tt (All-nil (λ (c : Command × Reply). LooksOrAsks c.0)));
+      why = inr (first ∷ [], f.integrity, refl, doubt);
+    }
 
-pub next_stops_burying : (site : Site) (entries done rest buried : List Found) (key : List ℕ) (e : Error) (old mid new : Option (List LogItem)) → entries ≡ done ++ rest → BuriesEach site done buried old mid → StopsFate site key e mid new → StopsBurying site entries e old new
-next_stops_burying site entries done rest buried key e old mid new split b stop = record { done = done; rest = rest; split = split; buried = buried; between = mid; burying = b; key = key; stop = stop }
+pub question_stops : (site : Site) (look : Look) (key : List ℕ) (f : Found) (e : Error) (old mid new : Option (List LogItem)) → Ran (opening site (commands.Find key)) (replies.LookedUp (Some f)) old mid → StopsAsking site look f.integrity e mid new → StopsLooking site look e old new
+question_stops site look key f e old mid new one (inl refused) = question_refused site look key f e old mid new one refused
+question_stops site look key f e old mid new one (inr doubted) = question_doubted site look key f e old mid new one doubted.0 doubted.1
+
+-- what the question and the look say of the content
+pub led_by : (site : Site) (look : Look) (key : List ℕ) (f : Found) (lost : Bool) (old mid new : Option (List LogItem)) → Ran (opening site (commands.Find key)) (replies.LookedUp (Some f)) old mid → AsksFor site look f.integrity lost mid new → LooksUp site look key lost old new
+led_by site look key f lost old mid new one (two, missing) =
+    (Some (f, not lost), twice lost, by lost missing, found_some site key f (not lost) old mid new one two)
+  where
+    twice : (b : Bool) → b ≡ not (not b)
+    twice true = refl
+    twice false = refl
+
+    by : (b : Bool) → (b ≡ true → is_missing site.cache look f.integrity ≡ true) → not b ≡ false → is_missing site.cache look f.integrity ≡ true
+    by true sure e = sure refl
+    by false sure e = absurd cc
+
+-- memory ran out between two keys
+pub lost_between : (site : Site) (look : Look) (log : Option (List LogItem)) → StopsLooking site look OutOfMemory log log
+lost_between site look log = record { calls = []; made = refl; harmless = All-nil (λ (c : Command × Reply). LooksOrAsks c.0); why = inl (inl refl) }
+
+pub next_stops_burying : (site : Site) (look : Look) (entries done rest buried : List Found) (key : List ℕ) (e : Error) (old mid new : Option (List LogItem)) → entries ≡ done ++ rest → BuriesEach site look done buried old mid → StopsFate site look key e mid new → StopsBurying site look entries e old new
+next_stops_burying site look entries done rest buried key e old mid new split b stop = record { done = done; rest = rest; split = split; buried = buried; between = mid; burying = b; key = key; stop = stop }

@@ -13,7 +13,7 @@ use Rattle.cacache_value.specs.Acts.{list_of}
 use Rattle.cacache_keep_laws.specs.{Contents.{content_in}, Housed.{Housed, Still}, Mending.{LeavesGood, found_in}, Verifying.{Judges, has_content, is_good, says_yes}}
 use Rattle.cacache_keep_laws.proofs.{Collected.{dropped_hash, kept_in, leaves, picked_left}, Housed.{removes_house, removes_root, removes_still}, Led.{found_integrity, found_listed, indexes_lead}, Logged.{log_rooted}, Members.{Member, contains_member, member_contains}, StillThere.{good_still, good_there, has_still}}
 use Rattle.cacache_keep.specs.{Kept.{LeadsToGood, RepairsKeepGood, RepairsVerify}, Repairing.{Fate, RepairsCache}}
-use Rattle.cacache_keep.proofs.{Buried.{Whole}, Mends.{Repaired, map_from, repaired, steps_done}, Verdicts.{verdicts_judge}}
+use Rattle.cacache_keep.proofs.{Buried.{Whole}, Mends.{Repaired, map_from, repaired, steps_done}, Shown.{burial_of}, Verdicts.{verdicts_judge}}
 
 -- a filter that takes none
 none_kept : {X : Type 0} (p : X → Bool) (xs : List X) → ((x : X) → Member x xs → p x ≡ false) → filter p xs ≡ []
@@ -50,7 +50,7 @@ module _ (site : Site) (home : Names) (damaged : List (List Hash)) (hidden : Lis
   mid_still : Still (Some home) (tree_of old) done.mid
   mid_still = removes_still site.cache home (filter (λ h. not (is_good home (tree_of old) h)) v.order.hashes) (tree_of old) done.mid is gone_hash done.removes
 
-  whole : Whole site home is v.burying.fates done.mid (tree_of new)
+  whole : Whole site home is (burial_of v).each.fates done.mid (tree_of new)
   whole = done.after.whole mid_housed mid_rooted
 
   pub rehoused : Housed (Some home) (tree_of new)
@@ -76,7 +76,7 @@ module _ (site : Site) (home : Names) (damaged : List (List Hash)) (hidden : Lis
       has_still site.cache home is done.mid (tree_of new) whole.still mid_housed.placed f.integrity mid_rooted whole.rooted (found_integrity home done.mid f.key f mid_housed led) done.after.keeps.contents has
   asked_at f false lacks leads led m =
       let among : Member f v.dangling = subst (Member f) (sym done.absent) (kept_in (λ g. not (has_content site.cache done.mid g)) f v.entries (ap not lacks) m) in
-      let fate = map_from (λ (x : Found × Fate). x.0) f v.burying.fates (subst (Member f) (sym v.burying.each) among) in
+      let fate = map_from (λ (x : Found × Fate). x.0) f (burial_of v).each.fates (subst (Member f) (sym (burial_of v).each.each) among) in
       whole.sound fate.0 f fate.1 (ap (λ (x : Found). found_in home (tree_of new) x.key) fate.2 ∙ leads)
 
   there_at : (f : Found) → found_in home (tree_of new) f.key ≡ Some f → has_content site.cache (tree_of new) f ≡ true

@@ -8,7 +8,7 @@ use Rattle.cacache_table.specs.declared.command.Command.TheVariants as commands
 use Rattle.cacache_table.specs.declared.reply.Reply.TheVariants as replies
 use Rattle.cacache_reads.specs.Lookups.{delete_of}
 use Rattle.cacache_walks.specs.Listing.{IsByHash, ListsContents, StopsListing}
-use Rattle.cacache_keep.specs.{Calls.{AsksEach, ListsEntries, MadeCalls, SaysWhy, StopsReading, StopsRemoving, removal}, Reading.{ReadsEach, StopsEach}}
+use Rattle.cacache_keep.specs.{Calls.{AsksEach, ListsEntries, MadeCalls, SaysWhy, StopsReading, StopsRemoving, removal}, Missing.{Doubts, Look, ShowsContents, StopsShowing, is_missing}, Reading.{ReadsEach, StopsEach}}
 
 -- ---- a key that may lead to no content
 
@@ -28,10 +28,24 @@ looks_of key (Some led) =
     (commands.Find key, replies.LookedUp (Some led.0))
     ∷ (commands.Exists led.0.integrity, replies.Exists led.1) ∷ []
 
--- the log gained these calls, which tell whether the key leads to an entry without a content
-abbrev pub LooksUp : Site → List ℕ → Bool → Option (List LogItem) → Option (List LogItem) → Type 0
-LooksUp site key nowhere old new =
-    (led : Led) × (nowhere ≡ leads_nowhere led) × MadeCalls site (looks_of key led) old new
+-- if the content isn't there by that question, the look at the contents doesn't show it either
+abbrev pub IsSure : List ℕ → Look → Led → Type 0
+IsSure cache look None = Unit {0}
+IsSure cache look (Some led) = led.1 ≡ false → is_missing cache look led.0.integrity ≡ true
+
+-- the log gained these calls, which say whether the key leads to an entry whose content is missing
+abbrev pub LooksUp :
+    Site → Look → List ℕ → Bool → Option (List LogItem) → Option (List LogItem) → Type 0
+LooksUp site look key nowhere old new =
+    (led : Led) × (nowhere ≡ leads_nowhere led) × IsSure site.cache look led
+    × MadeCalls site (looks_of key led) old new
+
+-- the log gained a question for the content, and one that is lost is missing
+abbrev pub AsksFor :
+    Site → Look → List Hash → Bool → Option (List LogItem) → Option (List LogItem) → Type 0
+AsksFor site look i lost old new =
+    Ran (opening site (commands.Exists i)) (replies.Exists (not lost)) old new
+    × (lost ≡ true → is_missing site.cache look i ≡ true)
 
 -- a key, what it led to, and the moment of its tombstone, if it got one
 pub record Fate : Type 0 where
@@ -52,33 +66,43 @@ abbrev pub calls_for : Fate → List (Command × Reply)
 calls_for f =
     looks_of f.key f.led ++ (if is_buried f then tombstone f.key f.moment ∷ [] else [])
 
--- the log gained these calls for the key, which tell whether it is spared
+-- the log gained these calls for the key, which say whether it is spared
 abbrev pub BuriesKey :
-    Site → List ℕ → Bool → Option (List LogItem) → Option (List LogItem) → Type 0
-BuriesKey site key spared old new =
+    Site → Look → List ℕ → Bool → Option (List LogItem) → Option (List LogItem) → Type 0
+BuriesKey site look key spared old new =
     (fate : Fate) × (fate.key ≡ key)
     × (fate.moment < 2 ^ 64) × (spared ≡ not (is_buried fate))
-    × MadeCalls site (calls_for fate) old new
+    × IsSure site.cache look fate.led × MadeCalls site (calls_for fate) old new
 
 -- the fate is that of the entry's key, which is a text; its moment is one
 abbrev pub IsFateOf : Found × Fate → Type 0
 IsFateOf f = (f.1.key ≡ f.0.key) × IsUtf8 f.1.key × (f.1.moment < 2 ^ 64)
 
 -- the log gained these calls for the keys of these entries, in turn; those that got a tombstone are
--- told
+-- reported, and each of their contents is missing by this look
 pub record BuriesEach
-    (site : Site) (entries buried : List Found) (old new : Option (List LogItem)) : Type 0 where
+    (site : Site) (look : Look) (entries buried : List Found)
+    (old new : Option (List LogItem)) : Type 0 where
   pub fates : List (Found × Fate)
   pub each : map (λ f. f.0) fates ≡ entries
   pub keys : All IsFateOf fates
+  pub sure : All (λ f. IsSure site.cache look f.1.led) fates
   pub calls : MadeCalls site (flat_map (λ f. calls_for f.1) fates) old new
   pub which : buried ≡ map (λ f. f.0) (filter (λ f. is_buried f.1) fates)
+
+-- the log gained a look at the contents and these calls; for no entry it gained nothing
+abbrev pub BuriesAll :
+    Site → List Found → List Found → Option (List LogItem) → Option (List LogItem) → Type 0
+BuriesAll site [] buried old new = (buried ≡ []) × (new ≡ old)
+BuriesAll site (f ∷ entries) buried old new =
+    (look : Look) × (looked : Option (List LogItem)) × ShowsContents site.cache look old looked
+    × BuriesEach site look (f ∷ entries) buried looked new
 
 -- ---- a repair
 
 -- The contents are listed, and each is read; the damaged ones are removed, one after another. Then
 -- the index is listed, of each entry is asked whether its content is there, and the keys of those
--- whose content isn't get tombstones, unless they lead elsewhere.
+-- whose content is missing get tombstones, unless they lead elsewhere.
 pub record RepairsCache
     (site : Site) (damaged : List (List Hash)) (buried : List Found)
     (old new : Option (List LogItem)) : Type 0 where
@@ -98,7 +122,7 @@ pub record RepairsCache
   pub dangling : List Found
   pub asked : Option (List LogItem)
   pub asking : AsksEach site entries dangling listed asked
-  pub burying : BuriesEach site dangling buried asked new
+  pub burying : BuriesAll site dangling buried asked new
 
 -- ---- errors
 
@@ -108,34 +132,59 @@ LooksOrAsks (commands.Find key) = Unit {0}
 LooksOrAsks (commands.Exists i) = Unit {0}
 LooksOrAsks command = ⊥
 
+-- the question was refused, or its no is in doubt
+abbrev pub StopsAsking :
+    Site → Look → List Hash → Error → Option (List LogItem) → Option (List LogItem) → Type 0
+StopsAsking site look i e old new =
+    Ran (opening site (commands.Exists i)) (replies.Refused (without_message e)) old new
+    ⊎ (Ran (opening site (commands.Exists i)) (replies.Exists false) old new
+    × Doubts site.cache look i e)
+
+-- the last of the calls said that a content isn't there, which is in doubt
+abbrev pub SaysDoubtful : List ℕ → Look → List (Command × Reply) → Error → Type 0
+SaysDoubtful cache look calls e =
+    (before : List (Command × Reply)) × (i : List Hash)
+    × (calls ≡ before ++ (commands.Exists i, replies.Exists false) ∷ [])
+    × Doubts cache look i e
+
 -- the log gained lookups and questions, which the error ended
-pub record StopsLooking (site : Site) (e : Error) (old new : Option (List LogItem)) : Type 0 where
+pub record StopsLooking
+    (site : Site) (look : Look) (e : Error) (old new : Option (List LogItem)) : Type 0 where
   pub calls : List (Command × Reply)
   pub made : MadeCalls site calls old new
   pub harmless : All (λ c. LooksOrAsks c.0) calls
-  pub why : SaysWhy calls e
+  pub why : SaysWhy calls e ⊎ SaysDoubtful site.cache look calls e
 
 -- so it did for a key, or it ended the adding of the key's tombstone
 abbrev pub StopsFate :
-    Site → List ℕ → Error → Option (List LogItem) → Option (List LogItem) → Type 0
-StopsFate site key e old new =
-    StopsLooking site e old new
+    Site → Look → List ℕ → Error → Option (List LogItem) → Option (List LogItem) → Type 0
+StopsFate site look key e old new =
+    StopsLooking site look e old new
     ⊎ ((led : Led) × (moment : ℕ) × (looked : Option (List LogItem))
-    × (leads_nowhere led ≡ true) × MadeCalls site (looks_of key led) old looked
+    × (leads_nowhere led ≡ true) × IsSure site.cache look led
+    × MadeCalls site (looks_of key led) old looked
     × Ran (opening site (tombstone key moment).0) (replies.Refused (without_message e)) looked new)
 
 -- some of these entries' keys got their calls, and the error ended those for another key
 pub record StopsBurying
-    (site : Site) (entries : List Found) (e : Error) (old new : Option (List LogItem))
-    : Type 0 where
+    (site : Site) (look : Look) (entries : List Found) (e : Error)
+    (old new : Option (List LogItem)) : Type 0 where
   pub done : List Found
   pub rest : List Found
   pub split : entries ≡ done ++ rest
   pub buried : List Found
   pub between : Option (List LogItem)
-  pub burying : BuriesEach site done buried old between
+  pub burying : BuriesEach site look done buried old between
   pub key : List ℕ
-  pub stop : StopsFate site key e between new
+  pub stop : StopsFate site look key e between new
+
+-- the error ended the look at the contents, or the calls after it
+abbrev pub StopsBuryingAll :
+    Site → List Found → Error → Option (List LogItem) → Option (List LogItem) → Type 0
+StopsBuryingAll site entries e old new =
+    StopsShowing site.cache e old new
+    ⊎ ((look : Look) × (looked : Option (List LogItem)) × ShowsContents site.cache look old looked
+    × StopsBurying site look entries e looked new)
 
 -- the contents were read and the damaged ones removed
 pub record DropsDamaged (site : Site) (old new : Option (List LogItem)) : Type 0 where
@@ -171,4 +220,4 @@ StopsRepairing site e old new =
     × (StopsReading site e clean new
     ⊎ ((entries dangling : List Found) × (listed asked : Option (List LogItem))
     × ListsEntries site entries clean listed × AsksEach site entries dangling listed asked
-    × StopsBurying site dangling e asked new)))
+    × StopsBuryingAll site dangling e asked new)))

@@ -3,7 +3,7 @@ use Rattle.std.specs.Prelude.{◌≡◌, ℕ, List, Option, map, string_bytes}
 use Rattle.cacache_store.specs.declared.store.log.LogItem.{LogItem}
 use Rattle.cacache_entry.specs.{Latest.{Found}, View.{found_view}, declared.metadata.Metadata.{Metadata}}
 use Rattle.cacache_table.specs.State.{Site}
-use Rattle.cacache_keep.specs.{declared.{repairing.Repaired.{Repaired}, sweeping.Swept.{Swept}, verifying.Verdict.{Verdict}}, Calls.{AsksEach}, Keeping.{VerifiesCache}, Reading.{Judged, damaged_bytes_of, good_bytes_of}, Repairing.{BuriesEach, RepairsCache}, Sweeping.{SweepsCache}}
+use Rattle.cacache_keep.specs.{declared.{repairing.Repaired.{Repaired}, sweeping.Swept.{Swept}, verifying.Verdict.{Verdict}}, Calls.{AsksEach}, Keeping.{VerifiesCache}, Reading.{Judged, damaged_bytes_of, good_bytes_of}, Missing.{Look}, Repairing.{BuriesAll, BuriesEach, RepairsCache}, Sweeping.{SweepsCache}}
 
 -- these contents were read, and the verdict tells the bytes of the good ones and of the damaged ones
 abbrev pub TellsBytes : Verdict → List Judged → Type 0
@@ -24,10 +24,16 @@ abbrev pub AsksAs : Site → List Found → List Metadata
 AsksAs site entries dangling old new = AsksEach site entries (map found_view dangling) old new
 
 -- the log gained the calls that bury the keys of these entries, and these are the buried ones
-abbrev pub BuriesAs : Site → List Metadata → List Metadata
+abbrev pub BuriesAs : Site → Look → List Metadata → List Metadata
     → Option (List LogItem) → Option (List LogItem) → Type 0
-BuriesAs site entries buried old new =
-    BuriesEach site (map found_view entries) (map found_view buried) old new
+BuriesAs site look entries buried old new =
+    BuriesEach site look (map found_view entries) (map found_view buried) old new
+
+-- so it did after a look at the contents
+abbrev pub BuriesAllAs : Site → List Metadata → List Metadata
+    → Option (List LogItem) → Option (List LogItem) → Type 0
+BuriesAllAs site entries buried old new =
+    BuriesAll site (map found_view entries) (map found_view buried) old new
 
 -- the log gained a repair, and this tells what it did
 abbrev pub RepairsAs :

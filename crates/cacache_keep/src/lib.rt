@@ -11,6 +11,7 @@ mod index;
 mod laws;
 mod lines;
 mod live;
+mod missing;
 mod planning;
 mod reading;
 mod removing;

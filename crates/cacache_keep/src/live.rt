@@ -43,7 +43,7 @@ fn sort(live: &mut Vec<Hash>)
 }
 
 /// Whether the address is among these, by bisection.
-fn is_live(live: &[Hash], address: &Hash) -> bool
+pub(crate) fn is_live(live: &[Hash], address: &Hash) -> bool
     requires { IsSorted hash_cmp live.now }
     ensures { result ≡ lists live.now address.now }
 {

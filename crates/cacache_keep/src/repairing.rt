@@ -5,7 +5,7 @@ ghost use Rattle.cacache_keep.specs.Repairing.{StopsRepairing};
 ghost use Rattle.cacache_keep.specs.Told.{RepairsAs};
 
 use crate::asking::dangling_of;
-use crate::burying::bury_each;
+use crate::burying::bury_all;
 use crate::index::entries;
 use crate::reading::{Read, read_each};
 use crate::removing::remove_each;
@@ -27,14 +27,20 @@ pub struct Repaired {
 }
 
 /// Removes each damaged content of a cache, and adds a tombstone for each key that leads to an entry
-/// whose content isn't there then. A content is damaged as `verify` finds it. Of one that is a link,
-/// the link is removed and its target stays. What lies among the contents and is none stays, and so does
-/// an entry that its key's lookup doesn't find, as one in another key's bucket.
+/// whose content is missing then. A content is damaged as `verify` finds it. Of one that is a link,
+/// the link is removed and its target stays. Whatever else lies among the contents stays, and so does
+/// an entry that its key's lookup doesn't find, such as one in another key's bucket.
+///
+/// A question for a content that fails is answered like one for a content that isn't there. So if an entry
+/// dangles, the contents are walked through once more, and a key gets a tombstone only if that walk doesn't
+/// meet its content. If it does, or if a link or a file hides the place of the content, the call ends with an
+/// `IoError` of `Device`, which names the content.
 ///
 /// Repair a cache while nobody writes to it: a content is stored before its entry.
 ///
-/// Errors are those of `verify`, of a removal and of a tombstone. Contents before the error are
-/// removed then, and keys before it have tombstones. `OutOfMemory` may come at any time.
+/// Errors are those of `verify`, of a removal, of the second walk and of a tombstone, and the one above.
+/// Contents before the error are removed then, and keys before it have tombstones. `OutOfMemory` may come at
+/// any time.
 pub fn repair<S: Store, C: Clock, N: Names>(env: &mut Env<S, C, N>, cache: &str) -> Result<Repaired>
     ensures repairs { IfOk result (λ r. RepairsAs (site_of cache.now env.old.base 0) r
         (S.log env.old.store) (S.log env.new.store)) }
@@ -54,6 +60,6 @@ pub fn repair<S: Store, C: Clock, N: Names>(env: &mut Env<S, C, N>, cache: &str)
     remove_each(env, cache, damaged.as_slice())?;
     let entries = entries(env, cache)?;
     let dangling = dangling_of(env, cache, entries)?;
-    let dangling = bury_each(env, cache, dangling)?;
+    let dangling = bury_all(env, cache, dangling)?;
     Ok(Repaired { damaged, dangling })
 }

@@ -12,6 +12,7 @@ use std::io::ErrorKind;
 #[derive(Clone, Copy)]
 pub(crate) enum Kind {
     Remove,
+    Exists,
     Size,
     List,
     Open,
@@ -30,6 +31,7 @@ impl Kind {
     pub(crate) fn named(word: &str) -> Option<Kind> {
         match word {
             "remove" => Some(Kind::Remove),
+            "exists" => Some(Kind::Exists),
             "size" => Some(Kind::Size),
             "list" => Some(Kind::List),
             "open" => Some(Kind::Open),
@@ -49,6 +51,7 @@ impl Kind {
     fn is_of<F, T>(self, step: &Step<F, T>) -> bool {
         match step {
             Step::RemoveFile(_) => matches!(self, Kind::Remove),
+            Step::Exists(_) => matches!(self, Kind::Exists),
             Step::Size(_) => matches!(self, Kind::Size),
             Step::ReadDir(_) => matches!(self, Kind::List),
             Step::Open(_) => matches!(self, Kind::Open),

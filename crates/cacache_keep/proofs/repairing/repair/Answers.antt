@@ -1,7 +1,7 @@
 use Rattle.std.proofs.Common.{inl, inr, map, rules, string_bytes, ◌∙◌}
 use Rattle.cacache_entry.specs.View.{found_view}
 use Rattle.cacache_jobs.specs.Sites.{site_of}
-use Rattle.cacache_keep.specs.{Calls.{AsksEach, ListsEntries, MadeCalls, StopsReading, StopsRemoving, removal}, Repairing.{DropsDamaged, StopsBurying, StopsRepairing}}
+use Rattle.cacache_keep.specs.{Calls.{AsksEach, ListsEntries, MadeCalls, StopsReading, StopsRemoving, removal}, Repairing.{DropsDamaged, StopsBuryingAll, StopsRepairing}}
 use Rattle.cacache_keep.proofs.Stopped.{at_base, entries_stop, error_as}
 use Rattle.cacache_keep.proofs.repairing.repair.Goals as goal
 
@@ -61,7 +61,7 @@ returns-in_err-dangling-2-clause-stops g c =
     let clean = log c.remove_each.new.env.store in
     let listed = log c.entries.new.env.store in
     let asked = log c.dangling_of.new.env.store in
-    let new = log c.bury_each.new.env.store in
+    let new = log c.bury_all.new.env.store in
     let e = c.in_err-dangling-2.field-0.0 in
     let damaged = c.in_ok-damaged.field-0.damaged.items in
     let entries = c.in_ok-entries.entries.items in
@@ -71,7 +71,7 @@ returns-in_err-dangling-2-clause-stops g c =
     let removing = at_base (λ s. MadeCalls s (map removal damaged) read clean) cache base c.list.new.env.base c.list.ensures.base removals in
     let lists = at_base (λ s. ListsEntries s entries clean listed) cache base c.remove_each.new.env.base behind c.in_ok-entries.ensures.lists in
     let asks = at_base (λ s. AsksEach s entries dangling listed asked) cache base c.entries.new.env.base (c.entries.ensures.rest.2 ∙ behind) c.in_ok-dangling.ensures.asks in
-    let stop = at_base (λ s. StopsBurying s dangling e asked new) cache base c.dangling_of.new.env.base (c.dangling_of.ensures.rest.2 ∙ c.entries.ensures.rest.2 ∙ behind) c.in_err-dangling-2.ensures.stops in
+    let stop = at_base (λ s. StopsBuryingAll s dangling e asked new) cache base c.dangling_of.new.env.base (c.dangling_of.ensures.rest.2 ∙ c.entries.ensures.rest.2 ∙ behind) c.in_err-dangling-2.ensures.stops in
     let drops : DropsDamaged site (log c.args.env.now.store) clean = record {
       addresses = c.in_ok-addresses.field-0.addresses.items;
       strange = map string_bytes c.in_ok-addresses.field-0.strange.items;

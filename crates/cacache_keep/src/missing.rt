@@ -1,0 +1,124 @@
+//! What shows that a content isn't there: a walk through the contents that doesn't meet it.
+ghost use Rattle.std.specs.Prelude.{◌≡◌, ◌∷◌, [], Some, true, IfOk, IfErr, OnOk, map, string_bytes};
+ghost use Rattle.std.specs.List.{list_any};
+ghost use Rattle.std.specs.List.Sorted.{IsSorted};
+ghost use Rattle.cacache_core.specs.Integrity.{address as address_of};
+ghost use Rattle.cacache_jobs.specs.Environment.{KeepsRest};
+ghost use Rattle.cacache_walks.specs.Listing.{hash_cmp};
+ghost use Rattle.cacache_keep.specs.Missing.{Doubts, ShowsContents, StopsShowing, is_astray as is_astray_of, is_below as is_below_of, is_hidden as is_hidden_of, is_missing, look_of};
+
+use crate::live::is_live;
+use crate::sweeping::{cache_folder, names_in};
+use cacache_core::digest::Hash;
+use cacache_core::errors::{Fault, Result};
+use cacache_core::integrity::Integrity;
+use cacache_core::keeping::let_go;
+use cacache_core::paths::CONTENT_AREA;
+use cacache_core::text::Text;
+use cacache_jobs::{content_path, refused};
+use cacache_store::env::{Clock, Env, Names};
+use cacache_store::store::{Kind, Name, Store};
+use cacache_table::Refusal;
+use cacache_walks::{Contents, list};
+use std::alloc::{AllocError, Global};
+
+/// The contents that a cache shows, and the paths of what lies among them and is none.
+#[derive(Drop)]
+pub(crate) struct Shown {
+    contents: Vec<Hash>,
+    strange: Vec<String>,
+}
+
+/// Whether a link or a file stands where the folder of contents belongs.
+fn is_astray(around: &[Name]) -> bool
+    ensures { result ≡ list_any is_astray_of around.now }
+{
+    for name in around {
+        if name.name.as_str() == CONTENT_AREA && !matches!(name.kind, Kind::Folder) {
+            return true;
+        }
+    }
+    false
+}
+
+/// The hashes of these addresses.
+fn hashes_of(alloc: Global, addresses: &[Integrity]) -> std::result::Result<Vec<Hash>, AllocError>
+    ensures { IfOk result (λ hashes. map Some hashes.items ≡ map address_of addresses.now) }
+{
+    let mut hashes = Vec::new(alloc);
+    for sri in addresses {
+        hashes.push(sri.address().clone()?)?;
+    }
+    Ok(hashes)
+}
+
+/// A link or a file stands where the folder of contents belongs, and no content is shown.
+fn unreached(alloc: Global, cache: &str) -> std::result::Result<Text, AllocError> {
+    Ok(Text::new(format!(in alloc; "Failed to reach the contents of {cache}")?))
+}
+
+/// Walks through the contents. A link in the place of their folder counts only if the walk shows a content.
+pub(crate) fn look<S: Store, C: Clock, N: Names>(
+    env: &mut Env<S, C, N>,
+    cache: &str,
+) -> Result<Shown>
+    ensures shows { IfOk result (λ s. ShowsContents cache.now (look_of s)
+        (S.log env.old.store) (S.log env.new.store)) }
+    ensures order { IfOk result (λ s. IsSorted hash_cmp s.contents.items) }
+    ensures stops { IfErr result
+        (λ e. StopsShowing cache.now e (S.log env.old.store) (S.log env.new.store)) }
+    ensures rest { KeepsRest env.old env.new }
+{
+    let around = names_in(env.alloc, &mut env.store, cache_folder(cache), "contents")?;
+    let astray = is_astray(around.as_slice());
+    let_go(around);
+    let Contents { addresses, strange } = list(env, cache)?;
+    if astray && addresses.is_empty() {
+        let refusal = Refusal::Fault(Fault::Device);
+        return Err(refused(refusal, unreached(env.alloc, cache)));
+    }
+    let contents = hashes_of(env.alloc, addresses.as_slice())?;
+    Ok(Shown { contents, strange })
+}
+
+/// Whether the path lies below the folder.
+fn is_below(path: &[u8], folder: &[u8]) -> bool
+    ensures { result ≡ is_below_of path.now folder.now }
+{
+    match path.strip_prefix(folder) {
+        Some(rest) => rest.starts_with(b"/"),
+        None => false,
+    }
+}
+
+/// Whether the path lies below one of these.
+fn is_hidden(strange: &[String], path: &str) -> bool
+    ensures { result ≡ is_hidden_of (map string_bytes strange.now) path.now }
+{
+    for folder in strange {
+        if is_below(path.as_bytes(), folder.as_bytes()) {
+            return true;
+        }
+    }
+    false
+}
+
+/// The content isn't there by one question, and may be there by the walk.
+fn doubtful(alloc: Global, path: &Text) -> std::result::Result<Text, AllocError> {
+    Ok(Text::new(format!(in alloc; "Failed to show that cache file {path} is missing")?))
+}
+
+/// Makes sure that the content isn't there: the walk didn't show it, and nothing strange hides it.
+pub(crate) fn confirm(alloc: Global, shown: &Shown, cache: &str, sri: &Integrity) -> Result<()>
+    requires { IsSorted hash_cmp shown.now.contents.items }
+    ensures sure { OnOk result (is_missing cache.now (look_of shown.now) sri.now ≡ true) }
+    ensures doubts { IfErr result (λ e. Doubts cache.now (look_of shown.now) sri.now e) }
+{
+    let path = content_path(alloc, cache, sri)?;
+    let is_shown = is_live(shown.contents.as_slice(), sri.address());
+    if is_shown || is_hidden(shown.strange.as_slice(), path.as_str()) {
+        let refusal = Refusal::Fault(Fault::Device);
+        return Err(refused(refusal, doubtful(alloc, &path)));
+    }
+    Ok(())
+}
