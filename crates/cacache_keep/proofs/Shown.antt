@@ -1,15 +1,15 @@
 -- Looks at the contents: what they show, and that they leave the tree.
-use Rattle.std.proofs.{Common.{◌≡◌, ◌⊎◌, ◌+◌, ◌<◌, inl, inr, ℕ, zero, suc, List, [], ◌∷◌, ◌++◌, Bool, true, false, Option, None, Some, arith, eqb-true, refl, sym, ap, ap₂, subst, ◌∙◌, map, length, take, get_or}, lemmas.List.{map-append, take_more}}
-use Rattle.std.specs.{declared.cmp.Ordering.{Ordering, TheVariants.{Less, Equal, Greater}}, List.{list_any, Sorted.{IsSorted, IsStrictlySortedBy}}, Ordering.{is_lt, ordering_reverse}, Prelude.{◌&&◌, ◌==◌, not}}
-use Rattle.cacache_core.specs.{declared.{errors.{Error.{Error, TheVariants.{OutOfMemory}}, Fault.TheVariants.{Device}}, integrity.digest.Hash.{Hash}}, Integrity.{address}}
+use Rattle.std.proofs.{Common.{◌≡◌, ◌⊎◌, ◌+◌, inl, inr, ℕ, zero, suc, List, [], ◌∷◌, Bool, true, false, Option, Some, arith, eqb-true, refl, sym, ap, ap₂, subst, ◌∙◌, map, length, get_or}}
+use Rattle.std.specs.{declared.cmp.Ordering.{Ordering, TheVariants.{Less, Equal, Greater}}, List.{list_any, Sorted.{IsSorted, IsStrictlySortedBy}}, Ordering.{is_lt, ordering_reverse}, Prelude.{◌==◌}}
+use Rattle.cacache_core.specs.{declared.{integrity.digest.Hash.{Hash}}, Integrity.{address}}
 use Rattle.cacache_store.specs.declared.store.{answer.Name.{Name}, log.LogItem.{LogItem}, step.Step.TheVariants.{ReadDir}}
-use Rattle.cacache_disk.specs.{declared.luck.Luck.TheVariants.{Plain}, Tree.{Tree}, Apply.{apply}}
+use Rattle.cacache_disk.specs.{Tree.{Tree}}
 use Rattle.cacache_entry.specs.Latest.{Found}
-use Rattle.cacache_table.specs.{Common.{fails}, Runs.{EndsAs, Gains, Moves}, State.{Site}}
+use Rattle.cacache_table.specs.{Runs.{Gains, Moves}, State.{Site}}
 use Rattle.cacache_sequence.{specs.Sequence.{tree_on, AreAnswered}, proofs.Readings.ReadsStay.{listing_keeps}}
-use Rattle.cacache_walks.specs.{Listing.{IsByHash, ListsContents, content_area_in, hash_cmp}, Reading.{top_folder}}
+use Rattle.cacache_walks.specs.{Listing.{IsByHash, content_area_in, hash_cmp}, Reading.{top_folder}}
 use Rattle.cacache_keep_laws.{specs.Temporary.{cache_folder}, proofs.Logged.{gains_join, walked}}
-use Rattle.cacache_keep.specs.{Missing.{Look, is_astray, is_unreached}, Repairing.{BuriesAll, BuriesEach, RepairsCache}, Sweeping.{ListsFolder}}
+use Rattle.cacache_keep.specs.{Missing.{Look, is_astray, is_unreached}, Repairing.{BuriesAll, BuriesEach, RepairsCache}}
 use Rattle.cacache_keep.proofs.{Parts.{gains_none}, Searching.{hash_total}, Tombs.{none_buried}}
 
 -- ---- a look leaves the tree

@@ -1,9 +1,9 @@
-use Rattle.std.{proofs.Common.{◌≡◌, ◌==◌, ◌∷◌, [], ℕ, List, inl, inr, map, refl, string_bytes, subst, sym, ap, ◌∙◌}, specs.List.{list_any}}
+use Rattle.std.{proofs.Common.{◌==◌, ℕ, List, inl, inr, map, refl, string_bytes, subst, sym, ap, ◌∙◌}, specs.List.{list_any}}
 use Rattle.cacache_core.specs.{declared.{errors.Error.TheVariants.{OutOfMemory}, integrity.digest.Hash.{Hash}}, Integrity.{address}}
 use Rattle.cacache_walks.specs.Listing.{ListsContents}
-use Rattle.cacache_keep.{specs.{Missing.{StopsShowing, is_astray}, Sweeping.{ListsFolder}}, proofs.{Shown.{nil_if, reached_by, single_hashes, sorted_hashes}, Stopped.{error_as}}}
+use Rattle.cacache_keep.specs.{Missing.{StopsShowing, is_astray}, Sweeping.{ListsFolder}}
+use Rattle.cacache_keep.proofs.{Shown.{nil_if, reached_by, single_hashes, sorted_hashes}, Stopped.{error_as}, missing.look.Goals.{else-astray-via-then-astray+else-is_empty, else-astray-via-else-astray}}
 use Rattle.cacache_keep.proofs.missing.look.Goals as goal
-use Rattle.cacache_keep.proofs.missing.look.Goals.{else-astray-via-then-astray+else-is_empty, else-astray-via-else-astray}
 
 pub returns-then-is_empty-clause-stops : goal.returns-then-is_empty-clause-stops
 returns-then-is_empty-clause-stops g c =
