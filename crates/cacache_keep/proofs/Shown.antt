@@ -1,9 +1,9 @@
 -- Looks at the contents: what they show, and that they leave the tree.
-use Rattle.std.proofs.{Common.{◌≡◌, ◌⊎◌, ◌+◌, inl, inr, ℕ, zero, suc, List, [], ◌∷◌, Bool, true, false, Option, Some, arith, eqb-true, refl, sym, ap, ap₂, subst, ◌∙◌, map, length, get_or}}
+use Rattle.std.proofs.Common.{◌≡◌, ◌⊎◌, ◌+◌, inl, inr, ℕ, zero, suc, List, [], ◌∷◌, Bool, true, false, Option, Some, arith, eqb-true, refl, sym, ap, ap₂, subst, ◌∙◌, map, length, get_or}
 use Rattle.std.specs.{declared.cmp.Ordering.{Ordering, TheVariants.{Less, Equal, Greater}}, List.{list_any, Sorted.{IsSorted, IsStrictlySortedBy}}, Ordering.{is_lt, ordering_reverse}, Prelude.{◌==◌}}
-use Rattle.cacache_core.specs.{declared.{integrity.digest.Hash.{Hash}}, Integrity.{address}}
+use Rattle.cacache_core.specs.{declared.integrity.digest.Hash.{Hash}, Integrity.{address}}
 use Rattle.cacache_store.specs.declared.store.{answer.Name.{Name}, log.LogItem.{LogItem}, step.Step.TheVariants.{ReadDir}}
-use Rattle.cacache_disk.specs.{Tree.{Tree}}
+use Rattle.cacache_disk.specs.Tree.{Tree}
 use Rattle.cacache_entry.specs.Latest.{Found}
 use Rattle.cacache_table.specs.{Runs.{Gains, Moves}, State.{Site}}
 use Rattle.cacache_sequence.{specs.Sequence.{tree_on, AreAnswered}, proofs.Readings.ReadsStay.{listing_keeps}}
