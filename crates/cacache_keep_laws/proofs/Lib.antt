@@ -31,7 +31,10 @@ pub mod Led
 pub mod Housed
 pub mod SoundRemovals
 pub mod CompactLines
+pub mod KeptLines
 pub mod CompactTwice
+pub mod CompactFound
+pub mod CompactAnswers
 mod Shapes
 pub mod LeanTrees
 mod LeanReads
