@@ -10,7 +10,7 @@ use Rattle.cacache_sequence.{specs.Sequence.{tree_on, AreAnswered}, proofs.{Call
 use Rattle.cacache_walks.specs.{Reading.{names_shown}, WalkSteps.{AnswerShows}}
 use Rattle.cacache_keep_laws.specs.Temporary.{LeavesUntemporary, area_of, cache_folder, is_temporary, sized_removals}
 use Rattle.cacache_keep_laws.proofs.{Children.{NoFolder}, Logged.{gains_join, log_rooted}, Temporary.{AreaStands, area_empty, area_stands, cache_named, names_listed, sweeps_leave, temp_area_named}}
-use Rattle.cacache_keep.specs.{Kept.{CachesAreSwept}, Sweeping.{ListsArea, ListsFolder, SweepsCache, swept_folder}}
+use Rattle.cacache_keep.specs.{Kept.{CachesAreSwept}, Sweeping.{ListsArea, SweepsCache, swept_folder}}
 
 -- a listing leaves the tree to the moves after it
 listing_first : (t : Tree) (path : List ℕ) (a : PlainAnswer) (rest : Moves) (names : List Name) → names_shown a ≡ Some names → AreAnswered t ((ReadDir path, a) ∷ rest)

@@ -12,41 +12,41 @@ use Rattle.cacache_keep.proofs.{FoundBuckets.{AreBucketNames, FindsFiles, IsBuck
 -- ---- what a whole one leaves
 
 -- each bucket has its compacted bytes
-tight_bytes : (home : Names) (t u : Tree) (path bytes : List ℕ) (q : Names) (k : IsTight path u) → names_of path ≡ Ok q → look t q ≡ Some (File bytes) → Compacted home t u → look u q ≡ Some (File (compact_text bytes))
-tight_bytes home t u path bytes q k named there all = by (all q)
+tight_bytes : (durable : Bool) (home : Names) (t u : Tree) (path bytes : List ℕ) (q : Names) (k : IsTight durable path u) → names_of path ≡ Ok q → look t q ≡ Some (File bytes) → Compacted durable home t u → look u q ≡ Some (File (compact_text durable bytes))
+tight_bytes durable home t u path bytes q k named there all = by (all q)
   where
     here : k.names ≡ q
     here = let both : Ok k.names ≡ Ok q = sym k.named ∙ named in cc
 
-    by : Becomes home q (look t q) (look u q) → look u q ≡ Some (File (compact_text bytes))
+    by : Becomes durable home q (look t q) (look u q) → look u q ≡ Some (File (compact_text durable bytes))
     by (inl same) =
         let bytes_are : bytes ≡ k.bytes = same_file bytes k.bytes (look u q) (same ∙ there) (ap (look u) (sym here) ∙ k.stands) in
-        same ∙ there ∙ ap (λ (l : List ℕ). Some (File l)) (bytes_are ∙ sym k.tight ∙ ap compact_text (sym bytes_are))
-    by (inr (inl lean)) = lean.3 ∙ ap (λ (l : List ℕ). Some (File (compact_text l))) (same_file lean.1 bytes (look t q) lean.2 there)
+        same ∙ there ∙ ap (λ (l : List ℕ). Some (File l)) (bytes_are ∙ sym k.tight ∙ ap (compact_text durable) (sym bytes_are))
+    by (inr (inl lean)) = lean.3 ∙ ap (λ (l : List ℕ). Some (File (compact_text durable l))) (same_file lean.1 bytes (look t q) lean.2 there)
     by (inr (inr made)) = absurd (let wrong : None ≡ Some (File bytes) = sym made.1 ∙ there in cc)
 
-tight_in : (u : Tree) (path : List ℕ) (paths : List (List ℕ)) → Member path paths → AllByRecursion (λ p. IsTight p u) paths → IsTight path u
-tight_in u path [] m all = absurd m
-tight_in u path (p ∷ paths) (inl e) all = subst (λ (x : List ℕ). IsTight x u) (sym e) all.0
-tight_in u path (p ∷ paths) (inr m) all = tight_in u path paths m all.1
+tight_in : (durable : Bool) (u : Tree) (path : List ℕ) (paths : List (List ℕ)) → Member path paths → AllByRecursion (λ p. IsTight durable p u) paths → IsTight durable path u
+tight_in durable u path [] m all = absurd m
+tight_in durable u path (p ∷ paths) (inl e) all = subst (λ (x : List ℕ). IsTight durable x u) (sym e) all.0
+tight_in durable u path (p ∷ paths) (inr m) all = tight_in durable u path paths m all.1
 
 -- those at names of buckets
-abbrev LeavesTight : Names → Tree → Tree → Type 0
-LeavesTight home t u =
-    Compacted home t u
-    × ((a b c bytes : List ℕ) → AreBucketNames a b c → look t (home ++ index_area ∷ a ∷ b ∷ c ∷ []) ≡ Some (File bytes) → look u (home ++ index_area ∷ a ∷ b ∷ c ∷ []) ≡ Some (File (compact_text bytes)))
+abbrev LeavesTight : Bool → Names → Tree → Tree → Type 0
+LeavesTight durable home t u =
+    Compacted durable home t u
+    × ((a b c bytes : List ℕ) → AreBucketNames a b c → look t (home ++ index_area ∷ a ∷ b ∷ c ∷ []) ≡ Some (File bytes) → look u (home ++ index_area ∷ a ∷ b ∷ c ∷ []) ≡ Some (File (compact_text durable bytes)))
 
-compacts_all : (durable : Bool) (cache : List ℕ) (home : Names) (count bytes : ℕ) (old new : List LogItem) → home_of cache ≡ Some home → IsLog new → CompactsCache durable cache count bytes (Some old) (Some new) → LeavesTight home (tree_of old) (tree_of new)
+compacts_all : (durable : Bool) (cache : List ℕ) (home : Names) (count bytes : ℕ) (old new : List LogItem) → home_of cache ≡ Some home → IsLog new → CompactsCache durable cache count bytes (Some old) (Some new) → LeavesTight durable home (tree_of old) (tree_of new)
 compacts_all durable cache home count bytes old new is logged (paths, found, finding, all) =
-    leads_on (LeavesTight home) old new logged
-    (leads_then (FindsFiles home paths) (CompactsThese durable cache home is paths) (LeavesTight home) (Some old) found (Some new) (buckets_found cache home paths (Some old) found is finding)
+    leads_on (LeavesTight durable home) old new logged
+    (leads_then (FindsFiles home paths) (CompactsThese durable cache home is paths) (LeavesTight durable home) (Some old) found (Some new) (buckets_found cache home paths (Some old) found is finding)
     (subst (λ (p : List (List ℕ)). Leads (CompactsThese durable cache home is p) found (Some new)) all.each (each_leads durable cache home is all.buckets found (Some new) all.compacting))
     (λ t u v rooted next one two.
     let done = subst (λ (x : Tree). CompactsThese durable cache home is paths x v) one.stays two one.files in (
       done.0,
       λ a b c bytes hex there.
           let covered = one.covers a b c bytes hex there in
-          tight_bytes home t v covered.0 bytes (home ++ index_area ∷ a ∷ b ∷ c ∷ []) (tight_in v covered.0 paths covered.1 done.1) covered.2 there done.0,
+          tight_bytes durable home t v covered.0 bytes (home ++ index_area ∷ a ∷ b ∷ c ∷ []) (tight_in durable v covered.0 paths covered.1 done.1) covered.2 there done.0,
     )))
 
 pub compactions_leave : CompactionsLeave
@@ -56,25 +56,25 @@ compactions_leave durable cache home count bytes old new is logged c =
 
 pub compactions_stop : CompactionsStop
 compactions_stop durable cache home e old new is logged (inl finding) =
-    leads_on (CutShort home) old new logged
-    (leads_as Stays (CutShort home) (Some old) (Some new) (finding_stays cache e (Some old) (Some new) finding) (λ t u rooted same. subst (λ (x : Tree). CutShort home t x) (sym same) (cut_short home t t (compacted_none home t))))
+    leads_on (CutShort durable home) old new logged
+    (leads_as Stays (CutShort durable home) (Some old) (Some new) (finding_stays cache e (Some old) (Some new) finding) (λ t u rooted same. subst (λ (x : Tree). CutShort durable home t x) (sym same) (cut_short durable home t t (compacted_none durable home t))))
 compactions_stop durable cache home e old new is logged (inr (paths, found, finding, stops)) =
-    leads_on (CutShort home) old new logged
-    (leads_then (FindsFiles home paths) (λ t u. AllByRecursion (IsBucketFile home t) paths → CutShort home t u) (CutShort home) (Some old) found (Some new) (buckets_found cache home paths (Some old) found is finding)
+    leads_on (CutShort durable home) old new logged
+    (leads_then (FindsFiles home paths) (λ t u. AllByRecursion (IsBucketFile home t) paths → CutShort durable home t u) (CutShort durable home) (Some old) found (Some new) (buckets_found cache home paths (Some old) found is finding)
     (stop_leads durable cache home is paths e found (Some new) stops)
-    (λ t u v rooted next one two. subst (λ (x : Tree). AllByRecursion (IsBucketFile home x) paths → CutShort home x v) one.stays two one.files))
+    (λ t u v rooted next one two. subst (λ (x : Tree). AllByRecursion (IsBucketFile home x) paths → CutShort durable home x v) one.stays two one.files))
 
 -- ---- what calls answer then
 
-either_cut : (cache : List ℕ) (home : Names) (old new : List LogItem) → home_of cache ≡ Some home → IsLog new → MayCompact cache (Some old) (Some new) → CutShort home (tree_of old) (tree_of new)
-either_cut cache home old new is logged (inl (durable, count, bytes, c)) = cut_short home (tree_of old) (tree_of new) (compacts_all durable cache home count bytes old new is logged c).0
-either_cut cache home old new is logged (inr (durable, e, c)) = compactions_stop durable cache home e old new is logged c
+either_cut : (cache : List ℕ) (home : Names) (old new : List LogItem) → home_of cache ≡ Some home → IsLog new → MayCompact cache (Some old) (Some new) → (durable : Bool) × CutShort durable home (tree_of old) (tree_of new)
+either_cut cache home old new is logged (inl (durable, count, bytes, c)) = (durable, cut_short durable home (tree_of old) (tree_of new) (compacts_all durable cache home count bytes old new is logged c).0)
+either_cut cache home old new is logged (inr (durable, e, c)) = (durable, compactions_stop durable cache home e old new is logged c)
 
 pub compactions_are_unseen : CompactionsAreUnseen
 compactions_are_unseen site home old new is logged c =
     let cut = either_cut site.cache home old new is logged c in (
-      compactions_keep home (tree_of old) (tree_of new) cut,
+      compactions_keep cut.0 home (tree_of old) (tree_of new) cut.1,
       λ housed.
           let fit = houses_are_fit site.cache home (tree_of old) is (log_rooted old) housed in
-          compactions_answer site home (tree_of old) (tree_of new) is fit.0 fit.1 cut,
+          compactions_answer cut.0 site home (tree_of old) (tree_of new) is fit.0 fit.1 cut.1,
     )

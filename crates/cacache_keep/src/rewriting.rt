@@ -4,7 +4,7 @@ ghost use Rattle.cacache_store.specs.declared.store.answer.Answer.TheVariants as
 ghost use Rattle.cacache_store.specs.declared.store.step.Step.TheVariants as steps;
 ghost use Rattle.cacache_table.specs.SingleSteps.{Does, FailsAt};
 ghost use Rattle.cacache_table.specs.StepPaths.{temp_folder as temp_folder_of, temp_path as temp_path_of};
-ghost use Rattle.cacache_keep.specs.Rewriting.{MakesTemp, Rewrites, StopsMaking, StopsRewriting, StopsSecuring, StopsSyncing, StopsWriting, SyncsFolder, SyncsTemp, Took, folder_of as folder_of_path};
+ghost use Rattle.cacache_keep.specs.Rewriting.{MakesTemp, Rewrites, StopsMaking, StopsRewriting, StopsSecuring, StopsSyncing, StopsSyncingBucket, StopsWriting, SyncsBucket, SyncsFolder, SyncsTemp, Took, folder_of as folder_of_path};
 
 use cacache_core::bytes::Bytes;
 use cacache_core::errors::{Fault, Result};
@@ -146,9 +146,9 @@ fn folder_of(alloc: Global, path: &Text) -> std::result::Result<Text, AllocError
     }
 }
 
-/// The folder wasn't synced, and the file is already moved.
+/// The folder wasn't synced.
 fn unsecured(alloc: Global, path: &Text) -> std::result::Result<Text, AllocError> {
-    Ok(Text::new(format!(in alloc; "Failed to sync the folder of bucket {path}, which is anew")?))
+    Ok(Text::new(format!(in alloc; "Failed to sync the folder of bucket {path}")?))
 }
 
 /// Syncs the folder of the path.
@@ -175,6 +175,44 @@ fn secure<S: Store>(alloc: Global, store: &mut S, durable: bool, path: &Text) ->
     if !durable {
         return Ok(());
     }
+    sync_folder(alloc, store, path)
+}
+
+/// The file wasn't synced.
+fn unsynced_file(alloc: Global, path: &Text) -> std::result::Result<Text, AllocError> {
+    Ok(Text::new(format!(in alloc; "Failed to sync bucket {path}")?))
+}
+
+/// Syncs the file at the path.
+fn sync_file<S: Store>(alloc: Global, store: &mut S, path: &Text) -> Result<()>
+    ensures syncs { OnOk result (Does (steps.SyncFile path.now) answers.Done
+        (S.log store.old) (S.log store.new)) }
+    ensures stops { IfErr result (λ e. FailsAt (steps.SyncFile path.now) e
+        (S.log store.old) (S.log store.new)) }
+{
+    let place = path.clone()?;
+    match done_of(store.step(Step::SyncFile(place))) {
+        Ok(()) => Ok(()),
+        Err(refusal) => Err(refused(refusal, unsynced_file(alloc, path))),
+    }
+}
+
+/// Syncs the file at the path and then its folder, if that is asked for.
+pub(crate) fn sync_bucket<S: Store>(
+    alloc: Global,
+    store: &mut S,
+    durable: bool,
+    path: &Text,
+) -> Result<()>
+    ensures syncs { OnOk result
+        (SyncsBucket durable path.now (S.log store.old) (S.log store.new)) }
+    ensures stops { IfErr result
+        (λ e. StopsSyncingBucket durable path.now e (S.log store.old) (S.log store.new)) }
+{
+    if !durable {
+        return Ok(());
+    }
+    sync_file(alloc, store, path)?;
     sync_folder(alloc, store, path)
 }
 

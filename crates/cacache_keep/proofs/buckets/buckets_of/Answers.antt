@@ -1,5 +1,5 @@
 use Rattle.std.proofs.Common.{false, List, ℕ, [], ◌∷◌, inl, inr, rules, subst}
-use Rattle.cacache_keep.{specs.Buckets.{ListsParts, StopsFinding, StopsParts, index_area_in}, proofs.Stopped.{error_as}}
+use Rattle.cacache_keep.{specs.Buckets.{ListsParts, StopsFinding, StopsParts}, proofs.Stopped.{error_as}}
 use Rattle.cacache_keep.proofs.buckets.buckets_of.Goals as goal
 
 pub returns-in_err-tops-clause-stops : goal.returns-in_err-tops-clause-stops
