@@ -30,6 +30,7 @@ mod HexNames
 mod MovedFiles
 mod Rewritten
 mod SyncedTrees
+mod SyncedFolders
 mod TightBuckets
 mod CompactedTrees
 mod WholeCompactions

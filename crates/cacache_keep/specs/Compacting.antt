@@ -6,7 +6,7 @@ use Rattle.cacache_store.specs.declared.store.log.LogItem.{LogItem}
 use Rattle.cacache_store.specs.declared.store.step.Step.TheVariants as steps
 use Rattle.cacache_table.specs.SingleSteps.{Does, FailsAt}
 use Rattle.cacache_keep_laws.specs.{Compacting.{compact_text}, Temporary.{total}}
-use Rattle.cacache_keep.specs.{declared.settling.Lean.{Lean}, Buckets.{FindsBuckets, StopsFinding}, Rewriting.{Rewrites, StopsRewriting, StopsSyncingBucket, SyncsBucket}}
+use Rattle.cacache_keep.specs.{declared.settling.Lean.{Lean}, Buckets.{FindsBuckets, StopsFinding}, Rewriting.{Rewrites, StopsRewriting, StopsSyncingBucket, SyncsBucket}, Syncing.{StopsAbove, SyncsAbove}}
 
 -- ---- buckets, one after another
 
@@ -99,12 +99,15 @@ pub record CompactsAll
   pub counted : count ≡ min (length (filter (is_loose durable) buckets)) (2 ^ 64 - 1)
   pub sized : bytes ≡ total (map (saved durable) (filter (is_loose durable) buckets))
 
--- the buckets of the index are found, and all of them are compacted
+-- the buckets of the index are found, and all of them are compacted; a durable compaction syncs the
+-- folders above theirs, too
 abbrev pub CompactsCache :
     Bool → List ℕ → ℕ → ℕ → Option (List LogItem) → Option (List LogItem) → Type 0
 CompactsCache durable cache count bytes old new =
-    (paths : List (List ℕ)) × (found : Option (List LogItem))
-    × FindsBuckets cache paths old found × CompactsAll durable cache paths count bytes found new
+    (tops paths : List (List ℕ)) × (found done : Option (List LogItem))
+    × FindsBuckets cache tops paths old found
+    × CompactsAll durable cache paths count bytes found done
+    × SyncsAbove durable cache tops done new
 
 -- ---- errors
 
@@ -136,10 +139,20 @@ pub record StopsCompactingEach
   pub compacting : CompactsEach durable cache buckets old between
   pub stop : StopsBucket durable cache next e between new
 
--- the error ended the finding of the buckets, or a compaction of one
+-- all buckets at these paths were compacted, and the error ended a sync of the folders above theirs
+abbrev pub StopsAfterAll : Bool → List ℕ → List (List ℕ) → List (List ℕ) → Error
+    → Option (List LogItem) → Option (List LogItem) → Type 0
+StopsAfterAll durable cache tops paths e old new =
+    (count bytes : ℕ) × (done : Option (List LogItem))
+    × CompactsAll durable cache paths count bytes old done
+    × StopsAbove durable cache tops e done new
+
+-- the error ended the finding of the buckets, a compaction of one, or what comes after all of them
 abbrev pub StopsCompacting :
     Bool → List ℕ → Error → Option (List LogItem) → Option (List LogItem) → Type 0
 StopsCompacting durable cache e old new =
     StopsFinding cache e old new
-    ⊎ ((paths : List (List ℕ)) × (found : Option (List LogItem))
-    × FindsBuckets cache paths old found × StopsCompactingEach durable cache paths e found new)
+    ⊎ ((tops paths : List (List ℕ)) × (found : Option (List LogItem))
+    × FindsBuckets cache tops paths old found
+    × (StopsCompactingEach durable cache paths e found new
+    ⊎ StopsAfterAll durable cache tops paths e found new))

@@ -10,5 +10,6 @@ pub mod Repairing
 pub mod Lines
 pub mod Buckets
 pub mod Rewriting
+pub mod Syncing
 pub mod Compacting
 pub mod Told

@@ -18,6 +18,7 @@ mod repairing;
 mod rewriting;
 mod settling;
 mod sweeping;
+mod syncing;
 mod verifying;
 
 pub use collecting::{Collected, collect};

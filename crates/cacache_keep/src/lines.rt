@@ -252,10 +252,9 @@ fn close(text: &mut Vec<u8>, closed: bool) -> std::result::Result<(), AllocError
     Ok(())
 }
 
-/// The bytes that a compaction leaves of a bucket's: each line that we can't read as an entry, and of each key the
-/// last of the others, if it is an entry, or if it is a tombstone after a line that we can't read. A last line feed
-/// stays, and a durable compaction adds one.
-#[tactic(auto, unfolding(cacache_keep_laws::specs::Compacting::compact_text))]
+/// The bytes that a compaction leaves of a bucket's: the odd lines, and of each key the last line that decides it, if
+/// that is an entry, or a tombstone that an odd line comes before. A last line feed stays, and a durable compaction
+/// adds one.
 pub(crate) fn compact_text(alloc: Global, durable: bool, bytes: &[u8]) -> Result<Vec<u8>>
     ensures text { IfOk result (λ text. text.items ≡ compact_text_of durable bytes.now) }
     ensures memory { IfErr result (λ e. e ≡ OutOfMemory) }

@@ -1,4 +1,5 @@
-//! A file that is written anew: a temporary file is moved over it, and both are synced where that is asked for.
+//! A file that is written anew: a temporary file is moved over it. It is synced if that is asked for, and so is one that
+//! stays as it is.
 ghost use Rattle.std.specs.Prelude.{◌≡◌, [], IfOk, IfErr, OnOk};
 ghost use Rattle.cacache_store.specs.declared.store.answer.Answer.TheVariants as answers;
 ghost use Rattle.cacache_store.specs.declared.store.step.Step.TheVariants as steps;
@@ -217,7 +218,7 @@ pub(crate) fn sync_bucket<S: Store>(
 }
 
 /// Writes the bytes to a temporary file of this number and moves that to the path. A file there is
-/// whole at any time: it has its old bytes, or these. Where that is durable, the temporary file is synced
+/// whole at any time: it has its old bytes, or these. If that is durable, the temporary file is synced
 /// before the move, and the path's folder after it.
 pub(crate) fn rewrite<S: Store>(
     alloc: Global,
