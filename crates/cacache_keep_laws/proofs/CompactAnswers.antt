@@ -1,10 +1,10 @@
--- What our own lookups and listings answer in compacted bytes.
+-- What our own lookups find in lines, and which keys a listing looks up.
 use Rattle.std.proofs.{Common.{◌≡◌, ◌⊎◌, inl, inr, ℕ, List, [], ◌∷◌, Bool, true, false, cond, not, ◌&&◌, ◌||◌, Option, Some, None, option_map, fold, map, filter_map, refl, sym, ap, subst, ◌∙◌, bytes_eq}, lemmas.Slice.Eq.{bytes_eq-Decides}}
-use Rattle.std.specs.{Prelude.{Ok, filter, is_some, option_and_then, unwrap_or}, List.{cons_option, list_any}, Option.{option_flatten}, Str.{is_utf8}}
+use Rattle.std.specs.{Prelude.{is_some, option_and_then, unwrap_or}, List.{cons_option, list_any}, Option.{option_flatten}, Str.{is_utf8}}
 use Rattle.cacache_entry.specs.{Entry.{Entry}, EntryTexts.{read_entry}, Bucket.{cut, without_cr, entry_of_parts, entry_of_piece, entries_of}, Latest.{Found, answer_of, after_entry, latest}}
-use Rattle.cacache_table.specs.{State.{Item}, Walking.{once, items_of, items_in}}
-use Rattle.cacache_keep_laws.specs.Compacting.{CompactTextsAnswer, Decision, Line, ReadsLines, compact_text, decided, decision, decision_of, found_at, found_by, is_line, is_odd, kept, line_of_piece, lines_of, signed_parts}
-use Rattle.cacache_keep_laws.proofs.{CompactLines.{ArePieces, pieces_are, texts}, KeptLines.{kept_odd, kept_once, neither}, CompactTwice.{compact_lines}, CompactFound.{after, compact_texts_keep_found, in_bytes, next}}
+use Rattle.cacache_table.specs.{State.{Item}, Walking.{once}}
+use Rattle.cacache_keep_laws.specs.Compacting.{Decision, Line, ReadsLines, compact_text, decided, decision, decision_of, found_at, found_by, is_line, kept, line_of_piece, lines_of, signed_parts}
+use Rattle.cacache_keep_laws.proofs.{CompactLines.{ArePieces, texts}, KeptLines.{neither}, CompactFound.{after, compact_texts_keep_found, next}}
 
 -- ---- we are such a reader
 
@@ -33,7 +33,7 @@ abbrev pub found_in : List ℕ → Option Found
 found_in p = option_and_then (λ (e : Entry). option_flatten (answer_of e e.integrity)) (entry_of_piece (without_cr p))
 
 -- a lookup finds the entry of the line that we find
-abbrev found_as : Option (List ℕ) → Option Found
+abbrev pub found_as : Option (List ℕ) → Option Found
 found_as o = option_and_then found_in o
 
 same_key : (a b : List ℕ) → bytes_eq a b ≡ bytes_eq b a
@@ -76,16 +76,16 @@ in_entries key (p ∷ ps) o = by (entry_of_piece (without_cr p)) refl (λ f. in_
 pub latest_is : (key x : List ℕ) → latest key (entries_of x) ≡ found_as (found_by decision key x)
 latest_is key x = in_entries key (cut 10 x) None
 
-finds_same : (durable : Bool) (x key : List ℕ) → latest key (entries_of (compact_text durable x)) ≡ latest key (entries_of x)
+pub finds_same : (durable : Bool) (x key : List ℕ) → latest key (entries_of (compact_text durable x)) ≡ latest key (entries_of x)
 finds_same durable x key = latest_is key (compact_text durable x) ∙ ap found_as (compact_texts_keep_found decision durable x key ours) ∙ sym (latest_is key x)
 
 -- ---- the keys of entries
 
 -- the key of a piece's entry
-abbrev key_at : List ℕ → Option (List ℕ)
+abbrev pub key_at : List ℕ → Option (List ℕ)
 key_at p = option_map (λ (e : Entry). e.key) (entry_of_piece (without_cr p))
 
-abbrev keys : List Line → List (List ℕ)
+abbrev pub keys : List Line → List (List ℕ)
 keys ls = filter_map key_at (texts ls)
 
 entry_keys : (ps : List (List ℕ)) → map (λ (e : Entry). e.key) (filter_map entry_of_piece (map without_cr ps)) ≡ filter_map key_at ps
@@ -107,11 +107,11 @@ line_keys (p ∷ ps) = by (is_line p) refl (line_keys ps)
     by false is rest = ap (λ (o : Option Entry). cons_option (option_map (λ (e : Entry). e.key) o) (filter_map key_at ps)) (no_entry p is) ∙ rest
 
 -- the keys of the entries of bytes are those of their lines
-keys_of : (x : List ℕ) → map (λ (e : Entry). e.key) (entries_of x) ≡ keys (lines_of x)
+pub keys_of : (x : List ℕ) → map (λ (e : Entry). e.key) (entries_of x) ≡ keys (lines_of x)
 keys_of x = entry_keys (cut 10 x) ∙ line_keys (cut 10 x)
 
 -- a piece decides the key of its entry
-own_key : (p : List ℕ) (d : Decision) → decision p ≡ Some d → key_at p ≡ Some d.0
+pub own_key : (p : List ℕ) (d : Decision) → decision p ≡ Some d → key_at p ≡ Some d.0
 own_key p d = by (entry_of_piece (without_cr p))
   where
     at : (e : Entry) (a : Option (Option Found)) → option_map (λ (x : Option Found). (e.key, is_some x)) a ≡ Some d → Some e.key ≡ Some d.0
@@ -126,13 +126,13 @@ own_key p d = by (entry_of_piece (without_cr p))
 
 module _ (item : List ℕ → Option Item) where
   -- the keys of tombstones that decide them have no item
-  abbrev Hides : List Line → Type 0
+  abbrev pub Hides : List Line → Type 0
   Hides [] = Unit {0}
   Hides ((t, None) ∷ ls) = Hides ls
   Hides ((t, Some d) ∷ ls) = (list_any (bytes_eq d.0) (decided ls) ≡ false → d.1 ≡ false → item d.0 ≡ None) × Hides ls
 
   -- the items of keys, each once
-  abbrev items : List (List ℕ) → List Item
+  abbrev pub items : List (List ℕ) → List Item
   items ks = filter_map item (once ks)
 
   -- a key that comes later too, or has no item, adds none
@@ -206,7 +206,7 @@ module _ (item : List ℕ → Option Item) where
       by false e false f true g (inl same) = inr (ap item ((bytes_eq-Decides k d.0).0 g) ∙ hides.0 e (neither d.1 odd f).0)
 
   -- so they have the same items
-  same_items : (odd : Bool) (ls : List Line) → ArePieces ls → Hides ls → items (keys (kept odd ls)) ≡ items (keys ls)
+  pub same_items : (odd : Bool) (ls : List Line) → ArePieces ls → Hides ls → items (keys (kept odd ls)) ≡ items (keys ls)
   same_items odd [] are hides = refl
   same_items odd ((t, None) ∷ ls) are hides = by (key_at t) (λ k. still_there k true ls are.1 hides) (same_items true ls are.1 hides)
     where
@@ -230,14 +230,14 @@ module _ (item : List ℕ → Option Item) where
 -- ---- tombstones that decide their keys
 
 -- lines that don't decide the key find nothing for it
-undecided : (key : List ℕ) (ls : List Line) (o : Option (List ℕ)) → ArePieces ls → list_any (bytes_eq key) (decided ls) ≡ false → after decision ours key o (texts ls) ≡ o
+pub undecided : (key : List ℕ) (ls : List Line) (o : Option (List ℕ)) → ArePieces ls → list_any (bytes_eq key) (decided ls) ≡ false → after decision ours key o (texts ls) ≡ o
 undecided key [] o are none = refl
 undecided key ((t, None) ∷ ls) o are none = ap (λ (f : Option (List ℕ)). after decision ours key f (texts ls)) (ap (found_at key o t) are.0.2) ∙ undecided key ls o are.1 none
 undecided key ((t, Some d) ∷ ls) o are none =
     let parts = neither (bytes_eq key d.0) (list_any (bytes_eq key) (decided ls)) none in
     ap (λ (f : Option (List ℕ)). after decision ours key f (texts ls)) (ap (found_at key o t) are.0.2 ∙ ap (λ (c : Bool). cond c (cond d.1 (Some t) None) o) parts.0) ∙ undecided key ls o are.1 parts.1
 
-hidden : (item : List ℕ → Option Item) (last start : List ℕ → Option (List ℕ)) (ls : List Line) → ArePieces ls → ((key : List ℕ) → last key ≡ None → item key ≡ None)
+pub hidden : (item : List ℕ → Option Item) (last start : List ℕ → Option (List ℕ)) (ls : List Line) → ArePieces ls → ((key : List ℕ) → last key ≡ None → item key ≡ None)
     → ((key : List ℕ) → last key ≡ after decision ours key (start key) (texts ls)) → Hides item ls
 hidden item last start [] are quiet is = tt
 hidden item last start ((t, None) ∷ ls) are quiet is =
@@ -249,29 +249,3 @@ hidden item last start ((t, Some d) ∷ ls) are quiet is = (
       ∙ ap (λ (c : Bool). cond c (cond d.1 (Some t) None) (start d.0)) ((bytes_eq-Decides d.0 d.0).1 refl) ∙ ap (λ (c : Bool). cond c (Some t) None) tomb),
   hidden item last (λ key. next decision ours key (start key) t) ls are.1 quiet is,
 )
-
--- ---- compacted bytes
-
-same_filter : {X Y : Type 0} (f g : X → Option Y) (xs : List X) → ((x : X) → f x ≡ g x) → filter_map f xs ≡ filter_map g xs
-same_filter f g [] same = refl
-same_filter f g (x ∷ xs) same = ap (λ o. cons_option o (filter_map f xs)) (same x) ∙ ap (cons_option (g x)) (same_filter f g xs same)
-
-lists_same : (durable : Bool) (x : List ℕ) → items_of (entries_of (compact_text durable x)) ≡ items_of (entries_of x)
-lists_same durable x =
-    let y = compact_text durable x in
-    let item : List ℕ → Option Item = λ key. option_map Ok (latest key (entries_of x)) in
-    let are = pieces_are x in
-    let hides = hidden item (λ key. found_by decision key x) (λ key. None) (lines_of x) are (λ key none. ap (option_map Ok) (latest_is key x ∙ ap found_as none)) (λ key. in_bytes decision ours key x) in
-    same_filter (λ key. option_map Ok (latest key (entries_of y))) item (once (map (λ (e : Entry). e.key) (entries_of y))) (λ key. ap (option_map Ok) (finds_same durable x key))
-    ∙ ap (λ (ks : List (List ℕ)). filter_map item (once ks)) (keys_of y ∙ ap keys (compact_lines durable x)) ∙ same_items item false (lines_of x) are hides
-    ∙ sym (ap (λ (ks : List (List ℕ)). filter_map item (once ks)) (keys_of x))
-
--- each lookup and the listing of compacted bytes are those of the bytes
-pub compact_texts_answer : CompactTextsAnswer
-unfolding items_in
-compact_texts_answer durable x = record {
-  finds = finds_same durable x;
-  lists = lists_same durable x;
-  odd = ap (filter is_odd) (compact_lines durable x) ∙ kept_odd false (lines_of x);
-  lean = ap (λ (ls : List Line). once (decided ls)) (compact_lines durable x) ∙ kept_once false (lines_of x) ∙ sym (ap decided (compact_lines durable x));
-}

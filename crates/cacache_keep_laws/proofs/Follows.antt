@@ -14,7 +14,7 @@ use Rattle.cacache_table.specs.declared.carried.Aim.TheVariants as aims
 use Rattle.cacache_table.specs.declared.carried.Content as carried
 use Rattle.cacache_table.specs.declared.command.Command.TheVariants as commands
 use Rattle.cacache_keep_laws.specs.{Answers.{AnsweredBy}, Collecting.{ReadsAsBefore}, Compacting.{compact_text}, Idle.{Finds}}
-use Rattle.cacache_keep_laws.proofs.{Agreeing.{said}, CompactAnswers.{compact_texts_answer}, Covering.{named_on}, Within.{read_answer}}
+use Rattle.cacache_keep_laws.proofs.{Agreeing.{said}, CompactTexts.{compact_texts_answer}, Covering.{named_on}, Within.{read_answer}}
 
 fits_said : (path : List ℕ) (r : Result (List ℕ) Fault) → Fits (ReadAll path) (said r)
 fits_said path (Ok bytes) = tt

@@ -6,7 +6,7 @@ use Rattle.cacache_disk.specs.{declared.node.Node.{Node, TheVariants.{Folder, Fi
 use Rattle.cacache_entry.{specs.Latest.{latest}, proofs.Lines.{empty_holds_nothing}}
 use Rattle.cacache_value.{specs.{Acts.{list_of}, Kinds.{PathKind, Content, Bucket, Temporary, path_kind}, Value.{blob_in, bucket_in}}, proofs.KindsApart.{kind-below}}
 use Rattle.cacache_keep_laws.specs.{Compacted.{IsCompacted, IsTempFolder, IsLeftOver, Compacted, CutShort, CompactionsKeep}, Compacting.{compact_text}}
-use Rattle.cacache_keep_laws.proofs.{CompactAnswers.{compact_texts_answer}, CompactTwice.{compact_again}}
+use Rattle.cacache_keep_laws.proofs.{CompactTexts.{compact_texts_answer}, CompactTwice.{compact_again}}
 
 -- ---- one node
 

@@ -31,10 +31,11 @@ pub mod Led
 pub mod Housed
 pub mod SoundRemovals
 pub mod CompactLines
-pub mod KeptLines
+mod KeptLines
 pub mod CompactTwice
-pub mod CompactFound
-pub mod CompactAnswers
+mod CompactFound
+mod CompactAnswers
+pub mod CompactTexts
 mod Shapes
 pub mod LeanTrees
 mod LeanReads

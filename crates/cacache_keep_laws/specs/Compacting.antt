@@ -1,5 +1,5 @@
 -- The bytes of a bucket that a compaction leaves, and which lines stay.
-use Rattle.std.specs.{Prelude.{◌≡◌, ◌++◌, ◌==◌, ◌&&◌, ◌||◌, ℕ, List, [], ◌∷◌, Bool, true, false, Option, None, Some, if◌then◌else◌, bytes_eq, filter, filter_map, fold, is_some, not, option_and_then, option_map}, List.{flat_map, list_any}}
+use Rattle.std.specs.{Prelude.{◌≡◌, ◌++◌, ◌==◌, ◌&&◌, ◌||◌, ℕ, List, [], ◌∷◌, Bool, true, false, Option, None, Some, if◌then◌else◌, bytes_eq, filter, filter_map, fold, is_some, length, not, option_and_then, option_map}, List.{flat_map, list_any}}
 use Rattle.cacache_core.specs.Digests.{sha256_hex}
 use Rattle.cacache_entry.specs.{Entry.{Entry, closing}, Bucket.{cut, without_cr, entry_of_piece, entries_of}, Latest.{answer_of, latest}}
 use Rattle.cacache_table.specs.Walking.{once, items_in}
@@ -86,12 +86,14 @@ abbrev pub odd_lines : List ℕ → List Line
 odd_lines x = filter is_odd (lines_of x)
 
 -- each lookup finds in the second bytes what it finds in the first, a listing has the same of both,
--- both have the same odd lines, and no two lines of the second decide one key
+-- both have the same odd lines, no two lines of the second decide one key, and without odd lines the
+-- second have one entry for each item
 pub record IsCompactOf (x y : List ℕ) : Type 0 where
   pub finds : (key : List ℕ) → latest key (entries_of y) ≡ latest key (entries_of x)
   pub lists : items_in y ≡ items_in x
   pub odd : odd_lines y ≡ odd_lines x
-  pub lean : once (decided (lines_of y)) ≡ decided (lines_of y)
+  pub once_each : once (decided (lines_of y)) ≡ decided (lines_of y)
+  pub lean : odd_lines x ≡ [] → length (entries_of y) ≡ length (items_in x)
 
 -- so it is with a bucket's bytes that are compacted
 abbrev pub CompactTextsAnswer : Type 0

@@ -82,7 +82,7 @@ pub fn repair_laws()
 {}
 
 /// A bucket's bytes that are compacted answer each lookup as before and list the same. They have the same odd lines,
-/// and no two lines that decide one key. A second compaction changes nothing, unless it is the first durable one.
+/// no two lines that decide one key, and without odd lines one entry for each item. A second compaction changes nothing, unless it is the first durable one.
 /// They end with a line feed if the compaction is durable or the bytes end with one. Each reader of lines that reads
 /// as we do what we can read finds the same line for each key. So after a compaction of buckets of a tree, also if
 /// that is cut short, each key leads where it led, and each address has the content that it had. If links lead out of
