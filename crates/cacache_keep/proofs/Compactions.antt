@@ -7,7 +7,7 @@ use Rattle.cacache_store.specs.declared.store.log.LogItem.{LogItem}
 use Rattle.cacache_store.specs.declared.store.step.Step.TheVariants as steps
 use Rattle.cacache_table.specs.SingleSteps.{Does}
 use Rattle.cacache_keep_laws.specs.{Compacting.{compact_text}, Temporary.{total}}
-use Rattle.cacache_keep.specs.{Compacting.{Bucket, Changes, CompactsAll, CompactsBucket, CompactsEach, RewritesIf, Saves, Settles, StopsBucket, StopsCompactingEach, StopsSettling, is_loose, same_bytes, saved}, declared.settling.Lean.{Lean}, Rewriting.{Rewrites, StopsRewriting}}
+use Rattle.cacache_keep.specs.{Compacting.{Bucket, Changes, CompactsAll, CompactsBucket, CompactsEach, RewritesIf, Saves, Settles, StopsBucket, StopsCompactingEach, StopsSettling, is_loose, same_bytes, saved}, declared.settling.Lean.{Lean}, Rewriting.{Rewrites, StopsRewriting, SyncsBucket}}
 use Rattle.cacache_keep.proofs.{Asked.{kept, passed}, Sweeps.{total_more}}
 
 -- ---- one bucket
@@ -20,45 +20,49 @@ other_text : (bytes text given : List ℕ) (b : Bool) → Some given ≡ cond b 
 other_text bytes text given true e = absurd cc
 other_text bytes text given false e = (refl, cc)
 
--- a bucket that doesn't change was only read
-pub left_alone : (durable : Bool) (cache path bytes : List ℕ) (old read : Option (List LogItem)) → Does (steps.ReadAll path) (answers.Bytes bytes) old read → Changes bytes None → (is_loose (path, bytes) ≡ false) × CompactsBucket durable cache (path, bytes) old read
-left_alone durable cache path bytes old read does same =
-    let is : is_loose (path, bytes) ≡ false = ap not (same_text bytes (compact_text bytes) (same_bytes (compact_text bytes) bytes) same) in
-    (is, (read, does, subst (λ (b : Bool). RewritesIf b durable cache (path, bytes) read read) (sym is) refl))
+module _ (durable : Bool) (cache path bytes : List ℕ) (old read : Option (List LogItem)) (does : Does (steps.ReadAll path) (answers.Bytes bytes) old read) where
+  abbrev compacted : List ℕ
+  compacted = compact_text durable bytes
 
--- another was written anew
-pub written_anew : (durable : Bool) (cache path bytes text : List ℕ) (n : ℕ) (old read new : Option (List LogItem)) → Does (steps.ReadAll path) (answers.Bytes bytes) old read → Changes bytes (Some text) → n ≡ length bytes - length text → Rewrites durable cache path text read new
-    → Saves (path, bytes) (Some n) × CompactsBucket durable cache (path, bytes) old new
-written_anew durable cache path bytes text n old read new does other size writes =
-    let is = other_text bytes (compact_text bytes) text (same_bytes (compact_text bytes) bytes) other in
-    let loose : is_loose (path, bytes) ≡ true = ap not is.0 in
-    let anew : Rewrites durable cache path (compact_text bytes) read new = subst (λ (t : List ℕ). Rewrites durable cache path t read new) is.1 writes in
-    ((loose, size ∙ ap (λ (t : List ℕ). length bytes - length t) is.1), (read, does, subst (λ (b : Bool). RewritesIf b durable cache (path, bytes) read new) (sym loose) anew))
+  unchanged : Changes durable bytes None → is_loose durable (path, bytes) ≡ false
+  unchanged same = ap not (same_text bytes compacted (same_bytes compacted bytes) same)
 
--- the error ended that
-pub unwritten_anew : (durable : Bool) (cache path bytes text : List ℕ) (e : Error) (old read new : Option (List LogItem)) → Does (steps.ReadAll path) (answers.Bytes bytes) old read → Changes bytes (Some text) → StopsRewriting durable cache path text e read new → StopsBucket durable cache path e old new
-unwritten_anew durable cache path bytes text e old read new does other stop =
-    let is = other_text bytes (compact_text bytes) text (same_bytes (compact_text bytes) bytes) other in
-    inr (bytes, read, does, subst (λ (t : List ℕ). StopsRewriting durable cache path t e read new) is.1 stop)
+  -- a bucket that doesn't change was read, and synced in a durable compaction
+  left_alone : (new : Option (List LogItem)) → Changes durable bytes None → SyncsBucket durable path read new → (is_loose durable (path, bytes) ≡ false) × CompactsBucket durable cache (path, bytes) old new
+  left_alone new same syncs =
+      let is = unchanged same in
+      (is, (read, does, subst (λ (b : Bool). RewritesIf b durable cache (path, bytes) read new) (sym is) syncs))
 
--- what was settled, by the new bytes
-pub settled : (durable : Bool) (cache path bytes : List ℕ) (lean : Option Lean) (saving : Option ℕ) (old read new : Option (List LogItem)) → Does (steps.ReadAll path) (answers.Bytes bytes) old read → Changes bytes (option_map (λ (l : Lean). l.text.items) lean)
-    → IfSome lean (λ (l : Lean). l.saved ≡ length bytes - length l.text.items) → Settles durable cache path (option_map (λ (l : Lean). (l.text.items, l.saved)) lean) saving read new → (b : List ℕ) × Saves (path, b) saving × CompactsBucket durable cache (path, b) old new
-settled durable cache path bytes None saving old read new does same size done =
-    let alone = left_alone durable cache path bytes old read does same in
-    (bytes, subst (λ (s : Option ℕ). Saves (path, bytes) s) (sym done.0) alone.0, subst (λ (log : Option (List LogItem)). CompactsBucket durable cache (path, bytes) old log) (sym done.1) alone.1)
-settled durable cache path bytes (Some l) saving old read new does other size done =
-    let anew = written_anew durable cache path bytes l.text.items l.saved old read new does other size done.1 in
-    (bytes, subst (λ (s : Option ℕ). Saves (path, bytes) s) (sym done.0) anew.0, anew.1)
+  -- another was written anew
+  written_anew : (text : List ℕ) (n : ℕ) (new : Option (List LogItem)) → Changes durable bytes (Some text) → n ≡ length bytes - length text → Rewrites durable cache path text read new
+      → Saves durable (path, bytes) (Some n) × CompactsBucket durable cache (path, bytes) old new
+  written_anew text n new other size writes =
+      let is = other_text bytes compacted text (same_bytes compacted bytes) other in
+      let loose : is_loose durable (path, bytes) ≡ true = ap not is.0 in
+      let anew : Rewrites durable cache path compacted read new = subst (λ (t : List ℕ). Rewrites durable cache path t read new) is.1 writes in
+      ((loose, size ∙ ap (λ (t : List ℕ). length bytes - length t) is.1), (read, does, subst (λ (b : Bool). RewritesIf b durable cache (path, bytes) read new) (sym loose) anew))
 
-pub unsettled : (durable : Bool) (cache path bytes : List ℕ) (lean : Option Lean) (e : Error) (old read new : Option (List LogItem)) → Does (steps.ReadAll path) (answers.Bytes bytes) old read → Changes bytes (option_map (λ (l : Lean). l.text.items) lean)
-    → StopsSettling durable cache path (option_map (λ (l : Lean). (l.text.items, l.saved)) lean) e read new → StopsBucket durable cache path e old new
-unsettled durable cache path bytes None e old read new does same stop = absurd stop
-unsettled durable cache path bytes (Some l) e old read new does other stop = unwritten_anew durable cache path bytes l.text.items e old read new does other stop
+  -- what was settled, by the new bytes
+  pub settled : (lean : Option Lean) (saving : Option ℕ) (new : Option (List LogItem)) → Changes durable bytes (option_map (λ (l : Lean). l.text.items) lean) → IfSome lean (λ (l : Lean). l.saved ≡ length bytes - length l.text.items)
+      → Settles durable cache path (option_map (λ (l : Lean). (l.text.items, l.saved)) lean) saving read new → (b : List ℕ) × Saves durable (path, b) saving × CompactsBucket durable cache (path, b) old new
+  settled None saving new same size done =
+      let alone = left_alone new same done.1 in
+      (bytes, subst (λ (s : Option ℕ). Saves durable (path, bytes) s) (sym done.0) alone.0, alone.1)
+  settled (Some l) saving new other size done =
+      let anew = written_anew l.text.items l.saved new other size done.1 in
+      (bytes, subst (λ (s : Option ℕ). Saves durable (path, bytes) s) (sym done.0) anew.0, anew.1)
 
--- memory ran out once it was read
-pub lost_read : (durable : Bool) (cache path bytes : List ℕ) (old read : Option (List LogItem)) → Does (steps.ReadAll path) (answers.Bytes bytes) old read → StopsBucket durable cache path OutOfMemory old read
-lost_read durable cache path bytes old read does = inr (bytes, read, does, inl (inl (inl refl)))
+  -- the error ended that
+  pub unsettled : (lean : Option Lean) (e : Error) (new : Option (List LogItem)) → Changes durable bytes (option_map (λ (l : Lean). l.text.items) lean)
+      → StopsSettling durable cache path (option_map (λ (l : Lean). (l.text.items, l.saved)) lean) e read new → StopsBucket durable cache path e old new
+  unsettled None e new same stop = inr (bytes, read, does, inr (unchanged same, stop))
+  unsettled (Some l) e new other stop =
+      let is = other_text bytes compacted l.text.items (same_bytes compacted bytes) other in
+      inr (bytes, read, does, inl (subst (λ (t : List ℕ). StopsRewriting durable cache path t e read new) is.1 stop))
+
+  -- memory ran out once it was read
+  pub lost_read : StopsBucket durable cache path OutOfMemory old read
+  lost_read = inr (bytes, read, does, inl (inl (inl (inl refl))))
 
 -- ---- buckets, one after another
 
@@ -69,35 +73,35 @@ each_on durable cache (x ∷ buckets) b old mid new h one = (h.0, h.1, each_on d
 pub none_compacted : (durable : Bool) (cache : List ℕ) (log : Option (List LogItem)) → CompactsAll durable cache [] 0 0 log log
 none_compacted durable cache log = record { buckets = []; each = refl; compacting = refl; counted = refl; sized = refl }
 
-counts_on : (buckets : List Bucket) (b : Bucket) (saving : Option ℕ) (count : ℕ) → Saves b saving → count ≡ min (length (filter is_loose buckets)) (2 ^ 64 - 1) → min (count + length (option_to_list saving)) (2 ^ 64 - 1) ≡ min (length (filter is_loose (buckets ++ b ∷ []))) (2 ^ 64 - 1)
-counts_on buckets b None count saves is = let same = ap length (passed is_loose buckets b saves) in omega (arith, is, same)
-counts_on buckets b (Some n) count saves is =
-    let more = ap length (kept is_loose buckets b saves.0) in omega (arith, is, more, length-append (filter is_loose buckets) (b ∷ []))
+counts_on : (durable : Bool) (buckets : List Bucket) (b : Bucket) (saving : Option ℕ) (count : ℕ) → Saves durable b saving → count ≡ min (length (filter (is_loose durable) buckets)) (2 ^ 64 - 1) → min (count + length (option_to_list saving)) (2 ^ 64 - 1) ≡ min (length (filter (is_loose durable) (buckets ++ b ∷ []))) (2 ^ 64 - 1)
+counts_on durable buckets b None count saves is = let same = ap length (passed (is_loose durable) buckets b saves) in omega (arith, is, same)
+counts_on durable buckets b (Some n) count saves is =
+    let more = ap length (kept (is_loose durable) buckets b saves.0) in omega (arith, is, more, length-append (filter (is_loose durable) buckets) (b ∷ []))
 
-sums_on : (buckets : List Bucket) (b : Bucket) (saving : Option ℕ) (bytes : ℕ) → Saves b saving → bytes ≡ total (map saved (filter is_loose buckets))
-    → min (bytes + sum (option_to_list saving)) (2 ^ 64 - 1) ≡ total (map saved (filter is_loose (buckets ++ b ∷ [])))
-sums_on buckets b None bytes saves is =
+sums_on : (durable : Bool) (buckets : List Bucket) (b : Bucket) (saving : Option ℕ) (bytes : ℕ) → Saves durable b saving → bytes ≡ total (map (saved durable) (filter (is_loose durable) buckets))
+    → min (bytes + sum (option_to_list saving)) (2 ^ 64 - 1) ≡ total (map (saved durable) (filter (is_loose durable) (buckets ++ b ∷ [])))
+sums_on durable buckets b None bytes saves is =
     let zero : sum [] ≡ 0 = omega arith in
-    stays (sum (map saved (filter is_loose buckets))) bytes (sum []) is zero ∙ ap (λ (l : List Bucket). total (map saved l)) (sym (passed is_loose buckets b saves))
+    stays (sum (map (saved durable) (filter (is_loose durable) buckets))) bytes (sum []) is zero ∙ ap (λ (l : List Bucket). total (map (saved durable) l)) (sym (passed (is_loose durable) buckets b saves))
   where
     stays : (a bytes z : ℕ) → bytes ≡ min a (2 ^ 64 - 1) → z ≡ 0 → min (bytes + z) (2 ^ 64 - 1) ≡ min a (2 ^ 64 - 1)
     stays a bytes z e none = omega (arith, e, none)
-sums_on buckets b (Some n) bytes saves is =
+sums_on durable buckets b (Some n) bytes saves is =
     let one : sum (n ∷ []) ≡ n = omega arith in
-    ap (λ x. min (bytes + x) (2 ^ 64 - 1)) (one ∙ saves.1) ∙ ap (λ x. min (x + saved b) (2 ^ 64 - 1)) is ∙ sym (total_more (map saved (filter is_loose buckets)) (saved b))
-    ∙ ap total (sym (map-append saved (filter is_loose buckets) (b ∷ []))) ∙ ap (λ (l : List Bucket). total (map saved l)) (sym (kept is_loose buckets b saves.0))
+    ap (λ x. min (bytes + x) (2 ^ 64 - 1)) (one ∙ saves.1) ∙ ap (λ x. min (x + saved durable b) (2 ^ 64 - 1)) is ∙ sym (total_more (map (saved durable) (filter (is_loose durable) buckets)) (saved durable b))
+    ∙ ap total (sym (map-append (saved durable) (filter (is_loose durable) buckets) (b ∷ []))) ∙ ap (λ (l : List Bucket). total (map (saved durable) l)) (sym (kept (is_loose durable) buckets b saves.0))
 
 -- one bucket more
 pub one_compacted : (durable : Bool) (cache : List ℕ) (paths : List (List ℕ)) (k : ℕ) (path bytes : List ℕ) (saving : Option ℕ) (count size more sum_more : ℕ) (old mid new : Option (List LogItem)) → k < length paths → path ≡ get_or paths k path
-    → CompactsAll durable cache (take k paths) count size old mid → Saves (path, bytes) saving → CompactsBucket durable cache (path, bytes) mid new → more ≡ min (count + length (option_to_list saving)) (2 ^ 64 - 1) → sum_more ≡ min (size + sum (option_to_list saving)) (2 ^ 64 - 1)
+    → CompactsAll durable cache (take k paths) count size old mid → Saves durable (path, bytes) saving → CompactsBucket durable cache (path, bytes) mid new → more ≡ min (count + length (option_to_list saving)) (2 ^ 64 - 1) → sum_more ≡ min (size + sum (option_to_list saving)) (2 ^ 64 - 1)
     → CompactsAll durable cache (take (k + 1) paths) more sum_more old new
 one_compacted durable cache paths k path bytes saving count size more sum_more old mid new below is so saves one counts sums =
     let b : Bucket = (path, bytes) in record {
       buckets = so.buckets ++ b ∷ [];
       each = map-append (λ (x : Bucket). x.0) so.buckets (b ∷ []) ∙ ap (λ (ps : List (List ℕ)). ps ++ path ∷ []) so.each ∙ sym (take_more paths k path below ∙ ap (λ (x : List ℕ). take k paths ++ x ∷ []) (sym is));
       compacting = each_on durable cache so.buckets b old mid new so.compacting one;
-      counted = counts ∙ counts_on so.buckets b saving count saves so.counted;
-      sized = sums ∙ sums_on so.buckets b saving size saves so.sized;
+      counted = counts ∙ counts_on durable so.buckets b saving count saves so.counted;
+      sized = sums ∙ sums_on durable so.buckets b saving size saves so.sized;
     }
 
 -- the next one stops it

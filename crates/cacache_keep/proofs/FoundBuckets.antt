@@ -225,8 +225,8 @@ module _ (cache : List ℕ) (home : Names) (is : home_of cache ≡ Some home) (p
         let m_3 = part_found home t rooted true lows paths two new c s.2 (join (join f x) y) (home ++ index_area ∷ x ∷ y ∷ []) z (File bytes) m_2 named_2 low at_0 hex.2 in
         (join (join (join f x) y) z, m_3, named_3)
 
-pub buckets_found : (cache : List ℕ) (home : Names) (paths : List (List ℕ)) (old new : Option (List LogItem)) → home_of cache ≡ Some home → FindsBuckets cache paths old new → Leads (FindsFiles home paths) old new
-buckets_found cache home paths old new is (tops, lows, one, two, a, b, c) =
+pub buckets_found : (cache : List ℕ) (home : Names) (tops paths : List (List ℕ)) (old new : Option (List LogItem)) → home_of cache ≡ Some home → FindsBuckets cache tops paths old new → Leads (FindsFiles home paths) old new
+buckets_found cache home tops paths old new is (lows, one, two, a, b, c) =
     leads_as (Shown cache home is paths tops lows old one two new a b c) (FindsFiles home paths) old new (lists_all cache home is paths tops lows old one two new a b c)
     (λ t u rooted s. record {
       stays = s.0;

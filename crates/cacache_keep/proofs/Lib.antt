@@ -31,6 +31,7 @@ mod HexNames
 mod MovedFiles
 mod Rewritten
 mod SyncedTrees
+mod SyncedFolders
 mod TightBuckets
 mod CompactedTrees
 mod WholeCompactions

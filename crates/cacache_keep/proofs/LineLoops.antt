@@ -1,11 +1,9 @@
--- How the lines of a bucket come together, and the text of those that lookups find.
-use Rattle.std.proofs.{Common.{◌≡◌, ◌+◌, ℕ, List, [], ◌∷◌, ◌++◌, Bool, true, false, cond, Option, Some, None, option_map, map, filter_map, length, drop, take, refl, arith, sym, ap, ◌∙◌, append-nil, append_assoc, bytes_eq}, lemmas.List.Sums.{fold-append}}
-use Rattle.std.specs.{Prelude.{Result, Ok, Err, OnOk, is_some, unwrap_or}, List.{cons_option, list_any}, Option.{option_to_list}}
-use Rattle.cacache_entry.specs.{Entry.{Entry}, Bucket.{cut, CutsAt, without_cr, entry_of_piece, entries_of}, Latest.{Found, answer_to}, View.{entry_view}, declared.metadata.SerializableMetadata.{SerializableMetadata}}
-use Rattle.cacache_entry.proofs.Pieces.{entries-piece}
-use Rattle.cacache_table.specs.Walking.{once}
-use Rattle.cacache_keep.specs.{Lines.{line_view, with_text}, declared.lines.Line.{Line as Held}}
-use Rattle.cacache_keep_laws.specs.Compacting.{Line, line_of_piece, lines_of, after_line, line_for, lines_for, text_of}
+-- How the lines of a bucket come together, and which are chosen.
+use Rattle.std.proofs.{Common.{◌≡◌, ◌+◌, ℕ, List, [], ◌∷◌, ◌++◌, Bool, true, false, cond, not, ◌&&◌, ◌||◌, Option, Some, None, map, filter_map, drop, take, refl, sym, ap, subst, ◌∙◌, append-nil, bytes_eq}, lemmas.{Slice.Eq.{bytes_eq-Decides}, List.{reverse-append}, Map.Text.{btree_map_updates_str}}}
+use Rattle.std.specs.{Prelude.{Result, Ok, Err, OnOk, is_some}, List.{cons_option, list_any}, Option.{option_to_list}, BTreeMap.{BTreeMap, UpdatesBy, get_by}, Borrow.{Bor}, Cmp.Lexicographic.{slice_cmp}, Ordering.{nat_cmp}}
+use Rattle.cacache_entry.specs.Bucket.{cut, CutsAt}
+use Rattle.cacache_keep_laws.specs.Compacting.{Decision, Line, decided, kept, line_of_piece, lines_of}
+use Rattle.cacache_keep.specs.{Lines.{HasKeys, has_key, in_order, last_lines, line_view, without_tombstones}, declared.lines.Line.{Line as Held}}
 
 onto : (o : Option Line) (ls : List Line) → cons_option o ls ≡ option_to_list o ++ ls
 onto None ls = refl
@@ -19,68 +17,86 @@ lines_first bs i h = ap (filter_map line_of_piece) h.2 ∙ onto (line_of_piece (
 pub lines_alone : (p : List ℕ) → cut 10 p ≡ p ∷ [] → lines_of p ≡ option_to_list (line_of_piece p)
 lines_alone p alone = ap (filter_map line_of_piece) alone ∙ onto (line_of_piece p) [] ∙ append-nil (option_to_list (line_of_piece p))
 
-abbrev pair : List ℕ → Entry → Line
-pair p e = (p, e)
-
-pair_views : (p : List ℕ) (es : List SerializableMetadata) → map (with_text p) es ≡ map (pair p) (map entry_view es)
-pair_views p [] = refl
-pair_views p (e ∷ es) = ap (λ (ls : List Line). with_text p e ∷ ls) (pair_views p es)
-
-pair_one : (p : List ℕ) (o : Option Entry) → map (pair p) (option_to_list o) ≡ option_to_list (option_map (pair p) o)
-pair_one p None = refl
-pair_one p (Some e) = refl
-
--- the entries of a piece, with it, are its line
-pub piece_line : (p : List ℕ) (es : List SerializableMetadata) → cut 10 p ≡ p ∷ [] → map entry_view es ≡ entries_of p → map (with_text p) es ≡ option_to_list (line_of_piece p)
-piece_line p es alone is = pair_views p es ∙ ap (map (pair p)) (is ∙ entries-piece p alone) ∙ pair_one p (entry_of_piece (without_cr p))
-
--- ---- the line that a lookup finds
-
--- with one line more, by what that answers
-pub line_for_more : (key : List ℕ) (ls : List Line) (l : Line) → line_for key (ls ++ l ∷ []) ≡ after_line key (line_for key ls) l
-line_for_more key ls l = fold-append (after_line key) None ls (l ∷ [])
-
--- it finds the line that answers an entry, nothing at a tombstone, and else what it finds before
-pub decides_so : (key : List ℕ) (ls : List Line) (l : Line) (b : Bool) → Some b ≡ option_map is_some (answer_to key l.1) → line_for key (ls ++ l ∷ []) ≡ cond b (Some l) None
-decides_so key ls l b says = line_for_more key ls l ∙ by (answer_to key l.1) says
-  where
-    by : (o : Option (Option Found)) → Some b ≡ option_map is_some o → unwrap_or (option_map (option_map (λ f. l)) o) (line_for key ls) ≡ cond b (Some l) None
-    by None e = absurd cc
-    by (Some None) e = let is : b ≡ false = cc in ap (λ (t : Bool). cond t (Some l) None) (sym is)
-    by (Some (Some f)) e = let is : b ≡ true = cc in ap (λ (t : Bool). cond t (Some l) None) (sym is)
-
-pub decides_not : (key : List ℕ) (ls : List Line) (l : Line) → None ≡ option_map is_some (answer_to key l.1) → line_for key (ls ++ l ∷ []) ≡ line_for key ls
-decides_not key ls l says = line_for_more key ls l ∙ by (answer_to key l.1) says
-  where
-    by : (o : Option (Option Found)) → None ≡ option_map is_some o → unwrap_or (option_map (option_map (λ f. l)) o) (line_for key ls) ≡ line_for key ls
-    by None e = refl
-    by (Some None) e = absurd cc
-    by (Some (Some f)) e = absurd cc
-
--- without lines it finds none
-pub none_left : (key : List ℕ) (ls : List Held) → length ls ≡ 0 → line_for key (map line_view ls) ≡ None
-none_left key [] e = refl
-none_left key (l ∷ ls) e = absurd (omega arith)
-
 -- what holds on success holds of what follows from it
 pub on_ok : {T E : Type 0} (r : Result T E) (P Q : Type 0) → (P → Q) → OnOk r P → OnOk r Q
 on_ok (Ok x) P Q f p = f p
 on_ok (Err e) P Q f p = tt
 
--- ---- the text of those lines
+-- ---- two passes
 
-text_more : (o : Option Line) (ls : List Line) → text_of (cons_option o ls) ≡ text_of (option_to_list o) ++ text_of ls
-text_more None ls = refl
-text_more (Some l) ls = ap (λ (t : List ℕ). t ++ text_of ls) (sym (append-nil (10 ∷ l.0)))
+odd_still : (odd : Bool) → (odd || false) ≡ odd
+odd_still true = refl
+odd_still false = refl
 
--- a key that comes again adds nothing
-pub key_again : (text : List ℕ) (ls : List Line) (key : List ℕ) (keys : List (List ℕ)) → list_any (bytes_eq key) keys ≡ true → text ++ text_of (lines_for ls keys) ≡ text ++ text_of (lines_for ls (key ∷ keys))
-key_again text ls key keys again = ap (λ (b : Bool). text ++ text_of (filter_map (λ k. line_for k ls) (cond b (once keys) (key ∷ once keys)))) (sym again)
+either_way : (a b : Bool) → (a || b) ≡ (b || a)
+either_way true true = refl
+either_way true false = refl
+either_way false true = refl
+either_way false false = refl
 
--- where it comes last it adds the line that its lookup finds
-pub key_last : (text more : List ℕ) (ls : List Line) (key : List ℕ) (keys : List (List ℕ)) → list_any (bytes_eq key) keys ≡ false → more ≡ text ++ text_of (option_to_list (line_for key ls))
-    → more ++ text_of (lines_for ls keys) ≡ text ++ text_of (lines_for ls (key ∷ keys))
-key_last text more ls key keys last is =
-    ap (λ (t : List ℕ). t ++ text_of (lines_for ls keys)) is ∙ append_assoc text (text_of (option_to_list (line_for key ls))) (text_of (lines_for ls keys))
-    ∙ ap (λ (t : List ℕ). text ++ t) (sym (text_more (line_for key ls) (lines_for ls keys)))
-    ∙ ap (λ (b : Bool). text ++ text_of (filter_map (λ k. line_for k ls) (cond b (once keys) (key ∷ once keys)))) (sym last)
+odd_now : (odd : Bool) → (odd || true) ≡ true
+odd_now true = refl
+odd_now false = refl
+
+-- the two passes choose the lines that stay
+pub two_passes : (odd : Bool) (ls : List Line) → without_tombstones odd (last_lines ls) ≡ kept odd ls
+two_passes odd [] = refl
+two_passes odd ((t, None) ∷ ls) =
+    ap (λ (b : Bool). cond (b || false) ((t, None) ∷ without_tombstones b (last_lines ls)) (without_tombstones b (last_lines ls))) (odd_now odd)
+    ∙ ap (λ (xs : List Line). (t, None) ∷ xs) (two_passes true ls)
+two_passes odd ((t, Some d) ∷ ls) = by (list_any (bytes_eq d.0) (decided ls)) (two_passes odd ls)
+  where
+    last : without_tombstones odd (last_lines ls) ≡ kept odd ls → without_tombstones odd ((t, Some d) ∷ last_lines ls) ≡ cond (d.1 || odd) ((t, Some d) ∷ kept odd ls) (kept odd ls)
+    last rest =
+        ap (λ (b : Bool). cond (b || d.1) ((t, Some d) ∷ without_tombstones b (last_lines ls)) (without_tombstones b (last_lines ls))) (odd_still odd)
+        ∙ ap (λ (xs : List Line). cond (odd || d.1) ((t, Some d) ∷ xs) xs) rest ∙ ap (λ (b : Bool). cond b ((t, Some d) ∷ kept odd ls) (kept odd ls)) (either_way odd d.1)
+
+    by : (a : Bool) → without_tombstones odd (last_lines ls) ≡ kept odd ls
+        → without_tombstones odd (cond a (last_lines ls) ((t, Some d) ∷ last_lines ls)) ≡ cond (not a && (d.1 || odd)) ((t, Some d) ∷ kept odd ls) (kept odd ls)
+    by true rest = rest
+    by false rest = last rest
+
+-- ---- from the last line to the first
+
+same_key : (a b : List ℕ) → bytes_eq a b ≡ bytes_eq b a
+same_key a b = by (bytes_eq a b) refl (bytes_eq b a) refl
+  where
+    by : (x : Bool) → bytes_eq a b ≡ x → (y : Bool) → bytes_eq b a ≡ y → x ≡ y
+    by true e true f = refl
+    by false e false f = refl
+    by true e false f = let no : true ≡ false = sym ((bytes_eq-Decides b a).1 (sym ((bytes_eq-Decides a b).0 e))) ∙ f in absurd cc
+    by false e true f = let no : true ≡ false = sym ((bytes_eq-Decides a b).1 (sym ((bytes_eq-Decides b a).0 f))) ∙ e in absurd cc
+
+-- one line more comes before the others
+pub in_order_more : (met : List (Bor Held)) (l : Bor Held) → in_order (met ++ l ∷ []) ≡ line_view l.now ∷ in_order met
+in_order_more met l = ap (map (λ (b : Bor Held). line_view b.now)) (reverse-append met (l ∷ []))
+
+module _ {X : Type 0} (old new : BTreeMap (Bor (List ℕ)) X) where
+  -- after an insertion the map has the key too
+  pub has_after : (own text : List ℕ) (x : X) → text ≡ own → UpdatesBy (λ a b. slice_cmp nat_cmp a.now b.now) (λ k. slice_cmp nat_cmp text k.now) old new (Some x) → (key : List ℕ) → has_key new key ≡ cond (bytes_eq own key) true (has_key old key)
+  has_after own text x is updates key =
+      ap is_some (btree_map_updates_str text old new (Some x) updates key) ∙ apart (bytes_eq text key) (get_by (λ k. slice_cmp nat_cmp key k.now) old) ∙ ap (λ (t : List ℕ). cond (bytes_eq t key) true (has_key old key)) is
+    where
+      apart : (b : Bool) (o : Option X) → is_some (cond b (Some x) o) ≡ cond b true (is_some o)
+      apart true o = refl
+      apart false o = refl
+
+  module _ (later : List Line) (met : List (Bor Held)) (has : HasKeys later old) (so_far : in_order met ≡ last_lines later) (t : List ℕ) (o : Option Decision) where
+    -- the line is noted
+    abbrev pub Noted : Option Decision → Type 0
+    Noted d = HasKeys ((t, d) ∷ later) new × ((t, d) ∷ in_order met ≡ last_lines ((t, d) ∷ later))
+
+    -- an odd one
+    pub noted_odd : o ≡ None → new ≡ old → Noted o
+    noted_odd is same = subst Noted (sym is) (λ key. ap (λ m. has_key m key) same ∙ has key, ap (λ (ls : List Line). (t, None) ∷ ls) so_far)
+
+    -- one that decides a key that no later line decides
+    pub noted_last : (d : Decision) → o ≡ Some d → has_key old d.0 ≡ false → ((key : List ℕ) → has_key new key ≡ cond (bytes_eq d.0 key) true (has_key old key)) → Noted o
+    noted_last d is free after = subst Noted (sym is) (
+      λ key. after key ∙ ap (λ (b : Bool). cond b true (has_key old key)) (same_key d.0 key) ∙ by (bytes_eq key d.0) key,
+      ap (λ (ls : List Line). (t, Some d) ∷ ls) so_far ∙ sym (ap (λ (b : Bool). cond b (last_lines later) ((t, Some d) ∷ last_lines later)) (sym (has d.0) ∙ free)),
+    )
+      where
+        by : (b : Bool) (key : List ℕ) → cond b true (has_key old key) ≡ (b || list_any (bytes_eq key) (decided later))
+        by true key = refl
+        by false key = has key

@@ -38,6 +38,12 @@ securing_refused path (answers.NoMemory b) refusal is fits = cc
 securing_refused path answers.Done refusal is fits = absurd cc
 securing_refused path t refusal is fits = absurd fits
 
+pub file_refused : (path : List ℕ) (t : PlainAnswer) (refusal : Refusal) → Err refusal ≡ done_in t → Fits (steps.SyncFile path) t → Refuses t refusal
+file_refused path (answers.Failed fault) refusal is fits = cc
+file_refused path (answers.NoMemory b) refusal is fits = cc
+file_refused path answers.Done refusal is fits = absurd cc
+file_refused path t refusal is fits = absurd fits
+
 pub read_refused : (path : List ℕ) (t : PlainAnswer) (refusal : Refusal) → Err refusal ≡ bytes_in t → Fits (steps.ReadAll path) t → Refuses t refusal
 read_refused path (answers.Failed fault) refusal is fits = cc
 read_refused path (answers.NoMemory b) refusal is fits = cc

@@ -41,34 +41,34 @@ temp_path_named : (cache : List ℕ) (number : ℕ) (home : Names) → home_of c
 unfolding temp_path
 temp_path_named cache number home is = joined_texts_name cache (temp_names number) (names_are_proper.temporaries number) (omega arith) ∙ rw is refl
 
-module _ (home : Names) (t : Tree) where
+module _ (durable : Bool) (home : Names) (t : Tree) where
   abbrev temps : Names
   temps = home ++ temp_area ∷ []
 
-  put_at : (q : Names) (b : Bool) → same_path q temps ≡ b → look t temps ≡ None → Becomes home q (look t q) (cond b (Some Folder) (look t q))
+  put_at : (q : Names) (b : Bool) → same_path q temps ≡ b → look t temps ≡ None → Becomes durable home q (look t q) (cond b (Some Folder) (look t q))
   put_at q true same none = let is = same_path-true q temps same in inr (inr (is, ap (look t) is ∙ none, refl))
   put_at q false same none = inl refl
 
-  put_folder : look t temps ≡ None → Compacted home t (put t temps Folder)
-  put_folder none q = subst (λ o. Becomes home q (look t q) o) (sym (look-put t temps Folder q)) (put_at q (same_path q temps) refl none)
+  put_folder : look t temps ≡ None → Compacted durable home t (put t temps Folder)
+  put_folder none q = subst (λ o. Becomes durable home q (look t q) o) (sym (look-put t temps Folder q)) (put_at q (same_path q temps) refl none)
 
-  some_made : (most : ℕ) (here : Option Node) (b : Bool) → look t temps ≡ here → (most == 0) ≡ b → Compacted home t (make_some t home (temp_area ∷ []) most)
-  some_made most (Some node) b is e = subst (λ (u : Tree). Compacted home t u) (sym (make_step t home [] temp_area node most is)) (compacted_none home t)
-  some_made most None true is e = subst (λ (u : Tree). Compacted home t u) (sym (rw (is, e) refl)) (compacted_none home t)
-  some_made most None false is e = subst (λ (u : Tree). Compacted home t u) (sym (rw (is, e) refl)) (put_folder is)
+  some_made : (most : ℕ) (here : Option Node) (b : Bool) → look t temps ≡ here → (most == 0) ≡ b → Compacted durable home t (make_some t home (temp_area ∷ []) most)
+  some_made most (Some node) b is e = subst (λ (u : Tree). Compacted durable home t u) (sym (make_step t home [] temp_area node most is)) (compacted_none durable home t)
+  some_made most None true is e = subst (λ (u : Tree). Compacted durable home t u) (sym (rw (is, e) refl)) (compacted_none durable home t)
+  some_made most None false is e = subst (λ (u : Tree). Compacted durable home t u) (sym (rw (is, e) refl)) (put_folder is)
 
 -- where the cache's folder stands, nothing else is made, whatever is answered
-pub folder_made : (cache : List ℕ) (home : Names) (t : Tree) → home_of cache ≡ Some home → Rooted t → look t home ≡ Some Folder → Compacted home t (apply t (steps.MakeDirs (temp_folder cache)) Plain).1
+pub folder_made : (durable : Bool) (cache : List ℕ) (home : Names) (t : Tree) → home_of cache ≡ Some home → Rooted t → look t home ≡ Some Folder → Compacted durable home t (apply t (steps.MakeDirs (temp_folder cache)) Plain).1
 unfolding apply dirs
-folder_made cache home t is rooted stands =
+folder_made durable cache home t is rooted stands =
     rw (temp_folder_named cache home is) (by (dirs_fault t [] (home ++ temp_area ∷ [])))
   where
-    by : (o : Option Fault) → Compacted home t (unless (or_fault o (home ++ temp_area ∷ [])) t (λ names. (answers.Done, make_some t [] names (making None names)))).1
-    by (Some fault) = compacted_none home t
+    by : (o : Option Fault) → Compacted durable home t (unless (or_fault o (home ++ temp_area ∷ [])) t (λ names. (answers.Done, make_some t [] names (making None names)))).1
+    by (Some fault) = compacted_none durable home t
     by None =
         let most = making None (home ++ temp_area ∷ []) in
-        subst (λ (u : Tree). Compacted home t u) (sym (make_to t [] home (temp_area ∷ []) Folder most rooted stands))
-        (some_made home t most (look t (home ++ temp_area ∷ [])) (most == 0) refl refl)
+        subst (λ (u : Tree). Compacted durable home t u) (sym (make_to t [] home (temp_area ∷ []) Folder most rooted stands))
+        (some_made durable home t most (look t (home ++ temp_area ∷ [])) (most == 0) refl refl)
 
 -- ---- a temporary file is made
 
@@ -182,17 +182,17 @@ writes_take moves t file last path had bytes rest takes a has = absurd takes
 -- ---- what they come to
 
 -- the file at the path has these bytes, and all else is as where a folder was made
-pub record IsRewritten (home : Names) (path bytes : List ℕ) (t new : Tree) : Type 0 where
+pub record IsRewritten (durable : Bool) (home : Names) (path bytes : List ℕ) (t new : Tree) : Type 0 where
   pub to : Names
   pub at : names_of path ≡ Ok to
   pub there : look new to ≡ Some (File bytes)
-  pub others : (q : Names) → (q ≡ to → ⊥) → Becomes home q (look t q) (look new q)
+  pub others : (q : Names) → (q ≡ to → ⊥) → Becomes durable home q (look t q) (look new q)
 
 apart_at : (b : Bool) (q p : Names) → same_path q p ≡ b → (q ≡ p → ⊥) → b ≡ false
 apart_at true q p is apart = absurd (apart (same_path-true q p is))
 apart_at false q p is apart = refl
 
-module _ (home : Names) (t mid made new : Tree) (file full : PlainTemp) (path bytes : List ℕ) (one : Compacted home t mid) (temp : HasTemp home file mid made) (has : Has full file.path bytes) (two : MovedTo full path made new) where
+module _ (durable : Bool) (home : Names) (t mid made new : Tree) (file full : PlainTemp) (path bytes : List ℕ) (one : Compacted durable home t mid) (temp : HasTemp home file mid made) (has : Has full file.path bytes) (two : MovedTo full path made new) where
   abbrev spot : Names
   spot = temp_at home temp.name
 
@@ -216,7 +216,7 @@ module _ (home : Names) (t mid made new : Tree) (file full : PlainTemp) (path by
       look-cut (put mid spot (File [])) spot q ∙ ap (λ o. cond (same_path q spot) None o) (look-put mid spot (File []) q)
       ∙ gone_at q (same_path q spot) refl
 
-  pub rewritten : IsRewritten home path bytes t new
+  pub rewritten : IsRewritten durable home path bytes t new
   rewritten = record {
     to = two.to;
     at = two.at;
@@ -226,23 +226,23 @@ module _ (home : Names) (t mid made new : Tree) (file full : PlainTemp) (path by
         let same : look new q ≡ look mid q
         = ap (λ (u : Tree). look u q) new_is ∙ look-put (cut (put mid spot (File [])) spot) two.to (File bytes) q
         ∙ ap (λ b. cond b (Some (File bytes)) (look (cut (put mid spot (File [])) spot) q)) off ∙ as_mid q in
-        subst (λ o. Becomes home q (look t q) o) (sym same) (one q);
+        subst (λ o. Becomes durable home q (look t q) o) (sym same) (one q);
   }
 
 -- a temporary file that is left is all that was added
-left_old : (home q : Names) (old mid : Option Node) → Becomes home q old mid → mid ≡ None → old ≡ None
-left_old home q old mid (inl same) none = sym same ∙ none
-left_old home q old mid (inr (inl lean)) none = absurd (let wrong = sym none ∙ lean.3 in cc)
-left_old home q old mid (inr (inr made)) none = absurd (let wrong = sym none ∙ made.2 in cc)
+left_old : (durable : Bool) (home q : Names) (old mid : Option Node) → Becomes durable home q old mid → mid ≡ None → old ≡ None
+left_old durable home q old mid (inl same) none = sym same ∙ none
+left_old durable home q old mid (inr (inl lean)) none = absurd (let wrong = sym none ∙ lean.3 in cc)
+left_old durable home q old mid (inr (inr made)) none = absurd (let wrong = sym none ∙ made.2 in cc)
 
-module _ (home : Names) (t mid made : Tree) (file : PlainTemp) (one : Compacted home t mid) (temp : HasTemp home file mid made) where
-  left_at : (q : Names) (b : Bool) → same_path q (temp_at home temp.name) ≡ b → EndsUp home q (look t q) (cond b (Some (File [])) (look mid q))
+module _ (durable : Bool) (home : Names) (t mid made : Tree) (file : PlainTemp) (one : Compacted durable home t mid) (temp : HasTemp home file mid made) where
+  left_at : (q : Names) (b : Bool) → same_path q (temp_at home temp.name) ≡ b → EndsUp durable home q (look t q) (cond b (Some (File [])) (look mid q))
   left_at q true is =
       let here = same_path-true q (temp_at home temp.name) is in
-      inr (inr (inr (temp.name, here, temp.temp, left_old home q (look t q) (look mid q) (one q) (ap (look mid) here ∙ temp.none), refl)))
-  left_at q false is = ends home q (look t q) (look mid q) (one q)
+      inr (inr (inr (temp.name, here, temp.temp, left_old durable home q (look t q) (look mid q) (one q) (ap (look mid) here ∙ temp.none), refl)))
+  left_at q false is = ends durable home q (look t q) (look mid q) (one q)
 
-  pub left_over : (q : Names) → EndsUp home q (look t q) (look made q)
+  pub left_over : (q : Names) → EndsUp durable home q (look t q) (look made q)
   left_over q =
-      subst (λ o. EndsUp home q (look t q) o) (sym (ap (λ (u : Tree). look u q) temp.leads ∙ look-put mid (temp_at home temp.name) (File []) q))
+      subst (λ o. EndsUp durable home q (look t q) o) (sym (ap (λ (u : Tree). look u q) temp.leads ∙ look-put mid (temp_at home temp.name) (File []) q))
       (left_at q (same_path q (temp_at home temp.name)) refl)

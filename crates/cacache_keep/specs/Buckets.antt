@@ -57,11 +57,12 @@ pub record ListsParts
 abbrev pub index_area_in : List ℕ → List ℕ
 index_area_in cache = join cache index_area
 
--- the index was listed, two levels of folders below it, and these are the paths of the buckets there
-abbrev pub FindsBuckets :
-    List ℕ → List (List ℕ) → Option (List LogItem) → Option (List LogItem) → Type 0
-FindsBuckets cache paths old new =
-    (tops lows : List (List ℕ)) × (one two : Option (List LogItem))
+-- the index was listed, two levels of folders below it; these are the paths of the upper of those
+-- folders, and of the buckets there
+abbrev pub FindsBuckets : List ℕ → List (List ℕ) → List (List ℕ)
+    → Option (List LogItem) → Option (List LogItem) → Type 0
+FindsBuckets cache tops paths old new =
+    (lows : List (List ℕ)) × (one two : Option (List LogItem))
     × ListsParts false (index_area_in cache ∷ []) tops old one
     × ListsParts false tops lows one two × ListsParts true lows paths two new
 

@@ -121,11 +121,11 @@ RepairsMend =
 
 -- all is as it was, but that each key's bucket has its compacted bytes, and the folder of temporary
 -- files may be new
-pub record LeavesCompacted (home : Names) (t new : Tree) : Type 0 where
-  pub tree : Compacted home t new
+pub record LeavesCompacted (durable : Bool) (home : Names) (t new : Tree) : Type 0 where
+  pub tree : Compacted durable home t new
   pub buckets : (digest bytes : List ℕ) → IsKeyDigest digest
       → look t (home ++ bucket_names_of digest) ≡ Some (File bytes)
-      → look new (home ++ bucket_names_of digest) ≡ Some (File (compact_text bytes))
+      → look new (home ++ bucket_names_of digest) ≡ Some (File (compact_text durable bytes))
 
 -- so a compaction leaves it
 abbrev pub CompactionsLeave : Type 0
@@ -133,7 +133,7 @@ CompactionsLeave =
     (durable : Bool) (cache : List ℕ) (home : Names) (count bytes : ℕ) (old new : List LogItem)
     → home_of cache ≡ Some home → IsLog new
     → CompactsCache durable cache count bytes (Some old) (Some new)
-    → LeavesCompacted home (tree_of old) (tree_of new)
+    → LeavesCompacted durable home (tree_of old) (tree_of new)
 
 -- one that an error ends leaves each bucket as it was or compacted, and perhaps temporary files
 abbrev pub CompactionsStop : Type 0
@@ -141,7 +141,7 @@ CompactionsStop =
     (durable : Bool) (cache : List ℕ) (home : Names) (e : Error) (old new : List LogItem)
     → home_of cache ≡ Some home → IsLog new
     → StopsCompacting durable cache e (Some old) (Some new)
-    → CutShort home (tree_of old) (tree_of new)
+    → CutShort durable home (tree_of old) (tree_of new)
 
 -- the log gained a compaction, durable or not, or as much of one as came before an error
 abbrev pub MayCompact : List ℕ → Option (List LogItem) → Option (List LogItem) → Type 0

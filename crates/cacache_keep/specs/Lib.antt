@@ -11,5 +11,6 @@ pub mod Lines
 pub mod Buckets
 pub mod Missing
 pub mod Rewriting
+pub mod Syncing
 pub mod Compacting
 pub mod Told

@@ -47,6 +47,14 @@ abbrev pub SyncsFolder :
 SyncsFolder true path old new = Does (steps.SyncDir (folder_of path)) answers.Done old new
 SyncsFolder false path old new = new ≡ old
 
+-- the file at the path was synced, and then its folder, if that is asked for
+abbrev pub SyncsBucket :
+    Bool → List ℕ → Option (List LogItem) → Option (List LogItem) → Type 0
+SyncsBucket true path old new =
+    (synced : Option (List LogItem)) × Does (steps.SyncFile path) answers.Done old synced
+    × SyncsFolder true path synced new
+SyncsBucket false path old new = new ≡ old
+
 -- the bytes were written to a temporary file, and that was moved to the path; where it is durable,
 -- the file was synced before the move, and the path's folder after it
 pub record Rewrites
@@ -99,6 +107,15 @@ abbrev pub StopsSecuring :
     Bool → List ℕ → Error → Option (List LogItem) → Option (List LogItem) → Type 0
 StopsSecuring true path e old new = FailsAt (steps.SyncDir (folder_of path)) e old new
 StopsSecuring false path e old new = ⊥
+
+-- it ended the sync of the file at the path, or of its folder
+abbrev pub StopsSyncingBucket :
+    Bool → List ℕ → Error → Option (List LogItem) → Option (List LogItem) → Type 0
+StopsSyncingBucket true path e old new =
+    FailsAt (steps.SyncFile path) e old new
+    ⊎ ((synced : Option (List LogItem)) × Does (steps.SyncFile path) answers.Done old synced
+    × StopsSecuring true path e synced new)
+StopsSyncingBucket false path e old new = ⊥
 
 -- the file that has all of the bytes wasn't synced; or it was, and wasn't moved; or it was moved, and
 -- the path's folder wasn't synced

@@ -74,15 +74,27 @@ fn parts_below<S: Store>(
     Ok(paths)
 }
 
-/// The paths of the buckets of a cache: two folders down, files that are named as buckets are.
-pub(crate) fn buckets_of<S: Store>(alloc: Global, store: &mut S, cache: &str) -> Result<Vec<Text>>
-    ensures finds { IfOk result
-        (λ paths. FindsBuckets cache.now paths.items (S.log store.old) (S.log store.new)) }
+/// The paths of the buckets of a cache, and of the folders that its index has.
+#[derive(Drop)]
+pub(crate) struct FoundBuckets {
+    pub(crate) tops: Vec<Text>,
+    pub(crate) paths: Vec<Text>,
+}
+
+/// The buckets of a cache: two folders down, files that are named as buckets are.
+pub(crate) fn buckets_of<S: Store>(
+    alloc: Global,
+    store: &mut S,
+    cache: &str,
+) -> Result<FoundBuckets>
+    ensures finds { IfOk result (λ found. FindsBuckets cache.now found.tops.items
+        found.paths.items (S.log store.old) (S.log store.new)) }
     ensures stops { IfErr result
         (λ e. StopsFinding cache.now e (S.log store.old) (S.log store.new)) }
 {
     let index = [join(alloc, cache, INDEX_AREA)?];
     let tops = parts_below(alloc, store, &index, false)?;
     let lows = parts_below(alloc, store, tops.as_slice(), false)?;
-    parts_below(alloc, store, lows.as_slice(), true)
+    let paths = parts_below(alloc, store, lows.as_slice(), true)?;
+    Ok(FoundBuckets { tops, paths })
 }

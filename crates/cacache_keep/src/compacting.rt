@@ -4,8 +4,9 @@ ghost use Rattle.std.specs.List.{sum};
 ghost use Rattle.std.specs.Option.{option_to_list};
 ghost use Rattle.cacache_keep.specs.Compacting.{CompactsAll, CompactsCache, StopsCompacting, StopsCompactingEach};
 
-use crate::buckets::buckets_of;
+use crate::buckets::{FoundBuckets, buckets_of};
 use crate::settling::compact_bucket;
+use crate::syncing::sync_above;
 use cacache_core::errors::Result;
 use cacache_core::text::Text;
 use cacache_store::env::{Clock, Env, Names};
@@ -14,9 +15,9 @@ use cacache_store::store::Store;
 /// What a compaction did.
 #[derive(Debug, Drop)]
 pub struct Compacted {
-    /// How many buckets are written anew; 2^64 - 1 where that are more.
+    /// How many buckets are written anew; 2^64 - 1 if there are more.
     pub buckets: u64,
-    /// How many bytes that saved; 2^64 - 1 where that are more.
+    /// How many bytes that saved; 2^64 - 1 if it is more. A bucket that grew by a line feed saved none.
     pub bytes: u64,
 }
 
@@ -74,23 +75,34 @@ fn compact_all<S: Store, C: Clock, N: Names>(
     ensures clock { env.new.clock ≡ env.old.clock }
     ensures base { env.new.base ≡ env.old.base }
 {
-    let paths = buckets_of(env.alloc, &mut env.store, cache)?;
-    compact_each(env, durable, cache, paths.as_slice())
+    let FoundBuckets { tops, paths } = buckets_of(env.alloc, &mut env.store, cache)?;
+    let done = compact_each(env, durable, cache, paths.as_slice())?;
+    sync_above(env.alloc, &mut env.store, durable, cache, tops)?;
+    Ok(done)
 }
 
-/// Writes each bucket of a cache's index anew with one line for each key that its lookup finds, and nothing of
-/// keys that were removed. A line stands as it stood, where its key came last. A bucket that would
-/// stay as it is isn't written, and one without such a key is left as an empty file. Lookups and
-/// listings answer as before.
+/// Writes each bucket of a cache's index anew, without lines that nobody needs. A line stands between line feeds and
+/// begins with the right digest of its text. These lines stay, in their order, byte for byte:
+///
+/// - each line that this crate can't read, such as an entry with `0.5` in its metadata: another reader may read it
+/// - of each key the last line that this crate can read, if it is an entry
+/// - that line also if it is a tombstone, and a line that this crate can't read comes before it
+///
+/// All else goes. A bucket's last line feed stays, which protects a durable line. Lookups and listings answer as before,
+/// and so do those of another reader, if it reads as this crate does what this crate can read. A bucket that would
+/// stay as it is isn't written.
 ///
 /// A bucket is a file of the index two folders down, whose path has the names that a key's digest gives. All else
 /// there stays, a link in a bucket's place too. The new bytes are written to a temporary file, which
 /// is moved over the bucket: whatever fails, a bucket has its old bytes or its new ones. Nothing is
 /// synced, unless that is asked for by `CompactOpts::durable`.
 ///
+/// A fault: a bucket that is written anew is a new file. It has the mode of a temporary file, and its owner is whoever
+/// runs the compaction.
+///
 /// Compact a cache while nobody else uses it: an entry that is added meanwhile may be lost.
 ///
-/// Errors: `IoError` where a folder of the index couldn't be listed, a bucket couldn't be read or
+/// Errors: `IoError` if a folder of the index couldn't be listed, or a bucket couldn't be read or
 /// written anew. Buckets before it are written anew then. A folder that isn't there is empty. `OutOfMemory` may
 /// come at any time.
 pub fn compact<S: Store, C: Clock, N: Names>(
@@ -121,8 +133,10 @@ impl CompactOpts {
         CompactOpts { durable: false }
     }
 
-    /// With the choice whether a bucket that is written anew is to outlast a loss of power: its new bytes are synced
-    /// before they are moved over it, and its folder after that.
+    /// With the choice whether what a compaction leaves is to outlast a loss of power. A durable one gives each bucket
+    /// a last line feed. It syncs a bucket's new bytes before they are moved over it, and its folder after that. It
+    /// syncs a bucket that stays as it is, too, and its folder. At the end it syncs the folders above those, once
+    /// each: the ones in the index, the index and the cache.
     pub fn durable(self, yes: bool) -> CompactOpts
         ensures { result.durable ≡ yes }
     {
@@ -132,9 +146,9 @@ impl CompactOpts {
 
     /// Compacts a cache as `compact` does, with these options.
     ///
-    /// Errors are those of `compact`, and `IoError` where a sync failed. A bucket whose new bytes weren't
-    /// synced has its old ones; one whose folder wasn't synced has the new ones, and which of them a loss
-    /// of power leaves isn't known.
+    /// Errors are those of `compact`, and `IoError` if a sync failed. A bucket whose new bytes weren't
+    /// synced has its old ones. One whose folder wasn't synced has the new ones, and which of them a loss
+    /// of power leaves isn't known until a later durable compaction, which syncs it again.
     pub fn compact<S: Store, C: Clock, N: Names>(
         self,
         env: &mut Env<S, C, N>,

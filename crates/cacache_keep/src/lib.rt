@@ -19,6 +19,7 @@ mod repairing;
 mod rewriting;
 mod settling;
 mod sweeping;
+mod syncing;
 mod verifying;
 
 pub use collecting::{Collected, collect};

@@ -1,10 +1,11 @@
-//! A file that is written anew: a temporary file is moved over it, and both are synced where that is asked for.
+//! A file that is written anew: a temporary file is moved over it. It is synced if that is asked for, and so is one that
+//! stays as it is.
 ghost use Rattle.std.specs.Prelude.{◌≡◌, [], IfOk, IfErr, OnOk};
 ghost use Rattle.cacache_store.specs.declared.store.answer.Answer.TheVariants as answers;
 ghost use Rattle.cacache_store.specs.declared.store.step.Step.TheVariants as steps;
 ghost use Rattle.cacache_table.specs.SingleSteps.{Does, FailsAt};
 ghost use Rattle.cacache_table.specs.StepPaths.{temp_folder as temp_folder_of, temp_path as temp_path_of};
-ghost use Rattle.cacache_keep.specs.Rewriting.{MakesTemp, Rewrites, StopsMaking, StopsRewriting, StopsSecuring, StopsSyncing, StopsWriting, SyncsFolder, SyncsTemp, Took, folder_of as folder_of_path};
+ghost use Rattle.cacache_keep.specs.Rewriting.{MakesTemp, Rewrites, StopsMaking, StopsRewriting, StopsSecuring, StopsSyncing, StopsSyncingBucket, StopsWriting, SyncsBucket, SyncsFolder, SyncsTemp, Took, folder_of as folder_of_path};
 
 use cacache_core::bytes::Bytes;
 use cacache_core::errors::{Fault, Result};
@@ -146,9 +147,9 @@ fn folder_of(alloc: Global, path: &Text) -> std::result::Result<Text, AllocError
     }
 }
 
-/// The folder wasn't synced, and the file is already moved.
+/// The folder wasn't synced.
 fn unsecured(alloc: Global, path: &Text) -> std::result::Result<Text, AllocError> {
-    Ok(Text::new(format!(in alloc; "Failed to sync the folder of bucket {path}, which is anew")?))
+    Ok(Text::new(format!(in alloc; "Failed to sync the folder of bucket {path}")?))
 }
 
 /// Syncs the folder of the path.
@@ -178,8 +179,46 @@ fn secure<S: Store>(alloc: Global, store: &mut S, durable: bool, path: &Text) ->
     sync_folder(alloc, store, path)
 }
 
+/// The file wasn't synced.
+fn unsynced_file(alloc: Global, path: &Text) -> std::result::Result<Text, AllocError> {
+    Ok(Text::new(format!(in alloc; "Failed to sync bucket {path}")?))
+}
+
+/// Syncs the file at the path.
+fn sync_file<S: Store>(alloc: Global, store: &mut S, path: &Text) -> Result<()>
+    ensures syncs { OnOk result (Does (steps.SyncFile path.now) answers.Done
+        (S.log store.old) (S.log store.new)) }
+    ensures stops { IfErr result (λ e. FailsAt (steps.SyncFile path.now) e
+        (S.log store.old) (S.log store.new)) }
+{
+    let place = path.clone()?;
+    match done_of(store.step(Step::SyncFile(place))) {
+        Ok(()) => Ok(()),
+        Err(refusal) => Err(refused(refusal, unsynced_file(alloc, path))),
+    }
+}
+
+/// Syncs the file at the path and then its folder, if that is asked for.
+pub(crate) fn sync_bucket<S: Store>(
+    alloc: Global,
+    store: &mut S,
+    durable: bool,
+    path: &Text,
+) -> Result<()>
+    ensures syncs { OnOk result
+        (SyncsBucket durable path.now (S.log store.old) (S.log store.new)) }
+    ensures stops { IfErr result
+        (λ e. StopsSyncingBucket durable path.now e (S.log store.old) (S.log store.new)) }
+{
+    if !durable {
+        return Ok(());
+    }
+    sync_file(alloc, store, path)?;
+    sync_folder(alloc, store, path)
+}
+
 /// Writes the bytes to a temporary file of this number and moves that to the path. A file there is
-/// whole at any time: it has its old bytes, or these. Where that is durable, the temporary file is synced
+/// whole at any time: it has its old bytes, or these. If that is durable, the temporary file is synced
 /// before the move, and the path's folder after it.
 pub(crate) fn rewrite<S: Store>(
     alloc: Global,

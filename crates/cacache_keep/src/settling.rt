@@ -1,4 +1,4 @@
-//! A bucket that is compacted: it is read, and written anew if that changes it.
+//! A bucket that is compacted: it is read, and written anew if that changes it. A durable compaction syncs another.
 ghost use Rattle.std.specs.Prelude.{◌≡◌, ◌-◌, IfOk, IfErr, IfSome, OnOk, length, option_map};
 ghost use Rattle.cacache_core.specs.declared.errors.Error.TheVariants.{OutOfMemory};
 ghost use Rattle.cacache_store.specs.declared.store.answer.Answer.TheVariants as answers;
@@ -8,7 +8,7 @@ ghost use Rattle.cacache_keep.specs.Compacting.{Changes, CompactsAt, Settles, St
 ghost use Rattle.cacache_keep.specs.Rewriting.{Rewrites, StopsRewriting};
 
 use crate::lines::compact_text;
-use crate::rewriting::rewrite;
+use crate::rewriting::{rewrite, sync_bucket};
 use cacache_core::bytes::Bytes;
 use cacache_core::errors::Result;
 use cacache_core::text::Text;
@@ -52,14 +52,14 @@ fn is_same(text: &[u8], bytes: &[u8]) -> bool
 }
 
 /// The bytes of a bucket that is compacted, if that changes it.
-fn changed(alloc: Global, bytes: &[u8]) -> Result<Option<Lean>>
+fn changed(alloc: Global, durable: bool, bytes: &[u8]) -> Result<Option<Lean>>
     ensures changed { IfOk result
-        (λ lean. Changes bytes.now (option_map (λ l. l.text.items) lean)) }
+        (λ lean. Changes durable bytes.now (option_map (λ l. l.text.items) lean)) }
     ensures saves { IfOk result (λ lean. IfSome lean
         (λ l. l.saved ≡ length bytes.now - length l.text.items)) }
     ensures memory { IfErr result (λ e. e ≡ OutOfMemory) }
 {
-    let text = compact_text(alloc, bytes)?;
+    let text = compact_text(alloc, durable, bytes)?;
     if is_same(text.as_slice(), bytes) {
         return Ok(None);
     }
@@ -95,7 +95,8 @@ fn write_anew<S: Store, C: Clock, N: Names>(
     )
 }
 
-/// Writes the bucket at the path anew, if it changes. Gives how many bytes that saved.
+/// Writes the bucket at the path anew, if it changes, and else syncs it, if the compaction is durable. Gives how many
+/// bytes the first saved.
 fn settle<S: Store, C: Clock, N: Names>(
     env: &mut Env<S, C, N>,
     durable: bool,
@@ -118,7 +119,10 @@ fn settle<S: Store, C: Clock, N: Names>(
                 Err(error) => Err(error),
             }
         }
-        None => Ok(None),
+        None => match sync_bucket(env.alloc, &mut env.store, durable, path) {
+            Ok(()) => Ok(None),
+            Err(error) => Err(error),
+        },
     }
 }
 
@@ -137,6 +141,6 @@ pub(crate) fn compact_bucket<S: Store, C: Clock, N: Names>(
     ensures base { env.new.base ≡ env.old.base }
 {
     let bytes = read(env.alloc, &mut env.store, path)?;
-    let lean = changed(env.alloc, bytes.as_slice())?;
+    let lean = changed(env.alloc, durable, bytes.as_slice())?;
     settle(env, durable, cache, path, lean)
 }

@@ -14,7 +14,7 @@ use Rattle.cacache_table.specs.declared.carried.Aim.TheVariants as aims
 use Rattle.cacache_table.specs.declared.carried.Content as carried
 use Rattle.cacache_table.specs.declared.command.Command.TheVariants as commands
 use Rattle.cacache_keep_laws.specs.{Answers.{AnsweredBy}, Collecting.{ReadsAsBefore}, Compacting.{compact_text}, Idle.{Finds}}
-use Rattle.cacache_keep_laws.proofs.{Agreeing.{said}, CompactLines.{compact_texts_answer}, Covering.{named_on}, Within.{read_answer}}
+use Rattle.cacache_keep_laws.proofs.{Agreeing.{said}, CompactTexts.{compact_texts_answer}, Covering.{named_on}, Within.{read_answer}}
 
 fits_said : (path : List ℕ) (r : Result (List ℕ) Fault) → Fits (ReadAll path) (said r)
 fits_said path (Ok bytes) = tt
@@ -30,7 +30,7 @@ IsReadAim other = ⊥
 
 -- two answers to a read are the same, or those of a bucket and of its compacted bytes
 abbrev pub Alike : PlainAnswer → PlainAnswer → Type 0
-Alike x y = (x ≡ y) ⊎ ((b : List ℕ) × (x ≡ answers.Bytes (compact_text b)) × (y ≡ answers.Bytes b))
+Alike x y = (x ≡ y) ⊎ ((durable : Bool) × (b : List ℕ) × (x ≡ answers.Bytes (compact_text durable b)) × (y ≡ answers.Bytes b))
 
 -- so it is in the index; folders there are listed alike, and contents that lookups lead to are read alike
 pub record ReadsAlike (cache : List ℕ) (home : Names) (t new : Tree) : Type 0 where
@@ -79,9 +79,9 @@ module _ (site : Site) (home : Names) (t new : Tree) (at_home : home_of site.cac
   fits_read : (path : List ℕ) → Fits (ReadAll path) (apply t (ReadAll path) Plain).0
   fits_read path = subst (Fits (ReadAll path)) (sym (read_answer t path)) (fits_said path (file_at t path IsADirectory))
 
-  after_alike : (s : State) (x y : PlainAnswer) → ((b : List ℕ) → after s (answers.Bytes b) ≡ after s (answers.Bytes (compact_text b))) → Alike x y → after s y ≡ after s x
+  after_alike : (s : State) (x y : PlainAnswer) → ((durable : Bool) (b : List ℕ) → after s (answers.Bytes b) ≡ after s (answers.Bytes (compact_text durable b))) → Alike x y → after s y ≡ after s x
   after_alike s x y lean (inl same) = ap (after s) (sym same)
-  after_alike s x y lean (inr (b, now, old)) = ap (after s) old ∙ lean b ∙ ap (after s) (sym now)
+  after_alike s x y lean (inr (durable, b, now, old)) = ap (after s) old ∙ lean durable b ∙ ap (after s) (sym now)
 
   -- ---- lookups
 
@@ -101,9 +101,9 @@ module _ (site : Site) (home : Names) (t new : Tree) (at_home : home_of site.cac
   ready_found l (answers.Failed other) at ok e = tt
   ready_found l other at ok e = tt
 
-  lean_found : (l : Lookup) (b : List ℕ) → after (looking l) (answers.Bytes b) ≡ after (looking l) (answers.Bytes (compact_text b))
+  lean_found : (l : Lookup) (durable : Bool) (b : List ℕ) → after (looking l) (answers.Bytes b) ≡ after (looking l) (answers.Bytes (compact_text durable b))
   unfolding found_in
-  lean_found l b = ap (found_for l l.aim) (sym ((compact_texts_answer b).finds l.key))
+  lean_found l durable b = ap (found_for l l.aim) (sym ((compact_texts_answer durable b).finds l.key))
 
   -- ---- contents
 
@@ -165,8 +165,8 @@ module _ (site : Site) (home : Names) (t new : Tree) (at_home : home_of site.cac
   ready_bucket p todo items left (answers.NoMemory step) each = tt
   ready_bucket p todo items left other each = ready_miss todo items left Device each
 
-  lean_listed : (w : Walk) (p : List ℕ) (todo : List Task) (b : List ℕ) → after (walking w (ReadBucket p) todo) (answers.Bytes b) ≡ after (walking w (ReadBucket p) todo) (answers.Bytes (compact_text b))
-  lean_listed w p todo b = ap (λ items. give w items (walk_on todo)) (sym ((compact_texts_answer b).lists))
+  lean_listed : (w : Walk) (p : List ℕ) (todo : List Task) (durable : Bool) (b : List ℕ) → after (walking w (ReadBucket p) todo) (answers.Bytes b) ≡ after (walking w (ReadBucket p) todo) (answers.Bytes (compact_text durable b))
+  lean_listed w p todo durable b = ap (λ items. give w items (walk_on todo)) (sym ((compact_texts_answer durable b).lists))
 
   -- a walk that lists
   as_list : (w : Walk) → w.clears ≡ false → lists w.items w.left ≡ w

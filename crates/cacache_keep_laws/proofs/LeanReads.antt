@@ -1,6 +1,6 @@
 -- Reads and listings of folders on two trees that differ in compacted buckets alone, but for an area of the
 -- cache's folder.
-use Rattle.std.proofs.Common.{◌≡◌, ◌⊎◌, inl, inr, ℕ, zero, suc, List, [], ◌∷◌, ◌++◌, true, false, Option, Some, None, Result, Ok, Err, length, get_or, refl, sym, ap, subst, ◌∙◌, append_assoc, bytes_eq}
+use Rattle.std.proofs.Common.{◌≡◌, ◌⊎◌, inl, inr, ℕ, zero, suc, List, [], ◌∷◌, ◌++◌, Bool, true, false, Option, Some, None, Result, Ok, Err, length, get_or, refl, sym, ap, subst, ◌∙◌, append_assoc, bytes_eq}
 use Rattle.cacache_core.specs.{declared.errors.Fault.{Fault, TheVariants.{IsADirectory, TooDeep}}, PathNames.{Names, names_of}}
 use Rattle.cacache_store.specs.declared.store.answer.Answer.TheVariants as answers
 use Rattle.cacache_store.specs.declared.store.step.Step.TheVariants.{ReadDir}
@@ -80,14 +80,14 @@ clear_area home area rest other apart self (r, e) =
     cc
 
 -- at the path stands the same, or a bucket and its compacted bytes
-abbrev pub SameOrLean : Names → Tree → Tree → Names → Type 0
-SameOrLean home t new q =
+abbrev pub SameOrLean : Bool → Names → Tree → Tree → Names → Type 0
+SameOrLean durable home t new q =
     (look new q ≡ look t q)
-    ⊎ ((path_kind (Some home) q ≡ Bucket) × (x : List ℕ) × (look t q ≡ Some (File x)) × (look new q ≡ Some (File (compact_text x))))
+    ⊎ ((path_kind (Some home) q ≡ Bucket) × (x : List ℕ) × (look t q ≡ Some (File x)) × (look new q ≡ Some (File (compact_text durable x))))
 
 -- ---- both trees
 
-module _ (home : Names) (t new : Tree) (area : List ℕ) (at_clear : (q : Names) → Clear home area q → SameOrLean home t new q) where
+module _ (durable : Bool) (home : Names) (t new : Tree) (area : List ℕ) (at_clear : (q : Names) → Clear home area q → SameOrLean durable home t new q) where
   shape_at : (q : Names) → Clear home area q → shape (look new q) ≡ shape (look t q)
   shape_at q clear = elim (at_clear q clear) [
     | inl same ↦ ap shape same
@@ -205,7 +205,7 @@ module _ (home : Names) (t new : Tree) (area : List ℕ) (at_clear : (q : Names)
 
     -- the same is read, or a bucket and its compacted bytes
     abbrev pub Alike : Names → Result (List ℕ) Fault → Result (List ℕ) Fault → Type 0
-    Alike names now old = (now ≡ old) ⊎ ((path_kind (Some home) names ≡ Bucket) × (x : List ℕ) × (old ≡ Ok x) × (now ≡ Ok (compact_text x)))
+    Alike names now old = (now ≡ old) ⊎ ((path_kind (Some home) names ≡ Bucket) × (x : List ℕ) × (old ≡ Ok x) × (now ≡ Ok (compact_text durable x)))
 
     end_read : (names m : Names) → Clear home area names → (m ≡ names) ⊎ (path_kind (Some home) m ≡ Elsewhere) → Alike names (bytes_there IsADirectory (look new m)) (bytes_there IsADirectory (look t m))
     end_read names m clear (inl same) = elim (at_clear m (subst (λ q. Clear home area q) (sym same) clear)) [

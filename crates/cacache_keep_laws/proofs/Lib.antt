@@ -31,7 +31,11 @@ pub mod Led
 pub mod Housed
 pub mod SoundRemovals
 pub mod CompactLines
+mod KeptLines
 pub mod CompactTwice
+mod CompactFound
+mod CompactAnswers
+pub mod CompactTexts
 mod Shapes
 pub mod LeanTrees
 mod LeanReads

@@ -1,12 +1,12 @@
 -- Removals of contents leave a cache on which calls may be made.
 use Rattle.std.proofs.Common.{ℕ, List, [], ◌∷◌, sym, subst}
-use Rattle.cacache_core.specs.{declared.integrity.digest.Hash.{Hash}, PathNames.{home_of}, Paths.{joined, content_names}}
+use Rattle.cacache_core.specs.{PathNames.{home_of}, Paths.{joined, content_names}}
 use Rattle.cacache_store.specs.declared.store.step.Step.TheVariants.{RemoveFile}
 use Rattle.cacache_disk.{specs.{declared.luck.Luck.TheVariants.{Plain}, Tree.{Tree}, Apply.{apply}}, proofs.KeptFolders.{steps_keep_rooted}}
 use Rattle.cacache_table.specs.declared.command.Command.TheVariants as commands
 use Rattle.cacache_history.proofs.Contents.Righted.{stays_right}
 use Rattle.cacache_sequence.specs.{Caches.{setup_at}, Sequence.{IsSound}}
-use Rattle.cacache_keep_laws.{specs.{Collecting.{Removes, RemovalsLeaveSound}, Housed.{Housed}}, proofs.Housed.{step_housed}}
+use Rattle.cacache_keep_laws.{specs.{Collecting.{RemovalsLeaveSound}, Housed.{Housed}}, proofs.Housed.{step_housed}}
 
 -- one removal
 removal_sound : (cache path : List ℕ) (t : Tree) → IsSound (home_of cache) t → IsSound (home_of cache) (apply t (RemoveFile path) Plain).1

@@ -42,18 +42,18 @@ in_area (n ∷ home) (first ∷ q) e = by (bytes_eq n first) refl e (in_area hom
 
 module _ (cache : List ℕ) (home : Names) (full lean : Tree) (is : home_of cache ≡ Some home) (l : LacksIdle cache home full lean) where
   -- but for the contents
-  at_clear : (q : Names) → Clear home content_area q → SameOrLean home full lean q
+  at_clear : (q : Names) → Clear home content_area q → SameOrLean false home full lean q
   at_clear q clear = elim (l.nodes q) [ inl same ↦ inl same | inr gap ↦ absurd (clear (in_area home q gap.1.kind)) ]
 
   files_alike : (path : List ℕ) (ns : Names) → names_of path ≡ Ok (home ++ index_area ∷ ns) → Alike (apply lean (ReadAll path) Plain).0 (apply full (ReadAll path) Plain).0
-  files_alike path ns named = elim (file_alike home full lean content_area at_clear l.links path (home ++ index_area ∷ ns) named (clear_area home content_area ns index_area refl refl)) [
+  files_alike path ns named = elim (file_alike false home full lean content_area at_clear l.links path (home ++ index_area ∷ ns) named (clear_area home content_area ns index_area refl refl)) [
     | inl same ↦ inl (read_answer lean path ∙ ap said same ∙ sym (read_answer full path))
-    | inr compact ↦ inr (compact.1, read_answer lean path ∙ ap said compact.3, read_answer full path ∙ ap said compact.2)
+    | inr compact ↦ inr (false, compact.1, read_answer lean path ∙ ap said compact.3, read_answer full path ∙ ap said compact.2)
   ]
 
   folders_alike : (path : List ℕ) (ns : Names) → names_of path ≡ Ok (home ++ index_area ∷ ns) → (apply lean (ReadDir path) Plain).0 ≡ (apply full (ReadDir path) Plain).0
   folders_alike path ns named =
-      dir_alike home full lean content_area at_clear path (home ++ index_area ∷ ns) named (clear_area home content_area ns index_area refl refl)
+      dir_alike false home full lean content_area at_clear path (home ++ index_area ∷ ns) named (clear_area home content_area ns index_area refl refl)
       (λ name. subst (λ q. Clear home content_area q) (sym (append_assoc home (index_area ∷ ns) (name ∷ []))) (clear_area home content_area (ns ++ name ∷ []) index_area refl refl))
 
   alike : ReadsAlike cache home full lean

@@ -1,5 +1,5 @@
 -- What a compaction leaves of a tree, and what lookups, reads and listings answer there.
-use Rattle.std.specs.Prelude.{◌≡◌, ◌⊎◌, ◌++◌, ℕ, List, [], ◌∷◌, true, Option, None, Some}
+use Rattle.std.specs.Prelude.{◌≡◌, ◌⊎◌, ◌++◌, ℕ, List, [], ◌∷◌, Bool, true, Option, None, Some}
 use Rattle.cacache_core.specs.{declared.integrity.digest.Hash.{Hash}, Integrity.{IsIntegrity}, PathNames.{Names, home_of}, Paths.{temp_area}}
 use Rattle.cacache_disk.specs.{declared.node.Node.{Node, TheVariants.{Folder, File}}, Rooted.{Rooted}, Tree.{Tree, look}}
 use Rattle.cacache_entry.specs.Latest.{Found}
@@ -9,11 +9,11 @@ use Rattle.cacache_keep_laws.specs.{Collecting.{LinksLeadOut, ReadsAsBefore}, Co
 
 -- ---- at one path, from what stood there to what stands there
 
--- it is a bucket, and its bytes are compacted
-abbrev pub IsCompacted : Names → Names → Option Node → Option Node → Type 0
-IsCompacted home names old new =
+-- it is a bucket, and its bytes are compacted, durably or not
+abbrev pub IsCompacted : Bool → Names → Names → Option Node → Option Node → Type 0
+IsCompacted durable home names old new =
     (path_kind (Some home) names ≡ Bucket) × (bytes : List ℕ)
-    × (old ≡ Some (File bytes)) × (new ≡ Some (File (compact_text bytes)))
+    × (old ≡ Some (File bytes)) × (new ≡ Some (File (compact_text durable bytes)))
 
 -- it is the folder of temporary files, and was made
 abbrev pub IsTempFolder : Names → Names → Option Node → Option Node → Type 0
@@ -29,19 +29,19 @@ IsLeftOver home names old new =
 -- ---- of the whole tree
 
 -- all stands as it stood, but buckets may be compacted, and the folder of temporary files be new
-abbrev pub Compacted : Names → Tree → Tree → Type 0
-Compacted home t new =
+abbrev pub Compacted : Bool → Names → Tree → Tree → Type 0
+Compacted durable home t new =
     (names : Names)
     → (look new names ≡ look t names)
-    ⊎ (IsCompacted home names (look t names) (look new names)
+    ⊎ (IsCompacted durable home names (look t names) (look new names)
     ⊎ IsTempFolder home names (look t names) (look new names))
 
 -- so it is where that was cut short, but that temporary files may be left
-abbrev pub CutShort : Names → Tree → Tree → Type 0
-CutShort home t new =
+abbrev pub CutShort : Bool → Names → Tree → Tree → Type 0
+CutShort durable home t new =
     (names : Names)
     → (look new names ≡ look t names)
-    ⊎ (IsCompacted home names (look t names) (look new names)
+    ⊎ (IsCompacted durable home names (look t names) (look new names)
     ⊎ (IsTempFolder home names (look t names) (look new names)
     ⊎ IsLeftOver home names (look t names) (look new names)))
 
@@ -61,14 +61,16 @@ FindsFormed cache t =
 
 -- a compaction keeps what is found, also where it is cut short
 abbrev pub CompactionsKeep : Type 0
-CompactionsKeep = (home : Names) (t new : Tree) → CutShort home t new → KeepsFound home t new
+CompactionsKeep =
+    (durable : Bool) (home : Names) (t new : Tree)
+    → CutShort durable home t new → KeepsFound home t new
 
 -- where links lead out of the cache and found entries have integrities, calls answer as before
 abbrev pub CompactionsAnswer : Type 0
 CompactionsAnswer =
-    (site : Site) (home : Names) (t new : Tree)
+    (durable : Bool) (site : Site) (home : Names) (t new : Tree)
     → home_of site.cache ≡ Some home → LinksLeadOut home t → FindsFormed site.cache t
-    → CutShort home t new → ReadsAsBefore site t new
+    → CutShort durable home t new → ReadsAsBefore site t new
 
 -- so it is where each thing lies in its place, and entries in the buckets of their keys
 abbrev pub HousesAreFit : Type 0

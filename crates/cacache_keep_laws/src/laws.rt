@@ -2,7 +2,7 @@
 ghost use Rattle.cacache_keep_laws.specs.Answers.{AnswersAgree, LooksAnswer, TreesAreRooted};
 ghost use Rattle.cacache_keep_laws.specs.Collecting.{CachesLinkOut, CollectionsKeepLookups, CollectionsKeepReads, RemovalsLeave, RemovalsLeaveSound};
 ghost use Rattle.cacache_keep_laws.specs.Compacted.{CompactionsAnswer, CompactionsKeep, HousesAreFit};
-ghost use Rattle.cacache_keep_laws.specs.Compacting.{CompactTextsAnswer, CompactTextsSettle};
+ghost use Rattle.cacache_keep_laws.specs.Compacting.{CompactTextsAnswer, CompactTextsClose, CompactTextsKeepFound, CompactTextsSettle};
 ghost use Rattle.cacache_keep_laws.specs.Contents.{ContentsShown, HoldingsAgree, ListingsHold};
 ghost use Rattle.cacache_keep_laws.specs.Housed.{CachesAreHoused, IndexesLead, TombstonesHouse};
 ghost use Rattle.cacache_keep_laws.specs.Idle.{IdleIsUnseen, StillLacksIdle};
@@ -81,14 +81,18 @@ pub fn repair_laws()
     ensures leads { IndexesLead }
 {}
 
-/// A bucket's bytes that are compacted answer each lookup as before, and list the same, with one entry for
-/// each item, and stay as they are where they are compacted again. So where buckets of a tree are compacted, also if that is cut short, each key leads where it led, and
-/// each address has the content that it had. Where links lead out of the cache, and each entry that a lookup
-/// finds has an integrity, lookups, reads by key and listings answer what they may answer before; so it is
-/// where each thing lies in its place, and each entry in its key's bucket.
+/// A bucket's bytes that are compacted answer each lookup as before and list the same. They have the same odd lines,
+/// no two lines that decide one key, and without odd lines one entry for each item. A second compaction changes nothing, unless it is the first durable one.
+/// They end with a line feed if the compaction is durable or the bytes end with one. Each reader of lines that reads
+/// as we do what we can read finds the same line for each key. So after a compaction of buckets of a tree, also if
+/// that is cut short, each key leads where it led, and each address has the content that it had. If links lead out of
+/// the cache, and each entry that a lookup finds has an integrity, lookups, reads by key and listings answer what
+/// they may answer before. Both are so if each thing lies in its place, and each entry in its key's bucket.
 pub fn compact_laws()
     ensures answer { CompactTextsAnswer }
     ensures settle { CompactTextsSettle }
+    ensures closes { CompactTextsClose }
+    ensures found { CompactTextsKeepFound }
     ensures keeps { CompactionsKeep }
     ensures calls { CompactionsAnswer }
     ensures fit { HousesAreFit }

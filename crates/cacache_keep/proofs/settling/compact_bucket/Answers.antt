@@ -19,9 +19,9 @@ returns-clause-compacts g c =
     let read = g.S.Store.log c.read.new.store in
     let new = g.S.Store.log c.settle.new.env.store in
     let lean = c.in_ok-lean.lean in
-    let changes = subst (λ (b : List ℕ). Changes b (option_map (λ (l : Lean). l.text.items) lean)) c.as_slice.ensures c.in_ok-lean.ensures.changed in
+    let changes = subst (λ (b : List ℕ). Changes c.args.durable b (option_map (λ (l : Lean). l.text.items) lean)) c.as_slice.ensures c.in_ok-lean.ensures.changed in
     let size = subst (λ (b : List ℕ). IfSome lean (λ (l : Lean). l.saved ≡ length b - length l.text.items)) c.as_slice.ensures c.in_ok-lean.ensures.saves in
-    value_so c.settle.result (λ saving done. settled c.args.durable c.args.cache.now c.args.path.now c.in_ok-bytes.bytes lean saving old read new c.in_ok-bytes.ensures.reads changes size done) c.settle.ensures.settles
+    value_so c.settle.result (λ saving done. settled c.args.durable c.args.cache.now c.args.path.now c.in_ok-bytes.bytes old read c.in_ok-bytes.ensures.reads lean saving new changes size done) c.settle.ensures.settles
 
 pub returns-clause-stops : goal.returns-clause-stops
 returns-clause-stops g c =
@@ -29,5 +29,5 @@ returns-clause-stops g c =
     let read = g.S.Store.log c.read.new.store in
     let new = g.S.Store.log c.settle.new.env.store in
     let lean = c.in_ok-lean.lean in
-    let changes = subst (λ (b : List ℕ). Changes b (option_map (λ (l : Lean). l.text.items) lean)) c.as_slice.ensures c.in_ok-lean.ensures.changed in
-    error_so c.settle.result (λ e stop. unsettled c.args.durable c.args.cache.now c.args.path.now c.in_ok-bytes.bytes lean e old read new c.in_ok-bytes.ensures.reads changes stop) c.settle.ensures.stops
+    let changes = subst (λ (b : List ℕ). Changes c.args.durable b (option_map (λ (l : Lean). l.text.items) lean)) c.as_slice.ensures c.in_ok-lean.ensures.changed in
+    error_so c.settle.result (λ e stop. unsettled c.args.durable c.args.cache.now c.args.path.now c.in_ok-bytes.bytes old read c.in_ok-bytes.ensures.reads lean e new changes stop) c.settle.ensures.stops

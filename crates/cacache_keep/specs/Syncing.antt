@@ -1,0 +1,51 @@
+-- The syncs of the folders above those of buckets, over any store.
+use Rattle.std.specs.Prelude.{◌≡◌, ◌++◌, ℕ, List, [], ◌∷◌, Bool, true, false, Option}
+use Rattle.cacache_core.specs.declared.errors.Error.{Error, TheVariants.{OutOfMemory}}
+use Rattle.cacache_store.specs.declared.store.answer.Answer.TheVariants as answers
+use Rattle.cacache_store.specs.declared.store.log.LogItem.{LogItem}
+use Rattle.cacache_store.specs.declared.store.step.Step.TheVariants as steps
+use Rattle.cacache_table.specs.SingleSteps.{Does, FailsAt}
+use Rattle.cacache_keep.specs.Buckets.{index_area_in}
+
+-- the folders above those of buckets: these, which the index has, the index, and the cache; none
+-- without one in the index
+abbrev pub folders_above : List ℕ → List (List ℕ) → List (List ℕ)
+folders_above cache [] = []
+folders_above cache (top ∷ tops) = top ∷ tops ++ index_area_in cache ∷ cache ∷ []
+
+-- the log gained a sync of each of these folders, in turn
+abbrev pub SyncsInTurn :
+    List (List ℕ) → Option (List LogItem) → Option (List LogItem) → Type 0
+SyncsInTurn [] old new = new ≡ old
+SyncsInTurn (f ∷ folders) old new =
+    (next : Option (List LogItem)) × Does (steps.SyncDir f) answers.Done old next
+    × SyncsInTurn folders next new
+
+-- so it did of the folders above those of buckets, if that is asked for
+abbrev pub SyncsAbove : Bool → List ℕ → List (List ℕ)
+    → Option (List LogItem) → Option (List LogItem) → Type 0
+SyncsAbove true cache tops old new = SyncsInTurn (folders_above cache tops) old new
+SyncsAbove false cache tops old new = new ≡ old
+
+-- the error ended the sync of the first of these folders; or there is none, and memory ran out
+abbrev pub StopsNextSync :
+    List (List ℕ) → Error → Option (List LogItem) → Option (List LogItem) → Type 0
+StopsNextSync [] e old new = (e ≡ OutOfMemory) × (new ≡ old)
+StopsNextSync (f ∷ rest) e old new = FailsAt (steps.SyncDir f) e old new
+
+-- some of these folders were synced, and the error ended the sync of the next
+pub record StopsInTurn
+    (folders : List (List ℕ)) (e : Error) (old new : Option (List LogItem)) : Type 0 where
+  pub synced : List (List ℕ)
+  pub rest : List (List ℕ)
+  pub split : folders ≡ synced ++ rest
+  pub between : Option (List LogItem)
+  pub syncing : SyncsInTurn synced old between
+  pub stop : StopsNextSync rest e between new
+
+-- so it ended the syncs of the folders above those of buckets, which are made only if that is asked
+-- for
+abbrev pub StopsAbove : Bool → List ℕ → List (List ℕ) → Error
+    → Option (List LogItem) → Option (List LogItem) → Type 0
+StopsAbove true cache tops e old new = StopsInTurn (folders_above cache tops) e old new
+StopsAbove false cache tops e old new = ⊥
