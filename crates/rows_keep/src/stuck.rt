@@ -22,6 +22,7 @@ pub(crate) enum Kind {
     Write,
     Persist,
     SyncTemp,
+    SyncFile,
     SyncDir,
 }
 
@@ -40,6 +41,7 @@ impl Kind {
             "write" => Some(Kind::Write),
             "persist" => Some(Kind::Persist),
             "sync_temp" => Some(Kind::SyncTemp),
+            "sync_file" => Some(Kind::SyncFile),
             "sync_dir" => Some(Kind::SyncDir),
             _ => None,
         }
@@ -59,6 +61,7 @@ impl Kind {
             Step::Write(_, _) => matches!(self, Kind::Write),
             Step::Persist(_, _) => matches!(self, Kind::Persist),
             Step::SyncTemp(_) => matches!(self, Kind::SyncTemp),
+            Step::SyncFile(_) => matches!(self, Kind::SyncFile),
             Step::SyncDir(_) => matches!(self, Kind::SyncDir),
             _ => false,
         }
