@@ -8,7 +8,7 @@
 //! `folder` makes a folder, and `held` tells what the file at a path holds.
 //! `sized` writes the input where so many bytes are expected. The result of the program is its status, its output
 //! and its errors. Behind `stuck` and a kind of step (`remove`, `exists`, `size`, `list`, `open`, `append`, `read`, `make`, `create`,
-//! `write`, `persist`, `sync_temp`, `sync_dir`) an act is made over a store where these steps fail.
+//! `write`, `persist`, `sync_temp`, `sync_file`, `sync_dir`) an act is made over a store where these steps fail.
 //!
 //! A row holds if the act with this input gives this result at both places. The rows of a group that hold are counted, and
 //! each other row is printed with what was wanted and what came.

@@ -23,6 +23,7 @@ pub(crate) enum Kind {
     Write,
     Persist,
     SyncTemp,
+    SyncFile,
     SyncDir,
 }
 
@@ -42,6 +43,7 @@ impl Kind {
             "write" => Some(Kind::Write),
             "persist" => Some(Kind::Persist),
             "sync_temp" => Some(Kind::SyncTemp),
+            "sync_file" => Some(Kind::SyncFile),
             "sync_dir" => Some(Kind::SyncDir),
             _ => None,
         }
@@ -62,6 +64,7 @@ impl Kind {
             Step::Write(_, _) => matches!(self, Kind::Write),
             Step::Persist(_, _) => matches!(self, Kind::Persist),
             Step::SyncTemp(_) => matches!(self, Kind::SyncTemp),
+            Step::SyncFile(_) => matches!(self, Kind::SyncFile),
             Step::SyncDir(_) => matches!(self, Kind::SyncDir),
             _ => false,
         }
