@@ -1,16 +1,15 @@
 -- Looks at the contents: what they show, and that they leave the tree.
-use Rattle.std.proofs.Common.{◌≡◌, ◌⊎◌, ◌+◌, inl, inr, ℕ, zero, suc, List, [], ◌∷◌, Bool, true, false, Option, Some, arith, eqb-true, refl, sym, ap, ap₂, subst, ◌∙◌, map, length, get_or}
-use Rattle.std.specs.{declared.cmp.Ordering.{Ordering, TheVariants.{Less, Equal, Greater}}, List.{list_any, Sorted.{IsSorted, IsStrictlySortedBy}}, Ordering.{is_lt, ordering_reverse}, Prelude.{◌==◌}}
+use Rattle.std.proofs.Common.{◌≡◌, ◌+◌, ℕ, zero, suc, List, [], ◌∷◌, false, Option, Some, arith, refl, sym, ap, ap₂, subst, ◌∙◌, map, get_or}
+use Rattle.std.specs.{declared.cmp.Ordering.{Ordering, TheVariants.{Less, Equal, Greater}}, List.Sorted.{IsSorted, IsStrictlySortedBy}, Ordering.{is_lt, ordering_reverse}}
 use Rattle.cacache_core.specs.{declared.integrity.digest.Hash.{Hash}, Integrity.{address}}
-use Rattle.cacache_store.specs.declared.store.{answer.Name.{Name}, log.LogItem.{LogItem}, step.Step.TheVariants.{ReadDir}}
+use Rattle.cacache_store.specs.declared.store.log.LogItem.{LogItem}
 use Rattle.cacache_disk.specs.Tree.{Tree}
 use Rattle.cacache_entry.specs.Latest.{Found}
 use Rattle.cacache_table.specs.{Runs.{Gains, Moves}, State.{Site}}
-use Rattle.cacache_sequence.{specs.Sequence.{tree_on, AreAnswered}, proofs.Readings.ReadsStay.{listing_keeps}}
+use Rattle.cacache_sequence.specs.Sequence.{tree_on, AreAnswered}
 use Rattle.cacache_walks.specs.{Listing.{IsByHash, content_area_in, hash_cmp}, Reading.{top_folder}}
-use Rattle.cacache_keep_laws.{specs.Temporary.{cache_folder}, proofs.Logged.{gains_join, walked}}
-use Rattle.cacache_keep.specs.{Missing.{Look, is_astray, is_unreached}, Repairing.{BuriesAll, BuriesEach, RepairsCache}}
-use Rattle.cacache_keep.proofs.{Parts.{gains_none}, Searching.{hash_total}, Tombs.{none_buried}}
+use Rattle.cacache_keep_laws.proofs.Logged.{walked}
+use Rattle.cacache_keep.{specs.{Missing.{Look}, Repairing.{BuriesAll, BuriesEach, RepairsCache}}, proofs.{Parts.{gains_none}, Searching.{hash_total}, Tombs.{none_buried}}}
 
 -- ---- a look leaves the tree
 
@@ -32,20 +31,14 @@ burial site [] buried old new (none, same) = record {
   look = ([], []);
   each = subst (λ (log : Option (List LogItem)). BuriesEach site ([], []) [] buried old log) (sym same) (none_buried site ([], []) buried old none);
 }
-burial site (f ∷ entries) buried old new (look, looked, shows, each) =
-    let (a, lists) = shows.listing in
-    let w = shows.walking in
-    let folder = cache_folder site.cache in
-    let first : Moves = (ReadDir folder, a) ∷ [] in record {
-      moves = (ReadDir folder, a) ∷ w.0;
-      looked = looked;
-      gains = gains_join old shows.beside looked first w.0 lists.gained w.1;
-      stays = λ t answered.
-          let keeps = listing_keeps t folder in
-          ap (λ x. tree_on x w.0) keeps ∙ (walked t w.0 (top_folder (content_area_in site.cache) ∷ []) w.2 (subst (λ x. AreAnswered x w.0) keeps answered.1)).1;
-      look = look;
-      each = each;
-    }
+burial site (f ∷ entries) buried old new (look, looked, walk, each) = record {
+  moves = walk.0;
+  looked = looked;
+  gains = walk.1;
+  stays = λ t answered. (walked t walk.0 (top_folder (content_area_in site.cache) ∷ []) walk.2 answered).1;
+  look = look;
+  each = each;
+}
 
 pub burial_of : {site : Site} {damaged : List (List Hash)} {buried : List Found} {old new : Option (List LogItem)} (v : RepairsCache site damaged buried old new) → Burial site v.dangling buried v.asked new
 burial_of {site} {damaged} {buried} {old} {new} v = burial site v.dangling buried v.asked new v.burying
@@ -89,17 +82,3 @@ sorted_hashes hs addresses order e = subst (IsSorted hash_cmp) (sym (hashes_are 
 -- and these addresses have one hash each
 pub single_hashes : (hs : List Hash) (addresses : List (List Hash)) → IsByHash addresses → map Some hs ≡ map address addresses → addresses ≡ map (λ h. h ∷ []) hs
 single_hashes hs addresses order e = order.single ∙ ap (map (λ (h : Hash). h ∷ [])) (sym (hashes_are hs addresses order e))
-
--- ---- whether the walk reached the contents
-
-pub nil_if : {X : Type 0} (xs : List X) → (length xs == 0) ≡ true → xs ≡ []
-nil_if [] e = refl
-nil_if (x ∷ xs) e = let some : length (x ∷ xs) ≡ 0 = eqb-true (length (x ∷ xs)) 0 e in absurd (omega (arith, some))
-
--- it did if nothing is astray, or if it lists an address
-pub reached_by : (around : List Name) (look : Look) (addresses : List (List Hash)) (astray : Bool) → astray ≡ list_any is_astray around → addresses ≡ map (λ h. h ∷ []) look.0 → (astray ≡ false) ⊎ ((length addresses == 0) ≡ false) → is_unreached around look ≡ false
-reached_by around ([], strange) addresses astray says single (inl plain) = sym says ∙ plain
-reached_by around ([], strange) addresses astray says single (inr some) =
-    let none : length addresses == 0 ≡ true = ap (λ (l : List (List Hash)). length l == 0) single in
-    absurd (let wrong : true ≡ false = sym none ∙ some in cc)
-reached_by around (h ∷ hs, strange) addresses astray says single either = refl

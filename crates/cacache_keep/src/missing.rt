@@ -1,23 +1,19 @@
 //! What shows that a content isn't there: a walk through the contents that doesn't meet it.
-ghost use Rattle.std.specs.Prelude.{◌≡◌, ◌∷◌, [], Some, true, IfOk, IfErr, OnOk, map, string_bytes};
-ghost use Rattle.std.specs.List.{list_any};
+ghost use Rattle.std.specs.Prelude.{◌≡◌, Some, true, IfOk, IfErr, OnOk, map, string_bytes};
 ghost use Rattle.std.specs.List.Sorted.{IsSorted};
 ghost use Rattle.cacache_core.specs.Integrity.{address as address_of};
 ghost use Rattle.cacache_jobs.specs.Environment.{KeepsRest};
 ghost use Rattle.cacache_walks.specs.Listing.{hash_cmp};
-ghost use Rattle.cacache_keep.specs.Missing.{Doubts, ShowsContents, StopsShowing, is_astray as is_astray_of, is_below as is_below_of, is_hidden as is_hidden_of, is_missing, look_of};
+ghost use Rattle.cacache_keep.specs.Missing.{Doubts, ShowsContents, StopsShowing, is_below as is_below_of, is_hidden as is_hidden_of, is_missing, look_of};
 
 use crate::live::is_live;
-use crate::sweeping::{cache_folder, names_in};
 use cacache_core::digest::Hash;
 use cacache_core::errors::{Fault, Result};
 use cacache_core::integrity::Integrity;
-use cacache_core::keeping::let_go;
-use cacache_core::paths::CONTENT_AREA;
 use cacache_core::text::Text;
 use cacache_jobs::{content_path, refused};
 use cacache_store::env::{Clock, Env, Names};
-use cacache_store::store::{Kind, Name, Store};
+use cacache_store::store::Store;
 use cacache_table::Refusal;
 use cacache_walks::{Contents, list};
 use std::alloc::{AllocError, Global};
@@ -27,18 +23,6 @@ use std::alloc::{AllocError, Global};
 pub(crate) struct Shown {
     contents: Vec<Hash>,
     strange: Vec<String>,
-}
-
-/// Whether a link or a file stands where the folder of contents belongs.
-fn is_astray(around: &[Name]) -> bool
-    ensures { result ≡ list_any is_astray_of around.now }
-{
-    for name in around {
-        if name.name.as_str() == CONTENT_AREA && !matches!(name.kind, Kind::Folder) {
-            return true;
-        }
-    }
-    false
 }
 
 /// The hashes of these addresses.
@@ -52,12 +36,7 @@ fn hashes_of(alloc: Global, addresses: &[Integrity]) -> std::result::Result<Vec<
     Ok(hashes)
 }
 
-/// A link or a file stands where the folder of contents belongs, and no content is shown.
-fn unreached(alloc: Global, cache: &str) -> std::result::Result<Text, AllocError> {
-    Ok(Text::new(format!(in alloc; "Failed to reach the contents of {cache}")?))
-}
-
-/// Walks through the contents. A link in the place of their folder counts only if the walk shows a content.
+/// Walks through the contents.
 pub(crate) fn look<S: Store, C: Clock, N: Names>(
     env: &mut Env<S, C, N>,
     cache: &str,
@@ -69,14 +48,7 @@ pub(crate) fn look<S: Store, C: Clock, N: Names>(
         (λ e. StopsShowing cache.now e (S.log env.old.store) (S.log env.new.store)) }
     ensures rest { KeepsRest env.old env.new }
 {
-    let around = names_in(env.alloc, &mut env.store, cache_folder(cache), "contents")?;
-    let astray = is_astray(around.as_slice());
-    let_go(around);
     let Contents { addresses, strange } = list(env, cache)?;
-    if astray && addresses.is_empty() {
-        let refusal = Refusal::Fault(Fault::Device);
-        return Err(refused(refusal, unreached(env.alloc, cache)));
-    }
     let contents = hashes_of(env.alloc, addresses.as_slice())?;
     Ok(Shown { contents, strange })
 }

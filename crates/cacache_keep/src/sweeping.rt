@@ -92,7 +92,7 @@ fn tell_apart(
 }
 
 /// The path of the cache folder. An empty one is that of the folder from which relative paths start.
-pub(crate) fn cache_folder(cache: &str) -> &str
+fn cache_folder(cache: &str) -> &str
     ensures { result.now ≡ cache_folder_of cache.now }
 {
     if cache.is_empty() { "." } else { cache }
