@@ -1,11 +1,11 @@
 -- Folders that are synced, one after another, and why that ends.
-use Rattle.std.proofs.{Common.{◌≡◌, ◌+◌, ◌<◌, ℕ, List, [], ◌∷◌, ◌++◌, Option, inl, refl, sym, ap, subst, ◌∙◌, length, take, drop, get_or}, lemmas.List.{drop_more, take-append-drop, take_more}}
-use Rattle.cacache_core.specs.declared.errors.Error.{Error, TheVariants.{OutOfMemory}}
+use Rattle.std.proofs.{Common.{◌≡◌, ◌+◌, ◌<◌, ℕ, List, [], ◌∷◌, ◌++◌, Option, refl, sym, ap, subst, ◌∙◌, length, take, drop, get_or}, lemmas.List.{drop_more, take-append-drop, take_more}}
+use Rattle.cacache_core.specs.declared.errors.Error.{Error}
 use Rattle.cacache_store.specs.declared.store.answer.Answer.TheVariants as answers
 use Rattle.cacache_store.specs.declared.store.log.LogItem.{LogItem}
 use Rattle.cacache_store.specs.declared.store.step.Step.TheVariants as steps
 use Rattle.cacache_table.specs.SingleSteps.{Does, FailsAt}
-use Rattle.cacache_keep.specs.Syncing.{StopsInTurn, StopsNextSync, SyncsInTurn}
+use Rattle.cacache_keep.specs.Syncing.{StopsInTurn, SyncsInTurn}
 
 synced_on : (folders : List (List ℕ)) (f : List ℕ) (old mid new : Option (List LogItem)) → SyncsInTurn folders old mid → Does (steps.SyncDir f) answers.Done mid new → SyncsInTurn (folders ++ f ∷ []) old new
 synced_on [] f old mid new h one = (new, subst (λ (log : Option (List LogItem)). Does (steps.SyncDir f) answers.Done log new) h one, refl)
@@ -26,11 +26,3 @@ next_unsynced folders k f e old mid new below is h stop = record {
   syncing = h;
   stop = stop;
 }
-
-no_memory : (folders : List (List ℕ)) (log : Option (List LogItem)) → StopsNextSync folders OutOfMemory log log
-no_memory [] log = (refl, refl)
-no_memory (f ∷ folders) log = inl refl
-
--- memory ran out before the first
-pub none_synced : (folders : List (List ℕ)) (log : Option (List LogItem)) → StopsInTurn folders OutOfMemory log log
-none_synced folders log = record { synced = []; rest = folders; split = refl; between = log; syncing = refl; stop = no_memory folders log }

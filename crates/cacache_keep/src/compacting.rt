@@ -88,9 +88,9 @@ fn compact_all<S: Store, C: Clock, N: Names>(
 /// - of each key the last line that this crate can read, if it is an entry
 /// - that line also if it is a tombstone, and a line that this crate can't read comes before it
 ///
-/// All else goes. A bucket's last line feed stays, which protects a durable line. Lookups and listings answer as before,
-/// and so do those of another reader, if it reads as this crate does what this crate can read. A bucket that would
-/// stay as it is isn't written.
+/// All else goes. A bucket's last line feed stays, which protects a durable line. Lookups and listings answer as
+/// before, and so do those of another reader, if it reads as this crate does what this crate can read. A bucket that
+/// would stay as it is isn't written.
 ///
 /// A bucket is a file of the index two folders down, whose path has the names that a key's digest gives. All else
 /// there stays, a link in a bucket's place too. The new bytes are written to a temporary file, which

@@ -1,5 +1,5 @@
-//! A file that is written anew: a temporary file is moved over it. It is synced if that is asked for, and so is one that
-//! stays as it is.
+//! A file that is written anew: a temporary file is moved over it. It is synced if that is asked for, and so is one
+//! that stays as it is.
 ghost use Rattle.std.specs.Prelude.{◌≡◌, [], IfOk, IfErr, OnOk};
 ghost use Rattle.cacache_store.specs.declared.store.answer.Answer.TheVariants as answers;
 ghost use Rattle.cacache_store.specs.declared.store.step.Step.TheVariants as steps;

@@ -55,8 +55,8 @@ is_odd l = not (is_some l.1)
 
 -- ---- what stays
 
--- whether a deciding line stays: no later line decides its key, and it finds an entry or comes after
--- an odd line
+-- whether a deciding line stays: no later line decides its key, and it finds an entry or an odd
+-- line came before it
 abbrev pub lasts : Bool → Decision → List Line → Bool
 lasts odd d later = not (list_any (bytes_eq d.0) (decided later)) && (d.1 || odd)
 
@@ -85,9 +85,9 @@ compact_text durable x = text_of (kept false (lines_of x)) ++ closing (durable |
 abbrev pub odd_lines : List ℕ → List Line
 odd_lines x = filter is_odd (lines_of x)
 
--- each lookup finds in the second bytes what it finds in the first, a listing has the same of both,
--- both have the same odd lines, no two lines of the second decide one key, and without odd lines the
--- second have one entry for each item
+-- each lookup finds in the second bytes what it finds in the first, and a listing has the same of
+-- both; both have the same odd lines; no two lines of the second decide one key; and without odd
+-- lines the second have one entry for each item
 pub record IsCompactOf (x y : List ℕ) : Type 0 where
   pub finds : (key : List ℕ) → latest key (entries_of y) ≡ latest key (entries_of x)
   pub lists : items_in y ≡ items_in x
@@ -122,7 +122,7 @@ found_at key found p None = found
 found_at key found p (Some d) =
     if bytes_eq key d.0 then (if d.1 then Some p else None) else found
 
--- the line that a reader finds for a key: the last one that it reads with the key, if it is an entry
+-- the line that a reader finds for a key: the last that it reads with the key, if it is an entry
 abbrev pub found_by : Reader → List ℕ → List ℕ → Option (List ℕ)
 found_by read key x = fold (λ found p. found_at key found p (read p)) None (cut 10 x)
 

@@ -82,12 +82,13 @@ pub fn repair_laws()
 {}
 
 /// A bucket's bytes that are compacted answer each lookup as before and list the same. They have the same odd lines,
-/// no two lines that decide one key, and without odd lines one entry for each item. A second compaction changes nothing, unless it is the first durable one.
-/// They end with a line feed if the compaction is durable or the bytes end with one. Each reader of lines that reads
-/// as we do what we can read finds the same line for each key. So after a compaction of buckets of a tree, also if
-/// that is cut short, each key leads where it led, and each address has the content that it had. If links lead out of
-/// the cache, and each entry that a lookup finds has an integrity, lookups, reads by key and listings answer what
-/// they may answer before. Both are so if each thing lies in its place, and each entry in its key's bucket.
+/// no two lines that decide one key, and without odd lines one entry for each item. A second compaction changes
+/// nothing, unless it is the first durable one. They end with a line feed if the compaction is durable or the bytes
+/// end with one. Each reader of lines that reads as we do what we can read finds the same line for each key. So after
+/// a compaction of buckets of a tree, also if that is cut short, each key leads where it led, and each address has
+/// the content that it had. If links lead out of the cache, and each entry that a lookup finds has an integrity,
+/// lookups, reads by key and listings answer what they may answer before. Both are so if each thing lies in its
+/// place, and each entry in its key's bucket.
 pub fn compact_laws()
     ensures answer { CompactTextsAnswer }
     ensures settle { CompactTextsSettle }
