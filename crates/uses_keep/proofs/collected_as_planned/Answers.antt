@@ -1,8 +1,7 @@
 use Rattle.std.proofs.Common.{◌≡◌, List, [], ◌∷◌, Some, ℕ, ap, map, refl, subst, ◌∙◌}
 use Rattle.cacache_core.specs.declared.integrity.digest.Hash.{Hash}
 use Rattle.cacache_jobs.specs.Sites.{site_of}
-use Rattle.cacache_keep.specs.declared.checking.OddLines.TheVariants.{Refuse}
-use Rattle.cacache_keep.specs.{declared.planning.Unused.{Unused}, Keeping.{Collects}, Planning.{Sized, sized_of}}
+use Rattle.cacache_keep.specs.{declared.{checking.OddLines.TheVariants.{Refuse}, planning.Unused.{Unused}}, Keeping.{Collects}, Planning.{Sized, sized_of}}
 use Rattle.uses_keep.proofs.collected_as_planned.Goals as goal
 
 addresses : (unused : List Unused) → map (λ (s : Sized). s.0) (map sized_of unused) ≡ map (λ u. u.address) unused

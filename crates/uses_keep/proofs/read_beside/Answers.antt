@@ -6,8 +6,7 @@ use Rattle.cacache_table.specs.declared.command.{How.TheVariants.{Copy}, Source.
 use Rattle.cacache_table.specs.declared.reply.Reply.TheVariants as replies
 use Rattle.cacache_jobs.specs.Sites.{site_of}
 use Rattle.cacache_sequence.specs.{Caches.{Called, plain_put}, ExportEffects.{copy_from}}
-use Rattle.cacache_keep.specs.declared.checking.OddLines.TheVariants.{Refuse}
-use Rattle.cacache_keep.specs.Behind.{collects, exports, puts}
+use Rattle.cacache_keep.specs.{declared.checking.OddLines.TheVariants.{Refuse}, Behind.{collects, exports, puts}}
 use Rattle.uses_keep.proofs.Texts.{only}
 use Rattle.uses_keep.proofs.read_beside.Goals as goal
 

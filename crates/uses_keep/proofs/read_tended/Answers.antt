@@ -8,8 +8,7 @@ use Rattle.cacache_table.specs.declared.reply.Reply.TheVariants as replies
 use Rattle.cacache_sequence.specs.Caches.{Called}
 use Rattle.cacache_jobs.specs.Sites.{site_of}
 use Rattle.cacache_keep_laws.specs.{Contents.{content_in}, Mending.{found_in}}
-use Rattle.cacache_keep.specs.declared.checking.OddLines.TheVariants.{Refuse}
-use Rattle.cacache_keep.specs.Repairing.{RepairsCache}
+use Rattle.cacache_keep.specs.{declared.checking.OddLines.TheVariants.{Refuse}, Repairing.{RepairsCache}}
 use Rattle.uses_keep.proofs.read_tended.Goals as goal
 
 pub returns : goal.returns
