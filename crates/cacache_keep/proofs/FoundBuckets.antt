@@ -234,12 +234,12 @@ buckets_found cache home tops paths old new is (lows, one, two, a, b, c) =
       covers = all_covered cache home is paths tops lows old one two new a b c t rooted (s.1, s.2, s.3);
     })
 
--- ---- where that ends with an error
+-- ---- that it leaves the tree, also where an error ends it
 
 abbrev pub Stays : Tree → Tree → Type 0
 Stays t u = u ≡ t
 
-stays_on : (t u v : Tree) → Rooted t → Rooted u → Stays t u → Stays u v → Stays t v
+pub stays_on : (t u v : Tree) → Rooted t → Rooted u → Stays t u → Stays u v → Stays t v
 stays_on t u v rooted next e f = f ∙ e
 
 part_stays : (rest : List (List ℕ)) (e : Error) (old new : Option (List LogItem)) → StopsNextPart rest e old new → Leads Stays old new
@@ -254,6 +254,11 @@ parts_stay folders e old new stop = leads_then Stays Stays Stays old stop.betwee
 
 all_stay : (last : Bool) (folders paths : List (List ℕ)) (old new : Option (List LogItem)) → ListsParts last folders paths old new → Leads Stays old new
 all_stay last folders paths old new p = listings_stay p.listings old new p.listing
+
+pub finds_stay : (cache : List ℕ) (tops paths : List (List ℕ)) (old new : Option (List LogItem)) → FindsBuckets cache tops paths old new → Leads Stays old new
+finds_stay cache tops paths old new (lows, one, two, a, b, c) =
+    leads_then Stays Stays Stays old one new (all_stay false (index_area_in cache ∷ []) tops old one a)
+    (leads_then Stays Stays Stays one two new (all_stay false tops lows one two b) (all_stay true lows paths two new c) stays_on) stays_on
 
 pub finding_stays : (cache : List ℕ) (e : Error) (old new : Option (List LogItem)) → StopsFinding cache e old new → Leads Stays old new
 finding_stays cache e old new (inl first) = parts_stay (index_area_in cache ∷ []) e old new first

@@ -27,6 +27,8 @@ mod Tidying
 mod Settled
 mod TreeRuns
 mod FoundBuckets
+mod Checks
+mod CheckedLogs
 mod HexNames
 mod MovedFiles
 mod Rewritten

@@ -14,8 +14,8 @@ use Rattle.cacache_sequence.{specs.Sequence.{tree_on}, proofs.Calls.InParts.{log
 use Rattle.cacache_walks.specs.{Listing.{content_area_in}, Reading.{top_folder}}
 use Rattle.cacache_keep_laws.specs.{Collecting.{Removes}, Contents.{HoldsJust}, Index.{IndexLists}, Mending.{found_in}, Verifying.{has_content, is_good}}
 use Rattle.cacache_keep_laws.proofs.{Collected.{from_kept, kept_in, leaves}, Held.{holds_just}, Logged.{answered_rest, answered_split, gains_join, log_rooted, looked, tree_rest, tree_split, walked}, Members.{Member, contains_member, member_contains}, Mended.{repairs_leave}}
-use Rattle.cacache_keep.specs.{Calls.{MadeCalls, question_of, removal}, Kept.{IsKeyOf, MendsCache, RepairsMend}, Reading.{Judged}, Repairing.{Fate, RepairsCache, is_buried}}
-use Rattle.cacache_keep.proofs.{Buried.{After, all_told}, Judged.{asks_told, index_lists, others_named, reads_judged}, Leaving.{removals, removals_gain, removed_by}, Parts.{made_looks}, Shown.{burial_of}, Verdicts.{all_questions}}
+use Rattle.cacache_keep.specs.{Calls.{MadeCalls, question_of, removal}, Kept.{IsKeyOf, MendsCache, RepairsMend}, Reading.{Judged}, Repairing.{Fate, RepairsFrom, is_buried}}
+use Rattle.cacache_keep.proofs.{CheckedLogs.{repaired_on}, Buried.{After, all_told}, Judged.{asks_told, index_lists, others_named, reads_judged}, Leaving.{removals, removals_gain, removed_by}, Parts.{made_looks}, Shown.{burial_of}, Verdicts.{all_questions}}
 
 pub map_from : {X Y : Type 0} (f : X → Y) (y : Y) (xs : List X) → Member y (map f xs) → (x : X) × Member x xs × (f x ≡ y)
 map_from f y [] m = absurd m
@@ -59,7 +59,7 @@ module _ (site : Site) (home : Names) (is : home_of site.cache ≡ Some home) wh
   -- ---- a repair
 
   module _ (damaged : List (List Hash)) (buried : List Found) (old new : List LogItem)
-      (logged : IsLog new) (placed : Placed (Some home) (tree_of old)) (v : RepairsCache site damaged buried (Some old) (Some new)) where
+      (logged : IsLog new) (placed : Placed (Some home) (tree_of old)) (v : RepairsFrom site damaged buried (Some old) (Some new)) where
     abbrev t : Tree
     t = tree_of old
 
@@ -159,4 +159,7 @@ module _ (site : Site) (home : Names) (is : home_of site.cache ≡ Some home) wh
         }
 
 pub repairs_mend : RepairsMend
-repairs_mend site home damaged buried old new is logged placed v = repaired site home is damaged buried old new logged placed v
+repairs_mend site home damaged buried old new is logged placed v =
+    let k = repaired_on site home damaged buried old new is logged v in
+    let placed_there = subst (Placed (Some home)) (sym k.stays) placed in
+    subst (λ (t : Tree). MendsCache site home t (tree_of new) damaged buried) k.stays (repaired site home is damaged buried k.log new logged placed_there k.so)

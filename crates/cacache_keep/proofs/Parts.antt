@@ -25,6 +25,13 @@ pub gains_none : (old new : Option (List LogItem)) → new ≡ old → Gains old
 gains_none None new e = e
 gains_none (Some log) new e = e ∙ ap Some (sym (append-nil log))
 
+-- the moves of calls
+pub calls_gain : (site : Site) (calls : List (Command × Reply)) (old new : Option (List LogItem)) → MadeCalls site calls old new → (moves : Moves) × Gains old new moves
+calls_gain site [] old new made = ([], gains_none old new made)
+calls_gain site (c ∷ calls) old new made =
+    let rest = calls_gain site calls made.0 new made.2 in
+    (made.1.0 ++ rest.0, gains_join old made.0 new made.1.0 rest.0 made.1.2 rest.1)
+
 pub made_looks : (site : Site) (t : Tree) (calls : List (Command × Reply)) (old new : Option (List LogItem)) → AllLook calls → MadeCalls site calls old new → Part site t calls old new
 made_looks site t [] old new looks made = record { moves = []; gains = gains_none old new made; tells = λ a. (tt, refl) }
 made_looks site t (c ∷ calls) old new looks made =

@@ -9,7 +9,7 @@ use Rattle.cacache_table.specs.{Runs.{Gains, Moves}, State.{Site}}
 use Rattle.cacache_sequence.specs.Sequence.{tree_on, AreAnswered}
 use Rattle.cacache_walks.specs.{Listing.{IsByHash, content_area_in, hash_cmp}, Reading.{top_folder}}
 use Rattle.cacache_keep_laws.proofs.Logged.{walked}
-use Rattle.cacache_keep.{specs.{Missing.{Look}, Repairing.{BuriesAll, BuriesEach, RepairsCache}}, proofs.{Parts.{gains_none}, Searching.{hash_total}, Tombs.{none_buried}}}
+use Rattle.cacache_keep.{specs.{Missing.{Look}, Repairing.{BuriesAll, BuriesEach, RepairsFrom}}, proofs.{Parts.{gains_none}, Searching.{hash_total}, Tombs.{none_buried}}}
 
 -- ---- a look leaves the tree
 
@@ -40,7 +40,7 @@ burial site (f ∷ entries) buried old new (look, looked, walk, each) = record {
   each = each;
 }
 
-pub burial_of : {site : Site} {damaged : List (List Hash)} {buried : List Found} {old new : Option (List LogItem)} (v : RepairsCache site damaged buried old new) → Burial site v.dangling buried v.asked new
+pub burial_of : {site : Site} {damaged : List (List Hash)} {buried : List Found} {old new : Option (List LogItem)} (v : RepairsFrom site damaged buried old new) → Burial site v.dangling buried v.asked new
 burial_of {site} {damaged} {buried} {old} {new} v = burial site v.dangling buried v.asked new v.burying
 
 -- ---- the contents that a walk shows

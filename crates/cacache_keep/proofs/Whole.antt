@@ -12,8 +12,8 @@ use Rattle.cacache_table.specs.{State.{Site}, StepPaths.{content_path}}
 use Rattle.cacache_value.specs.Acts.{list_of}
 use Rattle.cacache_keep_laws.specs.{Contents.{content_in}, Housed.{Housed, Still}, Mending.{LeavesGood, found_in}, Verifying.{Judges, has_content, is_good, says_yes}}
 use Rattle.cacache_keep_laws.proofs.{Collected.{dropped_hash, kept_in, leaves, picked_left}, Housed.{removes_house, removes_root, removes_still}, Led.{found_integrity, found_listed, indexes_lead}, Logged.{log_rooted}, Members.{Member, contains_member, member_contains}, StillThere.{good_still, good_there, has_still}}
-use Rattle.cacache_keep.specs.{Kept.{LeadsToGood, RepairsKeepGood, RepairsVerify}, Repairing.{Fate, RepairsCache}}
-use Rattle.cacache_keep.proofs.{Buried.{Whole}, Mends.{Repaired, map_from, repaired, steps_done}, Shown.{burial_of}, Verdicts.{verdicts_judge}}
+use Rattle.cacache_keep.specs.{Kept.{LeadsToGood, RepairsKeepGood, RepairsVerify}, Repairing.{Fate, RepairsFrom}}
+use Rattle.cacache_keep.proofs.{CheckedLogs.{repaired_on}, Buried.{Whole}, Mends.{Repaired, map_from, repaired, steps_done}, Shown.{burial_of}, Verdicts.{verdicts_judge}}
 
 -- a filter that takes none
 none_kept : {X : Type 0} (p : X → Bool) (xs : List X) → ((x : X) → Member x xs → p x ≡ false) → filter p xs ≡ []
@@ -29,7 +29,7 @@ first_hash [] h e = absurd cc
 first_hash (g ∷ hs) h e = (hs, ap (λ (x : Hash). x ∷ hs) cc)
 
 module _ (site : Site) (home : Names) (damaged : List (List Hash)) (hidden : List Found) (old new : List LogItem)
-    (is : home_of site.cache ≡ Some home) (logged : IsLog new) (housed : Housed (Some home) (tree_of old)) (v : RepairsCache site damaged hidden (Some old) (Some new)) where
+    (is : home_of site.cache ≡ Some home) (logged : IsLog new) (housed : Housed (Some home) (tree_of old)) (v : RepairsFrom site damaged hidden (Some old) (Some new)) where
   abbrev t : Tree
   t = tree_of old
 
@@ -132,10 +132,16 @@ module _ (site : Site) (home : Names) (damaged : List (List Hash)) (hidden : Lis
 
 pub repairs_verify : RepairsVerify
 repairs_verify site home damaged broken hidden dangling good strange old new later verified is logged after housed stays v w =
+    let k = repaired_on site home damaged hidden old new is logged v in
+    let there = subst (Housed (Some home)) (sym k.stays) housed in
     let j = subst (λ t. Judges site home t good broken dangling strange) stays (verdicts_judge site home good broken dangling strange later verified is after w).0 in (
-      none_broken site home damaged hidden old new is logged housed v good broken dangling strange j,
-      none_dangling site home damaged hidden old new is logged housed v good broken dangling strange j,
+      none_broken site home damaged hidden k.log new is logged there k.so good broken dangling strange j,
+      none_dangling site home damaged hidden k.log new is logged there k.so good broken dangling strange j,
     )
 
 pub repairs_keep_good : RepairsKeepGood
-repairs_keep_good site home damaged hidden old new key f is logged housed v led = good_key site home damaged hidden old new is logged housed v key f led
+repairs_keep_good site home damaged hidden old new key f is logged housed v led =
+    let k = repaired_on site home damaged hidden old new is logged v in
+    let there = subst (Housed (Some home)) (sym k.stays) housed in
+    let kept = good_key site home damaged hidden k.log new is logged there k.so key f in
+    subst (λ (t : Tree). (l : LeadsToGood home t key f) → LeadsToGood home (tree_of new) key f × (content_in home (tree_of new) l.hash ≡ content_in home t l.hash)) k.stays kept led

@@ -5,7 +5,7 @@ use Rattle.cacache_store.specs.declared.store.log.LogItem.{LogItem}
 use Rattle.cacache_entry.specs.Latest.{Found}
 use Rattle.cacache_table.specs.State.{Site}
 use Rattle.cacache_walks.specs.Listing.{IsByHash, ListsContents, StopsListing}
-use Rattle.cacache_keep.specs.{Calls.{AreUnused, AsksEach, ListsEntries, MadeCalls, StopsReading, StopsRemoving, removal}, Reading.{ReadsEach, StopsEach}}
+use Rattle.cacache_keep.specs.{declared.checking.OddLines.{OddLines}, Checking.{Checks, StopsChecking}, Calls.{AreUnused, AsksEach, ListsEntries, MadeCalls, StopsReading, StopsRemoving, removal}, Reading.{ReadsEach, StopsEach}}
 
 -- The contents are listed, each is read in pieces, the index is listed, and of each entry is asked
 -- whether its content is there.
@@ -38,11 +38,24 @@ pub record Chooses
   pub counts : kept + length dropped ≡ length addresses
 
 -- and then each of them is removed
+abbrev pub CollectsFrom : Site → ℕ → List (List Hash)
+    → Option (List LogItem) → Option (List LogItem) → Type 0
+CollectsFrom site kept dropped old new =
+    (chosen : Option (List LogItem)) × Chooses site kept dropped old chosen
+    × MadeCalls site (map removal dropped) chosen new
+
+-- so it is after a check for odd lines
+abbrev pub CollectsWith : OddLines → Site → ℕ → List (List Hash)
+    → Option (List LogItem) → Option (List LogItem) → Type 0
+CollectsWith odd site kept dropped old new =
+    (checked : Option (List LogItem)) × Checks odd site.cache old checked
+    × CollectsFrom site kept dropped checked new
+
+-- with one choice about them or the other
 abbrev pub Collects : Site → ℕ → List (List Hash)
     → Option (List LogItem) → Option (List LogItem) → Type 0
 Collects site kept dropped old new =
-    (chosen : Option (List LogItem)) × Chooses site kept dropped old chosen
-    × MadeCalls site (map removal dropped) chosen new
+    (odd : OddLines) × CollectsWith odd site kept dropped old new
 
 -- ---- errors
 
@@ -71,9 +84,17 @@ StopsEarly site e old new =
     × StopsReading site e found new)
 
 -- so it did, or it ended the removals
-abbrev pub StopsCollecting :
+abbrev pub StopsCollectingFrom :
     Site → Error → Option (List LogItem) → Option (List LogItem) → Type 0
-StopsCollecting site e old new =
+StopsCollectingFrom site e old new =
     StopsEarly site e old new
     ⊎ ((kept : ℕ) × (dropped : List (List Hash)) × (chosen : Option (List LogItem))
     × Chooses site kept dropped old chosen × StopsRemoving site dropped e chosen new)
+
+-- the error ended the check for odd lines, or what came after it
+abbrev pub StopsCollecting :
+    OddLines → Site → Error → Option (List LogItem) → Option (List LogItem) → Type 0
+StopsCollecting odd site e old new =
+    StopsChecking odd site.cache e old new
+    ⊎ ((checked : Option (List LogItem)) × Checks odd site.cache old checked
+    × StopsCollectingFrom site e checked new)

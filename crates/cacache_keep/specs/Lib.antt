@@ -9,6 +9,7 @@ pub mod Planning
 pub mod Repairing
 pub mod Lines
 pub mod Buckets
+pub mod Checking
 pub mod Missing
 pub mod Rewriting
 pub mod Syncing

@@ -8,7 +8,7 @@ use Rattle.cacache_table.specs.declared.command.Command.TheVariants as commands
 use Rattle.cacache_table.specs.declared.reply.Reply.TheVariants as replies
 use Rattle.cacache_reads.specs.Lookups.{delete_of}
 use Rattle.cacache_walks.specs.Listing.{IsByHash, ListsContents, StopsListing}
-use Rattle.cacache_keep.specs.{Calls.{AsksEach, ListsEntries, MadeCalls, SaysWhy, StopsReading, StopsRemoving, removal}, Missing.{Doubts, Look, ShowsContents, StopsShowing, is_missing}, Reading.{ReadsEach, StopsEach}}
+use Rattle.cacache_keep.specs.{declared.checking.OddLines.{OddLines}, Checking.{Checks, StopsChecking}, Calls.{AsksEach, ListsEntries, MadeCalls, SaysWhy, StopsReading, StopsRemoving, removal}, Missing.{Doubts, Look, ShowsContents, StopsShowing, is_missing}, Reading.{ReadsEach, StopsEach}}
 
 -- ---- a key that may lead to no content
 
@@ -103,7 +103,7 @@ BuriesAll site (f ∷ entries) buried old new =
 -- The contents are listed, and each is read; the damaged ones are removed, one after another. Then
 -- the index is listed, of each entry is asked whether its content is there, and the keys of those
 -- whose content is missing get tombstones, unless they lead elsewhere.
-pub record RepairsCache
+pub record RepairsFrom
     (site : Site) (damaged : List (List Hash)) (buried : List Found)
     (old new : Option (List LogItem)) : Type 0 where
   pub addresses : List (List Hash)
@@ -123,6 +123,19 @@ pub record RepairsCache
   pub asked : Option (List LogItem)
   pub asking : AsksEach site entries dangling listed asked
   pub burying : BuriesAll site dangling buried asked new
+
+-- so it is after a check for odd lines
+abbrev pub RepairsWith : OddLines → Site → List (List Hash) → List Found
+    → Option (List LogItem) → Option (List LogItem) → Type 0
+RepairsWith odd site damaged buried old new =
+    (checked : Option (List LogItem)) × Checks odd site.cache old checked
+    × RepairsFrom site damaged buried checked new
+
+-- with one choice about them or the other
+abbrev pub RepairsCache : Site → List (List Hash) → List Found
+    → Option (List LogItem) → Option (List LogItem) → Type 0
+RepairsCache site damaged buried old new =
+    (odd : OddLines) × RepairsWith odd site damaged buried old new
 
 -- ---- errors
 
@@ -212,12 +225,20 @@ StopsDropping site e old new =
     × StopsRemoving site damaged e read new)))
 
 -- it ended that, or the calls after it: the listing of the index, the questions, the tombstones
-abbrev pub StopsRepairing :
+abbrev pub StopsRepairingFrom :
     Site → Error → Option (List LogItem) → Option (List LogItem) → Type 0
-StopsRepairing site e old new =
+StopsRepairingFrom site e old new =
     StopsDropping site e old new
     ⊎ ((clean : Option (List LogItem)) × DropsDamaged site old clean
     × (StopsReading site e clean new
     ⊎ ((entries dangling : List Found) × (listed asked : Option (List LogItem))
     × ListsEntries site entries clean listed × AsksEach site entries dangling listed asked
     × StopsBuryingAll site dangling e asked new)))
+
+-- the error ended the check for odd lines, or what came after it
+abbrev pub StopsRepairing :
+    OddLines → Site → Error → Option (List LogItem) → Option (List LogItem) → Type 0
+StopsRepairing odd site e old new =
+    StopsChecking odd site.cache e old new
+    ⊎ ((checked : Option (List LogItem)) × Checks odd site.cache old checked
+    × StopsRepairingFrom site e checked new)

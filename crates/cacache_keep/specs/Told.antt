@@ -3,7 +3,7 @@ use Rattle.std.specs.Prelude.{◌≡◌, ℕ, List, Option, map, string_bytes}
 use Rattle.cacache_store.specs.declared.store.log.LogItem.{LogItem}
 use Rattle.cacache_entry.specs.{Latest.{Found}, View.{found_view}, declared.metadata.Metadata.{Metadata}}
 use Rattle.cacache_table.specs.State.{Site}
-use Rattle.cacache_keep.specs.{declared.{repairing.Repaired.{Repaired}, sweeping.Swept.{Swept}, verifying.Verdict.{Verdict}}, Calls.{AsksEach}, Keeping.{VerifiesCache}, Reading.{Judged, damaged_bytes_of, good_bytes_of}, Missing.{Look}, Repairing.{BuriesAll, BuriesEach, RepairsCache}, Sweeping.{SweepsCache}}
+use Rattle.cacache_keep.specs.{declared.{checking.OddLines.{OddLines}, repairing.Repaired.{Repaired}, sweeping.Swept.{Swept}, verifying.Verdict.{Verdict}}, Calls.{AsksEach}, Keeping.{VerifiesCache}, Reading.{Judged, damaged_bytes_of, good_bytes_of}, Missing.{Look}, Repairing.{BuriesAll, BuriesEach, RepairsFrom, RepairsWith}, Sweeping.{SweepsCache}}
 
 -- these contents were read, and the verdict tells the bytes of the good ones and of the damaged ones
 abbrev pub TellsBytes : Verdict → List Judged → Type 0
@@ -35,11 +35,17 @@ abbrev pub BuriesAllAs : Site → List Metadata → List Metadata
 BuriesAllAs site entries buried old new =
     BuriesAll site (map found_view entries) (map found_view buried) old new
 
--- the log gained a repair, and this tells what it did
-abbrev pub RepairsAs :
+-- the log gained a repair without a check for odd lines, and this tells what it did
+abbrev pub RepairsFromAs :
     Site → Repaired → Option (List LogItem) → Option (List LogItem) → Type 0
-RepairsAs site r old new =
-    RepairsCache site r.damaged.items (map found_view r.dangling.items) old new
+RepairsFromAs site r old new =
+    RepairsFrom site r.damaged.items (map found_view r.dangling.items) old new
+
+-- so it did after the check
+abbrev pub RepairsAs :
+    OddLines → Site → Repaired → Option (List LogItem) → Option (List LogItem) → Type 0
+RepairsAs odd site r old new =
+    RepairsWith odd site r.damaged.items (map found_view r.dangling.items) old new
 
 -- the log gained a sweep of the cache, and this tells what it did
 abbrev pub SweepsAs :

@@ -4,6 +4,7 @@
 mod asking;
 mod buckets;
 mod burying;
+mod checking;
 mod choosing;
 mod collecting;
 mod compacting;
@@ -22,10 +23,11 @@ mod sweeping;
 mod syncing;
 mod verifying;
 
-pub use collecting::{Collected, collect};
+pub use checking::OddLines;
+pub use collecting::{Collected, collect, collect_with};
 pub use compacting::{CompactOpts, Compacted, compact};
 pub use laws::keep_laws;
 pub use planning::{Planned, Unused, plan};
-pub use repairing::{Repaired, repair};
+pub use repairing::{Repaired, repair, repair_with};
 pub use sweeping::{Swept, sweep};
 pub use verifying::{Verdict, verify};

@@ -1,5 +1,6 @@
 //! The lines of a bucket, and the bytes that a compaction leaves of them.
 ghost use Rattle.std.specs.Prelude.{◌≡◌, ◌++◌, ◌∷◌, ◌||◌, List, [], IfOk, IfErr, OnOk, MatchOption, bytes_eq, false, if◌then◌else◌, is_some, map, option_map, ℕ};
+ghost use Rattle.std.specs.List.{list_any};
 ghost use Rattle.std.specs.Option.{option_to_list};
 ghost use Rattle.cacache_core.specs.Digests.{sha256_hex};
 ghost use Rattle.cacache_core.specs.declared.errors.Error.TheVariants.{OutOfMemory};
@@ -7,6 +8,7 @@ ghost use Rattle.cacache_entry.specs.Bucket.{cut, CutsAt, without_cr as less_cr}
 ghost use Rattle.cacache_entry.specs.Entry.{closing};
 ghost use Rattle.cacache_entry.specs.View.{entry_view};
 ghost use Rattle.cacache_keep_laws.specs.Compacting.{compact_text as compact_text_of, decision, decision_of, is_closed as is_closed_by, is_line as is_line_of, is_odd as is_odd_line, key_of, line_of_piece, lines_of as lines_in, Line as LineOf, text_of};
+ghost use Rattle.cacache_keep.specs.Checking.{has_odd as has_odd_line};
 ghost use Rattle.cacache_keep.specs.Lines.{HasKeys, decision_view, finds as finds_in, in_order, last_lines as last_of, line_view, without_tombstones};
 
 use cacache_core::errors::Result;
@@ -186,6 +188,27 @@ fn is_odd_by(odd: bool, line: &Line) -> bool
     ensures { result ≡ (odd || is_odd_line (line_view line.now)) }
 {
     odd || line.decided.is_none()
+}
+
+/// Whether one of the lines is odd.
+fn some_odd(lines: &[Line]) -> bool
+    ensures { result ≡ list_any is_odd_line (map line_view lines.now) }
+{
+    for line in lines {
+        if line.decided.is_none() {
+            return true;
+        }
+    }
+    false
+}
+
+/// Whether a bucket has an odd line.
+pub(crate) fn has_odd(alloc: Global, bytes: &[u8]) -> Result<bool>
+    ensures odd { IfOk result (λ odd. odd ≡ has_odd_line bytes.now) }
+    ensures memory { IfErr result (λ e. e ≡ OutOfMemory) }
+{
+    let lines = lines_of(alloc, bytes)?;
+    Ok(some_odd(lines.as_slice()))
 }
 
 /// Whether the line finds an entry.

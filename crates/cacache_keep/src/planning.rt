@@ -83,7 +83,8 @@ fn sizes_of<S: Store>(
 }
 
 /// Tells which contents a `collect` would remove, each with its bytes, and how many it would leave.
-/// Nothing changes. What a later `collect` removes is the same while nobody writes in between.
+/// Nothing changes. What a later `collect` removes is the same while nobody writes in between; it ends with an error if a
+/// bucket has a line that this crate can't read and another reader may.
 ///
 /// Errors are those of `content::read::list`, the first error among the items of the index, and an
 /// `IoError` of a content that didn't tell its size, as a link to a folder. `OutOfMemory` may come

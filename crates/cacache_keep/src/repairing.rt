@@ -1,11 +1,13 @@
 //! The call that repairs a cache.
 ghost use Rattle.std.specs.Prelude.{◌≡◌, IfOk, IfErr};
 ghost use Rattle.cacache_jobs.specs.Sites.{site_of};
-ghost use Rattle.cacache_keep.specs.Repairing.{StopsRepairing};
-ghost use Rattle.cacache_keep.specs.Told.{RepairsAs};
+ghost use Rattle.cacache_keep.specs.declared.checking.OddLines.TheVariants.{Refuse};
+ghost use Rattle.cacache_keep.specs.Repairing.{StopsRepairing, StopsRepairingFrom};
+ghost use Rattle.cacache_keep.specs.Told.{RepairsAs, RepairsFromAs};
 
 use crate::asking::dangling_of;
 use crate::burying::bury_all;
+use crate::checking::{OddLines, check};
 use crate::index::entries;
 use crate::reading::{Read, read_each};
 use crate::removing::remove_each;
@@ -26,25 +28,14 @@ pub struct Repaired {
     pub dangling: Vec<Metadata>,
 }
 
-/// Removes each damaged content of a cache, and adds a tombstone for each key that leads to an entry
-/// whose content is missing then. A content is damaged as `verify` finds it. Of one that is a link,
-/// the link is removed and its target stays. Whatever else lies among the contents stays, and so does
-/// an entry that its key's lookup doesn't find, such as one in another key's bucket.
-///
-/// A question for a content that fails is answered like one for a content that isn't there. So if an entry
-/// dangles, the contents are walked through once more, and a key gets a tombstone only if that walk doesn't
-/// meet its content. If it does, or if a link or a file hides the place of the content, the call ends with an
-/// `IoError` of `Device`, which names the content.
-///
-/// Repair a cache while nobody writes to it: a content is stored before its entry.
-///
-/// Errors are those of `verify`, of a removal, of the second walk and of a tombstone, and the one above.
-/// Contents before the error are removed then, and keys before it have tombstones. `OutOfMemory` may come at
-/// any time.
-pub fn repair<S: Store, C: Clock, N: Names>(env: &mut Env<S, C, N>, cache: &str) -> Result<Repaired>
-    ensures repairs { IfOk result (λ r. RepairsAs (site_of cache.now env.old.base 0) r
+/// Repairs a cache without a look at odd lines.
+fn repair_from<S: Store, C: Clock, N: Names>(
+    env: &mut Env<S, C, N>,
+    cache: &str,
+) -> Result<Repaired>
+    ensures repairs { IfOk result (λ r. RepairsFromAs (site_of cache.now env.old.base 0) r
         (S.log env.old.store) (S.log env.new.store)) }
-    ensures stops { IfErr result (λ e. StopsRepairing (site_of cache.now env.old.base 0) e
+    ensures stops { IfErr result (λ e. StopsRepairingFrom (site_of cache.now env.old.base 0) e
         (S.log env.old.store) (S.log env.new.store)) }
     ensures names { env.new.names ≡ env.old.names }
     ensures base { env.new.base ≡ env.old.base }
@@ -62,4 +53,55 @@ pub fn repair<S: Store, C: Clock, N: Names>(env: &mut Env<S, C, N>, cache: &str)
     let dangling = dangling_of(env, cache, entries)?;
     let dangling = bury_all(env, cache, dangling)?;
     Ok(Repaired { damaged, dangling })
+}
+
+/// Repairs a cache as `repair` does, with the choice what is done about odd lines in its index. With `OddLines::Ignore` a
+/// key may get a tombstone that hides such a line from another reader.
+///
+/// Errors are those of `repair`. With `OddLines::Ignore` the buckets aren't checked, and those of that check don't come.
+pub fn repair_with<S: Store, C: Clock, N: Names>(
+    env: &mut Env<S, C, N>,
+    cache: &str,
+    odd: OddLines,
+) -> Result<Repaired>
+    ensures repairs { IfOk result (λ r. RepairsAs odd (site_of cache.now env.old.base 0) r
+        (S.log env.old.store) (S.log env.new.store)) }
+    ensures stops { IfErr result (λ e. StopsRepairing odd (site_of cache.now env.old.base 0) e
+        (S.log env.old.store) (S.log env.new.store)) }
+    ensures names { env.new.names ≡ env.old.names }
+    ensures base { env.new.base ≡ env.old.base }
+{
+    check(env.alloc, &mut env.store, odd, cache)?;
+    repair_from(env, cache)
+}
+
+/// Removes each damaged content of a cache, and adds a tombstone for each key that leads to an entry
+/// whose content is missing then. A content is damaged as `verify` finds it. Of one that is a link,
+/// the link is removed and its target stays. Whatever else lies among the contents stays, and so does
+/// an entry that its key's lookup doesn't find, such as one in another key's bucket.
+///
+/// A question for a content that fails is answered like one for a content that isn't there. So if an entry
+/// dangles, the contents are walked through once more, and a key gets a tombstone only if that walk doesn't
+/// meet its content. If it does, or if a link or a file hides the place of the content, the call ends with an
+/// `IoError` of `Device`, which names the content.
+///
+/// Repair a cache while nobody writes to it: a content is stored before its entry.
+///
+/// A line of the index with a right digest that this crate can't read is odd: another reader may read it, and a tombstone
+/// after it would hide it. So a cache with such a line isn't repaired: the buckets are read before all else, and the call
+/// ends with an `IoError` of `Unsupported`, which names the bucket. `repair_with` can go on.
+///
+/// Errors are that one, `IoError` if a folder of the index couldn't be listed or a bucket couldn't be read, those of
+/// `verify`, of a removal, of the second walk and of a tombstone, and the one about a content that may be there.
+/// Contents before the error are removed then, and keys before it have tombstones. `OutOfMemory` may come at
+/// any time.
+pub fn repair<S: Store, C: Clock, N: Names>(env: &mut Env<S, C, N>, cache: &str) -> Result<Repaired>
+    ensures repairs { IfOk result (λ r. RepairsAs Refuse (site_of cache.now env.old.base 0) r
+        (S.log env.old.store) (S.log env.new.store)) }
+    ensures stops { IfErr result (λ e. StopsRepairing Refuse (site_of cache.now env.old.base 0) e
+        (S.log env.old.store) (S.log env.new.store)) }
+    ensures names { env.new.names ≡ env.old.names }
+    ensures base { env.new.base ≡ env.old.base }
+{
+    repair_with(env, cache, OddLines::Refuse)
 }

@@ -24,7 +24,7 @@ fn unread(alloc: Global, path: &Text) -> std::result::Result<Text, AllocError> {
 }
 
 /// The bytes of the bucket at the path.
-fn read<S: Store>(alloc: Global, store: &mut S, path: &Text) -> Result<Bytes>
+pub(crate) fn read<S: Store>(alloc: Global, store: &mut S, path: &Text) -> Result<Bytes>
     ensures reads { IfOk result (λ bytes. Does (steps.ReadAll path.now) (answers.Bytes bytes)
         (S.log store.old) (S.log store.new)) }
     ensures stops { IfErr result

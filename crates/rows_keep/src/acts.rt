@@ -4,7 +4,9 @@ use crate::stuck::{Kind, Stuck};
 use cacache::env::{Clock, Env, Names, Reasons};
 use cacache::store::Store;
 use cacache::{Integrity, Result as Answered, WriteOpts};
-use cacache_keep::{CompactOpts, collect, compact, plan, repair, sweep, verify};
+use cacache_keep::{
+    CompactOpts, OddLines, collect, collect_with, compact, plan, repair, repair_with, sweep, verify,
+};
 use cacache_program::keep::{run, said, tell_missing};
 use cacache_program::{Errors, asks_why, tell};
 use row_places::planting::{held, make_folder, plant, plant_link};
@@ -111,6 +113,8 @@ fn kept<S: Store>(env: &mut On<S>, name: &str, cache: &str) -> Result<String, Fl
         "plan" => told(alloc, plan(env, cache)),
         "repair" => told(alloc, repair(env, cache)),
         "collect" => told(alloc, collect(env, cache)),
+        "repair_anyway" => told(alloc, repair_with(env, cache, OddLines::Ignore)),
+        "collect_anyway" => told(alloc, collect_with(env, cache, OddLines::Ignore)),
         "verify" => told(alloc, verify(env, cache)),
         "compact" => told(alloc, compact(env, cache)),
         "compact_durably" => told(alloc, durable.compact(env, cache)),

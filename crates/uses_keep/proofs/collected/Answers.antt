@@ -1,5 +1,6 @@
 use Rattle.cacache_jobs.specs.Sites.{site_of}
+use Rattle.cacache_keep.specs.declared.checking.OddLines.TheVariants.{Refuse}
 use Rattle.uses_keep.proofs.collected.Goals as goal
 
 pub returns : goal.returns
-returns g c = λ home is. c.keep_laws.ensures.collects (site_of c.args.cache.now c.args.env.now.base 0) home _ _ c.args.env.now.store c.collect.new.env.store is c.keep_laws.ensures.logged c.in_ok-collected.ensures.collects
+returns g c = λ home is. c.keep_laws.ensures.collects (site_of c.args.cache.now c.args.env.now.base 0) home _ _ c.args.env.now.store c.collect.new.env.store is c.keep_laws.ensures.logged (Refuse, c.in_ok-collected.ensures.collects)

@@ -3,6 +3,7 @@ use Rattle.cacache_table.specs.declared.command.Command.TheVariants as commands
 use Rattle.cacache_table.specs.declared.reply.Reply.TheVariants as replies
 use Rattle.cacache_sequence.specs.Caches.{Called}
 use Rattle.cacache_jobs.specs.Sites.{site_of}
+use Rattle.cacache_keep.specs.declared.checking.OddLines.TheVariants.{Refuse}
 use Rattle.uses_keep.proofs.read_after.Goals as goal
 
 pub returns : goal.returns
@@ -10,7 +11,7 @@ returns g c = λ home is out.
     let old = c.args.env.now.store in
     let mid = c.collect.new.env.store in
     let new = c.read_sync.new.env.store in
-    let stay = c.keep_laws.ensures.later (site_of c.args.cache.now c.args.env.now.base 0) home _ _ [] old mid mid old is c.keep_laws.ensures.logged out c.in_ok-collect.ensures.collects refl refl in
+    let stay = c.keep_laws.ensures.later (site_of c.args.cache.now c.args.env.now.base 0) home _ _ [] old mid mid old is c.keep_laws.ensures.logged out (Refuse, c.in_ok-collect.ensures.collects) refl refl in
     let reply = replies.Read c.in_ok-bytes.bytes.items in
     let called : Called c.args.cache.now (commands.Get c.args.key.now) (replies.Read c.in_ok-bytes.bytes.items) c.collect.new.env.store c.read_sync.new.env.store
     = record { base = c.collect.new.env.base; number = 0; ran = c.in_ok-bytes.ensures.ran.0.0; plain = refl; logged = c.keep_laws-2.ensures.logged } in

@@ -4,6 +4,7 @@ use Rattle.cacache_table.specs.declared.reply.Reply.TheVariants as replies
 use Rattle.cacache_sequence.specs.Caches.{Called}
 use Rattle.cacache_keep_laws.specs.Idle.{Removed}
 use Rattle.cacache_jobs.specs.Sites.{site_of}
+use Rattle.cacache_keep.specs.declared.checking.OddLines.TheVariants.{Refuse}
 use Rattle.uses_keep.proofs.read_after_removal.Goals as goal
 
 pub returns : goal.returns
@@ -16,7 +17,7 @@ returns g c = λ home other is out removed.
     = record { base = c.collect.new.env.base; number = 0; ran = (c.in_ok-remove_sync.ensures.fully c.remove_fully-removal.ensures).0.0; plain = refl; logged = c.keep_laws-2.ensures.logged } in
     let mine : Removed c.args.cache.now (commands.RemoveFully c.args.gone.now) c.collect.new.env.store c.remove_sync.new.env.store
     = record { removal = refl; reply = replies.Done; called = removing; whole = λ e. cc } in
-    let stay = c.keep_laws.ensures.later (site_of c.args.cache.now c.args.env.now.base 0) home _ _ (Some (commands.RemoveFully c.args.gone.now) ∷ []) old mid late other is c.keep_laws.ensures.logged out c.in_ok-collect.ensures.collects
+    let stay = c.keep_laws.ensures.later (site_of c.args.cache.now c.args.env.now.base 0) home _ _ (Some (commands.RemoveFully c.args.gone.now) ∷ []) old mid late other is c.keep_laws.ensures.logged out (Refuse, c.in_ok-collect.ensures.collects)
     (mid, refl, late, mine, refl) (old, refl, other, removed, refl) in
     let reply = replies.Read c.in_ok-bytes.bytes.items in
     let reading : Called c.args.cache.now (commands.Get c.args.key.now) (replies.Read c.in_ok-bytes.bytes.items) c.remove_sync.new.env.store c.read_sync.new.env.store

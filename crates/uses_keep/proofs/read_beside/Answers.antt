@@ -6,7 +6,7 @@ use Rattle.cacache_table.specs.declared.command.{How.TheVariants.{Copy}, Source.
 use Rattle.cacache_table.specs.declared.reply.Reply.TheVariants as replies
 use Rattle.cacache_jobs.specs.Sites.{site_of}
 use Rattle.cacache_sequence.specs.{Caches.{Called, plain_put}, ExportEffects.{copy_from}}
-use Rattle.cacache_keep.specs.Behind.{collects, exports, puts}
+use Rattle.cacache_keep.specs.{declared.checking.OddLines.TheVariants.{Refuse}, Behind.{collects, exports, puts}}
 use Rattle.uses_keep.proofs.Texts.{only}
 use Rattle.uses_keep.proofs.read_beside.Goals as goal
 
@@ -33,7 +33,7 @@ returns g c = λ home bytes i is sound has apart differ.
     let stays = c.keep_laws.ensures.later_keys (site_of c.args.cache.now c.args.env.now.base 0) home key events old late is sound (
       lean,
       c.keep_laws.ensures.logged,
-      (_, _, c.in_ok-collect.ensures.collects),
+      (_, _, (Refuse, c.in_ok-collect.ensures.collects)),
       (copied, c.keep_laws-2.ensures.logged, (apart, tt, _, copying), (late, c.keep_laws-3.ensures.logged, (differ, fits, _, writing), refl)),
     ) in
     let led = stays.leads bytes i has in

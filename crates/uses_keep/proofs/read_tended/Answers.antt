@@ -8,7 +8,7 @@ use Rattle.cacache_table.specs.declared.reply.Reply.TheVariants as replies
 use Rattle.cacache_sequence.specs.Caches.{Called}
 use Rattle.cacache_jobs.specs.Sites.{site_of}
 use Rattle.cacache_keep_laws.specs.{Contents.{content_in}, Mending.{found_in}}
-use Rattle.cacache_keep.specs.Repairing.{RepairsCache}
+use Rattle.cacache_keep.specs.{declared.checking.OddLines.TheVariants.{Refuse}, Repairing.{RepairsCache}}
 use Rattle.uses_keep.proofs.read_tended.Goals as goal
 
 pub returns : goal.returns
@@ -29,7 +29,7 @@ returns g c = λ home found is housed led.
     let placed = one.sweeps_house cache home _ _ _ old swept is one.logged housed sweeps in
     let first = one.sweeps_good cache home _ _ _ old swept key found is one.logged housed sweeps led in
     let repair = c.in_ok-repair.field-0 in
-    let repairs = subst (λ base. RepairsCache (site_of c.args.cache.now base 0) repair.damaged.items (map found_view repair.dangling.items) (Some swept) (Some mended)) c.sweep.ensures.base c.in_ok-repair.ensures.repairs in
+    let repairs = subst (λ base. RepairsCache (site_of c.args.cache.now base 0) repair.damaged.items (map found_view repair.dangling.items) (Some swept) (Some mended)) c.sweep.ensures.base (Refuse, c.in_ok-repair.ensures.repairs) in
     let still = two.houses site home _ _ swept mended is two.logged placed repairs in
     let second = two.good site home _ _ swept mended key found is two.logged placed repairs first.0 in
     let unseen = three.unseen site home mended lean is three.logged (inl (false, _, _, c.in_ok-compact.ensures.compacts)) in

@@ -1,9 +1,9 @@
 use Rattle.std.proofs.Common.{inl, inr, map, rules, string_bytes, ◌∙◌}
 use Rattle.cacache_entry.specs.View.{found_view}
 use Rattle.cacache_jobs.specs.Sites.{site_of}
-use Rattle.cacache_keep.specs.{Calls.{AsksEach, ListsEntries, MadeCalls, StopsReading, StopsRemoving, removal}, Repairing.{DropsDamaged, StopsBuryingAll, StopsRepairing}}
+use Rattle.cacache_keep.specs.{Calls.{AsksEach, ListsEntries, MadeCalls, StopsReading, StopsRemoving, removal}, Repairing.{DropsDamaged, StopsBuryingAll, StopsRepairingFrom}}
 use Rattle.cacache_keep.proofs.Stopped.{at_base, entries_stop, error_as}
-use Rattle.cacache_keep.proofs.repairing.repair.Goals as goal
+use Rattle.cacache_keep.proofs.repairing.repair_from.Goals as goal
 
 pub returns-in_err-remove_each-clause-stops : goal.returns-in_err-remove_each-clause-stops
 returns-in_err-remove_each-clause-stops g c =
@@ -17,7 +17,7 @@ returns-in_err-remove_each-clause-stops g c =
     let damaged = c.in_ok-damaged.field-0.damaged.items in
     let stop : StopsRemoving (site_of cache c.list.new.env.base 0) damaged e read new = search (rules, c.in_err-remove_each.ensures.stops) in
     let stops = at_base (λ s. StopsRemoving s damaged e read new) cache base c.list.new.env.base c.list.ensures.base stop in
-    error_as (λ x. StopsRepairing site x (log c.args.env.now.store) new) c.from_residual-in_err-remove_each.result e c.from_residual-in_err-remove_each.ensures.1
+    error_as (λ x. StopsRepairingFrom site x (log c.args.env.now.store) new) c.from_residual-in_err-remove_each.result e c.from_residual-in_err-remove_each.ensures.1
     (inl (inr (c.in_ok-addresses.field-0.addresses.items, map string_bytes c.in_ok-addresses.field-0.strange.items, log c.list.new.env.store, c.in_ok-addresses.ensures.lists, inr (_, damaged, read, c.in_ok-damaged.ensures.reads.0, stops))))
 
 pub returns-in_err-dangling-clause-stops : goal.returns-in_err-dangling-clause-stops
@@ -48,7 +48,7 @@ returns-in_err-dangling-clause-stops g c =
       reading = c.in_ok-damaged.ensures.reads.0;
       removing = removing;
     } in
-    error_as (λ x. StopsRepairing site x (log c.args.env.now.store) new) c.from_residual-in_err-dangling.result e c.from_residual-in_err-dangling.ensures.1
+    error_as (λ x. StopsRepairingFrom site x (log c.args.env.now.store) new) c.from_residual-in_err-dangling.result e c.from_residual-in_err-dangling.ensures.1
     (inr (clean, drops, inl (entries_stop site _ e clean listed new lists stop)))
 
 pub returns-in_err-dangling-2-clause-stops : goal.returns-in_err-dangling-2-clause-stops
@@ -83,18 +83,18 @@ returns-in_err-dangling-2-clause-stops g c =
       reading = c.in_ok-damaged.ensures.reads.0;
       removing = removing;
     } in
-    error_as (λ x. StopsRepairing site x (log c.args.env.now.store) new) c.from_residual-in_err-dangling-2.result e c.from_residual-in_err-dangling-2.ensures.1
+    error_as (λ x. StopsRepairingFrom site x (log c.args.env.now.store) new) c.from_residual-in_err-dangling-2.result e c.from_residual-in_err-dangling-2.ensures.1
     (inr (clean, drops, inr (entries, dangling, listed, asked, lists, asks, stop)))
 
 pub returns-in_err-addresses-clause-stops : goal.returns-in_err-addresses-clause-stops
 returns-in_err-addresses-clause-stops g c =
-    error_as (λ x. StopsRepairing (site_of c.args.cache.now c.args.env.now.base 0) x (g.S.Store.log c.args.env.now.store) (g.S.Store.log c.list.new.env.store)) c.from_residual.result c.in_err-addresses.field-0.0 c.from_residual.ensures.1
+    error_as (λ x. StopsRepairingFrom (site_of c.args.cache.now c.args.env.now.base 0) x (g.S.Store.log c.args.env.now.store) (g.S.Store.log c.list.new.env.store)) c.from_residual.result c.in_err-addresses.field-0.0 c.from_residual.ensures.1
     (inl (inl c.in_err-addresses.ensures.stops))
 
 pub returns-in_err-damaged-clause-stops : goal.returns-in_err-damaged-clause-stops
 returns-in_err-damaged-clause-stops g c =
     let log = g.S.Store.log in
-    error_as (λ x. StopsRepairing (site_of c.args.cache.now c.args.env.now.base 0) x (log c.args.env.now.store) (log c.read_each.new.store)) c.from_residual-in_err-damaged.result c.in_err-damaged.field-0.0 c.from_residual-in_err-damaged.ensures.1
+    error_as (λ x. StopsRepairingFrom (site_of c.args.cache.now c.args.env.now.base 0) x (log c.args.env.now.store) (log c.read_each.new.store)) c.from_residual-in_err-damaged.result c.in_err-damaged.field-0.0 c.from_residual-in_err-damaged.ensures.1
     (inl (inr (c.in_ok-addresses.field-0.addresses.items, map string_bytes c.in_ok-addresses.field-0.strange.items, log c.list.new.env.store, c.in_ok-addresses.ensures.lists, inl c.in_err-damaged.ensures.stops)))
 
 pub returns-in_err-entries-clause-stops : goal.returns-in_err-entries-clause-stops
@@ -123,5 +123,5 @@ returns-in_err-entries-clause-stops g c =
       reading = c.in_ok-damaged.ensures.reads.0;
       removing = removing;
     } in
-    error_as (λ x. StopsRepairing site x (log c.args.env.now.store) new) c.from_residual-in_err-entries.result e c.from_residual-in_err-entries.ensures.1
+    error_as (λ x. StopsRepairingFrom site x (log c.args.env.now.store) new) c.from_residual-in_err-entries.result e c.from_residual-in_err-entries.ensures.1
     (inr (clean, drops, inl stop))
