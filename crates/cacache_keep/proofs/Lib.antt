@@ -34,4 +34,6 @@ mod SyncedTrees
 mod SyncedFolders
 mod TightBuckets
 mod CompactedTrees
+mod ParentTexts
+mod FoundFolders
 mod WholeCompactions

@@ -1,0 +1,97 @@
+-- The folders that hold the paths of buckets, by their texts.
+use Rattle.std.{proofs.{Common.{◌≡◌, ℕ, suc, List, [], ◌∷◌, ◌++◌, Bool, true, false, cond, Option, Some, Ok, length, map, filter, refl, sym, ap, subst, ◌∙◌, arith, eqb-true}, lemmas.Bool.{and_parts}}, specs.List.{AllByRecursion, flat_map, list_all}}
+use Rattle.cacache_core.specs.{PathNames.{Names, names_of, home_of, IsProperName}, Paths.{index_area, join}}
+use Rattle.cacache_store.specs.declared.store.{answer.Name.{Name}, log.LogItem.{LogItem}}
+use Rattle.cacache_keep_laws.{specs.Temporary.{is_file}, proofs.Covering.{named_on}}
+use Rattle.cacache_keep.specs.{Buckets.{FindsBuckets, Listed, ListsParts, belongs, index_area_in, is_folder, is_hex_digit, is_hex_name, parts_in}, Rewriting.{folder_of}}
+use Rattle.cacache_keep.proofs.{FoundBuckets.{area_named}, ParentTexts.{EndsHex, digits_end, digits_proper, folder_is, joined_ends}}
+
+-- ---- hex names
+
+-- a name of hex digits
+abbrev IsHex : List ℕ → Type 0
+IsHex name = (list_all is_hex_digit name ≡ true) × EndsHex name × IsProperName name
+
+hex_of : (digits : ℕ) (name : List ℕ) → length name ≡ suc digits → list_all is_hex_digit name ≡ true → IsHex name
+hex_of digits [] size all = absurd (omega (arith, size))
+hex_of digits (c ∷ x) size all = (all, digits_end c x all, digits_proper c x all)
+
+hex_name : (digits : ℕ) (n : Name) → is_hex_name (suc digits) n ≡ true → IsHex n.name
+hex_name digits n is = let both = and_parts _ _ is in hex_of digits n.name (eqb-true (length n.name) (suc digits) both.0) both.1
+
+-- ---- parts
+
+module _ (P Q : List ℕ → Type 0) (last : Bool) (each : (f : List ℕ) (n : Name) → P f → belongs last n ≡ true → Q (join f n.name)) where
+  parts_of : (f : List ℕ) (ns : List Name) → P f → AllByRecursion Q (map (λ (n : Name). join f n.name) (filter (belongs last) ns))
+  parts_of f [] here = tt
+  parts_of f (n ∷ ns) here = by (belongs last n) refl (parts_of f ns here)
+    where
+      by : (b : Bool) → belongs last n ≡ b → AllByRecursion Q (map (λ (n : Name). join f n.name) (filter (belongs last) ns))
+          → AllByRecursion Q (map (λ (n : Name). join f n.name) (cond b (n ∷ filter (belongs last) ns) (filter (belongs last) ns)))
+      by true is rest = (each f n here is, rest)
+      by false is rest = rest
+
+  all_append : (xs ys : List (List ℕ)) → AllByRecursion Q xs → AllByRecursion Q ys → AllByRecursion Q (xs ++ ys)
+  all_append [] ys a b = b
+  all_append (x ∷ xs) ys a b = (a.0, all_append xs ys a.1 b)
+
+  all_parts : (listings : List Listed) → AllByRecursion P (map (λ (l : Listed). l.0) listings) → AllByRecursion Q (flat_map (parts_in last) listings)
+  all_parts [] all = tt
+  all_parts (l ∷ listings) all = all_append (parts_in last l) (flat_map (parts_in last) listings) (parts_of l.0 l.1 all.0) (all_parts listings all.1)
+
+  -- what holds of the folders' paths gives what holds of the paths found there
+  parts_have : (folders paths : List (List ℕ)) (old new : Option (List LogItem)) → ListsParts last folders paths old new → AllByRecursion P folders → AllByRecursion Q paths
+  parts_have folders paths old new p all = subst (AllByRecursion Q) (sym p.which) (all_parts p.listings (subst (AllByRecursion P) (sym p.each) all))
+
+-- ---- buckets
+
+abbrev Named : List ℕ → Type 0
+Named f = (names : Names) × (names_of f ≡ Ok names)
+
+abbrev NamedHex : List ℕ → Type 0
+NamedHex f = Named f × EndsHex f
+
+-- the text of the folder that holds what stands at the path names it
+abbrev pub FolderNamed : List ℕ → Type 0
+FolderNamed p = (folder : Names) (name : List ℕ) → names_of p ≡ Ok (folder ++ name ∷ []) → names_of (folder_of p) ≡ Ok folder
+
+same_front : (a b : Names) (x y : List ℕ) → a ++ x ∷ [] ≡ b ++ y ∷ [] → a ≡ b
+same_front [] [] x y e = refl
+same_front [] (n ∷ b) x y e = absurd (short b (ap (λ (l : Names). length l) e))
+  where
+    short : (b : Names) → length (x ∷ []) ≡ length (n ∷ (b ++ y ∷ [])) → ⊥
+    short [] e = omega (arith, e)
+    short (m ∷ b) e = omega (arith, e)
+same_front (m ∷ a) [] x y e = absurd (short a (ap (λ (l : Names). length l) e))
+  where
+    short : (a : Names) → length (m ∷ (a ++ x ∷ [])) ≡ length (y ∷ []) → ⊥
+    short [] e = omega (arith, e)
+    short (k ∷ a) e = omega (arith, e)
+same_front (m ∷ a) (n ∷ b) x y e =
+    let head : m ≡ n = cc in
+    let rest : a ++ x ∷ [] ≡ b ++ y ∷ [] = cc in
+    ap (λ (l : Names). m ∷ l) (same_front a b x y rest) ∙ ap (λ (k : List ℕ). k ∷ b) head
+
+top_part : (f : List ℕ) (n : Name) → Named f → belongs false n ≡ true → Named (join f n.name)
+top_part f n named is =
+    let hex = hex_name 1 n (and_parts (is_folder n.kind) (is_hex_name 2 n) is).1 in
+    (named.0 ++ n.name ∷ [], named_on f named.0 n.name named.1 hex.2)
+
+low_part : (f : List ℕ) (n : Name) → Named f → belongs false n ≡ true → NamedHex (join f n.name)
+low_part f n named is =
+    let hex = hex_name 1 n (and_parts (is_folder n.kind) (is_hex_name 2 n) is).1 in
+    (top_part f n named is, joined_ends f n.name hex.1)
+
+bucket_part : (f : List ℕ) (n : Name) → NamedHex f → belongs true n ≡ true → FolderNamed (join f n.name)
+bucket_part f n named is folder name e =
+    let hex = hex_name 35 n (and_parts (is_file n.kind) (is_hex_name 36 n) is).1 in
+    let both : Ok (named.0.0 ++ n.name ∷ []) ≡ Ok (folder ++ name ∷ []) = sym (named_on f named.0.0 n.name named.0.1 hex.2) ∙ e in
+    let same : named.0.0 ++ n.name ∷ [] ≡ folder ++ name ∷ [] = cc in
+    ap names_of (folder_is f n.name named.1 hex.1 hex.0) ∙ named.0.1 ∙ ap Ok (same_front named.0.0 folder n.name name same)
+
+-- so it is of each bucket that is found
+pub folders_named : (cache : List ℕ) (home : Names) (tops paths : List (List ℕ)) (old new : Option (List LogItem)) → home_of cache ≡ Some home → FindsBuckets cache tops paths old new → AllByRecursion FolderNamed paths
+folders_named cache home tops paths old new is (lows, one, two, a, b, c) =
+    parts_have NamedHex FolderNamed true bucket_part lows paths two new c
+    (parts_have Named NamedHex false low_part tops lows one two b
+    (parts_have Named Named false top_part (index_area_in cache ∷ []) tops old one a ((home ++ index_area ∷ [], area_named cache home is), tt)))
