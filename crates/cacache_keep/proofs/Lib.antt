@@ -36,4 +36,5 @@ mod TightBuckets
 mod CompactedTrees
 mod ParentTexts
 mod FoundFolders
+mod MomentRuns
 mod WholeCompactions
