@@ -37,4 +37,5 @@ mod CompactedTrees
 mod ParentTexts
 mod FoundFolders
 mod MomentRuns
+mod ApartSteps
 mod WholeCompactions
