@@ -38,4 +38,5 @@ mod ParentTexts
 mod FoundFolders
 mod MomentRuns
 mod ApartSteps
+mod ApartBuckets
 mod WholeCompactions

@@ -1,0 +1,100 @@
+-- The compaction of a bucket leaves what is fixed of other paths.
+use Rattle.std.{proofs.Common.{◌≡◌, ℕ, List, [], ◌∷◌, ◌++◌, Bool, true, false, drop, take, Option, Some, Ok, refl, sym, ap, subst, ◌∙◌}, specs.Prelude.{IfOk}}
+use Rattle.cacache_core.specs.{PathNames.{Names, home_of, names_of}, Paths.{temp_area, temp_names}}
+use Rattle.cacache_store.specs.declared.store.answer.Answer.TheVariants as answers
+use Rattle.cacache_store.specs.declared.store.{log.LogItem.{LogItem}, plain.PlainTemp.{PlainTemp}}
+use Rattle.cacache_store.specs.declared.store.step.Step.TheVariants as steps
+use Rattle.cacache_disk.specs.Tree.{Tree}
+use Rattle.cacache_table.specs.{Runs.{Moves}, SingleSteps.{Does}, StepPaths.{temp_folder, temp_path}}
+use Rattle.cacache_value.{specs.Kinds.{PathKind, Temporary, path_kind}, proofs.KindsApart.{kind-below}}
+use Rattle.cacache_sequence.specs.Sequence.{AreAnswered}
+use Rattle.cacache_loss.{specs.{Fixing.{is_at}, Moments.{Moment}}, proofs.UnchangedPaths.{at_false}}
+use Rattle.cacache_keep_laws.specs.Compacting.{compact_text}
+use Rattle.cacache_keep.specs.{Compacting.{Bucket, CompactsBucket, RewritesIf, is_loose}, Rewriting.{MakesTemp, Rewrites, SyncsBucket, Takes, Took, folder_of}}
+use Rattle.cacache_keep.proofs.{ApartSteps.{EachApart, apart_join}, MomentRuns.{Fixes, fixes_step, fixes_then}, Rewritten.{Has, temp_made, temp_path_named, wrote_has, writes_keep}}
+
+module _ (cache : List ℕ) (home : Names) (is : home_of cache ≡ Some home) (q : Names) (k : PathKind) (kind : path_kind (Some home) q ≡ k) (other : k ≡ Temporary → ⊥) where
+  -- the text leads elsewhere
+  abbrev pub Spares : List ℕ → Type 0
+  Spares p = is_at (names_of p) q ≡ false
+
+  spared : (p : List ℕ) (names : Names) → names_of p ≡ Ok names → path_kind (Some home) names ≡ Temporary → Spares p
+  spared p names named temp = at_false (Some home) Temporary k q (names_of p) (subst (λ r. IfOk r (λ n. path_kind (Some home) n ≡ Temporary)) (sym named) temp) kind other
+
+  abbrev pub AllApart : Moment → Moves → Type 0
+  AllApart w moves = EachApart q moves
+
+  -- ---- the temporary file
+
+  abbrev Makes : PlainTemp → Moment → Moves → Type 0
+  Makes file w moves = EachApart q moves × Spares file.path × (file.bytes ≡ Some [])
+
+  making_apart : (file : PlainTemp) (old new : Option (List LogItem)) → MakesTemp cache file old new → Fixes (Makes file) old new
+  making_apart file old new (number, made, folder, temp) =
+      fixes_then AllApart (Makes file) (Makes file) old made new
+      (fixes_step AllApart (steps.MakeDirs (temp_folder cache)) answers.Done old made folder (λ w rooted e. (tt, tt)))
+      (fixes_step (Makes file) (steps.CreateTemp (temp_path cache number)) (answers.Temp file) made new temp
+      (λ w rooted e.
+      let h = temp_made cache number home file w.tree is e in
+      let at = spared (temp_path cache number) (home ++ temp_names number) (temp_path_named cache number home is) (kind-below home (temp_names number)) in
+      ((at, tt), spared file.path (home ++ temp_area ∷ h.name ∷ []) h.named (kind-below home (temp_area ∷ h.name ∷ [])), h.empty)))
+      (λ w one two rooted a b. (apart_join q one two a b.0, b.1, b.2))
+
+  writes_apart : (moves : Moves) (t : Tree) (file last : PlainTemp) (path had bytes rest : List ℕ) → Spares path → Takes file bytes moves last rest → AreAnswered t moves → Has file path had
+      → EachApart q moves × Spares last.path
+  writes_apart [] t file last path had bytes rest spares takes a has =
+      (tt, ap (λ (f : PlainTemp). is_at (names_of f.path) q) takes.0 ∙ ap (λ p. is_at (names_of p) q) has.path_is ∙ spares)
+  writes_apart ((steps.Write f b, answers.Wrote g n) ∷ moves) t file last path had bytes rest spares takes a has =
+      let here = subst (λ (x : PlainTemp). Has x path had) (sym takes.0) has in
+      let next = wrote_has t f g b n path had here a.0 in
+      let then = subst (λ (u : Tree). AreAnswered u moves) (writes_keep t f b) a.1 in
+      let more = writes_apart moves t g last path (had ++ take n bytes) (drop n bytes) rest spares takes.2 then (subst (λ (l : List ℕ). Has g path (had ++ take n l)) takes.1 next) in
+      ((ap (λ p. is_at (names_of p) q) here.path_is ∙ spares, more.0), more.1)
+  writes_apart moves t file last path had bytes rest spares takes a has = absurd takes
+
+  abbrev Writes : PlainTemp → PlainTemp → Moment → Moves → Type 0
+  Writes file full w moves = Spares file.path → file.bytes ≡ Some [] → EachApart q moves × Spares full.path
+
+  writing_apart : (file full : PlainTemp) (bytes : List ℕ) (old new : Option (List LogItem)) → Took file bytes full [] old new → Fixes (Writes file full) old new
+  writing_apart file full bytes old new (moves, takes, gains) = record {
+    moves = moves;
+    gains = gains;
+    tells = λ w rooted a spares empty. writes_apart moves w.tree file full file.path [] bytes [] spares takes a (record { path_is = refl; bytes_are = empty });
+  }
+
+  -- it is made and written
+  abbrev pub Full : PlainTemp → Moment → Moves → Type 0
+  Full full w moves = EachApart q moves × Spares full.path
+
+  pub full_apart : (file full : PlainTemp) (bytes : List ℕ) (old made new : Option (List LogItem)) → MakesTemp cache file old made → Took file bytes full [] made new → Fixes (Full full) old new
+  full_apart file full bytes old made new making writing =
+      fixes_then (Makes file) (Writes file full) (Full full) old made new (making_apart file old made making) (writing_apart file full bytes made new writing)
+      (λ w one two rooted a b. let rest = b a.1 a.2 in (apart_join q one two a.0 rest.0, rest.1))
+
+  -- ---- one bucket
+
+  rewrite_apart : (path bytes : List ℕ) (old new : Option (List LogItem)) → Spares path → Rewrites true cache path bytes old new → Fixes AllApart old new
+  rewrite_apart path bytes old new spares r =
+      fixes_then (Full r.full) (λ w moves. Spares r.full.path → EachApart q moves) AllApart old r.written new (full_apart r.file r.full bytes old r.made r.written r.making r.writing)
+      (fixes_then AllApart (λ w moves. Spares r.full.path → EachApart q moves) (λ w moves. Spares r.full.path → EachApart q moves) r.written r.synced new
+      (fixes_step AllApart (steps.SyncTemp r.full) (answers.Synced r.full) r.written r.synced r.syncing (λ w rooted e. (tt, tt)))
+      (fixes_then (λ w moves. Spares r.full.path → EachApart q moves) AllApart (λ w moves. Spares r.full.path → EachApart q moves) r.synced r.moved new
+      (fixes_step (λ w moves. Spares r.full.path → EachApart q moves) (steps.Persist r.full path) answers.Done r.synced r.moved r.moving (λ w rooted e temp. ((temp, spares), tt)))
+      (fixes_step AllApart (steps.SyncDir (folder_of path)) answers.Done r.moved new r.securing (λ w rooted e. (tt, tt)))
+      (λ w one two rooted a b temp. apart_join q one two (a temp) b))
+      (λ w one two rooted a b temp. apart_join q one two a (b temp)))
+      (λ w one two rooted a b. apart_join q one two a.0 (b a.1))
+
+  sync_apart : (path : List ℕ) (old new : Option (List LogItem)) → SyncsBucket true path old new → Fixes AllApart old new
+  sync_apart path old new (synced, file, folder) =
+      fixes_then AllApart AllApart AllApart old synced new (fixes_step AllApart (steps.SyncFile path) answers.Done old synced file (λ w rooted e. (tt, tt)))
+      (fixes_step AllApart (steps.SyncDir (folder_of path)) answers.Done synced new folder (λ w rooted e. (tt, tt))) (λ w one two rooted a b. apart_join q one two a b)
+
+  settle_apart : (loose : Bool) (b : Bucket) (old new : Option (List LogItem)) → Spares b.0 → RewritesIf loose true cache b old new → Fixes AllApart old new
+  settle_apart true b old new spares r = rewrite_apart b.0 (compact_text true b.1) old new spares r
+  settle_apart false b old new spares r = sync_apart b.0 old new r
+
+  pub bucket_apart : (b : Bucket) (old new : Option (List LogItem)) → Spares b.0 → CompactsBucket true cache b old new → Fixes AllApart old new
+  bucket_apart b old new spares (read, does, rest) =
+      fixes_then AllApart AllApart AllApart old read new (fixes_step AllApart (steps.ReadAll b.0) (answers.Bytes b.1) old read does (λ w rooted e. (tt, tt)))
+      (settle_apart (is_loose true b) b read new spares rest) (λ w one two rooted a b. apart_join q one two a b)
