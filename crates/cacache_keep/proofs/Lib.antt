@@ -39,4 +39,5 @@ mod FoundFolders
 mod MomentRuns
 mod ApartSteps
 mod ApartBuckets
+mod SettledBuckets
 mod WholeCompactions
