@@ -40,4 +40,6 @@ mod MomentRuns
 mod ApartSteps
 mod ApartBuckets
 mod SettledBuckets
+mod FixedFolders
 mod WholeCompactions
+mod LeanLosses

@@ -36,6 +36,12 @@ apart_held q w moves apart = (
   λ s. let k = moves_kept w moves q (File s.0.0) s.0.1 apart in ((s.0.0, k.stands), k.whole s.1, name_still w (later w moves) q (File s.0.0) k s.2),
 )
 
+pub held_then : (q : Names) (w : Moment) (one two : Moves) → StaysHeld q w one → StaysHeld q (later w one) two → StaysHeld q w (one ++ two)
+held_then q w one two a b = (
+  λ h. subst (λ v. Held v q) (sym (later_split w one two)) (b.0 (a.0 h)),
+  λ s. subst (λ v. Settled v q) (sym (later_split w one two)) (b.1 (a.1 s)),
+)
+
 -- ---- the bucket itself
 
 module _ (cache : List ℕ) (home : Names) (is : home_of cache ≡ Some home) (d : Names) (n : List ℕ) (kind : path_kind (Some home) (d ++ n ∷ []) ≡ IsBucket) where
@@ -145,14 +151,8 @@ module _ (cache : List ℕ) (home : Names) (is : home_of cache ≡ Some home) (d
           let wrong : true ≡ false = sym (same_self (d ++ n ∷ [])) ∙ ap (λ r. is_at r (d ++ n ∷ [])) (sym e ∙ ap names_of same) ∙ here in cc
       elsewhere path (inr more) e = absurd more
 
-  held_then : (w : Moment) (one two : Moves) → StaysHeld (d ++ n ∷ []) w one → StaysHeld (d ++ n ∷ []) (later w one) two → StaysHeld (d ++ n ∷ []) w (one ++ two)
-  held_then w one two a b = (
-    λ h. subst (λ v. Held v (d ++ n ∷ [])) (sym (later_split w one two)) (b.0 (a.0 h)),
-    λ s. subst (λ v. Settled v (d ++ n ∷ [])) (sym (later_split w one two)) (b.1 (a.1 s)),
-  )
-
   these_then : (p : List ℕ) (paths : List (List ℕ)) (w : Moment) (one two : Moves) → SettlesThese (p ∷ []) w one → SettlesThese paths (later w one) two → SettlesThese (p ∷ paths) w (one ++ two)
-  these_then p paths w one two a b = (held_then w one two a.0 b.0, λ path m e h. subst (λ v. Settled v (d ++ n ∷ [])) (sym (later_split w one two)) (by path m e h))
+  these_then p paths w one two a b = (held_then (d ++ n ∷ []) w one two a.0 b.0, λ path m e h. subst (λ v. Settled v (d ++ n ∷ [])) (sym (later_split w one two)) (by path m e h))
     where
       by : (path : List ℕ) → Member path (p ∷ paths) → names_of path ≡ Ok (d ++ n ∷ []) → Held w (d ++ n ∷ []) → Settled (later (later w one) two) (d ++ n ∷ [])
       by path (inl same) e h = b.0.1 (a.1 path (inl same) e h)
