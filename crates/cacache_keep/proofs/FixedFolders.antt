@@ -10,15 +10,10 @@ use Rattle.cacache_table.specs.Runs.{Moves}
 use Rattle.cacache_loss.specs.{declared.fixing.Place.{Place}, Fixing.{is_child_of, place_now}, Loss.{Loss, begins, lead_folders, left_at, node_left}, Moments.{Moment, lost_then}}
 use Rattle.cacache_loss.proofs.{KeptPaths.{cond_none, sync_fixes}, SyncedFolders.{IsFirm, left_firm}, UnchangedPaths.{bytes_same}}
 use Rattle.cacache_keep_laws.proofs.Members.{Member}
-use Rattle.cacache_keep.specs.Syncing.{SyncsInTurn}
+use Rattle.cacache_keep.specs.{Losses.{IsFixedAt, WayFixed}, Syncing.{SyncsInTurn}}
 use Rattle.cacache_keep.proofs.{MomentRuns.{Fixes, fixes_none, fixes_step, fixes_then, later, later_split}, SettledBuckets.{StaysHeld, apart_held, held_then}}
 
 -- ---- what a loss leaves
-
--- below the first names, the names on the way to the others are fixed, and so is the last
-abbrev pub AllFixed : Moment → Names → Names → Type 0
-AllFixed w above [] = Unit {0}
-AllFixed w above (name ∷ rest) = (w.fixed.names (above ++ name ∷ []) ≡ None) × AllFixed w (above ++ name ∷ []) rest
 
 begins_front : (p q : Names) → begins p (p ++ q) ≡ true
 begins_front [] q = refl
@@ -32,16 +27,17 @@ module _ (home : Names) (w : Moment) (loss : Loss) (rooted : Rooted w.tree) wher
   folder_left p rest name node there firm =
       ap (λ (place : Place). is_folder place.node) (left_firm (Some home) w.tree w.fixed loss p firm) ∙ ap is_folder (upper_folder w.tree p rest name node rooted there)
 
-  leads_below : (p rest : Names) (node : Node) → look w.tree (p ++ rest) ≡ Some node → IsFirm (Some home) w.fixed p → AllFixed w p rest → lead_folders left p rest ≡ true
+  leads_below : (p rest : Names) (node : Node) → look w.tree (p ++ rest) ≡ Some node → IsFirm (Some home) w.fixed p → WayFixed w.fixed p rest → lead_folders left p rest ≡ true
   leads_below p [] node there firm all = refl
-  leads_below p (name ∷ rest) node there firm all =
-      rw (folder_left p rest name node there firm) (leads_below (p ++ name ∷ []) rest node (ap (look w.tree) (append_assoc p (name ∷ []) rest) ∙ there) (inr all.0) all.1)
+  leads_below p (name ∷ []) node there firm all = rw (folder_left p [] name node there firm) refl
+  leads_below p (name ∷ next ∷ rest) node there firm all =
+      rw (folder_left p (next ∷ rest) name node there firm) (leads_below (p ++ name ∷ []) (next ∷ rest) node (ap (look w.tree) (append_assoc p (name ∷ []) (next ∷ rest)) ∙ there) (inr all.0) all.1)
 
   -- the cache's folder and those above it stay
   home_stays : (p rest : Names) → p ++ rest ≡ home → IsFirm (Some home) w.fixed p
   home_stays p rest e = inl (ap (begins p) (sym e) ∙ begins_front p rest)
 
-  leads_from : (p above rest : Names) (node : Node) → p ++ above ≡ home → look w.tree (home ++ rest) ≡ Some node → AllFixed w home rest → lead_folders left p (above ++ rest) ≡ true
+  leads_from : (p above rest : Names) (node : Node) → p ++ above ≡ home → look w.tree (home ++ rest) ≡ Some node → WayFixed w.fixed home rest → lead_folders left p (above ++ rest) ≡ true
   leads_from p [] rest node e there all =
       let here : home ≡ p = sym e ∙ append-nil p in
       subst (λ q. lead_folders left q rest ≡ true) here (leads_below home rest node there (home_stays home [] (append-nil home)) all)
@@ -50,18 +46,18 @@ module _ (home : Names) (w : Moment) (loss : Loss) (rooted : Rooted w.tree) wher
       let way : p ++ name ∷ (above ++ rest) ≡ home ++ rest = sym (append_assoc p (name ∷ above) rest) ∙ ap (λ q. q ++ rest) e in
       rw (folder_left p (above ++ rest) name node (ap (look w.tree) way ∙ there) (home_stays p (name ∷ above) e)) (leads_from (p ++ name ∷ []) above rest node next there all)
 
-  -- the node is left, with as many bytes as are fixed
-  pub node_lost : (rest : Names) (node : Node) → look w.tree (home ++ rest) ≡ Some node → AllFixed w home rest → w.fixed.names (home ++ rest) ≡ None
-      → lost_then (Some home) w loss (home ++ rest) ≡ node_left (w.fixed.files (home ++ rest)) (loss.tail (home ++ rest)) (Some node)
-  node_lost rest node there all name =
+  -- what stands there is left, or what stood there when its folder was synced
+  pub node_lost : (rest : Names) (node : Node) → look w.tree (home ++ rest) ≡ Some node → WayFixed w.fixed home rest
+      → lost_then (Some home) w loss (home ++ rest) ≡ node_left (left (home ++ rest)).fixing (loss.tail (home ++ rest)) (left (home ++ rest)).node
+  node_lost rest node there all =
       ap (λ b. cond b (node_left (left (home ++ rest)).fixing (loss.tail (home ++ rest)) (left (home ++ rest)).node) None) (leads_from [] home rest node refl there all)
-      ∙ ap (λ (place : Place). node_left place.fixing (loss.tail (home ++ rest)) place.node) (left_firm (Some home) w.tree w.fixed loss (home ++ rest) (inr name))
-      ∙ ap (node_left (w.fixed.files (home ++ rest)) (loss.tail (home ++ rest))) there
 
-  -- and a file whose bytes are all fixed has exactly these
-  pub file_lost : (rest : Names) (bytes : List ℕ) → look w.tree (home ++ rest) ≡ Some (File bytes) → AllFixed w home rest → w.fixed.names (home ++ rest) ≡ None → (w.fixed.files (home ++ rest)).whole ≡ true
-      → lost_then (Some home) w loss (home ++ rest) ≡ Some (File bytes)
-  file_lost rest bytes there all name whole = node_lost rest (File bytes) there all name ∙ rw whole refl
+  -- a file whose name and bytes are fixed is left with exactly these
+  pub file_lost : (rest : Names) (bytes : List ℕ) → look w.tree (home ++ rest) ≡ Some (File bytes) → IsFixedAt w.fixed home rest → lost_then (Some home) w loss (home ++ rest) ≡ Some (File bytes)
+  file_lost rest bytes there fixed =
+      node_lost rest (File bytes) there fixed.2
+      ∙ ap (λ (place : Place). node_left place.fixing (loss.tail (home ++ rest)) place.node) (left_firm (Some home) w.tree w.fixed loss (home ++ rest) (inr fixed.1))
+      ∙ ap (node_left (w.fixed.files (home ++ rest)) (loss.tail (home ++ rest))) there ∙ rw fixed.0 refl
 
 -- ---- folders that are synced in turn
 

@@ -42,7 +42,7 @@ abbrev pub IsPart : Names → Tree → Bool → ℕ → List ℕ → Type 0
 IsPart home t false depth path = InIndex home depth path
 IsPart home t true depth path = IsBucketFile home t path
 
-bucket_kind : (home ns : Names) → length ns ≡ 3 → path_kind (Some home) (home ++ index_area ∷ ns) ≡ Bucket
+pub bucket_kind : (home ns : Names) → length ns ≡ 3 → path_kind (Some home) (home ++ index_area ∷ ns) ≡ Bucket
 bucket_kind home [] e = absurd (omega (arith, e))
 bucket_kind home (a ∷ []) e = absurd (omega (arith, e))
 bucket_kind home (a ∷ b ∷ []) e = absurd (omega (arith, e))
@@ -54,7 +54,7 @@ file_node Folder kind is file = absurd (let wrong : is_file kinds.Folder ≡ tru
 file_node (File bytes) kind is file = (bytes, refl)
 file_node (Link target) kind is file = absurd (let wrong : is_file kinds.Link ≡ true = ap is_file (sym is) ∙ file in cc)
 
-longer : (ns : Names) (name : List ℕ) (depth : ℕ) → length ns ≡ depth → length (ns ++ name ∷ []) ≡ suc depth
+pub longer : (ns : Names) (name : List ℕ) (depth : ℕ) → length ns ≡ depth → length (ns ++ name ∷ []) ≡ suc depth
 longer [] name depth e = omega (arith, e)
 longer (n ∷ ns) name depth e = ap suc (longer ns name (length ns) refl) ∙ ap suc e
 

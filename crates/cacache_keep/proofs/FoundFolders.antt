@@ -1,10 +1,12 @@
 -- The folders that hold the paths of buckets, by their texts.
-use Rattle.std.{proofs.{Common.{◌≡◌, ℕ, suc, List, [], ◌∷◌, ◌++◌, Bool, true, false, cond, Option, Some, Ok, length, map, filter, refl, sym, ap, subst, ◌∙◌, arith, eqb-true}, lemmas.Bool.{and_parts}}, specs.List.{AllByRecursion, flat_map, list_all}}
+use Rattle.std.{proofs.{Common.{◌≡◌, ℕ, suc, List, [], ◌∷◌, ◌++◌, Bool, true, false, cond, Option, Some, Ok, length, map, filter, refl, sym, ap, subst, ◌∙◌, arith, append_assoc, eqb-true}, lemmas.Bool.{and_parts}}, specs.List.{AllByRecursion, flat_map, list_all}}
 use Rattle.cacache_core.specs.{PathNames.{Names, names_of, home_of, IsProperName}, Paths.{index_area, join}}
 use Rattle.cacache_store.specs.declared.store.{answer.Name.{Name}, log.LogItem.{LogItem}}
+use Rattle.std.specs.Prelude.{IfOk}
+use Rattle.cacache_value.specs.Kinds.{Bucket, path_kind}
 use Rattle.cacache_keep_laws.{specs.Temporary.{is_file}, proofs.Covering.{named_on}}
 use Rattle.cacache_keep.specs.{Buckets.{FindsBuckets, Listed, ListsParts, belongs, index_area_in, is_folder, is_hex_digit, is_hex_name, parts_in}, Rewriting.{folder_of}}
-use Rattle.cacache_keep.proofs.{FoundBuckets.{area_named}, ParentTexts.{EndsHex, digits_end, digits_proper, folder_is, joined_ends}}
+use Rattle.cacache_keep.proofs.{FoundBuckets.{InIndex, area_named, bucket_kind, longer}, ParentTexts.{EndsHex, digits_end, digits_proper, folder_is, joined_ends}}
 
 -- ---- hex names
 
@@ -45,11 +47,8 @@ module _ (P Q : List ℕ → Type 0) (last : Bool) (each : (f : List ℕ) (n : N
 
 -- ---- buckets
 
-abbrev Named : List ℕ → Type 0
-Named f = (names : Names) × (names_of f ≡ Ok names)
-
-abbrev NamedHex : List ℕ → Type 0
-NamedHex f = Named f × EndsHex f
+abbrev LiesHex : Names → ℕ → List ℕ → Type 0
+LiesHex home depth f = InIndex home depth f × EndsHex f
 
 -- the text of the folder that holds what stands at the path names it
 abbrev pub FolderNamed : List ℕ → Type 0
@@ -72,26 +71,47 @@ same_front (m ∷ a) (n ∷ b) x y e =
     let rest : a ++ x ∷ [] ≡ b ++ y ∷ [] = cc in
     ap (λ (l : Names). m ∷ l) (same_front a b x y rest) ∙ ap (λ (k : List ℕ). k ∷ b) head
 
-top_part : (f : List ℕ) (n : Name) → Named f → belongs false n ≡ true → Named (join f n.name)
-top_part f n named is =
-    let hex = hex_name 1 n (and_parts (is_folder n.kind) (is_hex_name 2 n) is).1 in
-    (named.0 ++ n.name ∷ [], named_on f named.0 n.name named.1 hex.2)
+module _ (home : Names) where
+  -- one name more
+  name_lies : (depth : ℕ) (f : List ℕ) (n : Name) → InIndex home depth f → IsHex n.name → LiesHex home (suc depth) (join f n.name)
+  name_lies depth f n (ns, named, size) hex =
+      ((ns ++ n.name ∷ [], named_on f (home ++ index_area ∷ ns) n.name named hex.2 ∙ ap Ok (append_assoc home (index_area ∷ ns) (n.name ∷ [])), longer ns n.name depth size), joined_ends f n.name hex.1)
 
-low_part : (f : List ℕ) (n : Name) → Named f → belongs false n ≡ true → NamedHex (join f n.name)
-low_part f n named is =
-    let hex = hex_name 1 n (and_parts (is_folder n.kind) (is_hex_name 2 n) is).1 in
-    (top_part f n named is, joined_ends f n.name hex.1)
+  folder_part : (depth : ℕ) (f : List ℕ) (n : Name) → InIndex home depth f → belongs false n ≡ true → LiesHex home (suc depth) (join f n.name)
+  folder_part depth f n lies is = name_lies depth f n lies (hex_name 1 n (and_parts (is_folder n.kind) (is_hex_name 2 n) is).1)
 
-bucket_part : (f : List ℕ) (n : Name) → NamedHex f → belongs true n ≡ true → FolderNamed (join f n.name)
-bucket_part f n named is folder name e =
-    let hex = hex_name 35 n (and_parts (is_file n.kind) (is_hex_name 36 n) is).1 in
-    let both : Ok (named.0.0 ++ n.name ∷ []) ≡ Ok (folder ++ name ∷ []) = sym (named_on f named.0.0 n.name named.0.1 hex.2) ∙ e in
-    let same : named.0.0 ++ n.name ∷ [] ≡ folder ++ name ∷ [] = cc in
-    ap names_of (folder_is f n.name named.1 hex.1 hex.0) ∙ named.0.1 ∙ ap Ok (same_front named.0.0 folder n.name name same)
+  abbrev IsBucketPath : List ℕ → Type 0
+  IsBucketPath p = FolderNamed p × InIndex home 3 p
+
+  bucket_part : (f : List ℕ) (n : Name) → LiesHex home 2 f → belongs true n ≡ true → IsBucketPath (join f n.name)
+  bucket_part f n (lies, ends) is =
+      let hex = hex_name 35 n (and_parts (is_file n.kind) (is_hex_name 36 n) is).1 in (
+        λ folder name e.
+            let both : Ok ((home ++ index_area ∷ lies.0) ++ n.name ∷ []) ≡ Ok (folder ++ name ∷ []) = sym (named_on f (home ++ index_area ∷ lies.0) n.name lies.1 hex.2) ∙ e in
+            let same : (home ++ index_area ∷ lies.0) ++ n.name ∷ [] ≡ folder ++ name ∷ [] = cc in
+            ap names_of (folder_is f n.name ends hex.1 hex.0) ∙ lies.1 ∙ ap Ok (same_front (home ++ index_area ∷ lies.0) folder n.name name same),
+        (name_lies 2 f n lies hex).0,
+      )
+
+  paths_are : (cache : List ℕ) (tops paths : List (List ℕ)) (old new : Option (List LogItem)) → home_of cache ≡ Some home → FindsBuckets cache tops paths old new → AllByRecursion IsBucketPath paths
+  paths_are cache tops paths old new is (lows, one, two, a, b, c) =
+      parts_have (LiesHex home 2) IsBucketPath true bucket_part lows paths two new c
+      (parts_have (InIndex home 1) (LiesHex home 2) false (folder_part 1) tops lows one two b
+      (parts_have (InIndex home 0) (InIndex home 1) false (λ f n lies is. (folder_part 0 f n lies is).0) (index_area_in cache ∷ []) tops old one a (([], area_named cache home is, refl), tt)))
+
+each_of : (P Q : List ℕ → Type 0) → ((p : List ℕ) → P p → Q p) → (paths : List (List ℕ)) → AllByRecursion P paths → AllByRecursion Q paths
+each_of P Q so [] all = tt
+each_of P Q so (p ∷ paths) all = (so p all.0, each_of P Q so paths all.1)
 
 -- so it is of each bucket that is found
 pub folders_named : (cache : List ℕ) (home : Names) (tops paths : List (List ℕ)) (old new : Option (List LogItem)) → home_of cache ≡ Some home → FindsBuckets cache tops paths old new → AllByRecursion FolderNamed paths
-folders_named cache home tops paths old new is (lows, one, two, a, b, c) =
-    parts_have NamedHex FolderNamed true bucket_part lows paths two new c
-    (parts_have Named NamedHex false low_part tops lows one two b
-    (parts_have Named Named false top_part (index_area_in cache ∷ []) tops old one a ((home ++ index_area ∷ [], area_named cache home is), tt)))
+folders_named cache home tops paths old new is finds = each_of (IsBucketPath home) FolderNamed (λ p both. both.0) paths (paths_are home cache tops paths old new is finds)
+
+-- each has the path of a bucket
+abbrev pub HasBucketName : Names → List ℕ → Type 0
+HasBucketName home p = IfOk (names_of p) (λ names. path_kind (Some home) names ≡ Bucket)
+
+pub paths_lie : (cache : List ℕ) (home : Names) (tops paths : List (List ℕ)) (old new : Option (List LogItem)) → home_of cache ≡ Some home → FindsBuckets cache tops paths old new → AllByRecursion (HasBucketName home) paths
+paths_lie cache home tops paths old new is finds =
+    each_of (IsBucketPath home) (HasBucketName home)
+    (λ p both. subst (λ r. IfOk r (λ names. path_kind (Some home) names ≡ Bucket)) (sym both.1.1) (bucket_kind home both.1.0 both.1.2)) paths (paths_are home cache tops paths old new is finds)

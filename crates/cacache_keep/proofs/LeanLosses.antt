@@ -11,8 +11,8 @@ use Rattle.cacache_table.specs.Runs.{Gains, Moves}
 use Rattle.cacache_value.{specs.{Acts.{list_of}, Kinds.{Bucket as IsBucket, path_kind}, Value.{bucket_in}}, proofs.KindsApart.{kind-below}}
 use Rattle.cacache_loss.specs.{Fixing.{Fixed}, Loss.{Loss}, LostValues.{LeftOf}, Moments.{Moment}}
 use Rattle.cacache_keep_laws.{specs.{Compacting.{compact_text}, Mending.{found_in}}, proofs.{CompactTexts.{compact_texts_answer}, Covering.{home_named}, Logged.{log_rooted}, Members.{Member, in_left, in_right}}}
-use Rattle.cacache_keep.specs.{Buckets.{index_area_in}, Compacting.{CompactsAll, CompactsCache}, Losses.{CompactionsOutlast, KeepsLean, moment_after}, Syncing.{folders_above}}
-use Rattle.cacache_keep.proofs.{ApartSteps.{IsWhole}, FixedFolders.{AllFixed, IsFixedFolder, SyncsNames, file_lost, in_turn_fixed}, FoundBuckets.{AreBucketNames, FindsFiles, area_named, buckets_found}, FoundFolders.{FolderNamed, folders_named}, HexNames.{bucket_names_hex}, MomentRuns.{Fixes, OfTrees, fixes_leads, fixes_on, fixes_then, later, later_split, tree_then}, SettledBuckets.{Held, Settled, SettlesThese, StaysHeld, each_settles}, WholeCompactions.{compactions_leave}}
+use Rattle.cacache_keep.specs.{Buckets.{index_area_in}, Compacting.{CompactsAll, CompactsCache}, Losses.{CompactionsOutlast, IsFixedAt, KeepsLean, moment_after}, Syncing.{folders_above}}
+use Rattle.cacache_keep.proofs.{ApartSteps.{IsWhole}, FixedFolders.{IsFixedFolder, SyncsNames, file_lost, in_turn_fixed}, FoundBuckets.{AreBucketNames, FindsFiles, area_named, buckets_found}, FoundFolders.{FolderNamed, folders_named}, HexNames.{bucket_names_hex}, MomentRuns.{Fixes, OfTrees, fixes_leads, fixes_on, fixes_then, later, later_split, tree_then}, SettledBuckets.{Held, Settled, SettlesThese, StaysHeld, each_settles}, WholeCompactions.{compactions_leave}}
 
 -- ---- the folders above those of buckets
 
@@ -50,29 +50,29 @@ module _ (cache : List ℕ) (home : Names) (is : home_of cache ≡ Some home) (a
   bucket_kind = ap (path_kind (Some home)) same_place ∙ kind-below home (index_area ∷ a ∷ b ∷ c ∷ [])
 
   -- its bytes and its name are fixed, and the names of the folders on its way
-  abbrev pub IsFixed : Moment → Type 0
-  IsFixed v = Settled v (folder ++ c ∷ []) × AllFixed v home (index_area ∷ a ∷ b ∷ c ∷ [])
+  abbrev pub FixedHere : Moment → Type 0
+  FixedHere v = IsFixedAt v.fixed home (index_area ∷ a ∷ b ∷ c ∷ [])
 
   all_fixed : (tops : List (List ℕ)) (top : List ℕ) (v : Moment) → Member top tops → names_of top ≡ Ok (home ++ index_area ∷ a ∷ []) → Settled v (folder ++ c ∷ [])
-      → ((f : List ℕ) → Member f (folders_above cache tops) → IsFixedFolder f v) → AllFixed v home (index_area ∷ a ∷ b ∷ c ∷ [])
+      → ((f : List ℕ) → Member f (folders_above cache tops) → IsFixedFolder f v) → FixedHere v
   all_fixed tops top v m named settled each =
       let among = folders_among cache tops top m in
-      let two : (home ++ index_area ∷ []) ++ a ∷ [] ≡ home ++ index_area ∷ a ∷ [] = append_assoc home (index_area ∷ []) (a ∷ []) in
-      let three : ((home ++ index_area ∷ []) ++ a ∷ []) ++ b ∷ [] ≡ home ++ index_area ∷ a ∷ b ∷ [] = ap (λ (q : Names). q ++ b ∷ []) two ∙ append_assoc home (index_area ∷ a ∷ []) (b ∷ []) in (
-        top_fixed cache home index_area v is (each cache among.2),
+      let two : (home ++ index_area ∷ []) ++ a ∷ [] ≡ home ++ index_area ∷ a ∷ [] = append_assoc home (index_area ∷ []) (a ∷ []) in (
+        subst (IsWhole v.fixed) same_place settled.1,
+        ap v.fixed.names (sym same_place) ∙ settled.2,
+        (top_fixed cache home index_area v is (each cache among.2),
         (names_fixed (index_area_in cache) (home ++ index_area ∷ []) a v (area_named cache home is) (each (index_area_in cache) among.1),
-        (ap (λ (q : Names). v.fixed.names (q ++ b ∷ [])) two ∙ names_fixed top (home ++ index_area ∷ a ∷ []) b v named (each top among.0),
-        (ap (λ (q : Names). v.fixed.names (q ++ c ∷ [])) three ∙ settled.2, tt))),
+        (ap (λ (q : Names). v.fixed.names (q ++ b ∷ [])) two ∙ names_fixed top (home ++ index_area ∷ a ∷ []) b v named (each top among.0), tt))),
       )
 
   -- once it is found, compacted, and the folders above are synced
   abbrev Ends : List (List ℕ) → List (List ℕ) → Moment → Moves → Type 0
   Ends tops paths w moves =
       (path top : List ℕ) → Member path paths → names_of path ≡ Ok (folder ++ c ∷ []) → Member top tops → names_of top ≡ Ok (home ++ index_area ∷ a ∷ [])
-      → Held w (folder ++ c ∷ []) → IsFixed (later w moves)
+      → Held w (folder ++ c ∷ []) → FixedHere (later w moves)
 
-  abbrev pub Fixed_then : Moment → Moves → Type 0
-  Fixed_then w moves = Held w (folder ++ c ∷ []) → IsFixed (later w moves)
+  abbrev pub FixesIt : Moment → Moves → Type 0
+  FixesIt w moves = Held w (folder ++ c ∷ []) → FixedHere (later w moves)
 
   compacted_fixes : (tops paths : List (List ℕ)) (count bytes : ℕ) (found done new : Option (List LogItem)) → AllByRecursion FolderNamed paths → CompactsAll true cache paths count bytes found done
       → Fixes (SyncsNames (folder ++ c ∷ []) (folders_above cache tops)) done new → Fixes (Ends tops paths) found new
@@ -83,16 +83,16 @@ module _ (cache : List ℕ) (home : Names) (is : home_of cache ≡ Some home) (a
       above
       (λ w one two rooted x y path top m at n up held.
       let settled = y.0.1 (x.1 path m at held) in
-      subst IsFixed (sym (later_split w one two)) (settled, all_fixed tops top (later (later w one) two) n up settled y.2))
+      subst FixedHere (sym (later_split w one two)) (all_fixed tops top (later (later w one) two) n up settled y.2))
 
-  pub compaction_fixes : (count bytes : ℕ) (old new : Option (List LogItem)) → CompactsCache true cache count bytes old new → Fixes Fixed_then old new
+  pub compaction_fixes : (count bytes : ℕ) (old new : Option (List LogItem)) → CompactsCache true cache count bytes old new → Fixes FixesIt old new
   compaction_fixes count bytes old new (tops, paths, found, done, finding, all, above) =
-      fixes_then (OfTrees (FindsFiles home tops paths)) (Ends tops paths) Fixed_then old found new (fixes_leads (FindsFiles home tops paths) old found (buckets_found cache home tops paths old found is finding))
+      fixes_then (OfTrees (FindsFiles home tops paths)) (Ends tops paths) FixesIt old found new (fixes_leads (FindsFiles home tops paths) old found (buckets_found cache home tops paths old found is finding))
       (compacted_fixes tops paths count bytes found done new (folders_named cache home tops paths old found is finding) all (in_turn_fixed (folder ++ c ∷ []) (folders_above cache tops) done new above))
       (λ w one two rooted x y held.
       let f = x.covers a b c held.0 hex (ap (look w.tree) (sym same_place) ∙ held.1) in
       let still : Held (later w one) (folder ++ c ∷ []) = (held.0, ap (λ (t : Tree). look t (folder ++ c ∷ [])) x.stays ∙ held.1) in
-      subst IsFixed (sym (later_split w one two)) (y f.path f.top f.member (f.named ∙ ap Ok (sym same_place)) f.top_member f.top_named still))
+      subst FixedHere (sym (later_split w one two)) (y f.path f.top f.member (f.named ∙ ap Ok (sym same_place)) f.top_member f.top_named still))
 
 -- ---- after a loss
 
@@ -121,11 +121,10 @@ module _ (cache : List ℕ) (home : Names) (count bytes : ℕ) (moves : Moves) (
       let q = home ++ index_area ∷ a ∷ b ∷ e ∷ [] in
       let same = same_place cache home is a b e hex in
       let held : Held start ((home ++ index_area ∷ a ∷ b ∷ []) ++ e ∷ []) = (text, ap (look (tree_of old)) same ∙ there) in
-      let f = fixes_on (Fixed_then cache home is a b e hex) old new moves start logged gains refl (compaction_fixes cache home is a b e hex count bytes (Some old) (Some new) c) held in
+      let f = fixes_on (FixesIt cache home is a b e hex) old new moves start logged gains refl (compaction_fixes cache home is a b e hex count bytes (Some old) (Some new) c) held in
       lost (home ++ index_area ∷ a ∷ b ∷ e ∷ [])
       ∙ file_lost home (later start moves) loss (subst Rooted (sym now_is) (log_rooted new)) (index_area ∷ a ∷ b ∷ e ∷ []) (compact_text true text)
-      (ap (λ (t : Tree). look t (home ++ index_area ∷ a ∷ b ∷ e ∷ [])) now_is ∙ now) f.1
-      (ap (later start moves).fixed.names (sym same) ∙ f.0.2) (subst (IsWhole (later start moves).fixed) same f.0.1)
+      (ap (λ (t : Tree). look t (home ++ index_area ∷ a ∷ b ∷ e ∷ [])) now_is ∙ now) f
 
   lean : (digest text : List ℕ) → IsKeyDigest digest → look (tree_of old) (home ++ bucket_names_of digest) ≡ Some (File text) → look left (home ++ bucket_names_of digest) ≡ Some (File (compact_text true text))
   lean digest text d there = lean_left _ _ _ text (bucket_names_hex digest d) there ((compactions_leave true cache home count bytes old new is logged c).buckets digest text d there)

@@ -1,5 +1,5 @@
 -- What a loss of power leaves of the buckets that a durable compaction wrote anew.
-use Rattle.std.specs.Prelude.{◌≡◌, ◌++◌, ℕ, List, Option, Some, true}
+use Rattle.std.specs.Prelude.{◌≡◌, ◌⊎◌, ◌++◌, ℕ, List, [], ◌∷◌, Option, None, Some, true}
 use Rattle.cacache_core.specs.{PathLaws.{IsKeyDigest}, PathNames.{Names, home_of}, Paths.{bucket_names_of}}
 use Rattle.cacache_store.specs.declared.store.log.LogItem.{LogItem}
 use Rattle.cacache_disk.specs.{declared.node.Node.TheVariants.{File}, Tree.{Tree, look}}
@@ -15,6 +15,31 @@ use Rattle.cacache_keep.specs.Compacting.{CompactsCache}
 abbrev pub moment_after : Tree → Fixed → Moves → Moment
 moment_after t fixed moves = after (record { tree = t; fixed = fixed }) (plain_moves moves)
 
+-- ---- what is fixed
+
+-- below the first names, the names of the folders on the way to what the others name are fixed
+abbrev pub WayFixed : Fixed → Names → Names → Type 0
+WayFixed fixed above [] = Unit {0}
+WayFixed fixed above (name ∷ []) = Unit {0}
+WayFixed fixed above (name ∷ next ∷ rest) =
+    (fixed.names (above ++ name ∷ []) ≡ None)
+    × WayFixed fixed (above ++ name ∷ []) (next ∷ rest)
+
+-- all bytes of a file are fixed, and its name and those of its folders below the first names
+abbrev pub IsFixedAt : Fixed → Names → Names → Type 0
+IsFixedAt fixed home names =
+    ((fixed.files (home ++ names)).whole ≡ true) × (fixed.names (home ++ names) ≡ None)
+    × WayFixed fixed home names
+
+-- so it is of each bucket
+abbrev pub BucketsFixed : Names → Tree → Fixed → Type 0
+BucketsFixed home t fixed =
+    (digest bytes : List ℕ) → IsKeyDigest digest
+    → look t (home ++ bucket_names_of digest) ≡ Some (File bytes)
+    → IsFixedAt fixed home (bucket_names_of digest)
+
+-- ---- after a compaction
+
 -- in the second tree each bucket of the first has exactly its compacted bytes, and each key that led
 -- to an entry leads to it
 pub record KeepsLean (home : Names) (t left : Tree) : Type 0 where
@@ -24,8 +49,18 @@ pub record KeepsLean (home : Names) (t left : Tree) : Type 0 where
   pub keys : (key : List ℕ) (found : Found)
       → found_in home t key ≡ Some found → found_in home left key ≡ Some found
 
--- so it is in what a loss leaves right after a durable compaction that ended well, whatever was fixed
--- before; in the model of losses the cache's own folder stays, whose name the caller has synced
+-- after a durable compaction that ended well all buckets are fixed, whatever was before
+abbrev pub CompactionsFix : Type 0
+CompactionsFix =
+    (cache : List ℕ) (home : Names) (count bytes : ℕ) (moves : Moves) (fixed : Fixed)
+    (old new : List LogItem)
+    → home_of cache ≡ Some home → IsLog new
+    → CompactsCache true cache count bytes (Some old) (Some new)
+    → Gains (Some old) (Some new) moves
+    → BucketsFixed home (tree_of new) (moment_after (tree_of old) fixed moves).fixed
+
+-- so a loss then leaves the compacted buckets; the cache's own folder stays in each loss, since the
+-- caller has synced the folder above it
 abbrev pub CompactionsOutlast : Type 0
 CompactionsOutlast =
     (cache : List ℕ) (home : Names) (count bytes : ℕ) (moves : Moves) (fixed : Fixed)
@@ -35,3 +70,28 @@ CompactionsOutlast =
     → Gains (Some old) (Some new) moves
     → LeftOf home (moment_after (tree_of old) fixed moves) loss left
     → KeepsLean home (tree_of old) left
+
+-- ---- during a compaction
+
+-- in the second tree each bucket of the first has exactly its bytes or its compacted ones, and each key
+-- that led to an entry leads to it
+pub record KeepsEither (home : Names) (t left : Tree) : Type 0 where
+  pub buckets : (digest bytes : List ℕ) → IsKeyDigest digest
+      → look t (home ++ bucket_names_of digest) ≡ Some (File bytes)
+      → (look left (home ++ bucket_names_of digest) ≡ Some (File bytes))
+      ⊎ (look left (home ++ bucket_names_of digest) ≡ Some (File (compact_text true bytes)))
+  pub keys : (key : List ℕ) (found : Found)
+      → found_in home t key ≡ Some found → found_in home left key ≡ Some found
+
+-- so it is in what a loss leaves after any of its moves, if all buckets were fixed before, as after an
+-- earlier durable compaction
+abbrev pub CompactionsSpare : Type 0
+CompactionsSpare =
+    (cache : List ℕ) (home : Names) (count bytes : ℕ) (first rest : Moves) (fixed : Fixed)
+    (loss : Loss) (old new : List LogItem) (left : Tree)
+    → home_of cache ≡ Some home → IsLog new
+    → CompactsCache true cache count bytes (Some old) (Some new)
+    → Gains (Some old) (Some new) (first ++ rest)
+    → BucketsFixed home (tree_of old) fixed
+    → LeftOf home (moment_after (tree_of old) fixed first) loss left
+    → KeepsEither home (tree_of old) left
