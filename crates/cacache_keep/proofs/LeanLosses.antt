@@ -1,5 +1,5 @@
 -- What a loss leaves right after a durable compaction that ended well.
-use Rattle.std.{proofs.Common.{◌≡◌, inl, inr, ℕ, List, [], ◌∷◌, ◌++◌, Bool, true, false, map, Option, None, Some, Ok, refl, sym, ap, subst, ◌∙◌, append_assoc}, specs.List.{AllByRecursion}}
+use Rattle.std.{proofs.Common.{◌≡◌, ◌⊎◌, inl, inr, ℕ, List, [], ◌∷◌, ◌++◌, Bool, true, false, map, Option, None, Some, Ok, refl, sym, ap, subst, ◌∙◌, append_assoc}, specs.List.{AllByRecursion}}
 use Rattle.sha1.specs.Sha1.{sha1}
 use Rattle.cacache_core.specs.{PathLaws.{IsKeyDigest}, PathNames.{Names, home_of, names_of}, Paths.{bucket_names_of, index_area}}
 use Rattle.cacache_core.proofs.PathLemmas.{keys_have_digests}
@@ -10,8 +10,8 @@ use Rattle.cacache_memory.specs.Replay.{tree_of, IsLog}
 use Rattle.cacache_table.specs.Runs.{Gains, Moves}
 use Rattle.cacache_value.{specs.{Acts.{list_of}, Kinds.{Bucket as IsBucket, path_kind}, Value.{bucket_in}}, proofs.KindsApart.{kind-below}}
 use Rattle.cacache_loss.specs.{Fixing.{Fixed}, Loss.{Loss}, LostValues.{LeftOf}, Moments.{Moment}}
-use Rattle.cacache_keep_laws.{specs.{Compacting.{compact_text}, Mending.{found_in}}, proofs.{CompactTexts.{compact_texts_answer}, Covering.{home_named}, Logged.{log_rooted}, Members.{Member, in_left, in_right}}}
-use Rattle.cacache_keep.specs.{Buckets.{index_area_in}, Compacting.{CompactsAll, CompactsCache}, Losses.{CompactionsOutlast, IsFixedAt, KeepsLean, moment_after}, Syncing.{folders_above}}
+use Rattle.cacache_keep_laws.{specs.{Compacting.{compact_text}, Mending.{found_in}}, proofs.{CompactTexts.{compact_texts_answer}, LeanTrees.{Becomes}, Covering.{home_named}, Logged.{log_rooted}, Members.{Member, in_left, in_right}}}
+use Rattle.cacache_keep.specs.{Buckets.{index_area_in}, Compacting.{CompactsAll, CompactsCache}, Losses.{BucketsFixed, CompactionsFix, CompactionsOutlast, IsFixedAt, KeepsLean, moment_after}, Syncing.{folders_above}}
 use Rattle.cacache_keep.proofs.{ApartSteps.{IsWhole}, FixedFolders.{IsFixedFolder, SyncsNames, file_lost, in_turn_fixed}, FoundBuckets.{AreBucketNames, FindsFiles, area_named, buckets_found}, FoundFolders.{FolderNamed, folders_named}, HexNames.{bucket_names_hex}, MomentRuns.{Fixes, OfTrees, fixes_leads, fixes_on, fixes_then, later, later_split, tree_then}, SettledBuckets.{Held, Settled, SettlesThese, StaysHeld, each_settles}, WholeCompactions.{compactions_leave}}
 
 -- ---- the folders above those of buckets
@@ -96,46 +96,65 @@ module _ (cache : List ℕ) (home : Names) (is : home_of cache ≡ Some home) (a
 
 -- ---- after a loss
 
--- what a lookup finds in a bucket's bytes it finds in the compacted ones
-keys_keep : (home : Names) (t left : Tree) (key : List ℕ) (found : Found) (here : Option Node) → look t (home ++ bucket_names_of (sha1 key)) ≡ here
-    → ((bytes : List ℕ) → here ≡ Some (File bytes) → look left (home ++ bucket_names_of (sha1 key)) ≡ Some (File (compact_text true bytes)))
+-- a bucket's bytes are left as they were, or compacted
+abbrev pub IsEither : List ℕ → Option Node → Type 0
+IsEither bytes here = (here ≡ Some (File bytes)) ⊎ (here ≡ Some (File (compact_text true bytes)))
+
+-- what a lookup finds in a bucket's bytes it finds then
+pub keys_keep : (home : Names) (t left : Tree) (key : List ℕ) (found : Found) (here : Option Node) → look t (home ++ bucket_names_of (sha1 key)) ≡ here
+    → ((bytes : List ℕ) → look t (home ++ bucket_names_of (sha1 key)) ≡ Some (File bytes) → IsEither bytes (look left (home ++ bucket_names_of (sha1 key))))
     → latest key (list_of (bucket_in here)) ≡ Some found → found_in home left key ≡ Some found
 keys_keep home t left key found None is lean finds = absurd cc
 keys_keep home t left key found (Some Folder) is lean finds = absurd cc
 keys_keep home t left key found (Some (Link target)) is lean finds = absurd cc
-keys_keep home t left key found (Some (File bytes)) is lean finds =
-    ap (λ o. latest key (list_of (bucket_in o))) (lean bytes refl) ∙ (compact_texts_answer true bytes).finds key ∙ finds
+keys_keep home t left key found (Some (File bytes)) is lean finds = by (lean bytes is)
+  where
+    by : IsEither bytes (look left (home ++ bucket_names_of (sha1 key))) → found_in home left key ≡ Some found
+    by (inl same) = ap (λ o. latest key (list_of (bucket_in o))) same ∙ finds
+    by (inr compacted) = ap (λ o. latest key (list_of (bucket_in o))) compacted ∙ (compact_texts_answer true bytes).finds key ∙ finds
 
-module _ (cache : List ℕ) (home : Names) (count bytes : ℕ) (moves : Moves) (fixed : Fixed) (loss : Loss) (old new : List LogItem) (left : Tree)
-    (is : home_of cache ≡ Some home) (logged : IsLog new) (c : CompactsCache true cache count bytes (Some old) (Some new)) (gains : Gains (Some old) (Some new) moves)
-    (lost : LeftOf home (moment_after (tree_of old) fixed moves) loss left) where
+module _ (cache : List ℕ) (home : Names) (count bytes : ℕ) (moves : Moves) (fixed : Fixed) (old new : List LogItem)
+    (is : home_of cache ≡ Some home) (logged : IsLog new) (c : CompactsCache true cache count bytes (Some old) (Some new)) (gains : Gains (Some old) (Some new) moves) where
   abbrev start : Moment
   start = record { tree = tree_of old; fixed = fixed }
 
   now_is : (later start moves).tree ≡ tree_of new
   now_is = tree_then old new moves start logged gains refl
 
-  lean_left : (a b e text : List ℕ) → AreBucketNames a b e → look (tree_of old) (home ++ index_area ∷ a ∷ b ∷ e ∷ []) ≡ Some (File text)
-      → look (tree_of new) (home ++ index_area ∷ a ∷ b ∷ e ∷ []) ≡ Some (File (compact_text true text)) → look left (home ++ index_area ∷ a ∷ b ∷ e ∷ []) ≡ Some (File (compact_text true text))
-  lean_left a b e text hex there now =
-      let q = home ++ index_area ∷ a ∷ b ∷ e ∷ [] in
-      let same = same_place cache home is a b e hex in
-      let held : Held start ((home ++ index_area ∷ a ∷ b ∷ []) ++ e ∷ []) = (text, ap (look (tree_of old)) same ∙ there) in
-      let f = fixes_on (FixesIt cache home is a b e hex) old new moves start logged gains refl (compaction_fixes cache home is a b e hex count bytes (Some old) (Some new) c) held in
-      lost (home ++ index_area ∷ a ∷ b ∷ e ∷ [])
-      ∙ file_lost home (later start moves) loss (subst Rooted (sym now_is) (log_rooted new)) (index_area ∷ a ∷ b ∷ e ∷ []) (compact_text true text)
-      (ap (λ (t : Tree). look t (home ++ index_area ∷ a ∷ b ∷ e ∷ [])) now_is ∙ now) f
+  fixed_here : (a b e text : List ℕ) → AreBucketNames a b e → look (tree_of old) (home ++ index_area ∷ a ∷ b ∷ e ∷ []) ≡ Some (File text) → IsFixedAt (later start moves).fixed home (index_area ∷ a ∷ b ∷ e ∷ [])
+  fixed_here a b e text hex there =
+      fixes_on (FixesIt cache home is a b e hex) old new moves start logged gains refl (compaction_fixes cache home is a b e hex count bytes (Some old) (Some new) c)
+      (text, ap (look (tree_of old)) (same_place cache home is a b e hex) ∙ there)
 
-  lean : (digest text : List ℕ) → IsKeyDigest digest → look (tree_of old) (home ++ bucket_names_of digest) ≡ Some (File text) → look left (home ++ bucket_names_of digest) ≡ Some (File (compact_text true text))
-  lean digest text d there = lean_left _ _ _ text (bucket_names_hex digest d) there ((compactions_leave true cache home count bytes old new is logged c).buckets digest text d there)
+  bucket_fixed : (digest text : List ℕ) → IsKeyDigest digest → look (tree_of old) (home ++ bucket_names_of digest) ≡ Some (File text) → IsFixedAt (later start moves).fixed home (bucket_names_of digest)
+  bucket_fixed digest text d there = fixed_here _ _ _ text (bucket_names_hex digest d) there
 
-  kept : KeepsLean home (tree_of old) left
-  kept = record {
-    buckets = lean;
-    keys = λ key found finds.
-        keys_keep home (tree_of old) left key found (look (tree_of old) (home ++ bucket_names_of (sha1 key))) refl
-        (λ text there. lean (sha1 key) text (keys_have_digests key) there) finds;
-  }
+  all_buckets_fixed : BucketsFixed home (tree_of new) (later start moves).fixed
+  all_buckets_fixed digest text d there = by ((compactions_leave true cache home count bytes old new is logged c).tree (home ++ bucket_names_of digest))
+    where
+      by : Becomes true home (home ++ bucket_names_of digest) (look (tree_of old) (home ++ bucket_names_of digest)) (look (tree_of new) (home ++ bucket_names_of digest)) → IsFixedAt (later start moves).fixed home (bucket_names_of digest)
+      by (inl same) = bucket_fixed digest text d (sym same ∙ there)
+      by (inr (inl lean)) = bucket_fixed digest lean.1 d lean.2
+      by (inr (inr made)) = absurd (let wrong : Some Folder ≡ Some (File text) = sym made.2 ∙ there in cc)
+
+  module _ (loss : Loss) (left : Tree) (lost : LeftOf home (moment_after (tree_of old) fixed moves) loss left) where
+    lean : (digest text : List ℕ) → IsKeyDigest digest → look (tree_of old) (home ++ bucket_names_of digest) ≡ Some (File text) → look left (home ++ bucket_names_of digest) ≡ Some (File (compact_text true text))
+    lean digest text d there =
+        let now = (compactions_leave true cache home count bytes old new is logged c).buckets digest text d there in
+        lost (home ++ bucket_names_of digest)
+        ∙ file_lost home (later start moves) loss (subst Rooted (sym now_is) (log_rooted new)) (bucket_names_of digest) (compact_text true text)
+        (ap (λ (t : Tree). look t (home ++ bucket_names_of digest)) now_is ∙ now) (bucket_fixed digest text d there)
+
+    kept : KeepsLean home (tree_of old) left
+    kept = record {
+      buckets = lean;
+      keys = λ key found finds.
+          keys_keep home (tree_of old) left key found (look (tree_of old) (home ++ bucket_names_of (sha1 key))) refl
+          (λ text there. inr (lean (sha1 key) text (keys_have_digests key) there)) finds;
+    }
+
+pub compactions_fix : CompactionsFix
+compactions_fix cache home count bytes moves fixed old new is logged c gains = all_buckets_fixed cache home count bytes moves fixed old new is logged c gains
 
 pub compactions_outlast : CompactionsOutlast
-compactions_outlast cache home count bytes moves fixed loss old new left is logged c gains lost = kept cache home count bytes moves fixed loss old new left is logged c gains lost
+compactions_outlast cache home count bytes moves fixed loss old new left is logged c gains lost = kept cache home count bytes moves fixed old new is logged c gains loss left lost
