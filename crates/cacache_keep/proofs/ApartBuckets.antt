@@ -1,5 +1,5 @@
 -- The compaction of a bucket leaves what is fixed of other paths.
-use Rattle.std.{proofs.Common.{◌≡◌, ℕ, List, [], ◌∷◌, ◌++◌, Bool, true, false, drop, take, Option, Some, Ok, refl, sym, ap, subst, ◌∙◌}, specs.Prelude.{IfOk}}
+use Rattle.std.{proofs.Common.{◌≡◌, ℕ, List, [], ◌∷◌, ◌++◌, Bool, true, false, drop, take, Option, Some, Ok, refl, sym, ap, subst, ◌∙◌, append-nil}, specs.Prelude.{IfOk}}
 use Rattle.cacache_core.specs.{PathNames.{Names, home_of, names_of}, Paths.{temp_area, temp_names}}
 use Rattle.cacache_store.specs.declared.store.answer.Answer.TheVariants as answers
 use Rattle.cacache_store.specs.declared.store.{log.LogItem.{LogItem}, plain.PlainTemp.{PlainTemp}}
@@ -11,7 +11,7 @@ use Rattle.cacache_sequence.specs.Sequence.{AreAnswered}
 use Rattle.cacache_loss.{specs.{Fixing.{is_at}, Moments.{Moment}}, proofs.UnchangedPaths.{at_false}}
 use Rattle.cacache_keep_laws.specs.Compacting.{compact_text}
 use Rattle.cacache_keep.specs.{Compacting.{Bucket, CompactsBucket, RewritesIf, is_loose}, Rewriting.{MakesTemp, Rewrites, SyncsBucket, Takes, Took, folder_of}}
-use Rattle.cacache_keep.proofs.{ApartSteps.{EachApart, apart_join}, MomentRuns.{Fixes, fixes_step, fixes_then}, Rewritten.{Has, temp_made, temp_path_named, wrote_has, writes_keep}}
+use Rattle.cacache_keep.proofs.{ApartSteps.{EachApart, apart_join}, MomentRuns.{Fixes, fixes_step, fixes_then}, Rewritten.{Has, temp_made, temp_path_named, wrote_has, writes_keep, writes_take}}
 
 module _ (cache : List ℕ) (home : Names) (is : home_of cache ≡ Some home) (q : Names) (k : PathKind) (kind : path_kind (Some home) q ≡ k) (other : k ≡ Temporary → ⊥) where
   -- the text leads elsewhere
@@ -52,30 +52,38 @@ module _ (cache : List ℕ) (home : Names) (is : home_of cache ≡ Some home) (q
       ((ap (λ p. is_at (names_of p) q) here.path_is ∙ spares, more.0), more.1)
   writes_apart moves t file last path had bytes rest spares takes a has = absurd takes
 
-  abbrev Writes : PlainTemp → PlainTemp → Moment → Moves → Type 0
-  Writes file full w moves = Spares file.path → file.bytes ≡ Some [] → EachApart q moves × Spares full.path
+  -- it has these bytes then
+  abbrev HasAll : PlainTemp → List ℕ → Moves → Type 0
+  HasAll full bytes moves = EachApart q moves × Spares full.path × (full.bytes ≡ Some bytes)
 
-  writing_apart : (file full : PlainTemp) (bytes : List ℕ) (old new : Option (List LogItem)) → Took file bytes full [] old new → Fixes (Writes file full) old new
+  abbrev Writes : PlainTemp → PlainTemp → List ℕ → Moment → Moves → Type 0
+  Writes file full bytes w moves = Spares file.path → file.bytes ≡ Some [] → HasAll full bytes moves
+
+  writing_apart : (file full : PlainTemp) (bytes : List ℕ) (old new : Option (List LogItem)) → Took file bytes full [] old new → Fixes (Writes file full bytes) old new
   writing_apart file full bytes old new (moves, takes, gains) = record {
     moves = moves;
     gains = gains;
-    tells = λ w rooted a spares empty. writes_apart moves w.tree file full file.path [] bytes [] spares takes a (record { path_is = refl; bytes_are = empty });
+    tells = λ w rooted a spares empty.
+        let has : Has file file.path [] = record { path_is = refl; bytes_are = empty } in
+        let apart = writes_apart moves w.tree file full file.path [] bytes [] spares takes a has in
+        let took = (writes_take moves w.tree file full file.path [] bytes [] takes a has).1 in
+        (apart.0, apart.1, took.file.bytes_are ∙ ap Some (sym (append-nil took.has) ∙ took.all));
   }
 
   -- it is made and written
-  abbrev pub Full : PlainTemp → Moment → Moves → Type 0
-  Full full w moves = EachApart q moves × Spares full.path
+  abbrev pub Full : PlainTemp → List ℕ → Moment → Moves → Type 0
+  Full full bytes w moves = HasAll full bytes moves
 
-  pub full_apart : (file full : PlainTemp) (bytes : List ℕ) (old made new : Option (List LogItem)) → MakesTemp cache file old made → Took file bytes full [] made new → Fixes (Full full) old new
+  pub full_apart : (file full : PlainTemp) (bytes : List ℕ) (old made new : Option (List LogItem)) → MakesTemp cache file old made → Took file bytes full [] made new → Fixes (Full full bytes) old new
   full_apart file full bytes old made new making writing =
-      fixes_then (Makes file) (Writes file full) (Full full) old made new (making_apart file old made making) (writing_apart file full bytes made new writing)
-      (λ w one two rooted a b. let rest = b a.1 a.2 in (apart_join q one two a.0 rest.0, rest.1))
+      fixes_then (Makes file) (Writes file full bytes) (Full full bytes) old made new (making_apart file old made making) (writing_apart file full bytes made new writing)
+      (λ w one two rooted a b. let rest = b a.1 a.2 in (apart_join q one two a.0 rest.0, rest.1, rest.2))
 
   -- ---- one bucket
 
   rewrite_apart : (path bytes : List ℕ) (old new : Option (List LogItem)) → Spares path → Rewrites true cache path bytes old new → Fixes AllApart old new
   rewrite_apart path bytes old new spares r =
-      fixes_then (Full r.full) (λ w moves. Spares r.full.path → EachApart q moves) AllApart old r.written new (full_apart r.file r.full bytes old r.made r.written r.making r.writing)
+      fixes_then (Full r.full bytes) (λ w moves. Spares r.full.path → EachApart q moves) AllApart old r.written new (full_apart r.file r.full bytes old r.made r.written r.making r.writing)
       (fixes_then AllApart (λ w moves. Spares r.full.path → EachApart q moves) (λ w moves. Spares r.full.path → EachApart q moves) r.written r.synced new
       (fixes_step AllApart (steps.SyncTemp r.full) (answers.Synced r.full) r.written r.synced r.syncing (λ w rooted e. (tt, tt)))
       (fixes_then (λ w moves. Spares r.full.path → EachApart q moves) AllApart (λ w moves. Spares r.full.path → EachApart q moves) r.synced r.moved new
@@ -85,7 +93,7 @@ module _ (cache : List ℕ) (home : Names) (is : home_of cache ≡ Some home) (q
       (λ w one two rooted a b temp. apart_join q one two a (b temp)))
       (λ w one two rooted a b. apart_join q one two a.0 (b a.1))
 
-  sync_apart : (path : List ℕ) (old new : Option (List LogItem)) → SyncsBucket true path old new → Fixes AllApart old new
+  pub sync_apart : (path : List ℕ) (old new : Option (List LogItem)) → SyncsBucket true path old new → Fixes AllApart old new
   sync_apart path old new (synced, file, folder) =
       fixes_then AllApart AllApart AllApart old synced new (fixes_step AllApart (steps.SyncFile path) answers.Done old synced file (λ w rooted e. (tt, tt)))
       (fixes_step AllApart (steps.SyncDir (folder_of path)) answers.Done synced new folder (λ w rooted e. (tt, tt))) (λ w one two rooted a b. apart_join q one two a b)

@@ -39,6 +39,7 @@ mod FoundFolders
 mod MomentRuns
 mod ApartSteps
 mod ApartBuckets
+mod ApartCompactions
 mod SettledBuckets
 mod FixedFolders
 mod WholeCompactions

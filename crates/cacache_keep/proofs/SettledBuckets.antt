@@ -99,7 +99,7 @@ module _ (cache : List ℕ) (home : Names) (is : home_of cache ≡ Some home) (d
 
   rewrite_settles : (path bytes : List ℕ) (old new : Option (List LogItem)) → names_of path ≡ Ok (d ++ n ∷ []) → names_of (folder_of path) ≡ Ok d → Rewrites true cache path bytes old new → Fixes Settles old new
   rewrite_settles path bytes old new named folder r =
-      fixes_then (Full cache home is (d ++ n ∷ []) IsBucket kind (λ e. cc) r.full) (λ w moves. Settled (later w moves) (d ++ n ∷ [])) Settles old r.written new
+      fixes_then (Full cache home is (d ++ n ∷ []) IsBucket kind (λ e. cc) r.full bytes) (λ w moves. Settled (later w moves) (d ++ n ∷ [])) Settles old r.written new
       (full_apart cache home is (d ++ n ∷ []) IsBucket kind (λ e. cc) r.file r.full bytes old r.made r.written r.making r.writing)
       (fixes_then (Whole r.full) (λ w moves. ((from : Names) → names_of r.full.path ≡ Ok from → IsWhole w.fixed from) → Settled (later w moves) (d ++ n ∷ [])) (λ w moves. Settled (later w moves) (d ++ n ∷ [])) r.written r.synced new
       (temp_whole r.full r.written r.synced r.syncing)
