@@ -41,6 +41,7 @@ mod ApartSteps
 mod ApartBuckets
 mod ApartCompactions
 mod SettledBuckets
+mod SafeBuckets
 mod FixedFolders
 mod WholeCompactions
 mod LeanLosses
