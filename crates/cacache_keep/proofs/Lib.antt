@@ -45,3 +45,4 @@ mod SafeBuckets
 mod FixedFolders
 mod WholeCompactions
 mod LeanLosses
+mod SparedLosses

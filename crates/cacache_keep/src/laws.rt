@@ -3,7 +3,7 @@ ghost use Rattle.cacache_memory.specs.Replay.{IsLog};
 ghost use Rattle.cacache_keep.specs.Behind.{CollectionsKeepKeys, LaterKeysStay};
 ghost use Rattle.cacache_keep.specs.Houses.{RepairsHouse, SweepsHouse, SweepsKeepGood};
 ghost use Rattle.cacache_keep.specs.Kept.{CachesAreSwept, CollectionsLackIdle, CollectionsLeave, CollectionsSettle, CompactionsAreUnseen, CompactionsLeave, CompactionsStop, LaterReadsStay, ListsHold, LooksStay, PlansForetell, PlansLeave, RepairsKeepGood, RepairsMend, RepairsVerify, VerdictsJudge};
-ghost use Rattle.cacache_keep.specs.Losses.{CompactionsFix, CompactionsOutlast};
+ghost use Rattle.cacache_keep.specs.Losses.{CompactionsFix, CompactionsOutlast, CompactionsSpare};
 
 use cacache_memory::MemStore;
 
@@ -60,6 +60,7 @@ pub fn keep_laws(store: &MemStore)
     ensures unseen { CompactionsAreUnseen }
     ensures fixes { CompactionsFix }
     ensures outlasts { CompactionsOutlast }
+    ensures spares { CompactionsSpare }
 {
     let _log = store.log();
 }
