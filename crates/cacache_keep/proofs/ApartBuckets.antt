@@ -1,17 +1,18 @@
 -- The compaction of a bucket leaves what is fixed of other paths.
-use Rattle.std.{proofs.Common.{◌≡◌, ℕ, List, [], ◌∷◌, ◌++◌, Bool, true, false, drop, take, Option, Some, Ok, refl, sym, ap, subst, ◌∙◌, append-nil}, specs.Prelude.{IfOk}}
-use Rattle.cacache_core.specs.{PathNames.{Names, home_of, names_of}, Paths.{temp_area, temp_names}}
+use Rattle.std.{proofs.Common.{◌≡◌, ◌⊎◌, inl, inr, ℕ, List, [], ◌∷◌, ◌++◌, Bool, true, false, drop, take, Option, Some, Ok, refl, sym, ap, subst, ◌∙◌, append-nil}, specs.Prelude.{IfOk}}
+use Rattle.cacache_core.specs.{declared.errors.Error.{Error}, PathNames.{Names, home_of, names_of}, Paths.{temp_area, temp_names}}
 use Rattle.cacache_store.specs.declared.store.answer.Answer.TheVariants as answers
 use Rattle.cacache_store.specs.declared.store.{log.LogItem.{LogItem}, plain.PlainTemp.{PlainTemp}}
 use Rattle.cacache_store.specs.declared.store.step.Step.TheVariants as steps
+use Rattle.cacache_store.specs.Plain.{PlainStep}
 use Rattle.cacache_disk.specs.Tree.{Tree}
-use Rattle.cacache_table.specs.{Runs.{Moves}, SingleSteps.{Does}, StepPaths.{temp_folder, temp_path}}
+use Rattle.cacache_table.specs.{Runs.{Moves}, SingleSteps.{Does, FailsAt}, StepPaths.{temp_folder, temp_path}}
 use Rattle.cacache_value.{specs.Kinds.{PathKind, Temporary, path_kind}, proofs.KindsApart.{kind-below}}
 use Rattle.cacache_sequence.specs.Sequence.{AreAnswered}
 use Rattle.cacache_loss.{specs.{Fixing.{is_at}, Moments.{Moment}}, proofs.UnchangedPaths.{at_false}}
 use Rattle.cacache_keep_laws.specs.Compacting.{compact_text}
-use Rattle.cacache_keep.specs.{Compacting.{Bucket, CompactsBucket, RewritesIf, is_loose}, Rewriting.{MakesTemp, Rewrites, SyncsBucket, Takes, Took, folder_of}}
-use Rattle.cacache_keep.proofs.{ApartSteps.{EachApart, apart_join}, MomentRuns.{Fixes, fixes_step, fixes_then}, Rewritten.{Has, temp_made, temp_path_named, wrote_has, writes_keep, writes_take}}
+use Rattle.cacache_keep.specs.{Compacting.{Bucket, CompactsBucket, RewritesIf, StopsBucket, StopsUnchanged, is_loose}, Rewriting.{MakesTemp, Rewrites, StopsMaking, StopsMoving, StopsRewriting, StopsSyncingBucket, StopsWriting, SyncsBucket, Takes, TakesNone, Took, folder_of}}
+use Rattle.cacache_keep.proofs.{ApartSteps.{Apart, EachApart, apart_join}, MomentRuns.{Fixes, fixes_failed, fixes_step, fixes_then}, Rewritten.{Has, temp_made, temp_path_named, wrote_has, writes_keep, writes_take}}
 
 module _ (cache : List ℕ) (home : Names) (is : home_of cache ≡ Some home) (q : Names) (k : PathKind) (kind : path_kind (Some home) q ≡ k) (other : k ≡ Temporary → ⊥) where
   -- the text leads elsewhere
@@ -106,3 +107,85 @@ module _ (cache : List ℕ) (home : Names) (is : home_of cache ≡ Some home) (q
   bucket_apart b old new spares (read, does, rest) =
       fixes_then AllApart AllApart AllApart old read new (fixes_step AllApart (steps.ReadAll b.0) (answers.Bytes b.1) old read does (λ w rooted e. (tt, tt)))
       (settle_apart (is_loose true b) b read new spares rest) (λ w one two rooted a b. apart_join q one two a b)
+
+  -- ---- where an error ends that
+
+  failed_apart : (step : PlainStep) (e : Error) (old new : Option (List LogItem)) → Apart q step → FailsAt step e old new → Fixes AllApart old new
+  failed_apart step e old new apart fails = fixes_failed AllApart step e old new fails (λ w. tt) (λ w fault rooted is. (apart, tt))
+
+  making_stops : (e : Error) (old new : Option (List LogItem)) → StopsMaking cache e old new → Fixes AllApart old new
+  making_stops e old new (inl fails) = failed_apart (steps.MakeDirs (temp_folder cache)) e old new tt fails
+  making_stops e old new (inr (number, made, folder, fails)) =
+      fixes_then AllApart AllApart AllApart old made new (fixes_step AllApart (steps.MakeDirs (temp_folder cache)) answers.Done old made folder (λ w rooted is. (tt, tt)))
+      (failed_apart (steps.CreateTemp (temp_path cache number)) e made new (spared (temp_path cache number) (home ++ temp_names number) (temp_path_named cache number home is) (kind-below home (temp_names number))) fails)
+      (λ w one two rooted a b. apart_join q one two a b)
+
+  abbrev IfSpared : PlainTemp → Moment → Moves → Type 0
+  IfSpared file w moves = Spares file.path → EachApart q moves
+
+  last_stops : (last : PlainTemp) (bytes : List ℕ) (e : Error) (old new : Option (List LogItem)) → FailsAt (steps.Write last bytes) e old new ⊎ TakesNone last bytes e old new → Fixes (IfSpared last) old new
+  last_stops last bytes e old new (inl fails) = fixes_failed (IfSpared last) (steps.Write last bytes) e old new fails (λ w spares. tt) (λ w fault rooted is spares. (spares, tt))
+  last_stops last bytes e old new (inr (g, does, ends)) = fixes_step (IfSpared last) (steps.Write last bytes) (answers.Wrote g 0) old new does (λ w rooted is spares. (spares, tt))
+
+  abbrev Writing : PlainTemp → PlainTemp → Moment → Moves → Type 0
+  Writing file last w moves = Spares file.path → file.bytes ≡ Some [] → EachApart q moves × Spares last.path
+
+  writing_stops : (file : PlainTemp) (bytes : List ℕ) (e : Error) (old made new : Option (List LogItem)) → MakesTemp cache file old made → StopsWriting file bytes e made new → Fixes AllApart old new
+  writing_stops file bytes e old made new making (last, rest, mid, (moves, takes, gains), stop) =
+      fixes_then (Makes file) (λ w moves. Spares file.path → file.bytes ≡ Some [] → EachApart q moves) AllApart old made new (making_apart file old made making)
+      (fixes_then (Writing file last) (IfSpared last) (λ w moves. Spares file.path → file.bytes ≡ Some [] → EachApart q moves) made mid new
+      (record {
+        moves = moves;
+        gains = gains;
+        tells = λ w rooted a spares empty. writes_apart moves w.tree file last file.path [] bytes rest spares takes a (record { path_is = refl; bytes_are = empty });
+      })
+      (last_stops last rest e mid new stop)
+      (λ w one two rooted a b spares empty. let here = a spares empty in apart_join q one two here.0 (b here.1)))
+      (λ w one two rooted a b. apart_join q one two a.0 (b a.1 a.2))
+
+  -- before the move
+  pub early_stops : (file full : PlainTemp) (bytes : List ℕ) (e : Error) (old made written new : Option (List LogItem)) → MakesTemp cache file old made → Took file bytes full [] made written → FailsAt (steps.SyncTemp full) e written new → Fixes AllApart old new
+  early_stops file full bytes e old made written new making took fails =
+      fixes_then (Full full bytes) AllApart AllApart old written new (full_apart file full bytes old made written making took) (failed_apart (steps.SyncTemp full) e written new tt fails)
+      (λ w one two rooted a b. apart_join q one two a.0 b)
+
+  pub sync_stops : (path : List ℕ) (e : Error) (old new : Option (List LogItem)) → StopsSyncingBucket true path e old new → Fixes AllApart old new
+  sync_stops path e old new (inl fails) = failed_apart (steps.SyncFile path) e old new tt fails
+  sync_stops path e old new (inr (synced, file, fails)) =
+      fixes_then AllApart AllApart AllApart old synced new (fixes_step AllApart (steps.SyncFile path) answers.Done old synced file (λ w rooted is. (tt, tt)))
+      (failed_apart (steps.SyncDir (folder_of path)) e synced new tt fails) (λ w one two rooted a b. apart_join q one two a b)
+
+  pub unread_stops : (path : List ℕ) (e : Error) (old new : Option (List LogItem)) → FailsAt (steps.ReadAll path) e old new → Fixes AllApart old new
+  unread_stops path e old new fails = failed_apart (steps.ReadAll path) e old new tt fails
+
+  pub unsecured_stops : (path : List ℕ) (e : Error) (old new : Option (List LogItem)) → FailsAt (steps.SyncDir path) e old new → Fixes AllApart old new
+  unsecured_stops path e old new fails = failed_apart (steps.SyncDir path) e old new tt fails
+
+  -- at it or after it, if the path is another one
+  moving_stops : (file full : PlainTemp) (path bytes : List ℕ) (e : Error) (old made written new : Option (List LogItem)) → Spares path → MakesTemp cache file old made → Took file bytes full [] made written → StopsMoving true full path e written new → Fixes AllApart old new
+  moving_stops file full path bytes e old made written new spares making took (inl fails) = early_stops file full bytes e old made written new making took fails
+  moving_stops file full path bytes e old made written new spares making took (inr (synced, syncs, rest)) =
+      fixes_then (Full full bytes) (IfSpared full) AllApart old written new (full_apart file full bytes old made written making took)
+      (fixes_then AllApart (IfSpared full) (IfSpared full) written synced new (fixes_step AllApart (steps.SyncTemp full) (answers.Synced full) written synced syncs (λ w rooted is. (tt, tt))) (by rest)
+      (λ w one two rooted a b temp. apart_join q one two a (b temp)))
+      (λ w one two rooted a b. apart_join q one two a.0 (b a.1))
+    where
+      by : FailsAt (steps.Persist full path) e synced new ⊎ ((moved : Option (List LogItem)) × Does (steps.Persist full path) answers.Done synced moved × FailsAt (steps.SyncDir (folder_of path)) e moved new) → Fixes (IfSpared full) synced new
+      by (inl fails) = fixes_failed (IfSpared full) (steps.Persist full path) e synced new fails (λ w temp. tt) (λ w fault rooted is temp. ((temp, spares), tt))
+      by (inr (late, moves, fails)) =
+          fixes_then (IfSpared full) AllApart (IfSpared full) synced late new (fixes_step (IfSpared full) (steps.Persist full path) answers.Done synced late moves (λ w rooted is temp. ((temp, spares), tt)))
+          (unsecured_stops (folder_of path) e late new fails) (λ w one two rooted a b temp. apart_join q one two (a temp) b)
+
+  pub rewriting_stops : (path bytes : List ℕ) (e : Error) (old new : Option (List LogItem)) → Spares path → StopsRewriting true cache path bytes e old new → Fixes AllApart old new
+  rewriting_stops path bytes e old new spares (inl making) = making_stops e old new making
+  rewriting_stops path bytes e old new spares (inr (file, made, making, inl writing)) = writing_stops file bytes e old made new making writing
+  rewriting_stops path bytes e old new spares (inr (file, made, making, inr (full, written, took, moving))) = moving_stops file full path bytes e old made written new spares making took moving
+
+  pub bucket_stops : (path : List ℕ) (e : Error) (old new : Option (List LogItem)) → Spares path → StopsBucket true cache path e old new → Fixes AllApart old new
+  bucket_stops path e old new spares (inl fails) = unread_stops path e old new fails
+  bucket_stops path e old new spares (inr (bytes, read, does, rest)) =
+      fixes_then AllApart AllApart AllApart old read new (fixes_step AllApart (steps.ReadAll path) (answers.Bytes bytes) old read does (λ w rooted is. (tt, tt))) (by rest) (λ w one two rooted a b. apart_join q one two a b)
+    where
+      by : StopsRewriting true cache path (compact_text true bytes) e read new ⊎ StopsUnchanged true (path, bytes) e read new → Fixes AllApart read new
+      by (inl stop) = rewriting_stops path (compact_text true bytes) e read new spares stop
+      by (inr (same, stop)) = sync_stops path e read new stop

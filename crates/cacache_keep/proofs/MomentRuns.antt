@@ -1,9 +1,11 @@
 -- What parts of a log do from a moment on: to the tree that they find, and to what of it is fixed.
-use Rattle.std.proofs.Common.{◌≡◌, List, [], ◌∷◌, ◌++◌, Option, Some, map, refl, sym, ap, ap₂, subst, ◌∙◌}
+use Rattle.std.proofs.Common.{◌≡◌, inl, inr, List, [], ◌∷◌, ◌++◌, Option, Some, map, refl, sym, ap, ap₂, subst, ◌∙◌}
+use Rattle.cacache_core.specs.declared.errors.{Error.{Error, TheVariants.{IoError, OutOfMemory}}, Fault.{Fault}}
+use Rattle.cacache_store.specs.declared.store.answer.Answer.TheVariants as answers
 use Rattle.cacache_store.specs.{declared.store.log.LogItem.{LogItem, TheVariants.{Made}}, Plain.{PlainStep, PlainAnswer}}
 use Rattle.cacache_disk.specs.{declared.luck.Luck.TheVariants.{Plain}, Tree.{Tree}, Apply.{apply}, Rooted.{Rooted}}
 use Rattle.cacache_memory.specs.Replay.{tree_of, IsLog}
-use Rattle.cacache_table.specs.{Runs.{Gains, Moves}, SingleSteps.{Does}}
+use Rattle.cacache_table.specs.{Runs.{Gains, Moves}, SingleSteps.{Does, FailsAt}}
 use Rattle.cacache_sequence.{specs.Sequence.{tree_on, plain_moves, AreAnswered}, proofs.Calls.InParts.{logs_lead}}
 use Rattle.cacache_loss.specs.Moments.{Moment, after, next}
 use Rattle.cacache_keep_laws.proofs.Logged.{answered_split, gains_join, log_rooted}
@@ -50,6 +52,14 @@ fixes_then P Q R old mid new one two so = record {
 
 pub fixes_as : (P Q : Moment → Moves → Type 0) (old new : Option (List LogItem)) → Fixes P old new → ((w : Moment) (moves : Moves) → Rooted w.tree → P w moves → Q w moves) → Fixes Q old new
 fixes_as P Q old new one so = record { moves = one.moves; gains = one.gains; tells = λ w rooted a. so w one.moves rooted (one.tells w rooted a) }
+
+-- a step that failed, where that is so whichever fault it was, and where no step was made
+pub fixes_failed : (P : Moment → Moves → Type 0) (step : PlainStep) (e : Error) (old new : Option (List LogItem)) → FailsAt step e old new
+    → ((w : Moment) → P w []) → ((w : Moment) (fault : Fault) → Rooted w.tree → answers.Failed fault ≡ (apply w.tree step Plain).0 → P w ((step, answers.Failed fault) ∷ [])) → Fixes P old new
+fixes_failed P step (IoError fault message) old new fails none so = fixes_step P step (answers.Failed fault) old new fails (λ w rooted e. so w fault rooted e)
+fixes_failed P step OutOfMemory old new (inl same) none so = fixes_none P old new same none
+fixes_failed P step OutOfMemory old new (inr (fault, does)) none so = fixes_step P step (answers.Failed fault) old new does (λ w rooted e. so w fault rooted e)
+fixes_failed P step e old new fails none so = absurd fails
 
 -- what is so of the trees
 abbrev pub OfTrees : (Tree → Tree → Type 0) → Moment → Moves → Type 0
