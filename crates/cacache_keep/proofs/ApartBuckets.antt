@@ -113,7 +113,7 @@ module _ (cache : List ℕ) (home : Names) (is : home_of cache ≡ Some home) (q
   failed_apart : (step : PlainStep) (e : Error) (old new : Option (List LogItem)) → Apart q step → FailsAt step e old new → Fixes AllApart old new
   failed_apart step e old new apart fails = fixes_failed AllApart step e old new fails (λ w. tt) (λ w fault rooted is. (apart, tt))
 
-  making_stops : (e : Error) (old new : Option (List LogItem)) → StopsMaking cache e old new → Fixes AllApart old new
+  pub making_stops : (e : Error) (old new : Option (List LogItem)) → StopsMaking cache e old new → Fixes AllApart old new
   making_stops e old new (inl fails) = failed_apart (steps.MakeDirs (temp_folder cache)) e old new tt fails
   making_stops e old new (inr (number, made, folder, fails)) =
       fixes_then AllApart AllApart AllApart old made new (fixes_step AllApart (steps.MakeDirs (temp_folder cache)) answers.Done old made folder (λ w rooted is. (tt, tt)))
@@ -130,7 +130,7 @@ module _ (cache : List ℕ) (home : Names) (is : home_of cache ≡ Some home) (q
   abbrev Writing : PlainTemp → PlainTemp → Moment → Moves → Type 0
   Writing file last w moves = Spares file.path → file.bytes ≡ Some [] → EachApart q moves × Spares last.path
 
-  writing_stops : (file : PlainTemp) (bytes : List ℕ) (e : Error) (old made new : Option (List LogItem)) → MakesTemp cache file old made → StopsWriting file bytes e made new → Fixes AllApart old new
+  pub writing_stops : (file : PlainTemp) (bytes : List ℕ) (e : Error) (old made new : Option (List LogItem)) → MakesTemp cache file old made → StopsWriting file bytes e made new → Fixes AllApart old new
   writing_stops file bytes e old made new making (last, rest, mid, (moves, takes, gains), stop) =
       fixes_then (Makes file) (λ w moves. Spares file.path → file.bytes ≡ Some [] → EachApart q moves) AllApart old made new (making_apart file old made making)
       (fixes_then (Writing file last) (IfSpared last) (λ w moves. Spares file.path → file.bytes ≡ Some [] → EachApart q moves) made mid new

@@ -1,18 +1,19 @@
 -- During a durable compaction a bucket has its bytes or its compacted ones, in each moment and after each loss.
 use Rattle.std.proofs.Common.{◌≡◌, ◌⊎◌, inl, inr, ℕ, List, [], ◌∷◌, ◌++◌, Bool, true, false, cond, map, Option, None, Some, Result, Ok, Err, refl, sym, ap, subst, ◌∙◌}
 use Rattle.std.specs.Prelude.{unwrap_or}
-use Rattle.cacache_core.specs.{declared.errors.Fault.{Fault}, PathNames.{Names, home_of, names_of}}
+use Rattle.cacache_core.specs.{declared.errors.{Error.{Error}, Fault.{Fault}}, PathNames.{Names, home_of, names_of}}
 use Rattle.cacache_store.specs.declared.store.answer.Answer.TheVariants as answers
 use Rattle.cacache_store.specs.declared.store.{log.LogItem.{LogItem}, plain.PlainTemp.{PlainTemp}}
 use Rattle.cacache_store.specs.declared.store.step.Step.TheVariants as steps
 use Rattle.cacache_disk.specs.{declared.{luck.Luck.TheVariants.{Plain}, node.Node.TheVariants.{File}}, Rooted.{Rooted}, Tree.{Tree, cut, look, put}, Apply.{apply}}
 use Rattle.cacache_disk.proofs.{Maps.{same_path-true}, PutNodes.{look-put}, Roots.{same_self}}
-use Rattle.cacache_table.specs.{Runs.{Moves}, SingleSteps.{Does}}
+use Rattle.cacache_table.specs.{Runs.{Moves}, SingleSteps.{Does, FailsAt}}
 use Rattle.cacache_value.specs.Kinds.{Bucket as IsBucket, path_kind}
-use Rattle.cacache_loss.specs.{declared.fixing.Place.{Place}, Fixing.{is_at, place_now}, Moments.{Moment, next}}
+use Rattle.cacache_loss.specs.{declared.fixing.{Fixing.{Fixing}, Place.{Place}}, Fixing.{is_at, place_now}, Moments.{Moment, next}}
+use Rattle.cacache_loss.proofs.UnchangedPaths.{file_kept, name_kept}
 use Rattle.cacache_keep_laws.{specs.Compacting.{compact_text}, proofs.{CompactTwice.{compact_again}, Led.{file_shown}}}
-use Rattle.cacache_keep.specs.{Compacting.{Bucket, CompactsBucket, CompactsCache, CompactsEach, RewritesIf, is_loose}, Rewriting.{Rewrites, SyncsBucket, folder_of}, Syncing.{folders_above}}
-use Rattle.cacache_keep.proofs.{ApartSteps.{EachApart, IsWhole, Kept, moves_kept, step_kept}, ApartBuckets.{AllApart, Full, Spares, bucket_apart, full_apart, sync_apart}, ApartCompactions.{finding_apart, syncs_apart}, MomentRuns.{Fixes, fixes_as, fixes_none, fixes_step, fixes_then, later, later_split}, MovedFiles.{moved}}
+use Rattle.cacache_keep.specs.{Compacting.{Bucket, CompactsBucket, CompactsEach, RewritesIf, StopsBucket, StopsUnchanged, is_loose}, Losses.{CompactsDurably}, Rewriting.{MakesTemp, Rewrites, StopsMoving, StopsRewriting, SyncsBucket, Took, folder_of}, Syncing.{folders_above}}
+use Rattle.cacache_keep.proofs.{ApartSteps.{EachApart, IsWhole, Kept, moves_kept, step_kept}, ApartBuckets.{AllApart, Full, Spares, bucket_apart, bucket_stops, early_stops, full_apart, making_stops, sync_apart, sync_stops, unread_stops, unsecured_stops, writing_stops}, ApartCompactions.{finding_apart, finding_stops, syncs_apart, syncs_stop}, MomentRuns.{Fixes, fixes_as, fixes_failed, fixes_none, fixes_step, fixes_then, later, later_split}, MovedFiles.{moved, unmoved}}
 
 module _ (cache : List ℕ) (home : Names) (is : home_of cache ≡ Some home) (q : Names) (kind : path_kind (Some home) q ≡ IsBucket) (bytes : List ℕ) where
   -- the bucket's bytes, or the compacted ones
@@ -171,9 +172,69 @@ module _ (cache : List ℕ) (home : Names) (is : home_of cache ≡ Some home) (q
   each_safe [] old new same = fixes_none StaysSafe old new same (λ w s. s)
   each_safe (b ∷ buckets) old new (next, one, more) = fixes_both old next new (one_safe (is_at (names_of b.0) q) b old next refl one) (each_safe buckets next new more)
 
-  -- ---- a compaction
+  -- ---- where an error ends that
 
-  pub compaction_safe : (count saved : ℕ) (old new : Option (List LogItem)) → CompactsCache true cache count saved old new → Fixes StaysSafe old new
-  compaction_safe count saved old new (tops, paths, found, done, finding, all, above) =
+  failed_safe : (full : PlainTemp) (path : List ℕ) (w : Moment) (fault : Fault) → answers.Failed fault ≡ (apply w.tree (steps.Persist full path) Plain).0 → StaysSafe w ((steps.Persist full path, answers.Failed fault) ∷ [])
+  failed_safe full path w fault e s =
+      let stays : look (apply w.tree (steps.Persist full path) Plain).1 q ≡ Some (File s.0.0) = ap (λ (t : Tree). look t q) (unmoved full path fault w.tree e) ∙ s.0.2 in
+      let kept : Kept w (next w (record { step = steps.Persist full path; luck = Plain; answer = answers.Failed fault })) q (File s.0.0)
+      = record {
+        stands = stays;
+        whole = λ whole. ap (λ (f : Fixing). f.whole) (file_kept w.fixed w.tree (apply w.tree (steps.Persist full path) Plain).1 (steps.Persist full path) (answers.Failed fault) q (Some (File s.0.0)) s.0.2 stays refl refl refl) ∙ whole;
+        name = inl (name_kept w.fixed w.tree (apply w.tree (steps.Persist full path) Plain).1 (steps.Persist full path) (answers.Failed fault) q (Some (File s.0.0)) s.0.2 stays refl);
+      } in
+      (s, kept_safe w (next w (record { step = steps.Persist full path; luck = Plain; answer = answers.Failed fault })) s kept)
+
+  unmoved_safe : (full : PlainTemp) (path : List ℕ) (e : Error) (old new : Option (List LogItem)) → FailsAt (steps.Persist full path) e old new → Fixes StaysSafe old new
+  unmoved_safe full path e old new fails = fixes_failed StaysSafe (steps.Persist full path) e old new fails (λ w s. s) (λ w fault rooted is. failed_safe full path w fault is)
+
+  moving_stops : (file full : PlainTemp) (path x : List ℕ) (e : Error) (old made written new : Option (List LogItem)) → names_of path ≡ Ok q → MakesTemp cache file old made → Took file x full [] made written → StopsMoving true full path e written new → Fixes (SafeIf x) old new
+  moving_stops file full path x e old made written new named making took (inl fails) =
+      fixes_as (λ w moves. EachApart q moves) (SafeIf x) old new (early_stops cache home is q IsBucket kind (λ e. cc) file full x e old made written new making took fails) (λ w moves rooted apart good. apart_safe w moves apart)
+  moving_stops file full path x e old made written new named making took (inr (synced, syncs, inl fails)) =
+      fixes_then (Full cache home is q IsBucket kind (λ e. cc) full x) StaysSafe (SafeIf x) old written new (full_apart cache home is q IsBucket kind (λ e. cc) file full x old made written making took)
+      (fixes_both written synced new (apart_fixes written synced (fixes_step (λ w moves. EachApart q moves) (steps.SyncTemp full) (answers.Synced full) written synced syncs (λ w rooted is. (tt, tt)))) (unmoved_safe full path e synced new fails))
+      (λ w one two rooted a b good. safe_then w one two (apart_safe w one a.0) b)
+  moving_stops file full path x e old made written new named making took (inr (synced, syncs, inr (late, moves, fails))) =
+      fixes_then (Full cache home is q IsBucket kind (λ e. cc) full x) (λ w moves. full.bytes ≡ Some x → SafeIf x w moves) (SafeIf x) old written new (full_apart cache home is q IsBucket kind (λ e. cc) file full x old made written making took)
+      (fixes_then (λ w moves. full.bytes ≡ Some x → SafeIf x w moves) (λ w moves. EachApart q moves) (λ w moves. full.bytes ≡ Some x → SafeIf x w moves) written late new
+      (synced_moved full path x written synced late named syncs moves) (unsecured_stops cache home is q IsBucket kind (λ e. cc) (folder_of path) e late new fails)
+      (λ w one two rooted a b has good. safe_then w one two (a has good) (apart_safe (later w one) two b)))
+      (λ w one two rooted a b good. safe_then w one two (apart_safe w one a.0) (b a.2 good))
+
+  rewriting_stops : (path x : List ℕ) (e : Error) (old new : Option (List LogItem)) → names_of path ≡ Ok q → StopsRewriting true cache path x e old new → Fixes (SafeIf x) old new
+  rewriting_stops path x e old new named (inl making) =
+      fixes_as (λ w moves. EachApart q moves) (SafeIf x) old new (making_stops cache home is q IsBucket kind (λ e. cc) e old new making) (λ w moves rooted apart good. apart_safe w moves apart)
+  rewriting_stops path x e old new named (inr (file, made, making, inl writing)) =
+      fixes_as (λ w moves. EachApart q moves) (SafeIf x) old new (writing_stops cache home is q IsBucket kind (λ e. cc) file x e old made new making writing) (λ w moves rooted apart good. apart_safe w moves apart)
+  rewriting_stops path x e old new named (inr (file, made, making, inr (full, written, took, moving))) = moving_stops file full path x e old made written new named making took moving
+
+  own_stops : (path : List ℕ) (e : Error) (old new : Option (List LogItem)) → names_of path ≡ Ok q → StopsBucket true cache path e old new → Fixes StaysSafe old new
+  own_stops path e old new named (inl fails) = apart_fixes old new (unread_stops cache home is q IsBucket kind (λ e. cc) path e old new fails)
+  own_stops path e old new named (inr (text, read, does, rest)) =
+      fixes_then (ReadsIt (path, text)) (Settles (path, text)) StaysSafe old read new
+      (fixes_step (ReadsIt (path, text)) (steps.ReadAll path) (answers.Bytes text) old read does (λ w rooted is. ((tt, tt), read_it (path, text) w rooted named is)))
+      (by rest)
+      (λ w one two rooted a s safe. safe_then w one two (apart_safe w one a.0) (s (subst Good (a.1 safe.0.0 safe.0.2) safe.0.1)) safe)
+    where
+      by : StopsRewriting true cache path (compact_text true text) e read new ⊎ StopsUnchanged true (path, text) e read new → Fixes (Settles (path, text)) read new
+      by (inl stop) = fixes_as (SafeIf (compact_text true text)) (Settles (path, text)) read new (rewriting_stops path (compact_text true text) e read new named stop) (λ w moves rooted s good. s (lean_good text good))
+      by (inr (same, stop)) = fixes_as (λ w moves. EachApart q moves) (Settles (path, text)) read new (sync_stops cache home is q IsBucket kind (λ e. cc) path e read new stop) (λ w moves rooted apart good. apart_safe w moves apart)
+
+  one_stops : (here : Bool) (path : List ℕ) (e : Error) (old new : Option (List LogItem)) → is_at (names_of path) q ≡ here → StopsBucket true cache path e old new → Fixes StaysSafe old new
+  one_stops true path e old new here stop = own_stops path e old new (at_names path (names_of path) refl here) stop
+  one_stops false path e old new here stop = apart_fixes old new (bucket_stops cache home is q IsBucket kind (λ e. cc) path e old new here stop)
+
+  -- ---- a compaction, also if an error ends it
+
+  pub compaction_safe : (old new : Option (List LogItem)) → CompactsDurably cache old new → Fixes StaysSafe old new
+  compaction_safe old new (inl (count, saved, (tops, paths, found, done, finding, all, above))) =
       fixes_both old found new (apart_fixes old found (finding_apart q cache tops paths old found finding))
       (fixes_both found done new (each_safe all.buckets found done all.compacting) (apart_fixes done new (syncs_apart q (folders_above cache tops) done new above)))
+  compaction_safe old new (inr (e, inl finding)) = apart_fixes old new (finding_stops q cache e old new finding)
+  compaction_safe old new (inr (e, inr (tops, paths, found, finding, inl s))) =
+      fixes_both old found new (apart_fixes old found (finding_apart q cache tops paths old found finding))
+      (fixes_both found s.between new (each_safe s.buckets found s.between s.compacting) (one_stops (is_at (names_of s.next) q) s.next e s.between new refl s.stop))
+  compaction_safe old new (inr (e, inr (tops, paths, found, finding, inr (count, saved, done, all, above)))) =
+      fixes_both old found new (apart_fixes old found (finding_apart q cache tops paths old found finding))
+      (fixes_both found done new (each_safe all.buckets found done all.compacting) (apart_fixes done new (syncs_stop q (folders_above cache tops) e done new above)))

@@ -10,15 +10,15 @@ use Rattle.cacache_table.specs.Runs.{Gains, Moves}
 use Rattle.cacache_value.{specs.Kinds.{Bucket as IsBucket, Way, path_kind}, proofs.KindsApart.{kind-below}}
 use Rattle.cacache_loss.{specs.{declared.fixing.Place.{Place}, Fixing.{Fixed}, Loss.{Loss, left_at, node_left}, LostValues.{LeftOf}, Moments.{Moment, lost_then}}, proofs.SyncedFolders.{left_was}}
 use Rattle.cacache_keep_laws.{specs.Compacting.{compact_text}, proofs.Logged.{log_rooted}}
-use Rattle.cacache_keep.specs.{Compacting.{CompactsCache}, Losses.{BucketsFixed, CompactionsSpare, IsFixedAt, KeepsEither, WayFixed, moment_after}}
+use Rattle.cacache_keep.specs.{Losses.{BucketsFixed, CompactionsSpare, CompactsDurably, IsFixedAt, KeepsEither, WayFixed, moment_after}}
 use Rattle.cacache_keep.proofs.{ApartSteps.{EachApart, moves_kept, name_still}, ApartCompactions.{compaction_apart}, FixedFolders.{node_lost}, LeanLosses.{IsEither, keys_keep}, MomentRuns.{fixes_on, later, later_rooted}, SafeBuckets.{Good, GoodPlace, Safe, StaysSafe, WasGood, compaction_safe, front_safe}}
 
 apart_front : (q : Names) (one two : Moves) → EachApart q (one ++ two) → EachApart q one
 apart_front q [] two apart = tt
 apart_front q (m ∷ one) two apart = (apart.0, apart_front q one two apart.1)
 
-module _ (cache : List ℕ) (home : Names) (count bytes : ℕ) (first rest : Moves) (fixed : Fixed) (loss : Loss) (old new : List LogItem) (left : Tree)
-    (is : home_of cache ≡ Some home) (logged : IsLog new) (c : CompactsCache true cache count bytes (Some old) (Some new)) (gains : Gains (Some old) (Some new) (first ++ rest))
+module _ (cache : List ℕ) (home : Names) (first rest : Moves) (fixed : Fixed) (loss : Loss) (old new : List LogItem) (left : Tree)
+    (is : home_of cache ≡ Some home) (logged : IsLog new) (c : CompactsDurably cache (Some old) (Some new)) (gains : Gains (Some old) (Some new) (first ++ rest))
     (lost : LeftOf home (moment_after (tree_of old) fixed first) loss left) where
   abbrev start : Moment
   start = record { tree = tree_of old; fixed = fixed }
@@ -27,7 +27,7 @@ module _ (cache : List ℕ) (home : Names) (count bytes : ℕ) (first rest : Mov
   way_still : (below above : Names) (name : List ℕ) (node : Node) → look (tree_of old) ((home ++ below) ++ name ∷ above) ≡ Some node → path_kind (Some home) (home ++ below) ≡ Way
       → fixed.names (home ++ below) ≡ None → (later start first).fixed.names (home ++ below) ≡ None
   way_still below above name node there kind none =
-      let apart = fixes_on (λ w moves. EachApart (home ++ below) moves) old new (first ++ rest) start logged gains refl (compaction_apart cache home is (home ++ below) kind count bytes (Some old) (Some new) c) in
+      let apart = fixes_on (λ w moves. EachApart (home ++ below) moves) old new (first ++ rest) start logged gains refl (compaction_apart cache home is (home ++ below) kind (Some old) (Some new) c) in
       let stands = upper_folder (tree_of old) (home ++ below) above name node (log_rooted old) there in
       name_still start (later start first) (home ++ below) Folder (moves_kept start first (home ++ below) Folder stands (apart_front (home ++ below) first rest apart)) none
 
@@ -52,7 +52,7 @@ module _ (cache : List ℕ) (home : Names) (count bytes : ℕ) (first rest : Mov
 
     safe : Safe cache home is (home ++ index_area ∷ a ∷ b ∷ e ∷ []) kind text (later start first)
     safe =
-        let all = fixes_on (StaysSafe cache home is (home ++ index_area ∷ a ∷ b ∷ e ∷ []) kind text) old new (first ++ rest) start logged gains refl (compaction_safe cache home is (home ++ index_area ∷ a ∷ b ∷ e ∷ []) kind text count bytes (Some old) (Some new) c)
+        let all = fixes_on (StaysSafe cache home is (home ++ index_area ∷ a ∷ b ∷ e ∷ []) kind text) old new (first ++ rest) start logged gains refl (compaction_safe cache home is (home ++ index_area ∷ a ∷ b ∷ e ∷ []) kind text (Some old) (Some new) c)
             ((text, inl refl, there, before.0), subst (WasGood cache home is (home ++ index_area ∷ a ∷ b ∷ e ∷ []) kind text) (sym before.1) tt) in
         front_safe cache home is (home ++ index_area ∷ a ∷ b ∷ e ∷ []) kind text start first rest all
 
@@ -81,8 +81,8 @@ module _ (cache : List ℕ) (home : Names) (count bytes : ℕ) (first rest : Mov
   either before digest text d there = either_left _ _ _ text there (before digest text d there)
 
 pub compactions_spare : CompactionsSpare
-compactions_spare cache home count bytes first rest fixed loss old new left is logged c gains before lost =
-    let all = either cache home count bytes first rest fixed loss old new left is logged c gains lost before in
+compactions_spare cache home first rest fixed loss old new left is logged c gains before lost =
+    let all = either cache home first rest fixed loss old new left is logged c gains lost before in
     record {
       buckets = all;
       keys = λ key found finds.

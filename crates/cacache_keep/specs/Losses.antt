@@ -1,6 +1,6 @@
 -- What a loss of power leaves of the buckets that a durable compaction wrote anew.
 use Rattle.std.specs.Prelude.{◌≡◌, ◌⊎◌, ◌++◌, ℕ, List, [], ◌∷◌, Option, None, Some, true}
-use Rattle.cacache_core.specs.{PathLaws.{IsKeyDigest}, PathNames.{Names, home_of}, Paths.{bucket_names_of}}
+use Rattle.cacache_core.specs.{declared.errors.Error.{Error}, PathLaws.{IsKeyDigest}, PathNames.{Names, home_of}, Paths.{bucket_names_of}}
 use Rattle.cacache_store.specs.declared.store.log.LogItem.{LogItem}
 use Rattle.cacache_disk.specs.{declared.node.Node.TheVariants.{File}, Tree.{Tree, look}}
 use Rattle.cacache_entry.specs.Latest.{Found}
@@ -9,7 +9,7 @@ use Rattle.cacache_table.specs.Runs.{Gains, Moves}
 use Rattle.cacache_sequence.specs.Sequence.{plain_moves}
 use Rattle.cacache_loss.specs.{Fixing.{Fixed}, Loss.{Loss}, LostValues.{LeftOf}, Moments.{Moment, after}}
 use Rattle.cacache_keep_laws.specs.{Compacting.{compact_text}, Mending.{found_in}}
-use Rattle.cacache_keep.specs.Compacting.{CompactsCache}
+use Rattle.cacache_keep.specs.Compacting.{CompactsCache, StopsCompacting}
 
 -- the moment after these moves, from a tree on of which so much was fixed
 abbrev pub moment_after : Tree → Fixed → Moves → Moment
@@ -83,14 +83,19 @@ pub record KeepsEither (home : Names) (t left : Tree) : Type 0 where
   pub keys : (key : List ℕ) (found : Found)
       → found_in home t key ≡ Some found → found_in home left key ≡ Some found
 
+-- the log gained a durable compaction, or as much of one as came before an error
+abbrev pub CompactsDurably : List ℕ → Option (List LogItem) → Option (List LogItem) → Type 0
+CompactsDurably cache old new =
+    ((count bytes : ℕ) × CompactsCache true cache count bytes old new)
+    ⊎ ((e : Error) × StopsCompacting true cache e old new)
+
 -- so it is in what a loss leaves after any of its moves, if all buckets were fixed before, as after an
 -- earlier durable compaction
 abbrev pub CompactionsSpare : Type 0
 CompactionsSpare =
-    (cache : List ℕ) (home : Names) (count bytes : ℕ) (first rest : Moves) (fixed : Fixed)
-    (loss : Loss) (old new : List LogItem) (left : Tree)
-    → home_of cache ≡ Some home → IsLog new
-    → CompactsCache true cache count bytes (Some old) (Some new)
+    (cache : List ℕ) (home : Names) (first rest : Moves) (fixed : Fixed) (loss : Loss)
+    (old new : List LogItem) (left : Tree)
+    → home_of cache ≡ Some home → IsLog new → CompactsDurably cache (Some old) (Some new)
     → Gains (Some old) (Some new) (first ++ rest)
     → BucketsFixed home (tree_of old) fixed
     → LeftOf home (moment_after (tree_of old) fixed first) loss left
