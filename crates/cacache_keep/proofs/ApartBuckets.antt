@@ -1,10 +1,10 @@
 -- The compaction of a bucket leaves what is fixed of other paths.
-use Rattle.std.{proofs.Common.{◌≡◌, ◌⊎◌, inl, inr, ℕ, List, [], ◌∷◌, ◌++◌, Bool, true, false, drop, take, Option, Some, Ok, refl, sym, ap, subst, ◌∙◌, append-nil}, specs.Prelude.{IfOk}}
+use Rattle.std.proofs.Common.{◌≡◌, ◌⊎◌, inl, inr, ℕ, List, [], ◌∷◌, ◌++◌, Bool, true, false, drop, take, Option, Some, Ok, refl, sym, ap, subst, ◌∙◌, append-nil}
+use Rattle.std.specs.Prelude.{IfOk}
 use Rattle.cacache_core.specs.{declared.errors.Error.{Error}, PathNames.{Names, home_of, names_of}, Paths.{temp_area, temp_names}}
 use Rattle.cacache_store.specs.declared.store.answer.Answer.TheVariants as answers
-use Rattle.cacache_store.specs.declared.store.{log.LogItem.{LogItem}, plain.PlainTemp.{PlainTemp}}
+use Rattle.cacache_store.specs.{declared.store.{log.LogItem.{LogItem}, plain.PlainTemp.{PlainTemp}}, Plain.{PlainStep}}
 use Rattle.cacache_store.specs.declared.store.step.Step.TheVariants as steps
-use Rattle.cacache_store.specs.Plain.{PlainStep}
 use Rattle.cacache_disk.specs.Tree.{Tree}
 use Rattle.cacache_table.specs.{Runs.{Moves}, SingleSteps.{Does, FailsAt}, StepPaths.{temp_folder, temp_path}}
 use Rattle.cacache_value.{specs.Kinds.{PathKind, Temporary, path_kind}, proofs.KindsApart.{kind-below}}

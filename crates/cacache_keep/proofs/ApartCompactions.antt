@@ -1,5 +1,5 @@
 -- A compaction leaves what is fixed of the folders of its buckets.
-use Rattle.std.{proofs.Common.{◌≡◌, ◌⊎◌, inl, inr, ℕ, List, [], ◌∷◌, ◌++◌, Bool, true, map, Option, Some, sym, subst}, specs.List.{AllByRecursion}}
+use Rattle.std.{proofs.Common.{◌≡◌, inl, inr, ℕ, List, [], ◌∷◌, ◌++◌, true, map, Option, Some, sym, subst}, specs.List.{AllByRecursion}}
 use Rattle.cacache_core.specs.{declared.errors.Error.{Error}, PathNames.{Names, home_of, names_of}}
 use Rattle.cacache_store.specs.declared.store.answer.Answer.TheVariants as answers
 use Rattle.cacache_store.specs.{declared.store.log.LogItem.{LogItem}, Plain.{PlainStep}}
@@ -8,7 +8,7 @@ use Rattle.cacache_store.specs.declared.store.step.Step.TheVariants as steps
 use Rattle.cacache_value.specs.Kinds.{Bucket as IsBucket, Way, path_kind}
 use Rattle.cacache_loss.proofs.UnchangedPaths.{at_false}
 use Rattle.cacache_keep.specs.{Buckets.{FindsBuckets, Listed, ListsInTurn, StopsFinding, StopsNextPart, StopsParts, index_area_in}, Compacting.{Bucket, CompactsAll, CompactsCache, CompactsEach, StopsCompactingEach}, Losses.{CompactsDurably}, Syncing.{StopsInTurn, StopsNextSync, SyncsInTurn, folders_above}}
-use Rattle.cacache_keep.proofs.{ApartSteps.{Apart, EachApart, apart_join}, ApartBuckets.{AllApart, Spares, bucket_apart, bucket_stops}, FoundFolders.{HasBucketName, paths_lie}, MomentRuns.{Fixes, fixes_failed, fixes_none, fixes_step, fixes_then}}
+use Rattle.cacache_keep.proofs.{ApartSteps.{Apart, EachApart, apart_join}, ApartBuckets.{bucket_apart, bucket_stops}, FoundFolders.{HasBucketName, paths_lie}, MomentRuns.{Fixes, fixes_failed, fixes_none, fixes_step, fixes_then}}
 
 -- ---- steps that look or sync
 

@@ -1,13 +1,13 @@
 -- What a loss leaves of a file whose folders are fixed, and which folders a durable compaction fixes.
-use Rattle.std.proofs.Common.{◌≡◌, inl, inr, ℕ, List, [], ◌∷◌, ◌++◌, Bool, true, false, cond, Option, None, Some, Result, Ok, Err, refl, sym, ap, subst, ◌∙◌, append_assoc, append-nil}
+use Rattle.std.proofs.Common.{◌≡◌, inl, inr, ℕ, List, [], ◌∷◌, ◌++◌, true, cond, Option, None, Some, Result, Ok, Err, refl, sym, ap, subst, ◌∙◌, append_assoc, append-nil}
 use Rattle.cacache_core.specs.{declared.errors.Fault.{Fault}, PathNames.{Names, names_of}}
 use Rattle.cacache_store.specs.declared.store.answer.Answer.TheVariants as answers
 use Rattle.cacache_store.specs.declared.store.log.LogItem.{LogItem}
 use Rattle.cacache_store.specs.declared.store.step.Step.TheVariants as steps
-use Rattle.cacache_disk.specs.{declared.{luck.Luck.TheVariants.{Plain}, node.Node.{Node, TheVariants.{Folder, File}}}, LedTo.{folder, place, where_folder}, Rooted.{Rooted, is_folder}, Tree.{Tree, look}, Apply.{apply, unless}}
+use Rattle.cacache_disk.specs.{declared.{luck.Luck.TheVariants.{Plain}, node.Node.{Node, TheVariants.{File}}}, LedTo.{folder, place, where_folder}, Rooted.{Rooted, is_folder}, Tree.{Tree, look}, Apply.{apply, unless}}
 use Rattle.cacache_disk.proofs.{FoundNodes.{and_then_ok, place_ok}, Standing.{upper_folder}}
 use Rattle.cacache_table.specs.Runs.{Moves}
-use Rattle.cacache_loss.specs.{declared.fixing.Place.{Place}, Fixing.{is_child_of, place_now}, Loss.{Loss, begins, lead_folders, left_at, node_left}, Moments.{Moment, lost_then}}
+use Rattle.cacache_loss.specs.{declared.fixing.Place.{Place}, Fixing.{is_child_of}, Loss.{Loss, begins, lead_folders, left_at, node_left}, Moments.{Moment, lost_then}}
 use Rattle.cacache_loss.proofs.{KeptPaths.{cond_none, sync_fixes}, SyncedFolders.{IsFirm, left_firm}, UnchangedPaths.{bytes_same}}
 use Rattle.cacache_keep_laws.proofs.Members.{Member}
 use Rattle.cacache_keep.specs.{Losses.{IsFixedAt, WayFixed}, Syncing.{SyncsInTurn}}

@@ -1,8 +1,8 @@
 -- The folders that hold the paths of buckets, by their texts.
-use Rattle.std.{proofs.{Common.{◌≡◌, ℕ, suc, List, [], ◌∷◌, ◌++◌, Bool, true, false, cond, Option, Some, Ok, length, map, filter, refl, sym, ap, subst, ◌∙◌, arith, append_assoc, eqb-true}, lemmas.Bool.{and_parts}}, specs.List.{AllByRecursion, flat_map, list_all}}
+use Rattle.std.proofs.{Common.{◌≡◌, ℕ, suc, List, [], ◌∷◌, ◌++◌, Bool, true, false, cond, Option, Some, Ok, length, map, filter, refl, sym, ap, subst, ◌∙◌, arith, append_assoc, eqb-true}, lemmas.Bool.{and_parts}}
+use Rattle.std.specs.{List.{AllByRecursion, flat_map, list_all}, Prelude.{IfOk}}
 use Rattle.cacache_core.specs.{PathNames.{Names, names_of, home_of, IsProperName}, Paths.{index_area, join}}
 use Rattle.cacache_store.specs.declared.store.{answer.Name.{Name}, log.LogItem.{LogItem}}
-use Rattle.std.specs.Prelude.{IfOk}
 use Rattle.cacache_value.specs.Kinds.{Bucket, path_kind}
 use Rattle.cacache_keep_laws.{specs.Temporary.{is_file}, proofs.Covering.{named_on}}
 use Rattle.cacache_keep.specs.{Buckets.{FindsBuckets, Listed, ListsParts, belongs, index_area_in, is_folder, is_hex_digit, is_hex_name, parts_in}, Rewriting.{folder_of}}

@@ -1,18 +1,18 @@
 -- What a loss leaves right after a durable compaction that ended well.
-use Rattle.std.{proofs.Common.{◌≡◌, ◌⊎◌, inl, inr, ℕ, List, [], ◌∷◌, ◌++◌, Bool, true, false, map, Option, None, Some, Ok, refl, sym, ap, subst, ◌∙◌, append_assoc}, specs.List.{AllByRecursion}}
+use Rattle.std.{proofs.Common.{◌≡◌, ◌⊎◌, inl, inr, ℕ, List, [], ◌∷◌, ◌++◌, true, Option, None, Some, Ok, refl, sym, ap, subst, ◌∙◌, append_assoc}, specs.List.{AllByRecursion}}
 use Rattle.sha1.specs.Sha1.{sha1}
-use Rattle.cacache_core.specs.{PathLaws.{IsKeyDigest}, PathNames.{Names, home_of, names_of}, Paths.{bucket_names_of, index_area}}
-use Rattle.cacache_core.proofs.PathLemmas.{keys_have_digests}
+use Rattle.cacache_core.{specs.{PathLaws.{IsKeyDigest}, PathNames.{Names, home_of, names_of}, Paths.{bucket_names_of, index_area}}, proofs.PathLemmas.{keys_have_digests}}
 use Rattle.cacache_store.specs.declared.store.log.LogItem.{LogItem}
 use Rattle.cacache_disk.specs.{declared.node.Node.{Node, TheVariants.{Folder, File, Link}}, Rooted.{Rooted}, Tree.{Tree, look}}
-use Rattle.cacache_entry.specs.{Bucket.{entries_of}, Latest.{Found, latest}}
+use Rattle.cacache_entry.specs.Latest.{Found, latest}
 use Rattle.cacache_memory.specs.Replay.{tree_of, IsLog}
 use Rattle.cacache_table.specs.Runs.{Gains, Moves}
 use Rattle.cacache_value.{specs.{Acts.{list_of}, Kinds.{Bucket as IsBucket, path_kind}, Value.{bucket_in}}, proofs.KindsApart.{kind-below}}
 use Rattle.cacache_loss.specs.{Fixing.{Fixed}, Loss.{Loss}, LostValues.{LeftOf}, Moments.{Moment}}
-use Rattle.cacache_keep_laws.{specs.{Compacting.{compact_text}, Mending.{found_in}}, proofs.{CompactTexts.{compact_texts_answer}, LeanTrees.{Becomes}, Covering.{home_named}, Logged.{log_rooted}, Members.{Member, in_left, in_right}}}
+use Rattle.cacache_keep_laws.specs.{Compacting.{compact_text}, Mending.{found_in}}
+use Rattle.cacache_keep_laws.proofs.{CompactTexts.{compact_texts_answer}, LeanTrees.{Becomes}, Covering.{home_named}, Logged.{log_rooted}, Members.{Member, in_left, in_right}}
 use Rattle.cacache_keep.specs.{Buckets.{index_area_in}, Compacting.{CompactsAll, CompactsCache}, Losses.{BucketsFixed, CompactionsFix, CompactionsOutlast, IsFixedAt, KeepsLean, moment_after}, Syncing.{folders_above}}
-use Rattle.cacache_keep.proofs.{ApartSteps.{IsWhole}, FixedFolders.{IsFixedFolder, SyncsNames, file_lost, in_turn_fixed}, FoundBuckets.{AreBucketNames, FindsFiles, area_named, buckets_found}, FoundFolders.{FolderNamed, folders_named}, HexNames.{bucket_names_hex}, MomentRuns.{Fixes, OfTrees, fixes_leads, fixes_on, fixes_then, later, later_split, tree_then}, SettledBuckets.{Held, Settled, SettlesThese, StaysHeld, each_settles}, WholeCompactions.{compactions_leave}}
+use Rattle.cacache_keep.proofs.{ApartSteps.{IsWhole}, FixedFolders.{IsFixedFolder, SyncsNames, file_lost, in_turn_fixed}, FoundBuckets.{AreBucketNames, FindsFiles, area_named, buckets_found}, FoundFolders.{FolderNamed, folders_named}, HexNames.{bucket_names_hex}, MomentRuns.{Fixes, OfTrees, fixes_leads, fixes_on, fixes_then, later, later_split, tree_then}, SettledBuckets.{Held, Settled, SettlesThese, each_settles}, WholeCompactions.{compactions_leave}}
 
 -- ---- the folders above those of buckets
 
@@ -60,9 +60,13 @@ module _ (cache : List ℕ) (home : Names) (is : home_of cache ≡ Some home) (a
       let two : (home ++ index_area ∷ []) ++ a ∷ [] ≡ home ++ index_area ∷ a ∷ [] = append_assoc home (index_area ∷ []) (a ∷ []) in (
         subst (IsWhole v.fixed) same_place settled.1,
         ap v.fixed.names (sym same_place) ∙ settled.2,
-        (top_fixed cache home index_area v is (each cache among.2),
-        (names_fixed (index_area_in cache) (home ++ index_area ∷ []) a v (area_named cache home is) (each (index_area_in cache) among.1),
-        (ap (λ (q : Names). v.fixed.names (q ++ b ∷ [])) two ∙ names_fixed top (home ++ index_area ∷ a ∷ []) b v named (each top among.0), tt))),
+        (
+          top_fixed cache home index_area v is (each cache among.2),
+          (
+            names_fixed (index_area_in cache) (home ++ index_area ∷ []) a v (area_named cache home is) (each (index_area_in cache) among.1),
+            (ap (λ (q : Names). v.fixed.names (q ++ b ∷ [])) two ∙ names_fixed top (home ++ index_area ∷ a ∷ []) b v named (each top among.0), tt),
+          ),
+        ),
       )
 
   -- once it is found, compacted, and the folders above are synced

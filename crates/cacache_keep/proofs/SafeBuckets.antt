@@ -1,5 +1,5 @@
 -- During a durable compaction a bucket has its bytes or its compacted ones, in each moment and after each loss.
-use Rattle.std.proofs.Common.{◌≡◌, ◌⊎◌, inl, inr, ℕ, List, [], ◌∷◌, ◌++◌, Bool, true, false, cond, map, Option, None, Some, Result, Ok, Err, refl, sym, ap, subst, ◌∙◌}
+use Rattle.std.proofs.Common.{◌≡◌, ◌⊎◌, inl, inr, ℕ, List, [], ◌∷◌, ◌++◌, Bool, true, false, cond, Option, None, Some, Result, Ok, Err, refl, sym, ap, subst, ◌∙◌}
 use Rattle.std.specs.Prelude.{unwrap_or}
 use Rattle.cacache_core.specs.{declared.errors.{Error.{Error}, Fault.{Fault}}, PathNames.{Names, home_of, names_of}}
 use Rattle.cacache_store.specs.declared.store.answer.Answer.TheVariants as answers
@@ -9,11 +9,10 @@ use Rattle.cacache_disk.specs.{declared.{luck.Luck.TheVariants.{Plain}, node.Nod
 use Rattle.cacache_disk.proofs.{Maps.{same_path-true}, PutNodes.{look-put}, Roots.{same_self}}
 use Rattle.cacache_table.specs.{Runs.{Moves}, SingleSteps.{Does, FailsAt}}
 use Rattle.cacache_value.specs.Kinds.{Bucket as IsBucket, path_kind}
-use Rattle.cacache_loss.specs.{declared.fixing.{Fixing.{Fixing}, Place.{Place}}, Fixing.{is_at, place_now}, Moments.{Moment, next}}
-use Rattle.cacache_loss.proofs.UnchangedPaths.{file_kept, name_kept}
+use Rattle.cacache_loss.{specs.{declared.fixing.{Fixing.{Fixing}, Place.{Place}}, Fixing.{is_at, place_now}, Moments.{Moment, next}}, proofs.UnchangedPaths.{file_kept, name_kept}}
 use Rattle.cacache_keep_laws.{specs.Compacting.{compact_text}, proofs.{CompactTwice.{compact_again}, Led.{file_shown}}}
-use Rattle.cacache_keep.specs.{Compacting.{Bucket, CompactsBucket, CompactsEach, RewritesIf, StopsBucket, StopsUnchanged, is_loose}, Losses.{CompactsDurably}, Rewriting.{MakesTemp, Rewrites, StopsMoving, StopsRewriting, SyncsBucket, Took, folder_of}, Syncing.{folders_above}}
-use Rattle.cacache_keep.proofs.{ApartSteps.{EachApart, IsWhole, Kept, moves_kept, step_kept}, ApartBuckets.{AllApart, Full, Spares, bucket_apart, bucket_stops, early_stops, full_apart, making_stops, sync_apart, sync_stops, unread_stops, unsecured_stops, writing_stops}, ApartCompactions.{finding_apart, finding_stops, syncs_apart, syncs_stop}, MomentRuns.{Fixes, fixes_as, fixes_failed, fixes_none, fixes_step, fixes_then, later, later_split}, MovedFiles.{moved, unmoved}}
+use Rattle.cacache_keep.specs.{Compacting.{Bucket, CompactsBucket, CompactsEach, RewritesIf, StopsBucket, StopsUnchanged, is_loose}, Losses.{CompactsDurably}, Rewriting.{MakesTemp, Rewrites, StopsMoving, StopsRewriting, Took, folder_of}, Syncing.{folders_above}}
+use Rattle.cacache_keep.proofs.{ApartSteps.{EachApart, IsWhole, Kept, step_kept}, ApartBuckets.{Full, bucket_apart, bucket_stops, early_stops, full_apart, making_stops, sync_apart, sync_stops, unread_stops, unsecured_stops, writing_stops}, ApartCompactions.{finding_apart, finding_stops, syncs_apart, syncs_stop}, MomentRuns.{Fixes, fixes_as, fixes_failed, fixes_none, fixes_step, fixes_then, later}, MovedFiles.{moved, unmoved}}
 
 module _ (cache : List ℕ) (home : Names) (is : home_of cache ≡ Some home) (q : Names) (kind : path_kind (Some home) q ≡ IsBucket) (bytes : List ℕ) where
   -- the bucket's bytes, or the compacted ones
