@@ -141,13 +141,21 @@ module _ (cache : List ℕ) (home : Names) (count bytes : ℕ) (moves : Moves) (
       by (inr (inl lean)) = bucket_fixed digest lean.1 d lean.2
       by (inr (inr made)) = absurd (let wrong : Some Folder ≡ Some (File text) = sym made.2 ∙ there in cc)
 
+  -- a bucket is compacted by then, and fixed
+  pub lean_now : (digest text : List ℕ) → IsKeyDigest digest → look (tree_of old) (home ++ bucket_names_of digest) ≡ Some (File text)
+      → (look (later start moves).tree (home ++ bucket_names_of digest) ≡ Some (File (compact_text true text))) × IsFixedAt (later start moves).fixed home (bucket_names_of digest)
+      × Rooted (later start moves).tree
+  lean_now digest text d there = (
+    ap (λ (t : Tree). look t (home ++ bucket_names_of digest)) now_is ∙ (compactions_leave true cache home count bytes old new is logged c).buckets digest text d there,
+    bucket_fixed digest text d there,
+    subst Rooted (sym now_is) (log_rooted new),
+  )
+
   module _ (loss : Loss) (left : Tree) (lost : LeftOf home (moment_after (tree_of old) fixed moves) loss left) where
     lean : (digest text : List ℕ) → IsKeyDigest digest → look (tree_of old) (home ++ bucket_names_of digest) ≡ Some (File text) → look left (home ++ bucket_names_of digest) ≡ Some (File (compact_text true text))
     lean digest text d there =
-        let now = (compactions_leave true cache home count bytes old new is logged c).buckets digest text d there in
-        lost (home ++ bucket_names_of digest)
-        ∙ file_lost home (later start moves) loss (subst Rooted (sym now_is) (log_rooted new)) (bucket_names_of digest) (compact_text true text)
-        (ap (λ (t : Tree). look t (home ++ bucket_names_of digest)) now_is ∙ now) (bucket_fixed digest text d there)
+        let now = lean_now digest text d there in
+        lost (home ++ bucket_names_of digest) ∙ file_lost home (later start moves) loss now.2 (bucket_names_of digest) (compact_text true text) now.0 now.1
 
     kept : KeepsLean home (tree_of old) left
     kept = record {

@@ -46,3 +46,4 @@ mod FixedFolders
 mod WholeCompactions
 mod LeanLosses
 mod SparedLosses
+mod LaterLosses

@@ -7,7 +7,8 @@ use Rattle.cacache_entry.specs.Latest.{Found}
 use Rattle.cacache_memory.specs.Replay.{tree_of, IsLog}
 use Rattle.cacache_table.specs.Runs.{Gains, Moves}
 use Rattle.cacache_sequence.specs.Sequence.{plain_moves}
-use Rattle.cacache_loss.specs.{Fixing.{Fixed}, Loss.{Loss}, LostValues.{LeftOf}, Moments.{Moment, after}}
+use Rattle.cacache_value.specs.Traces.{Move}
+use Rattle.cacache_loss.specs.{Fixing.{Fixed}, Loss.{Loss}, LostValues.{LeftOf}, Moments.{EachMove, Moment, after}, Syncs.{Leaves}}
 use Rattle.cacache_keep_laws.specs.{Compacting.{compact_text}, Mending.{found_in}}
 use Rattle.cacache_keep.specs.Compacting.{CompactsCache, StopsCompacting}
 
@@ -40,8 +41,8 @@ BucketsFixed home t fixed =
 
 -- ---- after a compaction
 
--- in the second tree each bucket of the first has exactly its compacted bytes, and each key that led
--- to an entry leads to it
+-- in the second tree each bucket of the first has exactly its compacted bytes, and each key that
+-- led to an entry leads to it
 pub record KeepsLean (home : Names) (t left : Tree) : Type 0 where
   pub buckets : (digest bytes : List ℕ) → IsKeyDigest digest
       → look t (home ++ bucket_names_of digest) ≡ Some (File bytes)
@@ -59,7 +60,7 @@ CompactionsFix =
     → Gains (Some old) (Some new) moves
     → BucketsFixed home (tree_of new) (moment_after (tree_of old) fixed moves).fixed
 
--- so a loss then leaves the compacted buckets; the cache's own folder stays in each loss, since the
+-- so a loss then leaves the compacted buckets; the cache's own folder stays in each loss, as the
 -- caller has synced the folder above it
 abbrev pub CompactionsOutlast : Type 0
 CompactionsOutlast =
@@ -71,10 +72,32 @@ CompactionsOutlast =
     → LeftOf home (moment_after (tree_of old) fixed moves) loss left
     → KeepsLean home (tree_of old) left
 
+-- a move leaves what the names lead to, and the folders on the way there below the first names
+abbrev pub LeavesWay : Names → Names → Moment → Move → Type 0
+LeavesWay above [] now m = Unit {0}
+LeavesWay above (name ∷ rest) now m =
+    Leaves (above ++ name ∷ []) now m × LeavesWay (above ++ name ∷ []) rest now m
+
+-- while later steps leave a bucket and its folders, as reads do and writes elsewhere, each later
+-- loss leaves exactly its compacted bytes
+abbrev pub CompactionsLast : Type 0
+CompactionsLast =
+    (cache : List ℕ) (home : Names) (count bytes : ℕ) (moves : Moves) (more : List Move)
+    (fixed : Fixed) (loss : Loss) (old new : List LogItem) (left : Tree) (digest text : List ℕ)
+    → home_of cache ≡ Some home → IsLog new
+    → CompactsCache true cache count bytes (Some old) (Some new)
+    → Gains (Some old) (Some new) moves
+    → IsKeyDigest digest
+    → look (tree_of old) (home ++ bucket_names_of digest) ≡ Some (File text)
+    → EachMove (LeavesWay home (bucket_names_of digest))
+    (moment_after (tree_of old) fixed moves) more
+    → LeftOf home (after (moment_after (tree_of old) fixed moves) more) loss left
+    → look left (home ++ bucket_names_of digest) ≡ Some (File (compact_text true text))
+
 -- ---- during a compaction
 
--- in the second tree each bucket of the first has exactly its bytes or its compacted ones, and each key
--- that led to an entry leads to it
+-- in the second tree each bucket of the first has exactly its bytes or its compacted ones, and each
+-- key that led to an entry leads to it
 pub record KeepsEither (home : Names) (t left : Tree) : Type 0 where
   pub buckets : (digest bytes : List ℕ) → IsKeyDigest digest
       → look t (home ++ bucket_names_of digest) ≡ Some (File bytes)
@@ -89,8 +112,8 @@ CompactsDurably cache old new =
     ((count bytes : ℕ) × CompactsCache true cache count bytes old new)
     ⊎ ((e : Error) × StopsCompacting true cache e old new)
 
--- so it is in what a loss leaves after any of its moves, if all buckets were fixed before, as after an
--- earlier durable compaction
+-- so it is in what a loss leaves after any of its moves, if all buckets were fixed before, as they
+-- are after an earlier durable compaction
 abbrev pub CompactionsSpare : Type 0
 CompactionsSpare =
     (cache : List ℕ) (home : Names) (first rest : Moves) (fixed : Fixed) (loss : Loss)
