@@ -42,7 +42,7 @@ abbrev pub IsPart : Names → Tree → Bool → ℕ → List ℕ → Type 0
 IsPart home t false depth path = InIndex home depth path
 IsPart home t true depth path = IsBucketFile home t path
 
-bucket_kind : (home ns : Names) → length ns ≡ 3 → path_kind (Some home) (home ++ index_area ∷ ns) ≡ Bucket
+pub bucket_kind : (home ns : Names) → length ns ≡ 3 → path_kind (Some home) (home ++ index_area ∷ ns) ≡ Bucket
 bucket_kind home [] e = absurd (omega (arith, e))
 bucket_kind home (a ∷ []) e = absurd (omega (arith, e))
 bucket_kind home (a ∷ b ∷ []) e = absurd (omega (arith, e))
@@ -54,7 +54,7 @@ file_node Folder kind is file = absurd (let wrong : is_file kinds.Folder ≡ tru
 file_node (File bytes) kind is file = (bytes, refl)
 file_node (Link target) kind is file = absurd (let wrong : is_file kinds.Link ≡ true = ap is_file (sym is) ∙ file in cc)
 
-longer : (ns : Names) (name : List ℕ) (depth : ℕ) → length ns ≡ depth → length (ns ++ name ∷ []) ≡ suc depth
+pub longer : (ns : Names) (name : List ℕ) (depth : ℕ) → length ns ≡ depth → length (ns ++ name ∷ []) ≡ suc depth
 longer [] name depth e = omega (arith, e)
 longer (n ∷ ns) name depth e = ap suc (longer ns name (length ns) refl) ∙ ap suc e
 
@@ -170,14 +170,23 @@ AreBucketNames a b c =
     (is_hex_name 2 (record { name = a; kind = kinds.Folder }) ≡ true) × (is_hex_name 2 (record { name = b; kind = kinds.Folder }) ≡ true)
     × (is_hex_name 36 (record { name = c; kind = kinds.File }) ≡ true)
 
+-- the path of a bucket of these names is found, and that of the upper folder that leads to it
+pub record IsFound (home : Names) (tops paths : List (List ℕ)) (a b c : List ℕ) : Type 0 where
+  pub path : List ℕ
+  pub member : Member path paths
+  pub named : names_of path ≡ Ok (home ++ index_area ∷ a ∷ b ∷ c ∷ [])
+  pub top : List ℕ
+  pub top_member : Member top tops
+  pub top_named : names_of top ≡ Ok (home ++ index_area ∷ a ∷ [])
+
 -- the listings find the bucket files, all of them, and leave the tree
-pub record FindsFiles (home : Names) (paths : List (List ℕ)) (t new : Tree) : Type 0 where
+pub record FindsFiles (home : Names) (tops paths : List (List ℕ)) (t new : Tree) : Type 0 where
   pub stays : new ≡ t
   pub files : AllByRecursion (IsBucketFile home t) paths
   pub covers : (a b c bytes : List ℕ) → AreBucketNames a b c → look t (home ++ index_area ∷ a ∷ b ∷ c ∷ []) ≡ Some (File bytes)
-      → (path : List ℕ) × Member path paths × (names_of path ≡ Ok (home ++ index_area ∷ a ∷ b ∷ c ∷ []))
+      → IsFound home tops paths a b c
 
-area_named : (cache : List ℕ) (home : Names) → home_of cache ≡ Some home → names_of (index_area_in cache) ≡ Ok (home ++ index_area ∷ [])
+pub area_named : (cache : List ℕ) (home : Names) → home_of cache ≡ Some home → names_of (index_area_in cache) ≡ Ok (home ++ index_area ∷ [])
 area_named cache home is = joined_texts_name cache (index_area ∷ []) (All-cons IsProperName index_area [] proper_bucket_folder (All-nil IsProperName)) (omega arith) ∙ rw is refl
 
 index_named : (cache : List ℕ) (home : Names) → home_of cache ≡ Some home → AllByRecursion (InIndex home 0) (index_area_in cache ∷ [])
@@ -207,7 +216,7 @@ module _ (cache : List ℕ) (home : Names) (is : home_of cache ≡ Some home) (p
         (parts_lie home t rooted false 0 (index_area_in cache ∷ []) tops old one a (λ e. absurd cc) s.0 (index_named cache home is)))
 
     all_covered : (x y z bytes : List ℕ) → AreBucketNames x y z → look t (home ++ index_area ∷ x ∷ y ∷ z ∷ []) ≡ Some (File bytes)
-        → (path : List ℕ) × Member path paths × (names_of path ≡ Ok (home ++ index_area ∷ x ∷ y ∷ z ∷ []))
+        → IsFound home tops paths x y z
     all_covered x y z bytes hex there =
         let index = area_named cache home is in
         let at_0 : look t ((home ++ index_area ∷ x ∷ y ∷ []) ++ z ∷ []) ≡ Some (File bytes) = ap (look t) (append_assoc home (index_area ∷ x ∷ y ∷ []) (z ∷ [])) ∙ there in
@@ -223,11 +232,11 @@ module _ (cache : List ℕ) (home : Names) (is : home_of cache ≡ Some home) (p
         let m_1 = part_found home t rooted false (index_area_in cache ∷ []) tops old one a s.0 (index_area_in cache) (home ++ index_area ∷ []) x Folder (inl refl) index base at_2 hex.0 in
         let m_2 = part_found home t rooted false tops lows one two b s.1 (join f x) (home ++ index_area ∷ x ∷ []) y Folder m_1 named_1 top at_1 hex.1 in
         let m_3 = part_found home t rooted true lows paths two new c s.2 (join (join f x) y) (home ++ index_area ∷ x ∷ y ∷ []) z (File bytes) m_2 named_2 low at_0 hex.2 in
-        (join (join (join f x) y) z, m_3, named_3)
+        record { path = join (join (join f x) y) z; member = m_3; named = named_3; top = join f x; top_member = m_1; top_named = named_1 }
 
-pub buckets_found : (cache : List ℕ) (home : Names) (tops paths : List (List ℕ)) (old new : Option (List LogItem)) → home_of cache ≡ Some home → FindsBuckets cache tops paths old new → Leads (FindsFiles home paths) old new
+pub buckets_found : (cache : List ℕ) (home : Names) (tops paths : List (List ℕ)) (old new : Option (List LogItem)) → home_of cache ≡ Some home → FindsBuckets cache tops paths old new → Leads (FindsFiles home tops paths) old new
 buckets_found cache home tops paths old new is (lows, one, two, a, b, c) =
-    leads_as (Shown cache home is paths tops lows old one two new a b c) (FindsFiles home paths) old new (lists_all cache home is paths tops lows old one two new a b c)
+    leads_as (Shown cache home is paths tops lows old one two new a b c) (FindsFiles home tops paths) old new (lists_all cache home is paths tops lows old one two new a b c)
     (λ t u rooted s. record {
       stays = s.0;
       files = all_files cache home is paths tops lows old one two new a b c t rooted (s.1, s.2, s.3);

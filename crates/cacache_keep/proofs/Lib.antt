@@ -36,4 +36,16 @@ mod SyncedTrees
 mod SyncedFolders
 mod TightBuckets
 mod CompactedTrees
+mod ParentTexts
+mod FoundFolders
+mod MomentRuns
+mod ApartSteps
+mod ApartBuckets
+mod ApartCompactions
+mod SettledBuckets
+mod SafeBuckets
+mod FixedFolders
 mod WholeCompactions
+mod LeanLosses
+mod SparedLosses
+mod LaterLosses

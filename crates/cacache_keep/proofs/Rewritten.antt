@@ -37,7 +37,7 @@ temp_folder_named : (cache : List ℕ) (home : Names) → home_of cache ≡ Some
 unfolding temp_folder
 temp_folder_named cache home is = joined_texts_name cache (temp_area ∷ []) (All-cons IsProperName temp_area [] proper_temp_folder (All-nil IsProperName)) (omega arith) ∙ rw is refl
 
-temp_path_named : (cache : List ℕ) (number : ℕ) (home : Names) → home_of cache ≡ Some home → names_of (temp_path cache number) ≡ Ok (home ++ temp_names number)
+pub temp_path_named : (cache : List ℕ) (number : ℕ) (home : Names) → home_of cache ≡ Some home → names_of (temp_path cache number) ≡ Ok (home ++ temp_names number)
 unfolding temp_path
 temp_path_named cache number home is = joined_texts_name cache (temp_names number) (names_are_proper.temporaries number) (omega arith) ∙ rw is refl
 
@@ -152,7 +152,7 @@ grown_has file g bytes n m path (Some old) is had has e =
       bytes_are = ap (λ (x : PlainTemp). x.bytes) same ∙ ap (λ (l : List ℕ). Some (l ++ take m bytes)) before ∙ ap (λ (k : ℕ). Some (had ++ take k bytes)) (sym count);
     }
 
-wrote_has : (t : Tree) (file g : PlainTemp) (bytes : List ℕ) (n : ℕ) (path had : List ℕ) → Has file path had → answers.Wrote g n ≡ (apply t (steps.Write file bytes) Plain).0 → Has g path (had ++ take n bytes)
+pub wrote_has : (t : Tree) (file g : PlainTemp) (bytes : List ℕ) (n : ℕ) (path had : List ℕ) → Has file path had → answers.Wrote g n ≡ (apply t (steps.Write file bytes) Plain).0 → Has g path (had ++ take n bytes)
 unfolding apply
 wrote_has t file g bytes n path had has e = grown_has file g bytes n (taken None bytes) path file.bytes refl had has e
 

@@ -48,14 +48,14 @@ LeavesTight durable home t u =
 compacts_all : (durable : Bool) (cache : List ℕ) (home : Names) (count bytes : ℕ) (old new : List LogItem) → home_of cache ≡ Some home → IsLog new → CompactsCache durable cache count bytes (Some old) (Some new) → LeavesTight durable home (tree_of old) (tree_of new)
 compacts_all durable cache home count bytes old new is logged (tops, paths, found, done, finding, all, above) =
     leads_on (LeavesTight durable home) old new logged
-    (leads_then (FindsFiles home paths) (CompactsThese durable cache home is paths) (LeavesTight durable home) (Some old) found (Some new) (buckets_found cache home tops paths (Some old) found is finding)
+    (leads_then (FindsFiles home tops paths) (CompactsThese durable cache home is paths) (LeavesTight durable home) (Some old) found (Some new) (buckets_found cache home tops paths (Some old) found is finding)
     (these_lead durable cache home is tops paths count bytes found done (Some new) all above)
     (λ t u v rooted next one two.
     let done = subst (λ (x : Tree). CompactsThese durable cache home is paths x v) one.stays two one.files in (
       done.0,
       λ a b c bytes hex there.
           let covered = one.covers a b c bytes hex there in
-          tight_bytes durable home t v covered.0 bytes (home ++ index_area ∷ a ∷ b ∷ c ∷ []) (tight_in durable v covered.0 paths covered.1 done.1) covered.2 there done.0,
+          tight_bytes durable home t v covered.path bytes (home ++ index_area ∷ a ∷ b ∷ c ∷ []) (tight_in durable v covered.path paths covered.member done.1) covered.named there done.0,
     )))
 
 pub compactions_leave : CompactionsLeave
@@ -78,7 +78,7 @@ compactions_stop durable cache home e old new is logged (inl finding) =
     (leads_as Stays (CutShort durable home) (Some old) (Some new) (finding_stays cache e (Some old) (Some new) finding) (λ t u rooted same. subst (λ (x : Tree). CutShort durable home t x) (sym same) (cut_short durable home t t (compacted_none durable home t))))
 compactions_stop durable cache home e old new is logged (inr (tops, paths, found, finding, stops)) =
     leads_on (CutShort durable home) old new logged
-    (leads_then (FindsFiles home paths) (λ t u. AllByRecursion (IsBucketFile home t) paths → CutShort durable home t u) (CutShort durable home) (Some old) found (Some new) (buckets_found cache home tops paths (Some old) found is finding)
+    (leads_then (FindsFiles home tops paths) (λ t u. AllByRecursion (IsBucketFile home t) paths → CutShort durable home t u) (CutShort durable home) (Some old) found (Some new) (buckets_found cache home tops paths (Some old) found is finding)
     (stops_lead durable cache home is tops paths e found (Some new) stops)
     (λ t u v rooted next one two. subst (λ (x : Tree). AllByRecursion (IsBucketFile home x) paths → CutShort durable home x v) one.stays two one.files))
 

@@ -15,3 +15,4 @@ pub mod Rewriting
 pub mod Syncing
 pub mod Compacting
 pub mod Told
+pub mod Losses

@@ -3,6 +3,7 @@ ghost use Rattle.cacache_memory.specs.Replay.{IsLog};
 ghost use Rattle.cacache_keep.specs.Behind.{CollectionsKeepKeys, LaterKeysStay};
 ghost use Rattle.cacache_keep.specs.Houses.{RepairsHouse, SweepsHouse, SweepsKeepGood};
 ghost use Rattle.cacache_keep.specs.Kept.{CachesAreSwept, CollectionsLackIdle, CollectionsLeave, CollectionsSettle, CompactionsAreUnseen, CompactionsLeave, CompactionsStop, LaterReadsStay, ListsHold, LooksStay, PlansForetell, PlansLeave, RepairsKeepGood, RepairsMend, RepairsVerify, VerdictsJudge};
+ghost use Rattle.cacache_keep.specs.Losses.{CompactionsFix, CompactionsLast, CompactionsOutlast, CompactionsSpare};
 
 use cacache_memory::MemStore;
 
@@ -18,6 +19,12 @@ use cacache_memory::MemStore;
 /// files may be new. Where an error ends it, each bucket has its old bytes or its compacted ones, and temporary files may be left.
 /// Either way each key leads where it led, and each address has the content that it had. Where each thing lies
 /// in its place, lookups, reads by key and listings answer what they might have before.
+///
+/// After a durable compaction that answered Ok, each bucket's bytes are fixed, its name, and those of its folders below
+/// the cache's, whatever was fixed before. So a loss of power then leaves exactly the compacted bytes, and each key that
+/// led to an entry leads to it. It is so with each later loss, while steps leave the bucket and its folders as they are. If the buckets
+/// were fixed before, a loss after any step of a durable compaction, also of one that an error ends, leaves each
+/// with exactly its old bytes or its compacted ones.
 ///
 /// If links lead out of the cache, lookups, reads by key and listings answer up to the next insertion as they
 /// might have without the collection: calls that look may come in between, and whatever else leaves the tree, removals that are
@@ -57,6 +64,10 @@ pub fn keep_laws(store: &MemStore)
     ensures compacts { CompactionsLeave }
     ensures cut_short { CompactionsStop }
     ensures unseen { CompactionsAreUnseen }
+    ensures fixes { CompactionsFix }
+    ensures outlasts { CompactionsOutlast }
+    ensures lasts { CompactionsLast }
+    ensures spares { CompactionsSpare }
 {
     let _log = store.log();
 }

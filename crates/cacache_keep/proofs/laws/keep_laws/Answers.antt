@@ -1,4 +1,4 @@
-use Rattle.cacache_keep.proofs.{Behind.{collections_keep_keys, later_keys_stay}, Chosen.{plans_foretell, plans_leave}, WholeCompactions.{compactions_are_unseen, compactions_leave, compactions_stop}, Houses.{repairs_house, sweeps_house, sweeps_keep_good}, Leaving.{collections_lack_idle, collections_leave}, Mends.{repairs_mend}, Settled.{collections_settle}, SweptCaches.{caches_are_swept}, Tidying.{later_reads_stay, looks_stay}, Verdicts.{lists_hold, verdicts_judge}, Whole.{repairs_keep_good, repairs_verify}}
+use Rattle.cacache_keep.proofs.{LaterLosses.{compactions_last}, SparedLosses.{compactions_spare}, LeanLosses.{compactions_fix, compactions_outlast}, Behind.{collections_keep_keys, later_keys_stay}, Chosen.{plans_foretell, plans_leave}, WholeCompactions.{compactions_are_unseen, compactions_leave, compactions_stop}, Houses.{repairs_house, sweeps_house, sweeps_keep_good}, Leaving.{collections_lack_idle, collections_leave}, Mends.{repairs_mend}, Settled.{collections_settle}, SweptCaches.{caches_are_swept}, Tidying.{later_reads_stay, looks_stay}, Verdicts.{lists_hold, verdicts_judge}, Whole.{repairs_keep_good, repairs_verify}}
 use Rattle.cacache_keep.proofs.laws.keep_laws.Goals as goal
 
 pub returns-clause-lists : goal.returns-clause-lists
@@ -63,3 +63,15 @@ returns-clause-cut_short c = compactions_stop
 
 pub returns-clause-unseen : goal.returns-clause-unseen
 returns-clause-unseen c = compactions_are_unseen
+
+pub returns-clause-fixes : goal.returns-clause-fixes
+returns-clause-fixes c = compactions_fix
+
+pub returns-clause-outlasts : goal.returns-clause-outlasts
+returns-clause-outlasts c = compactions_outlast
+
+pub returns-clause-spares : goal.returns-clause-spares
+returns-clause-spares c = compactions_spare
+
+pub returns-clause-lasts : goal.returns-clause-lasts
+returns-clause-lasts c = compactions_last
