@@ -47,3 +47,4 @@ mod WholeCompactions
 mod LeanLosses
 mod SparedLosses
 mod LaterLosses
+mod GrownLosses

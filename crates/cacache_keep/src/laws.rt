@@ -3,7 +3,7 @@ ghost use Rattle.cacache_memory.specs.Replay.{IsLog};
 ghost use Rattle.cacache_keep.specs.Behind.{CollectionsKeepKeys, LaterKeysStay};
 ghost use Rattle.cacache_keep.specs.Houses.{RepairsHouse, SweepsHouse, SweepsKeepGood};
 ghost use Rattle.cacache_keep.specs.Kept.{CachesAreSwept, CollectionsLackIdle, CollectionsLeave, CollectionsSettle, CompactionsAreUnseen, CompactionsLeave, CompactionsStop, LaterReadsStay, ListsHold, LooksStay, PlansForetell, PlansLeave, RepairsKeepGood, RepairsMend, RepairsVerify, VerdictsJudge};
-ghost use Rattle.cacache_keep.specs.Losses.{CompactionsFix, CompactionsLast, CompactionsOutlast, CompactionsSpare};
+ghost use Rattle.cacache_keep.specs.Losses.{CompactionsFix, CompactionsGrow, CompactionsLast, CompactionsOutlast, CompactionsSpare};
 
 use cacache_memory::MemStore;
 
@@ -67,6 +67,7 @@ pub fn keep_laws(store: &MemStore)
     ensures fixes { CompactionsFix }
     ensures outlasts { CompactionsOutlast }
     ensures lasts { CompactionsLast }
+    ensures grows { CompactionsGrow }
     ensures spares { CompactionsSpare }
 {
     let _log = store.log();
