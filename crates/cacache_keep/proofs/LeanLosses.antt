@@ -58,11 +58,17 @@ module _ (cache : List ℕ) (home : Names) (is : home_of cache ≡ Some home) (a
   all_fixed tops top v m named settled each =
       let among = folders_among cache tops top m in
       let two : (home ++ index_area ∷ []) ++ a ∷ [] ≡ home ++ index_area ∷ a ∷ [] = append_assoc home (index_area ∷ []) (a ∷ []) in (
-        (subst (IsWhole v.fixed) same_place (ap (λ (f : Fixing). f.whole) settled.0.2),
-        ap v.fixed.names (sym same_place) ∙ settled.1,
-        (top_fixed cache home index_area v is (each cache among.2),
-        (names_fixed (index_area_in cache) (home ++ index_area ∷ []) a v (area_named cache home is) (each (index_area_in cache) among.1),
-        (ap (λ (q : Names). v.fixed.names (q ++ b ∷ [])) two ∙ names_fixed top (home ++ index_area ∷ a ∷ []) b v named (each top among.0), tt)))),
+        (
+          subst (IsWhole v.fixed) same_place (ap (λ (f : Fixing). f.whole) settled.0.2),
+          ap v.fixed.names (sym same_place) ∙ settled.1,
+          (
+            top_fixed cache home index_area v is (each cache among.2),
+            (
+              names_fixed (index_area_in cache) (home ++ index_area ∷ []) a v (area_named cache home is) (each (index_area_in cache) among.1),
+              (ap (λ (q : Names). v.fixed.names (q ++ b ∷ [])) two ∙ names_fixed top (home ++ index_area ∷ a ∷ []) b v named (each top among.0), tt),
+            ),
+          ),
+        ),
         subst (HeldWhole v) same_place settled.0,
       )
 

@@ -1,12 +1,12 @@
 -- A durable compaction fixes the bytes and the names of its buckets.
 use Rattle.std.proofs.Common.{◌≡◌, inl, inr, ℕ, List, [], ◌∷◌, ◌++◌, Bool, true, false, cond, map, Option, None, Some, Result, Ok, Err, refl, sym, ap, subst, ◌∙◌}
-use Rattle.std.specs.List.{AllByRecursion}
-use Rattle.std.specs.Prelude.{unwrap_or}
+use Rattle.std.specs.{List.{AllByRecursion}, Prelude.{unwrap_or}}
 use Rattle.cacache_core.specs.{declared.errors.Fault.{Fault}, PathNames.{Names, home_of, names_of}}
 use Rattle.cacache_store.specs.declared.store.answer.Answer.TheVariants as answers
 use Rattle.cacache_store.specs.declared.store.{log.LogItem.{LogItem}, plain.PlainTemp.{PlainTemp}}
 use Rattle.cacache_store.specs.declared.store.step.Step.TheVariants as steps
-use Rattle.cacache_disk.{specs.{declared.node.Node.TheVariants.{File}, Tree.{Tree, bytes_of, cut, look, put}}, proofs.{Maps.{same_path-true}, PutNodes.{look-put}, Roots.{same_self}}}
+use Rattle.cacache_disk.specs.{declared.node.Node.TheVariants.{File}, Tree.{Tree, bytes_of, cut, look, put}}
+use Rattle.cacache_disk.proofs.{Maps.{same_path-true}, PutNodes.{look-put}, Roots.{same_self}}
 use Rattle.cacache_table.specs.{Runs.{Moves}, SingleSteps.{Does}}
 use Rattle.cacache_value.specs.Kinds.{Bucket as IsBucket, path_kind}
 use Rattle.cacache_loss.{specs.{Fixing.{is_at, synced}, Moments.{Moment}}, proofs.{Buckets.{leads_file}, KeptPaths.{sync_fixes}}}
@@ -71,7 +71,7 @@ module _ (cache : List ℕ) (home : Names) (is : home_of cache ≡ Some home) (d
       let here : m.to ≡ q = cc in (
         m.bytes,
         ap (λ (t : Tree). look t q) (m.leads ∙ ap (λ (p : Names). put (cut w.tree m.old) p (File m.bytes)) here) ∙ look-put (cut w.tree m.old) q (File m.bytes) q
-        ∙ ap (λ b. cond b (Some (File m.bytes)) (look (cut w.tree m.old) q)) (same_self q),
+            ∙ ap (λ b. cond b (Some (File m.bytes)) (look (cut w.tree m.old) q)) (same_self q),
         rw (m.from, named, same_self q) (whole m.old m.from ∙ ap (λ o. synced (unwrap_or o [])) m.has),
       ))
 

@@ -95,8 +95,8 @@ CompactionsLast =
     → LeftOf home (after (moment_after (tree_of old) fixed moves) more) loss left
     → look left (home ++ bucket_names_of digest) ≡ Some (File (compact_text true text))
 
--- in the second tree each bucket of the first begins with its compacted bytes, and a lookup there finds
--- what it found, or what a later entry answers
+-- in the second tree each bucket of the first begins with its compacted bytes, and a lookup there
+-- finds what it found, or what a later entry answers
 pub record BeginsLean (home : Names) (t left : Tree) : Type 0 where
   pub buckets : (digest bytes : List ℕ) → IsKeyDigest digest
       → look t (home ++ bucket_names_of digest) ≡ Some (File bytes)
@@ -106,8 +106,8 @@ pub record BeginsLean (home : Names) (t left : Tree) : Type 0 where
       → FindsOrLater key (latest key (entries_of bytes)) (entries_of (compact_text true bytes))
       (look left (home ++ bucket_names_of (sha1 key)))
 
--- so it is after each later loss, if each thing lies in its place, as where only calls wrote, and later
--- steps remove, link and export nothing; they may append to buckets
+-- so it is after each later loss, if each thing lies in its place, as where only calls wrote, and
+-- later steps of calls remove, link and export nothing; they may append to buckets
 abbrev pub CompactionsGrow : Type 0
 CompactionsGrow =
     (cache : List ℕ) (home : Names) (count bytes : ℕ) (moves : Moves) (more : List Move)
