@@ -111,7 +111,6 @@ module _ (home rest : Names) (name : List ℕ) (kind : path_kind (Some home) (ho
 
   begun_lost : (w : Moment) (loss : Loss) → Begun w → BeginsWith z (lost_then (Some home) w loss q)
   begun_lost w loss s =
-      let f = w.fixed.files q in
       let b = left_begins (w.fixed.files q) (w.fixed.files q).whole s.more (loss.tail q) s.size in (
         b.0,
         node_lost home w loss s.stands.0.1 (name ∷ rest) (File (z ++ s.more)) s.stands.1 s.way
@@ -154,7 +153,6 @@ lean_entries x more =
 
 pub finds_or_later : (key bytes : List ℕ) (here : Option Node) → BeginsWith (compact_text true bytes) here → FindsOrLater key (latest key (entries_of bytes)) (entries_of (compact_text true bytes)) here
 finds_or_later key bytes here (more, is) =
-    let es = entries_of (compact_text true bytes) in
     let finds : latest key (entries_of (compact_text true bytes) ++ entries_of more) ≡ fold (after_entry key) (latest key (entries_of bytes)) (entries_of more)
     = fold-append (after_entry key) None (entries_of (compact_text true bytes)) (entries_of more) ∙ ap (λ f. fold (after_entry key) f (entries_of more)) ((compact_texts_answer true bytes).finds key) in
     record {
@@ -181,7 +179,6 @@ compactions_grow cache home count bytes moves more fixed loss old new left is lo
     begins : (digest text : List ℕ) → IsKeyDigest digest → look (tree_of old) (home ++ bucket_names_of digest) ≡ Some (File text) → BeginsWith (compact_text true text) (look left (home ++ bucket_names_of digest))
     begins digest text d there =
         let now = lean_now cache home count bytes moves fixed old new is logged c gains digest text d there in
-        let w = moment_after (tree_of old) fixed moves in
         let tree = tree_then old new moves (record { tree = tree_of old; fixed = fixed }) logged gains refl in
         subst (BeginsWith (compact_text true text)) (sym (lost (home ++ bucket_names_of digest)))
         (grown_at home _ _ _ (compact_text true text) (bucket_names_hex digest d) (moment_after (tree_of old) fixed moves) more loss (subst (Placed (Some home)) (sym tree) placed) now.2 now.0
