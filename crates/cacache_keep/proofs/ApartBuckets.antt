@@ -80,18 +80,23 @@ module _ (cache : List ℕ) (home : Names) (is : home_of cache ≡ Some home) (q
       fixes_then (Makes file) (Writes file full bytes) (Full full bytes) old made new (making_apart file old made making) (writing_apart file full bytes made new writing)
       (λ w one two rooted a b. let rest = b a.1 a.2 in (apart_join q one two a.0 rest.0, rest.1, rest.2))
 
+  abbrev pub IfSpared : PlainTemp → Moment → Moves → Type 0
+  IfSpared file w moves = Spares file.path → EachApart q moves
+
+  pub temp_sync_apart : (full : PlainTemp) (old new : Option (List LogItem)) → Does (steps.SyncTemp full) (answers.Synced full) old new → Fixes (IfSpared full) old new
+  temp_sync_apart full old new does = fixes_step (IfSpared full) (steps.SyncTemp full) (answers.Synced full) old new does (λ w rooted e temp. (temp, tt))
+
   -- ---- one bucket
 
   rewrite_apart : (path bytes : List ℕ) (old new : Option (List LogItem)) → Spares path → Rewrites true cache path bytes old new → Fixes AllApart old new
   rewrite_apart path bytes old new spares r =
       fixes_then (Full r.full bytes) (λ w moves. Spares r.full.path → EachApart q moves) AllApart old r.written new (full_apart r.file r.full bytes old r.made r.written r.making r.writing)
-      (fixes_then AllApart (λ w moves. Spares r.full.path → EachApart q moves) (λ w moves. Spares r.full.path → EachApart q moves) r.written r.synced new
-      (fixes_step AllApart (steps.SyncTemp r.full) (answers.Synced r.full) r.written r.synced r.syncing (λ w rooted e. (tt, tt)))
+      (fixes_then (IfSpared r.full) (IfSpared r.full) (IfSpared r.full) r.written r.synced new (temp_sync_apart r.full r.written r.synced r.syncing)
       (fixes_then (λ w moves. Spares r.full.path → EachApart q moves) AllApart (λ w moves. Spares r.full.path → EachApart q moves) r.synced r.moved new
       (fixes_step (λ w moves. Spares r.full.path → EachApart q moves) (steps.Persist r.full path) answers.Done r.synced r.moved r.moving (λ w rooted e temp. ((temp, spares), tt)))
       (fixes_step AllApart (steps.SyncDir (folder_of path)) answers.Done r.moved new r.securing (λ w rooted e. (tt, tt)))
       (λ w one two rooted a b temp. apart_join q one two (a temp) b))
-      (λ w one two rooted a b temp. apart_join q one two a (b temp)))
+      (λ w one two rooted a b temp. apart_join q one two (a temp) (b temp)))
       (λ w one two rooted a b. apart_join q one two a.0 (b a.1))
 
   pub sync_apart : (path : List ℕ) (old new : Option (List LogItem)) → SyncsBucket true path old new → Fixes AllApart old new
@@ -120,9 +125,6 @@ module _ (cache : List ℕ) (home : Names) (is : home_of cache ≡ Some home) (q
       (failed_apart (steps.CreateTemp (temp_path cache number)) e made new (spared (temp_path cache number) (home ++ temp_names number) (temp_path_named cache number home is) (kind-below home (temp_names number))) fails)
       (λ w one two rooted a b. apart_join q one two a b)
 
-  abbrev IfSpared : PlainTemp → Moment → Moves → Type 0
-  IfSpared file w moves = Spares file.path → EachApart q moves
-
   last_stops : (last : PlainTemp) (bytes : List ℕ) (e : Error) (old new : Option (List LogItem)) → FailsAt (steps.Write last bytes) e old new ⊎ TakesNone last bytes e old new → Fixes (IfSpared last) old new
   last_stops last bytes e old new (inl fails) = fixes_failed (IfSpared last) (steps.Write last bytes) e old new fails (λ w spares. tt) (λ w fault rooted is spares. (spares, tt))
   last_stops last bytes e old new (inr (g, does, ends)) = fixes_step (IfSpared last) (steps.Write last bytes) (answers.Wrote g 0) old new does (λ w rooted is spares. (spares, tt))
@@ -146,8 +148,9 @@ module _ (cache : List ℕ) (home : Names) (is : home_of cache ≡ Some home) (q
   -- before the move
   pub early_stops : (file full : PlainTemp) (bytes : List ℕ) (e : Error) (old made written new : Option (List LogItem)) → MakesTemp cache file old made → Took file bytes full [] made written → FailsAt (steps.SyncTemp full) e written new → Fixes AllApart old new
   early_stops file full bytes e old made written new making took fails =
-      fixes_then (Full full bytes) AllApart AllApart old written new (full_apart file full bytes old made written making took) (failed_apart (steps.SyncTemp full) e written new tt fails)
-      (λ w one two rooted a b. apart_join q one two a.0 b)
+      fixes_then (Full full bytes) (IfSpared full) AllApart old written new (full_apart file full bytes old made written making took)
+      (fixes_failed (IfSpared full) (steps.SyncTemp full) e written new fails (λ w temp. tt) (λ w fault rooted is temp. (temp, tt)))
+      (λ w one two rooted a b. apart_join q one two a.0 (b a.1))
 
   pub sync_stops : (path : List ℕ) (e : Error) (old new : Option (List LogItem)) → StopsSyncingBucket true path e old new → Fixes AllApart old new
   sync_stops path e old new (inl fails) = failed_apart (steps.SyncFile path) e old new tt fails
@@ -166,8 +169,8 @@ module _ (cache : List ℕ) (home : Names) (is : home_of cache ≡ Some home) (q
   moving_stops file full path bytes e old made written new spares making took (inl fails) = early_stops file full bytes e old made written new making took fails
   moving_stops file full path bytes e old made written new spares making took (inr (synced, syncs, rest)) =
       fixes_then (Full full bytes) (IfSpared full) AllApart old written new (full_apart file full bytes old made written making took)
-      (fixes_then AllApart (IfSpared full) (IfSpared full) written synced new (fixes_step AllApart (steps.SyncTemp full) (answers.Synced full) written synced syncs (λ w rooted is. (tt, tt))) (by rest)
-      (λ w one two rooted a b temp. apart_join q one two a (b temp)))
+      (fixes_then (IfSpared full) (IfSpared full) (IfSpared full) written synced new (temp_sync_apart full written synced syncs) (by rest)
+      (λ w one two rooted a b temp. apart_join q one two (a temp) (b temp)))
       (λ w one two rooted a b. apart_join q one two a.0 (b a.1))
     where
       by : FailsAt (steps.Persist full path) e synced new ⊎ ((moved : Option (List LogItem)) × Does (steps.Persist full path) answers.Done synced moved × FailsAt (steps.SyncDir (folder_of path)) e moved new) → Fixes (IfSpared full) synced new

@@ -1,5 +1,5 @@
 -- What a loss leaves of a bucket while later steps leave it and its folders as they are.
-use Rattle.std.{proofs.Common.{◌≡◌, ℕ, Bool, true, false, cond, List, [], ◌∷◌, ◌++◌, Option, None, Some, refl, ap, subst, ◌∙◌, append_assoc}, specs.Prelude.{unwrap_or}}
+use Rattle.std.{proofs.Common.{◌≡◌, ℕ, Bool, true, false, cond, List, [], ◌∷◌, ◌++◌, None, Some, refl, ap, subst, ◌∙◌, append_assoc}, specs.Prelude.{unwrap_or}}
 use Rattle.cacache_core.specs.{PathNames.{Names, names_of}, Paths.{bucket_names_of, index_area}}
 use Rattle.cacache_store.specs.{declared.store.step.Step.TheVariants.{SyncTemp, SyncFile, SyncDir}, Plain.{PlainStep, PlainAnswer}}
 use Rattle.cacache_disk.specs.{declared.{luck.Luck.{Luck}, node.Node.TheVariants.{File}}, LedTo.{leads}, Rooted.{Rooted}, Tree.{Tree, bytes_of, look}, Apply.{apply}}

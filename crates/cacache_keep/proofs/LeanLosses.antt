@@ -8,11 +8,11 @@ use Rattle.cacache_entry.specs.Latest.{Found, latest}
 use Rattle.cacache_memory.specs.Replay.{tree_of, IsLog}
 use Rattle.cacache_table.specs.Runs.{Gains, Moves}
 use Rattle.cacache_value.{specs.{Acts.{list_of}, Kinds.{Bucket as IsBucket, path_kind}, Value.{bucket_in}}, proofs.KindsApart.{kind-below}}
-use Rattle.cacache_loss.specs.{Fixing.{Fixed}, Loss.{Loss}, LostValues.{LeftOf}, Moments.{Moment}}
+use Rattle.cacache_loss.specs.{declared.fixing.Fixing.{Fixing}, Fixing.{Fixed, synced}, Loss.{Loss}, LostValues.{LeftOf}, Moments.{Moment}}
 use Rattle.cacache_keep_laws.specs.{Compacting.{compact_text}, Mending.{found_in}}
 use Rattle.cacache_keep_laws.proofs.{CompactTexts.{compact_texts_answer}, LeanTrees.{Becomes}, Covering.{home_named}, Logged.{log_rooted}, Members.{Member, in_left, in_right}}
 use Rattle.cacache_keep.specs.{Buckets.{index_area_in}, Compacting.{CompactsAll, CompactsCache}, Losses.{BucketsFixed, CompactionsFix, CompactionsOutlast, IsFixedAt, KeepsLean, moment_after}, Syncing.{folders_above}}
-use Rattle.cacache_keep.proofs.{ApartSteps.{IsWhole}, FixedFolders.{IsFixedFolder, SyncsNames, file_lost, in_turn_fixed}, FoundBuckets.{AreBucketNames, FindsFiles, area_named, buckets_found}, FoundFolders.{FolderNamed, folders_named}, HexNames.{bucket_names_hex}, MomentRuns.{Fixes, OfTrees, fixes_leads, fixes_on, fixes_then, later, later_split, tree_then}, SettledBuckets.{Held, Settled, SettlesThese, each_settles}, WholeCompactions.{compactions_leave}}
+use Rattle.cacache_keep.proofs.{ApartSteps.{IsWhole}, FixedFolders.{IsFixedFolder, SyncsNames, file_lost, in_turn_fixed}, FoundBuckets.{AreBucketNames, FindsFiles, area_named, buckets_found}, FoundFolders.{FolderNamed, folders_named}, HexNames.{bucket_names_hex}, MomentRuns.{Fixes, OfTrees, fixes_leads, fixes_on, fixes_then, later, later_split, tree_then}, SettledBuckets.{Held, HeldWhole, Settled, SettlesThese, each_settles}, TightBuckets.{same_file}, WholeCompactions.{compactions_leave}}
 
 -- ---- the folders above those of buckets
 
@@ -51,22 +51,25 @@ module _ (cache : List ℕ) (home : Names) (is : home_of cache ≡ Some home) (a
 
   -- its bytes and its name are fixed, and the names of the folders on its way
   abbrev pub FixedHere : Moment → Type 0
-  FixedHere v = IsFixedAt v.fixed home (index_area ∷ a ∷ b ∷ c ∷ [])
+  FixedHere v = IsFixedAt v.fixed home (index_area ∷ a ∷ b ∷ c ∷ []) × HeldWhole v (home ++ index_area ∷ a ∷ b ∷ c ∷ [])
 
   all_fixed : (tops : List (List ℕ)) (top : List ℕ) (v : Moment) → Member top tops → names_of top ≡ Ok (home ++ index_area ∷ a ∷ []) → Settled v (folder ++ c ∷ [])
       → ((f : List ℕ) → Member f (folders_above cache tops) → IsFixedFolder f v) → FixedHere v
   all_fixed tops top v m named settled each =
       let among = folders_among cache tops top m in
       let two : (home ++ index_area ∷ []) ++ a ∷ [] ≡ home ++ index_area ∷ a ∷ [] = append_assoc home (index_area ∷ []) (a ∷ []) in (
-        subst (IsWhole v.fixed) same_place settled.1,
-        ap v.fixed.names (sym same_place) ∙ settled.2,
         (
-          top_fixed cache home index_area v is (each cache among.2),
+          subst (IsWhole v.fixed) same_place (ap (λ (f : Fixing). f.whole) settled.0.2),
+          ap v.fixed.names (sym same_place) ∙ settled.1,
           (
-            names_fixed (index_area_in cache) (home ++ index_area ∷ []) a v (area_named cache home is) (each (index_area_in cache) among.1),
-            (ap (λ (q : Names). v.fixed.names (q ++ b ∷ [])) two ∙ names_fixed top (home ++ index_area ∷ a ∷ []) b v named (each top among.0), tt),
+            top_fixed cache home index_area v is (each cache among.2),
+            (
+              names_fixed (index_area_in cache) (home ++ index_area ∷ []) a v (area_named cache home is) (each (index_area_in cache) among.1),
+              (ap (λ (q : Names). v.fixed.names (q ++ b ∷ [])) two ∙ names_fixed top (home ++ index_area ∷ a ∷ []) b v named (each top among.0), tt),
+            ),
           ),
         ),
+        subst (HeldWhole v) same_place settled.0,
       )
 
   -- once it is found, compacted, and the folders above are synced
@@ -125,20 +128,22 @@ module _ (cache : List ℕ) (home : Names) (count bytes : ℕ) (moves : Moves) (
   now_is : (later start moves).tree ≡ tree_of new
   now_is = tree_then old new moves start logged gains refl
 
-  fixed_here : (a b e text : List ℕ) → AreBucketNames a b e → look (tree_of old) (home ++ index_area ∷ a ∷ b ∷ e ∷ []) ≡ Some (File text) → IsFixedAt (later start moves).fixed home (index_area ∷ a ∷ b ∷ e ∷ [])
+  fixed_here : (a b e text : List ℕ) → AreBucketNames a b e → look (tree_of old) (home ++ index_area ∷ a ∷ b ∷ e ∷ []) ≡ Some (File text)
+      → IsFixedAt (later start moves).fixed home (index_area ∷ a ∷ b ∷ e ∷ []) × HeldWhole (later start moves) (home ++ index_area ∷ a ∷ b ∷ e ∷ [])
   fixed_here a b e text hex there =
       fixes_on (FixesIt cache home is a b e hex) old new moves start logged gains refl (compaction_fixes cache home is a b e hex count bytes (Some old) (Some new) c)
       (text, ap (look (tree_of old)) (same_place cache home is a b e hex) ∙ there)
 
-  bucket_fixed : (digest text : List ℕ) → IsKeyDigest digest → look (tree_of old) (home ++ bucket_names_of digest) ≡ Some (File text) → IsFixedAt (later start moves).fixed home (bucket_names_of digest)
+  bucket_fixed : (digest text : List ℕ) → IsKeyDigest digest → look (tree_of old) (home ++ bucket_names_of digest) ≡ Some (File text)
+      → IsFixedAt (later start moves).fixed home (bucket_names_of digest) × HeldWhole (later start moves) (home ++ bucket_names_of digest)
   bucket_fixed digest text d there = fixed_here _ _ _ text (bucket_names_hex digest d) there
 
   all_buckets_fixed : BucketsFixed home (tree_of new) (later start moves).fixed
   all_buckets_fixed digest text d there = by ((compactions_leave true cache home count bytes old new is logged c).tree (home ++ bucket_names_of digest))
     where
       by : Becomes true home (home ++ bucket_names_of digest) (look (tree_of old) (home ++ bucket_names_of digest)) (look (tree_of new) (home ++ bucket_names_of digest)) → IsFixedAt (later start moves).fixed home (bucket_names_of digest)
-      by (inl same) = bucket_fixed digest text d (sym same ∙ there)
-      by (inr (inl lean)) = bucket_fixed digest lean.1 d lean.2
+      by (inl same) = (bucket_fixed digest text d (sym same ∙ there)).0
+      by (inr (inl lean)) = (bucket_fixed digest lean.1 d lean.2).0
       by (inr (inr made)) = absurd (let wrong : Some Folder ≡ Some (File text) = sym made.2 ∙ there in cc)
 
   -- a bucket is compacted by then, and fixed
@@ -147,9 +152,16 @@ module _ (cache : List ℕ) (home : Names) (count bytes : ℕ) (moves : Moves) (
       × Rooted (later start moves).tree
   lean_now digest text d there = (
     ap (λ (t : Tree). look t (home ++ bucket_names_of digest)) now_is ∙ (compactions_leave true cache home count bytes old new is logged c).buckets digest text d there,
-    bucket_fixed digest text d there,
+    (bucket_fixed digest text d there).0,
     subst Rooted (sym now_is) (log_rooted new),
   )
+
+  -- and synced with these bytes
+  pub synced_now : (digest text : List ℕ) → IsKeyDigest digest → look (tree_of old) (home ++ bucket_names_of digest) ≡ Some (File text)
+      → (later start moves).fixed.files (home ++ bucket_names_of digest) ≡ synced (compact_text true text)
+  synced_now digest text d there =
+      let held = (bucket_fixed digest text d there).1 in
+      held.2 ∙ ap synced (same_file held.0 (compact_text true text) (look (later start moves).tree (home ++ bucket_names_of digest)) held.1 (lean_now digest text d there).0)
 
   module _ (loss : Loss) (left : Tree) (lost : LeftOf home (moment_after (tree_of old) fixed moves) loss left) where
     lean : (digest text : List ℕ) → IsKeyDigest digest → look (tree_of old) (home ++ bucket_names_of digest) ≡ Some (File text) → look left (home ++ bucket_names_of digest) ≡ Some (File (compact_text true text))

@@ -49,3 +49,4 @@ mod WholeCompactions
 mod LeanLosses
 mod SparedLosses
 mod LaterLosses
+mod GrownLosses

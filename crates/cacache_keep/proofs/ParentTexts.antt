@@ -59,7 +59,6 @@ not_last x e c none = ap (λ (d : ℕ). d == c) (last_of x e) ∙ not_digit c e.
 trimmed : (x : List ℕ) → EndsHex x → trim_trailing x ≡ x
 unfolding trim_trailing
 trimmed x e =
-    let n = length e.front in
     let kept : trimmed_len x (length x) ≡ length x
     = ap (trimmed_len x) (size_of x e) ∙ ap (λ b. cond b (trimmed_len x (length e.front)) (suc (length e.front))) (not_trailing x (length e.front) (not_last x e 47 refl) (not_last x e 46 refl)) ∙ sym (size_of x e) in
     ap (λ (n : ℕ). take n x) kept ∙ all_taken x

@@ -9,10 +9,10 @@ use Rattle.cacache_disk.specs.{declared.{luck.Luck.TheVariants.{Plain}, node.Nod
 use Rattle.cacache_disk.proofs.{Maps.{same_path-true}, PutNodes.{look-put}, Roots.{same_self}}
 use Rattle.cacache_table.specs.{Runs.{Moves}, SingleSteps.{Does, FailsAt}}
 use Rattle.cacache_value.specs.Kinds.{Bucket as IsBucket, path_kind}
-use Rattle.cacache_loss.{specs.{declared.fixing.{Fixing.{Fixing}, Place.{Place}}, Fixing.{is_at, place_now}, Moments.{Moment, next}}, proofs.UnchangedPaths.{file_kept, name_kept}}
+use Rattle.cacache_loss.{specs.{declared.fixing.Place.{Place}, Fixing.{is_at, place_now}, Moments.{Moment, next}}, proofs.UnchangedPaths.{file_kept, name_kept}}
 use Rattle.cacache_keep_laws.{specs.Compacting.{compact_text}, proofs.{CompactTwice.{compact_again}, Led.{file_shown}}}
 use Rattle.cacache_keep.specs.{Compacting.{Bucket, CompactsBucket, CompactsEach, RewritesIf, StopsBucket, StopsUnchanged, is_loose}, Losses.{CompactsDurably}, Rewriting.{MakesTemp, Rewrites, StopsMoving, StopsRewriting, Took, folder_of}, Syncing.{folders_above}}
-use Rattle.cacache_keep.proofs.{ApartSteps.{EachApart, IsWhole, Kept, step_kept}, ApartBuckets.{Full, bucket_apart, bucket_stops, early_stops, full_apart, making_stops, sync_apart, sync_stops, unread_stops, unsecured_stops, writing_stops}, ApartCompactions.{finding_apart, finding_stops, syncs_apart, syncs_stop}, MomentRuns.{Fixes, fixes_as, fixes_failed, fixes_none, fixes_step, fixes_then, later}, MovedFiles.{moved, unmoved}}
+use Rattle.cacache_keep.proofs.{ApartSteps.{EachApart, IsWhole, Kept, step_kept, whole_still}, ApartBuckets.{Full, IfSpared, bucket_apart, bucket_stops, early_stops, full_apart, making_stops, sync_apart, sync_stops, temp_sync_apart, unread_stops, unsecured_stops, writing_stops}, ApartCompactions.{finding_apart, finding_stops, syncs_apart, syncs_stop}, MomentRuns.{Fixes, fixes_as, fixes_failed, fixes_none, fixes_step, fixes_then, later}, MovedFiles.{moved, unmoved}}
 
 module _ (cache : List ℕ) (home : Names) (is : home_of cache ≡ Some home) (q : Names) (kind : path_kind (Some home) q ≡ IsBucket) (bytes : List ℕ) where
   -- the bucket's bytes, or the compacted ones
@@ -66,7 +66,7 @@ module _ (cache : List ℕ) (home : Names) (is : home_of cache ≡ Some home) (q
   -- ---- steps elsewhere
 
   kept_safe : (w v : Moment) (s : Safe w) → Kept w v q (File s.0.0) → Safe v
-  kept_safe w v s k = ((s.0.0, s.0.1, k.stands, k.whole s.0.3), by k.name)
+  kept_safe w v s k = ((s.0.0, s.0.1, k.stands, whole_still w v q (File s.0.0) k s.0.3), by k.name)
     where
       by : (v.fixed.names q ≡ w.fixed.names q) ⊎ (v.fixed.names q ≡ None) → WasGood (v.fixed.names q)
       by (inl same) = subst WasGood (sym same) s.1
@@ -106,7 +106,7 @@ module _ (cache : List ℕ) (home : Names) (is : home_of cache ≡ Some home) (q
       (s, ((x, good, stands, rw (m.from, named, same_self q) (has.1 m.old m.from)), rw (m.from, named, same_self q) (was_or_now (w.fixed.names q) (place_now w.tree w.fixed q) s.1 s.0)))
 
   abbrev SyncsIt : PlainTemp → Moment → Moves → Type 0
-  SyncsIt full w moves = EachApart q moves × ((from : Names) → names_of full.path ≡ Ok from → IsWhole (later w moves).fixed from)
+  SyncsIt full w moves = (is_at (names_of full.path) q ≡ false → EachApart q moves) × ((from : Names) → names_of full.path ≡ Ok from → IsWhole (later w moves).fixed from)
 
   abbrev MovesIt : PlainTemp → List ℕ → Moment → Moves → Type 0
   MovesIt full x w moves = Good x → IsFull full x w → StaysSafe w moves
@@ -114,23 +114,26 @@ module _ (cache : List ℕ) (home : Names) (is : home_of cache ≡ Some home) (q
   abbrev SafeIf : List ℕ → Moment → Moves → Type 0
   SafeIf x w moves = Good x → StaysSafe w moves
 
+  abbrev MovesFull : PlainTemp → List ℕ → Moment → Moves → Type 0
+  MovesFull full x w moves = is_at (names_of full.path) q ≡ false → full.bytes ≡ Some x → SafeIf x w moves
+
   synced_moved : (full : PlainTemp) (path x : List ℕ) (old synced late : Option (List LogItem)) → names_of path ≡ Ok q → Does (steps.SyncTemp full) (answers.Synced full) old synced → Does (steps.Persist full path) answers.Done synced late
-      → Fixes (λ w moves. full.bytes ≡ Some x → SafeIf x w moves) old late
+      → Fixes (MovesFull full x) old late
   synced_moved full path x old synced late named syncing moving =
-      fixes_then (SyncsIt full) (MovesIt full x) (λ w moves. full.bytes ≡ Some x → SafeIf x w moves) old synced late
-      (fixes_step (SyncsIt full) (steps.SyncTemp full) (answers.Synced full) old synced syncing (λ w rooted e. ((tt, tt), λ from at. rw (at, same_self from) refl)))
+      fixes_then (SyncsIt full) (MovesIt full x) (MovesFull full x) old synced late
+      (fixes_step (SyncsIt full) (steps.SyncTemp full) (answers.Synced full) old synced syncing (λ w rooted e. ((λ temp. (temp, tt)), λ from at. rw (at, same_self from) refl)))
       (fixes_step (MovesIt full x) (steps.Persist full path) answers.Done synced late moving (λ w rooted e good has. moved_safe full path x w named good e has))
-      (λ w one two rooted a b has good. safe_then w one two (apart_safe w one a.0) (b good (has, a.1)))
+      (λ w one two rooted a b temp has good. safe_then w one two (apart_safe w one (a.0 temp)) (b good (has, a.1)))
 
   rewrite_safe : (path x : List ℕ) (old new : Option (List LogItem)) → names_of path ≡ Ok q → Rewrites true cache path x old new → Fixes (SafeIf x) old new
   rewrite_safe path x old new named r =
-      fixes_then (Full cache home is q IsBucket kind (λ e. cc) r.full x) (λ w moves. r.full.bytes ≡ Some x → SafeIf x w moves) (SafeIf x) old r.written new
+      fixes_then (Full cache home is q IsBucket kind (λ e. cc) r.full x) (MovesFull r.full x) (SafeIf x) old r.written new
       (full_apart cache home is q IsBucket kind (λ e. cc) r.file r.full x old r.made r.written r.making r.writing)
-      (fixes_then (λ w moves. r.full.bytes ≡ Some x → SafeIf x w moves) (λ w moves. EachApart q moves) (λ w moves. r.full.bytes ≡ Some x → SafeIf x w moves) r.written r.moved new
+      (fixes_then (MovesFull r.full x) (λ w moves. EachApart q moves) (MovesFull r.full x) r.written r.moved new
       (synced_moved r.full path x r.written r.synced r.moved named r.syncing r.moving)
       (fixes_step (λ w moves. EachApart q moves) (steps.SyncDir (folder_of path)) answers.Done r.moved new r.securing (λ w rooted e. (tt, tt)))
-      (λ w one two rooted a b has good. safe_then w one two (a has good) (apart_safe (later w one) two b)))
-      (λ w one two rooted a b good. safe_then w one two (apart_safe w one a.0) (b a.2 good))
+      (λ w one two rooted a b temp has good. safe_then w one two (a temp has good) (apart_safe (later w one) two b)))
+      (λ w one two rooted a b good. safe_then w one two (apart_safe w one a.0) (b a.1 a.2 good))
 
   -- ---- a bucket that is compacted
 
@@ -179,7 +182,7 @@ module _ (cache : List ℕ) (home : Names) (is : home_of cache ≡ Some home) (q
       let kept : Kept w (next w (record { step = steps.Persist full path; luck = Plain; answer = answers.Failed fault })) q (File s.0.0)
       = record {
         stands = stays;
-        whole = λ whole. ap (λ (f : Fixing). f.whole) (file_kept w.fixed w.tree (apply w.tree (steps.Persist full path) Plain).1 (steps.Persist full path) (answers.Failed fault) q (Some (File s.0.0)) s.0.2 stays refl refl refl) ∙ whole;
+        files = inl (file_kept w.fixed w.tree (apply w.tree (steps.Persist full path) Plain).1 (steps.Persist full path) (answers.Failed fault) q (Some (File s.0.0)) s.0.2 stays refl refl refl);
         name = inl (name_kept w.fixed w.tree (apply w.tree (steps.Persist full path) Plain).1 (steps.Persist full path) (answers.Failed fault) q (Some (File s.0.0)) s.0.2 stays refl);
       } in
       (s, kept_safe w (next w (record { step = steps.Persist full path; luck = Plain; answer = answers.Failed fault })) s kept)
@@ -191,15 +194,17 @@ module _ (cache : List ℕ) (home : Names) (is : home_of cache ≡ Some home) (q
   moving_stops file full path x e old made written new named making took (inl fails) =
       fixes_as (λ w moves. EachApart q moves) (SafeIf x) old new (early_stops cache home is q IsBucket kind (λ e. cc) file full x e old made written new making took fails) (λ w moves rooted apart good. apart_safe w moves apart)
   moving_stops file full path x e old made written new named making took (inr (synced, syncs, inl fails)) =
-      fixes_then (Full cache home is q IsBucket kind (λ e. cc) full x) StaysSafe (SafeIf x) old written new (full_apart cache home is q IsBucket kind (λ e. cc) file full x old made written making took)
-      (fixes_both written synced new (apart_fixes written synced (fixes_step (λ w moves. EachApart q moves) (steps.SyncTemp full) (answers.Synced full) written synced syncs (λ w rooted is. (tt, tt)))) (unmoved_safe full path e synced new fails))
-      (λ w one two rooted a b good. safe_then w one two (apart_safe w one a.0) b)
+      fixes_then (Full cache home is q IsBucket kind (λ e. cc) full x) (λ w moves. is_at (names_of full.path) q ≡ false → StaysSafe w moves) (SafeIf x) old written new (full_apart cache home is q IsBucket kind (λ e. cc) file full x old made written making took)
+      (fixes_then (IfSpared cache home is q IsBucket kind (λ e. cc) full) StaysSafe (λ w moves. is_at (names_of full.path) q ≡ false → StaysSafe w moves) written synced new
+      (temp_sync_apart cache home is q IsBucket kind (λ e. cc) full written synced syncs) (unmoved_safe full path e synced new fails)
+      (λ w one two rooted a b temp. safe_then w one two (apart_safe w one (a temp)) b))
+      (λ w one two rooted a b good. safe_then w one two (apart_safe w one a.0) (b a.1))
   moving_stops file full path x e old made written new named making took (inr (synced, syncs, inr (late, moves, fails))) =
-      fixes_then (Full cache home is q IsBucket kind (λ e. cc) full x) (λ w moves. full.bytes ≡ Some x → SafeIf x w moves) (SafeIf x) old written new (full_apart cache home is q IsBucket kind (λ e. cc) file full x old made written making took)
-      (fixes_then (λ w moves. full.bytes ≡ Some x → SafeIf x w moves) (λ w moves. EachApart q moves) (λ w moves. full.bytes ≡ Some x → SafeIf x w moves) written late new
+      fixes_then (Full cache home is q IsBucket kind (λ e. cc) full x) (MovesFull full x) (SafeIf x) old written new (full_apart cache home is q IsBucket kind (λ e. cc) file full x old made written making took)
+      (fixes_then (MovesFull full x) (λ w moves. EachApart q moves) (MovesFull full x) written late new
       (synced_moved full path x written synced late named syncs moves) (unsecured_stops cache home is q IsBucket kind (λ e. cc) (folder_of path) e late new fails)
-      (λ w one two rooted a b has good. safe_then w one two (a has good) (apart_safe (later w one) two b)))
-      (λ w one two rooted a b good. safe_then w one two (apart_safe w one a.0) (b a.2 good))
+      (λ w one two rooted a b temp has good. safe_then w one two (a temp has good) (apart_safe (later w one) two b)))
+      (λ w one two rooted a b good. safe_then w one two (apart_safe w one a.0) (b a.1 a.2 good))
 
   rewriting_stops : (path x : List ℕ) (e : Error) (old new : Option (List LogItem)) → names_of path ≡ Ok q → StopsRewriting true cache path x e old new → Fixes (SafeIf x) old new
   rewriting_stops path x e old new named (inl making) =

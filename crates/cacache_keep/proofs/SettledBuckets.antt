@@ -1,29 +1,30 @@
 -- A durable compaction fixes the bytes and the names of its buckets.
 use Rattle.std.proofs.Common.{◌≡◌, inl, inr, ℕ, List, [], ◌∷◌, ◌++◌, Bool, true, false, cond, map, Option, None, Some, Result, Ok, Err, refl, sym, ap, subst, ◌∙◌}
-use Rattle.std.specs.List.{AllByRecursion}
+use Rattle.std.specs.{List.{AllByRecursion}, Prelude.{unwrap_or}}
 use Rattle.cacache_core.specs.{declared.errors.Fault.{Fault}, PathNames.{Names, home_of, names_of}}
 use Rattle.cacache_store.specs.declared.store.answer.Answer.TheVariants as answers
 use Rattle.cacache_store.specs.declared.store.{log.LogItem.{LogItem}, plain.PlainTemp.{PlainTemp}}
 use Rattle.cacache_store.specs.declared.store.step.Step.TheVariants as steps
-use Rattle.cacache_disk.{specs.{declared.node.Node.TheVariants.{File}, Tree.{Tree, cut, look, put}}, proofs.{Maps.{same_path-true}, PutNodes.{look-put}, Roots.{same_self}}}
+use Rattle.cacache_disk.specs.{declared.node.Node.TheVariants.{File}, Tree.{Tree, bytes_of, cut, look, put}}
+use Rattle.cacache_disk.proofs.{Maps.{same_path-true}, PutNodes.{look-put}, Roots.{same_self}}
 use Rattle.cacache_table.specs.{Runs.{Moves}, SingleSteps.{Does}}
 use Rattle.cacache_value.specs.Kinds.{Bucket as IsBucket, path_kind}
-use Rattle.cacache_loss.{specs.{Fixing.{is_at}, Moments.{Moment}}, proofs.{Buckets.{leads_file}, KeptPaths.{sync_fixes}}}
+use Rattle.cacache_loss.{specs.{Fixing.{is_at, synced}, Moments.{Moment}}, proofs.{Buckets.{leads_file}, KeptPaths.{sync_fixes}}}
 use Rattle.cacache_keep_laws.{specs.Compacting.{compact_text}, proofs.Members.{Member}}
 use Rattle.cacache_keep.specs.{Compacting.{Bucket, CompactsBucket, CompactsEach, RewritesIf, is_loose}, Rewriting.{Rewrites, SyncsBucket, folder_of}}
-use Rattle.cacache_keep.proofs.{ApartSteps.{EachApart, IsWhole, moves_kept, name_still}, ApartBuckets.{AllApart, Full, bucket_apart, full_apart}, FoundFolders.{FolderNamed}, MomentRuns.{Fixes, fixes_as, fixes_none, fixes_step, fixes_then, later, later_split}, MovedFiles.{moved}}
+use Rattle.cacache_keep.proofs.{ApartSteps.{EachApart, moves_kept, name_still, synced_still}, ApartBuckets.{AllApart, Full, bucket_apart, full_apart}, FoundFolders.{FolderNamed}, MomentRuns.{Fixes, fixes_as, fixes_none, fixes_step, fixes_then, later, later_split}, MovedFiles.{moved}}
 
 -- a file stands there
 abbrev pub Held : Moment → Names → Type 0
 Held w q = (bytes : List ℕ) × (look w.tree q ≡ Some (File bytes))
 
--- and all of its bytes are fixed
-abbrev HeldWhole : Moment → Names → Type 0
-HeldWhole w q = Held w q × IsWhole w.fixed q
+-- and it is synced with all of its bytes
+abbrev pub HeldWhole : Moment → Names → Type 0
+HeldWhole w q = (bytes : List ℕ) × (look w.tree q ≡ Some (File bytes)) × (w.fixed.files q ≡ synced bytes)
 
 -- and so is its name
 abbrev pub Settled : Moment → Names → Type 0
-Settled w q = Held w q × IsWhole w.fixed q × (w.fixed.names q ≡ None)
+Settled w q = HeldWhole w q × (w.fixed.names q ≡ None)
 
 abbrev pub StaysHeld : Names → Moment → Moves → Type 0
 StaysHeld q w moves = (Held w q → Held (later w moves) q) × (Settled w q → Settled (later w moves) q)
@@ -32,7 +33,7 @@ StaysHeld q w moves = (Held w q → Held (later w moves) q) × (Settled w q → 
 pub apart_held : (q : Names) (w : Moment) (moves : Moves) → EachApart q moves → StaysHeld q w moves
 apart_held q w moves apart = (
   λ h. (h.0, (moves_kept w moves q (File h.0) h.1 apart).stands),
-  λ s. let k = moves_kept w moves q (File s.0.0) s.0.1 apart in ((s.0.0, k.stands), k.whole s.1, name_still w (later w moves) q (File s.0.0) k s.2),
+  λ s. let k = moves_kept w moves q (File s.0.0) s.0.1 apart in ((s.0.0, k.stands, synced_still w (later w moves) q (File s.0.0) k s.0.2), name_still w (later w moves) q (File s.0.0) k s.1),
 )
 
 pub held_then : (q : Names) (w : Moment) (one two : Moves) → StaysHeld q w one → StaysHeld q (later w one) two → StaysHeld q w (one ++ two)
@@ -47,16 +48,19 @@ module _ (cache : List ℕ) (home : Names) (is : home_of cache ≡ Some home) (d
   abbrev q : Names
   q = d ++ n ∷ []
 
-  -- once the temporary file is synced, it is whole wherever it lies
+  -- the temporary file is synced, wherever it lies
+  abbrev IsSynced : PlainTemp → Moment → Type 0
+  IsSynced full w = (from : Names) → names_of full.path ≡ Ok from → w.fixed.files from ≡ synced (unwrap_or full.bytes [])
+
   abbrev Whole : PlainTemp → Moment → Moves → Type 0
-  Whole full w moves = (from : Names) → names_of full.path ≡ Ok from → IsWhole (later w moves).fixed from
+  Whole full w moves = IsSynced full (later w moves)
 
   temp_whole : (full : PlainTemp) (old new : Option (List LogItem)) → Does (steps.SyncTemp full) (answers.Synced full) old new → Fixes (Whole full) old new
   temp_whole full old new does = fixes_step (Whole full) (steps.SyncTemp full) (answers.Synced full) old new does (λ w rooted e from named. rw (named, same_self from) refl)
 
   -- and once it is moved to the path, that is
   abbrev Arrives : PlainTemp → Moment → Moves → Type 0
-  Arrives full w moves = ((from : Names) → names_of full.path ≡ Ok from → IsWhole w.fixed from) → HeldWhole (later w moves) q
+  Arrives full w moves = IsSynced full w → HeldWhole (later w moves) q
 
   move_whole : (full : PlainTemp) (path : List ℕ) (old new : Option (List LogItem)) → names_of path ≡ Ok q → Does (steps.Persist full path) answers.Done old new → Fixes (Arrives full) old new
   move_whole full path old new named does =
@@ -65,12 +69,10 @@ module _ (cache : List ℕ) (home : Names) (is : home_of cache ≡ Some home) (d
       let m = moved full path w.tree e in
       let both : Ok m.to ≡ Ok q = sym m.at ∙ named in
       let here : m.to ≡ q = cc in (
-        (
-          m.bytes,
-          ap (λ (t : Tree). look t q) (m.leads ∙ ap (λ (p : Names). put (cut w.tree m.old) p (File m.bytes)) here) ∙ look-put (cut w.tree m.old) q (File m.bytes) q
-              ∙ ap (λ b. cond b (Some (File m.bytes)) (look (cut w.tree m.old) q)) (same_self q),
-        ),
-        rw (m.from, named, same_self q) (whole m.old m.from),
+        m.bytes,
+        ap (λ (t : Tree). look t q) (m.leads ∙ ap (λ (p : Names). put (cut w.tree m.old) p (File m.bytes)) here) ∙ look-put (cut w.tree m.old) q (File m.bytes) q
+            ∙ ap (λ b. cond b (Some (File m.bytes)) (look (cut w.tree m.old) q)) (same_self q),
+        rw (m.from, named, same_self q) (whole m.old m.from ∙ ap (λ o. synced (unwrap_or o [])) m.has),
       ))
 
   -- once the folder is synced, so is the name
@@ -81,8 +83,8 @@ module _ (cache : List ℕ) (home : Names) (is : home_of cache ≡ Some home) (d
   folder_fixed folder old new named does =
       fixes_step Secures (steps.SyncDir folder) answers.Done old new does
       (λ w rooted e h.
-      let k = moves_kept w ((steps.SyncDir folder, answers.Done) ∷ []) q (File h.0.0) h.0.1 (tt, tt) in
-      ((h.0.0, k.stands), k.whole h.1, sync_fixes d n w.fixed w.tree w.tree (steps.SyncDir folder) answers.Done (named, refl)))
+      let k = moves_kept w ((steps.SyncDir folder, answers.Done) ∷ []) q (File h.0) h.1 (tt, tt) in
+      ((h.0, k.stands, synced_still w (later w ((steps.SyncDir folder, answers.Done) ∷ [])) q (File h.0) k h.2), sync_fixes d n w.fixed w.tree w.tree (steps.SyncDir folder) answers.Done (named, refl)))
 
   -- a file that is synced where it stands is whole
   abbrev SyncsHere : Moment → Moves → Type 0
@@ -93,7 +95,7 @@ module _ (cache : List ℕ) (home : Names) (is : home_of cache ≡ Some home) (d
       fixes_step SyncsHere (steps.SyncFile path) answers.Done old new does
       (λ w rooted e h.
       let k = moves_kept w ((steps.SyncFile path, answers.Done) ∷ []) q (File h.0) h.1 (tt, tt) in
-      ((h.0, k.stands), rw (leads_file w.tree path h.0 q rooted named h.1, same_self q) refl))
+      (h.0, k.stands, rw (leads_file w.tree path h.0 q rooted named h.1, same_self q) (ap (λ o. synced (bytes_of o)) h.1)))
 
   -- ---- a bucket that is compacted
 
@@ -104,9 +106,9 @@ module _ (cache : List ℕ) (home : Names) (is : home_of cache ≡ Some home) (d
   rewrite_settles path bytes old new named folder r =
       fixes_then (Full cache home is q IsBucket kind (λ e. cc) r.full bytes) (λ w moves. Settled (later w moves) q) Settles old r.written new
       (full_apart cache home is q IsBucket kind (λ e. cc) r.file r.full bytes old r.made r.written r.making r.writing)
-      (fixes_then (Whole r.full) (λ w moves. ((from : Names) → names_of r.full.path ≡ Ok from → IsWhole w.fixed from) → Settled (later w moves) q) (λ w moves. Settled (later w moves) q) r.written r.synced new
+      (fixes_then (Whole r.full) (λ w moves. IsSynced r.full w → Settled (later w moves) q) (λ w moves. Settled (later w moves) q) r.written r.synced new
       (temp_whole r.full r.written r.synced r.syncing)
-      (fixes_then (Arrives r.full) Secures (λ w moves. ((from : Names) → names_of r.full.path ≡ Ok from → IsWhole w.fixed from) → Settled (later w moves) q) r.synced r.moved new
+      (fixes_then (Arrives r.full) Secures (λ w moves. IsSynced r.full w → Settled (later w moves) q) r.synced r.moved new
       (move_whole r.full path r.synced r.moved named r.moving) (folder_fixed (folder_of path) r.moved new folder r.securing)
       (λ w one two rooted a b whole. subst (λ v. Settled v q) (sym (later_split w one two)) (b (a whole))))
       (λ w one two rooted a b. subst (λ v. Settled v q) (sym (later_split w one two)) (b a)))
@@ -144,7 +146,7 @@ module _ (cache : List ℕ) (home : Names) (is : home_of cache ≡ Some home) (d
   one_settles b old new folder c true here =
       let named = at_names b.0 (names_of b.0) refl here in
       fixes_as Settles (SettlesThese (b.0 ∷ [])) old new (bucket_settles b old new named (folder d n named) c)
-      (λ w moves rooted s. ((λ h. (s h).0, λ h. s h.0), λ path m e h. s h))
+      (λ w moves rooted s. ((λ h. let t = s h in (t.0.0, t.0.1), λ h. s (h.0.0, h.0.1)), λ path m e h. s h))
   one_settles b old new folder c false here =
       fixes_as (AllApart cache home is q IsBucket kind (λ e. cc)) (SettlesThese (b.0 ∷ [])) old new (bucket_apart cache home is q IsBucket kind (λ e. cc) b old new here c)
       (λ w moves rooted a. (apart_held q w moves a, λ path m e h. absurd (elsewhere path m e)))

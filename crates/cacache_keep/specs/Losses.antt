@@ -1,14 +1,15 @@
 -- What a loss of power leaves of the buckets that a durable compaction wrote anew.
 use Rattle.std.specs.Prelude.{◌≡◌, ◌⊎◌, ◌++◌, ℕ, List, [], ◌∷◌, Option, None, Some, true}
+use Rattle.sha1.specs.Sha1.{sha1}
 use Rattle.cacache_core.specs.{declared.errors.Error.{Error}, PathLaws.{IsKeyDigest}, PathNames.{Names, home_of}, Paths.{bucket_names_of}}
 use Rattle.cacache_store.specs.declared.store.log.LogItem.{LogItem}
 use Rattle.cacache_disk.specs.{declared.node.Node.TheVariants.{File}, Tree.{Tree, look}}
-use Rattle.cacache_entry.specs.Latest.{Found}
+use Rattle.cacache_entry.specs.{Bucket.{entries_of}, Latest.{Found, latest}}
 use Rattle.cacache_memory.specs.Replay.{tree_of, IsLog}
 use Rattle.cacache_table.specs.Runs.{Gains, Moves}
 use Rattle.cacache_sequence.specs.Sequence.{plain_moves}
-use Rattle.cacache_value.specs.Traces.{Move}
-use Rattle.cacache_loss.specs.{Fixing.{Fixed}, Loss.{Loss}, LostValues.{LeftOf}, Moments.{EachMove, Moment, after}, Syncs.{Leaves}}
+use Rattle.cacache_value.specs.{Placed.{Placed}, Traces.{Move}}
+use Rattle.cacache_loss.specs.{CalmMoves.{AreCalm}, Fixing.{Fixed}, Loss.{Loss}, LossLaws.{BeginsWith, FindsOrLater}, LostValues.{LeftOf}, Moments.{EachMove, Moment, after}, Syncs.{Leaves}}
 use Rattle.cacache_keep_laws.specs.{Compacting.{compact_text}, Mending.{found_in}}
 use Rattle.cacache_keep.specs.Compacting.{CompactsCache, StopsCompacting}
 
@@ -93,6 +94,31 @@ CompactionsLast =
     (moment_after (tree_of old) fixed moves) more
     → LeftOf home (after (moment_after (tree_of old) fixed moves) more) loss left
     → look left (home ++ bucket_names_of digest) ≡ Some (File (compact_text true text))
+
+-- in the second tree each bucket of the first begins with its compacted bytes, and a lookup there
+-- finds what it found, or what a later entry answers
+pub record BeginsLean (home : Names) (t left : Tree) : Type 0 where
+  pub buckets : (digest bytes : List ℕ) → IsKeyDigest digest
+      → look t (home ++ bucket_names_of digest) ≡ Some (File bytes)
+      → BeginsWith (compact_text true bytes) (look left (home ++ bucket_names_of digest))
+  pub keys : (key bytes : List ℕ)
+      → look t (home ++ bucket_names_of (sha1 key)) ≡ Some (File bytes)
+      → FindsOrLater key (latest key (entries_of bytes)) (entries_of (compact_text true bytes))
+      (look left (home ++ bucket_names_of (sha1 key)))
+
+-- so it is after each later loss, if each thing lies in its place, as where only calls wrote, and
+-- later steps of calls remove, link and export nothing; they may append to buckets
+abbrev pub CompactionsGrow : Type 0
+CompactionsGrow =
+    (cache : List ℕ) (home : Names) (count bytes : ℕ) (moves : Moves) (more : List Move)
+    (fixed : Fixed) (loss : Loss) (old new : List LogItem) (left : Tree)
+    → home_of cache ≡ Some home → IsLog new
+    → CompactsCache true cache count bytes (Some old) (Some new)
+    → Gains (Some old) (Some new) moves
+    → Placed (Some home) (tree_of new)
+    → AreCalm (Some home) (moment_after (tree_of old) fixed moves) more
+    → LeftOf home (after (moment_after (tree_of old) fixed moves) more) loss left
+    → BeginsLean home (tree_of old) left
 
 -- ---- during a compaction
 

@@ -3,7 +3,7 @@ ghost use Rattle.cacache_memory.specs.Replay.{IsLog};
 ghost use Rattle.cacache_keep.specs.Behind.{CollectionsKeepKeys, LaterKeysStay};
 ghost use Rattle.cacache_keep.specs.Houses.{RepairsHouse, SweepsHouse, SweepsKeepGood};
 ghost use Rattle.cacache_keep.specs.Kept.{CachesAreSwept, CollectionsLackIdle, CollectionsLeave, CollectionsSettle, CompactionsAreUnseen, CompactionsLeave, CompactionsStop, LaterReadsStay, ListsHold, LooksStay, PlansForetell, PlansLeave, RepairsKeepGood, RepairsMend, RepairsVerify, VerdictsJudge};
-ghost use Rattle.cacache_keep.specs.Losses.{CompactionsFix, CompactionsLast, CompactionsOutlast, CompactionsSpare};
+ghost use Rattle.cacache_keep.specs.Losses.{CompactionsFix, CompactionsGrow, CompactionsLast, CompactionsOutlast, CompactionsSpare};
 
 use cacache_memory::MemStore;
 
@@ -22,9 +22,11 @@ use cacache_memory::MemStore;
 ///
 /// After a durable compaction that answered Ok, each bucket's bytes are fixed, its name, and those of its folders below
 /// the cache's, whatever was fixed before. So a loss of power then leaves exactly the compacted bytes, and each key that
-/// led to an entry leads to it. It is so with each later loss, while steps leave the bucket and its folders as they are. If the buckets
-/// were fixed before, a loss after any step of a durable compaction, also of one that an error ends, leaves each
-/// with exactly its old bytes or its compacted ones.
+/// led to an entry leads to it. It is so with each later loss, while steps leave the bucket and its folders as they are.
+/// If each thing lies in its place, and later steps of calls remove, link and export nothing, each later loss leaves a
+/// bucket that begins with these bytes: a lookup there finds what it found, or what a later entry answers. If the
+/// buckets were fixed before, a loss after any step of a durable compaction, also of one that an error ends, leaves
+/// each with exactly its old bytes or its compacted ones.
 ///
 /// If links lead out of the cache, lookups, reads by key and listings answer up to the next insertion as they
 /// might have without the collection: calls that look may come in between, and whatever else leaves the tree, removals that are
@@ -67,6 +69,7 @@ pub fn keep_laws(store: &MemStore)
     ensures fixes { CompactionsFix }
     ensures outlasts { CompactionsOutlast }
     ensures lasts { CompactionsLast }
+    ensures grows { CompactionsGrow }
     ensures spares { CompactionsSpare }
 {
     let _log = store.log();
