@@ -1,5 +1,5 @@
 -- The log on which a collection or a repair goes on after its check for odd lines leads to the same tree.
-use Rattle.std.{proofs.Common.{◌≡◌, ℕ, List, ◌++◌, Option, Some, map, refl, sym, subst, ◌∙◌}, specs.List.{flat_map}}
+use Rattle.std.{proofs.Common.{◌≡◌, ℕ, List, ◌++◌, Option, Some, map, subst, ◌∙◌}, specs.List.{flat_map}}
 use Rattle.cacache_core.specs.{declared.integrity.digest.Hash.{Hash}, PathNames.{Names, home_of}}
 use Rattle.cacache_store.specs.declared.store.log.LogItem.{LogItem, TheVariants.{Made}}
 use Rattle.cacache_memory.specs.Replay.{tree_of, IsLog}
