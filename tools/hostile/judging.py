@@ -5,7 +5,7 @@ from standing import Cache, bucket_path, content_path, line
 from tried import FOREIGN, GONE, LIVE, ODD
 
 KILLS = ("before", "half", "after")
-MESSAGE = re.compile(r"Failed to |Error |Entry not found for key |Integrity check failed\.\n|out of memory\n|output failed\n|input failed\n")
+MESSAGE = re.compile(r"Failed to |Error |Bucket |Entry not found for key |Integrity check failed\.\n|out of memory\n|output failed\n|input failed\n")
 
 
 def at_or_below(path, above):
@@ -82,7 +82,7 @@ def lines(word, ran, gone):
         for key, text in ODD.items():
             if line(text) not in ran.tree.get(f"c/{bucket_path(key)}", (0, b""))[1]:
                 yield "a line that can't be read is gone", key
-        if f"c/{content_path(FOREIGN)}" not in ran.tree:
+        if "--anyway" not in word.words and f"c/{content_path(FOREIGN)}" not in ran.tree:
             yield "the content of a line that can't be read is gone", ""
 
 

@@ -41,10 +41,14 @@ def words():
     for word in (["verify"], ["verify", "--list"]):
         yield Word([*word, "c"], program="cacache-keep", looks=True, status=3)
     yield Word(["plan", "c"], program="cacache-keep", looks=True)
-    yield Word(["collect", "c"], removes=unused, program="cacache-keep")
+    for word in ("collect", "repair"):  # refused for the odd lines
+        yield Word([word, "c"], program="cacache-keep", looks=True, status=1)
+    yield Word(["collect", "--anyway", "c"], removes=[*unused, content_path(FOREIGN)], program="cacache-keep")
     yield Word(["sweep", "c"], program="cacache-keep")
-    yield Word(["repair", "c"], made={it: "absent" for it in ("hurt", "dangling")}, removes=hurt, program="cacache-keep")
-    yield Word(["compact", "c"], program="cacache-keep")
+    buried = {it: "absent" for it in ("hurt", "dangling")}
+    yield Word(["repair", "--anyway", "c"], made=buried, removes=hurt, program="cacache-keep")
+    for word in (["compact"], ["compact", "--durable"]):
+        yield Word([*word, "c"], program="cacache-keep")
 
 
 def prepared():
