@@ -3,7 +3,7 @@ use Rattle.std.specs.Prelude.{ℕ, List, ◌++◌, codes}
 
 -- what is said to wrong words
 abbrev pub usage_text : List ℕ
-usage_text = codes "usage: cacache-keep verify [--list]|collect|plan|sweep|repair|compact CACHE\n"
+usage_text = codes "usage: cacache-keep verify [--list]|collect [--anyway]|plan|sweep|repair [--anyway]|compact [--durable] CACHE\n"
 
 -- a line for each word
 abbrev pub words_text : List ℕ
@@ -14,10 +14,16 @@ words_text =
     ++ codes "                 the same, and after it a line for each but the good contents, which names it;\n"
     ++ codes "                 in a path, \\\\ stands for \\, and \\x and two hex digits for a control character\n"
     ++ codes "  collect CACHE  removes the contents that no entry has, and counts the kept and the dropped\n"
+    ++ codes "  collect --anyway CACHE\n"
+    ++ codes "                 the same, even if the index has lines that only other readers can read\n"
     ++ codes "  plan CACHE     counts what collect would keep and drop, and changes nothing\n"
     ++ codes "  sweep CACHE    removes temporary files, and counts them, their bytes, and other files there\n"
     ++ codes "  repair CACHE   removes damaged contents, and the keys that lead to none, and counts both\n"
+    ++ codes "  repair --anyway CACHE\n"
+    ++ codes "                 the same, even if the index has lines that only other readers can read\n"
     ++ codes "  compact CACHE  writes the index anew without old lines, and counts the buckets and bytes saved\n"
+    ++ codes "  compact --durable CACHE\n"
+    ++ codes "                 the same, and syncs what it leaves, so that it outlasts a loss of power\n"
     ++ codes "  --why          before these words: says in brackets why a call failed\n"
     ++ codes "  --help, -h     prints this\n"
     ++ codes "  --version, -V  prints the version\n"

@@ -3,7 +3,7 @@ use Rattle.std.specs.{Prelude.{◌⊎◌, ◌++◌, ℕ, List, Option, codes, le
 use Rattle.cacache_core.specs.declared.integrity.digest.Hash.{Hash}
 use Rattle.cacache.specs.{Stores.{LogItem}, Calls.{Env, KeepsRest}}
 use Rattle.cacache_jobs.specs.Sites.{site_of}
-use Rattle.cacache_keep.specs.{declared.checking.OddLines.TheVariants.{Refuse}, Keeping.{CollectsWith, StopsCollecting}}
+use Rattle.cacache_keep.specs.{declared.checking.OddLines.{OddLines}, Keeping.{CollectsWith, StopsCollecting}}
 use Rattle.cacache_program.specs.{KeepFails.{Fails}, Output.{PutsOut}}
 
 -- how many contents were kept and dropped, a line each
@@ -11,13 +11,13 @@ abbrev pub collected_text : ℕ → ℕ → List ℕ
 collected_text kept dropped =
     codes "kept " ++ (decimal kept ++ (codes "\ndropped " ++ (decimal dropped ++ codes "\n")))
 
-module _ {S C N : Type 0} (log : S → Option (List LogItem)) where
-  -- the log gained a collection that refuses odd lines, and its counts were told
+module _ {S C N : Type 0} (log : S → Option (List LogItem)) (odd : OddLines) where
+  -- the log gained a collection with this choice about odd lines, and its counts were told
   abbrev pub PrintsCollection :
       List ℕ → Env S C N → Env S C N → Option (List ℕ) → Option (List ℕ) → ℕ → Type 0
   PrintsCollection cache old new before after status =
       (kept : ℕ) × (dropped : List (List Hash))
-      × CollectsWith Refuse (site_of cache old.base 0) kept dropped
+      × CollectsWith odd (site_of cache old.base 0) kept dropped
       (log old.store) (log new.store)
       × PutsOut (collected_text kept (length dropped)) before after status
 
@@ -25,7 +25,7 @@ module _ {S C N : Type 0} (log : S → Option (List LogItem)) where
   abbrev pub FailsToCollect :
       List ℕ → Env S C N → Env S C N → Option (List ℕ) → Option (List ℕ) → ℕ → Type 0
   FailsToCollect cache old new before after status =
-      Fails log (StopsCollecting Refuse (site_of cache old.base 0)) old new before after status
+      Fails log (StopsCollecting odd (site_of cache old.base 0)) old new before after status
 
   -- one of the two, and of the environment only the store may have changed
   abbrev pub CollectsUnused :

@@ -1,5 +1,5 @@
 -- The word `compact` of the program `cacache-keep`.
-use Rattle.std.specs.{Prelude.{◌≡◌, ◌⊎◌, ◌++◌, ℕ, List, false, Option, codes}, Fmt.{decimal}}
+use Rattle.std.specs.{Prelude.{◌≡◌, ◌⊎◌, ◌++◌, ℕ, List, Bool, Option, codes}, Fmt.{decimal}}
 use Rattle.cacache.specs.{Stores.{LogItem}, Calls.{Env}}
 use Rattle.cacache_keep.specs.Compacting.{CompactsCache, StopsCompacting}
 use Rattle.cacache_program.specs.{KeepFails.{Fails}, Output.{PutsOut}}
@@ -9,20 +9,20 @@ abbrev pub compacted_text : ℕ → ℕ → List ℕ
 compacted_text buckets bytes =
     codes "buckets " ++ (decimal buckets ++ (codes "\nbytes " ++ (decimal bytes ++ codes "\n")))
 
-module _ {S C N : Type 0} (log : S → Option (List LogItem)) where
-  -- the log gained a compaction, and its counts were told
+module _ {S C N : Type 0} (log : S → Option (List LogItem)) (durable : Bool) where
+  -- the log gained a compaction, durable or not, and its counts were told
   abbrev pub PrintsCompaction :
       List ℕ → Env S C N → Env S C N → Option (List ℕ) → Option (List ℕ) → ℕ → Type 0
   PrintsCompaction cache old new before after status =
       (buckets bytes : ℕ)
-      × CompactsCache false cache buckets bytes (log old.store) (log new.store)
+      × CompactsCache durable cache buckets bytes (log old.store) (log new.store)
       × PutsOut (compacted_text buckets bytes) before after status
 
   -- an error ended the compaction, and nothing was put out
   abbrev pub FailsToCompact :
       List ℕ → Env S C N → Env S C N → Option (List ℕ) → Option (List ℕ) → ℕ → Type 0
   FailsToCompact cache old new before after status =
-      Fails log (StopsCompacting false cache) old new before after status
+      Fails log (StopsCompacting durable cache) old new before after status
 
   -- one of the two, and the clock and the base folder stayed
   abbrev pub Compacts :

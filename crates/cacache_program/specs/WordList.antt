@@ -1,5 +1,5 @@
 -- The words `verify --list` of the program `cacache-keep`.
-use Rattle.std.specs.{Prelude.{◌≡◌, ◌++◌, ℕ, List, [], ◌∷◌, Option, codes, length}, List.{flat_map}}
+use Rattle.std.specs.{Prelude.{◌++◌, ℕ, List, [], ◌∷◌, Option, codes, length}, List.{flat_map}}
 use Rattle.cacache_core.specs.declared.integrity.digest.Hash.{Hash}
 use Rattle.cacache.specs.{Stores.{LogItem}, Calls.{Env}, Entries.{Found}, Integrities.{integrity_text}}
 use Rattle.cacache_program.specs.{Escaping.{escaped}, Output.{PutsOutWith}, PrintedEntries.{entry_text}, WordVerify.{VerifiesTelling, verdict_status, verdict_text}}
@@ -41,10 +41,3 @@ module _ {S C N : Type 0} (log : S → Option (List LogItem)) where
       List ℕ → Env S C N → Env S C N → Option (List ℕ) → Option (List ℕ) → ℕ → Type 0
   ListsVerdict cache old new before after status =
       VerifiesTelling log TellsList cache old new before after status
-
-  -- so it is, if the word before the cache is `--list`
-  abbrev pub ListsIfSaid :
-      List ℕ → List ℕ → Env S C N → Env S C N
-      → Option (List ℕ) → Option (List ℕ) → ℕ → Type 0
-  ListsIfSaid word cache old new before after status =
-      word ≡ codes "--list" → ListsVerdict cache old new before after status

@@ -3,7 +3,7 @@ use Rattle.std.specs.{Prelude.{◌≡◌, ◌⊎◌, ◌++◌, ℕ, List, Option
 use Rattle.cacache_core.specs.declared.integrity.digest.Hash.{Hash}
 use Rattle.cacache.specs.{Stores.{LogItem}, Calls.{Env}, Entries.{Found}}
 use Rattle.cacache_jobs.specs.Sites.{site_of}
-use Rattle.cacache_keep.specs.{declared.checking.OddLines.TheVariants.{Refuse}, Repairing.{RepairsWith, StopsRepairing}}
+use Rattle.cacache_keep.specs.{declared.checking.OddLines.{OddLines}, Repairing.{RepairsWith, StopsRepairing}}
 use Rattle.cacache_program.specs.{KeepFails.{Fails}, Output.{PutsOut}}
 
 -- how many contents were damaged, and how many keys led to none, a line each
@@ -11,13 +11,13 @@ abbrev pub repaired_text : ℕ → ℕ → List ℕ
 repaired_text damaged dangling =
     codes "damaged " ++ (decimal damaged ++ (codes "\ndangling " ++ (decimal dangling ++ codes "\n")))
 
-module _ {S C N : Type 0} (log : S → Option (List LogItem)) where
-  -- the log gained a repair that refuses odd lines, and its counts were told
+module _ {S C N : Type 0} (log : S → Option (List LogItem)) (odd : OddLines) where
+  -- the log gained a repair with this choice about odd lines, and its counts were told
   abbrev pub PrintsRepair :
       List ℕ → Env S C N → Env S C N → Option (List ℕ) → Option (List ℕ) → ℕ → Type 0
   PrintsRepair cache old new before after status =
       (damaged : List (List Hash)) × (dangling : List Found)
-      × RepairsWith Refuse (site_of cache old.base 0) damaged dangling
+      × RepairsWith odd (site_of cache old.base 0) damaged dangling
       (log old.store) (log new.store)
       × PutsOut (repaired_text (length damaged) (length dangling)) before after status
 
@@ -25,7 +25,7 @@ module _ {S C N : Type 0} (log : S → Option (List LogItem)) where
   abbrev pub FailsToRepair :
       List ℕ → Env S C N → Env S C N → Option (List ℕ) → Option (List ℕ) → ℕ → Type 0
   FailsToRepair cache old new before after status =
-      Fails log (StopsRepairing Refuse (site_of cache old.base 0)) old new before after status
+      Fails log (StopsRepairing odd (site_of cache old.base 0)) old new before after status
 
   -- one of the two, and the numbers and the base folder stayed
   abbrev pub Repairs :

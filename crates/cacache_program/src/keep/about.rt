@@ -6,20 +6,27 @@ use crate::about::About;
 
 /// What the program says to wrong words.
 pub const USAGE: &str =
-    "usage: cacache-keep verify [--list]|collect|plan|sweep|repair|compact CACHE\n";
+    "usage: cacache-keep verify [--list]|collect [--anyway]|plan|sweep|repair [--anyway]|compact [--durable] CACHE\n";
 
 /// What the program says to `--help`: the usage, and a line for each word.
-pub const HELP: &str = "usage: cacache-keep verify [--list]|collect|plan|sweep|repair|compact CACHE
+pub const HELP: &str =
+    "usage: cacache-keep verify [--list]|collect [--anyway]|plan|sweep|repair [--anyway]|compact [--durable] CACHE
   verify CACHE   counts good and damaged contents, entries without one, and other files;
                  the status is 3 if there are any but good contents
   verify --list CACHE
                  the same, and after it a line for each but the good contents, which names it;
                  in a path, \\\\ stands for \\, and \\x and two hex digits for a control character
   collect CACHE  removes the contents that no entry has, and counts the kept and the dropped
+  collect --anyway CACHE
+                 the same, even if the index has lines that only other readers can read
   plan CACHE     counts what collect would keep and drop, and changes nothing
   sweep CACHE    removes temporary files, and counts them, their bytes, and other files there
   repair CACHE   removes damaged contents, and the keys that lead to none, and counts both
+  repair --anyway CACHE
+                 the same, even if the index has lines that only other readers can read
   compact CACHE  writes the index anew without old lines, and counts the buckets and bytes saved
+  compact --durable CACHE
+                 the same, and syncs what it leaves, so that it outlasts a loss of power
   --why          before these words: says in brackets why a call failed
   --help, -h     prints this
   --version, -V  prints the version

@@ -24,6 +24,8 @@ fn cache_of(words: &[String]) -> Option<&str>
 {
     match parse_words(words) {
         ("verify", "--list", Some(cache)) => Some(cache),
+        ("collect" | "repair", "--anyway", Some(cache)) => Some(cache),
+        ("compact", "--durable", Some(cache)) => Some(cache),
         ("verify" | "collect" | "plan" | "sweep" | "repair" | "compact", cache, None) => {
             Some(cache)
         }

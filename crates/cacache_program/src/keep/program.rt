@@ -1,9 +1,10 @@
 //! What the program does with its words.
-ghost use Rattle.std.specs.Prelude.{◌≡◌, ◌≢◌, ◌≤◌, false, codes};
-ghost use Rattle.cacache_program.specs.Words.{KeyedDoes, UnkeyedDoes, asked_of};
-ghost use Rattle.cacache_program.specs.KeepWords.{IsWrong};
+ghost use Rattle.std.specs.Prelude.{◌≡◌, ◌≢◌, ◌≤◌, false, true, codes};
+ghost use Rattle.cacache_keep.specs.declared.checking.OddLines.TheVariants.{Ignore, Refuse};
+ghost use Rattle.cacache_program.specs.Words.{UnkeyedDoes, asked_of};
+ghost use Rattle.cacache_program.specs.KeepWords.{IsWrong, OptionDoes};
 ghost use Rattle.cacache_program.specs.WordVerify.{Verifies};
-ghost use Rattle.cacache_program.specs.WordList.{ListsIfSaid, ListsVerdict};
+ghost use Rattle.cacache_program.specs.WordList.{ListsVerdict};
 ghost use Rattle.cacache_program.specs.WordCollect.{CollectsUnused};
 ghost use Rattle.cacache_program.specs.WordCompact.{Compacts};
 ghost use Rattle.cacache_program.specs.WordPlan.{Plans};
@@ -18,7 +19,7 @@ use crate::keep::output::{
 };
 use crate::words::parse_words;
 use cacache::env::{Clock, Env, Names, Reasons};
-use cacache_keep::{collect, compact, plan, repair, sweep, verify};
+use cacache_keep::{CompactOpts, OddLines, collect_with, plan, repair_with, sweep, verify};
 use std::io::Write;
 
 /// Verifies the cache, and prints how many contents are good and damaged, entries dangle, and other files are there.
@@ -57,18 +58,19 @@ fn verify_and_list<S: Reasons, C: Clock, N: Names, W: Write, E: Write>(
     }
 }
 
-/// Collects the cache, and prints how many contents were kept and dropped.
+/// Collects the cache with this choice about odd lines, and prints how many contents were kept and dropped.
 fn collect_and_print<S: Reasons, C: Clock, N: Names, W: Write, E: Write>(
     env: &mut Env<S, C, N>,
     cache: &str,
+    odd: OddLines,
     output: &mut W,
     errors: &mut Errors<E>,
 ) -> u8
-    ensures does { CollectsUnused S.log cache.now env.old env.new
+    ensures does { CollectsUnused S.log odd cache.now env.old env.new
         (W.contents output.old) (W.contents output.new) result }
     ensures quiet { result ≡ 0 → errors.new ≡ errors.old }
 {
-    match collect(env, cache) {
+    match collect_with(env, cache, odd) {
         Ok(collected) => print_collected(env.alloc, &collected, output, errors),
         Err(error) => tell_failed_call(errors, &error, env.store.reason()),
     }
@@ -108,35 +110,38 @@ fn sweep_and_print<S: Reasons, C: Clock, N: Names, W: Write, E: Write>(
     }
 }
 
-/// Repairs the cache, and prints how many contents were damaged, and how many keys led to none.
+/// Repairs the cache with this choice about odd lines, and prints how many contents were damaged, and how many keys led
+/// to none.
 fn repair_and_print<S: Reasons, C: Clock, N: Names, W: Write, E: Write>(
     env: &mut Env<S, C, N>,
     cache: &str,
+    odd: OddLines,
     output: &mut W,
     errors: &mut Errors<E>,
 ) -> u8
-    ensures does { Repairs S.log cache.now env.old env.new
+    ensures does { Repairs S.log odd cache.now env.old env.new
         (W.contents output.old) (W.contents output.new) result }
     ensures quiet { result ≡ 0 → errors.new ≡ errors.old }
 {
-    match repair(env, cache) {
+    match repair_with(env, cache, odd) {
         Ok(repaired) => print_repaired(env.alloc, &repaired, output, errors),
         Err(error) => tell_failed_call(errors, &error, env.store.reason()),
     }
 }
 
-/// Compacts the cache, and prints how many buckets were written anew, and how many bytes that saved.
+/// Compacts the cache, durably or not, and prints how many buckets were written anew, and how many bytes that saved.
 fn compact_and_print<S: Reasons, C: Clock, N: Names, W: Write, E: Write>(
     env: &mut Env<S, C, N>,
     cache: &str,
+    durable: bool,
     output: &mut W,
     errors: &mut Errors<E>,
 ) -> u8
-    ensures does { Compacts S.log cache.now env.old env.new
+    ensures does { Compacts S.log durable cache.now env.old env.new
         (W.contents output.old) (W.contents output.new) result }
     ensures quiet { result ≡ 0 → errors.new ≡ errors.old }
 {
-    match compact(env, cache) {
+    match CompactOpts::new().durable(durable).compact(env, cache) {
         Ok(compacted) => print_compacted(env.alloc, &compacted, output, errors),
         Err(error) => tell_failed_call(errors, &error, env.store.reason()),
     }
@@ -156,27 +161,47 @@ pub fn run<S: Reasons, C: Clock, N: Names, W: Write, E: Write>(
     ensures quiet { result ≡ 0 → errors.new ≡ errors.old }
     ensures verifies { UnkeyedDoes (asked_of words.now) (codes "verify") (Verifies S.log)
         env.old env.new (W.contents output.old) (W.contents output.new) result }
-    ensures lists { KeyedDoes (asked_of words.now) (codes "verify") (ListsIfSaid S.log)
+    ensures lists { OptionDoes (asked_of words.now)
+        (codes "verify") (codes "--list") (ListsVerdict S.log)
         env.old env.new (W.contents output.old) (W.contents output.new) result }
-    ensures collects { UnkeyedDoes (asked_of words.now) (codes "collect") (CollectsUnused S.log)
+    ensures collects { UnkeyedDoes (asked_of words.now) (codes "collect")
+        (CollectsUnused S.log Refuse)
+        env.old env.new (W.contents output.old) (W.contents output.new) result }
+    ensures collects_anyway { OptionDoes (asked_of words.now)
+        (codes "collect") (codes "--anyway") (CollectsUnused S.log Ignore)
         env.old env.new (W.contents output.old) (W.contents output.new) result }
     ensures plans { UnkeyedDoes (asked_of words.now) (codes "plan") (Plans S.log)
         env.old env.new (W.contents output.old) (W.contents output.new) result }
     ensures sweeps { UnkeyedDoes (asked_of words.now) (codes "sweep") (Sweeps S.log)
         env.old env.new (W.contents output.old) (W.contents output.new) result }
-    ensures repairs { UnkeyedDoes (asked_of words.now) (codes "repair") (Repairs S.log)
+    ensures repairs { UnkeyedDoes (asked_of words.now) (codes "repair") (Repairs S.log Refuse)
         env.old env.new (W.contents output.old) (W.contents output.new) result }
-    ensures compacts { UnkeyedDoes (asked_of words.now) (codes "compact") (Compacts S.log)
+    ensures repairs_anyway { OptionDoes (asked_of words.now)
+        (codes "repair") (codes "--anyway") (Repairs S.log Ignore)
+        env.old env.new (W.contents output.old) (W.contents output.new) result }
+    ensures compacts { UnkeyedDoes (asked_of words.now) (codes "compact") (Compacts S.log false)
+        env.old env.new (W.contents output.old) (W.contents output.new) result }
+    ensures compacts_durably { OptionDoes (asked_of words.now)
+        (codes "compact") (codes "--durable") (Compacts S.log true)
         env.old env.new (W.contents output.old) (W.contents output.new) result }
 {
     match parse_words(words) {
         ("verify", cache, None) => verify_and_print(env, cache, output, errors),
         ("verify", "--list", Some(cache)) => verify_and_list(env, cache, output, errors),
-        ("collect", cache, None) => collect_and_print(env, cache, output, errors),
+        ("collect", cache, None) => collect_and_print(env, cache, OddLines::Refuse, output, errors),
+        ("collect", "--anyway", Some(cache)) => {
+            collect_and_print(env, cache, OddLines::Ignore, output, errors)
+        }
         ("plan", cache, None) => plan_and_print(env, cache, output, errors),
         ("sweep", cache, None) => sweep_and_print(env, cache, output, errors),
-        ("repair", cache, None) => repair_and_print(env, cache, output, errors),
-        ("compact", cache, None) => compact_and_print(env, cache, output, errors),
+        ("repair", cache, None) => repair_and_print(env, cache, OddLines::Refuse, output, errors),
+        ("repair", "--anyway", Some(cache)) => {
+            repair_and_print(env, cache, OddLines::Ignore, output, errors)
+        }
+        ("compact", cache, None) => compact_and_print(env, cache, false, output, errors),
+        ("compact", "--durable", Some(cache)) => {
+            compact_and_print(env, cache, true, output, errors)
+        }
         _ => tell_misuse(USAGE, errors),
     }
 }
