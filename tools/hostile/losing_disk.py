@@ -64,7 +64,8 @@ class LosingDisk:
             blocks = range(0, len(data), BLOCK)
             stays = staying(blocks, share, chance)
             for it in stays:
-                self.kept[at + it : at + it + BLOCK] = data[it : it + BLOCK]
+                block = data[it : it + BLOCK]
+                self.kept[at + it : at + it + len(block)] = block
             counts["kept" if len(stays) == len(blocks) else "torn" if stays else "lost"] += 1
         self.now, self.waiting = bytearray(self.kept), []
         return counts
