@@ -122,10 +122,10 @@ fn add(alloc: Global, lines: &mut Vec<Line>, piece: &[u8]) -> Result<()>
         ≡ map line_view lines.old.items ++ option_to_list (line_of_piece piece.now)) }
     ensures memory { IfErr result (λ e. e ≡ OutOfMemory) }
 {
-    if !is_line(piece) {
+    let decided = decided_in(alloc, piece)?;
+    if decided.is_none() && !is_line(piece) {
         return Ok(());
     }
-    let decided = decided_in(alloc, piece)?;
     let text = Vec::from_slice(alloc, piece)?;
     lines.push(Line { text, decided })?;
     Ok(())
