@@ -204,3 +204,19 @@ def signature(text, at, name):
         arguments.append(argument)
     result = re.match(r"(?s)\s*→\s*(.*?)\s*(?:[{;]|\b(?:requires|ensures|where)\b)", text[after:])
     return f"{name}({', '.join(arguments)})" + (f" → {short(result[1])}" if result else "")
+
+
+def clauses(text, at):
+    """The clauses of a function whose name ends at this place: each on one line, with its name."""
+    place, found = behind(text, at), []
+    if text[at] == "<":
+        place = behind(text, place)
+    head = re.compile(r"\s*→[^{;]*?(?=\s*(?:[{;]|\b(?:requires|ensures|where)\b))").match(text, place)
+    place = head.end() if head else place
+    where = re.compile(r"(?s)\s*where\b.*?(?=\s*(?:[{;]|\b(?:requires|ensures)\b))").match(text, place)
+    place = where.end() if where else place
+    clause = re.compile(r"\s*((?:requires|ensures)\*?(?: \w+)?) (?=\{)")
+    while start := clause.match(text, place):
+        place = behind(text, start.end())
+        found.append(f"{start[1]} {' '.join(text[start.end():place].split())}")
+    return found
