@@ -46,7 +46,7 @@ names_all path names n e nul last so above =
     let all : names ≡ filter is_name (pieces path) = so ∙ ap (filter is_name) whole in
     rw (e, nul, none, all) refl
 
--- ---- a piece holds no slash, and no NUL where its text holds none
+-- ---- a piece holds no slash, and no NUL if its text holds none
 
 abbrev AreOpen : Names → Type 0
 AreOpen parts = AllByRecursion (λ part. list_any ends_name part ≡ false) parts
@@ -93,7 +93,7 @@ piece_proper text n piece name nul here named above same =
 
 -- ---- the names of a path are proper
 
--- what is left where neither of two tests stops
+-- what is left if neither of two tests stops
 neither_stops : {A : Type 0} (a b : Bool) (x y : Fault) (all names : A) → cond a (Err x) (cond b (Err y) (Ok all)) ≡ Ok names → (b ≡ false) × (all ≡ names)
 neither_stops true b x y all names e = absurd cc
 neither_stops false true x y all names e = absurd cc

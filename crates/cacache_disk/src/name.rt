@@ -96,7 +96,7 @@ impl Ord for ProperName {
     }
 }
 
-/// The proper names in a folder, and what stands under them. Contracts see the list.
+/// The proper names in a folder, and what is at them. Contracts see the list.
 #[derive(Drop)]
 pub(crate) struct ProperNames {
     names: Vec<Name>,

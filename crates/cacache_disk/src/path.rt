@@ -79,7 +79,7 @@ impl Path {
         self.names.is_empty()
     }
 
-    /// Whether it has one name more than the folder, behind the folder's names.
+    /// Whether it is the folder's names and one name more.
     pub fn is_in(&self, folder: &Path) -> bool
         ensures same { result ≡ is_child folder.now self.now }
         ensures longer { OnTrue result (length self.now ≡ length folder.now + 1) }

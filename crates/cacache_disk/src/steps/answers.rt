@@ -7,7 +7,7 @@ use cacache_core::bytes::Bytes;
 use cacache_store::store::{Answer, PlainFile, PlainTemp};
 use std::alloc::{AllocError, Global};
 
-/// How many of the bytes are taken, where at most so many may be.
+/// How many of the bytes are taken, if at most so many may be.
 pub(crate) fn taken(most: Option<usize>, bytes: &Bytes) -> usize
     ensures same { result ≡ taken most bytes.now }
     ensures within { result ≤ length bytes.now }
