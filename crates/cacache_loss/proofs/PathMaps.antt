@@ -13,7 +13,7 @@ same_at : {A : Type 0} (f : Names → A) (p q : Names) (b : Bool) → same_path 
 same_at f p q true e = ap f (same_path-true q p e)
 same_at f p q false e = refl
 
--- a name of which nothing changes
+-- a name at which nothing changes
 pub unkept : (m : BTreeMap Names Place) (p q : Names) (was : Place) → get names_cmp m q ≡ cond (same_path q p) (renamed false was (get names_cmp m p)) (get names_cmp m q)
 unkept m p q was = same_at (get names_cmp m) p q (same_path q p) refl
 
@@ -21,7 +21,7 @@ known_stays : (o : Option Place) (was : Place) → true ≡ is_some o → o ≡ 
 known_stays None was e = absurd cc
 known_stays (Some place) was e = refl
 
--- a name of which something is kept
+-- a name for which something is kept already
 pub kept_once : (m : BTreeMap Names Place) (p q : Names) (was : Place) → true ≡ is_some (get names_cmp m p)
     → get names_cmp m q ≡ cond (same_path q p) (renamed true was (get names_cmp m p)) (get names_cmp m q)
 kept_once m p q was there =

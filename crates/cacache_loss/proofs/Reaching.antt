@@ -91,7 +91,7 @@ module _ (t : Tree) (q : Names) where
   pub apply_misses : (step : PlainStep) (luck : Luck) → is_among q (reached t step) ≡ false → look (apply t step luck).1 q ≡ look t q
   apply_misses step luck apart = apply_tree (λ new. look new q ≡ look t q) t step luck refl (plain_misses step apart)
 
--- ---- what a step does where it reaches
+-- ---- what a step does at the paths that it reaches
 
 or_false : (b : Bool) → (b || false) ≡ b
 or_false true = refl

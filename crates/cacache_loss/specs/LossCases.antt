@@ -17,12 +17,12 @@ pub record LossRows : Type 0 where
   pub durable : bytes_left (synced (codes "one")) (codes "one") (codes "zz") ≡ codes "one"
   -- a put that isn't durable keeps none
   pub not_durable : bytes_left unsynced (codes "one") (codes "zz") ≡ codes "zz"
-  -- of a durable line and a further one, the further one alone goes
+  -- if another line follows a durable one, only the other goes
   pub two_lines :
       bytes_left (rewritten (codes "+a+") (codes "+a++b")) (codes "+a++b") (codes "xxxxx")
       ≡ codes "+a+xxxxx"
 
--- a content that was put is gone where its folder wasn't synced and the loss undoes its name
+-- a content that was put is gone if its folder wasn't synced and the loss undoes its name
 abbrev pub UndonePutsGo : Type 0
 UndonePutsGo =
     (home : Option Names) (t new : Tree) (fixed : Fixed) (f : PlainTemp) (p : List ℕ)
