@@ -47,7 +47,7 @@ pub(crate) fn place(calls: &mut Vec<Option<Call>>, caller: usize, call: Option<C
     calls[caller] = call;
 }
 
-/// What a caller has, where there is such a caller.
+/// What a caller has, if there is such a caller.
 fn call_at(calls: &Vec<Option<Call>>, caller: usize) -> Option<&Option<Call>>
     ensures { option_copied result ≡ slice_get calls.now.items caller }
 {
