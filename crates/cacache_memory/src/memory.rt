@@ -101,7 +101,7 @@ impl Model for MemStore {
 }
 
 impl MemStore {
-    /// A store where nothing happened yet, with nothing but the top folder.
+    /// A store in which nothing happened yet, with nothing but the top folder.
     pub fn new(alloc: Global) -> Result<MemStore, AllocError>
         ensures { IfOk result (λ store. store ≡ []) }
     {
@@ -112,9 +112,9 @@ impl MemStore {
         })
     }
 
-    /// A store that begins with all that stands on a disk, say one that a loss of power left. Its
-    /// log tells each folder and file as somebody else's, and each link as a step, in the order of
-    /// paths. No byte of a file is copied. The only error is `OutOfMemory`.
+    /// A store that begins with all that is on a disk, say one that a loss of power left. Its log
+    /// has each folder and file as somebody else's, and each link as a step, in the order of paths.
+    /// No byte of a file is copied. The only error is `OutOfMemory`.
     pub fn of(alloc: Global, disk: &Disk) -> errors::Result<MemStore>
         ensures log { IfOk result (λ store. store ≡ foreign_log disk.now) }
         ensures tree { IfOk result (λ store. tree_of store ≡ disk.now) }
@@ -204,7 +204,7 @@ impl MemStore {
         }
     }
 
-    /// Puts what stands at a path of a disk at the same path.
+    /// Puts what is at a path of a disk at the same path.
     fn receive(&mut self, item: TreeItem) -> errors::Result<()>
         ensures ok { OnOk result (self.new ≡ self.old ++ logged item ∷ []) }
         ensures err { HappensOn (tree_of self.old) (logged item)
@@ -218,7 +218,7 @@ impl MemStore {
         }
     }
 
-    /// The bytes that reading the whole file at the path gives, which are copied once, or None where
+    /// The bytes that reading the whole file at the path gives, which are copied once, or None if
     /// that fails. It isn't logged. The only error is `OutOfMemory`.
     pub fn bytes(&self, path: &str) -> errors::Result<Option<Vec<u8>>>
         ensures ok { IfOk result (λ found.
