@@ -1,4 +1,4 @@
--- What commands and replies say, where JSON values count by their compact texts.
+-- What commands and replies say; JSON values count by their compact texts.
 use Rattle.std.specs.Prelude.{Result, Ok, Err, map, option_map, if◌then◌else◌}
 use Rattle.serde_json.specs.{Data.{Data, null, string}, Written.{has_float, compact_text}}
 use Rattle.cacache_core.specs.declared.errors.Error.{Error}
