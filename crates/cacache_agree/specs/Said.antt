@@ -7,7 +7,7 @@ use Rattle.cacache_table.specs.declared.{command.{Options.{Options}, Put.{Put}, 
 use Rattle.cacache_table.specs.declared.command.Command.TheVariants as commands
 use Rattle.cacache_table.specs.declared.reply.Reply.TheVariants as replies
 
--- a JSON value as its compact text; all that hold a number which isn't whole in 64 bits as one
+-- a JSON value as its compact text; all with a number that isn't whole in 64 bits count as one
 abbrev pub said_json : Data → Data
 said_json d = if has_float d then null else string (compact_text d)
 

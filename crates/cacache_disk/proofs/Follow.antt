@@ -1,4 +1,4 @@
--- One link more.
+-- One more link.
 use Rattle.std.{proofs.Common.{◌≡◌, ◌<◌, ◌-◌, ℕ, zero, suc, refl, arith, List}, specs.Prelude.{Some, Ok, Err}}
 use Rattle.cacache_core.specs.{declared.errors.Fault.{Fault}, PathNames.{Names}}
 use Rattle.cacache_disk.specs.{declared.node.Node.TheVariants.{Link}, Tree.{Tree, look}, LedTo.{followed, standing, and_then}}

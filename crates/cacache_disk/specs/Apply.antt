@@ -137,7 +137,7 @@ is_parted (Append p bytes) = true
 is_parted (Copy p q) = true
 is_parted _ = false
 
--- that something is missing is never made up
+-- a made-up fault, which never says that something is missing
 abbrev pub made_up : Fault → Fault
 made_up NotFound = Device
 made_up fault = fault

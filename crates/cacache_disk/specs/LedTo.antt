@@ -97,7 +97,7 @@ linked_in (Some Folder) = Err IsADirectory
 linked_in (Some (File bytes)) = Ok (File bytes)
 linked_in (Some (Link target)) = Ok (Link target)
 
--- at a link its target is asked, and anywhere else the names stay
+-- a link goes on to its target, and anything else leaves the names as they are
 abbrev pub on_link : Option Node → Names → (List ℕ → Result Names Fault) → Result Names Fault
 on_link None names go = Ok names
 on_link (Some Folder) names go = Ok names

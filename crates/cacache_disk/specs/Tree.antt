@@ -51,7 +51,7 @@ kind_of (Link target) = kinds.Link
 abbrev pub is_below : Names → Names → Bool
 is_below folder names = pointwise (pointwise nat_eq) (take (length folder) names) folder
 
--- whether a path is a folder's names and one name more
+-- whether a path is a folder's names and one more name
 abbrev pub is_child : Names → Names → Bool
 is_child folder names = (length names == length folder + 1) && is_below folder names
 

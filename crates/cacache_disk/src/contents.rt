@@ -62,7 +62,7 @@ impl Contents {
         &self.shared
     }
 
-    /// The same bytes with one owner more.
+    /// The same bytes with one more owner.
     pub fn share(&self) -> Result<Contents, AllocError>
         ensures { IfOk result (λ contents. contents ≡ self.now) }
     {
@@ -71,7 +71,7 @@ impl Contents {
         })
     }
 
-    /// The same bytes with one owner more, as bytes to read.
+    /// The same bytes with one more owner, as bytes to read.
     pub fn bytes(&self) -> Result<Bytes, AllocError>
         ensures { IfOk result (λ bytes. bytes ≡ self.now) }
     {

@@ -30,7 +30,7 @@ at_nothing : (q : Names) (r : Result Names Fault) → None ≡ result_ok r → i
 at_nothing q (Ok names) is = absurd cc
 at_nothing q (Err fault) is = refl
 
--- one name more in the set
+-- one more name in the set
 in_front : (a b : Bool) → cond a true b ≡ (b || a)
 in_front true true = refl
 in_front true false = refl

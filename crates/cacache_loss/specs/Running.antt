@@ -12,7 +12,7 @@ use Rattle.cacache_loss.specs.{declared.{effect.Effect.{Effect}, running.Running
 abbrev pub files_in : Tree → BTreeMap Names Fixing → Names → Fixing
 files_in first files path = unwrap_or (get names_cmp files path) (synced (bytes_of (look first path)))
 
--- the files here are fixed so far, whatever the first tree was, and all others as before
+-- the files here are fixed this far, whatever the first tree was, and all others as before
 abbrev pub FixesFiles : BTreeMap Names Fixing → BTreeMap Names Fixing → (Names → Bool)
     → (Names → Fixing) → Type 0
 FixesFiles old new here fixing = (first : Tree) (q : Names)
@@ -77,7 +77,7 @@ renames e was here path = is_some (arrived e.moved path) || not (same_thing was.
 abbrev pub move_of : PlainStep → Luck → PlainAnswer → Move
 move_of step luck answer = record { step = step; luck = luck; answer = answer }
 
--- at the reached of these paths with these places, files are fixed as the effect says, and
+-- at the reached ones of these paths, which had these places, files are fixed as the effect says,
 -- otherwise as before
 abbrev pub FilesSettleAt : Effect → Tree → List Names → List Place → List Names → (Names → Fixing)
     → (Names → Fixing) → Type 0

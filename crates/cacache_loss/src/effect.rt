@@ -94,7 +94,7 @@ pub(crate) fn same_path(path: &Path, other: &Path) -> bool
     path.cmp(other) == Ordering::Equal
 }
 
-/// Fixes the file at a path so far.
+/// Fixes the file at a path this far.
 pub(crate) fn fix(
     files: &mut BTreeMap<Path, Fixing>,
     path: Path,

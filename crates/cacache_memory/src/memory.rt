@@ -22,7 +22,7 @@ use cacache_store::store::{Answer, LogItem, PlainFile, PlainTemp, Step, Store, f
 use std::alloc::{AllocError, Global};
 use std::marker::Model;
 
-/// Room for one item more.
+/// Room for one more item.
 fn make_room(log: &mut Vec<LogItem>) -> Result<(), AllocError>
     ensures items { log.new.items ≡ log.old.items }
     ensures room { OnOk result (vec_len log.new < vec_capacity log.new) }
@@ -31,7 +31,7 @@ fn make_room(log: &mut Vec<LogItem>) -> Result<(), AllocError>
     Ok(())
 }
 
-/// One item more, for which there is room.
+/// One more item, for which there is room.
 fn note(log: &mut Vec<LogItem>, item: LogItem)
     requires { vec_len log.old < vec_capacity log.old }
     ensures { log.new.items ≡ log.old.items ++ item ∷ [] }
@@ -60,7 +60,7 @@ fn fault_of(answer: &Answer<PlainFile, PlainTemp>) -> Option<Fault>
     }
 }
 
-/// Makes the missing folders of the path, or gives the fault of that.
+/// Makes the missing folders of the path, or gives the fault.
 fn make_folders(disk: &mut Disk, path: Text) -> Result<Option<Fault>, AllocError>
     ensures fault { IfOk result (λ fault.
         fault ≡ fault_told (apply disk.old (MakeDirs path) Plain).0) }
@@ -127,8 +127,8 @@ impl MemStore {
         Ok(store)
     }
 
-    /// All that happened so far, oldest first. Each item is what a disk did that had nothing but
-    /// the top folder at first.
+    /// All that happened so far, oldest first. Each item is what a disk did that began with
+    /// nothing but the top folder.
     pub fn log(&self) -> &[LogItem]
         ensures same { result.now ≡ self.now }
         ensures replayable { IsLog self.now }
@@ -187,7 +187,7 @@ impl MemStore {
         }
     }
 
-    /// Makes a link at the path, which is a step as any other.
+    /// Makes a link at the path, which is a step like any other.
     fn link(&mut self, target: Text, path: Text) -> errors::Result<()>
         ensures ok { OnOk result (self.new ≡ self.old ++ Made (Symlink target path) Done ∷ []) }
         ensures earned { IsEarned

@@ -60,7 +60,7 @@ pub above : (home : Option Names) (path rest : Names) (name : List ℕ) → is_u
 above None path rest name used = absurd cc
 above (Some home) path rest name used = outer_above home path rest name used
 
--- one name more
+-- one more name
 pub further : (home : Option Names) (k : PathKind) (path rest : Names) (name : List ℕ) → path_kind home (path ++ name ∷ rest) ≡ k
     → path_kind home ((path ++ name ∷ []) ++ rest) ≡ k
 further home k path rest name is = ap (path_kind home) (append_assoc path (name ∷ []) rest) ∙ is

@@ -46,8 +46,8 @@ part_of Plain = None
 part_of (Take most) = None
 part_of (Fail fault part) = part
 
--- how many bytes or folders a step left, if any: what it took, or what a made-up failure left. That
--- something is missing is never made up, so then nothing was left
+-- how many bytes or folders a step left, if any: what it took, or what a made-up failure left. No
+-- made-up failure says that something is missing, so then nothing was left
 abbrev pub amount_left : Luck → PlainAnswer → Option ℕ
 amount_left luck (Took count) = Some count
 amount_left luck (Failed NotFound) = None

@@ -51,7 +51,7 @@ pub record TreeCases (home : Names) (t : Tree) : Type 0 where
   pub no_bucket : (digest : List ℕ) → look t (home ++ bucket_names_of digest) ≡ None
       → (value_of_tree (Some home) t).buckets digest ≡ None
 
--- what a link shows that leads to a file, to nothing or to a folder
+-- what a link to a file, to nothing or to a folder shows
 pub record LinkCases (t : Tree) (target : List ℕ) : Type 0 where
   pub to_file : (end : Names) (bytes : List ℕ)
       → link_end t target ≡ Ok end → look t end ≡ Some (File bytes)

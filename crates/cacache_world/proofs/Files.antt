@@ -7,7 +7,7 @@ use Rattle.cacache_value.specs.{Kinds.{Elsewhere, IsFor}, OpeningTrees.{with_fil
 use Rattle.cacache_world.specs.{WorldKept.{LiesApart, FilesAreApart}, declared.event.WorldFault.{WorldFault}, Faults.{CantPlace, CantOpen}}
 use Rattle.cacache_world.specs.declared.event.WorldFault.TheVariants as faults
 
--- ---- one file more
+-- ---- one more file
 
 lie_push : (h : Option Names) (files : List (List ℕ × List ℕ)) (file : List ℕ × List ℕ) → LieApart h files → IsFor h Elsewhere file.0 → LieApart h (files ++ file ∷ [])
 lie_push h [] file lie is = (is, tt)

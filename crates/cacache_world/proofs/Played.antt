@@ -1,4 +1,4 @@
--- One event more.
+-- One more event.
 use Rattle.std.proofs.{Common.{◌≡◌, ◌<◌, ◌+◌, ℕ, zero, suc, List, [], ◌∷◌, ◌++◌, Some, take, length, get_or, slice_get, refl, sym, ap, subst, ◌∙◌, arith}, lemmas.List.{take_more}}
 use Rattle.cacache_history.specs.History.{History}
 use Rattle.cacache_world.specs.{declared.event.{Event.{Event}, WorldFault.{WorldFault}}, Played.{Happens, HappenAll, CantBe, StopAt}}

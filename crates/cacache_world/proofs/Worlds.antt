@@ -1,4 +1,4 @@
--- What a world keeps, with one record more.
+-- What a world keeps, with one more record.
 use Rattle.std.proofs.{Common.{◌≡◌, inl, Ok, ◌==◌, ◌<◌, ◌+◌, ℕ, zero, suc, Bool, true, false, cond, List, [], ◌∷◌, ◌++◌, Option, None, Some, IsTrue, replicate, slice_get, slice_set, option_map, refl, sym, ap, subst, ◌∙◌}, lemmas.Bool.{eqb-true, eqb-false}}
 use Rattle.cacache_disk.specs.{declared.luck.Luck.{Luck}, Tree.{Tree, bare}, Apply.{apply}}
 use Rattle.cacache_core.specs.PathNames.{home_of}
@@ -78,7 +78,7 @@ back_job job same (Some None) call e h to ready = let no : Some None ≡ Some (S
 back_job job same (Some (Some j)) None e h to ready = absurd h
 back_job job same (Some (Some j)) (Some c) e h to ready = let is : j ≡ job = cc in (to c.state (subst (λ x. JobStands x c.state) is h.0), ready)
 
--- ---- one record more
+-- ---- one more record
 
 keeps_more : (h : History) (r : Record) (t t' : Tree) (b b' : ℕ) (jobs jobs' : List (Option DiskJob)) → Keeps h t b jobs → MayCome h.setup (last h) r
     → (now_after h.setup (last h) r).tree ≡ t' → (now_after h.setup (last h) r).begun ≡ b'
@@ -90,7 +90,7 @@ keeps_more h r t t' b b' jobs jobs' k may tree begun at = record {
   calls = λ m. subst (λ w. JobAt (slice_get jobs' m) (w.calls m)) (sym (last_more h r)) (at m);
 }
 
--- what an event leaves: one record more, and what a world keeps
+-- what an event leaves: one more record, and what a world keeps
 pub record Left (h : History) (r : Record) (t : Tree) (b : ℕ) (jobs : List (Option DiskJob)) : Type 0 where
   pub may : MayCome h.setup (last h) r
   pub keeps : Keeps (adding h r) t b jobs

@@ -22,7 +22,7 @@ history_of setup records = record { setup = setup; records = records }
 abbrev pub history_told : Inside → History
 history_told w = history_of (setup_of w.cache w.outside.items (vec_len w.calls)) w.records.items
 
--- with one record more
+-- with one more record
 abbrev pub adding : History → Record → History
 adding h r = history_of h.setup (h.records ++ r ∷ [])
 
@@ -76,7 +76,7 @@ pub record IsLifted (old : List (Option DiskJob)) (caller : ℕ) (job : DiskJob)
 
 -- ---- what events add
 
--- one record more, which may come
+-- one more record, which may come
 pub record AddsRecord (h : History) (r : Record) (h' : History) : Type 0 where
   pub may : MayCome h.setup (last h) r
   pub added : h' ≡ adding h r
@@ -88,7 +88,7 @@ TellsOwn h caller None moves.More = ⊥
 TellsOwn h caller None (moves.Done reply) =
     (call : Call) × ((last h).calls caller ≡ Some call) × (call.state ≡ over (plain_reply reply))
 
--- one move more: the step that the caller's call wants, the luck, the answer and the tree of the
+-- one more move: the step that the caller's call wants, the luck, the answer and the tree of the
 -- disk, and the reply that the caller gets
 abbrev pub MovesOn : History → ℕ → Luck → Move → History → Type 0
 MovesOn h caller luck move h' =

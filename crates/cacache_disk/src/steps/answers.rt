@@ -18,7 +18,7 @@ pub(crate) fn taken(most: Option<usize>, bytes: &Bytes) -> usize
     }
 }
 
-/// Bytes that may be known, with one owner more.
+/// Bytes that may be known, with one more owner.
 fn known_again(bytes: &Option<Bytes>) -> Result<Option<Bytes>, AllocError>
     ensures { IfOk result (λ again. again ≡ bytes.now) }
 {
