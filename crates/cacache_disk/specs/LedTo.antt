@@ -118,7 +118,7 @@ followed zero t names = on_link (look t names) names (λ target. Err TooDeep)
 followed (suc most) t names =
     on_link (look t names) names (λ target. and_then (standing t target) (followed most t))
 
--- where a path leads; if the path itself is missing, nothing need be there
+-- where a path leads; one that is itself missing leads to its own names
 unfoldable pub leads : Tree → List ℕ → Result Names Fault
 leads t path = and_then (place t path) (followed 16 t)
 
