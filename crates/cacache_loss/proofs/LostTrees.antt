@@ -1,4 +1,4 @@
--- What a loss leaves of a cache's tree is one again.
+-- What a loss leaves of a cache's tree is a cache's tree again.
 use Rattle.std.proofs.Common.{◌≡◌, inl, inr, Bool, true, false, cond, List, [], ◌∷◌, ◌++◌, Option, None, Some, refl, sym, ap, subst, ◌∙◌, append_assoc, append-nil}
 use Rattle.std.specs.Prelude.{ℕ, IfSome, not, ◌&&◌, unwrap_or}
 use Rattle.cacache_core.specs.PathNames.{Names, names_of}

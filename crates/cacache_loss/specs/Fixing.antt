@@ -21,7 +21,7 @@ pub record Fixed : Type 0 where
   -- what was at a name that changed since its folder was synced, as it was when it went
   pub names : Names → Option Place
 
--- all of a tree is fixed: so a history begins, with its outside files
+-- all of a tree is fixed, as at the beginning of a history, with its outside files
 abbrev pub all_fixed : Tree → Fixed
 all_fixed t = record {
   files = λ path. synced (bytes_of (look t path));

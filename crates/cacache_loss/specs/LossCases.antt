@@ -5,7 +5,7 @@ use Rattle.cacache_store.specs.{declared.store.{plain.PlainTemp.{PlainTemp}, ste
 use Rattle.cacache_disk.specs.{declared.node.Node.TheVariants.{File}, Tree.{Tree, look}}
 use Rattle.cacache_loss.specs.{Fixing.{Fixing, Fixed, unsynced, synced, refixed, same_node, same_thing, is_sync, fixed_after}, Loss.{Loss, stays, bytes_left, lost_at}}
 
--- how far a file of the first bytes, which was synced, is fixed when it has the second
+-- how far a file that was synced with the first bytes is fixed once it has the second
 abbrev pub rewritten : List ℕ → List ℕ → Fixing
 rewritten old new =
     refixed false (same_node (Some (File old)) (Some (File new)))

@@ -18,7 +18,7 @@ abbrev pub FixesFiles : BTreeMap Names Fixing → BTreeMap Names Fixing → (Nam
 FixesFiles old new here fixing = (first : Tree) (q : Names)
     → files_in first new q ≡ if here q then fixing q else files_in first old q
 
--- what was at a path is kept if its name changed and nothing is kept yet; other paths keep what they had
+-- what was at a path is kept if its name changed and nothing is kept yet; other paths stay as kept
 abbrev pub KeepsPlace : BTreeMap Names Place → BTreeMap Names Place → Names → Bool → Place → Type 0
 KeepsPlace old new path renames was = (q : Names) → get names_cmp new q
     ≡ if same_path q path then renamed renames was (get names_cmp old path) else get names_cmp old q
@@ -36,7 +36,7 @@ moment_of r = record { tree = r.disk; fixed = fixed_in r.first r.files r.names }
 
 -- ---- what a step does
 
--- whether a step that moves a file did
+-- whether a step that moves a file did so
 abbrev pub is_done : PlainAnswer → Bool
 is_done Done = true
 is_done answer = false
@@ -57,7 +57,7 @@ effect_of files (Persist f p) answer = record {
 }
 effect_of files step answer = record { rewrites = false; writes = false; moved = None }
 
--- how far the file is fixed that moved to a path, if one did
+-- how far the file that moved to a path is fixed, if one moved there
 abbrev pub arrived : Option (Names × Fixing) → Names → Option Fixing
 arrived None path = None
 arrived (Some (to, fixing)) path = if same_path path to then Some fixing else None
