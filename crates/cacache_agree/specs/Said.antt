@@ -1,4 +1,4 @@
--- What commands and replies say, where JSON values count by their compact texts.
+-- What commands and replies say; JSON values count by their compact texts.
 use Rattle.std.specs.Prelude.{Result, Ok, Err, map, option_map, if◌then◌else◌}
 use Rattle.serde_json.specs.{Data.{Data, null, string}, Written.{has_float, compact_text}}
 use Rattle.cacache_core.specs.declared.errors.Error.{Error}
@@ -7,7 +7,7 @@ use Rattle.cacache_table.specs.declared.{command.{Options.{Options}, Put.{Put}, 
 use Rattle.cacache_table.specs.declared.command.Command.TheVariants as commands
 use Rattle.cacache_table.specs.declared.reply.Reply.TheVariants as replies
 
--- a JSON value as its compact text; all that hold a number which isn't whole in 64 bits as one
+-- a JSON value as its compact text; all with a number that isn't whole in 64 bits count as one
 abbrev pub said_json : Data → Data
 said_json d = if has_float d then null else string (compact_text d)
 

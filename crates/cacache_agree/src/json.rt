@@ -1,4 +1,4 @@
-//! Whether two JSON values have one text.
+//! Whether two JSON values have the same text.
 ghost use Rattle.std.specs.Prelude.{◌≡◌, ◌↔◌, IfOk, IsTrue};
 ghost use Rattle.serde_json.specs.View.{view};
 ghost use Rattle.cacache_agree.specs.Said.{said_json};
@@ -7,7 +7,7 @@ use cacache_entry::is_whole;
 use serde_json::Value;
 use std::alloc::{AllocError, Global};
 
-/// Whether two values have one compact text, or hold both a number that isn't whole in 64 bits.
+/// Whether two values have the same compact text, or each hold a number not whole in 64 bits.
 pub(crate) fn same_json(alloc: Global, a: &Value, b: &Value) -> Result<bool, AllocError>
     ensures { IfOk result (λ same.
         IsTrue same ↔ (said_json (view a.now) ≡ said_json (view b.now))) }

@@ -1,4 +1,4 @@
--- In the order of paths, what lies below a folder stands together behind it.
+-- In the order of paths, the paths below a folder come together right after it.
 use Rattle.std.proofs.{Common.{◌≡◌, ℕ, Bool, true, false, List, [], ◌∷◌, refl, sym, ap, ◌∙◌}, lemmas.{Bool.{and_parts, and_right}, Cmp.{nat_list_cmp_total}}}
 use Rattle.std.specs.{Prelude.{None, map as keys_of}, List.{AllByRecursion, filter_map, Sorted.{IsStrictlySortedBy}}, Bool.{nat_eq}, declared.{cmp.Ordering.{Ordering, TheVariants.{Less, Equal, Greater}}, ops.Bound.TheVariants.{Included, Unbounded}}, Ordering.{nat_cmp, is_le, ordering_reverse}, Cmp.{eq_by_cmp_equiv, Lexicographic.{pointwise, slice_cmp, bytes_decides}}, FinMap.{nat_cmp-IsAntisymmetric, slice_cmp-IsAntisymmetric}, BTreeMap.{Range.{entries_between}, BTreeMap}}
 use Rattle.cacache_disk.{specs.{declared.node.Node.{Node}, Tree.{Tree, Names, names_cmp, is_below, child_of, listing}}, proofs.Maps.{is_eq_true, entries_map}}
@@ -32,7 +32,7 @@ gap_at true Equal a b c f e x is ab rest le off lt =
     rw is (rest (rw ab at le) (rw (ba, (bytes_decides a a).1 refl) at off) (rw (ba, ca, name_itself a) at lt))
 gap_at true Greater a b c f e x is ab rest le off lt = let e : false ≡ true = rw ab at le in cc
 
--- behind a path that comes after a folder and isn't below it, nothing is
+-- after a path that comes after a folder and isn't below it, nothing is below the folder
 pub gap : (f e x : Names) → is_le (names_cmp f e) ≡ true → is_below f e ≡ false → names_cmp e x ≡ Less → is_below f x ≡ false
 gap [] e x le off lt = cc
 gap (a ∷ f) [] x le off lt = cc
@@ -42,7 +42,7 @@ gap (a ∷ f) (b ∷ e) (c ∷ x) le off lt = gap_at _ _ a b c f e x refl refl (
 no_child : (folder : Names) (entry : Names × Node) → is_below folder entry.0 ≡ false → child_of folder entry ≡ None
 no_child folder entry off = rw (and_right _ _ off) refl
 
--- where a path isn't below the folder, none of these has a name there
+-- if a path isn't below the folder, neither it nor any path after it is a name there
 abbrev pub Stops : Names → List (Names × Node) → Type 0
 Stops folder [] = Unit {0}
 Stops folder (e ∷ es) = (is_below folder e.0 ≡ false → filter_map (child_of folder) (e ∷ es) ≡ []) × Stops folder es
@@ -91,7 +91,7 @@ children : (folder : Names) (es : List (Names × Node)) → filter_map (child_of
 children folder [] = refl
 children folder (e ∷ es) = children_at _ folder e es refl (children folder es)
 
--- a listing is made of what doesn't come before the folder
+-- leaving out the paths that come before the folder leaves its listing the same
 pub listing_from : (m : BTreeMap Names Node) (t : Tree) (folder : Names) (rest : List (Names × Node)) → btree.IsOrdered names_cmp m → map.from_entries m.entries ≡ t
     → rest ≡ from_on folder m.entries → filter_map (child_of folder) rest ≡ listing t folder
 unfolding listing

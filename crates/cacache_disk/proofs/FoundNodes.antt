@@ -1,4 +1,4 @@
--- What is known of a path where a step found what it wanted.
+-- What is known of a path at which a step found what it wanted.
 use Rattle.std.{proofs.Common.{◌≡◌, ◌==◌, length, ℕ, Bool, true, false, cond, List, [], Option, None, Some, Ok, Err, refl, ap, subst, ◌∙◌}, specs.Prelude.{Result}}
 use Rattle.cacache_core.specs.{declared.errors.Fault.{Fault, TheVariants.{NotEmpty}}, PathNames.{names_of}}
 use Rattle.cacache_disk.specs.{declared.node.Node.{Node, TheVariants.{Folder, File, Link}}, Tree.{Tree, Names, look, listing}, LedTo.{and_then, or_fault, way_fault, place, standing, where_there, where_free, where_no_folder, where_removable, where_folder, where_file, where_empty, free, replaceable, kept, removable, folder, emptied}, Rooted.{is_folder}}
@@ -18,7 +18,7 @@ place_ok t path names e =
     let f = and_then_ok (names_of path) (λ names. or_fault (way_fault t [] names) names) names e in
     f.1 ∙ ap Ok (or_fault_none (way_fault t [] f.0) f.0 names f.2).1
 
--- where a path's names were judged by what stands there
+-- a path's names, judged by what is there
 judged : (judge : Option Node → Names → Result Names Fault) (P : Option Node → Type 0)
     → ((here : Option Node) (old new : Names) → judge here old ≡ Ok new → P here × (old ≡ new))
     → (t : Tree) (path : List ℕ) (names : Names) → and_then (place t path) (λ names. judge (look t names) names) ≡ Ok names
@@ -28,11 +28,11 @@ judged judge P judges t path names e =
     let g = judges (look t f.0) f.0 names f.2 in
     (place_ok t path f.0 f.1 ∙ ap Ok g.1, subst (λ n. P (look t n)) g.1 g.0, f.1 ∙ ap Ok g.1)
 
--- no folder stands there
+-- no folder is there
 abbrev pub NoFolder : Option Node → Type 0
 NoFolder here = is_folder here ≡ false
 
--- the path has these names, its folder stands, and no folder stands there
+-- the path has these names, its folder is there, and no folder is at the path itself
 abbrev pub HasNoFolder : Tree → List ℕ → Names → Type 0
 HasNoFolder t path names = (names_of path ≡ Ok names) × NoFolder (look t names) × (place t path ≡ Ok names)
 

@@ -91,7 +91,7 @@ module _ (t : Tree) (rooted : Rooted t) where
       let h = no_folder_at (look t f.0) f.0 names f.2 in
       (subst (CanStand t) h.1 (followed_folder 16 g.0 f.0 (place_folder path g.0 g.1) g.2), subst (λ n. is_folder (look t n) ≡ false) h.1 h.0)
 
--- ---- a folder whose listing is empty
+-- ---- an empty folder
 
 is_child-snoc : (p : Names) (name : List ℕ) → is_child p (p ++ name ∷ []) ≡ true
 is_child-snoc p name =

@@ -67,6 +67,6 @@ same_at : (t : Tree) (k q : Names) (v : Node) (b : Bool) → Some v ≡ map.get 
 same_at t k q v true there e = there ∙ ap (map.get t) (sym (same_path-true q k e))
 same_at t k q v false there e = refl
 
--- what stands at a key, put there again
+-- putting what is at a key there again changes nothing
 pub put_same : (t : Tree) (k : Names) (v : Node) → Some v ≡ map.get t k → map.insert t k v ≡ t
 put_same t k v there = map.same_map total only _ _ (λ q. map.get-insert total t k v q ∙ same_at t k q v _ there refl)

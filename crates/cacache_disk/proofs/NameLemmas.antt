@@ -3,19 +3,19 @@ use Rattle.std.proofs.{Common.{◌≡◌, ◌<◌, ◌+◌, ◌==◌, ◌||◌, 
 use Rattle.std.specs.{Prelude.{Ok, Err}, List.{list_any, slice_split, onto_first, AllByRecursion}}
 use Rattle.cacache_core.specs.{declared.errors.Fault.{Fault, TheVariants.{NotFound, InvalidInput}}, PathNames.{Names, IsProperName, names_of, pieces, ends_name, is_above, is_name, is_bad}}
 
--- one item more that passes the filter
+-- one more item that passes the filter
 pub filter_yes : {X : Type 0} (p : X → Bool) (all : List X) (n m : ℕ) (x : X) (old new : List X) → (n < length all) × (x ≡ get_or all n x) → m ≡ n + 1 → p x ≡ true
     → old ≡ filter p (take n all) → new ≡ old ++ x ∷ [] → new ≡ filter p (take m all)
 filter_yes p all n m x old new here next is so more =
     more ∙ ap (λ l. l ++ x ∷ []) so ∙ sym (rw next (filter_more p all n x here.0 ∙ rw (sym here.1, is) refl))
 
--- one item more that doesn't
+-- one more item that doesn't
 pub filter_no : {X : Type 0} (p : X → Bool) (all : List X) (n m : ℕ) (x : X) (old : List X) → (n < length all) × (x ≡ get_or all n x) → m ≡ n + 1 → p x ≡ false
     → old ≡ filter p (take n all) → old ≡ filter p (take m all)
 filter_no p all n m x old here next is so =
     so ∙ sym (rw next (filter_more p all n x here.0 ∙ rw (sym here.1, is) (append-nil (filter p (take n all)))))
 
--- one item more that fails a test, as those before it do
+-- one more item that fails a test, as those before it do
 pub none_yet : {X : Type 0} (p : X → Bool) (all : List X) (n m : ℕ) (x : X) → (n < length all) × (x ≡ get_or all n x) → m ≡ n + 1 → p x ≡ false
     → list_any p (take n all) ≡ false → list_any p (take m all) ≡ false
 none_yet p all n m x here next is so = rw next (list_any_more p all n x here.0 ∙ rw (sym here.1, so, is) refl)
@@ -46,7 +46,7 @@ names_all path names n e nul last so above =
     let all : names ≡ filter is_name (pieces path) = so ∙ ap (filter is_name) whole in
     rw (e, nul, none, all) refl
 
--- ---- a piece holds no slash, and no NUL where its text holds none
+-- ---- a piece holds no slash, and no NUL if its text holds none
 
 abbrev AreOpen : Names → Type 0
 AreOpen parts = AllByRecursion (λ part. list_any ends_name part ≡ false) parts
@@ -93,7 +93,7 @@ piece_proper text n piece name nul here named above same =
 
 -- ---- the names of a path are proper
 
--- what is left where neither of two tests stops
+-- what is left if neither of two tests stops
 neither_stops : {A : Type 0} (a b : Bool) (x y : Fault) (all names : A) → cond a (Err x) (cond b (Err y) (Ok all)) ≡ Ok names → (b ≡ false) × (all ≡ names)
 neither_stops true b x y all names e = absurd cc
 neither_stops false true x y all names e = absurd cc

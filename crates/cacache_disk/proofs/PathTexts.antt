@@ -7,7 +7,7 @@ joined-snoc : (p : List ℕ) (names : Names) (name : List ℕ) → joined p (nam
 joined-snoc p [] name = refl
 joined-snoc p (first ∷ names) name = joined-snoc (join p first) names name
 
--- one name more
+-- one more name
 pub text_next : (path : Names) (i : ℕ) (old new name d : List ℕ) → i < length path → old ≡ path_text (take i path) → name ≡ get_or path i d → new ≡ join old name
     → new ≡ path_text (take (i + 1) path)
 text_next path i old new name d short before is joins =

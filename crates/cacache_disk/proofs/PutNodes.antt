@@ -46,7 +46,7 @@ eq-false p q e h =
     let is : false ≡ true = e ∙ same_names p q ∙ ap (same_path p) (sym h) ∙ (eq_by_cmp_equiv total).refl p in
     cc
 
--- ---- what stands after a node is put or cut
+-- ---- what is there after a node is put or cut
 
 pub look-put : (t : Tree) (p : Names) (node : Node) (q : Names) → look (put t p node) q ≡ cond (same_path q p) (Some node) (look t q)
 look-put t p node q = map.get-insert total t p node q

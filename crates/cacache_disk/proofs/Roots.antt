@@ -6,7 +6,7 @@ use Rattle.cacache_core.specs.{declared.errors.Fault.{Fault, TheVariants.{Alread
 use Rattle.cacache_disk.specs.{declared.node.Node.{Node, TheVariants.{Folder, File, Link}}, Tree.{Tree, Names, look, put, cut, bare, names_cmp, same_path}, LedTo.{dirs_fault, is_in_way}, Apply.{make_some, if_missing}, Rooted.{is_folder, StandsIn, AreProper, Rooted}}
 use Rattle.cacache_disk.proofs.{Maps.{total, same_path-true}, PutNodes.{look-put, look-cut, folders-cut}, PathFolders.{make_none}}
 
--- proper names whose folder stands
+-- proper names in a folder that is there
 pub record CanStand (t : Tree) (p : Names) : Type 0 where
   pub parent : (above : Names) (name : List ℕ) → p ≡ above ++ name ∷ [] → look t above ≡ Some Folder
   pub proper : AreProper p
@@ -31,7 +31,7 @@ longer above name e = let l : length (above ++ name ∷ []) ≡ length above = a
 is_there : (here : Option Node) → here ≡ Some Folder → is_folder here ≡ true
 is_there here e = ap is_folder e
 
--- below what is no folder stands nothing
+-- nothing is below what is no folder
 nothing_below : (upper child : Option Node) (other : Option Node) → StandsIn upper child → is_folder upper ≡ false → StandsIn other child
 nothing_below upper None other s old = tt
 nothing_below upper (Some node) other s old = let differ : true ≡ false = sym (ap is_folder s) ∙ old in cc
@@ -91,7 +91,7 @@ file_cut t p rooted old =
 pub same_self : (p : Names) → same_path p p ≡ true
 same_self p = (eq_by_cmp_equiv total).refl p
 
--- a folder stays where a file is cut
+-- a folder stays if a file is cut
 still_at : (t : Tree) (old above : Names) (b : Bool) → same_path above old ≡ b → is_folder (look t old) ≡ false → look t above ≡ Some Folder
     → cond b None (look t above) ≡ Some Folder
 still_at t old above true e no_folder is = let differ : true ≡ false = sym (ap is_folder is) ∙ ap (λ q. is_folder (look t q)) (same_path-true above old e) ∙ no_folder in cc
@@ -122,7 +122,7 @@ way_at : (t : Tree) (p q : Names) (b : Bool) → same_path q p ≡ b → is_in_w
 way_at t p q true e clear = sym (ap (λ r. is_in_way (look t r)) (same_path-true q p e) ∙ clear)
 way_at t p q false e clear = refl
 
--- a folder made where nothing stood is in nobody's way
+-- a folder made where nothing was is in nobody's way
 pub dirs_fault-put : (t : Tree) (p above rest : Names) → is_in_way (look t p) ≡ false
     → dirs_fault (put t p Folder) above rest ≡ dirs_fault t above rest
 dirs_fault-put t p above [] clear = refl

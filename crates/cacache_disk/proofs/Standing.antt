@@ -4,7 +4,7 @@ use Rattle.cacache_disk.specs.{declared.node.Node.{Node, TheVariants.{Folder, Fi
 use Rattle.cacache_disk.proofs.PathFolders.{drop_here, front_next}
 use Rattle.cacache_core.specs.PathNames.{names_of}
 
--- above what stands are folders
+-- all nodes above a node are folders
 pub upper_folder : (t : Tree) (p rest : Names) (name : List ℕ) (node : Node) → Rooted t → look t (p ++ name ∷ rest) ≡ Some node → look t p ≡ Some Folder
 upper_folder t p [] name node rooted e = subst (StandsIn (look t p)) e (rooted.folders p name)
 upper_folder t p (m ∷ rest) name node rooted e =
@@ -18,7 +18,7 @@ way_clear t p (name ∷ m ∷ rest) node rooted e =
     let same = ap (look t) (append_assoc p (name ∷ []) (m ∷ rest)) ∙ e in
     rw (upper_folder t (p ++ name ∷ []) rest m node rooted same) (way_clear t (p ++ name ∷ []) (m ∷ rest) node rooted same)
 
--- below what is missing nothing stands
+-- nothing is below a missing node
 missing_child : (upper child : Option Node) → StandsIn upper child → upper ≡ None → child ≡ None
 missing_child upper None s e = refl
 missing_child upper (Some node) s e = let differ : None ≡ Some Folder = sym e ∙ s in absurd cc
@@ -103,7 +103,7 @@ dirs_is t path count node rooted deepest =
     ∙ dirs_to t [] (take count path) (drop count path) node rooted rooted.top deepest.stands deepest.missing
     ∙ ap (dirs_past node) (length-drop count path)
 
--- what stands on the way to a node
+-- each path on the way to a node has a node
 stands_on : (t : Tree) (p above : Names) (name : List ℕ) (node : Node) → Rooted t → look t (p ++ name ∷ above) ≡ Some node → (here : Node) × (look t (p ++ name ∷ []) ≡ Some here)
 stands_on t p [] name node rooted e = (node, e)
 stands_on t p (next ∷ above) name node rooted e =
@@ -123,7 +123,7 @@ make_to t p (a ∷ above) rest node most rooted e =
     ∙ make_to t (p ++ a ∷ []) above rest node most rooted (ap (look t) same ∙ e)
     ∙ ap (λ q. make_some t q rest most) same
 
--- folders are made below the deepest node alone
+-- folders are made only below the deepest node
 pub makes_from : (t : Tree) (path : Names) (count : ℕ) (node : Node) → Rooted t → IsDeepest t path count node → MakesFrom t path count
 makes_from t path count node rooted deepest most =
     ap (λ q. make_some t [] q most) (sym (take-append-drop count path))
@@ -141,7 +141,7 @@ deepest_above t path count node short e none =
       missing = rw (drop_here path count [] short) (ap (look t) (front_next path count [] short) ∙ none);
     }
 
--- what stands where a missing path lost its last name
+-- a node at a missing path less its last name is the deepest one
 pub deepest_climbed : (t : Tree) (path above up : Names) (i count : ℕ) (node : Node) → i < length path → count ≡ length path - i - 1
     → above ≡ take (length path - i) path → up ≡ take (length above - 1) above → look t up ≡ Some node → look t (take (length path - i) path) ≡ None
     → IsDeepest t path count node

@@ -1,4 +1,4 @@
--- All that stands on a disk is what its map holds.
+-- All that is on a disk is what its map holds.
 use Rattle.std.{proofs.Common.{◌≡◌, List, sym, ap, ◌∙◌}, specs.{Prelude.{map as each}, BTreeMap.{BTreeMap}}}
 use Rattle.std.specs.FinMap as map
 use Rattle.std.specs.BTreeMap as btree

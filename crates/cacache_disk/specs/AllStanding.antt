@@ -1,4 +1,4 @@
--- All that stands on a disk.
+-- All that is on a disk.
 use Rattle.std.specs.Prelude.{ℕ, List, [], ◌∷◌, map as each}
 use Rattle.std.specs.FinMap as map
 use Rattle.cacache_core.specs.Paths.{joined}
@@ -9,16 +9,16 @@ use Rattle.cacache_disk.specs.declared.node.Node.TheVariants as node
 abbrev pub path_text : Names → List ℕ
 path_text names = joined (47 ∷ []) names
 
--- what is told of a node
+-- what others see of a node
 abbrev pub told_node : Node → TreeNode
 told_node node.Folder = Folder
 told_node (node.File bytes) = File bytes
 told_node (node.Link target) = Link target
 
--- a path's text, and what stands there
+-- a path's text, and what is there
 abbrev pub item_of : Names × Node → TreeItem
 item_of entry = record { path = path_text entry.0; node = told_node entry.1 }
 
--- all that stands in a tree, in the order of paths
+-- all that is in a tree, in the order of paths
 unfoldable pub all_standing : Tree → List TreeItem
 all_standing t = each item_of (map.entries t)

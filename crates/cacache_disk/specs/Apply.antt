@@ -6,23 +6,23 @@ use Rattle.cacache_store.specs.declared.store.answer.Answer.TheVariants as answe
 use Rattle.cacache_disk.specs.declared.find.Wanted.TheVariants as wanted
 use Rattle.cacache_disk.specs.{declared.{luck.Luck.{Luck, TheVariants.{Plain, Fail, Take}}, node.Node.{Node, TheVariants.{Folder, File, Link}}}, Tree.{Tree, look, put, cut, bytes_of, listing}, LedTo.{and_then, or_fault, suited, dirs_fault, dirs, free, known, kept, replaceable, writable, file_at, found, linked, folder, removable, emptied}}
 
--- a fault fails the step and changes nothing; else it goes on from what was found
+-- a fault fails the step and changes nothing; otherwise the step goes on from what was found
 abbrev pub unless : {A : Type 0} → Result A Fault → Tree → (A → PlainAnswer × Tree)
     → PlainAnswer × Tree
 unless (Ok found) t go = go found
 unless (Err fault) t go = (Failed fault, t)
 
--- how many of the bytes are taken, where at most so many may be
+-- how many of the bytes are taken, if at most so many may be
 abbrev pub taken : Option ℕ → List ℕ → ℕ
 taken None bytes = length bytes
 taken (Some most) bytes = min most (length bytes)
 
--- how many bytes a read may give: at least one, where it asks for any
+-- how many bytes a read may give: at least one, if it asks for any
 abbrev pub readable : Option ℕ → ℕ → ℕ
 readable None size = size
 readable (Some most) size = min (max most 1) size
 
--- one choice where a node is missing, another where it is there
+-- one choice if a node is missing, another if it is there
 abbrev pub if_missing : Option Node → {A : Type 0} → A → A → A
 if_missing None missing there = missing
 if_missing (Some node) missing there = there
@@ -44,26 +44,26 @@ abbrev pub making : Option ℕ → Names → ℕ
 making None names = length names
 making (Some most) names = most
 
--- a temporary file that took more bytes; it is closed where its bytes aren't known
+-- a temporary file that took more bytes; it is closed if its bytes aren't known
 abbrev pub grown : PlainTemp → List ℕ → ℕ → Option (List ℕ) → PlainAnswer
 grown temp bytes count None = Failed Closed
 grown temp bytes count (Some old) =
     Wrote (record { path = temp.path; bytes = Some (old ++ take count bytes) }) count
 
--- what is left of an open file's bytes behind the first so many
+-- what is left of an open file's bytes after the first so many
 abbrev pub rest_of : List ℕ → ℕ → PlainFile
 rest_of bytes size = record {
   left = length bytes - min size (length bytes);
   bytes = Some (drop size bytes);
 }
 
--- bytes of an open file; it is closed where they aren't known, or aren't as many as it has left
+-- bytes of an open file; it is closed if they aren't known, or aren't as many as it has left
 abbrev pub given : PlainFile → ℕ → Option (List ℕ) → PlainAnswer
 given file size None = Failed Closed
 given file size (Some bytes) =
     if file.left == length bytes then Got (rest_of bytes size) (take size bytes) else Failed Closed
 
--- whether something is there: for want of a folder on the way it isn't
+-- whether something is there; it isn't if a folder on the way is missing
 abbrev pub is_there : Result Names Fault → PlainAnswer
 is_there (Ok names) = There true
 is_there (Err NotFound) = There false
@@ -78,11 +78,11 @@ made_temp path = record { path = path; bytes = Some [] }
 abbrev pub opened : List ℕ → PlainFile
 opened bytes = record { left = length bytes; bytes = Some bytes }
 
--- the tree with more bytes behind those of the file at a path
+-- the tree with more bytes added to the end of the file at a path
 abbrev pub lengthened : Tree → Names → List ℕ → Tree
 lengthened t names more = put t names (File (bytes_of (look t names) ++ more))
 
--- the table of steps: the answer and the new tree, where at most so many bytes or folders are done
+-- the table of steps: the answer and the new tree, if at most so many bytes or folders are done
 abbrev pub plain : Tree → PlainStep → Option ℕ → PlainAnswer × Tree
 plain t (MakeDirs p) most =
     unless (dirs t p) t (λ names. (Done, make_some t [] names (making most names)))
@@ -123,26 +123,26 @@ plain t (SyncTemp f) most = (Synced f, t)
 plain t (SyncFile p) most = unless (file_at t p IsADirectory) t (λ bytes. (Done, t))
 plain t (SyncDir p) most = unless (folder t p) t (λ names. (Done, t))
 
--- a step of which a take does only a part
+-- a step that a take does only in part
 abbrev pub is_taking : PlainStep → Bool
 is_taking (Write f bytes) = true
 is_taking (Append p bytes) = true
 is_taking (Read f size) = true
 is_taking _ = false
 
--- a step that leaves a part done where it fails
+-- a step that leaves a part done if it fails
 abbrev pub is_parted : PlainStep → Bool
 is_parted (MakeDirs p) = true
 is_parted (Append p bytes) = true
 is_parted (Copy p q) = true
 is_parted _ = false
 
--- that something is missing is never made up
+-- a made-up fault, which never says that something is missing
 abbrev pub made_up : Fault → Fault
 made_up NotFound = Device
 made_up fault = fault
 
--- what a failed step leaves, where so much of it was done
+-- what a failed step leaves, if so much of it was done
 abbrev pub left_by : Tree → PlainStep → Option ℕ → Tree
 left_by t step None = t
 left_by t step (Some part) = if is_parted step then (plain t step (Some part)).1 else t
@@ -168,7 +168,7 @@ apply t step (Fail fault part) =
 abbrev pub above_last : Names → Names
 above_last names = take (length names - 1) names
 
--- the tree after somebody else put a file at a path, whose folder is made
+-- the tree after somebody else put a file at a path, and made its folder
 unfoldable pub planted : Tree → List ℕ → List ℕ → Result Tree Fault
 planted t path bytes =
     and_then (names_of path) (λ names.
@@ -181,6 +181,6 @@ abbrev pub Plants : {A : Type 0} → Tree → List ℕ → List ℕ → Result A
 Plants old path bytes (Ok done) new = planted old path bytes ≡ Ok new
 Plants old path bytes (Err fault) new = planted old path bytes ≡ Err fault
 
--- the bytes of the file that a path leads to, none where there is no such file
+-- the bytes of the file that a path leads to, none if there is no such file
 abbrev pub bytes_at : Tree → List ℕ → Option (List ℕ)
 bytes_at t path = result_ok (file_at t path IsADirectory)

@@ -9,7 +9,7 @@ abbrev pub and_then : {A B : Type 0} → Result A Fault → (A → Result B Faul
 and_then (Ok found) next = next found
 and_then (Err fault) next = Err fault
 
--- what was found, where no fault stops it
+-- what was found, if no fault stops it
 abbrev pub or_fault : {A : Type 0} → Option Fault → A → Result A Fault
 or_fault None found = Ok found
 or_fault (Some fault) found = Err fault
@@ -28,11 +28,11 @@ way_fault t above (name ∷ []) = None
 way_fault t above (name ∷ next ∷ rest) =
     through (look t (above ++ name ∷ [])) (way_fault t (above ++ name ∷ []) (next ∷ rest))
 
--- the names of a path whose folder stands
+-- the names of a path, if its folder is there
 unfoldable pub place : Tree → List ℕ → Result Names Fault
 place t path = and_then (names_of path) (λ names. or_fault (way_fault t [] names) names)
 
--- why what stands at a path isn't what is wanted, if so
+-- why what is at a path isn't what is wanted, if so
 abbrev pub misfit : Wanted → Option Node → Option Fault
 misfit wanted.Anything None = Some NotFound
 misfit wanted.Anything (Some node) = None
@@ -55,31 +55,31 @@ misfit wanted.Folder (Some Folder) = None
 misfit wanted.Folder (Some (File bytes)) = Some NotADirectory
 misfit wanted.Folder (Some (Link target)) = Some NotADirectory
 
--- the names, where what stands at them is what is wanted
+-- the names, if what is at them is what is wanted
 abbrev pub suited : Wanted → Option Node → Names → Result Names Fault
 suited want here names = or_fault (misfit want here) names
 
--- the names, where something stands
+-- the names, if something is there
 abbrev pub where_there : Option Node → Names → Result Names Fault
 where_there = suited wanted.Anything
 
--- the names, where nothing stands
+-- the names, if nothing is there
 abbrev pub where_free : Option Node → Names → Result Names Fault
 where_free = suited wanted.Nothing
 
--- the names, where no folder stands
+-- the names, if no folder is there
 abbrev pub where_no_folder : Option Node → Names → Result Names Fault
 where_no_folder = suited wanted.NoFolder
 
--- the names, where a file or a link stands
+-- the names, if a file or a link is there
 abbrev pub where_removable : Option Node → Names → Result Names Fault
 where_removable = suited wanted.FileOrLink
 
--- the names, where a folder stands
+-- the names, if a folder is there
 abbrev pub where_folder : Option Node → Names → Result Names Fault
 where_folder = suited wanted.Folder
 
--- the names, where a file stands
+-- the names, if a file is there
 abbrev pub where_file : Option Node → Names → Result Names Fault
 where_file = suited wanted.File
 
@@ -97,18 +97,18 @@ linked_in (Some Folder) = Err IsADirectory
 linked_in (Some (File bytes)) = Ok (File bytes)
 linked_in (Some (Link target)) = Ok (Link target)
 
--- at a link its target is asked, and anywhere else the names stay
+-- a link goes on to its target, and anything else leaves the names as they are
 abbrev pub on_link : Option Node → Names → (List ℕ → Result Names Fault) → Result Names Fault
 on_link None names go = Ok names
 on_link (Some Folder) names go = Ok names
 on_link (Some (File bytes)) names go = Ok names
 on_link (Some (Link target)) names go = go target
 
--- the names of a path where this is wanted
+-- the names of a path, if this is wanted there
 abbrev pub at : Tree → List ℕ → Wanted → Result Names Fault
 at t path want = and_then (place t path) (λ names. suited want (look t names) names)
 
--- the names of a path where something stands; nothing is followed
+-- the names of a path, if something is there; no link is followed
 unfoldable pub standing : Tree → List ℕ → Result Names Fault
 standing t path = at t path wanted.Anything
 
@@ -118,15 +118,15 @@ followed zero t names = on_link (look t names) names (λ target. Err TooDeep)
 followed (suc most) t names =
     on_link (look t names) names (λ target. and_then (standing t target) (followed most t))
 
--- where a path leads; nothing may stand there if the path itself is missing
+-- where a path leads; one that is itself missing leads to its own names
 unfoldable pub leads : Tree → List ℕ → Result Names Fault
 leads t path = and_then (place t path) (followed 16 t)
 
--- the names that a path leads to, where this is wanted
+-- the names that a path leads to, if this is wanted there
 abbrev pub end_at : Tree → List ℕ → Wanted → Result Names Fault
 end_at t path want = and_then (leads t path) (λ names. suited want (look t names) names)
 
--- where a path leads, and something stands
+-- where a path leads, if something is there
 unfoldable pub found : Tree → List ℕ → Result Names Fault
 found t path = end_at t path wanted.Anything
 
@@ -146,7 +146,7 @@ free t path = at t path wanted.Nothing
 unfoldable pub replaceable : Tree → List ℕ → Result Names Fault
 replaceable t path = at t path wanted.NoFolder
 
--- where a temporary file still stands: whatever else is found on its path, it is gone
+-- where a temporary file still is: whatever else is found at its path, the file is gone
 unfoldable pub kept : Tree → List ℕ → Result Names Fault
 kept t path = and_then (names_of path) (λ names. suited wanted.File (look t names) names)
 
@@ -162,7 +162,7 @@ removable t path = at t path wanted.FileOrLink
 unfoldable pub folder : Tree → List ℕ → Result Names Fault
 folder t path = at t path wanted.Folder
 
--- the names, where a folder is empty and isn't the top
+-- the names, if the folder is empty and isn't the top
 abbrev pub where_empty : Tree → Names → Result Names Fault
 where_empty t names =
     if length names == 0 then Err NotEmpty
@@ -173,14 +173,14 @@ where_empty t names =
 unfoldable pub emptied : Tree → List ℕ → Result Names Fault
 emptied t path = and_then (folder t path) (where_empty t)
 
--- a file or link where a folder is to be
+-- whether a file or link is in the place of a folder
 abbrev pub is_in_way : Option Node → Bool
 is_in_way None = false
 is_in_way (Some Folder) = false
 is_in_way (Some (File bytes)) = true
 is_in_way (Some (Link target)) = true
 
--- why the folders of a path can't be made: a file or link stands at the last name, or on the way
+-- why the folders of a path can't be made: a file or link is at the last name, or on the way
 abbrev pub dirs_fault : Tree → Names → Names → Option Fault
 dirs_fault t above [] = None
 dirs_fault t above (name ∷ rest) =
@@ -188,7 +188,7 @@ dirs_fault t above (name ∷ rest) =
     then Some (if length rest == 0 then AlreadyExists else NotADirectory)
     else dirs_fault t (above ++ name ∷ []) rest
 
--- the names of a path whose folders stand or can be made
+-- the names of a path whose folders are there or can be made
 unfoldable pub dirs : Tree → List ℕ → Result Names Fault
 dirs t path = and_then (names_of path) (λ names. or_fault (dirs_fault t [] names) names)
 

@@ -5,7 +5,7 @@ use Rattle.cacache_disk.specs.{declared.{change.{Change.{Change}, Plan.{Plan}}, 
 use Rattle.cacache_disk.specs.declared.change.Change.TheVariants as change
 use Rattle.cacache_disk.specs.declared.stop.Stop.TheVariants as stop
 
--- the tree with a file put at a path, where one is given
+-- the tree with a file put at a path, if one is given
 abbrev pub with_file : Option (Names × List ℕ) → Tree → Tree
 with_file None t = t
 with_file (Some file) t = put t file.0 (File file.1)
@@ -37,7 +37,7 @@ most_of step Plain = None
 most_of step (Take most) = if is_taking step then Some most else None
 most_of step (Fail fault part) = if is_parted step then part else None
 
--- the change, where a part of it is left done
+-- the change, if a part of it is left done
 abbrev pub left_over : Bool → Option ℕ → Change → Change
 left_over parted None whole = change.Nothing
 left_over parted (Some part) whole = if parted then whole else change.Nothing

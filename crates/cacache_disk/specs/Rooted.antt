@@ -1,4 +1,4 @@
--- Trees in which each node stands in a folder.
+-- Trees in which each node is in a folder.
 use Rattle.std.specs.{Prelude.{◌≡◌, ℕ, Bool, true, false, List, [], ◌∷◌, ◌++◌, Option, None, Some, IfSome}, List.{AllByRecursion}}
 use Rattle.cacache_core.specs.PathNames.{IsProperName}
 use Rattle.cacache_disk.specs.{declared.node.Node.{Node, TheVariants.{Folder, File, Link}}, Tree.{Tree, Names, look}}
@@ -10,7 +10,7 @@ is_folder (Some Folder) = true
 is_folder (Some (File bytes)) = false
 is_folder (Some (Link target)) = false
 
--- where something stands, the node above it is a folder
+-- if something is there, the node above it is a folder
 abbrev pub StandsIn : Option Node → Option Node → Type 0
 StandsIn upper child = IfSome child (λ node. upper ≡ Some Folder)
 
@@ -18,7 +18,7 @@ StandsIn upper child = IfSome child (λ node. upper ≡ Some Folder)
 abbrev pub AreProper : Names → Type 0
 AreProper = AllByRecursion IsProperName
 
--- the top folder is there, each node stands in a folder, and its names are proper
+-- the top folder is there, each node is in a folder, and its names are proper
 pub record Rooted (t : Tree) : Type 0 where
   pub top : look t [] ≡ Some Folder
   pub folders : (above : Names) (name : List ℕ)

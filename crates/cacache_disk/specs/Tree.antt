@@ -1,4 +1,4 @@
--- A disk's tree: the node at each path. The top folder stands at the empty list of names.
+-- A disk's tree: the node at each path. The top folder is at the empty list of names.
 use Rattle.std.specs.{Prelude.{ℕ, Bool, if◌then◌else◌, List, [], Option, None, Some, length, ◌==◌, ◌+◌, ◌&&◌, take, slice_index_or}, declared.cmp.Ordering.{Ordering}, Ordering.{nat_cmp, eq_by_cmp}, Bool.{nat_eq}, Cmp.Lexicographic.{pointwise, slice_cmp}, List.{filter_map}}
 use Rattle.std.specs.FinMap as map
 use Rattle.cacache_store.specs.declared.store.answer.{Kind.{Kind}, Name.{Name}}
@@ -51,7 +51,7 @@ kind_of (Link target) = kinds.Link
 abbrev pub is_below : Names → Names → Bool
 is_below folder names = pointwise (pointwise nat_eq) (take (length folder) names) folder
 
--- whether a path has one name more than a folder's, behind its names
+-- whether a path is a folder's names and one more name
 abbrev pub is_child : Names → Names → Bool
 is_child folder names = (length names == length folder + 1) && is_below folder names
 
@@ -62,6 +62,6 @@ child_of folder entry =
     then Some (record { name = slice_index_or entry.0 (length folder) []; kind = kind_of entry.1 })
     else None
 
--- the names in a folder and what stands there, in the order of the names' bytes
+-- the names in a folder and what is there, in the order of the names' bytes
 unfoldable pub listing : Tree → Names → List Name
 listing t folder = filter_map (child_of folder) (map.entries t)

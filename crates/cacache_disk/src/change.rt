@@ -16,20 +16,20 @@ use std::alloc::AllocError;
 #[derive(Drop)]
 pub(crate) enum Change {
     Nothing,
-    /// Puts a node at the path, in place of what stands there.
+    /// Puts a node at the path, in place of what is there.
     Put(Path, Node),
-    /// Puts bytes behind those of the file at the path, which is made if missing.
+    /// Puts bytes at the end of the file at the path, which is made if missing.
     Append(Path, Bytes),
     /// Moves the file at the first path to the second, with these bytes.
     Move(Path, Path, Contents),
     /// Makes, from the name at the first number on, at most so many of the path's missing folders,
     /// and then puts the file, if there is one.
     MakeFolders(Path, usize, usize, Option<(Path, Contents)>),
-    /// Removes what stands at the path.
+    /// Removes what is at the path.
     Remove(Path),
 }
 
-/// What a step answers where it goes well, and what it changes then.
+/// What a step answers if it succeeds, and what it changes then.
 #[derive(Drop)]
 pub(crate) struct Plan {
     pub(crate) answer: Answer<PlainFile, PlainTemp>,
@@ -59,7 +59,7 @@ impl Nodes {
         Ok(())
     }
 
-    /// Makes the change. Where memory is refused, nothing changes.
+    /// Makes the change. If memory is refused, nothing changes.
     pub(crate) fn commit(&mut self, change: Change) -> Result<(), AllocError>
         ensures ok { OnOk result (self.new ≡ changed self.old change) }
         ensures err { OnErr result (self.new ≡ self.old) }

@@ -32,7 +32,7 @@ impl Contents {
         })
     }
 
-    /// These bytes. They are shared where they are all of a vector, and else copied.
+    /// These bytes. If they are all of a vector they are shared, otherwise copied.
     pub fn of(bytes: Bytes) -> Result<Contents, AllocError>
         ensures { IfOk result (λ contents. contents ≡ bytes) }
     {
@@ -62,7 +62,7 @@ impl Contents {
         &self.shared
     }
 
-    /// The same bytes with one owner more.
+    /// The same bytes with one more owner.
     pub fn share(&self) -> Result<Contents, AllocError>
         ensures { IfOk result (λ contents. contents ≡ self.now) }
     {
@@ -71,7 +71,7 @@ impl Contents {
         })
     }
 
-    /// The same bytes with one owner more, as bytes to read.
+    /// The same bytes with one more owner, as bytes to read.
     pub fn bytes(&self) -> Result<Bytes, AllocError>
         ensures { IfOk result (λ bytes. bytes ≡ self.now) }
     {
@@ -79,7 +79,7 @@ impl Contents {
         Ok(Bytes::front_of(Arc::try_clone(&self.shared)?, count))
     }
 
-    /// Puts more bytes behind these. They grow in place where nobody else owns them, and else as a
+    /// Adds more bytes at the end. They grow in place if nobody else owns them, otherwise as a
     /// copy.
     pub(crate) fn extend(&mut self, more: &[u8]) -> Result<(), AllocError>
         ensures ok { OnOk result (self.new ≡ self.old ++ more.now) }
@@ -93,7 +93,7 @@ impl Contents {
         Ok(())
     }
 
-    /// A copy with more bytes behind it.
+    /// A copy with more bytes at its end.
     fn copied_with(&self, more: &[u8]) -> Result<Arc<Vec<u8>, Global>, AllocError>
         ensures { IfOk result (λ all. (arc_value all).items ≡ self.now ++ more.now) }
     {

@@ -45,7 +45,7 @@ impl Model for Disk {
     ghost invariant = { λ d. Rooted d.nodes };
 }
 
-/// The value, where all went well.
+/// The value, if all succeeded.
 fn when_done<T: Drop>(done: Result<(), AllocError>, value: T) -> Result<T, AllocError>
     ensures { MatchResult done (λ _. result ≡ Ok value) (λ error. result ≡ Err error) }
 {
@@ -66,7 +66,7 @@ impl Disk {
         Ok(Disk { nodes })
     }
 
-    /// The disk with these nodes, each of which stands in a folder.
+    /// The disk with these nodes, each of which is in a folder.
     pub fn of(nodes: Nodes) -> Disk
         requires { Rooted nodes }
         ensures { result ≡ nodes }
@@ -82,7 +82,7 @@ impl Disk {
         &self.nodes
     }
 
-    /// Does one step. Where it fails, the answer says why.
+    /// Does one step. If it fails, the answer says why.
     ///
     /// `AllocError` means that memory was refused, and nothing changed.
     pub fn apply(
@@ -127,7 +127,7 @@ impl Disk {
     }
 
     /// Does what somebody else may do: makes the missing folders of the path's folder, and puts a
-    /// file with these bytes at the path, in place of a file or link. Where that can't be done, the
+    /// file with these bytes at the path, in place of a file or link. If that can't be done, the
     /// fault says why.
     ///
     /// `AllocError` means that memory was refused. On a fault and on an error nothing changed.
@@ -145,7 +145,7 @@ impl Disk {
         }
     }
 
-    /// The bytes that a `ReadAll` of the path would give, or None where it would fail. No byte is
+    /// The bytes that a `ReadAll` of the path would give, or None if it would fail. No byte is
     /// copied.
     ///
     /// `AllocError` means that memory was refused.

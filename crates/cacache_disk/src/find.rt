@@ -28,7 +28,7 @@ pub(crate) enum Wanted {
     Folder,
 }
 
-/// Why what stands at a path isn't what is wanted, if so.
+/// Why what is at a path isn't what is wanted, if so.
 fn misfit(wanted: Wanted, node: Option<&Node>) -> Option<Fault>
     ensures { result ≡ misfit wanted (option_copied node.entry) }
 {
@@ -62,7 +62,7 @@ fn misfit(wanted: Wanted, node: Option<&Node>) -> Option<Fault>
     }
 }
 
-/// The names, where what stands at them is what is wanted.
+/// The names, if what is at them is what is wanted.
 pub(crate) fn suited(wanted: Wanted, node: Option<&Node>, names: Path) -> Result<Path, Stop>
     ensures ok { IfOk result (λ found. suited wanted (option_copied node.entry) names ≡ Ok found) }
     ensures err { IfErr result (λ stop.
@@ -75,7 +75,7 @@ pub(crate) fn suited(wanted: Wanted, node: Option<&Node>, names: Path) -> Result
 }
 
 impl Disk {
-    /// The names of a path whose folder stands, and what stands there.
+    /// The names of a path whose folder is there, and what is at the path.
     #[tactic(auto, unfolding(crate::specs::LedTo::place))]
     fn place(&self, path: &str) -> Result<(Path, Option<&Node>), Stop>
         ensures ok { IfOk result (λ r. place self.now path.now ≡ Ok r.0) }
@@ -122,7 +122,7 @@ impl Disk {
         }
     }
 
-    /// Where a path leads, and what stands there.
+    /// Where a path leads, and what is there.
     #[tactic(auto, unfolding(crate::specs::LedTo::leads))]
     pub fn leads(&self, path: &str) -> Result<(Path, Option<&Node>), Stop>
         ensures ok { IfOk result (λ r. leads self.now path.now ≡ Ok r.0) }
@@ -135,7 +135,7 @@ impl Disk {
         Ok((end, node))
     }
 
-    /// The names that a path leads to, where something is wanted.
+    /// The names that a path leads to, if what is wanted is there.
     pub(crate) fn end_at(&self, path: &str, wanted: Wanted) -> Result<Path, Stop>
         ensures ok { IfOk result (λ names. end_at self.now path.now wanted ≡ Ok names) }
         ensures err { IfErr result (λ stop. Stops stop (end_at self.now path.now wanted)) }
@@ -168,7 +168,7 @@ impl Disk {
         }
     }
 
-    /// The names of a temporary file's path, where the file still stands.
+    /// The names of a temporary file's path, if the file is still there.
     #[tactic(auto, unfolding(crate::specs::LedTo::kept))]
     pub(crate) fn kept(&self, path: &str) -> Result<Path, Stop>
         ensures ok { IfOk result (λ names. kept self.now path.now ≡ Ok names) }

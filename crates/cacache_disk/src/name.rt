@@ -96,7 +96,7 @@ impl Ord for ProperName {
     }
 }
 
-/// The proper names in a folder, and what stands under them. Contracts see the list.
+/// The proper names in a folder, and what is at them. Contracts see the list.
 #[derive(Drop)]
 pub(crate) struct ProperNames {
     names: Vec<Name>,
@@ -124,7 +124,7 @@ impl ProperNames {
         }
     }
 
-    /// One name more at the end.
+    /// One more name at the end.
     pub(crate) fn push(&mut self, name: ProperName, kind: Kind) -> Result<(), AllocError>
         ensures ok { OnOk result (self.new ≡ self.old ++ record { name = name; kind = kind } ∷ []) }
         ensures err { OnErr result (self.new ≡ self.old) }

@@ -1,4 +1,4 @@
-//! What stands at a path.
+//! What is at a path.
 ghost use Rattle.std.specs.Prelude.{◌≡◌, ◌++◌, Some, OnOk, OnErr};
 ghost use Rattle.cacache_disk.specs.declared.node.Node.TheVariants.{File};
 ghost use Rattle.cacache_disk.specs.Tree.{bytes_of, kind_of};
@@ -9,10 +9,10 @@ use cacache_core::text::Text;
 use cacache_store::store::Kind;
 use std::alloc::AllocError;
 
-/// What stands at a path of a disk.
+/// What is at a path of a disk.
 #[derive(Debug, Drop)]
 pub enum Node {
-    /// A folder, whose names are paths of their own.
+    /// A folder; the names in it are paths of their own.
     Folder,
     /// A file with its bytes.
     File(Contents),
@@ -32,8 +32,8 @@ impl Node {
         }
     }
 
-    /// Puts more bytes behind a file's, in place where nobody shares those. Anything else becomes a
-    /// file of them.
+    /// Adds more bytes at the end of a file's, in place if nobody shares those. Anything else
+    /// becomes a file of them.
     pub(crate) fn lengthen(&mut self, more: &Bytes) -> Result<(), AllocError>
         ensures ok { OnOk result (self.new ≡ File (bytes_of (Some self.old) ++ more.now)) }
         ensures err { OnErr result (self.new ≡ self.old) }

@@ -55,14 +55,14 @@ impl Nodes {
         self.alloc
     }
 
-    /// What stands at the path.
+    /// What is at the path.
     pub fn node(&self, path: &Path) -> Option<&Node>
         ensures { option_copied result ≡ look self.now path.now }
     {
         self.nodes.get(path)
     }
 
-    /// Puts the node at the path, in place of what stands there.
+    /// Puts the node at the path, in place of what is there.
     pub fn put(&mut self, path: Path, node: Node) -> Result<(), AllocError>
         ensures ok { OnOk result (self.new ≡ put self.old path node) }
         ensures err { OnErr result (self.new ≡ self.old) }
@@ -71,7 +71,7 @@ impl Nodes {
         Ok(())
     }
 
-    /// Puts a file with these bytes at the path, in place of what stands there.
+    /// Puts a file with these bytes at the path, in place of what is there.
     fn put_file(&mut self, path: Path, bytes: Bytes) -> Result<(), AllocError>
         ensures ok { OnOk result (self.new ≡ put self.old path (File bytes)) }
         ensures err { OnErr result (self.new ≡ self.old) }
@@ -80,7 +80,7 @@ impl Nodes {
         self.put(path, Node::File(contents))
     }
 
-    /// Puts more bytes behind what the file at the path holds, in place where nobody shares that.
+    /// Adds more bytes at the end of the file at the path, in place if nobody shares its bytes.
     pub(crate) fn lengthen(&mut self, path: Path, more: Bytes) -> Result<(), AllocError>
         ensures ok { OnOk result (self.new ≡ lengthened self.old path more) }
         ensures err { OnErr result (self.new ≡ self.old) }
@@ -91,14 +91,14 @@ impl Nodes {
         self.put_file(path, more)
     }
 
-    /// Takes away what stands at the path.
+    /// Takes away what is at the path.
     pub(crate) fn cut(&mut self, path: &Path)
         ensures { self.new ≡ cut self.old path.now }
     {
         self.nodes.remove(path);
     }
 
-    /// The names in a folder and what stands there, in the order of the names' bytes.
+    /// The names in a folder and what is there, in the order of the names' bytes.
     pub(crate) fn listing(&self, folder: &Path) -> Result<Listing, AllocError>
         ensures same { IfOk result (λ names. names ≡ listing self.now folder.now) }
         ensures proper { IfOk result (λ names. AreProperNames names) }
@@ -117,7 +117,7 @@ impl Nodes {
         Ok(names.into_listing())
     }
 
-    /// The paths at which something stands, in their order.
+    /// The paths at which something is, in their order.
     pub fn paths(&self) -> Result<Vec<Path>, AllocError>
         ensures { IfOk result (λ paths. paths.items ≡ map.keys self.now) }
     {

@@ -79,7 +79,7 @@ impl Path {
         self.names.is_empty()
     }
 
-    /// Whether it has one name more than the folder, behind the folder's names.
+    /// Whether it is the folder's names and one more name.
     pub fn is_in(&self, folder: &Path) -> bool
         ensures same { result ≡ is_child folder.now self.now }
         ensures longer { OnTrue result (length self.now ≡ length folder.now + 1) }
@@ -104,7 +104,7 @@ impl Path {
         self.names[index].clone()
     }
 
-    /// One name more at the end.
+    /// One more name at the end.
     pub(crate) fn push(&mut self, name: ProperName) -> Result<(), AllocError>
         ensures ok { OnOk result (self.new ≡ self.old ++ name ∷ []) }
         ensures err { OnErr result (self.new ≡ self.old) }
@@ -113,7 +113,7 @@ impl Path {
         Ok(())
     }
 
-    /// One name less at the end.
+    /// One name fewer at the end.
     pub(crate) fn pop(&mut self)
         ensures { self.new ≡ take (length self.old - 1) self.old }
     {

@@ -13,7 +13,7 @@ use crate::stop::Stop;
 use cacache_core::bytes::Bytes;
 
 impl Disk {
-    /// What changes where the missing folders of the path's folder are made, and a file with these
+    /// What changes if the missing folders of the path's folder are made, and a file with these
     /// bytes is put at the path, in place of a file or link.
     #[tactic(auto, unfolding(crate::specs::Apply::planted))]
     pub(crate) fn planting(&self, path: &str, bytes: &Bytes) -> Result<Change, Stop>

@@ -30,7 +30,7 @@ fn is_taking(step: &Step<PlainFile, PlainTemp>) -> bool
     )
 }
 
-/// Whether the step leaves a part done where it fails.
+/// Whether the step leaves a part done if it fails.
 fn is_parted(step: &Step<PlainFile, PlainTemp>) -> bool
     ensures { result ≡ is_parted step.now }
 {
@@ -61,7 +61,7 @@ fn made_up(fault: Fault) -> Fault
     }
 }
 
-/// The change, where a part of it is left done.
+/// The change, if a part of it is left done.
 fn left_over(is_parted: bool, part: Option<usize>, change: Change) -> Change
     ensures { result ≡ left_over is_parted part change }
 {
@@ -111,7 +111,7 @@ impl Disk {
         }
     }
 
-    /// What a step answers and changes, where at most `most` of its bytes or folders are done.
+    /// What a step answers and changes, if at most `most` of its bytes or folders are done.
     fn plan(&self, step: &Step<PlainFile, PlainTemp>, most: Option<usize>) -> Result<Plan, Stop>
         ensures ok { IfOk result (IsPlan self.now step.now most) }
         ensures err { IfErr result (Refuses self.now step.now most) }

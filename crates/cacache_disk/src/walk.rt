@@ -12,7 +12,7 @@ use crate::path::Path;
 use cacache_core::errors::Fault;
 use std::alloc::AllocError;
 
-/// Why the folders don't lead on from the deepest node of a path, where so many names are left.
+/// Why the folders don't lead on from the deepest node of a path, if so many names are left.
 pub(crate) fn way_past(node: &Node, left: usize) -> Option<Fault>
     ensures { result ≡ way_past node.now left }
 {
@@ -24,7 +24,7 @@ pub(crate) fn way_past(node: &Node, left: usize) -> Option<Fault>
     }
 }
 
-/// Why no folders can be made from the deepest node of a path on, where so many names are left.
+/// Why no folders can be made from the deepest node of a path on, if so many names are left.
 pub(crate) fn dirs_past(node: &Node, left: usize) -> Option<Fault>
     ensures { result ≡ dirs_past node.now left }
 {
@@ -36,8 +36,8 @@ pub(crate) fn dirs_past(node: &Node, left: usize) -> Option<Fault>
 }
 
 impl Nodes {
-    /// The deepest node on a path, and how many of the path's names lead there. A node that stands
-    /// needs one lookup; from a missing one it climbs.
+    /// The deepest node on a path, and how many of the path's names lead there. If there is a node
+    /// at the path, one lookup finds it; from a missing one it climbs.
     pub(crate) fn deepest(&self, path: &Path) -> Result<(usize, &Node), AllocError>
         requires { Rooted self.now }
         ensures { IfOk result (λ r. IsDeepest self.now path.now r.0 r.1.now) }
@@ -67,7 +67,7 @@ impl Nodes {
     }
 
     /// Makes up to `most` of the missing folders, from the name at `from` on, and then puts a file,
-    /// if one is given. Where memory lacks, nothing changes.
+    /// if one is given. If memory is refused, nothing changes.
     pub(crate) fn make_from(
         &mut self,
         path: &Path,

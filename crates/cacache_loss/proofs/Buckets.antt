@@ -11,7 +11,7 @@ use Rattle.cacache_value.specs.{Kinds.{Content, Bucket, Temporary, path_kind, is
 use Rattle.cacache_loss.specs.{Fixing.{Fixed, Fixing, Place, changed, file_synced, fixed_after, folder_synced, is_at, is_child_of, is_sync, is_synced, refixed, synced, temp_synced}, Loss.{Loss, node_left}, Moments.{EachMove, Moment, after, lost_then, next}, LostTrees.{OfCache}, CalmMoves.{CalmStep, IsCalm, is_calm}, Syncs.{IsAppend, IsFileSync, SyncsFile, SyncsFolders}, LossLaws.{BeginsWith, BucketsSurvive, EntriesSurvive}}
 use Rattle.cacache_loss.proofs.{StepCases.{AppendCase, unsent, took, torn, append_case, grown, make_apart}, UnchangedPaths.{at_false, Misses}, KeptPaths.{cond_none, keeps, files_keep, names_kept, sync_tree, cache_next, each_calm}, SyncedFolders.{IsLeft, survives}}
 
--- a path at which a file stands leads to it
+-- a path at which there is a file leads to it
 pub leads_file : (t : Tree) (p bytes : List ℕ) (c : Names) → Rooted t → names_of p ≡ Ok c → look t c ≡ Some (File bytes) → leads t p ≡ Ok c
 unfolding leads place followed
 leads_file t p bytes c rooted is there = rw (is, way_clear t [] c (File bytes) rooted there, there) refl
@@ -51,7 +51,7 @@ module _ (home : Option Names) (c : Names) (at : path_kind home c ≡ Bucket) (z
       (λ e. names_kept home t placed c (Some (File (z ++ more))) there made fixed step luck answer calm is misses ∙ e),
     )
 
-    -- more bytes come behind
+    -- more bytes are added at the end
     behind : (p line : List ℕ) (answer : PlainAnswer) (names : Names) (n : ℕ) → c ≡ names
         → Keeps t fixed (grown t names line n) (changed fixed t (grown t names line n) (Append p line) answer)
     behind p line answer names n same =
@@ -129,7 +129,7 @@ module _ (home : Option Names) (c : Names) (at : path_kind home c ≡ Bucket) (z
     sync_fixes rooted new (SyncFile p) answer is = rw (is.1, leads_file t p (z ++ more) c rooted is.0 there, same_self c) longer
     sync_fixes rooted new step answer is = absurd is
 
-  -- nothing is asked of a move but that it is calm
+  -- a move need only be calm
   abbrev Any : Moment → Move → Type 0
   Any w m = Unit {0}
 
@@ -206,7 +206,7 @@ took_all t p line c o is told (took names n to e) =
     ap (λ (o : PlainAnswer × Tree). look o.1 c) e ∙ ap (λ q. look (grown t q line n) c) same ∙ ap (λ k. look (grown t c line k) c) size ∙ stands
     ∙ ap (λ l. Some (File (bytes_of (look t c) ++ l))) (take_all (length line) line (omega arith))
 
--- a line that is taken whole stands behind what was there
+-- a line that is taken whole comes after what was there
 pub line_stands : (home : Option Names) (t : Tree) (c : Names) (p line : List ℕ) (luck : Luck) → Placed home t → Proper home (Append p line)
     → names_of p ≡ Ok c → (apply t (Append p line) luck).0 ≡ Took (length line)
     → look (apply t (Append p line) luck).1 c ≡ Some (File (bytes_of (look t c) ++ line))
@@ -227,7 +227,7 @@ buckets_survive home c bytes w m moves loss at of_cache calm is later file way =
     (cache_next home w m of_cache calm.1, begun home w.tree c bytes m.step m.luck m.answer of_cache.0 calm.1 calm.2 is)
     (each_calm home (next w m) moves later) file way
 
--- the line feed behind the line cuts it from whatever follows
+-- the line feed after the line cuts it from whatever follows
 closed : (x l more : List ℕ) → (x ++ (l ++ 10 ∷ [])) ++ more ≡ (x ++ l) ++ 10 ∷ more
 closed x l more = ap (λ a. a ++ more) (sym (append_assoc x l (10 ∷ []))) ∙ append_assoc (x ++ l) (10 ∷ []) more
 

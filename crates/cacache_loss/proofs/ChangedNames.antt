@@ -25,7 +25,7 @@ nothing : (here : Option Node) → is_some here ≡ false → here ≡ None
 nothing None e = refl
 nothing (Some node) e = absurd cc
 
--- something stands only at a tree's keys
+-- there is something only at a tree's keys
 pub not_there : (t : Tree) (q : Names) → is_among q (map.keys t) ≡ false → look t q ≡ None
 not_there t q e = nothing (look t q) (sym (sym e ∙ sym (map.contains_key-keys t q)))
 
@@ -111,7 +111,7 @@ left_none true None now same free = free
 left_none true (Some place) now same free = absurd cc
 left_none false before now same free = free
 
--- a loss leaves nothing where nothing stands and stood
+-- a loss leaves nothing where nothing is and nothing was
 pub none_left_at : (home : Option Names) (w : Moment) (loss : Loss) (q : Names) → look w.tree q ≡ None → w.fixed.names q ≡ None → lost_then home w loss q ≡ None
 none_left_at home w loss q free same =
     gone (lead_folders (left_at home w.tree w.fixed loss) [] q) (left_at home w.tree w.fixed loss q) (loss.tail q)

@@ -30,7 +30,7 @@ at_nothing : (q : Names) (r : Result Names Fault) → None ≡ result_ok r → i
 at_nothing q (Ok names) is = absurd cc
 at_nothing q (Err fault) is = refl
 
--- a name more in the set
+-- one more name in the set
 in_front : (a b : Bool) → cond a true b ≡ (b || a)
 in_front true true = refl
 in_front true false = refl
@@ -76,7 +76,7 @@ known_first tails path q bytes rest true e there = here (get names_cmp tails q) 
     here None e = absurd cc
     here (Some tail) e = refl
 
--- a path of which this is the first tail
+-- a path that has its first tail here
 first_known : (tails : BTreeMap Names (List ℕ)) (path q : Names) (bytes rest : List ℕ) (b : Bool) → same_path q path ≡ b → false ≡ is_some (get names_cmp tails path)
     → unwrap_or (cond b (Some bytes) (get names_cmp tails q)) rest ≡ unwrap_or (get names_cmp tails q) (cond b bytes rest)
 first_known tails path q bytes rest false e free = refl

@@ -29,7 +29,7 @@ named_home cache home true bad e b is = absurd cc
 named_home cache home false true e b is = absurd cc
 named_home cache home false false e b is = cc
 
--- one name more
+-- one more name
 named_further : (p : List ℕ) (above : Names) (n : List ℕ) → names_of p ≡ Ok above → IsProperName n → names_of (join p n) ≡ Ok (above ++ n ∷ [])
 named_further p above n is proper =
     joined_texts_name p (n ∷ []) (All-cons IsProperName n [] proper (All-nil IsProperName)) (omega arith)

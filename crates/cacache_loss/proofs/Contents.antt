@@ -1,4 +1,4 @@
--- Contents that a durable commit put survive, and links that stand at the path of one.
+-- Contents that a durable commit put survive, and so do links at a content's path.
 use Rattle.std.proofs.Common.{◌≡◌, ◌⊎◌, inl, inr, ℕ, Bool, true, false, cond, List, [], ◌∷◌, Option, None, Some, Ok, Err, refl, sym, ap, subst, ◌∙◌}
 use Rattle.std.specs.Prelude.{Result, IfOk, unwrap_or}
 use Rattle.cacache_core.specs.{declared.errors.Fault.{Fault}, PathNames.{Names, names_of}}
@@ -23,7 +23,7 @@ GoodOrLink Good Links here = GoodNode Good here ⊎ LinksTo Links here
 abbrev pub SafeOrLink : (Good Links : List ℕ → Type 0) → Place → Type 0
 SafeOrLink Good Links place = IsSafe Good place ⊎ LinksTo Links place.node
 
--- where no link may stand it is a file
+-- if no link may be there it is a file
 pub only_good : (Good : List ℕ → Type 0) (here : Option Node) → GoodOrLink Good (λ target. ⊥) here → GoodNode Good here
 only_good Good here (inl good) = good
 only_good Good here (inr link) = absurd link.1
@@ -52,7 +52,7 @@ module _ (home : Option Names) (c : Names) (at : path_kind home c ≡ Content) (
   abbrev Either : Place → Type 0
   Either = SafeOrLink Good Links
 
-  -- what stood at a name when its folder was fixed was one of these too
+  -- what was at a name when its folder was fixed was one of these too
   abbrev Was : Option Place → Type 0
   Was None = Unit {0}
   Was (Some place) = Either place
@@ -77,7 +77,7 @@ module _ (home : Option Names) (c : Names) (at : path_kind home c ≡ Content) (
   abbrev Holds : Moment → Type 0
   Holds w = OfCache home w × Either (place_now w.tree w.fixed c)
 
-  -- what a step makes of what stands at the path, and of what stood at its name
+  -- what a step makes of what is at the path, and of what was at its name
   abbrev Keeps : Tree → Fixed → Tree → Fixed → Type 0
   Keeps t fixed new later = Either (place_now new later c) × (Was (fixed.names c) → Was (later.names c))
 

@@ -100,7 +100,7 @@ way_misses home q (Persist f p) at is handles =
 way_misses home q (Append p bytes) at is handles = at_false home Bucket Way q (names_of p) is.0 at (λ e. cc)
 way_misses home q step at is handles = tt
 
--- a name that is fixed stays fixed while the folder stands
+-- a name that is fixed stays fixed while the folder is there
 pub fixed_next : (home : Option Names) (t : Tree) (fixed : Fixed) (q : Names) (step : PlainStep) (luck : Luck) (answer : PlainAnswer) → Placed home t
     → path_kind home q ≡ Way → look t q ≡ Some Folder → CalmStep home step → Proper home step → fixed.names q ≡ None
     → (fixed_after fixed t (apply t step luck).1 step answer).names q ≡ None

@@ -67,7 +67,7 @@ left_more lost t paths i p node below is there so q =
     look-put t p node q ∙ ap (λ here. cond (same_path q p) here (look t q)) (sym there)
     ∙ ap (cond (same_path q p) (lost p)) (so q) ∙ settled_more lost (λ r. None) paths i p q below is
 
--- nothing is left where nothing stands and stood
+-- nothing is left where nothing is and nothing was
 pub left_all : (l : Losing) (t : Tree) (paths : List Names) → paths ≡ map.keys l.running.disk ++ keys l.running.names
     → ((q : Names) → look t q ≡ cond (is_among q paths) (lost_of l q) None)
     → Lost l.home (moment_of l.running).tree (moment_of l.running).fixed (loss_of l.taken) t

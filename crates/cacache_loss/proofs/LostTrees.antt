@@ -1,4 +1,4 @@
--- What a loss leaves of a cache's tree is one again.
+-- What a loss leaves of a cache's tree is a cache's tree again.
 use Rattle.std.proofs.Common.{◌≡◌, inl, inr, Bool, true, false, cond, List, [], ◌∷◌, ◌++◌, Option, None, Some, refl, sym, ap, subst, ◌∙◌, append_assoc, append-nil}
 use Rattle.std.specs.Prelude.{ℕ, IfSome, not, ◌&&◌, unwrap_or}
 use Rattle.cacache_core.specs.PathNames.{Names, names_of}
@@ -13,9 +13,9 @@ pub moments_follow_trees : MomentsFollowTrees
 moments_follow_trees w [] = refl
 moments_follow_trees w (m ∷ moves) = moments_follow_trees (next w m) moves
 
--- ---- what stood at names that changed
+-- ---- what was at names that changed
 
--- what stood at one name suited it
+-- what was at one name suited it
 abbrev Stood : Option Names → Names → Option Place → Type 0
 Stood home q o = IfSome o (λ place. Suits home q place.node)
 
@@ -48,7 +48,7 @@ moves_keep_moments home w [] of_cache stood trace = (of_cache, stood)
 moves_keep_moments home w (m ∷ moves) of_cache stood trace =
     moves_keep_moments home (next w m) moves (cache_next home w m of_cache trace.0) (stood_next home w m.step (next w m).tree m.answer of_cache stood) trace.2
 
--- ---- a node that is left may stand where it stood
+-- ---- a node that is left is allowed at its path, as the old one was
 
 file_may : (home : Option Names) (old new : List ℕ) (k : PathKind) → MayStand home (Some (File old)) k → MayStand home (Some (File new)) k
 file_may home old new Content may = may
@@ -132,7 +132,7 @@ losses_leave_trees home w loss new of_cache stood lost = (
   },
 )
 
--- ---- where all is fixed
+-- ---- a moment at which all is fixed
 
 pub openings_stand_well : OpeningsStandWell
 openings_stand_well home t q = tt

@@ -13,7 +13,7 @@ same_at : {A : Type 0} (f : Names → A) (p q : Names) (b : Bool) → same_path 
 same_at f p q true e = ap f (same_path-true q p e)
 same_at f p q false e = refl
 
--- a name of which nothing changes
+-- a name at which nothing changes
 pub unkept : (m : BTreeMap Names Place) (p q : Names) (was : Place) → get names_cmp m q ≡ cond (same_path q p) (renamed false was (get names_cmp m p)) (get names_cmp m q)
 unkept m p q was = same_at (get names_cmp m) p q (same_path q p) refl
 
@@ -21,7 +21,7 @@ known_stays : (o : Option Place) (was : Place) → true ≡ is_some o → o ≡ 
 known_stays None was e = absurd cc
 known_stays (Some place) was e = refl
 
--- a name of which something is kept
+-- a name for which something is kept already
 pub kept_once : (m : BTreeMap Names Place) (p q : Names) (was : Place) → true ≡ is_some (get names_cmp m p)
     → get names_cmp m q ≡ cond (same_path q p) (renamed true was (get names_cmp m p)) (get names_cmp m q)
 kept_once m p q was there =
@@ -46,7 +46,7 @@ or_default : {A : Type 0} (b : Bool) (f d : A) (o : Option A) → unwrap_or (con
 or_default true f d o = refl
 or_default false f d o = refl
 
--- a file that is fixed so far
+-- a file that is fixed this far
 pub fixed_so : (m n : BTreeMap Names Fixing) (p : Names) (f : Fixing) → btree.Updates names_cmp m n p (Some f)
     → (first : Tree) (q : Names) → files_in first n q ≡ cond (same_path q p) f (files_in first m q)
 fixed_so m n p f u first q =
@@ -64,7 +64,7 @@ or_false : (b : Bool) → (b || false) ≡ b
 or_false true = refl
 or_false false = refl
 
--- one path more among the first
+-- one more path among the first
 pub among_more : (paths : List Names) (i : ℕ) (q d : Names) → i < length paths → is_among q (take (i + 1) paths) ≡ (is_among q (take i paths) || same_path q (get_or paths i d))
 among_more paths i q d below =
     ap (is_among q) (take_more paths i d below) ∙ list_any-append (same_path q) (take i paths) (get_or paths i d ∷ [])

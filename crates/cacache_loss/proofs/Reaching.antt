@@ -91,7 +91,7 @@ module _ (t : Tree) (q : Names) where
   pub apply_misses : (step : PlainStep) (luck : Luck) → is_among q (reached t step) ≡ false → look (apply t step luck).1 q ≡ look t q
   apply_misses step luck apart = apply_tree (λ new. look new q ≡ look t q) t step luck refl (plain_misses step apart)
 
--- ---- what a step does where it reaches
+-- ---- what a step does at the paths that it reaches
 
 or_false : (b : Bool) → (b || false) ≡ b
 or_false true = refl
@@ -101,7 +101,7 @@ among_found : (q : Names) (r : Result Names Fault) → is_among q (listed (resul
 among_found q (Ok n) = or_false (same_path q n)
 among_found q (Err fault) = refl
 
--- a temporary file is written where its step reaches, and nowhere else
+-- a temporary file is written at exactly the paths that its step reaches
 pub writes_reached : (t : Tree) (f : PlainTemp) (bytes : List ℕ) (q : Names) → writes_at (Write f bytes) q ≡ is_among q (reached t (Write f bytes))
 writes_reached t f bytes q = sym (among_found q (names_of f.path))
 
@@ -109,7 +109,7 @@ writes_reached t f bytes q = sym (among_found q (names_of f.path))
 pub rewrites_reached : (t : Tree) (p to : List ℕ) (q : Names) → rewrites_at t (Copy p to) q ≡ is_among q (reached t (Copy p to))
 rewrites_reached t p to q = sym (among_found q (writable t to))
 
--- a file moves only to where its step reaches
+-- a file moves only to a path that its step reaches
 pub moves_reached : (t : Tree) (step : PlainStep) (answer : PlainAnswer) (q : Names) → is_among q (reached t step) ≡ false → moved_to (moves_file step answer) q ≡ false
 moves_reached t (Persist f p) Done q apart = arrives (names_of f.path) (names_of p) apart
   where

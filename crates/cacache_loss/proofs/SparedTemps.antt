@@ -1,4 +1,4 @@
--- Calm moves whose steps spare a temporary file leave it alone.
+-- Calm moves that spare a temporary file leave it alone.
 use Rattle.std.proofs.Common.{◌≡◌, true, List, [], ◌∷◌, Option, refl, false}
 use Rattle.cacache_core.specs.PathNames.{Names, names_of}
 use Rattle.cacache_store.specs.{declared.store.step.Step.TheVariants.{CreateTemp, Write, Persist, Append, SyncTemp, SyncFile, SyncDir}, Plain.{PlainStep, PlainAnswer}}

@@ -8,14 +8,14 @@ use Rattle.cacache_disk.proofs.{Maps.{same_path-true}, PutNodes.{look-put, look-
 use Rattle.cacache_value.specs.{Kinds.{Bucket, path_kind, IsFor, PathKind, Way}, Placed.{Placed}}
 use Rattle.cacache_value.proofs.{KindsApart.{not_true, further, way_here}, FoundPaths.{Reaches, found, missing, bucket_reached, unreachable}}
 
--- what stands at another path stays
+-- what is at another path stays
 pub put_misses : (t : Tree) (p q : Names) (node : Node) → same_path q p ≡ false → look (put t p node) q ≡ look t q
 put_misses t p q node misses = look-put t p node q ∙ ap (λ b. cond b (Some node) (look t q)) misses
 
 pub cut_misses : (t : Tree) (p q : Names) → same_path q p ≡ false → look (cut t p) q ≡ look t q
 cut_misses t p q misses = look-cut t p q ∙ ap (λ b. cond b None (look t q)) misses
 
--- ---- folders that are made leave what stands
+-- ---- making folders leaves what is there
 
 make_one : (t : Tree) (p q : Names) (here : Option Node) (node : Node) (b c : Bool) → look t p ≡ here → look t q ≡ Some node → same_path q p ≡ c
     → look (if_missing here (cond b t (put t p Folder)) t) q ≡ Some node
@@ -124,18 +124,18 @@ append_at home t p bytes luck (Err fault) placed is k = append_nowhere t p bytes
 pub append_case : (home : Option Names) (t : Tree) (p bytes : List ℕ) (luck : Luck) → Placed home t → IsFor home Bucket p → AppendCase t p bytes (apply t (Append p bytes) luck)
 append_case home t p bytes luck placed is = append_at home t p bytes luck (names_of p) placed refl is
 
--- ---- what stands stays
+-- ---- what is there stays
 
 module _ (t : Tree) (q : Names) (here : Option Node) (there : look t q ≡ here) where
   -- what a step leaves at the path
   abbrev Same : Tree → Type 0
   Same new = look new q ≡ here
 
-  -- a step keeps it that does so however much of it is done
+  -- a step keeps it if it does so whatever part of it is done
   pub step_keeps : (step : PlainStep) (luck : Luck) → ((most : Option ℕ) → Same (plain t step most).1) → Same (apply t step luck).1
   step_keeps step luck h = apply_tree Same t step luck there h
 
-  -- what only asks keeps it
+  -- a step that only asks keeps it
   pub asked_keeps : {A : Type 0} (r : Result A Fault) (answer : A → PlainAnswer) → Same (unless r t (λ a. (answer a, t))).1
   asked_keeps r answer = unless_tree Same r t (λ a. (answer a, t)) there (λ a is. there)
 

@@ -1,4 +1,4 @@
--- What stands at a path after a loss, where the folders above it are synced.
+-- What is at a path after a loss, if the folders above it are synced.
 use Rattle.std.proofs.Common.{◌≡◌, ◌⊎◌, inl, inr, ℕ, Bool, true, false, cond, List, [], ◌∷◌, ◌++◌, Option, None, Some, refl, sym, ap, subst, ◌∙◌, append_assoc}
 use Rattle.std.specs.Prelude.{not, ◌&&◌, unwrap_or}
 use Rattle.cacache_core.specs.PathNames.{Names}
@@ -18,7 +18,7 @@ and_not : (b : Bool) → (b && not true) ≡ false
 and_not true = refl
 and_not false = refl
 
--- a place that stays, or whose name is fixed
+-- a place that stays, or has a fixed name
 abbrev pub IsFirm : Option Names → Fixed → Names → Type 0
 IsFirm home fixed q = (stays home q ≡ true) ⊎ (fixed.names q ≡ None)
 
@@ -31,7 +31,7 @@ left_or P true None now h k = h
 left_or P true (Some was) now h k = k was refl
 left_or P false o now h k = h
 
--- what is left is what stands now, or what stood there when its folder was fixed
+-- what is left is what is there now, or what was there when its folder was fixed
 pub left_was : (home : Option Names) (t : Tree) (fixed : Fixed) (loss : Loss) (q : Names) (W : Option Place → Type 0) (P : Place → Type 0)
     → ((stays home q ≡ true) ⊎ W (fixed.names q)) → P (place_now t fixed q) → ((was : Place) → W (Some was) → P was)
     → P (left_at home t fixed loss q)
@@ -47,7 +47,7 @@ top_stays (Some home) = refl
 abbrev pub IsLeft : (Place → Type 0) → List ℕ → Option Node → Type 0
 IsLeft P tail here = (place : Place) × P place × (here ≡ node_left place.fixing tail place.node)
 
--- ---- a path that the cache uses, at which something stands through calm moves
+-- ---- a path that the cache uses, at which there is something through calm moves
 
 module _ (home : Option Names) (c : Names) (used : is_used (path_kind home c) ≡ true) (some : c ≡ [] → ⊥)
     (I : Moment → Type 0) (X : Moment → Move → Type 0) (W : Option Place → Type 0)
@@ -125,8 +125,8 @@ module _ (home : Option Names) (c : Names) (used : is_used (path_kind home c) �
     last p (n ∷ []) e more s = last_next p n e s.0
     last p (n ∷ name ∷ rest) e more s = last (p ++ n ∷ []) (name ∷ rest) (append_assoc p (n ∷ []) (name ∷ rest) ∙ e) (λ e. cc) s.1
 
-    -- after a loss there stands what stood there when its folder was fixed, or what stands there now, and
-    -- of its bytes what the loss left
+    -- after a loss there is what was there when its folder was fixed, or what is there now, with the
+    -- bytes that the loss left
     pub survives : (P : Place → Type 0) → SyncsFolders home [] c moves → (I end → P (place_now end.tree end.fixed c)) → ((place : Place) → W (Some place) → P place)
         → IsLeft P (loss.tail c) (lost_then home end loss c)
     survives P s now was = (

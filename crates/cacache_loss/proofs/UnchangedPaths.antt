@@ -1,4 +1,4 @@
--- What a step leaves fixed at a path where nothing changed.
+-- What a step leaves fixed at a path at which nothing changed.
 use Rattle.std.{proofs.Common.{◌≡◌, ℕ, true, false, cond, List, [], ◌∷◌, Option, None, Some, Ok, Err, refl, sym, ap, ◌∙◌, bytes_eq, eq-eqb}, specs.Prelude.{Result, IfOk}}
 use Rattle.cacache_core.specs.{declared.errors.Fault.{Fault}, PathNames.{Names, names_of}}
 use Rattle.cacache_store.specs.{declared.store.{step.Step.TheVariants.{CreateTemp, Write, Persist, Append, Copy}, answer.Answer.TheVariants.{Done}}, Plain.{PlainStep, PlainAnswer}}
@@ -26,7 +26,7 @@ pub not_moved : (m : Option (Names × Names)) (fixed : Fixed) (q : Names) (f : F
 not_moved None fixed q f e = refl
 not_moved (Some (from, to)) fixed q f e = ap (λ b. cond b (fixed.files from) f) e
 
--- nothing is known anew where the node is the same, and the step doesn't reach the path
+-- nothing is known anew if the node is the same, and the step doesn't reach the path
 module _ (fixed : Fixed) (old new : Tree) (step : PlainStep) (answer : PlainAnswer) (q : Names) (here : Option Node) where
   pub file_kept : look old q ≡ here → look new q ≡ here → moved_to (moves_file step answer) q ≡ false → rewrites_at old step q ≡ false
       → writes_at step q ≡ false → file_after fixed old new step answer q ≡ fixed.files q

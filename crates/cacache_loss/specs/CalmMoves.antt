@@ -55,7 +55,7 @@ AreCalm home now moves = IsTrace home now.tree moves × CalmSteps home moves
 
 -- ---- contents that are put
 
--- known bytes of which this holds
+-- known bytes that are good
 abbrev pub OfBytes : (List ℕ → Type 0) → Option (List ℕ) → Type 0
 OfBytes Good None = ⊥
 OfBytes Good (Some bytes) = Good bytes

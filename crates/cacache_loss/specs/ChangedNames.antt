@@ -7,7 +7,7 @@ use Rattle.cacache_loss.specs.{Fixing.{Fixed, all_fixed}, Loss.{Loss, Lost}, Mom
 
 -- ---- names that changed
 
--- the names of all paths but these are as they were when their folders were synced
+-- all names except those of these paths are as they were when their folders were synced
 abbrev pub ChangedOnlyAt : List Names → Fixed → Type 0
 ChangedOnlyAt paths fixed =
     (path : Names) → list_any (same_path path) paths ≡ false → fixed.names path ≡ None
@@ -17,7 +17,7 @@ pub record FewChanged (fixed : Fixed) : Type 0 where
   pub paths : List Names
   pub only : ChangedOnlyAt paths fixed
 
--- where all is fixed, none did
+-- if all is fixed, none did
 abbrev pub OpeningsChangedNone : Type 0
 OpeningsChangedNone = (t : Tree) → ChangedOnlyAt [] (all_fixed t)
 
@@ -43,7 +43,7 @@ LossesLeaveOneTree =
 
 -- ---- losses in a history
 
--- where a history begins all is fixed
+-- at the beginning of a history all is fixed
 abbrev pub opening : Tree → Moment
 opening t = record { tree = t; fixed = all_fixed t }
 

@@ -1,9 +1,9 @@
--- The loss that lists of texts tell.
+-- The loss that lists of texts describe.
 use Rattle.std.specs.{Prelude.{ℕ, List, [], ◌∷◌, if◌then◌else◌}, List.{list_any}}
 use Rattle.cacache_core.specs.PathNames.{Names, names_of}
 use Rattle.cacache_loss.specs.{Fixing.{is_at}, Loss.{Loss}}
 
--- the tail that the first of these texts tells of a path, none where none does
+-- the tail of a path from the first of these texts that names it, none if none does
 abbrev pub tail_at : List (List ℕ × List ℕ) → Names → List ℕ
 tail_at [] path = []
 tail_at (file ∷ files) path =

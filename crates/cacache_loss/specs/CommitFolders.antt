@@ -1,4 +1,4 @@
--- The folders of a content and of a bucket, whose syncs a durable commit waits for.
+-- The folders of a content and of a bucket that a durable commit syncs and waits for.
 use Rattle.std.specs.Prelude.{◌≡◌, ◌⊎◌, ℕ, List, [], ◌∷◌, ◌++◌, Some, Ok, length}
 use Rattle.cacache_core.specs.{declared.integrity.digest.Hash.{Hash}, Integrity.{IsHash}, PathLaws.{IsKeyDigest}, PathNames.{Names, names_of}, Paths.{content_names, bucket_names_of, folders_to}}
 use Rattle.cacache_store.specs.declared.store.{step.Step.TheVariants.{SyncDir}, answer.Answer.TheVariants.{Done}}
@@ -33,7 +33,7 @@ pub record BucketFolders (cache : List ℕ) (home : Names) (digest : List ℕ) :
   pub enough : (moves : List Move) → SyncsTexts (folders_to cache (bucket_names_of digest)) moves
       → SyncsFolders (Some home) [] (home ++ bucket_names_of digest) moves
 
--- the folders of every content, where the cache's text names a folder
+-- the folders of every content, if the cache's text names a folder
 abbrev pub FiveForContents : Type 0
 FiveForContents =
     (cache : List ℕ) (home : Names) (address : Hash) → names_of cache ≡ Ok home → IsHash address

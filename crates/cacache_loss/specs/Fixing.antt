@@ -1,4 +1,4 @@
--- What of a tree would outlast a loss of power: a second fold over steps, beside the tree.
+-- What of a tree would outlast a loss of power: a second fold over steps, next to the tree.
 use Rattle.std.specs.Prelude.{ℕ, List, [], Option, None, Some, Bool, true, false, not, ◌||◌, Result, Ok, Err, length, unwrap_or, bytes_eq, if◌then◌else◌}
 use Rattle.cacache_core.specs.{declared.errors.Fault.{Fault}, PathNames.{Names, names_of}}
 use Rattle.cacache_store.specs.{declared.store.{plain.PlainTemp.{PlainTemp}, step.Step.TheVariants.{Write, Persist, Copy, SyncTemp, SyncFile, SyncDir}, answer.Answer.TheVariants.{Done, Synced}}, Plain.{PlainStep, PlainAnswer}}
@@ -18,17 +18,17 @@ synced bytes = record { kept = length bytes; whole = true }
 pub record Fixed : Type 0 where
   -- how far its file is
   pub files : Names → Fixing
-  -- what stood at a name that changed since its folder was synced, as it was when it went
+  -- what was at a name that changed since its folder was synced, as it was when it went
   pub names : Names → Option Place
 
--- all of a tree is fixed: so a history begins, with its outside files
+-- all of a tree is fixed, as at the beginning of a history, with its outside files
 abbrev pub all_fixed : Tree → Fixed
 all_fixed t = record {
   files = λ path. synced (bytes_of (look t path));
   names = λ path. None;
 }
 
--- what stands at a path now
+-- what is at a path now
 abbrev pub place_now : Tree → Fixed → Names → Place
 place_now t fixed path = record { node = look t path; fixing = fixed.files path }
 
@@ -84,7 +84,7 @@ abbrev pub opened_if : Bool → Fixing → Fixing
 opened_if true f = record { kept = f.kept; whole = false }
 opened_if false f = f
 
--- a file that was written anew, kept its bytes, got more behind them, or is another one
+-- a file that was written anew, kept its bytes, got more after them, or is another one
 abbrev pub refixed : Bool → Bool → Bool → Fixing → Fixing
 refixed true same thing f = unsynced
 refixed false true thing f = f
@@ -101,7 +101,7 @@ abbrev pub moved_to : Option (Names × Names) → Names → Bool
 moved_to None path = false
 moved_to (Some (from, to)) path = same_path path to
 
--- what stood at a name is known from its first change since its folder was synced
+-- what was at a name is known from its first change since its folder was synced
 abbrev pub renamed : Bool → Place → Option Place → Option Place
 renamed true now before = Some (unwrap_or before now)
 renamed false now before = before
@@ -114,7 +114,7 @@ file_after fixed old new step answer path =
     (same_thing (look old path) (look new path))
     (opened_if (writes_at step path) (fixed.files path)))
 
--- what stood at a path when its folder was synced, after a step
+-- what was at a path when its folder was synced, after a step
 abbrev pub name_after : Fixed → Tree → Tree → PlainStep → PlainAnswer → Names → Option Place
 name_after fixed old new step answer path =
     renamed

@@ -11,12 +11,12 @@ loss_of taken = record {
   tail = λ path. unwrap_or (get names_cmp taken.tails path) [];
 }
 
--- what is left at a path whose folder is left
+-- what is left at a path, if its folder is left
 abbrev pub left_of : Losing → Names → Place
 left_of l =
     left_at l.home l.running.disk (fixed_in l.running.first l.running.files l.running.names)
     (loss_of l.taken)
 
--- what stands at a path after the loss
+-- what is at a path after the loss
 abbrev pub lost_of : Losing → Names → Option Node
 lost_of l path = lost_then l.home (moment_of l.running) (loss_of l.taken) path

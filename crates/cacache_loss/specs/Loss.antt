@@ -4,7 +4,7 @@ use Rattle.cacache_core.specs.PathNames.{Names}
 use Rattle.cacache_disk.specs.{declared.node.Node.{Node, TheVariants.{Folder, File, Link}}, Rooted.{is_folder}, Tree.{Tree, look}}
 use Rattle.cacache_loss.specs.Fixing.{Fixing, Place, Fixed, place_now}
 
--- a loss: which names stand as they were, and what follows the fixed bytes of each open file
+-- a loss: which names are as they were, and what follows the fixed bytes of each open file
 pub record Loss : Type 0 where
   pub undone : Names → Bool
   pub tail : Names → List ℕ
@@ -15,12 +15,12 @@ begins [] home = true
 begins (name ∷ path) [] = false
 begins (name ∷ path) (first ∷ home) = bytes_eq name first && begins path home
 
--- the cache's folder and those above it stay; where the cache's text names none, all does
+-- the cache's folder and those above it stay; if the cache's text names none, every path stays
 abbrev pub stays : Option Names → Names → Bool
 stays None path = true
 stays (Some home) path = begins path home
 
--- what is left at a path whose folder is left
+-- what is left at a path, if its folder is left
 abbrev pub left_at : Option Names → Tree → Fixed → Loss → Names → Place
 left_at home t fixed loss path =
     if loss.undone path && not (stays home path)
@@ -33,7 +33,7 @@ lead_folders left above [] = true
 lead_folders left above (name ∷ rest) =
     is_folder (left above).node && lead_folders left (above ++ name ∷ []) rest
 
--- the bytes that are left of a file: others may follow those that are fixed, where it is open
+-- the bytes that are left of a file: if it is open, others may follow those that are fixed
 abbrev pub bytes_left : Fixing → List ℕ → List ℕ → List ℕ
 bytes_left f bytes tail = if f.whole then bytes else take f.kept bytes ++ tail
 
@@ -44,7 +44,7 @@ node_left f tail (Some Folder) = Some Folder
 node_left f tail (Some (File bytes)) = Some (File (bytes_left f bytes tail))
 node_left f tail (Some (Link target)) = Some (Link target)
 
--- what stands at a path after a loss
+-- what is at a path after a loss
 abbrev pub lost_at : Option Names → Tree → Fixed → Loss → Names → Option Node
 lost_at home t fixed loss path =
     if lead_folders (left_at home t fixed loss) [] path

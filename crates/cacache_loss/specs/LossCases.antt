@@ -5,7 +5,7 @@ use Rattle.cacache_store.specs.{declared.store.{plain.PlainTemp.{PlainTemp}, ste
 use Rattle.cacache_disk.specs.{declared.node.Node.TheVariants.{File}, Tree.{Tree, look}}
 use Rattle.cacache_loss.specs.{Fixing.{Fixing, Fixed, unsynced, synced, refixed, same_node, same_thing, is_sync, fixed_after}, Loss.{Loss, stays, bytes_left, lost_at}}
 
--- how far a file of the first bytes, which was synced, is fixed when it has the second
+-- how far a file that was synced with the first bytes is fixed once it has the second
 abbrev pub rewritten : List ℕ → List ℕ → Fixing
 rewritten old new =
     refixed false (same_node (Some (File old)) (Some (File new)))
@@ -17,12 +17,12 @@ pub record LossRows : Type 0 where
   pub durable : bytes_left (synced (codes "one")) (codes "one") (codes "zz") ≡ codes "one"
   -- a put that isn't durable keeps none
   pub not_durable : bytes_left unsynced (codes "one") (codes "zz") ≡ codes "zz"
-  -- of a durable line and a further one, the further one alone goes
+  -- if another line follows a durable one, only the other goes
   pub two_lines :
       bytes_left (rewritten (codes "+a+") (codes "+a++b")) (codes "+a++b") (codes "xxxxx")
       ≡ codes "+a+xxxxx"
 
--- a content that was put is gone where its folder wasn't synced and the loss undoes its name
+-- a content that was put is gone if its folder wasn't synced and the loss undoes its name
 abbrev pub UndonePutsGo : Type 0
 UndonePutsGo =
     (home : Option Names) (t new : Tree) (fixed : Fixed) (f : PlainTemp) (p : List ℕ)

@@ -50,7 +50,7 @@ CommitsSurvive =
     → SyncsFolders home [] path moves
     → GoodNode (HasDigest address) (lost_then home (after (next later put) moves) loss path)
 
--- calm moves whose steps spare a temporary file leave it alone
+-- calm moves that spare a temporary file leave it alone
 abbrev pub SparedTempsAreLeft : Type 0
 SparedTempsAreLeft =
     (home : Option Names) (temp : Names) (now : Moment) (moves : List Move)
@@ -58,7 +58,7 @@ SparedTempsAreLeft =
     → SpareTemp temp moves
     → EachMove (Leaves temp) now moves
 
--- a right content also survives that was found there, and then synced
+-- a right content that was found there, and then synced, also survives
 abbrev pub FoundSurvive : Type 0
 FoundSurvive =
     (home : Option Names) (address : Hash) (path : Names) (now : Moment) (sync : Move)
@@ -75,7 +75,7 @@ FoundSurvive =
 abbrev pub BeginsWith : List ℕ → Option Node → Type 0
 BeginsWith bytes here = (more : List ℕ) × (here ≡ Some (File (bytes ++ more)))
 
--- bytes that are appended stay behind what a bucket held, once it and its folders are synced
+-- bytes that are appended stay after what a bucket held, once it and its folders are synced
 abbrev pub BucketsSurvive : Type 0
 BucketsSurvive =
     (home : Option Names) (path : Names) (bytes : List ℕ) (now : Moment) (append : Move)
@@ -87,7 +87,7 @@ BucketsSurvive =
     → BeginsWith (bytes_of (look now.tree path) ++ bytes)
     (lost_then home (after (next now append) moves) loss path)
 
--- a bucket whose first entries are these
+-- a bucket that has these as its first entries
 abbrev pub HoldsEntries : List Entry → Option Node → Type 0
 HoldsEntries entries here =
     (bytes : List ℕ) × (more : List Entry) × (here ≡ Some (File bytes))

@@ -5,21 +5,21 @@ use Rattle.cacache_disk.specs.{declared.node.Node.{Node}, Rooted.{AreProper, Roo
 use Rattle.cacache_value.specs.{Kinds.{path_kind}, Placed.{MayStand, Placed}, Traces.{Move, IsTrace, tree_after}}
 use Rattle.cacache_loss.specs.{Fixing.{Fixed, all_fixed}, Loss.{Loss, Lost, lost_at}, Moments.{Moment, after}}
 
--- a tree of a cache: each node stands where it may, and in a folder
+-- a tree of a cache: each node is where it may be, and in a folder
 abbrev pub OfCache : Option Names → Moment → Type 0
 OfCache home now = Placed home now.tree × Rooted now.tree
 
--- at a path stands nothing, or what may, and the path's names are proper
+-- at a path is nothing, or what may be there, and the path's names are proper
 abbrev pub Suits : Option Names → Names → Option Node → Type 0
 Suits home path here =
     MayStand home here (path_kind home path) × IfSome here (λ node. AreProper path)
 
--- what stood at names that changed since their folders were synced suited them
+-- what was at names that changed since their folders were synced suited them
 abbrev pub StoodWell : Option Names → Fixed → Type 0
 StoodWell home fixed =
     (path : Names) → IfSome (fixed.names path) (λ place. Suits home path place.node)
 
--- where all is fixed, they did
+-- if all is fixed, they did
 abbrev pub OpeningsStandWell : Type 0
 OpeningsStandWell = (home : Option Names) (t : Tree) → StoodWell home (all_fixed t)
 
@@ -42,7 +42,7 @@ LossesLeaveTrees =
     → OfCache home now → StoodWell home now.fixed → Lost home now.tree now.fixed loss new
     → Placed home new × Rooted new
 
--- where all is fixed a loss leaves each path as it was
+-- if all is fixed, a loss leaves each path as it was
 abbrev pub FixedTreesStay : Type 0
 FixedTreesStay =
     (home : Option Names) (t : Tree) (loss : Loss) (path : Names) → Rooted t

@@ -22,7 +22,7 @@ abbrev pub after : Moment → List Move → Moment
 after now [] = now
 after now (m ∷ moves) = after (next now m) moves
 
--- what stands at a path where the power goes at a moment
+-- what is at a path if the power goes at a moment
 abbrev pub lost_then : Option Names → Moment → Loss → Names → Option Node
 lost_then home now loss path = lost_at home now.tree now.fixed loss path
 

@@ -8,35 +8,35 @@ use Rattle.cacache_loss.specs.{declared.{effect.Effect.{Effect}, running.Running
 
 -- ---- what is kept
 
--- how far files are fixed: as the map says, and else as the first tree had them
+-- how far files are fixed: as the map says, or as the first tree had them
 abbrev pub files_in : Tree → BTreeMap Names Fixing → Names → Fixing
 files_in first files path = unwrap_or (get names_cmp files path) (synced (bytes_of (look first path)))
 
--- the files here are fixed so far, whatever the first tree was, and all others as before
+-- the files here are fixed this far, whatever the first tree was, and all others as before
 abbrev pub FixesFiles : BTreeMap Names Fixing → BTreeMap Names Fixing → (Names → Bool)
     → (Names → Fixing) → Type 0
 FixesFiles old new here fixing = (first : Tree) (q : Names)
     → files_in first new q ≡ if here q then fixing q else files_in first old q
 
--- what was at a path is kept where its name changed and nothing is kept yet; of no other path more is kept
+-- what was at a path is kept if its name changed and nothing is kept yet; other paths stay as kept
 abbrev pub KeepsPlace : BTreeMap Names Place → BTreeMap Names Place → Names → Bool → Place → Type 0
 KeepsPlace old new path renames was = (q : Names) → get names_cmp new q
     ≡ if same_path q path then renamed renames was (get names_cmp old path) else get names_cmp old q
 
--- what is fixed, where the first tree was and these changed since
+-- what is fixed, if the first tree was and these changed since
 abbrev pub fixed_in : Tree → BTreeMap Names Fixing → BTreeMap Names Place → Fixed
 fixed_in first files names = record {
   files = files_in first files;
   names = get names_cmp names;
 }
 
--- the moment at which a running disk stands
+-- the moment that a running disk has reached
 abbrev pub moment_of : Running → Moment
 moment_of r = record { tree = r.disk; fixed = fixed_in r.first r.files r.names }
 
 -- ---- what a step does
 
--- whether a step that moves a file did
+-- whether a step that moves a file did so
 abbrev pub is_done : PlainAnswer → Bool
 is_done Done = true
 is_done answer = false
@@ -57,7 +57,7 @@ effect_of files (Persist f p) answer = record {
 }
 effect_of files step answer = record { rewrites = false; writes = false; moved = None }
 
--- how far the file is fixed that moved to a path, if one did
+-- how far the file that moved to a path is fixed, if one moved there
 abbrev pub arrived : Option (Names × Fixing) → Names → Option Fixing
 arrived None path = None
 arrived (Some (to, fixing)) path = if same_path path to then Some fixing else None
@@ -69,7 +69,7 @@ fixing_by e was here path =
     (refixed e.rewrites (same_node was.node here) (same_thing was.node here)
     (opened_if e.writes was.fixing))
 
--- whether another thing stands at a path after it
+-- whether another thing is at a path after it
 abbrev pub renames : Effect → Place → Option Node → Names → Bool
 renames e was here path = is_some (arrived e.moved path) || not (same_thing was.node here)
 
@@ -77,15 +77,15 @@ renames e was here path = is_some (arrived e.moved path) || not (same_thing was.
 abbrev pub move_of : PlainStep → Luck → PlainAnswer → Move
 move_of step luck answer = record { step = step; luck = luck; answer = answer }
 
--- at the reached of these paths with these places, files are fixed as the effect says, and else
--- as before
+-- at the reached ones of these paths, which had these places, files are fixed as the effect says,
+-- otherwise as before
 abbrev pub FilesSettleAt : Effect → Tree → List Names → List Place → List Names → (Names → Fixing)
     → (Names → Fixing) → Type 0
 FilesSettleAt e t paths places reached old new =
     (place : Names → Place) → places ≡ map place paths → (q : Names)
     → new q ≡ if is_among q reached then fixing_by e (place q) (look t q) q else old q
 
--- and so is what stood at names
+-- and so is what was at names
 abbrev pub NamesSettleAt : Effect → Tree → List Names → List Place → List Names
     → (Names → Option Place) → (Names → Option Place) → Type 0
 NamesSettleAt e t paths places reached old new =

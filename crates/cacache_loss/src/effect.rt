@@ -21,7 +21,7 @@ pub(crate) struct Effect {
     pub(crate) rewrites: bool,
     /// Whether it writes to a temporary file.
     pub(crate) writes: bool,
-    /// Where a file moved to, and how far it is fixed, where one moved.
+    /// Where a file moved to, and how far it is fixed, if one moved.
     pub(crate) moved: Option<(Path, Fixing)>,
 }
 
@@ -35,7 +35,7 @@ pub(crate) fn fixing_at(first: &Disk, files: &BTreeMap<Path, Fixing>, path: &Pat
     }
 }
 
-/// Whether a step that moves a file did.
+/// Whether a step that moves a file did so.
 fn is_done(answer: &Answer<PlainFile, PlainTemp>) -> bool
     ensures { result ≡ is_done answer.now }
 {
@@ -94,7 +94,7 @@ pub(crate) fn same_path(path: &Path, other: &Path) -> bool
     path.cmp(other) == Ordering::Equal
 }
 
-/// Fixes the file at a path so far.
+/// Fixes the file at a path this far.
 pub(crate) fn fix(
     files: &mut BTreeMap<Path, Fixing>,
     path: Path,
@@ -107,7 +107,7 @@ pub(crate) fn fix(
     Ok(())
 }
 
-/// Keeps what stood at a path where its name changed, if nothing is kept of it yet.
+/// Keeps what was at a path, if its name changed and nothing is kept of it yet.
 fn keep(
     names: &mut BTreeMap<Path, Place>,
     path: &Path,
@@ -127,7 +127,7 @@ fn keep(
 }
 
 impl Effect {
-    /// How far the file is fixed that moved to a path, if one did.
+    /// How far the file that moved to a path is fixed, if one moved there.
     fn arrived(&self, path: &Path) -> Option<Fixing>
         ensures { result ≡ arrived self.now.moved path.now }
     {
@@ -150,7 +150,7 @@ impl Effect {
             .refixed(self.rewrites, same_node(old, now), same_thing(old, now))
     }
 
-    /// Whether another thing stands at a path after the step.
+    /// Whether another thing is at a path after the step.
     fn renames(&self, path: &Path, was: &Place, now: Option<&Node>) -> bool
         ensures { result ≡ renames self.now was.now (option_copied now.entry) path.now }
     {

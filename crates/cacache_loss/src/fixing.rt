@@ -16,10 +16,10 @@ pub struct Fixing {
     pub whole: bool,
 }
 
-/// What stands at a path, and how far it is fixed.
+/// What is at a path, and how far it is fixed.
 #[derive(Debug, Drop)]
 pub struct Place {
-    /// The node, if one stands there.
+    /// The node, if there is one.
     pub node: Option<Node>,
     /// How far its file is fixed.
     pub fixing: Fixing,
@@ -36,7 +36,7 @@ impl Fixing {
         }
     }
 
-    /// That of a file that is synced, if one stands here.
+    /// That of a file that is synced, if one is here.
     pub(crate) fn synced(node: Option<&Node>) -> Fixing
         ensures { result ≡ synced (bytes_of (option_copied node.entry)) }
     {
@@ -59,7 +59,7 @@ impl Fixing {
         self
     }
 
-    /// After a step that wrote the file anew, kept its bytes, put more behind them, or put another
+    /// After a step that wrote the file anew, kept its bytes, put more after them, or put another
     /// file in its place.
     pub(crate) fn refixed(self, rewrites: bool, same: bool, thing: bool) -> Fixing
         ensures { result ≡ refixed rewrites same thing self }

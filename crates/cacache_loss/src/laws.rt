@@ -23,7 +23,7 @@ pub fn loss_laws()
     ensures lookups { LookupsSurvive }
 {}
 
-/// The tree is that of a cache at each moment, and after each loss too. Where all is fixed a loss
+/// The tree is that of a cache at each moment, and after each loss too. If all is fixed, a loss
 /// changes nothing.
 pub fn tree_laws()
     ensures trees { MomentsFollowTrees }

@@ -81,7 +81,7 @@ fn node_left(
 }
 
 impl Losing {
-    /// Whether the name of a path stands again as it was.
+    /// Whether a path's name is again as it was.
     fn is_undone(&self, path: &Path) -> Result<bool, AllocError>
         ensures { IfOk result (λ undone. undone ≡
             ((loss_of self.now.taken).undone path.now && not (stays self.now.home path.now))) }
@@ -92,7 +92,7 @@ impl Losing {
         Ok(!stays(self.running.alloc, &self.home, path)?)
     }
 
-    /// What is left at a path whose folder is left, and how far it is fixed.
+    /// What is left at a path, if its folder is left, and how far it is fixed.
     fn left_at(&self, path: &Path) -> Result<(Option<&Node>, Fixing), AllocError>
         ensures node { IfOk result (λ r. option_copied r.0 ≡ (left_of self.now path.now).node) }
         ensures fixing { IfOk result (λ r. r.1 ≡ (left_of self.now path.now).fixing) }
@@ -107,7 +107,7 @@ impl Losing {
         Ok((running.disk.nodes().node(path), fixing))
     }
 
-    /// Whether a folder is left at a path whose folder is left.
+    /// Whether a folder is left at a path, if its own folder is left.
     fn is_folder_at(&self, path: &Path) -> Result<bool, AllocError>
         ensures { IfOk result (λ so. so ≡ is_folder (left_of self.now path.now).node) }
     {
@@ -131,7 +131,7 @@ impl Losing {
         Ok(true)
     }
 
-    /// What stands at a path after the loss.
+    /// What is at a path after the loss.
     fn lost_at(&self, path: &Path) -> Result<Option<Node>, AllocError>
         ensures { IfOk result (λ node. node ≡ lost_of self.now path.now) }
     {
@@ -142,7 +142,7 @@ impl Losing {
         node_left(fixing, self.taken.tails.get(path), node)
     }
 
-    /// The paths at which something stands, or stood.
+    /// The paths at which something is, or was.
     fn paths(&self) -> Result<Vec<Path>, AllocError>
         ensures { IfOk result (λ paths. paths.items
             ≡ map.keys self.now.running.disk ++ keys self.now.running.names) }
@@ -191,7 +191,7 @@ fn home(alloc: Global, cache: &str) -> Result<Option<Path>, AllocError>
 }
 
 impl Running {
-    /// The nodes that a loss of power leaves here, where this text is the cache's path.
+    /// The nodes that a loss of power leaves here, if this text is the cache's path.
     pub fn lose(self, cache: &str, loss: &Loss) -> Result<Nodes, AllocError>
         ensures { IfOk result (λ nodes. Lost (home_of cache.now) (moment_of self).tree
             (moment_of self).fixed (chosen loss.now.undone.items loss.now.tails.items) nodes) }

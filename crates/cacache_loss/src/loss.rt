@@ -19,10 +19,10 @@ use std::collections::{BTreeMap, BTreeSet};
 /// What a loss of power takes. A text that names no path is ignored.
 #[derive(Debug, Drop)]
 pub struct Loss {
-    /// The paths of the names that stand as they were when their folders were synced.
+    /// The paths whose names are as they were when their folders were synced.
     pub undone: Vec<Text>,
-    /// What follows the fixed bytes of the file at a path, where it isn't fixed whole. Of one path
-    /// the first counts.
+    /// What follows the fixed bytes of the file at a path, if it isn't fixed whole. The first tail
+    /// for a path counts.
     pub tails: Vec<(Text, Bytes)>,
 }
 

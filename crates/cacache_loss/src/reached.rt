@@ -45,7 +45,7 @@ fn listed(alloc: Global, first: Option<Path>, second: Option<Path>) -> Result<Ve
     Ok(paths)
 }
 
-/// The path and those above it but the top, from there down.
+/// The path and those above it except the top, from there down.
 fn fronts(alloc: Global, path: &Path) -> Result<Vec<Path>, AllocError>
     ensures { IfOk result (λ paths. paths.items ≡ fronts [] path.now) }
 {

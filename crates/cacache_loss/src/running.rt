@@ -18,20 +18,19 @@ use cacache_store::store::{Answer, PlainFile, PlainTemp, Step};
 use std::alloc::{AllocError, Global};
 use std::collections::BTreeMap;
 
-/// A disk on which steps are made, and what of it is fixed. It began with the first disk, of which
-/// all was.
+/// A disk on which steps are made, and what of it is fixed. All of the first disk was fixed.
 #[derive(Drop)]
 pub struct Running {
     pub(crate) alloc: Global,
     pub(crate) first: Disk,
     pub(crate) disk: Disk,
-    /// How far files are fixed that steps reached.
+    /// How far the files that steps reached are fixed.
     pub(crate) files: BTreeMap<Path, Fixing>,
-    /// What stood at names that changed since their folders were synced.
+    /// What was at names that changed since their folders were synced.
     pub(crate) names: BTreeMap<Path, Place>,
 }
 
-/// What stands at each of these paths, and how far it is fixed.
+/// What is at each of these paths, and how far it is fixed.
 fn places(
     alloc: Global,
     first: &Disk,
@@ -55,7 +54,7 @@ fn places(
     Ok(places)
 }
 
-/// Makes a step, whose answer is known.
+/// Makes a step that has a known answer.
 fn advance(disk: &mut Disk, step: &Step<PlainFile, PlainTemp>, luck: Luck) -> Result<(), AllocError>
     ensures { OnOk result (disk.new ≡ (apply disk.old step.now luck).1) }
 {
@@ -68,7 +67,7 @@ fn advance(disk: &mut Disk, step: &Step<PlainFile, PlainTemp>, luck: Luck) -> Re
     }
 }
 
-/// Keeps what is fixed at the paths that a step reached, of which the places were these.
+/// Keeps what is fixed at the paths that a step reached, given their places before it.
 fn settle(
     effect: &Effect,
     disk: &Disk,
@@ -90,7 +89,7 @@ fn settle(
 }
 
 impl Running {
-    /// A disk of which all is fixed.
+    /// A disk on which all is fixed.
     pub fn opening(disk: Disk) -> Result<Running, AllocError>
         ensures { IfOk result (λ r. moment_of r ≡ opening disk) }
     {

@@ -1,4 +1,4 @@
--- The log of all that stands on a disk leads to the disk's tree: each node is put once, behind its folder.
+-- The log of all that is on a disk leads to the disk's tree: each node is put once, after its folder.
 use Rattle.std.proofs.{Common.{◌≡◌, ◌==◌, ℕ, Bool, true, false, cond, List, [], ◌∷◌, ◌++◌, length, refl, sym, ap, subst, ◌∙◌}, lemmas.Cmp.{nat_list_cmp_total}}
 use Rattle.std.specs.{Prelude.{◌&&◌, T, Option, None, Some, IfSome, map as each}, FinMap.Entries.{below_all}, List.{AllByRecursion}, declared.cmp.Ordering.{Ordering, TheVariants.{Less, Equal, Greater}}, Ordering.{nat_cmp, is_eq, is_lt}, Cmp.{eq_by_cmp_equiv, Lexicographic.{slice_cmp}}}
 use Rattle.std.specs.FinMap as map
@@ -29,7 +29,7 @@ none_found q (e ∷ es) h =
     let f = parts (is_lt (names_cmp q e.0)) (below_all names_cmp q es) h in
     rw (less (names_cmp q e.0) f.0) (none_found q es f.1)
 
--- and what comes before it neither
+-- and neither is what comes before it
 below_more : (p q : Names) (es : List (Names × Node)) → names_cmp p q ≡ Less → T (below_all names_cmp q es) → T (below_all names_cmp p es)
 below_more p q [] le h = tt
 below_more p q (e ∷ es) le h =
@@ -51,11 +51,11 @@ abbrev or_else : Option Node → Option Node → Option Node
 or_else None later = later
 or_else (Some node) later = Some node
 
--- nothing stands there yet, but for the top folder
+-- nothing is there yet, except for the top folder
 abbrev IsFree : Tree → Names × Node → Type 0
 IsFree t e = (length e.0 == 0) ≡ false → look t e.0 ≡ None
 
--- the disk has what is in the rest and else what the tree has, and the rest isn't there yet
+-- the disk has what is in the rest, otherwise what the tree has, and the rest isn't there yet
 record Awaits (d t : Tree) (rest : List (Names × Node)) : Type 0 where
   rooted : Rooted t
   whole : (q : Names) → look d q ≡ or_else (map.find names_cmp q rest) (look t q)
@@ -88,7 +88,7 @@ module _ (d : Tree) (of : Rooted d) (t : Tree) (p : Names) (node : Node) (es : L
   proper : AreProper p
   proper = subst (λ (o : Option Node). IfSome o (λ node. AreProper p)) here (of.proper p)
 
-  -- the folder stands already
+  -- the folder is there already
   upper : (above : Names) (name : List ℕ) → p ≡ above ++ name ∷ [] → look t above ≡ Some Folder
   upper above name is =
       let there : look d above ≡ Some Folder = upper_folder d above [] name node of (ap (look d) (sym is) ∙ here) in

@@ -1,4 +1,4 @@
--- A log with one item more, and the tree that it leads to.
+-- A log with one more item, and the tree that it leads to.
 use Rattle.std.proofs.Common.{◌≡◌, List, [], ◌∷◌, ◌++◌, refl, sym, ap, subst, ◌∙◌}
 use Rattle.cacache_store.specs.declared.store.log.LogItem.{LogItem}
 use Rattle.cacache_disk.specs.Tree.{Tree, bare}

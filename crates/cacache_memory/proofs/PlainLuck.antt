@@ -5,7 +5,7 @@ use Rattle.cacache_store.specs.{declared.store.{step.Step.TheVariants.{MakeDirs}
 use Rattle.cacache_disk.specs.{declared.luck.Luck.TheVariants.{Plain}, Tree.{Tree}, LedTo.{dirs, file_at}, Apply.{apply, unless, bytes_at, fault_told}}
 use Rattle.cacache_memory.specs.Replay.{bytes_told, shown}
 
--- folders that can't be made change nothing; else they are made
+-- folders that can't be made change nothing; otherwise they are made
 abbrev MadeOrNot : Tree → PlainAnswer → Tree → Type 0
 MadeOrNot t Done new = Unit {0}
 MadeOrNot t (Failed fault) new = new ≡ t
@@ -41,7 +41,7 @@ IfNone-map : (o : Option Fault) (A B : Type 0) → (A → B) → IfNone o A → 
 IfNone-map None A B f a = f a
 IfNone-map (Some fault) A B f a = tt
 
--- and else are made
+-- and otherwise are made
 pub dirs-done : (t : Tree) (p : List ℕ) (a : PlainAnswer) (new : Tree) (found : Option Fault)
     → apply t (MakeDirs p) Plain ≡ (a, new) → found ≡ fault_told a → IfNone found (apply t (MakeDirs p) Plain ≡ (Done, new))
 dirs-done t p a new found applied same =

@@ -1,4 +1,4 @@
--- The item of what stands at a path puts it there, where its folder stands and nothing is there yet.
+-- The item of a node puts it at its path, if the folder is there and nothing is at the path yet.
 use Rattle.std.proofs.{Common.{◌≡◌, ◌-◌, ◌+◌, ◌==◌, ℕ, false, List, [], ◌∷◌, ◌++◌, None, Some, Ok, length, refl, sym, ap, ◌∙◌, arith, eqb-true, length-append}, Math.Seq.{take-append_seam, drop-append_seam}, lemmas.List.{take_all, drop_all, Elements.{All-from_recursion}}}
 use Rattle.std.specs.Result.{result_err}
 use Rattle.cacache_core.{specs.PathNames.{Names, names_of, names_below, home_of, pieces, IsProperName}, proofs.JoinedNames.{joined_texts_name}}

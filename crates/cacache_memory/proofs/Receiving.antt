@@ -1,4 +1,4 @@
--- A store that receives what stands on a disk, item by item.
+-- A store that receives what is on a disk, item by item.
 use Rattle.std.{proofs.Common.{◌≡◌, List, [], ◌∷◌, ◌++◌, refl, sym, ap, subst, ◌∙◌, append_assoc}, specs.Prelude.{map as each}}
 use Rattle.cacache_store.specs.declared.store.log.LogItem.{LogItem}
 use Rattle.cacache_disk.specs.{declared.nodes.standing.TreeItem.{TreeItem}, AllStanding.{all_standing}, Rooted.{Rooted}, Tree.{Tree}}

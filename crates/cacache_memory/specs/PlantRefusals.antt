@@ -8,7 +8,7 @@ IsDueTo found (IoError fault message) = found ≡ Some fault
 IsDueTo found OutOfMemory = Unit {0}
 IsDueTo found _ = ⊥
 
--- a call goes well only where there is no fault, and fails for the fault or for memory
+-- a call succeeds only if there is no fault, and fails for the fault or for memory
 abbrev pub IsEarned : Option Fault → Result (Unit {0}) Error → Type 0
 IsEarned found (Ok done) = found ≡ None
 IsEarned found (Err error) = IsDueTo found error

@@ -4,7 +4,7 @@ use Rattle.cacache_core.specs.declared.errors.Fault.{Fault}
 use Rattle.cacache_store.specs.{declared.store.{step.Step.TheVariants.{MakeDirs, ReadAll}, answer.Answer.TheVariants.{Done, Bytes, NoMemory}, log.LogItem.{LogItem, TheVariants.{Made, Foreign, ForeignFolder}}}, Plain.{PlainStep, PlainAnswer}}
 use Rattle.cacache_disk.specs.{declared.luck.Luck.TheVariants.{Plain}, Tree.{Tree, bare}, Apply.{apply, planted}}
 
--- the new tree, or the old one where something failed
+-- the new tree, or the old one if something failed
 abbrev pub changed : Tree → Result Tree Fault → Tree
 changed t (Ok new) = new
 changed t (Err fault) = t
@@ -31,11 +31,11 @@ abbrev pub IsReplayable : Tree → List LogItem → Type 0
 IsReplayable t [] = Unit {0}
 IsReplayable t (item ∷ log) = HappensOn t item × IsReplayable (after t item) log
 
--- the tree of a store whose log this is
+-- the tree of a store with this log
 unfoldable pub tree_of : List LogItem → Tree
 tree_of log = replay bare log
 
--- each item of the log is what a disk did that was bare at first
+-- each item of the log is what a disk that was bare at first did
 unfoldable pub IsLog : List LogItem → Type 0
 IsLog log = IsReplayable bare log
 
@@ -44,11 +44,11 @@ abbrev pub bytes_told : PlainAnswer → Option (List ℕ)
 bytes_told (Bytes bytes) = Some bytes
 bytes_told _ = None
 
--- the bytes that reading the whole file gives, none where that fails
+-- the bytes that reading the whole file gives, none if that fails
 abbrev pub shown : Tree → List ℕ → Option (List ℕ)
 shown t path = bytes_told (apply t (ReadAll path) Plain).0
 
--- the answer is the disk's, but for want of memory
+-- the answer is the disk's, except for want of memory
 abbrev pub AnsweredByDisk : Tree → PlainStep → PlainAnswer → Type 0
 AnsweredByDisk t step (NoMemory back) = Unit {0}
 AnsweredByDisk t step answer = answer ≡ (apply t step Plain).0

@@ -22,7 +22,7 @@ use cacache_store::store::{Answer, LogItem, PlainFile, PlainTemp, Step, Store, f
 use std::alloc::{AllocError, Global};
 use std::marker::Model;
 
-/// Room for one item more.
+/// Room for one more item.
 fn make_room(log: &mut Vec<LogItem>) -> Result<(), AllocError>
     ensures items { log.new.items ≡ log.old.items }
     ensures room { OnOk result (vec_len log.new < vec_capacity log.new) }
@@ -31,7 +31,7 @@ fn make_room(log: &mut Vec<LogItem>) -> Result<(), AllocError>
     Ok(())
 }
 
-/// One item more, for which there is room.
+/// One more item, for which there is room.
 fn note(log: &mut Vec<LogItem>, item: LogItem)
     requires { vec_len log.old < vec_capacity log.old }
     ensures { log.new.items ≡ log.old.items ++ item ∷ [] }
@@ -60,7 +60,7 @@ fn fault_of(answer: &Answer<PlainFile, PlainTemp>) -> Option<Fault>
     }
 }
 
-/// Makes the missing folders of the path, or gives the fault of that.
+/// Makes the missing folders of the path, or gives the fault.
 fn make_folders(disk: &mut Disk, path: Text) -> Result<Option<Fault>, AllocError>
     ensures fault { IfOk result (λ fault.
         fault ≡ fault_told (apply disk.old (MakeDirs path) Plain).0) }
@@ -101,7 +101,7 @@ impl Model for MemStore {
 }
 
 impl MemStore {
-    /// A store where nothing happened yet, with nothing but the top folder.
+    /// A store in which nothing happened yet, with nothing but the top folder.
     pub fn new(alloc: Global) -> Result<MemStore, AllocError>
         ensures { IfOk result (λ store. store ≡ []) }
     {
@@ -112,9 +112,9 @@ impl MemStore {
         })
     }
 
-    /// A store that begins with all that stands on a disk, say one that a loss of power left. Its
-    /// log tells each folder and file as somebody else's, and each link as a step, in the order of
-    /// paths. No byte of a file is copied. The only error is `OutOfMemory`.
+    /// A store that begins with all that is on a disk, say one that a loss of power left. Its log
+    /// has each folder and file as somebody else's, and each link as a step, in the order of paths.
+    /// No byte of a file is copied. The only error is `OutOfMemory`.
     pub fn of(alloc: Global, disk: &Disk) -> errors::Result<MemStore>
         ensures log { IfOk result (λ store. store ≡ foreign_log disk.now) }
         ensures tree { IfOk result (λ store. tree_of store ≡ disk.now) }
@@ -127,8 +127,8 @@ impl MemStore {
         Ok(store)
     }
 
-    /// All that happened so far, oldest first. Each item is what a disk did that had nothing but
-    /// the top folder at first.
+    /// All that happened so far, oldest first. Each item is what a disk did that began with
+    /// nothing but the top folder.
     pub fn log(&self) -> &[LogItem]
         ensures same { result.now ≡ self.now }
         ensures replayable { IsLog self.now }
@@ -187,7 +187,7 @@ impl MemStore {
         }
     }
 
-    /// Makes a link at the path, which is a step as any other.
+    /// Makes a link at the path, which is a step like any other.
     fn link(&mut self, target: Text, path: Text) -> errors::Result<()>
         ensures ok { OnOk result (self.new ≡ self.old ++ Made (Symlink target path) Done ∷ []) }
         ensures earned { IsEarned
@@ -204,7 +204,7 @@ impl MemStore {
         }
     }
 
-    /// Puts what stands at a path of a disk at the same path.
+    /// Puts what is at a path of a disk at the same path.
     fn receive(&mut self, item: TreeItem) -> errors::Result<()>
         ensures ok { OnOk result (self.new ≡ self.old ++ logged item ∷ []) }
         ensures err { HappensOn (tree_of self.old) (logged item)
@@ -218,7 +218,7 @@ impl MemStore {
         }
     }
 
-    /// The bytes that reading the whole file at the path gives, which are copied once, or None where
+    /// The bytes that reading the whole file at the path gives, which are copied once, or None if
     /// that fails. It isn't logged. The only error is `OutOfMemory`.
     pub fn bytes(&self, path: &str) -> errors::Result<Option<Vec<u8>>>
         ensures ok { IfOk result (λ found.

@@ -13,7 +13,7 @@ entries_left : (x y : List ℕ) (n : ℕ) → entries_of (x ++ take n (10 ∷ y)
 entries_left x y zero = ap entries_of (append-nil x) ∙ sym (append-nil (entries_of x)) ∙ ap (λ es. entries_of x ++ es) (sym empty_holds_nothing)
 entries_left x y (suc n) = entries_split x (take n y) ∙ ap (λ es. entries_of x ++ es) (sym (entries_split [] (take n y) ∙ ap (λ es. es ++ entries_of (take n y)) empty_holds_nothing))
 
--- behind a bucket's bytes too
+-- after a bucket's bytes too
 pub bucket_left : (here : Option Node) (y : List ℕ) (n : ℕ)
     → entries_of (bytes_of here ++ take n (10 ∷ y)) ≡ list_of (bucket_in here) ++ entries_of (take n (10 ∷ y))
 bucket_left None y n = refl
@@ -21,16 +21,16 @@ bucket_left (Some Folder) y n = refl
 bucket_left (Some (File x)) y n = entries_left x y n
 bucket_left (Some (Link target)) y n = refl
 
--- what is left of a line holds its entry where all of it is there
+-- what is left of a line holds its entry if all of it is there
 pub whole_line : (e : Entry) (n : ℕ) → IsEntry e → IsWritable e → length (line_of e) ≤ n → entries_of (take n (line_of e)) ≡ e ∷ []
 whole_line e n formed fits long =
     ap entries_of (take_all n (line_of e) long) ∙ lines_append [] e formed fits ∙ ap (λ es. es ++ e ∷ []) empty_holds_nothing
 
--- and no entry where less is
+-- and no entry if less is
 pub torn_line : (e : Entry) (n : ℕ) → IsEntry e → IsWritable e → n < length (line_of e) → entries_of (take n (line_of e)) ≡ []
 torn_line e n formed fits short = torn_lines_add_nothing [] e n formed fits short ∙ empty_holds_nothing
 
--- a line feed behind a line closes it and adds nothing
+-- a line feed after a line closes it and adds nothing
 closed : (e : Entry) → IsEntry e → IsWritable e → entries_of (line_of e ++ 10 ∷ []) ≡ e ∷ []
 closed e formed fits =
     entries_split (line_of e) []

@@ -55,7 +55,7 @@ pub refused : (home : Option Names) (t : Tree) (step : PlainStep) (luck : Luck) 
 refused home t step luck own h nothing =
     subst (Acted home t step luck) (sym (apply_refused t step luck own h)) (sym (ap (λ act. change home act (wide_value home t)) nothing))
 
--- a made-up fault tells how much was left
+-- a made-up fault shows how much was left
 pub amount_left-made_up : (fault : Fault) (part : Option ℕ) → amount_left (Fail fault part) (Failed (made_up fault)) ≡ part
 amount_left-made_up NotFound part = refl
 amount_left-made_up other part = refl

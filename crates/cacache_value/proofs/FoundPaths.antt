@@ -1,4 +1,4 @@
--- What is known of a path where a step found what it wanted.
+-- What is known of a path at which a step found what it wanted.
 use Rattle.std.{proofs.Common.{◌≡◌, ℕ, zero, suc, true, List, [], ◌∷◌, ◌++◌, Option, None, Some, Ok, Err, refl, sym, ap, subst, ◌∙◌}, specs.Prelude.{Result, IfOk}}
 use Rattle.cacache_core.specs.{declared.errors.Fault.{Fault, TheVariants.{NotFound}}, PathNames.{names_of}}
 use Rattle.cacache_disk.specs.{declared.node.Node.{Node, TheVariants.{Folder, File, Link}}, Tree.{Tree, Names, look}, LedTo.{and_then, or_fault, through, way_fault, place, standing, followed, leads, on_link, where_no_folder, linked_in, linked, writable, dirs}}
@@ -17,7 +17,7 @@ out_at home t (Some Folder) names new go s k on e = let same : names ≡ new = c
 out_at home t (Some (File bytes)) names new go s k on e = let same : names ≡ new = cc in ap (path_kind home) (sym same) ∙ k
 out_at home t (Some (Link target)) names new go s k on e = on target s e
 
--- what holds of a path's names, where it has these
+-- what holds of a path's names holds of these, if they are its names
 pub of_names : (P : Names → Type 0) (path : List ℕ) (names : Names) → IfOk (names_of path) P → names_of path ≡ Ok names → P names
 of_names P path names holds is = subst (λ r. IfOk r P) is holds
 
@@ -35,7 +35,7 @@ followed_out home t (suc n) names new placed k e =
     followed_out home t n f.0 new placed (of_names (λ n. path_kind home n ≡ Elsewhere) target f.0 out (standing_ok t target f.0 f.1)) f.2)
     e
 
--- a file that is written where a path elsewhere leads is elsewhere too
+-- a file that is written at the end of a path elsewhere is elsewhere too
 pub writable_out : (home : Option Names) (t : Tree) (path : List ℕ) (names : Names) → Placed home t → IsFor home Elsewhere path
     → writable t path ≡ Ok names
     → (path_kind home names ≡ Elsewhere) × NoFolder (look t names)
@@ -100,7 +100,7 @@ bucket_reached home t path names placed is k =
 
 -- ---- what a hard link copies
 
--- a link leads out wherever it may stand
+-- a link leads out, wherever it may be
 link_out : (home : Option Names) (target : List ℕ) (k : PathKind) → MayStand home (Some (Link target)) k → IsFor home Elsewhere target
 link_out home target Content s = s
 link_out home target Bucket s = absurd s

@@ -1,4 +1,4 @@
--- Paths of two kinds are apart, and above a path of the cache there are ways alone.
+-- Paths of two kinds are apart, and above a path of the cache there are only ways.
 use Rattle.std.proofs.Common.{◌≡◌, ℕ, zero, suc, Bool, true, false, cond, List, [], ◌∷◌, ◌++◌, Option, None, Some, bytes_eq, refl, sym, ap, ◌∙◌, eq-eqb, append_assoc}
 use Rattle.cacache_core.specs.Paths.{content_area, index_area, temp_area}
 use Rattle.cacache_disk.{specs.Tree.{Names, same_path}, proofs.Maps.{same_path-true}}
@@ -8,7 +8,7 @@ bytes_eq_same : (xs : List ℕ) → bytes_eq xs xs ≡ true
 bytes_eq_same [] = refl
 bytes_eq_same (x ∷ xs) = rw (eq-eqb x x refl) (bytes_eq_same xs)
 
--- a path below the cache's folder is of the kind that its inner names tell
+-- a path below the cache's folder is of the kind that its inner names give
 pub kind-below : (home path : Names) → kind_beside home (home ++ path) ≡ kind_below path
 kind-below [] path = refl
 kind-below (name ∷ home) path = rw (bytes_eq_same name) (kind-below home path)
@@ -60,7 +60,7 @@ pub above : (home : Option Names) (path rest : Names) (name : List ℕ) → is_u
 above None path rest name used = absurd cc
 above (Some home) path rest name used = outer_above home path rest name used
 
--- one name more
+-- one more name
 pub further : (home : Option Names) (k : PathKind) (path rest : Names) (name : List ℕ) → path_kind home (path ++ name ∷ rest) ≡ k
     → path_kind home ((path ++ name ∷ []) ++ rest) ≡ k
 further home k path rest name is = ap (path_kind home) (append_assoc path (name ∷ []) rest) ∙ is

@@ -9,7 +9,7 @@ use Rattle.cacache_value.proofs.{KindsApart.{further, way_here}, PutValues.{plac
 abbrev folders_of : Tree → Names → Bool
 folders_of t names = is_folder (look t names)
 
--- a placed tree that stands for the same, but for its folders
+-- a placed tree with the same value, except for its folders
 abbrev pub HasFolders : Option Names → Tree → Tree → (Names → Bool) → Type 0
 HasFolders home t new folders = Placed home new × (wide_value home new ≡ with_folders folders (wide_value home t))
 
@@ -44,7 +44,7 @@ clear_way home (Some Folder) s = refl
 clear_way home (Some (File bytes)) s = absurd s
 clear_way home (Some (Link target)) s = absurd s
 
--- nothing stands in the way
+-- nothing is in the way
 pub no_dirs_fault : (home : Option Names) (t : Tree) (above rest : Names) → path_kind home (above ++ rest) ≡ Way → Placed home t
     → dirs_fault t above rest ≡ None
 no_dirs_fault home t above [] k placed = refl

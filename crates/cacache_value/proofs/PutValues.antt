@@ -1,4 +1,4 @@
--- What a tree stands for after a node is put or cut.
+-- The value of a tree after a node is put or cut.
 use Rattle.std.proofs.Common.{◌≡◌, ℕ, Bool, true, false, cond, List, ◌++◌, Option, None, Some, refl, sym, ap, subst, ◌∙◌}
 use Rattle.std.specs.FinMap as map
 use Rattle.cacache_core.specs.{declared.integrity.digest.Hash.{Hash}, Paths.{content_names, bucket_names_of}}
@@ -22,7 +22,7 @@ node_below-cut : (home : Option Names) (t : Tree) (p names : Names) → node_bel
 node_below-cut None t p names = refl
 node_below-cut (Some home) t p names = look-cut t p (home ++ names)
 
--- what stands at a path that is this one
+-- the node at a path that is this one
 pub node_below-here : (home : Option Names) (t : Tree) (p names : Names) → is_path_of home names p ≡ true → node_below home t names ≡ look t p
 node_below-here None t p names e = absurd cc
 node_below-here (Some home) t p names e = ap (look t) (same_path-true (home ++ names) p e)
@@ -40,7 +40,7 @@ pub cut_unseen : (home : Option Names) (t : Tree) (p names : Names) → (kind_be
     → node_below home (cut t p) names ≡ node_below home t names
 cut_unseen home t p names apart = node_below-cut home t p names ∙ ap (λ b. cond b None (node_below home t names)) (unseen home names p apart)
 
--- ---- what may stand at each path
+-- ---- what may be at each path
 
 suits_none : (home : Option Names) (k : PathKind) → MayStand home None k
 suits_none home k = tt
@@ -60,7 +60,7 @@ placed_cut home t p placed = λ q. rw (look-cut t p q) (placed_at home p q None 
 -- ---- the value
 
 module _ (home : Option Names) (t : Tree) (p : Names) where
-  -- a file or link put where the cache keeps nothing
+  -- a file or link put at a path at which the cache keeps nothing
   pub put_hidden : (node : Node) → (Content ≡ path_kind home p → ⊥) → (Bucket ≡ path_kind home p → ⊥) → is_folder (Some node) ≡ false
       → is_folder (look t p) ≡ false → wide_value home (put t p node) ≡ wide_value home t
   put_hidden node c b fresh old =
@@ -69,7 +69,7 @@ module _ (home : Option Names) (t : Tree) (p : Names) where
       (λ h. ap bucket_in (put_unseen home t p node (bucket_names_of h) b))
       (λ q. folders-put t p node q fresh old)
 
-  -- a file cut where the cache keeps nothing
+  -- a file cut at a path at which the cache keeps nothing
   pub cut_hidden : (Content ≡ path_kind home p → ⊥) → (Bucket ≡ path_kind home p → ⊥) → is_folder (look t p) ≡ false
       → wide_value home (cut t p) ≡ wide_value home t
   cut_hidden c b old =

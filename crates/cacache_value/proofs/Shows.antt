@@ -38,7 +38,7 @@ module _ (Q : PlainAnswer → Type 0) (made_up_too : (fault : Fault) → Q (Fail
 
 -- ---- where a path of the cache leads
 
--- something stands there, or nothing, or a folder on the way is missing too
+-- something is there, or nothing, or a folder on the way is missing too
 data Leads (t : Tree) (path : List ℕ) (names : Names) : Type 0 where
   there : (node : Node) → look t names ≡ Some node → place t path ≡ Ok names → Leads t path names
   free : look t names ≡ None → place t path ≡ Ok names → Leads t path names

@@ -19,7 +19,7 @@ no_folder_in home (Some Folder) s = absurd s
 no_folder_in home (Some (File bytes)) s = refl
 no_folder_in home (Some (Link target)) s = refl
 
--- a placed tree that stands for the same
+-- a placed tree with the same value
 abbrev pub Same : Option Names → Tree → Tree → Type 0
 Same home t new = Placed home new × (wide_value home new ≡ wide_value home t)
 
@@ -31,7 +31,7 @@ module _ (home : Option Names) (t : Tree) (placed : Placed home t) where
   asked_only : {A : Type 0} (r : Result A Fault) (answer : A → PlainAnswer) → Same home t (unless r t (λ a. (answer a, t))).1
   asked_only r answer = unless_tree (Same home t) r t (λ a. (answer a, t)) (placed, refl) (λ a is. (placed, refl))
 
-  -- a file or link put where the cache keeps nothing
+  -- a file or link put at a path at which the cache keeps nothing
   put_aside : (names : Names) (node : Node) (k : PathKind) → path_kind home names ≡ k → (Content ≡ k → ⊥) → (Bucket ≡ k → ⊥) → MayStand home (Some node) k
       → is_folder (Some node) ≡ false → is_folder (look t names) ≡ false
       → Same home t (put t names node)
@@ -152,7 +152,7 @@ module _ (home : Option Names) (t : Tree) (placed : Placed home t) where
       → wide_value home (put t names (File (bytes_of (look t names) ++ take n (10 ∷ y)))) ≡ change home (AddEntries names (entries_of (take n (10 ∷ y)))) (wide_value home t)
   appended p names y n k old = put_bucket home t names _ (entries_of (take n (10 ∷ y))) k old (bucket_left (look t names) y n)
 
-  -- where it reaches the bucket
+  -- an append that reaches the bucket
   module _ (p y : List ℕ) (names : Names) (is : names_of p ≡ Ok names) (k : path_kind home names ≡ Bucket) where
     added : (luck : Luck) (answer : PlainAnswer) (n : ℕ) (new : Tree) → amount_left luck answer ≡ Some n
         → new ≡ put t names (File (bytes_of (look t names) ++ take n (10 ∷ y))) → Acted home t (Append p (10 ∷ y)) luck (answer, new)

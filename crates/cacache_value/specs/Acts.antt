@@ -14,7 +14,7 @@ pub data Act : Type 0 where
   PutBytes : Names → List ℕ → Act
   -- puts a link as the content there
   PutLink : Names → List ℕ → Act
-  -- puts entries behind those of the bucket there, which then exists, also where no entry comes
+  -- adds entries at the end of the bucket there, which then exists, even if no entry comes
   AddEntries : Names → List Entry → Act
   -- removes the content or the bucket there
   Drop : Names → Act
@@ -30,31 +30,31 @@ abbrev pub act_at : Result Names Fault → (Names → Act) → Act
 act_at (Ok names) act = act names
 act_at (Err fault) act = Nothing
 
--- the act with what is known; nothing where it isn't
+-- the act with what is known; nothing if it isn't
 abbrev pub act_with : {A : Type 0} → Option A → (A → Act) → Act
 act_with None act = Nothing
 act_with (Some known) act = act known
 
--- the act of a step that is done; nothing where it failed
+-- the act of a step that is done; nothing if it failed
 abbrev pub act_if_done : PlainAnswer → Act → Act
 act_if_done Done act = act
 act_if_done answer act = Nothing
 
--- how many of its bytes or folders a made-up failure leaves, where it leaves any change
+-- how many of its bytes or folders a made-up failure leaves, if it leaves any change
 abbrev pub part_of : Luck → Option ℕ
 part_of Plain = None
 part_of (Take most) = None
 part_of (Fail fault part) = part
 
--- how many bytes or folders a step left, if any: what it took, or what a made-up failure left. That
--- something is missing is never made up, so then nothing was left
+-- how many bytes or folders a step left, if any: what it took, or what a made-up failure left. No
+-- made-up failure says that something is missing, so then nothing was left
 abbrev pub amount_left : Luck → PlainAnswer → Option ℕ
 amount_left luck (Took count) = Some count
 amount_left luck (Failed NotFound) = None
 amount_left luck (Failed fault) = part_of luck
 amount_left luck answer = None
 
--- how many folders of a path were made at most: all of them where the step is done
+-- how many folders of a path were made at most: all of them if the step is done
 abbrev pub folders_left : Names → Luck → PlainAnswer → Option ℕ
 folders_left names luck Done = Some (length names)
 folders_left names luck answer = amount_left luck answer
@@ -84,11 +84,11 @@ put_blob home path blob v = record v {
       else v.contents address;
 }
 
--- the entries of a bucket, none where it doesn't exist
+-- the entries of a bucket, none if it doesn't exist
 abbrev pub list_of : Option (List Entry) → List Entry
 list_of bucket = unwrap_or bucket []
 
--- the value with these entries behind those of the bucket at a path
+-- the value with these entries at the end of the bucket at a path
 abbrev pub add_entries : Option Names → Names → List Entry → Value → Value
 add_entries home path new v = record v {
   buckets = λ digest.

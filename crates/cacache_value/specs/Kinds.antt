@@ -36,7 +36,7 @@ pub data PathKind : Type 0 where
   -- apart from the cache: neither below its folder nor on the way there
   Elsewhere : PathKind
 
--- the kind of a path in an area of the cache, whose files lie so many names deep
+-- the kind of a path in an area of the cache that has files so many names deep
 abbrev pub kind_in_area : PathKind → ℕ → Names → PathKind
 kind_in_area file zero [] = file
 kind_in_area file zero (name ∷ rest) = Stray
@@ -59,7 +59,7 @@ kind_beside (name ∷ home) [] = Way
 kind_beside (name ∷ home) (first ∷ rest) =
     if bytes_eq name first then kind_beside home rest else Elsewhere
 
--- what a path is for; where the cache's text names no folder, each path is apart from it
+-- what a path is for; if the cache's text names no folder, each path is apart from it
 abbrev pub path_kind : Option Names → Names → PathKind
 path_kind None path = Elsewhere
 path_kind (Some home) path = kind_beside home path

@@ -6,7 +6,7 @@ use Rattle.cacache_disk.specs.{declared.node.Node.{Node, TheVariants.{Folder, Fi
 use Rattle.cacache_entry.specs.{Entry.{Entry, closed_line}, FittingEntries.{IsEntry, IsWritable}}
 use Rattle.cacache_value.specs.Kinds.{PathKind, Content, Bucket, Temporary, Way, Stray, Elsewhere, path_kind, IsFor}
 
--- what may stand at a path of a kind: each link leads to a path apart from the cache
+-- what may be at a path of a kind: each link leads to a path apart from the cache
 abbrev pub MayStand : Option Names → Option Node → PathKind → Type 0
 MayStand home None k = Unit {0}
 MayStand home (Some Folder) Way = Unit {0}
@@ -19,7 +19,7 @@ MayStand home (Some (Link target)) Content = IsFor home Elsewhere target
 MayStand home (Some (Link target)) Elsewhere = IsFor home Elsewhere target
 MayStand home (Some (Link target)) other = ⊥
 
--- at each path stands nothing, or what may stand there
+-- at each path is nothing, or what may be there
 abbrev pub Placed : Option Names → Tree → Type 0
 Placed home t = (names : Names) → MayStand home (look t names) (path_kind home names)
 

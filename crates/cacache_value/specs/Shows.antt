@@ -17,7 +17,7 @@ blob_bytes t (Some (InFile bytes)) = Ok bytes
 blob_bytes t (Some (AtLink target)) =
     and_then (link_end t target) (λ names. bytes_there IsADirectory (look t names))
 
--- the answer whether a content is there: of a link, whether its end is
+-- the answer whether a content is there; for a link, whether its end is
 abbrev pub blob_there : Tree → Option Blob → PlainAnswer
 blob_there t None = There false
 blob_there t (Some (InFile bytes)) = There true
@@ -47,7 +47,7 @@ ShowsThere content other = Unit {0}
 
 -- ---- reading steps
 
--- a step at the path of a content answers what is so of the content that the value holds there
+-- the answer of a step at the path of a content suits the content that the value holds there
 abbrev pub AnswersOf : Option Names → Tree → (List ℕ → PlainStep)
     → (Option Blob → PlainAnswer → Type 0) → Type 0
 AnswersOf home t step IsSo =

@@ -51,7 +51,7 @@ pub record TreeCases (home : Names) (t : Tree) : Type 0 where
   pub no_bucket : (digest : List ℕ) → look t (home ++ bucket_names_of digest) ≡ None
       → (value_of_tree (Some home) t).buckets digest ≡ None
 
--- what a link shows that leads to a file, to nothing or to a folder
+-- what a link to a file, to nothing or to a folder shows
 pub record LinkCases (t : Tree) (target : List ℕ) : Type 0 where
   pub to_file : (end : Names) (bytes : List ℕ)
       → link_end t target ≡ Ok end → look t end ≡ Some (File bytes)
@@ -75,13 +75,13 @@ bucket_after home v path digest e luck answer =
 
 -- appends of an entry's line to the bucket of a SHA-1
 pub record AppendCases (home : Names) (v : Value) (path digest : List ℕ) (e : Entry) : Type 0 where
-  -- all of it was taken: the entry stands behind the others
+  -- all of it was taken: the entry comes after the others
   pub whole : (luck : Luck) → bucket_after home v path digest e luck (Took (length (line_of e)))
       ≡ Some (list_of (v.buckets digest) ++ e ∷ [])
   -- less was taken: the bucket exists, and no entry comes
   pub torn : (luck : Luck) (n : ℕ) → n < length (line_of e)
       → bucket_after home v path digest e luck (Took n) ≡ Some (list_of (v.buckets digest))
-  -- a failure that left all of it: the entry comes all the same
+  -- a failure that left all of it: the entry comes even so
   pub failed_whole : (n : ℕ) → length (line_of e) ≤ n
       → bucket_after home v path digest e (Fail Device (Some n)) (Failed Device)
       ≡ Some (list_of (v.buckets digest) ++ e ∷ [])

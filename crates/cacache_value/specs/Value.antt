@@ -5,7 +5,7 @@ use Rattle.cacache_disk.specs.{declared.node.Node.{Node, TheVariants.{Folder, Fi
 use Rattle.cacache_entry.specs.{Entry.{Entry}, Bucket.{entries_of}}
 use Rattle.cacache_value.specs.Kinds.{node_below}
 
--- a content: these bytes, or what stands where a link leads
+-- a content: these bytes, or what a link leads to
 pub data Blob : Type 0 where
   InFile : List ℕ → Blob
   AtLink : List ℕ → Blob
@@ -48,13 +48,13 @@ wide_value home t = record {
   folders = λ names. is_folder (look t names);
 }
 
--- of the folders those below the cache's own, by their names below it
+-- the folders below the cache's own, by their names below it
 abbrev pub folders_below : Option Names → (Names → Bool) → Names → Bool
 folders_below None folders names = false
 folders_below (Some home) folders [] = false
 folders_below (Some home) folders (name ∷ rest) = folders (home ++ name ∷ rest)
 
--- the value with the cache's own folders alone
+-- the value with only the cache's own folders
 abbrev pub cache_part : Option Names → Value → Value
 cache_part home v = record v { folders = folders_below home v.folders }
 

@@ -34,19 +34,19 @@ TreesShow = (home : Option Names) (t : Tree) → Placed home t → Rooted t → 
 
 -- ---- appends
 
--- an append of an entry's line, durable or not, of which n bytes were left adds these entries
+-- an append of an entry's line, durable or not, that left n bytes adds these entries
 abbrev pub LineAdds : Entry → ℕ → List Entry → Type 0
 LineAdds e n entries =
     (durable : Bool) (path : List ℕ) (names : Names) (luck : Luck) (answer : PlainAnswer)
     → names_of path ≡ Ok names → amount_left luck answer ≡ Some n
     → act_of (Append path (closed_line durable e)) luck answer ≡ AddEntries names entries
 
--- where all of the line was left, its entry; the LF that closes it may be missing
+-- if all of the line was left, its entry; the LF that closes it may be missing
 abbrev pub WholeLinesAdd : Type 0
 WholeLinesAdd =
     (e : Entry) (n : ℕ) → IsEntry e → IsWritable e → length (line_of e) ≤ n → LineAdds e n (e ∷ [])
 
--- where less was left, none
+-- if less was left, none
 abbrev pub TornLinesAddNone : Type 0
 TornLinesAddNone =
     (e : Entry) (n : ℕ) → IsEntry e → IsWritable e → n < length (line_of e) → LineAdds e n []
@@ -83,13 +83,13 @@ abbrev pub KeepsBucket : Option Names → List ℕ → Act → Type 0
 KeepsBucket home digest (Drop path) = is_path_of home (bucket_names_of digest) path ≡ false
 KeepsBucket home digest other = Unit {0}
 
--- steps whose acts don't
+-- steps with acts that don't
 abbrev pub KeepBucket : Option Names → List ℕ → List Move → Type 0
 KeepBucket home digest [] = Unit {0}
 KeepBucket home digest (m ∷ moves) =
     KeepsBucket home digest (act_of m.step m.luck m.answer) × KeepBucket home digest moves
 
--- the second list is the first with more behind it
+-- the second list is the first with more at its end
 abbrev pub IsLonger : List Entry → List Entry → Type 0
 IsLonger old new = (more : List Entry) × (new ≡ old ++ more)
 
@@ -102,7 +102,7 @@ BucketsGrow =
 
 -- ---- the beginning
 
--- a tree of outside files alone holds nothing of the cache
+-- a tree of only outside files holds nothing of the cache
 abbrev pub FilesOpen : Type 0
 FilesOpen =
     (home : Option Names) (files : List (List ℕ × List ℕ)) (t : Tree) → LieApart home files

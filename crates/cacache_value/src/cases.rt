@@ -17,12 +17,12 @@ pub fn kind_cases()
     ensures { KindCases }
 {}
 
-/// What a tree holds by a file, a link or nothing at the path of a content or a bucket.
+/// What a tree holds with a file, a link or nothing at the path of a content or a bucket.
 pub fn tree_cases()
     ensures { (home : Names) (t : Tree) → TreeCases home t }
 {}
 
-/// What a content shows that is a link.
+/// What a content that is a link shows.
 pub fn link_cases()
     ensures { (t : Tree) (target : List ℕ) → LinkCases t target }
 {}

@@ -14,8 +14,7 @@ pub fn step_laws()
     ensures shows { TreesShow }
 {}
 
-/// An append of an entry's line adds the entry where all of the line was left, and no entry where
-/// less was.
+/// An append of an entry's line adds the entry if all of the line was left, otherwise no entry.
 pub fn append_laws()
     ensures whole { WholeLinesAdd }
     ensures torn { TornLinesAddNone }

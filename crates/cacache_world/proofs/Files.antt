@@ -7,7 +7,7 @@ use Rattle.cacache_value.specs.{Kinds.{Elsewhere, IsFor}, OpeningTrees.{with_fil
 use Rattle.cacache_world.specs.{WorldKept.{LiesApart, FilesAreApart}, declared.event.WorldFault.{WorldFault}, Faults.{CantPlace, CantOpen}}
 use Rattle.cacache_world.specs.declared.event.WorldFault.TheVariants as faults
 
--- ---- one file more
+-- ---- one more file
 
 lie_push : (h : Option Names) (files : List (List ℕ × List ℕ)) (file : List ℕ × List ℕ) → LieApart h files → IsFor h Elsewhere file.0 → LieApart h (files ++ file ∷ [])
 lie_push h [] file lie is = (is, tt)
@@ -42,7 +42,7 @@ with_more files n file m new below here all one =
 abbrev pub ApartUpTo : List ℕ → List (List ℕ × List ℕ) → ℕ → Type 0
 ApartUpTo cache files count = (n : ℕ) (file : List ℕ × List ℕ) → n < count → slice_get files n ≡ Some file → LiesApart cache (take n files) file.0
 
--- what stands at a place of a list
+-- the item at a place of a list
 pub file_at : (files : List (List ℕ × List ℕ)) (n : ℕ) (file other : List ℕ × List ℕ) → n < length files → file ≡ get_or files n other → slice_get files n ≡ Some file
 file_at [] n file other below is = absurd (omega arith)
 file_at (f ∷ files) zero file other below is = ap Some (sym is)

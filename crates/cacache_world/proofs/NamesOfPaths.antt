@@ -68,7 +68,7 @@ apart_by_fronts ns ms c e =
     subst (λ c. not (pointwise (pointwise nat_eq) (take c ns) (take c ms)) ≡ are_apart ns ms) (sym e)
     (apart_fronts ns ms (min (length ns) (length ms)) (omega arith) (omega arith) (shorter (length ns) (length ms) (nat_le (length ns) (length ms)) refl))
 
--- apart from the text whose names were found
+-- apart from the text that has these names
 pub apart_some : (r : Result Names Fault) (names path : Names) → Some names ≡ result_ok r → are_apart names path ≡ apart_from_text r path
 apart_some (Ok found) names path e = let same : names ≡ found = cc in ap (λ n. are_apart n path) same
 apart_some (Err fault) names path e = absurd cc

@@ -17,7 +17,7 @@ stands_where job s goes = turn_at (λ file. file) (λ temp. temp) job.standing s
 pub over_wants_none : (s : State) (reply : Reply) → s ≡ over reply → wants s ≡ None
 over_wants_none s reply e = ap wants e
 
--- a call that tells no reply isn't over
+-- a call that gives no reply isn't over
 pub not_over : (s : State) (reply : Reply) → Tells None s → s ≡ over reply → ⊥
 not_over s reply wanted e = let no : None ≡ Some wanted.0 = sym (over_wants_none s reply e) ∙ wanted.1 in absurd cc
 
@@ -29,7 +29,7 @@ pub ends_so : (s : State) (reply said kept : Reply) → s ≡ over (plain_reply 
 ends_so s reply said kept e (same, inl is) = inl (e ∙ ap (λ r. over (plain_reply r)) (sym (same ∙ is)))
 ends_so s reply said kept e (same, inr is) = inr (same ∙ is)
 
--- the same, where the job may have lost its memory
+-- the same, if the job may have lost its memory
 pub ends_lost : (s : State) (reply said kept : Reply) → over (Refused OutOfMemory) ≡ over (plain_reply reply) → IsSaid reply said kept → Ends s (Some kept)
 ends_lost s reply said kept e (same, inl is) = inr (same ∙ is ∙ over_inner reply e)
 ends_lost s reply said kept e (same, inr is) = inr (same ∙ is)

@@ -1,4 +1,4 @@
--- What a world keeps, with one record more.
+-- What a world keeps, with one more record.
 use Rattle.std.proofs.{Common.{◌≡◌, inl, Ok, ◌==◌, ◌<◌, ◌+◌, ℕ, zero, suc, Bool, true, false, cond, List, [], ◌∷◌, ◌++◌, Option, None, Some, IsTrue, replicate, slice_get, slice_set, option_map, refl, sym, ap, subst, ◌∙◌}, lemmas.Bool.{eqb-true, eqb-false}}
 use Rattle.cacache_disk.specs.{declared.luck.Luck.{Luck}, Tree.{Tree, bare}, Apply.{apply}}
 use Rattle.cacache_core.specs.PathNames.{home_of}
@@ -78,7 +78,7 @@ back_job job same (Some None) call e h to ready = let no : Some None ≡ Some (S
 back_job job same (Some (Some j)) None e h to ready = absurd h
 back_job job same (Some (Some j)) (Some c) e h to ready = let is : j ≡ job = cc in (to c.state (subst (λ x. JobStands x c.state) is h.0), ready)
 
--- ---- one record more
+-- ---- one more record
 
 keeps_more : (h : History) (r : Record) (t t' : Tree) (b b' : ℕ) (jobs jobs' : List (Option DiskJob)) → Keeps h t b jobs → MayCome h.setup (last h) r
     → (now_after h.setup (last h) r).tree ≡ t' → (now_after h.setup (last h) r).begun ≡ b'
@@ -90,7 +90,7 @@ keeps_more h r t t' b b' jobs jobs' k may tree begun at = record {
   calls = λ m. subst (λ w. JobAt (slice_get jobs' m) (w.calls m)) (sym (last_more h r)) (at m);
 }
 
--- what an event leaves: one record more, and what a world keeps
+-- what an event leaves: one more record, and what a world keeps
 pub record Left (h : History) (r : Record) (t : Tree) (b : ℕ) (jobs : List (Option DiskJob)) : Type 0 where
   pub may : MayCome h.setup (last h) r
   pub keeps : Keeps (adding h r) t b jobs
@@ -134,7 +134,7 @@ over_left h t b jobs jobs' caller job luck reply k here ends gone =
           (set_jobs jobs caller (Some job) None (last h).calls None here k.calls refl));
     }
 
--- its own reply is told
+-- the caller gets the call's own reply
 pub tells_own : (h : History) (t : Tree) (b : ℕ) (jobs : List (Option DiskJob)) (caller : ℕ) (job : DiskJob) (reply : Reply) → Keeps h t b jobs → slice_get jobs caller ≡ Some (Some job)
     → ((s : State) → JobStands job s → Tells (Some reply) s) → TellsOwn h caller None (moves.Done reply)
 tells_own h t b jobs caller job reply k here ends = let c = has_call job (slice_get jobs caller) _ here (k.calls caller) in (c.0, c.1, ends c.0.state c.2)
@@ -163,14 +163,14 @@ said_is : (a : After) (s : State) → StandsAfter a s → said_of a ≡ reply_af
 said_is (ways.On job) s h = refl
 said_is (ways.Over said kept) s h = ap Some h
 
--- the caller is told the reply that the history has
+-- the caller gets the reply that the history has
 pub told_is : (h : History) (t t' : Tree) (b : ℕ) (jobs : List (Option DiskJob)) (caller : ℕ) (job : DiskJob) (luck : Luck) (made : Made) (a : After) → Keeps h t b jobs → slice_get jobs caller ≡ Some (Some job)
     → IsMade job luck t made a t' → said_of a ≡ reply_after a
 told_is h t t' b jobs caller job luck made a k here is =
     let c = has_call job (slice_get jobs caller) _ here (k.calls caller) in
     said_is a (after c.0.state made.1) (is c.0.state c.2).2
 
--- a call whose step was handed back
+-- a call that had its step handed back
 pub back_keeps : (h : History) (t : Tree) (b : ℕ) (jobs jobs' : List (Option DiskJob)) (caller : ℕ) (job same : DiskJob) → Keeps h t b jobs → slice_get jobs caller ≡ Some (Some job)
     → ((s : State) → JobStands job s → JobStands same s) → IsTrue (can_go_on same) → jobs' ≡ slice_set jobs caller (Some same) → Keeps h t b jobs'
 back_keeps h t b jobs jobs' caller job same k here to ready set = record {
@@ -198,7 +198,7 @@ same_parts cache outside n n' records records' e f = λ i. history_of (setup_of 
 pub keeps_same : (h h' : History) (t : Tree) (b : ℕ) (jobs : List (Option DiskJob)) → h' ≡ h → Keeps h t b jobs → Keeps h' t b jobs
 keeps_same h h' t b jobs e k = subst (λ x. Keeps x t b jobs) (sym e) k
 
--- ---- where nothing happened yet
+-- ---- before anything happened
 
 none_at : (n k : ℕ) → JobAt (slice_get (replicate n None) k) None
 none_at zero k = refl

@@ -18,7 +18,7 @@ IsBad s (commands.Export source e) = may_export s e.to ≡ false
 IsBad s (commands.Link l) = is_outside s (based s.base l.target) ≡ false
 IsBad s command = ⊥
 
--- a test that says whether a call may begin with a command
+-- a test says whether a call may begin with a command
 abbrev pub Judges : Bool → Setup → ℕ → Command → Type 0
 Judges true s number command = MayAsk s number command
 Judges false s number command = IsBad s command

@@ -64,7 +64,7 @@ CantBegin h caller command faults.OutOfMemory = IsFree h caller
 
 -- ---- outside files
 
--- why a file can't be put beside those before it: its path isn't free, or can't name a file
+-- why a file can't be put next to those before it: its path isn't free, or can't name a file
 abbrev pub CantPlace : List ℕ → List (List ℕ × List ℕ) → Tree → List ℕ × List ℕ → WorldFault
     → Type 0
 CantPlace cache before t file faults.BadCommand =

@@ -1,4 +1,4 @@
--- What a loss of power leaves where a history ends.
+-- What a loss of power leaves at the end of a history.
 use Rattle.std.specs.Prelude.{ℕ, List}
 use Rattle.cacache_disk.specs.Tree.{Tree}
 use Rattle.cacache_loss.specs.{declared.loss.Loss.{Loss}, Chosen.{chosen}, Loss.{Lost}}
@@ -12,7 +12,7 @@ LeftBy h loss t =
     Lost (home h.setup) (moment_at h h.records).tree (moment_at h h.records).fixed
     (chosen loss.undone.items loss.tails.items) t
 
--- so it is where these records of a world end, however many callers it has
+-- so it is at the end of these records of a world, however many callers it has
 abbrev pub LeftAfter :
     List ℕ → List (List ℕ × List ℕ) → List Record → Loss → Tree → Type 0
 LeftAfter cache outside records loss t =

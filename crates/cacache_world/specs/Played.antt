@@ -17,7 +17,7 @@ HappenAll [] h h' = h' ≡ h
 HappenAll (event ∷ events) h h' =
     (next : History) × Happens event h next × HappenAll events next h'
 
--- why an event can't be; of a beginning memory may be refused before anything else is looked at
+-- why an event can't be; for a beginning, memory may be refused before anything else is checked
 abbrev pub CantBe : Event → History → WorldFault → Type 0
 CantBe (events.Begin caller command) h faults.OutOfMemory = Unit {0}
 CantBe (events.Begin caller command) h fault = CantBegin h caller command fault

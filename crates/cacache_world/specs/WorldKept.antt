@@ -7,7 +7,7 @@ use Rattle.cacache_history.specs.{declared.record.Record.{Record, TheVariants.{M
 use Rattle.cacache_world.specs.{declared.{event.Move.{Move}, world.World.TheInside.{Inside}}, Turned.{DiskJob, JobStands, told_by}}
 use Rattle.cacache_world.specs.declared.event.Move.TheVariants as moves
 
--- ---- what a world tells
+-- ---- what a world shows
 
 -- what callers share in a world of these parts: relative link targets start at the top folder
 abbrev pub setup_of : List ℕ → List (List ℕ × List ℕ) → ℕ → Setup
@@ -18,15 +18,15 @@ setup_of cache outside callers =
 abbrev pub history_of : Setup → List Record → History
 history_of setup records = record { setup = setup; records = records }
 
--- the history that a world tells
+-- the history that a world shows
 abbrev pub history_told : Inside → History
 history_told w = history_of (setup_of w.cache w.outside.items (vec_len w.calls)) w.records.items
 
--- with one record more
+-- with one more record
 abbrev pub adding : History → Record → History
 adding h r = history_of h.setup (h.records ++ r ∷ [])
 
--- what stands at the end of a history
+-- what is there at the end of a history
 abbrev pub last : History → Now
 last h = now_at h h.records
 
@@ -44,21 +44,21 @@ FilesAreApart cache files =
 
 -- ---- what it keeps
 
--- a caller's job stands where its call does
+-- a caller's job is in the state of its call
 abbrev pub JobAt : Option (Option DiskJob) → Option Call → Type 0
 JobAt None call = call ≡ None
 JobAt (Some None) call = call ≡ None
 JobAt (Some (Some job)) None = ⊥
 JobAt (Some (Some job)) (Some call) = JobStands job call.state × IsTrue (can_go_on job)
 
--- the history is legal, and the disk and the jobs are where it leads
+-- the history is legal, and leads to this disk and these jobs
 pub record Keeps (h : History) (t : Tree) (b : ℕ) (jobs : List (Option DiskJob)) : Type 0 where
   pub legal : IsLegal h
   pub tree : (last h).tree ≡ t
   pub begun : (last h).begun ≡ b
   pub calls : (caller : ℕ) → JobAt (slice_get jobs caller) ((last h).calls caller)
 
--- a world's disk and jobs are where its legal history leads
+-- a world's legal history leads to its disk and its jobs
 abbrev pub WorldIsKept : Inside → Type 0
 WorldIsKept w = Keeps (history_told w) w.disk w.begun w.calls.items
 
@@ -76,20 +76,20 @@ pub record IsLifted (old : List (Option DiskJob)) (caller : ℕ) (job : DiskJob)
 
 -- ---- what events add
 
--- one record more, which may come
+-- one more record, which may come
 pub record AddsRecord (h : History) (r : Record) (h' : History) : Type 0 where
   pub may : MayCome h.setup (last h) r
   pub added : h' ≡ adding h r
 
--- where no step was made the call was over before, and its own reply is told
+-- if no step was made, the call was over before, and its own reply is given
 abbrev pub TellsOwn : History → ℕ → Option Made → Move → Type 0
 TellsOwn h caller (Some made) _ = Unit {0}
 TellsOwn h caller None moves.More = ⊥
 TellsOwn h caller None (moves.Done reply) =
     (call : Call) × ((last h).calls caller ≡ Some call) × (call.state ≡ over (plain_reply reply))
 
--- one move more: the step that the caller's call wants, the luck, the answer and the tree of the
--- disk, and the reply that the caller is told
+-- one more move: the step that the caller's call wants, the luck, the answer and the tree of the
+-- disk, and the reply that the caller gets
 abbrev pub MovesOn : History → ℕ → Luck → Move → History → Type 0
 MovesOn h caller luck move h' =
     (made : Option Made) × AddsRecord h (Moved caller luck made (told_by move)) h'

@@ -18,14 +18,14 @@ use cacache_table::{
 };
 use std::alloc::{AllocError, Global};
 
-/// That an integrity is one, as each is.
+/// Shows that an integrity is one, as each is.
 fn known(integrity: &Integrity)
     ensures { IsIntegrity integrity.now }
 {
     let _address = integrity.address();
 }
 
-/// That the integrity of a source is one, as each is.
+/// Shows that the integrity of a source is one, as each is.
 fn known_source(source: &Source)
     ensures { NamesSource source.now }
 {
@@ -123,7 +123,7 @@ fn may_begin(
     }
 }
 
-/// That a call may begin with a command.
+/// Checks that a call may begin with a command.
 pub(crate) fn admit(
     alloc: Global,
     cache: &str,

@@ -21,7 +21,7 @@ pub(crate) fn idle(alloc: Global, callers: usize) -> Result<Vec<Option<Call>>, A
     Ok(calls)
 }
 
-/// Room for one record more.
+/// Room for one more record.
 pub(crate) fn make_room(records: &mut Vec<Record>) -> Result<(), AllocError>
     ensures items { records.new.items ≡ records.old.items }
     ensures room { OnOk result (vec_len records.new < vec_capacity records.new) }
@@ -30,7 +30,7 @@ pub(crate) fn make_room(records: &mut Vec<Record>) -> Result<(), AllocError>
     Ok(())
 }
 
-/// One record more, for which there is room.
+/// One more record, for which there is room.
 pub(crate) fn note(records: &mut Vec<Record>, last: Record)
     requires { vec_len records.old < vec_capacity records.old }
     ensures { records.new.items ≡ records.old.items ++ last ∷ [] }
@@ -47,14 +47,14 @@ pub(crate) fn place(calls: &mut Vec<Option<Call>>, caller: usize, call: Option<C
     calls[caller] = call;
 }
 
-/// What a caller has, where there is such a caller.
+/// What a caller has, if there is such a caller.
 fn call_at(calls: &Vec<Option<Call>>, caller: usize) -> Option<&Option<Call>>
     ensures { option_copied result ≡ slice_get calls.now.items caller }
 {
     calls.get(caller)
 }
 
-/// That a caller has a call.
+/// Checks that a caller has a call.
 pub(crate) fn check_has_call(calls: &Vec<Option<Call>>, caller: usize) -> Result<(), WorldFault>
     ensures held { OnOk result (HasJob calls.now.items caller) }
     ensures within { OnOk result (caller < vec_len calls.now) }
@@ -68,7 +68,7 @@ pub(crate) fn check_has_call(calls: &Vec<Option<Call>>, caller: usize) -> Result
     }
 }
 
-/// That a caller has no call.
+/// Checks that a caller has no call.
 pub(crate) fn check_has_none(calls: &Vec<Option<Call>>, caller: usize) -> Result<(), WorldFault>
     ensures free { OnOk result (slice_get calls.now.items caller ≡ Some None) }
     ensures within { OnOk result (caller < vec_len calls.now) }

@@ -1,4 +1,4 @@
-//! A world: callers whose calls take turns on one disk in memory, and the history of all that
+//! A world: callers with calls that take turns on one disk in memory, and the history of all that
 //! happened. What `cacache_history` proves of every legal history holds of each world's.
 #![tactic(auto)]
 

@@ -25,7 +25,7 @@ fn run_on(running: Running, happened: &Record) -> Result<Running, AllocError>
     }
 }
 
-/// The moment after these records, where a disk began with all of it fixed.
+/// The moment after these records, on a disk that began with all of it fixed.
 fn replay(disk: Disk, records: &[Record]) -> Result<Running, AllocError>
     ensures { IfOk result (λ r.
         moment_of r ≡ after (opening disk) (steps_of records.now)) }
@@ -37,7 +37,7 @@ fn replay(disk: Disk, records: &[Record]) -> Result<Running, AllocError>
     Ok(running)
 }
 
-/// The nodes that a loss leaves where this history ends.
+/// The nodes that a loss leaves at the end of this history.
 pub(crate) fn nodes_left(
     alloc: Global,
     cache: &str,

@@ -11,7 +11,7 @@ use cacache_core::text::Text;
 use std::alloc::{AllocError, Global};
 use std::cmp::Ordering;
 
-/// The names of a folder's text, none where it can't name one; the empty text is the top folder.
+/// The names of a folder's text, none if it can't name one; the empty text is the top folder.
 fn home_names(alloc: Global, text: &str) -> Result<Option<Vec<Text>>, AllocError>
     ensures { IfOk result (λ names. option_map (λ v. v.items) names ≡ home_of text.now) }
 {
@@ -30,7 +30,7 @@ fn home_names(alloc: Global, text: &str) -> Result<Option<Vec<Text>>, AllocError
     Ok(Some(names))
 }
 
-/// The names of a path's text, none where it names nothing.
+/// The names of a path's text, none if it names nothing.
 fn path_names(alloc: Global, text: &str) -> Result<Option<Vec<Text>>, AllocError>
     ensures { IfOk result
         (λ names. option_map (λ v. v.items) names ≡ result_ok (names_of text.now)) }

@@ -15,7 +15,7 @@ use cacache_core::text::Text;
 use cacache_disk::Disk;
 use std::alloc::Global;
 
-/// Puts one outside file more on the disk.
+/// Puts one more outside file on the disk.
 fn plant(
     alloc: Global,
     disk: &mut Disk,

@@ -28,7 +28,7 @@ fn start(alloc: Global, cache: &Text, number: u64, command: &Command) -> Result<
     Job::try_new(alloc, cache.as_str(), "/", command.copy()?, number)
 }
 
-/// The job of a command that a caller may begin, and room for one record more.
+/// The job of a command that a caller may begin, and room for one more record.
 pub(crate) fn prepare(
     alloc: Global,
     cache: &Text,

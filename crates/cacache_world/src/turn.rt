@@ -15,7 +15,7 @@ use std::alloc::{AllocError, Global};
 /// A call on a disk in memory.
 pub(crate) type Call = Job<PlainFile, PlainTemp>;
 
-/// A call after its step: it goes on, or is over with a reply, of which there are two.
+/// A call after its step: it goes on, or is over with a reply, which is given twice.
 #[derive(Drop)]
 pub enum After {
     On(Call),
@@ -27,13 +27,13 @@ pub enum After {
 pub enum Turn {
     /// A step was made, with this answer.
     Made(PlainStep, PlainAnswer, After),
-    /// Memory was refused before the step, or for the reply: the call stands as it stood.
+    /// Memory was refused before the step, or for the reply: the call is as it was.
     Back(Call),
     /// The call was over before any step, with this reply.
     Over(Reply, Reply),
 }
 
-/// A reply twice, or out of memory twice where it can't be copied.
+/// A reply twice, or out of memory twice if it can't be copied.
 fn twice(alloc: Global, reply: Reply) -> (Reply, Reply)
     ensures { IsSaid reply result.0 result.1 }
 {
@@ -96,7 +96,7 @@ pub(crate) fn advance(alloc: Global, disk: &mut Disk, mut job: Call, luck: Luck)
         Err(_) => return Turn::Back(job),
     }
     match job.next() {
-        // Not reached: a call that is over has told its reply.
+        // Not reached: a call that is over has given its reply.
         Next::Over(reply) => {
             let (reply, copy) = twice(alloc, reply);
             Turn::Over(reply, copy)
@@ -114,7 +114,7 @@ pub(crate) fn advance(alloc: Global, disk: &mut Disk, mut job: Call, luck: Luck)
     }
 }
 
-/// The call that goes on, the reply for the history, and what the caller is told.
+/// The call that goes on, the reply for the history, and what the caller gets.
 pub(crate) fn turn_parts(after: After) -> (Option<Call>, Option<Reply>, Move)
     ensures { AreTurnParts after result.0 result.1 result.2 }
 {

@@ -1,4 +1,4 @@
-//! Callers whose calls take turns on one disk.
+//! Callers with calls that take turns on one disk.
 ghost use Rattle.std.specs.Prelude.{◌≡◌, IfOk, IfErr, OnOk, OnErr, []};
 ghost use Rattle.cacache_durable.specs.FewCalls.{FewCalls};
 ghost use Rattle.cacache_durable.specs.Outlasting.{Outlives};
@@ -27,7 +27,7 @@ use std::alloc::Global;
 use std::marker::Model;
 
 /// The callers, their calls, the disk, and all that happened. Contracts see the history, which is
-/// legal; the disk is where it leads, and each caller's call stands where it says.
+/// legal and leads to the disk and the calls as they are.
 #[derive(Drop)]
 pub struct World {
     alloc: Global,
@@ -59,8 +59,8 @@ impl World {
     ///
     /// # Errors
     ///
-    /// `BadCommand` where an outside file can't be one: its path names nothing, or doesn't lie apart
-    /// from the cache and from the files before it. `OutOfMemory` where memory is refused.
+    /// `BadCommand` if an outside file can't be one: its path names nothing, or doesn't lie apart
+    /// from the cache and from the files before it. `OutOfMemory` if memory is refused.
     #[tactic(auto, using(crate::proofs::Worlds::new_keeps))]
     pub fn new(
         alloc: Global,
@@ -113,10 +113,10 @@ impl World {
     ///
     /// # Errors
     ///
-    /// Nothing changes then. The first of these that holds: `NoCaller` where there is no such caller,
-    /// `Busy` where it has a call, `BadCommand` for an export whose destination doesn't lie apart from
-    /// the cache and from each outside file, and for a link whose target is no outside file, and
-    /// `OutOfMemory` where memory is refused.
+    /// Nothing changes then. The first of these that holds: `NoCaller` if there is no such caller;
+    /// `Busy` if it has a call; `BadCommand` for an export to a destination that doesn't lie apart
+    /// from the cache and from each outside file, or for a link to a target that is no outside
+    /// file; `OutOfMemory` if memory is refused.
     pub fn begin(&mut self, caller: usize, command: Command) -> Result<(), WorldFault>
         ensures adds { OnOk result (AddsRecord self.old (Began caller command) self.new) }
         ensures same { OnErr result (self.new ≡ self.old) }
@@ -148,8 +148,8 @@ impl World {
     ///
     /// # Errors
     ///
-    /// Nothing changes then. `NoCaller` where there is no such caller, `Idle` where it has no call,
-    /// `OutOfMemory` where memory is refused.
+    /// Nothing changes then. `NoCaller` if there is no such caller, `Idle` if it has no call,
+    /// `OutOfMemory` if memory is refused.
     pub fn stop(&mut self, caller: usize) -> Result<(), WorldFault>
         ensures adds { OnOk result (AddsRecord self.old (Stopped caller) self.new) }
         ensures same { OnErr result (self.new ≡ self.old) }
@@ -164,14 +164,14 @@ impl World {
         Ok(())
     }
 
-    /// A caller's call makes its next step, which turns out as the luck says. Memory that is refused
-    /// after the step ends the call with `OutOfMemory`. A call that is over before any step makes none,
-    /// and tells its own reply.
+    /// A caller's call makes its next step, which turns out as the luck says. If memory is refused
+    /// after the step, the call ends with `OutOfMemory`. A call that is over before any step makes
+    /// none, and gives its own reply.
     ///
     /// # Errors
     ///
-    /// Nothing changes then. `NoCaller` where there is no such caller, `Idle` where it has no call,
-    /// `OutOfMemory` where memory is refused before the step, or for the reply of a call that makes
+    /// Nothing changes then. `NoCaller` if there is no such caller, `Idle` if it has no call,
+    /// `OutOfMemory` if memory is refused before the step, or for the reply of a call that makes
     /// none.
     pub fn move_one(&mut self, caller: usize, luck: Luck) -> Result<Move, WorldFault>
         ensures adds { IfOk result (λ move. MovesOn self.old caller luck move self.new) }
@@ -231,11 +231,11 @@ impl World {
         &self.disk
     }
 
-    /// The disk that is left where the power goes now. The world goes on as if it hadn't.
+    /// The disk that is left if the power goes now. The world goes on as if it hadn't.
     ///
     /// # Errors
     ///
-    /// `OutOfMemory` where memory is refused.
+    /// `OutOfMemory` if memory is refused.
     pub fn lose(&self, loss: &Loss) -> Result<Disk, WorldFault>
         ensures lost { IfOk result (λ disk. LeftBy self.now loss.now disk) }
         ensures memory { IfErr result (λ fault. fault ≡ OutOfMemory) }

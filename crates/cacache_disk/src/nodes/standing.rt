@@ -1,4 +1,4 @@
-//! All that stands on a disk.
+//! All that is on a disk.
 ghost use Rattle.std.specs.Prelude.{◌≡◌, IfOk};
 ghost use Rattle.cacache_disk.specs.AllStanding.{path_text, told_node, all_standing};
 ghost use Rattle.cacache_disk.specs.Rooted.{Rooted};
@@ -12,7 +12,7 @@ use cacache_core::paths::join;
 use cacache_core::text::Text;
 use std::alloc::{AllocError, Global};
 
-/// What stands at a path.
+/// What is at a path.
 #[derive(Debug, Drop)]
 pub enum TreeNode {
     /// A folder; what it holds are items of their own.
@@ -23,17 +23,17 @@ pub enum TreeNode {
     Link(Text),
 }
 
-/// A path, and what stands there.
+/// A path, and what is there.
 #[derive(Debug, Drop)]
 pub struct TreeItem {
     /// `/` before each name from the top folder down, and alone for the top folder.
     pub path: Text,
-    /// What stands there.
+    /// What is there.
     pub node: TreeNode,
 }
 
 impl Node {
-    /// What is told of it to others, who share its bytes.
+    /// What others see of it, its bytes shared.
     fn told(&self) -> Result<TreeNode, AllocError>
         ensures { IfOk result (λ node. node ≡ told_node self.now) }
     {
@@ -75,8 +75,8 @@ impl Nodes {
 }
 
 impl Disk {
-    /// All that stands on the disk, the top folder too, in the order of paths: name by name, and
-    /// each folder before what it holds. No byte of a file is copied.
+    /// All that is on the disk, the top folder too, in the order of paths: name by name, and each
+    /// folder before what it holds. No byte of a file is copied.
     pub fn standing(&self) -> Result<Vec<TreeItem>, AllocError>
         ensures all { IfOk result (λ all. all.items ≡ all_standing self.now) }
         ensures rooted { Rooted self.now }

@@ -7,7 +7,7 @@ use cacache_core::bytes::Bytes;
 use cacache_store::store::{Answer, PlainFile, PlainTemp};
 use std::alloc::{AllocError, Global};
 
-/// How many of the bytes are taken, where at most so many may be.
+/// How many of the bytes are taken, if at most so many may be.
 pub(crate) fn taken(most: Option<usize>, bytes: &Bytes) -> usize
     ensures same { result ≡ taken most bytes.now }
     ensures within { result ≤ length bytes.now }
@@ -18,7 +18,7 @@ pub(crate) fn taken(most: Option<usize>, bytes: &Bytes) -> usize
     }
 }
 
-/// Bytes that may be known, with one owner more.
+/// Bytes that may be known, with one more owner.
 fn known_again(bytes: &Option<Bytes>) -> Result<Option<Bytes>, AllocError>
     ensures { IfOk result (λ again. again ≡ bytes.now) }
 {

@@ -28,7 +28,8 @@ fn readable(most: Option<usize>, size: usize) -> usize
     }
 }
 
-/// Bytes with the first `count` of others behind them. Behind none, the others are shared.
+/// Bytes with the first `count` of others after them. If the first are empty, the others are
+/// shared.
 fn joined(alloc: Global, old: &Bytes, bytes: &Bytes, count: usize) -> Result<Bytes, AllocError>
     requires { count ≤ length bytes.now }
     ensures { IfOk result (λ all. all ≡ old.now ++ take count bytes.now) }
@@ -52,7 +53,7 @@ fn temp_of(path: &Text, bytes: Bytes) -> Result<PlainTemp, AllocError>
     })
 }
 
-/// What an open file has left behind the first `count` of these bytes.
+/// What an open file has left after the first `count` of these bytes.
 fn rest_of(bytes: &Bytes, count: usize) -> Result<PlainFile, AllocError>
     requires { count ≤ length bytes.now }
     ensures { IfOk result (λ rest.
