@@ -12,7 +12,7 @@ abbrev pub export_by : How → Source → Bool → List ℕ → Command
 export_by how source checked to =
     commands.Export source (record { how = how; checked = checked; to = to })
 
--- where it isn't refused the bytes stand where the path leads, and a count is theirs
+-- unless it is refused, the path shows the bytes, and a count is theirs
 abbrev pub Arrives : List ℕ → List ℕ → Reply → List LogItem → List LogItem → Type 0
 Arrives bytes to (Copied n) old new = (shown (tree_of new) to ≡ Some bytes) × (n ≡ length bytes)
 Arrives bytes to Done old new = shown (tree_of new) to ≡ Some bytes

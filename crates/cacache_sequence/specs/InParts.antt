@@ -16,7 +16,7 @@ use Rattle.cacache_sequence.specs.Sequence.{tree_on, turns_on, AreAnswered, plai
 pub data Part : Type 0 where
   -- steps one after another, and the tree that they began on
   made : Tree → Moves → Part
-  -- a byte that was read of an open file itself: no log tells it, and no tree shows it
+  -- a byte that was read from an open file itself: no log records it, and no tree shows it
   took : Tree → PlainFile → Part
 
 -- the read of one byte
@@ -62,8 +62,8 @@ pub record IsOnItsWay (s : Setup) (call : Begun) (state : State) : Type 0 where
 
 -- ---- what holds of a part, and of all parts together
 
--- a part leaves a sound tree, whose value follows its acts; contents and entries follow its deeds
--- alone, and what its first deed finds was there before
+-- a part leaves a sound tree, and the value of that tree follows the acts of the part; contents and
+-- entries follow its deeds alone, and what its first deed finds was there before
 pub record Changes (s : Setup) (t : Tree) (moves : Moves) : Type 0 where
   pub sound : IsSound (home s) (tree_on t moves)
   pub acts :
@@ -85,7 +85,7 @@ pub record AnswersInParts (s : Setup) (call : Begun) (reply : Reply) : Type 0 wh
   pub commits : IsCase (call_site s call.number) call.command (turns_in call.parts) (Some reply)
   pub causes : HasCause (own_of call.command) (moves_in call.parts) (plain_reply reply)
 
--- steps that no tree shows, that do nothing, and of which none failed
+-- steps that leave the tree as it is, have no deeds, and have no fault
 pub record AreSilent (t : Tree) (moves : Moves) : Type 0 where
   pub tree : tree_on t moves ≡ t
   pub nothing : deeds (turns_on t moves) ≡ []
@@ -140,7 +140,7 @@ ReadsAreParts =
     (hashing h (opened rest) (bytes ++ more))
     × (deeds (turns_in reads) ≡ [])
 
--- bytes that a writer handed to its file itself count as a write, which no log tells
+-- bytes that a writer handed to its file itself count as a write, which no log records
 abbrev pub WritesAreParts : Type 0
 WritesAreParts =
     (s : Setup) (call : Begun) (c : Commit) (file full : PlainTemp) (bytes : List ℕ) (t : Tree)

@@ -8,7 +8,7 @@ use Rattle.cacache_table.specs.declared.command.Command.TheVariants as commands
 use Rattle.cacache_table.specs.{declared.{command.Insert.{Insert}, reply.Reply.{Reply, TheVariants.{Stored, Refused}}}, Inserting.{insertion, refused_cause}, Sound.{FormedIfWritten}}
 use Rattle.cacache_sequence.specs.{Caches.{IsCache, IsExcused, HasContent, HasKey, LacksKey, Called}, Keeping.{found_under, KeepsOthers}}
 
--- the integrity that the key leads to, whatever lies under it; none where no entry answers
+-- the integrity that the key leads to, whatever lies under it; none if no entry answers
 abbrev pub leads_to : List ℕ → List ℕ → List LogItem → Option (List Hash)
 leads_to cache key log = option_map (λ (found : Found). found.integrity) (found_under cache key log)
 

@@ -11,7 +11,7 @@ use Rattle.cacache_sequence.specs.{Caches.{IsCache, LacksKey, lies_under, Called
 
 -- ---- what they leave
 
--- a command whose call changes nothing in the store: a lookup, a read, a question or a listing
+-- a command that changes nothing in the store: a lookup, a read, a question or a listing
 abbrev pub OnlyLooks : Command → Type 0
 OnlyLooks = KeepsTo looking_on
 
@@ -32,7 +32,7 @@ LooksLeave =
     (cache : List ℕ) (command : Command) (r : Reply) (old new : List LogItem)
     → OnlyLooks command → Called cache command r old new → tree_of new ≡ tree_of old
 
--- so it is where the cache holds what it held
+-- what was known still holds if the cache holds what it held
 abbrev pub SameStaysKnown : Type 0
 SameStaysKnown =
     (cache : List ℕ) (old new : List LogItem) → HoldsSame cache old new → StaysKnown cache old new
@@ -45,7 +45,7 @@ GivesFound there (LookedUp found) old new = found ≡ there
 GivesFound there (Refused e) old new = IsExcused e old new
 GivesFound there r old new = ⊥
 
--- a lookup finds what the key leads to; where that is nothing, it finds nothing
+-- a lookup finds what the key leads to, or nothing if the key leads to nothing
 abbrev pub FindsFound : Type 0
 FindsFound =
     (cache key : List ℕ) (r : Reply) (old new : List LogItem)
@@ -67,7 +67,7 @@ AsksAbsent =
 
 -- ---- what reads answer
 
--- the bytes that lie under the integrity, or where a link there leads; or why there are none
+-- the bytes that lie under the integrity or at the end of a link there, or why there are none
 abbrev pub bytes_under : List ℕ → List Hash → List LogItem → Result (List ℕ) Fault
 bytes_under cache i log = blob_bytes (tree_of log) (lies_under cache i log)
 
@@ -115,7 +115,7 @@ KeyReadsGive =
     (cache key : List ℕ) (r : Reply) (old new : List LogItem)
     → IsCache cache old → Called cache (commands.Get key) r old new → GivesOfKey cache key r old new
 
--- where a link lies, the bytes that are read are those that its target shows
+-- if a link lies there, the bytes that are read are those that its target shows
 abbrev pub LinksShow : Type 0
 LinksShow =
     (cache target bytes held : List ℕ) (i : List Hash) (log : List LogItem)

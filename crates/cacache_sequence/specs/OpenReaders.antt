@@ -45,7 +45,7 @@ module _ (cache : List ℕ) where
 
 -- ---- what it does
 
--- the file has just these bytes to give; and why there is none is excused
+-- the file has exactly these bytes to give; an error is excused
 abbrev pub GivesFile : List ℕ → Result PlainFile Error → List LogItem → List LogItem → Type 0
 GivesFile bytes (Ok file) old new = (file.bytes ≡ Some bytes) × (file.left ≡ length bytes)
 GivesFile bytes (Err e) old new = IsExcused e old new

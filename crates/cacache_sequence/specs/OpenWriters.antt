@@ -16,7 +16,7 @@ abbrev pub NothingElse : List ℕ → List Hash → List ℕ → List LogItem �
 NothingElse cache i bytes log =
     (lies_under cache i log ≡ None) ⊎ (lies_under cache i log ≡ Some (InFile bytes))
 
--- a cache is left, of which all that was known is so still
+-- a cache is left, and all that was known of it still holds
 abbrev pub LeavesKnownCache : List ℕ → List LogItem → List LogItem → Type 0
 LeavesKnownCache cache old new = IsCache cache new × StaysKnown cache old new × Grows old new
 
@@ -70,7 +70,7 @@ pub record CommitsBytes (cache : List ℕ) (p : Put) (number : ℕ) (r : Reply) 
 
 -- ---- what they do
 
--- a writer's opening leaves a cache of which all that was known is so still
+-- a writer's opening leaves a cache, and all that was known of it still holds
 abbrev pub WritersOpen : Type 0
 WritersOpen =
     (cache : List ℕ) (number : ℕ) (r : Result PlainTemp Error) (old new : List LogItem)

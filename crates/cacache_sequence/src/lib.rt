@@ -9,7 +9,7 @@
 //! | `InParts` | a call in parts, with other calls in between |
 //! | `OpenWriters`, `OpenReaders` | open handles, by their parts |
 //! | `Standing` | lookups and reads of what a loss of power left |
-//! | `Succeeds`, `OpenSucceeds` | what calls and open writers answer whose steps all go well, and which temporary files are left |
+//! | `Succeeds`, `OpenSucceeds` | what calls and open writers answer if all of their steps succeed, and which temporary files are left |
 //! | `ExportAnswers`, `LinkAnswers` | the same of exports, links, linkers and the openings of readers |
 #![tactic(auto)]
 

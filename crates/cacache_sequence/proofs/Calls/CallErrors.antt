@@ -7,7 +7,7 @@ use Rattle.cacache_table.specs.{declared.{command.{Insert.{Insert}, Put.{Put}}, 
 use Rattle.cacache_table.proofs.{Closed.{AnyAnswer, ClosedCommit, ClosedWalk, Closed, kept_always}, Visits.{MayMeet}}
 use Rattle.cacache_sequence.{specs.CallErrors.{FailsOnly, CallsFailOnly}, proofs.Removing.Tasks.{Clears, ClearsAt}}
 
--- a commit that expects no integrity and no size, and whose entry can be written
+-- a commit that expects no integrity and no size, and has an entry that can be written
 pub record Plain (c : Commit) : Type 0 where
   pub no_integrity : c.options.integrity ≡ None
   pub no_size : c.options.size ≡ None
