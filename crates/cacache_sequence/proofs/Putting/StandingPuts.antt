@@ -18,8 +18,7 @@ use Rattle.cacache_history.proofs.{Contents.{Carrying.{Carries, Makes, Own, carr
 use Rattle.cacache_sequence.specs.{Beside.{FitsEntry, own_integrity}, CallErrors.{IsPlainPut}, Caches.{Called, IsExcused, setup_at}, Puts.{ExpectsIntegrity, HasPut}, Sequence.{Alike, AreAnswered, after_deeds, plain_moves, tree_on, turns_on}, Standing.{IsStanding, PutStands, StandingWrites}}
 use Rattle.cacache_sequence.proofs.{Putting.{Beside.{put_keeps}, Persisting.{puts_find_nothing}, Puts.{has_or_found, leads, may_lead}}, Calls.{CallErrors.{calls_fail_only}, InParts.{logs_lead}, Logs.{some_same}, Sequence.{moves_after, moves_follow, turns_made}}, Readings.Known.{excused_by}}
 
--- ---- turns of a cache with a text that names no folder: whatever is on the disk, it holds no
--- entry
+-- ---- turns of a cache that names no folder: whatever is on the disk, it holds no entry
 
 abbrev nowhere : Setup
 nowhere = setup_at (0 ∷ []) []

@@ -128,7 +128,7 @@ module _ (cache key : List ℕ) (v : Value) (none : home_of cache ≡ None → v
             (last_removal (bucket_path cache key) h.1 h.0 r (home_of cache) x (removal (bucket_path cache key) (over replies.Done) h.1 r h.0 h.3)))
       ]
 
--- the deeds after a read are all
+-- a read adds no deed to those after it
 behind_read : (t : Tree) (path : List ℕ) (step : PlainStep) (a : PlainAnswer) (more : Moves) → step ≡ steps.ReadAll path → deeds (turns_on t ((step, a) ∷ more)) ≡ deeds (turns_on t more)
 behind_read t path step a more is =
     ap (λ x. (deeds_of_act (act_of x Plain a) ++ finds_in x a) ++ deeds (turns_on (apply t x Plain).1 more)) is
