@@ -7,7 +7,7 @@ use Rattle.cacache_table.specs.declared.command.Command.TheVariants as commands
 use Rattle.cacache_value.specs.{Value.{Blob, InFile, AtLink}, Acts.{AddEntries}}
 use Rattle.cacache_history.specs.{Setup.{home}, History.{History, Call, Reaches}, Values.{steps_of, value_at, KeepContent, HasDigest}, Commits.{Deed, does, deeds}}
 
--- a put or a link that isn't told which integrity to expect: its entry names its own content
+-- a put or a link without an expected integrity: its entry names its own content
 abbrev pub NamesOwn : Command → Type 0
 NamesOwn (commands.Put p) = p.options.integrity ≡ None
 NamesOwn (commands.Link l) = l.options.integrity ≡ None

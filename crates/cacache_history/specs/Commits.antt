@@ -86,7 +86,7 @@ CommitsAs c put ds reply =
     ⊎ ((content : Deed) × (more : List Deed) × PutsContent c put content × (ds ≡ content ∷ more)
     × AddsAfter c c.key more reply)
 
--- the moves begin with the target's size and then read it to its end; this is so of its bytes
+-- the moves begin with the target's size and then read it to its end; this holds of its bytes
 abbrev pub ReadsTarget : List ℕ → (List ℕ → Type 0) → Moves → Type 0
 ReadsTarget path P moves =
     (n : ℕ) × (more : Moves) × (moves ≡ (steps.Size path, answers.Length n) ∷ more)
@@ -133,7 +133,7 @@ IsRemoval (does (Drop names)) = Unit {0}
 IsRemoval (does act) = ⊥
 IsRemoval (finds path) = Unit {0}
 
--- so it is of each of these
+-- the same holds of each of these
 abbrev pub AreRemovals : List Deed → Type 0
 AreRemovals [] = Unit {0}
 AreRemovals (d ∷ ds) = IsRemoval d × AreRemovals ds
