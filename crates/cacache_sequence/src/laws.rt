@@ -49,11 +49,11 @@ pub fn sequence_laws()
     ensures sequences { SequencesAnswer }
 {}
 
-/// The same in the words of somebody who uses a cache in a store in memory, call by call.
+/// What calls on a cache in a store in memory do, in the words of its user, call by call.
 ///
 /// What the user wrote is there, what the user removed isn't, everything else stays, and a call fails only for a step
-/// of its own or for memory. About the store that it gets it says that its log is a disk's log, which the laws
-/// require of the log after a call.
+/// of its own or for memory. The clause `logged` says that the log of a store in memory is a disk's log, as the laws
+/// require it of the log after a call.
 pub fn cache_laws(store: &MemStore)
     ensures logged { IsLog store.now }
     ensures fresh { FreshIsEmpty }
@@ -90,7 +90,7 @@ pub fn cache_laws(store: &MemStore)
     let _log = store.log();
 }
 
-/// The same of calls that only look.
+/// What calls that only look leave and answer, on a cache in a store in memory.
 ///
 /// They leave what the cache holds, so that everything known of it stays. They find nothing if nothing is there, and
 /// a read answers by what lies there, whole or damaged. A listing answers entries that keys lead to, no key twice,
