@@ -1,4 +1,4 @@
--- What a loss leaves after an entry whose line a durable commit appended whole.
+-- What a loss leaves after an entry that a durable commit appended as a whole line.
 use Rattle.std.proofs.{Common.{◌≡◌, ◌+◌, ◌-◌, ◌≤◌, inl, inr, ℕ, Bool, true, false, List, [], ◌∷◌, ◌++◌, Some, length, take, refl, sym, ap, subst, ◌∙◌, arith, append_assoc, append-nil}, Math.Seq.{take-append-add}, lemmas.List.{append_cancel_left}}
 use Rattle.sha1.specs.Sha1.{sha1}
 use Rattle.cacache_core.specs.{PathNames.{Names}, Paths.{bucket_names_of}}

@@ -15,7 +15,7 @@ use Rattle.cacache_durable.specs.{Ending.{EndsFrom, CallEndsWith}, FewCalls.{Few
 use Rattle.cacache_durable.proofs.{AtMoves.{QuietPlace, here, own_record, quiet_here, split}, BehindEntries.{entry_behind}, CommitMoves.{HasDirs}, PutMoves.{Adds, secures}, CommitPlaces.{Secures, insert_appends, insert_formed, line_is, own, place_in, put_formed, put_secures, written_fits}, DurableContents.{content_named, found_left, put_outlasts}, DurableEntries.{WholeEntry, bucket_named, entry_outlasts, whole_append}, SyncedTemps.{put_well_at}, Traces.{losses_leave_caches}}
 
 module _ (h : History) (legal : IsLegal h) (folder : Names) (home_is : home h.setup ≡ Some folder) where
-  -- a move of a call, after a place from which on all others are quiet
+  -- a move of a call, after a place; from there on all others are quiet
   quiet_place : (before rest : List Record) (is : h.records ≡ before ++ rest) (path : Names) → AreQuiet h.setup path (now_at h before) rest
       → (i : List Hash) (command : Command) (ends : EndsFrom h before rest command (Stored i)) (front : Moves) (made : Made) (more : Moves)
       → own h legal before rest is i command ends ≡ front ++ made ∷ more → QuietPlace h folder path before rest ends.caller made more

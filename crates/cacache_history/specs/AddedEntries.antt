@@ -60,7 +60,7 @@ EntriesNameContents h =
 abbrev pub address_of_put : Put → Hash
 address_of_put p = hash_of p.options.algorithm (digest p.options.algorithm p.data)
 
--- what a put stored that answered is there, with a key or without, unless a step removed it
+-- what a put that answered stored is there, with or without a key, unless a step removed it
 abbrev pub PutsLeaveContents : History → Type 0
 PutsLeaveContents h =
     (call : Call) (i : List Hash) (p : Put) → Reaches h call (Some (Stored i))

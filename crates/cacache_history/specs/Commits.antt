@@ -113,7 +113,7 @@ DropsAmong (path ∷ paths) ds =
     ⊎ ((names : Names) × (more : List Deed) × (names_of path ≡ Ok names)
     × (ds ≡ does (Drop names) ∷ more) × DropsAmong paths more)
 
--- the first turn read the key's bucket, and a lookup in what it was answered found this
+-- the first turn read the key's bucket, and a lookup in its answer found this
 abbrev pub FoundFirst : List ℕ → List ℕ → List Turn → Found → Type 0
 FoundFirst cache key turns found =
     (turn : Turn) × (more : List Turn) × (turns ≡ turn ∷ more)

@@ -46,7 +46,7 @@ pub record Headline (h : History) : Type 0 where
   pub commits : CommitsAreCases h
   -- the entry that a commit added names a content that is there, unless a step removed it
   pub entries : EntriesNameContents h
-  -- so is the content of a put that answered, with a key or without
+  -- the content of a put that answered is there too, with or without a key
   pub stored : PutsLeaveContents h
   -- each `IoError` has a cause in its call's own steps
   pub causes : RepliesHaveCauses h

@@ -20,7 +20,7 @@ IsFoundIn h m n key found =
 
 -- ---- what commands do to a key
 
--- a call of the command adds no entry but such ones
+-- a call of the command adds only such entries
 abbrev pub WritesEntry : Site → Command → Entry → Type 0
 WritesEntry site (commands.Put p) e =
     (key : List ℕ) × (p.key ≡ Some key) × (e ≡ (insertion_of (put_commit site.cache p) key).entry)
@@ -58,7 +58,7 @@ pub record WrittenIn (h : History) (m n : ℕ) (e : Entry) : Type 0 where
   pub is : (now_before h place).calls caller ≡ Some call
   pub writes : WritesEntry (call_site h.setup call.number) call.command e
 
--- such an entry answers so to a lookup of the key
+-- such an entry answers a lookup of the key with this
 abbrev pub WasWritten : History → ℕ → ℕ → List ℕ → Option Found → Type 0
 WasWritten h m n key found =
     (e : Entry) × WrittenIn h m n e × (answer_to key e ≡ Some found)

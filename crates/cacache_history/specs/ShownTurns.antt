@@ -37,7 +37,7 @@ unless_failed (answers.Failed fault) r = Err (refusals.Fault fault)
 unless_failed (answers.NoMemory step) r = Err refusals.Memory
 unless_failed answer r = r
 
--- that a file is missing isn't a failure here: it shows what is so
+-- a missing file isn't a failure here: it shows that nothing is there
 abbrev pub shown_result : {X : Type 0} → PlainAnswer → Result X Refusal → Result X Refusal
 shown_result (answers.Failed faults.NotFound) r = r
 shown_result answer r = unless_failed answer r

@@ -93,7 +93,7 @@ ReadsValue s (commands.RemoveHash i) turns r = Unit {0}
 ReadsValue s (commands.RemoveFully key) turns r = Unit {0}
 ReadsValue s commands.Clear turns r = Unit {0}
 
--- each reply of a call that reads, but out of memory, is what its turns show at their places
+-- each reply of a call that reads, except out of memory, is what its turns show at their places
 abbrev pub RepliesReadValue : History → Type 0
 RepliesReadValue h =
     (call : Call) (r : Reply) → Reaches h call (Some r)

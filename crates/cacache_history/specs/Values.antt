@@ -95,8 +95,7 @@ MetDigestsAreSame =
 
 -- ---- contents at each place
 
--- at each place contents have their digests; of a link nothing is said, since its target is
--- somebody else's
+-- at each place contents have their digests, except links, since their targets are somebody else's
 abbrev pub ContentsAreRight : History → Type 0
 ContentsAreRight h =
     (before later : List Record) → h.records ≡ before ++ later

@@ -4,7 +4,7 @@ use Rattle.cacache_core.specs.declared.errors.Error.TheVariants.{IoError, OutOfM
 use Rattle.cacache_table.specs.{declared.{command.{Put.{Put}, Delete.{Delete}}, reply.Reply.{Reply, TheVariants.{Refused}}}, Inserting.{deletion, refused_cause}, Runs.{Moves, Runs}, State.{Site}, Storing.{insertion_of, put_commit}, Table.{opening}}
 use Rattle.cacache_table.specs.declared.command.Command.TheVariants as commands
 
--- no error but that of a step, or out of memory
+-- no error except that of a step, or out of memory
 abbrev pub FailsOnly : Reply → Type 0
 FailsOnly (Refused OutOfMemory) = Unit {0}
 FailsOnly (Refused (IoError fault message)) = Unit {0}

@@ -19,8 +19,8 @@ Arrives bytes to Done old new = shown (tree_of new) to ≡ Some bytes
 Arrives bytes to (Refused e) old new = IsExcused e old new
 Arrives bytes to r old new = ⊥
 
--- so answers each export of bytes that are there, to a path apart from the cache: it fails for nothing but a
--- step of its own, as that at the path, or for memory
+-- each export of bytes that are there, to a path apart from the cache, answers so: it fails only
+-- for a step of its own, such as that at the path, or for memory
 abbrev pub ExportsArrive : Type 0
 ExportsArrive =
     (cache bytes to : List ℕ) (how : How) (source : Source) (checked : Bool) (r : Reply)

@@ -35,8 +35,8 @@ turns_in [] = []
 turns_in (made t moves ∷ parts) = turns_on t moves ++ turns_in parts
 turns_in (took t file ∷ parts) = turn_of t (Take 1) (byte_read file) ∷ turns_in parts
 
--- each part began on a sound tree, and each answer is the disk's. Of what came between two parts
--- nothing is said: whatever calls were made there, they left a sound tree
+-- each part began on a sound tree, and each answer is the disk's. Any calls may come between two
+-- parts, as long as they leave a sound tree
 abbrev pub AreParts : Setup → List Part → Type 0
 AreParts s [] = Unit {0}
 AreParts s (made t moves ∷ parts) = IsSound (home s) t × AreAnswered t moves × AreParts s parts
@@ -130,7 +130,7 @@ PartsAnswer =
     → Runs state moves (plain_reply reply) → AreAnswered t moves
     → AnswersInParts s (with_part call t moves) reply × Changes s t moves
 
--- bytes that were read of an open file itself count as reads of one byte each
+-- bytes that were read from an open file itself count as reads of one byte each
 abbrev pub ReadsAreParts : Type 0
 ReadsAreParts =
     (s : Setup) (call : Begun) (h : Hashing) (bytes more rest : List ℕ) (t : Tree)

@@ -12,7 +12,7 @@ use Rattle.cacache_sequence.specs.{Caches.{Called, IsCache, lies_under}, ExportE
 
 -- ---- openings
 
--- a file of these bytes was opened, or the fault is why none was, or memory was refused
+-- a file of these bytes was opened, or the fault says why none was, or memory was refused
 abbrev pub OpensAs : Result (List ℕ) Fault → Result PlainFile Error → Type 0
 OpensAs (Ok bytes) (Ok file) = file ≡ opened bytes
 OpensAs (Ok bytes) (Err e) = e ≡ OutOfMemory
@@ -76,7 +76,7 @@ unless_dangling stored t None = stored
 unless_dangling stored t (Some blob) =
     if is_yes (blob_there t (Some blob)) then stored else Refused (IoError AlreadyExists [])
 
--- a link stores as a put does, unless such a link lies there that leads nowhere
+-- a link stores as a put does, unless a link that leads nowhere lies there
 abbrev pub linked_reply : Commit → List LogItem → Reply
 linked_reply c log =
     unless_dangling (compared_reply c c.options.integrity) (tree_of log)

@@ -1,6 +1,6 @@
--- What an open linker does on a store in memory, in words of its user. Between its opening and its
--- commit any calls may be made that leave a cache, and whatever becomes of the target: a linker links
--- the bytes that the target showed when it was opened.
+-- What an open linker does on a store in memory, in the words of its user. Between its opening and
+-- its commit any calls may be made that leave a cache, and whatever becomes of the target, a linker
+-- links the bytes that the target showed when it was opened.
 use Rattle.std.specs.Prelude.{◌≡◌, ◌⊎◌, ◌<◌, ◌^◌, ◌++◌, ℕ, List, Option, None, Some, Result, Ok, Err, length}
 use Rattle.cacache_core.specs.declared.errors.Error.{Error}
 use Rattle.cacache_store.specs.declared.store.answer.Answer.TheVariants as answers
@@ -23,7 +23,7 @@ pub record TargetOpened (cache path held : List ℕ) (file : PlainFile) : Type 0
   pub small : file.left < 2 ^ 64
   pub logged : IsLog new
 
--- the size of the target was asked first, or not; then it was opened, or why not
+-- the target was opened, or an error says why not; its size was asked first, or not
 module _ (path : List ℕ) where
   abbrev pub OpensTarget :
       Result PlainFile Error → Option (List LogItem) → Option (List LogItem) → Type 0
@@ -43,7 +43,7 @@ module _ (path : List ℕ) where
       ⊎ ((size : ℕ) × (mid : Option (List LogItem)) × TellsSize size old mid
       × OpensTarget (Err e) mid new)
 
--- a target that was opened showed bytes, which the file has; and why there is none is excused
+-- a target that was opened showed bytes, which the file has; an error is excused
 abbrev pub GivesTarget :
     List ℕ → List ℕ → Result PlainFile Error → List LogItem → List LogItem → Type 0
 GivesTarget cache path (Ok file) old new =

@@ -34,7 +34,7 @@ CommitsAnswer =
 
 -- ---- what keeps a writer's file
 
--- all but to write and move temporary files, and to remove
+-- everything except writing and moving temporary files, and removing
 abbrev pub without_takings : Licence
 without_takings = record {
   prepares = true;

@@ -1,4 +1,4 @@
--- What a put and a writer's commit leave, with any options, in words of their caller.
+-- What a put and a writer's commit leave, with any options, in the words of their caller.
 use Rattle.std.specs.Prelude.{◌≡◌, ◌⊎◌, ℕ, List, Some, IfSome}
 use Rattle.cacache_core.specs.{declared.integrity.digest.Hash.{Hash}, Integrity.{IsIntegrity}}
 use Rattle.cacache_store.specs.declared.store.log.LogItem.{LogItem}

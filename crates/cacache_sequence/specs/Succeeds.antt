@@ -38,7 +38,7 @@ StaysUnused cache old new =
 
 -- ---- what a put and an insertion answer
 
--- that the entry can't be written, if so
+-- the reply, or that the entry can't be written if there is a cause
 abbrev pub unless_unwritable : Reply → Option SerdeCause → Reply
 unless_unwritable reply None = reply
 unless_unwritable reply (Some cause) = Refused (SerdeError cause [])
@@ -198,7 +198,7 @@ ClearingsAnswer =
 
 -- ---- temporary files
 
--- all but to write temporary files, and to move them to their places
+-- everything except writing temporary files and moving them to their places
 abbrev pub without_commits : Licence
 without_commits = record {
   prepares = true;

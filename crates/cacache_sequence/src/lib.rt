@@ -4,7 +4,7 @@
 //! | In `specs` | |
 //! |---|---|
 //! | `Sequence`, `ReadAnswers`, `Stored`, `CallErrors` | calls on a tree: what each leaves, answers, stores, and why it fails |
-//! | `Caches`, `Looks`, `ListedKeys`, `Inserts`, `ExportEffects` | the same in words of a cache's user: keys, contents, listings |
+//! | `Caches`, `Looks`, `ListedKeys`, `Inserts`, `ExportEffects` | the same in the words of a cache's user: keys, contents, listings |
 //! | `Keeping`, `Beside`, `Removed`, `Puts` | what each call leaves, and what it keeps |
 //! | `InParts` | a call in parts, with other calls in between |
 //! | `OpenWriters`, `OpenReaders` | open handles, by their parts |

@@ -1,4 +1,4 @@
--- A step makes no bucket but that of a key.
+-- A step makes only buckets of keys.
 use Rattle.std.proofs.{Common.{◌≡◌, ◌-◌, ◌==◌, ℕ, Bool, true, false, cond, List, ◌∷◌, ◌++◌, Option, None, Some, Result, Ok, Err, take, refl, sym, ap, subst, ◌∙◌, bytes_eq, append_assoc}, lemmas.Slice.Eq.{bytes_eq-Decides}}
 use Rattle.std.specs.Prelude.{IfOk, []}
 use Rattle.cacache_core.specs.{declared.errors.Fault.{Fault, TheVariants.{NotFound, IsADirectory, InvalidInput}}, PathNames.{Names, names_of, names_below}, Paths.{bucket_names, content_area, index_area, temp_area}}

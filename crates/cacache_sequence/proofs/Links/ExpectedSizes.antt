@@ -155,8 +155,7 @@ module _ (t : Target ℕ) (r : Reply) where
   ends_as file bytes ((step, answers.NoMemory back) ∷ moves) run = inl (lost OutOfMemory moves tt run.2)
   ends_as file bytes ((step, a) ∷ moves) run = inl (lost (IoError faults.Device []) moves tt run.2)
 
-  -- a link that expects nothing else, with an entry that can be written, fails only for a step or
-  -- for memory
+  -- a link that expects nothing else, with an entry that can be written, fails only for a step or for memory
   pub fails_only : (bytes rest : List ℕ) (moves : Moves) → SuitsSize t.options.size (length (bytes ++ rest)) → PlainCommit (commit_for (of_size t None) (bytes ++ rest)) → OnDisks moves
       → Runs (hashing (to_link t) (opened rest) bytes) moves r → FailsOnly r
   fails_only bytes rest moves size plain disks run =

@@ -26,12 +26,12 @@ abbrev LedTo : Option Found → Hash → Type 0
 LedTo o a = (f : Found) × (o ≡ Some f) × (address f.integrity ≡ Some a)
 
 module _ (cache key : List ℕ) (o : Option Found) (v : Value) where
-  -- buckets stay, and contents but the one that was led to
+  -- buckets stay, and contents except the one that was led to
   record ContentCut (w : Value) : Type 0 where
     pub contents : (a : Hash) → IsHash a → (w.contents a ≡ v.contents a) ⊎ (LedTo o a × (w.contents a ≡ None))
     pub buckets : (d : List ℕ) → w.buckets d ≡ v.buckets d
 
-  -- so do buckets but the key's
+  -- so do buckets except the key's
   record KeyCut (w : Value) : Type 0 where
     pub contents : (a : Hash) → IsHash a → (w.contents a ≡ v.contents a) ⊎ (LedTo o a × (w.contents a ≡ None))
     pub buckets : (other : List ℕ) → (w.buckets (sha1 other) ≡ v.buckets (sha1 other)) ⊎ ((sha1 other ≡ sha1 key) × (w.buckets (sha1 other) ≡ None))

@@ -99,7 +99,7 @@ module _ (home : Names) (t : Tree) (g : Ground home t) where
   Good (ReadBucket p) = (rest : Names) × (bytes : List ℕ) × (names_of p ≡ Ok (home ++ index_area ∷ rest)) × (look t (home ++ index_area ∷ rest) ≡ Some (File bytes))
   Good other = ⊥
 
-  -- it stumbles over nothing but what is too deep
+  -- it stumbles only over what is too deep
   abbrev GoodTask : Task → Type 0
   GoodTask (Make v) = Good v
   GoodTask (Stumble fault p) = fault ≡ faults.TooDeep
