@@ -1,4 +1,4 @@
--- What stands where a commit makes a move, while others remove, link and export nothing.
+-- What is at the place of a commit's move, while others remove, link and export nothing.
 use Rattle.std.proofs.Common.{◌≡◌, ℕ, List, [], ◌∷◌, ◌++◌, Some, Ok, sym, ap, subst, ◌∙◌, append_assoc}
 use Rattle.cacache_core.specs.PathNames.{Names, names_of}
 use Rattle.cacache_store.specs.declared.store.step.Step.TheVariants as steps
@@ -16,7 +16,7 @@ quiet_later : (s : Setup) (path : Names) (w : Now) (more later : List Record) �
 quiet_later s path w [] later quiet = quiet
 quiet_later s path w (r ∷ more) later quiet = quiet_later s path (now_after s w r) more later quiet.1
 
--- where a commit makes a move, in a legal history whose moves are quiet from a place before it on
+-- the place of a commit's move, in a legal history that has only quiet moves from a place before it on
 pub record QuietPlace (h : History) (folder path : Names) (before rest : List Record) (caller : ℕ) (made : Made) (more : Moves) : Type 0 where
   pub legal : IsLegal h
   pub home_is : home h.setup ≡ Some folder
@@ -49,7 +49,7 @@ module _ {h : History} {folder path : Names} {before rest : List Record} {caller
   calm_here : AreCalm (Some folder) (moment_at h here) (own_move ∷ steps_of q.place.later)
   calm_here = subst (λ home. AreCalm home (moment_at h here) (own_move ∷ steps_of q.place.later)) q.home_is (calm_at h q.legal here (own_record ∷ q.place.later) split path quiet_here)
 
-  -- so the move is calm, and those behind it are
+  -- so the move is calm, and those after it are
   pub calm_move : IsCalm (Some folder) (moment_at h here) own_move
   calm_move = let c = calm_here in (c.1.0, c.0.0, c.0.1)
 
@@ -63,7 +63,7 @@ module _ {h : History} {folder path : Names} {before rest : List Record} {caller
   pub calm_rest : CalmSteps (home h.setup) (steps_of (q.place.between ++ own_record ∷ q.place.later))
   calm_rest = subst (λ records. CalmSteps (home h.setup) (steps_of records)) q.place.is (calm_at h q.legal before rest q.is path q.quiet).1
 
-  -- the moment after the moves behind it
+  -- the moment after the later moves
   abbrev pub after_own : Moment
   after_own = after (moments.next (moment_at h here) own_move) (steps_of q.place.later)
 
@@ -71,11 +71,11 @@ module _ {h : History} {folder path : Names} {before rest : List Record} {caller
   pub leads_to_end : moment_at h h.records ≡ after_own
   leads_to_end = ap (moment_at h) split ∙ moment_more h here (own_record ∷ q.place.later)
 
-  -- what the commit syncs behind the move is synced there
+  -- what the commit syncs after the move is synced there
   pub texts_here : (folders : List (List ℕ)) → HasDirs folders more → SyncsTexts folders (steps_of q.place.later)
   texts_here folders dirs = syncs_texts folders more (steps_of q.place.later) q.place.has dirs
 
-  -- where the cache's folder is among it, its text names that
+  -- if the cache's folder is synced there, the cache's text names that folder
   pub cache_text : Has (steps.SyncDir h.setup.cache, answers.Done) more → names_of h.setup.cache ≡ Ok folder
   cache_text synced =
       let c = calm_later in

@@ -1,4 +1,4 @@
--- What a loss leaves behind an entry whose line a durable commit appended whole.
+-- What a loss leaves after an entry that a durable commit appended as a whole line.
 use Rattle.std.proofs.{Common.{◌≡◌, ◌+◌, ◌-◌, ◌≤◌, inl, inr, ℕ, Bool, true, false, List, [], ◌∷◌, ◌++◌, Some, length, take, refl, sym, ap, subst, ◌∙◌, arith, append_assoc, append-nil}, Math.Seq.{take-append-add}, lemmas.List.{append_cancel_left}}
 use Rattle.sha1.specs.Sha1.{sha1}
 use Rattle.cacache_core.specs.{PathNames.{Names}, Paths.{bucket_names_of}}
@@ -27,7 +27,7 @@ whole_left f bytes tail e = rw e refl
 open_left : (f : Fixing) (bytes tail : List ℕ) → f.whole ≡ false → tail ≡ [] → bytes_left f bytes tail ≡ take f.kept bytes ++ []
 open_left f bytes tail e none = rw (e, none) refl
 
--- a sync is the last word where nobody appends
+-- a sync is the last word if nobody appends
 none_stays : (path : Names) (moves : List Move) → SyncsFile path moves → NoneAppends path moves → StaysSynced path moves
 none_stays path [] syncs none = absurd syncs
 none_stays path (m ∷ moves) (inl is) none = inl (is, none.1)
@@ -91,7 +91,7 @@ module _ {h : History} {folder path : Names} {before rest : List Record} {caller
   grown =
       grown_after (Some folder) bucket is_bucket front [] begun moves (subst (λ b. Stands (Some folder) bucket is_bucket b begun) (sym (append-nil front)) starts) none_first calm
 
-  -- what was added behind it
+  -- what was added after it
   more_is : (other : List ℕ) → entries_of (front ++ other) ≡ bucket_at h (here e.at) digest ++ entry ∷ entries_of other
   more_is other =
       closed_entries old other entry e.formed e.fits ∙ append_assoc (entries_of old) (entry ∷ []) (entries_of other)
@@ -118,7 +118,7 @@ module _ {h : History} {folder path : Names} {before rest : List Record} {caller
     abbrev more : List Entry
     more = outlasts.more
 
-    -- these are the entries of what is left behind the line
+    -- these are the entries of what is left after the line
     more_left : (other : List ℕ) → bytes_left fixing (front ++ grown.0) (loss.tail bucket) ≡ front ++ other → more ≡ entries_of other
     more_left other same =
         let there = ap bucket_in (stands_left ∙ ap (λ b. Some (File b)) same) ∙ ap Some (more_is other) in
@@ -139,11 +139,11 @@ module _ {h : History} {folder path : Names} {before rest : List Record} {caller
             subst (λ es. IsLonger es (entries_of grown.0))
             (sym (more_left (take some.0 grown.0) (open_left fixing (front ++ grown.0) (loss.tail bucket) more_may none ∙ some.1))) (grown.1 some.0)
 
-    -- where nobody appended since a sync all of it is
+    -- if nobody appended since a sync, all of it is
     all_synced : StaysSynced bucket moves → more ≡ entries_of grown.0
     all_synced stays = all_left (whole_synced (Some folder) bucket is_bucket front begun moves starts calm stays)
 
-    -- where nobody appended at all there is none
+    -- if nobody appended at all, there is none
     none_left : NoneAppends bucket moves → more ≡ []
     none_left none =
         let still = still_after (Some folder) bucket is_bucket front begun moves starts calm none in

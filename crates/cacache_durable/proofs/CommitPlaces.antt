@@ -164,7 +164,7 @@ module _ (h : History) (legal : IsLegal h) (before rest : List Record) (is : h.r
                 }
           ]
 
-      -- its entry, where it is written, is one
+      -- its entry, if it is written, is one
       pub put_formed : (key : List ℕ) → p.key ≡ Some key → FormedIfWritten (insertion_of commit key)
       put_formed =
           subst (λ command. MayBegin (call_site h.setup ends.call.number) (may_export h.setup) (is_outside h.setup) command) ends.command_is (holds (commands.Put p) ends).may

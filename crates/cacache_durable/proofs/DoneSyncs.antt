@@ -1,4 +1,4 @@
--- Syncs that are done: what they sync, and what stood there.
+-- Syncs that are done: what they sync, and what was there.
 use Rattle.std.{proofs.Common.{◌≡◌, inl, inr, ℕ, List, [], ◌∷◌, Option, None, Some, Ok, Err, refl, sym, ap, subst, ◌∙◌, ◌==◌, length}, specs.Prelude.{Result}}
 use Rattle.cacache_core.specs.{declared.errors.Fault.{Fault, TheVariants.{IsADirectory}}, PathNames.{Names, home_of, is_bad, names_of}}
 use Rattle.cacache_store.specs.declared.store.step.Step.TheVariants as steps
@@ -36,7 +36,7 @@ not_done : (t : Tree) (p : List ℕ) (luck : Luck) (fault : Fault) → names_of 
 not_done t p luck fault e =
     apply_answer (λ a. a ≡ answers.Done → ⊥) (λ other done. absurd cc) t (steps.SyncDir p) luck (λ most. rw (no_folder t p fault e) (λ done. absurd cc))
 
--- what a text names, where it can't fail
+-- what a text names, if it can't fail
 named_or : (p : List ℕ) (r : Result Names Fault) → names_of p ≡ r → ((fault : Fault) → r ≡ Err fault → ⊥) → (names : Names) × (names_of p ≡ Ok names)
 named_or p (Ok names) is no_fault = (names, is)
 named_or p (Err fault) is no_fault = absurd (no_fault fault refl)
@@ -48,7 +48,7 @@ dir_named home t (m ∷ moves) p trace (inl e) =
     named_or p (names_of p) refl (λ fault is. not_done t p m.luck fault is done)
 dir_named home t (m ∷ moves) p trace (inr h) = dir_named home (apply t m.step m.luck).1 moves p trace.2 h
 
--- so a cache whose folder is synced has the names of its folder
+-- so a cache with a synced folder has the names of that folder
 pub cache_named : (folder : Names) (t : Tree) (moves : List Move) (cache : List ℕ) → home_of cache ≡ Some folder → IsTrace (Some folder) t moves
     → HasStep (steps.SyncDir cache, answers.Done) moves → names_of cache ≡ Ok folder
 cache_named folder t moves cache is trace h =
@@ -57,7 +57,7 @@ cache_named folder t moves cache is trace h =
     let names : n.0 ≡ folder = cc in
     n.1 ∙ ap Ok names
 
--- ---- at the path of a file that is synced something stands
+-- ---- something is at the path of a file that is synced
 
 module _ (t : Tree) (p : List ℕ) (path : Names) (is : names_of p ≡ Ok path) (none : look t path ≡ None) where
   followed_here : followed 16 t path ≡ Ok path

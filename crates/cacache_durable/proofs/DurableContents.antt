@@ -89,13 +89,13 @@ module _ {h : History} {folder : Names} {before rest : List Record} {caller : �
 
   -- ---- a content or a link that was found there
 
-  -- what a place holds at the address is what stands at the path
+  -- what a place holds at the address is what is at the path
   stands_at : (records : List Record) → (value_at h records).contents a ≡ blob_in (look (moment_at h records).tree path)
   stands_at records =
       ap (λ home. blob_in (node_below home (now_at h records).tree (content_names a))) q.home_is
       ∙ ap (λ t. blob_in (look t path)) (sym (tree_at h records))
 
-  -- the link that stands where the put makes its move stood there before
+  -- a link that is there when the put makes its move was there before
   link_before : (target : List ℕ) → look now.tree path ≡ Some (Link target) → (value_at h before).contents a ≡ Some (AtLink target)
   link_before target linked =
       let calm : AreCalm (Some folder) (moment_at h before) (steps_of rest) = subst (λ home. AreCalm home (moment_at h before) (steps_of rest)) q.home_is (calm_at h q.legal before rest q.is path q.quiet) in
@@ -107,7 +107,7 @@ module _ {h : History} {folder : Names} {before rest : List Record} {caller : �
       (ap (λ (w : Moment). look w.tree path) (sym moment) ∙ linked) in
       stands_at before ∙ ap blob_in was
 
-  -- a link to this target stood there before
+  -- a link to this target was there before
   abbrev Was : List ℕ → Type 0
   Was target = (value_at h before).contents a ≡ Some (AtLink target)
 
@@ -125,7 +125,7 @@ module _ {h : History} {folder : Names} {before rest : List Record} {caller : �
     found_here (Some (File bytes)) is stands =
         inl (contents_are_right h q.legal (here q) (own_record q ∷ q.place.later) (split q) a is_hash bytes (stands_at (here q) ∙ ap blob_in is))
 
-    -- a right file is left, or the link that stood there before
+    -- a right file is left, or the link that was there before
     pub found_left : GoodOrLink (HasDigest a) Was (lost_then (Some folder) (moment_at h h.records) loss path)
     found_left =
         at_end (GoodOrLink (HasDigest a) Was)

@@ -1,4 +1,4 @@
--- An entry whose line a durable commit appended whole outlasts a loss, once its bucket is synced.
+-- An entry that a durable commit appended as a whole line outlasts a loss, once its bucket is synced.
 use Rattle.std.proofs.{Common.{◌≡◌, ℕ, true, List, [], ◌∷◌, ◌++◌, Option, None, Some, Ok, fold, length, refl, sym, ap, subst, ◌∙◌, append_assoc, arith}, lemmas.List.Sums.{fold-append}}
 use Rattle.std.specs.Prelude.{unwrap_or}
 use Rattle.sha1.specs.Sha1.{sha1}
@@ -17,7 +17,7 @@ use Rattle.cacache_loss.proofs.{Buckets.{entries_survive}, CommitFolders.{four_f
 use Rattle.cacache_durable.specs.Outlasting.{EntryOutlasts, Outlasts, moment_at}
 use Rattle.cacache_durable.proofs.{AtMoves.{QuietPlace, cache_here, cache_text, calm_later, calm_move, here, leads_to_end, own_move, own_record, texts_here}, CommitMoves.{HasDirs}, DoneSyncs.{syncs_file}, Ending.{Has}, Traces.{tree_at}}
 
--- the append of an entry's closed line, all of which was taken
+-- the append of an entry's closed line, which was taken whole
 abbrev pub whole_append : List ℕ → Entry → Made
 whole_append cache entry =
     (steps.Append (bucket_path cache entry.key) (closed_line true entry), answers.Took (length (closed_line true entry)))
@@ -43,7 +43,7 @@ bucket_is h folder home_is at digest =
     bucket_bytes (look (moment_at h at).tree (folder ++ bucket_names_of digest)) ∙ ap (λ t. list_of (bucket_in (look t (folder ++ bucket_names_of digest)))) (tree_at h at)
     ∙ ap (λ home. list_of (bucket_in (node_below home (now_at h at).tree (bucket_names_of digest)))) (sym home_is)
 
--- where the line of an entry was taken whole, and then its bucket was synced with its folders, while others remove, link
+-- the line of an entry was taken whole, and then its bucket was synced with its folders, while others remove, link
 -- and export nothing
 pub record WholeEntry (h : History) (folder path : Names) (before rest : List Record) (caller : ℕ) (entry : Entry) : Type 0 where
   pub more : Moves

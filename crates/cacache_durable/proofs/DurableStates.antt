@@ -19,7 +19,7 @@ Waits (appending i) = Unit {0}
 Waits (over reply) = Unit {0}
 Waits s = ⊥
 
--- it is moved next, and this is so of it
+-- it is moved next, and this holds of it
 abbrev pub Moves : (PlainTemp → Type 0) → State → Type 0
 Moves Ready (persisting c file) = Ready file
 Moves Ready s = ⊥
@@ -95,6 +95,6 @@ ready_moves : (Ready : PlainTemp → Type 0) (s : State) (f : PlainTemp) (to : L
 ready_moves Ready (persisting c file) f to h w = same_file Ready file f (content_path c.cache c.computed) to w h
 ready_moves Ready s f to h w = absurd h
 
--- where such a state wants to move a file, this is so of it
+-- if such a state wants to move a file, this holds of it
 pub ready_file : (Ready : PlainTemp → Type 0) (s : State) (f : PlainTemp) (to : List ℕ) → IsDurable Ready s → wants s ≡ Some (steps.Persist f to) → Ready f
 ready_file Ready s f to h w = elim h [ inl waits ↦ absurd (waits_none s (steps.Persist f to) waits w) | inr moves ↦ ready_moves Ready s f to moves w ]

@@ -13,7 +13,7 @@ abbrev until_over : Option Reply → Moves → Moves
 until_over None moves = moves
 until_over (Some reply) moves = []
 
--- a move before others, where one was made
+-- a move before others, if one was made
 abbrev with_made : Option Made → Moves → Moves
 with_made None moves = moves
 with_made (Some made) moves = made ∷ moves
@@ -83,7 +83,7 @@ module _ (caller other : ℕ) where
   is_own : (calls : ℕ → Option Call) (call found : Call) → calls other ≡ Some found → calls caller ≡ Some call → (other == caller) ≡ true → found ≡ call
   is_own calls call found there is e = let same : Some found ≡ Some call = sym there ∙ ap calls (eqb-true other caller e) ∙ is in cc
 
-  -- and where the call isn't over it is then the moved one
+  -- and if the call isn't over it is then the moved one
   now_moved : (w : Now) (luck : Luck) (made : Option Made) (call : Call) → (other == caller) ≡ true → w.calls caller ≡ Some call
       → set_call other (option_map (call_after w.tree luck made) (w.calls other)) w.calls caller ≡ Some (call_after w.tree luck made call)
   now_moved w luck made call e is =

@@ -18,7 +18,7 @@ module _ (home : Option Names) (c : Names) (at : path_kind home c ≡ Bucket) wh
   abbrev pub IsWhole : Fixed → Type 0
   IsWhole fixed = (fixed.files c).whole ≡ true
 
-  -- what a step makes of a bucket with these bytes: a part comes behind them, none unless it appends here
+  -- what a step makes of a bucket with these bytes: a part comes after them, none unless it appends here
   record Grows (b : List ℕ) (old : Fixed) (new : Tree) (later : Fixed) (appends : Bool) : Type 0 where
     part : List ℕ
     is_part : IsPart part
@@ -159,7 +159,7 @@ module _ (home : Option Names) (c : Names) (at : path_kind home c ≡ Bucket) wh
   stands_next : (b : List ℕ) (w : Moment) (m : Move) (s : Stands b w) (calm : IsCalm home w m) → Stands (b ++ (grows_in b w m s calm).part) (next w m)
   stands_next b w m s calm = (cache_next home w m s.0 calm.1, (grows_in b w m s calm).stands)
 
-  -- what comes behind its bytes holds the first of its entries, wherever it is cut
+  -- what comes after its bytes holds the first of its entries, wherever it is cut
   pub grown_after : (z m : List ℕ) (w : Moment) (moves : List Move) → Stands (z ++ m) w → HoldsFirst m → EachMove (IsCalm home) w moves
       → (more : List ℕ) × HoldsFirst more × Stands (z ++ more) (after w moves)
   grown_after z m w [] s first calm = (m, first, s)
@@ -168,7 +168,7 @@ module _ (home : Option Names) (c : Names) (at : path_kind home c ≡ Bucket) wh
       grown_after z (m ++ g.part) (next w move) moves (subst (λ b. Stands b (next w move)) (append_assoc z m g.part) (stands_next (z ++ m) w move s calm.0))
       (more_first m g.part first g.is_part) calm.1
 
-  -- where nobody appends to it, it stays
+  -- if nobody appends to it, it stays
   pub still_after : (b : List ℕ) (w : Moment) (moves : List Move) → Stands b w → EachMove (IsCalm home) w moves → NoneAppends c moves → Stands b (after w moves)
   still_after b w [] s calm none = s
   still_after b w (m ∷ moves) s calm none =
@@ -209,7 +209,7 @@ module _ (home : Option Names) (c : Names) (at : path_kind home c ≡ Bucket) wh
       let g = grows_in b w m s calm.0 in
       whole_after (b ++ g.part) (next w m) moves (stands_next b w m s calm.0) calm.1 none.1 ((g.still none.0).1 whole)
 
-  -- and all of it where nobody appends behind the sync
+  -- and all of it if nobody appends after the sync
   pub whole_synced : (b : List ℕ) (w : Moment) (moves : List Move) → Stands b w → EachMove (IsCalm home) w moves → StaysSynced c moves → IsWhole (after w moves).fixed
   whole_synced b w [] s calm stays = absurd stays
   whole_synced b w (m ∷ moves) s calm (inl is) =
@@ -245,7 +245,7 @@ module _ (home : Option Names) (c : Names) (at : path_kind home c ≡ Bucket) wh
   left_is : (now : Place) (tail : List ℕ) (here : Option Node) → IsLeft (λ place. place ≡ now) tail here → here ≡ node_left now.fixing tail now.node
   left_is now tail here l = l.2 ∙ ap (λ (place : Place). node_left place.fixing tail place.node) l.1
 
-  -- once its folders are synced, what stands there is left, as far as it is fixed
+  -- once its folders are synced, what is there is left, as far as it is fixed
   pub left_as_fixed : (b : List ℕ) (w : Moment) (moves : List Move) (loss : Loss) → Stands b w → EachMove (IsCalm home) w moves → SyncsFolders home [] c moves
       → lost_then home (after w moves) loss c ≡ node_left ((after w moves).fixed.files c) (loss.tail c) (look (after w moves).tree c)
   left_as_fixed b w moves loss s calm way =

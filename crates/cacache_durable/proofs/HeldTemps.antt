@@ -21,7 +21,7 @@ use Rattle.cacache_durable.proofs.{CallNumbers.{Numbered, first_numbered, more_b
 abbrev pub IsSynced : Moment → PlainTemp → Type 0
 IsSynced m file = (q : Names) → names_of file.path ≡ Ok q → IsReady q m
 
--- that of a durable put is, where it is moved next
+-- that of a durable put is, if it is moved next
 abbrev pub TempAt : Moment → Option Call → Type 0
 TempAt m None = Unit {0}
 TempAt m (Some call) = (p : Put) → call.command ≡ commands.Put p → p.options.durable ≡ true → IsDurable (IsSynced m) call.state

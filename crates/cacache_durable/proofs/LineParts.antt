@@ -78,7 +78,7 @@ part_first : (x : List ℕ) → IsPart x → HoldsFirst x
 part_first x (inl e) = subst HoldsFirst (sym e) none_first
 part_first x (inr l) = subst HoldsFirst (sym l.3) (line_first l.0 l.1 l.2)
 
--- ---- behind other bytes
+-- ---- after other bytes
 
 line_behind : (m line : List ℕ) (n : ℕ) → IsEntryLine line → entries_of (m ++ take n line) ≡ entries_of m ++ entries_of (take n line)
 line_behind m line n is =
@@ -92,7 +92,7 @@ part_behind m x (inl e) =
     (ap entries_of (append-nil m) ∙ sym (append-nil (entries_of m)) ∙ ap (λ es. entries_of m ++ es) (sym empty_holds_nothing))
 part_behind m x (inr l) = subst (λ y. entries_of (m ++ y) ≡ entries_of m ++ entries_of y) (sym l.3) (line_behind m l.0 l.1 l.2)
 
--- so bytes that hold their first entries do so with such a part behind them
+-- so bytes that hold their first entries still do with such a part after them
 pub more_first : (m x : List ℕ) → HoldsFirst m → IsPart x → HoldsFirst (m ++ x)
 more_first m x first part k = by (nat_le k (length m)) refl
   where

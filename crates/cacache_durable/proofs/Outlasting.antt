@@ -15,7 +15,7 @@ use Rattle.cacache_durable.specs.{Ending.{EndsFrom, CallEndsWith}, FewCalls.{Few
 use Rattle.cacache_durable.proofs.{AtMoves.{QuietPlace, here, own_record, quiet_here, split}, BehindEntries.{entry_behind}, CommitMoves.{HasDirs}, PutMoves.{Adds, secures}, CommitPlaces.{Secures, insert_appends, insert_formed, line_is, own, place_in, put_formed, put_secures, written_fits}, DurableContents.{content_named, found_left, put_outlasts}, DurableEntries.{WholeEntry, bucket_named, entry_outlasts, whole_append}, SyncedTemps.{put_well_at}, Traces.{losses_leave_caches}}
 
 module _ (h : History) (legal : IsLegal h) (folder : Names) (home_is : home h.setup ≡ Some folder) where
-  -- a move of a call, from a place on where all others are quiet
+  -- a move of a call, after a place; from there on all others are quiet
   quiet_place : (before rest : List Record) (is : h.records ≡ before ++ rest) (path : Names) → AreQuiet h.setup path (now_at h before) rest
       → (i : List Hash) (command : Command) (ends : EndsFrom h before rest command (Stored i)) (front : Moves) (made : Made) (more : Moves)
       → own h legal before rest is i command ends ≡ front ++ made ∷ more → QuietPlace h folder path before rest ends.caller made more
@@ -161,7 +161,7 @@ pub entries_have_behind : (h : History) → IsLegal h → EntriesHaveBehind h
 entries_have_behind h legal folder p key loss left home_is put keyed left_of =
     entry_behind (insertion_of (put_commit h.setup.cache p) key).entry (put_whole h legal folder home_is p put key keyed) loss left left_of
 
--- the same put, of which nothing is asked of links
+-- the same put, without what is asked about links
 abbrev answered : {h : History} {folder : Names} {p : Put} → DurablePut h folder p → AnsweredPut h folder p
 answered put = record { before = put.before; rest = put.rest; is = put.is; durable = put.durable; reply = put.reply; call = put.call; quiet = put.quiet }
 

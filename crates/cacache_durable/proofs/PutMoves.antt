@@ -52,7 +52,7 @@ module _ (i : List Hash) where
             later_adds c.key d.front d.more moves d.is (by_key c.key d.more (by_integrity c.options.integrity d.more d.runs)),
           )
 
-      -- before them the content, where it was found
+      -- before them the content, if it was found
       pub secures_found : (moves : Moves) → Stores i (secured_found c) moves
           → (more : Moves) × (moves ≡ (steps.SyncFile (content_path c.cache c.computed), answers.Done) ∷ more) × Stores i (secured c) more
       secures_found moves run =

@@ -60,7 +60,7 @@ module _ (s : Setup) where
     quiet_steps w (Stopped caller ∷ records) legal h quiet =
         quiet_steps (now_after s w (Stopped caller)) records legal.1 (next_holds s apart w (Stopped caller) legal.0 h) quiet.1
 
--- from a place on where all moves are quiet, all steps are calm
+-- from a place on, all steps are calm if all moves are quiet
 pub calm_at : (h : History) → IsLegal h → (before rest : List Record) → h.records ≡ before ++ rest → (path : Names) → AreQuiet h.setup path (now_at h before) rest
     → AreCalm (home h.setup) (moment_at h before) (steps_of rest)
 calm_at h legal before rest is path quiet = (

@@ -1,4 +1,4 @@
--- A link that stands at a content's path after calm moves stood there before them.
+-- A link that is at a content's path after calm moves was there before them.
 use Rattle.std.proofs.Common.{◌≡◌, ℕ, Bool, true, false, cond, List, [], ◌∷◌, ◌++◌, Option, None, Some, refl, sym, ap, subst, ◌∙◌}
 use Rattle.cacache_core.specs.PathNames.{Names, names_of}
 use Rattle.cacache_store.specs.{declared.store.plain.PlainTemp.{PlainTemp}, Plain.{PlainStep, PlainAnswer}}
@@ -12,7 +12,7 @@ use Rattle.cacache_loss.proofs.{KeptPaths.{cache_next, keeps}, StepCases.{Persis
 use Rattle.cacache_durable.proofs.Traces.{made_move}
 
 module _ (home : Option Names) (c : Names) (at : path_kind home c ≡ Content) (target : List ℕ) where
-  -- the link stands at the path
+  -- the link is at the path
   abbrev Linked : Tree → Type 0
   Linked t = look t c ≡ Some (Link target)
 

@@ -42,7 +42,7 @@ content_named : (cache : List ℕ) (a : Hash) → IsHash a → names_of (content
 unfolding content_path
 content_named cache a is = joined_texts_name cache (content_names a) (names_are_proper.contents a is) (omega arith)
 
--- two addresses whose contents lie at one path are one
+-- two addresses with contents at one path are one
 pub same_address : (cache : List ℕ) (folder : Names) (a b : Hash) (to : List ℕ) → home_of cache ≡ Some folder → IsHash a → IsHash b → to ≡ content_path cache (b ∷ [])
     → names_of to ≡ Ok (folder ++ content_names a) → a ≡ b
 same_address cache folder a b to here is of to_is named =

@@ -15,7 +15,7 @@ Spares q (CreateTemp p) = is_at (names_of p) q ≡ false
 Spares q (Write f bytes) = is_at (names_of f.path) q ≡ false
 Spares q step = Unit {0}
 
--- nothing stands at a path, or all of the file there is synced
+-- nothing is at a path, or all of the file there is synced
 abbrev pub IsReady : Names → Moment → Type 0
 IsReady q w = (look w.tree q ≡ None) ⊎ ((w.fixed.files q).whole ≡ true)
 
@@ -24,7 +24,7 @@ other_path : (home : Option Names) (k : PathKind) (q names : Names) → path_kin
 other_path home k q names at is apart = not_true (same_path q names) (λ e. apart (sym at ∙ ap (path_kind home) (same_path-true q names e) ∙ is))
 
 module _ (home : Option Names) (t : Tree) (placed : Placed home t) (q : Names) (at : path_kind home q ≡ Temporary) where
-  -- nothing is left at the path, or what stood there
+  -- nothing is left at the path, or what was there
   abbrev Left : Tree → Type 0
   Left new = (look new q ≡ None) ⊎ (look new q ≡ look t q)
 

@@ -1,4 +1,4 @@
--- At each place of a legal history stands a cache's moment, from which its steps are a trace.
+-- Each place of a legal history has a cache's moment, from which its steps are a trace.
 use Rattle.std.proofs.Common.{◌≡◌, List, [], ◌∷◌, ◌++◌, None, Some, refl, sym, ap, subst}
 use Rattle.cacache_disk.specs.{declared.luck.Luck.{Luck}, Apply.{apply}}
 use Rattle.cacache_value.specs.Traces.{IsTrace, Move}

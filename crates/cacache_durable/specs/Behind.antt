@@ -1,4 +1,4 @@
--- What stands behind a durable entry after a loss of power.
+-- What is left after a durable entry by a loss of power.
 use Rattle.std.specs.Prelude.{◌≡◌, ◌⊎◌, ℕ, List, [], ◌∷◌, ◌++◌, Bool, false}
 use Rattle.sha1.specs.Sha1.{sha1}
 use Rattle.cacache_core.specs.PathNames.{Names, names_of}
@@ -20,7 +20,7 @@ abbrev pub NoneAppends : Names → List Move → Type 0
 NoneAppends path [] = Unit {0}
 NoneAppends path (m ∷ moves) = (appends_at m.step path ≡ false) × NoneAppends path moves
 
--- one of these moves syncs the file at this path, and none behind it appends to it
+-- one of these moves syncs the file at this path, and none after it appends to it
 abbrev pub StaysSynced : Names → List Move → Type 0
 StaysSynced path [] = ⊥
 StaysSynced path (m ∷ moves) =
@@ -28,16 +28,16 @@ StaysSynced path (m ∷ moves) =
 
 -- ---- what is left
 
--- what a loss left behind an entry of a bucket at this path: `more`. The entry came behind `old`, and
--- these records came behind it
+-- what a loss left after an entry of a bucket at this path: `more`. The entry came after `old`, and
+-- these records came after it
 pub record Behind (h : History) (path : Names) (key : List ℕ) (old : List Entry) (entry : Entry)
     (later : List Record) (loss : Loss) (more : List Entry) : Type 0 where
-  -- what the history had added behind it at its end
+  -- what the history had added after it at its end
   pub added : List Entry
   pub had : bucket_at h h.records (sha1 key) ≡ old ++ entry ∷ added
-  -- where the loss names no tail of the bucket, the first of these are left, in their order
+  -- if the loss names no tail of the bucket, the first of these are left, in their order
   pub first : loss.tail path ≡ [] → IsLonger more added
-  -- where nobody appended to it behind a sync of it, all of these are
+  -- if nobody appended to it after a sync of it, all of these are
   pub all : StaysSynced path (steps_of later) → more ≡ added
-  -- and where nobody appended to it behind the entry, nothing is
+  -- and if nobody appended to it after the entry, nothing is
   pub none : NoneAppends path (steps_of later) → more ≡ []

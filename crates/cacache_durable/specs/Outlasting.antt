@@ -19,22 +19,22 @@ moment_at h before = after (opening (initial h.setup).tree) (steps_of before)
 
 -- ---- what is left
 
--- a bucket of this key holds these entries and this one behind them; where this one answers a
--- lookup of the key, the lookup finds it or a later one
+-- a bucket of this key holds these entries and this one after them; if this one answers a lookup of
+-- the key, the lookup finds it or a later one
 pub record Outlasts (key : List ℕ) (old : List Entry) (entry : Entry) (v : Value) : Type 0 where
   pub more : List Entry
   pub bucket : v.buckets (sha1 key) ≡ Some (old ++ entry ∷ more)
   pub finds : (found : Option Found) → answer_to key entry ≡ Some found
       → latest key (old ++ entry ∷ more) ≡ fold (after_entry key) found more
 
--- the caller's append of the entry's whole line, all of which was taken
+-- the caller's append of the entry's whole line, which was taken whole
 abbrev pub IsAppendOf : ℕ → List ℕ → List ℕ → Entry → Record → Type 0
 IsAppendOf caller cache key entry (Moved other luck (Some made) told) =
     (other ≡ caller) × (made.0 ≡ steps.Append (bucket_path cache key) (closed_line true entry))
     × (made.1 ≡ answers.Took (length (closed_line true entry)))
 IsAppendOf caller cache key entry r = ⊥
 
--- the entry outlasts a loss, behind what its bucket held at the place of the caller's append
+-- the entry outlasts a loss, after what its bucket held at the place of the caller's append
 pub record EntryOutlasts (h : History) (before rest : List Record) (caller : ℕ) (key : List ℕ)
     (entry : Entry) (v : Value) : Type 0 where
   pub between : List Record
@@ -44,7 +44,7 @@ pub record EntryOutlasts (h : History) (before rest : List Record) (caller : ℕ
   pub is_append : IsAppendOf caller h.setup.cache key entry append
   pub outlasts : Outlasts key (bucket_at h (before ++ between) (sha1 key)) entry v
 
--- the entry outlasts a loss, and so much of what the history added is left behind it
+-- the entry outlasts a loss, and so much of what the history added is left after it
 pub record OutlastsWith (h : History) (folder : Names) (before rest : List Record) (caller : ℕ)
     (key : List ℕ) (entry : Entry) (loss : Loss) (v : Value) : Type 0 where
   pub entry_is : EntryOutlasts h before rest caller key entry v
@@ -65,13 +65,13 @@ KeyOutlasts h before rest caller p (Some key) v =
 abbrev pub IsNoLink : Hash → Value → Type 0
 IsNoLink address v = (target : List ℕ) → v.contents address ≡ Some (AtLink target) → ⊥
 
--- the caller's sync of the content itself, which it makes only where the content was found there
+-- the caller's sync of the content itself, which it makes only if it found the content there
 abbrev pub IsSyncOf : ℕ → List ℕ → Record → Type 0
 IsSyncOf caller path (Moved other luck (Some made) told) =
     (other ≡ caller) × (made ≡ (steps.SyncFile path, answers.Done))
 IsSyncOf caller path r = ⊥
 
--- among these records is such a sync: the caller put nothing at this path, but found what stood there
+-- among these records is such a sync: the caller put nothing at this path, but found what was there
 pub record FindsThere (caller : ℕ) (path : List ℕ) (rest : List Record) : Type 0 where
   pub between : List Record
   pub sync : Record
@@ -80,7 +80,8 @@ pub record FindsThere (caller : ℕ) (path : List ℕ) (rest : List Record) : Ty
   pub is_sync : IsSyncOf caller path sync
 
 -- a durable put that answers, from a place on where it had put nothing: from there on others
--- remove, link and export nothing, and put its content durably. Whatever stood at its address there
+-- remove, link and export nothing, and put its content durably. Anything may be at its address
+-- there
 pub record AnsweredPut (h : History) (folder : Names) (p : Put) : Type 0 where
   pub before : List Record
   pub rest : List Record
@@ -91,8 +92,8 @@ pub record AnsweredPut (h : History) (folder : Names) (p : Put) : Type 0 where
   pub quiet :
       AreQuiet h.setup (folder ++ content_names (address_of_put p)) (now_at h before) rest
 
--- such a put that found no link: where it found its content instead of putting it, none stood at
--- its address
+-- such a put that found no link: if it found its content instead of putting it, no link was at its
+-- address
 pub record DurablePut (h : History) (folder : Names) (p : Put) : Type 0 where
   pub before : List Record
   pub rest : List Record
@@ -118,17 +119,16 @@ pub record DurableInsert (h : History) (i : Insert) : Type 0 where
   pub stored : (hashes : List Hash) × (reply ≡ Stored hashes)
   pub quiet : AreQuiet h.setup [] (now_at h before) rest
 
--- ---- what is left where a put found a link
+-- ---- what is left if a put found a link
 
--- after the first records a link to this target stood at an address, and in this value it still
--- does
+-- after the first records a link to this target was at an address, and in this value it still is
 pub record KeepsLink (h : History) (before : List Record) (address : Hash) (v : Value)
     : Type 0 where
   pub target : List ℕ
   pub was : (value_at h before).contents address ≡ Some (AtLink target)
   pub is : v.contents address ≡ Some (AtLink target)
 
--- the caller put nothing there, but found the link that stood there before, and it still does
+-- the caller put nothing there, but found the link that was there before, and it still is
 abbrev pub FoundLink :
     History → List Record → List Record → ℕ → Hash → Value → Type 0
 FoundLink h before rest caller address v =
@@ -148,7 +148,7 @@ PutsOrLinksOutlast h =
     (value_of_tree (Some folder) left))
     × KeyOutlasts h put.before put.rest put.call.caller p p.key (value_of_tree (Some folder) left)
 
--- so where it found no link its content is there, and with a key its entry
+-- so if it found no link its content is there, and with a key its entry
 abbrev pub PutsOutlast : History → Type 0
 PutsOutlast h =
     (folder : Names) (p : Put) (loss : Loss) (left : Tree) → home h.setup ≡ Some folder
@@ -164,7 +164,7 @@ InsertsOutlast h =
     → EntryOutlasts h put.before put.rest put.call.caller i.key (insertion h.setup.cache i).entry
     (value_of_tree (Some folder) left)
 
--- behind the entry of a durable put stand the first of those that the history added there
+-- after the entry of a durable put come the first of those that the history added there
 abbrev pub EntriesHaveBehind : History → Type 0
 EntriesHaveBehind h =
     (folder : Names) (p : Put) (key : List ℕ) (loss : Loss) (left : Tree)
@@ -173,7 +173,7 @@ EntriesHaveBehind h =
     → OutlastsWith h folder put.before put.rest put.call.caller key
     (insertion_of (put_commit h.setup.cache p) key).entry loss (value_of_tree (Some folder) left)
 
--- so they do where the put found no link
+-- so they do if the put found no link
 abbrev pub PutsHaveBehind : History → Type 0
 PutsHaveBehind h =
     (folder : Names) (p : Put) (key : List ℕ) (loss : Loss) (left : Tree)
@@ -182,7 +182,7 @@ PutsHaveBehind h =
     → OutlastsWith h folder put.before put.rest put.call.caller key
     (insertion_of (put_commit h.setup.cache p) key).entry loss (value_of_tree (Some folder) left)
 
--- and behind the entry of a durable insertion
+-- and after the entry of a durable insertion
 abbrev pub InsertsHaveBehind : History → Type 0
 InsertsHaveBehind h =
     (folder : Names) (i : Insert) (loss : Loss) (left : Tree) → home h.setup ≡ Some folder
@@ -199,15 +199,15 @@ LossesLeaveCaches h =
 pub record Outlives (h : History) : Type 0 where
   -- each loss leaves one tree, that of a cache
   pub caches : LossesLeaveCaches h
-  -- what a durable put stored is there after it, where each call has a temporary file of its own
+  -- what a durable put stored is there after it, if each call has a temporary file of its own
   pub puts : FewCalls h → PutsOutlast h
   -- and so is the entry of a durable insertion
   pub inserts : InsertsOutlast h
-  -- what is left behind the entry of a durable put
+  -- what is left after the entry of a durable put
   pub behind_puts : PutsHaveBehind h
-  -- and behind that of a durable insertion
+  -- and after that of a durable insertion
   pub behind_inserts : InsertsHaveBehind h
 
--- so it is of every legal history
+-- this holds of every legal history
 abbrev pub HistoriesOutlive : Type 0
 HistoriesOutlive = (h : History) → IsLegal h → Outlives h

@@ -22,7 +22,7 @@ abbrev pub MadeDurably : Names → Command → Option Made → Type 0
 MadeDurably path command None = Unit {0}
 MadeDurably path command (Some made) = PutsDurably path command made.0
 
--- a move of a quiet call, durable where it puts a file at this path
+-- a move of a quiet call, durable if it puts a file at this path
 abbrev pub IsQuietMove : Names → Option Call → Option Made → Type 0
 IsQuietMove path None made = Unit {0}
 IsQuietMove path (Some call) made =

@@ -1,4 +1,4 @@
--- Paths of which neither lies below the other.
+-- Paths that don't lie below one another.
 use Rattle.std.proofs.{Common.{◌≡◌, ◌⊎◌, inl, inr, ℕ, Bool, true, false, cond, List, [], ◌∷◌, ◌++◌, length, bytes_eq, refl, sym, ap, ◌∙◌, arith, append_assoc, length-append}, lemmas.Slice.Eq.{bytes_eq-Decides}}
 use Rattle.cacache_core.specs.PathNames.{Names}
 use Rattle.cacache_store.specs.declared.store.answer.Name.{Name}
@@ -13,7 +13,7 @@ not_apart : (q : Names) → are_apart q q ≡ true → ⊥
 not_apart [] e = cc
 not_apart (n ∷ q) e = not_apart q (sym (ap (λ b. cond b (are_apart q q) true) (itself n)) ∙ e)
 
--- paths that are apart stay so where either goes on
+-- paths that are apart stay apart if either goes on
 apart_left : (q c more : Names) → are_apart q c ≡ true → are_apart (q ++ more) c ≡ true
 apart_left [] c more e = absurd cc
 apart_left (n ∷ q) [] more e = absurd cc

@@ -38,7 +38,7 @@ taken_elsewhere : (s : Setup) (r : Result Names Fault) → may_take s r ≡ true
 taken_elsewhere s (Ok path) e = home_apart (home s) path (and_first (apart_from_home (home s) path) (apart_from_files s.outside path) e)
 taken_elsewhere s (Err fault) e = tt
 
--- where an export may go lies elsewhere
+-- a path that an export may take lies elsewhere
 pub export_elsewhere : (s : Setup) (path : List ℕ) → may_export s path ≡ true → IsFor (home s) Elsewhere path
 export_elsewhere s path e = taken_elsewhere s (names_of path) e
 

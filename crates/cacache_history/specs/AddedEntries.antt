@@ -7,7 +7,7 @@ use Rattle.cacache_table.specs.declared.command.Command.TheVariants as commands
 use Rattle.cacache_value.specs.{Value.{Blob, InFile, AtLink}, Acts.{AddEntries}}
 use Rattle.cacache_history.specs.{Setup.{home}, History.{History, Call, Reaches}, Values.{steps_of, value_at, KeepContent, HasDigest}, Commits.{Deed, does, deeds}}
 
--- a put or a link that isn't told which integrity to expect: its entry names its own content
+-- a put or a link without an expected integrity: its entry names its own content
 abbrev pub NamesOwn : Command → Type 0
 NamesOwn (commands.Put p) = p.options.integrity ≡ None
 NamesOwn (commands.Link l) = l.options.integrity ≡ None
@@ -60,7 +60,7 @@ EntriesNameContents h =
 abbrev pub address_of_put : Put → Hash
 address_of_put p = hash_of p.options.algorithm (digest p.options.algorithm p.data)
 
--- what a put stored that answered is there, with a key or without, unless a step removed it
+-- what a put that answered stored is there, with or without a key, unless a step removed it
 abbrev pub PutsLeaveContents : History → Type 0
 PutsLeaveContents h =
     (call : Call) (i : List Hash) (p : Put) → Reaches h call (Some (Stored i))

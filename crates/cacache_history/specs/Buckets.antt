@@ -1,4 +1,4 @@
--- Which buckets stand in a cache: those of keys.
+-- Which buckets are in a cache: those of keys.
 use Rattle.std.specs.Prelude.{◌≡◌, ◌≤◌, ℕ, All, List, ◌∷◌, ◌++◌, Option, Some, Ok, length}
 use Rattle.sha1.specs.Sha1.{sha1}
 use Rattle.cacache_core.specs.{PathNames.{Names, names_below}, Paths.{bucket_names, index_area}}
@@ -11,13 +11,13 @@ use Rattle.cacache_history.specs.{declared.record.Record.{Record}, Setup.{home},
 abbrev pub IsOfKey : Option Names → Names → Type 0
 IsOfKey home path = (key : List ℕ) × (names_below home (bucket_names key) ≡ Ok path)
 
--- what stands where a bucket may stand is the bucket of some key
+-- what is where a bucket may be is the bucket of some key
 abbrev pub BucketsHaveKeys : Option Names → Tree → Type 0
 BucketsHaveKeys home t =
     (path : Names) (node : Node) → path_kind home path ≡ Bucket → look t path ≡ Some node
     → IsOfKey home path
 
--- so it is at each place of a history
+-- this holds at each place of a history
 abbrev pub BucketsAreOfKeys : History → Type 0
 BucketsAreOfKeys h =
     (before later : List Record) → h.records ≡ before ++ later
@@ -36,7 +36,7 @@ abbrev pub HoldOwn : (List ℕ → Option (List Entry)) → Type 0
 HoldOwn buckets =
     (key : List ℕ) → All (λ e. sha1 e.key ≡ sha1 key) (list_of (buckets (sha1 key)))
 
--- so it is at each place of a history
+-- this holds at each place of a history
 abbrev pub BucketsHoldOwn : History → Type 0
 BucketsHoldOwn h =
     (before later : List Record) → h.records ≡ before ++ later

@@ -86,7 +86,7 @@ CommitsAs c put ds reply =
     ⊎ ((content : Deed) × (more : List Deed) × PutsContent c put content × (ds ≡ content ∷ more)
     × AddsAfter c c.key more reply)
 
--- the moves begin with the target's size and then read it to its end; this is so of its bytes
+-- the moves begin with the target's size and then read it to its end; this holds of its bytes
 abbrev pub ReadsTarget : List ℕ → (List ℕ → Type 0) → Moves → Type 0
 ReadsTarget path P moves =
     (n : ℕ) × (more : Moves) × (moves ≡ (steps.Size path, answers.Length n) ∷ more)
@@ -113,7 +113,7 @@ DropsAmong (path ∷ paths) ds =
     ⊎ ((names : Names) × (more : List Deed) × (names_of path ≡ Ok names)
     × (ds ≡ does (Drop names) ∷ more) × DropsAmong paths more)
 
--- the first turn read the key's bucket, and a lookup in what it was answered found this
+-- the first turn read the key's bucket, and a lookup in its answer found this
 abbrev pub FoundFirst : List ℕ → List ℕ → List Turn → Found → Type 0
 FoundFirst cache key turns found =
     (turn : Turn) × (more : List Turn) × (turns ≡ turn ∷ more)
@@ -133,7 +133,7 @@ IsRemoval (does (Drop names)) = Unit {0}
 IsRemoval (does act) = ⊥
 IsRemoval (finds path) = Unit {0}
 
--- so it is of each of these
+-- the same holds of each of these
 abbrev pub AreRemovals : List Deed → Type 0
 AreRemovals [] = Unit {0}
 AreRemovals (d ∷ ds) = IsRemoval d × AreRemovals ds

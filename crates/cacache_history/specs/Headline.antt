@@ -11,7 +11,7 @@ pub record Headline (h : History) : Type 0 where
   pub legal : IsLegal h
   -- each turn of a call is a move of the history, on the tree of its place
   pub turns : TurnsAreMoves h
-  -- what callers may say of places: whose each move is, and what a lookup finds at each
+  -- what callers may say of places: which call each move is of, and what a lookup finds at each
   pub places : PlaceLaws h
   -- each reply is that of a run of its call, or out of memory
   pub runs : CallsAreRuns h
@@ -19,7 +19,7 @@ pub record Headline (h : History) : Type 0 where
   pub values : ValueFollowsActs h
   -- while a bucket isn't removed, its list of entries only grows at the end
   pub buckets : BucketsOnlyGrow h
-  -- what stands where a bucket may stand is the bucket of some key
+  -- what is where a bucket may be is the bucket of some key
   pub keyed : BucketsAreOfKeys h
   -- no folder of the index lies more than two names below it
   pub shallow : IndexIsShallow h
@@ -35,9 +35,9 @@ pub record Headline (h : History) : Type 0 where
   pub links : LinksAreRight h
   -- lookups, reads, questions, listings and checked exports answer by the value at their steps
   pub replies : RepliesReadValue h
-  -- a listing answers just what the buckets of keys held that it read, and leaves none out
+  -- a listing answers exactly what the buckets of keys that it read held, and leaves none out
   pub listings : ListingsReadValue h
-  -- bytes are answered only where they meet the integrity
+  -- bytes are answered only if they meet the integrity
   pub verified : ReadsAreVerified h
   -- a call that reads does nothing to the value
   pub readers : ReadersDoNothing h
@@ -46,11 +46,11 @@ pub record Headline (h : History) : Type 0 where
   pub commits : CommitsAreCases h
   -- the entry that a commit added names a content that is there, unless a step removed it
   pub entries : EntriesNameContents h
-  -- so is the content of a put that answered, with a key or without
+  -- the content of a put that answered is there too, with or without a key
   pub stored : PutsLeaveContents h
   -- each `IoError` has a cause in its call's own steps
   pub causes : RepliesHaveCauses h
 
--- so it is of every legal history
+-- this holds of every legal history
 abbrev pub HeadlineHolds : Type 0
 HeadlineHolds = (h : History) → IsLegal h → Headline h

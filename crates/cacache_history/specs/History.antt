@@ -16,7 +16,7 @@ pub record History : Type 0 where
   -- what happened, oldest first
   pub records : List Record
 
--- ---- what stands at a place
+-- ---- what there is at a place
 
 -- a step that a call made: the tree that it found, the step, its luck and its answer
 pub record Turn : Type 0 where
@@ -36,7 +36,7 @@ pub record Now : Type 0 where
   pub calls : ℕ → Option Call
   pub begun : ℕ
 
--- the tree, or a bare one where there is none
+-- the tree, or a bare one if there is none
 abbrev pub tree_in : Result Tree Fault → Tree
 tree_in (Ok t) = t
 tree_in (Err fault) = bare
@@ -118,19 +118,19 @@ abbrev pub replayed : Setup → Now → List Record → Now
 replayed s w [] = w
 replayed s w (r ∷ records) = replayed s (now_after s w r) records
 
--- what stands after the first records of a history
+-- the tree and the calls after the first records of a history
 abbrev pub now_at : History → List Record → Now
 now_at h before = replayed h.setup (initial h.setup) before
 
 -- ---- which records may come
 
--- there is a reply exactly where the call is over; out of memory may end it at any move
+-- there is a reply exactly when the call is over; out of memory may end it at any move
 abbrev pub Ends : State → Option Reply → Type 0
 Ends s None = (step : PlainStep) × (wants s ≡ Some step)
 Ends s (Some reply) = (s ≡ over (plain_reply reply)) ⊎ (reply ≡ Refused OutOfMemory)
 
--- the call's wanted step, with the answer that the disk gives here; none only where the call was
--- over before any step
+-- the call's wanted step, with the answer that the disk gives here; none only if the call was over
+-- before any step
 abbrev pub MayMove : Tree → State → Luck → Option Made → Option Reply → Type 0
 MayMove t s luck None reply = (wants s ≡ None) × Ends s reply
 MayMove t s luck (Some made) reply =
@@ -180,7 +180,7 @@ pub record IsLegal (h : History) : Type 0 where
 
 -- ---- calls of a history
 
--- one of the records is a move, with this reply if any, after which the call stood so
+-- one of the records is a move, with this reply if any, and it left the call like this
 pub record Reaches (h : History) (call : Call) (reply : Option Reply) : Type 0 where
   pub before : List Record
   pub later : List Record

@@ -10,7 +10,7 @@ use Rattle.cacache_table.specs.{declared.{command.{Command.{Command}, Source.{So
 use Rattle.cacache_table.specs.declared.command.Command.TheVariants as commands
 use Rattle.cacache_history.specs.{declared.record.Record.{Record, TheVariants.{Began, Moved, Stopped}}, Setup.{call_site, may_export, is_outside}, History.{History, Call, Made, turn_of, now_at, IsLegal}, ShownTurns.{bucket_read}}
 
--- the record comes right behind these
+-- the record comes right after these
 abbrev pub Comes : History → List Record → Record → Type 0
 Comes h before r = (later : List Record) × (h.records ≡ before ++ r ∷ later)
 
@@ -80,7 +80,7 @@ pub record BeginCases (h : History) (before : List Record) (caller : ℕ) : Type
 
 -- ---- of each legal history
 
--- the cases of each caller, behind any first records
+-- the cases of each caller, after any first records
 pub record LegalCases (h : History) : Type 0 where
   pub busy : (before : List Record) (caller : ℕ) (call : Call) → call_at h before caller ≡ Some call
       → BusyCases h before caller call

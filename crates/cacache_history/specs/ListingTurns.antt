@@ -65,7 +65,7 @@ listing_of turns items =
 
 -- ---- no bucket is left out
 
--- one of the turns is so
+-- one of the turns has this property
 abbrev pub AnyTurn : (Turn → Type 0) → List Turn → Type 0
 AnyTurn P [] = ⊥
 AnyTurn P (turn ∷ turns) = P turn ⊎ AnyTurn P turns

@@ -20,7 +20,7 @@ IsFoundIn h m n key found =
 
 -- ---- what commands do to a key
 
--- a call of the command adds no entry but such ones
+-- a call of the command adds only such entries
 abbrev pub WritesEntry : Site → Command → Entry → Type 0
 WritesEntry site (commands.Put p) e =
     (key : List ℕ) × (p.key ≡ Some key) × (e ≡ (insertion_of (put_commit site.cache p) key).entry)
@@ -47,7 +47,7 @@ SparesKey key command = LeavesBucket key command
 
 -- ---- entries and the calls that wrote them
 
--- from place m on and before place n a move added this entry, of a call whose command writes it
+-- from place m on and before place n a move added this entry; the command of its call writes it
 pub record WrittenIn (h : History) (m n : ℕ) (e : Entry) : Type 0 where
   pub place : ℕ
   pub from : m ≤ place
@@ -58,7 +58,7 @@ pub record WrittenIn (h : History) (m n : ℕ) (e : Entry) : Type 0 where
   pub is : (now_before h place).calls caller ≡ Some call
   pub writes : WritesEntry (call_site h.setup call.number) call.command e
 
--- such an entry answers so to a lookup of the key
+-- such an entry answers a lookup of the key with this
 abbrev pub WasWritten : History → ℕ → ℕ → List ℕ → Option Found → Type 0
 WasWritten h m n key found =
     (e : Entry) × WrittenIn h m n e × (answer_to key e ≡ Some found)
@@ -103,7 +103,7 @@ GetsArePlaced h =
     → CallIn h m n caller call (Some (Read bytes)) → call.command ≡ commands.Get key
     → (found : Found) × IsFoundIn h m n key (Some found) × Meets found.integrity bytes
 
--- what a lookup finds right behind the entry of a put
+-- what a lookup finds right after the entry of a put
 abbrev pub found_of_put : List ℕ → List ℕ → Put → Found
 found_of_put cache key p =
     found_of (insertion_of (put_commit cache p) key).entry
@@ -115,13 +115,13 @@ FoundOfPuts cache key [] found = ⊥
 FoundOfPuts cache key (p ∷ ps) found =
     (found ≡ Some (found_of_put cache key p)) ⊎ FoundOfPuts cache key ps found
 
--- the command is one of these puts, and isn't told which integrity to expect
+-- the command is one of these puts, and expects no integrity
 abbrev pub IsOneOfPuts : List Put → Command → Type 0
 IsOneOfPuts [] c = ⊥
 IsOneOfPuts (p ∷ ps) c = ((c ≡ commands.Put p) × (p.options.integrity ≡ None)) ⊎ IsOneOfPuts ps c
 
--- where each move is of such a put, or of a call that spares the key, a lookup finds what it found,
--- or the entry of one of the puts
+-- if each move is of such a put, or of a call that spares the key, a lookup finds what it found, or
+-- the entry of one of the puts
 abbrev pub LookupsFollowPuts : History → Type 0
 LookupsFollowPuts h =
     (key : List ℕ) (ps : List Put) (m n : ℕ) → m ≤ n
@@ -129,7 +129,7 @@ LookupsFollowPuts h =
     → (lookup_at h n key ≡ lookup_at h m key)
     ⊎ FoundOfPuts h.setup.cache key ps (lookup_at h n key)
 
--- a put that isn't told an integrity, and answers, is found at a place since it began
+-- a put that expects no integrity, and answers, is found at a place since it began
 abbrev pub PutsArePlaced : History → Type 0
 PutsArePlaced h =
     (m n caller : ℕ) (call : Call) (p : Put) (key : List ℕ) (i : List Hash)
@@ -158,7 +158,7 @@ pub record PlaceLaws (h : History) : Type 0 where
   pub puts : LookupsFollowPuts h
   -- it stays while each call spares the key
   pub stays : LookupsStay h
-  -- what a call found or put is so at a place since the call began
+  -- what a call found or put holds at a place since the call began
   pub found : FindsArePlaced h
   pub got : GetsArePlaced h
   pub stored : PutsArePlaced h

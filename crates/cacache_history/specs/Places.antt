@@ -4,7 +4,7 @@ use Rattle.cacache_disk.specs.declared.luck.Luck.{Luck}
 use Rattle.cacache_table.specs.declared.{command.Command.{Command}, reply.Reply.{Reply}}
 use Rattle.cacache_history.specs.{declared.record.Record.TheVariants.{Moved}, History.{History, Turn, Call, Made, Now, turn_of, call_after, moved_call, now_at, Reaches}, Turns.{EachTurn}}
 
--- what stands at a place
+-- the tree and the calls at a place
 abbrev pub now_before : History → ℕ → Now
 now_before h place = now_at h (take place h.records)
 
@@ -53,7 +53,7 @@ abbrev pub MovesAreOfCalls : History → Type 0
 MovesAreOfCalls h =
     (place caller : ℕ) (move : MoveAt h place caller) → MoveOfCall h place caller move
 
--- each move from place m on and before place n is of a call whose command is so
+-- each move from place m on and before place n is of a call with a command that has this property
 abbrev pub MovesAre : History → ℕ → ℕ → (Command → Type 0) → Type 0
 MovesAre h m n P =
     (place caller : ℕ) (call : Call) → m ≤ place → place < n → MoveAt h place caller

@@ -11,7 +11,7 @@ use Rattle.cacache_history.specs.{Setup.{Setup}, History.{History, Turn, Call, R
 
 -- ---- they change nothing
 
--- a command whose call changes nothing in the cache: a lookup, a read, a question, a listing or an export
+-- a command that changes nothing in the cache: a lookup, a read, a question, a listing or an export
 abbrev pub IsReading : Command → Type 0
 IsReading = KeepsTo handing_out
 
@@ -19,7 +19,7 @@ IsReading = KeepsTo handing_out
 abbrev pub TurnDoesNothing : Turn → Type 0
 TurnDoesNothing turn = act_of turn.move.step turn.move.luck turn.move.answer ≡ Nothing
 
--- so it is of each turn of a call that reads, whether it is over or was left on its way
+-- each turn of a call that reads does nothing, whether the call is over or was left on its way
 abbrev pub ReadersDoNothing : History → Type 0
 ReadersDoNothing h =
     (call : Call) (reply : Option Reply) → Reaches h call reply → IsReading call.command

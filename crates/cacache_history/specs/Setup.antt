@@ -44,8 +44,8 @@ apart_from_files [] path = true
 apart_from_files (file ∷ files) path =
     apart_from_text (names_of file.0) path && apart_from_files files path
 
--- an export may go apart from the cache and from the outside files; where a text names nothing,
--- its step fails
+-- an export may go apart from the cache and from the outside files; if a text names nothing, its
+-- step fails
 abbrev pub may_take : Setup → Result Names Fault → Bool
 may_take s (Ok path) = apart_from_home (home s) path && apart_from_files s.outside path
 may_take s (Err fault) = true

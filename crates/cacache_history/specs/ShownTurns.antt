@@ -1,4 +1,4 @@
--- What the turns of a call show of what the cache holds at their places.
+-- What the turns of a call show about the cache at their places.
 use Rattle.std.specs.Prelude.{ℕ, List, [], ◌∷◌, Option, None, Some, Result, Ok, Err, Bool}
 use Rattle.cacache_core.specs.{declared.{errors.Fault.{Fault}, integrity.digest.Hash.{Hash}}, Integrity.{address}}
 use Rattle.cacache_core.specs.declared.errors.Fault.TheVariants as faults
@@ -16,7 +16,7 @@ use Rattle.cacache_history.specs.{Setup.{Setup, home}, History.{Turn}}
 abbrev pub held : Setup → Turn → Value
 held s turn = value_of_tree (home s) turn.place
 
--- the entries of a bucket, none where it doesn't exist
+-- the entries of a bucket; none if it doesn't exist
 abbrev pub entries_at : Setup → List ℕ → Turn → List Entry
 entries_at s digest turn = list_of ((held s turn).buckets digest)
 
@@ -37,7 +37,7 @@ unless_failed (answers.Failed fault) r = Err (refusals.Fault fault)
 unless_failed (answers.NoMemory step) r = Err refusals.Memory
 unless_failed answer r = r
 
--- that a file is missing isn't a failure here: it shows what is so
+-- a missing file isn't a failure here: it shows that nothing is there
 abbrev pub shown_result : {X : Type 0} → PlainAnswer → Result X Refusal → Result X Refusal
 shown_result (answers.Failed faults.NotFound) r = r
 shown_result answer r = unless_failed answer r
@@ -63,7 +63,7 @@ there_read s i turn =
 
 -- ---- what a bucket lists
 
--- each key whose lookup is Some, or why it couldn't be read
+-- each key with a lookup that is Some, or why it couldn't be read
 abbrev pub by_entries : Result (List Entry) Refusal → List Item
 by_entries (Ok entries) = items_of entries
 by_entries (Err (refusals.Fault fault)) = failed fault ∷ []

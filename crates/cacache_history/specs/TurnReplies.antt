@@ -23,7 +23,7 @@ FindsHeld s key turns r =
     OneTurn (steps.ReadAll (bucket_path s.cache key)) turns
     (λ turn. r ≡ find_reply key (bucket_read s (sha1 key) turn))
 
--- a read answers the content's bytes where they meet the integrity
+-- a read answers the content's bytes if they meet the integrity
 abbrev pub ReadsHeld : Setup → List Hash → List Turn → Reply → Type 0
 ReadsHeld s i turns r =
     OneTurn (steps.ReadAll (content_path s.cache i)) turns
@@ -51,7 +51,7 @@ GetsHeld s key turns r =
 
 -- ---- checked exports
 
--- the first turn opened the content, whose bytes at that place meet the integrity; a copy answers
+-- the first turn opened the content, and its bytes at that place meet the integrity; a copy answers
 -- their count
 abbrev pub VerifiesHeld : Setup → List Hash → List Turn → Reply → Type 0
 VerifiesHeld s i turns r =
@@ -93,7 +93,7 @@ ReadsValue s (commands.RemoveHash i) turns r = Unit {0}
 ReadsValue s (commands.RemoveFully key) turns r = Unit {0}
 ReadsValue s commands.Clear turns r = Unit {0}
 
--- each reply of a call that reads, but out of memory, is what its turns show at their places
+-- each reply of a call that reads, except out of memory, is what its turns show at their places
 abbrev pub RepliesReadValue : History → Type 0
 RepliesReadValue h =
     (call : Call) (r : Reply) → Reaches h call (Some r)

@@ -37,7 +37,7 @@ pub record ValueFollowsActs (h : History) : Type 0 where
 abbrev pub bucket_at : History → List Record → List ℕ → List Entry
 bucket_at h before digest = list_of ((value_at h before).buckets digest)
 
--- while a bucket's file isn't removed, entries come behind those that were there, and none goes
+-- while a bucket's file isn't removed, entries come after those that were there, and none goes
 abbrev pub BucketsOnlyGrow : History → Type 0
 BucketsOnlyGrow h =
     (before more later : List Record) (digest : List ℕ) → h.records ≡ before ++ (more ++ later)
@@ -51,7 +51,7 @@ abbrev pub KeepsContent : Option Names → Hash → Act → Type 0
 KeepsContent folder address (Drop path) = is_path_of folder (content_names address) path ≡ false
 KeepsContent folder address other = Unit {0}
 
--- steps whose acts don't
+-- steps with acts that don't remove it
 abbrev pub KeepContent : Option Names → Hash → List Move → Type 0
 KeepContent folder address [] = Unit {0}
 KeepContent folder address (m ∷ moves) =
@@ -95,8 +95,7 @@ MetDigestsAreSame =
 
 -- ---- contents at each place
 
--- at each place contents have their digests; of a link nothing is said, since its target is
--- somebody else's
+-- at each place contents have their digests, except links, since their targets are somebody else's
 abbrev pub ContentsAreRight : History → Type 0
 ContentsAreRight h =
     (before later : List Record) → h.records ≡ before ++ later

@@ -19,9 +19,10 @@ pub fn history_laws()
     ensures headline { HeadlineHolds }
 {}
 
-/// What may come in a legal history, case by case: no second call of a busy caller, no step, answer
-/// or reply but the call's own, and no export or link to a path that isn't allowed. And one history:
-/// a lookup on a disk that holds nothing is legal with its own reply, and not with an entry.
+/// What may come in a legal history, case by case: no second call of a busy caller, no step, answer or reply except
+/// the call's own, and no export or link to a path that isn't allowed.
+///
+/// And one history: a lookup on a disk that holds nothing is legal with its own reply, and not with an entry.
 pub fn legal_cases()
     ensures cases { CasesHold }
     ensures lookups { (cache key : List ℕ) (luck : Luck) → LookupCases cache key luck }

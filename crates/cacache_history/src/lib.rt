@@ -6,7 +6,7 @@
 //! | `Setup`, `History`, `Turns` | the cache and its callers, their moves, and which moves are legal |
 //! | `Values`, `ShownTurns`, `Buckets`, `ListingTurns` | what the cache held at each place, and what a turn saw of it |
 //! | `Commits`, `AddedEntries`, `LinkedContents`, `TurnPlaces` | what a commit did, and what an entry in a bucket goes back to |
-//! | `Places`, `Lookups` | whose each move is, and what a lookup finds at each place, by what was written |
+//! | `Places`, `Lookups` | which call each move is of, and what a lookup finds at each place, by what was written |
 //! | `TurnReplies`, `ReadingCalls` | what a turn's call answers, and which calls only look |
 //! | `Headline`, `LegalCases` | the claim as a whole, and a legal history of each kind |
 #![tactic(auto)]

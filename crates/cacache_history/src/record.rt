@@ -8,8 +8,9 @@ use cacache_table::{Command, Reply};
 pub enum Record {
     /// The caller began a call.
     Began(usize, Command),
-    /// The caller's call moved: the luck, the step with its answer, and the reply where the call is
-    /// over. There is no step only where the call was over before any.
+    /// The caller's call moved: the luck, the step with its answer, and the reply if the call is over.
+    ///
+    /// There is no step only if the call was over before any.
     Moved(usize, Luck, Option<(PlainStep, PlainAnswer)>, Option<Reply>),
     /// The caller gave its call up.
     Stopped(usize),

@@ -1,4 +1,4 @@
--- What writes and removals leave beside what they are for.
+-- What writes and removals keep apart from what they are made for.
 use Rattle.std.specs.Prelude.{◌≡◌, ◌⊎◌, ◌<◌, ◌^◌, ℕ, List, Option, None, Some, IsUtf8, length}
 use Rattle.cacache_core.specs.{declared.integrity.{algorithm.Algorithm.{Algorithm}, digest.Hash.{Hash}}, Integrity.{IsIntegrity, address, integrity_under}}
 use Rattle.cacache_store.specs.declared.store.log.LogItem.{LogItem}
@@ -18,8 +18,8 @@ IsOther (Some key) other = other ≡ key → ⊥
 abbrev pub ShareAddress : List Hash → List Hash → Type 0
 ShareAddress i j = address i ≡ address j
 
--- other keys lead where they led. Each content stays, but at the address of the added bytes these may lie
--- instead: there it was they, or another text with their digest
+-- other keys lead where they led. Each content stays, but at the address of the added bytes these
+-- may lie instead: what was there was the same bytes, or another text with their digest
 pub record KeepsBeside (cache : List ℕ) (written : Option (List ℕ)) (own : List Hash)
     (added : List ℕ) (old new : List LogItem) : Type 0 where
   pub finds : (other : List ℕ) → IsOther written other
@@ -42,7 +42,7 @@ FitsEntry cache p =
 abbrev pub own_integrity : Put → List Hash
 own_integrity p = integrity_under p.options.algorithm p.data
 
--- a put keeps all beside its key and its bytes, whatever it answers
+-- a put keeps everything except its key and its bytes, whatever it answers
 abbrev pub WritesKeep : Type 0
 WritesKeep =
     (cache : List ℕ) (p : Put) (r : Reply) (old new : List LogItem)

@@ -1,4 +1,4 @@
--- What a store in memory holds in words of its user, and what each call does in these words.
+-- What a store in memory holds in the words of its user, and what each call does in these words.
 use Rattle.std.specs.Prelude.{◌≡◌, ◌⊎◌, ◌<◌, ◌^◌, ℕ, true, false, List, [], ◌∷◌, ◌++◌, Option, None, Some, IsUtf8, length, map}
 use Rattle.serde_json.specs.Data.{null}
 use Rattle.cacache_core.specs.{declared.{errors.{Error.{Error, TheVariants.{EntryNotFound, IoError, OutOfMemory}}, Fault.{Fault}}, integrity.{algorithm.Algorithm.{Algorithm}, digest.Hash.{Hash}}}, Integrity.{IsIntegrity, Meets, address}, PathNames.{home_of}}
@@ -164,7 +164,7 @@ SaysThere Stays (Exists false) old new = AStepFailed old new
 SaysThere Stays (Refused e) old new = IsExcused e old new
 SaysThere Stays r old new = ⊥
 
--- so answers each question whether bytes lie under an integrity under which they do
+-- each question about an integrity with bytes under it answers so
 abbrev pub AsksWhetherHeld : Type 0
 AsksWhetherHeld =
     (cache bytes : List ℕ) (i : List Hash) (r : Reply) (old new : List LogItem)

@@ -1,5 +1,5 @@
--- What an export answers whose steps all go well, by what lies under its source and what stands at its
--- path.
+-- What an export answers if all of its steps succeed, by what lies under its source and what is at
+-- its path.
 use Rattle.std.specs.Prelude.{◌≡◌, ℕ, List, [], Option, None, Some, Result, Ok, Err, if◌then◌else◌, length}
 use Rattle.cacache_core.specs.{declared.{errors.{Error.TheVariants.{EntryNotFound, IoError, IntegrityError}, Fault.{Fault, TheVariants.{NotFound, InvalidInput}}, IntegrityFault.TheVariants.{Check}}, integrity.digest.Hash.{Hash}}, Integrity.{actual}, Meeting.{meets}}
 use Rattle.cacache_store.specs.declared.store.log.LogItem.{LogItem}
@@ -14,21 +14,21 @@ use Rattle.cacache_sequence.specs.{Caches.{Called, IsCache, lies_under}, Keeping
 
 -- ---- what lies there
 
--- the bytes of a content, through its link, where a folder at its end is the given fault
+-- the bytes of a content, read through its link; a folder at the end of the link is the given fault
 abbrev pub blob_read : Fault → Tree → Option Blob → Result (List ℕ) Fault
 blob_read folder t None = Err NotFound
 blob_read folder t (Some (InFile bytes)) = Ok bytes
 blob_read folder t (Some (AtLink target)) =
     and_then (link_end t target) (λ names. bytes_there folder (look t names))
 
--- the content itself, be it a link
+-- the content itself, even if it is a link
 abbrev pub blob_named : Option Blob → Result Blob Fault
 blob_named None = Err NotFound
 blob_named (Some blob) = Ok blob
 
 -- ---- what is answered
 
--- goes on with what was found, or tells why there is nothing
+-- goes on with what was found, or answers why there is nothing
 abbrev pub or_told : {X : Type 0} → Result X Fault → (X → Reply) → Reply
 or_told (Ok x) next = next x
 or_told (Err fault) next = Refused (IoError fault [])

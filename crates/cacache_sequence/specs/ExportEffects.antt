@@ -13,7 +13,7 @@ use Rattle.cacache_sequence.specs.{Caches.{IsCache, HasContent, HasKey, Called},
 abbrev pub IsApart : List ℕ → List ℕ → Type 0
 IsApart cache path = IsFor (home_of cache) Elsewhere path
 
--- an export to a path apart from the cache leaves a cache of which all that was known is so still
+-- an export to a path apart from the cache leaves a cache, and all that was known of it still holds
 abbrev pub ExportsKeep : Type 0
 ExportsKeep =
     (cache : List ℕ) (source : Source) (e : Export) (r : Reply) (old new : List LogItem)
@@ -43,7 +43,7 @@ abbrev pub NamesBytes : List ℕ → Source → List ℕ → List LogItem → Ty
 NamesBytes cache (OfHash i) bytes log = HasContent cache i bytes log
 NamesBytes cache (OfKey key) bytes log = (i : List Hash) × HasKey cache key i bytes log
 
--- after a copy that answered a count the bytes stand where the path leads, and the count is theirs
+-- after a copy that answered a count the path shows the bytes, and the count is theirs
 abbrev pub CopiesArrive : Type 0
 CopiesArrive =
     (cache bytes to : List ℕ) (source : Source) (checked : Bool) (n : ℕ) (old new : List LogItem)

@@ -12,15 +12,15 @@ abbrev pub export_by : How → Source → Bool → List ℕ → Command
 export_by how source checked to =
     commands.Export source (record { how = how; checked = checked; to = to })
 
--- where it isn't refused the bytes stand where the path leads, and a count is theirs
+-- unless it is refused, the path shows the bytes, and a count is theirs
 abbrev pub Arrives : List ℕ → List ℕ → Reply → List LogItem → List LogItem → Type 0
 Arrives bytes to (Copied n) old new = (shown (tree_of new) to ≡ Some bytes) × (n ≡ length bytes)
 Arrives bytes to Done old new = shown (tree_of new) to ≡ Some bytes
 Arrives bytes to (Refused e) old new = IsExcused e old new
 Arrives bytes to r old new = ⊥
 
--- so answers each export of bytes that are there, to a path apart from the cache: it fails for nothing but a
--- step of its own, as that at the path, or for memory
+-- each export of bytes that are there, to a path apart from the cache, answers so: it fails only
+-- for a step of its own, such as that at the path, or for memory
 abbrev pub ExportsArrive : Type 0
 ExportsArrive =
     (cache bytes to : List ℕ) (how : How) (source : Source) (checked : Bool) (r : Reply)

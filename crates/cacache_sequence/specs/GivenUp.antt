@@ -16,7 +16,7 @@ abbrev pub GivesUpTemp :
 GivesUpTemp cache number old new =
     (new ≡ old) ⊎ ((answer : PlainAnswer) × Does (drop_temp cache number) answer old new)
 
--- that leaves a cache of which all that was known is so still
+-- giving up leaves a cache, and all that was known of it still holds
 abbrev pub GivingUpLasts : Type 0
 GivingUpLasts =
     (cache : List ℕ) (number : ℕ) (old new : List LogItem)

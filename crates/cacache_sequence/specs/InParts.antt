@@ -16,7 +16,7 @@ use Rattle.cacache_sequence.specs.Sequence.{tree_on, turns_on, AreAnswered, plai
 pub data Part : Type 0 where
   -- steps one after another, and the tree that they began on
   made : Tree → Moves → Part
-  -- a byte that was read of an open file itself: no log tells it, and no tree shows it
+  -- a byte that was read from an open file itself: no log records it, and no tree shows it
   took : Tree → PlainFile → Part
 
 -- the read of one byte
@@ -35,8 +35,8 @@ turns_in [] = []
 turns_in (made t moves ∷ parts) = turns_on t moves ++ turns_in parts
 turns_in (took t file ∷ parts) = turn_of t (Take 1) (byte_read file) ∷ turns_in parts
 
--- each part began on a sound tree, and each answer is the disk's. Of what came between two parts
--- nothing is said: whatever calls were made there, they left a sound tree
+-- each part began on a sound tree, and each answer is the disk's. Any calls may come between two
+-- parts, as long as they leave a sound tree
 abbrev pub AreParts : Setup → List Part → Type 0
 AreParts s [] = Unit {0}
 AreParts s (made t moves ∷ parts) = IsSound (home s) t × AreAnswered t moves × AreParts s parts
@@ -62,8 +62,8 @@ pub record IsOnItsWay (s : Setup) (call : Begun) (state : State) : Type 0 where
 
 -- ---- what holds of a part, and of all parts together
 
--- a part leaves a sound tree, whose value follows its acts; contents and entries follow its deeds
--- alone, and what its first deed finds was there before
+-- a part leaves a sound tree, and the value of that tree follows the acts of the part; contents and
+-- entries follow its deeds alone, and what its first deed finds was there before
 pub record Changes (s : Setup) (t : Tree) (moves : Moves) : Type 0 where
   pub sound : IsSound (home s) (tree_on t moves)
   pub acts :
@@ -85,7 +85,7 @@ pub record AnswersInParts (s : Setup) (call : Begun) (reply : Reply) : Type 0 wh
   pub commits : IsCase (call_site s call.number) call.command (turns_in call.parts) (Some reply)
   pub causes : HasCause (own_of call.command) (moves_in call.parts) (plain_reply reply)
 
--- steps that no tree shows, that do nothing, and of which none failed
+-- steps that leave the tree as it is, have no deeds, and have no fault
 pub record AreSilent (t : Tree) (moves : Moves) : Type 0 where
   pub tree : tree_on t moves ≡ t
   pub nothing : deeds (turns_on t moves) ≡ []
@@ -130,7 +130,7 @@ PartsAnswer =
     → Runs state moves (plain_reply reply) → AreAnswered t moves
     → AnswersInParts s (with_part call t moves) reply × Changes s t moves
 
--- bytes that were read of an open file itself count as reads of one byte each
+-- bytes that were read from an open file itself count as reads of one byte each
 abbrev pub ReadsAreParts : Type 0
 ReadsAreParts =
     (s : Setup) (call : Begun) (h : Hashing) (bytes more rest : List ℕ) (t : Tree)
@@ -140,7 +140,7 @@ ReadsAreParts =
     (hashing h (opened rest) (bytes ++ more))
     × (deeds (turns_in reads) ≡ [])
 
--- bytes that a writer handed to its file itself count as a write, which no log tells
+-- bytes that a writer handed to its file itself count as a write, which no log records
 abbrev pub WritesAreParts : Type 0
 WritesAreParts =
     (s : Setup) (call : Begun) (c : Commit) (file full : PlainTemp) (bytes : List ℕ) (t : Tree)

@@ -1,4 +1,4 @@
--- What an insertion does to a cache in a store in memory, in words of its caller.
+-- What an insertion does to a cache in a store in memory, in the words of its caller.
 use Rattle.std.specs.Prelude.{◌≡◌, ◌<◌, ◌^◌, ℕ, false, List, Option, None, Some, IfSome, IsUtf8, option_map}
 use Rattle.serde_json.specs.Data.{null}
 use Rattle.cacache_core.specs.{declared.{errors.Error.TheVariants.{SerdeError}, integrity.{algorithm.Algorithm.{Algorithm}, digest.Hash.{Hash}}}, Integrity.{IsIntegrity}}
@@ -8,12 +8,12 @@ use Rattle.cacache_table.specs.declared.command.Command.TheVariants as commands
 use Rattle.cacache_table.specs.{declared.{command.Insert.{Insert}, reply.Reply.{Reply, TheVariants.{Stored, Refused}}}, Inserting.{insertion, refused_cause}, Sound.{FormedIfWritten}}
 use Rattle.cacache_sequence.specs.{Caches.{IsCache, IsExcused, HasContent, HasKey, LacksKey, Called}, Keeping.{found_under, KeepsOthers}}
 
--- the integrity that the key leads to, whatever lies under it; none where no entry answers
+-- the integrity that the key leads to, whatever lies under it; none if no entry answers
 abbrev pub leads_to : List ℕ → List ℕ → List LogItem → Option (List Hash)
 leads_to cache key log = option_map (λ (found : Found). found.integrity) (found_under cache key log)
 
--- after an insertion that stored, the key leads to its integrity, if it has one; else this keeps the
--- entry from being written, or the error is excused
+-- after an insertion that stored, the key leads to its integrity, if it has one; otherwise the
+-- entry can't be written for this cause, or the error is excused
 abbrev pub InsertsKey : List ℕ → Insert → Reply → List LogItem → List LogItem → Type 0
 InsertsKey cache i (Stored j) old new = leads_to cache i.key new ≡ i.options.integrity
 InsertsKey cache i (Refused (SerdeError cause message)) old new =
@@ -61,7 +61,7 @@ KeysJoin =
     → leads_to cache key log ≡ Some i → HasContent cache i bytes log
     → HasKey cache key i bytes log
 
--- a key that leads to nothing lacks
+-- a key that leads to no integrity lacks
 abbrev pub NoneLacks : Type 0
 NoneLacks =
     (cache key : List ℕ) (log : List LogItem)

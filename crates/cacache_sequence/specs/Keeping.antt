@@ -1,4 +1,4 @@
--- What was known of a cache in a store in memory, and is so still.
+-- What was known of a cache in a store in memory, and still holds.
 use Rattle.std.specs.Prelude.{◌≡◌, ℕ, List, Option}
 use Rattle.cacache_core.specs.{declared.integrity.digest.Hash.{Hash}, PathNames.{home_of}}
 use Rattle.cacache_store.specs.declared.store.log.LogItem.{LogItem}
@@ -10,7 +10,7 @@ use Rattle.cacache_sequence.specs.{ReadAnswers.{entries_on}, Caches.{HasContent,
 abbrev pub found_under : List ℕ → List ℕ → List LogItem → Option Found
 found_under cache key log = latest key (entries_on (home_of cache) (tree_of log) key)
 
--- what was known of keys and contents is so still
+-- what was known of keys and contents still holds
 pub record StaysKnown (cache : List ℕ) (old new : List LogItem) : Type 0 where
   pub finds : (key : List ℕ) → found_under cache key new ≡ found_under cache key old
   pub lies : (i : List Hash) → lies_under cache i new ≡ lies_under cache i old
@@ -19,7 +19,7 @@ pub record StaysKnown (cache : List ℕ) (old new : List LogItem) : Type 0 where
   pub content : (i : List Hash) (bytes : List ℕ)
       → HasContent cache i bytes old → HasContent cache i bytes new
 
--- so it is of all contents, and of every key but this one
+-- this holds for all contents, and for every key except this one
 pub record KeepsOthers (cache except : List ℕ) (old new : List LogItem) : Type 0 where
   pub finds : (other : List ℕ) → (other ≡ except → ⊥)
       → found_under cache other new ≡ found_under cache other old

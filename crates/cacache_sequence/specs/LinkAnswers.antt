@@ -1,4 +1,4 @@
--- What links, open linkers and the openings of readers answer whose steps all go well.
+-- What links, open linkers and the openings of readers answer if all of their steps succeed.
 use Rattle.std.specs.Prelude.{◌≡◌, ◌⊎◌, ℕ, List, [], ◌++◌, Option, None, Some, Result, Ok, Err, if◌then◌else◌, length}
 use Rattle.cacache_core.specs.{declared.{errors.{Error.{Error, TheVariants.{EntryNotFound, IoError, OutOfMemory}}, Fault.{Fault, TheVariants.{AlreadyExists, IsADirectory}}}, integrity.digest.Hash.{Hash}}, Integrity.{IsIntegrity}}
 use Rattle.cacache_store.specs.declared.store.{log.LogItem.{LogItem}, plain.PlainFile.{PlainFile}}
@@ -12,7 +12,7 @@ use Rattle.cacache_sequence.specs.{Caches.{Called, IsCache, lies_under}, ExportE
 
 -- ---- openings
 
--- a file of these bytes was opened, or the fault is why none was, or memory was refused
+-- a file of these bytes was opened, or the fault says why none was, or memory was refused
 abbrev pub OpensAs : Result (List ℕ) Fault → Result PlainFile Error → Type 0
 OpensAs (Ok bytes) (Ok file) = file ≡ opened bytes
 OpensAs (Ok bytes) (Err e) = e ≡ OutOfMemory
@@ -69,20 +69,20 @@ SizedOpeningsAnswer =
 
 -- ---- commits
 
--- where something lies already it stays, and the link counts as made if anything stands where that
--- leads
+-- a content that is there already stays, and the link counts as made if that content leads to
+-- something
 abbrev pub unless_dangling : Reply → Tree → Option Blob → Reply
 unless_dangling stored t None = stored
 unless_dangling stored t (Some blob) =
     if is_yes (blob_there t (Some blob)) then stored else Refused (IoError AlreadyExists [])
 
--- a link stores as a put does, unless such a link lies there that leads nowhere
+-- a link stores as a put does, unless a link that leads nowhere lies there
 abbrev pub linked_reply : Commit → List LogItem → Reply
 linked_reply c log =
     unless_dangling (compared_reply c c.options.integrity) (tree_of log)
     (lies_under c.cache c.computed log)
 
--- a link of what its target shows, or why that shows nothing
+-- the reply of a link by the bytes that its target shows, or by why it shows none
 abbrev pub link_reply : Target ℕ → List LogItem → Result (List ℕ) Fault → Reply
 link_reply t log (Ok held) = linked_reply (commit_for (with_size t (length held)) held) log
 link_reply t log (Err fault) = Refused (IoError fault [])
@@ -99,8 +99,8 @@ LinksAnswer =
     (target_bytes (based c.base l.target) old))
     r
 
--- so does the commit of a linker, by all bytes that its target showed; where another size was said, it
--- is refused
+-- so does the commit of a linker, by all bytes that its target showed; it is refused if another
+-- size is expected
 abbrev pub LinkersAnswer : Type 0
 LinkersAnswer =
     (cache base : List ℕ) (l : Link) (bytes rest : List ℕ) (r : Reply) (old new : List LogItem)

@@ -1,4 +1,4 @@
--- What a link leaves in a cache in a store in memory, in words of its caller.
+-- What a link leaves in a cache in a store in memory, in the words of its caller.
 use Rattle.std.specs.Prelude.{◌≡◌, ◌⊎◌, ◌<◌, ◌^◌, ℕ, false, List, Option, Some, length}
 use Rattle.cacache_core.specs.{declared.integrity.digest.Hash.{Hash}, Integrity.{IsIntegrity}}
 use Rattle.cacache_store.specs.declared.store.log.LogItem.{LogItem}

@@ -11,7 +11,7 @@ use Rattle.cacache_sequence.specs.{Caches.{IsCache, LacksKey, lies_under, Called
 
 -- ---- what they leave
 
--- a command whose call changes nothing in the store: a lookup, a read, a question or a listing
+-- a command that changes nothing in the store: a lookup, a read, a question or a listing
 abbrev pub OnlyLooks : Command → Type 0
 OnlyLooks = KeepsTo looking_on
 
@@ -32,7 +32,7 @@ LooksLeave =
     (cache : List ℕ) (command : Command) (r : Reply) (old new : List LogItem)
     → OnlyLooks command → Called cache command r old new → tree_of new ≡ tree_of old
 
--- so it is where the cache holds what it held
+-- what was known still holds if the cache holds what it held
 abbrev pub SameStaysKnown : Type 0
 SameStaysKnown =
     (cache : List ℕ) (old new : List LogItem) → HoldsSame cache old new → StaysKnown cache old new
@@ -45,7 +45,7 @@ GivesFound there (LookedUp found) old new = found ≡ there
 GivesFound there (Refused e) old new = IsExcused e old new
 GivesFound there r old new = ⊥
 
--- a lookup finds what the key leads to; where that is nothing, it finds nothing
+-- a lookup finds what the key leads to, or nothing if the key leads to nothing
 abbrev pub FindsFound : Type 0
 FindsFound =
     (cache key : List ℕ) (r : Reply) (old new : List LogItem)
@@ -58,7 +58,7 @@ SaysAbsent (Exists false) = Unit {0}
 SaysAbsent (Refused e) = e ≡ OutOfMemory
 SaysAbsent r = ⊥
 
--- so answers each question about an integrity under which nothing lies
+-- each question about an integrity with nothing under it answers so
 abbrev pub AsksAbsent : Type 0
 AsksAbsent =
     (cache : List ℕ) (i : List Hash) (r : Reply) (old new : List LogItem)
@@ -67,7 +67,7 @@ AsksAbsent =
 
 -- ---- what reads answer
 
--- the bytes that lie under the integrity, or where a link there leads; or why there are none
+-- the bytes that lie under the integrity or at the end of a link there, or why there are none
 abbrev pub bytes_under : List ℕ → List Hash → List LogItem → Result (List ℕ) Fault
 bytes_under cache i log = blob_bytes (tree_of log) (lies_under cache i log)
 
@@ -77,8 +77,8 @@ IsDamaged cache i fault log =
     (bytes : List ℕ) × (bytes_under cache i log ≡ Ok bytes) × (Meets i bytes → ⊥)
     × (fault ≡ Check i (actual i bytes))
 
--- the bytes that lie there, which meet the integrity; or that those which lie there don't. Any other error is
--- excused: that nothing lies there too, since the step that reads it fails
+-- the bytes that lie there and meet the integrity, or that the bytes there don't meet it. Any other
+-- error is excused, even that nothing lies there, since the step that reads it fails
 abbrev pub GivesHeld : List ℕ → List Hash → Reply → List LogItem → List LogItem → Type 0
 GivesHeld cache i (Read bytes) old new = (bytes_under cache i old ≡ Ok bytes) × Meets i bytes
 GivesHeld cache i (Refused (IntegrityError fault)) old new = IsDamaged cache i fault old
@@ -87,14 +87,14 @@ GivesHeld cache i (Refused (IoError fault message)) old new =
 GivesHeld cache i (Refused OutOfMemory) old new = Unit {0}
 GivesHeld cache i r old new = ⊥
 
--- so answers each read by integrity, whatever the cache holds
+-- each read by integrity answers so, whatever the cache holds
 abbrev pub ContentReadsGive : Type 0
 ContentReadsGive =
     (cache : List ℕ) (i : List Hash) (r : Reply) (old new : List LogItem)
     → IsIntegrity i → IsCache cache old → Called cache (commands.GetHash i) r old new
     → GivesHeld cache i r old new
 
--- what a read of the integrity gives that the key leads to
+-- what a read gives of the integrity that the key leads to
 abbrev pub GivesLed : List ℕ → List ℕ → Reply → List LogItem → List LogItem → Type 0
 GivesLed cache key r old new =
     (found : Found) × (found_under cache key old ≡ Some found)
@@ -109,13 +109,13 @@ GivesOfKey cache key (Refused (IoError fault message)) old new =
 GivesOfKey cache key (Refused OutOfMemory) old new = Unit {0}
 GivesOfKey cache key r old new = GivesLed cache key r old new
 
--- so answers each read by key
+-- each read by key answers so
 abbrev pub KeyReadsGive : Type 0
 KeyReadsGive =
     (cache key : List ℕ) (r : Reply) (old new : List LogItem)
     → IsCache cache old → Called cache (commands.Get key) r old new → GivesOfKey cache key r old new
 
--- where a link lies, the bytes that are read are those that its target shows
+-- if a link lies there, the bytes that are read are those that its target shows
 abbrev pub LinksShow : Type 0
 LinksShow =
     (cache target bytes held : List ℕ) (i : List Hash) (log : List LogItem)

@@ -1,6 +1,6 @@
--- What an open linker does on a store in memory, in words of its user. Between its opening and its
--- commit any calls may be made that leave a cache, and whatever becomes of the target: a linker links
--- the bytes that the target showed when it was opened.
+-- What an open linker does on a store in memory, in the words of its user. Between its opening and
+-- its commit any calls may be made that leave a cache, and whatever becomes of the target, a linker
+-- links the bytes that the target showed when it was opened.
 use Rattle.std.specs.Prelude.{◌≡◌, ◌⊎◌, ◌<◌, ◌^◌, ◌++◌, ℕ, List, Option, None, Some, Result, Ok, Err, length}
 use Rattle.cacache_core.specs.declared.errors.Error.{Error}
 use Rattle.cacache_store.specs.declared.store.answer.Answer.TheVariants as answers
@@ -13,7 +13,7 @@ use Rattle.cacache_sequence.specs.{Beside.{own_integrity}, Caches.{IsCache, IsEx
 
 -- ---- an opening
 
--- a target that showed these bytes was opened beside this cache
+-- a target that showed these bytes was opened while this cache was sound
 pub record TargetOpened (cache path held : List ℕ) (file : PlainFile) : Type 0 where
   pub old : List LogItem
   pub new : List LogItem
@@ -23,14 +23,14 @@ pub record TargetOpened (cache path held : List ℕ) (file : PlainFile) : Type 0
   pub small : file.left < 2 ^ 64
   pub logged : IsLog new
 
--- the size of the target was asked first, or not; then it was opened, or why not
+-- the target was opened, or an error says why not; its size was asked first, or not
 module _ (path : List ℕ) where
   abbrev pub OpensTarget :
       Result PlainFile Error → Option (List LogItem) → Option (List LogItem) → Type 0
   OpensTarget (Ok file) old new = Does (steps.Open path) (answers.File file) old new
   OpensTarget (Err e) old new = FailsAt (steps.Open path) e old new
 
-  -- the target told this size
+  -- the target reported this size
   abbrev pub TellsSize : ℕ → Option (List LogItem) → Option (List LogItem) → Type 0
   TellsSize size old new = Does (steps.Size path) (answers.Length size) old new
 
@@ -43,7 +43,7 @@ module _ (path : List ℕ) where
       ⊎ ((size : ℕ) × (mid : Option (List LogItem)) × TellsSize size old mid
       × OpensTarget (Err e) mid new)
 
--- a target that was opened showed bytes, which the file has; and why there is none is excused
+-- a target that was opened showed bytes, which the file has; an error is excused
 abbrev pub GivesTarget :
     List ℕ → List ℕ → Result PlainFile Error → List LogItem → List LogItem → Type 0
 GivesTarget cache path (Ok file) old new =
@@ -51,7 +51,7 @@ GivesTarget cache path (Ok file) old new =
     × (file.left < 2 ^ 64 → TargetOpened cache path held file)
 GivesTarget cache path (Err e) old new = IsExcused e old new
 
--- and the size that it told is theirs
+-- and the size that it reported is theirs
 abbrev pub GivesSized :
     List ℕ → List ℕ → Result (ℕ × PlainFile) Error → List LogItem → List LogItem → Type 0
 GivesSized cache path (Ok (size, file)) old new =
@@ -91,7 +91,7 @@ LinkersCommit =
     → IsCache cache new × Grows old new
     × LeavesLink cache (put_like l (bytes ++ rest)) (based base l.target) r old new
 
--- an opening leaves a cache of which all that was known is so still
+-- an opening leaves a cache, and all that was known of it still holds
 abbrev pub LinkersOpen : Type 0
 LinkersOpen =
     (cache path : List ℕ) (r : Result PlainFile Error) (old new : List LogItem)
@@ -111,8 +111,8 @@ CanWrite cache l held =
     (key : List ℕ) → l.key ≡ Some key
     → refused_cause (insertion_of (put_commit cache (put_like l held)) key) ≡ None
 
--- a commit of which no integrity is expected, and whose entry can be written, fails for a step of its own
--- or for memory alone
+-- a commit that expects no integrity, with an entry that can be written, fails only for a step of
+-- its own or for memory
 abbrev pub LinkersFail : Type 0
 LinkersFail =
     (cache base : List ℕ) (l : Link) (bytes rest : List ℕ) (first : PlainFile) (e : Error)
@@ -129,8 +129,9 @@ abbrev pub IsRefused : Reply → Type 0
 IsRefused (Refused e) = Unit {0}
 IsRefused r = ⊥
 
--- a commit of which another size is expected than that of the target's bytes is refused: all keys lead
--- where they led, and each content stays, but at the address of these bytes the link may lie instead
+-- a commit that expects another size than that of the target's bytes is refused: all keys lead
+-- where they led, and each content stays, but at the address of these bytes the link may lie
+-- instead
 abbrev pub LinkersRefuse : Type 0
 LinkersRefuse =
     (cache base : List ℕ) (l : Link) (bytes rest : List ℕ) (first : PlainFile) (n : ℕ) (r : Reply)

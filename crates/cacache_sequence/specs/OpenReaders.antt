@@ -1,4 +1,4 @@
--- What an open reader does on a store in memory, in words of its user.
+-- What an open reader does on a store in memory, in the words of its user.
 use Rattle.std.specs.Prelude.{◌≡◌, ◌⊎◌, ℕ, List, Option, None, Some, Result, Ok, Err, length}
 use Rattle.cacache_core.specs.declared.{errors.Error.{Error, TheVariants.{EntryNotFound}}, integrity.digest.Hash.{Hash}}
 use Rattle.cacache_store.specs.declared.store.answer.Answer.TheVariants as answers
@@ -13,7 +13,7 @@ use Rattle.cacache_sequence.specs.{Caches.{IsCache, HasContent, HasKey, LacksKey
 -- ---- an opening
 
 module _ (cache : List ℕ) where
-  -- the content of an integrity was opened, or why not
+  -- the content of an integrity was opened, or an error says why not
   abbrev pub OpensContent :
       List Hash → Result PlainFile Error → Option (List LogItem) → Option (List LogItem) → Type 0
   OpensContent i (Ok file) old new =
@@ -34,7 +34,7 @@ module _ (cache : List ℕ) where
         (found : Found) × (mid : Option (List LogItem)) × LookupRan (LookedUp (Some found)) old mid
         × OpensContent found.integrity r mid new
 
-    -- the content that the key leads to was opened, or why not
+    -- the content that the key leads to was opened, or an error says why not
     abbrev pub OpensByKey :
         Result PlainFile Error → Option (List LogItem) → Option (List LogItem) → Type 0
     OpensByKey (Ok file) old new = OpensWhatWasFound (Ok file) old new
@@ -45,12 +45,12 @@ module _ (cache : List ℕ) where
 
 -- ---- what it does
 
--- the file has just these bytes to give; and why there is none is excused
+-- the file has exactly these bytes to give; an error is excused
 abbrev pub GivesFile : List ℕ → Result PlainFile Error → List LogItem → List LogItem → Type 0
 GivesFile bytes (Ok file) old new = (file.bytes ≡ Some bytes) × (file.left ≡ length bytes)
 GivesFile bytes (Err e) old new = IsExcused e old new
 
--- a reader by integrity has the bytes to give that lie under it
+-- a reader by integrity has exactly the bytes to give that lie under it
 abbrev pub ReadersOpen : Type 0
 ReadersOpen =
     (cache : List ℕ) (i : List Hash) (r : Result PlainFile Error) (old new : List LogItem)
@@ -58,13 +58,13 @@ ReadersOpen =
     → LeavesKnownCache cache old new
     × ((bytes : List ℕ) → HasContent cache i bytes old → GivesFile bytes r old new)
 
--- there is none of a key that leads to nothing
+-- a key that leads to nothing has no reader
 abbrev pub GivesNone :
     List ℕ → List ℕ → Result PlainFile Error → List LogItem → List LogItem → Type 0
 GivesNone cache key (Ok file) old new = ⊥
 GivesNone cache key (Err e) old new = (e ≡ EntryNotFound cache key) ⊎ IsExcused e old new
 
--- a reader by key has the bytes to give that the key leads to
+-- a reader by key has exactly the bytes to give that the key leads to
 abbrev pub ReadersOpenKey : Type 0
 ReadersOpenKey =
     (cache base key : List ℕ) (r : Result PlainFile Error) (old new : List LogItem)

@@ -1,4 +1,4 @@
--- Open writers and exports on a store in memory whose steps all go well.
+-- Open writers and exports on a store in memory if all of their steps succeed.
 use Rattle.std.specs.Prelude.{◌≡◌, ◌<◌, ◌^◌, ℕ, Bool, true, false, List, Some, Result, Ok, IfOk, IfErr, length}
 use Rattle.cacache_core.specs.{declared.errors.Error.{Error, TheVariants.{OutOfMemory}}, PathNames.{Names, names_of}}
 use Rattle.cacache_store.specs.declared.store.{log.LogItem.{LogItem}, plain.PlainTemp.{PlainTemp}}
@@ -9,13 +9,13 @@ use Rattle.cacache_table.specs.declared.command.Command.TheVariants as commands
 use Rattle.cacache_history.specs.{History.{NamesIntegrity}, Setup.{call_site, is_outside, may_export}}
 use Rattle.cacache_sequence.specs.{Caches.{Called, IsCache, setup_at}, ExportEffects.{NamesBytes}, Exported.{export_by}, OpenWriters.{CommitsBytes, OpensWriter}, Standing.{IsStanding}, Succeeds.{NamesFolder, IsUnused, put_reply}}
 
--- a file stands at this path
+-- a file is at this path
 abbrev pub FileAt : List ℕ → List LogItem → Type 0
 FileAt path log =
     (names : Names) × (bytes : List ℕ) × (names_of path ≡ Ok names)
     × (look (tree_of log) names ≡ Some (File bytes))
 
--- a writer's file is made, and stands then, or memory was refused
+-- a writer's file is made and is then at its path, or memory was refused
 abbrev pub OpeningsSucceed : Type 0
 OpeningsSucceed =
     (cache : List ℕ) (number : ℕ) (r : Result PlainTemp Error) (old new : List LogItem)
@@ -23,8 +23,8 @@ OpeningsSucceed =
     → OpensWriter cache number r (Some old) (Some new) → IsLog new
     → IfOk r (λ file. FileAt file.path new) × IfErr r (λ e. e ≡ OutOfMemory)
 
--- while its file stands, a writer's commit answers what its options say, and leaves no temporary
--- file, or memory was refused
+-- as long as its file is there, a writer's commit answers what its options say, and leaves no
+-- temporary file, or memory was refused
 abbrev pub CommitsAnswer : Type 0
 CommitsAnswer =
     (cache : List ℕ) (p : Put) (number : ℕ) (r : Reply) (old new : List LogItem)
@@ -34,7 +34,7 @@ CommitsAnswer =
 
 -- ---- what keeps a writer's file
 
--- all but to write and move temporary files, and to remove
+-- everything except writing and moving temporary files, and removing
 abbrev pub without_takings : Licence
 without_takings = record {
   prepares = true;
@@ -68,8 +68,8 @@ PutsKeepFiles =
 
 -- ---- exports
 
--- where an export may go: a copy to a file or where one can be made, another one where nothing
--- stands
+-- where an export may go: a copy to a file or to a place for one, any other to a place where
+-- nothing is
 abbrev pub MayTake : How → List ℕ → List LogItem → Type 0
 MayTake Copy to log = (names : Names) × (writable (tree_of log) to ≡ Ok names)
 MayTake Reflink to log = (names : Names) × (free (tree_of log) to ≡ Ok names)
@@ -81,7 +81,7 @@ exported Copy bytes = Copied (length bytes)
 exported Reflink bytes = Done
 exported HardLink bytes = Done
 
--- an export of bytes that are there is done, verified first or not, where the path may take it
+-- an export of bytes that are there is done, verified first or not, if the path may take it
 abbrev pub ExportsSucceed : Type 0
 ExportsSucceed =
     (cache bytes to : List ℕ) (how : How) (source : Source) (checked : Bool) (r : Reply)

@@ -1,5 +1,5 @@
--- What an open writer does on a store in memory, in words of its user. Between its opening and its
--- commit any calls may be made that leave a cache.
+-- What an open writer does on a store in memory, in the words of its user. Between its opening and
+-- its commit any calls may be made that leave a cache.
 use Rattle.std.specs.Prelude.{◌≡◌, ◌⊎◌, ◌<◌, ◌^◌, ℕ, List, [], Option, None, Some, Result, Ok, Err, IsUtf8, length}
 use Rattle.cacache_core.specs.{declared.{errors.Error.{Error}, integrity.{algorithm.Algorithm.{Algorithm}, digest.Hash.{Hash}}}, Integrity.{integrity_under}}
 use Rattle.cacache_store.specs.declared.store.answer.Answer.TheVariants as answers
@@ -16,7 +16,7 @@ abbrev pub NothingElse : List ℕ → List Hash → List ℕ → List LogItem �
 NothingElse cache i bytes log =
     (lies_under cache i log ≡ None) ⊎ (lies_under cache i log ≡ Some (InFile bytes))
 
--- a cache is left, of which all that was known is so still
+-- a cache is left, and all that was known of it still holds
 abbrev pub LeavesKnownCache : List ℕ → List LogItem → List LogItem → Type 0
 LeavesKnownCache cache old new = IsCache cache new × StaysKnown cache old new × Grows old new
 
@@ -31,7 +31,7 @@ module _ (cache : List ℕ) (number : ℕ) where
   abbrev pub make_file : PlainStep
   make_file = steps.CreateTemp (temp_path cache number)
 
-  -- a writer's file was made, or why not
+  -- a writer's file was made, or an error says why not
   abbrev pub OpensWriter :
       Result PlainTemp Error → Option (List LogItem) → Option (List LogItem) → Type 0
   OpensWriter (Ok file) old new =
@@ -50,7 +50,7 @@ module _ (cache : List ℕ) (number : ℕ) where
     pub opens : OpensWriter (Ok (made_temp (temp_path cache number))) (Some old) (Some new)
     pub logged : IsLog new
 
-  -- the writer's file is empty at first; and why there is none is excused
+  -- the writer's file is empty at first; an error is excused
   abbrev pub HasOpened : Result PlainTemp Error → List LogItem → List LogItem → Type 0
   HasOpened (Ok file) old new =
       (file.path ≡ temp_path cache number) × (file.bytes ≡ Some []) × IsOpened
@@ -70,7 +70,7 @@ pub record CommitsBytes (cache : List ℕ) (p : Put) (number : ℕ) (r : Reply) 
 
 -- ---- what they do
 
--- a writer's opening leaves a cache of which all that was known is so still
+-- a writer's opening leaves a cache, and all that was known of it still holds
 abbrev pub WritersOpen : Type 0
 WritersOpen =
     (cache : List ℕ) (number : ℕ) (r : Result PlainTemp Error) (old new : List LogItem)

@@ -1,4 +1,4 @@
--- What a put and a writer's commit leave, with any options, in words of their caller.
+-- What a put and a writer's commit leave, with any options, in the words of their caller.
 use Rattle.std.specs.Prelude.{◌≡◌, ◌⊎◌, ℕ, List, Some, IfSome}
 use Rattle.cacache_core.specs.{declared.integrity.digest.Hash.{Hash}, Integrity.{IsIntegrity}}
 use Rattle.cacache_store.specs.declared.store.log.LogItem.{LogItem}
@@ -10,7 +10,8 @@ use Rattle.cacache_sequence.specs.{Caches.{IsCache, HasContent, Called, lies_und
 
 -- ---- keys
 
--- the integrity that a put answers: with a key the expected one, if there is one, and else that of its bytes
+-- the integrity that a put answers: with a key the expected one, if there is one, and otherwise
+-- that of its bytes
 abbrev pub stored_as : Put → List Hash
 stored_as p = answered (own_integrity p) p.options.integrity p.key
 
@@ -44,7 +45,7 @@ pub record HasPut (cache : List ℕ) (p : Put) (i : List Hash) (log : List LogIt
   pub entry : LeadsToPut cache p log
   pub content : HasContent cache (own_integrity p) p.data log
 
--- so it is after a put that stored, with any options, with a key or without
+-- this holds after a put that stored, with any options, with or without a key
 abbrev pub PutsLeave : Type 0
 PutsLeave =
     (cache : List ℕ) (p : Put) (i : List Hash) (old new : List LogItem)
@@ -60,8 +61,8 @@ PutsMayLead =
 
 -- ---- commits
 
--- the same of a commit, but where its bytes couldn't be moved to their place, what was there may have
--- stayed: they, or another text with their digest, or a link
+-- the same of a commit, except that what was there may have stayed if its bytes couldn't be moved
+-- to their place: they, or another text with their digest, or a link
 pub record HasCommitted (cache : List ℕ) (p : Put) (i : List Hash) (old new : List LogItem)
     : Type 0 where
   pub stored : i ≡ stored_as p
@@ -70,7 +71,7 @@ pub record HasCommitted (cache : List ℕ) (p : Put) (i : List Hash) (old new : 
       ⊎ (IsThere (lies_under cache (own_integrity p) old)
       × (lies_under cache (own_integrity p) new ≡ lies_under cache (own_integrity p) old))
 
--- so it is after a commit that stored, with any options, with a key or without
+-- this holds after a commit that stored, with any options, with or without a key
 abbrev pub CommitsLeave : Type 0
 CommitsLeave =
     (cache : List ℕ) (p : Put) (number : ℕ) (i : List Hash) (old new : List LogItem)

@@ -12,11 +12,11 @@ use Rattle.cacache_sequence.specs.Sequence.{SequenceCall, tree_on, CallIsAnswere
 
 -- ---- what a command that reads is to answer
 
--- the entries of the key's bucket, none where it doesn't exist
+-- the entries of the key's bucket; none if it doesn't exist
 abbrev pub entries_on : Option Names → Tree → List ℕ → List Entry
 entries_on folder t key = list_of ((value_of_tree folder t).buckets (sha1 key))
 
--- the bytes of a content where they meet the integrity, or why there are none
+-- the bytes of a content if they meet the integrity, or why there are none
 abbrev pub read_on : Option Names → Tree → List Hash → Reply
 read_on folder t i =
     content_reply i (as_refusal (blob_bytes t (blob_at (value_of_tree folder t) (address i))))
@@ -42,7 +42,7 @@ reply_on s t (commands.RemoveHash i) = None
 reply_on s t (commands.RemoveFully key) = None
 reply_on s t commands.Clear = None
 
--- ---- what is said of each call
+-- ---- what holds of each call
 
 -- the call answered so, unless a step failed or memory was refused
 abbrev pub UnlessFailed : Reply → Reply → Type 0

@@ -9,7 +9,8 @@ use Rattle.cacache_sequence.specs.{Caches.{IsCache, HasContent, HasKey, IsExcuse
 
 -- ---- of a content
 
--- keys lead where they led. Each content stays but that at the address of the integrity, which may be gone
+-- keys lead where they led. Each content stays, except that at the address of the integrity, which
+-- may be gone
 pub record KeepsApart (cache : List ℕ) (removed : List Hash) (old new : List LogItem) : Type 0 where
   pub finds : (key : List ℕ) → found_under cache key new ≡ found_under cache key old
   pub lies : (i : List Hash) → IsIntegrity i
@@ -40,8 +41,9 @@ abbrev pub LeadsThere : List ℕ → List ℕ → List Hash → List LogItem →
 LeadsThere cache key i log =
     (led : List Hash) × (leads_to cache key log ≡ Some led) × ShareAddress i led
 
--- Each key leads where it led, but one with the SHA-1 of the removed key, as that key itself, may lead to
--- nothing. Each content stays but that which the removed key led to, which may be gone
+-- Each key leads where it led, but one with the SHA-1 of the removed key, such as that key itself,
+-- may lead to nothing. Each content stays, except that which the removed key led to, which may be
+-- gone
 pub record KeepsApartFrom (cache removed : List ℕ) (old new : List LogItem) : Type 0 where
   pub finds : (key : List ℕ)
       → (found_under cache key new ≡ found_under cache key old)

@@ -28,7 +28,7 @@ AreMade s old [] new = new ≡ old
 AreMade s old (call ∷ calls) new =
     (next : List LogItem) × IsMadeOn s old call next × AreMade s next calls new
 
--- where a log is kept, what `call` says of it is that it made a call
+-- if a log is kept, what `call` ensures says that it made a call
 abbrev pub RunsAreCalls : Type 0
 RunsAreCalls =
     (s : Setup) (command : Command) (number : ℕ) (reply : Reply) (old new : List LogItem)
@@ -83,9 +83,9 @@ after_deeds folder [] v = v
 after_deeds folder (does act ∷ ds) v = after_deeds folder ds (change folder act v)
 after_deeds folder (finds path ∷ ds) v = after_deeds folder ds v
 
--- a call on this tree: the value follows its acts, contents and entries follow its deeds alone,
--- what its first deed finds was there before, a put finds nothing but puts its content, and its
--- reply is what its turns show
+-- a call on this tree: the value follows its acts, and contents and entries follow its deeds alone.
+-- What its first deed finds was there before; a put finds nothing and puts its content. Its reply is
+-- what its turns show
 pub record CallIsAnswered (s : Setup) (t : Tree) (call : SequenceCall) : Type 0 where
   pub disk : AreAnswered t call.moves
   pub acts :

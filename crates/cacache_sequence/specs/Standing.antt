@@ -1,4 +1,5 @@
--- Stores in memory of which less is known than of a cache: a loss of power may have damaged contents and buckets.
+-- Stores in memory about which less is known than about a cache: a loss of power may have damaged
+-- contents and buckets.
 use Rattle.std.specs.Prelude.{◌≡◌, ℕ, List}
 use Rattle.cacache_core.specs.{declared.{errors.Error.{Error}, integrity.digest.Hash.{Hash}}, PathNames.{home_of}}
 use Rattle.cacache_store.specs.declared.store.log.LogItem.{LogItem}
@@ -9,16 +10,16 @@ use Rattle.cacache_table.specs.declared.command.Command.TheVariants as commands
 use Rattle.cacache_value.specs.Placed.{Placed}
 use Rattle.cacache_sequence.specs.{Beside.{FitsEntry, KeepsBeside, own_integrity}, CallErrors.{IsPlainPut}, Caches.{IsCache, HasKey, IsExcused, Called, GivesBytes}, Keeping.{found_under}, Looks.{OnlyLooks, GivesFound}, Puts.{ExpectsIntegrity, HasPut, MayLeadToPut}}
 
--- everything stands where it may: of the bytes of contents and buckets nothing is known
+-- everything is where it may be; the bytes of contents and buckets may be any
 pub record IsStanding (cache : List ℕ) (log : List LogItem) : Type 0 where
   pub placed : Placed (home_of cache) (tree_of log)
   pub rooted : Rooted (tree_of log)
 
--- a cache stands
+-- each cache is such a store
 abbrev pub CachesStand : Type 0
 CachesStand = (cache : List ℕ) (log : List LogItem) → IsCache cache log → IsStanding cache log
 
--- what only looks leaves a store standing
+-- a call that only looks leaves such a store
 abbrev pub LooksLeaveStanding : Type 0
 LooksLeaveStanding =
     (cache : List ℕ) (command : Command) (r : Reply) (old new : List LogItem)
@@ -40,9 +41,9 @@ StandingReads =
     → Called cache (commands.Get key) r old new
     → GivesBytes (HasKey cache key i bytes new) bytes r old new
 
--- Everything stands where it may still. Where a put stored, its key leads to its entry and its bytes
--- lie under their integrity; other keys lead where they led, and contents stay, but at the address of
--- its bytes
+-- Everything is still where it may be. If a put stored, its key leads to its entry and its bytes
+-- lie under their integrity; other keys lead where they led, and contents stay, except at the
+-- address of its bytes
 pub record PutStands (cache : List ℕ) (p : Put) (r : Reply) (old new : List LogItem) : Type 0 where
   pub standing : IsStanding cache new
   pub stored : (i : List Hash) → r ≡ Stored i → HasPut cache p i new
@@ -51,7 +52,7 @@ pub record PutStands (cache : List ℕ) (p : Put) (r : Reply) (old new : List Lo
   pub fails : (key : List ℕ) (e : Error) → IsPlainPut cache key p → r ≡ Refused e
       → IsExcused e old new
 
--- so it is behind each put, with any options
+-- this holds after each put, with any options
 abbrev pub StandingWrites : Type 0
 StandingWrites =
     (cache : List ℕ) (p : Put) (r : Reply) (old new : List LogItem)

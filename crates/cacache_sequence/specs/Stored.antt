@@ -12,7 +12,7 @@ use Rattle.cacache_sequence.specs.{Sequence.{SequenceCall, tree_on, CallIsAnswer
 abbrev pub own_hash : Put → Hash
 own_hash p = hash_of p.options.algorithm (digest p.options.algorithm p.data)
 
--- the key has its entry behind the others, and the bytes are the content
+-- the key has its entry after the others, and the bytes are the content
 pub record HasStored (s : Setup) (t new : Tree) (p : Put) (key : List ℕ) : Type 0 where
   pub entries :
       entries_on (home s) new key
@@ -20,7 +20,7 @@ pub record HasStored (s : Setup) (t new : Tree) (p : Put) (key : List ℕ) : Typ
   pub content :
       (value_of_tree (home s) new).contents (own_hash p) ≡ Some (InFile p.data)
 
--- so it is after a put with a key that answered that it stored
+-- this holds after a put with a key that answered that it stored
 abbrev pub PutsStore : Type 0
 PutsStore =
     (s : Setup) (t : Tree) (call : SequenceCall) (p : Put) (key : List ℕ) (i : List Hash)

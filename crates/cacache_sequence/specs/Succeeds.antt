@@ -1,4 +1,4 @@
--- Calls on a store in memory whose steps all go well: what they answer, if memory isn't refused.
+-- What calls on a store in memory answer if all of their steps succeed and memory isn't refused.
 use Rattle.std.specs.{Prelude.{◌≡◌, ◌⊎◌, ◌<◌, ◌^◌, ◌==◌, ℕ, Bool, true, false, List, [], ◌∷◌, Option, None, Some, Ok, Err, if◌then◌else◌}, List.{AllByRecursion}}
 use Rattle.sha1.specs.Sha1.{sha1}
 use Rattle.cacache_core.specs.{declared.{errors.{Error.TheVariants.{SizeMismatch, SerdeError, IoError, IntegrityError}, Fault.TheVariants.{NotFound, TooDeep}, IntegrityFault.TheVariants.{Check}, SerdeCause.{SerdeCause}}, integrity.digest.Hash.{Hash}}, Integrity.{IsIntegrity, address}, PathNames.{Names, names_of, home_of}, Paths.{index_area, temp_names}}
@@ -12,13 +12,13 @@ use Rattle.cacache_value.specs.{Kinds.{node_below}, Shows.{blob_there}, Value.{v
 use Rattle.cacache_history.specs.{History.{NamesIntegrity}, ShownTurns.{blob_at}, Setup.{call_site, may_export, is_outside}}
 use Rattle.cacache_sequence.specs.{Beside.{FitsEntry}, Caches.{IsCache, Called, setup_at, lies_under}, Keeping.{found_under}, ReadAnswers.{get_on, read_on}, Standing.{IsStanding}}
 
--- ---- where no step fails
+-- ---- when no step fails
 
 -- a cache's path names a folder: it isn't empty, and has no NUL and no name `..`
 abbrev pub NamesFolder : List ℕ → Type 0
 NamesFolder cache = (home : Names) × (names_of cache ≡ Ok home)
 
--- nothing stands where the temporary file of this number would
+-- nothing is at the place of the temporary file of this number
 abbrev pub IsUnused : List ℕ → ℕ → List LogItem → Type 0
 IsUnused cache number log = node_below (home_of cache) (tree_of log) (temp_names number) ≡ None
 
@@ -31,14 +31,14 @@ pub record IsReady (cache : List ℕ) (log : List LogItem) : Type 0 where
   pub folder : NamesFolder cache
   pub tidy : IsTidy cache log
 
--- what was unused is so still
+-- what was unused still is
 abbrev pub StaysUnused : List ℕ → List LogItem → List LogItem → Type 0
 StaysUnused cache old new =
     (number : ℕ) → IsUnused cache number old → IsUnused cache number new
 
 -- ---- what a put and an insertion answer
 
--- that the entry can't be written, if so
+-- the reply, or that the entry can't be written if there is a cause
 abbrev pub unless_unwritable : Reply → Option SerdeCause → Reply
 unless_unwritable reply None = reply
 unless_unwritable reply (Some cause) = Refused (SerdeError cause [])
@@ -52,13 +52,13 @@ abbrev pub keyed_reply : Commit → Option (List ℕ) → Reply
 keyed_reply c None = Stored c.computed
 keyed_reply c (Some key) = insertion_reply (insertion_of c key)
 
--- where a size is expected, the bytes are to be as many
+-- if a size is expected, the bytes must have it
 abbrev pub sized_reply : Commit → Option ℕ → Reply
 sized_reply c None = keyed_reply c c.key
 sized_reply c (Some wanted) =
     if wanted == c.count then keyed_reply c c.key else Refused (SizeMismatch wanted c.count)
 
--- where an integrity is expected, it is to match theirs
+-- if an integrity is expected, it must match theirs
 abbrev pub compared_reply : Commit → Option (List Hash) → Reply
 compared_reply c None = sized_reply c c.options.size
 compared_reply c (Some expected) =
@@ -76,7 +76,7 @@ abbrev pub is_yes : PlainAnswer → Bool
 is_yes (There there) = there
 is_yes answer = false
 
--- whether a content lies under the integrity; of a link, whether something stands where it leads
+-- whether a content lies under the integrity; for a link, whether something is at its end
 abbrev pub exists_reply : List ℕ → List Hash → List LogItem → Reply
 exists_reply cache i log = Exists (is_yes (blob_there (tree_of log) (lies_under cache i log)))
 
@@ -85,8 +85,8 @@ abbrev pub removal_reply : {A : Type 0} → Option A → Reply
 removal_reply None = Refused (IoError NotFound [])
 removal_reply (Some there) = Done
 
--- a full removal is done where the content lies that the key leads to; where it leads to nothing,
--- where its bucket does
+-- a full removal is done if the content that the key leads to is there; if the key leads to
+-- nothing, if its bucket is there
 abbrev pub fully_reply : Option Names → Tree → List ℕ → Option Found → Reply
 fully_reply folder t key None = removal_reply ((value_of_tree folder t).buckets (sha1 key))
 fully_reply folder t key (Some found) =
@@ -107,7 +107,7 @@ ListsAll (Some node) r = ⊥
 
 -- ---- what a clearing answers
 
--- it is done, or it came to too many names; where the cache has no folder, it says so
+-- it is done, or it came to too many names; if the cache has no folder, it says so
 abbrev pub Clears : Option Node → Reply → Type 0
 Clears None r = r ≡ Refused (IoError NotFound [])
 Clears (Some node) r = (r ≡ Done) ⊎ (r ≡ Refused (IoError TooDeep []))
@@ -166,7 +166,7 @@ QuestionsAnswer =
     → Called cache (commands.Exists i) r old new
     → OrMemory (r ≡ exists_reply cache i old) r
 
--- a removal of a content is done where one lies
+-- a removal of a content is done if one is there
 abbrev pub RemovalsAnswer : Type 0
 RemovalsAnswer =
     (cache : List ℕ) (i : List Hash) (r : Reply) (old new : List LogItem)
@@ -174,7 +174,7 @@ RemovalsAnswer =
     → Called cache (commands.RemoveHash i) r old new
     → OrMemory (r ≡ removal_reply (lies_under cache i old)) r
 
--- a full removal of a key is done where what it leads to lies
+-- a full removal of a key is done if what it leads to is there
 abbrev pub FullRemovalsAnswer : Type 0
 FullRemovalsAnswer =
     (cache key : List ℕ) (r : Reply) (old new : List LogItem)
@@ -198,7 +198,7 @@ ClearingsAnswer =
 
 -- ---- temporary files
 
--- all but to write temporary files, and to move them to their places
+-- everything except writing temporary files and moving them to their places
 abbrev pub without_commits : Licence
 without_commits = record {
   prepares = true;
@@ -210,7 +210,7 @@ without_commits = record {
   removes = true;
 }
 
--- a call that may begin, and is no put, leaves no temporary file where there was none
+-- a call that may begin, and is no put, leaves no new temporary file
 abbrev pub OthersLeaveNone : Type 0
 OthersLeaveNone =
     (cache : List ℕ) (command : Command) (r : Reply) (old new : List LogItem)
@@ -220,7 +220,7 @@ OthersLeaveNone =
     → NamesIntegrity command → KeepsTo without_commits command → IsCache cache old
     → StaysUnused cache old new
 
--- nor does a put, but that of its own number
+-- a put leaves none either, except that of its own number
 abbrev pub PutsLeaveOwn : Type 0
 PutsLeaveOwn =
     (cache : List ℕ) (p : Put) (r : Reply) (old new : List LogItem)
@@ -242,7 +242,7 @@ PutsLeaveTidy =
 abbrev pub FreshIsReady : Type 0
 FreshIsReady = (cache : List ℕ) → NamesFolder cache → IsReady cache []
 
--- a store whose tree stayed is ready still
+-- a store that kept its tree is still ready
 abbrev pub SameIsReady : Type 0
 SameIsReady =
     (cache : List ℕ) (old new : List LogItem)

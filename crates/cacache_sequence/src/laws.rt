@@ -26,15 +26,16 @@ ghost use Rattle.cacache_sequence.specs.Succeeds.{PutsAnswer, InsertionsAnswer, 
 
 use cacache_memory::MemStore;
 
-/// Calls on a store in memory, one after another. A call that is made on a sound tree answers by what
-/// the cache holds there, and leaves a sound tree; the store of a new cache has one. What the cache
-/// holds changes by the acts of the call's steps. The reply of a call that reads is what the cache held
-/// then; a listing reads the buckets of keys and answers what they held. A commit did nothing, put its
-/// content, or put its content and then its entry. A put finds no content there but puts its own. An `IoError` has
-/// a cause.
+/// What holds of calls on a store in memory that are made one after another.
 ///
-/// A call's moves are what the log gained by it: so says the clause `ran` of `call`, whose base folder
-/// is the setup's. The log is that of a disk: so says `replayable` of `MemStore::log`.
+/// A call that is made on a sound tree answers by what the cache holds there, and leaves a sound tree; the store of a
+/// new cache has one. What the cache holds changes by the acts of the call's steps. A call that reads replies with
+/// what the cache held then; a listing reads the buckets of keys and answers what they held. A commit did nothing,
+/// put its content, or put its content and then its entry. A put finds no content there: it puts its own. An
+/// `IoError` has a cause.
+///
+/// A call's moves are what the log gained by it, as the clause `ran` of `call` says; the base folder there is the
+/// setup's. The log is a disk's log, as `replayable` of `MemStore::log` says.
 pub fn sequence_laws()
     ensures openings { OpeningsAreSound }
     ensures calls { RunsAreCalls }
@@ -48,9 +49,11 @@ pub fn sequence_laws()
     ensures sequences { SequencesAnswer }
 {}
 
-/// The same in words of somebody who uses a cache in a store in memory, call by call: what he wrote is
-/// there, what he removed isn't, all else stays, and a call fails for a step of its own or for memory. Of the store that it is
-/// handed it says that its log is a disk's, which the laws ask of the log behind a call.
+/// What calls on a cache in a store in memory do, in the words of its user, call by call.
+///
+/// What the user wrote is there, what the user removed isn't, everything else stays, and a call fails only for a step
+/// of its own or for memory. The clause `logged` says that the log of a store in memory is a disk's log, as the laws
+/// require it of the log after a call.
 pub fn cache_laws(store: &MemStore)
     ensures logged { IsLog store.now }
     ensures fresh { FreshIsEmpty }
@@ -87,9 +90,11 @@ pub fn cache_laws(store: &MemStore)
     let _log = store.log();
 }
 
-/// The same of calls that only look: they leave what the cache holds, so that all that was known of it
-/// stays; they find nothing where nothing is, and a read answers by what lies there, whole or damaged. A listing answers entries that keys lead to, no key
-/// twice, and all of them unless one of its items is an error.
+/// What calls that only look leave and answer, on a cache in a store in memory.
+///
+/// They leave what the cache holds, so that everything known of it stays. They find nothing if nothing is there, and
+/// a read answers by what lies there, whole or damaged. A listing answers entries that keys lead to, no key twice,
+/// and all of them unless one of its items is an error.
 pub fn look_laws()
     ensures keeps { LooksKeep }
     ensures leaves { LooksLeave }
@@ -102,11 +107,13 @@ pub fn look_laws()
     ensures lists { ListingsGive }
 {}
 
-/// What handles do to a cache in a store in memory, in words of their user. A writer opens and commits later, and in
-/// between any calls may be made that leave a cache: after a commit that stored, the key leads to the bytes that the writer
-/// took, and whatever it answers, all else stays; given up, it leaves all that was known. After a linker's commit that stored,
-/// the key leads to the integrity of the bytes that its target showed when it was opened, and a link to it lies there, or
-/// what lay there before; where another size was said, it is refused. A reader has the bytes to give that lay in the cache
+/// What handles do to a cache in a store in memory, in the words of their user.
+///
+/// A writer opens and commits later; in between, any calls may be made that leave a cache. After a commit that
+/// stored, the key leads to the bytes that the writer took; whatever the commit answers, everything else stays. A
+/// writer that is given up leaves everything that was known. After a linker's commit that stored, the key leads to
+/// the integrity of the bytes that its target showed when it was opened; a link to the target lies there, or what lay
+/// there before. If another size is expected, the commit is refused. A reader gives the bytes that lay in the cache
 /// when it opened, whatever becomes of the content since.
 pub fn handle_laws()
     ensures opens { WritersOpen }
@@ -124,13 +131,14 @@ pub fn handle_laws()
     ensures reads_key { ReadersOpenKey }
 {}
 
-/// Calls that are made in parts, as an open writer, linker or reader makes one: it begins, and goes on later from where
-/// it stands. Each part of it is made on a sound tree and leaves one, and with its last part it answers as a whole call
-/// does, by all of its steps. Between its parts other calls may be made, of which nothing more is needed than that the
-/// tree is sound where the next part begins.
+/// Calls that are made in parts, as an open writer, linker or reader makes one.
 ///
-/// A part's steps are what the log gained by it, but for the bytes that a linker read of its target itself, and those
-/// that a writer handed to its file.
+/// A call begins, and goes on later from the state that it reached. Each part of it is made on a sound tree and
+/// leaves one, and with its last part it answers as a whole call does, by all of its steps. Between its parts other
+/// calls may be made; all that they must leave is a sound tree for the next part.
+///
+/// A part's steps are what the log gained by it, except for the bytes that a linker read from its target itself, and
+/// those that a writer handed to its file.
 pub fn parts_laws()
     ensures logs { LogsLead }
     ensures begins { CallsBegin }
@@ -141,13 +149,15 @@ pub fn parts_laws()
     ensures writes { WritesAreParts }
 {}
 
-/// What calls answer whose steps all go well, as on a store in memory they do, unless memory is refused: each thing stands
-/// where it may, the cache's path names a folder, and no temporary file has a put's number. A put stores, unless its
-/// options refuse its bytes; a lookup, a read and a question answer what the cache holds; a removal is done where
-/// something lies; a listing reads each bucket, and a clearing is done. An export tells what is wrong with its source or its
-/// path, if anything is, and then changes nothing. A link stores as a put does, and the opening of a reader or a linker gives
-/// the bytes that are there, or tells why there are none. So it is of an open writer while its file stands, and of a
-/// linker's commit. A new store has no temporary file, and a call leaves none that memory wasn't refused to.
+/// What calls answer if all of their steps succeed, as on a store in memory they do unless memory is refused.
+///
+/// Each thing is where it may be, the cache's path names a folder, and no temporary file has a put's number. A put
+/// stores, unless its options refuse its bytes; a lookup, a read and a question answer what the cache holds. A
+/// removal is done if something is there to remove; a listing reads each bucket, and a clearing is done. An export
+/// reports what is wrong with its source or its path, if anything is, and then changes nothing. A link stores as a
+/// put does. The opening of a reader or a linker gives the bytes that are there, or says why there are none. The same
+/// holds of an open writer as long as its file is there, and of a linker's commit. A new store has no temporary file,
+/// and a call leaves none if memory wasn't refused to it.
 pub fn success_laws()
     ensures puts { PutsAnswer }
     ensures inserts { InsertionsAnswer }

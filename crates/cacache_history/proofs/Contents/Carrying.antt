@@ -19,7 +19,7 @@ pub data Own : Type 0 where
   own_bytes : List ℕ → List ℕ → Own
   own_link : List ℕ → Own
 
--- other calls than a put or a link make none
+-- only a put or a link makes one
 abbrev pub own_of : Site → Command → Own
 own_of site (commands.Put p) = own_bytes p.data (content_path site.cache (integrity_under p.options.algorithm p.data))
 own_of site (commands.Link l) = own_link (link_target site l).path

@@ -85,7 +85,7 @@ took_entry durable e (answers.Took n) h = omega (arith, h, length-append (line_o
 took_entry durable e a h = absurd h
 
 module _ (path : List ℕ) (e : Entry) (durable : Bool) (formed : IsEntry e) (fits : IsWritable e) (luck : Luck) (a : PlainAnswer) where
-  -- what an append of the line did, where so much of it was left
+  -- what an append of the line did, if so much of it was left
   left_deeds : Names → Option ℕ → List Deed
   left_deeds names left = deeds_of_act (act_with left (λ count. AddEntries names (entries_of (take count (closed_line durable e))))) ++ []
 

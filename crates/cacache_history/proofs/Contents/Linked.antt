@@ -37,7 +37,7 @@ module _ (r : Reply) (c : Commit) (target : List ℕ) (file : PlainTemp) where
           record { twin = (steps.Persist file (content_path c.cache c.computed), answers.NoMemory (steps.Persist file (content_path c.cache c.computed))) ∷ moves; runs = (refl, refl, run); same = refl }
       by_answer t fits run = absurd fits
 
-  -- where the put is durable, its file is synced first
+  -- if the put is durable, its file is synced first
   first_synced : (moves : Moves) → Twin (persisting c file) moves r → Twin (move_in c file) moves r
   first_synced moves x =
       moves_on (λ s. Twin s moves r) c file (record { twin = (steps.SyncTemp file, answers.Synced file) ∷ x.twin; runs = (refl, refl, x.runs); same = x.same }) x
@@ -114,7 +114,7 @@ module _ (r : Reply) where
 -- ---- the target is read
 
 module _ (r : Reply) (t : Target ℕ) where
-  -- the link's commit, where these bytes were read
+  -- the link's commit, if these bytes were read
   abbrev pub CommitsOf : Moves → List ℕ → Type 0
   CommitsOf moves bytes = (length bytes < 2 ^ 64) × Commits (commit_for t bytes) (effects_of moves) r
 

@@ -32,7 +32,7 @@ file_given t path luck a file is answer =
     (apply_answer (ShowsContent (file_at t path faults.IsADirectory)) (made_up_file (file_at t path faults.IsADirectory)) t (steps.Open path) luck
     (λ most. file_shown t (file_at t path faults.IsADirectory)))
 
--- ---- the target where a call opened it
+-- ---- the target when a call opened it
 
 module _ (h : History) (legal : IsLegal h) (call : Call) (reply : Option Reply) (reaches : Reaches h call reply) where
   target_held : (path : List ℕ) (P : List ℕ → Type 0) → ReadsTarget path P (made_in call.turns) → (bytes : List ℕ) × P bytes × HeldOnce h h.records path bytes

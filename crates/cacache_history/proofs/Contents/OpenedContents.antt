@@ -59,7 +59,7 @@ run_asks s (m ∷ moves) r run = (state_asks s m.0 run.0, run_asks (after s m.1)
 
 -- ---- one read
 
--- the answer gives the first of these bytes and a file of the rest, some where there are any
+-- the answer gives the first of these bytes, at least one if there are any, and a file of the rest
 abbrev pub GivesNext : List ℕ → PlainAnswer → Type 0
 GivesNext all (answers.Got file bytes) = (rest : List ℕ) × (file.bytes ≡ Some rest) × (bytes ++ rest ≡ all) × (bytes ≡ [] → all ≡ [])
 GivesNext all a = Unit {0}

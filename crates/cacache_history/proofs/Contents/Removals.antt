@@ -55,7 +55,7 @@ module _ (cache key : List ℕ) (r : Reply) where
   bucket_removed : (turns : List Turn) → Runs (remove_bucket cache key) (made_in turns) r → DropsAmong (bucket_path cache key ∷ []) (deeds turns)
   bucket_removed turns run = removed (bucket_path cache key) (over Done) [] r (λ more ended. ended_deeds Done r more ended) turns run
 
-  -- behind a lookup
+  -- after a lookup
   module _ (step : PlainStep) (luck : Luck) (place : Tree) (is : step ≡ steps.ReadAll (bucket_path cache key)) where
     abbrev look : PlainAnswer → Turn
     look a = record { place = place; move = record { step = step; luck = luck; answer = a } }

@@ -128,7 +128,7 @@ module _ (h : History) (legal : IsLegal h) (a : Hash) (is_hash : IsHash a) where
       (contents_stay h legal before later [] a (is ∙ ap (λ l. before ++ l) (sym (append-nil later)))
       (keep_rest (home h.setup) a before later (subst (λ records. KeepContent (home h.setup) a (steps_of records)) is keeps)) there)
 
-  -- where a turn put it
+  -- if a turn put it
   put_stays : (turn : Turn) (own : Own) (names : Names) → TurnAt h turn → act_of turn.move.step turn.move.luck turn.move.answer ≡ put_own own names
       → names_below (home h.setup) (content_names a) ≡ Ok names → KeepContent (home h.setup) a (steps_of h.records) → Here h.records
   put_stays turn own names d act below keeps =
@@ -142,7 +142,7 @@ module _ (h : History) (legal : IsLegal h) (a : Hash) (is_hash : IsHash a) where
       ∙ ap (λ (x : Act). (change (home h.setup) x v).contents a) done in
       stays (d.before ++ last ∷ []) d.later is keeps (subst IsThere (sym value) (own_there (home h.setup) v a own names (here (home h.setup) a names below)))
 
-  -- where a turn found it
+  -- if a turn found it
   find_stays : (turn : Turn) → TurnHolds h.setup turn → TurnAt h turn → turn.move.step ≡ steps.Exists (content_path h.setup.cache (a ∷ []))
       → turn.move.answer ≡ answers.There true → KeepContent (home h.setup) a (steps_of h.records) → Here h.records
   find_stays turn holds d step answer keeps =
@@ -151,7 +151,7 @@ module _ (h : History) (legal : IsLegal h) (a : Hash) (is_hash : IsHash a) where
       stays d.before (Moved d.caller d.luck (Some d.made) d.reply ∷ d.later) d.is keeps
       (subst (λ (t : Turn). IsThere ((value_of_tree (home h.setup) t.place).contents a)) d.turn_is there)
 
-  -- where a commit did either
+  -- if a commit did either
   content_stays : (c : Commit) (own : Own) (content : Deed) → content_path c.cache c.computed ≡ content_path h.setup.cache (a ∷ []) → PutsContent c (put_own own) content → DoneAt h content
       → KeepContent (home h.setup) a (steps_of h.records) → Here h.records
   content_stays c own (does act) at is d keeps =

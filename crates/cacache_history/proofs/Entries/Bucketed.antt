@@ -16,7 +16,7 @@ to_keys : (s : Setup) (n : ℕ) (step : PlainStep) → calls.Allowed (call_site 
 to_keys s n (steps.Append p line) a = (a.0.key, subst (λ q. names_of q ≡ names_below (home s) (bucket_names a.0.key)) (sym a.4) (bucket_below s a.0.key))
 to_keys s n other a = tt
 
--- of an entry's line, whose key it is
+-- it appends an entry's line, and the key is that entry's
 appends_own : (s : Setup) (n : ℕ) (step : PlainStep) → calls.Allowed (call_site s n) (may_export s) (is_outside s) step → AppendsOwn (home s) step
 appends_own s n (steps.Append p line) a = record {
   entry = a.0;

@@ -1,4 +1,4 @@
--- A step makes no bucket but that of a key.
+-- A step makes only buckets of keys.
 use Rattle.std.proofs.{Common.{◌≡◌, ◌-◌, ◌==◌, ℕ, Bool, true, false, cond, List, ◌∷◌, ◌++◌, Option, None, Some, Result, Ok, Err, take, refl, sym, ap, subst, ◌∙◌, bytes_eq, append_assoc}, lemmas.Slice.Eq.{bytes_eq-Decides}}
 use Rattle.std.specs.Prelude.{IfOk, []}
 use Rattle.cacache_core.specs.{declared.errors.Fault.{Fault, TheVariants.{NotFound, IsADirectory, InvalidInput}}, PathNames.{Names, names_of, names_below}, Paths.{bucket_names, content_area, index_area, temp_area}}
@@ -66,7 +66,7 @@ reached_at : (n names : Names) (r : Result Names Fault) → Reaches n r → r �
 reached_at n names r (found w) e = sym w ∙ e
 reached_at n names r (missing w) e = failed_at NotFound names r w e
 
--- where an append writes: at its own path
+-- an append writes at its own path
 written : (home : Option Names) (t : Tree) (path : List ℕ) (names : Names) (r : Result Names Fault) → Placed home t → names_of path ≡ r → IfOk r (λ n. path_kind home n ≡ Bucket)
     → writable t path ≡ Ok names → r ≡ Ok names
 written home t path names (Ok n) placed is k e = reached_at n names (writable t path) (bucket_reached home t path n placed is k) e
@@ -82,7 +82,7 @@ module _ (home : Option Names) (t : Tree) (placed : Placed home t) (h : BucketsH
   asked : {A : Type 0} (r : Result A Fault) (answer : A → PlainAnswer) → BucketsHaveKeys home (unless r t (λ a. (answer a, t))).1
   asked r answer = where_ok r (λ a. (answer a, t)) (λ a is. h)
 
-  -- something put where no bucket may stand
+  -- something put where no bucket may be
   aside : (old : Tree) (names : Names) (node : Node) (k : PathKind) → path_kind home names ≡ k → (k ≡ Bucket → ⊥) → BucketsHaveKeys home old → BucketsHaveKeys home (put old names node)
   aside old names node k is other g = put_keyed home old names node (λ e. absurd (other (sym is ∙ e))) g
 
@@ -127,7 +127,7 @@ module _ (home : Option Names) (t : Tree) (placed : Placed home t) (h : BucketsH
 
 -- ---- the beginning
 
--- one name below the cache's folder no bucket stands
+-- no bucket is one name below the cache's folder
 one_below : (b c d : Bool) → cond b Way (cond c Way (cond d Way Stray)) ≡ Bucket → ⊥
 one_below true c d e = cc
 one_below false true d e = cc
@@ -157,7 +157,7 @@ beside_deep (name ∷ home) (first ∷ rest) e = by (bytes_eq name first) refl (
         record { first = d.first; second = d.second; rest = d.rest; is = ap (λ x. x ∷ rest) (sym ((bytes_eq-Decides name first).0 same)) ∙ ap (λ l. name ∷ l) d.is }
     by false same more is = absurd cc
 
--- where the cache holds nothing, nothing stands two names below its folder
+-- if the cache holds nothing, nothing is two names below its folder
 nothing_deep : (home : Names) (t : Tree) (path : Names) (node : Node) → Rooted t → value_of_tree (Some home) t ≡ empty_value → Deep home path → look t path ≡ Some node → ⊥
 nothing_deep home t path node rooted nothing deep is =
     let here : look t ((home ++ deep.first ∷ []) ++ deep.second ∷ deep.rest) ≡ Some node

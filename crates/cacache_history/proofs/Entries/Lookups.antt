@@ -1,4 +1,4 @@
--- What a lookup finds goes by the last entry that was written, and answers stand at their places.
+-- What a lookup finds goes by the last entry that was written, and answers hold at their places.
 use Rattle.std.proofs.{Common.{◌≡◌, ◌⊎◌, inl, inr, ◌<◌, ◌≤◌, ◌+◌, ◌-◌, ℕ, zero, suc, Bool, true, false, cond, List, [], ◌∷◌, ◌++◌, Option, None, Some, take, drop, fold, bytes_eq, refl, sym, ap, subst, ◌∙◌, append-nil, take-append-drop, arith}, lemmas.{Grind.{fold-append}, List.Elements.{All-nil, All-head, All-tail, All-push, All-same, All-weaker}, Slice.Eq.{bytes_eq-Decides}}}
 use Rattle.std.specs.Prelude.{All, slice_get, unwrap_or}
 use Rattle.sha1.specs.Sha1.{sha1}

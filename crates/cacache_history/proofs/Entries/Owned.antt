@@ -59,7 +59,7 @@ abbrev pub AppendsOwn : Option Names → PlainStep → Type 0
 AppendsOwn home (steps.Append p bytes) = OwnLine home p bytes
 AppendsOwn home step = Unit {0}
 
--- two keys whose buckets have one path
+-- two keys with buckets at one path
 one_bucket : (cache : List ℕ) (home : Option Names) (a key : List ℕ) (names : Names) → names_below home (bucket_names a) ≡ Ok names → is_path_of home (bucket_names key) names ≡ true → sha1 a ≡ sha1 key
 one_bucket cache None a key names e is = absurd cc
 one_bucket cache (Some folder) a key names e is =

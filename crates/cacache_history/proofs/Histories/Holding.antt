@@ -95,7 +95,7 @@ pub ended_at : (P : Option Call → Type 0) → P None → (reply : Option Reply
 ended_at P none None call h = h
 ended_at P none (Some reply) call h = none
 
--- a caller's call, by what is said of it
+-- what holds of a caller's call holds of this one, if it is that call
 pub of_caller : (s : Setup) (call : Call) (o : Option Call) → o ≡ Some call → CallAt s o → CallHolds s call
 of_caller s call o e h = subst (CallAt s) e h
 

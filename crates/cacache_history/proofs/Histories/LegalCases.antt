@@ -146,7 +146,7 @@ lookup_legal cache key luck =
       );
     }
 
--- where nothing is held, no entry is found
+-- if nothing is held, no entry is found
 not_found : (key : List ℕ) (entries : List Entry) (found : Found) (a : PlainAnswer) → entries ≡ [] → LookedUp (Some found) ≡ find_reply key (shown_result a (Ok entries)) → ⊥
 not_found key entries found a none e = by a (e ∙ ap (λ es. find_reply key (shown_result a (Ok es))) none)
   where

@@ -1,4 +1,4 @@
--- Answers of lookups and reads stand at places since their calls began, and so do the entries of puts.
+-- Answers of lookups and reads hold at places since their calls began, and so do the entries of puts.
 use Rattle.std.proofs.{Common.{◌≡◌, ◌⊎◌, inl, inr, ◌≤◌, ℕ, suc, true, cond, List, [], ◌∷◌, ◌++◌, Option, None, Some, Result, Ok, Err, take, drop, bytes_eq, refl, sym, ap, subst, ◌∙◌, arith}, lemmas.{Grind.{fold-append}, Slice.Eq.{bytes_eq-Decides}}}
 use Rattle.std.specs.Prelude.{slice_get, unwrap_or}
 use Rattle.sha1.specs.Sha1.{sha1}
@@ -135,7 +135,7 @@ module _ (h : History) (legal : IsLegal h) (m n caller : ℕ) (call : Call) (p :
   abbrev entry : Entry
   entry = (insertion_of (put_commit h.setup.cache p) key).entry
 
-  -- right behind the move that added it, a lookup finds the entry
+  -- right after the move that added it, a lookup finds the entry
   entry_found : (names : Names) (turn : Turn) → names_of (bucket_path h.setup.cache key) ≡ Ok names → TurnIn h m n caller turn
       → act_of turn.move.step turn.move.luck turn.move.answer ≡ AddEntries names (entry ∷ []) → answer_to key entry ≡ Some (Some (found_of_put h.setup.cache key p))
       → IsFoundIn h m n key (Some (found_of_put h.setup.cache key p))

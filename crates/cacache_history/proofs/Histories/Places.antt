@@ -1,4 +1,4 @@
--- Places of a history: each move is of a call, and the turns of a call that began behind a place are moves behind it.
+-- Places of a history: each move is of a call, and the turns of a call that began after a place are moves after it.
 use Rattle.std.proofs.Common.{◌≡◌, ◌⊎◌, inl, inr, ◌≤◌, ◌+◌, ◌-◌, ◌==◌, ℕ, zero, suc, Bool, true, false, cond, eqb-true, List, [], ◌∷◌, ◌++◌, Option, None, Some, option_map, take, drop, refl, sym, ap, subst, ◌∙◌, arith}
 use Rattle.std.specs.Prelude.{slice_get}
 use Rattle.cacache_history.specs.{declared.record.Record.{Record, TheVariants.{Began, Moved, Stopped}}, History.{History, Call, Turn, Made, new_call, turn_of, call_after, unless_over, moved_call, now_after, now_at, replayed, initial, IsLegal}, Turns.{EachTurn}, Places.{now_before, MoveAt, TurnIn, TurnsAreOwn, MovesAreOfCalls}}
@@ -20,7 +20,7 @@ split_at (q ∷ rs) (suc n) r e =
     let more = split_at rs n r e in
     record { all = ap (λ x. q ∷ x) more.all; next = ap (λ x. q ∷ x) more.next }
 
--- there is a record at a place, or it lies behind the last one
+-- there is a record at a place, or the place lies after the last one
 pub at_place : (rs : List Record) (n : ℕ) → ((r : Record) × (slice_get rs n ≡ Some r)) ⊎ (take (suc n) rs ≡ take n rs)
 at_place [] zero = inr refl
 at_place [] (suc n) = inr refl
@@ -30,7 +30,7 @@ at_place (q ∷ rs) (suc n) = elim (at_place rs n) [
   | inr none ↦ inr (ap (λ x. q ∷ x) none)
 ]
 
--- what stands after the record at a place
+-- the tree and the calls after the record at a place
 pub after_place : (h : History) (n : ℕ) (r : Record) → slice_get h.records n ≡ Some r → now_before h (suc n) ≡ now_after h.setup (now_before h n) r
 after_place h n r e =
     ap (replayed h.setup (initial h.setup)) (split_at h.records n r e).next ∙ replay_more h.setup (initial h.setup) (take n h.records) (r ∷ [])

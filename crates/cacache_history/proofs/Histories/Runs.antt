@@ -46,7 +46,7 @@ pub lost_run : (h : History) (call : Call) (reply : Option Reply) → Reached h 
     → Runs (opening (call_site h.setup call.number) call.command) (made_in call.turns) (replies.Refused OutOfMemory)
 lost_run h call reply x = goes_lost (opening (call_site h.setup call.number) call.command) (made_in call.turns) call.state x.holds.goes
 
--- without its message, a reply is out of memory only where it was
+-- without its message, a reply is out of memory only if it was
 pub memory_plain : (r : Reply) → plain_reply r ≡ replies.Refused OutOfMemory → r ≡ replies.Refused OutOfMemory
 memory_plain (replies.Stored i) e = absurd cc
 memory_plain (replies.Read bytes) e = absurd cc

@@ -1,4 +1,4 @@
--- What a walk answers that gave some items first and may still take so many names.
+-- What a walk answers after it gave some items, if it may still take so many names.
 use Rattle.std.proofs.{Common.{◌≡◌, ◌≤◌, ◌<◌, ◌+◌, ◌-◌, ℕ, Bool, true, false, cond, ◌||◌, List, [], ◌∷◌, ◌++◌, length, take, nat_lt, refl, sym, ap, ◌∙◌, arith, append_assoc, append-nil}, lemmas.Bool.{ltb-true, ltb-false}}
 use Rattle.cacache_table.specs.{Answers.{names_in}, ListReplies.{too_deep}, State.{State, Item}, Walking.{most}}
 use Rattle.cacache_history.specs.{History.{Turn}, ListingTurns.{count_in, names_given}}
@@ -30,7 +30,7 @@ pub or_true : (a : Bool) → (a || true) ≡ true
 or_true true = refl
 or_true false = refl
 
--- ---- what a walk answers that gave these items first and may still take so many names
+-- ---- what a walk answers after it gave these items, if it may still take so many names
 
 abbrev pub far : List Item → ℕ → List Turn → List Item → Bool
 far front left turns items = nat_lt left (names_given turns) || nat_lt most (length (front ++ items))

@@ -58,7 +58,7 @@ module _ (s : Setup) (r : Reply) where
 
   -- ---- a turn, and those after it
 
-  -- what leads to a bucket that stands is followed, or leads on
+  -- what leads to a bucket that is there is followed, or leads on
   abbrev Follows : Turn → List Task → List Task → Type 0
   Follows turn tasks left = (key : List ℕ) → HasBucket s key turn → CoversAny s key tasks → Sees key turn ⊎ CoversAny s key left
 

@@ -35,7 +35,7 @@ tasks_append s [] b h k = k
 tasks_append s (Make v ∷ a) b h k = (h.0, tasks_append s a b h.1 k)
 tasks_append s (Stumble fault path ∷ a) b h k = absurd h
 
--- ---- what may stand below the index folder
+-- ---- what may be below the index folder
 
 folder_high : (home : Option Names) (n : ℕ) (rest : Names) → MayStand home (Some Folder) (kind_in_area Bucket n rest) → length rest < n
 folder_high home zero [] s = absurd s
@@ -135,7 +135,7 @@ child_named s p folder names n proper here is own =
     ap names_of (sym path) ∙ joined_texts_name s.cache (index_area ∷ names ++ n ∷ []) all (omega arith)
     ∙ ap (λ o. names_below o (index_area ∷ names ++ n ∷ [])) here ∙ ap Ok (sym (append_assoc folder (index_area ∷ names) (n ∷ [])))
 
--- a listing leaves no task behind a folder
+-- a listing leaves no task after a folder
 pub no_leaving : (s : Setup) (clears : Bool) (level : ℕ) (p : List ℕ) → clears ≡ false → Tasks s (leaving clears level p)
 no_leaving s true level p e = absurd cc
 no_leaving s false level p e = tt
@@ -160,7 +160,7 @@ folder_tasks s turn p level ns false no_clear holds keyed step v e =
     (proper_names p turn.move.answer ns (subst (λ x. Fits x turn.move.answer) (sym step) holds.fits) e)
     (subst (λ q. Each (Told turn.place q) ns) (sym f.2) told.2)
 
--- ---- a bucket that stands is found
+-- ---- a bucket that is there is found
 
 -- a visit that leads to the bucket of a key
 abbrev pub Covers : Setup → List ℕ → Visit → Type 0
@@ -237,7 +237,7 @@ module _ (s : Setup) (key : List ℕ) (t : Tree) (rooted : Rooted t) (p : List �
           let four : length (index_area ∷ names ++ x ∷ y ∷ ys) ≡ 4 = ap (λ (l : Names). length l) whole in
           absurd (omega (arith, ltb-false level 16 e, at, four, length-append names (x ∷ y ∷ ys)))
 
--- a folder on the way to a bucket that stands brings what leads on to it
+-- a folder on the way to a bucket that is there brings what leads on to it
 pub folder_covers : (s : Setup) (turn : Turn) (p : List ℕ) (level : ℕ) (ns : List Name) (clears : Bool) → clears ≡ false → TurnHolds s turn
     → steps.ReadDir p ≡ turn.move.step → names_in turn.move.answer ≡ Ok ns → (key : List ℕ) → HasBucket s key turn → Covers s key (Enter p level) → CoversAny s key (tasks_of clears level p ns)
 folder_covers s turn p level ns true no_clear holds step e key has c = absurd cc

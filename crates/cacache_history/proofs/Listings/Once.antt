@@ -162,7 +162,7 @@ module _ (s : Setup) where
     reads (Err (refusals.Fault fault)) h = misses fault h
     reads (Err refusals.Memory) h = ends qs turns h
 
-  -- what follows a folder whose names were given
+  -- what follows a folder once its names were given
   entered_once : (turns : List Turn) (todo : List Task) (q : Names) (qs : List Names) (p : List ℕ) (level : ℕ) (ns : List Name) (w : Walk) → w.clears ≡ false → Tasks s todo → TasksAt todo qs → ApartAll q qs → AllApart qs
       → Tasks s (tasks_of w.clears level p ns) → Brings p level w.clears ns q → Rest (entered w p level todo ns) turns → Once (children q ns ++ qs) turns
   entered_once turns todo q qs p level ns w e tasks at first apart own b h =

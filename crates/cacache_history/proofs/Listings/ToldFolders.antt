@@ -1,4 +1,4 @@
--- What a listing of a folder tells of the nodes in it.
+-- What a listing of a folder says of the nodes in it.
 use Rattle.std.proofs.{Common.{◌≡◌, ◌⊎◌, inl, inr, ◌+◌, ◌&&◌, ℕ, Bool, true, false, cond, List, [], ◌∷◌, ◌++◌, Option, None, Some, Result, Ok, Err, length, take, refl, sym, ap, subst, ◌∙◌, arith, eqb-true, ap₂, length-append}, lemmas.{Bool.{and_parts, eq-eqb}, List.{take_all, take_at, get_or_at}}}
 use Rattle.std.specs.{Prelude.{T, slice_index_or, filter_map}, List.{cons_option}, FinMap.Entries.{below_all}, declared.cmp.Ordering.{Ordering, TheVariants.{Less, Equal, Greater}}, Ordering.{is_lt, is_eq, ordering_reverse, nat_cmp}, Cmp.{eq_by_cmp_equiv, Lexicographic.{pointwise, slice_cmp, lists_ties, texts_ties}}, Bool.{nat_eq}}
 use Rattle.std.specs.FinMap as map
@@ -60,7 +60,7 @@ each_stands t = each_weaker (IsFound (map.entries t)) (StandsAt t) (λ e is. map
 
 -- ---- the names in a folder
 
--- what a listing says of a name is so
+-- what a listing says of a name is true
 pub record Told (t : Tree) (folder : Names) (n : Name) : Type 0 where
   pub node : Node
   pub stands : look t (folder ++ n.name ∷ []) ≡ Some node
@@ -99,7 +99,7 @@ abbrev pub AreDistinct : List Name → Type 0
 AreDistinct [] = Unit {0}
 AreDistinct (n ∷ ns) = Each (λ m. n.name ≡ m.name → ⊥) ns × AreDistinct ns
 
--- an entry behind another has another name
+-- an entry after another has another name
 other_name : (folder : Names) (name : List ℕ) (e x : Names × Node) → folder ++ name ∷ [] ≡ e.0 → T (is_lt (names_cmp e.0 x.0)) → is_child folder x.0 ≡ true → name ≡ slice_index_or x.0 (length folder) [] → ⊥
 other_name folder name e x here lt child same =
     let path : e.0 ≡ x.0 = sym here ∙ ap (λ n. folder ++ n ∷ []) same ∙ child_is folder x.0 child in

@@ -1,4 +1,4 @@
--- Calls that store, remove or clear give no error but that of a step, or out of memory.
+-- Calls that store, remove or clear give no error except that of a step, or out of memory.
 use Rattle.std.proofs.Common.{◌≡◌, ◌⊎◌, inl, inr, ℕ, Bool, true, List, [], ◌∷◌, Option, None, Some, get_or, refl, sym, subst, ◌∙◌}
 use Rattle.cacache_core.specs.declared.{errors.{SerdeCause.{SerdeCause}, Error.TheVariants.{SerdeError}}, integrity.digest.Hash.{Hash}}
 use Rattle.cacache_store.specs.Plain.{PlainAnswer}
@@ -7,7 +7,7 @@ use Rattle.cacache_table.specs.{declared.{command.{Insert.{Insert}, Put.{Put}}, 
 use Rattle.cacache_table.proofs.{Closed.{AnyAnswer, ClosedCommit, ClosedWalk, Closed, kept_always}, Visits.{MayMeet}}
 use Rattle.cacache_sequence.{specs.CallErrors.{FailsOnly, CallsFailOnly}, proofs.Removing.Tasks.{Clears, ClearsAt}}
 
--- a commit that expects no integrity and no size, and whose entry can be written
+-- a commit that expects no integrity and no size, and has an entry that can be written
 pub record Plain (c : Commit) : Type 0 where
   pub no_integrity : c.options.integrity ≡ None
   pub no_size : c.options.size ≡ None
@@ -119,7 +119,7 @@ contents_fail site p moves r none no_integrity no_size run =
 
 -- ---- insertions
 
--- an insertion gives no other error, but that its entry can't be written
+-- an insertion gives no other error, except that its entry can't be written
 pub inserts_fail : (site : Site) (i : Insert) (moves : Moves) (r : Reply) → Runs (opening site (commands.Insert i)) moves r
     → FailsOnly r ⊎ ((cause : SerdeCause) × (refused_cause (insertion site.cache i) ≡ Some cause) × (r ≡ Refused (SerdeError cause [])))
 inserts_fail site i moves r run = by (refused_cause (insertion site.cache i)) refl moves run

@@ -106,7 +106,7 @@ module _ (h : Hashing) (t : Tree) where
   reads_faultless (b ∷ more) rest fault (inl h) = subst (λ a. Faults (steps.Read (opened (b ∷ (more ++ rest))) piece) a fault) (byte_given b (more ++ rest)) h
   reads_faultless (b ∷ more) rest fault (inr h) = reads_faultless more rest fault h
 
--- bytes that were read are parts, of which none failed
+-- bytes that were read are parts, and none of these failed
 pub bytes_taken : (s : Setup) (call : Begun) (h : Hashing) (bytes more rest : List ℕ) (t : Tree) → IsOnItsWay s call (hashing h (opened (more ++ rest)) bytes) → IsSound (home s) t
     → (reads : List Part) × IsOnItsWay s (record call { parts = call.parts ++ reads }) (hashing h (opened rest) (bytes ++ more)) × (deeds (turns_in reads) ≡ [])
     × ((fault : Fault) → Faulted (moves_in reads) fault → ⊥)

@@ -42,7 +42,7 @@ files_lead t (file ∷ files) more h =
 
 -- ---- calls
 
--- what the log gains by calls comes behind what was there
+-- what the log gains by calls comes after what was there
 pub record Longer (old new : List LogItem) : Type 0 where
   pub more : List LogItem
   pub is : new ≡ old ++ more

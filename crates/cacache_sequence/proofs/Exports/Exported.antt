@@ -48,7 +48,7 @@ reads_as cache bytes held (a ∷ hs) log sound has e =
     let is : ◌≡◌ {A = Result (List ℕ) Fault} (Ok bytes) (Ok held) = sym (ap (blob_bytes (tree_of log)) has.content) ∙ subst (ShowsContent _) (read_so (tree_of log) path held e) shows in
     cc
 
--- and it stands at its path
+-- and it is at its path
 stands : (cache bytes : List ℕ) (i : List Hash) (log : List LogItem) → HasContent cache i bytes log
     → (names : Names) → names_of (content_path cache i) ≡ Ok names → look (tree_of log) names ≡ Some (File bytes)
 stands cache bytes [] log has = absurd (omega (arith, has.formed.nonempty))

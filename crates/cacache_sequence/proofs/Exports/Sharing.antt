@@ -12,7 +12,7 @@ use Rattle.cacache_value.specs.{Kinds.{node_below}, Value.{InFile, blob_in}}
 use Rattle.cacache_history.proofs.Histories.ShownTurns.{content_below}
 use Rattle.cacache_sequence.{specs.Caches.{setup_at}, proofs.Putting.WrittenFiles.{written_shown}}
 
--- ---- a path where nothing stands
+-- ---- a path with nothing at it
 
 -- a file can be written there
 free_writable : (t : Tree) (path : List ℕ) (end : Names) → free t path ≡ Ok end → writable t path ≡ Ok end
@@ -47,7 +47,7 @@ reflinked t p q = by (free t q) (file_at t p faults.IsADirectory) refl refl
     by (Ok names) (Err fault) to from e = absurd cc
     by (Ok names) (Ok bytes) to from e = (bytes, refl, put_shown t q bytes names to)
 
--- the link is a name of the file, where the path names one
+-- the link is a name of the file, if the path names one
 file_linked : (t : Tree) (p bytes : List ℕ) (node : Node) → ((names : Names) → names_of p ≡ Ok names → look t names ≡ Some (File bytes)) → linked t p ≡ Ok node → node ≡ File bytes
 unfolding linked
 file_linked t p bytes node here = by (place t p) refl
@@ -71,7 +71,7 @@ hard_linked t p q bytes here = by (free t q) (linked t p) refl refl
 
 -- ---- a content
 
--- what stands where it lies
+-- a content's bytes are a file at its path
 pub content_stands : (cache bytes : List ℕ) (a : Hash) (hs : List Hash) (t : Tree) → IsHash a → blob_in (node_below (home_of cache) t (content_names a)) ≡ Some (InFile bytes)
     → (names : Names) → names_of (content_path cache (a ∷ hs)) ≡ Ok names → look t names ≡ Some (File bytes)
 content_stands cache bytes a hs t is lies names named = by (home_of cache) lies (sym (content_below (setup_at cache []) a hs is) ∙ named)

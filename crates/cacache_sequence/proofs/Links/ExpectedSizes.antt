@@ -1,4 +1,4 @@
--- Where a commit of a link expects no size it goes on as where that of its bytes is expected; and how it fails.
+-- A link's commit that expects no size goes on as one that expects the size of its bytes; and how it fails.
 use Rattle.std.proofs.{Common.{◌≡◌, ◌⊎◌, inl, inr, ◌==◌, ℕ, Bool, true, false, cond, List, [], ◌∷◌, ◌++◌, Option, None, Some, length, refl, sym, ap, subst, ◌∙◌, append-nil, append_assoc}, lemmas.Bool.{eq-eqb}}
 use Rattle.cacache_core.specs.declared.{errors.{Error.{Error, TheVariants.{IntegrityError, IoError, OutOfMemory, SizeMismatch}}, Fault.{Fault}, IntegrityFault.TheVariants.{Check}}, integrity.digest.Hash.{Hash}}
 use Rattle.cacache_core.specs.declared.errors.Fault.TheVariants as faults
@@ -17,7 +17,7 @@ chosen : (b : Bool) (x y : State) → b ≡ true → cond b x y ≡ x
 chosen true x y e = refl
 chosen false x y e = absurd cc
 
--- the target, of which this size is expected, or none
+-- the target with this size expected, or with none
 abbrev pub of_size : Target ℕ → Option ℕ → Target ℕ
 of_size t size = record t { options = record t.options { size = size } }
 
@@ -59,7 +59,7 @@ module _ (t : Target ℕ) (a b : Option ℕ) (bytes : List ℕ) (same : placed (
   link_same [] r (inr e) = inr e
   link_same (m ∷ moves) r run = (run.0, run.1, made_on m.1 moves r run.2)
 
--- where no size is expected, and where that of the bytes is, they are the same
+-- with no size expected, and with that of the bytes, they are the same
 module _ (t : Target ℕ) (n : ℕ) (bytes : List ℕ) (is : n ≡ length bytes) where
   abbrev free : Commit
   free = commit_for (of_size t None) bytes
@@ -155,7 +155,7 @@ module _ (t : Target ℕ) (r : Reply) where
   ends_as file bytes ((step, answers.NoMemory back) ∷ moves) run = inl (lost OutOfMemory moves tt run.2)
   ends_as file bytes ((step, a) ∷ moves) run = inl (lost (IoError faults.Device []) moves tt run.2)
 
-  -- a link of which nothing else is expected, and whose entry can be written, fails for a step or for memory alone
+  -- a link that expects nothing else, with an entry that can be written, fails only for a step or for memory
   pub fails_only : (bytes rest : List ℕ) (moves : Moves) → SuitsSize t.options.size (length (bytes ++ rest)) → PlainCommit (commit_for (of_size t None) (bytes ++ rest)) → OnDisks moves
       → Runs (hashing (to_link t) (opened rest) bytes) moves r → FailsOnly r
   fails_only bytes rest moves size plain disks run =
@@ -176,7 +176,7 @@ module _ (t : Target ℕ) (r : Reply) where
           (link_same t (Some n) None (bytes ++ rest) (sym (placed_same t n (bytes ++ rest) refl)) more r
           (subst (λ (x : Target ℕ). Runs (link (commit_for x (bytes ++ rest)) x.path) more r) (size_is t (Some n) some) linked))
 
--- the same where no size is expected, or theirs is
+-- the same if no size is expected, or theirs is
 pub suited_run : (t : Target ℕ) (bytes rest : List ℕ) (moves : Moves) (r : Reply) → SuitsSize t.options.size (length (bytes ++ rest)) → OnDisks moves → Runs (hashing (to_link t) (opened rest) bytes) moves r
     → Runs (hashing (to_link (with_size t (length (bytes ++ rest)))) (opened rest) bytes) moves r
 suited_run t bytes rest moves r (inl none) disks run = sized_run t r bytes rest moves disks (subst (λ x. Runs (hashing (to_link x) (opened rest) bytes) moves r) (size_is t None none) run)

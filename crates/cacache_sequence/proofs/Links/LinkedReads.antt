@@ -1,4 +1,4 @@
--- Where a link lies, a read shows what its target shows.
+-- If a link lies there, a read shows what its target shows.
 use Rattle.std.proofs.Common.{◌≡◌, ℕ, zero, suc, List, Option, None, Some, Result, Ok, Err, refl, sym, ap, ◌∙◌}
 use Rattle.cacache_core.specs.{declared.errors.Fault.{Fault}, PathNames.{Names}}
 use Rattle.cacache_core.specs.declared.errors.Fault.TheVariants as faults
@@ -9,7 +9,7 @@ use Rattle.cacache_value.specs.{Shows.{blob_bytes, link_end}, Value.{AtLink}}
 use Rattle.cacache_sequence.specs.Looks.{LinksShow}
 
 module _ (t : Tree) where
-  -- where names lead through so many links, they lead through one more
+  -- names that lead to an end through so many links at most do so through one more
   one_more : (most : ℕ) (names end : Names) → followed most t names ≡ Ok end → followed (suc most) t names ≡ Ok end
   unfolding followed
   one_more zero names end e = by (look t names) e
@@ -32,7 +32,7 @@ module _ (t : Tree) where
       by rec (Some (File bytes)) e = e
       by rec (Some (Link target)) e = next rec (standing t target) e
 
-  -- what stands at a path is at its place
+  -- what is at a path is at its place
   stands_at : (path : List ℕ) (names : Names) → standing t path ≡ Ok names → place t path ≡ Ok names
   unfolding standing
   stands_at path names = by (place t path)
@@ -45,7 +45,7 @@ module _ (t : Tree) where
       by (Ok found) e = ap Ok (here (look t found) found e)
       by (Err fault) e = absurd cc
 
-  -- where a link's target ends, its path leads
+  -- the target of a link leads to the link's end
   ends_so : (target : List ℕ) (end : Names) → link_end t target ≡ Ok end → leads t target ≡ Ok end
   unfolding link_end leads
   ends_so target end e = by (standing t target) refl e

@@ -33,7 +33,7 @@ opened_held t path held file = by (file_at t path faults.IsADirectory)
     by (Ok bytes) shows e = let is : file ≡ opened bytes = cc in ap (λ (f : PlainFile). f.bytes) is ∙ shows
     by (Err fault) shows e = absurd cc
 
--- what is so of the bytes that were read is so of these
+-- what holds of the bytes that were read holds of these
 read_held : (t : Tree) (path held : List ℕ) (P : List ℕ → Type 0) (moves : Moves) → shown t path ≡ Some held → AreAnswered t moves → EachAsks moves → ReadsTarget path P moves → P held
 read_held t path held P moves shows answered asks read =
     let w = read.3 in
@@ -93,7 +93,7 @@ module _ (cache : List ℕ) (p : Put) (path : List ℕ) where
     link_contents (inl h) a is = inl (ap (λ (x : List Deed). (after_deeds (home_of cache) x v).contents a) h.0)
     link_contents (inr h) a is = subst (Kept a (v.contents a)) (sym (first_last (inr h) h.0 h.1 h.3 h.4 a)) (put_content h.0 v h.2 a is)
 
-    -- the key's bucket has its entries, or the link's behind them
+    -- the key's bucket has its entries, or the link's entry after them
     link_entries : (key : List ℕ) → p.key ≡ Some key → CommitsAs (put_commit cache p) (λ names. PutLink names path) ds reply
         → ((list_of ((after_deeds (home_of cache) ds v).buckets (sha1 key)) ≡ list_of (v.buckets (sha1 key))) × IsNotOk reply)
         ⊎ (list_of ((after_deeds (home_of cache) ds v).buckets (sha1 key)) ≡ list_of (v.buckets (sha1 key)) ++ (insertion_of (put_commit cache p) key).entry ∷ [])
@@ -193,7 +193,7 @@ module _ (cache : List ℕ) (p : Put) (path : List ℕ) (old new : List LogItem)
         | inr found ↦ inr (there found.0 found.1, follows.contents (own_hash p) ∙ found.2)
       ]
 
--- what a link leaves whose deeds are those of its commit
+-- what a link leaves if its deeds are those of its commit
 module _ (cache : List ℕ) (p : Put) (path : List ℕ) (old new : List LogItem) (ds : List Deed) (r : Reply)
     (commits : CommitsAs (put_commit cache p) (λ names. PutLink names path) ds (Some r))
     (follows : Alike (value_of_tree (home_of cache) (tree_of new)) (after_deeds (home_of cache) ds (value_of_tree (home_of cache) (tree_of old))))
@@ -221,7 +221,7 @@ pub is_there : (path : List ℕ) (names : Names) (r : Result Names Fault) → r 
 is_there path names (Ok other) is = ap (λ b. b || false) (same_self other)
 is_there path names (Err fault) is = absurd cc
 
--- what a call leaves whose target shows these bytes
+-- what a call leaves if its target shows these bytes
 module _ (cache : List ℕ) (l : Link) (base : List ℕ) (number : ℕ) (moves : Moves) (r : Reply) (old new : List LogItem)
     (run : Runs (opening (record { cache = cache; base = base; number = number }) (commands.Link l)) moves r)
     (answers : CallIsAnswered (setup_to cache base (based base l.target)) (tree_of old) (record { command = commands.Link l; number = number; moves = moves; reply = r }))

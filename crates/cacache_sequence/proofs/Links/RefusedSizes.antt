@@ -1,4 +1,4 @@
--- The commit of a linker of which another size was said than its target's.
+-- The commit of a linker that expects another size than its target's.
 use Rattle.std.proofs.{Common.{◌≡◌, inl, inr, ◌==◌, ℕ, Bool, true, false, cond, List, [], ◌∷◌, ◌++◌, Option, None, Some, length, take, drop, refl, sym, ap, subst, ◌∙◌, arith, append_assoc, append-nil, take-append-drop, eqb-true}, lemmas.List.{length-take, nil_from_length}}
 use Rattle.cacache_core.specs.declared.{errors.{Error.TheVariants.{IntegrityError, IoError, OutOfMemory, SizeMismatch}, Fault.{Fault}, IntegrityFault.TheVariants.{Check}}, integrity.digest.Hash.{Hash}}
 use Rattle.cacache_core.specs.declared.errors.Fault.TheVariants as faults

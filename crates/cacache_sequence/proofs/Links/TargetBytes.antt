@@ -19,7 +19,7 @@ abbrev pub ReadOf : List ℕ → Moves → Type 0
 ReadOf held (m ∷ (step, answers.File file) ∷ moves) = (file.bytes ≡ Some held) × OnDisks moves × EachAsks moves
 ReadOf held moves = ⊥
 
--- what is so of the bytes that were read is so of these
+-- what holds of the bytes that were read holds of these
 pub held_of : (path held : List ℕ) (P : List ℕ → Type 0) (moves : Moves) → ReadOf held moves → ReadsTarget path P moves → P held
 held_of path held P moves good read =
     let w = read.3 in
@@ -111,7 +111,7 @@ module _ (cache path : List ℕ) (old new : List LogItem) (sound : IsCache cache
   size_errs (SerdeError cause message) h = absurd h
   size_errs (IntegrityError fault) h = absurd h
 
-  -- the log once the size was told
+  -- the log once the size was reported
   module _ (size : ℕ) where
     abbrev size_told : Moves
     size_told = (steps.Size path, answers.Length size) ∷ []

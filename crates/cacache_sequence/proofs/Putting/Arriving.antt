@@ -1,4 +1,4 @@
--- The bytes of a content stand where a copy of it went.
+-- The bytes of a content are at the path where a copy of it went.
 use Rattle.std.proofs.{Common.{◌≡◌, ◌⊎◌, inl, inr, ℕ, Bool, true, false, List, [], ◌∷◌, Option, None, Some, Result, Ok, Err, length, refl, sym, ap, subst, ◌∙◌, arith}, lemmas.List.Elements.{All-head}}
 use Rattle.sha1.specs.Sha1.{sha1}
 use Rattle.cacache_core.specs.{declared.{errors.{Error.{Error, TheVariants.{EntryNotFound, IntegrityError, IoError, OutOfMemory}}, Fault.{Fault}, IntegrityFault.TheVariants.{Check}}, integrity.digest.Hash.{Hash}}, Integrity.{IsHash, actual}, Meeting.{meets}, PathNames.{Names, home_of}}
@@ -91,7 +91,7 @@ no_copy q n moves run = elim (over_run (replies.Refused q) (replies.Copied n) mo
 -- ---- runs
 
 module _ (cache bytes to : List ℕ) (i : List Hash) (checked : Bool) (old : List LogItem) (sound : IsCache cache old) (has : HasContent cache i bytes old) (n : ℕ) where
-  -- the bytes stand there, and the count of a copy that isn't checked is theirs
+  -- the bytes are there, and the count of a copy that isn't checked is theirs
   abbrev Arrived : Tree → Type 0
   Arrived t = (shown t to ≡ Some bytes) × (checked ≡ false → n ≡ length bytes)
 
@@ -190,7 +190,7 @@ module _ (cache base key bytes to : List ℕ) (number : ℕ) (i : List Hash) (ch
 -- ---- calls
 
 module _ (cache base to : List ℕ) (source : Source) (checked : Bool) (n : ℕ) (old new : List LogItem) (k : Known cache base (copy_from source checked to) (replies.Copied n) old new) where
-  -- what it read, where it isn't out of memory
+  -- what it read, unless it is out of memory
   reads_of : ReadsValue (setup_at cache base) (copy_from source checked to) (turns_on (tree_of old) k.call.moves) (replies.Copied n)
   reads_of =
       let reads = subst (λ (x : Command). (k.call.reply ≡ replies.Refused OutOfMemory) ⊎ ReadsValue (setup_at cache base) x (turns_on (tree_of old) k.call.moves) (plain_reply k.call.reply)) k.command_is k.answers.reads in

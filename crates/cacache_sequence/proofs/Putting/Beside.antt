@@ -1,4 +1,4 @@
--- What a put leaves beside its key and its bytes.
+-- What a put leaves apart from its key and its bytes.
 use Rattle.std.proofs.{Common.{◌≡◌, ◌⊎◌, inl, inr, ℕ, Bool, true, false, cond, List, [], ◌∷◌, Option, None, Some, length, refl, sym, ap, subst, ◌∙◌, arith}, lemmas.List.Elements.{All-head}}
 use Rattle.sha1.specs.Sha1.{sha1}
 use Rattle.cacache_core.specs.{declared.integrity.digest.Hash.{Hash}, Integrity.{IsHash, IsIntegrity, Meets, integrity_under}, PathNames.{home_of}, Paths.{content_names}, Texts.{integrity_text}}

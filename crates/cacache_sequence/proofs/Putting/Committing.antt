@@ -23,7 +23,7 @@ deeds_through (turn ∷ xs) ys = ap (λ l. deeds_of turn.move ++ l) (deeds_throu
 pub deeds_later : (xs ys : List Turn) → deeds xs ≡ [] → deeds (xs ++ ys) ≡ deeds ys
 deeds_later xs ys none = deeds_through xs ys ∙ ap (λ l. l ++ deeds ys) none
 
--- so it is with faults
+-- the same holds of faults
 fault_later : (xs ys : Moves) (fault : Fault) → (Faulted xs fault → ⊥) → Faulted (xs ++ ys) fault → Faulted ys fault
 fault_later [] ys fault none h = h
 fault_later (m ∷ xs) ys fault none (inl h) = absurd (none (inl h))

@@ -2,7 +2,7 @@
 use Rattle.std.{proofs.Common.{◌≡◌, ℕ, ◌<◌, ◌^◌, List, Option, None}, specs.Prelude.{IsUtf8}}
 use Rattle.cacache_entry.{specs.{Entry.{Entry}, FittingEntries.{IsUtf8IfAny, IsEntry, cause_of}, EntryLaws.{bare_entry}}, proofs.EntryCauses.{no_cause_is_fit, bare_entries_fit}}
 
--- what is so of an entry that can be written
+-- what holds of an entry that can be written
 pub record Written (e : Entry) : Type 0 where
   pub formed : IsEntry e
   pub no_cause : cause_of e ≡ None

@@ -68,7 +68,7 @@ at_address v w None h = refl
 at_address v w (Some a) h = h a
 
 module _ (cache : List ℕ) (old new : List LogItem) where
-  -- a content that is the same where it lies
+  -- a content that stays the same at its place
   content_kept : (i : List Hash) (bytes : List ℕ) → lies_under cache i new ≡ lies_under cache i old → HasContent cache i bytes old → HasContent cache i bytes new
   content_kept i bytes same h = record { content = same ∙ h.content; formed = h.formed; meets = h.meets }
 
@@ -91,7 +91,7 @@ module _ (cache : List ℕ) (old new : List LogItem) where
         content = λ i bytes has. content_kept i bytes (lies i) has;
       }
 
-  -- where contents and entries are the same, all that was known is so still
+  -- if contents and entries are the same, all that was known still holds
   pub stays_known : Alike (value_of_tree (home_of cache) (tree_of new)) (value_of_tree (home_of cache) (tree_of old)) → StaysKnown cache old new
   stays_known alike =
       let lies = lies_kept (λ a. alike.contents a) in

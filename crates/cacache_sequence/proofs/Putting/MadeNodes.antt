@@ -1,4 +1,4 @@
--- What steps that are done make: folders keep what stands, and a file can be put into them.
+-- What steps that are done make: new folders keep what is there, and a file can be put into them.
 use Rattle.std.proofs.Common.{◌≡◌, ◌==◌, ◌-◌, ℕ, Bool, true, false, cond, List, [], ◌∷◌, ◌++◌, Option, None, Some, Result, Ok, Err, length, take, refl, sym, ap, subst, ◌∙◌, arith, append_assoc}
 use Rattle.cacache_core.specs.{declared.errors.Fault.{Fault}, PathNames.{Names, names_of}}
 use Rattle.cacache_store.specs.declared.store.plain.PlainTemp.{PlainTemp}
@@ -19,13 +19,13 @@ stays_at t p q rest None count false node is e h =
     h (put t p Folder) (count - 1) (look-put t p Folder q ∙ ap (λ b. cond b (Some Folder) (look t q)) apart ∙ e)
 stays_at t p q rest (Some other) count b node is e h = h t count e
 
--- what stands stays
+-- what is there stays
 pub stays : (t : Tree) (above rest q : Names) (count : ℕ) (node : Node) → look t q ≡ Some node → look (make_some t above rest count) q ≡ Some node
 stays t above [] q count node e = e
 stays t above (name ∷ rest) q count node e =
     stays_at t (above ++ name ∷ []) q rest (look t (above ++ name ∷ [])) count (count == 0) node refl e (λ new count e. stays new (above ++ name ∷ []) rest q count node e)
 
--- a path leads into a folder that stands
+-- a path leads into a folder that is there
 pub way_into : (t : Tree) (p rest : Names) (name : List ℕ) → Rooted t → look t (p ++ rest) ≡ Some Folder → way_fault t p (rest ++ name ∷ []) ≡ None
 way_into t p [] name rooted e = refl
 way_into t p (a ∷ []) name rooted e = rw e refl
@@ -63,7 +63,7 @@ made_place t new p path names name rooted after made named =
 
 -- ---- a temporary file
 
--- a temporary file stands, and its bytes are known
+-- a temporary file is there, and its bytes are known
 pub record Stands (t : Tree) (file : PlainTemp) : Type 0 where
   pub names : Names
   pub bytes : List ℕ
@@ -107,7 +107,7 @@ unfolding apply
 wrote_so t file next rest n s e =
     grown_stands t file next rest (taken None rest) n s (ap (grown file rest (taken None rest)) (sym s.known_to_be) ∙ e)
 
--- it stands on while folders are made
+-- it is still there after folders are made
 pub still_stands : (t new : Tree) (p : List ℕ) (file : PlainTemp) → FoldersMade t new p → Stands t file → Stands new file
 still_stands t new p file made s = record {
   names = s.names;

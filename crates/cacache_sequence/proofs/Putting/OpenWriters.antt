@@ -102,7 +102,7 @@ module _ (cache : List ℕ) (number : ℕ) (old new : List LogItem) (sound : IsC
         gains_grow old new moves gains,
       )
 
-  -- the same where it ends with an error
+  -- the same if it ends with an error
   abbrev KeptWith : Error → Type 0
   KeptWith e = Kept × IsExcused e old new
 

@@ -47,7 +47,7 @@ has_place cache p names e =
 
 -- ---- the states of a put
 
--- the temporary file stands on its way to its place, and nothing is asked
+-- the temporary file is there on its way to its place, and nothing is asked
 abbrev Ready : Tree → State → Type 0
 Ready t (doing (make_folder p) (creating number c rest)) = HasPlace c
 Ready t (doing (make_folder p) (syncing c file)) = (p ≡ content_folder c.cache c.computed) × HasPlace c × Stands t file
@@ -103,7 +103,7 @@ module _ (t : Tree) where
   appends i n = cond_leads (Ready t) (nat_le (length (bucket_line i)) n) (recorded i) (fails faults.ShortAppend) (λ _. records (Ready t) (λ p s h. (h, h)) i tt) (λ _. tt)
 
 module _ (home : Option Names) (t : Tree) (rooted : Rooted t) (is_placed : Placed home t) where
-  -- a state that is ready is so after the disk's answer to this step
+  -- a state that is ready is still ready after the disk's answer to this step
   abbrev Goes : State → PlainStep → Type 0
   Goes s step = Ready (apply t step Plain).1 (after s (apply t step Plain).0)
 
@@ -124,7 +124,7 @@ module _ (home : Option Names) (t : Tree) (rooted : Rooted t) (is_placed : Place
       go_on_leads (Ready (apply t (steps.MakeDirs p) Plain).1) (done_in (apply t (steps.MakeDirs p) Plain).0) fails (λ _. next) tt (λ fault. tt)
       (λ u e. leads new (folder_made c file p ready.0 ready.1 ready.2 (made_so t p (done_is (apply t (steps.MakeDirs p) Plain).0 u e))))
 
-  -- a sync leaves the tree, on which the state behind it is ready
+  -- a sync leaves the tree, and the state after it is ready on that
   syncs : (errand : Errand) (s : State) → Ready t s → ((most : Option ℕ) → Ready (plain t (errand_step errand) most).1 s) → Goes (doing errand s) (errand_step errand)
   syncs errand s ready left =
       go_on_leads (Ready (apply t (errand_step errand) Plain).1) (done_in (apply t (errand_step errand) Plain).0) fails (λ _. s) tt (λ fault. tt)

@@ -18,7 +18,7 @@ use Rattle.cacache_sequence.proofs.{Putting.{Beside.{later_contents, put_keeps, 
 -- ---- values
 
 module _ (cache : List ℕ) (p : Put) (v : Value) (ds : List Deed) (reply : Option Reply) where
-  -- the key's bucket has its entries, or the put's behind them
+  -- the key's bucket has its entries, or the put's entry after them
   module _ (key : List ℕ) (keyed : p.key ≡ Some key) where
     put_entries : CommitsAs (put_commit cache p) (λ names. PutBytes names p.data) ds reply
         → ((list_of ((after_deeds (home_of cache) ds v).buckets (sha1 key)) ≡ list_of (v.buckets (sha1 key))) × IsNotOk reply)
@@ -70,7 +70,7 @@ given_formed : (p : Put) (o : Option (List Hash)) → IfSome o IsIntegrity → I
 given_formed p None h = own_formed p.options.algorithm p.data
 given_formed p (Some i) h = h
 
--- an entry behind the others is what its key leads to
+-- a key leads to the entry that comes after its others
 pub led_by : (cache : List ℕ) (p : Put) → ExpectsIntegrity p → (old new : List LogItem) (key : List ℕ)
     → entries_on (home_of cache) (tree_of new) key ≡ entries_on (home_of cache) (tree_of old) key ++ (insertion_of (put_commit cache p) key).entry ∷ []
     → found_under cache key new ≡ Some (entry_of_put cache p key)

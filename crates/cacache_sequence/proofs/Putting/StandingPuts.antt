@@ -1,4 +1,4 @@
--- What a put leaves of a store that stands. The laws of calls on a cache ask for well-formed entries, which what a loss left needn't have.
+-- What a put leaves if each thing is where it may be, even with ill-formed entries, which a loss may leave.
 use Rattle.std.proofs.{Common.{◌≡◌, ◌⊎◌, inl, inr, ℕ, List, [], ◌∷◌, ◌++◌, Option, None, Some, Result, Ok, Err, map, refl, sym, ap, subst, ◌∙◌, append-nil}, lemmas.List.Elements.{All-nil}}
 use Rattle.std.specs.Prelude.{IfOk}
 use Rattle.cacache_core.specs.{declared.{errors.{Error.{Error}, Fault.{Fault}}, integrity.digest.Hash.{Hash}}, PathNames.{Names, names_of, home_of}}
@@ -18,7 +18,7 @@ use Rattle.cacache_history.proofs.{Contents.{Carrying.{Carries, Makes, Own, carr
 use Rattle.cacache_sequence.specs.{Beside.{FitsEntry, own_integrity}, CallErrors.{IsPlainPut}, Caches.{Called, IsExcused, setup_at}, Puts.{ExpectsIntegrity, HasPut}, Sequence.{Alike, AreAnswered, after_deeds, plain_moves, tree_on, turns_on}, Standing.{IsStanding, PutStands, StandingWrites}}
 use Rattle.cacache_sequence.proofs.{Putting.{Beside.{put_keeps}, Persisting.{puts_find_nothing}, Puts.{has_or_found, leads, may_lead}}, Calls.{CallErrors.{calls_fail_only}, InParts.{logs_lead}, Logs.{some_same}, Sequence.{moves_after, moves_follow, turns_made}}, Readings.Known.{excused_by}}
 
--- ---- turns of a cache whose text names no folder: whatever stands on the disk, it holds no entry
+-- ---- turns of a cache that names no folder: whatever is on the disk, it holds no entry
 
 abbrev nowhere : Setup
 nowhere = setup_at (0 ∷ []) []
@@ -52,7 +52,7 @@ module _ (s : Setup) (apart : LieApart (home s) s.outside) (n : ℕ) (command : 
   abbrev own : Own
   own = own_of (call_site s n) command
 
-  -- what its moves are, and that they leave things where they may stand
+  -- what its moves are, and that they leave things where they may be
   record Went (t : Tree) (moves : Moves) : Type 0 where
     trace : IsTrace (home s) t (plain_moves moves)
     hold : TurnsHold nowhere (turns_on t moves)
@@ -159,7 +159,7 @@ module _ (cache : List ℕ) (p : Put) (r : Reply) (old new : List LogItem) (fits
       subst (λ (x : Tree). Alike (value_of_tree (home_of cache) x) (after_deeds (home_of cache) ds (value_of_tree (home_of cache) t))) (sym led)
       (moves_follow s tt t moves (ap (value_of_tree (home_of cache)) (sym (moves_after t moves)) ∙ traces_act (home_of cache) t (plain_moves moves) standing.placed goes.trace))
 
-  -- where it stored
+  -- if it stored
   has_put : (i : List Hash) → r ≡ replies.Stored i → HasPut cache p i new
   has_put i is =
       let ok : IsNotOk (Some r) → ⊥ = λ no. subst (λ (x : Reply). IsNotOk (Some x)) is no in
@@ -172,7 +172,7 @@ module _ (cache : List ℕ) (p : Put) (r : Reply) (old new : List LogItem) (fits
         ];
       }
 
-  -- where it is a plain one, each error has a cause
+  -- if it is a plain one, each error has a cause
   excused : (key : List ℕ) (e : Error) → IsPlainPut cache key p → r ≡ replies.Refused e → IsExcused e old new
   excused key e plain is =
       let ran : Runs (opening site (commands.Put p)) moves (replies.Refused e) = subst (Runs (opening site (commands.Put p)) moves) is c.ran.1 in

@@ -77,7 +77,7 @@ module _ (s : Setup) where
         ∙ ap (λ ds. list_of ((after_deeds (home s) ds (value_of_tree (home s) t)).buckets (sha1 i.entry.key))) e.2
         ∙ adds_entry i e.0 (value_of_tree (home s) t) here e.1
 
-    -- a put that is done, where a content that it finds has its bytes
+    -- a put that is done, if a content that it finds has its bytes
     pub stores : (p : Put) (key : List ℕ) (r : Reply)
         → ((path : List ℕ) (more : List Deed) → ds ≡ finds path ∷ more → path ≡ content_path s.cache (own_hash p ∷ []) → (value_of_tree (home s) t).contents (own_hash p) ≡ Some (InFile p.data))
         → (IsNotOk (Some r) → ⊥) → CommitsAs (put_commit s.cache p) (λ names. PutBytes names p.data) ds (Some r) → p.key ≡ Some key → HasStored s t new p key

@@ -1,4 +1,4 @@
--- A path shows the file that was written where it leads.
+-- A path shows the file that was written at its end.
 use Rattle.std.proofs.{Common.{◌≡◌, ℕ, zero, suc, Bool, true, false, cond, List, [], ◌∷◌, ◌++◌, Option, None, Some, Result, Ok, Err, length, take, refl, sym, ap, subst, ◌∙◌, arith}, lemmas.List.{take_all}}
 use Rattle.cacache_core.specs.{declared.errors.Fault.{Fault}, PathNames.{Names, names_of}}
 use Rattle.cacache_core.specs.declared.errors.Fault.TheVariants as faults
@@ -8,7 +8,7 @@ use Rattle.cacache_disk.specs.{declared.{luck.Luck.TheVariants.{Plain}, node.Nod
 use Rattle.cacache_disk.proofs.{Maps.{same_path-true}, PutNodes.{look-put}, Roots.{same_self}}
 use Rattle.cacache_memory.specs.Replay.{bytes_told, shown}
 
--- a place where a file can be written: no folder and no link stands there
+-- a place where a file can be written: no folder and no link is there
 abbrev Takes : Option Node → Type 0
 Takes None = Unit {0}
 Takes (Some (File bytes)) = Unit {0}
@@ -62,7 +62,7 @@ module _ (t : Tree) (end : Names) (bytes : List ℕ) (takes : Takes (look t end)
 
   -- ---- links
 
-  -- something stands where something stood
+  -- something is still there if something was
   stands_so : (names found : Names) → where_there (look t names) names ≡ Ok found → where_there (look new names) names ≡ Ok found
   stands_so names found e =
       ap (λ o. where_there o names) (look-put t end (File bytes) names) ∙ by (same_path names end) (look t names) e
@@ -85,7 +85,7 @@ module _ (t : Tree) (end : Names) (bytes : List ℕ) (takes : Takes (look t end)
   at_end : (names : Names) (go : List ℕ → Result Names Fault) → names ≡ end → on_link (look new names) names go ≡ Ok end
   at_end names go same = ap (λ o. on_link o names go) (ap (look new) same ∙ written) ∙ ap Ok same
 
-  -- by what stood there, where links lead on
+  -- where links lead on, by what was there
   link_so : (names : Names) (go next : List ℕ → Result Names Fault) → ((target : List ℕ) → go target ≡ Ok end → next target ≡ Ok end) → (o : Option Node) → look t names ≡ o → on_link o names go ≡ Ok end
       → on_link (look new names) names next ≡ Ok end
   link_so names go next each None is e = at_end names next cc

@@ -30,7 +30,7 @@ module _ (s : Setup) (a : Hash) (is : IsHash a) (more : List Deed) where
   no_deeds (MakeFolders names count) v rest e = (e, refl)
   no_deeds (DropFolder names) v rest e = (e, refl)
 
-  -- a question that is answered yes, and else what comes later
+  -- a question that is answered yes, or otherwise what comes later
   asked : (t : Tree) (step : PlainStep) (answer : PlainAnswer) (rest : List Deed) → finds_in step answer ++ rest ≡ finds (content_path s.cache (a ∷ [])) ∷ more
       → TurnHolds s (turn_of t Plain (step, answer))
       → (rest ≡ finds (content_path s.cache (a ∷ [])) ∷ more → IsThere ((value_of_tree (home s) t).contents a))

@@ -1,4 +1,4 @@
--- What reads answer in any cache, be the content there or not, whole or damaged.
+-- What reads answer in any cache, whether the content is there or not, whole or damaged.
 use Rattle.std.proofs.Common.{◌≡◌, ℕ, Bool, true, false, cond, List, [], Option, None, Some, Result, Ok, Err, refl, sym, ap, subst, ◌∙◌}
 use Rattle.cacache_core.specs.{declared.{errors.{Error.TheVariants.{EntryNotFound, SizeMismatch, IoError, SerdeError, IntegrityError, OutOfMemory}, Fault.{Fault}, IntegrityFault.TheVariants.{Check}}, integrity.digest.Hash.{Hash}}, Integrity.{Meets, actual}, Meeting.{meets}, PathNames.{home_of}}
 use Rattle.cacache_core.proofs.Meeting.{meets_finds}

@@ -56,7 +56,7 @@ module _ (cache : List ℕ) (command : Command) (r : Reply) (old new : List LogI
 pub caches_last : CachesLast
 caches_last cache command r old new c may named sound = (known cache command r old new c may named sound).sound
 
--- a failure has its cause among these steps, where the call has no fault of its own
+-- a failure has its cause among these steps, if the call has no fault of its own
 pub excused_by : (own : Fault → Type 0) (old new : List LogItem) (moves : Moves) → ((fault : Fault) → own fault → ⊥) → new ≡ old ++ map (λ m. Made m.0 m.1) moves → (e : Error)
     → HasCause own moves (plain_reply (replies.Refused e)) → FailsOnly (replies.Refused e) → IsExcused e old new
 excused_by own old new moves none gained OutOfMemory cause h = inl refl

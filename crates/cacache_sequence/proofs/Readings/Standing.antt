@@ -1,4 +1,4 @@
--- Reads and lookups of a store that stands, whatever the bytes of its contents and buckets.
+-- Reads and lookups if each thing is where it may be, whatever the bytes of contents and buckets.
 use Rattle.std.proofs.{Common.{◌≡◌, ◌⊎◌, inl, inr, ℕ, Bool, true, false, cond, List, [], ◌∷◌, ◌++◌, Option, Some, Result, Ok, Err, map, refl, sym, ap, subst, ◌∙◌, arith}, lemmas.List.Elements.{All-head}}
 use Rattle.sha1.specs.Sha1.{sha1}
 use Rattle.cacache_core.specs.{declared.{errors.{Error.TheVariants.{IntegrityError, IoError, OutOfMemory}, IntegrityFault.TheVariants.{Check}, Fault.{Fault}}, integrity.digest.Hash.{Hash}}, Integrity.{IsHash, IsIntegrity, Meets, actual, address}, Meeting.{meets}, PathNames.{home_of}}
@@ -40,7 +40,7 @@ found_shown key bucket (answers.Failed fault) is = inr (refusals.Fault fault, re
 found_shown key bucket (answers.NoMemory step) is = inr (refusals.Memory, refl)
 found_shown key bucket a is = inr (refusals.Fault faults.Device, refl)
 
--- so it is of a content's bytes
+-- the same holds of a content's bytes
 bytes_shown : (bytes : List ℕ) (content : Result (List ℕ) Fault) (a : PlainAnswer) → content ≡ Ok bytes → ShowsContent content a
     → (bytes_in a ≡ Ok bytes) ⊎ ((refusal : Refusal) × (bytes_in a ≡ Err refusal))
 bytes_shown bytes content (answers.Bytes b) held is =
@@ -64,7 +64,7 @@ refused_reply : (key : List ℕ) (b : Result (List Entry) Refusal) (refusal : Re
 refused_reply key (Ok entries) refusal e = absurd cc
 refused_reply key (Err other) refusal e = let same : other ≡ refusal = cc in ap refusal_reply same
 
--- ---- a call on a store that stands
+-- ---- a call if each thing is where it may be
 
 module _ (cache : List ℕ) (command : Command) (r : Reply) (old new : List LogItem) (none : (fault : Fault) → own_of command fault → ⊥) (standing : IsStanding cache old) (c : Called cache command r old new) where
   abbrev site : Site
@@ -98,7 +98,7 @@ module _ (cache : List ℕ) (command : Command) (r : Reply) (old new : List LogI
         subst (λ x. AreAnswered x more) (reading_keeps t path) both.1,
       )
 
-  -- a step that read the content where these bytes lie
+  -- a step that read the content at the place of these bytes
   content_answer : (i : List Hash) (bytes : List ℕ) (a : PlainAnswer) → IsIntegrity i → blob_bytes t (blob_at held (address i)) ≡ Ok bytes → a ≡ (apply t (steps.ReadAll (content_path cache i)) Plain).0
       → (bytes_in a ≡ Ok bytes) ⊎ ((refusal : Refusal) × (bytes_in a ≡ Err refusal))
   content_answer [] bytes a formed lies is = absurd (omega (arith, formed.nonempty))

@@ -19,7 +19,7 @@ TaskGone t (Make (RemoveFile p)) = Gone t p
 TaskGone t (Make (RemoveFolder p)) = Gone t p
 TaskGone t (Stumble fault path) = ⊥
 
--- so it is of each task
+-- the same holds of each task
 abbrev pub TasksGone : Tree → List Task → Type 0
 TasksGone t [] = Unit {0}
 TasksGone t (task ∷ todo) = TaskGone t task × TasksGone t todo
@@ -84,7 +84,7 @@ tasks_back : (t : Tree) (xs ys : List Task) → TasksGone t (xs ++ ys) → Tasks
 tasks_back t [] ys h = h
 tasks_back t (x ∷ xs) ys h = tasks_back t xs ys h.1
 
--- after an answer that is Ok the walk goes on, and else it isn't done
+-- after an answer that is Ok the walk goes on; otherwise it isn't done
 done_so : (w : Walk) (clears : w.clears ≡ true) (todo : List Task) (moves : Moves) (a : PlainAnswer) → Runs (go_on (done_in a) (miss w (walk_on todo)) (λ _. walk_on todo w)) moves Done
     → (a ≡ answers.Done) × Runs (walk_on todo w) moves Done
 done_so w clears todo moves answers.Done run = (refl, run)

@@ -11,7 +11,7 @@ use Rattle.cacache_disk.proofs.{FoundNodes.{removable_ok, emptied_ok}, PutNodes.
 abbrev pub Shrinks : Tree → Tree → Type 0
 Shrinks t new = (names : Names) → look t names ≡ None → look new names ≡ None
 
--- nothing is where the path leads
+-- nothing is at the end of the path
 abbrev pub Gone : Tree → List ℕ → Type 0
 Gone t p = (names : Names) → names_of p ≡ Ok names → look t names ≡ None
 
@@ -25,7 +25,7 @@ cut_shrinks t p names e = look-cut t p names ∙ by (same_path names p)
 cut_self : (t : Tree) (p : Names) → look (cut t p) p ≡ None
 cut_self t p = look-cut t p p ∙ ap (λ b. cond b None (look t p)) (same_self p)
 
--- what a step that removes leaves: nothing comes, and where it is done its place is gone
+-- what a step that removes leaves: nothing comes, and if it is done its place is gone
 pub record Removes (t new : Tree) (p : List ℕ) (a : PlainAnswer) : Type 0 where
   pub shrinks : Shrinks t new
   pub gone : a ≡ answers.Done → Gone new p

@@ -79,7 +79,7 @@ module _ (path : List ℕ) (next : State) (t : Tree) (r : Reply) where
 
 -- ---- what a removal does to a value
 
--- deeds behind those of a removal
+-- deeds after those of a removal
 pub then_deeds : (folder : Option Names) (r : Result Names Fault) (more : List Deed) (v : Value)
     → after_deeds folder ((deeds_of_act (act_at r Drop) ++ []) ++ more) v ≡ after_deeds folder more (after_deeds folder (deeds_of_act (act_at r Drop)) v)
 then_deeds folder (Ok names) more v = refl
@@ -274,7 +274,7 @@ module _ (cache base : List ℕ) (b : Hash) (bs : List Hash) (formed : IsIntegri
       let follows = follows_of cache base (commands.RemoveHash (b ∷ bs)) r old new k in
       follows.contents b ∙ ap (λ (x : Value). x.contents b) (hash_last.done e) ∙ content_gone (home_of cache) place (tree_of old) b place_below
 
--- the reply of a removal, by what holds where it is done
+-- the reply of a removal, by what holds if it is done
 abbrev pub Says : Type 0 → Reply → List LogItem → List LogItem → Type 0
 Says X replies.Done old new = X
 Says X (replies.Refused e) old new = IsExcused e old new

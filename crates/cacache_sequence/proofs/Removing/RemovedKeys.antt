@@ -26,12 +26,12 @@ abbrev LedTo : Option Found → Hash → Type 0
 LedTo o a = (f : Found) × (o ≡ Some f) × (address f.integrity ≡ Some a)
 
 module _ (cache key : List ℕ) (o : Option Found) (v : Value) where
-  -- buckets stay, and contents but the one that was led to
+  -- buckets stay, and contents except the one that was led to
   record ContentCut (w : Value) : Type 0 where
     pub contents : (a : Hash) → IsHash a → (w.contents a ≡ v.contents a) ⊎ (LedTo o a × (w.contents a ≡ None))
     pub buckets : (d : List ℕ) → w.buckets d ≡ v.buckets d
 
-  -- so do buckets but the key's
+  -- so do buckets except the key's
   record KeyCut (w : Value) : Type 0 where
     pub contents : (a : Hash) → IsHash a → (w.contents a ≡ v.contents a) ⊎ (LedTo o a × (w.contents a ≡ None))
     pub buckets : (other : List ℕ) → (w.buckets (sha1 other) ≡ v.buckets (sha1 other)) ⊎ ((sha1 other ≡ sha1 key) × (w.buckets (sha1 other) ≡ None))
@@ -76,7 +76,7 @@ module _ (cache key : List ℕ) (o : Option Found) (v : Value) where
     ends = inr refused;
   }
 
-  -- the bucket's removal, behind that of the content
+  -- the bucket's removal, after that of the content
   module _ (none : home_of cache ≡ None → v.buckets (sha1 key) ≡ None) (x : Value) (h : ContentCut x) where
     bucket_went : (t : Tree) (moves : Moves) (r : Reply) → LastRemoval bucket_place t moves r (home_of cache) x → Went (after_deeds (home_of cache) (deeds (turns_on t moves)) x) r
     bucket_went t moves r last = record {
@@ -128,7 +128,7 @@ module _ (cache key : List ℕ) (v : Value) (none : home_of cache ≡ None → v
             (last_removal (bucket_path cache key) h.1 h.0 r (home_of cache) x (removal (bucket_path cache key) (over replies.Done) h.1 r h.0 h.3)))
       ]
 
--- the deeds behind a read are all
+-- a read adds no deed to those after it
 behind_read : (t : Tree) (path : List ℕ) (step : PlainStep) (a : PlainAnswer) (more : Moves) → step ≡ steps.ReadAll path → deeds (turns_on t ((step, a) ∷ more)) ≡ deeds (turns_on t more)
 behind_read t path step a more is =
     ap (λ x. (deeds_of_act (act_of x Plain a) ++ finds_in x a) ++ deeds (turns_on (apply t x Plain).1 more)) is

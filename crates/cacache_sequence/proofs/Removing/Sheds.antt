@@ -1,4 +1,4 @@
--- Trees without what stood at some paths and below them.
+-- Trees without what was at some paths and below them.
 use Rattle.std.proofs.{Common.{◌≡◌, ◌⊎◌, inl, inr, ℕ, Bool, true, false, cond, List, [], ◌∷◌, ◌++◌, Option, None, refl, sym, ap, ap₂, ◌∙◌, append_assoc, append-nil}, lemmas.Slice.Eq.{bytes_eq-Decides}}
 use Rattle.std.specs.Prelude.{bytes_eq}
 use Rattle.cacache_core.specs.PathNames.{Names}
@@ -40,14 +40,14 @@ pub under_other : (p rest : Names) (n m : List ℕ) → (n ≡ m → ⊥) → un
 under_other [] rest n m apart = rw (not_same n m (bytes_eq n m) refl apart) refl
 under_other (k ∷ p) rest n m apart = rw (same_name k) (under_other p rest n m apart)
 
--- nor is the folder itself
+-- the folder itself isn't either
 pub under_upper : (p : Names) (n : List ℕ) → under (p ++ n ∷ []) p ≡ false
 under_upper [] n = refl
 under_upper (k ∷ p) n = rw (same_name k) (under_upper p n)
 
 -- ---- trees without it
 
--- the new tree is the old one without what stood at the path and below it
+-- the new tree is the old one without what was at the path and below it
 abbrev pub Shed : Tree → Tree → Names → Type 0
 Shed t new p = (q : Names) → look new q ≡ cond (under p q) None (look t q)
 
@@ -69,7 +69,7 @@ module _ (t : Tree) (p : Names) (rooted : Rooted t) (none : (n : List ℕ) → l
       let wrong : false ≡ true = sym below ∙ self in absurd cc
   shed_at q false false below same = look-cut t p q ∙ ap (λ b. cond b None (look t q)) same
 
-  -- where nothing stands in it, cutting it sheds it
+  -- if nothing is in it, cutting it sheds it
   pub cut_sheds : Shed t (cut t p) p
   cut_sheds q = shed_at q (under p q) (same_path q p) refl refl
 

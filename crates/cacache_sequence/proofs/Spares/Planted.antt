@@ -6,7 +6,7 @@ use Rattle.cacache_disk.proofs.{FoundNodes.{no_folder_at, and_then_ok, or_fault_
 use Rattle.cacache_value.{specs.Kinds.{PathKind, Bucket, Elsewhere, kind_beside, path_kind, IsFor}, proofs.{KindsApart.{further, inner_used}, FoundPaths.{of_names}}}
 use Rattle.cacache_history.{specs.Buckets.{BucketsHaveKeys}, proofs.Entries.Keyed.{put_keyed, make_at}}
 
--- ---- above a path apart from the cache no bucket may stand
+-- ---- above a path apart from the cache no bucket may be
 
 no_bucket_at : (b : Bool) (old new : PathKind) → (old ≡ Elsewhere → new ≡ Bucket → ⊥) → cond b old Elsewhere ≡ Elsewhere → cond b new Elsewhere ≡ Bucket → ⊥
 no_bucket_at true old new h e is = h e is

@@ -26,7 +26,7 @@ calls_trace cache command r old new c may named sound =
     (run_holds s tt (tree_of old) c.ran.0 r (new_call s c.number command) (holds_alone s (tree_of old) sound) (keeps_alone s (tree_of old) sound) (begins_hold s c.number command may named) run
     (logs_lead old new c.ran.0 c.ran.2 c.logged).0).trace
 
--- where none of the moves makes the file, it stays unused
+-- if none of the moves makes the file, it stays unused
 stays_none : (home : Option Names) (number : ℕ) (t : Tree) (moves : Moves) → Placed home t → IsTrace home t (plain_moves moves)
     → ((folder : Names) → home ≡ Some folder → NoneCreates (folder ++ temp_names number) moves) → node_below home t (temp_names number) ≡ None → node_below home (tree_on t moves) (temp_names number) ≡ None
 stays_none None number t moves placed trace never e = refl

@@ -1,4 +1,4 @@
--- What calls answer whose steps all go well.
+-- What calls answer if all of their steps succeed.
 use Rattle.std.proofs.{Common.{◌≡◌, inl, inr, ℕ, List, [], ◌∷◌, ◌++◌, Option, None, Some, Ok, refl, sym, ap, subst, ◌∙◌, arith}, lemmas.List.Elements.{All-head}}
 use Rattle.sha1.specs.Sha1.{sha1}
 use Rattle.cacache_core.specs.{declared.{errors.Error.TheVariants.{EntryNotFound}, integrity.digest.Hash.{Hash}}, Integrity.{IsHash, IsIntegrity, address}, PathNames.{Names, names_of, home_of}, Paths.{temp_names}}
@@ -25,7 +25,7 @@ home_ground cache log home is standing = record {
 pub ground : (cache : List ℕ) (log : List LogItem) (home : Names) → names_of cache ≡ Ok home → IsStanding cache log → Ground home (tree_of log)
 ground cache log home is = home_ground cache log home (home_is cache home is)
 
--- what is so with the folder's names is so with the cache's
+-- what holds with the folder's names holds with the cache's
 pub back : (cache : List ℕ) (home : Names) → names_of cache ≡ Ok home → (P : Option Names → Type 0) → P (Some home) → P (home_of cache)
 back cache home is P p = subst P (sym (home_is cache home is)) p
 
@@ -94,7 +94,7 @@ module _ (cache key : List ℕ) (home : Names) (is : home_of cache ≡ Some home
   by_found (Some f) has =
       subst (λ h. EndsSo (λ _ x. x ≡ read_on h t f.integrity) t (reading (record { cache = cache; integrity = f.integrity }))) (sym is) (reads_at cache home is t g f.integrity has)
 
--- a read by key of what stands, where what the key leads to has an integrity
+-- a read by key of what is there, if what the key leads to has an integrity
 pub standing_key_reads : (cache key : List ℕ) (home : Names) (r : Reply) (old new : List LogItem) → home_of cache ≡ Some home → IsStanding cache old → HasIntegrity (found_under cache key old)
     → Called cache (commands.Get key) r old new → OrMemory (r ≡ get_on (setup_at cache []) (tree_of old) key (found_under cache key old)) r
 standing_key_reads cache key home r old new is standing formed c =

@@ -1,4 +1,4 @@
--- A clearing whose steps all go well.
+-- A clearing in which all steps succeed.
 use Rattle.std.proofs.{Common.{◌≡◌, ◌⊎◌, inl, inr, ◌==◌, ◌<◌, ◌+◌, ◌-◌, ℕ, zero, suc, Bool, true, false, cond, nat_le, nat_lt, List, [], ◌∷◌, ◌++◌, Option, None, Some, Ok, length, refl, sym, ap, subst, ◌∙◌, arith, append_assoc, append-nil, length-append}, lemmas.Bool.{ltb-true, ne_eqb}}
 use Rattle.std.specs.Prelude.{IfSome, bytes_eq}
 use Rattle.cacache_core.specs.{declared.errors.Error.TheVariants.{IoError}, PathNames.{Names, names_of, IsProperName}, Paths.{content_area, index_area, temp_area, join}}
@@ -29,7 +29,7 @@ folder_goes : (t : Tree) (p : List ℕ) (names : Names) → Rooted t → names_o
 unfolding apply emptied folder
 folder_goes t p names rooted is there inner none = rw (place_at t p names Folder rooted is there, there, inner, none) refl
 
--- nothing stands below what is no folder
+-- nothing is below a node that is no folder
 leaf_bare : (t : Tree) (names : Names) (node : Node) → (node ≡ Folder → ⊥) → Rooted t → look t names ≡ Some node → (name : List ℕ) → look t (names ++ name ∷ []) ≡ None
 leaf_bare t names node leaf rooted there name = at (look t (names ++ name ∷ [])) refl
   where
@@ -39,7 +39,7 @@ leaf_bare t names node leaf rooted there name = at (look t (names ++ name ∷ []
         let upper : Some node ≡ Some Folder = sym there ∙ upper_folder t names [] name child rooted e in
         let same : node ≡ Folder = cc in absurd (leaf same)
 
--- ---- what is told of names
+-- ---- what a listing says of names
 
 none_listed : (t : Tree) (p : Names) (ns : List Name) → Each (Told t p) ns → ((name : List ℕ) → look t (p ++ name ∷ []) ≡ None) → ns ≡ []
 none_listed t p [] told none = refl

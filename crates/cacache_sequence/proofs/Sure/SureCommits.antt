@@ -1,4 +1,4 @@
--- A commit whose steps all go well, once its content is there.
+-- A commit in which all steps succeed, once its content is there.
 use Rattle.std.proofs.Common.{◌≡◌, ◌==◌, ℕ, List, [], ◌∷◌, ◌++◌, Option, None, Some, Ok, length, drop, refl, sym, ap, ◌∙◌}
 use Rattle.hex.specs.Hex.{encode_lower}
 use Rattle.cacache_core.specs.{declared.{errors.{Error.TheVariants.{SizeMismatch, IntegrityError}, IntegrityFault.TheVariants.{Check}}, integrity.digest.Hash.{Hash}}, Integrity.{IsHash}, PathNames.{Names, names_of}, Paths.{content_names, folder_names}}

@@ -1,4 +1,4 @@
--- An export whose steps all go well.
+-- An export in which all steps succeed.
 use Rattle.std.proofs.{Common.{◌≡◌, ℕ, Bool, true, false, cond, List, [], ◌∷◌, ◌++◌, Option, None, Some, Result, Ok, Err, length, take, refl, sym, ap, subst, ◌∙◌, arith}, lemmas.List.Elements.{All-head}}
 use Rattle.sha1.specs.Sha1.{sha1}
 use Rattle.cacache_core.specs.{declared.{errors.{Error.TheVariants.{EntryNotFound, IoError, IntegrityError}, Fault.{Fault}, IntegrityFault.TheVariants.{Check}}, integrity.digest.Hash.{Hash}}, Integrity.{IsHash, IsIntegrity, Meets, actual, address}, Meeting.{meets}, PathNames.{Names, home_of, names_of}, Paths.{content_names}}
@@ -220,7 +220,7 @@ exports_answer cache (sources.Key key) e r old new folder formed sound c =
 
 -- ---- of bytes that are there
 
--- where the path may take it, an export of these bytes is done
+-- if the path may take it, an export of these bytes is done
 made_so : (how : How) (to bytes : List ℕ) (log : List LogItem) → MayTake how to log → made_reply how to (tree_of log) (Some (InFile bytes)) ≡ exported how bytes
 made_so Copy to bytes log may = ap (λ w. or_told w (λ q. Copied (length bytes))) may.1
 made_so Reflink to bytes log may = ap (λ w. or_told w (λ q. Done)) may.1
@@ -236,7 +236,7 @@ module _ (cache bytes to : List ℕ) (how : How) (checked : Bool) (old : List Lo
   abbrev to_path : Export
   to_path = record { how = how; checked = checked; to = to }
 
-  -- so it is of what lies under an integrity
+  -- the same holds of what lies under an integrity
   by_content : (i : List Hash) → HasContent cache i bytes old → EndsSo (Gives cache home is (tree_of old) g to_path (exported how bytes)) (tree_of old) (export (record { cache = cache; integrity = i }) to_path)
   by_content i has =
       let lies : blob_at (value_of_tree (Some home) (tree_of old)) (address i) ≡ Some (InFile bytes) = subst (λ h. blob_at (value_of_tree h (tree_of old)) (address i) ≡ Some (InFile bytes)) (home_is cache home is) has.content in

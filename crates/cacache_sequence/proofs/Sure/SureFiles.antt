@@ -1,4 +1,4 @@
--- A file is opened and read to its end, where no step fails without cause.
+-- A file is opened and read to its end, if no step fails without cause.
 use Rattle.std.proofs.{Common.{◌≡◌, ◌==◌, ◌<◌, ℕ, zero, suc, Bool, true, false, cond, List, [], ◌∷◌, ◌++◌, Some, Result, length, take, drop, refl, sym, ap, subst, ◌∙◌, arith, append_assoc, append-nil, take-append-drop, length-drop}, lemmas.{Bool.{eq-eqb}, List.{length-take, nil_from_length}}}
 use Rattle.cacache_core.specs.declared.errors.Fault.{Fault}
 use Rattle.cacache_core.specs.declared.errors.Fault.TheVariants as faults

@@ -1,4 +1,4 @@
--- An insertion whose steps all go well.
+-- An insertion in which all steps succeed.
 use Rattle.std.proofs.{Common.{◌≡◌, ℕ, true, false, nat_le, List, [], ◌∷◌, ◌++◌, Option, None, Some, Ok, length, take, drop, refl, sym, ap, ◌∙◌, arith, append_assoc}, lemmas.{Bool.{le-leb}, List.Elements.{All-nil, All-cons, All-head, All-tail}}}
 use Rattle.std.specs.Prelude.{All}
 use Rattle.hex.specs.Hex.{encode_lower}
@@ -24,7 +24,7 @@ proper_folder (n ∷ []) all = All-nil IsProperName
 proper_folder (n ∷ m ∷ ns) all =
     All-cons IsProperName n (folder_names (m ∷ ns)) (All-head IsProperName n (m ∷ ns) all) (proper_folder (m ∷ ns) (All-tail IsProperName n (m ∷ ns) all))
 
--- no temporary file stands where there was none
+-- no temporary file is at a place that had none
 abbrev pub Spares : Names → Tree → Tree → Type 0
 Spares home t new = (q : Names) → path_kind (Some home) q ≡ Temporary → look t q ≡ None → look new q ≡ None
 
@@ -42,13 +42,13 @@ module _ (cache : List ℕ) (home : Names) (is : home_of cache ≡ Some home) (k
   unfolding bucket_folder
   bucket_folder_lies = joined_lies cache home (folder_names (bucket_names key)) Way is (proper_folder (bucket_names key) key_names) (omega arith) refl
 
--- the folders that lead to a bucket that stands are synced
+-- the folders that lead to a bucket that is there are synced
 module _ (cache : List ℕ) (home : Names) (is : names_of cache ≡ Ok home) (key : List ℕ) where
   synced_folders : (t : Tree) (node : Node) → Rooted t → look t (home ++ bucket_names key) ≡ Some node → SyncsAll t (bucket_folders cache key)
   unfolding bucket_folders
   synced_folders t node rooted there = syncs_folders t cache home (bucket_names key) node rooted is (key_names cache home (home_is cache home is) key) there
 
--- a name more behind those of a folder
+-- one more name after those of a folder
 pub one_behind : (home front : Names) (name : List ℕ) → home ++ (front ++ name ∷ []) ≡ (home ++ front) ++ name ∷ []
 one_behind home front name = sym (append_assoc home front (name ∷ []))
 

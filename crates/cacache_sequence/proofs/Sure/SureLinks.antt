@@ -1,4 +1,4 @@
--- A link, and an open linker's commit, whose steps all go well.
+-- A link, and an open linker's commit, in which all steps succeed.
 use Rattle.std.proofs.{Common.{◌≡◌, ℕ, cond, List, [], ◌∷◌, ◌++◌, Option, None, Some, Result, Ok, Err, length, refl, sym, ap, subst, ◌∙◌, arith, append_assoc}, lemmas.List.{length-append}}
 use Rattle.cacache_core.specs.{declared.{errors.{Error.TheVariants.{IoError}, Fault.{Fault}}, integrity.digest.Hash.{Hash}}, Digests.{digest}, Integrity.{IsHash, hash_of}, PathNames.{Names, names_of}, Paths.{content_names}}
 use Rattle.cacache_core.specs.declared.errors.Fault.TheVariants as faults
@@ -16,12 +16,12 @@ use Rattle.cacache_sequence.specs.{LinkAnswers.{LinkersAnswer, LinksAnswer, link
 use Rattle.cacache_sequence.proofs.{Removing.Emptied.{home_is}, Sure.{Succeeds.{back, ground}, SureCommits.{CommitSo, placed_ends}, SureFiles.{opens_as, reads_whole, sizes_as}, SureInserts.{one_behind}, SureReads.{IsAsked, asks, content_there, is_asked, suited}, SureRuns.{EndsSo, both, ends, ends_too, goes, of_log}, SureSteps.{Ground, arrives, goes_to, is_for, makes_dirs}}}
 use Rattle.cacache_sequence.proofs.Sure.SureCommits as commits
 
--- ---- folders that stand
+-- ---- folders that are there
 
 make_step : (t : Tree) (p rest : Names) (name : List ℕ) (node : Node) (most : ℕ) → look t (p ++ name ∷ []) ≡ Some node → make_some t p (name ∷ rest) most ≡ make_some t (p ++ name ∷ []) rest most
 make_step t p rest name node most e = rw (e, make_some) refl
 
--- nothing is made where they do
+-- no folder is made if all of them are there
 made_already : (t : Tree) (p above : Names) (node : Node) (most : ℕ) → Rooted t → look t (p ++ above) ≡ Some node → make_some t p above most ≡ t
 made_already t p [] node most rooted e = refl
 made_already t p (name ∷ []) node most rooted e = make_step t p [] name node most e
@@ -74,7 +74,7 @@ module _ (target : Target ℕ) (bytes : List ℕ) (home : Names) (is : names_of 
   seam : names ≡ (home ++ front) ++ last ∷ []
   seam = one_behind home front last
 
-  -- what stands there stays
+  -- what is there stays
   here_so : look made names ≡ look t names
   here_so = deeper t [] (home ++ front) names (length (home ++ front)) (omega (arith, ap (λ (l : Names). length l) seam, length-append (home ++ front) (last ∷ [])))
 
@@ -97,7 +97,7 @@ module _ (target : Target ℕ) (bytes : List ℕ) (home : Names) (is : names_of 
       ends_too (CommitSo c home is (λ _. Unit {0}) (λ old new spares kept. tt) stored) (Says stored) (λ _ r h. h.0) x (placed c)
       (placed_ends c home is (λ _. Unit {0}) (λ old new spares kept. tt) x stands tt)
 
-  -- ---- where something lies
+  -- ---- if something lies there
 
   by_answer : (a : PlainAnswer) → IsAsked a → apply made (steps.Exists path) Plain ≡ (a, made) → EndsSo (Says (cond (is_yes a) stored refused)) made (confirming c faults.AlreadyExists)
   by_answer (answers.There there) asked e =

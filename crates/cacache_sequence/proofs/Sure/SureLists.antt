@@ -1,4 +1,4 @@
--- A listing whose steps all go well.
+-- A listing in which all steps succeed.
 use Rattle.std.proofs.{Common.{◌≡◌, inl, inr, ◌+◌, ◌-◌, ℕ, Bool, true, false, cond, nat_le, nat_lt, List, [], ◌∷◌, ◌++◌, Option, None, Some, Ok, option_map, length, take, refl, sym, ap, subst, ◌∙◌, append_assoc}, lemmas.List.Elements.{All-head}}
 use Rattle.std.specs.{Prelude.{IfSome, filter_map, zero, suc, map as each}, List.{AllByRecursion, cons_option}}
 use Rattle.hex.specs.Hex.{encode_lower}
@@ -66,7 +66,7 @@ lists items left = record { clears = false; items = items; left = left }
 many_fine : (items : List Item) (left : ℕ) → AllItems items → (moves : Moves) (r : Reply) → Runs (too_many (lists items left)) moves r → OrMemory (IsFine r) r
 many_fine items left all moves r run = over_fine (Listed (items ++ failed faults.TooDeep ∷ [])) (both_all items (failed faults.TooDeep ∷ []) all (refl, tt)) moves r run
 
--- ---- what stands in the index
+-- ---- what is in the index
 
 no_link : (home : Option Names) (target : List ℕ) (rest : Names) → MayStand home (Some (Link target)) (kind_in_area Bucket 3 rest) → ⊥
 no_link home target [] s = s
@@ -99,7 +99,7 @@ module _ (home : Names) (t : Tree) (g : Ground home t) where
   Good (ReadBucket p) = (rest : Names) × (bytes : List ℕ) × (names_of p ≡ Ok (home ++ index_area ∷ rest)) × (look t (home ++ index_area ∷ rest) ≡ Some (File bytes))
   Good other = ⊥
 
-  -- it stumbles over nothing but what is too deep
+  -- it stumbles only over what is too deep
   abbrev GoodTask : Task → Type 0
   GoodTask (Make v) = Good v
   GoodTask (Stumble fault p) = fault ≡ faults.TooDeep

@@ -1,4 +1,4 @@
--- A put whose steps all go well.
+-- A put in which all steps succeed.
 use Rattle.std.proofs.{Common.{◌≡◌, ◌==◌, ℕ, true, false, cond, List, [], ◌∷◌, ◌++◌, None, Some, Result, Ok, length, take, drop, refl, sym, ap, subst, ◌∙◌, arith}, lemmas.{Bool.{ne_eqb}, List.{drop_all}}}
 use Rattle.cacache_core.specs.{declared.{errors.Fault.{Fault}, integrity.digest.Hash.{Hash}}, Digests.{digest}, Integrity.{IsHash, hash_of}, PathNames.{Names, names_of}, Paths.{content_names, folder_names, temp_names}}
 use Rattle.cacache_core.specs.declared.errors.Fault.TheVariants as faults
@@ -19,7 +19,7 @@ use Rattle.cacache_sequence.proofs.Sure.SureCommits as commits
 -- ---- once the content is there
 
 module _ (cache : List ℕ) (home : Names) (is : names_of cache ≡ Ok home) (p : Put) (q : Names) (temporary : path_kind (Some home) q ≡ Temporary) where
-  -- the reply is this one, and no temporary file stands there
+  -- the reply is this one, and no temporary file is there
   abbrev pub PutSo : Reply → Tree → Reply → Type 0
   PutSo wanted t r = (r ≡ wanted) × (look t q ≡ None)
 
@@ -62,7 +62,7 @@ module _ (cache : List ℕ) (home : Names) (is : names_of cache ≡ Ok home) (p 
   made_ground : Ground home made
   made_ground = commits.made_ground cache home is t g h hash
 
-  -- the file stands there still
+  -- the file is still there
   abbrev still : Stands made file
   still = record {
     names = s.names;

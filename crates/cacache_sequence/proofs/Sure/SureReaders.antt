@@ -1,4 +1,4 @@
--- Openings of readers and linkers whose steps all go well.
+-- Openings of readers and linkers in which all steps succeed.
 use Rattle.std.proofs.{Common.{◌≡◌, inl, inr, ℕ, List, [], ◌∷◌, ◌++◌, Option, None, Some, Result, Ok, Err, length, map, refl, sym, ap, subst, ◌∙◌, arith}, lemmas.List.Elements.{All-head}}
 use Rattle.sha1.specs.Sha1.{sha1}
 use Rattle.cacache_core.specs.{declared.{errors.{Error.{Error, TheVariants.{EntryNotFound, SizeMismatch, IoError, SerdeError, IntegrityError, OutOfMemory}}, Fault.{Fault}}, integrity.digest.Hash.{Hash}}, Integrity.{IsHash, IsIntegrity, address}, PathNames.{home_of}}
@@ -53,7 +53,7 @@ opens_so path content (Err (IntegrityError fault)) old new is h logged = absurd 
 pub linker_openings_answer : LinkerOpeningsAnswer
 linker_openings_answer path r old new h logged = opens_so path (target_bytes path old) r old new refl h logged
 
--- ---- of a file whose size is asked first
+-- ---- a file for which the size is asked first
 
 module _ (path : List ℕ) (old new : List LogItem) (logged : IsLog new) where
   -- the question fails as an opening does
@@ -72,7 +72,7 @@ module _ (path : List ℕ) (old new : List LogItem) (logged : IsLog new) where
   size_fails (SerdeError cause message) h = absurd h
   size_fails (IntegrityError fault) h = absurd h
 
-  -- once it was told the file is opened
+  -- once it was reported the file is opened
   size_told : (r : Result PlainFile Error) (size : ℕ) (mid : Option (List LogItem)) → TellsSize path size (Some old) mid → OpensTarget path r mid (Some new) → OpensAs (target_bytes path old) r
   size_told r size mid told h =
       let asked : Moves = (steps.Size path, answers.Length size) ∷ [] in

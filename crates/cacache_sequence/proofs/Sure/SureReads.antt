@@ -1,4 +1,4 @@
--- Lookups, reads, questions and removals whose steps all go well.
+-- Lookups, reads, questions and removals in which all steps succeed.
 use Rattle.std.proofs.Common.{◌≡◌, ◌⊎◌, inl, inr, ℕ, Bool, true, false, cond, List, [], ◌∷◌, ◌++◌, Option, None, Some, Result, Ok, Err, refl, sym, ap, subst, ◌∙◌}
 use Rattle.cacache_core.specs.{declared.{errors.{Error.TheVariants.{IoError, IntegrityError}, Fault.{Fault}, IntegrityFault.TheVariants.{Check}}, integrity.digest.Hash.{Hash}}, Integrity.{IsHash, actual}, Meeting.{meets}, PathNames.{Names, names_of, home_of}, Paths.{bucket_names, content_names}}
 use Rattle.cacache_core.specs.declared.errors.Fault.TheVariants as faults
@@ -16,7 +16,7 @@ use Rattle.cacache_sequence.proofs.Sure.{SureInserts.{bucket_lies}, SureTemps.{c
 
 -- ---- what a bucket's file answers
 
--- the answer to a read of what stands there
+-- the answer to a read of what is there
 abbrev file_told : Option Node → PlainAnswer
 file_told None = answers.Failed faults.NotFound
 file_told (Some Folder) = answers.Failed faults.IsADirectory
@@ -45,7 +45,7 @@ unfolding apply
 told_all t p (Ok bytes) e = rw e refl
 told_all t p (Err fault) e = rw e refl
 
--- where a folder at a link's end is no file
+-- the bytes of a content, if a folder at a link's end gives `IsADirectory`
 pub as_bytes : (t : Tree) (blob : Option Blob) → blob_read faults.IsADirectory t blob ≡ blob_bytes t blob
 as_bytes t None = refl
 as_bytes t (Some (InFile bytes)) = refl
@@ -100,7 +100,7 @@ is_asked (Err faults.NotFound) = tt
 is_asked (Err faults.NotADirectory) = tt
 is_asked (Err other) = tt
 
--- what stands at a content's path is one
+-- what is at a content's path is a content
 is_blob : (home : Names) (here : Option Node) → MayStand (Some home) here Content → (node : Node) → here ≡ Some node → (blob : Blob) × (blob_in here ≡ Some blob)
 is_blob home None s node e = absurd cc
 is_blob home (Some Folder) s node e = absurd s
@@ -156,7 +156,7 @@ module _ (home : Names) (t : Tree) (g : Ground home t) (cache : List ℕ) (is : 
   pub led_there : Reached t (content_path cache (h ∷ hs)) content_at
   led_there = reached home t (content_path cache (h ∷ hs)) content_at g lies.named (ap is_used lies.kind) (look t content_at) refl
 
-  -- the bytes that are read there, where a folder is this fault
+  -- the bytes that are read there, if a folder gives this fault
   pub read_at : (folder : Fault) → file_at t (content_path cache (h ∷ hs)) folder ≡ blob_read folder t held
   read_at folder = read_as home t (content_path cache (h ∷ hs)) content_at folder (look t content_at) refl suited led_there
 
@@ -202,7 +202,7 @@ module _ (Q : Tree → Reply → Type 0) (home : Names) (t : Tree) (g : Ground h
       let same = content_there home t (content_path cache (h ∷ hs)) names (look t names) refl (suited home t g cache is h hs hash) (led_there home t g cache is h hs hash) in
       by_there a q (asks t (content_path cache (h ∷ hs)) a same) (subst IsAsked same (is_asked (found t (content_path cache (h ∷ hs)))))
 
-  -- a removal is done where something does
+  -- a removal is done if something is there
   pub removes_so : (next : State) → ((blob : Blob) → held home t g cache is h hs hash ≡ Some blob → Ground home (cut t names) → EndsSo Q (cut t names) next) → (held home t g cache is h hs hash ≡ None → Q t (Refused (IoError faults.NotFound [])))
       → EndsSo Q t (doing (remove (content_path cache (h ∷ hs))) next)
   removes_so next there none =

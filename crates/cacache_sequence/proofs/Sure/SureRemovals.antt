@@ -1,4 +1,4 @@
--- A full removal of a key whose steps all go well.
+-- A full removal of a key in which all steps succeed.
 use Rattle.std.proofs.{Common.{◌≡◌, ℕ, false, cond, List, [], ◌∷◌, ◌++◌, Option, None, Some, Ok, refl, sym, ap, subst, ◌∙◌, arith}, lemmas.List.Elements.{All-head}}
 use Rattle.sha1.specs.Sha1.{sha1}
 use Rattle.cacache_core.specs.{declared.{errors.Error.TheVariants.{IoError}, integrity.digest.Hash.{Hash}}, Integrity.{IsHash, IsIntegrity, address}, PathNames.{Names, names_of, home_of}, Paths.{bucket_names, content_names}}

@@ -1,4 +1,4 @@
--- How a call ends whose steps all go well, step by step.
+-- How a call ends if all of its steps succeed, step by step.
 use Rattle.std.proofs.Common.{◌≡◌, inl, inr, ℕ, Bool, true, false, cond, List, [], ◌∷◌, None, Some, refl, sym, ap, subst, ◌∙◌}
 use Rattle.cacache_store.specs.{declared.store.log.LogItem.{LogItem}, Plain.{PlainStep, PlainAnswer}}
 use Rattle.cacache_store.specs.declared.store.step.Step.TheVariants as steps
@@ -18,7 +18,7 @@ module _ (Q : Tree → Reply → Type 0) where
   ends t r q [] x (inr e) answered = inl e
   ends t r q (m ∷ moves) x run answered = absurd cc
 
-  -- a step with this answer and tree, from where it ends so
+  -- a step with this answer and tree, if the state after it ends so
   pub goes : (t new : Tree) (s : State) (step : PlainStep) (a : PlainAnswer) → wants s ≡ Some step → apply t step Plain ≡ (a, new) → EndsSo Q new (after s a) → EndsSo Q t s
   goes t new s step a want is next [] r (inl e) answered = let no : Some step ≡ None = sym want ∙ ap wants e in absurd cc
   goes t new s step a want is next [] r (inr e) answered = inl e

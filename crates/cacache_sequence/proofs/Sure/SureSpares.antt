@@ -1,4 +1,4 @@
--- Where no temporary file stands, no other step of a call makes one.
+-- If no temporary file is there, no other step of a call makes one.
 use Rattle.std.proofs.Common.{◌≡◌, ◌==◌, ◌-◌, ℕ, Bool, true, false, cond, List, [], ◌∷◌, ◌++◌, Option, None, Some, Result, Ok, Err, take, refl, sym, ap, subst, ◌∙◌}
 use Rattle.cacache_core.specs.{declared.errors.Fault.{Fault}, PathNames.{Names, names_of}}
 use Rattle.cacache_core.specs.declared.errors.Fault.TheVariants as faults
@@ -13,7 +13,7 @@ use Rattle.cacache_sequence.specs.Sequence.{tree_on, plain_moves}
 
 -- ---- nodes
 
--- what was missing is so still, or a folder stands there
+-- what was missing still is, or a folder is there
 data MadeHere (new : Option Node) : Type 0 where
   none : new ≡ None → MadeHere new
   made : new ≡ Some Folder → MadeHere new
@@ -66,7 +66,7 @@ NoneCreates q [] = Unit {0}
 NoneCreates q (m ∷ moves) = (Creates q m.0 → ⊥) × NoneCreates q moves
 
 module _ (home : Option Names) (q : Names) (temporary : path_kind home q ≡ Temporary) where
-  -- no folder stands where a temporary file may
+  -- no folder is at a place for a temporary file
   no_folder : (new : Tree) → Placed home new → MadeHere (look new q) → look new q ≡ None
   no_folder new placed (none e) = e
   no_folder new placed (made e) = absurd (subst (λ n. MayStand home n Temporary) e (subst (MayStand home (look new q)) temporary (placed q)))
@@ -90,7 +90,7 @@ module _ (home : Option Names) (q : Names) (temporary : path_kind home q ≡ Tem
       put_other t Bucket names _ (ap (path_kind home) (sym same) ∙ kind) (λ differ. absurd cc) was
   lengthens_at t p bytes names own kind e was (missing f) = let differ : Err faults.NotFound ≡ Ok names = sym f ∙ e in absurd cc
 
-  -- where a file is appended to
+  -- an append to a file
   lengthens : (t : Tree) (p bytes : List ℕ) (names : Names) (r : Result Names Fault) → Placed home t → IsFor home Bucket p → names_of p ≡ r → writable t p ≡ Ok names → look t q ≡ None → look (lengthened t names bytes) q ≡ None
   lengthens t p bytes names (Err fault) placed for is e was = let differ : Err fault ≡ Ok names = sym (unreachable t p fault is) ∙ e in absurd cc
   lengthens t p bytes names (Ok own) placed for is e was =
@@ -101,7 +101,7 @@ module _ (home : Option Names) (q : Names) (temporary : path_kind home q ≡ Tem
   abbrev Spares : Tree → Type 0
   Spares x = look x q ≡ None
 
-  -- a file or link that is put where nothing stands, for something else
+  -- a file or link for something else that is put where nothing is
   puts_free : (t : Tree) (k : PathKind) (p : List ℕ) (names : Names) (node : Node) → IsFor home k p → (k ≡ Temporary → ⊥) → free t p ≡ Ok names → look t q ≡ None → look (put t names node) q ≡ None
   puts_free t k p names node for differ is e =
       put_other t k names node (of_names (λ n. path_kind home n ≡ k) p names for (free_ok t p names is).0) differ e

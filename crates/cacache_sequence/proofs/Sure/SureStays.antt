@@ -1,4 +1,4 @@
--- A temporary file stays while calls neither move it nor remove anything.
+-- A temporary file stays as long as calls don't move it and remove nothing.
 use Rattle.std.proofs.Common.{◌≡◌, ℕ, Bool, true, false, cond, List, [], ◌∷◌, ◌++◌, Option, None, Some, Result, Ok, Err, take, refl, sym, ap, subst, ◌∙◌}
 use Rattle.cacache_core.specs.{declared.errors.Fault.{Fault}, PathNames.{Names, names_of, home_of, names_below}, Paths.{temp_names}}
 use Rattle.cacache_core.specs.declared.errors.Fault.TheVariants as faults
@@ -25,7 +25,7 @@ put_apart t p q new node apart e = look-put t p new q ∙ ap (λ b. cond b (Some
 cut_apart : (t : Tree) (p q : Names) (node : Node) → (q ≡ p → ⊥) → look t q ≡ Some node → look (cut t p) q ≡ Some node
 cut_apart t p q node apart e = look-cut t p q ∙ ap (λ b. cond b None (look t q)) (not_true (same_path q p) (λ s. apart (same_path-true q p s))) ∙ e
 
--- nothing stands where something new can be made
+-- nothing is at a place where something new can be made
 free_at : (here : Option Node) (old new : Names) → where_free here old ≡ Ok new → (here ≡ None) × (old ≡ new)
 free_at None old new e = (refl, cc)
 free_at (Some node) old new e = absurd cc
@@ -39,7 +39,7 @@ free_none t p names e =
 
 -- ---- steps
 
--- such a step may take away what stands there
+-- such a step may take away what is there
 abbrev Takes : Names → PlainStep → Type 0
 Takes q (steps.Persist f p) = names_of f.path ≡ Ok q
 Takes q (steps.RemoveFile p) = Unit {0}
@@ -52,7 +52,7 @@ NoneTakes q [] = Unit {0}
 NoneTakes q (m ∷ moves) = (Takes q m.0 → ⊥) × NoneTakes q moves
 
 module _ (home : Option Names) (q : Names) (temporary : path_kind home q ≡ Temporary) (node : Node) where
-  -- it stands there
+  -- it is there
   abbrev Stays : Tree → Type 0
   Stays x = look x q ≡ Some node
 
@@ -120,7 +120,7 @@ module _ (home : Option Names) (q : Names) (temporary : path_kind home q ≡ Tem
 
 -- ---- calls
 
--- where none of a call's moves takes it away, the file of this number stays
+-- if none of a call's moves takes it away, the file of this number stays
 call_keeps : (cache : List ℕ) (command : Command) (r : Reply) (old new : List LogItem) (c : Called cache command r old new) (number : ℕ)
     → MayBegin (call_site (setup_at cache c.base) c.number) (may_export (setup_at cache c.base)) (is_outside (setup_at cache c.base)) command → NamesIntegrity command → IsCache cache old
     → ((folder : Names) → home_of cache ≡ Some folder → NoneTakes (folder ++ temp_names number) c.ran.0) → FileAt (temp_path cache number) old → FileAt (temp_path cache number) new

@@ -1,4 +1,4 @@
--- What a step does on a tree where nothing keeps it from going well.
+-- What a step does on a tree that lets it succeed.
 use Rattle.std.proofs.{Common.{◌≡◌, ◌<◌, ℕ, true, cond, List, [], ◌∷◌, ◌++◌, Option, None, Some, Ok, Err, length, take, refl, sym, ap, subst, ◌∙◌, arith, append_assoc}, lemmas.List.Elements.{All-cons, All-nil, All-head, All-tail}}
 use Rattle.std.specs.Prelude.{All, IfOk}
 use Rattle.cacache_core.specs.{declared.errors.Fault.{Fault}, PathNames.{Names, names_of, names_below, IsProperName, home_of}, Paths.{join, joined, folders_to}}
@@ -13,7 +13,7 @@ use Rattle.cacache_value.specs.{Kinds.{PathKind, Content, Bucket, Way, path_kind
 use Rattle.cacache_value.proofs.{FoundPaths.{OnlyMissing, way_missing}, KindsApart.{kind-below}, MadeFolders.{no_dirs_fault}, Traces.{steps_keep_placed}}
 use Rattle.cacache_sequence.proofs.{Removing.Emptied.{home_is}, Putting.MadeNodes.{Stands, way_into, stays, kept_so, replaceable_so}}
 
--- each thing stands where it may
+-- each thing is where it may be
 pub record Ground (home : Names) (t : Tree) : Type 0 where
   pub placed : Placed (Some home) t
   pub rooted : Rooted t
@@ -43,12 +43,12 @@ is_for home p ns k lies = subst (λ r. IfOk r (λ names. path_kind (Some home) n
 
 -- ---- where a path leads
 
--- into a folder that stands
+-- into a folder that is there
 pub place_in : (t : Tree) (p : List ℕ) (front : Names) (name : List ℕ) → Rooted t → names_of p ≡ Ok (front ++ name ∷ []) → look t front ≡ Some Folder → place t p ≡ Ok (front ++ name ∷ [])
 unfolding place
 place_in t p front name rooted is there = rw (is, way_into t [] front name rooted there) refl
 
--- to what stands
+-- to what is there
 pub place_at : (t : Tree) (p : List ℕ) (names : Names) (node : Node) → Rooted t → names_of p ≡ Ok names → look t names ≡ Some node → place t p ≡ Ok names
 unfolding place
 place_at t p names node rooted is there = rw (is, way_clear t [] names node rooted there) refl
@@ -84,7 +84,7 @@ module _ (home : Names) (t : Tree) (g : Ground home t) (p : List ℕ) (ns : Name
   pub dirs_keep : (q : Names) (node : Node) → look t q ≡ Some node → look (make_some t [] (home ++ ns) (length (home ++ ns))) q ≡ Some node
   dirs_keep q node e = stays t [] (home ++ ns) q (length (home ++ ns)) node e
 
--- a folder that stands is synced
+-- a folder that is there is synced
 pub syncs_dir : (t : Tree) (p : List ℕ) (names : Names) → Rooted t → names_of p ≡ Ok names → look t names ≡ Some Folder → apply t (steps.SyncDir p) Plain ≡ (answers.Done, t)
 unfolding apply folder
 syncs_dir t p names rooted is there = rw (place_at t p names Folder rooted is there, there) refl
@@ -98,7 +98,7 @@ pub one_deeper : (p n : List ℕ) (above : Names) → names_of p ≡ Ok above �
 one_deeper p n above is proper =
     joined_texts_name p (n ∷ []) (All-cons IsProperName n [] proper (All-nil IsProperName)) (omega arith) ∙ ap (λ home. names_below home (n ∷ [])) (home_is p above is)
 
--- so are those that lead to what stands
+-- the folders that lead to what is there are synced too
 pub syncs_folders : (t : Tree) (p : List ℕ) (above ns : Names) (node : Node) → Rooted t → names_of p ≡ Ok above → All IsProperName ns → look t (above ++ ns) ≡ Some node → SyncsAll t (folders_to p ns)
 syncs_folders t p above [] node rooted is all there = tt
 syncs_folders t p above (n ∷ ns) node rooted is all there = (

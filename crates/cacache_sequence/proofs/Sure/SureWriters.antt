@@ -1,4 +1,4 @@
--- Open writers whose steps all go well.
+-- Open writers if all of their steps succeed.
 use Rattle.std.proofs.Common.{◌≡◌, inl, inr, ℕ, List, [], ◌∷◌, ◌++◌, Option, None, Some, Ok, Err, refl, sym, ap, subst, ◌∙◌}
 use Rattle.cacache_core.specs.{declared.errors.{Error.TheVariants.{IoError, OutOfMemory}, Fault.{Fault}}, PathNames.{Names, names_of}, Paths.{folder_names, temp_names}}
 use Rattle.cacache_store.specs.declared.store.answer.Answer.TheVariants as answers
