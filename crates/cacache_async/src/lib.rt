@@ -1,5 +1,5 @@
-//! Named futures: each makes, in its first poll, the call that is named after it with `_sync`. Contents and targets of
-//! links that are read by polls. And the future of a call, `CallFuture`, on which all of them stand.
+//! Named futures: each makes, in its first poll, the call that is named after it with `_sync`. Contents and targets
+//! of links that are read by polls. And the future of a call, `CallFuture`, on which all of them are built.
 //!
 //! - `call`: calls with their arguments
 //! - `exports`: futures of the exports: of the content that a key names, and of that of an integrity

@@ -29,7 +29,7 @@ resting d held answered b (Some f) p e k =
 resting d held answered [] None p e k = grind (arith, common_steps)
 resting d held answered (x ∷ b) None p e k = grind (arith, common_steps)
 
--- the answer tells a fault or waits, whichever the test says
+-- the answer is a fault or waits, whichever the test says
 either_way : (d : Desk) (held answered b : List ℕ) (t : Bool) → IsKept d held answered
     → IsKept d held (answered ++ taken_by (ask_write b) (if t then polls.Pending else polls.Failed OtherBytes))
 either_way d held answered b true k = same d held answered k

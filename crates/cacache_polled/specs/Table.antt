@@ -33,7 +33,7 @@ abbrev pub flush_outcome : Result ⊤ Fault → Polled
 flush_outcome (Ok u) = polls.Done
 flush_outcome (Err f) = polls.Failed f
 
--- a write of these bytes where no work is out, with the write that isn't answered
+-- a write of these bytes while no work is out, with the write that isn't answered
 abbrev pub write_idle : Desk → List ℕ → Option Finished → Desk × Polled
 write_idle d b (Some f) =
     if bytes_eq f.bytes b then (record d { finished = None }, outcome f.outcome)

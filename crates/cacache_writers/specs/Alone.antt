@@ -17,7 +17,7 @@ module _ {T : Type 0} (temp : T → PlainTemp) (start : List ℕ) where
   abbrev pub HasBytes : List Event → T → Type 0
   HasBytes es file = (temp file).bytes ≡ Some (start ++ (seen es).held)
 
-  -- after these the file lies beside the core, and the core's work waits for a worker
+  -- after these the file lies next to the core, and the core's work waits for a worker
   pub record IsWhole (k : Kept T) (es : List Event) (file : T) : Type 0 where
     pub seen_is : HasSeen k.core es
     pub work_is : k.work ≡ work_of k.core.desk.state
@@ -61,7 +61,7 @@ module _ {T : Type 0} (temp : T → PlainTemp) (start : List ℕ) where
       → (file : T) × (taken_out k.work k.temp ≡ Some file)
       × Away w file (record k { work = None; temp = left_after k.work k.temp })
 
-  -- once the work is done and its ending told, the file is whole again, or gone
+  -- once the work is done and its end reported, the file is whole again, or gone
   abbrev pub EndRestores :
       (T → Option (List ℕ)) → (T → ℕ → Result ℕ io.Error → T → Type 0)
       → (T → Result ⊤ Fault → Type 0) → Type 0

@@ -9,7 +9,7 @@ use Rattle.cacache_polled.specs.{declared.{writer_core.WriterCore.{WriterCore}, 
 use Rattle.cacache_async.specs.Waiting.{TellsFault}
 use Rattle.cacache_writers.specs.declared.about.About.{About}
 
--- the answer is this fault, or that there was no memory to tell it
+-- the answer is this fault, or says that there was no memory for the fault's message
 abbrev pub Fails : {A : Type 0} → Fault → Result A Error → Type 0
 Fails fault (Ok x) = ⊥
 Fails fault (Err e) = TellsFault fault e
@@ -27,13 +27,14 @@ commit_about a computed count moment = record {
 
 module _ {T S C N : Type 0} (temp : T → PlainTemp) (log : S → Option (List LogItem))
     (moments : C → Option (List ℕ)) (old new : Env S C N) where
-  -- the file became the content, with a moment that was asked for where there is a key and none was set
+  -- the file became the content; the clock gives the moment if there is a key and no time was set
   abbrev pub EndsHeld : About → List Hash → ℕ → T → Reply → Type 0
   EndsHeld a computed count file reply =
       (moment : ℕ) × MomentOf moments a.key a.time old.clock new.clock moment
       × Ran (persist (commit_about a computed count moment) (temp file)) reply (log old.store) (log new.store)
 
-  -- so it is where the integrity is of the algorithm that was said; one of another is closed
+  -- it does so if the integrity has the algorithm that was asked for; otherwise the core counts as
+  -- closed
   abbrev pub EndsAsSaid : About → List Hash → ℕ → T → Result (List Hash) Error → Type 0
   EndsAsSaid a computed count file r =
       ((strongest computed ≡ Some a.options.algorithm)

@@ -37,7 +37,7 @@ RemovalAnswered removes file c = ⊥
 -- removal may answer
 module _ {T : Type 0} (temp : T → PlainTemp) (contents : T → Option (List ℕ))
     (writes : T → ℕ → Result ℕ io.Error → T → Type 0) (removes : T → Result ⊤ Fault → Type 0) where
-  -- what the work did to the file; it is given back, but for one that was to be removed
+  -- what the work did to the file; it is given back, unless it was to be removed
   abbrev pub DoesWork : Work → T → Option T → Completion → Type 0
   DoesWork (Write b) old (Some new) c =
       Appended (temp old).bytes (temp new).bytes b c × Answered writes old (length b) new c
@@ -50,7 +50,7 @@ module _ {T : Type 0} (temp : T → PlainTemp) (contents : T → Option (List �
   EndsWork w (Some old) new c = FitsWork w c × DoesWork w old new c
   EndsWork w None new c = (new ≡ None) × (c ≡ Failed Closed)
 
-  -- what was taken was done, and its ending told; or there was nothing to take
+  -- what was taken was done, and its ending reported; or there was nothing to take
   abbrev pub WorksBy :
       (Option Work × Option T → Type 0) → (Option T → Completion → Told T → Type 0) → Option (Told T)
       → Type 0

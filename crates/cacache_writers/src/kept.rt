@@ -24,7 +24,7 @@ pub struct Kept<T> {
     pub waker: Option<Waker>,
 }
 
-/// Shows that a core was told how its work ended, and with which file: `Kept::end` alone makes one.
+/// Shows that a core got the ending of its work, and with which file: only `Kept::end` makes one.
 #[derive(Drop)]
 pub struct Told<T> {
     ending: Completion,
@@ -32,7 +32,7 @@ pub struct Told<T> {
 }
 
 impl<T: Drop> Told<T> {
-    /// The ending that was told.
+    /// The ending that the core got.
     pub fn ending(&self) -> Completion
         ensures { result ≡ self.now.ending }
     {

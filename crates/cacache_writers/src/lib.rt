@@ -1,7 +1,7 @@
 //! Contents that are written by polls: a temporary file, the worker that does its work, and a commit that makes it the
 //! content.
 //!
-//! - `about`: what is said of a content that is written by polls
+//! - `about`: what the caller says about a content that is written by polls
 //! - `commit`: what the commit of a polled writer does with the core and the temporary file, which are lent to it
 //! - `committing`: the commit of a polled writer as a future
 //! - `creating`: futures that open polled writers

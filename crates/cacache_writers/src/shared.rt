@@ -12,7 +12,7 @@ use std::sync::{Mutex, Wait};
 /// How often a drop tries the lock.
 const TRIES: u32 = 1000;
 
-/// The lock, with what stands outside it.
+/// The lock, and what is outside it.
 #[derive(Drop)]
 pub struct Shared<T> {
     /// What waiting tasks wait for.

@@ -14,7 +14,7 @@ pub trait Reasons: Store {
     /// What it knows.
     ghost known: { Self → Option ErrorKind };
 
-    /// The system's kind of error behind the last step that failed. None where the store knows none.
+    /// The system's kind of error that made the last failed step fail. None if the store knows none.
     fn reason(&self) -> Option<ErrorKind>
         ensures { result ≡ known self.now };
 }
