@@ -33,8 +33,7 @@ module _ {T S C N : Type 0} (temp : T → PlainTemp) (log : S → Option (List L
       (moment : ℕ) × MomentOf moments a.key a.time old.clock new.clock moment
       × Ran (persist (commit_about a computed count moment) (temp file)) reply (log old.store) (log new.store)
 
-  -- it does so if the integrity has the algorithm that was asked for; otherwise the core counts as
-  -- closed
+  -- it does so if the integrity has the algorithm that was asked for; otherwise it is closed
   abbrev pub EndsAsSaid : About → List Hash → ℕ → T → Result (List Hash) Error → Type 0
   EndsAsSaid a computed count file r =
       ((strongest computed ≡ Some a.options.algorithm)
