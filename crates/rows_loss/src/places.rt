@@ -12,23 +12,23 @@ pub(crate) struct File {
     pub(crate) whole: bool,
 }
 
-/// What stands at a path.
+/// What is at a path.
 #[derive(Drop)]
 pub(crate) enum Node {
     Folder,
     File(File),
 }
 
-/// What stood at a path when its folder was synced last.
+/// What was at a path when its folder was synced last.
 #[derive(Drop)]
 enum Before {
-    /// What stands there now.
+    /// What is there now.
     Same,
     /// This, or nothing.
     Other(Option<Node>),
 }
 
-/// A path, and what stands there.
+/// A path, and what is there.
 #[derive(Drop)]
 pub(crate) struct Place {
     pub(crate) path: Text,
@@ -37,17 +37,17 @@ pub(crate) struct Place {
 }
 
 impl Place {
-    /// Whether a loss may bring back what stood here before.
+    /// Whether a loss may bring back what was here before.
     pub(crate) fn is_open(&self) -> bool {
         matches!(&self.before, Before::Other(_))
     }
 
-    /// Whether a file stands here.
+    /// Whether there is a file here.
     pub(crate) fn is_file(&self) -> bool {
         matches!(&self.now, Some(Node::File(_)))
     }
 
-    /// What stands here after a loss that brings back what stood before, or not.
+    /// What is here after a loss, which brings back what was here before, or doesn't.
     pub(crate) fn after(&self, undone: bool) -> Option<&Node> {
         match &self.before {
             Before::Other(old) if undone => old.as_ref(),
@@ -55,7 +55,7 @@ impl Place {
         }
     }
 
-    /// Puts something here in place of what stands here. The first change since the last sync of the folder counts.
+    /// Puts something here in place of what is here. The first change since the last sync of the folder counts.
     fn put(&mut self, node: Option<Node>) {
         let old = self.now.take();
         if self.is_open() {
@@ -101,7 +101,7 @@ impl Place {
     }
 }
 
-/// All paths at which something stood, in the order in which it came.
+/// All paths at which there was something, in the order in which it came.
 #[derive(Drop)]
 pub(crate) struct Places {
     pub(crate) alloc: Global,
@@ -130,7 +130,7 @@ impl Places {
         self.all.get_mut(number)
     }
 
-    /// Whether something stands at a path.
+    /// Whether there is something at a path.
     fn is_taken(&self, path: &str) -> bool {
         match self.number_of(path) {
             Some(number) => match self.all.get(number) {
@@ -186,7 +186,7 @@ impl Places {
         self.put(path, Some(node))
     }
 
-    /// Puts bytes behind those of the file at a path, which is made where it is missing.
+    /// Puts bytes at the end of the file at a path, which is made if it is missing.
     pub(crate) fn append(&mut self, path: &str, more: &[u8]) -> Result<(), AllocError> {
         if !self.is_taken(path) {
             self.make_file(path)?;

@@ -200,7 +200,7 @@ fn seen_after(alloc: Global, world: &World, places: &Places, words: &str) -> Res
     Ok(format!(in alloc; "{got}; {seen}")?)
 }
 
-/// What is seen of some calls in a world after a loss; where there is none, how many moves each of them takes.
+/// What is seen of some calls in a world after a loss; if there is no loss, how many moves each call takes.
 fn case_in(
     alloc: Global,
     world: &mut World,

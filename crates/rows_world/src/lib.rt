@@ -10,8 +10,8 @@
 //! files are compared with those of the disk, and its links by the bytes that they lead to. A row prints what it counted, and
 //! each list that differs prints how at first.
 //!
-//! Left out: folders of the cache, temporary files, the messages of errors, and whether a step was the right one to make, but
-//! for exports and for what a reply shows.
+//! Left out: folders of the cache, temporary files, the messages of errors, and whether a step was the right one to
+//! make, except for exports and for what a reply shows.
 #![tactic(auto)]
 
 mod commands;
@@ -35,7 +35,7 @@ use std::alloc::Global;
 use std::io;
 use tally::Tally;
 
-/// Plays all lists of a row, prints how they differ, and tells how many do.
+/// Plays all lists of a row, prints how they differ, and says how many do.
 fn differing(rt: &impl Print, alloc: Global, row: Row, counts: &mut Counts) -> io::Result<u64> {
     let mut random = Random::new(row.seed as u64);
     let mut count: u64 = 0;
@@ -76,7 +76,7 @@ fn counted(rt: &impl Print, alloc: Global, row: Row, counts: &mut Counts) -> io:
     Ok(count == 0)
 }
 
-/// Tries rows, prints how they went, and tells whether each of them holds.
+/// Tries rows, prints how they went, and says whether each of them holds.
 pub fn all_hold(rt: &(impl Print + AllocGlobal), rows: &str) -> io::Result<bool> {
     let alloc = rt.alloc();
     let mut all = true;

@@ -48,7 +48,7 @@ impl<'h> Story<'h> {
         self.linked_as(value, &integrity, count)
     }
 
-    /// The same, where so many bytes of this integrity were read.
+    /// The same if so many bytes of this integrity were read.
     fn linked_as(
         &mut self,
         value: &Value,

@@ -48,7 +48,7 @@ fn callers_without_calls_make_no_moves(rt: HostRuntime) -> Result<(), Fail> {
     Ok(())
 }
 
-/// Events of which the fourth finds no call.
+/// Events, the fourth of which finds no call.
 fn events(alloc: Global) -> Result<Vec<Event>, AllocError> {
     let put = put(alloc, "a", "hello world")?;
     let events = vec![in alloc;

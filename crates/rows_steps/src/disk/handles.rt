@@ -35,7 +35,7 @@ pub(crate) fn handle_in(answer: PlainAnswer) -> Option<Handle> {
     }
 }
 
-/// The bytes of a word, where they are known.
+/// The bytes of a word, if they are known.
 fn known_of(alloc: Global, word: &str) -> Result<Option<Bytes>, AllocError> {
     if word == "?" {
         return Ok(None);

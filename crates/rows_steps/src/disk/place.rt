@@ -40,7 +40,7 @@ fn heard_in(alloc: Global, answer: PlainAnswer) -> Result<Heard, Flaw> {
     }
 }
 
-/// What an answer says, with what its copy says where that is something else.
+/// What an answer says, with what its copy says if that is something else.
 fn with_copy(alloc: Global, heard: Heard, copied: &str) -> Result<Heard, Flaw> {
     if heard.text.as_str() == copied {
         return Ok(heard);
@@ -213,7 +213,7 @@ impl Place {
         }
     }
 
-    /// The bytes at the path as a word, `none` where there are none.
+    /// The bytes at the path as a word, `none` if there are none.
     pub(crate) fn bytes(&self, alloc: Global, path: &str) -> Result<String, Flaw> {
         match self {
             Place::Disk(disk) => Ok(shared(alloc, disk, path)?),

@@ -93,7 +93,7 @@ fn meet<L: Ledger, R: Wait + Clock>(
     Ok(())
 }
 
-/// One thread's work: what came of it stands in the seat.
+/// One thread's work: what came of it is in the seat.
 fn met<L: Ledger, R: Wait + Clock>(
     rt: &R,
     alloc: Global,

@@ -89,7 +89,7 @@ impl<'a, R: Wait, T: Drop> Future for Writing<'a, R, T> {
     }
 }
 
-/// The count that was answered; 1000 where it was pending and 2000 where it failed.
+/// The count that was answered; 1000 if it was pending and 2000 if it failed.
 fn wrote<R: Wait + RandomSource + AllocGlobal, T: Drop>(
     rt: &R,
     file: &mut PolledFile<T>,
