@@ -20,8 +20,8 @@ const FILES: [(&str, &str, usize); 4] = [
     ),
 ];
 
-/// Where exports go, and whether one may go there; some come more often. One may go away from the cache and from the
-/// outside files, and to a path that names nothing, if its step fails.
+/// Where exports go, and whether one may go there; some come more often. One may go to a path apart from the cache
+/// and the outside files, also to one that names nothing: its step fails there.
 pub(crate) const DESTINATIONS: [(&str, bool); 21] = [
     ("/out/a", true),
     ("/out/a", true),

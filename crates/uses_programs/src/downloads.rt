@@ -23,7 +23,7 @@ const FOX: (&str, &[u8]) = ("fox", b"The quick brown fox jumps over the lazy dog
 
 const VOW: (&str, &[u8]) = ("vow", b"Sphinx of black quartz, judge my vow.\n");
 
-/// What is said of a failure outside the cache.
+/// The message of a failure outside the cache.
 const OUTSIDE: &str = "Failed to run or to print the downloads";
 
 /// What a future answers, once it is ready.

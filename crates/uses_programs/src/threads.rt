@@ -7,7 +7,8 @@
 //! system, so that two threads don't come to one name (`ProcessNames` says how unlikely that is). No lock is needed: a
 //! content is moved to its place whole, and an entry goes into its bucket in one append.
 //!
-//! The cache is the folder `units`, below the one where the program runs. It stays there, and a later run may use it.
+//! The cache is the folder `units`, below the one that the program runs in. It stays there, and a later run may use
+//! it.
 mod units;
 
 use crate::threads::units::{UNITS, Unit};
@@ -29,7 +30,7 @@ fn compile(rt: HostRuntime, unit: &Unit) -> Result<()> {
     unit.compile(&mut env)
 }
 
-/// Stores the interfaces of all units, each in a thread of its own, and returns once all threads have ended. Where the
+/// Stores the interfaces of all units, each in a thread of its own, and returns once all threads have ended. If the
 /// system gives no thread, the calls are made one after another, which serves since none waits for another one. `rt`
 /// starts the threads, and `host`, the same runtime, goes to each.
 fn store_all<R: Threads + Sync>(rt: &R, host: HostRuntime) -> Result<()> {

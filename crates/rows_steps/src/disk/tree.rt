@@ -56,8 +56,7 @@ pub(crate) fn disk_of(alloc: Global, text: &str) -> Result<Disk, Flaw> {
     Ok(disk)
 }
 
-/// The targets of a disk's links, in the order of their paths, as its `Debug` text shows them: no answer gives a
-/// target.
+/// The targets of a disk's links, in the order of their paths, as its `Debug` text shows them: no answer has one.
 #[derive(Clone, Copy)]
 struct Targets<'a> {
     rest: &'a str,
