@@ -29,7 +29,7 @@ where
     Ok((count, sri))
 }
 
-/// The same with a writer that has a worker in a thread of its own.
+/// The same with a writer whose worker runs in a thread of its own.
 fn made<R>(rt: R, mut env: Memory) -> Result<(usize, Integrity)>
 where
     R: Threads + Wait + Clock + RandomSource + AllocGlobal + Copy + Sync + Send + 'static,

@@ -4,7 +4,7 @@ use anyhow::Result;
 use cacache::env::Memory;
 use std::io::Write;
 
-/// A content that is written in pieces, one after another.
+/// A content whose pieces are written one after another.
 fn create(rt: HostRuntime, mut env: &mut Memory) -> Result<String> {
     let mut writer = cacache::SyncWriter::create(&mut env, "my-cache", "key")?;
     writer.write_all(b"my ")?;
@@ -14,7 +14,7 @@ fn create(rt: HostRuntime, mut env: &mut Memory) -> Result<String> {
     shown(rt.alloc(), &bytes)
 }
 
-/// A content that is written in pieces, one after another, with an algorithm.
+/// A content whose pieces are written one after another, with an algorithm.
 fn create_with_algo(rt: HostRuntime, mut env: &mut Memory) -> Result<String> {
     let algo = cacache::Algorithm::Sha512;
     let mut writer = cacache::SyncWriter::create_with_algo(&mut env, algo, "my-cache", "key")?;
@@ -24,7 +24,7 @@ fn create_with_algo(rt: HostRuntime, mut env: &mut Memory) -> Result<String> {
     printed(rt.alloc(), algorithm)
 }
 
-/// A content that has its file removed if a write fails.
+/// A content whose file is removed if a write fails.
 fn write_or_abandon(rt: HostRuntime, mut env: &mut Memory) -> Result<String> {
     let mut writer = cacache::SyncWriter::create(&mut env, "my-cache", "key")?;
     writer = writer.write_or_abandon(&mut env, b"my data")?;

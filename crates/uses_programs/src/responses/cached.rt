@@ -79,14 +79,14 @@ impl<S: Store, N: Names> Responses<S, N> {
         Ok(body.len())
     }
 
-    /// Answers a request that has a stale response. Its body stays, since another path may have the same one;
+    /// Answers a request whose response is stale. Its body stays, since another path may have the same one;
     /// `RemoveOpts` can remove it, too.
     fn renew(&mut self, path: &str) -> Result<Answer> {
         remove_sync(&mut self.env, CACHE, path)?;
         Ok(Answer::Stale(self.fetch(path)?))
     }
 
-    /// Answers a request that has a response with this entry: from the cache if it is fresh.
+    /// Answers a request whose response has this entry: from the cache if it is fresh.
     fn answer_from(&mut self, path: &str, entry: &Metadata) -> Result<Answer> {
         if !is_fresh(entry, self.env.clock.now()) {
             return self.renew(path);
