@@ -15,7 +15,7 @@ TellsRead reads old room (Err e) new =
     (failed : IoError) × reads old room (Err failed) new
     × TellsFault (fault_of (error_kind failed)) e
 
--- the reader gave these bytes more, whatever it gave before and checks them against
+-- the reader gave these further bytes, whatever it gave before and checks them against
 abbrev pub ReadsMore : {F : Type 0} → SyncReader F → SyncReader F → List ℕ → Type 0
 ReadsMore old new more =
     (i : List Hash) (bytes : List ℕ)

@@ -43,7 +43,7 @@ ended_seen old new c r es e k =
     ended_at old new c r (seen es) (completed old.desk c) at e.refused e.desk e.held in
     stands new es (ends c) (subst (λ x. StandsAt new (after_ending (seen es) (completed x c))) k.desk there)
 
--- the same of a poll that may be refused for want of memory
+-- the same for a poll that may be refused for lack of memory
 pub answered_seen : (old new : WriterCore) (a : Ask) (r : Result Polled Error) → Answered old new a r
     → IfOk r (λ _. (es : List Event) → HasSeen old es → HasSeen new (es ++ asks a ∷ []))
 answered_seen old new a (Ok p) x = λ es k. polled_seen old new a es x.after x.held k

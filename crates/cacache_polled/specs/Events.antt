@@ -149,8 +149,8 @@ abbrev pub NoWriteOut : State → Type 0
 NoWriteOut (Busy (Write b)) = ⊥
 NoWriteOut s = ⊤
 
--- after any polls and completions, what is held is what was answered, and then the bytes of at most one finished
--- write that isn't answered
+-- after any polls and completions, what is held is what was answered, followed by the bytes of at most one
+-- finished write that isn't answered
 abbrev pub HeldIsAnswered : Type 0
 HeldIsAnswered =
     (es : List Event) → (seen es).held ≡ (seen es).answered ++ unanswered (seen es).desk.finished

@@ -13,7 +13,7 @@ work_of (Busy w) = Some w
 work_of Closed = None
 
 module _ {T : Type 0} (temp : T → PlainTemp) (start : List ℕ) where
-  -- the file has the bytes that it began with, and then those that are held after these polls and endings
+  -- the file has the bytes it began with, then those that are held after these polls and endings
   abbrev pub HasBytes : List Event → T → Type 0
   HasBytes es file = (temp file).bytes ≡ Some (start ++ (seen es).held)
 
@@ -54,7 +54,7 @@ module _ {T : Type 0} (temp : T → PlainTemp) (start : List ℕ) where
       (old new : Kept T) (a : Ask) (r : Result (Option ℕ) Error) → IsPolled old new a r
       → (Whole old → Whole new) × ((w : Work) (file : T) → Away w file old → Away w file new)
 
-  -- who takes the work has the file out
+  -- whoever takes the work has the file out
   abbrev pub TakeBrings : Type 0
   TakeBrings =
       (k : Kept T) (w : Work) → k.work ≡ Some w → Whole k

@@ -40,7 +40,7 @@ module _ {T S C N : Type 0} (temp : T → PlainTemp) (log : S → Option (List L
       × EndsHeld a computed count file (reply_of Stored r))
       ⊎ ((strongest computed ≢ Some a.options.algorithm) × Fails fault.Closed r × (new ≡ old))
 
-  -- what is answered by what is found; a file that a worker lost is closed
+  -- the answer, by what the core finds; a file that a worker lost is closed
   abbrev pub GivesFor : Finish → Option T → Option About → Result (List Hash) Error → Type 0
   GivesFor Busy file a r = ⊥
   GivesFor Closed file a r = Fails fault.Closed r × (new ≡ old)
@@ -49,17 +49,17 @@ module _ {T S C N : Type 0} (temp : T → PlainTemp) (log : S → Option (List L
   GivesFor (Held computed count) (Some file) (Some a) r = EndsAsSaid a computed count file r
   GivesFor (Held computed count) file a r = Fails fault.Closed r × (new ≡ old)
 
-  -- so it is for what the core finds, or there was no memory and no step
+  -- this holds for what the core finds, or there was no memory and no step
   abbrev pub Gives : WriterCore → List ℕ → Option T → Option About → Result (List Hash) Error → Type 0
   Gives core bytes file a r =
       ((r ≡ Err OutOfMemory) × (new ≡ old))
       ⊎ ((f : Finish) × CommitFinds core bytes f × GivesFor f file a r)
 
-  -- so it is for something found, whatever it is
+  -- this holds for something that was found, whatever it is
   abbrev pub GivesSome : Option T → Option About → Result (List Hash) Error → Type 0
   GivesSome file a r =
       ((r ≡ Err OutOfMemory) × (new ≡ old)) ⊎ ((f : Finish) × GivesFor f file a r)
 
-  -- so it is for something found, with some file: those that lay under the lock
+  -- this holds for something that was found, with some file: those that lay under the lock
   abbrev pub GivesLocked : Option About → Result (List Hash) Error → Type 0
   GivesLocked a r = (file : Option T) × GivesSome file a r

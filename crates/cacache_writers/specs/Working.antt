@@ -19,7 +19,7 @@ abbrev pub Appended : Option (List ℕ) → Option (List ℕ) → List ℕ → C
 Appended old new b (Wrote n) = Appends old new (take n b)
 Appended old new b c = Keeps old new
 
--- the file answered its write of so many bytes so
+-- the file gave this answer to its write of so many bytes
 abbrev pub Answered :
     {T : Type 0} → (T → ℕ → Result ℕ io.Error → T → Type 0) → T → ℕ → T → Completion → Type 0
 Answered writes old size new (Wrote n) = writes old size (Ok n) new
@@ -27,13 +27,13 @@ Answered writes old size new (Failed f) =
     (e : io.Error) × writes old size (Err e) new × (f ≡ fault_of (error_kind e))
 Answered writes old size new c = ⊥
 
--- the file answered its removal so
+-- the file gave this answer to its removal
 abbrev pub RemovalAnswered : {T : Type 0} → (T → Result ⊤ Fault → Type 0) → T → Completion → Type 0
 RemovalAnswered removes file Removed = removes file (Ok tt)
 RemovalAnswered removes file (Failed f) = removes file (Err f)
 RemovalAnswered removes file c = ⊥
 
--- what contracts know of the file: as what it is seen, the bytes that a flush keeps, and what its writes and its
+-- what contracts know of the file: what it is seen as, the bytes that a flush keeps, and what its writes and its
 -- removal may answer
 module _ {T : Type 0} (temp : T → PlainTemp) (contents : T → Option (List ℕ))
     (writes : T → ℕ → Result ℕ io.Error → T → Type 0) (removes : T → Result ⊤ Fault → Type 0) where

@@ -32,7 +32,7 @@ impl Drop for About {
 }
 
 impl About {
-    /// What these options say of a content of the cache under the key.
+    /// What these options say about a content of the cache under the key.
     pub(crate) fn new(
         alloc: Global,
         cache: &str,

@@ -8,7 +8,7 @@
 //! - `file`: a temporary file whose writes are polled
 //! - `kept`: what lies under the lock of a polled file
 //! - `laws`: laws of a polled file that one worker alone writes
-//! - `opening`: polled writers are opened
+//! - `opening`: how polled writers are opened
 //! - `removal`: temporary files that are removed without a store
 //! - `shared`: what a polled file and its workers share
 //! - `work`: work that is done with a temporary file

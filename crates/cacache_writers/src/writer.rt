@@ -146,8 +146,8 @@ impl<T: Drop> Writer<T> {
     /// Commits what was written, once no work is out, as `SyncWriter::commit` does. The example of `poll_write` runs
     /// it.
     ///
-    /// `IoError` with `Closed` after a close, with `Cancelled` after a worker quit with work undone, and with the fault of
-    /// a failed write that no poll answered; else errors are those of `SyncWriter::commit`.
+    /// `IoError` with `Closed` after a close, with `Cancelled` after a worker quit with work undone, and with the
+    /// fault of a failed write that no poll answered; other errors are those of `SyncWriter::commit`.
     pub fn commit<'a, R: Wait, S: Store<Temp = T>, C: Clock, N: Names>(
         self,
         rt: &'a R,

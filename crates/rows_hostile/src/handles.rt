@@ -14,7 +14,7 @@ use std::io::{Read, Write};
 /// The integrity of `hello world`, as `openssl dgst -sha256 -binary | base64` prints its digest.
 const BOTH: &str = "sha256-uU0nuZNNPgilLlLX2n2r+sSE7+N6U4DukIj3rOLvzek=";
 
-/// What a writer is handed.
+/// What a writer gets.
 const PARTS: [&str; 3] = ["hello", " worl", "d"];
 
 /// An environment over a faulty store.
@@ -186,7 +186,7 @@ fn told(env: &On, said: &str, end: Answered<Integrity>) -> Result<String, AllocE
     with_kept(env, format!(in env.alloc; "{said}, {end}"))
 }
 
-/// What a writer that is handed all at once says of it, its commit, and what is stored then.
+/// What a writer that gets all bytes at once says about it, its commit, and what is stored then.
 fn write_whole(env: &mut On) -> Result<String, AllocError> {
     let mut writer = match WriteOpts::new().open_hash_sync(env, "c") {
         Ok(writer) => writer,
@@ -199,7 +199,7 @@ fn write_whole(env: &mut On) -> Result<String, AllocError> {
     told(env, said, end)
 }
 
-/// What a writer's commit answers that hands each part on or is abandoned, or why it was.
+/// What a writer's commit answers if each part is written, or why the writer was abandoned.
 fn commit_or_abandon(env: &mut On, count: usize) -> Answered<Integrity> {
     let mut writer = WriteOpts::new().open_sync(env, "c", "k")?;
     for part in PARTS.get(..count).unwrap_or(&PARTS) {

@@ -13,11 +13,11 @@ use std::alloc::{AllocError, Global};
 #[derive(Drop)]
 pub(crate) struct Scripts {
     alloc: Global,
-    /// Whether a row was tried to its end that was not as it is to be.
+    /// Whether a row was tried to its end and differed from what it should be.
     pub(crate) differs: bool,
 }
 
-/// What came of runs with these changes: how many there were, or how the first one differs that does.
+/// What came of runs with these changes: how many there were, or if some differ, how the first of them does.
 fn all_played(alloc: Global, changes: &[Change]) -> Result<String, AllocError> {
     let mut tally = Tally::NONE;
     for change in changes {

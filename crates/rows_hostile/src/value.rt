@@ -141,7 +141,7 @@ impl Value {
         false
     }
 
-    /// A content goes.
+    /// A content is removed.
     pub(crate) fn drop_content(&mut self, content: Content) -> Result<(), AllocError> {
         let mut others = Vec::new(self.alloc);
         for other in &self.contents {
@@ -158,7 +158,7 @@ impl Value {
         self.bucket.is_some()
     }
 
-    /// The bucket goes.
+    /// The bucket is removed.
     pub(crate) fn drop_bucket(&mut self) {
         set(&mut self.bucket, None);
     }

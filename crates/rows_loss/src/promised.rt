@@ -58,7 +58,7 @@ impl<'h> Drop for Story<'h> {
     }
 }
 
-/// What a call says: its key, its entry, and whether it is durable; None of one that adds no entry.
+/// What a call says: its key, its entry, and whether it is durable; None if it adds no entry.
 fn said(command: &Command) -> Option<(&str, Added, bool)> {
     let added = |moment, is_tombstone| Added {
         moment,
@@ -311,7 +311,7 @@ impl<'h> Story<'h> {
         Ok(count)
     }
 
-    /// How many keys' lookups find something else than without the loss.
+    /// How many keys' lookups find something other than they would without the loss.
     pub(crate) fn lost_lookups(&self, loss: &Loss) -> Result<u64, AllocError> {
         let mut count: u64 = 0;
         for entries in &self.keys {

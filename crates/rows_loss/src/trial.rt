@@ -113,7 +113,7 @@ fn lists_of(words: &str) -> Result<Lists, Flaw> {
     })
 }
 
-/// So many random histories, each with a loss at a random moment, or how the first one differs that does.
+/// So many random histories, each with a loss at a random moment, or if some differ, how the first of them does.
 fn all_lost(alloc: Global, asked: Lists) -> Result<String, Flaw> {
     let mut random = Random::new(asked.seed as u64);
     let mut count = Count {

@@ -65,7 +65,7 @@ fn holds(rt: &impl Print, alloc: Global, line: &str) -> io::Result<bool> {
     counted(rt, alloc, row, &mut counts)
 }
 
-/// The same of a row that was read, which counts here.
+/// The same for a row that was read, which counts here.
 fn counted(rt: &impl Print, alloc: Global, row: Row, counts: &mut Counts) -> io::Result<bool> {
     let count = differing(rt, alloc, row, counts)?;
     let word = if count == 0 { "ok" } else { "wrong" };

@@ -227,7 +227,7 @@ impl<'h> Model<'h> {
         }
     }
 
-    /// A step of a caller's call was made: how it went otherwise than it is to, if so.
+    /// A step of a caller's call was made: how it differs from what it should be, if it does.
     fn stepped(
         &mut self,
         caller: usize,
@@ -247,7 +247,7 @@ impl<'h> Model<'h> {
         Ok(None)
     }
 
-    /// A caller's call replied: how it did otherwise than it was to, if so.
+    /// A caller's call replied: how the reply differs from what it should be, if it does.
     fn replied(
         &self,
         caller: usize,

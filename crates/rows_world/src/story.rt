@@ -47,7 +47,7 @@ impl<'h> Drop for Story<'h> {
     }
 }
 
-/// Why a step shows nothing, if so. That a file is missing shows what is so.
+/// Why a step shows nothing, if so. A missing file shows something true.
 fn hidden_by(answer: &PlainAnswer) -> Option<Fault> {
     fault_in(answer).filter(|fault| *fault != Fault::NotFound)
 }

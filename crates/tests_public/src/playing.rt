@@ -126,7 +126,7 @@ fn came(alloc: Global, world: &mut World, row: &Row) -> Result<String, AllocErro
     }
 }
 
-/// The row's number and what came of it, if that is something else than it says.
+/// The row's number and what came of it, if that is something other than it says.
 fn other(
     alloc: Global,
     world: &mut World,

@@ -85,7 +85,7 @@ fn begun(alloc: Global, world: &mut World, to: &str) -> Result<Result<(), WorldF
     Ok(world.begin(0, export_to(alloc, to)?))
 }
 
-/// The same of the exports to all the targets, one after the other.
+/// The same for the exports to all the targets, one after the other.
 fn all_begun(alloc: Global, world: &mut World) -> Result<Vec<Result<(), WorldFault>>, AllocError> {
     let mut all = Vec::new(alloc);
     for to in TARGETS {

@@ -141,7 +141,7 @@ where
     }
 }
 
-/// What comes of a future that is handed a disk in memory.
+/// What comes of a future that gets a disk in memory.
 fn taking<R>(rt: R, host: HostRuntime, name: &str) -> Result<String>
 where
     R: Threads + Wait + Clock + RandomSource + AllocGlobal + Copy + Sync + Send + 'static,

@@ -136,7 +136,7 @@ pub(crate) fn run<R>(rt: &R, host: HostRuntime) -> Result<()>
 where
     R: Wait + RandomSource + Print + AllocGlobal,
 {
-    // `Folders` and `folders` in the place of these keep the cache in real folders.
+    // `Folders` and `folders` instead of these keep the cache in real folders.
     let mut place: Memory = memory(host, "/")?;
     download_both(rt, &mut place)
 }

@@ -43,7 +43,7 @@ fn answer_all<S: Store, N: Names>(env: Env<S, SetClock, N>) -> Result<String> {
 /// Answers the requests from a cache, and prints what became of them.
 pub(crate) fn run(rt: HostRuntime) -> Result<()> {
     let alloc = rt.alloc();
-    // `FolderStore::new(rt)` in the place of this store keeps the responses in real folders.
+    // `FolderStore::new(rt)` instead of this store keeps the responses in real folders.
     let store = MemStore::new(alloc)?;
     let clock = SetClock { second: 0 };
     let names = ProcessNames::new(rt);

@@ -8,8 +8,8 @@ use cacache_store::store::Store;
 use std::io::ErrorKind;
 use std::rt::Files;
 
-/// A store that may know more of a failed step than its fault. Who has real folders alone needs no such trait, and calls
-/// `FolderStore::reason`.
+/// A store that may know more of a failed step than its fault. A caller that has only real folders needs no such
+/// trait, and calls `FolderStore::reason`.
 pub trait Reasons: Store {
     /// What it knows.
     ghost known: { Self → Option ErrorKind };

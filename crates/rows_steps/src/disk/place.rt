@@ -50,7 +50,7 @@ fn with_copy(alloc: Global, heard: Heard, copied: &str) -> Result<Heard, Flaw> {
     Ok(Heard { text, handle })
 }
 
-/// The same of an answer and its copy.
+/// The same for an answer and its copy.
 fn both(alloc: Global, answer: PlainAnswer, copy: PlainAnswer) -> Result<Heard, Flaw> {
     let copied = shown_answer(alloc, &copy);
     let_go(copy);
@@ -205,7 +205,7 @@ impl Place {
         }
     }
 
-    /// What a copy of the disk holds once that is made which a word says.
+    /// What a copy of the disk holds once what a word says is made.
     pub(crate) fn copied(&self, alloc: Global, word: &str) -> Result<String, Flaw> {
         match self {
             Place::Disk(disk) => shown_copy(alloc, disk, word),

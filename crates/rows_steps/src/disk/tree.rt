@@ -178,13 +178,13 @@ pub(crate) fn shown_tree(alloc: Global, disk: &mut Disk) -> Result<String, Alloc
     Ok(text)
 }
 
-/// All that a disk holds once that is made which a word says.
+/// All that a disk holds once what a word says is made.
 fn shown_with(alloc: Global, disk: &mut Disk, word: &str) -> Result<String, Flaw> {
     make(alloc, disk, word)?;
     Ok(shown_tree(alloc, disk)?)
 }
 
-/// What a copy of a disk holds once that is made which a word says.
+/// What a copy of a disk holds once what a word says is made.
 pub(crate) fn shown_copy(alloc: Global, disk: &Disk, word: &str) -> Result<String, Flaw> {
     let mut copy = disk.clone()?;
     let shown = shown_with(alloc, &mut copy, word);

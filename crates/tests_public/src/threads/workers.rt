@@ -112,7 +112,7 @@ fn wrote<R: Wait + RandomSource + AllocGlobal, T: Drop>(
     })
 }
 
-/// What the polls were answered.
+/// What the polls answered.
 #[derive(Clone, Copy)]
 struct Seen {
     begun: usize,
