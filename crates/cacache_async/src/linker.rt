@@ -1,4 +1,4 @@
-//! Links whose target is read by polls before they are made.
+//! Links that are made after their target is read by polls.
 ghost use Rattle.std.specs.Prelude.{◌≡◌, ◌++◌, ℕ, List, None, Some, IfOk, length};
 ghost use Rattle.std.specs.Io.{ReadsAtMost};
 ghost use Rattle.std.specs.Io.KnownBytes.{ReadConsumes};
@@ -29,8 +29,8 @@ use std::alloc::Global;
 use std::io;
 use std::io::Read;
 
-/// An open file that is to become a content by a link to it, and that is read by polls: a `SyncToLinker`, whose reads
-/// are answered at once. Nothing is saved before its `commit`.
+/// An open file that is to become a content by a link to it, and that is read by polls: a `SyncToLinker` that answers
+/// its reads at once. Nothing is saved before its `commit`.
 #[derive(Drop)]
 pub struct ToLinker<F> {
     pub(crate) linker: SyncToLinker<F>,

@@ -25,7 +25,7 @@ use std::alloc::Global;
 use std::io;
 use std::io::Read;
 
-/// An open content that is read by polls: a `SyncReader`, whose reads are answered at once. No byte is verified before
+/// An open content that is read by polls: a `SyncReader` that answers its reads at once. No byte is verified before
 /// `check`: always call that at the end.
 #[derive(Drop)]
 pub struct Reader<F> {

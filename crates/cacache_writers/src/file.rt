@@ -1,4 +1,4 @@
-//! A temporary file whose writes are polled.
+//! A temporary file that is written by polls.
 ghost use Rattle.std.specs.Prelude.{◌≡◌, IfOk, IfErr};
 ghost use Rattle.std.specs.Arc.{arc_value};
 ghost use Rattle.cacache_core.specs.declared.errors.Error.TheVariants.{OutOfMemory};

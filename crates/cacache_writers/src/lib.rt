@@ -5,7 +5,7 @@
 //! - `commit`: what the commit of a polled writer does with the core and the temporary file, which are lent to it
 //! - `committing`: the commit of a polled writer as a future
 //! - `creating`: futures that open polled writers
-//! - `file`: a temporary file whose writes are polled
+//! - `file`: a temporary file that is written by polls
 //! - `kept`: what lies under the lock of a polled file
 //! - `laws`: laws of a polled file that one worker alone writes
 //! - `opening`: how polled writers are opened

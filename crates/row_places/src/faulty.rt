@@ -1,4 +1,4 @@
-//! A store whose files fail if a row says so, and do a part of their work.
+//! A store with files that fail if a row says so, and do a part of their work.
 ghost use Rattle.std.specs.Prelude.{◌≡◌, ◌+◌, ◌≤◌, None, IfOk, length};
 ghost use Rattle.row_places.specs.Seen.{FitsSeen};
 
@@ -183,7 +183,7 @@ pub struct Faulty {
 }
 
 impl Faulty {
-    /// The store whose files fail so.
+    /// The store with files that fail so.
     pub fn new(alloc: Global, mishaps: Mishaps) -> Result<Faulty, AllocError> {
         let path = Text::from_str(alloc, "")?;
         let bytes = Bytes::new(alloc, Vec::from_slice(alloc, TEXT)?)?;

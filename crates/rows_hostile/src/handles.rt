@@ -55,7 +55,7 @@ fn asked_of(kind: &str, words: &str) -> Result<Asked, Flaw> {
     }
 }
 
-/// An environment whose read or write of this number fails, and whose writes take three bytes at most.
+/// An environment that fails at the read or write of this number, and takes at most three bytes a write.
 fn on(alloc: Global, asked: Asked) -> Result<On, AllocError> {
     let mishaps = Mishaps {
         fails: Some(asked.fails),

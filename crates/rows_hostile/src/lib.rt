@@ -1,5 +1,5 @@
-//! Plays a script of six calls on a world in memory, with each way in which one of its steps may go otherwise, and compares it
-//! event by event with a slow, plain model of what the definitions say. Each row has two columns:
+//! Plays a script of six calls on a world in memory, with each way in which one of its steps may go otherwise. Each
+//! run is compared event by event with a slow, plain model of what the definitions say. Each row has two columns:
 //!
 //!     KIND | RESULT
 //!
@@ -10,9 +10,9 @@
 //! how many moves and replies they had, and how many of these were failures. `memory` is the plain script, in which one growth of
 //! memory may be refused: `rt try --fail-alloc` refuses each in turn.
 //!
-//! `puts` are two puts of one key whose moves meet. `reader`, `writer` and `linker` are handles over a store that fails one read
-//! or write: which one, and how many there are before the end. `whole` is a writer that gets all bytes at once, and
-//! `abandons` one that is given up if a write fails, also if its file `stays`.
+//! `puts` are two puts of one key, with moves that meet. `reader`, `writer` and `linker` are handles over a store
+//! that fails one read or write: which one, and how many there are before the end. `whole` is a writer that gets all
+//! bytes at once, and `abandons` one that is given up if a write fails, also if its file `stays`.
 //!
 //! The model uses only the words for luck and faults from the cache's own code. What a key's bucket, a content's
 //! place and a line are is written out, as other tools say it.

@@ -1,4 +1,4 @@
-//! Two puts of one key whose moves meet: so many of the first one's, all of the second one's, and then the rest.
+//! Two puts of one key, with moves that meet: so many of the first one's, all of the second one's, and then the rest.
 use crate::facts::{CONTENTS, Content};
 use crate::model::Call;
 use crate::side::{Came, Sides};
@@ -46,7 +46,7 @@ fn holds_both(sides: &Sides, first: Content, second: Content) -> Result<bool, Al
     Ok(value.has(first) && value.has(second) && entries.as_slice() == [second, first].as_slice())
 }
 
-/// What a lookup should answer: that of the put whose append came later.
+/// What a lookup should answer: that of the put with the later append.
 fn finds(alloc: Global, sides: &mut Sides, first: Content) -> Result<bool, AllocError> {
     sides.begin(1, Call::Find)?;
     let wanted = found(alloc, first)?;

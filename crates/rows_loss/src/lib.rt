@@ -6,10 +6,10 @@
 //!     moves CALLS | RESULT
 //!
 //! The first plays so many random lists of calls, each up to a random event, and has a random loss at its end. Each
-//! name that changed since its folder was synced is as it was then, or as it is now, and a file that wasn't synced
-//! since its last write ends in random bytes after what is fixed of it. What a durable commit stored and answered
-//! must be there, and a lookup of its key must give its entry or a later one; otherwise the row fails. The result
-//! says how many other contents were lost, and how many lookups found something other than before.
+//! name that changed since its folder was synced is as it was then, or as it is now. A file that wasn't synced since
+//! its last write ends in random bytes after what is fixed of it. What a durable commit stored and answered must be
+//! there, and a lookup of its key must give its entry or a later one; otherwise the row fails. The result says how
+//! many other contents were lost, and how many lookups found something other than before.
 //!
 //! The second makes puts of one caller, `durable KEY DATA` or `plain KEY DATA`, with a number if the caller stops
 //! after so many moves, and a `!` after it if the next move fails. The loss undoes `all` names, the `content` of the

@@ -3,12 +3,12 @@
 //!
 //!     lists 1000 seed 7 callers 3 events 40
 //!
-//! An event begins a call on one of three keys and contents, moves it on under some luck, or stops it. Exports go to few
-//! paths, so that they meet, and links lead to outside files; some may not begin. The model holds each content, a file or a
-//! link, each bucket, and the files outside the cache. It is changed by the steps of the world's history alone. It says which
-//! commands may begin, which steps of exports and links fail and how, and what each reply is to be; at the end of a list its
-//! files are compared with those of the disk, and its links by the bytes that they lead to. A row prints what it counted, and
-//! each list that differs prints how at first.
+//! An event begins a call on one of three keys and contents, moves it on under some luck, or stops it. Exports go to
+//! few paths, so that they meet, and links lead to outside files; some may not begin. The model holds each content, a
+//! file or a link, each bucket, and the files outside the cache. It is changed by the steps of the world's history
+//! alone. It says which commands may begin, which steps of exports and links fail and how, and what each reply is to
+//! be. At the end of a list its files are compared with those of the disk, and its links by the bytes that they lead
+//! to. A row first prints how each list that differs does so, and then what it counted.
 //!
 //! Left out: folders of the cache, temporary files, the messages of errors, and whether a step was the right one to
 //! make, except for exports and for what a reply shows.

@@ -1,4 +1,4 @@
-//! A reader and a linker over a store whose open file fails one read.
+//! A reader and a linker over a store that fails one read of its open file.
 use cacache::content::read::{Reader, open};
 use cacache::{Error, Integrity, WriteOpts};
 use cacache_core::keeping::{beside, let_go};

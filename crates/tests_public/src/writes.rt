@@ -1,4 +1,5 @@
-//! A writer over a store whose temporary file takes at most three bytes a write, and interrupts every other one.
+//! A writer over a store that takes at most three bytes a write to its temporary file, and interrupts every other
+//! one.
 use cacache::{Integrity, WriteOpts};
 use cacache_core::keeping::{beside, let_go};
 use row_places::{Faulty, Mishaps, On, on};

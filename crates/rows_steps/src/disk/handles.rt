@@ -1,5 +1,5 @@
-//! Open and temporary files as words: `3=abc` is an open file with three bytes left, `t=ab` a temporary file at `t`, `?` stands
-//! for bytes that aren't known, and `held` for the handle of the last answer that had one.
+//! Open and temporary files as words: `3=abc` is an open file with three bytes left, `t=ab` a temporary file at `t`.
+//! `?` stands for bytes that aren't known, and `held` for the handle of the last answer that had one.
 use crate::disk::shown::{shown_file, shown_temp};
 use crate::disk::words::{bytes_of, text_of};
 use cacache_core::bytes::Bytes;

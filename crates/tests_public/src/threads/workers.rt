@@ -142,7 +142,7 @@ fn polls<R: Wait + RandomSource + AllocGlobal, T: Drop>(
     })
 }
 
-/// A file whose bytes are counted.
+/// A file that counts its bytes.
 fn counting<'a, R: AllocGlobal>(
     rt: &R,
     taken: &'a AtomicU64,
@@ -164,7 +164,7 @@ fn worker_of<T: Drop>(file: &PolledFile<T>) -> io::Result<Worker<T>> {
     }
 }
 
-/// A file whose bytes are counted, and its worker.
+/// A file that counts its bytes, and its worker.
 fn file_with_worker<'a, R: AllocGlobal>(
     rt: &R,
     taken: &'a AtomicU64,
