@@ -1,4 +1,4 @@
-//! Laws that a caller's own proof may cite: functions without a body. Their contracts say what follows from the
+//! Laws that a caller's own proof may cite: functions without a body, with contracts that say what follows from the
 //! calls, entries and histories. Those named `after_..` are called after a call on a store in memory, with its
 //! arguments and its answer: they say what it left. The words of their contracts are those of `specs/Laws`, and for
 //! worlds and losses those of `specs/Histories`.
