@@ -1,4 +1,4 @@
--- What calls do, for the crates above: commands, replies, runs, and how a job stands.
+-- What calls do, for the crates above: commands, replies, runs, and the states of a job.
 pub use Rattle.cacache_core.specs.declared.errors.Error.{Error}
 pub use Rattle.cacache_store.specs.declared.env.Env.{Env}
 pub use Rattle.cacache_table.specs.declared.command.Command.TheVariants.{Put, Link, Insert, Delete, Find, Get, GetHash, Exists, RemoveHash, RemoveFully, Export, Clear, Ls}

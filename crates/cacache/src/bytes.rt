@@ -1,2 +1,2 @@
-//! Bytes that are shared in place of being copied.
+//! Bytes that are shared instead of being copied.
 pub use cacache_core::bytes::Bytes;

@@ -1,4 +1,4 @@
-//! What a call answers where it fails.
+//! What a call answers if it fails.
 pub use cacache_core::errors::{
     Error, Fault, IntegrityFault, IoErrorExt, Quoting, Result, SerdeCause, io_error,
 };

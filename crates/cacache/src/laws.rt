@@ -1,7 +1,7 @@
-//! Laws that a caller's own proof may cite: functions without a body, whose contracts say what follows of the calls, of
-//! entries and of histories. Those named `after_..` are called behind a call on a store in memory, with what it was handed and
-//! what it answered: they say what it left. The words of their contracts are those of `specs/Laws`, and where they speak of
-//! worlds and losses of `specs/Histories`.
+//! Laws that a caller's own proof may cite: functions without a body, with contracts that say what follows from the
+//! calls, entries and histories. Those named `after_..` are called after a call on a store in memory, with its
+//! arguments and its answer: they say what it left. The words of their contracts are those of `specs/Laws`, and for
+//! worlds and losses those of `specs/Histories`.
 pub use cacache_core::laws::{integrity_laws, path_laws, text_laws};
 pub use cacache_durable::durable_laws;
 pub use cacache_entry::{bucket_laws, entry_laws, lookup_laws};

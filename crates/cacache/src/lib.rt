@@ -1,5 +1,5 @@
-//! A content-addressed disk cache: bytes are stored once under what they are known by, found again by a key
-//! or by their integrity, and verified whenever they are read. This crate gives on what the others hold.
+//! A content-addressed disk cache: bytes are stored once under what they are known by, found again by a key or by
+//! their integrity, and verified whenever they are read. This crate re-exports what the others hold.
 //!
 //! What the ends of a call's name say:
 //!
@@ -8,8 +8,8 @@
 //! - `_hash`: a content is stored or named by its integrity alone. The index isn't asked, so no key is needed and no
 //!   entry.
 //! - `_unchecked`: the content isn't verified.
-//! - `_with_algo`: the caller chooses the algorithm of the integrity, which else is SHA-256.
-//! - `_vec`: the bytes are moved in, so that none is copied.
+//! - `_with_algo`: the caller chooses the algorithm of the integrity, which is SHA-256 otherwise.
+//! - `_vec`: the bytes are moved in, so none is copied.
 #![tactic(auto)]
 
 pub mod bytes;

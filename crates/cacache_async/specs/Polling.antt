@@ -6,7 +6,7 @@ use Rattle.cacache_content.specs.{declared.reader.SyncReader.{SyncReader}, OpenR
 use Rattle.cacache_put.specs.declared.linker.SyncToLinker.{SyncToLinker}
 use Rattle.cacache_async.specs.{Waiting.{TellsFault}, declared.{reader.Reader.{Reader}, linker.ToLinker.{ToLinker}}}
 
--- a poll tells what a read of the handle answered: how many bytes there were, or the fault
+-- a poll answers as a read of the handle did: how many bytes there were, or the fault
 abbrev pub TellsRead :
     {F : Type 0} → (F → ℕ → Result ℕ IoError → F → Type 0)
     → F → ℕ → Result ℕ Error → F → Type 0
@@ -15,7 +15,7 @@ TellsRead reads old room (Err e) new =
     (failed : IoError) × reads old room (Err failed) new
     × TellsFault (fault_of (error_kind failed)) e
 
--- the reader gave these bytes more, whatever it gave before and checks them against
+-- the reader gave these further bytes, whatever it gave before and checks them against
 abbrev pub ReadsMore : {F : Type 0} → SyncReader F → SyncReader F → List ℕ → Type 0
 ReadsMore old new more =
     (i : List Hash) (bytes : List ℕ)

@@ -1,4 +1,4 @@
--- What is to be linked by what an opening is called with.
+-- What an opening is to link, by what it is called with.
 use Rattle.std.specs.Prelude.{ℕ, List, option_map}
 use Rattle.cacache_put.specs.{OpenLinkers.{LinkTarget, linked_by}, Options.{nothing_said}}
 use Rattle.cacache_async.specs.declared.linking.{SizedTargetCall.{SizedTargetCall}, TargetCall.{TargetCall}}

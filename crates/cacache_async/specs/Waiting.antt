@@ -4,7 +4,7 @@ use Rattle.cacache_core.specs.declared.errors.{Error.{Error, TheVariants.{IoErro
 use Rattle.cacache_store.specs.declared.env.Env.{Env}
 use Rattle.cacache_async.specs.declared.future.CallFuture.{CallFuture}
 
--- this error tells the fault, or that there was no memory to tell it
+-- this error has the fault, or says that there was no memory for its message
 abbrev pub TellsFault : Fault → Error → Type 0
 TellsFault fault (IoError f message) = f ≡ fault
 TellsFault fault OutOfMemory = ⊤

@@ -8,7 +8,7 @@ use cacache_store::env::Env;
 
 /// A call with its arguments, which may be made once.
 pub trait Call<S, C, N>: Drop {
-    /// What the call answers where it doesn't fail.
+    /// What the call answers if it doesn't fail.
     type Output;
 
     /// In the first environment the call may answer so, and leaves the second one: the contract of the call that isn't a

@@ -21,7 +21,8 @@ pub struct CallFuture<'a, S, C, N, K> {
     call: Option<K>,
 }
 
-/// The error of a poll that failed so: `IoError` with the fault, or `OutOfMemory` where there is none for its message.
+/// The error of a poll that failed so: `IoError` with the fault, or `OutOfMemory` if there is no memory for its
+/// message.
 pub fn polling(alloc: Global, fault: Fault) -> Error
     ensures { TellsFault fault result }
 {

@@ -1,11 +1,11 @@
-//! Named futures: each makes, in its first poll, the call that is named after it with `_sync`. Contents and targets of
-//! links that are read by polls. And the future of a call, `CallFuture`, on which all of them stand.
+//! Named futures: each makes, in its first poll, the call that is named after it with `_sync`. Contents and targets
+//! of links that are read by polls. And the future of a call, `CallFuture`, on which all of them are built.
 //!
 //! - `call`: calls with their arguments
 //! - `exports`: futures of the exports: of the content that a key names, and of that of an integrity
 //! - `future`: the future of a call
 //! - `index`: futures of the calls on the index
-//! - `linker`: links whose target is read by polls before they are made
+//! - `linker`: links that are made after their target is read by polls
 //! - `linking`: futures that open the target of a link
 //! - `linkto`: futures of the calls that make a content of a link to a file
 //! - `put`: futures of the calls that store bytes

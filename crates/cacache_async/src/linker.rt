@@ -1,4 +1,4 @@
-//! Links whose target is read by polls before they are made.
+//! Links that are made after their target is read by polls.
 ghost use Rattle.std.specs.Prelude.{◌≡◌, ◌++◌, ℕ, List, None, Some, IfOk, length};
 ghost use Rattle.std.specs.Io.{ReadsAtMost};
 ghost use Rattle.std.specs.Io.KnownBytes.{ReadConsumes};
@@ -29,8 +29,8 @@ use std::alloc::Global;
 use std::io;
 use std::io::Read;
 
-/// An open file that is to become a content by a link to it, and that is read by polls: a `SyncToLinker`, whose reads
-/// are answered at once. Nothing is saved before its `commit`.
+/// An open file that is to become a content by a link to it, and that is read by polls: a `SyncToLinker` that answers
+/// its reads at once. Nothing is saved before its `commit`.
 #[derive(Drop)]
 pub struct ToLinker<F> {
     pub(crate) linker: SyncToLinker<F>,
@@ -121,7 +121,8 @@ impl<F: OpenedFile> ToLinker<F> {
     /// Reads some bytes into the front of `buf`, and answers how many: none only at the end of the target, or if `buf` is
     /// empty. It is always ready.
     ///
-    /// `IoError` has the fault of the read; the linker stands where it stood. `OutOfMemory` may come to its message.
+    /// `IoError` has the fault of the read; the linker stays at the same byte. `OutOfMemory` if there is no memory
+    /// for its message.
     pub fn poll_read(&mut self, cx: &mut Context<'_>, buf: &mut [u8]) -> Poll<Result<usize>>
         ensures ready { OnPending result ⊥ }
         ensures kept { Keeps cx.old cx.new }
@@ -158,7 +159,7 @@ impl<F: OpenedFile> Read for ToLinker<F> {
     ghost remaining = { λ linker. (F.seen linker.linker.file).bytes };
 
     /// Reads some bytes into the front of `buf` and returns how many: none only at the end of the target, or if `buf` is
-    /// empty. After an error the linker stands where it stood, and may go on.
+    /// empty. After an error the linker is at the same byte, and may go on.
     fn read(&mut self, buf: &mut [u8]) -> io::Result<usize>
         ensures bound { ReadsAtMost result buf.new }
         ensures bytes { ReadConsumes (F.seen self.old.linker.file).bytes

@@ -26,7 +26,7 @@ fn polled_linker<F: OpenedFile>(
     Ok(ToLinker { linker, alloc })
 }
 
-/// What a target is opened with, whose size is asked first: a cache, the key that the link is to have, if any, and the
+/// What opens a target and asks for its size first: a cache, the key that the link is to have, if any, and the
 /// target.
 #[derive(Clone, Copy)]
 pub struct SizedTargetCall<'a> {

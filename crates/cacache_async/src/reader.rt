@@ -25,7 +25,7 @@ use std::alloc::Global;
 use std::io;
 use std::io::Read;
 
-/// An open content that is read by polls: a `SyncReader`, whose reads are answered at once. No byte is verified before
+/// An open content that is read by polls: a `SyncReader` that answers its reads at once. No byte is verified before
 /// `check`: always call that at the end.
 #[derive(Drop)]
 pub struct Reader<F> {
@@ -134,7 +134,8 @@ impl<F: OpenedFile> Reader<F> {
     /// Reads some bytes into the front of `buf`, and answers how many: none only at the end of the content, or if `buf` is
     /// empty. It is always ready.
     ///
-    /// `IoError` has the fault of the read; the reader stands where it stood. `OutOfMemory` may come to its message.
+    /// `IoError` has the fault of the read; the reader stays at the same byte. `OutOfMemory` if there is no memory
+    /// for its message.
     pub fn poll_read(&mut self, cx: &mut Context<'_>, buf: &mut [u8]) -> Poll<Result<usize>>
         ensures ready { OnPending result ⊥ }
         ensures kept { Keeps cx.old cx.new }
@@ -176,7 +177,7 @@ impl<F: OpenedFile> Read for Reader<F> {
     ghost remaining = { λ reader. (F.seen reader.reader.file).bytes };
 
     /// Reads some bytes into the front of `buf` and returns how many: none only at the end of the content, or if `buf` is
-    /// empty. After an error the reader stands where it stood, and may go on.
+    /// empty. After an error the reader is at the same byte, and may go on.
     fn read(&mut self, buf: &mut [u8]) -> io::Result<usize>
         ensures bound { ReadsAtMost result buf.new }
         ensures bytes { ReadConsumes (F.seen self.old.reader.file).bytes

@@ -1,4 +1,5 @@
--- What is held is what was answered, and then the bytes of at most one finished write, over every list of polls and completions.
+-- What is held is what was answered, followed by the bytes of at most one finished write, over every list of polls and
+-- completions.
 use Rattle.std.proofs.{Common.{◌≡◌, ℕ, Bool, true, false, List, [], ◌∷◌, ◌++◌, length, take, Option, Some, None, Result, Ok, Err, nat_le, refl, ◌∙◌, ap, arith, append-nil}, lemmas.{Slice.Eq.{bytes_eq-Decides}, Grind.{common_steps}}}
 use Rattle.std.specs.Prelude.{bytes_eq, if◌then◌else◌, ⊤}
 use Rattle.cacache_core.specs.declared.errors.Fault.{Fault, TheVariants.{OtherBytes}}
@@ -29,7 +30,7 @@ resting d held answered b (Some f) p e k =
 resting d held answered [] None p e k = grind (arith, common_steps)
 resting d held answered (x ∷ b) None p e k = grind (arith, common_steps)
 
--- the answer tells a fault or waits, whichever the test says
+-- the answer is a fault or waits, whichever the test says
 either_way : (d : Desk) (held answered b : List ℕ) (t : Bool) → IsKept d held answered
     → IsKept d held (answered ++ taken_by (ask_write b) (if t then polls.Pending else polls.Failed OtherBytes))
 either_way d held answered b true k = same d held answered k
@@ -82,7 +83,7 @@ polled_kept d held answered ask_close k = close_kept d held answered d.state ref
 abbrev IsKeptSeen : Seen → Type 0
 IsKeptSeen r = IsKept r.desk r.held r.answered
 
--- a write is over: the follow's finished write was none before
+-- a write is over: before it no write was finished
 write_over : (r : Seen) (b : List ℕ) (t : Result ℕ Fault) → r.desk.state ≡ Busy (Write b) → IsKeptSeen r
     → IsKept (record (r.desk) { state = Idle; finished = Some (record { bytes = b; outcome = t }) }) (r.held ++ bytes_taken b t) r.answered
 write_over r b t p k =

@@ -10,7 +10,7 @@ follow-snoc s (x ∷ es) e = follow-snoc (happens s x) es e
 pub seen-snoc : (es : List Event) (e : Event) → seen (es ++ e ∷ []) ≡ happens (seen es) e
 seen-snoc es e = follow-snoc (record { desk = fresh; held = []; answered = [] }) es e
 
--- the core stands where this happened
+-- the core has this desk and holds these bytes
 record StandsAt (c : WriterCore) (s : Seen) : Type 0 where
   desk : c.desk ≡ s.desk
   held : HasHeld c s.held
@@ -27,7 +27,7 @@ polled_seen old new a es d r k = stands new es (asks a) (record {
   held = subst (λ c. HasHeld c (seen es).held) (sym r) k.held;
 })
 
--- what a completion does to a core that stands at s, by what the table says of it
+-- what a completion does to a core at s, by what the table says about it
 ended_at : (old new : WriterCore) (c : Completion) (r : Result ⊤ Completion) (s : Seen) (t : Option (Desk × List ℕ)) → StandsAt old s
     → IfNone t ((r ≡ Err c) × (new ≡ old)) → IfSome t (λ d. IsOk r × (new.desk ≡ d.0))
     → IfSome t (λ d. (m : List ℕ) → HasHeld old m → HasHeld new (m ++ d.1))
@@ -43,7 +43,7 @@ ended_seen old new c r es e k =
     ended_at old new c r (seen es) (completed old.desk c) at e.refused e.desk e.held in
     stands new es (ends c) (subst (λ x. StandsAt new (after_ending (seen es) (completed x c))) k.desk there)
 
--- the same of a poll that may be refused for want of memory
+-- the same for a poll that may be refused for lack of memory
 pub answered_seen : (old new : WriterCore) (a : Ask) (r : Result Polled Error) → Answered old new a r
     → IfOk r (λ _. (es : List Event) → HasSeen old es → HasSeen new (es ++ asks a ∷ []))
 answered_seen old new a (Ok p) x = λ es k. polled_seen old new a es x.after x.held k

@@ -75,7 +75,7 @@ counted bytes = min (length bytes) (2 ^ 64 - 1)
 abbrev pub HasHeld : WriterCore → List ℕ → Type 0
 HasHeld c m = Holds c.hasher m × (c.count ≡ counted m)
 
--- the core was asked and told these, in this order, since it was new
+-- the core got these requests and completions, in this order, since it was new
 pub record HasSeen (c : WriterCore) (es : List Event) : Type 0 where
   pub desk : c.desk ≡ (seen es).desk
   pub held : HasHeld c (seen es).held
@@ -112,7 +112,7 @@ finish_in d Idle held = finish_idle d.finished held
 finish_in d (Busy w) held = finish.Busy
 finish_in d Closed held = if d.is_gone then finish.Cancelled else finish.Closed
 
--- what a commit finds where these bytes are held
+-- what a commit finds if these bytes are held
 abbrev pub CommitFinds : WriterCore → List ℕ → Finish → Type 0
 CommitFinds c m f =
     f ≡ finish_in c.desk c.desk.state
@@ -149,8 +149,8 @@ abbrev pub NoWriteOut : State → Type 0
 NoWriteOut (Busy (Write b)) = ⊥
 NoWriteOut s = ⊤
 
--- after any polls and completions, what is held is what was answered, and then the bytes of at most one finished
--- write that isn't answered
+-- after any polls and completions, what is held is what was answered, followed by the bytes of at most one
+-- finished write that isn't answered
 abbrev pub HeldIsAnswered : Type 0
 HeldIsAnswered =
     (es : List Event) → (seen es).held ≡ (seen es).answered ++ unanswered (seen es).desk.finished

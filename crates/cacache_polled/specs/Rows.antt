@@ -21,7 +21,7 @@ FlushKeepsWrite =
     ≡ starts abc ∷ accepted ∷ says (Says OtherBytes) ∷ says (Start work.Flush) ∷ accepted ∷ says Done
     ∷ says (Took 3) ∷ []
 
--- a failed write is told after a flush
+-- a failed write is reported after a flush
 abbrev pub FlushKeepsFault : Type 0
 FlushKeepsFault =
     answers (asks (ask_write abc) ∷ ends (Failed Device) ∷ asks ask_flush ∷ ends Flushed ∷ asks (ask_write abc) ∷ [])
@@ -44,7 +44,7 @@ ShortHeld =
     (seen (asks (ask_write abc) ∷ ends (Wrote 2) ∷ asks (ask_write []) ∷ asks (ask_write abc) ∷ [])).held
     ≡ 97 ∷ 98 ∷ []
 
--- a close waits for the write that is out, and its fault is told once
+-- a close waits for the write that is out, and its fault is reported once
 abbrev pub CloseWaits : Type 0
 CloseWaits =
     answers (asks (ask_write abc) ∷ asks ask_close ∷ ends (Wrote 3) ∷ asks ask_close ∷ asks (ask_write xyz)

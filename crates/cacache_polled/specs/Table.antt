@@ -33,7 +33,7 @@ abbrev pub flush_outcome : Result ⊤ Fault → Polled
 flush_outcome (Ok u) = polls.Done
 flush_outcome (Err f) = polls.Failed f
 
--- a write of these bytes where no work is out, with the write that isn't answered
+-- a write of these bytes while no work is out, with the write that isn't answered
 abbrev pub write_idle : Desk → List ℕ → Option Finished → Desk × Polled
 write_idle d b (Some f) =
     if bytes_eq f.bytes b then (record d { finished = None }, outcome f.outcome)
@@ -92,7 +92,7 @@ abbrev pub ended_write : Desk → State → Result ℕ Fault → Desk
 ended_write d (Busy (Write b)) r = wrote d b r
 ended_write d s r = record d { state = Idle }
 
--- the desk after its work ended so, with the bytes that are held from then on, or None where that doesn't fit the work
+-- the desk after its work ended so, with the bytes that are held from then on; None if that doesn't fit the work
 abbrev pub ended : Desk → State → Completion → Option (Desk × List ℕ)
 ended d (Busy (Write b)) (done.Wrote n) =
     if nat_le n (length b) then Some (wrote d b (Ok n), take n b) else None

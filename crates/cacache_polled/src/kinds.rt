@@ -32,7 +32,7 @@ pub struct Finished {
     pub(crate) outcome: Result<usize, Fault>,
 }
 
-/// All of a core but its bytes.
+/// All of a core except its bytes.
 #[derive(Debug, Drop)]
 pub struct Desk {
     pub(crate) state: State,
@@ -71,12 +71,12 @@ pub enum Polled {
     Start(Work),
 }
 
-/// What a worker says of its work.
+/// What a worker says about its work.
 #[derive(Clone, Copy, Debug, PartialEq, Eq)]
 pub enum Completion {
     /// So many bytes of the write were taken.
     Wrote(usize),
-    /// The work failed; of a write no bytes were taken.
+    /// The work failed; no bytes of a write were taken.
     Failed(Fault),
     /// What was buffered was handed on.
     Flushed,

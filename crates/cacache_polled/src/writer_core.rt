@@ -105,7 +105,7 @@ impl WriterCore {
         }
     }
 
-    /// A poll that writes where no work is out, by the table.
+    /// A poll that writes while no work is out, by the table.
     fn write_idle(&mut self, alloc: Global, bytes: &[u8]) -> Result<Polled>
         requires { self.now.desk.state ≡ State.Idle }
         ensures { Answered self.old self.new (ask_write bytes.now) result }

@@ -23,7 +23,7 @@ abbrev pub Judges : Bool → Setup → ℕ → Command → Type 0
 Judges true s number command = MayAsk s number command
 Judges false s number command = IsBad s command
 
--- so it says in a world, whatever the number and however many callers there are
+-- it says so in a world, whatever the number and however many callers there are
 abbrev pub JudgesIn : Bool → List ℕ → List (List ℕ × List ℕ) → Command → Type 0
 JudgesIn may cache outside command =
     (callers n : ℕ) → Judges may (setup_of cache outside callers) n command

@@ -12,7 +12,7 @@ LeftBy h loss t =
     Lost (home h.setup) (moment_at h h.records).tree (moment_at h h.records).fixed
     (chosen loss.undone.items loss.tails.items) t
 
--- so it is at the end of these records of a world, however many callers it has
+-- this holds at the end of these records of a world, however many callers it has
 abbrev pub LeftAfter :
     List ℕ → List (List ℕ × List ℕ) → List Record → Loss → Tree → Type 0
 LeftAfter cache outside records loss t =

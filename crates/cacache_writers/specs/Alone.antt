@@ -13,11 +13,11 @@ work_of (Busy w) = Some w
 work_of Closed = None
 
 module _ {T : Type 0} (temp : T → PlainTemp) (start : List ℕ) where
-  -- the file has the bytes that it began with, and then those that are held after these polls and endings
+  -- the file has the bytes it began with, then those that are held after these polls and endings
   abbrev pub HasBytes : List Event → T → Type 0
   HasBytes es file = (temp file).bytes ≡ Some (start ++ (seen es).held)
 
-  -- after these the file lies beside the core, and the core's work waits for a worker
+  -- after these the file lies next to the core, and the core's work waits for a worker
   pub record IsWhole (k : Kept T) (es : List Event) (file : T) : Type 0 where
     pub seen_is : HasSeen k.core es
     pub work_is : k.work ≡ work_of k.core.desk.state
@@ -54,14 +54,14 @@ module _ {T : Type 0} (temp : T → PlainTemp) (start : List ℕ) where
       (old new : Kept T) (a : Ask) (r : Result (Option ℕ) Error) → IsPolled old new a r
       → (Whole old → Whole new) × ((w : Work) (file : T) → Away w file old → Away w file new)
 
-  -- who takes the work has the file out
+  -- whoever takes the work has the file out
   abbrev pub TakeBrings : Type 0
   TakeBrings =
       (k : Kept T) (w : Work) → k.work ≡ Some w → Whole k
       → (file : T) × (taken_out k.work k.temp ≡ Some file)
       × Away w file (record k { work = None; temp = left_after k.work k.temp })
 
-  -- once the work is done and its ending told, the file is whole again, or gone
+  -- once the work is done and its end reported, the file is whole again, or gone
   abbrev pub EndRestores :
       (T → Option (List ℕ)) → (T → ℕ → Result ℕ io.Error → T → Type 0)
       → (T → Result ⊤ Fault → Type 0) → Type 0

@@ -9,7 +9,7 @@ use Rattle.cacache_polled.specs.{declared.{writer_core.WriterCore.{WriterCore}, 
 use Rattle.cacache_async.specs.Waiting.{TellsFault}
 use Rattle.cacache_writers.specs.declared.about.About.{About}
 
--- the answer is this fault, or that there was no memory to tell it
+-- the answer is this fault, or says that there was no memory for the fault's message
 abbrev pub Fails : {A : Type 0} → Fault → Result A Error → Type 0
 Fails fault (Ok x) = ⊥
 Fails fault (Err e) = TellsFault fault e
@@ -27,20 +27,20 @@ commit_about a computed count moment = record {
 
 module _ {T S C N : Type 0} (temp : T → PlainTemp) (log : S → Option (List LogItem))
     (moments : C → Option (List ℕ)) (old new : Env S C N) where
-  -- the file became the content, with a moment that was asked for where there is a key and none was set
+  -- the file became the content; the clock gives the moment if there is a key and no time was set
   abbrev pub EndsHeld : About → List Hash → ℕ → T → Reply → Type 0
   EndsHeld a computed count file reply =
       (moment : ℕ) × MomentOf moments a.key a.time old.clock new.clock moment
       × Ran (persist (commit_about a computed count moment) (temp file)) reply (log old.store) (log new.store)
 
-  -- so it is where the integrity is of the algorithm that was said; one of another is closed
+  -- it does so if the integrity has the algorithm that was asked for; otherwise it is closed
   abbrev pub EndsAsSaid : About → List Hash → ℕ → T → Result (List Hash) Error → Type 0
   EndsAsSaid a computed count file r =
       ((strongest computed ≡ Some a.options.algorithm)
       × EndsHeld a computed count file (reply_of Stored r))
       ⊎ ((strongest computed ≢ Some a.options.algorithm) × Fails fault.Closed r × (new ≡ old))
 
-  -- what is answered by what is found; a file that a worker lost is closed
+  -- the answer, by what the core finds; a file that a worker lost is closed
   abbrev pub GivesFor : Finish → Option T → Option About → Result (List Hash) Error → Type 0
   GivesFor Busy file a r = ⊥
   GivesFor Closed file a r = Fails fault.Closed r × (new ≡ old)
@@ -49,17 +49,17 @@ module _ {T S C N : Type 0} (temp : T → PlainTemp) (log : S → Option (List L
   GivesFor (Held computed count) (Some file) (Some a) r = EndsAsSaid a computed count file r
   GivesFor (Held computed count) file a r = Fails fault.Closed r × (new ≡ old)
 
-  -- so it is for what the core finds, or there was no memory and no step
+  -- this holds for what the core finds, or there was no memory and no step
   abbrev pub Gives : WriterCore → List ℕ → Option T → Option About → Result (List Hash) Error → Type 0
   Gives core bytes file a r =
       ((r ≡ Err OutOfMemory) × (new ≡ old))
       ⊎ ((f : Finish) × CommitFinds core bytes f × GivesFor f file a r)
 
-  -- so it is for something found, whatever it is
+  -- this holds for something that was found, whatever it is
   abbrev pub GivesSome : Option T → Option About → Result (List Hash) Error → Type 0
   GivesSome file a r =
       ((r ≡ Err OutOfMemory) × (new ≡ old)) ⊎ ((f : Finish) × GivesFor f file a r)
 
-  -- so it is for something found, with some file: those that lay under the lock
+  -- this holds for something that was found, with some file: those that lay under the lock
   abbrev pub GivesLocked : Option About → Result (List Hash) Error → Type 0
   GivesLocked a r = (file : Option T) × GivesSome file a r

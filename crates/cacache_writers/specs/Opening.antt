@@ -1,4 +1,4 @@
--- The opening of a polled writer: its temporary file, and what was said of the content.
+-- The opening of a polled writer: its temporary file, and what the caller said about the content.
 use Rattle.std.specs.Prelude.{◌≡◌, ◌⊎◌, ℕ, List, Option, Result, Ok, Err}
 use Rattle.cacache_core.specs.declared.errors.Error.{Error, TheVariants.{OutOfMemory}}
 use Rattle.cacache_store.specs.{declared.{env.Env.{Env}, store.{log.LogItem.{LogItem}, plain.PlainTemp.{PlainTemp}}}, Given.{AddsAnswer}}
@@ -6,7 +6,7 @@ use Rattle.cacache_content.specs.OpenWrites.{Makes, FailsToMake}
 use Rattle.cacache_put.specs.Options.{Said, options_of}
 use Rattle.cacache_writers.specs.declared.{about.About.{About}, writer.Writer.{Writer}}
 
--- what was said of a content under this key
+-- what the caller said about a content under this key
 pub record IsAbout (cache : List ℕ) (key : Option (List ℕ)) (s : Said) (a : About) : Type 0 where
   pub cache_is : a.cache ≡ cache
   pub key_is : a.key ≡ key

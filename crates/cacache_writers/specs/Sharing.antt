@@ -37,7 +37,7 @@ module _ {T : Type 0} where
     pub temp_is : k.temp ≡ Some file
     pub idle : (k.work ≡ None) × (k.waker ≡ None)
 
-  -- the core was told of this ending, and nothing waits for a worker
+  -- the core has this ending, and nothing waits for a worker
   abbrev pub IsEnded : Kept T → Kept T → Completion → Type 0
   IsEnded old new c =
       (new.work ≡ None) × (new.waker ≡ None)

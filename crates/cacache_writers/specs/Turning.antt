@@ -24,12 +24,12 @@ module _ {T : Type 0} (over out : Bool → Type 0) (asks : ℕ → Pass → Type
   TurnsTo old new Over =
       (over true × (new ≡ old)) ⊎ (Asked old new passes.Quit × ((told : Option (Told T)) × ends told))
 
--- how often a turn asked its gate: once where it did work or was told to wait, and else once at most
+-- how often a turn asked its gate: once if it did work or had to wait, and otherwise at most once
 abbrev pub CountsAsks : ℕ → ℕ → Turned → Type 0
 CountsAsks old new Did = new ≡ one_more old
 CountsAsks old new NotYet = new ≡ one_more old
 CountsAsks old new t = (new ≡ old) ⊎ (new ≡ one_more old)
 
--- a worker that was just made for what is shared
+-- a worker that is newly made for what is shared
 abbrev pub IsWorkerOf : {T : Type 0} → Shared T → Worker T → Type 0
 IsWorkerOf shared w = (arc_value w.shared ≡ shared) × (w.asked ≡ 0)

@@ -19,7 +19,7 @@ abbrev pub Appended : Option (List ℕ) → Option (List ℕ) → List ℕ → C
 Appended old new b (Wrote n) = Appends old new (take n b)
 Appended old new b c = Keeps old new
 
--- the file answered its write of so many bytes so
+-- the file gave this answer to its write of so many bytes
 abbrev pub Answered :
     {T : Type 0} → (T → ℕ → Result ℕ io.Error → T → Type 0) → T → ℕ → T → Completion → Type 0
 Answered writes old size new (Wrote n) = writes old size (Ok n) new
@@ -27,17 +27,17 @@ Answered writes old size new (Failed f) =
     (e : io.Error) × writes old size (Err e) new × (f ≡ fault_of (error_kind e))
 Answered writes old size new c = ⊥
 
--- the file answered its removal so
+-- the file gave this answer to its removal
 abbrev pub RemovalAnswered : {T : Type 0} → (T → Result ⊤ Fault → Type 0) → T → Completion → Type 0
 RemovalAnswered removes file Removed = removes file (Ok tt)
 RemovalAnswered removes file (Failed f) = removes file (Err f)
 RemovalAnswered removes file c = ⊥
 
--- what contracts know of the file: as what it is seen, the bytes that a flush keeps, and what its writes and its
+-- what contracts know of the file: what it is seen as, the bytes that a flush keeps, and what its writes and its
 -- removal may answer
 module _ {T : Type 0} (temp : T → PlainTemp) (contents : T → Option (List ℕ))
     (writes : T → ℕ → Result ℕ io.Error → T → Type 0) (removes : T → Result ⊤ Fault → Type 0) where
-  -- what the work did to the file; it is given back, but for one that was to be removed
+  -- what the work did to the file; it is given back, unless it was to be removed
   abbrev pub DoesWork : Work → T → Option T → Completion → Type 0
   DoesWork (Write b) old (Some new) c =
       Appended (temp old).bytes (temp new).bytes b c × Answered writes old (length b) new c
@@ -50,7 +50,7 @@ module _ {T : Type 0} (temp : T → PlainTemp) (contents : T → Option (List �
   EndsWork w (Some old) new c = FitsWork w c × DoesWork w old new c
   EndsWork w None new c = (new ≡ None) × (c ≡ Failed Closed)
 
-  -- what was taken was done, and its ending told; or there was nothing to take
+  -- what was taken was done, and its ending reported; or there was nothing to take
   abbrev pub WorksBy :
       (Option Work × Option T → Type 0) → (Option T → Completion → Told T → Type 0) → Option (Told T)
       → Type 0

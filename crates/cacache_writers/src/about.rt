@@ -1,4 +1,4 @@
-//! What is said of a content that is written by polls.
+//! What the caller says about a content that is written by polls.
 ghost use Rattle.std.specs.Prelude.{◌≡◌, IfOk};
 ghost use Rattle.cacache_writers.specs.Committing.{commit_about};
 ghost use Rattle.cacache_writers.specs.Opening.{IsAbout};
@@ -10,11 +10,11 @@ use cacache_put::opts::WriteOpts;
 use cacache_table::{Commit, Options};
 use std::alloc::{AllocError, Global};
 
-/// What was said of a content that is written.
+/// What the caller said about a content that is being written.
 pub struct About {
     pub cache: Text,
     pub key: Option<Text>,
-    /// The entry's time, in milliseconds since 1970; the clock is asked where none was set.
+    /// The entry's time, in milliseconds since 1970; the clock is asked if none was set.
     pub time: Option<u128>,
     pub options: Options,
 }
@@ -32,7 +32,7 @@ impl Drop for About {
 }
 
 impl About {
-    /// What these options say of a content of the cache under the key.
+    /// What these options say about a content of the cache under the key.
     pub(crate) fn new(
         alloc: Global,
         cache: &str,

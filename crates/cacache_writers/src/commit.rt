@@ -46,8 +46,8 @@ fn commit<S: Store, C: Clock, N>(
     commit_from(env, commit, file).stored()
 }
 
-/// Commits where the integrity is of the algorithm that was said. A core of another is none of this writer's, and fails
-/// as a closed one does: nothing but this look ties what lies under a lock to what was said.
+/// Commits if the integrity has the algorithm that was asked for. A core with another isn't this writer's, and the
+/// commit fails as a closed one does: nothing else ties what is under the lock to what the caller said.
 fn commit_as_said<S: Store, C: Clock, N>(
     env: &mut Env<S, C, N>,
     about: About,
@@ -66,8 +66,8 @@ fn commit_as_said<S: Store, C: Clock, N>(
     commit(env, about, computed, count, file)
 }
 
-/// The commit of a polled writer. None while work is out: then nothing changed. Else the core is closed, and the answer
-/// is that of a commit of the held bytes, or the fault that stands before it.
+/// The commit of a polled writer. None while work is out: then nothing changed. Otherwise the core is closed, and the
+/// answer is that of a commit of the held bytes, or the fault that comes first.
 pub fn commit_held<S: Store, C: Clock, N>(
     env: &mut Env<S, C, N>,
     core: &mut WriterCore,

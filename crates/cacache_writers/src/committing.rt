@@ -29,7 +29,7 @@ pub struct WriterCommitFuture<'a, R: Wait, S, C, N, T> {
     rt: &'a R,
     env: &'a mut Env<S, C, N>,
     file: PolledFile<T>,
-    /// What is said of the content; None after the answer.
+    /// What the caller said about the content; None after the answer.
     about: Option<About>,
 }
 

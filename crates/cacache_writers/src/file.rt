@@ -1,4 +1,4 @@
-//! A temporary file whose writes are polled.
+//! A temporary file that is written by polls.
 ghost use Rattle.std.specs.Prelude.{◌≡◌, IfOk, IfErr};
 ghost use Rattle.std.specs.Arc.{arc_value};
 ghost use Rattle.cacache_core.specs.declared.errors.Error.TheVariants.{OutOfMemory};
@@ -17,8 +17,8 @@ use std::alloc::Global;
 use std::sync::atomic::AtomicBool;
 use std::sync::{Arc, Mutex, Wait};
 
-/// A temporary file whose writes a worker does. The polls hand the work out and answer what came of it; one that is
-/// pending wakes its task when the work is done. Dropping it ends its workers, and lets the file go that none has out.
+/// A temporary file that a worker writes. The polls hand the work out and answer with its result; one that is pending
+/// wakes its task when the work is done. Dropping it ends its workers, and drops the file unless a worker has it.
 pub struct PolledFile<T> {
     /// What it shares with its workers: the core, the temporary file, and the work that is out.
     pub shared: Arc<Shared<T>, Global>,
@@ -55,7 +55,7 @@ impl<T: Drop> PolledFile<T> {
         Ok(Worker::new(Arc::try_clone(&self.shared)?))
     }
 
-    /// Asks the core, and waits where it waits.
+    /// Asks the core, and waits if the core waits.
     fn poll<R: Wait>(&self, rt: &R, cx: &mut Context<'_>, asked: Asked<'_>) -> Poll<Result<usize>>
         ensures armed { OnPending result (IsArmed cx.new) }
         ensures kept { Keeps cx.old cx.new }
@@ -70,11 +70,11 @@ impl<T: Drop> PolledFile<T> {
         }
     }
 
-    /// Hands these bytes to a worker, and is pending; polled again with the same bytes, it answers how many the worker
-    /// took. No bytes are answered at once.
+    /// Hands these bytes to a worker, and is pending; polled again with the same bytes, it answers how many the
+    /// worker took. For no bytes it answers at once.
     ///
-    /// `IoError` with `OtherBytes` where an earlier write isn't answered yet, with `Closed` after a close or a commit,
-    /// and else with the worker's fault. `OutOfMemory` changes nothing, or came to a message.
+    /// `IoError` with `OtherBytes` if an earlier write isn't answered yet, with `Closed` after a close or a commit,
+    /// and otherwise with the worker's fault. `OutOfMemory` changes nothing, or there was no memory for a message.
     pub fn poll_write<R: Wait>(
         &mut self,
         rt: &R,

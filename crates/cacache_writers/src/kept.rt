@@ -20,11 +20,11 @@ pub struct Kept<T> {
     pub temp: Option<T>,
     /// Work that was handed out and that no worker has taken.
     pub work: Option<Work>,
-    /// Wakes the task that waits, as it goes.
+    /// Dropping it wakes the task that waits.
     pub waker: Option<Waker>,
 }
 
-/// Shows that a core was told how its work ended, and with which file: `Kept::end` alone makes one.
+/// Shows that a core got the ending of its work, and with which file: only `Kept::end` makes one.
 #[derive(Drop)]
 pub struct Told<T> {
     ending: Completion,
@@ -32,7 +32,7 @@ pub struct Told<T> {
 }
 
 impl<T: Drop> Told<T> {
-    /// The ending that was told.
+    /// The ending that the core got.
     pub fn ending(&self) -> Completion
         ensures { result ≡ self.now.ending }
     {
@@ -55,7 +55,7 @@ impl<T: Drop> Kept<T> {
 
     /// One poll. Ok(None) is pending, and Ok(Some) how many bytes a write took. Work that begins is kept for a worker.
     ///
-    /// `IoError` has the core's fault. `OutOfMemory` changes nothing, or came to a message.
+    /// `IoError` has the core's fault. `OutOfMemory` changes nothing, or there was no memory for a message.
     pub fn poll(&mut self, alloc: Global, poll: Request<'_>) -> Result<Option<usize>>
         ensures polled { IsPolled self.old self.new (ask_of poll.entry) result }
         ensures algorithm { algorithm_of self.new.core.hasher ≡ algorithm_of self.old.core.hasher }
@@ -86,7 +86,7 @@ impl<T: Drop> Kept<T> {
         }
     }
 
-    /// Ends the work: gives the file back, and wakes who waits.
+    /// Ends the work: gives the file back, and wakes the task that waits.
     pub fn end(&mut self, temp: Option<T>, completion: Completion) -> Told<T>
         ensures ended { IsEnded self.old self.new completion }
         ensures temp { self.new.temp ≡ temp }

@@ -4,9 +4,9 @@ ghost use Rattle.cacache_writers.specs.Alone.{NewIsWhole, PollKeeps, TakeBrings,
 
 use crate::removal::RemovableTemp;
 
-/// While one worker alone does the work, the file has the bytes that it began with, and then those that the core holds:
-/// at first, through each poll, where the worker takes it, and once it is back, if it isn't removed. A flush has to keep
-/// the bytes that the file is seen with.
+/// While one worker alone does the work, the file has the bytes that it began with, followed by those that the core
+/// holds. It has them at first, after each poll, when the worker takes it, and once it is back, unless it is removed.
+/// A flush has to keep the bytes that the file is seen with.
 pub fn file_laws<T: RemovableTemp>()
     ensures new { (start : List ℕ) → NewIsWhole T.seen start }
     ensures polls { (start : List ℕ) → PollKeeps T.seen start }

@@ -1,14 +1,14 @@
 //! Contents that are written by polls: a temporary file, the worker that does its work, and a commit that makes it the
 //! content.
 //!
-//! - `about`: what is said of a content that is written by polls
+//! - `about`: what the caller says about a content that is written by polls
 //! - `commit`: what the commit of a polled writer does with the core and the temporary file, which are lent to it
 //! - `committing`: the commit of a polled writer as a future
 //! - `creating`: futures that open polled writers
-//! - `file`: a temporary file whose writes are polled
+//! - `file`: a temporary file that is written by polls
 //! - `kept`: what lies under the lock of a polled file
 //! - `laws`: laws of a polled file that one worker alone writes
-//! - `opening`: polled writers are opened
+//! - `opening`: how polled writers are opened
 //! - `removal`: temporary files that are removed without a store
 //! - `shared`: what a polled file and its workers share
 //! - `work`: work that is done with a temporary file

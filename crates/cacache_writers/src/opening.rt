@@ -1,4 +1,4 @@
-//! Polled writers are opened.
+//! How polled writers are opened.
 ghost use Rattle.cacache_content.specs.OpenWrites.{MakesTemp};
 ghost use Rattle.cacache_writers.specs.Opening.{OpensAt};
 

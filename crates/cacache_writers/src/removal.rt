@@ -40,7 +40,7 @@ impl<R: Files + Drop> RemovableTemp for FolderTemp<R> {
 impl RemovableTemp for PlainTemp {
     ghost removes = { λ _ result. result ≡ Ok tt };
 
-    /// Lets the bytes go: the disk in memory keeps an empty file, as after a writer that is dropped.
+    /// Drops the bytes: the disk in memory keeps an empty file, as after a writer that is dropped.
     fn remove(self) -> Result<(), Fault> {
         let_go(self);
         Ok(())

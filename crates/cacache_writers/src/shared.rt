@@ -12,7 +12,7 @@ use std::sync::{Mutex, Wait};
 /// How often a drop tries the lock.
 const TRIES: u32 = 1000;
 
-/// The lock, with what stands outside it.
+/// The lock, and what is outside it.
 #[derive(Drop)]
 pub struct Shared<T> {
     /// What waiting tasks wait for.
@@ -38,7 +38,7 @@ impl<T: Drop> Shared<T> {
         self.kept.lock(rt).take()
     }
 
-    /// Ends the work that was taken out. The file goes if the polled file was dropped meanwhile.
+    /// Ends the work that was taken out. The file is dropped if the polled file was dropped meanwhile.
     pub(crate) fn end<R: Wait>(&self, rt: &R, temp: Option<T>, completion: Completion) -> Told<T>
         ensures told { (result.ending ≡ completion) × (result.temp.value ≡ temp) }
     {
@@ -51,7 +51,7 @@ impl<T: Drop> Shared<T> {
         told
     }
 
-    /// Lets the file go that lies under the lock, if nobody has the lock.
+    /// Drops the file that lies under the lock, if nobody has the lock.
     fn lets_go(&self) -> bool {
         let Some(mut guard) = self.kept.try_lock() else {
             return false;
@@ -61,8 +61,8 @@ impl<T: Drop> Shared<T> {
         true
     }
 
-    /// Says that the polled file was dropped, and lets the file go, unless a worker has it out or keeps the lock: then it
-    /// goes with the worker's work or with the worker. A drop has no runtime to wait with, so it tries the lock.
+    /// Notes that the polled file was dropped, and drops the file, unless a worker has it out or keeps the lock: then
+    /// it goes with the worker's work or with the worker. A drop has no runtime to wait with, so it tries the lock.
     pub(crate) fn leave(&self) {
         self.is_left.store(true, Ordering::SeqCst);
         for _ in 0..TRIES {

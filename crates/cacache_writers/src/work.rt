@@ -54,7 +54,7 @@ fn done<T: RemovableTemp>(work: Work, temp: Option<T>) -> (Option<T>, Completion
     }
 }
 
-/// Takes work out, does it, and tells how it ended. None where no work was out.
+/// Takes work out, does it, and reports how it ended. None if no work was out.
 pub(crate) fn work_by<
     T: RemovableTemp,
     Take: FnOnce() -> (Option<Work>, Option<T>),

@@ -44,8 +44,8 @@ impl<T: Drop> Worker<T> {
 }
 
 impl<T: RemovableTemp> Worker<T> {
-    /// Does the work that is out, if the gate lets it. The gate is asked once at most, and only where work is out;
-    /// after `Quit` that work ends undone, and the next commit is cancelled. It is over where the polled file was
+    /// Does the work that is out, if the gate lets it. The gate is asked at most once, and only if work is out;
+    /// after `Quit` that work ends undone, and the next commit is cancelled. It is over if the polled file was
     /// dropped, committed or closed, and after `Quit`.
     ///
     /// `Wait` is for the lock that it shares with the polled file.
@@ -67,12 +67,12 @@ impl<T: RemovableTemp> Worker<T> {
         )
     }
 
-    /// Takes turns until one is over, a millisecond apart where there was nothing to do. The example of
-    /// `Writer::create` runs one in a thread of its own, and joins it: until it returns it may have the temporary file of
-    /// a writer that was dropped.
+    /// Takes turns until one is over, and waits a millisecond after each that had nothing to do. The example of
+    /// `Writer::create` runs one in a thread of its own, and joins it: until it returns it may have the temporary
+    /// file of a writer that was dropped.
     ///
     /// `Wait` is for the lock and for sleeping, `Clock` for the millisecond. Unless its gate says `Quit`, it doesn't
-    /// return before the polled file was dropped, committed or closed.
+    /// return before the polled file is dropped, committed or closed.
     pub fn run<R: Wait + Clock, G: Gate>(mut self, rt: &R, gate: &G) {
         run_by(rt, || self.turn(rt, gate))
     }
@@ -123,7 +123,7 @@ fn turn_by<
     }
 }
 
-/// Takes turns until one is over, a millisecond apart where there was nothing to do.
+/// Takes turns until one is over, and waits a millisecond after each that had nothing to do.
 fn run_by<R: Wait + Clock, Turn: FnMut() -> Turned>(rt: &R, mut turn: Turn)
     requires turn { Turn.IsAlwaysCallable turn }
     ensures over { (before after : Turn) × Turn.step before Over after }

@@ -100,8 +100,8 @@ impl<T: Drop> Writer<T> {
         self.file.worker()
     }
 
-    /// Hands these bytes to a worker, and is pending; polled again with the same bytes, it answers how many the worker
-    /// took. No bytes are answered at once.
+    /// Hands these bytes to a worker, and is pending; polled again with the same bytes, it answers how many the
+    /// worker took. For no bytes it answers at once.
     ///
     /// ```
     /// let data = b"my data";
@@ -109,8 +109,8 @@ impl<T: Drop> Writer<T> {
     /// let sri = block_on(&rt, writer.commit(&rt, &mut env))??; // nothing was saved before
     /// ```
     ///
-    /// `IoError` with `OtherBytes` where an earlier write isn't answered yet, with `Closed` after a close, and else with
-    /// the worker's fault. `OutOfMemory` changes nothing, or came to a message.
+    /// `IoError` with `OtherBytes` if an earlier write isn't answered yet, with `Closed` after a close, and otherwise
+    /// with the worker's fault. `OutOfMemory` changes nothing, or there was no memory for a message.
     pub fn poll_write<R: Wait>(
         &mut self,
         rt: &R,
@@ -146,8 +146,8 @@ impl<T: Drop> Writer<T> {
     /// Commits what was written, once no work is out, as `SyncWriter::commit` does. The example of `poll_write` runs
     /// it.
     ///
-    /// `IoError` with `Closed` after a close, with `Cancelled` after a worker quit with work undone, and with the fault of
-    /// a failed write that no poll answered; else errors are those of `SyncWriter::commit`.
+    /// `IoError` with `Closed` after a close, with `Cancelled` after a worker quit with work undone, and with the
+    /// fault of a failed write that no poll answered; other errors are those of `SyncWriter::commit`.
     pub fn commit<'a, R: Wait, S: Store<Temp = T>, C: Clock, N: Names>(
         self,
         rt: &'a R,

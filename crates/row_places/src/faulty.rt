@@ -1,4 +1,4 @@
-//! A store whose files fail where a row says so, and do a part of their work.
+//! A store with files that fail if a row says so, and do a part of their work.
 ghost use Rattle.std.specs.Prelude.{◌≡◌, ◌+◌, ◌≤◌, None, IfOk, length};
 ghost use Rattle.row_places.specs.Seen.{FitsSeen};
 
@@ -174,7 +174,7 @@ pub struct Faulty {
     /// What goes wrong with the temporary files that it makes, and whether a file can be removed.
     pub mishaps: Mishaps,
     file: Option<Failing>,
-    /// Where the file is that was moved last.
+    /// The path of the file that was moved last.
     pub path: Text,
     /// What it holds.
     pub kept: Vec<u8>,
@@ -183,7 +183,7 @@ pub struct Faulty {
 }
 
 impl Faulty {
-    /// The store, in whose files this goes wrong.
+    /// The store with files that fail so.
     pub fn new(alloc: Global, mishaps: Mishaps) -> Result<Faulty, AllocError> {
         let path = Text::from_str(alloc, "")?;
         let bytes = Bytes::new(alloc, Vec::from_slice(alloc, TEXT)?)?;

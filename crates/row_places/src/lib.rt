@@ -1,5 +1,5 @@
 //! What programs of rows share that try calls over stores: an environment in which a row is tried, what somebody else
-//! does there beside the calls, and a store whose files fail.
+//! does there besides the calls, and a store with files that fail.
 #![tactic(auto)]
 
 mod faulty;

@@ -8,7 +8,7 @@ use std::alloc::{AllocError, AllocGlobal, Global};
 use std::rt::Files;
 use std::{fs, io};
 
-/// When each entry is made where a row says nothing else, in milliseconds.
+/// When each entry is made if a row says nothing else, in milliseconds.
 pub const MOMENT: u64 = 1000;
 
 /// A clock that stands still, and counts how often it is asked.
@@ -59,7 +59,7 @@ pub fn in_memory(alloc: Global) -> Result<On<MemStore>, AllocError> {
     on(alloc, MemStore::new(alloc)?, "/")
 }
 
-/// An environment on real folders, those below the one where the program runs.
+/// An environment on real folders, those below the one that the program runs in.
 pub fn in_folders<R>(rt: &R) -> io::Result<On<FolderStore<R>>>
 where
     R: Files + AllocGlobal + Clone + Drop,
@@ -69,7 +69,7 @@ where
     Ok(on(rt.alloc(), FolderStore::new(own), here.as_str())?)
 }
 
-/// What an act gave in memory and on real folders, where it is to give the same.
+/// What an act gave both in memory and on real folders, which is to be the same.
 pub fn in_both(alloc: Global, in_memory: String, in_folders: String) -> Result<String, AllocError> {
     if in_memory == in_folders {
         return Ok(in_memory);

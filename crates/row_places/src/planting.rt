@@ -1,4 +1,4 @@
-//! What somebody else does with files and folders, beside the calls, and looks at them.
+//! What somebody else does with files and folders, apart from the calls, and looks at them.
 use crate::place::On;
 use cacache_core::bytes::Bytes;
 use cacache_core::keeping::let_go;
@@ -11,7 +11,7 @@ fn is_done<F, T>(answer: &Answer<F, T>) -> bool {
     matches!(answer, Answer::Done)
 }
 
-/// Does a step, and tells whether it was done.
+/// Does a step, and says whether it was done.
 fn does<S: Store>(env: &mut On<S>, step: Step<S::File, S::Temp>) -> bool {
     let answer = env.store.step(step);
     let is_done = is_done(&answer);
@@ -41,7 +41,7 @@ fn took<F, T>(answer: &Answer<F, T>, count: usize) -> bool {
     matches!(answer, Answer::Took(taken) if *taken == count)
 }
 
-/// Puts these bytes at the end of the file, and tells whether all were taken.
+/// Puts these bytes at the end of the file, and says whether all were taken.
 fn append<S: Store>(env: &mut On<S>, path: &str, bytes: &[u8]) -> Result<bool, AllocError> {
     let path = Text::from_str(env.alloc, path)?;
     let copy = copy_of(env.alloc, bytes)?;
@@ -51,7 +51,7 @@ fn append<S: Store>(env: &mut On<S>, path: &str, bytes: &[u8]) -> Result<bool, A
     Ok(is_whole)
 }
 
-/// Makes the folders above the path, and removes the file there, if there is one. Tells whether the folders are there.
+/// Makes the folders above the path, and removes the file there, if there is one. Says whether the folders are there.
 fn make_way<S: Store>(env: &mut On<S>, path: &str) -> Result<bool, AllocError> {
     if let Some((folder, _)) = path.rsplit_once('/') {
         if !folder.is_empty() && !make_folder(env, folder)? {
@@ -78,7 +78,7 @@ pub fn plant_link<S: Store>(env: &mut On<S>, target: &str, path: &str) -> Result
     make_link(env, target, path)
 }
 
-/// Makes a link to the target, where nothing is in its way.
+/// Makes a link to the target, if nothing is in its way.
 pub fn make_link<S: Store>(env: &mut On<S>, target: &str, path: &str) -> Result<bool, AllocError> {
     let alloc = env.alloc;
     let target = Text::from_str(alloc, target)?;

@@ -43,7 +43,7 @@ fn sites_of(alloc: Global, history: &[Record]) -> Result<Vec<Site>, AllocError> 
     Ok(sites)
 }
 
-/// The most that is tried in part at a site, where a kind of change is for it.
+/// The most that is tried in part at a site, if a kind of change is for it.
 fn most(kind: &str, site: Site) -> Option<usize> {
     match (kind, site) {
         ("take", Site::Write(count) | Site::Append(count)) => Some(count),

@@ -32,7 +32,7 @@ fn places_in(alloc: Global, folder: &str, listing: &Listing) -> Result<Vec<Place
     Ok(places)
 }
 
-/// The places in a folder; none where it can't be listed.
+/// The places in a folder; none if it can't be listed.
 fn inside(alloc: Global, disk: &mut Disk, folder: &str) -> Result<Vec<Place>, AllocError> {
     let path = if folder.is_empty() { "/" } else { folder };
     let step = Step::ReadDir(Text::from_str(alloc, path)?);
@@ -60,7 +60,7 @@ fn file(alloc: Global, disk: &Disk, path: &str) -> Result<String, AllocError> {
     format!(in alloc; "{path}={text}")
 }
 
-/// Adds a place: a folder's path with a `/` behind it, or a file with its bytes.
+/// Adds a place: a folder's path with a `/` at its end, or a file with its bytes.
 fn add(
     alloc: Global,
     disk: &Disk,
@@ -97,7 +97,7 @@ fn add_below(
     Ok(())
 }
 
-/// All that stands below the top folder of a disk: a folder's path with a `/` behind it, a file's with its bytes.
+/// All that is below the top folder of a disk: a folder's path with a `/` at its end, a file's with its bytes.
 pub(crate) fn places_of(alloc: Global, disk: &Disk) -> Result<Vec<String>, AllocError> {
     let mut copy = disk.clone()?;
     let mut places = Vec::new(alloc);

@@ -1,5 +1,5 @@
-//! The contents and the places of the scripts, with what `openssl dgst` and `base64` say of them: nothing here is asked of
-//! the cache's own code.
+//! The contents and the places of the scripts, with what `openssl dgst` and `base64` say about them: nothing here is
+//! asked of the cache's own code.
 
 /// The cache's folder.
 pub(crate) const CACHE: &str = "/cache";

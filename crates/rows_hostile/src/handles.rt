@@ -14,7 +14,7 @@ use std::io::{Read, Write};
 /// The integrity of `hello world`, as `openssl dgst -sha256 -binary | base64` prints its digest.
 const BOTH: &str = "sha256-uU0nuZNNPgilLlLX2n2r+sSE7+N6U4DukIj3rOLvzek=";
 
-/// What a writer is handed.
+/// What a writer gets.
 const PARTS: [&str; 3] = ["hello", " worl", "d"];
 
 /// An environment over a faulty store.
@@ -41,8 +41,8 @@ fn numbers(words: &str, stays: bool) -> Result<Asked, Flaw> {
     })
 }
 
-/// What a row of this kind asks for. A writer that is handed all at once has no count, and ` stays` stands behind the numbers
-/// of one that can't remove its file.
+/// What a row of this kind asks for. A writer that gets all bytes at once has no count, and ` stays` follows the
+/// numbers of one that can't remove its file.
 fn asked_of(kind: &str, words: &str) -> Result<Asked, Flaw> {
     match (kind, words.strip_suffix(" stays")) {
         ("whole", _) => Ok(Asked {
@@ -55,7 +55,7 @@ fn asked_of(kind: &str, words: &str) -> Result<Asked, Flaw> {
     }
 }
 
-/// An environment whose read or write of this number fails, and whose writes take three bytes at most.
+/// An environment that fails at the read or write of this number, and takes at most three bytes a write.
 fn on(alloc: Global, asked: Asked) -> Result<On, AllocError> {
     let mishaps = Mishaps {
         fails: Some(asked.fails),
@@ -66,21 +66,21 @@ fn on(alloc: Global, asked: Asked) -> Result<On, AllocError> {
     row_places::on(alloc, Faulty::new(alloc, mishaps)?, "/")
 }
 
-/// A text with an end behind it.
+/// A text with an end after it.
 fn with_end(text: String, end: Result<String, AllocError>) -> Result<String, AllocError> {
     let (end, mut text) = beside(end, text)?;
     let (_, text) = beside(text.push_str(end.as_str()), text)?;
     Ok(text)
 }
 
-/// A text with what the store keeps behind it.
+/// A text with what the store keeps after it.
 fn with_kept(env: &On, text: Result<String, AllocError>) -> Result<String, AllocError> {
     let text = text?;
     let kept = word_of(env.store.kept.as_slice());
     format!(in env.alloc; "{text}, kept {kept}")
 }
 
-/// Adds what so many reads give, each with a comma behind it.
+/// Adds what so many reads give, each followed by a comma.
 fn add_reads<R: Read>(text: &mut String, reader: &mut R, count: usize) -> Result<(), AllocError> {
     let mut buf = [0; 5];
     for _ in 0..count {
@@ -103,7 +103,7 @@ fn all_reads<R: Read>(alloc: Global, reader: &mut R, count: usize) -> Result<Str
     Ok(text)
 }
 
-/// How much a write takes, with a comma behind it.
+/// How much a write takes, followed by a comma.
 fn taken<W: Write>(alloc: Global, writer: &mut W, part: &str) -> Result<String, AllocError> {
     match writer.write(part.as_bytes()) {
         Ok(count) => format!(in alloc; "{count}, "),
@@ -180,13 +180,13 @@ fn write(env: &mut On, count: usize) -> Result<String, AllocError> {
     with_kept(env, text)
 }
 
-/// What is said of a write, what came of the commit, and what is stored then.
+/// What was reported of a write, what came of the commit, and what is stored then.
 fn told(env: &On, said: &str, end: Answered<Integrity>) -> Result<String, AllocError> {
     let end = stored(env.alloc, end)?;
     with_kept(env, format!(in env.alloc; "{said}, {end}"))
 }
 
-/// What a writer that is handed all at once says of it, its commit, and what is stored then.
+/// What a writer that gets all bytes at once says about it, its commit, and what is stored then.
 fn write_whole(env: &mut On) -> Result<String, AllocError> {
     let mut writer = match WriteOpts::new().open_hash_sync(env, "c") {
         Ok(writer) => writer,
@@ -199,7 +199,7 @@ fn write_whole(env: &mut On) -> Result<String, AllocError> {
     told(env, said, end)
 }
 
-/// What a writer's commit answers that hands each part on or is abandoned, or why it was.
+/// What a writer's commit answers if each part is written, or why the writer was abandoned.
 fn commit_or_abandon(env: &mut On, count: usize) -> Answered<Integrity> {
     let mut writer = WriteOpts::new().open_sync(env, "c", "k")?;
     for part in PARTS.get(..count).unwrap_or(&PARTS) {

@@ -1,5 +1,5 @@
-//! Plays a script of six calls on a world in memory, with each way in which one of its steps may go otherwise, and compares it
-//! event by event with a slow, plain model of what the definitions say. Each row has two columns:
+//! Plays a script of six calls on a world in memory, with each way in which one of its steps may go otherwise. Each
+//! run is compared event by event with a slow, plain model of what the definitions say. Each row has two columns:
 //!
 //!     KIND | RESULT
 //!
@@ -10,12 +10,12 @@
 //! how many moves and replies they had, and how many of these were failures. `memory` is the plain script, in which one growth of
 //! memory may be refused: `rt try --fail-alloc` refuses each in turn.
 //!
-//! `puts` are two puts of one key whose moves meet. `reader`, `writer` and `linker` are handles over a store that fails one read
-//! or write: which one, and how many there are before the end. `whole` is a writer that is handed all at once, and `abandons`
-//! one that is given up where a write fails, also where its file `stays`.
+//! `puts` are two puts of one key, with moves that meet. `reader`, `writer` and `linker` are handles over a store
+//! that fails one read or write: which one, and how many there are before the end. `whole` is a writer that gets all
+//! bytes at once, and `abandons` one that is given up if a write fails, also if its file `stays`.
 //!
-//! Of the cache's own code the model has the words for luck and faults alone. What a key's bucket, a content's place and a line
-//! are is written out, as other tools say it.
+//! The model uses only the words for luck and faults from the cache's own code. What a key's bucket, a content's
+//! place and a line are is written out, as other tools say it.
 #![tactic(auto)]
 
 mod changes;
@@ -38,8 +38,9 @@ mod walking;
 use std::io;
 use trial::Scripts;
 
-/// Tries rows, prints how they went, and tells whether each of them holds. One that differs counts here as one that holds, so
-/// that the status tells it from one for which the program itself had no memory. The gate compares what is printed.
+/// Tries rows, prints how they went, and says whether each of them holds. One that differs counts here as one that
+/// holds, so that the status differs from that of a row for which the program itself had no memory. The gate compares
+/// what is printed.
 pub fn all_hold(rt: &(impl Print + AllocGlobal), rows: &str) -> io::Result<bool> {
     let mut scripts = Scripts::new(rt.alloc());
     let all_hold = rows::all_hold(rt, rows, &mut scripts)?;

@@ -1,4 +1,4 @@
-//! Two puts of one key whose moves meet: so many of the first one's, all of the second one's, and then the rest.
+//! Two puts of one key, with moves that meet: so many of the first one's, all of the second one's, and then the rest.
 use crate::facts::{CONTENTS, Content};
 use crate::model::Call;
 use crate::side::{Came, Sides};
@@ -46,7 +46,7 @@ fn holds_both(sides: &Sides, first: Content, second: Content) -> Result<bool, Al
     Ok(value.has(first) && value.has(second) && entries.as_slice() == [second, first].as_slice())
 }
 
-/// What a lookup answers, as it is to: that of the put whose append came later.
+/// What a lookup should answer: that of the put with the later append.
 fn finds(alloc: Global, sides: &mut Sides, first: Content) -> Result<bool, AllocError> {
     sides.begin(1, Call::Find)?;
     let wanted = found(alloc, first)?;
@@ -54,7 +54,7 @@ fn finds(alloc: Global, sides: &mut Sides, first: Content) -> Result<bool, Alloc
     Ok(matches!(&came, Came::Over(reply) if *reply == wanted))
 }
 
-/// How two puts that met differ from what is to come, if they do.
+/// How two puts that met differ from what should come, if they do.
 fn unlike(
     alloc: Global,
     sides: &mut Sides,
@@ -70,7 +70,7 @@ fn unlike(
     Ok(Some(String::from_str(alloc, "not both, or the earlier one found")?))
 }
 
-/// The same of two puts that meet so on these sides.
+/// The same for two puts that meet so on these sides.
 fn met_on(
     alloc: Global,
     sides: &mut Sides,
@@ -95,7 +95,8 @@ fn met(
     met_on(alloc, &mut sides, first, second, before)
 }
 
-/// Both puts as first, and each number of moves before the second one's: how many runs went as they are to, or what differed.
+/// Both puts as first, and each number of moves before the second one's: how many runs went as they should, or what
+/// differed.
 pub(crate) fn all_met(alloc: Global) -> Result<String, AllocError> {
     let mut runs: usize = 0;
     for number in 0..MOVES.saturating_mul(CONTENTS.len()) {

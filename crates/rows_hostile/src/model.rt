@@ -1,5 +1,5 @@
-//! The calls of the scripts, move by move, as the definitions say: the step that comes next, what it does to the value under
-//! its luck, and the reply where the call is over. The code of a put, of a lookup and of a walk stands in files of their own.
+//! The calls of the scripts, move by move, as the definitions say: the step that comes next, what it does to the
+//! value under its luck, and the reply if the call is over. A put, a lookup and a walk have files of their own.
 use crate::facts::Content;
 use crate::looking::{get, remove, seek};
 use crate::putting::put;
@@ -134,7 +134,7 @@ impl Model {
         is_there
     }
 
-    /// A caller's call makes its next step: the reply, where the call is over then.
+    /// A caller's call makes its next step: the reply, if the call is over then.
     pub(crate) fn go(&mut self, caller: usize, luck: Luck) -> Result<Option<String>, AllocError> {
         let Some(going) = self.call_of(caller) else {
             return Ok(Some(String::from_str(self.alloc, "no call")?));

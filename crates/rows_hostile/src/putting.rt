@@ -39,7 +39,7 @@ fn temp(alloc: Global, value: &mut Value, number: u64, luck: Luck) -> Result<Aft
     Ok(After::On(At::Write(0)))
 }
 
-/// Bytes are written behind those that were.
+/// Bytes are written after those that were there.
 fn write(alloc: Global, content: Content, before: usize, luck: Luck) -> Result<After, AllocError> {
     if let Some(fault) = made_up(luck) {
         return unwritten(alloc, fault);

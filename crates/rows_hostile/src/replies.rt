@@ -59,7 +59,7 @@ fn shown_reply(alloc: Global, reply: &Reply) -> Result<String, AllocError> {
     }
 }
 
-/// What a move told its caller: the reply, if the call is over.
+/// What a caller gets from its move: the reply, if the call is over.
 pub(crate) fn told(alloc: Global, moved: Move) -> Result<Option<String>, AllocError> {
     match moved {
         Move::More => Ok(None),

@@ -92,7 +92,7 @@ impl Run {
         self.sides.stop(caller)
     }
 
-    /// A caller's call makes its next step: None where the call goes on, and else what came.
+    /// A caller's call makes its next step: None if the call goes on, and otherwise what came.
     fn step(&mut self, alloc: Global, caller: usize) -> Result<Option<Came>, AllocError> {
         let (luck, stops) = (self.luck(), self.stops());
         let came = self.sides.go(caller, luck)?;

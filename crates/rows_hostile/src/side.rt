@@ -1,4 +1,4 @@
-//! A world and the model beside it, which make the same events. What they say is compared event by event.
+//! A world and the model next to it, which make the same events. What they say is compared event by event.
 use crate::disk::places_of;
 use crate::facts::{CACHE, Content, KEY};
 use crate::model::{Call, Model};
@@ -23,7 +23,7 @@ pub(crate) enum Came {
     Differs(String),
 }
 
-/// A world and the model beside it.
+/// A world and the model next to it.
 pub(crate) struct Sides {
     alloc: Global,
     world: World,
@@ -81,7 +81,7 @@ fn command_of(alloc: Global, call: Call) -> Result<Command, AllocError> {
     }
 }
 
-/// What two replies come to, each None where the call goes on.
+/// What two replies come to, each None if its call goes on.
 fn compared(
     alloc: Global,
     wanted: Option<String>,
@@ -154,7 +154,7 @@ impl Sides {
         Ok(self.world.begin(caller, command))
     }
 
-    /// A caller begins a call; once more, where the world had no memory.
+    /// A caller begins a call; it tries once more if the world had no memory.
     pub(crate) fn begin(&mut self, caller: usize, call: Call) -> Result<(), AllocError> {
         let mut begun = self.begin_in_world(caller, call)?;
         if begun == Err(WorldFault::OutOfMemory) {
@@ -168,7 +168,7 @@ impl Sides {
         }
     }
 
-    /// A caller of the world makes its next step; once more, where the world had no memory.
+    /// A caller of the world makes its next step; it tries once more if the world had no memory.
     fn move_in_world(&mut self, caller: usize, luck: Luck) -> Result<Move, WorldFault> {
         match self.world.move_one(caller, luck) {
             Err(WorldFault::OutOfMemory) => self.world.move_one(caller, luck),

@@ -8,7 +8,7 @@ pub(crate) fn failed(alloc: Global, fault: Fault, message: &str) -> Result<Strin
     format!(in alloc; "failed {fault:?}: {message}")
 }
 
-/// The same, where the message ends with a path.
+/// The same if the message ends with a path.
 pub(crate) fn failed_at(
     alloc: Global,
     fault: Fault,
@@ -18,7 +18,7 @@ pub(crate) fn failed_at(
     format!(in alloc; "failed {fault:?}: {message} {path}")
 }
 
-/// The same, where the path stands in quotes.
+/// The same if the path is in quotes.
 pub(crate) fn failed_in(
     alloc: Global,
     fault: Fault,
@@ -44,7 +44,7 @@ pub(crate) fn read(alloc: Global, content: Content) -> Result<String, AllocError
     format!(in alloc; "read {}", content.text())
 }
 
-/// No entry is found, where one was needed.
+/// No entry is found, though one was needed.
 pub(crate) fn no_entry(alloc: Global) -> Result<String, AllocError> {
     format!(in alloc; "refused: Entry not found for key \"{KEY}\" in cache \"{CACHE}\"")
 }

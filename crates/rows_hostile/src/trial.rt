@@ -13,11 +13,11 @@ use std::alloc::{AllocError, Global};
 #[derive(Drop)]
 pub(crate) struct Scripts {
     alloc: Global,
-    /// Whether a row was tried to its end that was not as it is to be.
+    /// Whether a row was tried to its end and differed from what it should be.
     pub(crate) differs: bool,
 }
 
-/// What came of runs with these changes: how many there were, or how the first one differs that does.
+/// What came of runs with these changes: how many there were, or if some differ, how the first of them does.
 fn all_played(alloc: Global, changes: &[Change]) -> Result<String, AllocError> {
     let mut tally = Tally::NONE;
     for change in changes {
@@ -42,13 +42,13 @@ fn spared(alloc: Global) -> Result<String, AllocError> {
     }
 }
 
-/// What came of all runs of a kind, whose changes are at the moves of a plain run.
+/// What came of all runs of a kind, which change at the moves of a plain run.
 fn changed_at(alloc: Global, kind: &str, plain: &Run) -> Result<String, Flaw> {
     let changes = changes(alloc, kind, plain.sides.history())?;
     Ok(all_played(alloc, changes.as_slice())?)
 }
 
-/// What came of the plain run, where its sides differ, and else of all runs of a kind.
+/// What came of the plain run if its sides differ, and otherwise of all runs of a kind.
 fn kind_played(alloc: Global, kind: &str) -> Result<String, Flaw> {
     let mut plain = Run::new(alloc, Change::Nothing)?;
     let (differing, plain) = beside(plain.calls(alloc, &mut Tally::NONE), plain)?;

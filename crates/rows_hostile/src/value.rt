@@ -6,7 +6,7 @@ use cacache_core::keeping::set;
 use cacache_disk::Luck;
 use std::alloc::{AllocError, Global};
 
-/// Why a step that would go well fails, by its luck.
+/// Why a step that would succeed fails, by its luck.
 pub(crate) fn made_up(luck: Luck) -> Option<Fault> {
     match luck {
         Luck::Fail(fault, _) => Some(fault),
@@ -31,13 +31,13 @@ pub(crate) fn taken(luck: Luck, count: usize) -> usize {
     }
 }
 
-/// The first bytes of a text, all where it has no more.
+/// The first bytes of a text, or all of them if it has no more.
 fn beginning(text: &str, count: usize) -> &str {
     let bytes = text.as_bytes();
     str::from_utf8(bytes.get(..count).unwrap_or(bytes)).unwrap_or(text)
 }
 
-/// The content whose whole line a piece of a bucket is.
+/// The content that has this piece of a bucket as its whole line.
 fn content_of(piece: &str) -> Option<Content> {
     for content in &CONTENTS {
         if content.line() == piece {
@@ -53,7 +53,7 @@ pub(crate) struct Value {
     folders: Vec<&'static str>,
     /// The contents that are at their places.
     contents: Vec<Content>,
-    /// The bytes of the key's bucket, where the file is there.
+    /// The bytes of the key's bucket, if the file is there.
     bucket: Option<String>,
     /// The numbers of the temporary files that lie about, each of one digit.
     temps: Vec<u64>,
@@ -141,7 +141,7 @@ impl Value {
         false
     }
 
-    /// A content goes.
+    /// A content is removed.
     pub(crate) fn drop_content(&mut self, content: Content) -> Result<(), AllocError> {
         let mut others = Vec::new(self.alloc);
         for other in &self.contents {
@@ -158,7 +158,7 @@ impl Value {
         self.bucket.is_some()
     }
 
-    /// The bucket goes.
+    /// The bucket is removed.
     pub(crate) fn drop_bucket(&mut self) {
         set(&mut self.bucket, None);
     }
@@ -175,7 +175,7 @@ impl Value {
         Ok(())
     }
 
-    /// The same where the append fails: nothing at all is done where its luck names no part.
+    /// The same if the append fails: nothing at all is done if its luck names no part.
     pub(crate) fn tear(&mut self, content: Content, luck: Luck) -> Result<(), AllocError> {
         match luck {
             Luck::Fail(_, Some(count)) => self.append(content, count),
@@ -202,7 +202,7 @@ impl Value {
         Ok(self.entries()?.pop())
     }
 
-    /// All that stands below the top folder: a folder's path with a `/` behind it, a file's with its bytes.
+    /// All that is below the top folder: a folder's path with a `/` at its end, a file's with its bytes.
     pub(crate) fn places(&self) -> Result<Vec<String>, AllocError> {
         let mut places = Vec::new(self.alloc);
         for folder in &self.folders {

@@ -24,7 +24,7 @@ fn is_over(world: &mut World, luck: Luck) -> Result<bool, Flaw> {
     }
 }
 
-/// The caller makes so many moves at most: how many it made where its call is over then.
+/// The caller makes so many moves at most: how many it made if its call is over then.
 fn moves(world: &mut World, most: usize) -> Result<Option<usize>, Flaw> {
     for number in 0..most {
         if is_over(world, Luck::Plain)? {
@@ -43,7 +43,7 @@ fn fail_at(world: &mut World, before: usize) -> Result<(), Flaw> {
     Ok(())
 }
 
-/// The caller makes so many moves, and stops where its call isn't over then.
+/// The caller makes so many moves, and stops if its call isn't over then.
 fn stop_at(world: &mut World, most: usize) -> Result<(), Flaw> {
     if moves(world, most)?.is_some() {
         return Ok(());
@@ -75,7 +75,7 @@ fn begin<'a>(
     }
 }
 
-/// The caller makes a call, or so many of its moves; with a `!` behind them the next one fails.
+/// The caller makes a call, or so many of its moves; if a `!` follows them the next one fails.
 pub(crate) fn make(alloc: Global, world: &mut World, act: &str, moment: u128) -> Result<(), Flaw> {
     let words = begin(alloc, world, act, moment)?;
     match words.strip_suffix("!") {

@@ -159,7 +159,7 @@ fn event(
     }
 }
 
-/// A world with so many callers; None where memory was refused.
+/// A world with so many callers; None if memory was refused.
 pub(crate) fn world_of(alloc: Global, callers: usize) -> Option<World> {
     let cache = Text::from_str(alloc, HOME).ok()?;
     World::new(alloc, callers, cache, Vec::new(alloc)).ok()

@@ -1,10 +1,10 @@
-//! A loss of power: which names stand as they did before, and what the files that weren't synced end in.
+//! A loss of power: which names are as they were before, and what the files that weren't synced end in.
 use crate::places::{Node, Places};
 use cacache_core::text::Text;
 use rows::random::Random;
 use std::alloc::{AllocError, Global};
 
-/// For each place, whether what stood there before stands there again, and what follows its file's fixed bytes.
+/// For each place, whether what was there before is there again, and what follows its file's fixed bytes.
 pub(crate) struct Loss {
     undone: Vec<bool>,
     tails: Vec<Text>,
@@ -46,7 +46,7 @@ impl Loss {
         Ok(())
     }
 
-    /// Whether the name of the place with this number stands as it did before.
+    /// Whether the name of the place with this number is as it was before.
     pub(crate) fn is_undone(&self, number: usize) -> bool {
         self.undone.get(number).copied().unwrap_or(false)
     }
@@ -92,7 +92,7 @@ impl Loss {
 }
 
 impl Places {
-    /// What stands at a path after a loss, where its folders stand. The cache's own folder stays.
+    /// What is at a path after a loss, if its folders are there. The cache's own folder stays.
     fn left_at<'a>(
         &'a self,
         loss: &'a Loss,
@@ -105,7 +105,7 @@ impl Places {
         Some((node, loss.tail(number)))
     }
 
-    /// Whether a folder stands at each name above a path after a loss.
+    /// Whether there is a folder at each name above a path after a loss.
     fn is_reached(&self, loss: &Loss, home: &str, path: &str) -> Result<bool, AllocError> {
         let mut at = String::new(self.alloc);
         for name in path.split('/') {
@@ -123,7 +123,7 @@ impl Places {
         Ok(true)
     }
 
-    /// The bytes of the file at a path after a loss; None where there is none.
+    /// The bytes of the file at a path after a loss; None if there is no file.
     pub(crate) fn lost(
         &self,
         loss: &Loss,

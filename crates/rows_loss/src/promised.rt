@@ -28,7 +28,7 @@ struct Entries {
     fixed: usize,
 }
 
-/// A caller's call, and the number of its entry, counted from 1; 0 where it added none.
+/// A caller's call, and the number of its entry, counted from 1; 0 if it added none.
 #[derive(Drop)]
 struct Call<'h> {
     command: Option<&'h Command>,
@@ -58,7 +58,7 @@ impl<'h> Drop for Story<'h> {
     }
 }
 
-/// What a call says: its key, its entry, and whether it is durable; None of one that adds no entry.
+/// What a call says: its key, its entry, and whether it is durable; None if it adds no entry.
 fn said(command: &Command) -> Option<(&str, Added, bool)> {
     let added = |moment, is_tombstone| Added {
         moment,
@@ -92,7 +92,7 @@ fn left_of(line: &[u8], luck: Luck, answer: &PlainAnswer) -> usize {
     }
 }
 
-/// Whether so many bytes of a line hold its entry: all, but for a line feed that closes it.
+/// Whether so many bytes of a line hold its entry: all, except for a line feed that closes it.
 fn holds_entry(line: &[u8], left: usize) -> bool {
     match line.split_last() {
         Some((b'\n', rest)) => rest.len() <= left,
@@ -311,7 +311,7 @@ impl<'h> Story<'h> {
         Ok(count)
     }
 
-    /// How many keys' lookups find something else than without the loss.
+    /// How many keys' lookups find something other than they would without the loss.
     pub(crate) fn lost_lookups(&self, loss: &Loss) -> Result<u64, AllocError> {
         let mut count: u64 = 0;
         for entries in &self.keys {
@@ -325,7 +325,7 @@ impl<'h> Story<'h> {
 }
 
 impl Entries {
-    /// What a lookup finds where nothing is lost.
+    /// What a lookup finds if nothing is lost.
     fn newest(&self) -> Option<u128> {
         match self.all.last() {
             Some(added) if !added.is_tombstone => Some(added.moment),

@@ -14,7 +14,7 @@ fn left_by(luck: Luck, answer: &PlainAnswer, all: usize) -> usize {
     }
 }
 
-/// Whether an append left anything, be it the file alone.
+/// Whether an append left anything, even if only the file.
 fn left_a_file(luck: Luck, answer: &PlainAnswer) -> bool {
     matches!(
         (answer, luck),
@@ -23,7 +23,7 @@ fn left_a_file(luck: Luck, answer: &PlainAnswer) -> bool {
 }
 
 impl Places {
-    /// What a step that was done does, beside folders and appends.
+    /// What a step that was done does, apart from folders and appends.
     fn done(&mut self, step: &PlainStep, answer: &PlainAnswer) -> Result<(), AllocError> {
         match (step, answer) {
             (Step::CreateTemp(path), Answer::Temp(_)) => self.make_file(path.as_str()),

@@ -113,7 +113,7 @@ fn lists_of(words: &str) -> Result<Lists, Flaw> {
     })
 }
 
-/// So many random histories, each with a loss at a random moment, or how the first one differs that does.
+/// So many random histories, each with a loss at a random moment, or if some differ, how the first of them does.
 fn all_lost(alloc: Global, asked: Lists) -> Result<String, Flaw> {
     let mut random = Random::new(asked.seed as u64);
     let mut count = Count {
@@ -200,7 +200,7 @@ fn seen_after(alloc: Global, world: &World, places: &Places, words: &str) -> Res
     Ok(format!(in alloc; "{got}; {seen}")?)
 }
 
-/// What is seen of some calls in a world after a loss; where there is none, how many moves each of them takes.
+/// What is seen of some calls in a world after a loss; if there is no loss, how many moves each call takes.
 fn case_in(
     alloc: Global,
     world: &mut World,

@@ -9,7 +9,7 @@ use cacache_disk::Disk;
 use cacache_world::World;
 use std::alloc::AllocError;
 
-/// The paths of the places whose names stand as they did before.
+/// The paths of the places with names that are as they were before.
 fn undone_of(places: &Places, loss: &Loss) -> Result<Vec<Text>, AllocError> {
     let mut undone = Vec::new(places.alloc);
     for (number, place) in places.all.iter().enumerate() {

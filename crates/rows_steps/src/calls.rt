@@ -2,9 +2,9 @@
 //!
 //!     CALL | ANSWERS | STEPS | REPLY
 //!
-//! A row holds if the call, made on a store that gives these answers one by one, replies so, and these steps are those
-//! of the store's log and, behind them, the one that memory was refused to. A store can't give an answer that doesn't fit
-//! its step, and this one lists no folder; such rows are tried on the job alone.
+//! The call is made on a store that gives these answers one by one. A row holds if the call replies so, and these
+//! steps are those of the store's log, followed by the one that memory was refused to. A store can't give an answer
+//! that doesn't fit its step, and this one lists no folder; such rows are tried on the job alone.
 mod commands;
 mod fitting;
 mod replies;

@@ -32,7 +32,7 @@ impl Trial for Steps {
     }
 }
 
-/// Tries rows, prints how they went, and tells whether each of them holds.
+/// Tries rows, prints how they went, and says whether each of them holds.
 pub fn all_hold(rt: &(impl Print + AllocGlobal), rows: &str) -> io::Result<bool> {
     let alloc = rt.alloc();
     let mut steps = Steps {

@@ -187,7 +187,7 @@ pub(crate) fn random_kind(random: &mut Random) -> &'static str {
     }
 }
 
-/// A random content, mostly the first where it isn't put.
+/// A random content, mostly the first if it isn't put.
 fn random_content(random: &mut Random, kind: &str) -> Sample {
     let count = match kind {
         "put" | "put_durable" | "put_hash" => 3,
@@ -259,7 +259,7 @@ fn put_of(
     }))
 }
 
-/// The entry of this content alone, with the bytes beside it or without.
+/// The entry of this content alone, with its bytes or without them.
 fn insert_of(
     alloc: Global,
     kind: &str,

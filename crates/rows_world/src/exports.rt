@@ -29,7 +29,7 @@ impl<'h> Story<'h> {
         }
     }
 
-    /// After the content came to its second place.
+    /// After the content is at its second place.
     fn exported(
         &mut self,
         value: &Value,

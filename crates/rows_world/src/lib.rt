@@ -3,15 +3,15 @@
 //!
 //!     lists 1000 seed 7 callers 3 events 40
 //!
-//! An event begins a call on one of three keys and contents, moves it on under some luck, or stops it. Exports go to few
-//! paths, so that they meet, and links lead to outside files; some may not begin. The model holds each content, a file or a
-//! link, each bucket, and the files outside the cache. It is changed by the steps of the world's history alone. It says which
-//! commands may begin, which steps of exports and links fail and how, and what each reply is to be; at the end of a list its
-//! files are compared with those of the disk, and its links by the bytes that they lead to. A row prints what it counted, and
-//! each list that differs prints how at first.
+//! An event begins a call on one of three keys and contents, moves it on under some luck, or stops it. Exports go to
+//! few paths, so that they meet, and links lead to outside files; some may not begin. The model holds each content, a
+//! file or a link, each bucket, and the files outside the cache. It is changed by the steps of the world's history
+//! alone. It says which commands may begin, which steps of exports and links fail and how, and what each reply is to
+//! be. At the end of a list its files are compared with those of the disk, and its links by the bytes that they lead
+//! to. A row first prints how each list that differs does so, and then what it counted.
 //!
-//! Left out: folders of the cache, temporary files, the messages of errors, and whether a step was the right one to make, but
-//! for exports and for what a reply shows.
+//! Left out: folders of the cache, temporary files, the messages of errors, and whether a step was the right one to
+//! make, except for exports and for what a reply shows.
 #![tactic(auto)]
 
 mod commands;
@@ -35,7 +35,7 @@ use std::alloc::Global;
 use std::io;
 use tally::Tally;
 
-/// Plays all lists of a row, prints how they differ, and tells how many do.
+/// Plays all lists of a row, prints how they differ, and says how many do.
 fn differing(rt: &impl Print, alloc: Global, row: Row, counts: &mut Counts) -> io::Result<u64> {
     let mut random = Random::new(row.seed as u64);
     let mut count: u64 = 0;
@@ -65,7 +65,7 @@ fn holds(rt: &impl Print, alloc: Global, line: &str) -> io::Result<bool> {
     counted(rt, alloc, row, &mut counts)
 }
 
-/// The same of a row that was read, which counts here.
+/// The same for a row that was read, which counts here.
 fn counted(rt: &impl Print, alloc: Global, row: Row, counts: &mut Counts) -> io::Result<bool> {
     let count = differing(rt, alloc, row, counts)?;
     let word = if count == 0 { "ok" } else { "wrong" };
@@ -76,7 +76,7 @@ fn counted(rt: &impl Print, alloc: Global, row: Row, counts: &mut Counts) -> io:
     Ok(count == 0)
 }
 
-/// Tries rows, prints how they went, and tells whether each of them holds.
+/// Tries rows, prints how they went, and says whether each of them holds.
 pub fn all_hold(rt: &(impl Print + AllocGlobal), rows: &str) -> io::Result<bool> {
     let alloc = rt.alloc();
     let mut all = true;

@@ -14,7 +14,7 @@ use cacache_store::store::{Answer, PlainAnswer, PlainStep, Step};
 use cacache_table::Link;
 use std::alloc::{AllocError, Global};
 
-/// A target of another size than was asked, as a reply says it.
+/// A target with a size other than the one that was asked for, as a reply says it.
 fn mismatch(alloc: Global, wanted: usize, found: usize) -> Result<String, AllocError> {
     let error = Error::SizeMismatch(wanted, found);
     let text = shown_error(alloc, &error);
@@ -48,7 +48,7 @@ impl<'h> Story<'h> {
         self.linked_as(value, &integrity, count)
     }
 
-    /// The same, where so many bytes of this integrity were read.
+    /// The same if so many bytes of this integrity were read.
     fn linked_as(
         &mut self,
         value: &Value,

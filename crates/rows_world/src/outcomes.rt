@@ -16,7 +16,7 @@ pub(crate) fn fault_in(answer: &PlainAnswer) -> Option<Fault> {
     }
 }
 
-/// The fault that luck makes up for a step that would go well.
+/// The fault that luck makes up for a step that would succeed.
 fn made_up(luck: Luck) -> Option<Fault> {
     match luck {
         Luck::Fail(Fault::NotFound, _) => Some(Fault::Device),
@@ -42,7 +42,7 @@ impl Files {
         }
     }
 
-    /// Why something that stands at a path is in the way, if so.
+    /// Why something that is at a path is in the way, if so.
     fn standing(&self, path: &Text) -> Option<Fault> {
         match self.at(path.as_str()) {
             Some(_) => Some(Fault::AlreadyExists),
@@ -80,8 +80,8 @@ impl Files {
         }
     }
 
-    /// Whether a step of an export or of a link failed, or went well, otherwise than it is to. A link may also fail since the
-    /// folder of its content is gone.
+    /// Whether a step of an export or of a link fails or succeeds otherwise than it should. A link may also fail
+    /// since the folder of its content is gone.
     pub(crate) fn is_wrong(&self, step: &PlainStep, luck: Luck, answer: &PlainAnswer) -> bool {
         let own = self.own_fault(step);
         let came = fault_in(answer);
@@ -98,7 +98,7 @@ impl Files {
         }
     }
 
-    /// A copy, of which so many bytes are done at most.
+    /// A copy that does at most so many bytes.
     fn copy(&mut self, from: &Text, to: &Text, most: usize) -> Result<(), AllocError> {
         let Some(bytes) = self.bytes(from.as_str()) else {
             return Ok(());

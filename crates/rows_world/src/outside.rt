@@ -5,7 +5,7 @@ use cacache_table::{Command, Export, How};
 use rows::random::Random;
 use std::alloc::{AllocError, Global};
 
-/// The folder of all that lies outside, which always stands.
+/// The folder of all that lies outside, which is always there.
 pub(crate) const FOLDER: &str = "/out";
 
 /// The outside files: the path, a text, and how often the file has it. The long one takes three reads.
@@ -20,8 +20,8 @@ const FILES: [(&str, &str, usize); 4] = [
     ),
 ];
 
-/// Where exports go, and whether one may go there; some come more often. One may go apart from the cache and from the outside
-/// files, and to a path that names nothing, where its step fails.
+/// Where exports go, and whether one may go there; some come more often. One may go to a path apart from the cache
+/// and the outside files, also to one that names nothing: its step fails there.
 pub(crate) const DESTINATIONS: [(&str, bool); 21] = [
     ("/out/a", true),
     ("/out/a", true),
@@ -83,7 +83,7 @@ pub(crate) fn outside_files(alloc: Global) -> Result<Vec<(Text, Bytes)>, AllocEr
     Ok(files)
 }
 
-/// What is said of a path.
+/// Whether one may go to a path.
 fn is_allowed(paths: &[(&str, bool)], path: &Text) -> bool {
     for (text, allowed) in paths {
         if *text == path.as_str() {

@@ -63,7 +63,7 @@ impl<'h> Drop for Model<'h> {
     }
 }
 
-/// A world with so many callers; None where memory was refused.
+/// A world with so many callers; None if memory was refused.
 fn world_of(alloc: Global, callers: usize) -> Option<World> {
     let cache = Text::from_str(alloc, CACHE).ok()?;
     let outside = outside_files(alloc).ok()?;
@@ -82,7 +82,7 @@ fn moves(world: &mut World, caller: usize, luck: Luck) -> Result<bool, AllocErro
     }
 }
 
-/// A caller begins a random call: whether it does where it may, and doesn't where it may not.
+/// A caller begins a random call: whether it does if it may, and doesn't if it may not.
 fn begins(
     alloc: Global,
     world: &mut World,
@@ -133,7 +133,7 @@ fn name_of(luck: Luck) -> &'static str {
     }
 }
 
-/// What is counted of a step beside its luck, if anything.
+/// What is counted of a step besides its luck, if anything.
 fn told_of(step: &PlainStep, answer: &PlainAnswer) -> Option<&'static str> {
     match (step, answer) {
         (Step::Append(_, bytes), Answer::Took(count)) if *count < bytes.len() => Some(
@@ -227,7 +227,7 @@ impl<'h> Model<'h> {
         }
     }
 
-    /// A step of a caller's call was made: how it went otherwise than it is to, if so.
+    /// A step of a caller's call was made: how it differs from what it should be, if it does.
     fn stepped(
         &mut self,
         caller: usize,
@@ -247,7 +247,7 @@ impl<'h> Model<'h> {
         Ok(None)
     }
 
-    /// A caller's call replied: how it did otherwise than it was to, if so.
+    /// A caller's call replied: how the reply differs from what it should be, if it does.
     fn replied(
         &self,
         caller: usize,

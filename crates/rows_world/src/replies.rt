@@ -1,4 +1,4 @@
-//! Replies in words, of which the first says the kind.
+//! Replies in words, the first of which says the kind.
 use cacache_core::errors::{Error, Fault};
 use cacache_entry::SerializableMetadata;
 use cacache_table::{Found, Items, Reply};

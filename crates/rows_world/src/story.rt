@@ -47,7 +47,7 @@ impl<'h> Drop for Story<'h> {
     }
 }
 
-/// Why a step shows nothing, if so. That a file is missing shows what is so.
+/// Why a step shows nothing, if so. A missing file shows something true.
 fn hidden_by(answer: &PlainAnswer) -> Option<Fault> {
     fault_in(answer).filter(|fault| *fault != Fault::NotFound)
 }
@@ -195,7 +195,7 @@ impl<'h> Story<'h> {
         }
     }
 
-    /// The same, where that entry names this content.
+    /// The same if that entry names this content.
     fn added_of(&mut self, text: &str) -> Result<(), AllocError> {
         if !self.may_add {
             return self.want("no entry before its content");
@@ -252,7 +252,7 @@ impl<'h> Story<'h> {
         seen
     }
 
-    /// The same, where a lookup found this.
+    /// The same if a lookup found this.
     fn see_by(
         &mut self,
         value: &Value,

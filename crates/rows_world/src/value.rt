@@ -40,7 +40,7 @@ fn path_of_content(alloc: Global, text: &str) -> Result<Text, AllocError> {
 }
 
 impl Value {
-    /// That of a cache which holds nothing, beside the outside files.
+    /// That of a cache which holds nothing, apart from the outside files.
     pub(crate) fn empty(alloc: Global) -> Result<Value, AllocError> {
         let mut value = Value {
             alloc,
@@ -135,7 +135,7 @@ impl Value {
         Ok(self.newest(path)?.and_then(|entry| entry.integrity))
     }
 
-    /// Puts more bytes behind those at a path.
+    /// Puts more bytes after those at a path.
     fn append(&mut self, path: &Text, more: &[u8]) -> Result<(), AllocError> {
         let mut bytes = match self.bytes(path) {
             Some(bytes) => bytes.share()?,
@@ -145,7 +145,7 @@ impl Value {
         self.files.put(path.as_str(), Some(Node::File(bytes)))
     }
 
-    /// A temporary file with these bytes comes to a path. Nothing changes where they aren't known.
+    /// A temporary file with these bytes comes to a path. Nothing changes if they aren't known.
     fn persist(&mut self, path: &Text, bytes: Option<&Bytes>) -> Result<(), AllocError> {
         match bytes {
             Some(bytes) => {

@@ -30,7 +30,7 @@ const FINDS_A_LINK: &[Row] = &[
     (0, Act::Go, 14, Luck::Plain, STORED_HELLO),
 ];
 
-/// A store that begins with what a loss leaves that undoes the content's name where no sync fixed it.
+/// A store that begins with what is left after a loss that undoes the content's name if no sync fixed it.
 fn left(alloc: Global, world: &World) -> Result<MemStore, AllocError> {
     let undone = vec![in alloc; Text::from_str(alloc, CONTENT)?]?;
     let tails = Vec::new(alloc);

@@ -68,7 +68,7 @@ fn shown(alloc: Global, reply: &Reply) -> Result<String, AllocError> {
     }
 }
 
-/// What came of a move that so many are to follow, in words: none where the call goes on.
+/// What came of a move that so many are to follow, in words: none if the call goes on.
 fn ended(
     alloc: Global,
     came: &Result<Move, WorldFault>,
@@ -82,7 +82,7 @@ fn ended(
     }))
 }
 
-/// What came of the last of so many moves, in words: `more` where the call goes on.
+/// What came of the last of so many moves, in words: `more` if the call goes on.
 fn moved(
     alloc: Global,
     world: &mut World,
@@ -126,7 +126,7 @@ fn came(alloc: Global, world: &mut World, row: &Row) -> Result<String, AllocErro
     }
 }
 
-/// The row's number and what came of it, if that is something else than it says.
+/// The row's number and what came of it, if that is something other than it says.
 fn other(
     alloc: Global,
     world: &mut World,
@@ -140,8 +140,8 @@ fn other(
     Ok(Some(format!(in alloc; "row {number}: {came}")?))
 }
 
-/// Plays rows in a world, up to the first of which something else came: its number, from 1, and
-/// what came; empty where there is none.
+/// Plays rows in a world, up to the first one at which something else came: its number, from 1, and
+/// what came; empty if there is no such row.
 pub(crate) fn played(alloc: Global, world: &mut World, rows: &[Row]) -> Result<String, AllocError> {
     for i in 0..rows.len() {
         if let Some(line) = other(alloc, world, &rows[i], i + 1)? {

@@ -1,4 +1,4 @@
-//! The example of the README, with a cache below the folder where the test runs.
+//! The example of the README, with a cache below the folder that the test runs in.
 use cacache::env::folders;
 use std::test::Fail;
 
@@ -14,7 +14,7 @@ fn example(rt: HostRuntime, cache: &str) -> cacache::Result<()> {
 #[test]
 fn example_of_the_readme(rt: HostRuntime) -> Result<(), Fail> {
     let cache = "/tmp/my-cache";
-    // Where others may have that folder, the test could fail: it has one below its own.
+    // If others had that folder, the test could fail: it has one below its own.
     example(rt, cache.strip_prefix("/tmp/").unwrap_or(cache))?;
     Ok(())
 }

@@ -1,4 +1,4 @@
-//! A reader and a linker over a store whose open file fails one read.
+//! A reader and a linker over a store that fails one read of its open file.
 use cacache::content::read::{Reader, open};
 use cacache::{Error, Integrity, WriteOpts};
 use cacache_core::keeping::{beside, let_go};
@@ -7,7 +7,7 @@ use std::alloc::{AllocError, Global};
 use std::io::Read;
 use std::test::Fail;
 
-/// An environment over a store with a file of `hello world`, whose read of this number fails.
+/// An environment over a store with a file of `hello world`; its read of this number fails.
 fn failing(alloc: Global, fails: usize) -> Result<On<Faulty>, AllocError> {
     let mishaps = Mishaps {
         fails: Some(fails),
@@ -16,14 +16,14 @@ fn failing(alloc: Global, fails: usize) -> Result<On<Faulty>, AllocError> {
     on(alloc, Faulty::new(alloc, mishaps)?, ".")
 }
 
-/// A reader of `hello world`, whose read of this number fails.
+/// A reader of `hello world` that fails at the read of this number.
 fn opened(alloc: Global, fails: usize) -> Result<Reader<Failing>, Fail> {
     let sri = Integrity::parse(alloc, "sha256-uU0nuZNNPgilLlLX2n2r+sSE7+N6U4DukIj3rOLvzek=")?;
     let (mut env, sri) = beside(failing(alloc, fails), sri)?;
     Ok(open(&mut env, "c", sri)?)
 }
 
-/// What reads gave, none where one failed, and all their bytes.
+/// What reads gave, none if one failed, and all their bytes.
 #[derive(Drop)]
 struct Reads {
     counts: Vec<Option<usize>>,
@@ -100,7 +100,7 @@ fn said(alloc: Global, tried: &cacache::Result<Integrity>) -> Result<String, All
     }
 }
 
-/// What a link says whose commit can't read the target.
+/// What a link says if its commit can't read the target.
 fn unlinked(alloc: Global) -> Result<String, AllocError> {
     let mut env = failing(alloc, 0)?;
     match WriteOpts::new().link_to_hash_sync(&mut env, "c", "/t") {

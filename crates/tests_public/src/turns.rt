@@ -40,7 +40,7 @@ const FOUND_B: &str = "found b sha256-uU0nuZNNPgilLlLX2n2r+sSE7+N6U4DukIj3rOLvze
 const TORN_AND_WHOLE: &str =
     "\nb25bf698a\n6f7e5d09fcce9e8f096116464755fe9b08f8b60f4df4b6f36eafe70f45064d77\t{\"key\":\"x\",\"integrity\":\"sha256-dpLDrTVAu4A8Ags67mbNiIcSMjTqDG5xQ8Ct1z/0Me0=\",\"time\":1234567,\"size\":3,\"metadata\":null,\"raw_metadata\":null}";
 
-/// Whether the bucket of `x`, whose name `sha1sum` prints, holds a text.
+/// Whether the bucket of `x`, which `sha1sum` names, holds a text.
 fn bucket_holds(world: &World, text: &str) -> Result<bool, AllocError> {
     let path = "/cache/index-v5/11/f6/ad8ec52a2984abaafd7c3b516503785c2072";
     Ok(match world.disk().shared(path)? {

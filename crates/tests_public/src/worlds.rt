@@ -48,7 +48,7 @@ fn callers_without_calls_make_no_moves(rt: HostRuntime) -> Result<(), Fail> {
     Ok(())
 }
 
-/// Events of which the fourth finds no call.
+/// Events, the fourth of which finds no call.
 fn events(alloc: Global) -> Result<Vec<Event>, AllocError> {
     let put = put(alloc, "a", "hello world")?;
     let events = vec![in alloc;
@@ -85,7 +85,7 @@ fn begun(alloc: Global, world: &mut World, to: &str) -> Result<Result<(), WorldF
     Ok(world.begin(0, export_to(alloc, to)?))
 }
 
-/// The same of the exports to all the targets, one after the other.
+/// The same for the exports to all the targets, one after the other.
 fn all_begun(alloc: Global, world: &mut World) -> Result<Vec<Result<(), WorldFault>>, AllocError> {
     let mut all = Vec::new(alloc);
     for to in TARGETS {

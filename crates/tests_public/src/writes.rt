@@ -1,4 +1,5 @@
-//! A writer over a store whose temporary file takes at most three bytes a write, and interrupts every other one.
+//! A writer over a store that takes at most three bytes a write to its temporary file, and interrupts every other
+//! one.
 use cacache::{Integrity, WriteOpts};
 use cacache_core::keeping::{beside, let_go};
 use row_places::{Faulty, Mishaps, On, on};
@@ -6,7 +7,7 @@ use std::alloc::{AllocError, Global};
 use std::io::Write;
 use std::test::Fail;
 
-/// An environment over a store whose temporary files are such.
+/// An environment over such a store.
 fn short(alloc: Global) -> Result<On<Faulty>, AllocError> {
     let mishaps = Mishaps {
         most: 3,
@@ -50,7 +51,7 @@ fn told(env: &mut On<Faulty>) -> Result<String, AllocError> {
     }
 }
 
-/// The same of an environment of its own.
+/// The same in an environment of its own.
 fn told_of_short(alloc: Global) -> Result<String, AllocError> {
     let mut env = short(alloc)?;
     told(&mut env)

@@ -1,5 +1,5 @@
-//! A cache of builds. A build is large, so that it is written and read in pieces. A file that lies outside the cache
-//! gets into it by a link, and a build gets out of it by a copy, or by a hard link where one can be made.
+//! A cache of builds. A build is large, so it is written and read in pieces. A file that lies outside the cache gets
+//! into it by a link, and a build gets out of it by a copy, or by a hard link if one can be made.
 mod kept;
 mod pieces;
 mod reasons;
@@ -13,7 +13,7 @@ use cacache::errors::IoErrorExt;
 /// A file outside the cache.
 const TOOLCHAIN: &str = "/toolchain";
 
-/// Puts builds into the cache, of which one isn't whole.
+/// Puts builds into the cache, one of which isn't whole.
 fn store_all<S: Reasons, C: Clock, N: Names>(builds: &mut Builds<S, C, N>) -> Result<()> {
     builds.store("app-1.0", PIECES)?;
     builds.store("app-1.1", PIECES - 1)?;

@@ -1,5 +1,5 @@
-//! The examples of the public calls, each as the call's docs have it, and on a disk in memory of its own where it needs
-//! one. What came of it is printed behind the call's name. `env` is `mut` everywhere, so that the lines are those of a
+//! The examples of the public calls, each as the call's docs have it, and on a disk in memory of its own if it needs
+//! one. What came of it is printed after the call's name. `env` is `mut` everywhere, so that the lines are those of a
 //! caller who owns it, as some of these do.
 //!
 //! Each file's `came` makes the calls of that file, and hands any other name on to the next file.
@@ -141,7 +141,7 @@ where
     }
 }
 
-/// What comes of a future that is handed a disk in memory.
+/// What comes of a future that gets a disk in memory.
 fn taking<R>(rt: R, host: HostRuntime, name: &str) -> Result<String>
 where
     R: Threads + Wait + Clock + RandomSource + AllocGlobal + Copy + Sync + Send + 'static,

@@ -23,7 +23,7 @@ const FOX: (&str, &[u8]) = ("fox", b"The quick brown fox jumps over the lazy dog
 
 const VOW: (&str, &[u8]) = ("vow", b"Sphinx of black quartz, judge my vow.\n");
 
-/// What is said of a failure outside the cache.
+/// The message of a failure outside the cache.
 const OUTSIDE: &str = "Failed to run or to print the downloads";
 
 /// What a future answers, once it is ready.
@@ -136,7 +136,7 @@ pub(crate) fn run<R>(rt: &R, host: HostRuntime) -> Result<()>
 where
     R: Wait + RandomSource + Print + AllocGlobal,
 {
-    // `Folders` and `folders` in the place of these keep the cache in real folders.
+    // `Folders` and `folders` instead of these keep the cache in real folders.
     let mut place: Memory = memory(host, "/")?;
     download_both(rt, &mut place)
 }

@@ -1,5 +1,5 @@
-//! Five programs to read, each a file of its own beside this one, and the examples of the public calls, `calls`. Each word
-//! of the command line names one, and they run in the order of the words.
+//! Five programs to read, each a file of its own next to this one, and the examples of the public calls, `calls`.
+//! Each word of the command line names one, and they run in the order of the words.
 #![tactic(auto)]
 
 mod builds;

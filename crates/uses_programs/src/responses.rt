@@ -1,4 +1,4 @@
-//! A cache of responses. The body of a response is a content, and its headers stand in the entry of its path. By the
+//! A cache of responses. The body of a response is a content, and its headers are in the entry of its path. By the
 //! entry's time and the headers' `max-age` it is fresh, and answers requests, or stale, and is removed.
 mod cached;
 mod clock;
@@ -31,7 +31,7 @@ fn get_all<S: Store, N: Names>(responses: &mut Responses<S, N>) -> Result<()> {
     Ok(())
 }
 
-/// Answers the requests in this environment, and tells what the cache has then. What became of them is the answer.
+/// Answers the requests in this environment, and reports what the cache has then. What became of them is the answer.
 fn answer_all<S: Store, N: Names>(env: Env<S, SetClock, N>) -> Result<String> {
     let mut responses = Responses::new(env);
     get_all(&mut responses)?;
@@ -43,7 +43,7 @@ fn answer_all<S: Store, N: Names>(env: Env<S, SetClock, N>) -> Result<String> {
 /// Answers the requests from a cache, and prints what became of them.
 pub(crate) fn run(rt: HostRuntime) -> Result<()> {
     let alloc = rt.alloc();
-    // `FolderStore::new(rt)` in the place of this store keeps the responses in real folders.
+    // `FolderStore::new(rt)` instead of this store keeps the responses in real folders.
     let store = MemStore::new(alloc)?;
     let clock = SetClock { second: 0 };
     let names = ProcessNames::new(rt);

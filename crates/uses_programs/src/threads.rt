@@ -1,5 +1,5 @@
-//! A compiler with a thread for each unit. The threads hand one another what they make by a cache in a real folder:
-//! each stores the interface of its unit, and once all have, each reads the interfaces that its unit uses and stores
+//! A compiler with a thread for each unit. The threads hand one another what they make by a cache in a real folder.
+//! Each stores the interface of its unit, and once all have, each reads the interfaces that its unit uses and stores
 //! its object.
 //!
 //! They share that folder, and nothing else. Each thread makes an environment of its own by `folders`, with its own copy
@@ -7,7 +7,7 @@
 //! system, so that two threads don't come to one name (`ProcessNames` says how unlikely that is). No lock is needed: a
 //! content is moved to its place whole, and an entry goes into its bucket in one append.
 //!
-//! The cache is the folder `units`, below the one where the program runs. It stays there, and a later run may use it.
+//! The cache is the folder `units`, below the program's working folder. It stays there, and a later run may use it.
 mod units;
 
 use crate::threads::units::{UNITS, Unit};
@@ -29,7 +29,7 @@ fn compile(rt: HostRuntime, unit: &Unit) -> Result<()> {
     unit.compile(&mut env)
 }
 
-/// Stores the interfaces of all units, each in a thread of its own, and returns once all threads have ended. Where the
+/// Stores the interfaces of all units, each in a thread of its own, and returns once all threads have ended. If the
 /// system gives no thread, the calls are made one after another, which serves since none waits for another one. `rt`
 /// starts the threads, and `host`, the same runtime, goes to each.
 fn store_all<R: Threads + Sync>(rt: &R, host: HostRuntime) -> Result<()> {

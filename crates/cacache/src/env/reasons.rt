@@ -8,13 +8,13 @@ use cacache_store::store::Store;
 use std::io::ErrorKind;
 use std::rt::Files;
 
-/// A store that may know more of a failed step than its fault. Who has real folders alone needs no such trait, and calls
-/// `FolderStore::reason`.
+/// A store that may know more of a failed step than its fault. A caller that has only real folders needs no such
+/// trait, and calls `FolderStore::reason`.
 pub trait Reasons: Store {
     /// What it knows.
     ghost known: { Self → Option ErrorKind };
 
-    /// The system's kind of error behind the last step that failed. None where the store knows none.
+    /// The system's kind of error that made the last failed step fail. None if the store knows none.
     fn reason(&self) -> Option<ErrorKind>
         ensures { result ≡ known self.now };
 }

@@ -27,7 +27,7 @@ impl Told {
     }
 }
 
-/// What the words say behind the kind that is wanted.
+/// What the words say after the kind that is wanted.
 fn behind<'a>(wanted: &str, words: &'a str) -> Result<&'a str, Flaw> {
     let (kind, rest) = cut(words);
     if kind == wanted {
@@ -37,7 +37,7 @@ fn behind<'a>(wanted: &str, words: &'a str) -> Result<&'a str, Flaw> {
     }
 }
 
-/// The number that the words give behind the kind that is wanted.
+/// The number that the words give after the kind that is wanted.
 fn number_behind(wanted: &str, words: &str) -> Result<usize, Flaw> {
     number_of(behind(wanted, words)?)
 }

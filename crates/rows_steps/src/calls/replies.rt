@@ -22,7 +22,7 @@ fn shown_item(alloc: Global, item: &Result<Found, Error>) -> Result<String, Allo
     }
 }
 
-/// Puts the items of a listing behind the text.
+/// Puts the items of a listing after the text.
 fn show_items(alloc: Global, items: &Items, text: &mut String) -> Result<(), AllocError> {
     for item in items.as_slice() {
         text.push_str("; ")?;

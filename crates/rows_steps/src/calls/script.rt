@@ -79,7 +79,7 @@ impl Script {
         })
     }
 
-    /// What the script says to the step; None where it refuses memory, or can't go on.
+    /// What the script says to the step; None if it refuses memory, or can't go on.
     fn told(&mut self, step: &PlainStep) -> Option<Told>
         ensures fits { IfSome result (λ told. Fits step.now told.answer) }
         ensures copy { IfSome result (λ told. told.copy ≡ told.answer) }

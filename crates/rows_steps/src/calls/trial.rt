@@ -19,7 +19,7 @@ use std::alloc::Global;
 /// Where the cache of each row is.
 const CACHE: &str = "/c";
 
-/// Where a relative target of a link starts.
+/// The folder at which a relative target of a link starts.
 const BASE: &str = "/b";
 
 /// The number of the temporary file.

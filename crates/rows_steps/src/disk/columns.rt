@@ -11,11 +11,11 @@ pub(crate) struct Row<'a> {
     pub(crate) luck: &'a str,
     pub(crate) step: &'a str,
     pub(crate) answer: &'a str,
-    /// What is left; `same` where nothing changed.
+    /// What is left; `same` if nothing changed.
     pub(crate) after: &'a str,
 }
 
-/// The columns of a line, where it has five.
+/// The columns of a line, if it has five.
 pub(crate) fn row_of(line: &str) -> Result<Row<'_>, Flaw> {
     let (before, rest) = column(line)?;
     let (luck, rest) = column(rest)?;
@@ -41,7 +41,7 @@ pub(crate) struct Words<'a> {
     pub(crate) second: Option<&'a str>,
 }
 
-/// The words of a step, where there are two or three.
+/// The words of a step, if there are two or three.
 pub(crate) fn words_of(step: &str) -> Result<Words<'_>, Flaw> {
     let mut words = step.split(' ');
     match (words.next(), words.next(), words.next(), words.next()) {

@@ -1,5 +1,5 @@
-//! Open and temporary files as words: `3=abc` is an open file with three bytes left, `t=ab` a temporary file at `t`, `?` stands
-//! for bytes that aren't known, and `held` for the handle of the last answer that had one.
+//! Open and temporary files as words: `3=abc` is an open file with three bytes left, `t=ab` a temporary file at `t`.
+//! `?` stands for bytes that aren't known, and `held` for the handle of the last answer that had one.
 use crate::disk::shown::{shown_file, shown_temp};
 use crate::disk::words::{bytes_of, text_of};
 use cacache_core::bytes::Bytes;
@@ -35,7 +35,7 @@ pub(crate) fn handle_in(answer: PlainAnswer) -> Option<Handle> {
     }
 }
 
-/// The bytes of a word, where they are known.
+/// The bytes of a word, if they are known.
 fn known_of(alloc: Global, word: &str) -> Result<Option<Bytes>, AllocError> {
     if word == "?" {
         return Ok(None);

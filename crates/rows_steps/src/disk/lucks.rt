@@ -1,4 +1,4 @@
-//! Lucks as words: `Plain`, `Take 2`, `Fail Device`, or `Fail Device 2` where a part is left done.
+//! Lucks as words: `Plain`, `Take 2`, `Fail Device`, or `Fail Device 2` if a part is left done.
 use cacache_core::errors::Fault;
 use cacache_disk::Luck;
 use rows::Flaw;

@@ -40,7 +40,7 @@ fn heard_in(alloc: Global, answer: PlainAnswer) -> Result<Heard, Flaw> {
     }
 }
 
-/// What an answer says, with what its copy says where that is something else.
+/// What an answer says, with what its copy says if that is something else.
 fn with_copy(alloc: Global, heard: Heard, copied: &str) -> Result<Heard, Flaw> {
     if heard.text.as_str() == copied {
         return Ok(heard);
@@ -50,7 +50,7 @@ fn with_copy(alloc: Global, heard: Heard, copied: &str) -> Result<Heard, Flaw> {
     Ok(Heard { text, handle })
 }
 
-/// The same of an answer and its copy.
+/// The same for an answer and its copy.
 fn both(alloc: Global, answer: PlainAnswer, copy: PlainAnswer) -> Result<Heard, Flaw> {
     let copied = shown_answer(alloc, &copy);
     let_go(copy);
@@ -205,7 +205,7 @@ impl Place {
         }
     }
 
-    /// What a copy of the disk holds once that is made which a word says.
+    /// What a copy of the disk holds once what a word says is made.
     pub(crate) fn copied(&self, alloc: Global, word: &str) -> Result<String, Flaw> {
         match self {
             Place::Disk(disk) => shown_copy(alloc, disk, word),
@@ -213,7 +213,7 @@ impl Place {
         }
     }
 
-    /// The bytes at the path as a word, `none` where there are none.
+    /// The bytes at the path as a word, `none` if there are none.
     pub(crate) fn bytes(&self, alloc: Global, path: &str) -> Result<String, Flaw> {
         match self {
             Place::Disk(disk) => Ok(shared(alloc, disk, path)?),

@@ -70,7 +70,7 @@ impl Scene {
         }
     }
 
-    /// Why nothing came, where memory was refused.
+    /// Why nothing came, if memory was refused.
     fn refused(&mut self, alloc: Global, before: &str) -> Result<String, Flaw> {
         let after = self.place.shown(alloc)?;
         Err(if after.as_str() == before {
@@ -80,7 +80,7 @@ impl Scene {
         })
     }
 
-    /// What came of the words of a row, where this stood before.
+    /// What came of the words of a row, if this was there before.
     fn got(
         &mut self,
         alloc: Global,
@@ -113,7 +113,7 @@ fn got(alloc: Global, before: &str, answer: &str, after: &str) -> Result<String,
     written_out(alloc, text.as_str())
 }
 
-/// What a row wants, where this stood before it.
+/// What a row wants, if this was there before it.
 fn wanted(alloc: Global, row: Row<'_>, before: &str) -> Result<String, AllocError> {
     let before = match row.before {
         "then" => before,

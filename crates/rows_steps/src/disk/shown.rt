@@ -8,7 +8,7 @@ use cacache_store::store::{
 use rows::words::word_of;
 use std::alloc::{AllocError, Global};
 
-/// Bytes as a word: `?` where they aren't known.
+/// Bytes as a word: `?` if they aren't known.
 fn known(bytes: &Option<Bytes>) -> &str {
     match bytes {
         None => "?",
@@ -30,12 +30,12 @@ pub(crate) fn shown_temp(alloc: Global, temp: &PlainTemp) -> Result<String, Allo
     format!(in alloc; "{path}={bytes}")
 }
 
-/// A name, and what stands there.
+/// A name, and what is there.
 fn shown_name(alloc: Global, name: &Name) -> Result<String, AllocError> {
     format!(in alloc; " {}:{:?}", name.name, name.kind)
 }
 
-/// The names of a listing, each with what stands there.
+/// The names of a listing, each with what is there.
 fn shown_names(alloc: Global, listing: &Listing) -> Result<String, AllocError> {
     let mut text = String::from_str(alloc, "Names")?;
     for name in listing.as_slice() {
@@ -57,7 +57,7 @@ fn shown_got(alloc: Global, file: &PlainFile, bytes: &Bytes) -> Result<String, A
     format!(in alloc; "Got {file} {bytes}")
 }
 
-/// A name, and a text behind it.
+/// A name, followed by a text.
 fn named(alloc: Global, name: &str, text: &str) -> Result<String, AllocError> {
     format!(in alloc; "{name} {text}")
 }
@@ -93,7 +93,7 @@ fn on_path(step: &PlainStep) -> Option<(&'static str, &Text)> {
     }
 }
 
-/// A step in the words of a row, where it is one that the logs of the rows hold.
+/// A step in the words of a row, if it is one that the logs of the rows hold.
 fn shown_step(alloc: Global, step: &PlainStep) -> Result<String, AllocError> {
     if let Some((kind, path)) = on_path(step) {
         return named(alloc, kind, path.as_str());

@@ -1,4 +1,4 @@
-//! A disk as words: `a/` is a folder, `f=x` a file and `l->f` a link, folders before what stands in them.
+//! A disk as words: `a/` is a folder, `f=x` a file and `l->f` a link, folders before what is in them.
 use crate::disk::steps::{appending, two_paths};
 use crate::disk::words::text_of;
 use cacache_core::keeping::{beside, let_go};
@@ -25,7 +25,7 @@ fn making(alloc: Global, word: &str) -> Result<PlainStep, Flaw> {
     Ok(Step::MakeDirs(text_of(alloc, word)?))
 }
 
-/// Whether a step went well.
+/// Whether a step succeeded.
 fn is_well(answer: &PlainAnswer) -> bool {
     !matches!(answer, Answer::Failed(_))
 }
@@ -56,7 +56,7 @@ pub(crate) fn disk_of(alloc: Global, text: &str) -> Result<Disk, Flaw> {
     Ok(disk)
 }
 
-/// The targets of a disk's links, in the order of their paths, as its `Debug` text shows them: no answer tells a target.
+/// The targets of a disk's links, in the order of their paths, as its `Debug` text shows them: no answer has one.
 #[derive(Clone, Copy)]
 struct Targets<'a> {
     rest: &'a str,
@@ -111,7 +111,7 @@ fn joined(alloc: Global, folder: &str, name: &str) -> Result<String, AllocError>
     format!(in alloc; "{folder}/{name}")
 }
 
-/// What stands at a path as a word.
+/// What is at a path as a word.
 fn shown_at(
     alloc: Global,
     disk: &Disk,
@@ -126,7 +126,7 @@ fn shown_at(
     }
 }
 
-/// Puts what stands at a name of a folder behind the text: its path.
+/// Puts what is at a name of a folder after the text: its path.
 fn show_name(
     alloc: Global,
     disk: &Disk,
@@ -144,7 +144,7 @@ fn show_name(
     Ok(path)
 }
 
-/// Puts what is in a folder behind the text.
+/// Puts what is in a folder after the text.
 fn show_folder(
     alloc: Global,
     disk: &mut Disk,
@@ -178,13 +178,13 @@ pub(crate) fn shown_tree(alloc: Global, disk: &mut Disk) -> Result<String, Alloc
     Ok(text)
 }
 
-/// All that a disk holds once that is made which a word says.
+/// All that a disk holds once what a word says is made.
 fn shown_with(alloc: Global, disk: &mut Disk, word: &str) -> Result<String, Flaw> {
     make(alloc, disk, word)?;
     Ok(shown_tree(alloc, disk)?)
 }
 
-/// What a copy of a disk holds once that is made which a word says.
+/// What a copy of a disk holds once what a word says is made.
 pub(crate) fn shown_copy(alloc: Global, disk: &Disk, word: &str) -> Result<String, Flaw> {
     let mut copy = disk.clone()?;
     let shown = shown_with(alloc, &mut copy, word);

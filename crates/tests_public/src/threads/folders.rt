@@ -40,7 +40,7 @@ fn remove(rt: HostRuntime, root: String) -> io::Result<()> {
     fs::remove_dir_all(&rt, root.as_str())
 }
 
-/// The same in memory where the system has such a folder, and else with other temporary files.
+/// The same in memory if the system has such a folder, and otherwise with other temporary files.
 fn fresh_folder(rt: HostRuntime, name: &str) -> io::Result<String> {
     match fresh_below(rt, MEMORY, name) {
         Ok(root) => Ok(root),

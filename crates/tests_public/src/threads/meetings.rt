@@ -93,7 +93,7 @@ fn meet<L: Ledger, R: Wait + Clock>(
     Ok(())
 }
 
-/// One thread's work: what came of it stands in the seat.
+/// One thread's work: what came of it is in the seat.
 fn met<L: Ledger, R: Wait + Clock>(
     rt: &R,
     alloc: Global,
@@ -129,7 +129,7 @@ fn is_well<L: Ledger>(alloc: Global, seat: &Seat<L>) -> Result<bool, AllocError>
     Ok(is_read(seat.replies().get(1), own.as_str()) && is_found(seat.replies().last()))
 }
 
-/// How many of the seats are well.
+/// How many of the seats succeeded.
 fn well<L: Ledger>(alloc: Global, seats: &[Seat<L>]) -> Result<usize, AllocError> {
     let mut count: usize = 0;
     for seat in seats {

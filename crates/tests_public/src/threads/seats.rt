@@ -39,7 +39,7 @@ fn fails_at_once<L: Ledger, R: Wait>(
     }
 }
 
-/// The same of a put in the first of the seats.
+/// The same for a put in the first of the seats.
 fn put_fails<L: Ledger, R: Wait>(
     rt: &R,
     alloc: Global,

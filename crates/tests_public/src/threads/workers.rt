@@ -89,7 +89,7 @@ impl<'a, R: Wait, T: Drop> Future for Writing<'a, R, T> {
     }
 }
 
-/// The count that was answered; 1000 where it was pending and 2000 where it failed.
+/// The count that was answered; 1000 if it was pending and 2000 if it failed.
 fn wrote<R: Wait + RandomSource + AllocGlobal, T: Drop>(
     rt: &R,
     file: &mut PolledFile<T>,
@@ -112,7 +112,7 @@ fn wrote<R: Wait + RandomSource + AllocGlobal, T: Drop>(
     })
 }
 
-/// What the polls were answered.
+/// What the polls answered.
 #[derive(Clone, Copy)]
 struct Seen {
     begun: usize,
@@ -142,7 +142,7 @@ fn polls<R: Wait + RandomSource + AllocGlobal, T: Drop>(
     })
 }
 
-/// A file whose bytes are counted.
+/// A file that counts its bytes.
 fn counting<'a, R: AllocGlobal>(
     rt: &R,
     taken: &'a AtomicU64,
@@ -164,7 +164,7 @@ fn worker_of<T: Drop>(file: &PolledFile<T>) -> io::Result<Worker<T>> {
     }
 }
 
-/// A file whose bytes are counted, and its worker.
+/// A file that counts its bytes, and its worker.
 fn file_with_worker<'a, R: AllocGlobal>(
     rt: &R,
     taken: &'a AtomicU64,

@@ -1,4 +1,4 @@
-//! Builds in pieces, of which one is in memory at a time.
+//! Builds in pieces, only one of which is in memory at a time.
 use cacache::Result;
 use cacache::errors::IoErrorExt;
 use std::alloc::Global;

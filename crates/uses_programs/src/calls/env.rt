@@ -2,7 +2,7 @@
 use crate::calls::shown;
 use anyhow::Result;
 
-/// That of real folders, none of which is touched.
+/// That of real folders; it touches none of them.
 pub(crate) fn folders(rt: HostRuntime) -> Result<String> {
     let env = cacache::env::folders(rt, "/home/me")?;
     let base = env.base.as_str(); // "/home/me"

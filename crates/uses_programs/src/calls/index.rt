@@ -4,7 +4,7 @@ use anyhow::Result;
 use cacache::env::{Memory, memory};
 use cacache::{Integrity, WriteOpts};
 
-/// Makes an entry whose time is set.
+/// Makes an entry with a given time.
 fn insert_timed(env: &mut Memory) -> Result<()> {
     let sri = Integrity::from(env.alloc, b"hello")?;
     let opts = WriteOpts::new().integrity(sri).size(5).time(1234567890123);

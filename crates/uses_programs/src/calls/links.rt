@@ -20,7 +20,7 @@ fn link_to_hash_sync(rt: HostRuntime, mut env: &mut Memory) -> Result<String> {
     shown(rt.alloc(), &bytes)
 }
 
-/// One under a key, whose file is read on the way.
+/// One under a key, which reads the file on the way.
 fn open(rt: HostRuntime, mut env: &mut Memory) -> Result<String> {
     let alloc = rt.alloc();
     env.store.plant("/my-file", b"hello")?;
@@ -32,7 +32,7 @@ fn open(rt: HostRuntime, mut env: &mut Memory) -> Result<String> {
     two(alloc, bytes, sri)
 }
 
-/// One without a key, whose file the commit alone reads.
+/// One without a key; only the commit reads its file.
 fn open_hash(rt: HostRuntime, mut env: &mut Memory) -> Result<String> {
     env.store.plant("/my-file", b"hello")?;
     let linker = cacache::SyncToLinker::open_hash(&mut env, "my-cache", "/my-file")?;

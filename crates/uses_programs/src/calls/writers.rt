@@ -24,7 +24,7 @@ fn create_with_algo(rt: HostRuntime, mut env: &mut Memory) -> Result<String> {
     printed(rt.alloc(), algorithm)
 }
 
-/// A content whose file is removed where a write fails.
+/// A content whose file is removed if a write fails.
 fn write_or_abandon(rt: HostRuntime, mut env: &mut Memory) -> Result<String> {
     let mut writer = cacache::SyncWriter::create(&mut env, "my-cache", "key")?;
     writer = writer.write_or_abandon(&mut env, b"my data")?;

@@ -67,7 +67,7 @@ impl<S: Store, C: Clock, N: Names> Packages<S, C, N> {
         }
     }
 
-    /// Gets a package: from the cache if it is there, and else from the registry.
+    /// Gets a package: from the cache if it is there, and otherwise from the registry.
     fn get(&mut self, package: &Package) -> Result<Outcome> {
         if exists_sync(&mut self.env, CACHE, &package.integrity)? {
             return self.verify(package);

@@ -10,7 +10,7 @@ pub(crate) struct Package {
     pub(crate) integrity: Integrity,
 }
 
-/// The package of a line: its name, and behind a space its integrity. One that can't be read is
+/// The package of a line: its name, and after a space its integrity. If it can't be read it is
 /// printed on standard error, with its text, before the error is returned.
 fn package_of(rt: &(impl Eprint + AllocGlobal), line: &str) -> Result<Package> {
     let alloc = rt.alloc();

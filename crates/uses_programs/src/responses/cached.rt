@@ -14,7 +14,7 @@ use std::fmt::Display;
 /// The folder of the cache.
 const CACHE: &str = "responses";
 
-/// Where an answer comes from, and the size of its body.
+/// The place an answer comes from, and the size of its body.
 #[derive(Clone, Copy, Debug)]
 enum Answer {
     /// From the cache.
@@ -79,8 +79,8 @@ impl<S: Store, N: Names> Responses<S, N> {
         Ok(body.len())
     }
 
-    /// Answers a request whose response is stale. Its body stays, since another path may have the same one; `RemoveOpts`
-    /// can remove it, too.
+    /// Answers a request whose response is stale. Its body stays, since another path may have the same one;
+    /// `RemoveOpts` can remove it, too.
     fn renew(&mut self, path: &str) -> Result<Answer> {
         remove_sync(&mut self.env, CACHE, path)?;
         Ok(Answer::Stale(self.fetch(path)?))
@@ -95,7 +95,7 @@ impl<S: Store, N: Names> Responses<S, N> {
         Ok(Answer::Hit(body.len()))
     }
 
-    /// Answers a request: from the cache if it has a fresh response, and else from the origin.
+    /// Answers a request: from the cache if it has a fresh response, and otherwise from the origin.
     fn answer(&mut self, path: &str) -> Result<Answer> {
         match metadata_sync(&mut self.env, CACHE, path)? {
             Some(entry) => self.answer_from(path, &entry),
@@ -110,7 +110,7 @@ impl<S: Store, N: Names> Responses<S, N> {
         self.tell(format_args!("{second}: GET {path}: {answer:?}"))
     }
 
-    /// Tells the headers of a response. Its body isn't read.
+    /// Reports the headers of a response. Its body isn't read.
     pub(crate) fn head(&mut self, path: &str) -> Result<()> {
         match metadata_sync(&mut self.env, CACHE, path)? {
             Some(entry) => self.tell(format_args!("HEAD {path}: {}", entry.metadata)),
@@ -118,7 +118,7 @@ impl<S: Store, N: Names> Responses<S, N> {
         }
     }
 
-    /// Tells how many responses the cache has. None gets older by it: the clock isn't asked.
+    /// Reports how many responses the cache has. None gets older by it: the clock isn't asked.
     pub(crate) fn count(&mut self) -> Result<()>
         ensures { OnOk result (self.new.env.clock ≡ self.old.env.clock) }
     {

@@ -1,7 +1,7 @@
-//! A clock that the program sets, so that it prints the same at each run. A server takes `SystemClock` in its place.
+//! A clock that the program sets, so that it prints the same at each run. A server takes `SystemClock` instead.
 use cacache::env::Clock;
 
-/// A clock that stands at the second that it was set to.
+/// A clock that stays at the second that it was set to.
 #[derive(Drop)]
 pub(crate) struct SetClock {
     pub(crate) second: u64,
