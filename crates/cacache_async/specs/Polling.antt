@@ -1,8 +1,8 @@
 -- What is read by polls: how it opens, and what a poll fails with.
-use Rattle.std.specs.{Prelude.{◌++◌, ℕ, List, Result, Ok, Err}, IoError.{error_kind}}
-use Rattle.cacache_core.specs.{declared.{errors.Error.{Error}, integrity.digest.Hash.{Hash}}, Contexts.{fault_of}}
+use Rattle.std.specs.{Prelude.{ℕ, Result, Ok, Err}, IoError.{error_kind}}
+use Rattle.cacache_core.specs.{declared.errors.Error.{Error}, Contexts.{fault_of}}
 use Rattle.cacache_store.specs.Failures.{Error as IoError}
-use Rattle.cacache_content.specs.{declared.reader.SyncReader.{SyncReader}, OpenReads.{HasRead}}
+use Rattle.cacache_content.specs.declared.reader.SyncReader.{SyncReader}
 use Rattle.cacache_put.specs.declared.linker.SyncToLinker.{SyncToLinker}
 use Rattle.cacache_async.specs.{Waiting.{TellsFault}, declared.{reader.Reader.{Reader}, linker.ToLinker.{ToLinker}}}
 
@@ -14,13 +14,6 @@ TellsRead reads old room (Ok count) new = reads old room (Ok count) new
 TellsRead reads old room (Err e) new =
     (failed : IoError) × reads old room (Err failed) new
     × TellsFault (fault_of (error_kind failed)) e
-
--- the reader gave these further bytes, whatever it gave before and checks them against
-abbrev pub ReadsMore : {F : Type 0} → SyncReader F → SyncReader F → List ℕ → Type 0
-ReadsMore old new more =
-    (i : List Hash) (bytes : List ℕ)
-    → HasRead old i bytes
-    → HasRead new i (bytes ++ more)
 
 -- the open content, or why there is none
 abbrev pub reader_in : {F : Type 0} → Result (Reader F) Error → Result (SyncReader F) Error

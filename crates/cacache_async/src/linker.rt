@@ -1,14 +1,15 @@
-//! Links that are made after their target is read by polls.
-ghost use Rattle.std.specs.Prelude.{◌≡◌, ◌++◌, ℕ, List, None, Some, IfOk, length};
+//! Links whose target is read by polls before they are made.
+ghost use Rattle.std.specs.Prelude.{◌≡◌, ◌++◌, ℕ, List, None, Some, IfOk, IfErr, OnOk, OnErr, length};
 ghost use Rattle.std.specs.Io.{ReadsAtMost};
-ghost use Rattle.std.specs.Io.KnownBytes.{ReadConsumes};
+ghost use Rattle.std.specs.Io.KnownBytes.{Consumes, ReadConsumes};
 ghost use Rattle.futures.specs.Poll.{IfReady, OnPending};
 ghost use Rattle.futures.specs.Task.{Keeps};
 ghost use Rattle.cacache_store.specs.Handles.{LeftFalls};
 ghost use Rattle.cacache_table.specs.declared.reply.Reply.TheVariants.{Stored};
 ghost use Rattle.cacache_table.specs.Runs.{reply_of};
+ghost use Rattle.cacache_content.specs.OpenWrites.{IsRetried};
 ghost use Rattle.cacache_content.specs.Passed.{passed};
-ghost use Rattle.cacache_put.specs.OpenLinkers.{CommitsLink, HasHashed, StoresWhole};
+ghost use Rattle.cacache_put.specs.OpenLinkers.{CommitsLink, HasHashed, HashesMore, HashesPart, StoresWhole};
 ghost use Rattle.cacache_put.specs.Options.{saying};
 ghost use Rattle.cacache_async.specs.Waiting.{Waits};
 ghost use Rattle.cacache_async.specs.Polling.{TellsRead};
@@ -172,5 +173,20 @@ impl<F: OpenedFile> Read for ToLinker<F> {
         ensures linked { self.new.linker.linked ≡ self.old.linker.linked }
     {
         self.linker.read(buf)
+    }
+
+    /// Fills `buf`, in as many reads as that takes. A read that was interrupted is tried again.
+    ///
+    /// After an error a beginning of `buf` was read, perhaps nothing, and the linker goes on after it. `UnexpectedEof`
+    /// says that the target has ended.
+    fn read_exact(&mut self, buf: &mut [u8]) -> io::Result<()>
+        ensures bytes { OnOk result (Consumes (F.seen self.old.linker.file).bytes
+            (F.seen self.new.linker.file).bytes buf.new) }
+        ensures so_far { OnOk result (HashesMore self.old.linker self.new.linker buf.new) }
+        ensures part { OnErr result (HashesPart F.seen self.old.linker self.new.linker buf.new) }
+        ensures linked { self.new.linker.linked ≡ self.old.linker.linked }
+        ensures retried { IfErr result IsRetried }
+    {
+        self.linker.read_exact(buf)
     }
 }

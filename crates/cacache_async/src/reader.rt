@@ -1,17 +1,18 @@
 //! Open contents that are read by polls.
-ghost use Rattle.std.specs.Prelude.{◌≡◌, ◌++◌, ℕ, List, Some, IsOk, IfOk, IfErr, length};
+ghost use Rattle.std.specs.Prelude.{◌≡◌, ◌++◌, ℕ, List, Some, IsOk, IfOk, IfErr, OnOk, OnErr, length};
 ghost use Rattle.std.specs.Io.{ReadsAtMost};
-ghost use Rattle.std.specs.Io.KnownBytes.{ReadConsumes};
+ghost use Rattle.std.specs.Io.KnownBytes.{Consumes, ReadConsumes};
 ghost use Rattle.futures.specs.Poll.{IfReady, OnPending};
 ghost use Rattle.futures.specs.Task.{Keeps};
 ghost use Rattle.cacache_core.specs.declared.integrity.digest.Hash.{Hash};
 ghost use Rattle.cacache_core.specs.Integrity.{Meets, strongest, actual};
 ghost use Rattle.cacache_core.specs.Refusals.{IsCheckFailure};
 ghost use Rattle.cacache_store.specs.Handles.{LeftFalls};
-ghost use Rattle.cacache_content.specs.OpenReads.{HasRead, OpensHash, OpensKey};
+ghost use Rattle.cacache_content.specs.OpenReads.{HasRead, OpensHash, OpensKey, ReadsMore, ReadsPart};
+ghost use Rattle.cacache_content.specs.OpenWrites.{IsRetried};
 ghost use Rattle.cacache_content.specs.Passed.{passed};
 ghost use Rattle.cacache_async.specs.Waiting.{Waits};
-ghost use Rattle.cacache_async.specs.Polling.{ReadsMore, TellsRead, reader_in};
+ghost use Rattle.cacache_async.specs.Polling.{TellsRead, reader_in};
 
 use crate::call::Call;
 use crate::future::{CallFuture, polling};
@@ -189,5 +190,19 @@ impl<F: OpenedFile> Read for Reader<F> {
             → HasRead self.new.reader i (bytes ++ passed result buf.new) }
     {
         self.reader.read(buf)
+    }
+
+    /// Fills `buf`, in as many reads as that takes. A read that was interrupted is tried again.
+    ///
+    /// After an error a beginning of `buf` was read, perhaps nothing, and the reader goes on after it. `UnexpectedEof`
+    /// says that the content has ended.
+    fn read_exact(&mut self, buf: &mut [u8]) -> io::Result<()>
+        ensures bytes { OnOk result (Consumes (F.seen self.old.reader.file).bytes
+            (F.seen self.new.reader.file).bytes buf.new) }
+        ensures so_far { OnOk result (ReadsMore self.old.reader self.new.reader buf.new) }
+        ensures part { OnErr result (ReadsPart F.seen self.old.reader self.new.reader buf.new) }
+        ensures retried { IfErr result IsRetried }
+    {
+        self.reader.read_exact(buf)
     }
 }

@@ -1,3 +1,4 @@
+pub mod Fills
 pub mod GivenUp
 pub mod OpenedLookups
 pub mod StepAnswers

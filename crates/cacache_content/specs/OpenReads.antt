@@ -1,5 +1,5 @@
 -- Contents that are opened and read in pieces.
-use Rattle.std.specs.Prelude.{◌≡◌, ◌⊎◌, ℕ, List, [], Option, None, Some, Result, Ok, Err}
+use Rattle.std.specs.{Prelude.{◌≡◌, ◌⊎◌, ◌++◌, ℕ, List, [], Option, None, Some, Result, Ok, Err}, Io.KnownBytes.{Consumes}}
 use Rattle.cacache_core.specs.{declared.{errors.Error.{Error, TheVariants.{EntryNotFound}}, integrity.digest.Hash.{Hash}}, Pieces.{Compares}}
 use Rattle.cacache_store.specs.declared.store.answer.Answer.TheVariants as answers
 use Rattle.cacache_store.specs.declared.store.{log.LogItem.{LogItem}, plain.PlainFile.{PlainFile}}
@@ -15,6 +15,19 @@ use Rattle.cacache_jobs.specs.Sites.{site_of}
 -- the reader gave these bytes so far, and checks them against this integrity
 abbrev pub HasRead : {F : Type 0} → SyncReader F → List Hash → List ℕ → Type 0
 HasRead r i bytes = Compares r.checker i bytes
+
+-- the reader gave these bytes more, whatever it gave before and checks them against
+abbrev pub ReadsMore : {F : Type 0} → SyncReader F → SyncReader F → List ℕ → Type 0
+ReadsMore old new more =
+    (i : List Hash) (bytes : List ℕ)
+    → HasRead old i bytes
+    → HasRead new i (bytes ++ more)
+
+-- it gave a beginning of these, which its file lost
+abbrev pub ReadsPart : {F : Type 0} → (F → PlainFile) → SyncReader F → SyncReader F → List ℕ → Type 0
+ReadsPart file old new bytes =
+    (front rest : List ℕ) × (bytes ≡ front ++ rest) × ReadsMore old new front
+    × Consumes (file old.file).bytes (file new.file).bytes front
 
 -- ---- the opening of a file: before and after
 

@@ -1,12 +1,13 @@
 //! Contents that are read in pieces, and checked by what was read.
-ghost use Rattle.std.specs.Prelude.{◌≡◌, ◌++◌, ℕ, List, Some, IsOk, IfOk, IfErr, length};
+ghost use Rattle.std.specs.Prelude.{◌≡◌, ◌++◌, ℕ, List, Some, IsOk, IfOk, IfErr, OnOk, OnErr, length};
 ghost use Rattle.std.specs.Io.{ReadsAtMost};
-ghost use Rattle.std.specs.Io.KnownBytes.{ReadConsumes};
+ghost use Rattle.std.specs.Io.KnownBytes.{Consumes, ReadConsumes};
 ghost use Rattle.cacache_core.specs.declared.integrity.digest.Hash.{Hash};
 ghost use Rattle.cacache_core.specs.Integrity.{Meets, strongest, actual};
 ghost use Rattle.cacache_core.specs.Refusals.{IsCheckFailure};
 ghost use Rattle.cacache_store.specs.Handles.{LeftFalls};
-ghost use Rattle.cacache_content.specs.OpenReads.{HasRead, OpensHash, OpensKey};
+ghost use Rattle.cacache_content.specs.OpenReads.{HasRead, OpensHash, OpensKey, ReadsMore, ReadsPart};
+ghost use Rattle.cacache_content.specs.OpenWrites.{IsRetried};
 ghost use Rattle.cacache_content.specs.Passed.{passed};
 
 use cacache_core::errors::{Error, Result};
@@ -20,7 +21,7 @@ use cacache_table::Command;
 use cacache_table::answers::file_of;
 use std::alloc::{AllocError, Global};
 use std::io;
-use std::io::Read;
+use std::io::{ErrorKind, Read};
 
 /// An open content, read in pieces. It gives the bytes of the file that was opened, in order, also where the content
 /// was replaced or removed since. Each byte is hashed once. No byte is verified before `check`: always call that at the
@@ -177,5 +178,39 @@ impl<F: OpenedFile> Read for SyncReader<F> {
         let count = self.file.read_some(buf)?;
         self.checker.input(&buf[..count]);
         Ok(count)
+    }
+
+    /// Fills `buf`, in as many reads as that takes. A read that was interrupted is tried again.
+    ///
+    /// After an error a beginning of `buf` was read, perhaps nothing, and the reader goes on after it. `UnexpectedEof`
+    /// says that the content has ended.
+    fn read_exact(&mut self, buf: &mut [u8]) -> io::Result<()>
+        ensures bytes { OnOk result (Consumes (F.seen self.old.file).bytes
+            (F.seen self.new.file).bytes buf.new) }
+        ensures so_far { OnOk result (ReadsMore self.old self.new buf.new) }
+        ensures part { OnErr result (ReadsPart F.seen self.old self.new buf.new) }
+        ensures retried { IfErr result IsRetried }
+    {
+        let size = buf.len();
+        let mut done = 0;
+        for _tries in 0..u64::MAX {
+            if done == size {
+                return Ok(());
+            }
+            match self.read(&mut buf[done..]) {
+                Ok(0) => {
+                    let message = "failed to fill whole buffer";
+                    return Err(io::Error::new(ErrorKind::UnexpectedEof, message));
+                }
+                Ok(count) => done += count,
+                Err(error) if error.kind() == ErrorKind::Interrupted => {}
+                Err(error) => return Err(error),
+            }
+        }
+        // the last read may have filled the rest
+        if done == size {
+            return Ok(());
+        }
+        Err(ErrorKind::TimedOut.into())
     }
 }

@@ -1,3 +1,4 @@
 mod LinkCalls
+mod LinkerReads
 mod Linkers
 mod Wholes

@@ -1,5 +1,5 @@
 -- Links whose target is read in pieces before they are made.
-use Rattle.std.specs.Prelude.{◌≡◌, ◌⊎◌, ◌-◌, ◌^◌, ◌++◌, ℕ, List, [], Option, None, Some, Result, Ok, Err, length, min}
+use Rattle.std.specs.{Prelude.{◌≡◌, ◌⊎◌, ◌-◌, ◌^◌, ◌++◌, ℕ, List, [], Option, None, Some, Result, Ok, Err, length, min}, Io.KnownBytes.{Consumes}}
 use Rattle.cacache_core.specs.{declared.{errors.Error.{Error}, integrity.digest.Hash.{Hash}}, Hashers.{Holds, algorithm_of}}
 use Rattle.cacache_store.specs.declared.{env.Env.{Env}, store.{log.LogItem.{LogItem}, plain.PlainFile.{PlainFile}}}
 use Rattle.cacache_store.specs.declared.store.answer.Answer.TheVariants as answers
@@ -44,6 +44,17 @@ abbrev pub HasHashed : {F : Type 0} → SyncToLinker F → List ℕ → Type 0
 HasHashed l bytes =
     Holds l.hasher bytes × (algorithm_of l.hasher ≡ l.linked.options.algorithm)
     × (l.count ≡ min (length bytes) (2 ^ 64 - 1))
+
+-- the linker took these bytes more, whatever it took before
+abbrev pub HashesMore : {F : Type 0} → SyncToLinker F → SyncToLinker F → List ℕ → Type 0
+HashesMore old new more = (bytes : List ℕ) → HasHashed old bytes → HasHashed new (bytes ++ more)
+
+-- it took a beginning of these, which its file lost
+abbrev pub HashesPart :
+    {F : Type 0} → (F → PlainFile) → SyncToLinker F → SyncToLinker F → List ℕ → Type 0
+HashesPart file old new bytes =
+    (front rest : List ℕ) × (bytes ≡ front ++ rest) × HashesMore old new front
+    × Consumes (file old.file).bytes (file new.file).bytes front
 
 -- the linker took nothing yet, and is to make this link
 pub record IsNewLinker {F : Type 0} (linked : LinkTarget) (l : SyncToLinker F) : Type 0 where

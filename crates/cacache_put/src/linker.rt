@@ -1,17 +1,15 @@
 //! Links whose target is read in pieces before they are made.
-ghost use Rattle.std.specs.Prelude.{◌≡◌, ◌++◌, ℕ, List, None, Some, IfOk, length};
-ghost use Rattle.std.specs.Io.{ReadsAtMost};
-ghost use Rattle.std.specs.Io.KnownBytes.{ReadConsumes};
+ghost use Rattle.std.specs.Prelude.{◌≡◌, ℕ, List, None, Some, IfOk};
 ghost use Rattle.cacache_core.specs.declared.integrity.algorithm.Algorithm.TheVariants.{Sha256};
-ghost use Rattle.cacache_store.specs.Handles.{LeftFalls};
 ghost use Rattle.cacache_table.specs.declared.reply.Reply.TheVariants.{Stored};
 ghost use Rattle.cacache_table.specs.Runs.{reply_of};
-ghost use Rattle.cacache_content.specs.Passed.{passed};
 ghost use Rattle.cacache_put.specs.OpenLinkers.{AsksSize, BeginsLink, CommitsLink, HasHashed, OpensLink, OpensLinker, OpensSized, OpensTarget, OpensWithSize, Sizes, StoresWhole, asks_file, asks_size, linked_by};
 ghost use Rattle.cacache_table.specs.Linking.{linked_to};
 ghost use Rattle.cacache_table.specs.Blank.{blank};
 ghost use Rattle.cacache_put.specs.Options.{nothing_said, saying};
 ghost use Rattle.cacache_put.specs.Rest.{LinksRest, LinksHashed};
+
+mod reading;
 
 use crate::opts::WriteOpts;
 use crate::rest::read_rest;
@@ -25,8 +23,6 @@ use cacache_store::env::{Clock, Env, Names};
 use cacache_store::store::{OpenedFile, Step, Store};
 use cacache_table::{Options, Target};
 use std::alloc::{AllocError, Global};
-use std::io;
-use std::io::Read;
 
 /// A file that is to be linked to; where the entry's time isn't set, the commit asks the clock for it.
 pub(crate) type LinkTarget = Target<Option<u128>>;
@@ -269,27 +265,5 @@ impl<F: OpenedFile> SyncToLinker<F> {
             return Err(Error::OutOfMemory);
         }
         link_rest(env, linked.at(moment), hasher, count, file)
-    }
-}
-
-impl<F: OpenedFile> Read for SyncToLinker<F> {
-    ghost remaining = { λ linker. (F.seen linker.file).bytes };
-
-    /// Reads some bytes into the front of `buf` and returns how many: none only at the end of the target, or if `buf` is
-    /// empty. After an error the linker stands where it stood, and may go on.
-    fn read(&mut self, buf: &mut [u8]) -> io::Result<usize>
-        ensures bound { ReadsAtMost result buf.new }
-        ensures bytes { ReadConsumes (F.seen self.old.file).bytes (F.seen self.new.file).bytes
-            result buf.new }
-        ensures left { LeftFalls (F.seen self.old.file).left (F.seen self.new.file).left result }
-        ensures so_far { (bytes : List ℕ) → HasHashed self.old bytes
-            → HasHashed self.new (bytes ++ passed result buf.new) }
-        ensures linked { self.new.linked ≡ self.old.linked }
-        ensures earned { F.reads self.old.file (length buf.old) result self.new.file }
-    {
-        let count = self.file.read_some(buf)?;
-        self.hasher.update(&buf[..count]);
-        self.count = self.count.saturating_add(count);
-        Ok(count)
     }
 }
