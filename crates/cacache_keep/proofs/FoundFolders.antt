@@ -50,7 +50,7 @@ module _ (P Q : List ℕ → Type 0) (last : Bool) (each : (f : List ℕ) (n : N
 abbrev LiesHex : Names → ℕ → List ℕ → Type 0
 LiesHex home depth f = InIndex home depth f × EndsHex f
 
--- the text of the folder that holds what stands at the path names it
+-- the text of the folder that holds what is at the path names it
 abbrev pub FolderNamed : List ℕ → Type 0
 FolderNamed p = (folder : Names) (name : List ℕ) → names_of p ≡ Ok (folder ++ name ∷ []) → names_of (folder_of p) ≡ Ok folder
 

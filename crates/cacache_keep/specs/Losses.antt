@@ -13,7 +13,7 @@ use Rattle.cacache_loss.specs.{CalmMoves.{AreCalm}, Fixing.{Fixed}, Loss.{Loss},
 use Rattle.cacache_keep_laws.specs.{Compacting.{compact_text}, Mending.{found_in}}
 use Rattle.cacache_keep.specs.Compacting.{CompactsCache, StopsCompacting}
 
--- the moment after these moves, from a tree on of which so much was fixed
+-- the moment after these moves, from a tree that had so much fixed
 abbrev pub moment_after : Tree → Fixed → Moves → Moment
 moment_after t fixed moves = after (record { tree = t; fixed = fixed }) (plain_moves moves)
 
@@ -106,7 +106,7 @@ pub record BeginsLean (home : Names) (t left : Tree) : Type 0 where
       → FindsOrLater key (latest key (entries_of bytes)) (entries_of (compact_text true bytes))
       (look left (home ++ bucket_names_of (sha1 key)))
 
--- so it is after each later loss, if each thing lies in its place, as where only calls wrote, and
+-- so it is after each later loss, if each thing lies in its place, as if only calls wrote, and
 -- later steps of calls remove, link and export nothing; they may append to buckets
 abbrev pub CompactionsGrow : Type 0
 CompactionsGrow =

@@ -60,13 +60,12 @@ pub fn collect_with<S: Store, C: Clock, N: Names>(
     collect_from(env, cache)
 }
 
-/// Removes each content of a cache that is the address of no entry. Of one that is a link, the link is
-/// removed and its target stays. What lies among the contents and is none stays.
+/// Removes each content of a cache that is the address of no entry. If one is a link, the link is removed and its
+/// target stays. Whatever else lies among the contents stays.
 ///
-/// A folder of the index that isn't there has no items, so every content is removed then; a link in
-/// its place that leads to nothing is an `IoError`. Collect a cache while nobody writes to it: a
-/// content is stored before its entry. It asks no content for its size: `plan`, called before it, tells the bytes of
-/// each that it will remove.
+/// A folder of the index that isn't there has no items, so every content is removed then; a link in its place that
+/// leads to nothing is an `IoError`. Collect a cache while nobody writes to it: a content is stored before its entry.
+/// It asks no content for its size: `plan`, called before it, gives the bytes of each that it will remove.
 ///
 /// A line of the index with a right digest that this crate can't read is odd: another reader may read it, and the content
 /// that it names. So a cache with such a line isn't collected: the buckets are read before all else, and the call ends

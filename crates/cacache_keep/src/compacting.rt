@@ -81,7 +81,7 @@ fn compact_all<S: Store, C: Clock, N: Names>(
     Ok(done)
 }
 
-/// Writes each bucket of a cache's index anew, without lines that nobody needs. A line stands between line feeds and
+/// Writes each bucket of a cache's index anew, without lines that nobody needs. A line lies between line feeds and
 /// begins with the right digest of its text. These lines stay, in their order, byte for byte:
 ///
 /// - each line that this crate can't read, such as an entry with `0.5` in its metadata: another reader may read it

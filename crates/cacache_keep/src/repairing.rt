@@ -75,10 +75,10 @@ pub fn repair_with<S: Store, C: Clock, N: Names>(
     repair_from(env, cache)
 }
 
-/// Removes each damaged content of a cache, and adds a tombstone for each key that leads to an entry
-/// whose content is missing then. A content is damaged as `verify` finds it. Of one that is a link,
-/// the link is removed and its target stays. Whatever else lies among the contents stays, and so does
-/// an entry that its key's lookup doesn't find, such as one in another key's bucket.
+/// Removes each damaged content of a cache, and adds a tombstone for each key that leads to an entry whose content is
+/// missing then. A content is damaged as `verify` finds it. If one is a link, the link is removed and its target
+/// stays. Whatever else lies among the contents stays, and so does an entry that its key's lookup doesn't find, such
+/// as one in another key's bucket.
 ///
 /// A question for a content that fails is answered like one for a content that isn't there. So if an entry
 /// dangles, the contents are walked through once more, and a key gets a tombstone only if that walk doesn't
