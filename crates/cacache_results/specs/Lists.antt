@@ -21,7 +21,7 @@ pub record AreAllEntries (cache : List ℕ) (log : List LogItem) (entries : List
 abbrev pub index_of : List ℕ → List LogItem → Option Node
 index_of cache log = node_below (home_of cache) (tree_of log) (index_area ∷ [])
 
--- a listing: where no item is an error, its items are the entries that keys lead to, all of them
+-- a listing: if no item is an error, its items are the entries that keys lead to, all of them
 pub record ListedEntries (cache : List ℕ) (r : Reply) (old new : List LogItem) : Type 0 where
   pub leaves : LeavesKnownCache cache old new
   pub same : tree_of new ≡ tree_of old

@@ -12,7 +12,7 @@ use Rattle.cacache_results.specs.Success.{FailsForMemory}
 
 -- ---- what stays
 
--- bytes under an integrity don't give way to added ones: where both have one address, they are the same
+-- bytes under an integrity don't give way to added ones: if both have one address, they are the same
 abbrev pub DontClash : List Hash → List ℕ → List Hash → List ℕ → Type 0
 DontClash i bytes own added = ShareAddress i own → bytes ≡ added
 
