@@ -50,7 +50,7 @@ answered_split t (m ∷ xs) ys a =
     let rest = answered_split (apply t m.0 Plain).1 xs ys a.1 in
     ((a.0, rest.0), rest.1)
 
--- the rest of the moves, behind a part that left the tree
+-- the rest of the moves, after a part that left the tree
 pub answered_rest : (t : Tree) (xs ys : Moves) → tree_on t xs ≡ t → AreAnswered t (xs ++ ys) → AreAnswered t ys
 answered_rest t xs ys stays a = subst (λ x. AreAnswered x ys) stays (answered_split t xs ys a).1
 

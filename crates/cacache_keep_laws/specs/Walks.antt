@@ -13,7 +13,7 @@ ReadAt (t ∷ trees) [] = ⊥
 ReadAt (t ∷ trees) (m ∷ moves) =
     Rooted t × ((luck : Luck) × (m.1 ≡ (apply t m.0 luck).0)) × ReadAt trees moves
 
--- whether a file or a link stands there
+-- whether a file or a link is there
 abbrev pub is_leaf : Option Node → Bool
 is_leaf None = false
 is_leaf (Some Folder) = false
