@@ -1,4 +1,4 @@
-//! What a program says of itself.
+//! What a program says about itself.
 ghost use Rattle.std.specs.Prelude.{◌≡◌, ◌⊎◌, IfNone, IfSome, IsSomeAnd};
 ghost use Rattle.cacache_program.specs.About.{AsksHelp, AsksVersion, help_text, usage_text, version_text};
 ghost use Rattle.cacache_program.specs.Output.{PutsOut};

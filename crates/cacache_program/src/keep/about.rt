@@ -1,4 +1,4 @@
-//! What the program says of itself.
+//! What the program says about itself.
 ghost use Rattle.std.specs.Prelude.{◌≡◌};
 ghost use Rattle.cacache_program.specs.KeepAbout.{help_text, usage_text, version_text};
 
