@@ -123,7 +123,7 @@ impl WriteOpts {
     /// Whether the commit, or the insertion, waits until a loss of power would leave it whole: it syncs the content, the
     /// bucket and the folders that lead to them, and answers only then. Linkers ignore it. Blank options say no.
     ///
-    /// If the move to the content's place fails and a content stands there, the commit syncs that one without reading it,
+    /// If the move to the content's place fails and a content is there, the commit syncs that one without reading it,
     /// and goes on. A damaged one stays damaged then, though the commit answers Ok.
     pub fn durable(self, yes: bool) -> WriteOpts
         ensures { result ≡ record self { durable = yes } }

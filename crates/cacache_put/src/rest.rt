@@ -30,7 +30,7 @@ pub(crate) fn read_rest<S: Store>(
         if bytes.is_empty() {
             return Ok(count);
         }
-        // a longer file has no size that could be told
+        // a longer file has no size that could be given
         let Some(more) = count.checked_add(bytes.len()) else {
             return Err(Error::OutOfMemory);
         };
