@@ -56,7 +56,7 @@ abbrev pub AreAnswered : History → List (Command × Option Reply) → Type 0
 AreAnswered h [] = Unit {0}
 AreAnswered h (answered ∷ more) = IsAnswered h answered × AreAnswered h more
 
--- what a seat's commands say, in their order, each with what its reply says where there is one: these
+-- what a seat's commands say, in their order, each with what its reply says if there is one: these
 -- are the seat's replies in theirs
 pub record SeatIsAnswered (h : History) (seat : Taken) : Type 0 where
   pub answered : List (Command × Option Reply)

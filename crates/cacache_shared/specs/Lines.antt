@@ -5,7 +5,7 @@ use Rattle.cacache_history.specs.declared.record.Record.{Record, TheVariants.{Be
 
 -- ---- records
 
--- whose event it tells
+-- the caller that its event is of
 abbrev pub caller_of : Record → ℕ
 caller_of (Began c command) = c
 caller_of (Moved c luck made reply) = c
