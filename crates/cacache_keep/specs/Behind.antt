@@ -105,8 +105,8 @@ pub record KeepsKey (cache key : List ℕ) (texts : List (List ℕ)) (old new : 
   pub leads : (bytes : List ℕ) (i : List Hash)
       → HasKey cache key i bytes old → LeadsOn cache key i bytes texts new
 
--- so it is of each key up to its next insertion: collections may come, and in between looks, exports,
--- and writes of other keys
+-- so it is for each key up to its next insertion: collections may come, and in between looks,
+-- exports, and writes of other keys
 abbrev pub LaterKeysStay : Type 0
 LaterKeysStay =
     (site : Site) (home : Names) (key : List ℕ) (events : List Event) (old new : List LogItem)

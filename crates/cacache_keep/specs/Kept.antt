@@ -70,7 +70,7 @@ PlansLeave =
     → home_of site.cache ≡ Some home → IsLog new
     → PlansCache site kept unused (Some old) (Some new) → LeavesTree old new
 
--- what it finds unused is what a collection drops that is made on the same tree
+-- what it finds unused is what a collection on the same tree drops
 abbrev pub PlansForetell : Type 0
 PlansForetell =
     (site : Site) (home : Names) (kept others : ℕ) (unused : List Sized)
@@ -119,8 +119,8 @@ RepairsMend =
 
 -- ---- a compaction
 
--- all is as it was, but that each key's bucket has its compacted bytes, and the folder of temporary
--- files may be new
+-- all is as it was, except that each key's bucket has its compacted bytes, and the folder of
+-- temporary files may be new
 pub record LeavesCompacted (durable : Bool) (home : Names) (t new : Tree) : Type 0 where
   pub tree : Compacted durable home t new
   pub buckets : (digest bytes : List ℕ) → IsKeyDigest digest

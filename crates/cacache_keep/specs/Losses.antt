@@ -33,7 +33,7 @@ IsFixedAt fixed home names =
     ((fixed.files (home ++ names)).whole ≡ true) × (fixed.names (home ++ names) ≡ None)
     × WayFixed fixed home names
 
--- so it is of each bucket
+-- so it is for each bucket
 abbrev pub BucketsFixed : Names → Tree → Fixed → Type 0
 BucketsFixed home t fixed =
     (digest bytes : List ℕ) → IsKeyDigest digest
@@ -51,7 +51,7 @@ pub record KeepsLean (home : Names) (t left : Tree) : Type 0 where
   pub keys : (key : List ℕ) (found : Found)
       → found_in home t key ≡ Some found → found_in home left key ≡ Some found
 
--- after a durable compaction that ended well all buckets are fixed, whatever was before
+-- after a durable compaction that succeeded all buckets are fixed, whatever was before
 abbrev pub CompactionsFix : Type 0
 CompactionsFix =
     (cache : List ℕ) (home : Names) (count bytes : ℕ) (moves : Moves) (fixed : Fixed)

@@ -32,7 +32,7 @@ TellsSizes cache (u ∷ told) old new =
     (next : Option (List LogItem)) × TellsSize cache u.0 u.1 old next
     × TellsSizes cache told next new
 
--- the contents that no entry has are chosen as by a collection, and each is asked for its size
+-- the contents that no entry has are chosen as a collection does, and each is asked for its size
 abbrev pub PlansCache :
     Site → ℕ → List Sized → Option (List LogItem) → Option (List LogItem) → Type 0
 PlansCache site kept unused old new =

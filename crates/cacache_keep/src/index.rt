@@ -42,7 +42,7 @@ fn has_no_index(items: &[std::result::Result<Found, Error>]) -> bool
     }
 }
 
-/// The items, if each is an entry; the first that is an error else.
+/// The items, if each is an entry; otherwise the first that is an error.
 fn entries_of(alloc: Global, items: Vec<std::result::Result<Found, Error>>) -> Result<Vec<Found>>
     ensures ok { IfOk result (λ entries. items.items ≡ map Ok entries.items) }
     ensures err { IfErr result (λ e. (e ≡ OutOfMemory) ⊎ IsFirstError items.items e) }

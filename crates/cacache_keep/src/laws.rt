@@ -31,8 +31,7 @@ use cacache_memory::MemStore;
 /// If links lead out of the cache, lookups, reads by key and listings answer up to the next insertion as they
 /// might have without the collection: calls that look may come in between, and whatever else leaves the tree, removals that are
 /// made in both cases, and more collections. In a cache that only calls wrote to links lead out, by `links` of
-/// `cacache_keep_laws::collect_laws`. Step by step this goes by `lacks` and by
-/// `cacache_keep_laws::idle_laws`.
+/// `cacache_keep_laws::collect_laws`. Step by step this follows from `lacks` and from `cacache_keep_laws::idle_laws`.
 ///
 /// In a cache that only calls wrote to, a collection leaves such a cache, in which each key leads to the entry that
 /// it led to, and to the same bytes. This holds for a key after collections, up to its next insertion, while contents

@@ -70,7 +70,7 @@ CollectionsKeepReads =
     → Runs (opening site (commands.Get key)) moves reply → AnsweredBy new moves
     → AnsweredBy t moves
 
--- the same of lookups, whatever was removed of the contents
+-- the same for lookups, whichever contents were removed
 abbrev pub CollectionsKeepLookups : Type 0
 CollectionsKeepLookups =
     (site : Site) (home : Names) (t new : Tree) (dropped : List Hash)

@@ -20,7 +20,7 @@ is_leaf (Some Folder) = false
 is_leaf (Some (File bytes)) = true
 is_leaf (Some (Link target)) = true
 
--- of each path below the folder the walk found out, at one of its places, whether a file or link
+-- for each path below the folder the walk found out, at one of its places, whether a file or link
 -- is there
 abbrev pub WalksFind : Type 0
 WalksFind =

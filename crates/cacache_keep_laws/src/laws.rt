@@ -57,7 +57,7 @@ pub fn collect_laws()
     ensures lookups { CollectionsKeepLookups }
 {}
 
-/// If all that a tree lacks of another are contents that no lookup leads to: so it is still after a removal that is
+/// If all that a tree lacks of another are contents that no lookup leads to, it is still so after a removal that is
 /// made on both, and no lookup, no verified read by key and no listing of the index sees it.
 pub fn idle_laws()
     ensures removals { StillLacksIdle }

@@ -25,7 +25,7 @@ struct Lines {
     has_more_errors: bool,
 }
 
-/// What is printed of a listing, its first error, and whether there are others.
+/// What is printed for a listing, its first error, and whether there are others.
 #[derive(Drop)]
 pub(crate) struct Listing {
     pub(crate) text: Vec<u8>,
@@ -92,7 +92,7 @@ fn text_of(alloc: Global, lines: &[Line]) -> Result<Vec<u8>>
     Ok(text)
 }
 
-/// What is printed of the items, and their first error. Memory alone can fail.
+/// What is printed for the items, and their first error. Memory alone can fail.
 pub(crate) fn listing_of(
     alloc: Global,
     items: Vec<std::result::Result<Found, Error>>,

@@ -18,7 +18,7 @@ pub enum Why {
     Plain(Fault),
 }
 
-/// A few words in lower case, with no full stop, as `permission denied` or `not found`.
+/// A few words in lower case, with no full stop, such as `permission denied` or `not found`.
 impl fmt::Display for Why {
     fn fmt<W: fmt::Write>(&self, f: &mut fmt::Formatter<W>) -> fmt::Result {
         match self {

@@ -1,4 +1,4 @@
-//! What a writer may say of a content and of its entry.
+//! What a writer may say about a content and its entry.
 ghost use Rattle.std.specs.Prelude.{◌≡◌, None, Some, IfOk, option_map};
 ghost use Rattle.serde_json.specs.View.{view};
 ghost use Rattle.cacache_core.specs.Integrity.{IsIntegrity};
@@ -19,8 +19,8 @@ use serde_json::Value;
 use std::alloc::{AllocError, Global};
 use std::marker::Model;
 
-/// Options for a content that is written, or for an entry that is inserted. Of each option the last one set counts. An
-/// entry that is inserted without an integrity is a tombstone, and one without a size records 0.
+/// Options for a content that is written, or for an entry that is inserted. The last setting of each option counts.
+/// An entry that is inserted without an integrity is a tombstone, and one without a size records 0.
 #[derive(Drop)]
 pub struct WriteOpts {
     algorithm: Algorithm,

@@ -8,7 +8,7 @@ use cacache_store::store::{Step, Store};
 use cacache_table::answers::{Got, got_of};
 use std::alloc::Global;
 
-/// Reads the target to its end and hashes it, so many bytes having been read before, and answers how many it has.
+/// Reads the target to its end after so many bytes that were read before, hashes it, and answers how many it has.
 pub(crate) fn read_rest<S: Store>(
     alloc: Global,
     store: &mut S,

@@ -88,7 +88,7 @@ impl RemoveOpts {
         }
     }
 
-    /// With the choice whether the content and the bucket go too.
+    /// With the choice of whether the content and the bucket go too.
     pub fn remove_fully(self, remove_fully: bool) -> RemoveOpts
         ensures { result.remove_fully ≡ remove_fully }
     {
@@ -97,8 +97,8 @@ impl RemoveOpts {
     }
 
     /// Removes the key. Fully, the content that its lookup finds goes first, if there is one, and then the key's
-    /// bucket; other keys that share either lose it too. Else this is `index::delete`, after which the content can
-    /// still be read by its integrity.
+    /// bucket; other keys that share either lose it too. Otherwise this is `index::delete`, after which the content
+    /// can still be read by its integrity.
     ///
     /// ```
     /// let sri = cacache::write_sync(&mut env, "my-cache", "key", b"my data")?;

@@ -18,8 +18,8 @@ abbrev pub NamesHeld : List ℕ → Source → List Hash → List LogItem → Ty
 NamesHeld cache (OfHash held) i log = held ≡ i
 NamesHeld cache (OfKey key) i log = leads_to cache key log ≡ Some i
 
--- nothing lies there that can be read, as the fault says; of a folder at a link's end a copy says
--- another one
+-- nothing lies there that can be read, as the fault says; for a folder at a link's end a copy gives
+-- another fault
 abbrev pub LiesUnread : List ℕ → List Hash → Fault → List LogItem → Type 0
 LiesUnread cache i fault log =
     (bytes_under cache i log ≡ Err fault)
@@ -104,7 +104,7 @@ pub record SharedOut (cache : List ℕ) (source : Source) (how : How) (checked :
 -- ---- laws, of the environment that a call left
 
 module _ {C N : Type 0} where
-  -- a copy to a path apart from the cache, of this result, is one
+  -- a copy to a path apart from the cache, with this result, is one
   abbrev pub CopyMeans :
       List ℕ → Source → Bool → List ℕ → Result ℕ Error → Env (List LogItem) C N → Type 0
   CopyMeans cache source checked to r new =

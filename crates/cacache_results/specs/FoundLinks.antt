@@ -77,6 +77,6 @@ pub record LinksOutlast (h : History) : Type 0 where
   -- and so what both give
   pub gives : FewCalls h → PutsOrLinksGive h
 
--- so it is of every legal history
+-- so it is for every legal history
 abbrev pub HistoriesKeepLinks : Type 0
 HistoriesKeepLinks = (h : History) → IsLegal h → LinksOutlast h

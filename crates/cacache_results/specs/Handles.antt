@@ -99,7 +99,7 @@ WritersGoOn =
     → IsWriting cache key s (bytes ++ more) v
 
 module _ {C N : Type 0} where
-  -- an opening, of this result, is one
+  -- an opening, with this result, is one
   abbrev pub OpeningsMean : (N → Option (List ℕ)) → Env (List LogItem) C N → Type 0
   OpeningsMean numbers new =
       (cache : List ℕ) (key : Option (List ℕ)) (s : Said) (r : Result MemWriter Error)

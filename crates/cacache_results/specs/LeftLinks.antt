@@ -1,4 +1,4 @@
--- What a store in memory holds that began with what a loss of power left of a durable put, if its content may be a link.
+-- What a store in memory holds if it began with what a loss left of a durable put whose content may be a link.
 use Rattle.std.specs.Prelude.{◌≡◌, ℕ, List, None, Some}
 use Rattle.cacache_core.specs.{declared.integrity.digest.Hash.{Hash}, Digests.{digest}, Integrity.{IsIntegrity, integrity_under}, PathNames.{Names}}
 use Rattle.cacache_store.specs.declared.store.log.LogItem.{LogItem}

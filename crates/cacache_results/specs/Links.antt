@@ -47,7 +47,7 @@ pub record LinkedFile (cache : List ℕ) (key : Option (List ℕ)) (path : List 
 -- ---- laws, of the environment that a call left
 
 module _ {C N : Type 0} where
-  -- a link under a key to a file apart from the cache, of this result, is one
+  -- a link under a key to a file apart from the cache, with this result, is one
   abbrev pub LinkMeans :
       (C → Option (List ℕ)) → List ℕ → List ℕ → List ℕ → Result (List Hash) Error
       → Env (List LogItem) C N → Type 0

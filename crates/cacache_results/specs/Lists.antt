@@ -31,7 +31,7 @@ pub record ListedEntries (cache : List ℕ) (r : Reply) (old new : List LogItem)
   pub succeeds : NamesFolder cache
       → OrMemory (ListsAll (index_of cache old) (plain_reply r)) (plain_reply r)
 
--- a listing, of this reply, is one
+-- a listing, with this reply, is one
 abbrev pub ListingMeans :
     {C N : Type 0} → List ℕ → Reply → Env (List LogItem) C N → Type 0
 ListingMeans {C} {N} cache r new =

@@ -1,4 +1,4 @@
--- What a store in memory holds that began with what a loss of power left, and what is read and written there.
+-- What a store in memory holds if it began with what a loss left, and what is read and written there.
 use Rattle.std.specs.{Prelude.{◌≡◌, ◌⊎◌, ℕ, List, ◌∷◌, ◌++◌, Option, None, Some, Vec, Result, IfErr, IfOk}, Global.{Global}}
 use Rattle.cacache_core.specs.{declared.{errors.Error.{Error}, integrity.{algorithm.Algorithm.{Algorithm}, digest.Hash.{Hash}}}, Digests.{digest}, Integrity.{IsIntegrity, integrity_under}, PathNames.{Names, home_of}, Paths.{bucket_names}}
 use Rattle.cacache_store.specs.declared.{env.Env.{Env}, store.log.LogItem.{LogItem}}

@@ -10,7 +10,7 @@ use cacache_keep::{Collected, Compacted, Planned, Repaired, Swept, Verdict};
 use std::alloc::{AllocError, Global};
 use std::io::Write;
 
-/// What is printed of a verification.
+/// What is printed for a verification.
 pub(crate) fn verdict_text(alloc: Global, verdict: &Verdict) -> Result<String, AllocError>
     ensures { IfOk result (λ text. string_bytes text ≡ text_of_verdict verdict.now) }
 {
@@ -49,7 +49,7 @@ pub(crate) fn print_verdict<W: Write, E: Write>(
     }
 }
 
-/// What is printed of a collection.
+/// What is printed for a collection.
 fn collected_text(alloc: Global, collected: &Collected) -> Result<String, AllocError>
     ensures { IfOk result (λ text. string_bytes text ≡ text_of_collected collected.now) }
 {
@@ -74,7 +74,7 @@ pub(crate) fn print_collected<W: Write, E: Write>(
     }
 }
 
-/// What is printed of a plan.
+/// What is printed for a plan.
 fn planned_text(alloc: Global, planned: &Planned) -> Result<String, AllocError>
     ensures { IfOk result (λ text. string_bytes text ≡ text_of_planned planned.now) }
 {
@@ -99,7 +99,7 @@ pub(crate) fn print_planned<W: Write, E: Write>(
     }
 }
 
-/// What is printed of a sweep.
+/// What is printed for a sweep.
 fn swept_text(alloc: Global, swept: &Swept) -> Result<String, AllocError>
     ensures { IfOk result (λ text. string_bytes text ≡ text_of_swept swept.now) }
 {
@@ -124,7 +124,7 @@ pub(crate) fn print_swept<W: Write, E: Write>(
     }
 }
 
-/// What is printed of a repair.
+/// What is printed for a repair.
 fn repaired_text(alloc: Global, repaired: &Repaired) -> Result<String, AllocError>
     ensures { IfOk result (λ text. string_bytes text ≡ text_of_repaired repaired.now) }
 {
@@ -149,7 +149,7 @@ pub(crate) fn print_repaired<W: Write, E: Write>(
     }
 }
 
-/// What is printed of a compaction.
+/// What is printed for a compaction.
 fn compacted_text(alloc: Global, compacted: &Compacted) -> Result<String, AllocError>
     ensures { IfOk result (λ text. string_bytes text ≡ text_of_compacted compacted.now) }
 {
