@@ -1,4 +1,4 @@
--- What the log of a store in memory gained by reads, the tree before them answered, and it stayed.
+-- The tree before reads answered what the log of a store in memory gained by them, and it stayed.
 use Rattle.std.proofs.{Common.{◌≡◌, inl, inr, List, [], ◌∷◌, ◌++◌, Option, None, Some, Result, Ok, Err, map, refl, sym, ap, subst, ◌∙◌, append_assoc}, lemmas.List.{map-append}}
 use Rattle.std.specs.Prelude.{Contains, option_map}
 use Rattle.cacache_core.specs.declared.errors.Fault.{Fault}

@@ -17,7 +17,7 @@ pub unkeyed_holds : (asked parsed : Asked) (name : List ℕ) (P : List ℕ → T
 unkeyed_holds asked parsed name P is holds =
     subst (λ (it : Asked). Unkeyed it name P) (sym is) (where_none parsed.key (λ named. holds))
 
--- the same of two words more
+-- the same for two words more
 keyed_holds : (asked parsed : Asked) (name : List ℕ) (P : List ℕ → List ℕ → Type 0) → asked ≡ parsed → IfSome parsed.key (λ key. P parsed.cache key) → Keyed asked name P
 keyed_holds asked parsed name P is holds = subst (λ (it : Asked). Keyed it name P) (sym is) (where_some parsed.key (P parsed.cache) holds)
   where
@@ -39,7 +39,7 @@ isnt_asked {name = name} {other = other} is named differs called = other_text ot
 pub other_unkeyed : (name : List ℕ) (X : Type 0) {asked parsed : Asked} {other : List ℕ} → asked ≡ parsed → parsed.name ≡ other → false ≡ pointwise nat_eq other name → IfNone asked.key (asked.name ≡ name → X)
 other_unkeyed name X {asked = asked} is named differs = where_none asked.key (λ called. absurd (isnt_asked is named differs called))
 
--- the same of two words more
+-- the same for two words more
 pub other_keyed : (name : List ℕ) (X : List ℕ → Type 0) {asked parsed : Asked} {other : List ℕ} → asked ≡ parsed → parsed.name ≡ other → false ≡ pointwise nat_eq other name → IfSome asked.key (λ key. asked.name ≡ name → X key)
 other_keyed name X {asked = asked} is named differs = of_key asked.key (λ called. isnt_asked is named differs called)
   where

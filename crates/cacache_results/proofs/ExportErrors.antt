@@ -126,7 +126,7 @@ module _ {X : Type 0} (answer : X → Reply) (gives : (x : X) → IsGiven (answe
   so_fails : (wanted : Error) → export_reply cache source e old ≡ Refused wanted → FailsFor wanted r
   so_fails wanted is = fails_for answer gives r wanted (elim h [ inl m ↦ inl m | inr same ↦ inr (same.0 ∙ is) ])
 
--- of a source that leads to this integrity
+-- for a source that leads to this integrity
 by_held : (cache : List ℕ) (source : Source) (i : List Hash) (e : Export) (old : List LogItem) → NamesHeld cache source i old → export_reply cache source e old ≡ exported_reply i e (tree_of old) (lies_under cache i old)
 by_held cache (sources.Hash j) i e old leads = ap (λ j. exported_reply j e (tree_of old) (lies_under cache j old)) leads
 by_held cache (sources.Key key) i e old leads = by (found_under cache key old) leads
@@ -190,7 +190,7 @@ module _ {X : Type 0} (answer : X → Reply) (gives : (x : X) → IsGiven (answe
     lacks = λ key is lacks. so_fails answer gives r cache source how checked to old new h (EntryNotFound cache key) (by_key cache source key asked old is lacks);
   }
 
-  -- what is answered of a content that is missing
+  -- what is answered for a content that is missing
   missing_reply : (i : List Hash) → NamesHeld cache source i old → lies_under cache i old ≡ None → export_reply cache source asked old ≡ exported_reply i asked (tree_of old) None
   missing_reply i leads none = by_held cache source i asked old leads ∙ ap (exported_reply i asked (tree_of old)) none
 

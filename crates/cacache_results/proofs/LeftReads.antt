@@ -29,7 +29,7 @@ found_shown key bucket (answers.Failed fault) is = inr (refusals.Fault fault, re
 found_shown key bucket (answers.NoMemory step) is = inr (refusals.Memory, refl)
 found_shown key bucket a is = inr (refusals.Fault faults.Device, refl)
 
--- so it is of a content's bytes
+-- so it is for a content's bytes
 bytes_shown : (bytes : List ℕ) (content : Result (List ℕ) Fault) (a : PlainAnswer) → content ≡ Ok bytes → ShowsContent content a
     → (bytes_in a ≡ Ok bytes) ⊎ ((refusal : Refusal) × (bytes_in a ≡ Err refusal))
 bytes_shown bytes content (answers.Bytes b) held is =
