@@ -181,7 +181,7 @@ writes_take moves t file last path had bytes rest takes a has = absurd takes
 
 -- ---- what they come to
 
--- the file at the path has these bytes, and all else is as if only a folder was made
+-- the file at the path has these bytes, and all else is as a compaction may leave it
 pub record IsRewritten (durable : Bool) (home : Names) (path bytes : List ℕ) (t new : Tree) : Type 0 where
   pub to : Names
   pub at : names_of path ≡ Ok to

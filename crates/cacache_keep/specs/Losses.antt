@@ -106,8 +106,8 @@ pub record BeginsLean (home : Names) (t left : Tree) : Type 0 where
       → FindsOrLater key (latest key (entries_of bytes)) (entries_of (compact_text true bytes))
       (look left (home ++ bucket_names_of (sha1 key)))
 
--- so it is after each later loss, if each thing lies in its place, as if only calls wrote, and
--- later steps of calls remove, link and export nothing; they may append to buckets
+-- so it is after each later loss, if each thing lies in its place, as it does if only calls wrote,
+-- and later steps of calls remove, link and export nothing; they may append to buckets
 abbrev pub CompactionsGrow : Type 0
 CompactionsGrow =
     (cache : List ℕ) (home : Names) (count bytes : ℕ) (moves : Moves) (more : List Move)

@@ -54,7 +54,7 @@ module _ {S C N : Type 0} (log : S → Option (List LogItem)) where
   FailsToVerify cache old new before after status =
       Fails log (StopsVerifying (site_of cache old.base 0)) old new before after status
 
-  -- one of the two, and only the store of the environment may have changed
+  -- one of the two, and in the environment only the store may have changed
   abbrev pub VerifiesTelling :
       (ℕ → List (List Hash) → List Found → List (List ℕ)
       → Option (List ℕ) → Option (List ℕ) → ℕ → Type 0)

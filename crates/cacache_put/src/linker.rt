@@ -112,7 +112,7 @@ fn ask_size_and_open<S: Store>(
     }
 }
 
-/// Asks the size of a target, if nothing else is said of it, and opens it.
+/// Asks the size of a target that has blank options, and opens it.
 fn open_blank<S: Store, C, N>(
     env: &mut Env<S, C, N>,
     cache: &str,
