@@ -36,7 +36,7 @@ refused_fails a (answers.Failed fault) refusal e old new is logs ends = failed a
 refused_fails a (answers.NoMemory b) refusal e old new is logs ends = lost a e old new logs (rw is at ends)
 refused_fails a t refusal e old new is logs ends = absurd is
 
--- why a step was refused that ended a call so
+-- why a step that ended a call so was refused
 pub refusal_of : {Y : Type 0} (a : Result Y Refusal) (e : Error) → EndsRefused a e → (refusal : Refusal) × (Err refusal ≡ a) × EndsAs e (refuse refusal fails)
 refusal_of (Ok y) e ends = absurd ends
 refusal_of (Err refusal) e ends = (refusal, refl, ends)

@@ -44,7 +44,7 @@ appends_nothing None new appends = tt
 appends_nothing (Some xs) None appends = appends
 appends_nothing (Some xs) (Some ys) appends = appends ∙ append-nil xs
 
--- what is left of a buffer of which not all was handed over
+-- what is left of a buffer that was only handed over in part
 pub rest_left : (bytes : List ℕ) (n : ℕ) → n ≤ length bytes → (n ≡ length bytes → ⊥) → 0 < length (take (length bytes - n) (drop n bytes))
 rest_left bytes n within other =
     let size : length (take (length bytes - n) (drop n bytes)) ≡ length bytes - n = ap length (take_rest bytes n) ∙ length-drop n bytes in
@@ -56,7 +56,7 @@ pub tried_more : {X : Type 0} (tries done count : ℕ) → (tries ≤ done) ⊎ 
 tried_more tries done count (inl few) some = inl (omega (arith, few, some))
 tried_more tries done count (inr was) some = inr was
 
--- as many writes as there can be, of which each took some bytes, would have taken all
+-- as many writes as there can be, each of which took some bytes, would have taken all
 pub too_often : {X : Type 0} (tries done size : ℕ) → (tries ≤ done) ⊎ X → 18446744073709551615 ≤ tries → done ≤ size → (done ≡ size → ⊥) → size < 2 ^ 64 → X
 too_often tries done size (inl few) all within other bound = absurd (omega (arith, few, all, within, other, bound))
 too_often tries done size (inr was) all within other bound = was

@@ -65,7 +65,7 @@ module _ {F : Type 0} (file : F → PlainFile) (cache : List ℕ) where
         × FindsKey cache base key (LookedUp (Some found)) old mid
         × OpensHash found.integrity r mid new
 
-    -- the same for every outcome of the lookup; `EntryNotFound` says just that it found nothing
+    -- the same for every outcome of the lookup; `EntryNotFound` says exactly that it found nothing
     abbrev pub OpensKey :
         Result (SyncReader F) Error → Option (List LogItem) → Option (List LogItem) → Type 0
     OpensKey (Ok r) old new = OpensFound (Ok r) old new

@@ -55,7 +55,7 @@ module _ {T : Type 0} (writes : T → ℕ → Result ℕ io.Error → T → Type
       ⊎ (WriteGave (Ok 0) file × (error_kind e ≡ io.WriteZero))
       ⊎ (IsInterrupted × (error_kind e ≡ io.TimedOut))
 
--- an interrupted write is tried again, and none of its errors is told
+-- an interrupted write is tried again, and none of its errors is reported
 abbrev pub IsRetried : io.Error → Type 0
 IsRetried e = error_kind e ≢ io.Interrupted
 
@@ -163,7 +163,7 @@ abbrev pub given_up : Result (Unit {0}) Error → Error → Error
 given_up (Err OutOfMemory) e = OutOfMemory
 given_up removed e = e
 
--- the commit of a writer without a key, of which nothing was said
+-- the commit of a writer without a key and with nothing said
 abbrev pub unkeyed : {T : Type 0} → Writer T → List ℕ → Commit
 unkeyed w bytes = content_commit w bytes None 0 (blank (algorithm_of w.hasher))
 

@@ -23,8 +23,8 @@ use std::alloc::{AllocError, Global};
 use std::io;
 use std::io::{ErrorKind, Read};
 
-/// An open content, read in pieces. It gives the bytes of the file that was opened, in order, also where the content
-/// was replaced or removed since. Each byte is hashed once. No byte is verified before `check`: always call that at the
+/// An open content, read in pieces. It gives the bytes of the file that was opened, in order, also if the content was
+/// replaced or removed since. Each byte is hashed once. No byte is verified before `check`: always call that at the
 /// end.
 #[derive(Drop)]
 pub struct SyncReader<F> {
@@ -46,7 +46,7 @@ fn opening_message(
 /// Opens the content of the integrity. What is read is checked against it by `check` alone: always call that at the
 /// end.
 ///
-/// `IoError` says that the content couldn't be opened, with `NotFound` where it isn't there. Nothing changes.
+/// `IoError` says that the content couldn't be opened, with `NotFound` if it isn't there. Nothing changes.
 pub fn open<S: Store, C: Clock, N: Names>(
     env: &mut Env<S, C, N>,
     cache: &str,
@@ -92,8 +92,8 @@ impl<F: OpenedFile> SyncReader<F> {
     /// let algorithm = reader.check()?; // Algorithm::Sha256
     /// ```
     ///
-    /// `EntryNotFound` where that lookup is none, `IoError` says which step failed, with `NotFound` where the content
-    /// isn't there. Nothing changes.
+    /// `EntryNotFound` if the lookup finds none, `IoError` says which step failed, with `NotFound` if the content isn't
+    /// there. Nothing changes.
     pub fn open<S: Store<File = F>, C: Clock, N: Names>(
         env: &mut Env<S, C, N>,
         cache: &str,
@@ -164,8 +164,8 @@ impl<F: OpenedFile> SyncReader<F> {
 impl<F: OpenedFile> Read for SyncReader<F> {
     ghost remaining = { λ reader. (F.seen reader.file).bytes };
 
-    /// Reads some bytes into the front of `buf` and returns how many: none only at the end of the content, or if `buf` is
-    /// empty. After an error the reader stands where it stood, and may go on.
+    /// Reads some bytes into the front of `buf` and returns how many: none only at the end of the content, or if
+    /// `buf` is empty. After an error the reader is where it was, and may go on.
     fn read(&mut self, buf: &mut [u8]) -> io::Result<usize>
         ensures bound { ReadsAtMost result buf.new }
         ensures bytes { ReadConsumes (F.seen self.old.file).bytes (F.seen self.new.file).bytes

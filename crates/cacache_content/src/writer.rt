@@ -155,11 +155,11 @@ pub fn abandon<S: Store>(alloc: Global, store: &mut S, writer: Writer<S::Temp>) 
     }
 }
 
-/// Hands all of the data to the writer's file, as `write_all` does, and gives the writer back. Where a write fails, the
+/// Hands all of the data to the writer's file, as `write_all` does, and gives the writer back. If a write fails, the
 /// file is removed.
 ///
-/// `IoError` has the fault of that write. Whether the file could be removed isn't told. Contents and index stay as they
-/// were.
+/// `IoError` has the fault of that write. Whether the file could be removed isn't reported. Contents and index stay
+/// as they were.
 #[tactic(auto, using(crate::proofs::GivenUp::given_up_tries, crate::proofs::GivenUp::given_up_earned))]
 pub fn write_or_abandon<S: Store>(
     alloc: Global,
@@ -187,7 +187,7 @@ pub fn write_or_abandon<S: Store>(
     Err(given_up(removed, refused(refusal, message)))
 }
 
-/// Why a writer is given up whose write failed with this error: for want of memory if the removal found none.
+/// Why a writer is given up if its write failed with this error: for want of memory if the removal found none.
 fn given_up(removed: Result<()>, error: Error) -> Error
     ensures { result ≡ given_up removed error }
 {

@@ -113,7 +113,7 @@ module _ (cache : List ℕ) (home : Names) (is : home_of cache ≡ Some home) (q
       fixes_then AllApart AllApart AllApart old read new (fixes_step AllApart (steps.ReadAll b.0) (answers.Bytes b.1) old read does (λ w rooted e. (tt, tt)))
       (settle_apart (is_loose true b) b read new spares rest) (λ w one two rooted a b. apart_join q one two a b)
 
-  -- ---- where an error ends that
+  -- ---- an error ends that
 
   failed_apart : (step : PlainStep) (e : Error) (old new : Option (List LogItem)) → Apart q step → FailsAt step e old new → Fixes AllApart old new
   failed_apart step e old new apart fails = fixes_failed AllApart step e old new fails (λ w. tt) (λ w fault rooted is. (apart, tt))

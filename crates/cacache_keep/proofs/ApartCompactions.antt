@@ -35,7 +35,7 @@ module _ (q : Names) where
   syncs_apart (f ∷ folders) old new (next, one, more) =
       aparts_then old next new (fixes_step (λ w moves. EachApart q moves) (steps.SyncDir f) answers.Done old next one (λ w rooted e. (tt, tt))) (syncs_apart folders next new more)
 
-  -- ---- where an error ends that
+  -- ---- an error ends that
 
   failed_apart : (step : PlainStep) (e : Error) (old new : Option (List LogItem)) → Apart q step → FailsAt step e old new → Aparts old new
   failed_apart step e old new apart fails = fixes_failed (λ w moves. EachApart q moves) step e old new fails (λ w. tt) (λ w fault rooted is. (apart, tt))

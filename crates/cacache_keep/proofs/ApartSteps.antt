@@ -1,4 +1,4 @@
--- Steps that leave what stands at a path, and what of it is fixed.
+-- Steps that leave what is at a path, and what of it is fixed.
 use Rattle.std.{proofs.Common.{◌≡◌, ◌⊎◌, inl, inr, ℕ, Bool, true, false, cond, List, [], ◌∷◌, ◌++◌, None, Some, refl, sym, ap, subst, ◌∙◌}, specs.Prelude.{unwrap_or}}
 use Rattle.cacache_core.specs.{declared.errors.Fault.TheVariants.{IsADirectory}, PathNames.{Names, names_of}}
 use Rattle.cacache_store.specs.{declared.store.{plain.PlainTemp.{PlainTemp}, step.Step.TheVariants.{MakeDirs, CreateTemp, Write, Persist, ReadAll, ReadDir, SyncTemp, SyncFile, SyncDir}}, Plain.{PlainStep, PlainAnswer}}
@@ -24,7 +24,7 @@ Apart q step = ⊥
 abbrev pub IsWhole : Fixed → Names → Type 0
 IsWhole fixed q = (fixed.files q).whole ≡ true
 
--- the node stands there still; its bytes are as far fixed or synced, and the name as far or further
+-- the node is still there; its bytes are as far fixed or synced, and the name as far or further
 pub record Kept (w v : Moment) (q : Names) (node : Node) : Type 0 where
   pub stands : look v.tree q ≡ Some node
   pub files : (v.fixed.files q ≡ w.fixed.files q) ⊎ (v.fixed.files q ≡ synced (bytes_of (Some node)))

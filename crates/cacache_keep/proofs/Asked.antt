@@ -78,17 +78,17 @@ entries_listed site items entries old new ran is =
     let plain : map plain_item items ≡ map Ok entries = ap (map plain_item) is ∙ plain_entries entries in
     (map Ok entries, inl refl, subst (λ (l : List Item). Ran (opening site commands.Ls) (replies.Listed l) old new) plain ran)
 
--- what holds of a value, where something else does
+-- what holds of a value if something else does
 pub value_so : {X E : Type 0} {P Q : X → Type 0} (r : Result X E) → ((x : X) → P x → Q x) → IfOk r P → IfOk r Q
 value_so (Ok x) f h = f x h
 value_so (Err e) f h = h
 
--- what holds of a value, where two things do
+-- what holds of a value if two things do
 pub value_both : {X E : Type 0} {P Q R : X → Type 0} (r : Result X E) → ((x : X) → P x → Q x → R x) → IfOk r P → IfOk r Q → IfOk r R
 value_both (Ok x) f p q = f x p q
 value_both (Err e) f p q = p
 
--- what holds where a call was done, where something else does
+-- what holds of a call that was done if something else does
 pub done_so : {X E P Q : Type 0} (r : Result X E) → (P → Q) → OnOk r P → OnOk r Q
 done_so (Ok x) f h = f h
 done_so (Err e) f h = h

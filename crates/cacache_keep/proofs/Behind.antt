@@ -138,7 +138,7 @@ module _ (site : Site) (home : Names) (is : home_of site.cache ≡ Some home) (k
   abbrev Later : List Event → List Hash → List ℕ → List LogItem → Type 0
   Later events i held new = LeadsOn site.cache key i held (filter_map text_of events) new
 
-  -- behind an event that kept the bytes, and behind one that wrote others
+  -- after an event that kept the bytes, and after one that wrote others
   kept_then : (e : Event) (events : List Event) (i : List Hash) (held : List ℕ) (new : List LogItem) → Later events i held new → Later (e ∷ events) i held new
   kept_then e events i held new l = record {
     held = l.held;

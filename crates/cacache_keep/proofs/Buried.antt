@@ -87,8 +87,8 @@ module _ (site : Site) (home : Names) (is : home_of site.cache ≡ Some home) wh
 
   -- ---- what tombstones do to a tree
 
-  -- where each thing lies in its place: no key leads to an entry that it didn't lead to, those that led
-  -- to a content lead there, and those that were asked for lead to nothing else
+  -- if each thing lies in its place: no key leads to an entry that it didn't lead to, those that led to
+  -- a content lead there, and those that were asked for lead to nothing else
   pub record Whole (fates : List (Found × Fate)) (t new : Tree) : Type 0 where
     pub housed : Housed (Some home) new
     pub rooted : Rooted new

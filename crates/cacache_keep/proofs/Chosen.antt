@@ -22,7 +22,7 @@ use Rattle.cacache_keep.proofs.{CheckedLogs.{collected_on}, Judged.{index_lists}
 
 module _ (site : Site) (home : Names) (kept : ℕ) (dropped : List (List Hash)) (old new : List LogItem) (chosen : Option (List LogItem))
     (is : home_of site.cache ≡ Some home) (logged : IsLog new) (c : Chooses site kept dropped (Some old) chosen) where
-  -- what its steps show of the tree, on which the moves behind it are made
+  -- what its steps show of the tree, from which the moves after them start
   pub record Choice (more : Moves) : Type 0 where
     pub holds : HoldsJust site.cache home (tree_of old) c.order.hashes c.strange
     pub index : IndexLists site (tree_of old) c.entries

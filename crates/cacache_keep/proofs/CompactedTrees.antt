@@ -1,4 +1,4 @@
--- What compactions of buckets leave of a tree, also where an error ends them.
+-- What compactions of buckets leave of a tree, also if an error ends them.
 use Rattle.std.proofs.Common.{◌≡◌, inl, inr, ℕ, List, [], ◌∷◌, ◌++◌, Bool, true, false, Option, None, Some, Ok, map, refl, sym, ap, subst, ◌∙◌, append-nil}
 use Rattle.std.specs.List.{AllByRecursion}
 use Rattle.cacache_core.specs.{declared.errors.Error.{Error}, PathNames.{Names, home_of}, Paths.{index_area}}
@@ -17,11 +17,11 @@ use Rattle.cacache_keep.proofs.{FoundBuckets.{IsBucketFile, Stays}, MovedFiles.{
 
 -- ---- one bucket is written anew
 
--- the cache's folder stands
+-- the cache's folder is there
 abbrev Housed : Names → Tree → Type 0
 Housed home t = look t home ≡ Some Folder
 
--- above a bucket that stands
+-- above a bucket that is there
 home_stands : (home : Names) (t : Tree) (path : List ℕ) → Rooted t → IsBucketFile home t path → Housed home t
 home_stands home t path rooted b = upper_folder t home b.below index_area (File b.bytes) rooted (ap (look t) (sym b.split) ∙ b.stands)
 
@@ -29,7 +29,7 @@ module _ (durable : Bool) (cache : List ℕ) (home : Names) (is : home_of cache 
   abbrev MakesFolder : Tree → Tree → Type 0
   MakesFolder t u = Housed home t → Compacted durable home t u
 
-  -- the temporary file stands there
+  -- the temporary file is there
   abbrev Temped : PlainTemp → Tree → Tree → Type 0
   Temped file t u = (mid : Tree) × (Housed home t → Compacted durable home t mid) × HasTemp home file mid u
 
@@ -80,7 +80,7 @@ module _ (durable : Bool) (cache : List ℕ) (home : Names) (is : home_of cache 
 
   -- ---- one bucket
 
-  -- a bucket that stands at the path is compacted
+  -- a bucket at the path is compacted
   abbrev Compacts : List ℕ → Tree → Tree → Type 0
   Compacts path t u = IsBucketFile home t path → Compacted durable home t u × IsTight durable path u
 
@@ -102,7 +102,7 @@ module _ (durable : Bool) (cache : List ℕ) (home : Names) (is : home_of cache 
           inr (inl (ap (λ n. path_kind (Some home) n) e ∙ b.kind, bytes, ap (look t) e ∙ b.stands ∙ ap (λ (l : List ℕ). Some (File l)) same, ap (look u) (e ∙ sym here) ∙ r.there))
       by false is = r.others q (apart is)
 
-  -- the bytes that were read are those that stand there
+  -- the bytes that were read are those that are there
   abbrev Reads : List ℕ → List ℕ → Tree → Tree → Type 0
   Reads path bytes t u = (u ≡ t) × ((b : IsBucketFile home t path) → b.bytes ≡ bytes)
 
@@ -163,7 +163,7 @@ module _ (durable : Bool) (cache : List ℕ) (home : Names) (is : home_of cache 
       let more = rest (files_still t u (map (λ (b : Bucket). b.0) buckets) now.0 files.1) in
       (compacted_more durable home t u v now.0 more.0, (tight_still durable home b.0 u v now.1 (more.0 now.1.names), more.1)))
 
-  -- ---- where it is cut short
+  -- ---- an error cuts it short
 
   abbrev Cuts : Tree → Tree → Type 0
   Cuts t u = Housed home t → CutShort durable home t u
@@ -201,7 +201,7 @@ module _ (durable : Bool) (cache : List ℕ) (home : Names) (is : home_of cache 
       leads_then Stays Stays Stays old mid new (took_keeps file last bytes rest old mid took)
       (leads_step Stays (steps.Write last rest) (answers.Wrote g 0) mid new does (λ t rooted failed. writes_keep t last rest)) stays_on
 
-  -- so it is of a bucket that stands at the path, and of one that has these bytes
+  -- so it is for a bucket at the path, and for one that has these bytes
   abbrev CutsAt : List ℕ → Tree → Tree → Type 0
   CutsAt path t u = IsBucketFile home t path → CutShort durable home t u
 

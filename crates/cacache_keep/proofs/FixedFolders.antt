@@ -46,7 +46,7 @@ module _ (home : Names) (w : Moment) (loss : Loss) (rooted : Rooted w.tree) wher
       let way : p ++ name ∷ (above ++ rest) ≡ home ++ rest = sym (append_assoc p (name ∷ above) rest) ∙ ap (λ q. q ++ rest) e in
       rw (folder_left p (above ++ rest) name node (ap (look w.tree) way ∙ there) (home_stays p (name ∷ above) e)) (leads_from (p ++ name ∷ []) above rest node next there all)
 
-  -- what stands there is left, or what stood there when its folder was synced
+  -- what is there is left, or what was there when its folder was synced
   pub node_lost : (rest : Names) (node : Node) → look w.tree (home ++ rest) ≡ Some node → WayFixed w.fixed home rest
       → lost_then (Some home) w loss (home ++ rest) ≡ node_left (left (home ++ rest)).fixing (loss.tail (home ++ rest)) (left (home ++ rest)).node
   node_lost rest node there all =

@@ -27,7 +27,7 @@ in_map f x (y ∷ xs) (inr m) = inr (in_map f x xs m)
 abbrev pub InIndex : Names → ℕ → List ℕ → Type 0
 InIndex home depth path = (ns : Names) × (names_of path ≡ Ok (home ++ index_area ∷ ns)) × (length ns ≡ depth)
 
--- a bucket's file stands there
+-- a bucket's file is there
 pub record IsBucketFile (home : Names) (t : Tree) (path : List ℕ) : Type 0 where
   pub names : Names
   pub named : names_of path ≡ Ok names
@@ -243,7 +243,7 @@ buckets_found cache home tops paths old new is (lows, one, two, a, b, c) =
       covers = all_covered cache home is paths tops lows old one two new a b c t rooted (s.1, s.2, s.3);
     })
 
--- ---- that it leaves the tree, also where an error ends it
+-- ---- that it leaves the tree, also if an error ends it
 
 abbrev pub Stays : Tree → Tree → Type 0
 Stays t u = u ≡ t

@@ -50,7 +50,7 @@ module _ (P Q : List ℕ → Type 0) (last : Bool) (each : (f : List ℕ) (n : N
 abbrev LiesHex : Names → ℕ → List ℕ → Type 0
 LiesHex home depth f = InIndex home depth f × EndsHex f
 
--- the text of the folder that holds what stands at the path names it
+-- the text of the folder that holds what is at the path names it
 abbrev pub FolderNamed : List ℕ → Type 0
 FolderNamed p = (folder : Names) (name : List ℕ) → names_of p ≡ Ok (folder ++ name ∷ []) → names_of (folder_of p) ≡ Ok folder
 
@@ -103,7 +103,7 @@ each_of : (P Q : List ℕ → Type 0) → ((p : List ℕ) → P p → Q p) → (
 each_of P Q so [] all = tt
 each_of P Q so (p ∷ paths) all = (so p all.0, each_of P Q so paths all.1)
 
--- so it is of each bucket that is found
+-- so it is for each bucket that is found
 pub folders_named : (cache : List ℕ) (home : Names) (tops paths : List (List ℕ)) (old new : Option (List LogItem)) → home_of cache ≡ Some home → FindsBuckets cache tops paths old new → AllByRecursion FolderNamed paths
 folders_named cache home tops paths old new is finds = each_of (IsBucketPath home) FolderNamed (λ p both. both.0) paths (paths_are home cache tops paths old new is finds)
 

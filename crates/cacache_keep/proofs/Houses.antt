@@ -16,7 +16,7 @@ use Rattle.cacache_keep.proofs.{CheckedLogs.{repaired_on}, SweptCaches.{caches_a
 -- ---- places
 
 module _ (home : Names) (t new : Tree) (files : ℕ) (housed : Housed (Some home) t) (l : LeavesUntemporary home t new files) where
-  -- what stands there stood there
+  -- what is there was there
   stood : (names : Names) (node : Node) → look new names ≡ Some node → look new names ≡ look t names
   stood names node there = l.rest names (λ temp. let wrong : None ≡ Some node = sym (l.gone names temp) ∙ there in cc)
 
@@ -53,7 +53,7 @@ repairs_house site home damaged hidden old new is logged housed v =
 
 -- ---- good contents
 
--- what lies beside the cache is no temporary file
+-- what lies next to the cache is no temporary file
 not_temporary : (home q : Names) (t : Tree) → Beside (Some home) q → IsTemporary home t q → ⊥
 not_temporary home q t k temp =
     let kind : path_kind (Some home) q ≡ Temporary = ap (path_kind (Some home)) temp.2 ∙ kind-below home (temp_area ∷ temp.0 ∷ []) in

@@ -66,7 +66,7 @@ damaged_read cache addresses good_bytes damaged damaged_bytes more i size old mi
 
 -- ---- an error that ends it
 
--- what is still to come behind the first so many
+-- what is still to come after the first so many
 pub split_at : (addresses seen : List (List Hash)) (i : List Hash) (k : ℕ) → k < length addresses → seen ≡ take k addresses → i ≡ get_or addresses k i → addresses ≡ seen ++ i ∷ drop (k + 1) addresses
 split_at addresses seen i k below before is =
     sym (take-append-drop k addresses)
@@ -91,7 +91,7 @@ memory_next : (cache : List ℕ) (rest : List (List Hash)) (log : Option (List L
 memory_next cache [] log = (refl, refl)
 memory_next cache (i ∷ rest) log = inl (refl, inl refl)
 
--- memory ran out behind these
+-- memory ran out after these
 pub memory_stops : (cache : List ℕ) (addresses seen damaged rest : List (List Hash)) (good_bytes damaged_bytes : ℕ) (old new : Option (List LogItem)) → addresses ≡ seen ++ rest → WeighsOthers cache seen good_bytes damaged damaged_bytes old new → StopsEach cache addresses OutOfMemory old new
 memory_stops cache addresses seen damaged rest good_bytes damaged_bytes old new split g =
     let r = g.1.0 in

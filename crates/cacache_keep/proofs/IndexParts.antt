@@ -45,7 +45,7 @@ lost_next : (rest : List (List ℕ)) (log : Option (List LogItem)) → StopsNext
 lost_next [] log = (refl, refl)
 lost_next (f ∷ rest) log = (refl, inl refl)
 
--- memory ran out behind the listing of one more
+-- memory ran out after the listing of one more
 pub lost_listed : (last : Bool) (folders paths : List (List ℕ)) (k : ℕ) (f : List ℕ) (names : List Name) (old mid new : Option (List LogItem)) → k < length folders → f ≡ get_or folders k f → ListsParts last (take k folders) paths old mid
     → ListsFolder f names mid new → StopsParts folders OutOfMemory old new
 lost_listed last folders paths k f names old mid new below is so lists =

@@ -101,7 +101,7 @@ open_finds_none t path = by (file_at t path IsADirectory)
 
 -- ---- contents
 
--- how many bytes a content has; none where it can't be read
+-- how many bytes a content has; none if it can't be read
 abbrev pub size_given : Result (List ℕ) Fault → ℕ
 size_given (Ok bytes) = min (length bytes) (2 ^ 64 - 1)
 size_given (Err fault) = 0

@@ -14,7 +14,7 @@ use Rattle.cacache_keep.proofs.{ApartSteps.{IsWhole}, FixedFolders.{file_lost}, 
 
 -- ---- one move
 
--- what stands at a path stays, and what is fixed of it
+-- what is at a path stays, and so does what of it is fixed
 abbrev Still : Tree → Fixed → Tree → Fixed → Names → Type 0
 Still t fixed new then q =
     (look new q ≡ look t q) × (IsWhole fixed q → IsWhole then q) × (fixed.names q ≡ None → then.names q ≡ None)

@@ -1,4 +1,4 @@
--- What a loss leaves right after a durable compaction that ended well.
+-- What a loss leaves right after a durable compaction that succeeded.
 use Rattle.std.{proofs.Common.{◌≡◌, ◌⊎◌, inl, inr, ℕ, List, [], ◌∷◌, ◌++◌, true, Option, None, Some, Ok, refl, sym, ap, subst, ◌∙◌, append_assoc}, specs.List.{AllByRecursion}}
 use Rattle.sha1.specs.Sha1.{sha1}
 use Rattle.cacache_core.{specs.{PathLaws.{IsKeyDigest}, PathNames.{Names, home_of, names_of}, Paths.{bucket_names_of, index_area}}, proofs.PathLemmas.{keys_have_digests}}
@@ -107,7 +107,7 @@ module _ (cache : List ℕ) (home : Names) (is : home_of cache ≡ Some home) (a
 abbrev pub IsEither : List ℕ → Option Node → Type 0
 IsEither bytes here = (here ≡ Some (File bytes)) ⊎ (here ≡ Some (File (compact_text true bytes)))
 
--- what a lookup finds in a bucket's bytes it finds then
+-- a lookup finds then what it finds in a bucket's bytes
 pub keys_keep : (home : Names) (t left : Tree) (key : List ℕ) (found : Found) (here : Option Node) → look t (home ++ bucket_names_of (sha1 key)) ≡ here
     → ((bytes : List ℕ) → look t (home ++ bucket_names_of (sha1 key)) ≡ Some (File bytes) → IsEither bytes (look left (home ++ bucket_names_of (sha1 key))))
     → latest key (list_of (bucket_in here)) ≡ Some found → found_in home left key ≡ Some found

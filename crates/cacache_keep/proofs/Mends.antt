@@ -130,7 +130,7 @@ module _ (site : Site) (home : Names) (is : home_of site.cache ≡ Some home) wh
           after = subst (After site home is (burial_of v).each.fates mid) (sym leads) told;
         }
 
-    -- a key of an entry that is told is that of a fate that was buried
+    -- the key of an entry that is reported is that of a fate that was buried
     buried_key : (key : List ℕ) → IsKeyOf buried key → (f : Found × Fate) × Member f (burial_of v).each.fates × (is_buried f.1 ≡ true) × (f.0.key ≡ key)
     buried_key key (f, c, e) =
         let m = map_from (λ (x : Found × Fate). x.0) f (filter (λ (x : Found × Fate). is_buried x.1) (burial_of v).each.fates) (subst (Member f) (burial_of v).each.which (member_contains f buried c)) in

@@ -53,7 +53,7 @@ fixes_then P Q R old mid new one two so = record {
 pub fixes_as : (P Q : Moment → Moves → Type 0) (old new : Option (List LogItem)) → Fixes P old new → ((w : Moment) (moves : Moves) → Rooted w.tree → P w moves → Q w moves) → Fixes Q old new
 fixes_as P Q old new one so = record { moves = one.moves; gains = one.gains; tells = λ w rooted a. so w one.moves rooted (one.tells w rooted a) }
 
--- a step that failed, where that is so whichever fault it was, and where no step was made
+-- a step that failed, if that is so whichever fault it was, and if no step was made
 pub fixes_failed : (P : Moment → Moves → Type 0) (step : PlainStep) (e : Error) (old new : Option (List LogItem)) → FailsAt step e old new
     → ((w : Moment) → P w []) → ((w : Moment) (fault : Fault) → Rooted w.tree → answers.Failed fault ≡ (apply w.tree step Plain).0 → P w ((step, answers.Failed fault) ∷ [])) → Fixes P old new
 fixes_failed P step (IoError fault message) old new fails none so = fixes_step P step (answers.Failed fault) old new fails (λ w rooted e. so w fault rooted e)
@@ -94,13 +94,13 @@ gained_once old new one two a b =
     let both : Some (old ++ map (λ m. Made m.0 m.1) one) ≡ Some (old ++ map (λ m. Made m.0 m.1) two) = sym a ∙ b in
     same_moves one two (same_rest old (map (λ m. Made m.0 m.1) one) (map (λ m. Made m.0 m.1) two) cc)
 
--- on the log of a store in memory, from a moment at which its tree stands
+-- on the log of a store in memory, from a moment that has its tree
 pub fixes_on : (P : Moment → Moves → Type 0) (old new : List LogItem) (moves : Moves) (w : Moment) → IsLog new → Gains (Some old) (Some new) moves → w.tree ≡ tree_of old → Fixes P (Some old) (Some new) → P w moves
 fixes_on P old new moves w logged gains tree f =
     let lead = logs_lead old new f.moves f.gains logged in
     subst (P w) (gained_once old new f.moves moves f.gains gains) (f.tells w (subst Rooted (sym tree) (log_rooted old)) (subst (λ t. AreAnswered t f.moves) (sym tree) lead.0))
 
--- the tree that stands then
+-- the tree after that
 pub tree_then : (old new : List LogItem) (moves : Moves) (w : Moment) → IsLog new → Gains (Some old) (Some new) moves → w.tree ≡ tree_of old → (later w moves).tree ≡ tree_of new
 tree_then old new moves w logged gains tree =
     let lead = logs_lead old new moves gains logged in

@@ -41,7 +41,7 @@ size_of x e = ap length e.is ∙ (let sum = length-append e.front (e.last ∷ []
 last_of : (x : List ℕ) (e : EndsHex x) → slice_index x (length e.front) ≡ e.last
 last_of x e = ap (λ (l : List ℕ). slice_index l (length e.front)) e.is ∙ get_or-append_seam e.front (e.last) [] 0
 
--- such a text stays as it is where trailing slashes are cut
+-- such a text stays as it is if trailing slashes are cut
 and_false : (b : Bool) → (b && false) ≡ false
 and_false true = refl
 and_false false = refl
@@ -63,7 +63,7 @@ trimmed x e =
     = ap (trimmed_len x) (size_of x e) ∙ ap (λ b. cond b (trimmed_len x (length e.front)) (suc (length e.front))) (not_trailing x (length e.front) (not_last x e 47 refl) (not_last x e 46 refl)) ∙ sym (size_of x e) in
     ap (λ (n : ℕ). take n x) kept ∙ all_taken x
 
--- ---- a name behind a slash
+-- ---- a name after a slash
 
 past_slash : (f c : List ℕ) (k : ℕ) → slice_index (f ++ 47 ∷ c) (length f + suc k) ≡ slice_index c k
 past_slash f c k = get_or-append-add f (47 ∷ c) (suc k) 0
@@ -103,7 +103,7 @@ not_empty x some = by (length x == 0) refl
     by true e = absurd (omega (arith, some, eqb-true (length x) 0 e))
     by false e = refl
 
--- the folder of a text of hex digits behind such a text
+-- the folder of a text of hex digits after such a text
 parent_there : (f c : List ℕ) → EndsHex f → EndsHex c → list_all is_hex_digit c ≡ true → path_parent (f ++ 47 ∷ c) ≡ Some f
 unfolding path_parent split_last_component
 parent_there f c before e all =

@@ -146,7 +146,7 @@ pub brings_stops : {X : Type 0} (seen : X → PlainTemp) (path : List ℕ) (t : 
 brings_stops seen path t (Ok x) old new brings fits logs = tt
 brings_stops seen path t (Err e) old new brings fits logs = made_stops path t (temp_in t) e old new refl brings fits logs
 
--- ---- behind the writes
+-- ---- after the writes
 
 module _ (durable : Bool) (cache path bytes : List ℕ) (file full ready : PlainTemp) (old made written synced : Option (List LogItem)) (makes : MakesTemp cache file old made) (writes : Took file bytes full [] made written) (syncs : SyncsTemp durable full written synced) (same : ready ≡ full) where
   -- the error ended what comes there

@@ -14,7 +14,7 @@ use Rattle.cacache_keep.{specs.Rewriting.{Takes}, proofs.MovedFiles.{MovedTo}}
 
 -- ---- the folder of temporary files is made
 
--- what stands on the way to a node
+-- what is on the way to a node
 stands_on : (t : Tree) (p above : Names) (name : List ℕ) (node : Node) → Rooted t → look t (p ++ name ∷ above) ≡ Some node → (here : Node) × (look t (p ++ name ∷ []) ≡ Some here)
 stands_on t p [] name node rooted e = (node, e)
 stands_on t p (next ∷ above) name node rooted e =
@@ -23,7 +23,7 @@ stands_on t p (next ∷ above) name node rooted e =
 make_step : (t : Tree) (p rest : Names) (name : List ℕ) (node : Node) (most : ℕ) → look t (p ++ name ∷ []) ≡ Some node → make_some t p (name ∷ rest) most ≡ make_some t (p ++ name ∷ []) rest most
 make_step t p rest name node most e = rw (e, make_some) refl
 
--- folders that stand are passed by
+-- folders that are there are passed by
 make_to : (t : Tree) (p above rest : Names) (node : Node) (most : ℕ) → Rooted t → look t (p ++ above) ≡ Some node → make_some t p (above ++ rest) most ≡ make_some t (p ++ above) rest most
 make_to t p [] rest node most rooted e = ap (λ (q : Names). make_some t q rest most) (sym (append-nil p))
 make_to t p (a ∷ above) rest node most rooted e =
@@ -57,7 +57,7 @@ module _ (durable : Bool) (home : Names) (t : Tree) where
   some_made most None true is e = subst (λ (u : Tree). Compacted durable home t u) (sym (rw (is, e) refl)) (compacted_none durable home t)
   some_made most None false is e = subst (λ (u : Tree). Compacted durable home t u) (sym (rw (is, e) refl)) (put_folder is)
 
--- where the cache's folder stands, nothing else is made, whatever is answered
+-- if the cache's folder is there, nothing else is made, whatever is answered
 pub folder_made : (durable : Bool) (cache : List ℕ) (home : Names) (t : Tree) → home_of cache ≡ Some home → Rooted t → look t home ≡ Some Folder → Compacted durable home t (apply t (steps.MakeDirs (temp_folder cache)) Plain).1
 unfolding apply dirs
 folder_made durable cache home t is rooted stands =
@@ -72,7 +72,7 @@ folder_made durable cache home t is rooted stands =
 
 -- ---- a temporary file is made
 
--- it stands there, where nothing stood
+-- it is there, and nothing was there before
 pub record HasTemp (home : Names) (file : PlainTemp) (t new : Tree) : Type 0 where
   pub name : List ℕ
   pub temp : is_temp_name name ≡ true
@@ -181,7 +181,7 @@ writes_take moves t file last path had bytes rest takes a has = absurd takes
 
 -- ---- what they come to
 
--- the file at the path has these bytes, and all else is as where a folder was made
+-- the file at the path has these bytes, and all else is as a compaction may leave it
 pub record IsRewritten (durable : Bool) (home : Names) (path bytes : List ℕ) (t new : Tree) : Type 0 where
   pub to : Names
   pub at : names_of path ≡ Ok to

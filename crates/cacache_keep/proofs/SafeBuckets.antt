@@ -23,7 +23,7 @@ module _ (cache : List ℕ) (home : Names) (is : home_of cache ≡ Some home) (q
   lean_good y (inl e) = inr (ap (compact_text true) e)
   lean_good y (inr e) = inr (ap (compact_text true) e ∙ compact_again true bytes)
 
-  -- a file of these, all of which are fixed
+  -- a file of these, and all of it is fixed
   abbrev pub GoodPlace : Place → Type 0
   GoodPlace place = (y : List ℕ) × Good y × (place.node ≡ Some (File y)) × (place.fixing.whole ≡ true)
 
@@ -31,7 +31,7 @@ module _ (cache : List ℕ) (home : Names) (is : home_of cache ≡ Some home) (q
   WasGood None = Unit {0}
   WasGood (Some place) = GoodPlace place
 
-  -- such a file stands there, and stood there when its folder was synced
+  -- such a file is there, and was there when its folder was synced
   abbrev pub Safe : Moment → Type 0
   Safe w = GoodPlace (place_now w.tree w.fixed q) × WasGood (w.fixed.names q)
 
@@ -146,7 +146,7 @@ module _ (cache : List ℕ) (home : Names) (is : home_of cache ≡ Some home) (q
   settle_safe false b old new named r =
       fixes_as (λ w moves. EachApart q moves) (Settles b) old new (sync_apart cache home is q IsBucket kind (λ e. cc) b.0 old new r) (λ w moves rooted apart good. apart_safe w moves apart)
 
-  -- what was read is what stood there
+  -- what was read is what was there
   abbrev ReadsIt : Bucket → Moment → Moves → Type 0
   ReadsIt b w moves = EachApart q moves × ((y : List ℕ) → look w.tree q ≡ Some (File y) → y ≡ b.1)
 
@@ -174,7 +174,7 @@ module _ (cache : List ℕ) (home : Names) (is : home_of cache ≡ Some home) (q
   each_safe [] old new same = fixes_none StaysSafe old new same (λ w s. s)
   each_safe (b ∷ buckets) old new (next, one, more) = fixes_both old next new (one_safe (is_at (names_of b.0) q) b old next refl one) (each_safe buckets next new more)
 
-  -- ---- where an error ends that
+  -- ---- an error ends that
 
   failed_safe : (full : PlainTemp) (path : List ℕ) (w : Moment) (fault : Fault) → answers.Failed fault ≡ (apply w.tree (steps.Persist full path) Plain).0 → StaysSafe w ((steps.Persist full path, answers.Failed fault) ∷ [])
   failed_safe full path w fault e s =

@@ -14,7 +14,7 @@ use Rattle.cacache_keep_laws.{specs.Compacting.{compact_text}, proofs.Members.{M
 use Rattle.cacache_keep.specs.{Compacting.{Bucket, CompactsBucket, CompactsEach, RewritesIf, is_loose}, Rewriting.{Rewrites, SyncsBucket, folder_of}}
 use Rattle.cacache_keep.proofs.{ApartSteps.{EachApart, moves_kept, name_still, synced_still}, ApartBuckets.{AllApart, Full, bucket_apart, full_apart}, FoundFolders.{FolderNamed}, MomentRuns.{Fixes, fixes_as, fixes_none, fixes_step, fixes_then, later, later_split}, MovedFiles.{moved}}
 
--- a file stands there
+-- a file is there
 abbrev pub Held : Moment → Names → Type 0
 Held w q = (bytes : List ℕ) × (look w.tree q ≡ Some (File bytes))
 
@@ -86,7 +86,7 @@ module _ (cache : List ℕ) (home : Names) (is : home_of cache ≡ Some home) (d
       let k = moves_kept w ((steps.SyncDir folder, answers.Done) ∷ []) q (File h.0) h.1 (tt, tt) in
       ((h.0, k.stands, synced_still w (later w ((steps.SyncDir folder, answers.Done) ∷ [])) q (File h.0) k h.2), sync_fixes d n w.fixed w.tree w.tree (steps.SyncDir folder) answers.Done (named, refl)))
 
-  -- a file that is synced where it stands is whole
+  -- a file that is synced in its place is whole
   abbrev SyncsHere : Moment → Moves → Type 0
   SyncsHere w moves = Held w q → HeldWhole (later w moves) q
 
@@ -132,7 +132,7 @@ module _ (cache : List ℕ) (home : Names) (is : home_of cache ≡ Some home) (d
 
   -- ---- buckets, one after another
 
-  -- a file that stands is there still; and it is settled if it was, or if its bucket is among these
+  -- a file that is there stays; and it is settled if it was, or if its bucket is among these
   abbrev pub SettlesThese : List (List ℕ) → Moment → Moves → Type 0
   SettlesThese paths w moves =
       StaysHeld q w moves

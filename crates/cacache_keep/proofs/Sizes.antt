@@ -33,7 +33,7 @@ tells_on : (cache : List ℕ) (told : List Sized) (u : Sized) (old mid new : Opt
 tells_on cache [] u old mid new h says = (new, subst (λ (log : Option (List LogItem)). TellsSize cache u.0 u.1 log new) h says, refl)
 tells_on cache (r ∷ told) u old mid new h says = (h.0, h.1, tells_on cache told u h.0 mid new h.2 says)
 
--- these were told of the first of the contents
+-- the first of the contents gave these sizes
 pub record ToldTo (cache : List ℕ) (seen : List (List Hash)) (unused : List Unused) (old new : Option (List LogItem)) : Type 0 where
   pub each : map (λ u. u.address) unused ≡ seen
   pub tells : TellsSizes cache (map sized_of unused) old new
@@ -70,7 +70,7 @@ lost_next : (cache : List ℕ) (rest : List (List Hash)) (log : Option (List Log
 lost_next cache [] log = (refl, refl)
 lost_next cache (i ∷ rest) log = (refl, inl refl)
 
--- memory ran out once one more was told
+-- memory ran out once one more gave its size
 pub lost_told : (cache : List ℕ) (addresses seen : List (List Hash)) (unused : List Unused) (u : Unused) (rest : List (List Hash)) (old mid new : Option (List LogItem)) → addresses ≡ seen ++ u.address ∷ rest → ToldTo cache seen unused old mid → TellsSize cache u.address u.bytes mid new → StopsTelling cache addresses OutOfMemory old new
 lost_told cache addresses seen unused u rest old mid new split so says =
     stops_behind cache addresses (seen ++ u.address ∷ []) rest (unused ++ u ∷ []) OutOfMemory old new new (split ∙ sym (append_assoc seen (u.address ∷ []) rest)) (one_told cache seen unused (unused ++ u ∷ []) u old mid new refl so says) (lost_next cache rest new)

@@ -10,7 +10,7 @@ use Rattle.cacache_table.specs.declared.reply.Reply.TheVariants as replies
 use Rattle.cacache_jobs.specs.Sites.{site_of}
 use Rattle.cacache_keep.specs.Calls.{AsksEach, IsFirstError, HasNoIndex, ListsOrAsks, ListsEntries, MadeCalls, SaysWhy, StopsReading, question_of}
 
--- ---- calls behind calls
+-- ---- calls after calls
 
 pub made_both : (site : Site) (calls more : List (Command × Reply)) (old mid new : Option (List LogItem)) → MadeCalls site calls old mid → MadeCalls site more mid new → MadeCalls site (calls ++ more) old new
 made_both site [] more old mid new made after = subst (λ (log : Option (List LogItem)). MadeCalls site more log new) made after
@@ -109,7 +109,7 @@ stops_base cache base before e old new same s = subst (λ (b : List ℕ). StopsR
 
 -- ---- results
 
--- what holds of an error, where something else does
+-- what holds of an error if something else does
 pub error_so : {X E : Type 0} {P Q : E → Type 0} (r : Result X E) → ((e : E) → P e → Q e) → IfErr r P → IfErr r Q
 error_so (Ok x) f h = h
 error_so (Err e) f h = f e h

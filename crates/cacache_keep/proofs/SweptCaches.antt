@@ -47,7 +47,7 @@ module _ (cache : List ℕ) (home : Names) (files bytes : ℕ) (strange : List (
     abbrev first : Moves → Moves
     first rest = (ReadDir (cache_folder cache), a) ∷ rest
 
-    -- no folder stands there
+    -- no folder is there
     none_swept : s.found ≡ [] → s.listed ≡ looked → (AreaStands t p (area_of around) → NoFolder t p) → Leaves
     none_swept none same apart =
         let gains = gains_join (Some old) looked (Some new) (first []) removals shows.gained (subst (λ (l : Option (List LogItem)). Gains l (Some new) removals) same s.removing) in

@@ -1,4 +1,4 @@
--- Reads behind collections and removals answer as they may without the collections.
+-- Reads after collections and removals answer as they may without the collections.
 use Rattle.std.proofs.Common.{◌≡◌, ◌⊎◌, inl, inr, ℕ, List, [], ◌∷◌, true, false, Option, None, Some, filter_map, refl, sym, ap, ◌∙◌}
 use Rattle.cacache_core.specs.PathNames.{Names, home_of}
 use Rattle.cacache_store.specs.declared.store.log.LogItem.{LogItem}

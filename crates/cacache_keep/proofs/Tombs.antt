@@ -46,7 +46,7 @@ got_one site look key led moment old mid new early is sure made ran =
       subst (λ (calls : List (Command × Reply)). MadeCalls site calls old new) (sym (one_added (leads_nowhere led) (looks_of key led) (tombstone key moment) is)) (made_both site (looks_of key led) (tombstone key moment ∷ []) old mid new made (new, ran, refl)),
     )
 
--- what is told of a key, by its fate
+-- whether a key was buried, by its fate
 pub buried_so : (fate : Fate) (spared : Bool) → spared ≡ not (is_buried fate) → spared ≡ false → is_buried fate ≡ true
 buried_so fate spared e f = by (is_buried fate) (sym e ∙ f)
   where

@@ -14,7 +14,7 @@ pub moves_rooted : (t : Tree) (moves : Moves) → Rooted t → Rooted (tree_on t
 moves_rooted t [] rooted = rooted
 moves_rooted t (m ∷ moves) rooted = moves_rooted (apply t m.0 Plain).1 moves (steps_keep_rooted t m.0 Plain rooted)
 
--- moves that a log gained; where a tree answers them, this is so of it and of the tree after them
+-- moves that a log gained; if a tree answers them, this is so of it and of the tree after them
 pub record Leads (P : Tree → Tree → Type 0) (old new : Option (List LogItem)) : Type 0 where
   pub moves : Moves
   pub gains : Gains old new moves
@@ -43,7 +43,7 @@ leads_then P Q R old mid new one two so = record {
 pub leads_as : (P Q : Tree → Tree → Type 0) (old new : Option (List LogItem)) → Leads P old new → ((t u : Tree) → Rooted t → P t u → Q t u) → Leads Q old new
 leads_as P Q old new one so = record { moves = one.moves; gains = one.gains; tells = λ t rooted a. so t (tree_on t one.moves) rooted (one.tells t rooted a) }
 
--- a step that failed, where that is so whichever fault it was, and where no step was made
+-- a step that failed, if that is so whichever fault it was, and if no step was made
 pub leads_failed : (P : Tree → Tree → Type 0) (step : PlainStep) (e : Error) (old new : Option (List LogItem)) → FailsAt step e old new
     → ((t : Tree) → P t t) → ((t : Tree) (fault : Fault) → Rooted t → answers.Failed fault ≡ (apply t step Plain).0 → P t (apply t step Plain).1) → Leads P old new
 leads_failed P step (IoError fault message) old new fails none so = leads_step P step (answers.Failed fault) old new fails (λ t rooted e. so t fault rooted e)

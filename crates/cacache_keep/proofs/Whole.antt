@@ -1,4 +1,4 @@
--- A verification behind a repair finds nothing damaged and nothing that dangles, and good keys stay.
+-- A verification after a repair finds nothing damaged and nothing that dangles, and good keys stay.
 use Rattle.std.proofs.{Common.{◌≡◌, inl, inr, ℕ, Bool, true, false, cond, List, [], ◌∷◌, None, Some, map, filter, refl, sym, ap, subst, ◌∙◌}, lemmas.List.Elements.{All-head}}
 use Rattle.std.specs.Prelude.{not}
 use Rattle.sha1.specs.Sha1.{sha1}

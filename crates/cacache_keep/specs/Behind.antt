@@ -1,4 +1,4 @@
--- Where a key leads behind a collection, while contents are exported and other keys are written.
+-- Where a key leads after a collection, while contents are exported and other keys are written.
 use Rattle.std.specs.Prelude.{◌≡◌, ◌⊎◌, ◌<◌, ◌^◌, ℕ, List, [], ◌∷◌, Option, None, Some, Result, Contains, IfSome, IsUtf8, filter_map}
 use Rattle.cacache_core.specs.{declared.{errors.Error.{Error}, integrity.digest.Hash.{Hash}}, Integrity.{IsIntegrity}, PathNames.{Names, home_of}}
 use Rattle.cacache_store.specs.declared.store.{log.LogItem.{LogItem}, plain.PlainTemp.{PlainTemp}}
@@ -18,7 +18,7 @@ pub record KeepsKeys (cache : List ℕ) (old new : List LogItem) : Type 0 where
   pub key : (key bytes : List ℕ) (i : List Hash)
       → HasKey cache key i bytes old → HasKey cache key i bytes new
 
--- so it is behind a collection
+-- so it is after a collection
 abbrev pub CollectionsKeepKeys : Type 0
 CollectionsKeepKeys =
     (site : Site) (home : Names) (kept : ℕ) (dropped : List (List Hash)) (old new : List LogItem)
@@ -96,7 +96,7 @@ pub record LeadsOn (cache key : List ℕ) (i : List Hash) (bytes : List ℕ) (te
   pub has : HasKey cache key i held log
   pub which : (held ≡ bytes) ⊎ Contains texts held
 
--- a cache is left, in which the key leads to the entry that it led to; and where it led to bytes, to
+-- a cache is left, in which the key leads to the entry that it led to; and if it led to bytes, to
 -- them or to one of the texts
 pub record KeepsKey (cache key : List ℕ) (texts : List (List ℕ)) (old new : List LogItem)
     : Type 0 where
@@ -105,8 +105,8 @@ pub record KeepsKey (cache key : List ℕ) (texts : List (List ℕ)) (old new : 
   pub leads : (bytes : List ℕ) (i : List Hash)
       → HasKey cache key i bytes old → LeadsOn cache key i bytes texts new
 
--- so it is of each key up to its next insertion: collections may come, and in between looks, exports,
--- and writes of other keys
+-- so it is for each key up to its next insertion: collections may come, and in between looks,
+-- exports, and writes of other keys
 abbrev pub LaterKeysStay : Type 0
 LaterKeysStay =
     (site : Site) (home : Names) (key : List ℕ) (events : List Event) (old new : List LogItem)

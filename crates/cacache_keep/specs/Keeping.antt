@@ -7,7 +7,7 @@ use Rattle.cacache_table.specs.State.{Site}
 use Rattle.cacache_walks.specs.Listing.{IsByHash, ListsContents, StopsListing}
 use Rattle.cacache_keep.specs.{declared.checking.OddLines.{OddLines}, Checking.{Checks, StopsChecking}, Calls.{AreUnused, AsksEach, ListsEntries, MadeCalls, StopsReading, StopsRemoving, removal}, Reading.{ReadsEach, StopsEach}}
 
--- The contents are listed, each is read in pieces, the index is listed, and of each entry is asked
+-- The contents are listed, each is read in pieces, the index is listed, and each entry is asked
 -- whether its content is there.
 pub record VerifiesCache
     (site : Site) (good : ℕ) (damaged : List (List Hash)) (dangling : List Found)

@@ -44,7 +44,7 @@ CollectionsLeave =
     → Collects site kept dropped (Some old) (Some new)
     → LeavesLive site home (tree_of old) (tree_of new) kept dropped
 
--- where links lead out of the cache, it leaves a tree that lacks idle contents alone
+-- if links lead out of the cache, it leaves a tree that lacks only idle contents
 abbrev pub CollectionsLackIdle : Type 0
 CollectionsLackIdle =
     (site : Site) (home : Names) (kept : ℕ) (dropped : List (List Hash)) (old new : List LogItem)
@@ -70,7 +70,7 @@ PlansLeave =
     → home_of site.cache ≡ Some home → IsLog new
     → PlansCache site kept unused (Some old) (Some new) → LeavesTree old new
 
--- what it finds unused is what a collection drops that is made on the same tree
+-- what it finds unused is what a collection on the same tree drops
 abbrev pub PlansForetell : Type 0
 PlansForetell =
     (site : Site) (home : Names) (kept others : ℕ) (unused : List Sized)
@@ -108,7 +108,7 @@ pub record MendsCache
   pub keys : (key : List ℕ) → (IsKeyOf dangling key → ⊥)
       → found_in home new key ≡ found_in home t key
 
--- so does a repair, where each thing in the cache's folder lies in its place
+-- so does a repair, if each thing in the cache's folder lies in its place
 abbrev pub RepairsMend : Type 0
 RepairsMend =
     (site : Site) (home : Names) (damaged : List (List Hash)) (dangling : List Found)
@@ -119,8 +119,8 @@ RepairsMend =
 
 -- ---- a compaction
 
--- all is as it was, but that each key's bucket has its compacted bytes, and the folder of temporary
--- files may be new
+-- all is as it was, except that each key's bucket has its compacted bytes, and the folder of
+-- temporary files may be new
 pub record LeavesCompacted (durable : Bool) (home : Names) (t new : Tree) : Type 0 where
   pub tree : Compacted durable home t new
   pub buckets : (digest bytes : List ℕ) → IsKeyDigest digest
@@ -149,8 +149,8 @@ MayCompact cache old new =
     ((durable : Bool) × (count bytes : ℕ) × CompactsCache durable cache count bytes old new)
     ⊎ ((durable : Bool) × (e : Error) × StopsCompacting durable cache e old new)
 
--- then each key leads where it led, and each address has the content that it had; and where each
--- thing lies in its place, lookups, reads by key and listings answer as before
+-- then each key leads where it led, and each address has the content that it had; and if each thing
+-- lies in its place, lookups, reads by key and listings answer as before
 abbrev pub CompactionsAreUnseen : Type 0
 CompactionsAreUnseen =
     (site : Site) (home : Names) (old new : List LogItem)
@@ -158,9 +158,9 @@ CompactionsAreUnseen =
     → KeepsFound home (tree_of old) (tree_of new)
     × (Housed (Some home) (tree_of old) → ReadsAsBefore site (tree_of old) (tree_of new))
 
--- ---- a verification behind a repair
+-- ---- a verification after a repair
 
--- where each thing lies in its place, a verification of what a repair left finds no damaged content
+-- if each thing lies in its place, a verification of what a repair left finds no damaged content
 -- and no entry whose content isn't there
 abbrev pub RepairsVerify : Type 0
 RepairsVerify =
@@ -179,7 +179,7 @@ pub record LeadsToGood (home : Names) (t : Tree) (key : List ℕ) (found : Found
   pub address : address_of found.integrity ≡ Some hash
   pub good : is_good home t hash ≡ true
 
--- so it does behind a repair, where each thing lies in its place, and the content is what it was
+-- so it does after a repair, if each thing lies in its place, and the content is what it was
 abbrev pub RepairsKeepGood : Type 0
 RepairsKeepGood =
     (site : Site) (home : Names) (damaged : List (List Hash)) (hidden : List Found)
@@ -190,7 +190,7 @@ RepairsKeepGood =
     → LeadsToGood home (tree_of repaired) key found
     × (content_in home (tree_of repaired) led.hash ≡ content_in home (tree_of old) led.hash)
 
--- ---- calls behind a collection
+-- ---- calls after a collection
 
 -- the log gained calls that only look, one after another: each its cache, its command, its reply
 abbrev pub Looked : List (List ℕ × Command × Reply) → List LogItem → List LogItem → Type 0
@@ -205,7 +205,7 @@ LooksStay =
     → Looked calls old new → LeavesTree old new
 
 -- the log gained these removals from the cache, one after another, none of which broke off; before,
--- between and behind them it went on to lead to the same tree
+-- between and after them it went on to lead to the same tree
 abbrev pub Cleaned : List ℕ → List Command → List LogItem → List LogItem → Type 0
 Cleaned cache [] old new = LeavesTree old new
 Cleaned cache (removal ∷ removals) old new =
@@ -223,7 +223,7 @@ Tidied site (Some removal ∷ events) old new =
     (found : List LogItem) × LeavesTree old found
     × (left : List LogItem) × Removed site.cache removal found left × Tidied site events left new
 
--- where links lead out of the cache, let the same removals come with a collection before them, and
+-- if links lead out of the cache, let the same removals come with a collection before them, and
 -- perhaps more between them, and without any: each later lookup, verified read by key and listing
 -- answers with them what it may answer without them
 abbrev pub LaterReadsStay : Type 0

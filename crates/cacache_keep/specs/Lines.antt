@@ -21,7 +21,7 @@ abbrev pub comes_again : Line → List Line → Bool
 comes_again (text, None) later = false
 comes_again (text, Some d) later = list_any (bytes_eq d.0) (decided later)
 
--- the odd lines, and of each key the last that decides it
+-- the odd lines, and each key's last line that decides it
 abbrev pub last_lines : List Line → List Line
 last_lines [] = []
 last_lines (l ∷ ls) = if comes_again l ls then last_lines ls else l ∷ last_lines ls

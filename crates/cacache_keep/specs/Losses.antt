@@ -13,7 +13,7 @@ use Rattle.cacache_loss.specs.{CalmMoves.{AreCalm}, Fixing.{Fixed}, Loss.{Loss},
 use Rattle.cacache_keep_laws.specs.{Compacting.{compact_text}, Mending.{found_in}}
 use Rattle.cacache_keep.specs.Compacting.{CompactsCache, StopsCompacting}
 
--- the moment after these moves, from a tree on of which so much was fixed
+-- the moment after these moves, from a tree that had so much fixed
 abbrev pub moment_after : Tree → Fixed → Moves → Moment
 moment_after t fixed moves = after (record { tree = t; fixed = fixed }) (plain_moves moves)
 
@@ -33,7 +33,7 @@ IsFixedAt fixed home names =
     ((fixed.files (home ++ names)).whole ≡ true) × (fixed.names (home ++ names) ≡ None)
     × WayFixed fixed home names
 
--- so it is of each bucket
+-- so it is for each bucket
 abbrev pub BucketsFixed : Names → Tree → Fixed → Type 0
 BucketsFixed home t fixed =
     (digest bytes : List ℕ) → IsKeyDigest digest
@@ -51,7 +51,7 @@ pub record KeepsLean (home : Names) (t left : Tree) : Type 0 where
   pub keys : (key : List ℕ) (found : Found)
       → found_in home t key ≡ Some found → found_in home left key ≡ Some found
 
--- after a durable compaction that ended well all buckets are fixed, whatever was before
+-- after a durable compaction that succeeded all buckets are fixed, whatever was before
 abbrev pub CompactionsFix : Type 0
 CompactionsFix =
     (cache : List ℕ) (home : Names) (count bytes : ℕ) (moves : Moves) (fixed : Fixed)
@@ -106,8 +106,8 @@ pub record BeginsLean (home : Names) (t left : Tree) : Type 0 where
       → FindsOrLater key (latest key (entries_of bytes)) (entries_of (compact_text true bytes))
       (look left (home ++ bucket_names_of (sha1 key)))
 
--- so it is after each later loss, if each thing lies in its place, as where only calls wrote, and
--- later steps of calls remove, link and export nothing; they may append to buckets
+-- so it is after each later loss, if each thing lies in its place, as it does if only calls wrote,
+-- and later steps of calls remove, link and export nothing; they may append to buckets
 abbrev pub CompactionsGrow : Type 0
 CompactionsGrow =
     (cache : List ℕ) (home : Names) (count bytes : ℕ) (moves : Moves) (more : List Move)

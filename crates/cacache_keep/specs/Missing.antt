@@ -8,7 +8,7 @@ use Rattle.cacache_keep.specs.{declared.missing.Shown.{Shown}, Calls.{has_addres
 
 -- ---- a look at the contents
 
--- the contents that a cache shows, and the paths of what lies among them and is none
+-- the contents that a cache shows, and the paths of whatever else lies among them
 abbrev pub Look : Type 0
 Look = List Hash × List (List ℕ)
 

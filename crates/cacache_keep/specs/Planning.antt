@@ -32,7 +32,7 @@ TellsSizes cache (u ∷ told) old new =
     (next : Option (List LogItem)) × TellsSize cache u.0 u.1 old next
     × TellsSizes cache told next new
 
--- the contents that no entry has are chosen as by a collection, and each is asked for its size
+-- the contents that no entry has are chosen as a collection does, and each is asked for its size
 abbrev pub PlansCache :
     Site → ℕ → List Sized → Option (List LogItem) → Option (List LogItem) → Type 0
 PlansCache site kept unused old new =
@@ -41,19 +41,19 @@ PlansCache site kept unused old new =
 
 -- ---- errors
 
--- the content didn't tell its size, though something is there
+-- the content didn't give its size, though something is there
 abbrev pub HidesSize :
     List ℕ → List Hash → Error → Option (List LogItem) → Option (List LogItem) → Type 0
 HidesSize cache i e old new =
     (is_gone e ≡ false) × FailsAt (steps.Size (content_path cache i)) e old new
 
--- the first of the contents doesn't tell its size; or there is none, and memory ran out
+-- the first of the contents doesn't give its size; or there is none, and memory ran out
 abbrev pub HidesFirst :
     List ℕ → List (List Hash) → Error → Option (List LogItem) → Option (List LogItem) → Type 0
 HidesFirst cache [] e old new = (e ≡ OutOfMemory) × (new ≡ old)
 HidesFirst cache (i ∷ rest) e old new = HidesSize cache i e old new
 
--- some of these contents told their sizes, and the error ended the question for the next
+-- some of these contents gave their sizes, and the error ended the question for the next
 pub record StopsTelling
     (cache : List ℕ) (addresses : List (List Hash)) (e : Error)
     (old new : Option (List LogItem)) : Type 0 where

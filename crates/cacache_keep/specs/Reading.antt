@@ -29,8 +29,8 @@ GaveAll file bytes old new =
     (left last : PlainFile) × (mid : Option (List LogItem)) × Gave file bytes left old mid
     × Does (steps.Read left piece) (answers.Got last []) mid new
 
--- so it gave all, and whether these bytes meet the address, and how many they are; 2^64 - 1 where
--- that are more
+-- so it gave all, and whether these bytes meet the address, and how many they are; 2^64 - 1 if
+-- there are more
 abbrev pub JudgesBytes : List Hash → PlainFile → Bool → ℕ
     → Option (List LogItem) → Option (List LogItem) → Type 0
 JudgesBytes i file good size old new =
@@ -76,7 +76,7 @@ module _ (cache : List ℕ) (i : List Hash) where
       (file : PlainFile) × (mid : Option (List LogItem)) × Opens file old mid
       × JudgesBytes i file good size mid new
 
-  -- the content is good exactly where its bytes meet the address, and they are so many; one that is
+  -- the content is good exactly if its bytes meet the address, and they are so many; one that is
   -- gone isn't good, and has none
   abbrev pub SaysGood : Bool → ℕ → Option (List LogItem) → Option (List LogItem) → Type 0
   SaysGood good size old new =
@@ -95,7 +95,7 @@ module _ (cache : List ℕ) (i : List Hash) where
 abbrev pub Judged : Type 0
 Judged = List Hash × Bool × ℕ
 
--- how many bytes the good ones of these gave; 2^64 - 1 where that are more
+-- how many bytes the good ones of these gave; 2^64 - 1 if there are more
 abbrev pub good_bytes_of : List Judged → ℕ
 good_bytes_of reads = total (map (λ r. r.2) (filter (λ r. r.1) reads))
 
@@ -130,7 +130,7 @@ WeighsEach cache addresses good good_bytes damaged damaged_bytes old new =
     (it : ReadsEach cache addresses good damaged old new)
     × (good_bytes ≡ good_bytes_of it.reads) × (damaged_bytes ≡ damaged_bytes_of it.reads)
 
--- the same, where the good ones aren't counted
+-- the same, if the good ones aren't counted
 abbrev pub WeighsOthers : List ℕ → List (List Hash) → ℕ → List (List Hash) → ℕ
     → Option (List LogItem) → Option (List LogItem) → Type 0
 WeighsOthers cache addresses good_bytes damaged damaged_bytes old new =

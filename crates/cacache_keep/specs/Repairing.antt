@@ -101,7 +101,7 @@ BuriesAll site (f ∷ entries) buried old new =
 -- ---- a repair
 
 -- The contents are listed, and each is read; the damaged ones are removed, one after another. Then
--- the index is listed, of each entry is asked whether its content is there, and the keys of those
+-- the index is listed, each entry is asked whether its content is there, and the keys of those
 -- whose content is missing get tombstones, unless they lead elsewhere.
 pub record RepairsFrom
     (site : Site) (damaged : List (List Hash)) (buried : List Found)

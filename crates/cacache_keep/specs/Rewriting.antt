@@ -29,9 +29,9 @@ MakesTemp cache file old new =
     × Does (steps.MakeDirs (temp_folder cache)) answers.Done old made
     × Does (steps.CreateTemp (temp_path cache number)) (answers.Temp file) made new
 
--- ---- syncs, where the rewrite is durable
+-- ---- syncs, if the rewrite is durable
 
--- the folder that holds what stands at the path
+-- the folder that holds what is at the path
 abbrev pub folder_of : List ℕ → List ℕ
 folder_of path = unwrap_or (path_parent path) path
 
@@ -55,8 +55,8 @@ SyncsBucket true path old new =
     × SyncsFolder true path synced new
 SyncsBucket false path old new = new ≡ old
 
--- the bytes were written to a temporary file, and that was moved to the path; where it is durable,
--- the file was synced before the move, and the path's folder after it
+-- the bytes were written to a temporary file, and that was moved to the path; if it is durable, the
+-- file was synced before the move, and the path's folder after it
 pub record Rewrites
     (durable : Bool) (cache path bytes : List ℕ) (old new : Option (List LogItem)) : Type 0 where
   pub file : PlainTemp
@@ -96,7 +96,7 @@ StopsMaking cache e old new =
     × Does (steps.MakeDirs (temp_folder cache)) answers.Done old made
     × FailsAt (steps.CreateTemp (temp_path cache number)) e made new)
 
--- it ended the sync of the temporary file, which is made only where that is asked for
+-- it ended the sync of the temporary file, which is made only if that is asked for
 abbrev pub StopsSyncing :
     Bool → PlainTemp → Error → Option (List LogItem) → Option (List LogItem) → Type 0
 StopsSyncing true file e old new = FailsAt (steps.SyncTemp file) e old new
@@ -128,7 +128,7 @@ StopsMoving durable full path e old new =
     ⊎ ((moved : Option (List LogItem)) × Does (steps.Persist full path) answers.Done synced moved
     × StopsSecuring durable path e moved new)))
 
--- the error ended the making, a write, or what comes behind the writes
+-- the error ended the making, a write, or what comes after the writes
 abbrev pub StopsRewriting : Bool → List ℕ → List ℕ → List ℕ → Error
     → Option (List LogItem) → Option (List LogItem) → Type 0
 StopsRewriting durable cache path bytes e old new =

@@ -17,12 +17,12 @@ abbrev pub ListsFolder :
     List ℕ → List Name → Option (List LogItem) → Option (List LogItem) → Type 0
 ListsFolder folder names old new = (t : PlainAnswer) × AnswerShows t names folder old new
 
--- the log gained the removals of these files of the folder, each with the size that it told before
+-- the log gained the removals of these files of the folder, each with the size that it gave before
 abbrev pub RemovesSized :
     List ℕ → List (Name × ℕ) → Option (List LogItem) → Option (List LogItem) → Type 0
 RemovesSized folder removed old new = Gains old new (sized_removals folder removed)
 
--- the log gained the removal of the file at the path, and this is the size that it told before
+-- the log gained the removal of the file at the path, and this is the size that it gave before
 abbrev pub RemovesFile : List ℕ → ℕ → Option (List LogItem) → Option (List LogItem) → Type 0
 RemovesFile path size old new =
     Gains old new
@@ -36,12 +36,12 @@ RemovesFiles folder files bytes old new =
     × (map (λ r. r.0) removed ≡ files) × (bytes ≡ total (map (λ r. r.1) removed))
     × RemovesSized folder removed old new
 
--- the paths of what is none of the temporary files among these names of the folder
+-- the paths of everything but the temporary files among these names of the folder
 abbrev pub others_in : List ℕ → List Name → List (List ℕ)
 others_in folder names = map (λ n. join folder n.name) (filter (λ n. not (is_temporary n)) names)
 
--- Where a folder of temporary files stands, the log gained its listing, which tells these files and the paths of what else
--- lies there. Where something else stands, that is strange itself.
+-- If a folder of temporary files is there, the log gained its listing, which gives these files and the paths of what else
+-- lies there. If something else is there, that is strange itself.
 abbrev pub ListsArea : Option Kind → List ℕ → List Name → List (List ℕ)
     → Option (List LogItem) → Option (List LogItem) → Type 0
 ListsArea (Some kinds.Folder) folder files strange old new =
@@ -55,7 +55,8 @@ ListsArea (Some kind) folder files strange old new =
 abbrev pub swept_folder : List ℕ → List ℕ
 swept_folder cache = temp_area_in (cache_folder cache)
 
--- the log gained a listing of the cache folder, and of the folder of temporary files if that one told it as a folder
+-- the log gained a listing of the cache folder, and of the folder of temporary files if the first named it as a
+-- folder
 abbrev pub FindsFiles : List ℕ → List Name → List (List ℕ)
     → Option (List LogItem) → Option (List LogItem) → Type 0
 FindsFiles cache files strange old new =
@@ -63,7 +64,8 @@ FindsFiles cache files strange old new =
     × ListsFolder (cache_folder cache) around old looked
     × ListsArea (area_of around) (swept_folder cache) files strange looked new
 
--- The temporary files are found. Each is asked for its size and removed, in turn; the paths of what else lies there are told.
+-- The temporary files are found. Each is asked for its size and removed, in turn; the paths of what else lies there are
+-- given.
 pub record SweepsCache
     (cache : List ℕ) (files bytes : ℕ) (strange : List (List ℕ))
     (old new : Option (List LogItem)) : Type 0 where
@@ -78,7 +80,7 @@ pub record SweepsCache
 
 -- ---- errors
 
--- the file at the path didn't tell its size, or wasn't removed then
+-- the file at the path didn't give its size, or wasn't removed then
 abbrev pub StopsRemoval : List ℕ → Error → Option (List LogItem) → Option (List LogItem) → Type 0
 StopsRemoval path e old new =
     FailsAt (steps.Size path) e old new
@@ -107,13 +109,13 @@ pub record StopsSized
 abbrev pub StopsFolder : List ℕ → Error → Option (List LogItem) → Option (List LogItem) → Type 0
 StopsFolder folder e old new = (is_gone e ≡ false) × FailsAt (steps.ReadDir folder) e old new
 
--- so it ended the one of the folder of temporary files, or memory ran out behind it
+-- so it ended the one of the folder of temporary files, or memory ran out after it
 abbrev pub StopsArea : List ℕ → Error → Option (List LogItem) → Option (List LogItem) → Type 0
 StopsArea folder e old new =
     StopsFolder folder e old new
     ⊎ ((e ≡ OutOfMemory) × (names : List Name) × ListsFolder folder names old new)
 
--- the error ended the listing of the cache folder, or what came behind it
+-- the error ended the listing of the cache folder, or what came after it
 abbrev pub StopsFinding : List ℕ → Error → Option (List LogItem) → Option (List LogItem) → Type 0
 StopsFinding cache e old new =
     StopsFolder (cache_folder cache) e old new

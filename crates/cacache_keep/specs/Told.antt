@@ -1,11 +1,11 @@
--- What the calls' values tell of their logs.
+-- What the calls' values say about their logs.
 use Rattle.std.specs.Prelude.{◌≡◌, ℕ, List, Option, map, string_bytes}
 use Rattle.cacache_store.specs.declared.store.log.LogItem.{LogItem}
 use Rattle.cacache_entry.specs.{Latest.{Found}, View.{found_view}, declared.metadata.Metadata.{Metadata}}
 use Rattle.cacache_table.specs.State.{Site}
 use Rattle.cacache_keep.specs.{declared.{checking.OddLines.{OddLines}, repairing.Repaired.{Repaired}, sweeping.Swept.{Swept}, verifying.Verdict.{Verdict}}, Calls.{AsksEach}, Keeping.{VerifiesCache}, Reading.{Judged, damaged_bytes_of, good_bytes_of}, Missing.{Look}, Repairing.{BuriesAll, BuriesEach, RepairsFrom, RepairsWith}, Sweeping.{SweepsCache}}
 
--- these contents were read, and the verdict tells the bytes of the good ones and of the damaged ones
+-- these contents were read, and the verdict gives the bytes of the good ones and of the damaged ones
 abbrev pub TellsBytes : Verdict → List Judged → Type 0
 TellsBytes v reads =
     (v.good_bytes ≡ good_bytes_of reads) × (v.damaged_bytes ≡ damaged_bytes_of reads)
@@ -35,7 +35,7 @@ abbrev pub BuriesAllAs : Site → List Metadata → List Metadata
 BuriesAllAs site entries buried old new =
     BuriesAll site (map found_view entries) (map found_view buried) old new
 
--- the log gained a repair without a check for odd lines, and this tells what it did
+-- the log gained a repair without a check for odd lines, and this says what it did
 abbrev pub RepairsFromAs :
     Site → Repaired → Option (List LogItem) → Option (List LogItem) → Type 0
 RepairsFromAs site r old new =
@@ -47,7 +47,7 @@ abbrev pub RepairsAs :
 RepairsAs odd site r old new =
     RepairsWith odd site r.damaged.items (map found_view r.dangling.items) old new
 
--- the log gained a sweep of the cache, and this tells what it did
+-- the log gained a sweep of the cache, and this says what it did
 abbrev pub SweepsAs :
     List ℕ → Swept → Option (List LogItem) → Option (List LogItem) → Type 0
 SweepsAs cache s old new =

@@ -12,7 +12,7 @@ use cacache_store::env::{Clock, Env, Names};
 use cacache_store::store::Store;
 use cacache_table::Found;
 
-/// Those of the entries whose content isn't there.
+/// The entries among these whose content isn't there.
 pub(crate) fn dangling_of<S: Store, C: Clock, N: Names>(
     env: &mut Env<S, C, N>,
     cache: &str,

@@ -23,7 +23,7 @@ fn are_hex_digits(bytes: &[u8]) -> bool
     true
 }
 
-/// Whether what stands in a folder of the index is a bucket or, above the last folders, a folder that leads to buckets.
+/// Whether what is in a folder of the index is a bucket or, above the last folders, a folder that leads to buckets.
 fn belongs(name: &Name, last: bool) -> bool
     ensures { result ≡ belongs_of last name.now }
 {

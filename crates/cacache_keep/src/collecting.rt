@@ -21,7 +21,7 @@ pub struct Collected {
     pub dropped: Vec<Integrity>,
 }
 
-/// Removes each content of a cache that is the address of no entry, without a look at odd lines.
+/// Removes each content of a cache that is the address of no entry, without checking for odd lines.
 fn collect_from<S: Store, C: Clock, N: Names>(
     env: &mut Env<S, C, N>,
     cache: &str,
@@ -39,10 +39,11 @@ fn collect_from<S: Store, C: Clock, N: Names>(
     Ok(Collected { kept, dropped })
 }
 
-/// Collects a cache as `collect` does, with the choice what is done about odd lines in its index. With `OddLines::Ignore`
-/// a content that only such a line names is removed, though another reader may need it.
+/// Collects a cache as `collect` does, with the choice of what to do about odd lines in its index. With
+/// `OddLines::Ignore` a content that only such a line names is removed, though another reader may need it.
 ///
-/// Errors are those of `collect`. With `OddLines::Ignore` the buckets aren't checked, and those of that check don't come.
+/// Errors are those of `collect`. With `OddLines::Ignore` the buckets aren't checked, so the errors of that check
+/// don't occur.
 pub fn collect_with<S: Store, C: Clock, N: Names>(
     env: &mut Env<S, C, N>,
     cache: &str,
@@ -60,21 +61,20 @@ pub fn collect_with<S: Store, C: Clock, N: Names>(
     collect_from(env, cache)
 }
 
-/// Removes each content of a cache that is the address of no entry. Of one that is a link, the link is
-/// removed and its target stays. What lies among the contents and is none stays.
+/// Removes each content of a cache that is the address of no entry. If one is a link, the link is removed and its
+/// target stays. Whatever else lies among the contents stays.
 ///
-/// A folder of the index that isn't there has no items, so every content is removed then; a link in
-/// its place that leads to nothing is an `IoError`. Collect a cache while nobody writes to it: a
-/// content is stored before its entry. It asks no content for its size: `plan`, called before it, tells the bytes of
-/// each that it will remove.
+/// A folder of the index that isn't there has no items, so every content is removed then; a link in its place that
+/// leads to nothing is an `IoError`. Collect a cache while nobody writes to it: a content is stored before its entry.
+/// It asks no content for its size: `plan`, called before it, gives the bytes of each that it will remove.
 ///
 /// A line of the index with a right digest that this crate can't read is odd: another reader may read it, and the content
 /// that it names. So a cache with such a line isn't collected: the buckets are read before all else, and the call ends
 /// with an `IoError` of `Unsupported`, which names the bucket. `collect_with` can go on.
 ///
 /// Errors are that one, `IoError` if a folder of the index couldn't be listed or a bucket couldn't be read, those of
-/// `content::read::list`, and the first error among the items of the index, all of them before anything is removed. A
-/// removal that failed ends the call, and those before it stay done. `OutOfMemory` may come at any time.
+/// `content::read::list`, and the first error among the items of the index. They all come before anything is removed.
+/// A removal that failed ends the call, and those before it stay done. `OutOfMemory` may come at any time.
 pub fn collect<S: Store, C: Clock, N: Names>(
     env: &mut Env<S, C, N>,
     cache: &str,

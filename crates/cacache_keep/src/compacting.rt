@@ -21,7 +21,7 @@ pub struct Compacted {
     pub bytes: u64,
 }
 
-/// What a compaction did that came to one bucket more.
+/// What a compaction did once it came to one bucket more.
 fn and_one(done: Compacted, saving: Option<u64>) -> Compacted
     ensures buckets { result.buckets
         ≡ min (done.buckets + length (option_to_list saving)) (2 ^ 64 - 1) }
@@ -81,11 +81,11 @@ fn compact_all<S: Store, C: Clock, N: Names>(
     Ok(done)
 }
 
-/// Writes each bucket of a cache's index anew, without lines that nobody needs. A line stands between line feeds and
+/// Writes each bucket of a cache's index anew, without lines that nobody needs. A line lies between line feeds and
 /// begins with the right digest of its text. These lines stay, in their order, byte for byte:
 ///
 /// - each line that this crate can't read, such as an entry with `0.5` in its metadata: another reader may read it
-/// - of each key the last line that this crate can read, if it is an entry
+/// - each key's last line that this crate can read, if it is an entry
 /// - that line also if it is a tombstone, and a line that this crate can't read comes before it
 ///
 /// All else goes. A bucket's last line feed stays, which protects a durable line. Lookups and listings answer as
@@ -133,10 +133,10 @@ impl CompactOpts {
         CompactOpts { durable: false }
     }
 
-    /// With the choice whether what a compaction leaves is to outlast a loss of power. A durable one gives each bucket
-    /// a last line feed. It syncs a bucket's new bytes before they are moved over it, and its folder after that. It
-    /// syncs a bucket that stays as it is, too, and its folder. At the end it syncs the folders above those, once
-    /// each: the ones in the index, the index and the cache.
+    /// With the choice of whether what a compaction leaves is to outlast a loss of power. A durable one gives each
+    /// bucket a last line feed. It syncs a bucket's new bytes before they are moved over it, and its folder after
+    /// that. It also syncs a bucket that stays as it is, and its folder. At the end it syncs the folders above those,
+    /// once each: the ones in the index, the index and the cache.
     pub fn durable(self, yes: bool) -> CompactOpts
         ensures { result.durable ≡ yes }
     {

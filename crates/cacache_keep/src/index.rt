@@ -42,7 +42,7 @@ fn has_no_index(items: &[std::result::Result<Found, Error>]) -> bool
     }
 }
 
-/// The items, if each is an entry; the first that is an error else.
+/// The items, if each is an entry; otherwise the first that is an error.
 fn entries_of(alloc: Global, items: Vec<std::result::Result<Found, Error>>) -> Result<Vec<Found>>
     ensures ok { IfOk result (λ entries. items.items ≡ map Ok entries.items) }
     ensures err { IfErr result (λ e. (e ≡ OutOfMemory) ⊎ IsFirstError items.items e) }
@@ -54,7 +54,7 @@ fn entries_of(alloc: Global, items: Vec<std::result::Result<Found, Error>>) -> R
     Ok(entries)
 }
 
-/// The entries of all keys. Where the folder of the index isn't there, there are none.
+/// The entries of all keys. If the folder of the index isn't there, there are none.
 pub(crate) fn entries<S: Store, C, N>(env: &mut Env<S, C, N>, cache: &str) -> Result<Vec<Found>>
     ensures lists { IfOk result (λ entries. ListsEntries (site_of cache.now env.old.base 0)
         entries.items (S.log env.old.store) (S.log env.new.store)) }

@@ -7,18 +7,18 @@ ghost use Rattle.cacache_keep.specs.Losses.{CompactionsFix, CompactionsGrow, Com
 
 use cacache_memory::MemStore;
 
-/// On a store in memory that nobody else writes to meanwhile, whatever was planted in the cache
-/// before: a listing lists what the cache holds. A verification counts the contents whose bytes meet
-/// their address, and names the others. A collection leaves the contents that an entry has, a plan
-/// tells which it drops, and a second one drops nothing. A sweep leaves all but the temporary files. A repair leaves the good
-/// contents and the keys that lead to one, where nothing strange lies in the cache's folder. Where also each
-/// entry lies in its key's bucket, a verification behind it finds no damaged content and no entry without one. There
-/// a sweep and a repair leave each thing in its place, and each key that led to a good content leads to it.
+/// On a store in memory that nobody else writes to meanwhile, whatever was planted in the cache before: a listing
+/// lists what the cache holds. A verification counts the contents whose bytes meet their address, and names the
+/// others. A collection leaves the contents that an entry has, a plan says which it drops, and a second one drops
+/// nothing. A sweep leaves all but the temporary files. A repair leaves the good contents and the keys that lead to
+/// one, if nothing strange lies in the cache's folder. If each entry also lies in its key's bucket, a verification
+/// after it finds no damaged content and no entry without one. There a sweep and a repair leave each thing in its
+/// place, and each key that led to a good content leads to it.
 ///
-/// A compaction leaves all but buckets: each key's has its compacted bytes then. The folder of temporary
-/// files may be new. Where an error ends it, each bucket has its old bytes or its compacted ones, and temporary files may be left.
-/// Either way each key leads where it led, and each address has the content that it had. Where each thing lies
-/// in its place, lookups, reads by key and listings answer what they might have before.
+/// A compaction leaves all but buckets: each key's has its compacted bytes then. The folder of temporary files may be
+/// new. If an error ends it, each bucket has its old bytes or its compacted ones, and temporary files may be left.
+/// Either way each key leads where it led, and each address has the content that it had. If each thing lies in its
+/// place, lookups, reads by key and listings answer what they might have before.
 ///
 /// After a durable compaction that answered Ok, each bucket's bytes are fixed, its name, and those of its folders below
 /// the cache's, whatever was fixed before. So a loss of power then leaves exactly the compacted bytes, and each key that
@@ -31,18 +31,17 @@ use cacache_memory::MemStore;
 /// If links lead out of the cache, lookups, reads by key and listings answer up to the next insertion as they
 /// might have without the collection: calls that look may come in between, and whatever else leaves the tree, removals that are
 /// made in both cases, and more collections. In a cache that only calls wrote to links lead out, by `links` of
-/// `cacache_keep_laws::collect_laws`. Step by step this goes by `lacks` and by
-/// `cacache_keep_laws::idle_laws`.
+/// `cacache_keep_laws::collect_laws`. Step by step this follows from `lacks` and from `cacache_keep_laws::idle_laws`.
 ///
-/// In a cache that only calls wrote to, a collection leaves such a cache, in which each key leads to the entry that it led
-/// to, and to the same bytes. So it is of a key behind collections, up to its next insertion, while contents are exported,
-/// other keys are written, inserted and removed, and writers of other keys are opened, committed and given up: under its
-/// integrity lie its bytes, or one of the texts that were written in between, if it meets the integrity too.
+/// In a cache that only calls wrote to, a collection leaves such a cache, in which each key leads to the entry that
+/// it led to, and to the same bytes. This holds for a key after collections, up to its next insertion, while contents
+/// are exported, other keys are written, inserted and removed, and writers of other keys are opened, committed and
+/// given up: under its integrity lie its bytes, or one of the texts that were written in between, if it meets the
+/// integrity too.
 ///
-/// What the log gained is said by the clauses of `list` (`lists`, `by_hash`), `verify` (`verifies`),
-/// `collect` (`collects`), `plan` (`plans`), `sweep` (`sweeps`), `repair` (`repairs`) and `compact`
-/// (`compacts`, `stops`). Of the store that it is handed it says that its log is a disk's, which
-/// the laws ask of the log behind a call.
+/// What the log gained is said by the clauses of `list` (`lists`, `by_hash`), `verify` (`verifies`), `collect`
+/// (`collects`), `plan` (`plans`), `sweep` (`sweeps`), `repair` (`repairs`) and `compact` (`compacts`, `stops`). This
+/// function says that the log of the store that it gets is a disk's, which the laws ask of the log after a call.
 pub fn keep_laws(store: &MemStore)
     ensures logged { IsLog store.now }
     ensures lists { ListsHold }

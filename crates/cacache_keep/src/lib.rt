@@ -1,4 +1,4 @@
-//! What of a cache is damaged or missing, and the removal of contents that no entry has.
+//! What is damaged or missing in a cache, and the removal of contents that no entry has.
 #![tactic(auto)]
 
 mod asking;

@@ -168,7 +168,7 @@ fn note<'a>(
     Ok(())
 }
 
-/// The odd lines, and of each key the last line that decides it, from the last to the first.
+/// The odd lines, and each key's last line that decides it, from the last to the first.
 fn last_lines(alloc: Global, lines: &[Line]) -> std::result::Result<Vec<&Line>, AllocError>
     ensures { IfOk result
         (λ last. in_order last.items ≡ last_of (map line_view lines.now)) }
@@ -275,9 +275,9 @@ fn close(text: &mut Vec<u8>, closed: bool) -> std::result::Result<(), AllocError
     Ok(())
 }
 
-/// The bytes that a compaction leaves of a bucket's: the odd lines, and of each key the last line that decides it, if
-/// that is an entry, or a tombstone that an odd line comes before. A last line feed stays, and a durable compaction
-/// adds one.
+/// The bytes that a compaction leaves of a bucket's: the odd lines, and each key's last line that decides it, if that
+/// is an entry, or a tombstone that an odd line comes before. A last line feed stays, and a durable compaction adds
+/// one.
 pub(crate) fn compact_text(alloc: Global, durable: bool, bytes: &[u8]) -> Result<Vec<u8>>
     ensures text { IfOk result (λ text. text.items ≡ compact_text_of durable bytes.now) }
     ensures memory { IfErr result (λ e. e ≡ OutOfMemory) }

@@ -51,7 +51,7 @@ pub(crate) fn is_live(live: &[Hash], address: &Hash) -> bool
         .is_ok()
 }
 
-/// Those of the addresses that aren't among the live ones.
+/// The addresses that aren't among the live ones.
 fn others(
     alloc: Global,
     addresses: Vec<Integrity>,
@@ -69,7 +69,7 @@ fn others(
     Ok(unused)
 }
 
-/// Those of the addresses that no entry has.
+/// The addresses that no entry has.
 pub(crate) fn unused(
     alloc: Global,
     addresses: Vec<Integrity>,

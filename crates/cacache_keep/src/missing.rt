@@ -18,7 +18,7 @@ use cacache_table::Refusal;
 use cacache_walks::{Contents, list};
 use std::alloc::{AllocError, Global};
 
-/// The contents that a cache shows, and the paths of what lies among them and is none.
+/// The contents that a cache shows, and the paths of whatever else lies among them.
 #[derive(Drop)]
 pub(crate) struct Shown {
     contents: Vec<Hash>,

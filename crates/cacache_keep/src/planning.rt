@@ -1,4 +1,4 @@
-//! The call that tells what a collection would remove.
+//! The call that says what a collection would remove.
 ghost use Rattle.std.specs.Prelude.{◌≡◌, IfOk, IfErr, map};
 ghost use Rattle.cacache_jobs.specs.Sites.{site_of};
 ghost use Rattle.cacache_keep.specs.Planning.{HidesSize, PlansCache, StopsPlanning, StopsTelling, TellsSize, TellsSizes, sized_of};
@@ -19,7 +19,7 @@ use std::alloc::{AllocError, Global};
 pub struct Unused {
     /// Its address.
     pub address: Integrity,
-    /// How many bytes it has. A link has those of its target, and none where it leads to nothing.
+    /// How many bytes it has. A link has those of its target, and none if it leads to nothing.
     pub bytes: u64,
 }
 
@@ -32,7 +32,7 @@ pub struct Planned {
     pub unused: Vec<Unused>,
 }
 
-/// The content didn't tell its size.
+/// The content didn't give its size.
 fn hidden(
     alloc: Global,
     cache: &str,
@@ -82,13 +82,12 @@ fn sizes_of<S: Store>(
     Ok(unused)
 }
 
-/// Tells which contents a `collect` would remove, each with its bytes, and how many it would leave.
-/// Nothing changes. What a later `collect` removes is the same while nobody writes in between; it ends with an error if a
-/// bucket has a line that this crate can't read and another reader may.
+/// Says which contents a `collect` would remove, each with its bytes, and how many it would leave. Nothing changes.
+/// What a later `collect` removes is the same while nobody writes in between; it ends with an error if a bucket has a
+/// line that this crate can't read and another reader may.
 ///
-/// Errors are those of `content::read::list`, the first error among the items of the index, and an
-/// `IoError` of a content that didn't tell its size, as a link to a folder. `OutOfMemory` may come
-/// at any time.
+/// Errors are those of `content::read::list`, the first error among the items of the index, and an `IoError` if a
+/// content didn't give its size, such as a link to a folder. `OutOfMemory` may come at any time.
 pub fn plan<S: Store, C: Clock, N: Names>(env: &mut Env<S, C, N>, cache: &str) -> Result<Planned>
     ensures plans { IfOk result (λ p. PlansCache (site_of cache.now env.old.base 0)
         p.kept (map sized_of p.unused.items) (S.log env.old.store) (S.log env.new.store)) }

@@ -107,7 +107,7 @@ pub(crate) fn says_gone(refusal: Refusal) -> bool
     }
 }
 
-/// Whether the content is good, and how many bytes it has. One that is gone isn't, and has none.
+/// Whether the content is good, and how many bytes it has. One that is gone isn't good, and has none.
 fn judge<S: Store>(alloc: Global, store: &mut S, cache: &str, sri: &Integrity) -> Result<Judgement>
     ensures says { IfOk result (λ j. SaysGood cache.now sri.now j.good j.bytes
         (S.log store.old) (S.log store.new)) }

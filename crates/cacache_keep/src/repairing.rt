@@ -28,7 +28,7 @@ pub struct Repaired {
     pub dangling: Vec<Metadata>,
 }
 
-/// Repairs a cache without a look at odd lines.
+/// Repairs a cache without checking for odd lines.
 fn repair_from<S: Store, C: Clock, N: Names>(
     env: &mut Env<S, C, N>,
     cache: &str,
@@ -55,10 +55,11 @@ fn repair_from<S: Store, C: Clock, N: Names>(
     Ok(Repaired { damaged, dangling })
 }
 
-/// Repairs a cache as `repair` does, with the choice what is done about odd lines in its index. With `OddLines::Ignore` a
-/// key may get a tombstone that hides such a line from another reader.
+/// Repairs a cache as `repair` does, with the choice of what to do about odd lines in its index. With
+/// `OddLines::Ignore` a key may get a tombstone that hides such a line from another reader.
 ///
-/// Errors are those of `repair`. With `OddLines::Ignore` the buckets aren't checked, and those of that check don't come.
+/// Errors are those of `repair`. With `OddLines::Ignore` the buckets aren't checked, so the errors of that check
+/// don't occur.
 pub fn repair_with<S: Store, C: Clock, N: Names>(
     env: &mut Env<S, C, N>,
     cache: &str,
@@ -75,10 +76,10 @@ pub fn repair_with<S: Store, C: Clock, N: Names>(
     repair_from(env, cache)
 }
 
-/// Removes each damaged content of a cache, and adds a tombstone for each key that leads to an entry
-/// whose content is missing then. A content is damaged as `verify` finds it. Of one that is a link,
-/// the link is removed and its target stays. Whatever else lies among the contents stays, and so does
-/// an entry that its key's lookup doesn't find, such as one in another key's bucket.
+/// Removes each damaged content of a cache, and adds a tombstone for each key that leads to an entry whose content is
+/// missing then. A content is damaged as `verify` finds it. If one is a link, the link is removed and its target
+/// stays. Whatever else lies among the contents stays, and so does an entry that its key's lookup doesn't find, such
+/// as one in another key's bucket.
 ///
 /// A question for a content that fails is answered like one for a content that isn't there. So if an entry
 /// dangles, the contents are walked through once more, and a key gets a tombstone only if that walk doesn't
@@ -91,10 +92,10 @@ pub fn repair_with<S: Store, C: Clock, N: Names>(
 /// after it would hide it. So a cache with such a line isn't repaired: the buckets are read before all else, and the call
 /// ends with an `IoError` of `Unsupported`, which names the bucket. `repair_with` can go on.
 ///
-/// Errors are that one, `IoError` if a folder of the index couldn't be listed or a bucket couldn't be read, those of
-/// `verify`, of a removal, of the second walk and of a tombstone, and the one about a content that may be there.
-/// Contents before the error are removed then, and keys before it have tombstones. `OutOfMemory` may come at
-/// any time.
+/// Errors are that one, and `IoError` if a folder of the index couldn't be listed or a bucket couldn't be read. They
+/// are also those of `verify`, of a removal, of the second walk and of a tombstone, and the one about a content that
+/// may be there. Contents before the error are removed then, and keys before it have tombstones. `OutOfMemory` may
+/// come at any time.
 pub fn repair<S: Store, C: Clock, N: Names>(env: &mut Env<S, C, N>, cache: &str) -> Result<Repaired>
     ensures repairs { IfOk result (λ r. RepairsAs Refuse (site_of cache.now env.old.base 0) r
         (S.log env.old.store) (S.log env.new.store)) }

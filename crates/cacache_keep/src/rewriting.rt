@@ -137,7 +137,7 @@ fn move_to<S: Store>(alloc: Global, store: &mut S, file: S::Temp, path: &Text) -
     }
 }
 
-/// The folder that holds what stands at the path.
+/// The folder that holds what is at the path.
 fn folder_of(alloc: Global, path: &Text) -> std::result::Result<Text, AllocError>
     ensures { IfOk result (λ folder. folder ≡ folder_of_path path.now) }
 {

@@ -95,8 +95,8 @@ fn write_anew<S: Store, C: Clock, N: Names>(
     )
 }
 
-/// Writes the bucket at the path anew, if it changes, and else syncs it, if the compaction is durable. Gives how many
-/// bytes the first saved.
+/// Writes the bucket at the path anew if it changes, and otherwise syncs it if the compaction is durable. Gives how
+/// many bytes the first saved.
 fn settle<S: Store, C: Clock, N: Names>(
     env: &mut Env<S, C, N>,
     durable: bool,

@@ -19,10 +19,9 @@ use std::alloc::{AllocError, Global};
 pub struct Swept {
     /// How many temporary files are removed.
     pub files: u64,
-    /// How many bytes they had; 2^64 - 1 where that are more.
+    /// How many bytes they had; 2^64 - 1 if there are more.
     pub bytes: u64,
-    /// The paths of what lies in the folder of temporary files and is none, in the order of its
-    /// listing.
+    /// The paths of whatever else lies in the folder of temporary files, in the order of its listing.
     pub strange: Vec<String>,
 }
 
@@ -62,7 +61,7 @@ fn unlisted(alloc: Global, folder: &str, things: &str) -> std::result::Result<Te
     Ok(Text::new(format!(in alloc; "Failed to list {things} in {folder}")?))
 }
 
-/// Whether what stands in the folder of temporary files is one: a file whose name begins with `.tmp`.
+/// Whether what is in the folder of temporary files is one: a file whose name begins with `.tmp`.
 fn is_temporary(name: &Name) -> bool
     ensures { result ≡ is_temporary_of name.now }
 {
@@ -98,7 +97,7 @@ fn cache_folder(cache: &str) -> &str
     if cache.is_empty() { "." } else { cache }
 }
 
-/// What stands in the place of the folder of temporary files, by the names in the cache folder.
+/// What is in the place of the folder of temporary files, by the names in the cache folder.
 fn area_in(around: &[Name]) -> Option<Kind>
     ensures { result ≡ area_of around.now }
 {
@@ -112,8 +111,8 @@ fn area_in(around: &[Name]) -> Option<Kind>
     None
 }
 
-/// What lies in the folder of temporary files, or what stands in its place and is none. A store follows no link to a
-/// folder that a listing named, so the cache folder is listed first.
+/// What lies in the folder of temporary files, or what else is in its place. A store follows no link to a folder that
+/// a listing named, so the cache folder is listed first.
 fn find_files<S: Store>(alloc: Global, store: &mut S, cache: &str, folder: &str) -> Result<Parts>
     requires { folder.now ≡ swept_folder cache.now }
     ensures finds { IfOk result (λ p. FindsFiles cache.now p.files.items
@@ -135,7 +134,7 @@ fn find_files<S: Store>(alloc: Global, store: &mut S, cache: &str, folder: &str)
     }
 }
 
-/// What stands in the place of the folder of temporary files, and is none.
+/// What is in the place of the folder of temporary files, if it isn't a folder.
 fn in_its_place(alloc: Global, folder: &str) -> std::result::Result<Parts, AllocError>
     ensures files { IfOk result (λ f. f.files.items ≡ []) }
     ensures others { IfOk result (λ f. map string_bytes f.strange.items ≡ folder.now ∷ []) }
@@ -148,7 +147,7 @@ fn in_its_place(alloc: Global, folder: &str) -> std::result::Result<Parts, Alloc
     })
 }
 
-/// The file didn't tell its size, or wasn't removed.
+/// The file didn't give its size, or wasn't removed.
 fn left(alloc: Global, path: &Text) -> std::result::Result<Text, AllocError> {
     Ok(Text::new(format!(in alloc; "Failed to remove temporary file {path}")?))
 }
@@ -185,15 +184,14 @@ fn remove_files<S: Store>(alloc: Global, store: &mut S, folder: &str, files: &[N
     Ok(bytes)
 }
 
-/// Removes the temporary files of a cache: those in its folder `tmp` whose names begin with `.tmp`.
-/// What else lies there stays, be it a file, a folder or a link. A folder that isn't there has none. A link or a file in
-/// the place of `tmp` is strange: it stays, and nothing that a link leads to is touched.
+/// Removes the temporary files of a cache: those in its folder `tmp` whose names begin with `.tmp`. What else lies
+/// there stays, whether a file, a folder or a link. A folder that isn't there has none. A link or a file in the place
+/// of `tmp` is strange: it stays, and nothing that a link leads to is touched.
 ///
 /// Sweep a cache while nobody writes to it: a write whose temporary file is gone fails.
 ///
-/// Errors: `IoError` where the cache folder or `tmp` couldn't be listed, or where a file didn't tell its size or
-/// couldn't be removed. Files before it are removed then, in the order of the listing. `OutOfMemory`
-/// may come at any time.
+/// Errors: `IoError` if the cache folder or `tmp` couldn't be listed, or if a file didn't give its size or couldn't
+/// be removed. Files before it are removed then, in the order of the listing. `OutOfMemory` may come at any time.
 pub fn sweep<S: Store, C: Clock, N: Names>(env: &mut Env<S, C, N>, cache: &str) -> Result<Swept>
     ensures sweeps { IfOk result
         (λ s. SweepsAs cache.now s (S.log env.old.store) (S.log env.new.store)) }

@@ -19,28 +19,27 @@ use cacache_walks::{Contents, list};
 pub struct Verdict {
     /// How many contents have the bytes that their address says.
     pub good: u64,
-    /// How many bytes they have; 2^64 - 1 where that are more.
+    /// How many bytes they have; 2^64 - 1 if there are more.
     pub good_bytes: u64,
     /// The addresses of the others, in the order of the listing.
     pub damaged: Vec<Integrity>,
-    /// How many bytes these have, of which one that is gone has none; 2^64 - 1 where that are more.
+    /// How many bytes these have. One that is gone has none; 2^64 - 1 if there are more.
     pub damaged_bytes: u64,
     /// The entries whose content isn't there.
     pub dangling: Vec<Metadata>,
-    /// The paths of what lies among the contents and is none, by their bytes.
+    /// The paths of whatever else lies among the contents, by their bytes.
     pub strange: Vec<String>,
 }
 
-/// Reads each content of a cache, and asks of each entry whether its content is there. Nothing
-/// changes. A content is read in pieces of 8 KiB, of which one is in memory at a time, and its bytes
-/// are counted. Of a cache whose folder isn't there the verdict has nothing.
+/// Reads each content of a cache, and asks for each entry whether its content is there. Nothing changes. A content is
+/// read in pieces of 8 KiB, one of them in memory at a time, and its bytes are counted. For a cache whose folder
+/// isn't there the verdict has nothing.
 ///
-/// A content whose bytes don't meet its address is damaged, and so is one that was gone when it was
-/// to be opened. One that is a link is judged by its target's bytes, and is damaged where it leads to
-/// nothing. Errors are those of `content::read::list`, of an opening or a read that failed
-/// otherwise, and the first error among the items of the index. A folder of the index that isn't
-/// there has no items; a link in its place that leads to nothing is an `IoError`. `OutOfMemory` may
-/// come at any time.
+/// A content whose bytes don't meet its address is damaged, and so is one that was gone when it was to be opened. One
+/// that is a link is judged by its target's bytes, and is damaged if it leads to nothing. Errors are those of
+/// `content::read::list`, of an opening or a read that failed otherwise, and the first error among the items of the
+/// index. A folder of the index that isn't there has no items; a link in its place that leads to nothing is an
+/// `IoError`. `OutOfMemory` may come at any time.
 pub fn verify<S: Store, C: Clock, N: Names>(env: &mut Env<S, C, N>, cache: &str) -> Result<Verdict>
     ensures verifies { IfOk result (λ v. VerifiesAs (site_of cache.now env.old.base 0) v
         (S.log env.old.store) (S.log env.new.store)) }

@@ -25,7 +25,7 @@ module _ {K : Type 0} (c : K → K → Ordering) (order : IsTotalOrder c) where
   same_first x y xs ys low high (inr n) (inl same) = sym same
   same_first x y xs ys low high (inr n) (inr m) = absurd (not_both x y (above x y xs low m) (above y x ys high n))
 
-  -- behind the first one
+  -- after the first one
   behind : (x y z : K) (xs ys : List K) → x ≡ y → AllByRecursion (λ z. c x z ≡ Less) xs → Member z xs → Member z (y ∷ ys) → Member z ys
   behind x y z xs ys same low m (inl e) = let less : c x x ≡ Less = ap (c x) (same ∙ sym e) ∙ above x z xs low m in absurd (not_both x x less less)
   behind x y z xs ys same low m (inr n) = n

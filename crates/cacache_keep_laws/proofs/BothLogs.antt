@@ -25,7 +25,7 @@ module _ (cache : List ℕ) (command : Command) (old new : List LogItem) (x : Re
   leads_to = (logs_lead old new x.called.ran.0 x.called.ran.2 x.called.logged).1
 
 module _ (cache : List ℕ) (home : Names) (full rest lean left : List LogItem) (is : home_of cache ≡ Some home) (l : LacksIdle cache home (tree_of full) (tree_of lean)) where
-  -- where the runs of a removal lead, it is so
+  -- at the trees that the runs of a removal lead to, it is so
   LacksAfter : (command : Command) → Removed cache command full rest → Removed cache command lean left → Type 0
   LacksAfter command one two = LacksIdle cache home (tree_on (tree_of full) one.called.ran.0) (tree_on (tree_of lean) two.called.ran.0)
 

@@ -10,7 +10,7 @@ use Rattle.cacache_value.proofs.Shows.{apply_answer}
 use Rattle.cacache_walks.specs.Reading.{names_shown}
 use Rattle.cacache_keep_laws.proofs.Members.{Member, mapped, source}
 
--- ---- a node that stands is listed
+-- ---- a node that is there is listed
 
 is_child-snoc : (p : Names) (name : List ℕ) → is_child p (p ++ name ∷ []) ≡ true
 is_child-snoc p name =
@@ -34,7 +34,7 @@ pub child_listed : (t : Tree) (p : Names) (name : List ℕ) (node : Node) → lo
 unfolding listing
 child_listed t p name node stands = mapped (child_of p) (p ++ name ∷ [], node) _ (map.entries t) (found_in (p ++ name ∷ []) (map.entries t) node (sym (map.get-entries t (p ++ name ∷ [])) ∙ stands)) (child_is p name node)
 
--- ---- and what is listed stands
+-- ---- and what is listed is there
 
 split_and : (a b : Bool) → T (a && b) → T a × T b
 split_and true b h = (tt, h)
@@ -95,7 +95,7 @@ listed_child t p n m =
     let s = source (child_of p) n (map.entries t) m in
     stands_at t p n s.of (is_child p s.of.0) refl (map.get-entries t s.of.0 ∙ member_found s.of (map.entries t) (map.entries_sorted t) s.member) s.gives
 
--- ---- below what is no folder nothing stands
+-- ---- below what is no folder there is nothing
 
 abbrev pub NoFolder : Tree → Names → Type 0
 NoFolder t p = look t p ≡ Some Folder → ⊥
@@ -123,7 +123,7 @@ proper_child t p name node rooted stands = last_proper p name (proper_at (look t
 
 -- ---- what an answer shows of a folder
 
--- the names that stand in it, or none where it isn't there
+-- the names that are in it, or none if it isn't there
 pub data FolderShows (t : Tree) (p : Names) (names : List Name) : Type 0 where
   listed : names ≡ listing t p → FolderShows t p names
   missing : NoFolder t p → names ≡ [] → FolderShows t p names

@@ -1,4 +1,4 @@
--- A clearing of both trees, of which one lacks idle contents.
+-- A clearing of both trees, one of which lacks idle contents.
 use Rattle.std.proofs.Common.{◌≡◌, ◌⊎◌, inl, inr, ◌-◌, ℕ, suc, Bool, true, false, cond, nat_le, List, [], ◌∷◌, ◌++◌, None, Some, Result, Ok, Err, length, refl, sym, ap, subst, ◌∙◌, arith, append-nil}
 use Rattle.std.specs.Prelude.{bytes_eq}
 use Rattle.cacache_core.specs.{declared.errors.Fault.{Fault}, Paths.{join, content_area, index_area, temp_area}, PathNames.{Names, names_of, home_of}}
@@ -69,7 +69,7 @@ module _ (r : Reply) (whole : BreaksOff commands.Clear r → ⊥) where
 
 -- ---- one tree
 
--- what a clearing leaves of a tree: what it is without the names before the first file, or all, where the cache has no folder
+-- what a clearing leaves of a tree: what it is without the names before the first file, or all if the cache has no folder
 pub data Cleared (cache : List ℕ) (t new : Tree) : Type 0 where
   swept : (p : Names) → names_of cache ≡ Ok p → look t p ≡ Some Folder → ShedAll t new p (before (listing t p)) → Cleared cache t new
   kept : ((p : Names) → names_of cache ≡ Ok p → look t p ≡ Some Folder → ⊥) → new ≡ t → Cleared cache t new

@@ -67,7 +67,7 @@ no_blob (Some b) h = absurd (h b refl)
 not_false : (b : Bool) → b ≡ true → not b ≡ true → ⊥
 not_false b e n = let wrong : false ≡ true = ap not (sym e) ∙ n in cc
 
--- ---- what removals leave of a listing, where those are left that a test picks
+-- ---- what removals leave of a listing if those are left that a test picks
 
 module _ (site : Site) (home : Names) (t new : Tree) (hashes : List Hash) (strange : List (List ℕ)) (picked : Hash → Bool)
     (is : home_of site.cache ≡ Some home) (holds : HoldsJust site.cache home t hashes strange)
@@ -90,7 +90,7 @@ module _ (site : Site) (home : Names) (t new : Tree) (hashes : List Hash) (stran
   listed_gone : (h : Hash) → picked h ≡ false → Contains hashes h → (value_of_tree (Some home) new).contents h ≡ None
   listed_gone h dead c = leaves.gone h (contains_member h dropped (kept_in (λ x. not (picked x)) h hashes (ap not dead) (member_contains h hashes c)))
 
-  -- where nothing was, nothing is
+  -- if nothing was there, nothing is
   unheld : (h : Hash) → IsHash h → (value_of_tree (Some home) t).contents h ≡ None → (value_of_tree (Some home) new).contents h ≡ None
   unheld h hash none =
       leaves.kept h hash (λ c.

@@ -1,4 +1,4 @@
--- A walk finds what stands below its folder, and nothing else.
+-- A walk finds what is below its folder, and nothing else.
 use Rattle.std.proofs.{Common.{◌≡◌, ◌==◌, filter, ◌⊎◌, inl, inr, ◌+◌, ◌<◌, ℕ, Bool, true, false, List, [], ◌∷◌, ◌++◌, Option, None, Some, Ok, Err, length, refl, sym, ap, subst, ◌∙◌, arith, append_assoc, append-nil}, lemmas.{List.Elements.{All-nil, All-cons, All-append}, Slice.Eq.{bytes_eq-Decides}}}
 use Rattle.std.specs.Prelude.{All, IsTrue, unwrap_or, bytes_eq}
 use Rattle.cacache_core.specs.{declared.errors.Fault.TheVariants.{NotFound, InvalidInput}, PathNames.{Names, names_of, home_of, names_below, is_bad, is_name, pieces, IsProperName}, Paths.{join, joined}}
@@ -43,7 +43,7 @@ shown_in g t p m names luck rooted named is answer e = record {
   files = ap (λ s. shown_by s m.1) is ∙ ap (λ o. file_paths g.path (unwrap_or o [])) e;
 }
 
--- ---- what stands below is found
+-- ---- what is below is found
 
 -- it is found, or at one of these places it isn't there
 abbrev Covered : Moves → List Tree → List ℕ → Names → Type 0
@@ -105,7 +105,7 @@ covers (m ∷ moves) (t ∷ trees) (g ∷ todo) r a f base x xs k named =
       | inr among ↦ later m moves t trees (joined f.path (x ∷ xs)) (base ++ x ∷ xs) (rest f base x xs (in_right f (folders_in g ns) todo among) named)
     ]
 
--- ---- what is found stands below
+-- ---- what is found is below
 
 joined_more : (top : List ℕ) (ns : Names) (n : List ℕ) → joined top (ns ++ n ∷ []) ≡ join (joined top ns) n
 joined_more top [] n = refl
@@ -133,7 +133,7 @@ module _ (top : List ℕ) (base : Names) where
     proper : All IsProperName names
     named : names_of f.path ≡ Ok (base ++ names)
 
-  -- a file or link stands at this path at one of the places
+  -- a file or link is at this path at one of the places
   pub record Sound (trees : List Tree) (path : List ℕ) : Type 0 where
     pub at : Tree
     pub among : Member at trees

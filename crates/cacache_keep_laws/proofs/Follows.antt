@@ -1,4 +1,4 @@
--- Lookups, reads by key and listings answer on one tree what they may answer on another, where reads do.
+-- Lookups, reads by key and listings answer on one tree what they may answer on another, if reads do.
 use Rattle.std.proofs.{Common.{◌≡◌, ◌⊎◌, inl, inr, ℕ, ◌+◌, ◌-◌, List, [], ◌∷◌, ◌++◌, Bool, true, false, cond, nat_le, nat_lt, Option, Some, None, Result, Ok, Err, length, take, refl, sym, ap, subst, ◌∙◌, arith, append-nil, append_assoc}, lemmas.List.Elements.{All-cons, All-head, All-nil, All-tail}}
 use Rattle.hex.specs.Hex.{encode_lower}
 use Rattle.sha1.specs.Sha1.{sha1}
@@ -235,7 +235,7 @@ module _ (site : Site) (home : Names) (t new : Tree) (at_home : home_of site.cac
       let rest = follows moves (after s (apply t m.0 Plain).0) r k.ready (subst (λ x. Runs x moves r) (sym k.same) run.2) a.1 in
       ((m.0, y) ∷ rest.0, (run.0, k.fits, rest.1), (refl, rest.2))
 
--- where reads are alike, calls answer as before
+-- if reads are alike, calls answer as before
 pub reads_as_before : (site : Site) (home : Names) (t new : Tree) → home_of site.cache ≡ Some home → ReadsAlike site.cache home t new → ReadsAsBefore site t new
 reads_as_before site home t new at_home alike = record {
   finds = λ key r a. follows site home t new at_home alike a.0 (opening site (commands.Find key)) r (refl, tt) a.1 a.2;

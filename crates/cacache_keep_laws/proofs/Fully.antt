@@ -13,7 +13,7 @@ use Rattle.cacache_keep_laws.proofs.{Idle.{bucket_read}, Stepping.{MadeOn, Whole
 
 -- ---- two runs
 
--- a run on each tree, neither of which memory ended
+-- a run on each tree, and memory ended neither
 pub record Both (s z : State) (full lean : Tree) : Type 0 where
   pub reply : Reply
   pub whole : Whole reply
@@ -23,7 +23,7 @@ pub record Both (s z : State) (full lean : Tree) : Type 0 where
   pub second : MadeOn z lean other
 
 module _ (cache : List ℕ) (home : Names) where
-  -- where they lead, the one tree lacks idle contents of the other
+  -- at the trees that they lead to, the one lacks idle contents of the other
   abbrev pub LackAfter : (s z : State) (full lean : Tree) → Both s z full lean → Type 0
   LackAfter s z full lean b = LacksIdle cache home (tree_on full b.run.moves) (tree_on lean b.second.moves)
 

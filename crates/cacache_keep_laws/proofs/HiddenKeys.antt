@@ -128,7 +128,7 @@ module _ (site : Site) (d : Delete) (formed : calls.FormedIfWritten (deletion si
   abbrev folder : Option Names
   folder = home_of site.cache
 
-  -- the value behind them
+  -- the value after them
   buckets_made : (v : Value) (p digest : List ℕ) → (change folder (act_of (steps.MakeDirs p) Plain answers.Done) v).buckets digest ≡ v.buckets digest
   buckets_made v p digest = by (names_of p)
     where

@@ -30,7 +30,7 @@ module _ (folder : Option Names) where
     own = step_own folder t step Plain h.placed proper own h.own;
   }
 
-  -- ---- what stands beside the cache
+  -- ---- what is next to the cache
 
   missing_put : (above q : Names) (old : Option Node) (node made : Node) (b : Bool) → same_path q above ≡ b → (q ≡ above → old ≡ None) → old ≡ Some node → cond b (Some made) old ≡ Some node
   missing_put above q old node made true is none there = let wrong : None ≡ Some node = sym (none (same_path-true q above is)) ∙ there in absurd cc

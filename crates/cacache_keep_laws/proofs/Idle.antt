@@ -21,7 +21,7 @@ abbrev pub Follows : (full lean rest left : Tree) → Names → Type 0
 Follows full lean rest left q =
     (look left q ≡ look rest q) ⊎ ((look rest q ≡ look full q) × (look left q ≡ look lean q))
 
--- where nothing comes to the full tree, and each path of both is as before or the same in both
+-- if nothing comes to the full tree, and each path of both is as before or the same in both
 pub lacks_still : (cache : List ℕ) (home : Names) (full lean rest left : Tree) → LacksIdle cache home full lean → Within rest full → ((q : Names) → Follows full lean rest left q) → LacksIdle cache home rest left
 lacks_still cache home full lean rest left l within follows = record {
   nodes = λ q. node q (follows q);
@@ -83,7 +83,7 @@ module _ (cache : List ℕ) (home : Names) (full lean : Tree) (is : home_of cach
       let kind : path_kind (Some home) (home ++ bucket_names key) ≡ Bucket = kind-below home (bucket_names key) in
       read_same home full lean same_node l.links (joined cache (bucket_names key)) (home ++ bucket_names key) named (inl (ap is_used kind)) (same_node (home ++ bucket_names key) (λ c. let wrong : Bucket ≡ Content = sym kind ∙ c in cc))
 
-  -- the content of an entry that a lookup finds stands in both alike
+  -- the content of an entry that a lookup finds is alike in both
   needed_node : (key : List ℕ) (found : Found) (q : Names) → Finds cache full key found → names_of (content_path cache found.integrity) ≡ Ok q → look lean q ≡ look full q
   needed_node key found q f named = elim (l.nodes q) [ inl same ↦ same | inr gap ↦ absurd (gap.1.idle (key, found, f, named)) ]
 

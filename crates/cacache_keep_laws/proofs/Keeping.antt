@@ -157,7 +157,7 @@ module _ (site : Site) (home : Names) (t new : Tree) (listing : Moves) (items : 
       let same : a.0 ≡ g = (paths_differ.contents site.cache a.0 g a.1 (hashes g m)).0 (ap (joined site.cache) names) in
       (apart g (contains_member g dropped m)).1 (n.1, item, a.2 ∙ ap Some same)
 
-  -- it lacks what is idle alone
+  -- it only lacks what is idle
   pub lacks_idle : LacksIdle site.cache home t new
   lacks_idle = record {
     nodes = λ q. elim (found_in home q dropped) [

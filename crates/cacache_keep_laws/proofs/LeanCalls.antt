@@ -16,7 +16,7 @@ module _ (durable : Bool) (cache : List ℕ) (home : Names) (t new : Tree) (at_h
   node_at q old now clear (inr (inr (inl made))) = absurd (clear ([], made.0))
   node_at q old now clear (inr (inr (inr left))) = absurd (clear (left.0 ∷ [], left.1))
 
-  -- but for the folder of temporary files
+  -- except for the folder of temporary files
   at_clear : (q : Names) → Clear home temp_area q → SameOrLean durable home t new q
   at_clear q clear = node_at q (look t q) (look new q) clear (is q)
 

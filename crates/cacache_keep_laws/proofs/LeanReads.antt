@@ -1,5 +1,5 @@
--- Reads and listings of folders on two trees that differ in compacted buckets alone, but for an area of the
--- cache's folder.
+-- Reads and listings of folders on two trees that differ in compacted buckets alone, except for an area of
+-- the cache's folder.
 use Rattle.std.proofs.Common.{◌≡◌, ◌⊎◌, inl, inr, ℕ, zero, suc, List, [], ◌∷◌, ◌++◌, Bool, true, false, Option, Some, None, Result, Ok, Err, length, get_or, refl, sym, ap, subst, ◌∙◌, append_assoc, bytes_eq}
 use Rattle.cacache_core.specs.{declared.errors.Fault.{Fault, TheVariants.{IsADirectory, TooDeep}}, PathNames.{Names, names_of}}
 use Rattle.cacache_store.specs.declared.store.answer.Answer.TheVariants as answers
@@ -9,7 +9,7 @@ use Rattle.cacache_disk.proofs.FoundNodes.{and_then_ok, place_ok, standing_ok}
 use Rattle.cacache_value.{specs.Kinds.{Bucket, Elsewhere, path_kind, IsFor}, proofs.{KindsApart.{inner_used, kind-below}, FoundPaths.{of_names}}}
 use Rattle.cacache_keep_laws.{specs.{Collecting.{LinksLeadOut}, Compacting.{compact_text}}, proofs.{Children.{child_path, folder_found}, Shapes.{shape, shaped_listing}}}
 
--- ---- what one shape tells
+-- ---- what one shape shows
 
 through_of : (here : Option Node) (later : Option Fault) → through here later ≡ through (shape here) later
 through_of None later = refl
@@ -79,7 +79,7 @@ clear_area home area rest other apart self (r, e) =
     let wrong : true ≡ false = sym self ∙ ap (bytes_eq other) same ∙ apart in
     cc
 
--- at the path stands the same, or a bucket and its compacted bytes
+-- the same is at the path, or a bucket and its compacted bytes
 abbrev pub SameOrLean : Bool → Names → Tree → Tree → Names → Type 0
 SameOrLean durable home t new q =
     (look new q ≡ look t q)

@@ -106,7 +106,7 @@ file_read : (t : Tree) (path : List ℕ) (names : Names) (bytes : List ℕ) → 
 unfolding file_at leads place followed
 file_read t path names bytes rooted is there = rw (is, way_clear t [] names (File bytes) rooted there, there, there) refl
 
--- a file that stands is read
+-- a file that is there is read
 pub file_shown : (t : Tree) (path : List ℕ) (names : Names) (bytes : List ℕ) → Rooted t → names_of path ≡ Ok names → look t names ≡ Some (File bytes) → (apply t (ReadAll path) Plain).0 ≡ answers.Bytes bytes
 file_shown t path names bytes rooted is there = read_answer t path ∙ ap said (file_read t path names bytes rooted is there)
 

@@ -1,4 +1,4 @@
--- What the log of a store in memory gained by reads, the tree before them answered, and it stayed.
+-- The tree before reads answered what the log of a store in memory gained by them, and it stayed.
 use Rattle.std.proofs.{Common.{◌≡◌, inl, inr, List, [], ◌∷◌, ◌++◌, Option, None, Some, Result, Ok, Err, map, refl, sym, ap, subst, ◌∙◌, append_assoc}, lemmas.List.{map-append}}
 use Rattle.std.specs.Prelude.{Contains, option_map}
 use Rattle.cacache_core.specs.declared.errors.Fault.{Fault}
@@ -50,7 +50,7 @@ answered_split t (m ∷ xs) ys a =
     let rest = answered_split (apply t m.0 Plain).1 xs ys a.1 in
     ((a.0, rest.0), rest.1)
 
--- the rest of the moves, behind a part that left the tree
+-- the rest of the moves, after a part that left the tree
 pub answered_rest : (t : Tree) (xs ys : Moves) → tree_on t xs ≡ t → AreAnswered t (xs ++ ys) → AreAnswered t ys
 answered_rest t xs ys stays a = subst (λ x. AreAnswered x ys) stays (answered_split t xs ys a).1
 

@@ -8,13 +8,13 @@ use Rattle.cacache_disk.specs.{declared.node.Node.{Node, TheVariants.{Folder, Fi
 use Rattle.cacache_disk.proofs.Maps.{total, only}
 use Rattle.cacache_keep_laws.proofs.SameListing.{of_children, where_child}
 
--- a node, but for a file's bytes
+-- a node without a file's bytes
 abbrev pub bare_node : Node → Node
 bare_node Folder = Folder
 bare_node (File bytes) = File []
 bare_node (Link target) = Link target
 
--- what stands, but for a file's bytes
+-- what is there, without a file's bytes
 abbrev pub shape : Option Node → Option Node
 shape None = None
 shape (Some Folder) = Some Folder

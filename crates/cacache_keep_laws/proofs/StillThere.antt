@@ -1,4 +1,4 @@
--- Where what stands apart from the cache stays, links of contents lead where they led.
+-- If what is apart from the cache stays, links of contents lead where they led.
 use Rattle.std.proofs.{Common.{◌≡◌, ◌⊎◌, inl, inr, ℕ, zero, suc, List, [], ◌∷◌, ◌++◌, Option, Some, None, Bool, true, false, cond, Result, Ok, Err, refl, sym, ap, subst, ◌∙◌, append_assoc, bytes_eq, arith}, lemmas.List.Elements.{All-head}}
 use Rattle.cacache_core.specs.{declared.{errors.Fault.{Fault, TheVariants.{IsADirectory, NotADirectory, NotFound, TooDeep}}, integrity.digest.Hash.{Hash}}, Integrity.{IsHash, IsIntegrity}, PathNames.{Names, names_of, home_of}, Paths.{content_names}}
 use Rattle.cacache_store.specs.{declared.store.{step.Step.TheVariants.{Exists}, answer.Answer.TheVariants.{There}}, Plain.{PlainAnswer}}
@@ -62,7 +62,7 @@ bytes_are_there t (Some (AtLink target)) bytes e =
     let f = and_then_ok (link_end t target) (λ names. bytes_there IsADirectory (look t names)) bytes e in
     rw (f.1, file_there (look t f.0) bytes f.2) refl
 
--- ---- the question for a content that stands
+-- ---- the question for a content that is there
 
 leaf_there : (t : Tree) (path : List ℕ) (names : Names) (here : Option Node) (b : Blob) → Rooted t → names_of path ≡ Ok names → look t names ≡ here → blob_in here ≡ Some b → is_there (found t path) ≡ blob_there t (blob_in here)
 unfolding found leads place followed link_end
@@ -201,7 +201,7 @@ module _ (cache : List ℕ) (home : Names) (is : home_of cache ≡ Some home) wh
         let yes = there_still (content_in home t h) (content_out home t h placed) (bytes_are_there t (content_in home t h) m.0 m.1) in
         has_so new h hs rooted hash (ap (blob_there new) same ∙ yes)
 
-    -- what was there is there, where contents stay
+    -- what was there is there, if contents stay
     pub has_still : (i : List Hash) → Rooted t → Rooted new → IsIntegrity i → ((h : Hash) → content_in home new h ≡ content_in home t h) → Has t i → Has new i
     has_still [] rooted left formed same has = absurd (omega (arith, formed.nonempty))
     has_still (h ∷ hs) rooted left formed same has =

@@ -27,9 +27,9 @@ empties : (t : Tree) (path : List ℕ) (p : Names) → Rooted t → names_of pat
 unfolding apply emptied
 empties t path p rooted is there inner none = rw (folder_there t path p rooted is there, inner, none) refl
 
--- ---- what is told of names
+-- ---- what is said of names
 
--- where none stands, none is listed
+-- if there are no nodes, none is listed
 none_listed : (t : Tree) (p : Names) (ns : List Name) → Each (Told t p) ns → ((name : List ℕ) → look t (p ++ name ∷ []) ≡ None) → ns ≡ []
 none_listed t p [] told none = refl
 none_listed t p (n ∷ ns) told none = absurd (let wrong : None ≡ Some told.0.node = sym (none n.name) ∙ told.0.stands in cc)
@@ -72,7 +72,7 @@ module _ (r : Reply) (whole : BreaksOff commands.Clear r → ⊥) where
   pub alive : Whole r
   alive e = whole (inl e)
 
-  -- the walk goes on with these tasks, on a tree of which this is so
+  -- the walk goes on with these tasks, on a tree for which this is so
   pub record Swept (s : State) (t : Tree) (m : MadeOn s t r) (todo : List Task) (Is : Tree → Type 0) : Type 0 where
     pub w : Walk
     pub clears : w.clears ≡ true

@@ -23,7 +23,7 @@ none_listed : (t : Tree) (p : Names) → Rooted t → NoFolder t p → listing t
 none_listed t p rooted none =
     no_members (listing t p) (λ n m. let s = listed_child t p n m in let wrong : None ≡ Some s.node = sym (none_below t p n.name [] rooted none) ∙ s.stands in cc)
 
--- what a listing shows are the names that stand there
+-- what a listing shows are the names that are there
 all_shown : (t : Tree) (p : Names) (names : List Name) → Rooted t → FolderShows t p names → names ≡ listing t p
 all_shown t p names rooted (listed e) = e
 all_shown t p names rooted (missing none e) = e ∙ sym (none_listed t p rooted none)
@@ -32,7 +32,7 @@ pub names_listed : (t : Tree) (path : List ℕ) (p : Names) (names : List Name) 
     → names_shown (apply t (ReadDir path) Plain).0 ≡ Some names → names ≡ listing t p
 names_listed t path p names rooted is shown = all_shown t p names rooted (folder_shown t path p Plain names rooted is shown)
 
--- ---- what stands in the place of the folder of temporary files
+-- ---- what is in the place of the folder of temporary files
 
 cache_named_by : (cache : List ℕ) (home : Names) (b : Bool) → (length cache == 0) ≡ b → home_of cache ≡ Some home
     → (names_of (if b then codes "." else cache) ≡ Ok home) × (home_of (if b then codes "." else cache) ≡ Some home)
@@ -92,7 +92,7 @@ area_by t home (Some kinds.Link) is =
 pub area_stands : (t : Tree) (home : Names) (around : List Name) → around ≡ listing t home → AreaStands t (home ++ temp_area ∷ []) (area_of around)
 area_stands t home around is = subst (λ (l : List Name). AreaStands t (home ++ temp_area ∷ []) (area_of l)) (sym is) (area_by t home (area_of (listing t home)) refl)
 
--- where none stands, none has a name in it
+-- if there is no folder, no name is in it
 pub area_empty : (t : Tree) (home : Names) → Rooted t → NoFolder t (home ++ temp_area ∷ []) → [] ≡ listing t (home ++ temp_area ∷ [])
 area_empty t home rooted none = sym (none_listed t (home ++ temp_area ∷ []) rooted none)
 

@@ -1,4 +1,4 @@
--- A file or link that is removed from both trees, of which one lacks idle contents.
+-- A file or link that is removed from both trees, one of which lacks idle contents.
 use Rattle.std.proofs.Common.{◌≡◌, ◌⊎◌, inl, inr, ℕ, List, [], Option, Some, None, Bool, true, false, cond, Result, Ok, Err, refl, sym, ap, subst, ◌∙◌}
 use Rattle.cacache_core.specs.{declared.errors.Fault.{Fault}, PathNames.{Names, names_of}}
 use Rattle.cacache_store.specs.declared.store.{step.Step.TheVariants.{RemoveFile}, answer.Answer.TheVariants.{Done, Failed}}
@@ -33,7 +33,7 @@ leaf_there t path names e =
     let k = leaf_at (look t f.0) f.0 names f.2 in
     (place_ok t path f.0 f.1 ∙ ap Ok k.1, subst (λ n. is_leaf (look t n) ≡ true) k.1 k.0)
 
--- where it was done, a file or link was there
+-- if it was done, a file or link was there
 done_ok : (t : Tree) (r : Result Names Fault) → (unless r t (λ names. (Done, cut t names))).0 ≡ Done → (names : Names) × (r ≡ Ok names)
 done_ok t (Ok names) e = (names, refl)
 done_ok t (Err fault) e = absurd cc

@@ -41,7 +41,7 @@ in_area (n ∷ home) (first ∷ q) e = by (bytes_eq n first) refl e (in_area hom
 -- ---- both trees
 
 module _ (cache : List ℕ) (home : Names) (full lean : Tree) (is : home_of cache ≡ Some home) (l : LacksIdle cache home full lean) where
-  -- but for the contents
+  -- except for the contents
   at_clear : (q : Names) → Clear home content_area q → SameOrLean false home full lean q
   at_clear q clear = elim (l.nodes q) [ inl same ↦ inl same | inr gap ↦ absurd (clear (in_area home q gap.1.kind)) ]
 

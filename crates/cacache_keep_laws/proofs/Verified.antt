@@ -1,4 +1,4 @@
--- A read of a content that stands tells whether it is good.
+-- A read of a content that is there shows whether it is good.
 use Rattle.std.proofs.Common.{◌≡◌, inl, inr, ℕ, List, [], ◌∷◌, ◌++◌, Option, Some, None, Bool, true, false, cond, Result, Ok, Err, refl, sym, ap, subst, ◌∙◌}
 use Rattle.std.specs.Prelude.{◌↔◌}
 use Rattle.cacache_core.specs.{declared.{errors.{Fault.{Fault, TheVariants.{IsADirectory}}, Error.TheVariants.{IoError, IntegrityError}, IntegrityFault.TheVariants.{Check}}, integrity.digest.Hash.{Hash}}, Integrity.{IsHash, actual}, Meeting.{meets}, PathNames.{Names, names_of, home_of}, Paths.{joined, content_names}}
@@ -10,7 +10,7 @@ use Rattle.cacache_table.proofs.Replies.{reads_shown}
 use Rattle.cacache_value.specs.{Value.{Blob, blob_in, value_of_tree}, Shows.{link_end, blob_bytes}}
 use Rattle.cacache_keep_laws.{specs.{Answers.{AnsweredBy}, Verifying.{is_met, is_good, ReadsTellGood}}, proofs.{Agreeing.{said, answer_of}, Keeping.{content_named}}}
 
--- ---- where a content stands, a read gives its bytes
+-- ---- if a content is there, a read gives its bytes
 
 leaf_read : (t : Tree) (path : List ℕ) (names : Names) (here : Option Node) (blob : Blob) → Rooted t → names_of path ≡ Ok names → look t names ≡ here → blob_in here ≡ Some blob → file_at t path IsADirectory ≡ blob_bytes t (blob_in here)
 unfolding file_at leads place followed link_end

@@ -57,7 +57,7 @@ module _ (part whole : Tree) (within : Within part whole) where
       let s = something_there (look part f.0) f.0 names f.2 in
       rw (place_within path f.0 f.1, within f.0 s.0 s.1) (ap Ok (there_at (look part f.0) f.0 names f.2))
 
-  -- what a link's end is found to be, where it stands
+  -- what a link's end is found to be, if something is there
   follow_at : (here there : Option Node) (names new : Names) (node : Node) (go on : List ℕ → Result Names Fault) → look part names ≡ here → look whole names ≡ there
       → ((found : Node) → here ≡ Some found → there ≡ Some found) → look part new ≡ Some node
       → ((target : List ℕ) → go target ≡ Ok new → on target ≡ Ok new)

@@ -27,7 +27,7 @@ CachesLinkOut =
 abbrev pub IsLive : List Item → Hash → Type 0
 IsLive items h = (found : Found) × Contains items (Ok found) × (address found.integrity ≡ Some h)
 
--- the tree after these contents were removed, one after another, each of which was there
+-- the tree after these contents were removed, one after another, and each was there
 abbrev pub Removes : List ℕ → List Hash → Tree → Tree → Type 0
 Removes cache [] t new = new ≡ t
 Removes cache (h ∷ hs) t new =
@@ -55,7 +55,7 @@ RemovalsLeaveSound =
     (cache : List ℕ) (dropped : List Hash) (t new : Tree)
     → Removes cache dropped t new → IsSound (home_of cache) t → IsSound (home_of cache) new
 
--- where no live content is removed, each read by key makes the steps with the answers that it would
+-- if no live content is removed, each read by key makes the steps with the answers that it would
 -- have made before, and so has the reply that it would have had
 abbrev pub CollectionsKeepReads : Type 0
 CollectionsKeepReads =
@@ -70,7 +70,7 @@ CollectionsKeepReads =
     → Runs (opening site (commands.Get key)) moves reply → AnsweredBy new moves
     → AnsweredBy t moves
 
--- the same of lookups, whatever was removed of the contents
+-- the same for lookups, whichever contents were removed
 abbrev pub CollectionsKeepLookups : Type 0
 CollectionsKeepLookups =
     (site : Site) (home : Names) (t new : Tree) (dropped : List Hash)

@@ -7,7 +7,7 @@ use Rattle.cacache_table.specs.State.{Site}
 use Rattle.cacache_value.specs.Kinds.{Bucket, path_kind}
 use Rattle.cacache_keep_laws.specs.{Collecting.{LinksLeadOut, ReadsAsBefore}, Compacting.{compact_text}, Contents.{content_in}, Housed.{Housed}, Idle.{Finds}, Mending.{found_in}, Temporary.{is_temp_name, temp_at}}
 
--- ---- at one path, from what stood there to what stands there
+-- ---- at one path, from what was there to what is there
 
 -- it is a bucket, and its bytes are compacted, durably or not
 abbrev pub IsCompacted : Bool → Names → Names → Option Node → Option Node → Type 0
@@ -20,7 +20,7 @@ abbrev pub IsTempFolder : Names → Names → Option Node → Option Node → Ty
 IsTempFolder home names old new =
     (names ≡ home ++ temp_area ∷ []) × (old ≡ None) × (new ≡ Some Folder)
 
--- it is a temporary file that was left, of which nothing stood there
+-- it is a temporary file that was left, and nothing was there before
 abbrev pub IsLeftOver : Names → Names → Option Node → Option Node → Type 0
 IsLeftOver home names old new =
     (name : List ℕ) × (names ≡ temp_at home name) × (is_temp_name name ≡ true)
@@ -28,7 +28,7 @@ IsLeftOver home names old new =
 
 -- ---- of the whole tree
 
--- all stands as it stood, but buckets may be compacted, and the folder of temporary files be new
+-- all is as it was, except that buckets may be compacted, and the folder of temporary files be new
 abbrev pub Compacted : Bool → Names → Tree → Tree → Type 0
 Compacted durable home t new =
     (names : Names)
@@ -36,7 +36,7 @@ Compacted durable home t new =
     ⊎ (IsCompacted durable home names (look t names) (look new names)
     ⊎ IsTempFolder home names (look t names) (look new names))
 
--- so it is where that was cut short, but that temporary files may be left
+-- so it is if that was cut short, except that temporary files may be left
 abbrev pub CutShort : Bool → Names → Tree → Tree → Type 0
 CutShort durable home t new =
     (names : Names)
@@ -59,20 +59,20 @@ FindsFormed cache t =
 
 -- ---- laws
 
--- a compaction keeps what is found, also where it is cut short
+-- a compaction keeps what is found, also if it is cut short
 abbrev pub CompactionsKeep : Type 0
 CompactionsKeep =
     (durable : Bool) (home : Names) (t new : Tree)
     → CutShort durable home t new → KeepsFound home t new
 
--- where links lead out of the cache and found entries have integrities, calls answer as before
+-- if links lead out of the cache and found entries have integrities, calls answer as before
 abbrev pub CompactionsAnswer : Type 0
 CompactionsAnswer =
     (durable : Bool) (site : Site) (home : Names) (t new : Tree)
     → home_of site.cache ≡ Some home → LinksLeadOut home t → FindsFormed site.cache t
     → CutShort durable home t new → ReadsAsBefore site t new
 
--- so it is where each thing lies in its place, and entries in the buckets of their keys
+-- so it is if each thing lies in its place, and entries in the buckets of their keys
 abbrev pub HousesAreFit : Type 0
 HousesAreFit =
     (cache : List ℕ) (home : Names) (t : Tree)

@@ -85,9 +85,9 @@ compact_text durable x = text_of (kept false (lines_of x)) ++ closing (durable |
 abbrev pub odd_lines : List ℕ → List Line
 odd_lines x = filter is_odd (lines_of x)
 
--- each lookup finds in the second bytes what it finds in the first, and a listing has the same of
--- both; both have the same odd lines; no two lines of the second decide one key; and without odd
--- lines the second have one entry for each item
+-- each lookup finds in the second bytes what it finds in the first, and a listing gives the same
+-- for both; both have the same odd lines; no two lines of the second decide one key; and without
+-- odd lines the second have one entry for each item
 pub record IsCompactOf (x y : List ℕ) : Type 0 where
   pub finds : (key : List ℕ) → latest key (entries_of y) ≡ latest key (entries_of x)
   pub lists : items_in y ≡ items_in x

@@ -46,8 +46,8 @@ LiesBelow cache home t path =
     × (path ≡ joined (content_area_in cache) names)
     × IsTrue (is_leaf (look t (home ++ content_area ∷ names)))
 
--- the cache holds contents at just these addresses, which come in order, none twice; and these are
--- the paths of all other files and links below the folder of contents
+-- the cache holds contents at exactly these addresses, which come in order, none twice; and these
+-- are the paths of all other files and links below the folder of contents
 pub record HoldsJust
     (cache : List ℕ) (home : Names) (t : Tree)
     (hashes : List Hash) (strange : List (List ℕ)) : Type 0 where

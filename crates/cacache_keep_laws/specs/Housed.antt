@@ -37,12 +37,12 @@ IndexesLead =
 abbrev pub Beside : Option Names → Names → Type 0
 Beside folder q = (path_kind folder q ≡ Elsewhere) ⊎ (path_kind folder q ≡ Way)
 
--- what stands at such a path in the first tree stands there in the second one
+-- what is at such a path in the first tree is there in the second one
 abbrev pub Still : Option Names → Tree → Tree → Type 0
 Still folder t new =
     (q : Names) (node : Node) → Beside folder q → look t q ≡ Some node → look new q ≡ Some node
 
--- a call that adds a tombstone leaves each thing in its place, and what stands apart from the cache
+-- a call that adds a tombstone leaves each thing in its place, and what is apart from the cache
 abbrev pub TombstonesHouse : Type 0
 TombstonesHouse =
     (site : Site) (home : Names) (d : Delete) (moves : Moves) (t : Tree)

@@ -25,13 +25,13 @@ IsNeeded cache t names =
     (key : List ℕ) × (found : Found) × Finds cache t key found
     × (names_of (content_path cache found.integrity) ≡ Ok names)
 
--- a content stands at these names, a file or a link, and no lookup leads to it
+-- a content is at these names, a file or a link, and no lookup leads to it
 pub record IsIdle (cache : List ℕ) (home : Names) (t : Tree) (names : Names) : Type 0 where
   pub kind : path_kind (Some home) names ≡ Content
   pub stands : IsTrue (is_leaf (look t names))
   pub idle : IsNeeded cache t names → ⊥
 
--- of what the full tree has, the lean one lacks idle contents alone; in the full one links lead out
+-- the lean tree has all that the full one has, except idle contents; in the full one links lead out
 -- of the cache, and each entry that a lookup finds has an integrity
 pub record LacksIdle (cache : List ℕ) (home : Names) (full lean : Tree) : Type 0 where
   pub nodes : (names : Names)

@@ -1,4 +1,4 @@
--- What a repair leaves of contents, where all that lies in the cache's folder has its place.
+-- What a repair leaves of contents, if all that lies in the cache's folder has its place.
 use Rattle.std.specs.Prelude.{◌≡◌, ℕ, List, [], ◌∷◌, true, false, not, Option, None, Some, filter}
 use Rattle.cacache_core.specs.{declared.integrity.digest.Hash.{Hash}, Integrity.{IsHash}, Meeting.{meets}, PathNames.{Names, home_of}}
 use Rattle.cacache_disk.specs.Tree.{Tree}

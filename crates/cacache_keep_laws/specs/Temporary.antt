@@ -21,7 +21,7 @@ is_file kind = false
 abbrev pub is_temp_name : List ℕ → Bool
 is_temp_name name = starts_with nat_eq name (codes ".tmp")
 
--- whether what stands in the folder of temporary files is one
+-- whether what is in the folder of temporary files is one
 abbrev pub is_temporary : Name → Bool
 is_temporary n = is_file n.kind && is_temp_name n.name
 
@@ -33,7 +33,7 @@ temp_area_in cache = join cache temp_area
 abbrev pub cache_folder : List ℕ → List ℕ
 cache_folder cache = if length cache == 0 then codes "." else cache
 
--- what stands in the place of the folder of temporary files, by the names in the cache folder
+-- what is in the place of the folder of temporary files, by the names in the cache folder
 abbrev pub area_of : List Name → Option Kind
 area_of [] = None
 area_of (n ∷ names) = if bytes_eq n.name temp_area then Some n.kind else area_of names
@@ -42,7 +42,7 @@ area_of (n ∷ names) = if bytes_eq n.name temp_area then Some n.kind else area_
 abbrev pub temp_at : Names → List ℕ → Names
 temp_at home name = home ++ temp_area ∷ name ∷ []
 
--- a temporary file stands there
+-- a temporary file is there
 abbrev pub IsTemporary : Names → Tree → Names → Type 0
 IsTemporary home t names =
     (name bytes : List ℕ) × (names ≡ temp_at home name) × (is_temp_name name ≡ true)
@@ -56,7 +56,7 @@ sized_removals folder (r ∷ removed) =
     ∷ (steps.RemoveFile (join folder r.0.name), answers.Done)
     ∷ sized_removals folder removed
 
--- these sizes together; 2^64 - 1 where that are more
+-- these sizes together; 2^64 - 1 if there are more
 abbrev pub total : List ℕ → ℕ
 total sizes = min (sum sizes) (2 ^ 64 - 1)
 
@@ -71,7 +71,7 @@ pub record LeavesUntemporary (home : Names) (t new : Tree) (files : ℕ) : Type 
   pub buckets : (digest : List ℕ) → IsKeyDigest digest
       → bucket_in home new digest ≡ bucket_in home t digest
 
--- so it is once those of the names in the folder of temporary files that tell of one were removed
+-- so it is once those names in the folder of temporary files that show one were removed
 abbrev pub SweepsLeave : Type 0
 SweepsLeave =
     (cache : List ℕ) (home : Names) (t : Tree) (names : List Name) (removed : List (Name × ℕ))

@@ -20,7 +20,7 @@ is_met i (Err fault) = false
 abbrev pub is_good : Names → Tree → Hash → Bool
 is_good home t h = is_met (h ∷ []) (blob_bytes t (content_in home t h))
 
--- where a content stands, a read of its address answers bytes exactly if it is good; out of memory
+-- if a content is there, a read of its address answers bytes exactly if it is good; out of memory
 -- says nothing
 abbrev pub ReadsTellGood : Type 0
 ReadsTellGood =

@@ -13,14 +13,14 @@ ReadAt (t ∷ trees) [] = ⊥
 ReadAt (t ∷ trees) (m ∷ moves) =
     Rooted t × ((luck : Luck) × (m.1 ≡ (apply t m.0 luck).0)) × ReadAt trees moves
 
--- whether a file or a link stands there
+-- whether a file or a link is there
 abbrev pub is_leaf : Option Node → Bool
 is_leaf None = false
 is_leaf (Some Folder) = false
 is_leaf (Some (File bytes)) = true
 is_leaf (Some (Link target)) = true
 
--- of each path below the folder the walk found out, at one of its places, whether a file or link
+-- for each path below the folder the walk found out, at one of its places, whether a file or link
 -- is there
 abbrev pub WalksFind : Type 0
 WalksFind =

@@ -13,8 +13,8 @@ ghost use Rattle.cacache_keep_laws.specs.Temporary.{SweepsLeave};
 ghost use Rattle.cacache_keep_laws.specs.Verifying.{ReadsTellGood};
 ghost use Rattle.cacache_keep_laws.specs.Walks.{WalksFind, WalksStayBelow};
 
-/// A walk finds just the files and links that stand below its folder, each as it is at one of the
-/// places where the walk read.
+/// A walk finds exactly the files and links that are below its folder, each as it is at one of the places where the
+/// walk read.
 pub fn walk_laws()
     ensures finds { WalksFind }
     ensures below { WalksStayBelow }
@@ -41,13 +41,13 @@ pub fn index_laws()
     ensures agree { IndexesAgree }
 {}
 
-/// A read of a content that stands tells whether it is good.
+/// A read of a content that is there shows whether it is good.
 pub fn verify_laws()
     ensures good { ReadsTellGood }
 {}
 
-/// Removals leave the other contents and all buckets, and a cache on which calls may be made; and where links lead
-/// out of the cache, neither a lookup nor a read by key of a content that is left sees them.
+/// Removals leave the other contents and all buckets, and a cache on which calls may be made; and if links lead out
+/// of the cache, neither a lookup nor a read by key of a content that is left sees them.
 pub fn collect_laws()
     ensures links { CachesLinkOut }
     ensures run { RemovalsRun }
@@ -57,21 +57,21 @@ pub fn collect_laws()
     ensures lookups { CollectionsKeepLookups }
 {}
 
-/// Where all that a tree lacks of another are contents that no lookup leads to: so it is still after a
-/// removal that is made on both, and no lookup, no verified read by key and no listing of the index sees it.
+/// If all that a tree lacks of another are contents that no lookup leads to, it is still so after a removal that is
+/// made on both, and no lookup, no verified read by key and no listing of the index sees it.
 pub fn idle_laws()
     ensures removals { StillLacksIdle }
     ensures unseen { IdleIsUnseen }
 {}
 
-/// The removal of the temporary files that a listing of their folder tells leaves all else.
+/// The removal of the temporary files that a listing of their folder shows leaves all else.
 pub fn sweep_laws()
     ensures leaves { SweepsLeave }
 {}
 
-/// A call that adds a tombstone leaves the contents, and hides its key alone; and so removals of damaged
-/// contents and tombstones behind them leave the good contents. Where each thing lies in its place, as in a cache
-/// that only calls wrote to, it does so after such a call, and the index lists what lookups find.
+/// A call that adds a tombstone leaves the contents, and hides its key alone; and so removals of damaged contents and
+/// tombstones after them leave the good contents. If each thing lies in its place, as in a cache that only calls
+/// wrote to, it does so after such a call, and the index lists what lookups find.
 pub fn repair_laws()
     ensures contents { TombstonesKeepContents }
     ensures leaves { RepairsLeave }

@@ -62,7 +62,7 @@ pub plain_listing : (items : List Item) (text : List ℕ) → IsPrintedListing i
 plain_listing items text (lines, (permuted, sorted), is) =
     (lines, (rw (plain_lines items) permuted, sorted), is)
 
--- what is put out of a listing of items is put out of one without their messages
+-- what is put out for a listing of items is put out for one without their messages
 pub plain_puts : (items : List Item) (told : Bool) (text : List ℕ) (before after : Option (List ℕ)) (status : ℕ) → told ≡ has_error items → PutsListing told text before after status → PutsListing (has_error (map plain_item items)) text before after status
 plain_puts items told text before after status is put =
     subst (λ (b : Bool). PutsListing b text before after status) (is ∙ sym (plain_errors items)) put

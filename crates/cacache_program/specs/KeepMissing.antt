@@ -1,4 +1,4 @@
--- What is said where no cache is.
+-- What is said if there is no cache.
 use Rattle.std.specs.{Prelude.{◌≡◌, ◌⊎◌, ◌++◌, ℕ, List, Option, Bool, true, false, codes}, Io.KnownBytes.{Appends}}
 use Rattle.cacache_store.specs.declared.store.answer.Answer.TheVariants as answers
 use Rattle.cacache_store.specs.declared.store.step.Step.TheVariants as steps
@@ -6,11 +6,11 @@ use Rattle.cacache_table.specs.SingleSteps.{Does}
 use Rattle.cacache.specs.{Stores.{LogItem, PlainAnswer}, Calls.{Env, KeepsRest}}
 use Rattle.cacache_program.specs.Output.{AppendsPart}
 
--- the line on a folder that isn't there
+-- the line about a folder that isn't there
 abbrev pub missing_line : List ℕ → List ℕ
 missing_line cache = codes "no cache at " ++ (cache ++ codes "\n")
 
--- it was put out, or a beginning of it, if nothing is there; else nothing was
+-- it was put out, or a beginning of it, if nothing is there; otherwise nothing was
 abbrev pub TellsMissing : List ℕ → Bool → Option (List ℕ) → Option (List ℕ) → Type 0
 TellsMissing cache true before after =
     Appends before after (missing_line cache) ⊎ AppendsPart before after (missing_line cache)
@@ -30,7 +30,7 @@ module _ {S C N : Type 0} (log : S → Option (List LogItem)) where
       × (missing ≡ says_missing answer))
       ⊎ ((log new.store ≡ log old.store) × (missing ≡ false)))
 
-  -- so it was asked, and told
+  -- so it was asked, and the answer reported
   abbrev pub AsksFor :
       List ℕ → Env S C N → Env S C N → Option (List ℕ) → Option (List ℕ) → Type 0
   AsksFor cache old new before after =

@@ -1,4 +1,4 @@
--- What is printed of the values that the calls of `cacache-keep` give.
+-- What is printed for the values that the calls of `cacache-keep` give.
 use Rattle.std.specs.Prelude.{ℕ, List, Option, length, map, string_bytes}
 use Rattle.cacache.specs.Entries.{found_view}
 use Rattle.cacache_keep.specs.declared.{collecting.Collected.{Collected}, compacting.Compacted.{Compacted}, planning.Planned.{Planned}, repairing.Repaired.{Repaired}, sweeping.Swept.{Swept}, verifying.Verdict.{Verdict}}
@@ -22,7 +22,7 @@ PutsVerdict v before after status =
     TellsVerdict v.good (length v.damaged.items) (length v.dangling.items) (length v.strange.items)
     before after status
 
--- its counts, and the list behind them
+-- its counts, and the list after them
 abbrev pub list_of_verdict : Verdict → List ℕ
 list_of_verdict v =
     listed_text v.good v.damaged.items

@@ -11,7 +11,7 @@ planned_text kept unused =
     codes "kept " ++ (decimal kept ++ (codes "\nunused " ++ (decimal unused ++ codes "\n")))
 
 module _ {S C N : Type 0} (log : S → Option (List LogItem)) where
-  -- the log gained a plan, and its counts were told
+  -- the log gained a plan, and its counts were printed
   abbrev pub PrintsPlan :
       List ℕ → Env S C N → Env S C N → Option (List ℕ) → Option (List ℕ) → ℕ → Type 0
   PrintsPlan cache old new before after status =
@@ -25,7 +25,7 @@ module _ {S C N : Type 0} (log : S → Option (List LogItem)) where
   FailsToPlan cache old new before after status =
       Fails log (StopsPlanning (site_of cache old.base 0)) old new before after status
 
-  -- one of the two, and of the environment only the store may have changed
+  -- one of the two, and in the environment only the store may have changed
   abbrev pub Plans :
       List ℕ → Env S C N → Env S C N → Option (List ℕ) → Option (List ℕ) → ℕ → Type 0
   Plans cache old new before after status =

@@ -12,7 +12,7 @@ swept_text files bytes strange =
     ++ (codes "\nstrange " ++ (decimal strange ++ codes "\n")))))
 
 module _ {S C N : Type 0} (log : S → Option (List LogItem)) where
-  -- the log gained a sweep, and its counts were told
+  -- the log gained a sweep, and its counts were printed
   abbrev pub PrintsSweep :
       List ℕ → Env S C N → Env S C N → Option (List ℕ) → Option (List ℕ) → ℕ → Type 0
   PrintsSweep cache old new before after status =
@@ -26,7 +26,7 @@ module _ {S C N : Type 0} (log : S → Option (List LogItem)) where
   FailsToSweep cache old new before after status =
       Fails log (StopsSweeping cache) old new before after status
 
-  -- one of the two, and of the environment only the store may have changed
+  -- one of the two, and in the environment only the store may have changed
   abbrev pub Sweeps :
       List ℕ → Env S C N → Env S C N → Option (List ℕ) → Option (List ℕ) → ℕ → Type 0
   Sweeps cache old new before after status =

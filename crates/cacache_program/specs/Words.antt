@@ -6,7 +6,7 @@ abbrev pub AsksWhy : {A : Type 0} → List (String A) → Type 0
 AsksWhy [] = ⊥
 AsksWhy (a ∷ more) = string_bytes a ≡ codes "--why"
 
--- a command's name, its cache and its key, if there is one; of a storm the threads and the keys
+-- a command's name, its cache and its key, if there is one; for a storm the threads and the keys
 pub record Asked : Type 0 where
   pub name : List ℕ
   pub cache : List ℕ
@@ -46,7 +46,7 @@ abbrev pub KeyedDoes :
 KeyedDoes a name P old new before after status =
     Keyed a name (λ cache key. P cache key old new before after status)
 
--- the same of a name with a cache alone
+-- the same for a name with a cache alone
 abbrev pub UnkeyedDoes :
     {E : Type 0} → Asked → List ℕ
     → (List ℕ → E → E → Option (List ℕ) → Option (List ℕ) → ℕ → Type 0)

@@ -25,7 +25,7 @@ struct Lines {
     has_more_errors: bool,
 }
 
-/// What is printed of a listing, its first error, and whether there are others.
+/// What is printed for a listing, its first error, and whether there are others.
 #[derive(Drop)]
 pub(crate) struct Listing {
     pub(crate) text: Vec<u8>,
@@ -43,7 +43,7 @@ fn output_line(alloc: Global, found: Metadata) -> Result<Line>
 }
 
 impl Lines {
-    /// Adds an item: a line, or an error, of which the first is kept.
+    /// Adds an item: a line, or an error. The first error is kept.
     fn add(&mut self, alloc: Global, item: std::result::Result<Found, Error>) -> Result<()>
         ensures lines { OnOk result
             (lines_of self.new ≡ lines_of self.old ++ option_to_list (line_in item)) }
@@ -92,7 +92,7 @@ fn text_of(alloc: Global, lines: &[Line]) -> Result<Vec<u8>>
     Ok(text)
 }
 
-/// What is printed of the items, and their first error. Memory alone can fail.
+/// What is printed for the items, and their first error. Memory alone can fail.
 pub(crate) fn listing_of(
     alloc: Global,
     items: Vec<std::result::Result<Found, Error>>,

@@ -40,7 +40,7 @@ fn number_of(word: &str) -> Option<u64>
     word.parse::<u64>().ok()
 }
 
-/// What is printed of a storm: how many moves there were, and how many entries there are.
+/// What is printed for a storm: how many moves there were, and how many entries there are.
 fn text_of(alloc: Global, moves: u64, live: u64) -> Result<String, AllocError>
     ensures { IfOk result (λ text. string_bytes text ≡ storm_text moves live) }
 {

@@ -111,7 +111,7 @@ unopened_target l moment path t refusal e old new same is fits logs ends =
     step_refused s s (steps.Open path) t refusal e old old new (gone_nowhere s old) (rw same refl) fits logs
     (go_refused (file_in t) refusal (λ file. hashing (opens_of l moment) file []) is) ends
 
--- ---- its size is told
+-- ---- its size is given
 
 pub told_size : (l : LinkTarget) (moment : ℕ) (path : List ℕ) (t : PlainAnswer) (n : ℕ) (old new : Option (List LogItem)) → path ≡ l.path → Ok n ≡ length_in t → Fits (steps.Size path) t → Logs old new (steps.Size path) t → Gone (asks_size l moment) (after_size (target_at l moment) n) old new
 told_size l moment path t n old new same e fits logs =
@@ -125,7 +125,7 @@ untold_size l moment path t refusal e old new same is fits logs ends =
     step_refused s s (steps.Size path) t refusal e old old new (gone_nowhere s old) (rw same refl) fits logs
     (go_refused (length_in t) refusal (after_size (target_at l moment)) is) ends
 
--- the size is told, and then the target opened
+-- the size is given, and then the target opened
 pub opened_after : {F : Type 0} (file : F → PlainFile) (time : Option ℕ) (start then : ℕ → State) (r : Result (SyncToLinker F) Error) (old mid new : Option (List LogItem)) → ((moment : ℕ) → Gone (start moment) (then moment) old mid) → OpensLinker file time then r mid new → OpensLinker file time start r old new
 opened_after file time start then (Ok l) old mid new gone h =
     (h.0, h.1, λ moment. gone_through (start moment) (then moment) _ old mid new (gone moment) (h.2 moment))
@@ -144,7 +144,7 @@ pub unopened_so : (path at : List ℕ) (t : PlainAnswer) (refusal : Refusal) (e 
 unopened_so path at t refusal e old new same is fits logs ends =
     rw (← same) (refused_fails (steps.Open path) t refusal e old new (file_refused path t refusal is fits) logs ends)
 
--- the step that told its size
+-- the step that gave its size
 pub sized_so : (path at : List ℕ) (t : PlainAnswer) (n : ℕ) (old new : Option (List LogItem)) → path ≡ at → Ok n ≡ length_in t → Logs old new (steps.Size path) t → HasSize at n old new
 sized_so path at (answers.Length m) n old new same e logs = let is : n ≡ m = cc in rw (← same, is) logs
 sized_so path at t n old new same e logs = absurd cc
@@ -195,6 +195,6 @@ none_taken s t all f answer refusal e old mid new gone is fits logs ends =
 
 -- ---- the commit
 
--- a call may end out of memory wherever it stands
+-- a call may end out of memory wherever it is
 pub lost_so : (s u : State) (e : Error) (old new : Option (List LogItem)) → Gone s u old new → e ≡ OutOfMemory → Ran s (Refused (without_message e)) old new
 lost_so s u e old new gone is = rw is (gone_lost s u old new gone)

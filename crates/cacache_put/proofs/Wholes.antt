@@ -45,7 +45,7 @@ stores_whole file l bytes moment (Ok i) old new ran =
     (ran.0, ran.2, x.0, x.1, moment, x.2)
 stores_whole file l bytes moment (Err e) old new ran = tt
 
--- the same of a target that is the linker's at its moment
+-- the same for a target that is the linker's at its moment
 pub stores_whole_of : {F : Type 0} (file : F → PlainFile) (l : SyncToLinker F) (bytes : List ℕ) (moment : ℕ) (t : Target ℕ) (r : Result (List Hash) Error) (old new : Option (List LogItem)) → t ≡ target_at l.linked moment → Ran (hashing (to_link t) (file l.file) bytes) (reply_of Stored r) old new → IfOk r (λ i. StoresWhole file l bytes i old new)
 stores_whole_of file l bytes moment t r old new same ran =
     stores_whole file l bytes moment r old new (subst (λ (u : Target ℕ). Ran (hashing (to_link u) (file l.file) bytes) (reply_of Stored r) old new) same ran)

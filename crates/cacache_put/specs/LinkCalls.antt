@@ -1,4 +1,4 @@
--- What a link is asked to do, and what its integrity is that of.
+-- What a link is asked to do, and which bytes its integrity belongs to.
 use Rattle.std.specs.Prelude.{◌≡◌, ℕ, List, ◌∷◌, Option, None}
 use Rattle.cacache_core.specs.{declared.integrity.{algorithm.Algorithm.TheVariants.{Sha256}, digest.Hash.{Hash}}, Integrity.{integrity_under}}
 use Rattle.cacache_store.specs.declared.{env.Env.{Env}, store.log.LogItem.{LogItem}}

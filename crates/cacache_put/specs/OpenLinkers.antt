@@ -9,7 +9,7 @@ use Rattle.cacache_put.specs.{declared.linker.SyncToLinker.{SyncToLinker}, Optio
 use Rattle.cacache_content.specs.OpenReads.{OpensFile, FailsToOpen}
 use Rattle.cacache_jobs.specs.Environment.{HasMoment, KeepsRest}
 
--- a target that is to be linked to; where it has no moment, the clock is asked for it
+-- a target that is to be linked to; if it has no moment, the clock is asked for it
 abbrev pub LinkTarget : Type 0
 LinkTarget = Target (Option ℕ)
 
@@ -29,7 +29,7 @@ asks_size l moment = sizing (target_at l moment)
 abbrev pub asks_file : LinkTarget → ℕ → State
 asks_file l moment = opening_file (to_link (target_at l moment))
 
--- it was asked, and is the one that the link is to have; or why it wasn't told
+-- it was asked, and is the one that the link is to have; or why it wasn't given
 abbrev pub Sizes :
     LinkTarget → Result LinkTarget Error → Option (List LogItem) → Option (List LogItem) → Type 0
 Sizes l (Ok sized) old new =
@@ -67,7 +67,7 @@ pub record IsNewLinker {F : Type 0} (linked : LinkTarget) (l : SyncToLinker F) :
 abbrev pub HasSize : List ℕ → ℕ → Option (List LogItem) → Option (List LogItem) → Type 0
 HasSize path size old new = Does (steps.Size path) (answers.Length size) old new
 
--- it wasn't told
+-- it wasn't given
 abbrev pub FailsToSize : List ℕ → Error → Option (List LogItem) → Option (List LogItem) → Type 0
 FailsToSize path e old new = FailsAt (steps.Size path) e old new
 
@@ -79,7 +79,7 @@ AsksSize l (Ok next) old new =
 AsksSize l (Err e) old new = FailsToSize l.path e old new
 
 module _ {F : Type 0} (file : F → PlainFile) where
-  -- the target was opened, of which the linker took nothing yet; or why it wasn't
+  -- the target was opened, and the linker took nothing of it yet; or why it wasn't
   abbrev pub OpensTarget :
       LinkTarget → Result (SyncToLinker F) Error → Option (List LogItem) → Option (List LogItem) → Type 0
   OpensTarget linked (Ok l) old new =
@@ -98,7 +98,7 @@ module _ {F : Type 0} (file : F → PlainFile) where
       × FailsToOpen linked.path e mid new)
 
   module _ {S C N : Type 0} (log : S → Option (List LogItem)) where
-    -- the target was opened, and the environment stayed but for the store
+    -- the target was opened, and the environment stayed except for the store
     abbrev pub OpensLink :
         Env S C N → Env S C N → LinkTarget → Result (SyncToLinker F) Error → Type 0
     OpensLink old new linked r =
@@ -112,7 +112,7 @@ module _ {F : Type 0} (file : F → PlainFile) where
 
   -- ---- the opening as moves of a run
 
-  -- where the linker's call stands
+  -- the state of the linker's call
   abbrev pub stands_at : SyncToLinker F → List ℕ → ℕ → State
   stands_at l bytes moment = hashing (to_link (target_at l.linked moment)) (file l.file) bytes
 

@@ -12,7 +12,7 @@ pub record Said : Type 0 where
   pub metadata : Data
   pub raw_metadata : Option (List ℕ)
   pub durable : Bool
-  -- the entry's time; the clock is asked where none was set
+  -- the entry's time; the clock is asked if none was set
   pub time : Option ℕ
 
 -- what blank options say
@@ -27,11 +27,11 @@ nothing_said = record {
   time = None;
 }
 
--- what options say of which the algorithm alone was set
+-- what options say if the algorithm alone was set
 abbrev pub saying : Algorithm → Said
 saying a = record nothing_said { algorithm = a }
 
--- the same as the options of a command, which has its moment beside them
+-- the same as the options of a command, which has its moment next to them
 abbrev pub options_of : Said → Options
 options_of s = record {
   algorithm = s.algorithm;

@@ -12,7 +12,7 @@ links t bytes = link (commit_for t bytes) t.path
 abbrev pub HoldsOn : Hasher → Hasher → List ℕ → Type 0
 HoldsOn old new bytes = Holds new bytes × (algorithm_of new ≡ algorithm_of old)
 
--- the rest of the target was read, whose bytes are so many then; or why it wasn't
+-- the rest of the target was read, and all its bytes are so many then; or why it wasn't
 abbrev pub ReadsRest :
     Target ℕ → PlainFile → List ℕ → Hasher → Hasher → Result ℕ Error
     → Option (List LogItem) → Option (List LogItem) → Type 0
@@ -22,7 +22,7 @@ ReadsRest t file bytes hasher next (Ok n) old new =
 ReadsRest t file bytes hasher next (Err e) old new =
     Ran (hashing (to_link t) file bytes) (Refused (without_message e)) old new
 
--- so it was of any target, of which any bytes were hashed before that are so many
+-- so it was for any target and any bytes that were hashed before, if they are so many
 abbrev pub ReadsOn :
     ℕ → PlainFile → Hasher → Hasher → Result ℕ Error
     → Option (List LogItem) → Option (List LogItem) → Type 0
@@ -39,7 +39,7 @@ LinksHashed t computed count reply old new =
     → computed ≡ integrity_under t.options.algorithm bytes → count ≡ length bytes
     → Ran (links t bytes) reply old new
 
--- the rest of the target was read, of which so many bytes were hashed, and the link was made
+-- so many bytes of the target were hashed, the rest was read, and the link was made
 abbrev pub LinksRest :
     Target ℕ → Hasher → ℕ → PlainFile → Reply
     → Option (List LogItem) → Option (List LogItem) → Type 0

@@ -17,9 +17,9 @@ use cacache_store::env::{Clock, Env, Names};
 use cacache_store::store::Store;
 use cacache_table::{Command, Insert};
 
-/// Adds an entry to the index, and answers its integrity. Without an integrity it adds a tombstone, which says that the
-/// key was deleted, and answers `sha1-deadbeef`. The entry's size is the one that was set, and else 0. Where no time was
-/// set, the clock is asked for it once, before the first step.
+/// Adds an entry to the index, and answers its integrity. Without an integrity it adds a tombstone, which says that
+/// the key was deleted, and answers `sha1-deadbeef`. The entry's size is the one that was set, and otherwise 0. If no
+/// time was set, the clock is asked for it once, before the first step.
 ///
 /// ```
 /// let sri = cacache::write_hash_sync(&mut env, "my-cache", b"my data")?;
@@ -30,7 +30,7 @@ use cacache_table::{Command, Insert};
 ///
 /// Its future, `insert_async`, is run as in the example of `read`.
 ///
-/// `SerdeError` where the entry can't be written: then nothing changed. `IoError` says which step failed, or took only a
+/// `SerdeError` if the entry can't be written: then nothing changed. `IoError` says which step failed, or took only a
 /// part of the line: then the bucket may end in a beginning of the line, perhaps all of it. `OutOfMemory` may come after
 /// any step.
 pub fn insert<S: Store, C: Clock, N: Names>(

@@ -24,7 +24,7 @@ use cacache_store::store::{OpenedFile, Step, Store};
 use cacache_table::{Options, Target};
 use std::alloc::{AllocError, Global};
 
-/// A file that is to be linked to; where the entry's time isn't set, the commit asks the clock for it.
+/// A file that is to be linked to; if the entry's time isn't set, the commit asks the clock for it.
 pub(crate) type LinkTarget = Target<Option<u128>>;
 
 /// An open file that is to become a content by a link to it. It may be read in pieces; `commit` reads the rest, and
@@ -108,7 +108,7 @@ fn ask_size_and_open<S: Store>(
     }
 }
 
-/// Asks the size of a target of which nothing else is said, and opens it.
+/// Asks the size of a target that has blank options, and opens it.
 fn open_blank<S: Store, C, N>(
     env: &mut Env<S, C, N>,
     cache: &str,
@@ -145,7 +145,7 @@ fn finish<S: Store, C, N>(
     link_from(env, commit, path).stored()
 }
 
-/// Reads the rest of the target, of which so many bytes were hashed, and makes the link.
+/// Reads the rest of the target after so many bytes that were hashed, and makes the link.
 fn link_rest<S: Store, C, N>(
     env: &mut Env<S, C, N>,
     target: Target<u128>,
@@ -170,8 +170,8 @@ fn link_rest<S: Store, C, N>(
 }
 
 impl<F: OpenedFile> SyncToLinker<F> {
-    /// Opens the target of a link without a key, whose integrity is to be under this algorithm. A target without a `/`
-    /// in front starts at the base folder of `env`. Nothing is saved before its `commit`.
+    /// Opens the target of a link without a key, with an integrity that is to be under this algorithm. A target
+    /// without a `/` in front starts at the base folder of `env`. Nothing is saved before its `commit`.
     ///
     /// `IoError` says that the target couldn't be opened. Nothing changes.
     pub fn new<S: Store<File = F>, C: Clock, N: Names>(
@@ -200,7 +200,7 @@ impl<F: OpenedFile> SyncToLinker<F> {
     /// let sri = linker.commit(&mut env)?; // nothing was saved before
     /// ```
     ///
-    /// `IoError` says whether the size couldn't be told or the target couldn't be opened. Nothing changes.
+    /// `IoError` says whether the size couldn't be had or the target couldn't be opened. Nothing changes.
     pub fn open<S: Store<File = F>, C: Clock, N: Names>(
         env: &mut Env<S, C, N>,
         cache: &str,
@@ -235,14 +235,14 @@ impl<F: OpenedFile> SyncToLinker<F> {
         open_blank(env, cache, None, target, Some(0))
     }
 
-    /// Reads the rest of the target, makes a link to it the content of its bytes, and with a key adds an entry. Answers
-    /// the integrity of the whole target, or with a key the expected one, where one was given. The entry has the time
-    /// that was set; where none was, the clock is asked for it once, before the first step.
+    /// Reads the rest of the target, makes a link to it the content of its bytes, and with a key adds an entry.
+    /// Answers the integrity of the whole target, or with a key the expected one, if one was given. The entry has the
+    /// time that was set; if none was, the clock is asked for it once, before the first step.
     ///
-    /// `IoError` says which step failed, or took only a part of the line. `IntegrityError` where the expected integrity
-    /// doesn't list the target's, `SizeMismatch` where the target has another size than expected, `SerdeError` where the
-    /// entry can't be written: then the link is there. After other errors it may be there or not, and the bucket may end
-    /// in a beginning of the line, perhaps all of it. `OutOfMemory` may come after any step.
+    /// `IoError` says which step failed, or took only a part of the line. `IntegrityError` if the expected integrity
+    /// doesn't list the target's, `SizeMismatch` if the target has another size than expected, `SerdeError` if the
+    /// entry can't be written: then the link is there. After other errors it may be there or not, and the bucket may
+    /// end in a beginning of the line, perhaps all of it. `OutOfMemory` may come after any step.
     pub fn commit<S: Store<File = F>, C: Clock, N: Names>(
         self,
         env: &mut Env<S, C, N>,
@@ -259,11 +259,33 @@ impl<F: OpenedFile> SyncToLinker<F> {
             file,
         } = self;
         let moment = moment(&mut env.clock, linked.moment);
-        // a longer target has no size that could be told
+        // a longer target has no size that could be given
         if count == usize::MAX {
             let_go((linked, hasher, file));
             return Err(Error::OutOfMemory);
         }
         link_rest(env, linked.at(moment), hasher, count, file)
+    }
+}
+
+impl<F: OpenedFile> Read for SyncToLinker<F> {
+    ghost remaining = { λ linker. (F.seen linker.file).bytes };
+
+    /// Reads some bytes into the front of `buf` and returns how many: none only at the end of the target, or if `buf`
+    /// is empty. After an error the linker is where it was, and may go on.
+    fn read(&mut self, buf: &mut [u8]) -> io::Result<usize>
+        ensures bound { ReadsAtMost result buf.new }
+        ensures bytes { ReadConsumes (F.seen self.old.file).bytes (F.seen self.new.file).bytes
+            result buf.new }
+        ensures left { LeftFalls (F.seen self.old.file).left (F.seen self.new.file).left result }
+        ensures so_far { (bytes : List ℕ) → HasHashed self.old bytes
+            → HasHashed self.new (bytes ++ passed result buf.new) }
+        ensures linked { self.new.linked ≡ self.old.linked }
+        ensures earned { F.reads self.old.file (length buf.old) result self.new.file }
+    {
+        let count = self.file.read_some(buf)?;
+        self.hasher.update(&buf[..count]);
+        self.count = self.count.saturating_add(count);
+        Ok(count)
     }
 }

@@ -51,7 +51,7 @@ fn make_link<S: Store, C, N>(
 ///
 /// Its future, `link_to`, is run as in the example of `read`.
 ///
-/// `IoError` says which step failed, or took only a part of the line. `SizeMismatch` where the target gave more or fewer
+/// `IoError` says which step failed, or took only a part of the line. `SizeMismatch` if the target gave more or fewer
 /// bytes than its size. Then the link may have been made or not, and the bucket may end in a beginning of the line,
 /// perhaps all of it. `OutOfMemory` may come after any step.
 pub fn link_to_sync<S: Store, C: Clock, N: Names>(
@@ -80,7 +80,7 @@ pub fn link_to_sync<S: Store, C: Clock, N: Names>(
 ///
 /// Its future, `link_to_hash`, is run as in the example of `read`.
 ///
-/// `IoError` says which step failed. `SizeMismatch` where the target gave more or fewer bytes than its size. Then the
+/// `IoError` says which step failed. `SizeMismatch` if the target gave more or fewer bytes than its size. Then the
 /// link may have been made or not; no bucket changes. `OutOfMemory` may come after any step.
 pub fn link_to_hash_sync<S: Store, C: Clock, N: Names>(
     env: &mut Env<S, C, N>,

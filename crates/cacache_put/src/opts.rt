@@ -1,4 +1,4 @@
-//! What a writer may say of a content and of its entry.
+//! What a writer may say about a content and its entry.
 ghost use Rattle.std.specs.Prelude.{◌≡◌, None, Some, IfOk, option_map};
 ghost use Rattle.serde_json.specs.View.{view};
 ghost use Rattle.cacache_core.specs.Integrity.{IsIntegrity};
@@ -19,8 +19,8 @@ use serde_json::Value;
 use std::alloc::{AllocError, Global};
 use std::marker::Model;
 
-/// Options for a content that is written, or for an entry that is inserted. Of each option the last one set counts. An
-/// entry that is inserted without an integrity is a tombstone, and one without a size records 0.
+/// Options for a content that is written, or for an entry that is inserted. The last setting of each option counts.
+/// An entry that is inserted without an integrity is a tombstone, and one without a size records 0.
 #[derive(Drop)]
 pub struct WriteOpts {
     algorithm: Algorithm,
@@ -123,7 +123,7 @@ impl WriteOpts {
     /// Whether the commit, or the insertion, waits until a loss of power would leave it whole: it syncs the content, the
     /// bucket and the folders that lead to them, and answers only then. Linkers ignore it. Blank options say no.
     ///
-    /// If the move to the content's place fails and a content stands there, the commit syncs that one without reading it,
+    /// If the move to the content's place fails and a content is there, the commit syncs that one without reading it,
     /// and goes on. A damaged one stays damaged then, though the commit answers Ok.
     pub fn durable(self, yes: bool) -> WriteOpts
         ensures { result ≡ record self { durable = yes } }

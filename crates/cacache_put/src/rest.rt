@@ -8,7 +8,7 @@ use cacache_store::store::{Step, Store};
 use cacache_table::answers::{Got, got_of};
 use std::alloc::Global;
 
-/// Reads the target to its end and hashes it, so many bytes having been read before, and answers how many it has.
+/// Reads the target to its end after so many bytes that were read before, hashes it, and answers how many it has.
 pub(crate) fn read_rest<S: Store>(
     alloc: Global,
     store: &mut S,
@@ -30,7 +30,7 @@ pub(crate) fn read_rest<S: Store>(
         if bytes.is_empty() {
             return Ok(count);
         }
-        // a longer file has no size that could be told
+        // a longer file has no size that could be given
         let Some(more) = count.checked_add(bytes.len()) else {
             return Err(Error::OutOfMemory);
         };

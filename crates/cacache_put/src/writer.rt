@@ -32,7 +32,7 @@ use std::io::Write;
 pub struct SyncWriter<T> {
     writer: Writer<T>,
     key: Option<Text>,
-    /// The entry's time, in milliseconds since 1970; the clock is asked where none was set.
+    /// The entry's time, in milliseconds since 1970; the clock is asked if none was set.
     time: Option<u128>,
     options: Options,
 }
@@ -106,12 +106,12 @@ impl<T: TempFile> SyncWriter<T> {
         WriteOpts::new().algorithm(algo).open_sync(env, cache, key)
     }
 
-    /// Makes the bytes that the writer took a content, compares it with the expected integrity and then with the expected
-    /// size, and with a key adds its entry; the entry's size is the count of the bytes. Answers the expected integrity
-    /// where there is one and a key, and else that of the bytes. With a key the clock is asked once, before the first step,
-    /// where no time was set.
+    /// Makes the bytes that the writer took a content, compares it with the expected integrity and then with the
+    /// expected size, and with a key adds its entry; the entry's size is the count of the bytes. Answers the expected
+    /// integrity if there is one and a key, and otherwise that of the bytes. With a key the clock is asked once,
+    /// before the first step, if no time was set.
     ///
-    /// `IntegrityError` and `SizeMismatch` leave the content there, without an entry. `SerdeError` where the entry can't be
+    /// `IntegrityError` and `SizeMismatch` leave the content there, without an entry. `SerdeError` if the entry can't be
     /// written, likewise. `IoError` says which step failed, or took only a part of the line. Then the content may have been
     /// stored or not, and the bucket may end in a beginning of the line, perhaps all of it. `OutOfMemory` may come after
     /// any step.
@@ -136,7 +136,7 @@ impl<T: TempFile> SyncWriter<T> {
         commit(env, writer, key, moment, options)
     }
 
-    /// Hands all of the data to the file, as `write_all` does, and gives the writer back. Where a write fails, the
+    /// Hands all of the data to the file, as `write_all` does, and gives the writer back. If a write fails, the
     /// temporary file is removed, so that a `?` leaves nothing behind.
     ///
     /// ```
@@ -145,8 +145,8 @@ impl<T: TempFile> SyncWriter<T> {
     /// let sri = writer.commit(&mut env)?;
     /// ```
     ///
-    /// `IoError` has the fault of that write. Whether the file could be removed isn't told. Contents and index stay as
-    /// they were.
+    /// `IoError` has the fault of that write. Whether the file could be removed isn't reported. Contents and index
+    /// stay as they were.
     pub fn write_or_abandon<S: Store<Temp = T>, C: Clock, N: Names>(
         self,
         env: &mut Env<S, C, N>,

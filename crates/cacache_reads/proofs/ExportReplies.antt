@@ -22,7 +22,7 @@ done_by HardLink r other x = x
 pub says_nothing : (site : Site) (source : Source) (e : Export) (r : Reply) → e.how ≢ Copy → Answers site (commands.Export source e) r → Only Done r
 says_nothing site source e r other a = done_by e.how r other (exports site source e r a)
 
--- what is so of a checked one is so of what it answers
+-- what holds of a checked one holds of what it answers
 pub if_checked : {A : Type 0} (P : A → Type 0) (checked : Bool) (r : Result A Error) → IfOk r (λ x. checked ≡ true → P x) → checked ≡ true → IfOk r P
 if_checked P checked (Ok x) h so = h so
 if_checked P checked (Err e) h so = tt

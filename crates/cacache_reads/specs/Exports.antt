@@ -33,6 +33,6 @@ unchecked_export how = exporting how false
 abbrev pub SaysCount : Command → Type 0
 SaysCount command = (site : Site) (r : Reply) → Answers site command r → OnlyCopies r
 
--- wherever the command is called, it says nothing but that it is done
+-- wherever the command is called, it only says that it is done
 abbrev pub SaysNothing : Command → Type 0
 SaysNothing command = (site : Site) (r : Reply) → Answers site command r → Only Done r

@@ -27,8 +27,8 @@ use cacache_table::How;
 ///
 /// Its future, `copy_hash`, is run as in the example of `read`.
 ///
-/// `IntegrityError` where the content doesn't meet the integrity, `IoError` says which step failed, with `NotFound`
-/// where the content isn't there. The path is left alone until the content is verified; a copy that failed may leave a
+/// `IntegrityError` if the content doesn't meet the integrity, `IoError` says which step failed, with `NotFound`
+/// if the content isn't there. The path is left alone until the content is verified; a copy that failed may leave a
 /// part of it there. `OutOfMemory` may come after the last step.
 pub fn copy_hash_sync<S: Store, C: Clock, N: Names>(
     env: &mut Env<S, C, N>,
@@ -55,7 +55,7 @@ pub fn copy_hash_sync<S: Store, C: Clock, N: Names>(
 ///
 /// Its future, `copy_hash_unchecked`, is run as in the example of `read`.
 ///
-/// `IoError` says which step failed, with `NotFound` where the content isn't there. A copy that failed may leave a part
+/// `IoError` says which step failed, with `NotFound` if the content isn't there. A copy that failed may leave a part
 /// of it there. `OutOfMemory` may come after the last step.
 pub fn copy_hash_unchecked_sync<S: Store, C: Clock, N: Names>(
     env: &mut Env<S, C, N>,
@@ -70,7 +70,7 @@ pub fn copy_hash_unchecked_sync<S: Store, C: Clock, N: Names>(
     copy_content(env, cache, Named::Hash(sri), false, to)
 }
 
-/// Makes a file at this path that shares its storage with the content of the integrity. Nothing may stand there. The
+/// Makes a file at this path that shares its storage with the content of the integrity. Nothing may be there. The
 /// content is read to its end first, and goes there only if it meets the integrity. Real folders make no reflinks:
 /// there its last step always fails with `Unsupported`.
 ///
@@ -81,8 +81,8 @@ pub fn copy_hash_unchecked_sync<S: Store, C: Clock, N: Names>(
 ///
 /// Its future, `reflink_hash`, is run as in the example of `read`.
 ///
-/// `IntegrityError` where the content doesn't meet the integrity, `IoError` says which step failed, with `NotFound`
-/// where the content isn't there. Then nothing changed. `OutOfMemory` may come after the last step.
+/// `IntegrityError` if the content doesn't meet the integrity, `IoError` says which step failed, with `NotFound`
+/// if the content isn't there. Then nothing changed. `OutOfMemory` may come after the last step.
 pub fn reflink_hash_sync<S: Store, C: Clock, N: Names>(
     env: &mut Env<S, C, N>,
     cache: &str,
@@ -98,7 +98,7 @@ pub fn reflink_hash_sync<S: Store, C: Clock, N: Names>(
     link_content(env, cache, Named::Hash(sri), How::Reflink, true, to)
 }
 
-/// Makes a file at this path that shares its storage with the content of the integrity. Nothing may stand there.
+/// Makes a file at this path that shares its storage with the content of the integrity. Nothing may be there.
 /// Whether it meets the integrity isn't asked. Real folders make no reflinks: there its last step always fails with
 /// `Unsupported`.
 ///
@@ -107,7 +107,7 @@ pub fn reflink_hash_sync<S: Store, C: Clock, N: Names>(
 /// cacache::reflink_hash_unchecked_sync(&mut env, "my-cache", &sri, "/my-copy")?; // on real folders it fails
 /// ```
 ///
-/// `IoError` says which step failed, with `NotFound` where the content isn't there. Then nothing changed. `OutOfMemory`
+/// `IoError` says which step failed, with `NotFound` if the content isn't there. Then nothing changed. `OutOfMemory`
 /// may come after the last step.
 pub fn reflink_hash_unchecked_sync<S: Store, C: Clock, N: Names>(
     env: &mut Env<S, C, N>,
@@ -122,7 +122,7 @@ pub fn reflink_hash_unchecked_sync<S: Store, C: Clock, N: Names>(
     link_content(env, cache, Named::Hash(sri), How::Reflink, false, to)
 }
 
-/// Gives the content of the integrity one more name, which is this path. Nothing may stand there. The content is read
+/// Gives the content of the integrity one more name, which is this path. Nothing may be there. The content is read
 /// to its end first, and goes there only if it meets the integrity. On real folders both names are one file: whoever
 /// changes it through this one damages the cache.
 ///
@@ -133,8 +133,8 @@ pub fn reflink_hash_unchecked_sync<S: Store, C: Clock, N: Names>(
 ///
 /// Its future, `hard_link_hash`, is run as in the example of `read`.
 ///
-/// `IntegrityError` where the content doesn't meet the integrity, `IoError` says which step failed, with `NotFound`
-/// where the content isn't there. Then nothing changed. `OutOfMemory` may come after the last step.
+/// `IntegrityError` if the content doesn't meet the integrity, `IoError` says which step failed, with `NotFound`
+/// if the content isn't there. Then nothing changed. `OutOfMemory` may come after the last step.
 pub fn hard_link_hash_sync<S: Store, C: Clock, N: Names>(
     env: &mut Env<S, C, N>,
     cache: &str,
@@ -150,7 +150,7 @@ pub fn hard_link_hash_sync<S: Store, C: Clock, N: Names>(
     link_content(env, cache, Named::Hash(sri), How::HardLink, true, to)
 }
 
-/// Gives the content of the integrity one more name, which is this path. Nothing may stand there. Whether it meets the
+/// Gives the content of the integrity one more name, which is this path. Nothing may be there. Whether it meets the
 /// integrity isn't asked. On real folders both names are one file: whoever changes it through this one damages the
 /// cache.
 ///
@@ -159,7 +159,7 @@ pub fn hard_link_hash_sync<S: Store, C: Clock, N: Names>(
 /// cacache::hard_link_hash_unchecked_sync(&mut env, "my-cache", &sri, "/my-link")?; // it has b"my data"
 /// ```
 ///
-/// `IoError` says which step failed, with `NotFound` where the content isn't there. Then nothing changed. `OutOfMemory`
+/// `IoError` says which step failed, with `NotFound` if the content isn't there. Then nothing changed. `OutOfMemory`
 /// may come after the last step.
 pub fn hard_link_hash_unchecked_sync<S: Store, C: Clock, N: Names>(
     env: &mut Env<S, C, N>,

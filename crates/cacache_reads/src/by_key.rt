@@ -17,7 +17,7 @@ use cacache_table::How;
 
 /// Copies the content that a lookup of the key finds to this path, and answers how many bytes it has. A file there is
 /// overwritten. The content is read to its end first, and goes there only if it meets the integrity that the lookup
-/// gives. Where the content is a link, its target's bytes are copied.
+/// gives. If the content is a link, its target's bytes are copied.
 ///
 /// ```
 /// cacache::write_sync(&mut env, "my-cache", "key", b"my data")?;
@@ -26,8 +26,8 @@ use cacache_table::How;
 ///
 /// Its future, `copy`, is run as in the example of `read`.
 ///
-/// `EntryNotFound` where that lookup is none, `IntegrityError` where the content doesn't meet the integrity, `IoError`
-/// says which step failed, with `NotFound` where the content isn't there. The path is left alone until the content is
+/// `EntryNotFound` if the lookup finds none, `IntegrityError` if the content doesn't meet the integrity, `IoError`
+/// says which step failed, with `NotFound` if the content isn't there. The path is left alone until the content is
 /// verified; a copy that failed may leave a part of it there. `OutOfMemory` may come after the last step.
 pub fn copy_sync<S: Store, C: Clock, N: Names>(
     env: &mut Env<S, C, N>,
@@ -53,7 +53,7 @@ pub fn copy_sync<S: Store, C: Clock, N: Names>(
 ///
 /// Its future, `copy_unchecked`, is run as in the example of `read`.
 ///
-/// `EntryNotFound` where that lookup is none, `IoError` says which step failed, with `NotFound` where the content isn't
+/// `EntryNotFound` if the lookup finds none, `IoError` says which step failed, with `NotFound` if the content isn't
 /// there. A copy that failed may leave a part of it there. `OutOfMemory` may come after the last step.
 pub fn copy_unchecked_sync<S: Store, C: Clock, N: Names>(
     env: &mut Env<S, C, N>,
@@ -67,9 +67,9 @@ pub fn copy_unchecked_sync<S: Store, C: Clock, N: Names>(
     copy_content(env, cache, Named::Key(key), false, to)
 }
 
-/// Makes a file at this path that shares its storage with the content that a lookup of the key finds. Nothing may stand
+/// Makes a file at this path that shares its storage with the content that a lookup of the key finds. Nothing may be
 /// there. The content is read to its end first, and goes there only if it meets the integrity that the lookup gives.
-/// Where the content is a link, its target's storage is shared. Real folders make no reflinks: there its last step
+/// If the content is a link, its target's storage is shared. Real folders make no reflinks: there its last step
 /// always fails with `Unsupported`.
 ///
 /// ```
@@ -79,8 +79,8 @@ pub fn copy_unchecked_sync<S: Store, C: Clock, N: Names>(
 ///
 /// Its future, `reflink`, is run as in the example of `read`.
 ///
-/// `EntryNotFound` where that lookup is none, `IntegrityError` where the content doesn't meet the integrity, `IoError`
-/// says which step failed, with `NotFound` where the content isn't there. Then nothing changed. `OutOfMemory` may come
+/// `EntryNotFound` if the lookup finds none, `IntegrityError` if the content doesn't meet the integrity, `IoError`
+/// says which step failed, with `NotFound` if the content isn't there. Then nothing changed. `OutOfMemory` may come
 /// after the last step.
 pub fn reflink_sync<S: Store, C: Clock, N: Names>(
     env: &mut Env<S, C, N>,
@@ -96,7 +96,7 @@ pub fn reflink_sync<S: Store, C: Clock, N: Names>(
     link_content(env, cache, Named::Key(key), How::Reflink, true, to)
 }
 
-/// Makes a file at this path that shares its storage with the content that a lookup of the key finds. Nothing may stand
+/// Makes a file at this path that shares its storage with the content that a lookup of the key finds. Nothing may be
 /// there. Whether it meets its integrity isn't asked. Real folders make no reflinks: there its last step always fails
 /// with `Unsupported`.
 ///
@@ -107,7 +107,7 @@ pub fn reflink_sync<S: Store, C: Clock, N: Names>(
 ///
 /// Its future, `reflink_unchecked`, is run as in the example of `read`.
 ///
-/// `EntryNotFound` where that lookup is none, `IoError` says which step failed, with `NotFound` where the content isn't
+/// `EntryNotFound` if the lookup finds none, `IoError` says which step failed, with `NotFound` if the content isn't
 /// there. Then nothing changed. `OutOfMemory` may come after the last step.
 pub fn reflink_unchecked_sync<S: Store, C: Clock, N: Names>(
     env: &mut Env<S, C, N>,
@@ -121,9 +121,9 @@ pub fn reflink_unchecked_sync<S: Store, C: Clock, N: Names>(
     link_content(env, cache, Named::Key(key), How::Reflink, false, to)
 }
 
-/// Gives the content that a lookup of the key finds one more name, which is this path. Nothing may stand there. The
+/// Gives the content that a lookup of the key finds one more name, which is this path. Nothing may be there. The
 /// content is read to its end first, and goes there only if it meets the integrity that the lookup gives. On real
-/// folders both names are one file: whoever changes it through this one damages the cache. Where the content is a link,
+/// folders both names are one file: whoever changes it through this one damages the cache. If the content is a link,
 /// this path becomes the same link, and no name of the target.
 ///
 /// ```
@@ -133,8 +133,8 @@ pub fn reflink_unchecked_sync<S: Store, C: Clock, N: Names>(
 ///
 /// Its future, `hard_link`, is run as in the example of `read`.
 ///
-/// `EntryNotFound` where that lookup is none, `IntegrityError` where the content doesn't meet the integrity, `IoError`
-/// says which step failed, with `NotFound` where the content isn't there. Then nothing changed. `OutOfMemory` may come
+/// `EntryNotFound` if the lookup finds none, `IntegrityError` if the content doesn't meet the integrity, `IoError`
+/// says which step failed, with `NotFound` if the content isn't there. Then nothing changed. `OutOfMemory` may come
 /// after the last step.
 pub fn hard_link_sync<S: Store, C: Clock, N: Names>(
     env: &mut Env<S, C, N>,
@@ -150,7 +150,7 @@ pub fn hard_link_sync<S: Store, C: Clock, N: Names>(
     link_content(env, cache, Named::Key(key), How::HardLink, true, to)
 }
 
-/// Gives the content that a lookup of the key finds one more name, which is this path. Nothing may stand there. Whether
+/// Gives the content that a lookup of the key finds one more name, which is this path. Nothing may be there. Whether
 /// it meets its integrity isn't asked. On real folders both names are one file: whoever changes it through this one
 /// damages the cache.
 ///
@@ -159,7 +159,7 @@ pub fn hard_link_sync<S: Store, C: Clock, N: Names>(
 /// cacache::hard_link_unchecked_sync(&mut env, "my-cache", "key", "/my-link")?; // it has b"my data"
 /// ```
 ///
-/// `EntryNotFound` where that lookup is none, `IoError` says which step failed, with `NotFound` where the content isn't
+/// `EntryNotFound` if the lookup finds none, `IoError` says which step failed, with `NotFound` if the content isn't
 /// there. Then nothing changed. `OutOfMemory` may come after the last step.
 pub fn hard_link_unchecked_sync<S: Store, C: Clock, N: Names>(
     env: &mut Env<S, C, N>,

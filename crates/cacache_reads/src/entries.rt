@@ -8,7 +8,7 @@ use cacache_core::errors::Result;
 use cacache_entry::{Metadata, SerializableMetadata, line};
 use std::alloc::{AllocError, Global};
 
-/// Where the text of an entry begins in its line: behind LF, 64 hex digits and TAB.
+/// Where the text of an entry begins in its line: after LF, 64 hex digits and TAB.
 const TEXT: usize = 66;
 
 /// What a lookup found, as its line says it: the integrity is its text.
@@ -29,7 +29,7 @@ pub fn entry_of(
     })
 }
 
-/// The JSON text of an entry, as it stands in its line.
+/// The JSON text of an entry, as it is in its line.
 ///
 /// ```
 /// if let Some(found) = cacache::metadata_sync(&mut env, "my-cache", "key")? {
@@ -40,7 +40,7 @@ pub fn entry_of(
 ///
 /// # Errors
 ///
-/// Those of `line`: `SerdeError` for an entry that can't be written, `OutOfMemory` where memory runs out. What a lookup
+/// Those of `line`: `SerdeError` for an entry that can't be written, `OutOfMemory` if memory runs out. What a lookup
 /// found can be written.
 pub fn text(alloc: Global, entry: &SerializableMetadata) -> Result<Vec<u8>>
     ensures text { IfOk result (λ text. text.items ≡ text_of (entry_view entry.now)) }

@@ -28,7 +28,7 @@ fn make_copy<S: Store, C, N>(env: &mut Env<S, C, N>, cache: &str, command: Comma
     call(env, cache, command, 0).copied()
 }
 
-/// Makes a call that says nothing but that it is done.
+/// Makes a call that only says that it is done.
 fn make_link<S: Store, C, N>(env: &mut Env<S, C, N>, cache: &str, command: Command) -> Result<()>
     requires { SaysNothing command }
     ensures first { IfOk result (λ _. ReadsFirst (site_of cache.now env.old.base 0) command

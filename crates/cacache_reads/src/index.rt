@@ -14,8 +14,9 @@ use cacache_store::env::{Clock, Env, Names};
 use cacache_store::store::Store;
 use cacache_table::{Command, Delete};
 
-/// What the index has of the key: the entry that counts, if there is one. A key without a bucket has none, nor has any
-/// where the cache's folder isn't there. An entry doesn't mean that its content is there, which `exists_sync` tells.
+/// What the index has of the key: the entry that counts, if there is one. A key without a bucket has none, nor has
+/// any if the cache's folder isn't there. An entry doesn't mean that its content is there, which `exists_sync`
+/// answers.
 ///
 /// ```
 /// cacache::write_sync(&mut env, "my-cache", "key", b"my data")?;

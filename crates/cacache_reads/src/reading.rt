@@ -41,8 +41,8 @@ fn read<S: Store, C, N>(env: &mut Env<S, C, N>, cache: &str, command: Command) -
 /// let bytes = cacache::read_sync(&mut env, "my-cache", "key")?; // b"my data"
 /// ```
 ///
-/// `EntryNotFound` where that lookup is none, `IntegrityError` where the content doesn't meet the integrity, `IoError`
-/// says which step failed, with `NotFound` where the content isn't there. Nothing changes.
+/// `EntryNotFound` if the lookup finds none, `IntegrityError` if the content doesn't meet the integrity, `IoError`
+/// says which step failed, with `NotFound` if the content isn't there. Nothing changes.
 pub fn read_sync<S: Store, C: Clock, N: Names>(
     env: &mut Env<S, C, N>,
     cache: &str,
@@ -66,8 +66,8 @@ pub fn read_sync<S: Store, C: Clock, N: Names>(
 ///
 /// Its future, `read_hash`, is run as in the example of `read`.
 ///
-/// `IntegrityError` where the content doesn't meet the integrity, `IoError` says which step failed, with `NotFound`
-/// where the content isn't there. Nothing changes.
+/// `IntegrityError` if the content doesn't meet the integrity, `IoError` says which step failed, with `NotFound`
+/// if the content isn't there. Nothing changes.
 pub fn read_hash_sync<S: Store, C: Clock, N: Names>(
     env: &mut Env<S, C, N>,
     cache: &str,

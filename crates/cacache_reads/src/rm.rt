@@ -16,8 +16,8 @@ use cacache_store::env::{Clock, Env, Names};
 use cacache_store::store::Store;
 use cacache_table::Command;
 
-/// Removes the content of the integrity. Entries that name it stay: their keys are still found, but reads of them fail
-/// with `NotFound`. Of a content that is a link, the link is removed and its target stays.
+/// Removes the content of the integrity. Entries that name it stay: their keys are still found, but reads of them
+/// fail with `NotFound`. If the content is a link, the link is removed and its target stays.
 ///
 /// ```
 /// let sri = cacache::write_hash_sync(&mut env, "my-cache", b"my data")?;
@@ -27,7 +27,7 @@ use cacache_table::Command;
 ///
 /// Its future, `remove_hash`, is run as in the example of `read`.
 ///
-/// `IoError` says that the content couldn't be removed, as where there is none. Then nothing changed.
+/// `IoError` says that the content couldn't be removed, such as when there is none. Then nothing changed.
 pub fn remove_hash_sync<S: Store, C: Clock, N: Names>(
     env: &mut Env<S, C, N>,
     cache: &str,
@@ -88,7 +88,7 @@ impl RemoveOpts {
         }
     }
 
-    /// With the choice whether the content and the bucket go too.
+    /// With the choice of whether the content and the bucket go too.
     pub fn remove_fully(self, remove_fully: bool) -> RemoveOpts
         ensures { result.remove_fully ≡ remove_fully }
     {
@@ -97,8 +97,8 @@ impl RemoveOpts {
     }
 
     /// Removes the key. Fully, the content that its lookup finds goes first, if there is one, and then the key's
-    /// bucket; other keys that share either lose it too. Else this is `index::delete`, after which the content can
-    /// still be read by its integrity.
+    /// bucket; other keys that share either lose it too. Otherwise this is `index::delete`, after which the content
+    /// can still be read by its integrity.
     ///
     /// ```
     /// let sri = cacache::write_sync(&mut env, "my-cache", "key", b"my data")?;

@@ -126,7 +126,7 @@ module _ (cache : List ℕ) (folder : Names) (p : Put) (is : names_of cache ≡ 
   put_alone_quiet : AreQuiet (setup_of cache) path (begun cache own (commands.Put p) put_moves) put_rest
   put_alone_quiet = alone_quiet cache own (commands.Put p) put_moves path (put_quiet path p durable)
 
-  -- it stands where its records are among these
+  -- it is in such a history if its records are among these
   abbrev put_in : (records : List Record) → EndsFrom (begins_with cache own (commands.Put p) put_moves records) (Began 0 (commands.Put p) ∷ []) records (commands.Put p) (Stored own)
       → AreQuiet (setup_of cache) path (begun cache own (commands.Put p) put_moves) records → DurablePut (begins_with cache own (commands.Put p) put_moves records) folder p
   put_in records ends quiet = record {
@@ -146,7 +146,7 @@ module _ (cache : List ℕ) (folder : Names) (p : Put) (is : names_of cache ≡ 
   put_stands : StandsIn cache (λ h. DurablePut h folder p)
   put_stands = (begins_with cache own (commands.Put p) put_moves put_rest, refl, put_legal, put_in put_rest (alone_ends cache own (commands.Put p) put_moves) put_alone_quiet)
 
-  -- and it is the last of its bucket, whatever goes elsewhere behind it
+  -- and it is the last of its bucket, whatever goes elsewhere after it
   put_last : (key : List ℕ) → StoresDurably cache key p → (more : List Record) → GoElsewhere (begins_with cache own (commands.Put p) put_moves put_rest) folder key p more
       → IsLastPut (begins_with cache own (commands.Put p) put_moves (put_rest ++ more)) folder key p
   put_last key stores more elsewhere =

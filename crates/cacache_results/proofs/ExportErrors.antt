@@ -1,4 +1,4 @@
--- Why an export fails, by the reply that it answers where no step fails.
+-- Why an export fails, by the reply that it answers if no step fails.
 use Rattle.std.proofs.Common.{◌≡◌, ◌⊎◌, inl, inr, ℕ, Bool, true, false, cond, List, [], Option, None, Some, option_map, Result, Ok, Err, length, refl, sym, ap, subst, ◌∙◌}
 use Rattle.std.specs.Prelude.{IfErr}
 use Rattle.cacache_core.specs.{declared.{errors.{Error.{Error, TheVariants.{EntryNotFound, SizeMismatch, IoError, SerdeError, IntegrityError, OutOfMemory}}, Fault.{Fault}, IntegrityFault.{IntegrityFault, TheVariants.{Check}}}, integrity.digest.Hash.{Hash}}, Integrity.{Meets, actual}, Meeting.{meets}, PathNames.{Names}}
@@ -36,7 +36,7 @@ no_bytes t None fault e = inl e
 no_bytes t (Some (InFile bytes)) fault e = absurd cc
 no_bytes t (Some (AtLink target)) fault e = no_end t (link_end t target) fault e
 
--- ---- a refusal tells what is wrong
+-- ---- a refusal says what is wrong
 
 module _ (cache : List ℕ) (source : Source) (checked : Bool) (to : List ℕ) (old : List LogItem) where
   abbrev Tells : How → Reply → Type 0
@@ -86,7 +86,7 @@ module _ (cache : List ℕ) (source : Source) (checked : Bool) (to : List ℕ) (
   exported_tells : (how : How) (i : List Hash) → NamesHeld cache source i old → Tells how (exported_reply i (record { how = how; checked = checked; to = to }) t (lies_under cache i old))
   exported_tells how i leads = by_check i leads how checked refl
 
-  -- what a reply tells without its message, its error tells
+  -- what a reply says without its message, its error says
   plain_tells : (how : How) (e : Error) → Tells how (Refused (without_message e)) → TellsSource cache source checked e old ⊎ TellsPath how to e old
   plain_tells how (EntryNotFound c key) h = h
   plain_tells how (SizeMismatch wanted actual) h = h
@@ -106,7 +106,7 @@ export_tells cache (sources.Key key) how checked to old = by (found_under cache 
 
 -- ---- results
 
--- it answers so, and leaves the tree where it is refused
+-- it answers so, and leaves the tree if it is refused
 abbrev pub Answered : List ℕ → Source → How → Bool → List ℕ → Reply → List LogItem → List LogItem → Type 0
 Answered cache source how checked to r old new =
     OrMemory ((r ≡ export_reply cache source (record { how = how; checked = checked; to = to }) old) × StaysIfRefused r (tree_of old) (tree_of new)) r
@@ -126,7 +126,7 @@ module _ {X : Type 0} (answer : X → Reply) (gives : (x : X) → IsGiven (answe
   so_fails : (wanted : Error) → export_reply cache source e old ≡ Refused wanted → FailsFor wanted r
   so_fails wanted is = fails_for answer gives r wanted (elim h [ inl m ↦ inl m | inr same ↦ inr (same.0 ∙ is) ])
 
--- of a source that leads to this integrity
+-- for a source that leads to this integrity
 by_held : (cache : List ℕ) (source : Source) (i : List Hash) (e : Export) (old : List LogItem) → NamesHeld cache source i old → export_reply cache source e old ≡ exported_reply i e (tree_of old) (lies_under cache i old)
 by_held cache (sources.Hash j) i e old leads = ap (λ j. exported_reply j e (tree_of old) (lies_under cache j old)) leads
 by_held cache (sources.Key key) i e old leads = by (found_under cache key old) leads
@@ -169,7 +169,7 @@ missing_or to Copy false i t = inl refl
 missing_or to Reflink false i t = by_path Reflink to t (free t to) refl
 missing_or to HardLink false i t = by_path HardLink to t (free t to) refl
 
--- an error with this fault tells it
+-- an error with this fault gives it
 path_told : (how : How) (to : List ℕ) (e : Error) (fault : Fault) (old : List LogItem) → without_message e ≡ IoError fault [] → made_at how (tree_of old) to ≡ Err fault → TellsPath how to e old
 path_told how to (IoError other message) fault old same is = let one : fault ≡ other = cc in is ∙ ap Err one
 path_told how to (EntryNotFound c key) fault old same is = absurd cc
@@ -190,7 +190,7 @@ module _ {X : Type 0} (answer : X → Reply) (gives : (x : X) → IsGiven (answe
     lacks = λ key is lacks. so_fails answer gives r cache source how checked to old new h (EntryNotFound cache key) (by_key cache source key asked old is lacks);
   }
 
-  -- what is answered of a content that is missing
+  -- what is answered for a content that is missing
   missing_reply : (i : List Hash) → NamesHeld cache source i old → lies_under cache i old ≡ None → export_reply cache source asked old ≡ exported_reply i asked (tree_of old) None
   missing_reply i leads none = by_held cache source i asked old leads ∙ ap (exported_reply i asked (tree_of old)) none
 

@@ -45,7 +45,7 @@ shared (Err e) bytes to old new h = excused e old new h
 
 -- ---- where an export may go
 
--- where nothing stands a file can be written
+-- if nothing is there a file can be written
 free_at : (here : Option Node) (old new : Names) → where_free here old ≡ Ok new → (here ≡ None) × (old ≡ new)
 free_at None old new e = (refl, cc)
 free_at (Some node) old new e = absurd cc

@@ -1,4 +1,4 @@
--- A put alone, and what followed it elsewhere: nothing is appended to its bucket behind its entry.
+-- A put alone, and what followed it elsewhere: nothing is appended to its bucket after its entry.
 use Rattle.std.proofs.Common.{◌≡◌, ◌==◌, nat_le, ℕ, List, [], ◌∷◌, ◌++◌, None, Some, false, length, drop, refl, sym, subst}
 use Rattle.cacache_core.specs.PathNames.{Names}
 use Rattle.cacache_core.specs.declared.errors.Fault.TheVariants as faults
@@ -113,7 +113,7 @@ append_ends other p line a h w = absurd h
 -- ---- records
 
 module _ (path : Names) (tail : List Record) (none : NoneAppends path (steps_of tail)) where
-  -- behind a record where none appends, none does
+  -- if none of the records appends, none after one of them does
   none_behind : (records : List Record) (append : Record) (later : List Record) → NoneAppends path (steps_of (records ++ append ∷ later)) → NoneAppends path (steps_of later)
   none_behind [] (Began caller command) later h = h
   none_behind [] (Moved caller luck None told) later h = h
@@ -128,7 +128,7 @@ module _ (path : Names) (tail : List Record) (none : NoneAppends path (steps_of 
   none_more s m [] reply r never run = (never_apart path s m.0 never run.0, none)
   none_more s m (n ∷ more) reply r never run = (never_apart path s m.0 never run.0, none_more (after s m.1) n more reply r (never_after s m.1 never) run.2)
 
-  -- behind the append of an entry
+  -- after the append of an entry
   pub none_last : (s : State) (m : Made) (more : Moves) (reply r : Reply) (caller : ℕ) (cache key : List ℕ) (entry : Entry) → Once s → Reaches s (m ∷ more) r
       → (between : List Record) (append : Record) (later : List Record) → records_of m more reply ++ tail ≡ between ++ append ∷ later → IsAppendOf caller cache key entry append → NoneAppends path (steps_of later)
   none_last s m [] reply r caller cache key entry once run [] append later e is =

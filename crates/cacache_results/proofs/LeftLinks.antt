@@ -1,4 +1,4 @@
--- What a loss of power left of durable puts, where their contents may be links.
+-- What a loss of power left of durable puts, if their contents may be links.
 use Rattle.std.proofs.Common.{◌≡◌, ℕ, List, [], ◌∷◌, ◌++◌, Option, None, Some, option_map, sym, ap, subst, ◌∙◌}
 use Rattle.sha1.specs.Sha1.{sha1}
 use Rattle.cacache_core.specs.{declared.integrity.digest.Hash.{Hash}, Digests.{digest}, PathNames.{Names, home_of}}
@@ -50,7 +50,7 @@ losses_leave_links h loss folder key p t outlast few left here put keyed none un
       λ last. through h.setup.cache key p folder t _ entry.outlasts.more here none given bucket last,
     )
 
--- where nobody appended behind its entry, the key leads there
+-- if nobody appended after its entry, the key leads there
 pub losses_leave_last_links : LossesLeaveLastLinks
 losses_leave_last_links h loss folder key p t outlast few left here put keyed none unchanged last log is =
     let now = moment_at h h.records in

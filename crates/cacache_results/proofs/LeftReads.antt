@@ -1,4 +1,4 @@
--- A read by key of a store that stands gives what lies under the integrity, or where a link there leads.
+-- A read by key of a standing store gives what lies under the integrity, or where a link there leads.
 use Rattle.std.proofs.{Common.{◌≡◌, ◌⊎◌, inl, inr, ℕ, List, [], ◌∷◌, ◌++◌, Option, None, Some, Result, Ok, Err, map, option_map, refl, sym, ap, subst, ◌∙◌, arith}, lemmas.List.Elements.{All-head}}
 use Rattle.sha1.specs.Sha1.{sha1}
 use Rattle.cacache_core.specs.{declared.{errors.{Error.TheVariants.{IoError}, Fault.{Fault}}, integrity.digest.Hash.{Hash}}, Integrity.{IsHash, IsIntegrity, Meets}, PathNames.{home_of}}
@@ -29,7 +29,7 @@ found_shown key bucket (answers.Failed fault) is = inr (refusals.Fault fault, re
 found_shown key bucket (answers.NoMemory step) is = inr (refusals.Memory, refl)
 found_shown key bucket a is = inr (refusals.Fault faults.Device, refl)
 
--- so it is of a content's bytes
+-- so it is for a content's bytes
 bytes_shown : (bytes : List ℕ) (content : Result (List ℕ) Fault) (a : PlainAnswer) → content ≡ Ok bytes → ShowsContent content a
     → (bytes_in a ≡ Ok bytes) ⊎ ((refusal : Refusal) × (bytes_in a ≡ Err refusal))
 bytes_shown bytes content (answers.Bytes b) held is =
@@ -38,7 +38,7 @@ bytes_shown bytes content (answers.Bytes b) held is =
     inl (ap Ok same)
 bytes_shown bytes content a held is = inr (refusal_in a, refl)
 
--- ---- a read of a store that stands
+-- ---- a read of a standing store
 
 module _ (cache key : List ℕ) (r : Reply) (old new : List LogItem) (standing : IsStanding cache old) (c : Called cache (commands.Get key) r old new) (bytes : List ℕ) (found : Found)
     (finds : found_under cache key old ≡ Some found) (formed : IsIntegrity found.integrity) (lies : bytes_under cache found.integrity old ≡ Ok bytes) (met : Meets found.integrity bytes) where
@@ -110,7 +110,7 @@ module _ (cache key : List ℕ) (r : Reply) (old new : List LogItem) (standing :
         | inr shown ↦ by_bucket shown.0 shown.1 shown.2 shown.3
       ]
 
--- where the key leads to an integrity
+-- if the key leads to an integrity
 module _ (cache key : List ℕ) (r : Reply) (old new : List LogItem) (standing : IsStanding cache old) (c : Called cache (commands.Get key) r old new) (i : List Hash) (bytes : List ℕ)
     (formed : IsIntegrity i) (lies : bytes_under cache i old ≡ Ok bytes) (met : Meets i bytes) where
   by_found : (o : Option Found) → found_under cache key old ≡ o → option_map (λ (found : Found). found.integrity) o ≡ Some i → GivesBytes (Unit {0}) bytes r old new

@@ -1,4 +1,4 @@
--- What a write gave and left on a store that stands.
+-- What a write gave and left on a standing store.
 use Rattle.std.{proofs.Common.{◌≡◌, ◌<◌, ◌^◌, ℕ, List, Option, Some, Result, Ok, Err, length, refl, sym, subst}, specs.Prelude.{IfErr, IfOk, IsUtf8}}
 use Rattle.cacache_core.specs.{declared.{errors.Error.{Error}, integrity.{algorithm.Algorithm.{Algorithm}, digest.Hash.{Hash}}}, Integrity.{integrity_under}, Texts.{integrity_text}}
 use Rattle.cacache_store.specs.declared.{env.Env.{Env}, store.log.LogItem.{LogItem}}

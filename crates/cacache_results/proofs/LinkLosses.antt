@@ -32,7 +32,7 @@ module _ (h : History) (legal : IsLegal h) where
   trace_front t (Stopped caller ∷ more) later trace = trace_front t more later trace
 
   module _ (target bytes : List ℕ) (file : StaysUnchanged h target bytes) where
-    -- at each place it stands there, all of it synced
+    -- at each place it is there, all of it synced
     stands : (before later : List Record) → h.records ≡ before ++ later → Holds (home h.setup) file.path bytes (moment_at h before)
     stands before later is =
         let first = (of_cache_at h legal [] h.records refl).0 in

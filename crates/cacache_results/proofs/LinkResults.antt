@@ -17,7 +17,7 @@ use Rattle.cacache_sequence.proofs.{Putting.{Beside.{plain_writes_fit}, Forms.{b
 use Rattle.cacache_results.specs.Links.{ContentLinkMeans, LiesLinked, LinkMeans, LinkedFile, LinksBytes}
 use Rattle.cacache_results.proofs.{SureLinkResults.{IsWritten, commit_succeeds, shown_read}, SureResults.{fails_for, or_as}, Told.{called}}
 
--- the integrity of a link of which nothing was said is that of its bytes
+-- if nothing was said of a link, its integrity is that of its bytes
 own_is : (cache : List ℕ) (key : Option (List ℕ)) (target : List ℕ) (moment : ℕ) (path held : List ℕ) (i : List Hash) (old new : List LogItem)
     → HasLinked cache (put_like (link_to key target moment) held) path i old new → i ≡ integrity_under Sha256 held
 own_is cache None target moment path held i old new h = h.stored

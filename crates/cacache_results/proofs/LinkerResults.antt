@@ -60,7 +60,7 @@ module _ (cache : List ℕ) (key : Option (List ℕ)) (base target : List ℕ) (
   abbrev target_path : List ℕ
   target_path = based base target
 
-  -- a linker that was opened, of which this size is expected, or none
+  -- a linker that was opened, with this expected size or none
   is_linking : (w : MemLinker) (size : Option ℕ) (held : List ℕ) → shown (tree_of old) target_path ≡ Some held → w.file ≡ opened held → TargetOpened cache target_path held w.file → SuitsSize size (length held)
       → w.linked ≡ linked_to base cache key target time (record (options_of s) { size = size }) → HasHashed w [] → w.file.left < 2 ^ 64
       → (held : List ℕ) × (shown (tree_of old) target_path ≡ Some held) × IsLinking cache key target_path s held [] w
@@ -145,7 +145,7 @@ plain_file f bytes left_is bytes_are =
     let of : ℕ → Option (List ℕ) → PlainFile = λ left known. record { left = left; bytes = known } in
     ap (λ n. of n f.bytes) left_is ∙ ap (of (length bytes)) bytes_are
 
--- what is left behind the bytes that a read gave
+-- what is left after the bytes that a read gave
 record GoesOn (rest more : List ℕ) (f : PlainFile) : Type 0 where
   pub left : List ℕ
   pub all : more ++ left ≡ rest
@@ -232,7 +232,7 @@ fits_link cache key base target s size moment says text =
     let other : Said = record s { size = size; durable = false } in
     λ bytes small. fits cache key other bytes moment (record { json = says.json; raw = says.raw; formed = says.formed }) text small
 
--- an entry of which nothing was said can be written
+-- if nothing was said of an entry, it can be written
 can_write : (cache : List ℕ) (key : Option (List ℕ)) (base target : List ℕ) (s : Said) (size : Option ℕ) (moment : ℕ) (held : List ℕ) → SaysPlain s → s.integrity ≡ None → IsText key → length held < 2 ^ 64
     → ((k : List ℕ) → key ≡ Some k → moment < 2 ^ 64) → CanWrite cache (link_of cache key base target s size moment [] [] []) held
 unfolding refused_cause

@@ -28,7 +28,7 @@ losses_leave_standing h loss log outlives left =
 
 -- ---- durable puts
 
--- where no integrity was expected, the put's entry answers to its key
+-- if no integrity was expected, the put's entry answers to its key
 pub put_answers : (cache key : List ℕ) (p : Put) → p.options.integrity ≡ None → answer_to key (entry_written cache key p) ≡ Some (Some (found_of_put cache key p))
 put_answers cache key p none =
     let own = integrity_under p.options.algorithm p.data in
@@ -77,7 +77,7 @@ losses_leave_puts h loss folder key p t outlives few left here put keyed none =
       λ last. leads h.setup.cache key p folder t _ entry.outlasts.more here none both.0 bucket last,
     )
 
--- where nobody appended behind its entry, the key leads to the put's bytes
+-- if nobody appended after its entry, the key leads to the put's bytes
 pub losses_leave_last : LossesLeaveLast
 losses_leave_last h loss folder key p t outlives few left here put keyed none last log is =
     let now = moment_at h h.records in

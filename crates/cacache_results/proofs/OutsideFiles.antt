@@ -1,4 +1,4 @@
--- Where no call exports or removes, each link of a content leads to a file that no step changes.
+-- If no call exports or removes, each link of a content leads to a file that no step changes.
 use Rattle.std.proofs.Common.{◌≡◌, ◌==◌, ◌-◌, ℕ, Bool, true, false, cond, List, [], ◌∷◌, ◌++◌, Option, None, Some, Result, Ok, length, refl, sym, ap, subst, ◌∙◌, append_assoc}
 use Rattle.cacache_core.specs.{declared.{errors.Fault.{Fault, TheVariants.{IsADirectory}}, integrity.digest.Hash.{Hash}}, PathNames.{Names, names_of}, Paths.{content_names}}
 use Rattle.cacache_store.specs.declared.store.step.Step.TheVariants as steps
@@ -13,7 +13,7 @@ use Rattle.cacache_loss.{specs.{Moments.{EachMove, Moment, after, next}, Syncs.{
 use Rattle.cacache_durable.{specs.Outlasting.{moment_at}, proofs.Traces.{made_move, tree_at}}
 use Rattle.cacache_results.{specs.FoundLinks.{LinksLeadUnchanged}, proofs.OutsideSteps.{all_leave}}
 
--- ---- no link stands in what a history begins with
+-- ---- what a history begins with has no link
 
 abbrev IsLink : Option Node → Type 0
 IsLink (Some (Link target)) = Unit {0}
@@ -62,7 +62,7 @@ bare_none q is = by (same_path q []) (subst IsLink (look-bare q) is)
     by true i = i
     by false i = i
 
--- ---- the file that a path leads to, where no link stands
+-- ---- the file that a path leads to if no link is there
 
 stays_here : (here : Option Node) (q end : Names) (go : List ℕ → Result Names Fault) → (IsLink here → ⊥) → on_link here q go ≡ Ok end → q ≡ end
 stays_here None q end go none e = cc

@@ -1,4 +1,4 @@
--- Where no call exports or removes, steps leave what lies apart from the cache.
+-- If no call exports or removes, steps leave what lies apart from the cache.
 use Rattle.std.proofs.Common.{◌≡◌, ◌==◌, ℕ, Bool, true, false, cond, List, [], ◌∷◌, Option, None, Some, option_map, refl, sym, ap, subst}
 use Rattle.cacache_core.specs.PathNames.{Names, names_of}
 use Rattle.cacache_store.specs.declared.store.step.Step.TheVariants as steps
@@ -17,7 +17,7 @@ use Rattle.cacache_results.specs.FoundLinks.{OnlyLinksIn, linking_in}
 
 -- ---- steps
 
--- such a step's own temporary file, where it writes one
+-- such a step's own temporary file, if it writes one
 abbrev WritesTemp : Option Names → PlainStep → Type 0
 WritesTemp home (steps.Write f bytes) = IsFor home Temporary f.path
 WritesTemp home step = Unit {0}

@@ -1,4 +1,4 @@
--- A durable put whose steps all go well.
+-- A durable put whose steps all succeed.
 use Rattle.std.proofs.{Common.{◌≡◌, ◌==◌, ℕ, Bool, true, false, cond, List, [], ◌∷◌, ◌++◌, Option, None, Some, Ok, length, take, drop, refl, sym, ap, subst, ◌∙◌, arith}, lemmas.{Bool.{ne_eqb}, List.{drop_all}}}
 use Rattle.hex.specs.Hex.{encode_lower}
 use Rattle.cacache_core.specs.{Digests.{digest}, Integrity.{IsHash, hash_of}, PathNames.{Names, names_of}, Paths.{content_names, folder_names, temp_names}, declared.integrity.digest.Hash.{Hash}}

@@ -1,4 +1,4 @@
--- The moves of one call whose steps all go well, as records of a history.
+-- The moves of one call whose steps all succeed, as records of a history.
 use Rattle.std.proofs.Common.{◌≡◌, inl, List, [], ◌∷◌, ◌++◌, Some, None, option_map, refl, sym, ap, subst}
 use Rattle.cacache_core.specs.{PathNames.{Names}, declared.integrity.digest.Hash.{Hash}}
 use Rattle.cacache_disk.specs.declared.luck.Luck.TheVariants.{Plain}
@@ -8,7 +8,7 @@ use Rattle.cacache_sequence.specs.Sequence.{AreAnswered}
 use Rattle.cacache_durable.specs.{Ending.{CallEndsWith}, QuietMoves.{AreQuiet, IsQuietMove}}
 use Rattle.cacache_results.proofs.PlainRuns.{Reaches}
 
--- a first move and those behind it, the last with this reply
+-- a first move and those after it, the last with this reply
 abbrev pub records_of : Made → Moves → Reply → List Record
 records_of m [] reply = Moved 0 Plain (Some m) (Some reply) ∷ []
 records_of m (n ∷ more) reply = Moved 0 Plain (Some m) None ∷ records_of n more reply
@@ -22,7 +22,7 @@ module _ (s : Setup) (i : List Hash) where
     records_legal (now_after s w (Moved 0 Plain (Some m) None)) (call_after w.tree Plain (Some m) call) n more (ap (option_map (call_after w.tree Plain (Some m))) is) run.2 answered.1,
   )
 
-  -- whatever comes behind them
+  -- whatever comes after them
   pub records_end : (m : Made) (more : Moves) (behind : List Record) → CallEndsWith 0 (Stored i) (records_of m more (Stored i) ++ behind)
   records_end m [] behind = refl
   records_end m (n ∷ more) behind = records_end n more behind

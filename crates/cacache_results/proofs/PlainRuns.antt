@@ -1,4 +1,4 @@
--- Runs of calls whose steps all go well: a durable insertion.
+-- Runs of calls whose steps all succeed: a durable insertion.
 use Rattle.std.proofs.Common.{◌≡◌, nat_le, ℕ, Bool, true, false, cond, List, [], ◌∷◌, ◌++◌, Some, Ok, length, take, drop, refl, sym, ap, subst, ◌∙◌, arith, le-leb}
 use Rattle.sha1.specs.Sha1.{sha1}
 use Rattle.hex.specs.Hex.{encode_lower}
@@ -16,7 +16,7 @@ use Rattle.cacache_sequence.specs.Sequence.{AreAnswered}
 use Rattle.cacache_sequence.proofs.{Removing.Emptied.{home_is}, Sure.{SureInserts.{bucket_folder_lies, bucket_lies, one_behind}, SureSteps.{Ground, Lies, SyncsAll, appends, dirs_ground, dirs_stand, look_own, makes_dirs, place_at, place_in, syncs_file, syncs_folders}}}
 use Rattle.cacache_results.specs.DurableCases.{CanBeWritten}
 
--- ---- a run that goes well
+-- ---- a run whose steps succeed
 
 -- these moves take a call to its end with this reply
 abbrev pub Reaches : State → Moves → Reply → Type 0
@@ -113,7 +113,7 @@ module _ (folder : Names) (j : Insertion) (is : names_of j.cache ≡ Ok folder) 
       (goes j.reply made done (appending j) (steps.Append path (bucket_line j)) (answers.Took (length (bucket_line j))) refl appended (omega arith)
       (by_count (nat_le (length (bucket_line j)) (length (bucket_line j))) (le-leb (length (bucket_line j)) (length (bucket_line j)) (omega arith))))
 
-  -- where its entry can be written
+  -- if its entry can be written
   pub inserts_play : CanBeWritten j.entry → Plays j.reply t (insert j)
   unfolding refused_cause
   inserts_play can = subst (Plays j.reply t) (sym (ap (unless_refused j) ((no_cause_is_fit j.entry can.0).1 can.1))) folders_made

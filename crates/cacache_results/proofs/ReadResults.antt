@@ -31,7 +31,7 @@ whole_of : (r : Result (Vec ℕ Global) Error) (cache key : List ℕ) (old new :
 whole_of (Ok v) cache key old new h = h
 whole_of (Err e) cache key old new h = tt
 
--- where a link lies, whole bytes are those that its target shows
+-- if a link lies there, whole bytes are those that its target shows
 linked_whole : (cache target held bytes : List ℕ) (i : List Hash) (log : List LogItem) → LinksToFile cache i target held log → LiesWhole cache i log bytes → bytes ≡ held
 linked_whole cache target held bytes i log at h = links_show cache target bytes held i log at.lies at.shows h.0
 

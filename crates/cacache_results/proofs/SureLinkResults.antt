@@ -1,4 +1,4 @@
--- Results of links whose steps all go well.
+-- Results of links whose steps all succeed.
 use Rattle.std.{proofs.{Common.{◌≡◌, ◌⊎◌, inl, inr, ℕ, true, cond, List, [], Option, None, Some, Result, Ok, Err, refl, ap, ◌∙◌}, lemmas.Bool.{eq-eqb}}, specs.Prelude.{IfSome}}
 use Rattle.cacache_core.specs.declared.{errors.{Error.{Error, TheVariants.{IoError, SizeMismatch}}, Fault.{Fault}}, integrity.digest.Hash.{Hash}}
 use Rattle.cacache_core.specs.declared.errors.Fault.TheVariants as faults

@@ -1,4 +1,4 @@
--- Results of calls whose steps all go well.
+-- Results of calls whose steps all succeed.
 use Rattle.std.{proofs.Common.{◌≡◌, ◌⊎◌, inl, inr, ℕ, Bool, true, false, cond, List, Option, None, Some, Result, Ok, Err, refl, sym, ap, subst, ◌∙◌}, specs.Prelude.{IfOk, IfErr}}
 use Rattle.cacache_core.specs.declared.{errors.Error.{Error, TheVariants.{EntryNotFound, OutOfMemory}}, integrity.digest.Hash.{Hash}}
 use Rattle.cacache_store.specs.declared.store.log.LogItem.{LogItem}
@@ -49,7 +49,7 @@ fails_for answer gives (Ok x) wanted (inr is) = absurd (subst IsGiven is (gives 
 fails_for answer gives (Err e) wanted (inl m) = inl (of_refused e m)
 fails_for answer gives (Err e) wanted (inr is) = inr (cc)
 
--- an error that is told is one of these
+-- an error that is answered is one of these
 pub fails_too : {X : Type 0} (wanted : Error) (IsSo : Error → Type 0) → ((e : Error) → without_message e ≡ wanted → IsSo e) → (r : Result X Error) → FailsFor wanted r → FailsAs IsSo r
 fails_too wanted IsSo leads (Ok x) h = h
 fails_too wanted IsSo leads (Err e) (inl m) = inl m

@@ -18,7 +18,7 @@ plain_twice (SerdeError cause message) = refl
 plain_twice (IntegrityError fault) = refl
 plain_twice OutOfMemory = refl
 
--- an error that has no message is told as it is
+-- an error that has no message is answered as it is
 pub of_memory : (e : Error) → without_message e ≡ OutOfMemory → e ≡ OutOfMemory
 of_memory (EntryNotFound c k) h = absurd cc
 of_memory (SizeMismatch wanted actual) h = absurd cc

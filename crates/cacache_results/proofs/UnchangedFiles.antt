@@ -1,4 +1,4 @@
--- A file that no step changes stays through each loss, where all was fixed at first.
+-- A file that no step changes stays through each loss, if all was fixed at first.
 use Rattle.std.proofs.Common.{◌≡◌, inr, ℕ, Bool, true, false, cond, List, [], ◌∷◌, ◌++◌, Option, None, Some, refl, sym, ap, subst, ◌∙◌, append_assoc, append-nil}
 use Rattle.std.specs.Prelude.{unwrap_or}
 use Rattle.cacache_core.specs.PathNames.{Names, names_of}
@@ -14,7 +14,7 @@ module _ (home : Option Names) (path : Names) (bytes : List ℕ) where
   abbrev Firm : Fixed → Type 0
   Firm fixed = (p rest : Names) → p ++ rest ≡ path → fixed.names p ≡ None
 
-  -- the file stands there, and all of it is synced
+  -- the file is there, and all of it is synced
   abbrev Stands : Tree → Fixed → Type 0
   Stands t fixed = (look t path ≡ Some (File bytes)) × ((fixed.files path).whole ≡ true) × Firm fixed
 
@@ -48,7 +48,7 @@ module _ (home : Option Names) (path : Names) (bytes : List ℕ) where
     by_sync : (step : PlainStep) (luck : Luck) (b : Bool) (later : Fixed) → is_sync step ≡ true → Stands t (cond b later fixed) → Stands (apply t step luck).1 (cond b later fixed)
     by_sync step luck b later is stands = subst (λ new. Stands new (cond b later fixed)) (sym (sync_tree t step luck is)) stands
 
-    -- a name on the way, where the file stands before and after
+    -- a name on the way, if the file is there before and after
     named_on : (new : Tree) → Rooted new → (step : PlainStep) (answer : PlainAnswer) → Proper home step → look new path ≡ Some (File bytes) → moved_to (moves_file step answer) path ≡ false
         → (p rest : Names) → p ++ rest ≡ path → name_after fixed t new step answer p ≡ None
     named_on new rooted_new step answer is there unmoved p [] e =
@@ -86,7 +86,7 @@ module _ (home : Option Names) (path : Names) (bytes : List ℕ) where
   holds_after w [] h trace leaves = h
   holds_after w (m ∷ moves) h trace leaves = holds_after (next w m) moves (holds_next w m h trace.0 leaves.0) trace.2 leaves.1
 
-  -- where all is fixed
+  -- if all is fixed
   pub holds_first : (t : Tree) → Placed home t → Rooted t → look t path ≡ Some (File bytes) → Holds (opening t)
   holds_first t placed rooted there = ((placed, rooted), (there, refl, λ p rest e. refl))
 

@@ -18,7 +18,7 @@ use Rattle.cacache_results.proofs.{SureResults.{for_memory, so_ready}, Told.{cal
 
 -- ---- what stays
 
--- where added bytes lie at the address of others, they are the same
+-- if added bytes lie at the address of others, they are the same
 pub untouched : (cache : List ℕ) (written : Option (List ℕ)) (own : List Hash) (added : List ℕ) (old new : List LogItem) → KeepsBeside cache written own added old new
     → KeepsUntouched cache written own added old new
 untouched cache written own added old new k = record {

@@ -152,7 +152,7 @@ commits_mean moments new logged cache key s bytes w (Err e) old sound t says tex
 
 -- ---- commits that fail for memory alone
 
--- a put of which nothing is expected, and nothing said, stores
+-- a put that expects nothing, and says nothing, stores
 plain_stores : (cache : List ℕ) (key : Option (List ℕ)) (bytes : List ℕ) (moment : ℕ) (a : Algorithm) (durable : Bool) → IsText key → length bytes < 2 ^ 64 → moment < 2 ^ 64
     → put_reply cache (record { key = key; «data» = bytes; moment = moment; options = record { algorithm = a; size = None; integrity = None; metadata = null; raw_metadata = None; durable = durable } }) ≡ Stored (integrity_under a bytes)
 unfolding refused_cause

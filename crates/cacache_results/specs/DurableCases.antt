@@ -11,11 +11,11 @@ use Rattle.cacache_results.specs.Losses.{IsLast}
 abbrev pub CanBeWritten : Entry → Type 0
 CanBeWritten e = IsEntry e × IsWritable e
 
--- a legal history at this cache in which such a commit stands
+-- a legal history at this cache that contains such a commit
 abbrev pub StandsIn : List ℕ → (History → Type 0) → Type 0
 StandsIn cache Holds = (h : History) × (h.setup.cache ≡ cache) × IsLegal h × Holds h
 
--- a durable insertion stands in one, where its entry can be written
+-- one contains a durable insertion, if its entry can be written
 abbrev pub InsertsStandInOne : Type 0
 InsertsStandInOne =
     (cache : List ℕ) (folder : Names) (i : Insert) → names_of cache ≡ Ok folder
@@ -48,11 +48,11 @@ pub record IsLastPut (h : History) (folder : Names) (key : List ℕ) (p : Put) :
   pub put : DurablePut h folder p
   pub last : IsLast h folder put.rest put.call.caller key p
 
--- the history, and these records behind it
+-- the history, and these records after it
 abbrev pub followed_by : History → List Record → History
 followed_by h more = record { setup = h.setup; records = h.records ++ more }
 
--- these records behind a history go elsewhere: they append nothing to the key's bucket, remove, link
+-- these records after a history go elsewhere: they append nothing to the key's bucket, remove, link
 -- and export nothing, and put the put's content durably if they put it
 pub record GoElsewhere (h : History) (folder : Names) (key : List ℕ) (p : Put) (more : List Record)
     : Type 0 where
@@ -60,7 +60,7 @@ pub record GoElsewhere (h : History) (folder : Names) (key : List ℕ) (p : Put)
       AreQuiet h.setup (folder ++ content_names (address_of_put p)) (now_at h h.records) more
   pub none : NoneAppends (folder ++ bucket_names key) (steps_of more)
 
--- each such put stands so in one, whatever goes elsewhere behind it
+-- one contains each such put so, whatever goes elsewhere after it
 abbrev pub PutsStandLast : Type 0
 PutsStandLast =
     (cache : List ℕ) (folder : Names) (key : List ℕ) (p : Put) → names_of cache ≡ Ok folder

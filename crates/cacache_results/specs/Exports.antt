@@ -18,15 +18,15 @@ abbrev pub NamesHeld : List ℕ → Source → List Hash → List LogItem → Ty
 NamesHeld cache (OfHash held) i log = held ≡ i
 NamesHeld cache (OfKey key) i log = leads_to cache key log ≡ Some i
 
--- nothing lies there that can be read, as the fault says; of a folder at a link's end a copy says
--- another one
+-- nothing lies there that can be read, as the fault says; for a folder at a link's end a copy gives
+-- another fault
 abbrev pub LiesUnread : List ℕ → List Hash → Fault → List LogItem → Type 0
 LiesUnread cache i fault log =
     (bytes_under cache i log ≡ Err fault)
     ⊎ ((bytes_under cache i log ≡ Err IsADirectory) × (fault ≡ InvalidInput))
 
--- the error tells what is wrong with the source: its key leads to nothing, nothing lies there that can
--- be read, or, where that is verified first, other bytes
+-- the error says what is wrong with the source: its key leads to nothing, nothing lies there that can
+-- be read, or, if that is verified first, other bytes
 abbrev pub TellsSource : List ℕ → Source → Bool → Error → List LogItem → Type 0
 TellsSource cache source checked (EntryNotFound c key) log =
     (c ≡ cache) × (source ≡ OfKey key) × LacksKey cache key log
@@ -43,12 +43,12 @@ made_at Copy t to = writable t to
 made_at Reflink t to = free t to
 made_at HardLink t to = free t to
 
--- the error tells why nothing can be made at the path
+-- the error says why nothing can be made at the path
 abbrev pub TellsPath : How → List ℕ → Error → List LogItem → Type 0
 TellsPath how to (IoError fault message) log = made_at how (tree_of log) to ≡ Err fault
 TellsPath how to e log = ⊥
 
--- memory was refused, or the error tells what is wrong with source or path, and nothing changed
+-- memory was refused, or the error says what is wrong with source or path, and nothing changed
 abbrev pub FailsExport :
     List ℕ → Source → How → Bool → List ℕ → Error → List LogItem → List LogItem → Type 0
 FailsExport cache source how checked to e old new =
@@ -56,7 +56,7 @@ FailsExport cache source how checked to e old new =
     ⊎ ((tree_of new ≡ tree_of old)
     × (TellsSource cache source checked e old ⊎ TellsPath how to e old))
 
--- bytes that are damaged are told where they are verified first, and so is a key that leads to nothing
+-- damaged bytes are reported if they are verified first, and so is a key that leads to nothing
 pub record RefusesSource {X : Type 0} (cache : List ℕ) (source : Source) (checked : Bool)
     (r : Result X Error) (old : List LogItem) : Type 0 where
   pub damaged : (i : List Hash) (fault : IntegrityFault) → checked ≡ true
@@ -67,9 +67,9 @@ pub record RefusesSource {X : Type 0} (cache : List ℕ) (source : Source) (chec
 
 -- ---- what is exported
 
--- a copy: the bytes stand where the path leads, and the count is theirs, or the error is excused.
--- Where the cache's path names a folder, an error tells what is wrong, and damaged bytes, a key that
--- leads to nothing and a content that is missing have their own
+-- a copy: the bytes are where the path leads, and the count is theirs, or the error is excused. If
+-- the cache's path names a folder, an error says what is wrong, and damaged bytes, a key that leads
+-- to nothing and a content that is missing have their own
 pub record CopiedOut (cache : List ℕ) (source : Source) (checked : Bool) (to : List ℕ)
     (r : Result ℕ Error) (old new : List LogItem) : Type 0 where
   pub leaves : LeavesKnownCache cache old new
@@ -84,9 +84,9 @@ pub record CopiedOut (cache : List ℕ) (source : Source) (checked : Bool) (to :
   pub missing : (i : List Hash) → NamesFolder cache → NamesHeld cache source i old
       → lies_under cache i old ≡ None → FailsFor (IoError NotFound []) r
 
--- a reflink or a hard link: the bytes stand where the path leads, or the error is excused. It fails as
--- a copy does, but one of a missing content that isn't verified first tells first what is wrong with
--- the path
+-- a reflink or a hard link: the bytes are where the path leads, or the error is excused. It fails as a
+-- copy does, except that one of a missing content that isn't verified first reports first what is
+-- wrong with the path
 pub record SharedOut (cache : List ℕ) (source : Source) (how : How) (checked : Bool) (to : List ℕ)
     (r : Result (Unit {0}) Error) (old new : List LogItem) : Type 0 where
   pub leaves : LeavesKnownCache cache old new
@@ -104,7 +104,7 @@ pub record SharedOut (cache : List ℕ) (source : Source) (how : How) (checked :
 -- ---- laws, of the environment that a call left
 
 module _ {C N : Type 0} where
-  -- a copy to a path apart from the cache, of this result, is one
+  -- a copy to a path apart from the cache, with this result, is one
   abbrev pub CopyMeans :
       List ℕ → Source → Bool → List ℕ → Result ℕ Error → Env (List LogItem) C N → Type 0
   CopyMeans cache source checked to r new =

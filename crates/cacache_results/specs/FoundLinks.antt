@@ -10,14 +10,14 @@ use Rattle.cacache_durable.specs.{FewCalls.{FewCalls}, Outlasting.{AnsweredPut, 
 
 -- ---- what is left
 
--- a target is the path of a file of these bytes, where the history began, which no step changed
+-- a target was, when the history began, the path of a file of these bytes, which no step changed
 pub record StaysUnchanged (h : History) (target bytes : List ℕ) : Type 0 where
   pub path : Names
   pub named : names_of target ≡ Ok path
   pub first : look (initial h.setup).tree path ≡ Some (File bytes)
   pub leaves : EachMove (Leaves path) (moment_at h []) (steps_of h.records)
 
--- each link that stood at an address after the first records leads to such a file
+-- each link that was at an address after the first records leads to such a file
 abbrev pub LeadsUnchanged : History → List Record → Hash → Type 0
 LeadsUnchanged h before address =
     (target : List ℕ) → (value_at h before).contents address ≡ Some (AtLink target)
@@ -51,15 +51,14 @@ UnchangedFilesStay h =
     → LeftOf folder (moment_at h h.records) loss left
     → look left file.path ≡ Some (File bytes)
 
--- so where the link leads to such a file, what lies at the put's address gives bytes with its
--- digest
+-- so if the link leads to such a file, what lies at the put's address gives bytes with its digest
 abbrev pub PutsOrLinksGive : History → Type 0
 PutsOrLinksGive h =
     (folder : Names) (p : Put) (loss : Loss) (left : Tree) → home h.setup ≡ Some folder
     → (put : AnsweredPut h folder p) → LeftOf folder (moment_at h h.records) loss left
     → LeadsUnchanged h put.before (address_of_put p) → GivesDigest folder (address_of_put p) left
 
--- where no call exports or removes, each link at a put's address leads to such a file
+-- if no call exports or removes, each link at a put's address leads to such a file
 abbrev pub LinksLeadUnchanged : History → Type 0
 LinksLeadUnchanged h =
     OnlyLinksIn h.records → (before later : List Record) → h.records ≡ before ++ later
@@ -67,17 +66,17 @@ LinksLeadUnchanged h =
 
 -- what a loss of power leaves of durable puts that found a link
 pub record LinksOutlast (h : History) : Type 0 where
-  -- the content or the link, where each call has a temporary file of its own
+  -- the content or the link, if each call has a temporary file of its own
   pub puts : FewCalls h → PutsOrLinksOutlast h
-  -- what is left behind the entry of such a put
+  -- what is left after the entry of such a put
   pub behind : EntriesHaveBehind h
   -- the link's target
   pub files : UnchangedFilesStay h
-  -- which no step changes, where no call exports or removes
+  -- which no step changes, if no call exports or removes
   pub unchanged : LinksLeadUnchanged h
   -- and so what both give
   pub gives : FewCalls h → PutsOrLinksGive h
 
--- so it is of every legal history
+-- so it is for every legal history
 abbrev pub HistoriesKeepLinks : Type 0
 HistoriesKeepLinks = (h : History) → IsLegal h → LinksOutlast h

@@ -14,7 +14,7 @@ use Rattle.cacache_results.specs.{Success.{FailsForMemory}, Writes.{KeepsUntouch
 abbrev pub MemWriter : Type 0
 MemWriter = SyncWriter PlainTemp
 
--- a writer of this cache, under this key, if any, of which so much was said, that took these bytes
+-- a writer of this cache, under this key, if any, with so much said, that took these bytes
 pub record IsWriting (cache : List ℕ) (key : Option (List ℕ)) (s : Said) (bytes : List ℕ)
     (w : MemWriter) : Type 0 where
   pub number : ℕ
@@ -42,13 +42,13 @@ pub record OpenedWriter (cache : List ℕ) (key : Option (List ℕ)) (s : Said)
 
 -- ---- a commit
 
--- what was said of an entry can be written into one, but for what is refused
+-- what was said of an entry can be written into one, except for what is refused
 pub record SaysFit (s : Said) : Type 0 where
   pub json : IsJson s.metadata
   pub raw : AreBytes s.raw_metadata
   pub formed : IfSome s.integrity IsIntegrity
 
--- where there is a key, it is a text
+-- if there is a key, it is a text
 abbrev pub IsText : Option (List ℕ) → Type 0
 IsText key = IfSome key (λ k. IsUtf8 k)
 
@@ -68,7 +68,7 @@ abbrev pub LeadsToEntry : List ℕ → List ℕ → Said → List Hash → ℕ �
 LeadsToEntry cache key s i count log =
     (found : Found) × (found_under cache key log ≡ Some found) × IsEntryFor s i count found
 
--- the bytes lie under the integrity; where they couldn't be moved there, what lay there stayed
+-- the bytes lie under the integrity; if they couldn't be moved there, what lay there stayed
 abbrev pub LiesOrStayed :
     List ℕ → List Hash → List ℕ → List LogItem → List LogItem → Type 0
 LiesOrStayed cache own bytes old new =
@@ -99,7 +99,7 @@ WritersGoOn =
     → IsWriting cache key s (bytes ++ more) v
 
 module _ {C N : Type 0} where
-  -- an opening, of this result, is one
+  -- an opening, with this result, is one
   abbrev pub OpeningsMean : (N → Option (List ℕ)) → Env (List LogItem) C N → Type 0
   OpeningsMean numbers new =
       (cache : List ℕ) (key : Option (List ℕ)) (s : Said) (r : Result MemWriter Error)
@@ -118,7 +118,7 @@ module _ {C N : Type 0} where
       (reply_of Stored r)
       → CommittedBytes cache key s bytes r old.store new.store
 
-  -- while its file stands, a commit of which nothing was said but a time fails for memory alone
+  -- while its file is there, a commit that says nothing but a time fails for memory alone
   abbrev pub CommitsSucceed : (C → Option (List ℕ)) → Env (List LogItem) C N → Type 0
   CommitsSucceed moments new =
       (cache : List ℕ) (key : Option (List ℕ)) (s : Said) (bytes : List ℕ) (w : MemWriter)

@@ -1,4 +1,4 @@
--- What a store in memory holds that began with what a loss of power left of a durable put, where its content may be a link.
+-- What a store in memory holds if it began with what a loss left of a durable put whose content may be a link.
 use Rattle.std.specs.Prelude.{◌≡◌, ℕ, List, None, Some}
 use Rattle.cacache_core.specs.{declared.integrity.digest.Hash.{Hash}, Digests.{digest}, Integrity.{IsIntegrity, integrity_under}, PathNames.{Names}}
 use Rattle.cacache_store.specs.declared.store.log.LogItem.{LogItem}
@@ -26,8 +26,8 @@ pub record LeadsThrough (cache key : List ℕ) (p : Put) (log : List LogItem) : 
   pub formed : IsIntegrity (integrity_put p)
   pub lies : LiesWhole cache (integrity_put p) log bytes
 
--- the put's entry stands there; where none behind it answers to the key, the key leads to such bytes
--- in each store with this tree
+-- the put's entry is there; if none after it answers to the key, the key leads to such bytes in each
+-- store with this tree
 abbrev pub LinkIsLeft : List ℕ → List ℕ → Put → Tree → Type 0
 LinkIsLeft cache key p t =
     (more : List Entry) × StandsBefore cache key p more t
@@ -35,8 +35,8 @@ LinkIsLeft cache key p t =
 
 -- ---- laws
 
--- what a durable put stored that answered is left, of which no integrity was expected; where a link
--- stood at its address, one to a file that no step of the history changed
+-- if a durable put answered, and no integrity was expected, what it stored is left; if a link was
+-- at its address, one to a file that no step of the history changed
 abbrev pub LossesLeaveLinks : Type 0
 LossesLeaveLinks =
     (h : History) (loss : Loss) (folder : Names) (key : List ℕ) (p : Put) (t : Tree)
@@ -44,7 +44,7 @@ LossesLeaveLinks =
     → (put : AnsweredPut h folder p) → p.key ≡ Some key → p.options.integrity ≡ None
     → LeadsUnchanged h put.before (address_of_put p) → LinkIsLeft h.setup.cache key p t
 
--- and where its entry is the last of its bucket, the key leads to its bytes in each such store
+-- and if its entry is the last of its bucket, the key leads to its bytes in each such store
 abbrev pub LossesLeaveLastLinks : Type 0
 LossesLeaveLastLinks =
     (h : History) (loss : Loss) (folder : Names) (key : List ℕ) (p : Put) (t : Tree)

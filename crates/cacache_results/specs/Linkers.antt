@@ -15,8 +15,8 @@ use Rattle.cacache_results.specs.{Handles.{IsText, LeadsToEntry, SaysFit, said_i
 abbrev pub MemLinker : Type 0
 MemLinker = SyncToLinker PlainFile
 
--- a linker into this cache, under this key, if any, of which so much was said. Its target showed these
--- bytes when it was opened, of which it took the first
+-- a linker into this cache, under this key, if any, with so much said. Its target showed the held
+-- bytes when it was opened, and the linker took the first of them
 pub record IsLinking (cache : List ℕ) (key : Option (List ℕ)) (path : List ℕ) (s : Said)
     (held bytes : List ℕ) (w : MemLinker) : Type 0 where
   pub base : List ℕ
@@ -39,7 +39,7 @@ pub record IsLinking (cache : List ℕ) (key : Option (List ℕ)) (path : List �
 -- ---- an opening
 
 -- a linker of what its target showed, that took nothing yet, or the error is excused; all that was known
--- stays. Where the target shows bytes only memory fails it, and else it tells why there are none
+-- stays. If the target shows bytes only memory fails it, and otherwise it says why there are none
 pub record OpenedLinker (cache : List ℕ) (key : Option (List ℕ)) (path : List ℕ) (s : Said)
     (r : Result MemLinker Error) (old new : List LogItem) : Type 0 where
   pub leaves : LeavesKnownCache cache old new
@@ -51,9 +51,9 @@ pub record OpenedLinker (cache : List ℕ) (key : Option (List ℕ)) (path : Lis
 
 -- ---- a commit
 
--- the key leads to an entry of what was said, under the integrity of the target's bytes lies the link,
--- unless something lay there, and all else stays. If nothing else was said, an error is excused; and
--- where the cache's path names a folder, only memory fails it, unless a link that leads nowhere lay there
+-- the key leads to an entry of what was said, the link lies under the integrity of the target's bytes,
+-- unless something lay there, and all else stays. If nothing else was said, an error is excused; and if
+-- the cache's path names a folder, only memory fails it, unless a link that leads nowhere lay there
 pub record LinkedBytes (cache : List ℕ) (key : Option (List ℕ)) (path : List ℕ) (s : Said)
     (held : List ℕ) (r : Result (List Hash) Error) (old new : List LogItem) : Type 0 where
   pub sound : IsCache cache new
@@ -69,11 +69,11 @@ pub record LinkedBytes (cache : List ℕ) (key : Option (List ℕ)) (path : List
 
 -- ---- laws, of the environment that a call left
 
--- where nothing was said but an integrity and a time, it fits
+-- if nothing was said but an integrity and a time, it fits
 abbrev pub PlainSaysFit : Type 0
 PlainSaysFit = (s : Said) → SaysPlain s → SaysFit s
 
--- a linker that was read goes on behind the bytes that it gave
+-- a linker that was read goes on after the bytes that it gave
 abbrev pub LinkersGoOn : Type 0
 LinkersGoOn =
     (cache : List ℕ) (key : Option (List ℕ)) (path : List ℕ) (s : Said) (held bytes : List ℕ)
@@ -84,7 +84,7 @@ LinkersGoOn =
     → IsLinking cache key path s held (bytes ++ passed r buf) v
 
 module _ {C N : Type 0} where
-  -- an opening that asks no size, of which none was said, is one
+  -- an opening that asks no size is one, if no size was said
   abbrev pub LinkOpeningsMean : Env (List LogItem) C N → Type 0
   LinkOpeningsMean new =
       (cache : List ℕ) (key : Option (List ℕ)) (target : List ℕ) (s : Said)

@@ -30,9 +30,9 @@ pub record LinksBytes (cache : List ℕ) (key : Option (List ℕ)) (path held : 
   pub lies : IfOk r (λ i. LiesLinked cache i path old new)
   pub beside : KeepsBesideLink cache key (integrity_under Sha256 held) path old new
 
--- a link: a cache is left, and so much of the bytes that the target shows. Where the cache's path
--- names a folder, only memory fails it, unless a link that leads nowhere lies there; and of a target
--- that shows none the error says why
+-- a link: a cache is left, and so much of the bytes that the target shows. If the cache's path names
+-- a folder, only memory fails it, unless a link that leads nowhere lies there; and if a target shows
+-- none the error says why
 pub record LinkedFile (cache : List ℕ) (key : Option (List ℕ)) (path : List ℕ)
     (r : Result (List Hash) Error) (old new : List LogItem) : Type 0 where
   pub sound : IsCache cache new
@@ -47,7 +47,7 @@ pub record LinkedFile (cache : List ℕ) (key : Option (List ℕ)) (path : List 
 -- ---- laws, of the environment that a call left
 
 module _ {C N : Type 0} where
-  -- a link under a key to a file apart from the cache, of this result, is one
+  -- a link under a key to a file apart from the cache, with this result, is one
   abbrev pub LinkMeans :
       (C → Option (List ℕ)) → List ℕ → List ℕ → List ℕ → Result (List Hash) Error
       → Env (List LogItem) C N → Type 0

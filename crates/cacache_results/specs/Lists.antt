@@ -21,7 +21,7 @@ pub record AreAllEntries (cache : List ℕ) (log : List LogItem) (entries : List
 abbrev pub index_of : List ℕ → List LogItem → Option Node
 index_of cache log = node_below (home_of cache) (tree_of log) (index_area ∷ [])
 
--- a listing: where no item is an error, its items are the entries that keys lead to, all of them
+-- a listing: if no item is an error, its items are the entries that keys lead to, all of them
 pub record ListedEntries (cache : List ℕ) (r : Reply) (old new : List LogItem) : Type 0 where
   pub leaves : LeavesKnownCache cache old new
   pub same : tree_of new ≡ tree_of old
@@ -31,7 +31,7 @@ pub record ListedEntries (cache : List ℕ) (r : Reply) (old new : List LogItem)
   pub succeeds : NamesFolder cache
       → OrMemory (ListsAll (index_of cache old) (plain_reply r)) (plain_reply r)
 
--- a listing, of this reply, is one
+-- a listing, with this reply, is one
 abbrev pub ListingMeans :
     {C N : Type 0} → List ℕ → Reply → Env (List LogItem) C N → Type 0
 ListingMeans {C} {N} cache r new =

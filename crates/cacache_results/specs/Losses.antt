@@ -1,4 +1,4 @@
--- What a store in memory holds that began with what a loss of power left, and what is read and written there.
+-- What a store in memory holds if it began with what a loss left, and what is read and written there.
 use Rattle.std.specs.{Prelude.{◌≡◌, ◌⊎◌, ℕ, List, ◌∷◌, ◌++◌, Option, None, Some, Vec, Result, IfErr, IfOk}, Global.{Global}}
 use Rattle.cacache_core.specs.{declared.{errors.Error.{Error}, integrity.{algorithm.Algorithm.{Algorithm}, digest.Hash.{Hash}}}, Digests.{digest}, Integrity.{IsIntegrity, integrity_under}, PathNames.{Names, home_of}, Paths.{bucket_names}}
 use Rattle.cacache_store.specs.declared.{env.Env.{Env}, store.log.LogItem.{LogItem}}
@@ -18,7 +18,7 @@ use Rattle.cacache_results.specs.{Reads.{GivesJust, LiesWhole}, Success.{FailsFo
 
 -- ---- what is left
 
--- a tree is what this loss leaves where the history ends
+-- a tree is what this loss leaves at the end of the history
 abbrev pub IsLeft : History → Loss → Tree → Type 0
 IsLeft h loss t =
     Lost (home h.setup) (moment_at h h.records).tree (moment_at h h.records).fixed loss t
@@ -27,7 +27,7 @@ IsLeft h loss t =
 abbrev pub entry_written : List ℕ → List ℕ → Put → Entry
 entry_written cache key p = (insertion_of (put_commit cache p) key).entry
 
--- behind the caller's append of the put's entry in these records nobody appends to the bucket
+-- after the caller's append of the put's entry in these records nobody appends to the bucket
 abbrev pub IsLast : History → Names → List Record → ℕ → List ℕ → Put → Type 0
 IsLast h folder records caller key p =
     (between : List Record) (append : Record) (later : List Record)
@@ -35,7 +35,7 @@ IsLast h folder records caller key p =
     → IsAppendOf caller h.setup.cache key (entry_written h.setup.cache key p) append
     → NoneAppends (folder ++ bucket_names key) (steps_of later)
 
--- the put's entry stands in the bucket of the key, and these behind it
+-- the put's entry is in the bucket of the key, and these after it
 pub record StandsBefore (cache key : List ℕ) (p : Put) (more : List Entry) (t : Tree)
     : Type 0 where
   pub before : List Entry
@@ -47,8 +47,8 @@ pub record LeadsToDigest (cache key : List ℕ) (p : Put) (log : List LogItem) :
   pub same : digest p.options.algorithm bytes ≡ digest p.options.algorithm p.data
   pub held : HasKey cache key (integrity_under p.options.algorithm p.data) bytes log
 
--- the put's entry stands there; where none behind it answers to the key, the key leads to its bytes
--- in each store with this tree
+-- the put's entry is there; if none after it answers to the key, the key leads to its bytes in each
+-- store with this tree
 abbrev pub PutIsLeft : List ℕ → List ℕ → Put → Tree → Type 0
 PutIsLeft cache key p t =
     (more : List Entry) × StandsBefore cache key p more t
@@ -75,8 +75,8 @@ pub record LeftRead (cache key : List ℕ) (r : Result (Vec ℕ Global) Error) (
 
 -- ---- writes
 
--- a write under a key: it leads to the bytes, or the error is excused. Everything stands where it
--- may still; other keys lead where they led, and contents stay, but at the address of the bytes
+-- a write under a key: it leads to the bytes, or the error is excused. Everything is still where it
+-- may be; other keys lead where they led, and contents stay, except at the address of the bytes
 pub record LeftWritten (a : Algorithm) (cache key bytes : List ℕ) (r : Result (List Hash) Error)
     (old new : List LogItem) : Type 0 where
   pub standing : IsStanding cache new
@@ -88,13 +88,13 @@ pub record LeftWritten (a : Algorithm) (cache key bytes : List ℕ) (r : Result 
 
 -- ---- laws
 
--- in what a loss leaves everything stands where it may
+-- in what a loss leaves everything is where it may be
 abbrev pub LossesLeaveStanding : Type 0
 LossesLeaveStanding =
     (h : History) (loss : Loss) (log : List LogItem) → Outlives h → IsLeft h loss (tree_of log)
     → IsStanding h.setup.cache log
 
--- what a durable put stored that answered is left, of which no integrity was expected
+-- what a durable put that answered stored is left, if no integrity was expected
 abbrev pub LossesLeavePuts : Type 0
 LossesLeavePuts =
     (h : History) (loss : Loss) (folder : Names) (key : List ℕ) (p : Put) (t : Tree)
@@ -102,7 +102,7 @@ LossesLeavePuts =
     → DurablePut h folder p → p.key ≡ Some key → p.options.integrity ≡ None
     → PutIsLeft h.setup.cache key p t
 
--- and where its entry is the last of its bucket, the key leads to its bytes in each such store
+-- and if its entry is the last of its bucket, the key leads to its bytes in each such store
 abbrev pub LossesLeaveLast : Type 0
 LossesLeaveLast =
     (h : History) (loss : Loss) (folder : Names) (key : List ℕ) (p : Put) (t : Tree)
@@ -112,7 +112,7 @@ LossesLeaveLast =
     → (log : List LogItem) → tree_of log ≡ t → LeadsToDigest h.setup.cache key p log
 
 module _ {C N : Type 0} where
-  -- a read by key of a store that stands, of this result, is one
+  -- a read by key of a standing store, with this result, is one
   abbrev pub LeftReadMeans :
       List ℕ → List ℕ → Result (Vec ℕ Global) Error → Env (List LogItem) C N → Type 0
   LeftReadMeans cache key r new =
@@ -121,7 +121,7 @@ module _ {C N : Type 0} where
       → LeftRead cache key r old.store new.store
 
 module _ {C N : Type 0} (moments : C → Option (List ℕ)) (numbers : N → Option (List ℕ)) where
-  -- a write under a key of a store that stands, of this result, is one
+  -- a write under a key of a standing store, with this result, is one
   abbrev pub LeftWriteMeans :
       Algorithm → List ℕ → List ℕ → List ℕ → Result (List Hash) Error
       → Env (List LogItem) C N → Type 0

@@ -86,7 +86,7 @@ pub record EntryFound (cache key : List ℕ) (r : Result (Option Metadata) Error
   pub fails : IfErr r (λ e. IsExcused e old new)
   pub succeeds : NamesFolder cache → FailsForMemory r
 
--- a question whether a content is there: a no of one that is there says that a step failed
+-- a question whether a content is there: a no for one that is there says that a step failed
 pub record AskedContent (cache : List ℕ) (i : List Hash) (r : Result Bool Error)
     (old new : List LogItem) : Type 0 where
   pub leaves : LeavesKnownCache cache old new
@@ -101,7 +101,7 @@ pub record AskedContent (cache : List ℕ) (i : List Hash) (r : Result Bool Erro
 -- ---- laws, of the environment that a call left
 
 module _ {C N : Type 0} where
-  -- a read by key, of this result, is one
+  -- a read by key, with this result, is one
   abbrev pub KeyReadMeans :
       List ℕ → List ℕ → Result (Vec ℕ Global) Error → Env (List LogItem) C N → Type 0
   KeyReadMeans cache key r new =

@@ -66,7 +66,7 @@ pub record Cleared (cache : List ℕ) (r : Result (Unit {0}) Error) (old new : L
 -- ---- laws, of the environment that a call left
 
 module _ {C N : Type 0} where
-  -- a removal by a tombstone, of this result, is one
+  -- a removal by a tombstone, with this result, is one
   abbrev pub RemovalMeans :
       (C → Option (List ℕ)) → List ℕ → List ℕ → Result (Unit {0}) Error
       → Env (List LogItem) C N → Type 0

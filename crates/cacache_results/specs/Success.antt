@@ -1,4 +1,4 @@
--- Results of calls whose steps all go well.
+-- Results of calls whose steps all succeed.
 use Rattle.std.specs.Prelude.{◌≡◌, ◌⊎◌, Result, IfErr, MatchResult}
 use Rattle.cacache_core.specs.declared.errors.Error.{Error, TheVariants.{OutOfMemory}}
 use Rattle.cacache_table.specs.Runs.{without_message}

@@ -12,7 +12,7 @@ use Rattle.cacache_results.specs.Success.{FailsForMemory}
 
 -- ---- what stays
 
--- bytes under an integrity don't give way to added ones: where both have one address, they are the same
+-- bytes under an integrity don't give way to added ones: if both have one address, they are the same
 abbrev pub DontClash : List Hash → List ℕ → List Hash → List ℕ → Type 0
 DontClash i bytes own added = ShareAddress i own → bytes ≡ added
 
@@ -54,7 +54,7 @@ pub record ContentWritten (a : Algorithm) (cache bytes : List ℕ) (r : Result (
   pub succeeds : IsReady cache old → FailsForMemory r
   pub ready : IsReady cache old → IfOk r (λ i. IsReady cache new)
 
--- of an entry nothing was said but its integrity and its time
+-- nothing was said of an entry but its integrity and its time
 pub record SaysPlain (s : Said) : Type 0 where
   pub size : s.size ≡ None
   pub metadata : s.metadata ≡ null
@@ -76,7 +76,7 @@ pub record KeyInserted (cache key : List ℕ) (integrity : Option (List Hash))
 -- ---- laws, of the environment that a call left
 
 module _ {C N : Type 0} (moments : C → Option (List ℕ)) (numbers : N → Option (List ℕ)) where
-  -- a write under a key, of this result, is one
+  -- a write under a key, with this result, is one
   abbrev pub WriteMeans :
       Algorithm → List ℕ → List ℕ → List ℕ → Result (List Hash) Error
       → Env (List LogItem) C N → Type 0

@@ -1,4 +1,4 @@
-//! Behind calls that store, insert or remove.
+//! After calls that store, insert or remove.
 ghost use Rattle.cacache_results.specs.Writes.{WriteMeans, ContentWriteMeans, InsertionMeans};
 ghost use Rattle.cacache_results.specs.Removals.{RemovalMeans, ContentRemovalMeans, FullRemovalMeans, ClearingMeans};
 
@@ -8,8 +8,8 @@ use cacache_memory::MemStore;
 use cacache_put::opts::WriteOpts;
 use cacache_store::env::{Clock, Env, Names};
 
-/// Behind a write under a key: it leads to the bytes, or the error is excused. Other keys lead where they led, and all
-/// bytes stay but those that others with their address replaced.
+/// After a write under a key: it leads to the bytes, or the error is excused. Other keys lead where they led, and all
+/// bytes stay except those that others with their address replaced.
 pub fn after_write<C: Clock, N: Names>(
     env: &Env<MemStore, C, N>,
     algo: Algorithm,
@@ -24,7 +24,7 @@ pub fn after_write<C: Clock, N: Names>(
     let _log = env.store.log();
 }
 
-/// Behind a write without a key: the bytes lie under their integrity, or the error is excused.
+/// After a write without a key: the bytes lie under their integrity, or the error is excused.
 pub fn after_write_hash<C: Clock, N: Names>(
     env: &Env<MemStore, C, N>,
     algo: Algorithm,
@@ -37,8 +37,8 @@ pub fn after_write_hash<C: Clock, N: Names>(
     let _log = env.store.log();
 }
 
-/// Behind `index::insert`: the key leads to the integrity of the options, and to nothing if they have none, or the error
-/// is excused. All else stays.
+/// After `index::insert`: the key leads to the integrity of the options, and to nothing if they have none, or the
+/// error is excused. All else stays.
 pub fn after_insert<C: Clock, N: Names>(
     env: &Env<MemStore, C, N>,
     cache: &str,
@@ -51,7 +51,7 @@ pub fn after_insert<C: Clock, N: Names>(
     let _log = env.store.log();
 }
 
-/// Behind `remove_sync`: the key leads to nothing, or the error is excused. All else stays.
+/// After `remove_sync`: the key leads to nothing, or the error is excused. All else stays.
 pub fn after_remove<C: Clock, N: Names>(
     env: &Env<MemStore, C, N>,
     cache: &str,
@@ -63,7 +63,7 @@ pub fn after_remove<C: Clock, N: Names>(
     let _log = env.store.log();
 }
 
-/// Behind `remove_hash_sync`: nothing lies under the integrity, or the error is excused. All else stays.
+/// After `remove_hash_sync`: nothing lies under the integrity, or the error is excused. All else stays.
 pub fn after_remove_hash<C: Clock, N: Names>(
     env: &Env<MemStore, C, N>,
     cache: &str,
@@ -76,7 +76,7 @@ pub fn after_remove_hash<C: Clock, N: Names>(
     let _log = env.store.log();
 }
 
-/// Behind a full removal by `RemoveOpts`: the key leads to nothing, or the error is excused. What else may be gone is
+/// After a full removal by `RemoveOpts`: the key leads to nothing, or the error is excused. What else may be gone is
 /// its content, and keys of its bucket.
 pub fn after_remove_fully<C: Clock, N: Names>(
     env: &Env<MemStore, C, N>,
@@ -89,7 +89,7 @@ pub fn after_remove_fully<C: Clock, N: Names>(
     let _log = env.store.log();
 }
 
-/// Behind `clear_sync`: where it is done, the cache is empty.
+/// After `clear_sync`: if it is done, the cache is empty.
 pub fn after_clear<C: Clock, N: Names>(env: &Env<MemStore, C, N>, cache: &str, cleared: &Result<()>)
     ensures { ClearingMeans cache.now cleared.now env.now }
 {

@@ -1,6 +1,6 @@
-//! What the results of calls mean to their caller, on a store in memory: a caller calls one of these functions behind a
-//! call, with what it was handed and what it answered. They do nothing. Their contracts take the call's clause `ran`, and say
-//! what the call left and answered in words of keys and contents.
+//! What the results of calls mean to their caller, on a store in memory: a caller calls one of these functions after
+//! a call, with what it was handed and what it answered. They do nothing. Their contracts take the call's clause
+//! `ran`, and say what the call left and answered in words of keys and contents.
 #![tactic(auto)]
 
 mod changes;

@@ -1,14 +1,15 @@
-//! Behind calls of open linkers.
+//! After calls of open linkers.
 ghost use Rattle.cacache_results.specs.Linkers.{PlainSaysFit, LinkersGoOn, LinkOpeningsMean, SizedOpeningsMean, LinkCommitsMean};
 
 use cacache_memory::MemStore;
 use cacache_store::env::{Clock, Env, Names};
 
-/// Behind each call of a linker: an opened one took nothing of its target yet, and goes on with what it is read. A commit
-/// that stored leads its key to an entry of what was said, of the integrity of all bytes that the target showed when it
-/// was opened, whatever became of it since; a link to it lies there, unless something lay there before. Whatever it
-/// answers, other keys lead where they led, and all bytes stay but those at that address. An opening leaves all that was
-/// known, and a linker that is dropped does nothing. What `open` says of a link fits (`plain`).
+/// After each call of a linker: an opened one took nothing of its target yet, and goes on with what it is read. A
+/// commit that stored leads its key to an entry of what was said, with the integrity of all bytes that the target
+/// showed when it was opened, whatever became of it since; a link to it lies there, unless something lay there
+/// before. Whatever it answers, other keys lead where they led, and all bytes stay except those at that address. An
+/// opening leaves all that was known, and a linker that is dropped does nothing. What `open` says of a link fits
+/// (`plain`).
 pub fn linker_laws<C: Clock, N: Names>(env: &Env<MemStore, C, N>)
     ensures plain { PlainSaysFit }
     ensures goes_on { LinkersGoOn }

@@ -1,11 +1,11 @@
-//! Behind listings.
+//! After listings.
 ghost use Rattle.cacache_results.specs.Lists.{ListingMeans};
 
 use cacache_memory::MemStore;
 use cacache_store::env::{Clock, Env, Names};
 use cacache_table::Reply;
 
-/// Behind `call` of a listing: where no item is an error, its items are the entries that keys lead to, all of them. All
+/// After `call` of a listing: if no item is an error, its items are the entries that keys lead to, all of them. All
 /// that was known stays.
 pub fn after_list<C: Clock, N: Names>(env: &Env<MemStore, C, N>, cache: &str, listed: &Reply)
     ensures { ListingMeans cache.now listed.now env.now }

@@ -1,4 +1,4 @@
-//! Behind calls that only look.
+//! After calls that only look.
 ghost use Rattle.cacache_results.specs.Reads.{KeyReadMeans, ContentReadMeans, LookupMeans, QuestionMeans};
 
 use cacache_core::errors::Result;
@@ -7,7 +7,7 @@ use cacache_entry::Metadata;
 use cacache_memory::MemStore;
 use cacache_store::env::{Clock, Env, Names};
 
-/// Behind `read_sync`: the bytes that the key leads to were read, or `EntryNotFound` says that it leads to nothing.
+/// After `read_sync`: the bytes that the key leads to were read, or `EntryNotFound` says that it leads to nothing.
 /// Whatever lies there, only whole bytes were read; any other error is excused. All that was known stays.
 pub fn after_read<C: Clock, N: Names>(
     env: &Env<MemStore, C, N>,
@@ -20,8 +20,8 @@ pub fn after_read<C: Clock, N: Names>(
     let _log = env.store.log();
 }
 
-/// Behind `read_hash_sync`: the bytes that lie under the integrity were read. Whatever lies there, only whole bytes were
-/// read; any other error is excused. All that was known stays.
+/// After `read_hash_sync`: the bytes that lie under the integrity were read. Whatever lies there, only whole bytes
+/// were read; any other error is excused. All that was known stays.
 pub fn after_read_hash<C: Clock, N: Names>(
     env: &Env<MemStore, C, N>,
     cache: &str,
@@ -34,7 +34,7 @@ pub fn after_read_hash<C: Clock, N: Names>(
     let _log = env.store.log();
 }
 
-/// Behind `metadata_sync`: the entry that the key leads to was found, if any. All that was known stays.
+/// After `metadata_sync`: the entry that the key leads to was found, if any. All that was known stays.
 pub fn after_find<C: Clock, N: Names>(
     env: &Env<MemStore, C, N>,
     cache: &str,
@@ -46,7 +46,7 @@ pub fn after_find<C: Clock, N: Names>(
     let _log = env.store.log();
 }
 
-/// Behind `exists_sync`: a no about a content that is there says that a step failed. All that was known stays.
+/// After `exists_sync`: a no about a content that is there says that a step failed. All that was known stays.
 pub fn after_exists<C: Clock, N: Names>(
     env: &Env<MemStore, C, N>,
     cache: &str,

@@ -1,4 +1,4 @@
-//! Behind calls that copy a content out of the cache, or link a file into it.
+//! After calls that copy a content out of the cache, or link a file into it.
 ghost use Rattle.std.specs.Prelude.{Bool};
 ghost use Rattle.cacache_table.specs.declared.command.How.{How};
 ghost use Rattle.cacache_table.specs.declared.command.Source.{Source};
@@ -10,8 +10,8 @@ use cacache_core::integrity::Integrity;
 use cacache_memory::MemStore;
 use cacache_store::env::{Clock, Env, Names};
 
-/// Behind a copy to a path apart from the cache, of what a key or an integrity names, verified first or not: the bytes
-/// stand where the path leads, and the count is theirs, or the error is excused. All that was known stays.
+/// After a copy to a path apart from the cache, of what a key or an integrity names, verified first or not: the bytes
+/// are where the path leads, and the count is theirs, or the error is excused. All that was known stays.
 pub fn after_copy<C: Clock, N: Names>(
     env: &Env<MemStore, C, N>,
     cache: &str,
@@ -24,7 +24,7 @@ pub fn after_copy<C: Clock, N: Names>(
     let _log = env.store.log();
 }
 
-/// The same behind a reflink or a hard link.
+/// The same after a reflink or a hard link.
 pub fn after_share<C: Clock, N: Names>(
     env: &Env<MemStore, C, N>,
     cache: &str,
@@ -37,9 +37,9 @@ pub fn after_share<C: Clock, N: Names>(
     let _log = env.store.log();
 }
 
-/// Behind `link_to_sync` to a file apart from the cache: the key leads to the integrity of the bytes that the file
-/// shows, under which the link lies unless something lay there. Other keys lead where they led, and all bytes stay
-/// but those at that address.
+/// After `link_to_sync` to a file apart from the cache: the key leads to the integrity of the bytes that the file
+/// shows, and the link lies under it unless something lay there. Other keys lead where they led, and all bytes stay
+/// except those at that address.
 pub fn after_link<C: Clock, N: Names>(
     env: &Env<MemStore, C, N>,
     cache: &str,
@@ -52,7 +52,7 @@ pub fn after_link<C: Clock, N: Names>(
     let _log = env.store.log();
 }
 
-/// The same behind `link_to_hash_sync`, without a key.
+/// The same after `link_to_hash_sync`, without a key.
 pub fn after_link_hash<C: Clock, N: Names>(
     env: &Env<MemStore, C, N>,
     cache: &str,

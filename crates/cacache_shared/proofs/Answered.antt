@@ -13,7 +13,7 @@ use Rattle.cacache_shared.proofs.SaidAnswers.{said_answers}
 abbrev replies_in : List (Command × Option Reply) → List Reply
 replies_in = filter_map (λ a. a.1)
 
--- the commands of what was answered are those that the caller began
+-- the commands that were answered are those that the caller began
 pub began_these : (caller : ℕ) (records : List Record) → map said_command (commands_of caller records) ≡ map (λ a. a.0) (answered_in caller records)
 began_these caller [] = refl
 began_these caller (Began c command ∷ records) = by (c == caller) refl (began_these caller records)
@@ -102,7 +102,7 @@ same_command t luck (Some made) call = refl
 turned : (a b : ℕ) (t : Bool) → (a == b) ≡ t → (b == a) ≡ t
 turned a b t e = grind (arith, nat_tests, e)
 
--- the calls behind a record of this caller, or of another one
+-- the calls after a record of this caller, or of another one
 set_own : (caller c : ℕ) (new : Option Call) (calls : ℕ → Option Call) → (c == caller) ≡ true → set_call c new calls caller ≡ new
 set_own caller c new calls same = let own = turned c caller true same in rw own refl
 
@@ -145,7 +145,7 @@ module _ (h : History) (legal : IsLegal h) (caller : ℕ) where
         ];
       }
 
-  -- what the later records answer, behind this one
+  -- what the later records answer, after this one
   abbrev Later : List Record → Record → List Record → Type 0
   Later before r records =
       (own : Option Call) → (now_after h.setup (now_at h before) r).calls caller ≡ own → GoOn h caller records own

@@ -8,7 +8,7 @@ use Rattle.cacache_world.specs.declared.event.Move.TheVariants as told
 use Rattle.cacache_world.specs.WorldKept.{AddsRecord, MovesOn, adding, history_of, last}
 use Rattle.cacache_shared.{proofs.Answered.{same_command}, specs.Storms.{GrewBy, IsListing, IsListed}}
 
--- the calls behind one record more
+-- the calls after one record more
 calls_behind : (h : History) (r : Record) → last (adding h r) ≡ now_after h.setup (last h) r
 calls_behind h r = replay_more h.setup (initial h.setup) h.records (r ∷ [])
 

@@ -46,7 +46,7 @@ pub record IsGiven (h : History) (command : Command) (reply : Reply) : Type 0 wh
   pub answers : (reply ≡ Refused OutOfMemory)
       ⊎ Answers (call_site h.setup call.number) command (plain_reply reply)
 
--- of a command without a reply nothing is said
+-- a command without a reply: nothing is said
 abbrev pub IsAnswered : History → Command × Option Reply → Type 0
 IsAnswered h (command, None) = Unit {0}
 IsAnswered h (command, Some reply) = IsGiven h command reply
@@ -56,7 +56,7 @@ abbrev pub AreAnswered : History → List (Command × Option Reply) → Type 0
 AreAnswered h [] = Unit {0}
 AreAnswered h (answered ∷ more) = IsAnswered h answered × AreAnswered h more
 
--- what a seat's commands say, in their order, each with what its reply says where there is one: these
+-- what a seat's commands say, in their order, each with what its reply says if there is one: these
 -- are the seat's replies in theirs
 pub record SeatIsAnswered (h : History) (seat : Taken) : Type 0 where
   pub answered : List (Command × Option Reply)
@@ -64,7 +64,7 @@ pub record SeatIsAnswered (h : History) (seat : Taken) : Type 0 where
   pub replies : map said_reply seat.replies ≡ filter_map (λ a. a.1) answered
   pub given : AreAnswered h answered
 
--- so it is of a seat that agrees with the records, and whose caller had no call when it was made
+-- so it is for a seat that agrees with the records, if its caller had no call when it was made
 abbrev pub SeatsAreAnswered : Type 0
 SeatsAreAnswered =
     (h : History) (from : ℕ) (seat : Taken) → IsLegal h → SeatAgrees from h.records seat

@@ -1,11 +1,11 @@
--- What the records of a history say of one caller.
+-- What the records of a history say about one caller.
 use Rattle.std.specs.Prelude.{ℕ, ◌==◌, Bool, true, false, List, Option, Some, None, count_by, filter_map, if◌then◌else◌}
 use Rattle.cacache_table.specs.declared.{command.Command.{Command}, reply.Reply.{Reply}}
 use Rattle.cacache_history.specs.declared.record.Record.{Record, TheVariants.{Began, Moved, Stopped}}
 
 -- ---- records
 
--- whose event it tells
+-- the caller that its event is of
 abbrev pub caller_of : Record → ℕ
 caller_of (Began c command) = c
 caller_of (Moved c luck made reply) = c

@@ -50,7 +50,7 @@ abbrev pub with_command : Command → Taken → Taken
 with_command command seat =
     record seat { records = seat.records + 1; commands = seat.commands ++ command ∷ [] }
 
--- with the reply of a move, where the call is over
+-- with the reply of a move, if the call is over
 abbrev pub replies_after : Move → List Reply → List Reply
 replies_after told.More replies = replies
 replies_after (told.Done reply) replies = replies ++ reply ∷ []

@@ -9,13 +9,13 @@ use Rattle.cacache_shared.specs.{declared.outcome.Storm.{Storm}, Lines.{moves}}
 abbrev pub IsOutOfRange : ℕ → ℕ → Type 0
 IsOutOfRange threads keys = (threads ≡ 0) ⊎ (64 < threads) ⊎ (keys ≡ 0) ⊎ (1000 < keys)
 
--- ---- a listing behind a history
+-- ---- a listing after a history
 
--- what came behind it
+-- what came after it
 abbrev pub GrewBy : History → List Record → History → Type 0
 GrewBy h more h' = h' ≡ history_of h.setup (h.records ++ more)
 
--- the first caller lists there, and isn't told anything yet
+-- the first caller lists there, and has no answer yet
 pub record IsListing (h h' : History) : Type 0 where
   pub more : List Record
   pub grew : GrewBy h more h'
@@ -45,7 +45,7 @@ pub record ListsEntries (h : History) (n : ℕ) : Type 0 where
 
 -- ---- a storm's numbers
 
--- those of a legal history: how many moves there are, and how many entries a listing behind it gives
+-- those of a legal history: how many moves there are, and how many entries a listing after it gives
 pub record IsCounted (storm : Storm) : Type 0 where
   pub history : History
   pub legal : IsLegal history

@@ -12,7 +12,7 @@ use cacache_world::World;
 use std::alloc::Global;
 use std::sync::ledger::{Ledger, Share};
 
-/// Whether each seat agrees with its caller's records; not where memory is refused.
+/// Whether each seat agrees with its caller's records; false if memory is refused.
 pub(crate) fn all_agree<L: Ledger>(
     alloc: Global,
     world: &World,
@@ -24,7 +24,7 @@ pub(crate) fn all_agree<L: Ledger>(
     seats.iter().all(|seat| agrees(alloc, world, from, seat))
 }
 
-/// Whether a seat agrees with its caller's records; not where memory is refused.
+/// Whether a seat agrees with its caller's records; false if memory is refused.
 fn agrees<L: Ledger>(alloc: Global, world: &World, from: usize, seat: &Seat<L>) -> bool
     ensures { IsTrue result → SeatAgrees from world.now.records seat.now }
 {
@@ -57,7 +57,7 @@ fn got_these<L: Ledger>(alloc: Global, later: &[Record], seat: &Seat<L>) -> bool
     }
 }
 
-/// All parts of the seats in one share, which counts all their records. None of no seats.
+/// All parts of the seats in one share, which counts all their records. None if there are no seats.
 pub(crate) fn merge_seats<L: Ledger>(seats: Vec<Seat<L>>) -> Option<Share<L>>
     ensures none { IfNone result (vec_len seats ≡ 0) }
     ensures parts { IfSome result (λ all. all.parts ≡ vec_len seats) }

@@ -57,7 +57,7 @@ impl<L: Ledger> Inside<L> {
         }
     }
 
-    /// The seat's caller makes one move, which the seat counts, with its reply where the call is over.
+    /// The seat's caller makes one move, which the seat counts, with its reply if the call is over.
     #[tactic(auto, using(crate::proofs::Moves::one_more, crate::proofs::Moves::moved_adds))]
     pub(crate) fn go(&mut self, seat: &mut Seat<L>, luck: Luck) -> Result<Went, WorldFault>
         ensures moves { IfOk result (λ went.

@@ -1,4 +1,4 @@
-//! What holds of the seats of a closed world, on a function that does nothing.
+//! What holds for the seats of a closed world, on a function that does nothing.
 ghost use Rattle.cacache_shared.specs.Answered.{SeatsAreAnswered};
 
 /// What each command of a seat was answered, once its world is closed: the seat's replies are those of its commands in

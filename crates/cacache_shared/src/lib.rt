@@ -1,4 +1,4 @@
-//! A world that threads share: one lock, and a seat for each caller. And a storm of threads at one.
+//! A world that threads share, with one lock and a seat for each caller, and a storm of threads.
 #![tactic(auto)]
 
 mod agreeing;

@@ -1,4 +1,4 @@
-//! What the records of a world say of a caller.
+//! What the records of a world say about a caller.
 ghost use Rattle.std.specs.Prelude.{◌≡◌, drop, option_copied};
 ghost use Rattle.cacache_shared.specs.Lines.{is_record_of, records_of, is_move_of, moves_of, command_in, reply_given};
 

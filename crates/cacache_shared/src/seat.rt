@@ -52,7 +52,7 @@ impl<L: Ledger> Model for Seat<L> {
 }
 
 impl<L: Ledger> Seat<L> {
-    /// The seat of a caller that has so many records, of which so many are moves.
+    /// The seat of a caller that has so many records, so many of them moves.
     pub(crate) fn new(
         alloc: Global,
         caller: usize,

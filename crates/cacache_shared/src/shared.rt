@@ -41,7 +41,7 @@ impl<L: Ledger> SharedWorld<L> {
     ///
     /// # Errors
     ///
-    /// The world as it was, where memory is refused.
+    /// The world as it was, if memory is refused.
     pub fn new(blank: Blank<L>, world: World) -> Result<(SharedWorld<L>, Vec<Seat<L>>), World>
         requires each { blank.blank.parts ≡ world.setup.callers }
         ensures same { IfErr result (λ w. w ≡ world) }
@@ -75,7 +75,7 @@ impl<L: Ledger> SharedWorld<L> {
     /// # Errors
     ///
     /// The seat stays as it was, and so does the world: for `World::begin`'s faults, and `OutOfMemory`
-    /// where memory is refused.
+    /// if memory is refused.
     pub fn begin<R: Wait>(
         &self,
         rt: &R,
@@ -94,7 +94,7 @@ impl<L: Ledger> SharedWorld<L> {
     /// # Errors
     ///
     /// The seat stays as it was, and so does the world: for `World::move_one`'s faults, and
-    /// `OutOfMemory` where memory is refused.
+    /// `OutOfMemory` if memory is refused.
     #[tactic(auto, using(crate::proofs::Moves::moves_goes))]
     pub fn go<R: Wait>(&self, rt: &R, seat: &mut Seat<L>, luck: Luck) -> Result<Went, WorldFault>
         ensures goes { IfOk result (λ went. SeatGoes went seat.old seat.new) }
@@ -103,13 +103,13 @@ impl<L: Ledger> SharedWorld<L> {
         self.inside.lock(rt).go(seat, luck)
     }
 
-    /// The world again, where each seat is here and agrees with its caller's records: it counts the
-    /// caller's moves, and since it was made holds the commands and replies, JSON values by their texts. No
-    /// record is there but those that the seats count.
+    /// The world again, if each seat is here and agrees with its caller's records: it counts the caller's moves, and
+    /// since it was made holds the commands and replies, JSON values by their texts. No record is there except those
+    /// that the seats count.
     ///
     /// # Errors
     ///
-    /// The shared world and the seats as they were, where memory is refused, a seat is missing, or one
+    /// The shared world and the seats as they were, if memory is refused, a seat is missing, or one
     /// doesn't agree.
     pub fn close(self, seats: Vec<Seat<L>>) -> Result<World, (SharedWorld<L>, Vec<Seat<L>>)>
         ensures told { IfOk result (λ w. sum_by (λ s. s.records) seats.items ≡ length w.records) }

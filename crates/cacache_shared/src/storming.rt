@@ -28,15 +28,15 @@ const MOST_KEYS: u64 = 1000;
 /// The cache's folder.
 const CACHE: &str = "c";
 
-/// Each of so many threads, 1 to 64, puts and gets each of its keys, 1 to 1000, in one new world. The
-/// gate is asked before each key, whose turn is the thread's number times `keys` and then the key's.
-/// It waits until all threads are done, and for as long as the gate says `NotYet`.
+/// Each of so many threads, 1 to 64, puts and gets each of its keys, 1 to 1000, in one new world. The gate is asked
+/// before each key; the turn is the thread's number times `keys` and then the key's. It waits until all threads are
+/// done, and for as long as the gate says `NotYet`.
 ///
 /// # Errors
 ///
-/// `Count` where a number is out of range. `Quit` where the gate says so, `Failed` where a call fails,
-/// `World` where the world refuses an event, and `Mismatch` where a thread gets other bytes than it
-/// put, or a seat doesn't agree with the world's records: then the fault of the first thread that has one.
+/// `Count` if a number is out of range. `Quit` if the gate says so, `Failed` if a call fails, `World` if the world
+/// refuses an event, and `Mismatch` if a thread gets other bytes than it put, or a seat doesn't agree with the
+/// world's records: then the fault of the first thread that has one.
 pub fn storm<R: Threads + Wait + Clock + AllocGlobal + Sync, G: Gate + Sync>(
     rt: &R,
     threads: u64,

@@ -1,4 +1,4 @@
--- The file was stored that the four words name.
+-- The file that the four words name was stored.
 use Rattle.std.proofs.Common.{codes, rules}
 use Rattle.cacache_program.{specs.WordStore.{StoresFile}, proofs.FurtherAsked.{filed_by}}
 use Rattle.cacache_program.proofs.further.run_filed.Goals as goal

@@ -1,4 +1,4 @@
--- The text is cut off where it stands in the line.
+-- The text is cut off where it begins in the line.
 use Rattle.std.proofs.Common.{◌≤◌, List, ℕ, length, drop, subst, sym, ap, ◌∙◌}
 use Rattle.cacache_reads.proofs.Texts.{text_in_line, line_reaches_text}
 use Rattle.cacache_reads.proofs.entries.text.Goals as goal
