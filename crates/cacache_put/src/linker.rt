@@ -267,25 +267,3 @@ impl<F: OpenedFile> SyncToLinker<F> {
         link_rest(env, linked.at(moment), hasher, count, file)
     }
 }
-
-impl<F: OpenedFile> Read for SyncToLinker<F> {
-    ghost remaining = { λ linker. (F.seen linker.file).bytes };
-
-    /// Reads some bytes into the front of `buf` and returns how many: none only at the end of the target, or if `buf`
-    /// is empty. After an error the linker is where it was, and may go on.
-    fn read(&mut self, buf: &mut [u8]) -> io::Result<usize>
-        ensures bound { ReadsAtMost result buf.new }
-        ensures bytes { ReadConsumes (F.seen self.old.file).bytes (F.seen self.new.file).bytes
-            result buf.new }
-        ensures left { LeftFalls (F.seen self.old.file).left (F.seen self.new.file).left result }
-        ensures so_far { (bytes : List ℕ) → HasHashed self.old bytes
-            → HasHashed self.new (bytes ++ passed result buf.new) }
-        ensures linked { self.new.linked ≡ self.old.linked }
-        ensures earned { F.reads self.old.file (length buf.old) result self.new.file }
-    {
-        let count = self.file.read_some(buf)?;
-        self.hasher.update(&buf[..count]);
-        self.count = self.count.saturating_add(count);
-        Ok(count)
-    }
-}

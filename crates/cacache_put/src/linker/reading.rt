@@ -16,7 +16,7 @@ impl<F: OpenedFile> Read for SyncToLinker<F> {
     ghost remaining = { λ linker. (F.seen linker.file).bytes };
 
     /// Reads some bytes into the front of `buf` and returns how many: none only at the end of the target, or if `buf` is
-    /// empty. After an error the linker stands where it stood, and may go on.
+    /// empty. After an error the linker is where it was, and may go on.
     fn read(&mut self, buf: &mut [u8]) -> io::Result<usize>
         ensures bound { ReadsAtMost result buf.new }
         ensures bytes { ReadConsumes (F.seen self.old.file).bytes (F.seen self.new.file).bytes
