@@ -1,6 +1,6 @@
 use Rattle.std.proofs.Common.{rules, arith, length, ◌-◌}
-use Rattle.{cacache_content.proofs.Fills.{consumes_nothing}, cacache_put.proofs.LinkerReads.{part_taken, took_further, took_no_further, whole_taken}}
-use Rattle.cacache_put.proofs.linker.reading.SyncToLinkerRead.read_exact.Goals.{in-Ok, in-Err}
+use Rattle.cacache_content.proofs.Fills.{consumes_nothing}
+use Rattle.cacache_put.proofs.{LinkerReads.{part_taken, took_further, took_no_further, whole_taken}, linker.reading.SyncToLinkerRead.read_exact.Goals.{in-Ok, in-Err}}
 use Rattle.cacache_put.proofs.linker.reading.SyncToLinkerRead.read_exact.Goals as goal
 
 pub returns-then-done-size-clause-so_far : goal.returns-then-done-size-clause-so_far
