@@ -35,8 +35,8 @@ of_named None names Q is holds = absurd cc
 of_named (Some file) names Q is holds = holds
 
 of_synced : (o : Option OpenFile) (names : Names) (P : OpenFile → Type 0) (Q : Type 0) → option_map (λ (f : OpenFile). f.names) o ≡ Some names → IfSome o P → ((file : OpenFile) → P file → Q) → Q
-of_synced None names P Q is holds use = absurd cc
-of_synced (Some file) names P Q is holds use = use file holds
+of_synced None names P Q is holds goes = absurd cc
+of_synced (Some file) names P Q is holds goes = goes file holds
 
 -- what the disk answers, and leaves, where a temporary file is put
 abbrev disk_puts : Tree → (ℕ → Option OpenFile) → NumberedTemp → List ℕ → PlainAnswer × Tree
@@ -116,7 +116,7 @@ module _ (b : Bool) (m : Machine) (temp : NumberedTemp) (path : List ℕ) (names
   synced : (n : Machine) → Same m n → (most : Option ℕ) (said : CallResult) (l : Machine) → GoesWell most n (asks.Sync temp.number) said l → (said ≡ says.Done) × Same m l
   synced n same most said l well =
       of_synced (n.files temp.number) names _ ((said ≡ says.Done) × Same m l) (ready_on n same).opened well
-      (λ file (is, tree, files, nodes). (is, record { tree = tree ∙ same.tree; files = files ∙ same.files }))
+      (λ file went. (went.0, record { tree = went.1.0 ∙ same.tree; files = went.1.1 ∙ same.files }))
 
   syncs : (c : Bool) (s : Stage) (n : Machine) → Same m n → ((l : Machine) → Same m l → Leads (way_of b) s l put_claim) → Leads (way_of b) (sync_again c temp.number s) n put_claim
   syncs true s n same next = prepares (asks.Sync temp.number) s n same (synced n same) (λ why part l left. left) next
