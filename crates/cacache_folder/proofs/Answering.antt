@@ -4,11 +4,11 @@ use Rattle.std.specs.{Prelude.{Option, Result, Ok, Err}, Result.{result_map_both
 use Rattle.std_io.specs.{IoError.{error_kind}, declared.io.{error.Error.{Error}, kind.ErrorKind.{ErrorKind}}}
 use Rattle.cacache_store.specs.declared.store.step.Step.TheVariants as steps
 use Rattle.cacache_store.specs.declared.store.answer.Answer.TheVariants as answers
-use Rattle.cacache_system.specs.{declared.call.{SystemCall.{SystemCall}, CallResult.{CallResult}, CallItem.{CallItem}}, CallLog.{said, MakesCall}, CallsOf.{Stage, only, making, standing, RunLogged}, Seen.{NumberedFile, NumberedTemp, NumberedStep, NumberedAnswer}, AnswersOf.{Hint, no_hint, is_missing, first, answer_of, read_on, failed_with, misses, StepRuns, remove}}
+use Rattle.cacache_system.specs.{declared.call.{SystemCall.{SystemCall}, CallResult.{CallResult}, CallItem.{CallItem}}, CallLog.{said, MakesCall}, CallsOf.{Stage, only, making, standing, RunLogged}, Seen.{NumberedFile, NumberedTemp, NumberedStep, NumberedAnswer}, AnswersOf.{Hint, no_hint, is_missing, first, answer_of, read_on, failed_with, misses, StepRuns, look_first}}
 use Rattle.cacache_system.specs.declared.call.SystemCall.TheVariants as asks
 use Rattle.cacache_system.specs.declared.call.CallResult.TheVariants as says
 use Rattle.cacache_store.specs.declared.store.answer.Answer.{Answer}
-use Rattle.cacache_folder.specs.{declared.folder.{opened.SystemFile.{SystemFile}, temp.SystemTemp.{SystemTemp}}, FolderNumbers.{value_or, answered, answered_or}, Looks.{LooksFirst}}
+use Rattle.cacache_folder.specs.{declared.folder.{opened.SystemFile.{SystemFile}, temp.SystemTemp.{SystemTemp}}, FolderNumbers.{value_or, answered, answered_or}, Looks.{LooksFirst}, Moves.{Persists, Appends}}
 use Rattle.cacache_folder.proofs.CallRuns.{run_one, calls_run, calls_over, run_as}
 
 abbrev Log : Type 0
@@ -48,10 +48,10 @@ removed_folder path (Err error) = refl
 
 -- folders were looked at, and then the removal is made
 removal : (value : Unit {0}) (call : SystemCall) (end : CallResult) (old mid new : Log) → LooksFirst (Ok value) old mid → MakesCall mid new call end
-    → (hint : Hint) × RunLogged (remove hint call) end old new
+    → (hint : Hint) × RunLogged (look_first hint (only call)) end old new
 removal value call end old mid new looks makes =
-    let (hint, calls) = looks call in
-    (hint, calls_run (remove hint call) (only call) end old mid new calls (run_one (only call) call end end mid new makes refl refl))
+    let (hint, calls) = looks (only call) in
+    (hint, calls_run (look_first hint (only call)) (only call) end old mid new calls (run_one (only call) call end end mid new makes refl refl))
 
 pub removes_file : (path : List ℕ) (value : Unit {0}) (r : Result (Unit {0}) Error) (old mid new : Log) → LooksFirst (Ok value) old mid
     → MakesCall mid new (asks.RemoveFile path) (said (λ _. says.Done) r)
@@ -71,14 +71,29 @@ removes_folder path value r old mid new looks makes =
 pub refuses_file : (path : List ℕ) (error : Error) (old new : Log) → LooksFirst {A = Unit {0}} (Err error) old new
     → StepRuns (steps.RemoveFile path) (failed_with (steps.RemoveFile path) (error_kind error)) old new
 refuses_file path error old new looks =
-    let (hint, calls) = looks (asks.RemoveFile path) in
-    (hint, says.Failed (error_kind error), calls_over (remove hint (asks.RemoveFile path)) _ (says.Failed (error_kind error)) old new calls refl, refl)
+    let (hint, calls) = looks (only (asks.RemoveFile path)) in
+    (hint, says.Failed (error_kind error), calls_over (look_first hint (only (asks.RemoveFile path))) _ (says.Failed (error_kind error)) old new calls refl, refl)
 
 pub refuses_folder : (path : List ℕ) (error : Error) (old new : Log) → LooksFirst {A = Unit {0}} (Err error) old new
     → StepRuns (steps.RemoveDir path) (failed_with (steps.RemoveDir path) (error_kind error)) old new
 refuses_folder path error old new looks =
-    let (hint, calls) = looks (asks.RemoveFolder path) in
-    (hint, says.Failed (error_kind error), calls_over (remove hint (asks.RemoveFolder path)) _ (says.Failed (error_kind error)) old new calls refl, refl)
+    let (hint, calls) = looks (only (asks.RemoveFolder path)) in
+    (hint, says.Failed (error_kind error), calls_over (look_first hint (only (asks.RemoveFolder path))) _ (says.Failed (error_kind error)) old new calls refl, refl)
+
+appended : (path bytes : List ℕ) (r : Result ℕ Error)
+    → value_or (λ n. answers.Took n) (steps.Append path bytes) r ≡ answer_of (steps.Append path bytes) (said says.Count r)
+appended path bytes (Ok value) = refl
+appended path bytes (Err error) = refl
+
+-- bytes were appended, in a walk or in none
+pub appends_answer : (path bytes : List ℕ) (r : Result ℕ Error) (old new : Log) → Appends path bytes r old new
+    → StepRuns (steps.Append path bytes) (value_or (λ n. answers.Took n) (steps.Append path bytes) r) old new
+appends_answer path bytes r old new (hint, run) = (hint, said says.Count r, run, appended path bytes r)
+
+-- a temporary file was moved
+pub persists_answer : (temp : NumberedTemp) (path : List ℕ) (r : Result (Unit {0}) Error) (answer : NumberedAnswer) (old new : Log) → Persists temp path r old new
+    → answer ≡ answer_of (steps.Persist temp path) (said (λ _. says.Done) r) → StepRuns (steps.Persist temp path) answer old new
+persists_answer temp path r answer old new (hint, run) is = (hint, said (λ _. says.Done) r, run, is)
 
 -- folders are made, whatever the guess
 pub dirs_answer : (path : List ℕ) (b : Bool) (answer : NumberedAnswer) (end : CallResult) (old new : Log)

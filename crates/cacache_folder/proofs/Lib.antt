@@ -12,3 +12,4 @@ pub mod Answering
 pub mod Reading
 pub mod ByPath
 pub mod HandleReads
+mod Moving

@@ -7,5 +7,6 @@ pub mod FolderNumbers
 pub mod Goings
 pub mod HandleRuns
 pub mod Looks
+pub mod Moves
 pub mod Listings
 pub mod StepClauses

@@ -4,6 +4,10 @@ ghost use Rattle.cacache_store.specs.declared.store.step.Step.TheVariants as ste
 ghost use Rattle.cacache_store.specs.declared.store.answer.Answer.TheVariants as answers;
 ghost use Rattle.cacache_store.specs.Plain.{plain_step, plain_answer};
 ghost use Rattle.cacache_store.specs.Fits.{Fits, is_no_memory};
+ghost use Rattle.cacache_system.specs.declared.call.CallResult.TheVariants as says;
+ghost use Rattle.cacache_system.specs.CallLog.{said};
+ghost use Rattle.cacache_system.specs.CallsOf as calls;
+ghost use Rattle.cacache_system.specs.CallsOf.{RunLogged};
 ghost use Rattle.cacache_system.specs.AnswersOf.{StepRuns};
 ghost use Rattle.cacache_folder.specs.FolderHandles.{seen_file, seen_temp};
 ghost use Rattle.cacache_folder.specs.FolderNumbers.{numbered, answered};
@@ -13,6 +17,7 @@ ghost use Rattle.cacache_folder.specs.StepClauses.{ValueRuns, AnswerFits, Answer
 
 mod again;
 mod answers;
+mod appending;
 mod copying;
 mod descent;
 mod entries;
@@ -23,11 +28,13 @@ mod folders;
 mod fresh;
 mod guess;
 mod listing;
+mod looking;
 mod node;
 mod opened;
 mod paths;
 mod refusing;
 mod removing;
+mod rewriting;
 mod syncing;
 mod temp;
 mod values;
@@ -42,10 +49,11 @@ use cacache_system::{Host, System};
 use copying::copy;
 use descent::Descent;
 use faults::failed_answer;
-use files::{append, create_temp, exists, open_with, size};
+use files::{create_temp, exists, open_with, size};
 use guess::Guess;
 pub use opened::{FolderFile, SystemFile};
 use paths::make_dirs;
+use rewriting::Reading;
 use std::io;
 use std::io::ErrorKind;
 use std::rt::Files;
@@ -68,11 +76,20 @@ type AnswerOf<Y> = Answer<SystemFile<Y>, SystemTemp<Y>>;
 ///
 /// A name that isn't UTF-8 is listed as an escaped name, so that it hides no other one. No step reaches what stands
 /// under it.
+///
+/// A `Persist` to the path of the file that was read whole last replaces that file, and keeps its owner, its group and its
+/// mode. If they can't be kept, the step fails, and the file stays as it was. Any other `Persist` leaves the temporary
+/// file's own, so that its owner alone reads it.
+///
+/// After a listing, a step that removes, replaces or appends to something below the listed folder looks whether the
+/// folder there is still one, and fails with `NotADirectory` if a link took its place. It looks not before each step: see
+/// `RemoveDir` and appends of puts.
 #[derive(Drop)]
 pub struct SystemStore<Y> {
     system: Y,
     guess: Guess,
     descent: Descent,
+    reading: Reading,
     reason: Option<ErrorKind>,
 }
 
@@ -95,6 +112,7 @@ impl<Y: System + AllocGlobal + Clone + Drop> SystemStore<Y> {
             system,
             guess: Guess::new(),
             descent,
+            reading: Reading::none(),
             reason: None,
         }
     }
@@ -122,11 +140,27 @@ impl<Y: System + AllocGlobal + Clone + Drop> SystemStore<Y> {
         ensures ran { ValueRuns (steps.MakeDirs path.now) (λ _. answers.Done) result
             (Y.calls self.old.system) (Y.calls self.new.system) }
     {
+        self.reading.forget_in(path);
         let is_guessed = self.guess.is_missing(path);
         match make_dirs(&mut self.system, path, is_guessed) {
             Ok(was_missing) => {
                 self.guess.keep(path, was_missing);
                 Ok(())
+            }
+            Err(error) => Err(error),
+        }
+    }
+
+    /// The whole file at the path.
+    fn read_all(&mut self, path: &str) -> io::Result<Bytes>
+        ensures kept { self.new.reason ≡ self.old.reason }
+        ensures ran { RunLogged (calls.opening calls.to_read path.now) (said says.Bytes result)
+            (Y.calls self.old.system) (Y.calls self.new.system) }
+    {
+        match read_all(&mut self.system, path) {
+            Ok(bytes) => {
+                self.reading.keep(path);
+                Ok(bytes)
             }
             Err(error) => Err(error),
         }
@@ -146,12 +180,8 @@ impl<Y: System + AllocGlobal + Clone + Drop> SystemStore<Y> {
     {
         match step {
             Step::MakeDirs(path) => done(self.make_dirs(path.as_str())),
-            Step::Append(path, bytes) => took(append(
-                &mut self.system,
-                path.as_str(),
-                bytes.as_slice(),
-            )),
-            Step::ReadAll(path) => whole(read_all(&mut self.system, path.as_str())),
+            Step::Append(path, bytes) => took(self.append(path.as_str(), bytes.as_slice())),
+            Step::ReadAll(path) => whole(self.read_all(path.as_str())),
             Step::Exists(path) => there(exists(&mut self.system, path.as_str())),
             Step::Size(path) => length_of(size(&mut self.system, path.as_str())),
             Step::Symlink(target, path) => done(
@@ -223,6 +253,7 @@ impl<Y: System + AllocGlobal + Clone + Drop> Store for SystemStore<Y> {
         match step {
             Step::CreateTemp(path) => {
                 let made = create_temp(&mut self.system, path.as_str());
+                self.descent.make(made.is_ok());
                 created(made, path, &mut self.reason)
             }
             Step::Write(temp, bytes) => self.write_temp(temp, bytes),
@@ -231,7 +262,7 @@ impl<Y: System + AllocGlobal + Clone + Drop> Store for SystemStore<Y> {
                 synced(done, temp, &mut self.reason)
             }
             Step::Persist(temp, path) => {
-                let done = self.system.rename(temp.path.as_str(), path.as_str());
+                let done = self.persist(&temp, path.as_str());
                 moved(done, temp, path, &mut self.reason)
             }
             Step::Open(path) => {

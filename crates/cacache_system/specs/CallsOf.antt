@@ -6,7 +6,7 @@ use Rattle.std_io.specs.declared.io.kind.ErrorKind.{ErrorKind}
 use Rattle.std_io.specs.declared.io.kind.ErrorKind.TheVariants as kind
 use Rattle.cacache_store.specs.declared.store.answer.Kind.TheVariants as kinds
 use Rattle.cacache_store.specs.declared.store.answer.{Kind.{Kind}, Name.{Name}}
-use Rattle.cacache_system.specs.{declared.call.{SystemCall.{SystemCall, TheVariants.{OpenToRead, CreateNew, OpenToAppend, OpenFolder, Read, ReadNames, ReadRest, Write, Sync, StatFile, Stat, StatLink, Rename, MakeFolder, RemoveFile, CopyFile, RealPath}}, FileInfo.{FileInfo}, CallResult.{CallResult, TheVariants.{Done, Opened, Count, Bytes, Info, Names, Failed}}, CallItem.{CallItem}}, CallLog.{GainsCalls}, ListedNames.{text_of, is_proper, is_passed, names_in, with_slash}}
+use Rattle.cacache_system.specs.{declared.call.{SystemCall.{SystemCall, TheVariants.{OpenToRead, CreateNew, OpenToAppend, OpenFolder, Read, ReadNames, ReadRest, Write, Sync, SetOwner, SetMode, StatFile, Stat, StatLink, Rename, MakeFolder, RemoveFile, CopyFile, RealPath}}, FileInfo.{FileInfo}, CallResult.{CallResult, TheVariants.{Done, Opened, Count, Bytes, Info, Names, Failed}}, CallItem.{CallItem}}, CallLog.{GainsCalls}, ListedNames.{text_of, is_proper, is_passed, names_in, with_slash}}
 
 -- what a file is opened for: to be handed out, to be synced, to be synced as a folder, or to be read whole
 pub data Purpose : Type 0 where
@@ -25,7 +25,8 @@ pub record Reader : Type 0 where
 -- Where the calls of a step are. A truth value says whether a signal interrupted the call before; of a folder that is made,
 -- whether the one above it was made just now, and the list says which ones below it are to be made then; of a folder that
 -- is opened to be listed, whether a listing named it. Names that were listed so far come last. A copy has the number that
--- the names of its fresh file begin with, and how many more of these may be tried.
+-- the names of its fresh file begin with, and how many more of these may be tried. A temporary file that keeps what another
+-- file has goes by its number and its path, and by whether it was synced. A stage that comes last follows, if nothing fails.
 pub data Stage : Type 0 where
   over : CallResult → Stage
   only : SystemCall → Stage
@@ -49,8 +50,10 @@ pub data Stage : Type 0 where
   standing : List ℕ → Stage
   making : Bool → List ℕ → List (List ℕ) → Stage
   confirming : ErrorKind → List ℕ → List (List ℕ) → Stage
-  comparing : FileInfo → List ℕ → List (List ℕ) → SystemCall → Stage
-  descending : List ℕ → List (List ℕ) → SystemCall → Stage
+  preparing : SystemCall → Stage → Stage
+  keeping : ℕ → List ℕ → Bool → List ℕ → Stage → Stage
+  comparing : FileInfo → List ℕ → List (List ℕ) → Stage → Stage
+  descending : List ℕ → List (List ℕ) → Stage → Stage
   opening_folder : Bool → List ℕ → Stage
   following : List ℕ → Stage
   reading_names : Bool → Reader → List Name → Stage
@@ -107,8 +110,10 @@ wants (scrapping why fresh) = Some (RemoveFile fresh)
 wants (standing path) = Some (Stat path)
 wants (making again path todo) = Some (MakeFolder path)
 wants (confirming why path todo) = Some (Stat path)
-wants (comparing node path entered call) = Some (StatLink path)
-wants (descending path entered call) = Some (StatLink path)
+wants (preparing call s) = Some call
+wants (keeping number temp synced path s) = Some (Stat path)
+wants (comparing node path entered s) = Some (StatLink path)
+wants (descending path entered s) = Some (StatLink path)
 wants (opening_folder was_named path) = Some (OpenFolder path)
 wants (following path) = Some (OpenFolder (with_slash path))
 wants (reading_names again r found) = Some (ReadNames r.number 4096)
@@ -212,15 +217,29 @@ abbrev pub unmade : Bool → ErrorKind → List ℕ → List (List ℕ) → Stag
 unmade true why path todo = over (Failed why)
 unmade false why path todo = climb (above_of path) why path todo
 
--- the folders of a walk are looked at one by one before a removal
-abbrev pub descend : List (List ℕ) → SystemCall → Stage
-descend [] call = only call
-descend (path ∷ entered) call = descending path entered call
+-- a file that was synced is synced again
+abbrev pub sync_again : Bool → ℕ → Stage → Stage
+sync_again true number s = preparing (Sync number) s
+sync_again false number s = s
+
+-- a temporary file gets a mode
+abbrev pub give_mode : ℕ → Bool → ℕ → Stage → Stage
+give_mode number synced mode s = preparing (SetMode number mode) (sync_again synced number s)
+
+-- It gets the owner, the group and the mode that another file has. The mode comes last: a new owner takes bits of it away.
+abbrev pub give : ℕ → List ℕ → Bool → FileInfo → Stage → Stage
+give number temp synced info s =
+    preparing (SetOwner temp info.owner info.group) (give_mode number synced info.mode s)
+
+-- the folders of a walk are looked at one by one
+abbrev pub descend : List (List ℕ) → Stage → Stage
+descend [] s = s
+descend (path ∷ entered) s = descending path entered s
 
 -- where the last folder of a walk is the one that was listed, no other is looked at, nor it again
-abbrev pub compared : Bool → Kind → List (List ℕ) → SystemCall → Stage
-compared true kinds.Folder entered call = only call
-compared same kind entered call = descend entered call
+abbrev pub compared : Bool → Kind → List (List ℕ) → Stage → Stage
+compared true kinds.Folder entered s = s
+compared same kind entered s = descend entered s
 
 -- ---- listings
 
@@ -323,10 +342,14 @@ after (making again path todo) (Failed why) =
 after (confirming why path todo) (Info info) = if_folder info.kind kind.AlreadyExists (below todo)
 after (confirming why path todo) (Failed other) =
     over (Failed (if is_absent other then why else other))
-after (comparing node path entered call) (Info info) =
-    compared (is_same_node info node) info.kind (entered ++ path ∷ []) call
-after (descending path entered call) (Info info) =
-    if_folder info.kind kind.NotADirectory (descend entered call)
+after (preparing call s) Done = s
+after (keeping number temp synced path s) (Info info) = give number temp synced info s
+after (keeping number temp synced path s) (Failed why) =
+    if is_absent why then s else over (Failed why)
+after (comparing node path entered s) (Info info) =
+    compared (is_same_node info node) info.kind (entered ++ path ∷ []) s
+after (descending path entered s) (Info info) =
+    if_folder info.kind kind.NotADirectory (descend entered s)
 after (opening_folder was_named path) (Opened number) = more_names (reader number path) []
 after (opening_folder was_named path) (Failed why) = unopened was_named why path
 after (following path) (Opened number) = more_names (reader number path) []

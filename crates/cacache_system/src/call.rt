@@ -25,6 +25,10 @@ pub enum SystemCall {
     ReadNames(u64, usize),
     /// Waits until the file or folder would outlast a loss of power.
     Sync(u64),
+    /// Gives what stands at a path, be it a link, to this owner and this group.
+    SetOwner(Text, u32, u32),
+    /// Gives an open file this mode.
+    SetMode(u64, u32),
     /// Asks what the open file is.
     StatFile(u64),
     /// Asks what a path leads to.
@@ -62,6 +66,12 @@ pub struct FileInfo {
     pub inode: u64,
     /// The number of its device.
     pub device: u64,
+    /// Its mode: who may read, write and run it. Twelve bits.
+    pub mode: u32,
+    /// The number of its owner.
+    pub owner: u32,
+    /// The number of its group.
+    pub group: u32,
 }
 
 /// What the system says to a call, and what the calls of a step end with.

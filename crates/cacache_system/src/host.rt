@@ -6,10 +6,10 @@ use crate::system::System;
 use cacache_core::text::Text;
 use cacache_store::store::Kind;
 use std::alloc::{Alloc, AllocError, Global};
-use std::fs::{File, Metadata, OpenFile};
+use std::fs::{File, Metadata, OpenFile, Permissions};
 use std::io;
 use std::io::{Read, Write};
-use std::os::unix::fs::{MetadataExt, OpenOptionsExt};
+use std::os::unix::fs::{MetadataExt, OpenOptionsExt, PermissionsExt};
 use std::rt::Files;
 
 /// A runtime's files as the system. It keeps no log.
@@ -43,6 +43,9 @@ impl<R: AllocGlobal> Alloc for Host<R> {
     }
 }
 
+/// The bits of a mode that say who may do what. The others say what kind of thing it is.
+const RIGHTS: u32 = 0o7777;
+
 /// What the system's metadata say.
 fn info(metadata: &Metadata) -> FileInfo {
     FileInfo {
@@ -57,6 +60,9 @@ fn info(metadata: &Metadata) -> FileInfo {
         size: metadata.len(),
         inode: metadata.ino(),
         device: metadata.dev(),
+        mode: metadata.mode() & RIGHTS,
+        owner: metadata.uid(),
+        group: metadata.gid(),
     }
 }
 
@@ -112,6 +118,14 @@ impl<R: Files + Drop> System for Host<R> {
 
     fn sync(&mut self, file: &R::File) -> io::Result<()> {
         file.sync_all()
+    }
+
+    fn set_owner(&mut self, path: &str, owner: u32, group: u32) -> io::Result<()> {
+        self.rt.lchown(path, Some(owner), Some(group))
+    }
+
+    fn set_mode(&mut self, file: &R::File, mode: u32) -> io::Result<()> {
+        file.set_permissions(Permissions::from_mode(mode))
     }
 
     fn stat_file(&mut self, file: &R::File) -> io::Result<FileInfo> {

@@ -82,6 +82,16 @@ pub trait System {
         ensures { MakesCall (calls self.old) (calls self.new) (asks.Sync (number file.now))
             (said (λ _. says.Done) result) };
 
+    /// Gives what stands at a path, be it a link, to this owner and this group.
+    fn set_owner(&mut self, path: &str, owner: u32, group: u32) -> io::Result<()>
+        ensures { MakesCall (calls self.old) (calls self.new) (asks.SetOwner path.now owner group)
+            (said (λ _. says.Done) result) };
+
+    /// Gives an open file this mode.
+    fn set_mode(&mut self, file: &Self::File, mode: u32) -> io::Result<()>
+        ensures { MakesCall (calls self.old) (calls self.new) (asks.SetMode (number file.now) mode)
+            (said (λ _. says.Done) result) };
+
     /// Asks what the open file is.
     fn stat_file(&mut self, file: &Self::File) -> io::Result<FileInfo>
         ensures { MakesCall (calls self.old) (calls self.new) (asks.StatFile (number file.now))

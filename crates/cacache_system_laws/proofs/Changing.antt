@@ -12,7 +12,7 @@ use Rattle.cacache_disk.proofs.{PutNodes.{look-put}, Roots.{same_self}}
 use Rattle.cacache_system.specs.declared.call.SystemCall.TheVariants as asks
 use Rattle.cacache_system.specs.{declared.call.CallResult.{CallResult}, Seen.{NumberedTemp, NumberedStep}, AnswersOf.{answer_of, failed_with, refuses_memory, misses}}
 use Rattle.cacache_system.specs.declared.call.CallResult.TheVariants as says
-use Rattle.cacache_system_laws.specs.{Machine.{OpenFile, Machine, IsRefused, ChangesTree, OpensIf, ShowsEnd, LinksNode, MovesNode, unread}, Calls.{GoesWell, OccursSomehow}, Laws.{answer_on, step_on, outcome, led_to, IsLucky}, OneCall.{StillStands, CreateAgrees, ExistsAgrees, SymlinkAgrees, HardLinkAgrees, ReflinkBreaks, PersistAgrees}}
+use Rattle.cacache_system_laws.specs.{Machine.{OpenFile, Machine, IsRefused, ChangesTree, OpensIf, ShowsEnd, LinksNode, MovesNode, unread}, Calls.{GoesWell, OccursSomehow}, Laws.{answer_on, step_on, outcome, led_to, IsLucky}, OneCall.{StillStands, CreateAgrees, ExistsAgrees, SymlinkAgrees, HardLinkAgrees, ReflinkBreaks}}
 use Rattle.cacache_system_laws.proofs.{Refused.{same_outcome, refused_agrees, plainly_refused, broken_agrees}, OneCalls.{one_agrees}, Leading.{over_leads}}
 
 -- a step that answers that it is done, where its call changed the tree
@@ -97,7 +97,7 @@ exists_agrees m hint path = one_agrees m hint (steps.Exists path) (asks.Stat pat
 
 -- ---- a file is put
 
-placed : (t : Tree) (path : List ℕ) (names : Names) → names_of path ≡ Ok names → way_fault t [] names ≡ None → place t path ≡ Ok names
+pub placed : (t : Tree) (path : List ℕ) (names : Names) → names_of path ≡ Ok names → way_fault t [] names ≡ None → place t path ≡ Ok names
 unfolding place
 placed t path names named way =
     ap (λ (r : Result Names Fault). and_then r (λ n. or_fault (way_fault t [] n) n)) named ∙ ap (λ (o : Option Fault). or_fault o names) way
@@ -118,7 +118,8 @@ held_names : (t : Tree) (file : Option OpenFile) (names : Names) → option_map 
 held_names t None names is = absurd cc
 held_names t (Some file) names is = let same : file.names ≡ names = cc in ap (λ (n : Names). Some (bytes_of (look t n))) same
 
-put_away : (m : Machine) (temp : NumberedTemp) (path : List ℕ) (names : Names) (bytes : List ℕ) → StillStands m temp names bytes
+-- the move of a temporary file that still stands
+pub put_away : (m : Machine) (temp : NumberedTemp) (path : List ℕ) (names : Names) (bytes : List ℕ) → StillStands m temp names bytes
     → (most : Option ℕ) (said : CallResult) (n : Machine) → GoesWell most m (asks.Rename temp.path path) said n
     → apply m.tree (step_on m (steps.Persist temp path)) Plain ≡ led_to (steps.Persist temp path) said n
 put_away m temp path names bytes ready most said n well =
@@ -129,16 +130,6 @@ put_away m temp path names bytes ready most said n well =
     (held_names m.tree (m.files temp.number) names ready.opened ∙ ap (λ (o : Option Node). Some (bytes_of o)) ready.stands)
     (still_kept m.tree temp.path names bytes ready.named ready.stands)
     ∙ changed (replaceable m.tree path) (λ new. put (cut m.tree names) new (File bytes)) (steps.Persist temp path) m n said refl (λ why. refl) moves
-
-pub persist_agrees : PersistAgrees
-persist_agrees m hint temp path names bytes ready = one_agrees m hint (steps.Persist temp path) (asks.Rename temp.path path) (record {
-  wanted = refl;
-  leads = λ said. refl;
-  memory = λ end never. absurd never;
-  answers = λ why fine. refl;
-  whole = λ why part n left. left;
-  agrees = put_away m temp path names bytes ready;
-})
 
 -- ---- links
 

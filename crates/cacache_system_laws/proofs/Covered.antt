@@ -1,14 +1,14 @@
 -- Each step's law, where it has what it asks.
 use Rattle.cacache_store.specs.declared.store.step.Step.TheVariants as steps
 use Rattle.cacache_system_laws.specs.Premises.{EachMayBreak}
-use Rattle.cacache_system_laws.proofs.{Changing.{create_agrees, exists_agrees, persist_agrees, symlink_agrees, hard_link_agrees, reflink_breaks}, Copying.{copy_agrees}, Dirs.{make_dirs_agrees}, Listing.{read_dir_breaks}, Looking.{open_agrees, size_agrees}, Reading.{read_breaks}, Removing.{remove_file_agrees, remove_dir_agrees}, Syncing.{sync_temp_agrees, sync_file_agrees, sync_dir_agrees}, Whole.{read_all_agrees}, Writing.{append_agrees}}
+use Rattle.cacache_system_laws.proofs.{Changing.{create_agrees, exists_agrees, symlink_agrees, hard_link_agrees, reflink_breaks}, Copying.{copy_agrees}, Dirs.{make_dirs_agrees}, Listing.{read_dir_breaks}, Looking.{open_agrees, size_agrees}, Moving.{persist_agrees}, Reading.{read_breaks}, Removing.{remove_file_agrees, remove_dir_agrees}, Syncing.{sync_temp_agrees, sync_file_agrees, sync_dir_agrees}, Whole.{read_all_agrees}, Writing.{append_agrees}}
 
 pub each_may_break : EachMayBreak
 each_may_break m hint (steps.MakeDirs p) (rooted, link) = (make_dirs_agrees m hint p rooted link).breaking
 each_may_break m hint (steps.CreateTemp p) asks = (create_agrees m hint p).breaking
 each_may_break m hint (steps.Write t bytes) asks = absurd asks
-each_may_break m hint (steps.Persist t p) (names, bytes, stands) = (persist_agrees m hint t p names bytes stands).breaking
-each_may_break m hint (steps.Append p bytes) asks = (append_agrees m hint p bytes).breaking
+each_may_break m hint (steps.Persist t p) ((names, bytes, stands), may) = (persist_agrees m hint t p names bytes stands may).breaking
+each_may_break m hint (steps.Append p bytes) asks = (append_agrees m hint p bytes asks).breaking
 each_may_break m hint (steps.ReadAll p) asks = (read_all_agrees m hint p).breaking
 each_may_break m hint (steps.Open p) asks = (open_agrees m hint p).breaking
 each_may_break m hint (steps.Read f max) (found, bytes, stays) = read_breaks m hint f found bytes max stays

@@ -7,7 +7,9 @@ mod Claims
 mod Opening
 mod Looking
 mod Syncing
+mod Walking
 mod Removing
+mod Moving
 mod Trying
 mod Reading
 mod Writing

@@ -6,7 +6,7 @@ use Rattle.cacache_disk.specs.{declared.node.Node.{Node, TheVariants.{Folder, Fi
 use Rattle.cacache_system.specs.declared.call.{FileInfo.{FileInfo}, CallResult.{CallResult}}
 use Rattle.cacache_system.specs.declared.call.SystemCall.TheVariants as asks
 use Rattle.cacache_system.specs.declared.call.CallResult.TheVariants as says
-use Rattle.cacache_system_laws.specs.{Machine.{OpenFile, Machine, Became, IsRefused, ChangesTree, OpensIf, with_file, unread, is_regular, Describes, ShowsNode, ShowsEnd, ReadsFile, link_fault, LinksNode, CopiesBytes, CopiesTo, MovesNode, with_empty, Spells, SpellsEnd}, Folders.{GivesNames, ended, HasLeft, OpensNames, OpensFolder, ReadsSome}, Meeting.{HasRoom, CallsCanGoWell}}
+use Rattle.cacache_system_laws.specs.{Machine.{OpenFile, Machine, Became, IsRefused, ChangesTree, OpensIf, with_file, unread, is_regular, Describes, ShowsNode, ShowsEnd, ReadsFile, GivesOwner, link_fault, LinksNode, CopiesBytes, CopiesTo, MovesNode, with_empty, Spells, SpellsEnd}, Folders.{GivesNames, ended, HasLeft, OpensNames, OpensFolder, ReadsSome}, Meeting.{HasRoom, CallsCanGoWell}}
 use Rattle.cacache_system_laws.proofs.Saying.{CanSay, a_folder, Sayable, place_say, standing_say, found_say, writable_say, free_say, replaceable_say, removable_say, emptied_say, file_say, LinkSayable, linked_say}
 use Rattle.cacache_store.specs.declared.store.answer.Name.{Name}
 
@@ -39,7 +39,7 @@ size_of (Some (File bytes)) = length bytes
 size_of (Some (Link target)) = 0
 
 abbrev info_of : Node → ℕ × ℕ → FileInfo
-info_of node inode = record { kind = kind_of node; regular = is_regular node; size = size_of (Some node); inode = inode.0; device = inode.1 }
+info_of node inode = record { kind = kind_of node; regular = is_regular node; size = size_of (Some node); inode = inode.0; device = inode.1; mode = 0; owner = 0; group = 0 }
 
 described : (node : Node) (inode : ℕ × ℕ) → Describes node inode (info_of node inode)
 described Folder inode = record { kind = refl; regular = refl; size = tt; number = refl }
@@ -130,6 +130,10 @@ can_spell : (m : Machine) (ends : Result Names Fault) → Sayable ends → IfOk 
 can_spell m (Ok names) can (text, spells) = (says.Bytes text, m, (text, refl, spells, refl))
 can_spell m (Err fault) can spelt = can_refuse fault m can
 
+can_own : (m : Machine) (ends : Result Names Fault) → Sayable ends → Can (GivesOwner ends m)
+can_own m (Ok names) can = (says.Done, m, (refl, refl))
+can_own m (Err fault) can = can_refuse fault m can
+
 pub calls_can_go_well : CallsCanGoWell
 calls_can_go_well most m (asks.OpenToRead path) room spelt = can_open m (found m.tree path) (λ names. m.tree) room (found_say m.tree path)
 calls_can_go_well most m (asks.CreateNew path mode) room spelt = can_open m (free m.tree path) (λ names. put m.tree names (File [])) room (free_say m.tree path)
@@ -144,6 +148,9 @@ calls_can_go_well most m (asks.Write number bytes) room spelt =
 calls_can_go_well most m (asks.Sync number) room spelt =
     of_open (m.files number) (λ file said after. (said ≡ says.Done) × Became m.tree m.files ((file.names, look m.tree file.names) ∷ m.synced) after) m
     (λ file. (says.Done, record { tree = m.tree; files = m.files; synced = (file.names, look m.tree file.names) ∷ m.synced; inodes = m.inodes; folders = m.folders }, (refl, (refl, refl, refl))))
+calls_can_go_well most m (asks.SetOwner path owner group) room spelt = can_own m (standing m.tree path) (standing_say m.tree path)
+calls_can_go_well most m (asks.SetMode number mode) room spelt =
+    of_open (m.files number) (λ file said after. (said ≡ says.Done) × (after ≡ m)) m (λ file. (says.Done, m, (refl, refl)))
 calls_can_go_well most m (asks.StatFile number) room spelt = of_open (m.files number) (λ file. ShowsNode file.names m) m (λ file. can_show_node m file.names (look m.tree file.names) refl)
 calls_can_go_well most m (asks.Stat path) room spelt = can_show m (found m.tree path) (found_say m.tree path)
 calls_can_go_well most m (asks.StatLink path) room spelt = can_show m (standing m.tree path) (standing_say m.tree path)

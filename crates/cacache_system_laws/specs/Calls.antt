@@ -6,7 +6,7 @@ use Rattle.cacache_disk.specs.{declared.{luck.Luck.{Luck, TheVariants.{Plain, Fa
 use Rattle.cacache_system.specs.{declared.call.{SystemCall.{SystemCall}, CallItem.{CallItem}, CallResult.{CallResult}}, CallsOf.{interrupts}, AnswersOf.{misses, refuses_memory}}
 use Rattle.cacache_system.specs.declared.call.SystemCall.TheVariants as asks
 use Rattle.cacache_system.specs.declared.call.CallResult.TheVariants as says
-use Rattle.cacache_system_laws.specs.{Folders.{OpensFolder, ReadsFolder}, Machine.{OpenFile, Machine, HasTree, IsRefused, ChangesTree, OpensIf, with_empty, ShowsEnd, ShowsOpen, ReadsOpen, WritesOpen, SyncsOpen, LinksNode, CopiesBytes, MovesNode, SpellsEnd}}
+use Rattle.cacache_system_laws.specs.{Folders.{OpensFolder, ReadsFolder}, Machine.{OpenFile, Machine, HasTree, IsRefused, ChangesTree, OpensIf, with_empty, ShowsEnd, ShowsOpen, ReadsOpen, WritesOpen, SyncsOpen, GivesOwner, GivesMode, LinksNode, CopiesBytes, MovesNode, SpellsEnd}}
 
 -- What a call says and leaves where it doesn't fail without cause. A read or a write moves all the bytes that it may, or at
 -- most so many. A folder gives its names in the order of the tree's.
@@ -22,6 +22,9 @@ GoesWell most m (asks.Read number size) said after =
 GoesWell most m (asks.ReadRest number) said after = ReadsOpen (λ bytes. bytes) number m said after
 GoesWell most m (asks.Write number bytes) said after = WritesOpen most bytes number m said after
 GoesWell most m (asks.Sync number) said after = SyncsOpen number m said after
+GoesWell most m (asks.SetOwner path owner group) said after =
+    GivesOwner (standing m.tree path) m said after
+GoesWell most m (asks.SetMode number mode) said after = GivesMode number m said after
 GoesWell most m (asks.StatFile number) said after = ShowsOpen number m said after
 GoesWell most m (asks.Stat path) said after = ShowsEnd (found m.tree path) m said after
 GoesWell most m (asks.StatLink path) said after = ShowsEnd (standing m.tree path) m said after

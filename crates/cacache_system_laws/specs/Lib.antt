@@ -4,6 +4,7 @@ pub mod Calls
 pub mod Laws
 pub mod OneCall
 pub mod Removing
+pub mod Moving
 pub mod Opening
 pub mod Syncing
 pub mod Reading

@@ -168,6 +168,19 @@ SyncsOpen number m said after =
     (said ≡ says.Done)
     × Became m.tree m.files ((file.names, look m.tree file.names) ∷ m.synced) after)
 
+-- ---- owners and modes
+
+-- what stands at a path, be it a link, gets an owner, or it is refused: nothing changes that a machine has
+abbrev pub GivesOwner : Result Names Fault → Machine → CallResult → Machine → Type 0
+GivesOwner ends m said after =
+    MatchResult ends (λ names. (said ≡ says.Done) × (after ≡ m))
+    (λ fault. IsRefused fault m said after)
+
+-- an open file gets a mode
+abbrev pub GivesMode : ℕ → Machine → CallResult → Machine → Type 0
+GivesMode number m said after =
+    IfSome (m.files number) (λ file. (said ≡ says.Done) × (after ≡ m))
+
 -- ---- two paths
 
 -- a folder can't be linked: that isn't permitted

@@ -37,9 +37,3 @@ pub record StillStands (m : Machine) (temp : NumberedTemp) (names : Names) (byte
   pub way : way_fault m.tree [] names ≡ None
   pub stands : look m.tree names ≡ Some (File bytes)
   pub opened : option_map (λ (file : OpenFile). file.names) (m.files temp.number) ≡ Some names
-
--- a temporary file is put
-abbrev pub PersistAgrees : Type 0
-PersistAgrees =
-    (m : Machine) (hint : Hint) (temp : NumberedTemp) (path : List ℕ) (names : Names)
-    (bytes : List ℕ) → StillStands m temp names bytes → Agrees m hint (steps.Persist temp path)

@@ -4,16 +4,17 @@ ghost use Rattle.cacache_system_laws.specs.Fixing.{SyncDirFixes, SyncFileFixes, 
 ghost use Rattle.cacache_system_laws.specs.Listing.{ReadDirBreaks, ReadDirGoesPlainly};
 ghost use Rattle.cacache_system_laws.specs.Logged.{LogsAgree};
 ghost use Rattle.cacache_system_laws.specs.Making.{MakeDirsAgrees};
+ghost use Rattle.cacache_system_laws.specs.Moving.{PersistAgrees};
 ghost use Rattle.cacache_system_laws.specs.Meeting.{CallsCanGoWell};
 ghost use Rattle.cacache_system_laws.specs.Mirrors.{StepsMirror};
-ghost use Rattle.cacache_system_laws.specs.OneCall.{CreateAgrees, ExistsAgrees, HardLinkAgrees, PersistAgrees, ReflinkBreaks, SymlinkAgrees};
+ghost use Rattle.cacache_system_laws.specs.OneCall.{CreateAgrees, ExistsAgrees, HardLinkAgrees, ReflinkBreaks, SymlinkAgrees};
 ghost use Rattle.cacache_system_laws.specs.Opening.{OpenAgrees, SizeAgrees};
 ghost use Rattle.cacache_system_laws.specs.Premises.{EachMayBreak};
 ghost use Rattle.cacache_system_laws.specs.Reading.{PiecesReadPlainly, ReadAllAgrees, ReadBreaks};
-ghost use Rattle.cacache_system_laws.specs.Refusals.{NoCopyInPlace, NoFileForFolder, NoOtherMode, NoOtherSync, NoRemovalBeforePut, NoRemovalThroughLink, NoSecondWrite};
-ghost use Rattle.cacache_system_laws.specs.Removing.{RemoveDirAgrees, RemoveFileAgrees};
+ghost use Rattle.cacache_system_laws.specs.Refusals.{NoAppendThroughLink, NoCallWithoutOwner, NoCopyInPlace, NoFileForFolder, NoMoveWithoutMode, NoOtherMode, NoOtherSync, NoRemovalBeforePut, NoRemovalThroughLink, NoSecondWrite};
+ghost use Rattle.cacache_system_laws.specs.Removing.{AppendAgrees, RemoveDirAgrees, RemoveFileAgrees};
 ghost use Rattle.cacache_system_laws.specs.Syncing.{SyncDirAgrees, SyncFileAgrees, SyncTempAgrees};
-ghost use Rattle.cacache_system_laws.specs.Writing.{AppendAgrees, CopyAgrees, WriteAgrees};
+ghost use Rattle.cacache_system_laws.specs.Writing.{CopyAgrees, WriteAgrees};
 
 /// A step that makes or moves something answers and leaves what the disk's table says of it.
 ///
@@ -110,4 +111,7 @@ pub fn refusal_laws()
     ensures folder { NoFileForFolder }
     ensures copy { NoCopyInPlace }
     ensures link { NoRemovalThroughLink }
+    ensures append { NoAppendThroughLink }
+    ensures move_first { NoMoveWithoutMode }
+    ensures owner { NoCallWithoutOwner }
 {}

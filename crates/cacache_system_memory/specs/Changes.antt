@@ -71,7 +71,7 @@ size_of Folder = 0
 size_of (File bytes) = length bytes
 size_of (Link target) = 0
 
--- what is said of a node: none has a number
+-- what is said of a node: none has a number, and all have the same mode and owner
 abbrev pub info_of : Node → FileInfo
 info_of node = record {
   kind = kind_of node;
@@ -79,6 +79,9 @@ info_of node = record {
   size = size_of node;
   inode = 0;
   device = 0;
+  mode = 420;
+  owner = 0;
+  group = 0;
 }
 
 -- it is said what stands where something was found, or why nothing is

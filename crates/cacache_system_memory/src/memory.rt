@@ -136,6 +136,14 @@ impl Memory {
         Ok(buf.len())
     }
 
+    /// Gives an open file a mode, of which nothing is kept.
+    pub(crate) fn give_mode(&self, number: u64) -> Result<(), Stop> {
+        match self.shown_open(number) {
+            Ok(_) => Ok(()),
+            Err(stop) => Err(stop),
+        }
+    }
+
     /// What an open file is.
     pub(crate) fn shown_open(&self, number: u64) -> Result<FileInfo, Stop> {
         let Some(file) = self.files.get(number as usize) else {

@@ -8,7 +8,7 @@ ghost use Rattle.cacache_system.specs.CallLog.{MakesCall, said};
 use crate::log::{Asked, Log, Said};
 use crate::memory::{Memory, MemoryFile};
 use crate::tree::{
-    hard_link, make_folder, remove_file, remove_folder, rename, shown, shown_link, symlink,
+    hard_link, make_folder, own, remove_file, remove_folder, rename, shown, shown_link, symlink,
 };
 use cacache_core::errors::Fault;
 use cacache_core::text::Text;
@@ -24,7 +24,8 @@ const UNSUPPORTED: Stop = Stop::Fault(Fault::Unsupported);
 ///
 /// It lists no folder, syncs nothing, moves no folder or link, and copies no file: such calls fail with `Unsupported`. A
 /// file is never closed, and no number is used again. What is read and written by an open file is what stands at its
-/// names, and contracts say nothing of that but the log.
+/// names, and contracts say nothing of that but the log. It keeps no owner and no mode: a call that sets one is logged, and
+/// fails if nothing stands there.
 #[derive(Drop)]
 pub struct MemorySystem {
     memory: Memory,
@@ -143,6 +144,16 @@ impl System for MemorySystem {
 
     fn sync(&mut self, file: &MemoryFile) -> io::Result<()> {
         Err(self.log.fail(Asked::Sync(file.number), UNSUPPORTED))
+    }
+
+    fn set_owner(&mut self, path: &str, owner: u32, group: u32) -> io::Result<()> {
+        let done = own(&self.memory.disk, path);
+        self.log.end(Asked::SetOwner(path, owner, group), done)
+    }
+
+    fn set_mode(&mut self, file: &MemoryFile, mode: u32) -> io::Result<()> {
+        let done = self.memory.give_mode(file.number);
+        self.log.end(Asked::SetMode(file.number, mode), done)
     }
 
     fn stat_file(&mut self, file: &MemoryFile) -> io::Result<FileInfo> {

@@ -16,7 +16,7 @@ use cacache_store::store::{Answer, Kind, PlainFile, PlainTemp, Step};
 use cacache_system::FileInfo;
 use std::alloc::Global;
 
-/// What is said of a node. None has a number.
+/// What is said of a node. None has a number, and all have the same mode and owner.
 pub(crate) fn info_of(node: &Node) -> FileInfo
     ensures { result ≡ info_of node.now }
 {
@@ -31,6 +31,9 @@ pub(crate) fn info_of(node: &Node) -> FileInfo
         size,
         inode: 0,
         device: 0,
+        mode: 0o644,
+        owner: 0,
+        group: 0,
     }
 }
 
@@ -101,6 +104,14 @@ pub(crate) fn shown_link(disk: &Disk, path: &str) -> Result<FileInfo, Stop>
     match disk.nodes().node(&names) {
         None => Err(Stop::Fault(Fault::NotFound)),
         Some(node) => Ok(info_of(node)),
+    }
+}
+
+/// Gives what stands at a path an owner, of which nothing is kept.
+pub(crate) fn own(disk: &Disk, path: &str) -> Result<(), Stop> {
+    match shown_link(disk, path) {
+        Ok(_) => Ok(()),
+        Err(stop) => Err(stop),
     }
 }
 

@@ -28,7 +28,7 @@ pub(crate) fn created<Y: System + Drop>(
         (said (λ made. says.Opened (Y.number made.1)) created) result }
 {
     match created {
-        Ok((system, file)) => Answer::Temp(SystemTemp { system, file, path }),
+        Ok((system, file)) => Answer::Temp(SystemTemp::new(system, file, path)),
         Err(error) => failed_answer(error, Step::CreateTemp(path), reason),
     }
 }
@@ -46,7 +46,7 @@ pub(crate) fn synced<Y: System + Drop>(
         (said (λ _. says.Done) synced) result }
 {
     match synced {
-        Ok(()) => Answer::Synced(temp),
+        Ok(()) => Answer::Synced(temp.synced()),
         Err(error) => failed_answer(error, Step::SyncTemp(temp), reason),
     }
 }

@@ -1,7 +1,7 @@
-//! Which folders walks went through, so that nobody leads a listing or a removal out of them by a link.
+//! Which folders walks went through, so that nobody leads a listing or a change out of them by a link.
 //!
-//! A walk goes by paths: it lists a folder, then those that the listing named, and may remove what it finds. Meanwhile
-//! somebody who may write into these folders can put a link in the place of one.
+//! A walk goes by paths: it lists a folder, then those that the listing named, and may remove what it finds, append to it
+//! or put a file in its place. Meanwhile somebody who may write into these folders can put a link in the place of one.
 use crate::folder::folders::{Place, number_of};
 use crate::folder::node::Node;
 use std::alloc::{AllocError, Global};
@@ -71,6 +71,8 @@ pub(crate) struct Descent {
     fresh: u64,
     /// How many steps were made since a folder was looked at.
     steps: u32,
+    /// Whether a temporary file was made since the last listing, as a put makes one.
+    is_made: bool,
 }
 
 impl Descent {
@@ -81,6 +83,7 @@ impl Descent {
             before: Walk::new(alloc),
             fresh: 0,
             steps: 0,
+            is_made: false,
         }
     }
 
@@ -119,6 +122,7 @@ impl Descent {
         }
         self.fresh = number_of(path);
         self.steps = self.steps.saturating_add(1);
+        self.is_made = false;
         for place in folders {
             let named = Named {
                 node: place.node,
@@ -159,6 +163,28 @@ impl Descent {
             self.known(number_of(folder))
         } else {
             None
+        }
+    }
+
+    /// Keeps whether a temporary file was made.
+    pub(crate) fn make(&mut self, is_made: bool) {
+        if is_made {
+            self.is_made = true;
+        }
+    }
+
+    /// Before a file of a folder is replaced: what is known of the folder, if it is to be looked at.
+    pub(crate) fn due_for_move(&self, folder: &str) -> Option<Known> {
+        self.known(number_of(folder))
+    }
+
+    /// Before something is appended to a file of a folder: the same. A put after a listing, which made a temporary file,
+    /// looks at none.
+    pub(crate) fn due_for_append(&self, folder: &str) -> Option<Known> {
+        if self.is_made {
+            None
+        } else {
+            self.known(number_of(folder))
         }
     }
 

@@ -24,6 +24,8 @@ pub struct SystemTemp<Y: System + Drop> {
     pub(crate) system: Y,
     pub(crate) file: Y::File,
     pub(crate) path: Text,
+    /// Whether it was synced.
+    pub(crate) is_synced: bool,
 }
 
 /// A temporary file of real folders.
@@ -34,7 +36,12 @@ impl<Y: System + Drop> Drop for SystemTemp<Y> {
         ensures { (after : Y) × (answer : CallResult) × MakesCall (Y.calls self.system)
             (Y.calls after) (asks.RemoveFile self.path) answer }
     {
-        let SystemTemp { system, file, path } = self;
+        let SystemTemp {
+            system,
+            file,
+            path,
+            is_synced: _,
+        } = self;
         let_go(file);
         let mut system = system;
         let _ = system.remove_file(path.as_str());
@@ -42,12 +49,36 @@ impl<Y: System + Drop> Drop for SystemTemp<Y> {
 }
 
 impl<Y: System + Drop> SystemTemp<Y> {
+    /// The temporary file that was made, with a system for its writes.
+    pub(crate) fn new(system: Y, file: Y::File, path: Text) -> SystemTemp<Y>
+        ensures file { result.file ≡ file }
+        ensures path { result.path ≡ path }
+    {
+        SystemTemp {
+            system,
+            file,
+            path,
+            is_synced: false,
+        }
+    }
+
+    /// The same file after a sync.
+    pub(crate) fn synced(self) -> SystemTemp<Y>
+        ensures file { result.file ≡ self.file }
+        ensures path { result.path ≡ self.path }
+    {
+        let mut temp = self;
+        temp.is_synced = true;
+        temp
+    }
+
     /// Closes the file, which was moved: nothing is left to remove.
     pub(crate) fn close(self) {
         let SystemTemp {
             system: _system,
             file: _file,
             path: _path,
+            is_synced: _,
         } = self;
     }
 
@@ -57,7 +88,12 @@ impl<Y: System + Drop> SystemTemp<Y> {
         ensures { (after : Y) × MakesCall (Y.calls self.system) (Y.calls after)
             (asks.RemoveFile self.path) (said (λ _. says.Done) result) }
     {
-        let SystemTemp { system, file, path } = self;
+        let SystemTemp {
+            system,
+            file,
+            path,
+            is_synced: _,
+        } = self;
         let_go(file);
         let mut system = system;
         system.remove_file(path.as_str())

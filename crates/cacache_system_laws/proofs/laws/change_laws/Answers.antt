@@ -1,4 +1,4 @@
-use Rattle.cacache_system_laws.proofs.Changing.{create_agrees, persist_agrees, symlink_agrees, hard_link_agrees, reflink_breaks}
+use Rattle.cacache_system_laws.proofs.{Changing.{create_agrees, symlink_agrees, hard_link_agrees, reflink_breaks}, Moving.{persist_agrees}}
 use Rattle.cacache_system_laws.proofs.laws.change_laws.Goals as goal
 
 pub returns : goal.returns

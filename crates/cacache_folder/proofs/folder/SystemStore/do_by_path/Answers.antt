@@ -8,7 +8,7 @@ use Rattle.cacache_system.specs.CallsOf as calls
 use Rattle.cacache_store.specs.declared.store.step.Step.TheVariants as steps
 use Rattle.cacache_store.specs.declared.store.answer.Answer.TheVariants as answers
 use Rattle.cacache_folder.specs.FolderNumbers.{numbered, answered, answered_or, value_or}
-use Rattle.cacache_folder.proofs.{CallRuns.{run_one, run_none}, Answering.{answers_run, answers_call, arm_as, arm_run, temp_of}, ByPath.{by_path, by_file, whole_of}}
+use Rattle.cacache_folder.proofs.{CallRuns.{run_one, run_none}, Answering.{answers_run, arm_as, arm_run, appends_answer}, ByPath.{by_path, by_file, whole_of}}
 use Rattle.cacache_folder.proofs.folder.SystemStore.do_by_path.Goals as goal
 
 pub returns-in-MakeDirs-clause-ran : goal.returns-in-MakeDirs-clause-ran
@@ -19,15 +19,17 @@ returns-in-MakeDirs-clause-ran g c =
 
 pub returns-in-Append-clause-ran : goal.returns-in-Append-clause-ran
 returns-in-Append-clause-ran g c =
-    λ _. subst (λ step. StepRuns (numbered g.Y.System.number step) (answered_or g.Y.System.number (numbered g.Y.System.number step) c.took.result) (g.Y.System.calls c.args.self.now.system) (g.Y.System.calls c.append.new.system)) (sym c.in-Append.is)
-    (arm_run g.Y.System.number (steps.Append c.in-Append.path c.in-Append.bytes) (calls.appending c.as_str-in-Append.result.now c.as_slice.result.now) says.Count (λ n. answers.Took n) c.append.result c.took.result (g.Y.System.calls c.args.self.now.system) (g.Y.System.calls c.append.new.system)
-    c.append.ensures.ran (ap (λ p. calls.appending p c.as_slice.result.now) c.as_str-in-Append.ensures.same ∙ ap (λ b. calls.appending c.in-Append.path b) c.as_slice.ensures) (λ _. refl) (λ _. refl) c.took.ensures)
+    λ _. subst (λ step. StepRuns (numbered g.Y.System.number step) (answered_or g.Y.System.number (numbered g.Y.System.number step) c.took.result) (g.Y.System.calls c.args.self.now.system) (g.Y.System.calls c.append.new.self.system)) (sym c.in-Append.is)
+    (arm_as g.Y.System.number (steps.Append c.in-Append.path c.in-Append.bytes) (λ n. answers.Took n) c.append.result c.took.result (g.Y.System.calls c.args.self.now.system) (g.Y.System.calls c.append.new.self.system)
+    (subst (λ p. StepRuns (steps.Append p c.in-Append.bytes) (value_or (λ n. answers.Took n) (steps.Append p c.in-Append.bytes) c.append.result) (g.Y.System.calls c.args.self.now.system) (g.Y.System.calls c.append.new.self.system)) c.as_str-in-Append.ensures.same
+    (subst (λ b. StepRuns (steps.Append c.as_str-in-Append.result.now b) (value_or (λ n. answers.Took n) (steps.Append c.as_str-in-Append.result.now b) c.append.result) (g.Y.System.calls c.args.self.now.system) (g.Y.System.calls c.append.new.self.system)) c.as_slice.ensures
+    (appends_answer c.as_str-in-Append.result.now c.as_slice.result.now c.append.result (g.Y.System.calls c.args.self.now.system) (g.Y.System.calls c.append.new.self.system) c.append.ensures.ran))) c.took.ensures)
 
 pub returns-in-ReadAll-clause-ran : goal.returns-in-ReadAll-clause-ran
 returns-in-ReadAll-clause-ran g c =
-    λ _. subst (λ step. StepRuns (numbered g.Y.System.number step) (answered_or g.Y.System.number (numbered g.Y.System.number step) c.whole.result) (g.Y.System.calls c.args.self.now.system) (g.Y.System.calls c.read_all.new.system)) (sym c.in-ReadAll.is)
-    (arm_run g.Y.System.number (steps.ReadAll c.in-ReadAll.path) (calls.opening calls.to_read c.as_str-in-ReadAll.result.now) says.Bytes (λ b. answers.Bytes b) c.read_all.result c.whole.result (g.Y.System.calls c.args.self.now.system) (g.Y.System.calls c.read_all.new.system)
-    c.read_all.ensures (ap (λ p. calls.opening calls.to_read p) c.as_str-in-ReadAll.ensures.same) (λ _. refl) (λ _. refl) c.whole.ensures)
+    λ _. subst (λ step. StepRuns (numbered g.Y.System.number step) (answered_or g.Y.System.number (numbered g.Y.System.number step) c.whole.result) (g.Y.System.calls c.args.self.now.system) (g.Y.System.calls c.read_all.new.self.system)) (sym c.in-ReadAll.is)
+    (arm_run g.Y.System.number (steps.ReadAll c.in-ReadAll.path) (calls.opening calls.to_read c.as_str-in-ReadAll.result.now) says.Bytes (λ b. answers.Bytes b) c.read_all.result c.whole.result (g.Y.System.calls c.args.self.now.system) (g.Y.System.calls c.read_all.new.self.system)
+    c.read_all.ensures.ran (ap (λ p. calls.opening calls.to_read p) c.as_str-in-ReadAll.ensures.same) (λ _. refl) (λ _. refl) c.whole.ensures)
 
 pub returns-in-Exists-clause-ran : goal.returns-in-Exists-clause-ran
 returns-in-Exists-clause-ran g c =

@@ -6,8 +6,8 @@ use Rattle.cacache_system.specs.{CallLog.{said}, AnswersOf.{StepRuns}}
 use Rattle.cacache_system.specs.CallsOf as calls
 use Rattle.cacache_store.specs.declared.store.step.Step.TheVariants as steps
 use Rattle.cacache_store.specs.declared.store.answer.Answer.TheVariants as answers
-use Rattle.cacache_folder.specs.FolderNumbers.{numbered, answered, answered_or, value_or}
-use Rattle.cacache_folder.proofs.{CallRuns.{run_one}, Answering.{answers_run, answers_call, arm_as, arm_run, temp_of}, ByPath.{by_path, by_file, whole_of}}
+use Rattle.cacache_folder.specs.{FolderNumbers.{numbered, answered}, Moves.{Persists}}
+use Rattle.cacache_folder.proofs.{CallRuns.{run_one}, Answering.{answers_run, answers_call, persists_answer, temp_of}, ByPath.{by_path, by_file, whole_of}}
 use Rattle.cacache_folder.proofs.folder.SystemStoreStore.step.Goals as goal
 
 pub returns-in-CreateTemp-clause-ran : goal.returns-in-CreateTemp-clause-ran
@@ -29,9 +29,10 @@ returns-in-SyncTemp-clause-ran g c =
 
 pub returns-in-Persist-clause-ran : goal.returns-in-Persist-clause-ran
 returns-in-Persist-clause-ran g c =
-    subst (λ step. StepRuns (numbered g.Y.System.number step) (answered g.Y.System.number c.moved.result) (g.Y.System.calls c.args.self.now.system) (g.Y.System.calls c.rename-done.new.self)) (sym c.in-Persist.is)
-    (answers_call (steps.Persist (temp_of (g.Y.System.number c.in-Persist.temp.file) c.in-Persist.temp.path) c.in-Persist.path) _ (asks.Rename c.as_str-in-Persist.result.now c.as_str-in-Persist-2.result.now) (said (λ _. says.Done) c.rename-done.result)
-    (g.Y.System.calls c.args.self.now.system) (g.Y.System.calls c.rename-done.new.self) c.rename-done.ensures (ap (λ p. calls.only (asks.Rename p c.as_str-in-Persist-2.result.now)) c.as_str-in-Persist.ensures.same ∙ ap (λ p. calls.only (asks.Rename c.in-Persist.temp.path p)) c.as_str-in-Persist-2.ensures.same) c.moved.ensures.answer)
+    let temp = temp_of (g.Y.System.number c.in-Persist.temp.file) c.in-Persist.temp.path in
+    subst (λ step. StepRuns (numbered g.Y.System.number step) (answered g.Y.System.number c.moved.result) (g.Y.System.calls c.args.self.now.system) (g.Y.System.calls c.persist-done.new.self.system)) (sym c.in-Persist.is)
+    (persists_answer temp c.in-Persist.path c.persist-done.result _ (g.Y.System.calls c.args.self.now.system) (g.Y.System.calls c.persist-done.new.self.system)
+    (subst (λ p. Persists temp p c.persist-done.result (g.Y.System.calls c.args.self.now.system) (g.Y.System.calls c.persist-done.new.self.system)) c.as_str-in-Persist.ensures.same c.persist-done.ensures.ran) c.moved.ensures.answer)
 
 pub returns-in-Open-clause-ran : goal.returns-in-Open-clause-ran
 returns-in-Open-clause-ran g c =

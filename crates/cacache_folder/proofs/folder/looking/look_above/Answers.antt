@@ -5,7 +5,7 @@ use Rattle.cacache_system.specs.declared.call.CallResult.TheVariants as says
 use Rattle.cacache_system.specs.CallLog.{said}
 use Rattle.cacache_system.specs.CallsOf as calls
 use Rattle.cacache_folder.proofs.Looking.{descended_none, descended_more, descends_fails, descends_all}
-use Rattle.cacache_folder.proofs.folder.removing.look_above.Goals as goal
+use Rattle.cacache_folder.proofs.folder.looking.look_above.Goals as goal
 
 pub loop-at-init : goal.loop-at-init
 loop-at-init g c = descended_none (g.Y.System.calls c.args.system.now)

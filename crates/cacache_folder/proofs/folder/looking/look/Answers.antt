@@ -5,7 +5,7 @@ use Rattle.cacache_system.specs.declared.call.CallResult.TheVariants as says
 use Rattle.cacache_system.specs.CallLog.{said}
 use Rattle.cacache_system.specs.CallsOf as calls
 use Rattle.cacache_folder.{specs.Looks.{info_of}, proofs.Looking.{looks_same, looks_all, looks_fails}}
-use Rattle.cacache_folder.proofs.folder.removing.look.Goals as goal
+use Rattle.cacache_folder.proofs.folder.looking.look.Goals as goal
 
 pub returns-then-is_listed : goal.returns-then-is_listed
 returns-then-is_listed g c =

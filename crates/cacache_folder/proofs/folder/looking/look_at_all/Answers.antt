@@ -5,7 +5,7 @@ use Rattle.cacache_system.specs.declared.call.CallResult.TheVariants as says
 use Rattle.cacache_system.specs.CallLog.{said}
 use Rattle.cacache_system.specs.CallsOf as calls
 use Rattle.cacache_folder.proofs.Looking.{descends_last}
-use Rattle.cacache_folder.proofs.folder.removing.look_at_all.Goals as goal
+use Rattle.cacache_folder.proofs.folder.looking.look_at_all.Goals as goal
 
 pub returns-in-Ok : goal.returns-in-Ok
 returns-in-Ok g c =

@@ -1,5 +1,5 @@
 use Rattle.cacache_folder.proofs.Looking.{Descended}
-use Rattle.cacache_folder.proofs.folder.removing.look_above.Given as goal
+use Rattle.cacache_folder.proofs.folder.looking.look_above.Given as goal
 
 -- each so far is a folder
 abbrev pub invariant-loop-at : goal.invariant-loop-at
