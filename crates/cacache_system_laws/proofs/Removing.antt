@@ -27,7 +27,7 @@ stands_from t (Ok names) n is =
     (ap (λ (o : Option Node). where_there o names) f.0 ∙ ap (λ (x : Names). let r : Result Names Fault = Ok x in r) f.1, ap (look t) (sym f.1) ∙ f.0)
 stands_from t (Err fault) n is = absurd cc
 
--- a folder stands where its path says
+-- a folder is where its path says
 folder_stands : (t : Tree) (path : List ℕ) (names : Names) → folder t path ≡ Ok names → (standing t path ≡ Ok names) × (look t names ≡ Some Folder)
 unfolding folder standing
 folder_stands t path names is = stands_from t (place t path) names is
@@ -69,7 +69,7 @@ module _ (b : Bool) (m : Machine) (P : Claim) (breaks : (why : ErrorKind) (n : M
   compares true k entered call is all removes = subst (λ (x : Kind). Leads (way_of b) (compared true x entered call) m P) (sym is) removes
   compares false k entered call is all removes = descends entered call all removes
 
-  -- a removal whose walk stands
+  -- a removal with the folders of its walk still there
   pub removes_so : (hint : Hint) (call : SystemCall) → WalkStands m hint → Leads (way_of b) (only call) m P → Leads (way_of b) (remove hint call) m P
   removes_so no_hint call all removes = removes
   removes_so is_missing call all removes = removes

@@ -17,7 +17,7 @@ NoSecondWrite =
     (item (asks.OpenToAppend path) (Opened file) ∷ item (asks.Write file bytes) (Count k)
     ∷ item (asks.Write file bytes) (Count j) ∷ [])
 
--- what stands where a file is put isn't removed first
+-- what is where a file is put isn't removed first
 abbrev pub NoRemovalBeforePut : Type 0
 NoRemovalBeforePut =
     (temp : NumberedTemp) (path : List ℕ) (said : CallResult) (rest : List CallItem)
@@ -45,7 +45,7 @@ NoFileForFolder =
     (item (asks.OpenToRead path) (Opened file) ∷ item (asks.StatFile file) (Info info)
     ∷ item (asks.Sync file) said ∷ rest)
 
--- a file that stands at the target of a copy isn't opened, since the copy would empty it for each of its paths
+-- a file at the target of a copy isn't opened, since the copy would empty it for each of its paths
 abbrev pub NoCopyInPlace : Type 0
 NoCopyInPlace =
     (from to onto : List ℕ) (source target : FileInfo) (said : CallResult) (rest : List CallItem)
@@ -54,7 +54,7 @@ NoCopyInPlace =
     (item (asks.Stat from) (Info source) ∷ item (asks.StatLink to) (Info target)
     ∷ item (asks.CopyFile from onto) said ∷ rest)
 
--- where a link took the place of a folder that a walk is in, nothing is removed
+-- if a link took the place of a folder that a walk is in, nothing is removed
 abbrev pub NoRemovalThroughLink : Type 0
 NoRemovalThroughLink =
     (node last : FileInfo) (above path gone : List ℕ) (entered : List (List ℕ)) (link : FileInfo)

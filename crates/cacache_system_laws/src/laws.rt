@@ -17,8 +17,8 @@ ghost use Rattle.cacache_system_laws.specs.Writing.{AppendAgrees, CopyAgrees, Wr
 
 /// A step that makes or moves something answers and leaves what the disk's table says of it.
 ///
-/// Where none of its calls fails without cause, that is under plain luck; where some do, under some luck, if the table does
-/// the step. A `Reflink` is refused by luck alone.
+/// If none of its calls fails without cause, that is under plain luck; if some do, under some luck, provided that the
+/// table does the step. A `Reflink` is refused by luck alone.
 pub fn change_laws()
     ensures create { CreateAgrees }
     ensures persist { PersistAgrees }
@@ -34,7 +34,7 @@ pub fn look_laws()
     ensures open { OpenAgrees }
 {}
 
-/// So does a listing of a folder that stands.
+/// So does a listing of a folder that is there.
 pub fn list_laws()
     ensures plainly { ReadDirGoesPlainly }
     ensures breaking { ReadDirBreaks }
@@ -59,7 +59,7 @@ pub fn folder_laws()
     ensures make { MakeDirsAgrees }
 {}
 
-/// So does a removal, also where the folders of a walk are looked at before.
+/// So does a removal, also if the folders of a walk are looked at before.
 pub fn removal_laws()
     ensures file { RemoveFileAgrees }
     ensures folder { RemoveDirAgrees }
@@ -79,8 +79,8 @@ pub fn fixing_laws()
     ensures folder { SyncDirFixes }
 {}
 
-/// Each kind of step but writes, at once: where it has what its law asks, and the disk's table does it, it is
-/// as under some luck.
+/// Each kind of step except writes, at once: if it has what its law asks, and the disk's table does it, it is as
+/// under some luck.
 pub fn covered_laws()
     ensures breaking { EachMayBreak }
 {}
@@ -96,7 +96,7 @@ pub fn mirror_laws()
     ensures run { RunsMirror }
 {}
 
-/// The model can be met: each call can go well.
+/// The model can be met: each call can happen as it says.
 pub fn model_laws()
     ensures calls { CallsCanGoWell }
 {}
