@@ -185,7 +185,7 @@ lists_run path named names value found old new lists is =
     (run_none (listed (names value)) (Names (names value)) new (inr refl)))
     (ap (λ (l : List Name). answers.Names l) is)
 
--- memory is refused behind it
+-- memory is refused after it
 pub lists_lost : {A : Type 0} (path : List ℕ) (named : Bool) (names : A → List Name) (value : A) (why : ErrorKind) (old new : Log)
     → ListsFolder (list named path) names (Ok value) old new → why ≡ kind.OutOfMemory
     → StepRuns (steps.ReadDir path) (failed_with (steps.ReadDir path) why) old new

@@ -5,7 +5,7 @@ use Rattle.cacache_store.specs.declared.store.answer.Kind.TheVariants.{Folder}
 use Rattle.cacache_system.specs.{declared.call.{FileInfo.{FileInfo}, SystemCall.{SystemCall}, CallItem.{CallItem}}, CallsOf.{only, descending, descend, compared, is_same_node, CallsLogged}, AnswersOf.{Hint, remove}}
 use Rattle.cacache_folder.specs.{declared.folder.node.Node.{Node}, Goings.{onward}}
 
--- what the system said of a folder that was listed, as far as it was kept
+-- what the system said about a folder that was listed, as far as it was kept
 abbrev pub info_of : Node → FileInfo
 info_of node = record {
   kind = Folder;
@@ -43,7 +43,7 @@ LooksToLast last r old new =
     (call : SystemCall) → (between : List (List ℕ))
     × CallsLogged (descend (between ++ last ∷ []) call) (onward (λ _. only call) r) old new
 
--- it is told whether what was seen is the folder that was listed
+-- the answer is whether what was seen is the folder that was listed
 abbrev pub Decides : FileInfo → FileInfo → Bool → Type 0
 Decides info node b =
     (all : List (List ℕ)) (call : SystemCall)

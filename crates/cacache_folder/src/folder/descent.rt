@@ -46,7 +46,7 @@ impl Walk {
         }
     }
 
-    /// The folder whose path has this number, if the walk listed it.
+    /// The folder with a path of this number, if the walk listed it.
     fn known(&self, number: u64) -> Option<Known> {
         match self.named.get(&number) {
             Some(named) => if named.is_listed {
@@ -129,7 +129,7 @@ impl Descent {
         Ok(())
     }
 
-    /// The folder whose path has this number, if one of the walks listed it.
+    /// The folder with a path of this number, if one of the walks listed it.
     fn known(&self, number: u64) -> Option<Known> {
         match self.last.known(number) {
             Some(known) => Some(known),

@@ -1,4 +1,4 @@
-//! What the system tells one file or folder from another by.
+//! What the system distinguishes files and folders by.
 ghost use Rattle.std.specs.Prelude.{◌≡◌, ◌==◌, ◌&&◌, not};
 
 use cacache_system::FileInfo;
@@ -22,7 +22,7 @@ impl Node {
         }
     }
 
-    /// Of what nobody asked the system for.
+    /// For what nobody asked the system about.
     pub(crate) fn unknown() -> Node {
         Node {
             number: 0,

@@ -15,7 +15,7 @@ use cacache_system::{FileInfo, System};
 use std::io;
 use std::io::ErrorKind;
 
-/// Looks whether a folder stands at the path, and no link.
+/// Looks whether a folder is at the path, and no link.
 fn look_at<Y: System>(system: &mut Y, path: &str) -> io::Result<()>
     ensures { LooksAt path.now result (Y.calls system.old) (Y.calls system.new) }
 {
@@ -36,7 +36,7 @@ fn folder_before(path: &str, at: usize) -> Option<&str> {
     }
 }
 
-/// Looks at the folders that lead to a folder whose paths have at least so many bytes.
+/// Looks at the folders that lead to a folder and have paths of at least so many bytes.
 fn look_above<Y: System>(system: &mut Y, folder: &str, from: usize) -> io::Result<()>
     ensures { Descends result (Y.calls system.old) (Y.calls system.new) }
 {
@@ -72,8 +72,8 @@ fn is_listed(info: &FileInfo, node: Node) -> bool
     }
 }
 
-/// Looks whether a folder and those that lead to it are folders still, and no links. It tells of all, if it is the one
-/// that was listed.
+/// Looks whether a folder and those that lead to it are folders still, and no links. It answers for all of them, if
+/// it is the one that was listed.
 fn look<Y: System>(system: &mut Y, folder: &str, known: Known) -> io::Result<()>
     ensures { LooksFirst result (Y.calls system.old) (Y.calls system.new) }
 {
@@ -88,7 +88,7 @@ fn look<Y: System>(system: &mut Y, folder: &str, known: Known) -> io::Result<()>
 }
 
 impl<Y: System + AllocGlobal + Clone + Drop> SystemStore<Y> {
-    /// Looks at the folder, if it is due, and refuses where somebody put a link in its place or on the way to it.
+    /// Looks at the folder, if it is due, and refuses if somebody put a link in its place or on the way to it.
     fn look_if(&mut self, folder: &str, due: Option<Known>) -> io::Result<()>
         ensures looks { LooksFirst result (Y.calls self.old.system) (Y.calls self.new.system) }
         ensures kept { self.new.reason ≡ self.old.reason }
