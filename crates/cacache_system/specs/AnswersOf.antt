@@ -8,9 +8,9 @@ use Rattle.cacache_store.specs.declared.store.answer.Answer.TheVariants as answe
 use Rattle.cacache_system.specs.{declared.call.{FileInfo.{FileInfo}, SystemCall.{SystemCall}, CallResult.{CallResult, TheVariants.{Done, Opened, Count, Bytes, Info, Names, Failed}}, CallItem.{CallItem}}, Seen.{NumberedFile, NumberedTemp, NumberedStep, NumberedAnswer}, CallsOf.{Stage, over, only, trying, taking_memory, opening, to_give, to_sync, to_sync_folder, to_read, appending, sizing, asking_source, standing, making, comparing, opening_folder, RunLogged}}
 use Rattle.cacache_system.specs.declared.call.SystemCall.TheVariants as asks
 
--- What a store remembers of its steps chooses no more than how the calls of a step begin: nothing that matters, that the
--- folder is guessed to be missing, that a listing named it, or a walk whose folders are looked at before a removal. It
--- has what the last of them was, its path, and the paths of those between the first and the last.
+-- What a store remembers of its steps decides only how the calls of a step begin: nothing that matters, that the
+-- folder is guessed to be missing, that a listing named it, or a walk with folders that are looked at before a
+-- removal. It has what the last of them was, its path, and the paths of those between the first and the last.
 pub data Hint : Type 0 where
   no_hint : Hint
   is_missing : Hint
@@ -98,7 +98,7 @@ misses kind.NotFound = true
 misses kind.NotADirectory = true
 misses _ = false
 
--- an open file of which so many bytes more were read
+-- an open file after so many more bytes were read
 abbrev pub read_on : NumberedFile → ℕ → NumberedFile
 read_on file count = record { number = file.number; left = file.left - count }
 

@@ -152,7 +152,7 @@ impl Log {
         }
     }
 
-    /// A call more, which asked what stands somewhere.
+    /// One more call, which asked what is somewhere.
     pub(crate) fn tell(
         &mut self,
         call: Asked<'_>,

@@ -22,9 +22,9 @@ const UNSUPPORTED: Stop = Stop::Fault(Fault::Unsupported);
 
 /// A system of folders, files and links in memory, which keeps a log of its calls. Contracts see the log and the tree.
 ///
-/// It lists no folder, syncs nothing, moves no folder or link, and copies no file: such calls fail with `Unsupported`. A
-/// file is never closed, and no number is used again. What is read and written by an open file is what stands at its
-/// names, and contracts say nothing of that but the log.
+/// It lists no folder, syncs nothing, moves no folder or link, and copies no file: such calls fail with
+/// `Unsupported`. A file is never closed, and no number is used again. What is read and written by an open file is
+/// what is at its names, and contracts say nothing about that except the log.
 #[derive(Drop)]
 pub struct MemorySystem {
     memory: Memory,
@@ -34,7 +34,7 @@ pub struct MemorySystem {
 impl MemorySystem {
     ghost use Rattle.cacache_system_memory.specs.Machines.{calls_of, machine_of};
 
-    /// A system of which nothing was asked yet, with nothing but the top folder.
+    /// A system that was asked nothing yet, with nothing but the top folder.
     pub fn new(alloc: Global) -> Result<MemorySystem, AllocError>
         ensures log { IfOk result (λ system. calls_of system ≡ []) }
         ensures tree { IfOk result (λ system. (machine_of system).tree ≡ bare) }

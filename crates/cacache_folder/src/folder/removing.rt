@@ -72,8 +72,8 @@ fn is_listed(info: &FileInfo, node: Node) -> bool
     }
 }
 
-/// Looks whether a folder and those that lead to it are folders still, and no links. It answers for all of them, if
-/// it is the one that was listed.
+/// Looks whether a folder and those that lead to it are folders still, and no links. If the folder is the one that
+/// was listed, no other is looked at.
 fn look<Y: System>(system: &mut Y, folder: &str, known: Known) -> io::Result<()>
     ensures { LooksFirst result (Y.calls system.old) (Y.calls system.new) }
 {
