@@ -1,4 +1,4 @@
-//! What a row does: a public call, or what somebody else does beside it.
+//! What a row does: a public call, or what somebody else does next to it.
 use crate::calls::called;
 use crate::exports::exported;
 use crate::linkers::linked;
@@ -56,7 +56,7 @@ fn asked<S: Store>(env: &mut On<S>, act: &str, row: Row<'_>) -> Result<String, F
     Ok(format!(in env.alloc; "clock {clock}, numbers {numbers}: {line}")?)
 }
 
-/// What a step of somebody else gives, where the name is that of one: whether it was done.
+/// What a step of somebody else gives, if the name is that of one: whether it was done.
 fn made_beside<S: Store>(
     env: &mut On<S>,
     name: &str,
@@ -101,7 +101,7 @@ fn made_of<S: Store>(env: &mut On<S>, row: Row<'_>) -> Result<String, Flaw> {
     }
 }
 
-/// What an act gives in an environment whose base is the folder that the act begins with.
+/// What an act gives in an environment with the folder that the act begins with as its base.
 fn made_from<S: Store>(env: &mut On<S>, act: &str, row: Row<'_>) -> Result<String, Flaw> {
     let (base, act) = cut(act);
     let here = env.base.clone()?;

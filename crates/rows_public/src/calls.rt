@@ -74,7 +74,8 @@ fn storing_vec_under<S: Store>(
     Ok(stored(alloc, result)?)
 }
 
-/// The line on a call that stores these bytes, which is given an algorithm's name, the cache, and a key where it has one.
+/// The line on a call that stores these bytes, which is given an algorithm's name, the cache, and a key if it has
+/// one.
 fn storing_under<S: Store>(
     env: &mut On<S>,
     name: &str,
@@ -218,7 +219,7 @@ fn on_cache<S: Store>(
     Ok(line?)
 }
 
-/// The line on the call of the row, whose words may have `\t` and the like.
+/// The line on the call of the row; the row's words may have `\t` and the like.
 pub(crate) fn called<S: Store>(env: &mut On<S>, row: Row<'_>) -> Result<String, Flaw> {
     let (name, words) = cut(row.act);
     let words = string_of(env.alloc, words)?;

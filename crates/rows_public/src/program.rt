@@ -88,7 +88,7 @@ fn ran<T: Threads + Wait + Clock + AllocGlobal + Sync, S: Reasons>(
     Ok(ran_with(rt, env, &words, Input { bytes, end }, room)?)
 }
 
-/// What the row's act gives, if it is a run of the program, and else as a call.
+/// What the row's act gives, as a run of the program if it is one, and otherwise as a call.
 pub(crate) fn ran_or_made<T: Threads + Wait + Clock + AllocGlobal + Sync, S: Reasons>(
     rt: &T,
     env: &mut On<S>,
@@ -100,7 +100,7 @@ pub(crate) fn ran_or_made<T: Threads + Wait + Clock + AllocGlobal + Sync, S: Rea
     }
 }
 
-/// What is told of a storm that ends early.
+/// What is reported of a storm that ends early.
 pub(crate) fn ended(alloc: Global, why: &str) -> Result<String, Flaw> {
     let fault = match why {
         "count" => StormFault::Count,
@@ -115,7 +115,7 @@ pub(crate) fn ended(alloc: Global, why: &str) -> Result<String, Flaw> {
     Ok(told(alloc, status, b"", &errors.output)?)
 }
 
-/// What is told where the words can't be had, since memory ran out or a word isn't UTF-8.
+/// What is reported if the words can't be had, since memory ran out or a word isn't UTF-8.
 pub(crate) fn without(alloc: Global, why: &str) -> Result<String, Flaw> {
     let kind = match why {
         "memory" => ErrorKind::OutOfMemory,

@@ -1,5 +1,5 @@
-//! Where a real folder differs from the disk's table: each kind by its name, what of a path makes for one, and how often each
-//! was met.
+//! Where a real folder differs from the disk's table: each kind by its name, what in a path makes for one, and how
+//! often each was met.
 use crate::acts::Act;
 use std::alloc::{AllocError, Global};
 
@@ -174,7 +174,7 @@ impl Tally {
         Ok(())
     }
 
-    /// The counts, each behind its kind's name.
+    /// The counts, each after its kind's name.
     pub(crate) fn text(&self) -> Result<String, AllocError> {
         let mut text = String::new(self.alloc);
         for known in &self.counts {

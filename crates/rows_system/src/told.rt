@@ -42,7 +42,7 @@ pub(crate) fn text_of(bytes: &[u8]) -> &str {
     str::from_utf8(bytes).unwrap_or("not a text")
 }
 
-/// A name, and what stands there.
+/// A name, and what is there.
 fn named(alloc: Global, name: &Name) -> Result<String, AllocError> {
     format!(in alloc; " {}:{:?}", name.name, name.kind)
 }
@@ -61,13 +61,13 @@ fn names_of(alloc: Global, listing: &Listing) -> Result<String, AllocError> {
     Ok(text)
 }
 
-/// What a failure is told as.
+/// The text of a failure.
 pub(crate) fn failure(alloc: Global, kind: ErrorKind) -> Result<String, AllocError> {
     let fault = Fault::from(kind);
     format!(in alloc; "Failed {fault:?}")
 }
 
-/// What an answer says, but for the handle in it.
+/// What an answer says, except for the handle in it.
 fn said<F, T>(alloc: Global, answer: &Answer<F, T>) -> Result<String, AllocError> {
     match answer {
         Answer::Took(count) => format!(in alloc; "Took {count}"),

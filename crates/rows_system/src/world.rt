@@ -47,7 +47,7 @@ pub(crate) struct Made {
 pub(crate) enum Bad {
     /// They can't be.
     Flaw(Flaw),
-    /// An answer, or what stands, differs in a way that isn't known: the world says how.
+    /// An answer, or what is there, differs in a way that isn't known: the world says how.
     Differs,
 }
 
@@ -89,7 +89,7 @@ pub(crate) struct World {
     pub(crate) tally: Tally,
     /// Whether both hold different things from here on.
     pub(crate) is_over: bool,
-    /// How they differ, where it isn't known that they may.
+    /// How they differ, if it isn't known that they may.
     pub(crate) difference: Option<String>,
 }
 
@@ -185,7 +185,7 @@ impl World {
         Ok(())
     }
 
-    /// Puts a file's bytes at each of its names where the disk has others.
+    /// Puts a file's bytes at each of its names at which the disk has others.
     pub(crate) fn spread(&mut self, number: usize, odd: Odd) -> Result<(), Bad> {
         for name in self.inodes.names(number) {
             let bytes = self.inodes.bytes(number);
