@@ -2,7 +2,7 @@
 use Rattle.std.{proofs.Common.{◌≡◌, ◌∙◌, List, ℕ, Option, Some, None, IfNone, IfSome, ap, false, nat_eq, subst, sym}, specs.Cmp.Lexicographic.{other_text, pointwise}}
 use Rattle.cacache_program.specs.Words.{Asked, Keyed, Unkeyed, these_asked}
 
--- a fact that holds holds where there is no value
+-- a fact that holds also holds if there is no value
 where_none : {A X : Type 0} (o : Option A) → X → IfNone o X
 where_none None x = x
 where_none (Some a) x = tt
@@ -25,13 +25,13 @@ keyed_holds asked parsed name P is holds = subst (λ (it : Asked). Keyed it name
     where_some None Q h = tt
     where_some (Some key) Q h = λ named. h
 
--- where a key was parsed, it holds if it holds of that one
+-- if a key was parsed, it holds if it holds of that one
 pub keyed_by : (asked parsed : Asked) (name key : List ℕ) (P : List ℕ → List ℕ → Type 0) → asked ≡ parsed → parsed.key ≡ Some key → P parsed.cache key → Keyed asked name P
 keyed_by asked parsed name key P is named holds = keyed_holds asked parsed name P is (subst (λ o. IfSome o (P parsed.cache)) (sym named) holds)
 
--- ---- of what wasn't asked for
+-- ---- what wasn't asked for
 
--- where another name was parsed, this one isn't asked for
+-- if another name was parsed, this one isn't asked for
 isnt_asked : {asked parsed : Asked} {name other : List ℕ} → asked ≡ parsed → parsed.name ≡ other → false ≡ pointwise nat_eq other name → asked.name ≡ name → ⊥
 isnt_asked {name = name} {other = other} is named differs called = other_text other name differs (sym named ∙ ap (λ (it : Asked). it.name) (sym is) ∙ called)
 
@@ -55,14 +55,14 @@ unnamed_keyed name X {asked = asked} is differs = for_any asked.key (λ key call
 pub other_option : (name option : List ℕ) (X : List ℕ → Type 0) {asked parsed : Asked} → asked ≡ parsed → (parsed.cache ≡ option → ⊥) → IfSome asked.key (λ key. asked.name ≡ name → asked.cache ≡ option → X key)
 other_option name option X {asked = asked} is differs = for_any asked.key (λ key called said. absurd (differs (ap (λ (it : Asked). it.cache) (sym is) ∙ said)))
 
--- where a key was parsed, anything holds of a name alone
+-- if a key was parsed, anything holds of a name alone
 pub not_unkeyed : (X : Type 0) {asked parsed : Asked} {key : List ℕ} → asked ≡ parsed → parsed.key ≡ Some key → IfNone asked.key X
 not_unkeyed X is keyed = subst (λ (it : Asked). IfNone it.key X) (sym is) (subst (λ (o : Option (List ℕ)). IfNone o X) (sym keyed) tt)
 
--- where none was, anything holds of a name with a key
+-- if none was, anything holds of a name with a key
 pub not_keyed : (X : List ℕ → Type 0) {asked parsed : Asked} → asked ≡ parsed → parsed.key ≡ None → IfSome asked.key X
 not_keyed X is none = subst (λ (it : Asked). IfSome it.key X) (sym is) (subst (λ (o : Option (List ℕ)). IfSome o X) (sym none) tt)
 
--- what was asked for, where the name and the key that were parsed are these
+-- what was asked for, if the name and the key that were parsed are these
 pub asked_as : {asked : Asked} {name cache called : List ℕ} {key given : Option (List ℕ)} → asked ≡ these_asked name cache key → name ≡ called → key ≡ given → asked ≡ these_asked called cache given
 asked_as {cache = cache} {called = called} {key = key} is named keyed = is ∙ ap (λ (n : List ℕ). these_asked n cache key) named ∙ ap (these_asked called cache) keyed

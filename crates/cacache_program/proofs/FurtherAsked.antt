@@ -1,4 +1,4 @@
--- The further words, where others were asked for.
+-- The further words, if others were asked for.
 use Rattle.std.proofs.Common.{◌≡◌, ℕ, List, [], ◌∷◌, Option, Some, IfSome, String, string_bytes, get_or, codes, false, nat_eq, subst, sym, ap, ◌∙◌}
 use Rattle.std.specs.Cmp.Lexicographic.{other_text, pointwise}
 use Rattle.cacache_store.specs.declared.store.plain.PlainTemp.{PlainTemp}
@@ -30,11 +30,11 @@ other_further {words = words} {other = other} is named reads writes asks some =
       stores = not_filed words (codes "store") other _ called some;
     }
 
--- the name that was asked for, where this one was parsed
+-- the name that was asked for, if this one was parsed
 pub named_further : {asked parsed : Asked} {other : List ℕ} → asked ≡ parsed → parsed.name ≡ other → asked.name ≡ other
 named_further is named = ap (λ (it : Asked). it.name) is ∙ named
 
--- where a name and a key were asked for and are wrong, the name is none of the further ones
+-- if a name and a key were asked for and are wrong, the name is none of the further ones
 pub wrong_further : {A : Type 0} (words : List (String A)) {name cache key : List ℕ} → asked_of words ≡ these_asked name cache (Some key) → IsWrongFurther words → IsNoFurther name
 wrong_further words is wrong = subst (λ (it : Asked). IfSome it.key (λ key. IsNoFurther it.name)) is wrong.0
 

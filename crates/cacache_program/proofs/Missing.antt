@@ -37,7 +37,7 @@ pub found_alone : (o : Option (List ℕ)) (cache asked : List ℕ) (Q : List ℕ
 found_alone None cache asked Q is q = subst Q is q
 found_alone (Some key) cache asked Q is q = tt
 
--- or of the one behind `--list`
+-- or of the one after `--list`
 pub found_listed : (o : Option (List ℕ)) (cache : List ℕ) (Q : List ℕ → Type 0) → IfSome o (λ key. cache ≡ key) → Q cache → IfSome o Q
 found_listed None cache Q is q = tt
 found_listed (Some key) cache Q is q = subst Q is q

@@ -62,7 +62,7 @@ all_read (Some xs) (Some ys) (Some zs) bytes p q end = sym (p ∙ ap (λ (rest :
 
 -- ---- what becomes of the file
 
--- a commit of which nothing was said answers the bytes' integrity
+-- a commit for which nothing was said answers the bytes' integrity
 stored_under : {T : Type 0} (w : SyncWriter T) (bytes key : List ℕ) (moment : ℕ) (r : Result (List Hash) Error) → w.key ≡ Some key → w.options ≡ options_of nothing_said → algorithm_of w.writer.hasher ≡ Sha256 → Stores (writer_commit w bytes moment) (reply_of Stored r) → IfOk r (λ i. i ≡ integrity_under Sha256 bytes)
 stored_under w bytes key moment (Err e) keyed said under stores = tt
 stored_under w bytes key moment (Ok i) keyed said under stores =

@@ -11,7 +11,7 @@ Filed (a ∷ b ∷ c ∷ d ∷ []) name P =
     string_bytes a ≡ name → P (string_bytes b) (string_bytes c) (string_bytes d)
 Filed words name P = ⊤
 
--- so it does, of what was done to the environment and the output
+-- so it does, for what was done to the environment and the output
 abbrev pub FiledDoes :
     {A E : Type 0} → List (String A) → List ℕ
     → (List ℕ → List ℕ → List ℕ → E → E → Option (List ℕ) → Option (List ℕ) → ℕ → Type 0)

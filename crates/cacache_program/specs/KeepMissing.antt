@@ -1,4 +1,4 @@
--- What is said where no cache is.
+-- What is said if no cache is there.
 use Rattle.std.specs.{Prelude.{◌≡◌, ◌⊎◌, ◌++◌, ℕ, List, Option, Bool, true, false, codes}, Io.KnownBytes.{Appends}}
 use Rattle.cacache_store.specs.declared.store.answer.Answer.TheVariants as answers
 use Rattle.cacache_store.specs.declared.store.step.Step.TheVariants as steps
@@ -30,7 +30,7 @@ module _ {S C N : Type 0} (log : S → Option (List LogItem)) where
       × (missing ≡ says_missing answer))
       ⊎ ((log new.store ≡ log old.store) × (missing ≡ false)))
 
-  -- so it was asked, and told
+  -- so it was asked, and the answer printed
   abbrev pub AsksFor :
       List ℕ → Env S C N → Env S C N → Option (List ℕ) → Option (List ℕ) → Type 0
   AsksFor cache old new before after =

@@ -22,7 +22,7 @@ PutsVerdict v before after status =
     TellsVerdict v.good (length v.damaged.items) (length v.dangling.items) (length v.strange.items)
     before after status
 
--- its counts, and the list behind them
+-- its counts, and the list after them
 abbrev pub list_of_verdict : Verdict → List ℕ
 list_of_verdict v =
     listed_text v.good v.damaged.items

@@ -17,12 +17,12 @@ PutsOutWith whole bytes before after status =
 abbrev pub PutsOut : List ℕ → Option (List ℕ) → Option (List ℕ) → ℕ → Type 0
 PutsOut bytes before after status = PutsOutWith 0 bytes before after status
 
--- these bytes were put out; where there are none, the word failed and put nothing out
+-- these bytes were put out; if there are none, the word failed and put nothing out
 abbrev pub PutsOutOrFails : Option (List ℕ) → Option (List ℕ) → Option (List ℕ) → ℕ → Type 0
 PutsOutOrFails (Some bytes) before after status = PutsOut bytes before after status
 PutsOutOrFails None before after status = (status ≡ 1) × (after ≡ before)
 
--- the status after a reply of which nothing is put out
+-- the status after a reply from which nothing is put out
 abbrev pub status_of : Reply → ℕ
 status_of (Refused error) = 1
 status_of reply = 0

@@ -12,7 +12,7 @@ collected_text kept dropped =
     codes "kept " ++ (decimal kept ++ (codes "\ndropped " ++ (decimal dropped ++ codes "\n")))
 
 module _ {S C N : Type 0} (log : S → Option (List LogItem)) (odd : OddLines) where
-  -- the log gained a collection with this choice about odd lines, and its counts were told
+  -- the log gained a collection with this choice about odd lines, and its counts were printed
   abbrev pub PrintsCollection :
       List ℕ → Env S C N → Env S C N → Option (List ℕ) → Option (List ℕ) → ℕ → Type 0
   PrintsCollection cache old new before after status =

@@ -10,7 +10,7 @@ compacted_text buckets bytes =
     codes "buckets " ++ (decimal buckets ++ (codes "\nbytes " ++ (decimal bytes ++ codes "\n")))
 
 module _ {S C N : Type 0} (log : S → Option (List LogItem)) (durable : Bool) where
-  -- the log gained a compaction, durable or not, and its counts were told
+  -- the log gained a compaction, durable or not, and its counts were printed
   abbrev pub PrintsCompaction :
       List ℕ → Env S C N → Env S C N → Option (List ℕ) → Option (List ℕ) → ℕ → Type 0
   PrintsCompaction cache old new before after status =

@@ -9,7 +9,7 @@ abbrev pub copied_text : Reply → Option (List ℕ)
 copied_text (Copied count) = Some (decimal count ++ 10 ∷ [])
 copied_text reply = None
 
--- the log gained a run of the copy, which verifies the content first, and its reply was told
+-- the log gained a run of the copy, which verifies the content first, and its reply was printed
 abbrev pub Copies :
     {S C N : Type 0} → (S → Option (List LogItem)) → List ℕ → List ℕ → List ℕ
     → Env S C N → Env S C N → Option (List ℕ) → Option (List ℕ) → ℕ → Type 0

@@ -16,7 +16,7 @@ exists_text (replies.Exists there) = Some (answer_line there)
 exists_text reply = None
 
 module _ {S C N : Type 0} (log : S → Option (List LogItem)) where
-  -- the log gained a run of the question for this integrity's content, and its reply was told
+  -- the log gained a run of the question for this integrity's content, and its reply was printed
   abbrev pub AsksContent :
       List ℕ → Env S C N → Env S C N → Option (List ℕ) → Option (List ℕ) → ℕ → List Hash → Type 0
   AsksContent cache old new before after status i =

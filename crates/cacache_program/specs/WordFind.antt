@@ -13,7 +13,7 @@ abbrev pub find_text : Reply → Option (List ℕ)
 find_text (LookedUp found) = Some (found_line found)
 find_text reply = None
 
--- the log gained a run of the lookup, and its reply was told
+-- the log gained a run of the lookup, and its reply was printed
 abbrev pub PrintsFound :
     {S C N : Type 0} → (S → Option (List LogItem)) → List ℕ → List ℕ
     → Env S C N → Env S C N → Option (List ℕ) → Option (List ℕ) → ℕ → Type 0

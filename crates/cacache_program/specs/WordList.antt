@@ -8,11 +8,11 @@ use Rattle.cacache_program.specs.{Escaping.{escaped}, Output.{PutsOutWith}, Prin
 abbrev pub damaged_line : List Hash → List ℕ
 damaged_line i = codes "damaged " ++ (integrity_text i ++ 10 ∷ [])
 
--- the line of an entry whose content isn't there: its text, as `ls` prints it
+-- the line of an entry without its content: its text, as `ls` prints it
 abbrev pub dangling_line : Found → List ℕ
 dangling_line f = codes "dangling " ++ (entry_text f ++ 10 ∷ [])
 
--- the line of what lies among the contents and is none: its path, escaped
+-- the line of what lies among the contents and is no content: its path, escaped
 abbrev pub strange_line : List ℕ → List ℕ
 strange_line path = codes "strange " ++ (escaped path ++ 10 ∷ [])
 
@@ -22,7 +22,7 @@ list_text damaged dangling strange =
     flat_map damaged_line damaged
     ++ (flat_map dangling_line dangling ++ flat_map strange_line strange)
 
--- what `verify` prints, and the list behind it
+-- what `verify` prints, and the list after it
 abbrev pub listed_text : ℕ → List (List Hash) → List Found → List (List ℕ) → List ℕ
 listed_text good damaged dangling strange =
     verdict_text good (length damaged) (length dangling) (length strange)
@@ -36,7 +36,7 @@ TellsList good damaged dangling strange before after status =
     (listed_text good damaged dangling strange) before after status
 
 module _ {S C N : Type 0} (log : S → Option (List LogItem)) where
-  -- the cache was verified, and the counts are told with the list behind them
+  -- the cache was verified, and the counts are printed with the list after them
   abbrev pub ListsVerdict :
       List ℕ → Env S C N → Env S C N → Option (List ℕ) → Option (List ℕ) → ℕ → Type 0
   ListsVerdict cache old new before after status =

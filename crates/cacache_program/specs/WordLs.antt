@@ -54,7 +54,7 @@ TellsListing (Listed items) before after status =
     × PutsListing (has_error items) text before after status
 TellsListing reply before after status = (status ≡ 1) × (after ≡ before)
 
--- the log gained a run of the listing, and its reply was told
+-- the log gained a run of the listing, and its reply was printed
 abbrev pub PrintsListing :
     {S C N : Type 0} → (S → Option (List LogItem)) → List ℕ
     → Env S C N → Env S C N → Option (List ℕ) → Option (List ℕ) → ℕ → Type 0

@@ -11,7 +11,7 @@ planned_text kept unused =
     codes "kept " ++ (decimal kept ++ (codes "\nunused " ++ (decimal unused ++ codes "\n")))
 
 module _ {S C N : Type 0} (log : S → Option (List LogItem)) where
-  -- the log gained a plan, and its counts were told
+  -- the log gained a plan, and its counts were printed
   abbrev pub PrintsPlan :
       List ℕ → Env S C N → Env S C N → Option (List ℕ) → Option (List ℕ) → ℕ → Type 0
   PrintsPlan cache old new before after status =

@@ -8,7 +8,7 @@ abbrev pub read_text : Reply → Option (List ℕ)
 read_text (Read bytes) = Some bytes
 read_text reply = None
 
--- the log gained a run of the read, and its reply was told
+-- the log gained a run of the read, and its reply was printed
 abbrev pub Reads :
     {S C N : Type 0} → (S → Option (List LogItem)) → List ℕ → List ℕ
     → Env S C N → Env S C N → Option (List ℕ) → Option (List ℕ) → ℕ → Type 0

@@ -4,7 +4,7 @@ use Rattle.cacache.specs.{Stores.{LogItem}, Calls.{Env, Reply, GetHash, Calls}, 
 use Rattle.cacache_program.specs.{Output.{PutsOutOrFails}, WithIntegrity.{WithIntegrity}, WordRead.{read_text}}
 
 module _ {S C N : Type 0} (log : S → Option (List LogItem)) where
-  -- the log gained a run of the read by this integrity, and its reply was told
+  -- the log gained a run of the read by this integrity, and its reply was printed
   abbrev pub ReadsContent :
       List ℕ → Env S C N → Env S C N → Option (List ℕ) → Option (List ℕ) → ℕ → List Hash → Type 0
   ReadsContent cache old new before after status i =

@@ -12,7 +12,7 @@ repaired_text damaged dangling =
     codes "damaged " ++ (decimal damaged ++ (codes "\ndangling " ++ (decimal dangling ++ codes "\n")))
 
 module _ {S C N : Type 0} (log : S → Option (List LogItem)) (odd : OddLines) where
-  -- the log gained a repair with this choice about odd lines, and its counts were told
+  -- the log gained a repair with this choice about odd lines, and its counts were printed
   abbrev pub PrintsRepair :
       List ℕ → Env S C N → Env S C N → Option (List ℕ) → Option (List ℕ) → ℕ → Type 0
   PrintsRepair cache old new before after status =

@@ -61,7 +61,7 @@ module _ {S C N : Type 0} (log : S → Option (List LogItem)) (numbers : N → O
         ⊎ ((bytes : List ℕ) × CommitsFile cache key path bytes (reply_of Stored r) old new
         × IfOk r (λ i. i ≡ integrity_under Sha256 bytes))
 
-    -- the file was stored, and the reply was told; or it was given up, with status 1
+    -- the file was stored, and the reply was printed; or it was given up, with status 1
     abbrev pub StoresFile :
         List ℕ → List ℕ → List ℕ → Env S C N → Env S C N
         → Option (List ℕ) → Option (List ℕ) → ℕ → Type 0

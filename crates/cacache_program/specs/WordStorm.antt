@@ -2,7 +2,7 @@
 use Rattle.std.specs.{Prelude.{◌≡◌, ◌⊎◌, ◌++◌, ◌&&◌, ℕ, Bool, false, List, Option, Some, None, codes, nat_le}, Fmt.{decimal}, Str.{all_ascii_digits, Parse.{digits_value}}}
 use Rattle.cacache_program.specs.Output.{PutsOutOrFails}
 
--- decimal digits alone, whose number is at least 1 and at most this
+-- decimal digits alone, for a number that is at least 1 and at most this
 abbrev pub is_number_to : ℕ → List ℕ → Bool
 is_number_to most word =
     all_ascii_digits word && nat_le 1 (digits_value 10 word) && nat_le (digits_value 10 word) most
@@ -22,7 +22,7 @@ TellsStorm before after status =
     ((moves live : ℕ) × PutsOutOrFails (Some (storm_text moves live)) before after status)
     ⊎ PutsOutOrFails None before after status
 
--- numbers out of range are wrong words; else the storm was told
+-- numbers out of range are wrong words; otherwise what the storm came to was printed
 pub record Storms (threads keys : List ℕ) (before after : Option (List ℕ)) (status : ℕ)
     : Type 0 where
   pub wrong : is_storm threads keys ≡ false → status ≡ 2

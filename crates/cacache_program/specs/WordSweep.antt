@@ -12,7 +12,7 @@ swept_text files bytes strange =
     ++ (codes "\nstrange " ++ (decimal strange ++ codes "\n")))))
 
 module _ {S C N : Type 0} (log : S → Option (List LogItem)) where
-  -- the log gained a sweep, and its counts were told
+  -- the log gained a sweep, and its counts were printed
   abbrev pub PrintsSweep :
       List ℕ → Env S C N → Env S C N → Option (List ℕ) → Option (List ℕ) → ℕ → Type 0
   PrintsSweep cache old new before after status =

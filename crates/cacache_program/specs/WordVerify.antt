@@ -18,7 +18,7 @@ verdict_text good damaged dangling strange =
 abbrev pub is_all_good : ℕ → ℕ → ℕ → Bool
 is_all_good damaged dangling strange = damaged == 0 && dangling == 0 && strange == 0
 
--- the status of a verdict: 0 where all is good, else 3
+-- the status of a verdict: 0 if all is good, otherwise 3
 abbrev pub verdict_status : ℕ → ℕ → ℕ → ℕ
 verdict_status damaged dangling strange = cond (is_all_good damaged dangling strange) 0 3
 
@@ -36,7 +36,7 @@ TellsCounts good damaged dangling strange before after status =
     TellsVerdict good (length damaged) (length dangling) (length strange) before after status
 
 module _ {S C N : Type 0} (log : S → Option (List LogItem)) where
-  -- the log gained a verification, and what it found was told in this way
+  -- the log gained a verification, and what it found was printed in this way
   abbrev pub PrintsFindings :
       (ℕ → List (List Hash) → List Found → List (List ℕ)
       → Option (List ℕ) → Option (List ℕ) → ℕ → Type 0)
@@ -64,7 +64,7 @@ module _ {S C N : Type 0} (log : S → Option (List LogItem)) where
       × (PrintsFindings Tells cache old new before after status
       ⊎ FailsToVerify cache old new before after status)
 
-  -- so it is, and the counts are told
+  -- so it is, and the counts are printed
   abbrev pub Verifies :
       List ℕ → Env S C N → Env S C N → Option (List ℕ) → Option (List ℕ) → ℕ → Type 0
   Verifies cache old new before after status =

@@ -7,7 +7,7 @@ use Rattle.cacache_program.specs.{Output.{PutsOut}, Words.{Asked, Keyed}}
 abbrev pub integrity_line : Algorithm → List ℕ → List ℕ
 integrity_line a bytes = integrity_text (integrity_under a bytes) ++ 10 ∷ []
 
--- the bytes are all that the input had to give, where that is known
+-- the bytes are all that the input had to give, if that is known
 abbrev pub AreAllOf : Option (List ℕ) → List ℕ → Type 0
 AreAllOf input bytes = IfSome input (λ given. bytes ≡ given)
 
@@ -22,7 +22,7 @@ TellsPut a bytes reply before after status =
 -- the log, the moments and the numbers are those of the environment, before and after
 module _ {S C N : Type 0} (log : S → Option (List LogItem))
     (moments : C → Option (List ℕ)) (numbers : N → Option (List ℕ)) where
-  -- all of the input was put under the key, and the reply was told
+  -- all of the input was put under the key, and the reply was printed
   abbrev pub Puts :
       List ℕ → List ℕ → Option (List ℕ) → Env S C N → Env S C N
       → Option (List ℕ) → Option (List ℕ) → ℕ → Type 0

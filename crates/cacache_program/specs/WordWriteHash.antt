@@ -6,7 +6,7 @@ use Rattle.cacache_program.specs.WordWrite.{AreAllOf, TellsPut}
 
 -- the log and the numbers are those of the environment, before and after
 module _ {S C N : Type 0} (log : S → Option (List LogItem)) (numbers : N → Option (List ℕ)) where
-  -- all of the input was put without a key, and the reply was told
+  -- all of the input was put without a key, and the reply was printed
   abbrev pub PutsHash :
       Algorithm → List ℕ → Option (List ℕ) → Env S C N → Env S C N
       → Option (List ℕ) → Option (List ℕ) → ℕ → Type 0

@@ -37,8 +37,8 @@ pub fn tell_misuse<E: Write>(usage: &str, errors: &mut Errors<E>) -> u8
     2
 }
 
-/// Prints a call's error on a line of its own, and returns the status of a failed call. Where the errors say why, that
-/// stands behind the text in brackets: it is `why_of` the error and this reason, and nothing if that is none.
+/// Prints a call's error on a line of its own, and returns the status of a failed call. If the errors say why, that
+/// comes after the text in brackets: it is `why_of` the error and this reason, and nothing if that is none.
 pub fn tell_failed_call<E: Write>(
     errors: &mut Errors<E>,
     error: &Error,
@@ -58,8 +58,8 @@ pub fn tell_failed_call<E: Write>(
     1
 }
 
-/// Prints what failed on a line of its own, and returns the status of a failed call. Where the errors say why, this kind of
-/// error stands behind the text in brackets.
+/// Prints what failed on a line of its own, and returns the status of a failed call. If the errors say why, this kind
+/// of error comes after the text in brackets.
 pub(crate) fn tell_failure<E: Write>(
     errors: &mut Errors<E>,
     failure: &str,
@@ -74,8 +74,8 @@ pub(crate) fn tell_failure<E: Write>(
     1
 }
 
-/// Prints an error about a text or a path, and returns the status of a failed call. Where the errors say why, that stands
-/// behind the error's text in brackets.
+/// Prints an error about a text or a path, and returns the status of a failed call. If the errors say why, that comes
+/// after the error's text in brackets.
 fn tell_about<E: Write>(errors: &mut Errors<E>, error: &Error, about: &str) -> u8
     ensures { result ≡ 1 }
 {
@@ -87,8 +87,8 @@ fn tell_about<E: Write>(errors: &mut Errors<E>, error: &Error, about: &str) -> u
     1
 }
 
-/// Prints why a text gave no integrity, and returns the status of a failed call. Where the errors say why, the text stands
-/// behind in brackets.
+/// Prints why a text gave no integrity, and returns the status of a failed call. If the errors say why, the text
+/// comes after it in brackets.
 pub(crate) fn tell_unread<E: Write>(errors: &mut Errors<E>, error: &Error, text: &str) -> u8
     ensures { result ≡ 1 }
 {
@@ -98,8 +98,8 @@ pub(crate) fn tell_unread<E: Write>(errors: &mut Errors<E>, error: &Error, text:
     }
 }
 
-/// Prints the error of a read from this cache, and returns the status of a failed call. Where the errors say why and a
-/// content is damaged, its path stands behind the text in brackets; else it is as `tell_failed_call`.
+/// Prints the error of a read from this cache, and returns the status of a failed call. If the errors say why and a
+/// content is damaged, its path comes after the text in brackets; otherwise it is as `tell_failed_call`.
 pub(crate) fn tell_failed_read<E: Write>(
     alloc: Global,
     errors: &mut Errors<E>,

@@ -29,7 +29,8 @@ fn print_answer<S: Store, C: Clock, N: Names, W: Write, E: Write>(
     }
 }
 
-/// Prints `yes` if the content is there of the integrity that the text is read as, and else `no`.
+/// Prints `yes` if the content of the integrity that the text is read as is there, and otherwise
+/// `no`.
 pub(crate) fn exists<S: Store, C: Clock, N: Names, W: Write, E: Write>(
     env: &mut Env<S, C, N>,
     cache: &str,

@@ -12,7 +12,7 @@ use cacache::{Metadata, Result};
 use std::alloc::Global;
 use std::io::Write;
 
-/// What is printed of what was found: the entry's text or `none`, and a line feed.
+/// What is printed about what was found: the entry's text or `none`, and a line feed.
 fn line_of(alloc: Global, found: Option<Metadata>) -> Result<Vec<u8>>
     ensures { IfOk result (λ line. line.items ≡ found_line (option_map found_view found)) }
 {

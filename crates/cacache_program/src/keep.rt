@@ -1,8 +1,8 @@
 //! What the program `cacache-keep` does with its words and its streams.
 //!
-//! - `about`: what the program says of itself
+//! - `about`: what the program says about itself
 //! - `escaping`: names as a list prints them
-//! - `missing`: what is said where no cache is
+//! - `missing`: what is said if no cache is there
 //! - `naming`: the list of what a verification found
 //! - `output`: what goes to the output
 //! - `program`: what the program does with its words

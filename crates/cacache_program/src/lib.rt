@@ -1,7 +1,7 @@
-//! What the programs do with their words and their streams, over any store: here `cacache`, each of whose words has a
-//! file of its own, and in `keep` the program `cacache-keep`.
+//! What the programs do with their words and their streams, over any store: here `cacache`, with a file of its own
+//! for each word, and in `keep` the program `cacache-keep`.
 //!
-//! - `about`: what a program says of itself
+//! - `about`: what a program says about itself
 //! - `clearing`: the word `clear`
 //! - `copying`: the word `copy`
 //! - `entries`: entries as they are printed
@@ -19,7 +19,7 @@
 //! - `removing`: the word `remove`
 //! - `storing`: the word `store`
 //! - `storming`: the word `storm`
-//! - `why`: why a call failed, where the words ask for it
+//! - `why`: why a call failed, if the words ask for it
 //! - `words`: the words of a command line
 //! - `writing`: the word `write`
 //! - `writing_hash`: the word `write-hash`

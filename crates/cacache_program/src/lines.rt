@@ -43,7 +43,7 @@ fn output_line(alloc: Global, found: Metadata) -> Result<Line>
 }
 
 impl Lines {
-    /// Adds an item: a line, or an error, of which the first is kept.
+    /// Adds an item: a line, or an error; the first error is kept.
     fn add(&mut self, alloc: Global, item: std::result::Result<Found, Error>) -> Result<()>
         ensures lines { OnOk result
             (lines_of self.new ≡ lines_of self.old ++ option_to_list (line_in item)) }

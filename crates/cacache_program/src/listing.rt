@@ -13,7 +13,7 @@ use cacache::jobs::{Command, Found, Reply, call};
 use cacache::store::Store;
 use std::io::{ErrorKind, Write};
 
-/// What the cache lists. Where memory for more is refused, that may count as a refusal of the call.
+/// What the cache lists. If memory for more is refused, that may count as a refusal of the call.
 fn items<S: Store, C, N>(
     env: &mut Env<S, C, N>,
     cache: &str,
@@ -31,7 +31,7 @@ fn items<S: Store, C, N>(
 }
 
 /// Prints the lines and then the first error, if there is one, and returns the status. With an error, a failed output
-/// isn't told. The reason of the last failed step is the first error's if there is no other.
+/// isn't reported. The reason of the last failed step is the first error's if there is no other.
 #[tactic(auto, using(crate::proofs::Appending::written_so_far))]
 fn print<W: Write, E: Write>(
     listing: &Listing,

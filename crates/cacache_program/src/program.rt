@@ -30,7 +30,7 @@ use std::time;
 /// is printed on `errors`, or 2 for wrong words. A failed write to `errors` changes no status.
 ///
 /// If the input fails, nothing is stored. If the output fails, what was stored stays. It waits for
-/// the threads of a storm, and else for nobody.
+/// the threads of a storm, and otherwise for nobody.
 pub fn run<
     T: Threads + Wait + time::Clock + AllocGlobal + Sync,
     S: Reasons,

@@ -67,7 +67,7 @@ fn give_up<S: Store, C: Clock, N: Names>(
     given_up(writer.abandon(env), error)
 }
 
-/// Reads the file to its end, in pieces that the writer takes. Where either fails, the writer's file is removed.
+/// Reads the file to its end, in pieces that the writer takes. If either fails, the writer's file is removed.
 fn fill<S: Store, C: Clock, N: Names>(
     env: &mut Env<S, C, N>,
     file: S::File,

@@ -1,4 +1,4 @@
-//! Why a call failed, where the words ask for it.
+//! Why a call failed, if the words ask for it.
 ghost use Rattle.std.specs.Prelude.{◌≡◌, ◌≢◌, Option, Some, None, IfSome, true, false, drop};
 ghost use Rattle.std.specs.declared.io.ErrorKind.{ErrorKind};
 ghost use Rattle.cacache_core.specs.Contexts.{fault_in, fault_of};
@@ -14,7 +14,7 @@ use std::io::ErrorKind;
 pub enum Why {
     /// The system's kind of error.
     System(ErrorKind),
-    /// The fault alone, where the system's kind isn't known.
+    /// The fault alone, if the system's kind isn't known.
     Plain(Fault),
 }
 
@@ -28,7 +28,8 @@ impl fmt::Display for Why {
     }
 }
 
-/// Why a call failed: this reason, if its fault is the error's, and else that fault. None for an error that has no fault.
+/// Why a call failed: this reason, if its fault is the error's, and otherwise that fault. None for an error that has
+/// no fault.
 pub fn why_of(error: &Error, reason: Option<ErrorKind>) -> Option<Why>
     ensures none { fault_in error.now ≡ None → result ≡ None }
     ensures kind { IfSome reason (λ kind. fault_in error.now ≡ Some (fault_of kind)
@@ -43,7 +44,7 @@ pub fn why_of(error: &Error, reason: Option<ErrorKind>) -> Option<Why>
     }
 }
 
-/// Whether the first word is `--why`, and the words that say what to do: those behind it, or else all.
+/// Whether the first word is `--why`, and the words that say what to do: those after it, or otherwise all.
 pub fn asks_why(words: &[String]) -> (bool, &[String])
     ensures yes { AsksWhy words.now → (result.0 ≡ true) × (result.1.now ≡ drop 1 words.now) }
     ensures no { (AsksWhy words.now → ⊥) → (result.0 ≡ false) × (result.1.now ≡ words.now) }

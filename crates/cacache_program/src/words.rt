@@ -7,7 +7,7 @@ use crate::errors::{Errors, tell_failure, tell_misuse};
 use std::env::{Env, args};
 use std::io::{self, ErrorKind, Write};
 
-/// The words behind the program's name.
+/// The words after the program's name.
 pub fn words_of<R: Env + AllocGlobal>(rt: &R) -> io::Result<Vec<String>> {
     let mut words = Vec::new(rt.alloc());
     for word in args(rt)?.skip(1) {
@@ -16,7 +16,7 @@ pub fn words_of<R: Env + AllocGlobal>(rt: &R) -> io::Result<Vec<String>> {
     Ok(words)
 }
 
-/// The name, the cache and the key that the words give; an empty name where there are fewer or more.
+/// The name, the cache and the key that the words give; an empty name if there are fewer or more.
 pub(crate) fn parse_words(words: &[String]) -> (&str, &str, Option<&str>)
     ensures { asked_of words.now
         ≡ these_asked result.0.now result.1.now (option_map (λ k. k.now) result.2) }

@@ -1,4 +1,4 @@
-//! The core of a writer: what it is asked, and what it is told of its work.
+//! The core of a writer: what it is asked, and what it learns of its work.
 use crate::answers::bytes_of;
 use crate::steps::{Stepped, in_turn};
 use cacache_core::errors::{Fault, Result as Answered};
@@ -58,7 +58,7 @@ fn fault_of(name: &str) -> Result<Fault, Flaw> {
     }
 }
 
-/// What a step tells a core of its work.
+/// What a step reports to a core about its work.
 fn completion_of(name: &str, what: &str) -> Result<Completion, Flaw> {
     match name {
         "wrote" => Ok(Completion::Wrote(number_of(what)?)),

@@ -59,7 +59,7 @@ fn mishaps_of(words: &str) -> Result<Mishaps, Flaw> {
     Ok(mishaps)
 }
 
-/// What a writer's steps give over a store whose files have mishaps, and then what the content holds.
+/// What a writer's steps give over a store with files that have mishaps, and then what the content holds.
 fn with_mishaps<R: Wait + RandomSource + AllocGlobal>(
     rt: &R,
     env: &mut On<Faulty>,
@@ -70,13 +70,13 @@ fn with_mishaps<R: Wait + RandomSource + AllocGlobal>(
     Ok(with(line, holds)?)
 }
 
-/// An environment over a store whose files have this luck.
+/// An environment over a store with files that have this luck.
 fn with_luck(alloc: Global, luck: &str) -> Result<On<Faulty>, Flaw> {
     let store = Faulty::new(alloc, mishaps_of(luck)?)?;
     Ok(on(alloc, store, "/")?)
 }
 
-/// The same for a writer whose temporary file has this luck.
+/// The same for a writer with a temporary file that has this luck.
 fn unlucky<R: Wait + RandomSource + AllocGlobal>(
     rt: &R,
     luck: &str,

@@ -108,7 +108,7 @@ pub(crate) fn read_in_turn<P: Readable>(
     in_turn(alloc, &mut reads, steps)
 }
 
-/// What the reads give, and the check behind them, if there is one.
+/// What the reads give, and the check after them, if there is one.
 fn read_and_checked<F: OpenedFile>(
     alloc: Global,
     task: &MockTask,

@@ -1,12 +1,12 @@
-//! Random steps on real folders and on a disk in memory, each answer compared, and at the end all that is there. Each
+//! Random steps on real folders and on a disk in memory, with each answer compared, and in the end all files. Each
 //! row is
 //!
 //!     SEED STEPS | COUNTS
 //!
 //! If a real folder doesn't answer as the disk's table does, the difference must be one of those that `odds.rt`
-//! names, in the one
-//! form that `look.rt`, `fates.rt` and `moves.rt` give it: what Linux answers is foretold. The counts say how often each
-//! was met. Any other difference ends the row, and the result is the step with both answers.
+//! names, in the one form that `look.rt`, `fates.rt` and `moves.rt` give it: what Linux answers is foretold. The
+//! counts say how often each was met. Any other difference ends the row, and the result is the step with both
+//! answers.
 #![tactic(auto)]
 
 mod acts;

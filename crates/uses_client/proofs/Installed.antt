@@ -8,7 +8,7 @@ pub key_leads : (cache key : List ℕ) (s : Said) (count : ℕ) (r : Result (Lis
 key_leads cache key s count (Ok i) new h = h key refl
 key_leads cache key s count (Err e) new h = tt
 
--- where nothing lay, the bytes lie
+-- if nothing lay there, the bytes lie there
 pub lies_free : (cache bytes : List ℕ) (own : List Hash) (r : Result (List Hash) Error) (old mid new : List LogItem) → LeavesKnownCache cache old mid
     → IfOk r (λ i. LiesOrStayed cache own bytes mid new) → OnOk r (lies_under cache own old ≡ None → HasContent cache own bytes new)
 lies_free cache bytes own (Ok i) old mid new left (inl has) = λ none. has

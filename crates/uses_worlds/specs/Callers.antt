@@ -14,7 +14,7 @@ PutThenGet h =
     → get.command ≡ commands.Get key → CallIn h between n reader get (Some (Read bytes))
     → digest p.options.algorithm bytes ≡ digest p.options.algorithm p.data
 
--- where nobody else writes the key, a lookup finds the entry of one of the two puts
+-- if nobody else writes the key, a lookup finds the entry of one of the two puts
 abbrev pub OneOfTwo : History → Type 0
 OneOfTwo h =
     (key : List ℕ) (p q : Put) (n caller : ℕ) (call : Call) (found : Found)

@@ -13,7 +13,7 @@ pub fn put_then_get(world: &World)
     digest_laws();
 }
 
-/// Where two puts alone write a key, each lookup finds the entry of one of them, or none.
+/// If two puts alone write a key, each lookup finds the entry of one of them, or none.
 pub fn one_of_two(world: &World)
     ensures { OneOfTwo world.now }
 {

@@ -16,7 +16,7 @@ fn hex_digit(number: u8) -> u8
     b'a' + (number - 10)
 }
 
-/// Puts a control character behind the text: `\x` and its two hex digits.
+/// Puts a control character after the text: `\x` and its two hex digits.
 fn push_control(text: &mut Vec<u8>, control: u8) -> Result<(), AllocError>
     requires { control < 32 }
     ensures { OnOk result (text.new.items ≡ text.old.items ++ escaped_control control) }
@@ -31,7 +31,7 @@ fn push_control(text: &mut Vec<u8>, control: u8) -> Result<(), AllocError>
     Ok(())
 }
 
-/// Puts a byte of a name behind the text: a backslash as `\\`, a control character as `\x` and two hex digits.
+/// Puts a byte of a name after the text: a backslash as `\\`, a control character as `\x` and two hex digits.
 fn push_byte(text: &mut Vec<u8>, byte: u8) -> Result<(), AllocError>
     ensures { OnOk result (text.new.items ≡ text.old.items ++ escaped_byte byte) }
 {
@@ -47,7 +47,7 @@ fn push_byte(text: &mut Vec<u8>, byte: u8) -> Result<(), AllocError>
     Ok(())
 }
 
-/// Puts a name behind the text, so that it has no line feed and can be told from every other name.
+/// Puts a name after the text, so that it has no line feed and differs from every other name.
 pub(crate) fn push_escaped(text: &mut Vec<u8>, name: &str) -> Result<(), AllocError>
     ensures { OnOk result (text.new.items ≡ text.old.items ++ escaped name.now) }
 {

@@ -1,4 +1,4 @@
-//! What is said where no cache is.
+//! What is said if no cache is there.
 ghost use Rattle.std.specs.Prelude.{◌≡◌, IfNone, IfSome, None, true};
 ghost use Rattle.cacache_program.specs.KeepMissing.{AsksFor, AsksMissing, TellsMissing};
 ghost use Rattle.cacache_program.specs.KeepWords.{IsWrong};
@@ -60,8 +60,8 @@ fn put_missing<E: Write>(alloc: Global, cache: &str, errors: &mut Errors<E>)
     }
 }
 
-/// Prints `no cache at CACHE` on `errors`, if the words name a cache and nothing is at its path. What the words say is to
-/// be done all the same, as `run` does it.
+/// Prints `no cache at CACHE` on `errors`, if the words name a cache and nothing is at its path. What the words say
+/// is to be done nevertheless, as `run` does it.
 pub fn tell_missing<S: Store, C, N, E: Write>(
     env: &mut Env<S, C, N>,
     words: &[String],

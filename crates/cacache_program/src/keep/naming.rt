@@ -33,7 +33,7 @@ fn damaged_lines(alloc: Global, damaged: Vec<Integrity>) -> std::result::Result<
     Ok(text)
 }
 
-/// The line of an entry whose content isn't there. Memory alone can fail.
+/// The line of an entry without its content. Memory alone can fail.
 fn dangling_line(alloc: Global, entry: Metadata) -> Result<Vec<u8>>
     ensures { IfOk result (λ line. line.items ≡ line_of_dangling (found_view entry)) }
 {
@@ -56,7 +56,7 @@ fn dangling_lines(alloc: Global, dangling: Vec<Metadata>) -> Result<Vec<u8>>
     Ok(text)
 }
 
-/// The line of what lies among the contents and is none: its path, so that it is one line whatever that holds.
+/// The line of what lies among the contents and is no content: its path, so that it is one line whatever that holds.
 fn strange_line(alloc: Global, path: &str) -> std::result::Result<Vec<u8>, AllocError>
     ensures { IfOk result (λ line. line.items ≡ line_of_strange path.now) }
 {
@@ -78,7 +78,7 @@ fn strange_lines(alloc: Global, strange: Vec<String>) -> std::result::Result<Vec
     Ok(text)
 }
 
-/// What is printed of a verification, and the list of what it found but good contents. Memory alone can fail.
+/// What is printed about a verification, and the list of what it found except good contents. Memory alone can fail.
 fn listed_text(alloc: Global, verdict: Verdict) -> Result<Vec<u8>>
     ensures { IfOk result (λ text. text.items ≡ list_of_verdict verdict) }
 {
@@ -97,8 +97,8 @@ fn listed_text(alloc: Global, verdict: Verdict) -> Result<Vec<u8>>
     Ok(text)
 }
 
-/// Prints what a verification found and the list of it, and returns the status: the verdict's, or 1 where the text can't be
-/// had or printed.
+/// Prints what a verification found and the list of it, and returns the status: the verdict's, or 1 if the text can't
+/// be had or printed.
 pub(crate) fn print_list<W: Write, E: Write>(
     alloc: Global,
     verdict: Verdict,

@@ -19,7 +19,7 @@ pub(crate) fn verdict_text(alloc: Global, verdict: &Verdict) -> Result<String, A
     format!(in alloc; "good {good}\ndamaged {damaged}\ndangling {dangling}\nstrange {strange}\n")
 }
 
-/// The status of a verification: 0 where all is good, else 3.
+/// The status of a verification: 0 if all is good, otherwise 3.
 pub(crate) fn status_of(verdict: &Verdict) -> u8
     ensures status { result ≡ status_of_verdict verdict.now }
     ensures known { (result ≡ 0) ⊎ (result ≡ 3) }
@@ -31,7 +31,7 @@ pub(crate) fn status_of(verdict: &Verdict) -> u8
     3
 }
 
-/// Prints what a verification found, and returns the status: the verdict's, or 1 where the text can't be had or printed.
+/// Prints what a verification found, and returns the status: the verdict's, or 1 if the text can't be had or printed.
 pub(crate) fn print_verdict<W: Write, E: Write>(
     alloc: Global,
     verdict: &Verdict,
@@ -57,7 +57,7 @@ fn collected_text(alloc: Global, collected: &Collected) -> Result<String, AllocE
     format!(in alloc; "kept {kept}\ndropped {dropped}\n")
 }
 
-/// Prints what a collection did, and returns the status: 0, or 1 where the text can't be had or printed.
+/// Prints what a collection did, and returns the status: 0, or 1 if the text can't be had or printed.
 pub(crate) fn print_collected<W: Write, E: Write>(
     alloc: Global,
     collected: &Collected,
@@ -82,7 +82,7 @@ fn planned_text(alloc: Global, planned: &Planned) -> Result<String, AllocError>
     format!(in alloc; "kept {kept}\nunused {unused}\n")
 }
 
-/// Prints what a collection would do, and returns the status: 0, or 1 where the text can't be had or printed.
+/// Prints what a collection would do, and returns the status: 0, or 1 if the text can't be had or printed.
 pub(crate) fn print_planned<W: Write, E: Write>(
     alloc: Global,
     planned: &Planned,
@@ -107,7 +107,7 @@ fn swept_text(alloc: Global, swept: &Swept) -> Result<String, AllocError>
     format!(in alloc; "files {files}\nbytes {bytes}\nstrange {strange}\n")
 }
 
-/// Prints what a sweep did, and returns the status: 0, or 1 where the text can't be had or printed.
+/// Prints what a sweep did, and returns the status: 0, or 1 if the text can't be had or printed.
 pub(crate) fn print_swept<W: Write, E: Write>(
     alloc: Global,
     swept: &Swept,
@@ -132,7 +132,7 @@ fn repaired_text(alloc: Global, repaired: &Repaired) -> Result<String, AllocErro
     format!(in alloc; "damaged {damaged}\ndangling {dangling}\n")
 }
 
-/// Prints what a repair did, and returns the status: 0, or 1 where the text can't be had or printed.
+/// Prints what a repair did, and returns the status: 0, or 1 if the text can't be had or printed.
 pub(crate) fn print_repaired<W: Write, E: Write>(
     alloc: Global,
     repaired: &Repaired,
@@ -157,7 +157,7 @@ fn compacted_text(alloc: Global, compacted: &Compacted) -> Result<String, AllocE
     format!(in alloc; "buckets {buckets}\nbytes {bytes}\n")
 }
 
-/// Prints what a compaction did, and returns the status: 0, or 1 where the text can't be had or printed.
+/// Prints what a compaction did, and returns the status: 0, or 1 if the text can't be had or printed.
 pub(crate) fn print_compacted<W: Write, E: Write>(
     alloc: Global,
     compacted: &Compacted,

@@ -40,7 +40,7 @@ fn verify_and_print<S: Reasons, C: Clock, N: Names, W: Write, E: Write>(
     }
 }
 
-/// Verifies the cache, and prints the same counts, and behind them a line for each of what isn't a good content.
+/// Verifies the cache, and prints the same counts, and after them a line for each of what isn't a good content.
 fn verify_and_list<S: Reasons, C: Clock, N: Names, W: Write, E: Write>(
     env: &mut Env<S, C, N>,
     cache: &str,
@@ -147,8 +147,9 @@ fn compact_and_print<S: Reasons, C: Clock, N: Names, W: Write, E: Write>(
     }
 }
 
-/// Does what the words say, and returns the status: 0; 1 if the call or the output failed, which is printed on `errors`; 2
-/// for wrong words; 3 where `verify` found anything but good contents. A failed write to `errors` changes no status.
+/// Does what the words say, and returns the status: 0; 1 if the call or the output failed, which is printed on
+/// `errors`; 2 for wrong words; 3 if `verify` found anything but good contents. A failed write to `errors` changes no
+/// status.
 pub fn run<S: Reasons, C: Clock, N: Names, W: Write, E: Write>(
     env: &mut Env<S, C, N>,
     words: &[String],

@@ -1,4 +1,4 @@
--- What was listed was told.
+-- What was listed was printed.
 use Rattle.cacache_program.{specs.WordLs.{listing_reply}, proofs.PrintedLines.{plain_listing, plain_puts}}
 use Rattle.cacache_program.proofs.listing.ls.Goals as goal
 

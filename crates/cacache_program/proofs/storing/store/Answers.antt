@@ -1,4 +1,4 @@
--- What became of the file was told.
+-- What became of the file was printed.
 use Rattle.std.proofs.Common.{inl, inr, refl, ap, subst, List, ◌++◌, ◌∷◌, []}
 use Rattle.cacache_core.specs.declared.integrity.digest.Hash.{Hash}
 use Rattle.cacache.specs.{Calls.{Stored}, Integrities.{integrity_text}}

@@ -1,1 +1,1 @@
--- No answers are needed: where the input fails nothing is stored, and each exit's status is a number.
+-- No answers are needed: if the input fails nothing is stored, and each exit's status is a number.

@@ -1,4 +1,4 @@
--- The cache that the words name was asked for, and what came was told.
+-- The cache that the words name was asked for, and what came was printed.
 use Rattle.std.proofs.Common.{◌≡◌, ℕ, List, true, false, refl}
 use Rattle.cacache_program.{specs.{KeepMissing.{AsksFor}, Words.{asked_of}}, proofs.Missing.{found_alone, found_listed}}
 use Rattle.cacache_program.proofs.keep.missing.tell_missing.Goals as goal

@@ -1,4 +1,4 @@
--- where the text can't be had, nothing is put out
+-- if the text can't be had, nothing is put out
 use Rattle.std.proofs.Common.{rules, inr, arith}
 use Rattle.cacache_program.proofs.keep.naming.print_list.Goals as goal
 
