@@ -181,7 +181,7 @@ copied through source target from to =
     else if through then resolving source.inode from to
     else place_fresh source.inode from to)
 
--- no other thing than a file is copied
+-- only a file is copied
 abbrev pub source_known : FileInfo → List ℕ → List ℕ → Stage
 source_known source from to =
     if source.regular then asking_target source from to else over (Failed kind.InvalidInput)
@@ -239,7 +239,7 @@ abbrev pub more_names : Reader → List Name → Stage
 more_names r found =
     if r.left == 0 then over (Failed kind.FileTooLarge) else reading_names false r found
 
--- a name is listed with its kind, unless its text is no proper one
+-- a name is listed with its kind, unless its text isn't proper
 abbrev pub entered : List ℕ → Kind → (Name → Stage) → Stage
 entered name what go =
     taking_memory (if is_proper (text_of name)

@@ -1,4 +1,4 @@
--- Steps whose one call changes the tree.
+-- Steps with one call, which changes the tree.
 use Rattle.std.proofs.Common.{◌≡◌, ℕ, Bool, true, false, cond, List, [], ◌==◌, refl, sym, ap, subst, ◌∙◌, ⊎_elim, eq-eqb}
 use Rattle.std.specs.Prelude.{Option, None, Some, Result, Ok, Err, MatchResult, option_map}
 use Rattle.std_io.specs.declared.io.kind.ErrorKind.{ErrorKind}

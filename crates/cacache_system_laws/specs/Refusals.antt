@@ -23,13 +23,13 @@ NoRemovalBeforePut =
     (temp : NumberedTemp) (path : List ℕ) (said : CallResult) (rest : List CallItem)
     → IsNoRun (steps.Persist temp path) (item (asks.RemoveFile path) said ∷ rest)
 
--- a temporary file has no other mode than that its owner alone may read and write it
+-- a temporary file has no mode other than the one with which only its owner may read and write it
 abbrev pub NoOtherMode : Type 0
 NoOtherMode =
     (path : List ℕ) (mode : ℕ) (said : CallResult) (rest : List CallItem) → (mode ≡ 384 → ⊥)
     → IsNoRun (steps.CreateTemp path) (item (asks.CreateNew path mode) said ∷ rest)
 
--- no other file is synced than the temporary one
+-- no file other than the temporary one is synced
 abbrev pub NoOtherSync : Type 0
 NoOtherSync =
     (temp : NumberedTemp) (file : ℕ) (said : CallResult) (rest : List CallItem)

@@ -47,7 +47,7 @@ pub fn read_laws()
     ensures plainly { PiecesReadPlainly }
 {}
 
-/// So do an append and a copy; and a write, but that its file grows in the tree.
+/// So do an append and a copy; and a write, except that its file grows in the tree.
 pub fn write_laws()
     ensures append { AppendAgrees }
     ensures write { WriteAgrees }
@@ -85,12 +85,12 @@ pub fn covered_laws()
     ensures breaking { EachMayBreak }
 {}
 
-/// So is a step whose run a store's log gained, which is what the contract of a store of real folders says.
+/// So is a step with a run that a store's log gained, which is what the contract of a store of real folders says.
 pub fn logged_laws()
     ensures agree { LogsAgree }
 {}
 
-/// What many steps do on a system, a disk in memory does that has the bytes of open temporary files in their handles.
+/// A disk in memory that has the bytes of open temporary files in their handles does what many steps do on a system.
 pub fn mirror_laws()
     ensures step { StepsMirror }
     ensures run { RunsMirror }
