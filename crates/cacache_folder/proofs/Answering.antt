@@ -14,7 +14,7 @@ use Rattle.cacache_folder.proofs.CallRuns.{run_one, calls_run, calls_over, run_a
 abbrev Log : Type 0
 Log = Option (List CallItem)
 
--- the run of a step that nothing is remembered of
+-- the run of a step about which nothing is remembered
 pub answers_run : (step : NumberedStep) (answer : NumberedAnswer) (s : Stage) (end : CallResult) (old new : Log)
     → RunLogged s end old new → s ≡ first no_hint step → answer ≡ answer_of step end → StepRuns step answer old new
 answers_run step answer s end old new run begins is = (no_hint, end, run_as s (first no_hint step) end old new run begins, is)

@@ -195,7 +195,7 @@ cuts_some bytes name later at is front back =
     ∙ ap (λ (k : ℕ). take k bytes ∷ names_in (drop (k + 1) bytes)) found.0
     ∙ ap (λ (n : List ℕ). n ∷ names_in (drop (at + 1) bytes)) (sym front) ∙ ap (λ (l : List ℕ). name ∷ names_in l) (sym (back ∙ cut_back bytes (at + 1))))
 
--- there is but one
+-- there is only one
 pub cuts_none : (bytes later : List ℕ) → None ≡ position (λ b. b == 0) bytes → later ≡ take (length bytes - length bytes) (drop (length bytes) bytes)
     → CutsName bytes bytes later
 cuts_none bytes later is none =

@@ -10,7 +10,7 @@ use Rattle.cacache_system.specs.{declared.call.{SystemCall.TheVariants.{OpenFold
 use Rattle.cacache_folder.specs.{Interruptions.{Insists}, Listings.{Log, LeadsTo, Proceeds, ListsNames, ReadsNames, ReadsAllNames, OpensFolder, ListsFolder, listed, more_if, reader_of}}
 use Rattle.cacache_folder.proofs.{CallRuns.{run_none}, Listings.{leads_none, leads_on, leads_run, leads_as, leads_same, leads_call, leads_took, run_taken, refused, fails, proceeds_on, proceeds_from, names_leads, names_fails}}
 
--- no path of no bytes
+-- a number that isn't 0
 pub not_empty : (n : ℕ) → false ≡ (n == 0) → n ≢ 0
 not_empty n is none = absurd (let no_way : false ≡ true = is ∙ ap (λ (k : ℕ). k == 0) none in cc)
 

@@ -1,4 +1,4 @@
--- Where calls lead that end here or go on.
+-- Where calls that end here or go on lead.
 use Rattle.std.specs.Prelude.{ℕ, Bool, false, Option, None, Some, Result, Ok, Err, List, [], if◌then◌else◌}
 use Rattle.std_io.specs.{declared.io.{error.Error.{Error}, kind.ErrorKind.{ErrorKind}}, IoError.{error_kind}}
 use Rattle.cacache_system.specs.{declared.call.{CallItem.{CallItem}, CallResult.{CallResult, TheVariants.{Opened, Failed}}, FileInfo.{FileInfo}, SystemCall.TheVariants.{Read}}, CallLog.{said}, CallsOf.{Stage, Purpose, over, trying, taking_memory, opening, opened, standing, making, confirming, below, unmade, is_absent, CallsLogged, RunLogged}}
@@ -30,7 +30,7 @@ made again path todo (Err error) =
 abbrev pub piece : ℕ → ℕ → Stage
 piece number size = taking_memory (trying false (Read number size))
 
--- a file was opened that has this number
+-- a file with this number was opened
 abbrev pub said_opened : {A : Type 0} → (A → ℕ) → Result A Error → CallResult
 said_opened number result = said (λ file. Opened (number file)) result
 

@@ -15,7 +15,7 @@ info_of node = record {
   device = node.device;
 }
 
--- some folders were looked at, and then come the others, or one is none
+-- some folders were looked at, and then come the others, or one isn't a folder
 abbrev pub Descends : {A : Type 0} → Result A Error → Option (List CallItem)
     → Option (List CallItem) → Type 0
 Descends r old new =

@@ -1,4 +1,4 @@
--- What the program says of itself.
+-- What the program says about itself.
 use Rattle.std.specs.Prelude.{◌≡◌, ◌⊎◌, ℕ, List, [], ◌∷◌, ◌++◌, String, string_bytes, codes}
 
 -- there is one word, and it is this

@@ -1,4 +1,4 @@
--- What the program says of itself.
+-- What the program says about itself.
 use Rattle.std.specs.Prelude.{ℕ, List, ◌++◌, codes}
 
 -- what is said to wrong words

@@ -10,7 +10,7 @@ use Rattle.cacache_program.specs.Output.{AppendsPart}
 abbrev pub missing_line : List ℕ → List ℕ
 missing_line cache = codes "no cache at " ++ (cache ++ codes "\n")
 
--- it was put out, or a beginning of it, if nothing is there; else nothing was
+-- it was put out, or a beginning of it, if nothing is there; otherwise nothing was
 abbrev pub TellsMissing : List ℕ → Bool → Option (List ℕ) → Option (List ℕ) → Type 0
 TellsMissing cache true before after =
     Appends before after (missing_line cache) ⊎ AppendsPart before after (missing_line cache)

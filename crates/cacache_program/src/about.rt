@@ -1,4 +1,4 @@
-//! What a program says of itself.
+//! What a program says about itself.
 ghost use Rattle.std.specs.Prelude.{◌≡◌, ◌⊎◌, IfNone, IfSome, IsSomeAnd};
 ghost use Rattle.cacache_program.specs.About.{AsksHelp, AsksVersion, help_text, usage_text, version_text};
 ghost use Rattle.cacache_program.specs.Output.{PutsOut};
@@ -35,7 +35,7 @@ pub const HELP: &str =
 /// The program's name and version, and that of the crate that it is a port of.
 pub const VERSION: &str = "cacache 0.1.0 (a port of 13.1.0)\n";
 
-/// What a program says of itself.
+/// What a program says about itself.
 #[derive(Clone, Copy)]
 pub struct About {
     /// What it says to wrong words.
@@ -46,7 +46,7 @@ pub struct About {
     pub version: &'static str,
 }
 
-/// What the program `cacache` says of itself.
+/// What the program `cacache` says about itself.
 pub fn said() -> About
     ensures usage { result.usage.now ≡ usage_text }
     ensures help { result.help.now ≡ help_text }

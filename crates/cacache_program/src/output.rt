@@ -6,8 +6,8 @@ ghost use Rattle.cacache_program.specs.Output.{AppendsPart, PutsOut, PutsOutWith
 use crate::errors::{Errors, tell_failure};
 use std::io::{ErrorKind, Write};
 
-/// Writes some of the bytes, and returns how many: 0 if the write was interrupted. Else the kind of error by which the
-/// output failed.
+/// Writes some of the bytes, and returns how many: 0 if the write was interrupted. Otherwise the kind of error with
+/// which the output failed.
 #[tactic(auto, using(crate::proofs::Appending::kept_appends))]
 fn write_some<W: Write>(output: &mut W, bytes: &[u8]) -> Result<usize, ErrorKind>
     ensures count { IfOk result (λ count. count ≤ length bytes.now) }
@@ -25,7 +25,7 @@ fn write_some<W: Write>(output: &mut W, bytes: &[u8]) -> Result<usize, ErrorKind
     }
 }
 
-/// Writes the bytes. After the kind of error by which the output failed it has a beginning of them.
+/// Writes the bytes. If the output fails, it has a beginning of them, and the kind of error is returned.
 #[tactic(auto, using(crate::proofs::Appending::appends_more, crate::proofs::Appending::appends_no_more))]
 pub(crate) fn write_whole<W: Write>(output: &mut W, bytes: &[u8]) -> Result<(), ErrorKind>
     ensures whole { OnOk result

@@ -49,7 +49,7 @@ pub enum SystemCall {
     RealPath(Text),
 }
 
-/// What the system says of a file or folder.
+/// What the system says about a file or folder.
 #[derive(Clone, Copy)]
 pub struct FileInfo {
     /// What kind of thing it is. All but folders and links count as files.

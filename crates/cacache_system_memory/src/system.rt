@@ -17,7 +17,7 @@ use cacache_system::{FileInfo, System};
 use std::alloc::{Alloc, AllocError, Global};
 use std::io;
 
-/// Why a call is refused that this system doesn't have.
+/// Why a call that this system doesn't have is refused.
 const UNSUPPORTED: Stop = Stop::Fault(Fault::Unsupported);
 
 /// A system of folders, files and links in memory, which keeps a log of its calls. Contracts see the log and the tree.

@@ -17,7 +17,7 @@ fn millis(rt: HostRuntime) -> io::Result<u64> {
     }
 }
 
-/// Waits until std's time is another one, and returns it.
+/// Waits until std's time has changed, and returns it.
 fn next_after(rt: HostRuntime, last: u64) -> io::Result<u64> {
     for _ in 0..u64::MAX {
         let now = millis(rt)?;

@@ -101,8 +101,8 @@ impl Place {
         came
     }
 
-    /// Does what the words say with each number from one up to another at their end, until one fails. Shows what comes of the last
-    /// that is done.
+    /// Does what the words say with each number from one up to another at their end, until one fails. Shows what
+    /// comes of the last one that is done.
     fn each(&mut self, alloc: Global, root: &str, words: &str) -> Result<String, Flaw> {
         let (from, words) = cut(words);
         let (to, words) = cut(words);

@@ -18,8 +18,8 @@ pub(crate) fn taken(notes: &Notes, alloc: Global) -> String {
         .unwrap_or(String::new(alloc))
 }
 
-/// The system's runtime, but its files behave in ways of their own. No memory is found to open a file `full`, a file
-/// with a name that begins with `bare` has five bytes and no number, a file `kept` isn't removed, a folder `shy` is
+/// The system's runtime, but its files behave in ways of their own. No memory is found to open a file `full`. A file
+/// with a name that begins with `bare` has five bytes and no number. A file `kept` isn't removed, a folder `shy` is
 /// made and said to be refused, and a device is in a folder `special`. The names of each folder are made up.
 #[derive(Clone, Drop)]
 pub(crate) struct Watched {

@@ -58,7 +58,7 @@ pub(crate) struct WatchedFile {
 }
 
 impl WatchedFile {
-    /// How many bytes the next read or write moves, of those that there is room for.
+    /// How many bytes the next read or write moves, out of those for which there is room.
     fn room(&mut self, call: &str, room: usize) -> io::Result<usize>
         ensures { IfOk result (λ count. count ≤ room) }
     {

@@ -79,7 +79,7 @@ fn sized<S: Store>(env: &mut On<S>, cache: &str, words: &str, bytes: &[u8]) -> A
     writer.write_or_abandon(env, bytes)?.commit(env)
 }
 
-/// What a call gives that is given the bytes of the input.
+/// What a call gives for the bytes of the input.
 fn written<S: Store>(
     env: &mut On<S>,
     name: &str,
@@ -104,7 +104,7 @@ fn removed<S: Store>(env: &mut On<S>, cache: &str, text: &str) -> Result<String,
     }
 }
 
-/// What a call gives that keeps a cache in order.
+/// What a call that keeps a cache in order gives.
 fn kept<S: Store>(env: &mut On<S>, name: &str, cache: &str) -> Result<String, Flaw> {
     let alloc = env.alloc;
     let durable = CompactOpts::new().durable(true);

@@ -99,7 +99,7 @@ impl<'a, S: Store> Store for Stuck<'a, S> {
     }
 }
 
-/// What it refuses itself has no reason of a system's.
+/// What it refuses itself has no reason from a system.
 impl<'a, S: Store> Reasons for Stuck<'a, S> {
     ghost known = { λ _. None };
 

@@ -10,7 +10,7 @@ use rows::answers::given;
 use rows::words::{cut, number_of, word_of};
 use std::alloc::{AllocError, Global};
 
-/// What a core answers a poll. A poll that memory was refused to changed nothing, so it is made once more.
+/// What a core answers to a poll. A poll for which memory was refused changed nothing, so it is made once more.
 fn polled(alloc: Global, core: &mut WriterCore, poll: Request<'_>) -> Answered<Polled> {
     match core.poll(alloc, poll) {
         Err(error) => {
@@ -98,7 +98,7 @@ fn finished(alloc: Global, core: &mut WriterCore) -> Result<String, Flaw> {
     Ok(line?)
 }
 
-/// What a step gives that isn't a poll.
+/// What a step that isn't a poll gives.
 fn ended(alloc: Global, core: &mut WriterCore, name: &str, what: &str) -> Result<String, Flaw> {
     let word = match name {
         "finish" => return finished(alloc, core),

@@ -78,7 +78,7 @@ fn read_and_committed<R: Wait + RandomSource + AllocGlobal, S: Store>(
     Ok(with(line, stored(alloc, committed))?)
 }
 
-/// What the steps give of a linker that is opened so.
+/// What the steps of a linker that is opened so give.
 pub(crate) fn linked_by_polls<R: Wait + RandomSource + AllocGlobal, S: Store>(
     rt: &R,
     env: &mut On<S>,

@@ -133,7 +133,7 @@ fn desk_of<R: RandomSource + AllocGlobal, T: Drop>(
     })
 }
 
-/// What the steps give of a writer that is opened so.
+/// What the steps of a writer that is opened so give.
 pub(crate) fn written<R, S, T>(
     rt: &R,
     env: &mut On<S>,

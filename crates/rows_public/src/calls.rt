@@ -1,5 +1,5 @@
-//! Public calls that give one answer. A call's name is followed by the cache and what else the call is given. Each function
-//! knows some of the names and hands on the others.
+//! Public calls that give one answer. A call's name is followed by the cache and whatever else the call is given.
+//! Each function knows some of the names and hands on the others.
 use crate::lines::{contents, done, exists, first, found, has, listed, read};
 use crate::options::options_of;
 use crate::row::Row;

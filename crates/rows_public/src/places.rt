@@ -117,8 +117,8 @@ fn everywhere<R: Threads + Wait + Clock + RandomSource + AllocGlobal + Sync>(
     Ok(in_both(rt.alloc(), in_memory, in_folders)?)
 }
 
-/// What the row's act gives: after the words `in memory` or `in folders` there alone, after `failing` on disks in memory of
-/// its own, else everywhere.
+/// What the row's act gives: after the words `in memory` or `in folders` only there, after `failing` on disks in
+/// memory of its own, otherwise everywhere.
 fn tried<R: Threads + Wait + Clock + RandomSource + AllocGlobal + Sync>(
     rt: &R,
     places: &mut Places,

@@ -27,8 +27,8 @@ struct Run<'a> {
     room: usize,
 }
 
-/// The run that an act asks for: `torn ..` for an input that fails at its end, `vast ..` for one that memory is refused
-/// for, `full N ..` for an output with room for N bytes.
+/// The run that an act asks for: `torn ..` for an input that fails at its end, `vast ..` for one for which memory is
+/// refused, `full N ..` for an output with room for N bytes.
 fn run_of(act: &str) -> Result<Run<'_>, Flaw> {
     let (words, end, room) = match cut(act) {
         ("torn", words) => (words, End::Torn, AMPLE),

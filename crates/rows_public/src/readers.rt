@@ -81,7 +81,7 @@ fn parts_of<S: Store>(
     pair(alloc, first, rest_of(alloc, reader))
 }
 
-/// The line on the parts of a reader and on its check, but after `drop`; or why it wasn't opened.
+/// The line on the parts of a reader and on its check, except after `drop`; or why it wasn't opened.
 fn told<S: Store>(
     env: &mut On<S>,
     opened: Answered<SyncReader<S::File>>,

@@ -136,7 +136,7 @@ impl Draws {
         self.one_of(&TEXTS)
     }
 
-    /// A step that has paths alone.
+    /// A step that has only paths.
     pub(crate) fn deed(&mut self) -> Result<Deed, AllocError> {
         let is_rare = self.random.below(40) == 0;
         let act = if is_rare {

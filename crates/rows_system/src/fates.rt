@@ -1,5 +1,5 @@
-//! What Linux makes of a step that has paths alone: it fails, or it does what the disk's table says of paths that have no
-//! links and no odd names.
+//! What Linux makes of a step that has only paths: it fails, or it does what the disk's table says about paths that
+//! have no links and no odd names.
 use crate::acts::{Act, Deed};
 use crate::look::{End, Follow, Halt, Look, What};
 use crate::odds::Odd;

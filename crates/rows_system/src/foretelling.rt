@@ -1,4 +1,4 @@
-//! What is foretold of a step that has paths alone.
+//! What is predicted for a step that has only paths.
 use crate::acts::{Act, Deed, step_of};
 use crate::fates::Fate;
 use crate::look::Halt;
@@ -13,7 +13,7 @@ use rows::Flaw;
 use std::alloc::{AllocError, Global};
 use std::io::ErrorKind;
 
-/// What is foretold of a step.
+/// What is predicted for a step.
 #[derive(Drop)]
 pub(crate) struct Foretold {
     /// What the disk answers to the step as it was drawn.
@@ -75,7 +75,7 @@ impl World {
         Ok(Some((fate, odds.kind(Some(deed.act)))))
     }
 
-    /// What is foretold if Linux fails; the disk is asked besides.
+    /// What is predicted if Linux fails; the disk is asked besides.
     fn refused(&self, deed: &Deed, drawn: String, kind: ErrorKind) -> Result<Foretold, AllocError> {
         Ok(Foretold {
             drawn,
@@ -98,7 +98,7 @@ impl World {
         Ok(answer?.into_text())
     }
 
-    /// What is foretold of folders that are made at a path with links or odd names; None if that leads out of the
+    /// What is predicted for folders that are made at a path with links or odd names; None if that leads out of the
     /// folder.
     fn making(&mut self, deed: &Deed) -> Result<Option<Foretold>, AllocError> {
         let drawn = self.drawn(deed)?;
@@ -123,7 +123,7 @@ impl World {
         Ok(Some(Foretold { drawn, told, kind }))
     }
 
-    /// What is foretold of a step that may make no difference.
+    /// What is predicted for a step that may make no difference.
     fn plain(&mut self, deed: &Deed, fate: &Fate) -> Result<Foretold, AllocError> {
         let told = asked(
             self.alloc,
@@ -146,7 +146,7 @@ impl World {
         }
     }
 
-    /// What is foretold of a step that may make a difference.
+    /// What is predicted for a step that may make a difference.
     fn odd(&mut self, deed: &Deed, fate: &Fate) -> Result<Foretold, AllocError> {
         let drawn = self.drawn(deed)?;
         match fate {
@@ -162,7 +162,7 @@ impl World {
         }
     }
 
-    /// What is foretold of a step; None if it leads out of the folder.
+    /// What is predicted for a step; None if it leads out of the folder.
     pub(crate) fn foretell(
         &mut self,
         deed: &Deed,

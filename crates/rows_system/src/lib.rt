@@ -4,7 +4,7 @@
 //!     SEED STEPS | COUNTS
 //!
 //! If a real folder doesn't answer as the disk's table does, the difference must be one of those that `odds.rt`
-//! names, in the one form that `look.rt`, `fates.rt` and `moves.rt` give it: what Linux answers is foretold. The
+//! names, in the one form that `look.rt`, `fates.rt` and `moves.rt` give it: what Linux answers is predicted. The
 //! counts say how often each was met. Any other difference ends the row, and the result is the step with both
 //! answers.
 #![tactic(auto)]

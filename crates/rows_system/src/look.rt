@@ -91,7 +91,7 @@ fn is_within(folder: &str, path: &str) -> bool {
     }
 }
 
-/// A look at paths, and what of them is odd.
+/// A look at paths, and what is odd about them.
 #[derive(Clone, Copy)]
 pub(crate) struct Look<'a> {
     pub(crate) alloc: Global,
@@ -124,7 +124,7 @@ impl<'a> Look<'a> {
         })
     }
 
-    /// Notes what is odd of a text.
+    /// Notes what is odd about a text.
     fn note(&mut self, text: &str) {
         for name in text.split('/') {
             self.odds.up |= name == "..";
@@ -134,7 +134,7 @@ impl<'a> Look<'a> {
         self.odds.end |= text.ends_with('/') || text.ends_with("/.");
     }
 
-    /// Refuses two texts that are seen to be no paths before anything is looked up.
+    /// Refuses two texts that can't be paths before anything is looked up.
     pub(crate) fn check_texts(&mut self, one: &str, two: &str) -> Result<(), Halt> {
         if one.as_bytes().contains(&0) || two.as_bytes().contains(&0) {
             return Err(Halt::Fails(ErrorKind::InvalidInput));

@@ -9,10 +9,10 @@ use cacache_store::store::Step;
 use std::alloc::{AllocError, Global};
 use std::io::ErrorKind;
 
-/// More folders than lie above one another on a path.
+/// More folders than are above one another on a path.
 const MOST_FOLDERS: u16 = 5000;
 
-/// A disk on which folders are made, and the folder that no path may lead out of.
+/// A disk on which folders are made, and the folder that no path may leave.
 #[derive(Drop)]
 pub(crate) struct Making<'a> {
     pub(crate) alloc: Global,

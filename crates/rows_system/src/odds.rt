@@ -64,7 +64,7 @@ impl Odd {
 /// The most links that the disk follows.
 pub(crate) const MOST_ON_DISK: u8 = 16;
 
-/// What of a step's paths may make for a difference.
+/// What in a step's paths may make for a difference.
 #[derive(Clone, Copy)]
 pub(crate) struct Odds {
     /// A name `..`.
@@ -75,7 +75,7 @@ pub(crate) struct Odds {
     pub(crate) end: bool,
     /// A link before the last name.
     pub(crate) way: bool,
-    /// A link whose target doesn't begin with `/`.
+    /// A link with a target that doesn't begin with `/`.
     pub(crate) relative: bool,
     /// A link as the last name, which was followed.
     pub(crate) last: bool,

@@ -20,7 +20,7 @@ fn line_of(alloc: Global, item: &TreeItem) -> Result<String, AllocError> {
     }
 }
 
-/// The first line of a list that another one hasn't at its place.
+/// The first line of a list that isn't at the same place in another one.
 fn differing<'a>(one: &'a [String], two: &[String]) -> Option<&'a str> {
     for (number, line) in one.iter().enumerate() {
         match two.get(number) {

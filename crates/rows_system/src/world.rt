@@ -84,7 +84,7 @@ pub(crate) struct World {
     pub(crate) inodes: Inodes,
     pub(crate) files: Vec<Opened>,
     pub(crate) temps: Vec<Made>,
-    /// The folder that no path leads out of.
+    /// The folder that no path leaves.
     pub(crate) top: String,
     pub(crate) tally: Tally,
     /// Whether both hold different things from here on.
@@ -155,7 +155,7 @@ impl World {
         Bad::Differs
     }
 
-    /// Compares what Linux answered with what was foretold, and with what the disk answers.
+    /// Compares what Linux answered with what was predicted, and with what the disk answers.
     pub(crate) fn compare(
         &mut self,
         drawn: &str,
@@ -176,7 +176,7 @@ impl World {
         Err(self.differs(how))
     }
 
-    /// Compares the system's own error with the one that was foretold, if one was.
+    /// Compares the system's own error with the predicted one, if there is one.
     pub(crate) fn check_reason(&mut self, came: &str, kind: Option<ErrorKind>) -> Result<(), Bad> {
         if kind.is_some() && came.starts_with("Failed") && self.system.reason() != kind {
             let how = String::from_str(self.alloc, "Linux has another error")?;

@@ -54,9 +54,9 @@ ReadsAsRemoved cache base gone key result old =
     → Removed cache (commands.RemoveFully gone) old other
     → IfOk result (λ bytes. MayRead (site_of cache base 0) key other bytes.items)
 
--- In a cache that only calls wrote to, a read gives the bytes that the key led to on the older log, if since then a
--- content was exported apart from the cache and these bytes were written under another key. Or it gives what was
--- written, if that meets the integrity too
+-- A content of a cache that only calls wrote to was exported apart from it, and these bytes were written under
+-- another key. Then a read gives the bytes that the key led to on the older log, or what was written, if that meets
+-- the integrity too
 abbrev pub ReadsBeside : {A : Type 0} → List ℕ → List ℕ → List ℕ → List ℕ → List ℕ
     → Result (Vec ℕ A) Error → List LogItem → Type 0
 ReadsBeside cache key to other added result old =

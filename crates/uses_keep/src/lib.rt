@@ -1,5 +1,5 @@
 //! Functions of a caller's own that verify a cache in memory, sweep, repair, collect and compact it. Their contracts
-//! are proved from clauses alone: those of the calls, of `keep_laws`, of `answer_laws` and of `cache_laws`.
+//! are proved only from clauses: those of the calls, of `keep_laws`, of `answer_laws` and of `cache_laws`.
 #![tactic(auto)]
 
 ghost use Rattle.std.specs.Prelude.{◌≡◌, [], Some, IfOk, map};

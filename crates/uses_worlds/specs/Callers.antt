@@ -1,4 +1,4 @@
--- What a user says of many callers.
+-- What a user says about many callers.
 use Rattle.std.specs.Prelude.{◌≡◌, ◌⊎◌, ◌≤◌, ℕ, suc, List, [], ◌∷◌, Option, None, Some}
 use Rattle.cacache.specs.{Calls.{LookedUp, Read, Reply, Stored}, Entries.{Found}, Histories.{AreRemovals, Call, CallIn, CommitsAs, DropsAmong, History, IsOneOfPuts, MoveAt, MovesAre, Put, PutBytes, Reaches, RemovesFound, SparesKey, WasWritten, content_path, deeds, digest, found_of_put, lookup_at, now_before, put_commit}, Integrities.{Hash, Meets}}
 use Rattle.cacache.specs.Calls as commands

@@ -1,4 +1,4 @@
--- What a user says of a loss of power.
+-- What a user says about a loss of power.
 use Rattle.std.specs.{Prelude.{◌≡◌, ℕ, List, None, Some, Ok, Vec, Result, IfOk, MatchResult}, Global.{Global}}
 use Rattle.cacache.specs.{Calls.{Error}, Entries.{Entry}, Histories.{AnsweredPut, DurablePut, FewCalls, GoElsewhere, History, IsLast, IsLegal, LeadsToDigest, LeadsUnchanged, LeftBy, Loss, Names, NoneAnswers, OnlyLinksIn, Put, Record, StandsBefore, StandsIn, StoresDurably, Tree, address_of_put, digest, followed_by, home, names_of}, Laws.{OutOfMemory, tree_of}, Stores.{LogItem}}
 use Rattle.uses_worlds.specs.declared.losing.Reads.{Reads}

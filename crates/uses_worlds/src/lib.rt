@@ -1,4 +1,5 @@
-//! What a caller of worlds can prove of many callers at one cache, with the clauses of a world and of a few laws alone.
+//! What a caller of worlds can prove about many callers at one cache, with only the clauses of a world and of a few
+//! laws.
 //!
 //! - [`survives`] says what is read after a loss of power, and [`goes_on`] what is written and read then; [`some_survive`]
 //!   says that there are histories they are about. [`link_survives`] says what is read if a put found a link.

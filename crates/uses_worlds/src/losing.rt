@@ -1,4 +1,4 @@
-//! What is read after a loss of power, in words of a user.
+//! What is read after a loss of power, in a user's words.
 ghost use Rattle.std.specs.Prelude.{◌≡◌, IfOk, IfErr};
 ghost use Rattle.cacache.specs.Histories.{IsStanding, LeftBy, LeftRead, LeftWritten};
 ghost use Rattle.cacache.specs.Integrities.{Sha256};

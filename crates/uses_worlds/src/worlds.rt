@@ -1,4 +1,4 @@
-//! What many callers see of one cache, in words of their user. Nothing is done: a world has these facts.
+//! What many callers see of one cache, in a user's words. Nothing is done: a world has these facts.
 ghost use Rattle.uses_worlds.specs.Callers.{CrashesAreSafe, OneOfTwo, PutThenGet, ReadersNeverLie, RemovalsAreSafe};
 
 use cacache::laws::digest_laws;

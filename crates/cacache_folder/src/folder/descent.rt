@@ -8,8 +8,8 @@ use std::alloc::{AllocError, Global};
 use std::collections::HashMap;
 use std::mem::swap;
 
-/// After so many steps of a walk, the folder that it removes a folder from is looked at before. A look each time would
-/// cost the clearing of a cache a tenth of its time, and an empty folder is all that is removed through a link.
+/// After so many steps of a walk, the folder from which it removes a folder is looked at first. A look each time
+/// would cost the clearing of a cache a tenth of its time, and an empty folder is all that is removed through a link.
 const STEPS: u32 = 16;
 
 /// What a folder was when a listing named it, and whether it was listed itself since.
@@ -105,8 +105,8 @@ impl Descent {
         self.steps = 0;
     }
 
-    /// Keeps that the folder at the path was listed, and which folders the listing named. A walk begins there unless it
-    /// was named itself.
+    /// Records that the folder at the path was listed, and which folders the listing named. A walk begins there
+    /// unless it was named itself.
     pub(crate) fn list(
         &mut self,
         path: &str,
@@ -137,8 +137,8 @@ impl Descent {
         }
     }
 
-    /// Before a file or a link is removed from a folder: what is known of the folder, if it is to be looked at. It is,
-    /// unless the step before listed it.
+    /// Before a file or a link is removed from a folder: what is known about the folder, if it is to be looked at. It
+    /// is, unless the step before listed it.
     pub(crate) fn due_for_file(&mut self, folder: &str) -> Option<Known> {
         let number = number_of(folder);
         let is_fresh = number == self.fresh;
@@ -147,7 +147,7 @@ impl Descent {
         if is_fresh { None } else { self.known(number) }
     }
 
-    /// Before the folder at the path is removed from another one, which the walks leave then: what is known of the
+    /// Before the folder at the path is removed from another one, which the walks leave then: what is known about the
     /// other, if it is to be looked at.
     pub(crate) fn due_for_folder(&mut self, path: &str, folder: &str) -> Option<Known> {
         let number = number_of(path);
@@ -162,7 +162,7 @@ impl Descent {
         }
     }
 
-    /// Keeps that a folder was looked at.
+    /// Records that a folder was looked at.
     pub(crate) fn mark_looked(&mut self) {
         self.steps = 0;
     }

@@ -82,8 +82,8 @@ fn add_all<Y: System + AllocGlobal>(
     Ok(())
 }
 
-/// The error of a listing that broke off. An open folder isn't missing, even if the system says so: who hears that takes
-/// it for one without names.
+/// The error of a listing that broke off. An open folder isn't missing, even if the system says so: whoever hears
+/// that takes it for one without names.
 fn broken_off(why: ErrorKind) -> ErrorKind
     ensures { result ≡ calls.broken_off why }
 {
@@ -180,7 +180,7 @@ fn names_from<Y: System + AllocGlobal>(
     }
 }
 
-/// Whether what is there is no folder, or a link.
+/// Whether what is there isn't a folder, or is a link.
 fn is_no_folder(kind: ErrorKind) -> bool
     ensures { result ≡ calls.is_no_folder kind }
 {
@@ -255,7 +255,7 @@ fn names_in<Y: System + AllocGlobal>(system: &mut Y, path: &str, was_named: bool
 
 impl<Y: System + AllocGlobal + Clone + Drop> SystemStore<Y> {
     /// What is in the folder, in the system's order. A name that isn't UTF-8 is listed as an escaped one. What was
-    /// removed meanwhile is left out; the kind of all else has to be had.
+    /// removed meanwhile is left out; the kind of everything else is needed.
     pub(crate) fn read_dir(&mut self, path: &str) -> io::Result<Listing>
         ensures proper { IfOk result (λ listing. AreProperNames listing) }
         ensures kept { self.new.reason ≡ self.old.reason }

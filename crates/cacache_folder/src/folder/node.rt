@@ -11,7 +11,7 @@ pub(crate) struct Node {
 }
 
 impl Node {
-    /// What the system says of a file or folder.
+    /// What the system says about a file or folder.
     pub(crate) fn of(info: &FileInfo) -> Node
         ensures number { result.number ≡ info.now.inode }
         ensures device { result.device ≡ info.now.device }

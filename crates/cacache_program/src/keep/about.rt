@@ -1,4 +1,4 @@
-//! What the program says of itself.
+//! What the program says about itself.
 ghost use Rattle.std.specs.Prelude.{◌≡◌};
 ghost use Rattle.cacache_program.specs.KeepAbout.{help_text, usage_text, version_text};
 
@@ -35,7 +35,7 @@ pub const HELP: &str =
 /// The program's name and version, and that of the crate that the calls are a port of.
 pub const VERSION: &str = "cacache-keep 0.1.0 (a port of 13.1.0)\n";
 
-/// What the program says of itself.
+/// What the program says about itself.
 pub fn said() -> About
     ensures usage { result.usage.now ≡ usage_text }
     ensures help { result.help.now ≡ help_text }
