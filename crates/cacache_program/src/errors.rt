@@ -38,7 +38,7 @@ pub fn tell_misuse<E: Write>(usage: &str, errors: &mut Errors<E>) -> u8
 }
 
 /// Prints a call's error on a line of its own, and returns the status of a failed call. If the errors say why, that
-/// comes after the text in brackets: it is `why_of` the error and this reason, and nothing if that is none.
+/// comes after the text, in brackets: it is `why_of` the error and this reason, and nothing if that is none.
 pub fn tell_failed_call<E: Write>(
     errors: &mut Errors<E>,
     error: &Error,
@@ -59,7 +59,7 @@ pub fn tell_failed_call<E: Write>(
 }
 
 /// Prints what failed on a line of its own, and returns the status of a failed call. If the errors say why, this kind
-/// of error comes after the text in brackets.
+/// of error comes after the text, in brackets.
 pub(crate) fn tell_failure<E: Write>(
     errors: &mut Errors<E>,
     failure: &str,
@@ -75,7 +75,7 @@ pub(crate) fn tell_failure<E: Write>(
 }
 
 /// Prints an error about a text or a path, and returns the status of a failed call. If the errors say why, that comes
-/// after the error's text in brackets.
+/// after the error's text, in brackets.
 fn tell_about<E: Write>(errors: &mut Errors<E>, error: &Error, about: &str) -> u8
     ensures { result ≡ 1 }
 {
@@ -88,7 +88,7 @@ fn tell_about<E: Write>(errors: &mut Errors<E>, error: &Error, about: &str) -> u
 }
 
 /// Prints why a text gave no integrity, and returns the status of a failed call. If the errors say why, the text
-/// comes after it in brackets.
+/// comes after it, in brackets.
 pub(crate) fn tell_unread<E: Write>(errors: &mut Errors<E>, error: &Error, text: &str) -> u8
     ensures { result ≡ 1 }
 {
@@ -99,7 +99,7 @@ pub(crate) fn tell_unread<E: Write>(errors: &mut Errors<E>, error: &Error, text:
 }
 
 /// Prints the error of a read from this cache, and returns the status of a failed call. If the errors say why and a
-/// content is damaged, its path comes after the text in brackets; otherwise it is as `tell_failed_call`.
+/// content is damaged, its path comes after the text, in brackets; otherwise it is as `tell_failed_call`.
 pub(crate) fn tell_failed_read<E: Write>(
     alloc: Global,
     errors: &mut Errors<E>,

@@ -1,4 +1,4 @@
-//! What a row does: a public call, or what somebody else does next to it.
+//! What a row does: a public call, or something that somebody else does.
 use crate::calls::called;
 use crate::exports::exported;
 use crate::linkers::linked;

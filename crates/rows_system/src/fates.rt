@@ -52,7 +52,7 @@ fn fault_at(act: Act, end: &End) -> Option<ErrorKind> {
     }
 }
 
-/// Why a step can't be done at an end where this is.
+/// Why a step can't be done at an end that has this.
 fn fault_where(act: Act, end: &End, what: &What) -> Option<ErrorKind> {
     match (act, what) {
         (Act::RemoveFile, What::File | What::Link(_)) if end.slash => {

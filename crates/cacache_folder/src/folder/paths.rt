@@ -97,7 +97,8 @@ fn make_missing<Y: System>(system: &mut Y, path: &str) -> io::Result<bool>
     }
 }
 
-/// Asks for the folder, and makes it if it is missing, which it returns. Anything else that is there is an error.
+/// Asks for the folder, makes it if it is missing, and returns whether it was. Anything else that is there is an
+/// error.
 fn ask_first<Y: System>(system: &mut Y, path: &str) -> io::Result<bool>
     ensures { CallsLogged (calls.standing path.now) (onward (λ _. calls.over says.Done) result)
         (Y.calls system.old) (Y.calls system.new) }
