@@ -1,9 +1,10 @@
-//! Tries the rows of files. Each word of the command line is the path of a file of rows, such as `core.rows`, whose name says
-//! which library tries them. They are tried in the order of the words. Of each file the rows of a group that hold are
-//! counted, and each other row is printed with what was wanted and what came. The status is 0 if each row holds, and else 1.
+//! Tries the rows of files. Each word of the command line is the path of a file of rows, such as `core.rows`; its
+//! name says which library tries them. They are tried in the order of the words. For each file the rows of a group
+//! that hold are counted, and each other row is printed with what was wanted and what came. The status is 0 if each
+//! row holds, and otherwise 1.
 //!
-//! Some rows use real folders, those below the one where the program runs. What they leave there is removed behind each file,
-//! so that the next one doesn't meet it.
+//! Some rows use real folders, those below the one where the program runs. What they leave there is removed after
+//! each file, so that the next one doesn't meet it.
 #![tactic(auto)]
 
 mod leavings;
@@ -25,8 +26,8 @@ fn name_of(path: &str) -> &str {
     file.strip_suffix(".rows").unwrap_or(file)
 }
 
-/// Tries the rows of a name, and tells whether each of them holds. `rt` waits and starts threads, and `host` is the same
-/// runtime.
+/// Tries the rows of a name, and returns whether each of them holds. `rt` waits and starts threads, and `host` is the
+/// same runtime.
 fn all_hold<R>(rt: &R, host: &HostRuntime, name: &str, rows: &str) -> io::Result<bool>
 where
     R: Threads + Wait + Clock + RandomSource + Files + AllocGlobal + Print + Clone + Drop + Sync,
@@ -49,7 +50,7 @@ where
     }
 }
 
-/// Tries the rows of a file, and tells whether each of them holds.
+/// Tries the rows of a file, and returns whether each of them holds.
 fn holds<R>(rt: &R, host: &HostRuntime, path: &str) -> io::Result<bool>
 where
     R: Threads + Wait + Clock + RandomSource + Files + AllocGlobal + Print + Clone + Drop + Sync,
@@ -63,7 +64,7 @@ where
     Ok(all_hold)
 }
 
-/// Tries the rows of all files that the words name, and tells whether each of them holds.
+/// Tries the rows of all files that the words name, and returns whether each of them holds.
 fn each_holds<R>(rt: &R, host: &HostRuntime) -> io::Result<bool>
 where
     R: Threads + Wait + Clock + RandomSource + Files + AllocGlobal + Print + Clone + Drop + Sync,

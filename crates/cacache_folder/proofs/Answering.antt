@@ -14,7 +14,7 @@ use Rattle.cacache_folder.proofs.CallRuns.{run_one, calls_run, calls_over, run_a
 abbrev Log : Type 0
 Log = Option (List CallItem)
 
--- the run of a step that nothing is remembered of
+-- the run of a step about which nothing is remembered
 pub answers_run : (step : NumberedStep) (answer : NumberedAnswer) (s : Stage) (end : CallResult) (old new : Log)
     → RunLogged s end old new → s ≡ first no_hint step → answer ≡ answer_of step end → StepRuns step answer old new
 answers_run step answer s end old new run begins is = (no_hint, end, run_as s (first no_hint step) end old new run begins, is)
@@ -119,7 +119,7 @@ pub write_told : (number same : ℕ) (path bytes : List ℕ) (count : ℕ) → s
     → answers.Wrote (temp_of same path) count ≡ answer_of (writes number path bytes) (says.Count count)
 write_told number same path bytes count is = ap (λ (n : ℕ). let a : NumberedAnswer = answers.Wrote (temp_of n path) count in a) is
 
--- so it does where the write fails
+-- so it does if the write fails
 pub write_failed : (number same : ℕ) (path bytes : List ℕ) (why : ErrorKind) (answer : NumberedAnswer) → same ≡ number
     → answer ≡ failed_with (writes same path bytes) why → answer ≡ answer_of (writes number path bytes) (says.Failed why)
 write_failed number same path bytes why answer is told = told ∙ ap (λ (n : ℕ). failed_with (writes n path bytes) why) is
@@ -134,7 +134,7 @@ read_told number same left rest max bytes is falls =
     ap (λ (n : ℕ). let a : NumberedAnswer = answers.Got (file_of n rest) bytes in a) is
     ∙ ap (λ (n : ℕ). let a : NumberedAnswer = answers.Got (file_of number n) bytes in a) (less_left rest (length bytes) left falls)
 
--- and just as many where the read fails
+-- and exactly as many if the read fails
 pub read_failed : (number same left rest max : ℕ) (why : ErrorKind) (answer : NumberedAnswer) → same ≡ number → rest ≡ left
     → answer ≡ failed_with (reads same rest max) why → answer ≡ answer_of (reads number left max) (says.Failed why)
 read_failed number same left rest max why answer is stays told =

@@ -5,7 +5,7 @@ use Rattle.cacache_store.specs.declared.store.step.Step.TheVariants as steps
 use Rattle.cacache_store.specs.declared.store.answer.Answer.TheVariants as answers
 use Rattle.cacache_folder.specs.{declared.folder.{opened.SystemFile.{SystemFile}, temp.SystemTemp.{SystemTemp}}, FolderNumbers.{numbered, goes_by_path}, PartialSteps.{HandsBackWhole}}
 
--- what is no step of a file
+-- what isn't a step of a file
 pub by_path : {Y F D : Type 0} (number : F → ℕ) (step : Step (SystemFile Y F D) (SystemTemp Y F D))
     → ((a : List ℕ) → step ≡ steps.CreateTemp a → ⊥)
     → ((a : SystemTemp Y F D) (b : List ℕ) → step ≡ steps.Write a b → ⊥)
@@ -35,7 +35,7 @@ by_path number (steps.SyncTemp a) h0 h1 h2 h3 h4 h5 = absurd (h5 a refl)
 by_path number (steps.SyncFile a) _ _ _ _ _ _ = refl
 by_path number (steps.SyncDir a) _ _ _ _ _ _ = refl
 
--- what is no other step
+-- what isn't any other step
 pub by_file : {Y F D : Type 0} (number : F → ℕ) (step : Step (SystemFile Y F D) (SystemTemp Y F D))
     → ((a : List ℕ) → step ≡ steps.MakeDirs a → ⊥)
     → ((a : List ℕ) (b : List ℕ) → step ≡ steps.Append a b → ⊥)

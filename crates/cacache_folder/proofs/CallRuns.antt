@@ -65,7 +65,7 @@ pub calls_on : (s t u : Stage) (old mid new : Log) → CallsLogged s t old mid �
 calls_on s t u old mid new (xs, first, gains) (ys, goes, more) =
     (xs ++ ys, goes_on s t u xs ys first goes, gains_more old mid new xs ys gains more)
 
--- the same calls, where their end is told otherwise
+-- the same calls, with their end given in another form
 pub calls_as : (s t u : Stage) (old new : Log) → CallsLogged s t old new → t ≡ u → CallsLogged s u old new
 calls_as s t u old new calls same = subst (λ (x : Stage). CallsLogged s x old new) same calls
 

@@ -63,7 +63,7 @@ entered_if : (name : List ℕ) (what : Kind) (go : Name → Stage) (b : Bool) �
 entered_if name what go b is =
     ap (λ (x : Bool). taking_memory (if x then go (record { name = text_of name; kind = what }) else over (Failed kind.InvalidFilename))) (sym is)
 
--- a name is told
+-- a name is given
 pub names_proper : (name text same : List ℕ) (what : Kind) → text ≡ text_of name → same ≡ text → (IsTrue true ↔ IsProperName same)
     → NamesEntry name what (Ok (record { name = text; kind = what }))
 names_proper name text same what is at proper go log =
@@ -94,7 +94,7 @@ enters name what olds news entry (Err why) named grown none go log = refused _ w
 
 -- ---- kinds
 
--- what is asked for where the path is text
+-- what is asked for if the path is text
 pub text_asks : (path same : List ℕ) (result : Result (Option Kind) ErrorKind) (old new : Log) → IsUtf8 path → same ≡ path → AsksKind same result old new
     → AsksKindIfText path result old new
 text_asks path same result old new some is asks r name names found at =
@@ -103,7 +103,7 @@ text_asks path same result old new some is asks r name names found at =
     (is_utf8-from_IsUtf8 (r.folder ++ name) (subst (λ (bytes : List ℕ). IsUtf8 bytes) at some)))
     (asks r name names found (is ∙ at))
 
--- and where it is none
+-- and if it is none
 pub no_text : (path : List ℕ) (log : Log) → ¬ (IsUtf8 path) → AsksKindIfText path (Ok (Some File)) log log
 no_text path log none r name names found at =
     leads_same (ask_kind r name names found (entering r names found)) (entered name File (entering r names found)) log
@@ -125,7 +125,7 @@ next_is : (r : Reader) (name : List ℕ) (names : List (List ℕ)) (found : List
 next_is r name names found is =
     ap (λ (b : Bool). if b then next_name r names found else taking_memory (ask_kind r name names found (entering r names found))) is
 
--- a name whose kind was found
+-- a name with a kind that was found
 pub adds_kind : (folder name : List ℕ) (found : Option Kind) (what : Kind) (olds news : List Name) (r : Result (Unit {0}) ErrorKind) (old new : Log)
     → is_passed name ≡ false → FindsKind folder name (Ok found) old new → found ≡ Some what → EntersName name what olds news r → ListsName folder name olds news r old new
 adds_kind folder name found what olds news r old new is finds some enters reader names at =
@@ -143,7 +143,7 @@ adds_none folder name found olds value old new is finds gone reader names at =
     (λ _. next_name reader names olds) (Ok value) old new (next_is reader name names olds is)
     (subst (λ (f : Option Kind). FindsKind folder name (Ok f) old new) gone finds reader names olds at)
 
--- one whose kind can't be had
+-- one with a kind that can't be had
 pub adds_fails : (folder name : List ℕ) (olds news : List Name) (why : ErrorKind) (old new : Log) → is_passed name ≡ false
     → FindsKind folder name (Err why) old new → ListsName {A = Unit {0}} folder name olds news (Err why) old new
 adds_fails folder name olds news why old new is finds reader names at =
@@ -195,7 +195,7 @@ cuts_some bytes name later at is front back =
     ∙ ap (λ (k : ℕ). take k bytes ∷ names_in (drop (k + 1) bytes)) found.0
     ∙ ap (λ (n : List ℕ). n ∷ names_in (drop (at + 1) bytes)) (sym front) ∙ ap (λ (l : List ℕ). name ∷ names_in l) (sym (back ∙ cut_back bytes (at + 1))))
 
--- there is but one
+-- there is only one
 pub cuts_none : (bytes later : List ℕ) → None ≡ position (λ b. b == 0) bytes → later ≡ take (length bytes - length bytes) (drop (length bytes) bytes)
     → CutsName bytes bytes later
 cuts_none bytes later is none =

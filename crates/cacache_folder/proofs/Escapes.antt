@@ -4,7 +4,7 @@ use Rattle.hex.{specs.Hex.{IsBytes, encode_lower, decode_of}, proofs.HexLemmas.{
 use Rattle.cacache_system.specs.ListedNames.{mark}
 use Rattle.cacache_folder.specs.Escaped.{or_itself, raw_name}
 
--- what stands for some digits behind the mark
+-- the bytes of some digits after the mark
 behind_mark : (digits : List ℕ) → raw_name (mark ++ digits) ≡ or_itself (mark ++ digits) (decode_of digits)
 behind_mark digits = refl
 
@@ -16,7 +16,7 @@ stands (Ok text) name bytes is =
     ∙ ap (or_itself (mark ++ encode_lower name)) (decode_of-encode_lower name bytes)
 stands (Err e) name bytes is = tt
 
--- a text that is told otherwise
+-- a text that is given in another form
 pub told_as : {E : Type 0} (r : Result (List ℕ) E) (one other : List ℕ) → IfOk r (λ text. text ≡ one) → one ≡ other → IfOk r (λ text. text ≡ other)
 told_as (Ok text) one other is same = is ∙ same
 told_as (Err e) one other is same = tt

@@ -10,13 +10,13 @@ either_first false true true d e h = refl
 either_first false true false d e h = refl
 either_first false false c d e h = h
 
--- a name has a `/` or a NUL where one of its bytes ends it
+-- a name has a `/` or a NUL exactly if one of its bytes ends it
 pub either_ends : (name : List ℕ)
     → (list_any (λ b. b == 47) name || list_any (λ b. b == 0) name) ≡ list_any ends_name name
 either_ends [] = refl
 either_ends (x ∷ xs) = either_first (x == 47) (x == 0) _ _ _ (either_ends xs)
 
--- a listing of proper names with the proper name that was found behind them
+-- a listing of proper names with the proper name that was found after them
 pub proper_more : (names more : List Name) (found : Option Name) (entry : Name)
     → more ≡ names ++ entry ∷ [] → found ≡ Some entry → AreProperNames names
     → IfSome found (λ e. IsProperName e.name) → AreProperNames more

@@ -10,7 +10,7 @@ use Rattle.cacache_system.specs.{declared.call.{SystemCall.TheVariants.{OpenFold
 use Rattle.cacache_folder.specs.{Interruptions.{Insists}, Listings.{Log, LeadsTo, Proceeds, ListsNames, ReadsNames, ReadsAllNames, OpensFolder, ListsFolder, listed, more_if, reader_of}}
 use Rattle.cacache_folder.proofs.{CallRuns.{run_none}, Listings.{leads_none, leads_on, leads_run, leads_as, leads_same, leads_call, leads_took, run_taken, refused, fails, proceeds_on, proceeds_from, names_leads, names_fails}}
 
--- no path of no bytes
+-- a number that isn't 0
 pub not_empty : (n : ℕ) → false ≡ (n == 0) → n ≢ 0
 not_empty n is none = absurd (let no_way : false ≡ true = is ∙ ap (λ (k : ℕ). k == 0) none in cc)
 
@@ -185,7 +185,7 @@ lists_run path named names value found old new lists is =
     (run_none (listed (names value)) (Names (names value)) new (inr refl)))
     (ap (λ (l : List Name). answers.Names l) is)
 
--- memory is refused behind it
+-- memory is refused after it
 pub lists_lost : {A : Type 0} (path : List ℕ) (named : Bool) (names : A → List Name) (value : A) (why : ErrorKind) (old new : Log)
     → ListsFolder (list named path) names (Ok value) old new → why ≡ kind.OutOfMemory
     → StepRuns (steps.ReadDir path) (failed_with (steps.ReadDir path) why) old new

@@ -25,7 +25,7 @@ pub leads_run : (s t : Stage) (end : CallResult) (old mid new : Log) → LeadsTo
 leads_run s t end old mid new (xs, first, gains) (ys, runs, more) =
     (xs ++ ys, first ys end runs, gains_more old mid new xs ys gains more)
 
--- the same calls, where their end is told otherwise
+-- the same calls, with their end given in another form
 pub leads_as : (s t u : Stage) (old new : Log) → LeadsTo s t old new → t ≡ u → LeadsTo s u old new
 leads_as s t u old new leads same = subst (λ (x : Stage). LeadsTo s x old new) same leads
 

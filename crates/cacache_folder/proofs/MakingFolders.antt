@@ -7,7 +7,7 @@ use Rattle.cacache_folder.{specs.Goings.{onward, made}, proofs.CallRuns.{calls_e
 abbrev Log : Type 0
 Log = Option (List CallItem)
 
--- a folder that can't be made may stand
+-- a folder that can't be made may be there
 pub making_confirms : (again : Bool) (path : List ℕ) (todo : List (List ℕ)) (why : ErrorKind) → is_absent why ≡ false
     → after (making again path todo) (Failed why) ≡ confirming why path todo
 making_confirms again path todo why is = ap (λ (b : Bool). if b then unmade again why path todo else confirming why path todo) is

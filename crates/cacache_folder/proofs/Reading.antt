@@ -102,12 +102,12 @@ pub piece_run : (file : NumberedFile) (size : ℕ) (b : Bool) (end : CallResult)
 piece_run file size b end old new is said run =
     subst (λ (x : Bool). RunLogged (piece_if x file size) end old new) (sym said ∙ is) run
 
--- what was read stands in front
+-- what was read is in front
 pub cut_front : (count len : ℕ) (front rest : List ℕ) → count ≤ length front → count ≤ len → take count front ≡ take count (take len (front ++ rest))
 cut_front count len front rest fits within =
     sym (take-take count len (front ++ rest) within ∙ take-append-le count front rest fits)
 
--- a read is told by the bytes that it gave
+-- a read, with its size and its bytes given in another form
 pub insists_as : (file size same : ℕ) (given bytes : List ℕ) (old new : Log) → Insists (Read file size) (Bytes given) old new → size ≡ same → given ≡ bytes
     → Insists (Read file same) (Bytes bytes) old new
 insists_as file size same given bytes old new insists sized is =
@@ -125,7 +125,7 @@ pub took_read : (file size : ℕ) (given bytes : List ℕ) (old new : Log) → I
 took_read file size given bytes old new insists is =
     took_insists file size (Bytes bytes) old new (insists_as file size size given bytes old new insists refl (sym is))
 
--- what is left of a file of which so many bytes were read
+-- what is left of a file after so many bytes were read
 pub taken_left : (left count : ℕ) (bytes items : List ℕ) → bytes ≡ take count items → count ≤ length items → count ≤ left → (left - count) + length bytes ≡ left
 taken_left left count bytes items is fits within =
     let size : length bytes ≡ count = ap (λ (xs : List ℕ). length xs) is ∙ length-take-le count items fits in

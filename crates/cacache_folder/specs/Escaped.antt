@@ -7,7 +7,7 @@ abbrev pub or_itself : List ℕ → Result (List ℕ) FromHexError → List ℕ
 or_itself name (Ok bytes) = bytes
 or_itself name (Err e) = name
 
--- the bytes that a name's text stands for: those of its digits behind the mark, or the text's own
+-- the bytes that a name's text stands for: those of its digits after the mark, or the text's own
 abbrev pub raw_name : List ℕ → List ℕ
 raw_name name =
     if starts_with nat_eq name mark then or_itself name (decode_of (drop 256 name)) else name

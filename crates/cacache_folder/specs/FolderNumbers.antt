@@ -29,7 +29,7 @@ abbrev pub answered_or : {Y F D : Type 0} → (F → ℕ) → NumberedStep
 answered_or number step (Ok answer) = answered number answer
 answered_or number step (Err error) = failed_with step (error_kind error)
 
--- what a step answers where it gave this value, or its failure
+-- what a step answers if it gave this value, or its failure
 abbrev pub value_or : {A : Type 0} → (A → NumberedAnswer) → NumberedStep → Result A Error
     → NumberedAnswer
 value_or give step (Ok value) = give value

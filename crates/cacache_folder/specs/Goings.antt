@@ -1,4 +1,4 @@
--- Where calls lead that end here or go on.
+-- Where calls that end here or go on lead.
 use Rattle.std.specs.Prelude.{ℕ, Bool, false, Option, None, Some, Result, Ok, Err, List, [], if◌then◌else◌}
 use Rattle.std_io.specs.{declared.io.{error.Error.{Error}, kind.ErrorKind.{ErrorKind}}, IoError.{error_kind}}
 use Rattle.cacache_system.specs.{declared.call.{CallItem.{CallItem}, CallResult.{CallResult, TheVariants.{Opened, Failed}}, FileInfo.{FileInfo}, SystemCall.TheVariants.{Read}}, CallLog.{said}, CallsOf.{Stage, Purpose, over, trying, taking_memory, opening, opened, standing, making, confirming, below, unmade, is_absent, CallsLogged, RunLogged}}
@@ -8,7 +8,7 @@ abbrev pub unless : Option ErrorKind → Stage → Stage
 unless None s = s
 unless (Some why) s = over (Failed why)
 
--- the stage where all went well, or the failure
+-- the stage of the value, or the failure
 abbrev pub onward : {A : Type 0} → (A → Stage) → Result A Error → Stage
 onward go (Ok value) = go value
 onward go (Err error) = over (Failed (error_kind error))
@@ -19,7 +19,7 @@ abbrev pub GoesOrEnds : {A : Type 0} → Stage → (A → Stage) → Result A Er
 GoesOrEnds s go (Ok value) old new = CallsLogged s (go value) old new
 GoesOrEnds s go (Err error) old new = RunLogged s (Failed (error_kind error)) old new
 
--- a folder stands now, or can't be made, or the folder above it is missing
+-- a folder is there now, or can't be made, or the folder above it is missing
 abbrev pub made : {A : Type 0} → Bool → List ℕ → List (List ℕ) → Result A Error → Stage
 made again path todo (Ok was) = below todo
 made again path todo (Err error) =
@@ -30,7 +30,7 @@ made again path todo (Err error) =
 abbrev pub piece : ℕ → ℕ → Stage
 piece number size = taking_memory (trying false (Read number size))
 
--- a file was opened that has this number
+-- a file with this number was opened
 abbrev pub said_opened : {A : Type 0} → (A → ℕ) → Result A Error → CallResult
 said_opened number result = said (λ file. Opened (number file)) result
 
@@ -45,7 +45,7 @@ OpensFile number path result old new =
 abbrev pub make_first : Bool → List ℕ → Stage
 make_first is_guessed path = if is_guessed then making false path [] else standing path
 
--- it was asked whether a folder stands after all
+-- it was asked whether a folder is there after all
 abbrev pub Confirms : {A : Type 0} → List ℕ → ErrorKind → Result A Error → Option (List CallItem)
     → Option (List CallItem) → Type 0
 Confirms path why result old new =

@@ -3,7 +3,7 @@ use Rattle.std.specs.Prelude.{◌==◌, ◌&&◌, not, ℕ, min, false, List, if
 use Rattle.std_io.specs.declared.io.kind.ErrorKind.TheVariants.{FileTooLarge}
 use Rattle.cacache_system.specs.{declared.call.{SystemCall.TheVariants.{Read, Write}, CallResult.TheVariants.{Failed}}, CallsOf.{Stage, over, trying}, Seen.{NumberedFile, NumberedTemp}}
 
--- a read asks for no more than is left, and for nothing behind 2^64 - 1 bytes, where it fails
+-- a read asks for no more than is left; past 2^64 - 1 bytes it asks for nothing, and fails
 abbrev pub reading : NumberedFile → ℕ → Stage
 reading file room =
     if file.left == 0 && not (room == 0)

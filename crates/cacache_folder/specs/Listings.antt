@@ -8,7 +8,7 @@ use Rattle.cacache_system.specs.{declared.call.{CallItem.{CallItem}, CallResult.
 abbrev pub Log : Type 0
 Log = Option (List CallItem)
 
--- the log gained calls behind which each run from the second stage is one from the first
+-- the log gained calls, and each run from the second stage is one from the first after them
 abbrev pub LeadsTo : Stage → Stage → Log → Log → Type 0
 LeadsTo s t old new =
     (items : List CallItem)
@@ -22,7 +22,7 @@ Proceeds s go (Err why) old new = RunLogged s (Failed why) old new
 
 -- ---- names
 
--- a name is told with its kind, or refused
+-- a name is given with its kind, or refused
 abbrev pub NamesEntry : List ℕ → Kind → Result Name ErrorKind → Type 0
 NamesEntry name kind r =
     (go : Name → Stage) (log : Log) → Proceeds (entered name kind go) go r log log
@@ -44,7 +44,7 @@ abbrev pub with_kind : Reader → List ℕ → List (List ℕ) → List Name →
 with_kind r name names found None = next_name r names found
 with_kind r name names found (Some kind) = entered name kind (entering r names found)
 
--- it was asked what stands at a path
+-- it was asked what is at a path
 abbrev pub AsksKind : List ℕ → Result (Option Kind) ErrorKind → Log → Log → Type 0
 AsksKind path result old new =
     (r : Reader) (name : List ℕ) (names : List (List ℕ)) (found : List Name)
@@ -122,7 +122,7 @@ abbrev pub OpensFolder : {F : Type 0} → (F → ℕ) → Stage → List ℕ →
 OpensFolder number s path result old new =
     Proceeds s (λ folder. more_names (reader (number folder) path) []) result old new
 
--- the same by its path, of which the other text is the one with a `/` behind it
+-- the same by its path; the other text is the path with a `/` after it
 abbrev pub OpensPath : {F : Type 0} → (F → ℕ) → Bool → List ℕ → List ℕ → Result F ErrorKind → Log
     → Log → Type 0
 OpensPath number was_named path folder result old new =

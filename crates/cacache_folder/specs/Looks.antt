@@ -5,7 +5,7 @@ use Rattle.cacache_store.specs.declared.store.answer.Kind.TheVariants.{Folder}
 use Rattle.cacache_system.specs.{declared.call.{FileInfo.{FileInfo}, CallItem.{CallItem}}, CallsOf.{Stage, descending, descend, compared, is_same_node, CallsLogged}, AnswersOf.{Hint, look_first}}
 use Rattle.cacache_folder.specs.{declared.folder.node.Node.{Node}, Goings.{onward}}
 
--- what the system said of a folder that was listed, as far as it was kept
+-- what the system said about a folder that was listed, as far as it was kept
 abbrev pub info_of : Node → FileInfo
 info_of node = record {
   kind = Folder;
@@ -18,7 +18,7 @@ info_of node = record {
   group = 0;
 }
 
--- some folders were looked at, and then come the others, or one is none
+-- some folders were looked at, and then come the others, or one isn't a folder
 abbrev pub Descends : {A : Type 0} → Result A Error → Option (List CallItem)
     → Option (List CallItem) → Type 0
 Descends r old new =
@@ -45,7 +45,7 @@ LooksToLast last r old new =
     (s : Stage) → (between : List (List ℕ))
     × CallsLogged (descend (between ++ last ∷ []) s) (onward (λ _. s) r) old new
 
--- it is told whether what was seen is the folder that was listed
+-- the answer is whether what was seen is the folder that was listed
 abbrev pub Decides : FileInfo → FileInfo → Bool → Type 0
 Decides info node b =
     (all : List (List ℕ)) (s : Stage)

@@ -3,7 +3,7 @@ use Rattle.std.specs.{Prelude.{◌≡◌, Option, IsSomeAnd}, declared.io.ErrorK
 use Rattle.cacache_core.specs.Contexts.{fault_of}
 use Rattle.cacache_store.specs.{declared.store.answer.Answer.TheVariants.{Failed}, Plain.{PlainAnswer}}
 
--- a failed step leaves the system's kind of error, whose fault it told; another keeps the one before
+-- a failed step leaves the system's kind of error, and answers its fault; another keeps the one before
 abbrev pub Explains : Option ErrorKind → Option ErrorKind → PlainAnswer → Type 0
 Explains old new (Failed fault) = IsSomeAnd new (λ kind. fault ≡ fault_of kind)
 Explains old new answer = new ≡ old

@@ -17,8 +17,8 @@ fn millis_of(answer: io::Result<Duration>) -> u64
     }
 }
 
-/// The system's clock. It answers 0 where the system has no time or one before 1970, and 2^64 - 1 milliseconds where
-/// there are more.
+/// The system's clock. It answers 0 if the system has no time or one before 1970, and 2^64 - 1 milliseconds if there
+/// are more.
 #[derive(Drop)]
 pub struct SystemClock<R> {
     rt: R,

@@ -117,15 +117,15 @@ impl<Y: System + AllocGlobal + Clone + Drop> SystemStore<Y> {
         }
     }
 
-    /// The system's kind of error behind the last step that failed, which says more than a `Fault` does: a full disk, a
+    /// The system's kind of error for the last step that failed, which says more than a `Fault` does: a full disk, a
     /// missing right and another device have kinds of their own. None before any step failed.
     ///
-    /// Ask it right behind the call that failed, whose `IoError` then has this kind's `Fault`. Each later step that
-    /// fails puts its own kind here, and steps fail in calls that go well too, as where a key has no bucket. A step
-    /// that goes well, or that is refused memory, leaves it. Reads and writes of open handles, and an error that a call
-    /// makes itself, as of a short append, tell nothing here.
+    /// Ask for it right after the call that failed: the call's `IoError` then has this kind's `Fault`. Each later
+    /// step that fails puts its own kind here, and steps fail in calls that succeed too, as when a key has no bucket.
+    /// A step that succeeds, or that is refused memory, leaves it. It isn't set by reads and writes of open handles,
+    /// nor by an error that a call makes itself, as of a short append.
     ///
-    /// The program `builds` of `uses_programs` asks it where a hard link failed, and copies in its place only where no
+    /// The program `builds` of `uses_programs` asks for it after a hard link failed, and copies instead only if no
     /// link can be made: the reason is another device (`CrossesDevices`), or a system without hard links
     /// (`Unsupported`).
     pub fn reason(&self) -> Option<ErrorKind>

@@ -13,9 +13,9 @@ const STRIDE: u64 = 65536;
 
 /// Numbers for temporary files. The first is 64 random bits of the system; each next one is 65536 more, modulo 2^64.
 ///
-/// So two environments give different numbers, whatever threads, processes, containers or machines they are of, but
-/// with a chance of less than one in 2^40 where each gives fewer than a million. Contracts see the number that comes
-/// next.
+/// So two environments give different numbers, whatever threads, processes, containers or machines they belong to,
+/// except with a chance of less than one in 2^40 if each gives fewer than a million. Contracts see the number that
+/// comes next.
 #[derive(Debug, Drop)]
 pub struct ProcessNames {
     next: u64,
@@ -37,12 +37,12 @@ fn random_bits<R: RandomSource>(source: &R) -> io::Result<u64> {
 }
 
 impl ProcessNames {
-    /// The numbers from 64 random bits on. Where the system has none, they start at the present time and this process.
+    /// The numbers from 64 random bits on. If the system has none, they start at the present time and this process.
     pub fn new(rt: HostRuntime) -> ProcessNames {
         ProcessNames::random(&rt, SystemClock::new(rt).now(), process::id(rt.process()))
     }
 
-    /// The numbers from 64 bits of a source on; where it fails, those that start at this time and process.
+    /// The numbers from 64 bits of a source on; if it fails, those that start at this time and process.
     pub fn random<R: RandomSource>(source: &R, millis: u64, process: u32) -> ProcessNames {
         match random_bits(source) {
             Ok(next) => ProcessNames { next },

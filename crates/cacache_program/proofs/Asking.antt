@@ -29,7 +29,7 @@ keyed_holds asked parsed name P is holds = subst (λ (it : Asked). Keyed it name
 pub keyed_by : (asked parsed : Asked) (name key : List ℕ) (P : List ℕ → List ℕ → Type 0) → asked ≡ parsed → parsed.key ≡ Some key → P parsed.cache key → Keyed asked name P
 keyed_by asked parsed name key P is named holds = keyed_holds asked parsed name P is (subst (λ o. IfSome o (P parsed.cache)) (sym named) holds)
 
--- ---- of what wasn't asked for
+-- ---- what wasn't asked for
 
 -- if another name was parsed, this one isn't asked for
 isnt_asked : {asked parsed : Asked} {name other : List ℕ} → asked ≡ parsed → parsed.name ≡ other → false ≡ pointwise nat_eq other name → asked.name ≡ name → ⊥

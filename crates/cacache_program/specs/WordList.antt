@@ -8,7 +8,7 @@ use Rattle.cacache_program.specs.{Escaping.{escaped}, Output.{PutsOutWith}, Prin
 abbrev pub damaged_line : List Hash → List ℕ
 damaged_line i = codes "damaged " ++ (integrity_text i ++ 10 ∷ [])
 
--- the line of an entry whose content isn't there: its text, as `ls` prints it
+-- the line of an entry without its content: its text, as `ls` prints it
 abbrev pub dangling_line : Found → List ℕ
 dangling_line f = codes "dangling " ++ (entry_text f ++ 10 ∷ [])
 

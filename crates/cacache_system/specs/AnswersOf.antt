@@ -106,7 +106,7 @@ misses kind.NotFound = true
 misses kind.NotADirectory = true
 misses _ = false
 
--- an open file of which so many bytes more were read
+-- an open file after so many more bytes were read
 abbrev pub read_on : NumberedFile → ℕ → NumberedFile
 read_on file count = record { number = file.number; left = file.left - count }
 

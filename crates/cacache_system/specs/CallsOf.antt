@@ -1,5 +1,5 @@
--- The system calls of each kind of step as one table: the call that each stage wants, where what the system says takes it,
--- and what the calls may end with.
+-- The system calls of each kind of step as one table: the call that each stage wants, the stage to which what the
+-- system says leads, and what the calls may end with.
 use Rattle.std.specs.{Prelude.{◌+◌, ◌%◌, codes, ◌≡◌, ◌-◌, ◌^◌, ◌⊎◌, ◌==◌, ◌&&◌, ◌||◌, not, ℕ, zero, suc, get_or, take, length, min, Bool, true, false, if◌then◌else◌, List, [], ◌∷◌, ◌++◌, Option, None, Some, option_map}, Bool.{nat_eq}, Cmp.Lexicographic.{pointwise}, Str.{is_utf8}, Int.{to_be_bytes, w64}}
 use Rattle.hex.specs.Hex.{encode_lower}
 use Rattle.std_io.specs.declared.io.kind.ErrorKind.{ErrorKind}
@@ -15,7 +15,7 @@ pub data Purpose : Type 0 where
   to_sync_folder : Purpose
   to_read : Purpose
 
--- A folder that is listed: the number that it was opened under, its path with a `/` behind it, and how many reads of
+-- A folder that is listed: the number that it was opened under, its path with a `/` after it, and how many reads of
 -- names may still come.
 pub record Reader : Type 0 where
   pub number : ℕ
@@ -64,7 +64,7 @@ abbrev pub last_slash : List ℕ → ℕ → Option ℕ
 last_slash path zero = None
 last_slash path (suc n) = if get_or path n 0 == 47 then Some n else last_slash path n
 
--- the path of the folder above: all that stands before the last `/`
+-- the path of the folder above: all that is before the last `/`
 abbrev pub above_of : List ℕ → Option (List ℕ)
 above_of path = option_map (λ i. take i path) (last_slash path (length path))
 
@@ -72,20 +72,20 @@ above_of path = option_map (λ i. take i path) (last_slash path (length path))
 abbrev pub fresh_name : ℕ → List ℕ
 fresh_name number = codes ".tmp" ++ encode_lower (to_be_bytes w64 number)
 
--- a name in the folder of which this is the path, if it has one
+-- a name in the folder with this path, if there is one
 abbrev pub in_folder : Option (List ℕ) → List ℕ → List ℕ
 in_folder None name = name
 in_folder (Some folder) name = folder ++ 47 ∷ name
 
--- such a file beside a path
+-- such a file next to a path
 abbrev pub fresh_beside : List ℕ → ℕ → List ℕ
 fresh_beside path number = in_folder (above_of path) (fresh_name number)
 
--- the number of such a file, where so many more may be tried
+-- the number of such a file, if so many more may be tried
 abbrev pub fresh_number : ℕ → ℕ → ℕ
 fresh_number left number = (number + left) % 2 ^ 64
 
--- the call that a stage wants, and none where the step is over
+-- the call that a stage wants, and none if the step is over
 abbrev pub wants : Stage → Option SystemCall
 wants (over result) = None
 wants (only call) = Some call
@@ -124,7 +124,7 @@ abbrev pub interrupts : ErrorKind → Bool
 interrupts kind.Interrupted = true
 interrupts _ = false
 
--- the same of what the system said
+-- the same for what the system said
 abbrev pub was_interrupted : CallResult → Bool
 was_interrupted (Failed why) = interrupts why
 was_interrupted _ = false
@@ -139,7 +139,7 @@ abbrev pub if_folder : Kind → ErrorKind → Stage → Stage
 if_folder kinds.Folder why s = s
 if_folder other why s = over (Failed why)
 
--- a file that says it has no bytes is read to its end all the same
+-- a file that says it has no bytes is read to its end nevertheless
 abbrev pub read_whole : ℕ → ℕ → Stage
 read_whole size file =
     if size == 0 then reading_rest [] file else reading_front false (min size 131072) file
@@ -151,32 +151,32 @@ opened to_sync file info = unless_folder info.kind (only (Sync file))
 opened to_sync_folder file info = if_folder info.kind kind.NotADirectory (only (Sync file))
 opened to_read file info = taking_memory (read_whole info.size file)
 
--- both are of one file or folder: a system that gives no numbers tells none from another
+-- both are known to be one file or folder; if a system gives no numbers, none are known to be
 abbrev pub is_same_node : FileInfo → FileInfo → Bool
 is_same_node one other =
     (not (one.inode == 0) && one.inode == other.inode) && one.device == other.device
 
--- something stands there
+-- something is there
 abbrev pub already_exists : ErrorKind → Bool
 already_exists kind.AlreadyExists = true
 already_exists _ = false
 
--- a link stands there
+-- a link is there
 abbrev pub is_link : Kind → Bool
 is_link kinds.Link = true
 is_link _ = false
 
--- nothing stands there
+-- nothing is there
 abbrev pub is_absent : ErrorKind → Bool
 is_absent kind.NotFound = true
 is_absent _ = false
 
--- a fresh file is made beside a path, under one of 256 names
+-- a fresh file is made next to a path, under one of 256 names
 abbrev pub place_fresh : ℕ → List ℕ → List ℕ → Stage
 place_fresh number from path = taking_memory (making_fresh 255 number from path)
 
--- A file takes the place of another, but not of itself, and is written into what is neither file nor folder. A link was
--- followed to what stands there, or none.
+-- A file takes the place of another, but not of itself, and is written into what is neither file nor folder. A link
+-- was followed to what is there, or no link was.
 abbrev pub copied : Bool → FileInfo → FileInfo → List ℕ → List ℕ → Stage
 copied through source target from to =
     unless_folder target.kind
@@ -185,12 +185,12 @@ copied through source target from to =
     else if through then resolving source.inode from to
     else place_fresh source.inode from to)
 
--- no other thing than a file is copied
+-- only a file is copied
 abbrev pub source_known : FileInfo → List ℕ → List ℕ → Stage
 source_known source from to =
     if source.regular then asking_target source from to else over (Failed kind.InvalidInput)
 
--- what stands at the target is replaced, or what a link there leads to
+-- what is at the target is replaced, or what a link there leads to
 abbrev pub target_known : FileInfo → FileInfo → List ℕ → List ℕ → Stage
 target_known source target from to =
     if is_link target.kind then asking_end source from to else copied false source target from to
@@ -202,7 +202,7 @@ name_taken (suc left) number why from path =
     if already_exists why then taking_memory (making_fresh left number from path)
     else over (Failed why)
 
--- a folder stands, and those below it are made
+-- a folder is there, and those below it are made
 abbrev pub below : List (List ℕ) → Stage
 below [] = over Done
 below (path ∷ todo) = making true path todo
@@ -257,14 +257,14 @@ abbrev pub more_names : Reader → List Name → Stage
 more_names r found =
     if r.left == 0 then over (Failed kind.FileTooLarge) else reading_names false r found
 
--- a name is listed with its kind, unless its text is no proper one
+-- a name is listed with its kind, unless its text isn't proper
 abbrev pub entered : List ℕ → Kind → (Name → Stage) → Stage
 entered name what go =
     taking_memory (if is_proper (text_of name)
     then go (record { name = text_of name; kind = what })
     else over (Failed kind.InvalidFilename))
 
--- what stands under a name is asked for; one whose path is no text counts as a file
+-- what is under a name is asked for; a name with a path that is no text counts as a file
 abbrev pub ask_kind : Reader → List ℕ → List (List ℕ) → List Name → (Name → Stage) → Stage
 ask_kind r name names found go =
     if is_utf8 (r.folder ++ name) then asking_kind r name names found
@@ -302,8 +302,8 @@ unopened was_named why path =
     then (if was_named then over (Failed kind.NotADirectory) else following path)
     else over (Failed why)
 
--- Where what the system says takes a stage. A failure ends the step, but for a signal's, a folder that may be made or
--- stands after all, and what a copy goes on from.
+-- The stage to which what the system says leads. A failure ends the step, except that of a signal, that of a folder
+-- that may be made or is there after all, and one from which a copy goes on.
 abbrev pub after : Stage → CallResult → Stage
 after (trying again call) result =
     if was_interrupted result then trying true call else over result
@@ -364,8 +364,8 @@ after (asking_kind r name names found) (Failed why) =
     if is_absent why then next_name r names found else over (Failed why)
 after s result = over result
 
--- What the calls may end with. A call that signals interrupt again and again may be given up, and memory may be refused
--- where some is taken.
+-- What the calls may end with. A call that signals interrupt again and again may be given up, and memory may be
+-- refused when some is taken.
 abbrev pub Ends : Stage → CallResult → Type 0
 Ends (over result) end = result ≡ end
 Ends (trying true call) end = end ≡ Failed kind.Interrupted

@@ -1,4 +1,4 @@
--- The names that a folder gives, and how a listing tells them.
+-- The names that a folder gives, and how a listing gives them.
 use Rattle.std.specs.{Prelude.{ℕ, Bool, ◌||◌, ◌&&◌, ◌==◌, ◌-◌, not, if◌then◌else◌, List, [], ◌∷◌, ◌++◌, codes, length, get_or}, Bool.{nat_eq}, List.{starts_with, list_any, slice_split}, Str.{is_utf8}}
 use Rattle.hex.specs.Hex.{encode_lower}
 use Rattle.cacache_core.specs.PathNames.{is_name, is_above, ends_name}
@@ -10,7 +10,7 @@ quarter = codes "%%%%%%%%%%%%%%%%%%%%%%%%%%%%%%%%%%%%%%%%%%%%%%%%%%%%%%%%%%%%%%%
 abbrev pub mark : List ℕ
 mark = quarter ++ quarter ++ quarter ++ quarter
 
--- the bytes can't be told as they are: they are no text, or begin with the mark
+-- the bytes can't be given as they are: they are no text, or begin with the mark
 unfoldable pub is_odd : List ℕ → Bool
 is_odd name = starts_with nat_eq name mark || not (is_utf8 name)
 
@@ -30,6 +30,6 @@ is_passed name = not (is_name name) || is_above name
 abbrev pub names_in : List ℕ → List (List ℕ)
 names_in bytes = slice_split (λ b. b == 0) bytes
 
--- the path of a folder with a `/` behind it
+-- the path of a folder with a `/` after it
 abbrev pub with_slash : List ℕ → List ℕ
 with_slash path = if get_or path (length path - 1) 0 == 47 then path else path ++ 47 ∷ []

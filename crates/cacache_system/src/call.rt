@@ -9,7 +9,7 @@ use std::io::ErrorKind;
 pub enum SystemCall {
     /// Opens a file to read it, or a folder to sync it.
     OpenToRead(Text),
-    /// Makes a file with this mode where nothing stands, and opens it to write it.
+    /// Makes a file with this mode where nothing is, and opens it to write it.
     CreateNew(Text, u32),
     /// Opens a file so that each write goes to its end. A missing one is made.
     OpenToAppend(Text),
@@ -33,9 +33,9 @@ pub enum SystemCall {
     StatFile(u64),
     /// Asks what a path leads to.
     Stat(Text),
-    /// Asks what stands at a path, be it a link.
+    /// Asks what is at a path, even if it is a link.
     StatLink(Text),
-    /// Moves what stands at the first path to the second.
+    /// Moves what is at the first path to the second.
     Rename(Text, Text),
     /// Makes one folder.
     MakeFolder(Text),
@@ -49,11 +49,11 @@ pub enum SystemCall {
     HardLink(Text, Text),
     /// Copies the file at the first path to the second.
     CopyFile(Text, Text),
-    /// Asks for the path of what a path leads to, on which no link stands.
+    /// Asks for the path, without links, of what a path leads to.
     RealPath(Text),
 }
 
-/// What the system says of a file or folder.
+/// What the system says about a file or folder.
 #[derive(Clone, Copy)]
 pub struct FileInfo {
     /// What kind of thing it is. All but folders and links count as files.

@@ -1,4 +1,4 @@
-//! The real system. That each method asks what it is named for is all that stays trusted here.
+//! The real system. All that stays trusted here is that each method asks what it is named for.
 ghost use Rattle.std.specs.Prelude.{◌≡◌, None};
 
 use crate::call::FileInfo;

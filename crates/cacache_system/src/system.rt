@@ -34,7 +34,7 @@ pub trait System {
         ensures { MakesCall (calls self.old) (calls self.new) (asks.OpenToRead path.now)
             (said (λ file. says.Opened (number file)) result) };
 
-    /// Makes a file with this mode where nothing stands, and opens it to write it.
+    /// Makes a file with this mode where nothing is, and opens it to write it.
     fn create_new(&mut self, path: &str, mode: u32) -> io::Result<Self::File>
         ensures { MakesCall (calls self.old) (calls self.new) (asks.CreateNew path.now mode)
             (said (λ file. says.Opened (number file)) result) };
@@ -56,7 +56,7 @@ pub trait System {
         ensures logged { MakesCall (calls self.old) (calls self.new)
             (asks.Read (number file.old) (length buf.old)) (said_bytes buf.new result) };
 
-    /// Reads all that is left of the file behind `bytes`, in as many reads as that takes.
+    /// Appends all that is left of the file to `bytes`, in as many reads as that takes.
     fn read_rest(&mut self, file: &mut Self::File, bytes: &mut Vec<u8>) -> io::Result<usize>
         ensures appends { StartsWith bytes.new.items bytes.old.items }
         ensures same { number file.new ≡ number file.old }
@@ -102,12 +102,12 @@ pub trait System {
         ensures { MakesCall (calls self.old) (calls self.new) (asks.Stat path.now)
             (said says.Info result) };
 
-    /// Asks what stands at a path, be it a link.
+    /// Asks what is at a path, even if it is a link.
     fn stat_link(&mut self, path: &str) -> io::Result<FileInfo>
         ensures { MakesCall (calls self.old) (calls self.new) (asks.StatLink path.now)
             (said says.Info result) };
 
-    /// Moves what stands at a path to another.
+    /// Moves what is at a path to another.
     fn rename(&mut self, from: &str, to: &str) -> io::Result<()>
         ensures { MakesCall (calls self.old) (calls self.new) (asks.Rename from.now to.now)
             (said (λ _. says.Done) result) };
@@ -142,7 +142,7 @@ pub trait System {
         ensures { MakesCall (calls self.old) (calls self.new) (asks.CopyFile from.now to.now)
             (said says.Count result) };
 
-    /// Asks for the path of what a path leads to, on which no link stands.
+    /// Asks for the path, without links, of what a path leads to.
     fn real_path(&mut self, alloc: Global, path: &str) -> io::Result<Text>
         ensures { MakesCall (calls self.old) (calls self.new) (asks.RealPath path.now)
             (said says.Bytes result) };

@@ -1,4 +1,4 @@
--- Steps whose one call changes the tree.
+-- Steps with one call, which changes the tree.
 use Rattle.std.proofs.Common.{◌≡◌, ℕ, Bool, true, false, cond, List, [], ◌==◌, refl, sym, ap, subst, ◌∙◌, ⊎_elim, eq-eqb}
 use Rattle.std.specs.Prelude.{Option, None, Some, Result, Ok, Err, MatchResult, option_map}
 use Rattle.std_io.specs.declared.io.kind.ErrorKind.{ErrorKind}
@@ -15,7 +15,7 @@ use Rattle.cacache_system.specs.declared.call.CallResult.TheVariants as says
 use Rattle.cacache_system_laws.specs.{Machine.{OpenFile, Machine, IsRefused, ChangesTree, OpensIf, ShowsEnd, LinksNode, MovesNode, unread}, Calls.{GoesWell, OccursSomehow}, Laws.{answer_on, step_on, outcome, led_to, IsLucky}, OneCall.{StillStands, CreateAgrees, ExistsAgrees, SymlinkAgrees, HardLinkAgrees, ReflinkBreaks}}
 use Rattle.cacache_system_laws.proofs.{Refused.{same_outcome, refused_agrees, plainly_refused, broken_agrees}, OneCalls.{one_agrees}, Leading.{over_leads}}
 
--- a step that answers that it is done, where its call changed the tree
+-- a step that answers that it is done, if its call changed the tree
 pub changed : (ends : Result Names Fault) (new : Names → Tree) (step : NumberedStep) (m n : Machine) (end : CallResult) → answer_of step says.Done ≡ answers.Done
     → ((why : ErrorKind) → answer_of step (says.Failed why) ≡ failed_with step why)
     → ChangesTree ends new m end n

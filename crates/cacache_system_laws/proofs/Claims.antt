@@ -1,4 +1,4 @@
--- Both laws of a step at once: calls that go well, and calls that may fail without cause.
+-- Both laws of a step at once: for calls that don't fail without cause, and for calls that may.
 use Rattle.std.{proofs.Common.{◌≡◌, ◌⊎◌, ℕ, Bool, true, false, [], ◌∷◌, refl, sym, subst, inl, inr}, specs.Prelude.{Option, None, Some}}
 use Rattle.std_io.specs.declared.io.kind.ErrorKind.{ErrorKind}
 use Rattle.std_io.specs.declared.io.kind.ErrorKind.TheVariants as kind
@@ -23,11 +23,11 @@ abbrev pub luck_of : Option ℕ → Luck
 luck_of None = Plain
 luck_of (Some most) = Take most
 
--- a call goes well, or moves only a part where it may
+-- a call doesn't fail without cause, and moves only a part only if it may
 abbrev pub Well : Bool → Machine → SystemCall → CallResult → Machine → Type 0
 Well b m call said n = (most : Option ℕ) × (b ≡ true → most ≡ None) × GoesWell most m call said n
 
--- a call fails without cause where it may
+-- a call fails without cause if it may
 abbrev pub Broke : Bool → Machine → SystemCall → CallResult → Machine → Type 0
 Broke b m call said n =
     (b ≡ false) × (why : ErrorKind) × (said ≡ says.Failed why) × (misses why ≡ false) × (part : Option ℕ) × LeavesPart m call why part n
@@ -49,7 +49,7 @@ agrees_of m hint step both = record {
   breaking = λ done. both false (λ e. done);
 }
 
--- memory that is refused where some is taken
+-- memory that is refused when some is taken
 pub taking_leads : (R : Way) (s : Stage) (m : Machine) (P : Claim) → P (says.Failed kind.OutOfMemory) m → Leads R s m P → Leads R (taking_memory s) m P
 taking_leads R s m P memory leads [] end n (inl refused) each = subst (λ (x : Machine). P end x) each (subst (λ (e : CallResult). P e m) (sym refused) memory)
 taking_leads R s m P memory leads [] end n (inr ends) each = leads [] end n ends each
@@ -70,7 +70,7 @@ module _ (b : Bool) (m : Machine) (step : NumberedStep) (done : b ≡ false → 
     | false ↦ λ all is. inl (luck_of most, is)
   ] all
 
-  -- any luck, where a call may fail
+  -- any luck, if a call may fail
   pub claim_lucky : (end : CallResult) (n : Machine) → b ≡ false → (IsDone m step → IsLucky m step end n) → claim_of b m step end n
   claim_lucky end n broke is = subst (λ (c : Bool). claim_of c m step end n) (sym broke) (is (done broke))
 

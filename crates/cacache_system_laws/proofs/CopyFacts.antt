@@ -1,4 +1,4 @@
--- What is known of files that are copied, and of what stands where they go.
+-- What is known about files that are copied, and about what is at their targets.
 use Rattle.std.proofs.{lemmas.List.Elements.{All-head, All-tail}, Common.{◌≡◌, ◌⊎◌, ◌==◌, ◌&&◌, ◌||◌, not, ℕ, zero, suc, Bool, true, false, if◌then◌else◌, List, [], ◌∷◌, filter, length, take, refl, sym, ap, ◌∙◌, inl, inr, arith, take_all, eqb-true, ne_eqb, nat_eq}}
 use Rattle.std.specs.{Cmp.Lexicographic.{pointwise}, Prelude.{Option, None, Some, Result, Ok, Err}}
 use Rattle.std_io.specs.declared.io.kind.ErrorKind.{ErrorKind}
@@ -44,7 +44,7 @@ apply_copy t from to r s is at =
 pub whole_file : (bytes : List ℕ) → take (length bytes) bytes ≡ bytes
 whole_file bytes = take_all (length bytes) bytes (omega arith)
 
--- a file that stands where a path leads can be written
+-- a file to which a path leads can be written
 pub writable_found : (t : Tree) (path : List ℕ) (names : Names) (bytes : List ℕ) → found t path ≡ Ok names → look t names ≡ Some (File bytes) → writable t path ≡ Ok names
 unfolding writable
 writable_found t path names bytes is at = elim (view t path) as (λ v. and_then (leads t path) (λ n. where_no_folder (look t n) n) ≡ Ok names) [
@@ -71,7 +71,7 @@ same_node_numbers one other is =
     let numbers = both_true (not (one.inode == 0)) (one.inode == other.inode) parts.0 in
     (eqb-true one.inode other.inode numbers.1, eqb-true one.device other.device parts.1)
 
--- what is known where a fresh file is made
+-- what is known when a fresh file is made
 pub record Ready (m : Machine) (from to path : List ℕ) (bytes : List ℕ) (names : Names) : Type 0 where
   pub source : Names
   pub led : leads m.tree from ≡ Ok source
@@ -82,7 +82,7 @@ pub record Ready (m : Machine) (from to path : List ℕ) (bytes : List ℕ) (nam
   pub replaced : where_no_folder (look m.tree names) names ≡ Ok names
   pub ends : EndsInName path
 
--- ---- what stands at the target
+-- ---- what is at the target
 
 pub writable_at : (t : Tree) (path : List ℕ) (r : Result Names Fault) → leads t path ≡ r → writable t path ≡ and_then r (λ n. where_no_folder (look t n) n)
 unfolding writable

@@ -78,7 +78,7 @@ module _ (b : Bool) (m : Machine) (from to : List ℕ) (can : CanCopy m to) (don
       fresh_stays why k above number bytes broke fine free_there (ap (λ (x : Machine). x.tree) stays ∙ tree))
       (cases_of b l (asks.RemoveFile fresh) said k happens)))
 
-  -- ---- a fresh file that takes the place of what stands
+  -- ---- a fresh file that takes the place of what is there
 
   module _ (path bytes : List ℕ) (names : Names) (ready : Ready m from to path bytes names) (fresh : List ℕ) (above : Names) (number : ℕ)
       (placed : place m.tree fresh ≡ Ok (above ++ fresh_name number ∷ [])) (free_there : look m.tree (above ++ fresh_name number ∷ []) ≡ None) where
@@ -205,9 +205,9 @@ module _ (b : Bool) (m : Machine) (from to : List ℕ) (can : CanCopy m to) (don
       let here : look m.tree other ≡ Some (File bytes) = sym alike ∙ is.stands in
       stays_same other bytes source is.read (writable_found m.tree to other bytes at here) here is.described.size
 
-  -- ---- what stands at the target, or where it leads
+  -- ---- what is at the target, or where it leads
 
-  -- where the copy goes on over a file
+  -- how the copy goes on over a file
   abbrev next : Bool → FileInfo → Stage
   next through source = if through then resolving source.inode from to else place_fresh source.inode from to
 
@@ -319,7 +319,7 @@ module _ (b : Bool) (m : Machine) (from to : List ℕ) (can : CanCopy m to) (don
       (broke_if (making_end source.inode from to) why n (is_absent why) broke fine refl (ap (λ (x : Machine). x.tree) left)))
       (cases_of b m (asks.Stat to) said n happens))
 
-  -- ---- nothing stands at the target
+  -- ---- nothing is at the target
 
   -- its folder is missing: no fresh file can be made there
   missing_leads : (left number : ℕ) (bytes : List ℕ) (ns : Names) → file_at m.tree from InvalidInput ≡ Ok bytes → writable m.tree to ≡ Err NotFound → names_of to ≡ Ok ns → place m.tree to ≡ Err NotFound

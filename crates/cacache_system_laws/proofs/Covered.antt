@@ -1,4 +1,4 @@
--- Each step's law, where it has what it asks.
+-- Each step's law, if the step has what the law asks.
 use Rattle.cacache_store.specs.declared.store.step.Step.TheVariants as steps
 use Rattle.cacache_system_laws.specs.Premises.{EachMayBreak}
 use Rattle.cacache_system_laws.proofs.{Changing.{create_agrees, exists_agrees, symlink_agrees, hard_link_agrees, reflink_breaks}, Copying.{copy_agrees}, Dirs.{make_dirs_agrees}, Listing.{read_dir_breaks}, Looking.{open_agrees, size_agrees}, Moving.{persist_agrees}, Reading.{read_breaks}, Removing.{remove_file_agrees, remove_dir_agrees}, Syncing.{sync_temp_agrees, sync_file_agrees, sync_dir_agrees}, Whole.{read_all_agrees}, Writing.{append_agrees}}

@@ -160,7 +160,7 @@ module _ (m : Machine) (path : List ℕ) (fault : Fault) (is : dirs m.tree path 
   bar_leads : (hint : Hint) → Bar m.tree path fault → Leads (GoesWell None) (make_dirs hint path) m (IsPlain m (steps.MakeDirs path))
   bar_leads hint bar = begins_so true hint path m (IsPlain m (steps.MakeDirs path)) (make_bar bar m refl) (stand_bar bar)
 
--- a step that the disk's table doesn't do is no claim about calls that may fail
+-- nothing is claimed about calls that may fail for a step that the disk's table doesn't do
 pub not_done : (b : Bool) (m : Machine) (path : List ℕ) (fault : Fault) → dirs m.tree path ≡ Err fault → (b ≡ false → IsDone m (steps.MakeDirs path)) → b ≡ true
 not_done true m path fault is done = refl
 not_done false m path fault is done =

@@ -1,4 +1,4 @@
--- Trees with a file where nothing stood: every path that led to something leads there still.
+-- Trees with a file where nothing was: every path that led to something still leads there.
 use Rattle.std.{proofs.Common.{◌≡◌, ℕ, zero, suc, Bool, true, false, cond, List, [], ◌∷◌, ◌++◌, refl, sym, ap, subst, ◌∙◌}, specs.Prelude.{Option, None, Some, Result, Ok, Err}}
 use Rattle.cacache_core.specs.{declared.errors.Fault.{Fault, TheVariants.{TooDeep}}, PathNames.{Names, names_of, IsProperName}}
 use Rattle.cacache_disk.specs.{declared.node.Node.{Node, TheVariants.{Folder, File, Link}}, Tree.{Tree, look, put, cut, same_path}, LedTo.{and_then, or_fault, through, way_fault, on_link, followed, place, standing, leads, found, file_at, writable, free, removable, replaceable, where_there, where_free, where_removable, where_no_folder, bytes_there}}
@@ -6,7 +6,7 @@ use Rattle.cacache_disk.proofs.{FoundNodes.{and_then_ok, or_fault_none, place_ok
 use Rattle.cacache_system.specs.CallsOf.{above_of, in_folder}
 use Rattle.cacache_system_laws.{specs.Machine.{EndsInName}, proofs.{Views.{found_at, file_from, leads_straight}, Slashes.{beside}}}
 
--- ---- where a name beside a path stands
+-- ---- the way to a name next to a path
 
 way_beside : (t : Tree) (above front : Names) (x y : List ℕ) → way_fault t above (front ++ x ∷ []) ≡ way_fault t above (front ++ y ∷ [])
 way_beside t above [] x y = refl
@@ -38,7 +38,7 @@ placed_beside t path name ns is ends proper =
           ∙ ap (λ (o : Option Fault). or_fault o (b.front ++ name ∷ [])) (way_beside t [] b.front name b.last);
     }
 
--- ---- a file where nothing stood
+-- ---- a file where nothing was
 
 module _ (t : Tree) (fn : Names) (bytes : List ℕ) (free_there : look t fn ≡ None) where
   abbrev new_tree : Tree
@@ -51,7 +51,7 @@ module _ (t : Tree) (fn : Names) (bytes : List ℕ) (free_there : look t fn ≡ 
   still_at q node true same is = let none : look t q ≡ None = ap (look t) (same_path-true q fn same) ∙ free_there in absurd cc
   still_at q node false same is = is
 
-  -- what stood stands
+  -- what was there is still there
   pub still : (q : Names) (node : Node) → look t q ≡ Some node → look new_tree q ≡ Some node
   still q node is = look-put t fn (File bytes) q ∙ still_at q node (same_path q fn) refl is
 
@@ -156,14 +156,14 @@ module _ (t : Tree) (fn : Names) (bytes : List ℕ) (free_there : look t fn ≡ 
   pub put_new : (more : List ℕ) → put new_tree fn (File more) ≡ put t fn (File more)
   put_new more = put-cut_same new_tree fn fn (File more) refl ∙ ap (λ (x : Tree). put x fn (File more)) cut_new
 
--- something new can be made where nothing stands
+-- something new can be made where nothing is
 pub free_at_place : (t : Tree) (path : List ℕ) (r : Result Names Fault) → place t path ≡ r → free t path ≡ and_then r (λ names. where_free (look t names) names)
 unfolding free
 free_at_place t path r is = ap (λ (x : Result Names Fault). and_then x (λ names. where_free (look t names) names)) is
 
 -- ---- links
 
--- something stands there
+-- something is there
 abbrev pub IsThere : Option Node → Type 0
 IsThere here = here ≡ None → ⊥
 
@@ -204,7 +204,7 @@ nowhere_from t (Ok x) fault there e = absurd (there_fails (look t x) x fault (th
 some_there : (o : Option Node) (node : Node) → o ≡ Some node → IsThere o
 some_there o node is = λ none. let wrong : Some node ≡ None = sym is ∙ none in cc
 
--- where something stands that leads to nothing, nothing can be written
+-- if what is at a path leads to nothing, nothing can be written
 pub dangling : (t : Tree) (path : List ℕ) (names : Names) (node : Node) (fault : Fault) → place t path ≡ Ok names → look t names ≡ Some node → found t path ≡ Err fault → writable t path ≡ Err fault
 unfolding writable leads
 dangling t path names node fault is at e =

@@ -5,9 +5,9 @@ use Rattle.cacache_core.specs.{declared.errors.Fault.{Fault, TheVariants.{NotFou
 use Rattle.cacache_disk.specs.{declared.node.Node.{Node, TheVariants.{Folder, File, Link}}, Tree.{Tree, look, put}, LedTo.{way_fault, through, dirs_fault, is_in_way}, Apply.{make_some}, Rooted.{Rooted, AreProper, is_folder}}
 use Rattle.cacache_disk.proofs.{PutNodes.{look-put}, Roots.{put_rooted, front_proper, same_folder, same_self, no_fault, dirs_fault-put}, Standing.{upper_folder, way_clear, above_missing}, PathFolders.{make_none}}
 
--- ---- what stands on the way
+-- ---- what is on the way
 
--- where folders can be made, nothing but folders stands on the path
+-- if folders can be made, only folders are on the path
 clear_below : (t : Tree) (p above rest : Names) → is_in_way (look t p) ≡ false → dirs_fault t p (above ++ rest) ≡ None → is_in_way (look t (p ++ above)) ≡ false
 clear_below t p [] rest here none = ap (λ (n : Names). is_in_way (look t n)) (append-nil p) ∙ here
 clear_below t p (name ∷ above) rest here none =
@@ -92,7 +92,7 @@ make_enough t p (name ∷ rest) n zero more enough = absurd (omega arith)
 make_enough t p (name ∷ rest) (suc n) (suc l) more enough = make_enough_at t p rest name n l (look t (p ++ name ∷ [])) refl (omega arith) (omega arith)
     (λ u. make_enough u (p ++ name ∷ []) rest n l (omega arith) (omega arith)) (make_enough t (p ++ name ∷ []) rest (suc n) (suc l) (omega arith) (omega arith))
 
--- a tree where so many folders of a path were made
+-- a tree in which so many folders of a path were made
 pub record Grown (t : Tree) (all : Names) (count : ℕ) (new : Tree) : Type 0 where
   pub rooted : Rooted new
   pub clear : dirs_fault new [] all ≡ None
@@ -106,7 +106,7 @@ none_grown t all rooted none = record { rooted = rooted; clear = none; made = λ
 pub grown_left : (t new : Tree) (all : Names) (count : ℕ) → Grown t all count new → make_some t [] all count ≡ new
 grown_left t new all count grown = ap (make_some t [] all) (sym (add-zero count)) ∙ grown.made 0 ∙ make_none new [] all
 
--- all are made where the last one stands
+-- all are made if the last one is there
 pub grown_whole : (t new : Tree) (all : Names) (count : ℕ) → Grown t all count new → look new all ≡ Some Folder → make_some t [] all (length all) ≡ new
 grown_whole t new all count grown stands =
     make_enough t [] all (length all) (count + length all) (omega arith) (omega arith)
@@ -174,7 +174,7 @@ blocked_at t p rest name fault (Some Folder) rooted is link next same = blocked_
 blocked_at t p rest name fault (Some (File bytes)) rooted is link next same = blocked_here t p rest name bytes fault is same
 blocked_at t p rest name fault (Some (Link target)) rooted is link next same = absurd (link target refl)
 
--- no link stands at a front of a path
+-- no link is at a front of a path
 abbrev pub NoLinkOn : Tree → Names → Type 0
 NoLinkOn t all = (front rest : Names) → all ≡ front ++ rest → (target : List ℕ) → look t front ≡ Some (Link target) → ⊥
 

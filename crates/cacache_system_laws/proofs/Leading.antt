@@ -59,6 +59,6 @@ trying_on R again call m P gives_up tries (item ∷ items) end n runs (next, hap
     tried_on R call m next P items item.result end n (tries item.result next (subst (λ (c : SystemCall). R m c item.result next) same happens))
     (λ stays given_up more each. trying_on R true call m P (λ e. given_up) tries items end n more each) runs.1 others
 
--- a call that is tried again where a signal interrupts it
+-- a call that is tried again when a signal interrupts it
 pub trying_leads : (R : Way) (call : SystemCall) (m : Machine) (P : Claim) → ((said : CallResult) (n : Machine) → R m call said n → Tried P m said n) → Leads R (trying false call) m P
 trying_leads R call m P tries = trying_on R false call m P (λ e. absurd cc) tries

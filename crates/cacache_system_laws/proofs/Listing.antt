@@ -14,7 +14,7 @@ use Rattle.cacache_system.specs.declared.call.CallResult.TheVariants as says
 use Rattle.cacache_system_laws.specs.{Machine.{Machine, ShowsNode, ShowsEnd, Describes}, Folders.{IsDots, GivesNames, ended, HasLeft, OpensNames, OpensFolder, ReadsSome, ReadsFolder}, Calls.{GoesWell, EachCall}, Laws.{outcome, led_to, Leads, IsDone, IsLucky}, Listing.{IsPlainEntry, ListsPlainly, IsListed, ReadDirGoesPlainly, ReadDirBreaks}}
 use Rattle.cacache_system_laws.proofs.{Leading.{Claim, over_leads, call_leads}, Refused.{broken_agrees}, Claims.{way_of, cases_of, taking_leads}, Opening.{of_some}}
 
--- what a listing's calls come to: where they go well, and where they may fail
+-- what a listing's calls come to: if none fails without cause, and if some may
 abbrev ListClaim : Bool → Machine → List ℕ → Claim
 ListClaim true m path = IsListed m path
 ListClaim false m path = IsLucky m (steps.ReadDir path)

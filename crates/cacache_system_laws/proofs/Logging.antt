@@ -3,7 +3,7 @@ use Rattle.std.{proofs.Common.{◌≡◌, List, [], ◌∷◌, ◌++◌, sym, su
 use Rattle.cacache_system.specs.{declared.call.CallItem.{CallItem}, Seen.{NumberedAnswer}}
 use Rattle.cacache_system_laws.{specs.{Calls.{OccursSomehow, EachCall}, Logged.{IsDisks, LogsAgree}}, proofs.Covered.{each_may_break}}
 
--- what stands behind one list
+-- equal lists with the same front have the same end
 same_end : (old xs ys : List CallItem) → old ++ xs ≡ old ++ ys → xs ≡ ys
 same_end [] xs ys same = same
 same_end (x ∷ old) xs ys same = let rest : old ++ xs ≡ old ++ ys = cc in same_end old xs ys rest

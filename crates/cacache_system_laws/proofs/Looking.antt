@@ -21,7 +21,7 @@ pub table_fails : (step : NumberedStep) (fault : Fault) (why : ErrorKind) (m n :
 table_fails step fault why m n same of memory stays =
     sym (same_outcome (answer_on n (answer_of step (says.Failed why))) (failed fault) n.tree m.tree (ap (answer_on n) same ∙ refused_on step why n memory ∙ ap failed of) stays)
 
--- where a file is wanted, the fault is that of the path, or a folder's
+-- if a file is wanted, the fault is the path's, or the one for a folder
 pub no_file : (t : Tree) (path : List ℕ) (what fault : Fault) → found t path ≡ Err fault → file_at t path what ≡ Err fault
 no_file t path what fault is = elim (view t path) as (λ v. file_at t path what ≡ Err fault) [
   | nowhere f e file ↦ let same : f ≡ fault = cc in file what ∙ ap (λ (x : Fault). let r : Result (List ℕ) Fault = Err x in r) same
@@ -29,7 +29,7 @@ no_file t path what fault is = elim (view t path) as (λ v. file_at t path what 
   | a_file names bytes l e stands file ↦ absurd cc
 ]
 
--- what stands where a path leads, once it is found
+-- what a path leads to, once it is found
 pub file_there : (t : Tree) (path : List ℕ) (what : Fault) (names : Names) (bytes : List ℕ) → found t path ≡ Ok names → look t names ≡ Some (File bytes) → file_at t path what ≡ Ok bytes
 file_there t path what names bytes is at = elim (view t path) as (λ v. file_at t path what ≡ Ok bytes) [
   | nowhere f e file ↦ absurd cc

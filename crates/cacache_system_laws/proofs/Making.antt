@@ -14,7 +14,7 @@ use Rattle.cacache_system_laws.proofs.{Leading.{Claim, over_leads, call_leads}, 
 
 -- ---- what the system finds where a folder is to be
 
--- The way is missing, nothing stands there, or a folder does.
+-- The way is missing, nothing is there, or a folder is.
 pub data Spot (t : Tree) (path : List ℕ) (names : Names) : Type 0 where
   gone : way_fault t [] names ≡ Some NotFound → free t path ≡ Err NotFound → found t path ≡ Err NotFound → Spot t path names
   vacant : way_fault t [] names ≡ None → look t names ≡ None → free t path ≡ Ok names → found t path ≡ Err NotFound → Spot t path names
@@ -65,7 +65,8 @@ not_missing _ is = refl
 
 -- ---- one folder
 
--- What follows where a folder is made: the way is missing, it was made, it stood already, or a call failed.
+-- What follows when a folder is made: the way is missing, it was made, it was there already, or a call
+-- failed.
 pub record Levels (b : Bool) (t : Tree) (names : Names) (again : Bool) (path : List ℕ) (todo : List (List ℕ)) (P : Claim) : Type 0 where
   pub missing : (why : ErrorKind) (n : Machine) → way_fault t [] names ≡ Some NotFound → fault_of why ≡ NotFound → refuses_memory why ≡ false → n.tree ≡ t → Leads (way_of b) (unmade again why path todo) n P
   pub made : (n : Machine) → way_fault t [] names ≡ None → look t names ≡ None → n.tree ≡ put t names Folder → Leads (way_of b) (below todo) n P
@@ -86,7 +87,7 @@ module _ (b : Bool) (t : Tree) (names : Names) (again : Bool) (path : List ℕ) 
       (subst (λ (c : Bool). Leads (way_of b) (over (says.Failed (if c then why else other))) l P) (sym (absent_fault other of))
       (over_leads (way_of b) (says.Failed why) l P (holds l (ap (λ (x : Machine). x.tree) stays ∙ tree))))
 
-  -- what stands there is asked for
+  -- the system is asked what is there
   confirm_leads : (why : ErrorKind) (n : Machine) → n.tree ≡ t → ((said : CallResult) (l : Machine) → ShowsEnd (found t path) n said l → Leads (way_of b) (after (confirming why path todo) said) l P)
       → Leads (way_of b) (confirming why path todo) n P
   confirm_leads why n tree shown =
@@ -185,7 +186,7 @@ chain_front base (path ∷ todo) all (next, named, inl same, later) =
 chain_front base (path ∷ todo) all (next, named, inr (name, same), later) =
     let f = chain_front next todo all later in (name ∷ f.0, f.1 ∙ ap (λ (n : Names). n ++ f.0) same ∙ append_assoc base (name ∷ []) f.0)
 
--- what is claimed where the calls end, whether all folders stand or a call failed
+-- what is claimed when the calls end, whether all folders are there or a call failed
 pub record DirsEnd (b : Bool) (t : Tree) (all : Names) (P : Claim) : Type 0 where
   pub succeeds : (n : Machine) (new : Tree) (count : ℕ) → Grown t all count new → look new all ≡ Some Folder → n.tree ≡ new → P says.Done n
   pub breaks : (why : ErrorKind) (n : Machine) (new : Tree) (count : ℕ) → Grown t all count new → n.tree ≡ new → b ≡ false → misses why ≡ false → P (says.Failed why) n
@@ -202,7 +203,7 @@ module _ (b : Bool) (t : Tree) (all : Names) (P : Claim) (proper : AreProper all
       (grown_more t new base cut.0 all name count grown proper (cut.1 ∙ ap (λ (x : Names). x ++ cut.0) same) stands missing)
       (ap (look (put new (base ++ name ∷ []) Folder)) same ∙ look_same new (base ++ name ∷ []) Folder) (tree ∙ ap (λ (x : Names). put new x Folder) same)
 
-  -- a folder stands, and those below it are made
+  -- a folder is there, and those below it are made
   down_leads : (todo : List (List ℕ)) (base : Names) (new : Tree) (count : ℕ) (n : Machine) → Grown t all count new → look new base ≡ Some Folder → Chain base todo all → n.tree ≡ new → Leads (way_of b) (below todo) n P
   down_leads [] base new count n grown stands is tree =
       over_leads (way_of b) says.Done n P (ends.succeeds n new count grown (ap (look new) (sym is) ∙ stands) tree)
@@ -239,7 +240,7 @@ module _ (b : Bool) (t : Tree) (all : Names) (P : Claim) (proper : AreProper all
       })
       n (spot t path names named (clear_at t all names cut.0 grown.rooted grown.clear cut.1) (way_at t all names cut.0 grown.clear cut.1)) tree
 
-  -- a folder is made, and first those above it where they are missing
+  -- a folder is made, after those above it that are missing
   pub up_leads : (fuel : ℕ) (path : List ℕ) (todo : List (List ℕ)) (names : Names) (n : Machine) → length path ≤ fuel → Grown t all 0 t → names_of path ≡ Ok names → Chain names todo all → n.tree ≡ t
       → Leads (way_of b) (making false path todo) n P
   up_leads zero path todo names n within grown named later tree =

@@ -1,4 +1,4 @@
--- Each call can go well.
+-- Each call can happen as `GoesWell` says.
 use Rattle.std.proofs.Common.{◌≡◌, ◌+◌, ℕ, List, [], ◌∷◌, ◌++◌, length, take, drop, refl, sym, ap, subst, inr}
 use Rattle.std.specs.Prelude.{Option, None, Some, Result, Ok, Err, IfSome, IfOk, MatchResult}
 use Rattle.cacache_core.specs.{declared.errors.Fault.{Fault, TheVariants.{IsADirectory, InvalidInput}}, PathNames.{Names}}

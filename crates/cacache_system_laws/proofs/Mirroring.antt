@@ -75,7 +75,7 @@ way_shape (Some (Link target)) = refl
 
 -- ---- two trees of one shape
 
--- the same stands at all names, but for files' bytes
+-- the same is at all names, except for files' bytes
 abbrev pub SameShape : Tree → Tree → Type 0
 SameShape t d = (names : Names) → hollow (look d names) ≡ hollow (look t names)
 

@@ -1,4 +1,4 @@
--- Files that are opened, and what is said of them.
+-- Files that are opened, and what is said about them.
 use Rattle.std.{proofs.Common.{◌≡◌, ◌==◌, ℕ, Bool, true, false, cond, List, refl, sym, ap, subst, ◌∙◌, ⊎_elim, eq-eqb}, specs.Prelude.{Option, Some, Result, Ok, Err, IfSome}}
 use Rattle.std_io.specs.declared.io.kind.ErrorKind.{ErrorKind}
 use Rattle.cacache_core.specs.{Contexts.{fault_of}, declared.errors.Fault.{Fault}, PathNames.{Names}}
@@ -12,7 +12,7 @@ use Rattle.cacache_system_laws.proofs.{Leading.{Claim, over_leads, call_leads}, 
 pub same_number : (number : ℕ) → (number == number) ≡ true
 same_number number = eq-eqb number number refl
 
--- a file is open under a number, and else all is as before
+-- a file is open under a number, and otherwise all is as before
 pub record OpenedOn (m n : Machine) (number : ℕ) (names : Names) : Type 0 where
   pub tree : n.tree ≡ m.tree
   pub file : n.files number ≡ Some (unread names)
@@ -28,7 +28,7 @@ said_leads b s said is n P same leads = subst (λ (r : CallResult). Leads (way_o
 pub of_some : {A : Type 0} (o : Option A) (a : A) (Q : A → Type 0) → o ≡ Some a → IfSome o Q → Q a
 of_some o a Q is holds = subst (λ (x : Option _). IfSome x Q) is holds
 
--- What follows where a path's file is opened: it is refused, it breaks, or it is open and what stands there is known.
+-- What follows when a path's file is opened: it is refused, it breaks, or it is open and what is there is known.
 pub record Openings (b : Bool) (m : Machine) (purpose : Purpose) (path : List ℕ) (P : Claim) : Type 0 where
   pub refuses : (fault : Fault) (why : ErrorKind) → found m.tree path ≡ Err fault → fault_of why ≡ fault → refuses_memory why ≡ false → P (says.Failed why) m
   pub breaks : (why : ErrorKind) (n : Machine) → b ≡ false → misses why ≡ false → n.tree ≡ m.tree → n.synced ≡ m.synced → P (says.Failed why) n

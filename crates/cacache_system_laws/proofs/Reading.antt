@@ -100,7 +100,7 @@ module _ (m : Machine) (file : NumberedFile) (found : OpenFile) (bytes : List �
       ap (λ (o : Option (List ℕ)). outcome (read_known o k) m.tree) (file_known m file found bytes ready)
       ∙ ap (λ (a : PlainAnswer). outcome a m.tree) (given_known (drop found.read bytes) k)
 
-  -- as under plain luck, where all is read
+  -- as under plain luck, if all is read
   read_plain : (n : Machine) (k : ℕ) → k ≡ max → Gives file.number found (take k (drop found.read bytes)) m (says.Bytes (take k (drop found.read bytes))) n
       → apply m.tree (step_on m (steps.Read file max)) Plain ≡ led_to (steps.Read file max) (says.Bytes (take k (drop found.read bytes))) n
   read_plain n k all gives =
@@ -116,7 +116,7 @@ module _ (m : Machine) (file : NumberedFile) (found : OpenFile) (bytes : List �
       ∙ ap (λ (size : ℕ). outcome (read_known (option_map (left_in m) (m.files file.number)) size) m.tree) part
       ∙ step_bytes k ∙ answer_after n k gives
 
--- what is claimed where a read goes well
+-- what is claimed if a read doesn't fail without cause
 abbrev ReadsWell : Bool → Machine → NumberedFile → OpenFile → List ℕ → ℕ → ℕ → Type 0
 ReadsWell b m file found bytes max size =
     (most : Option ℕ) (n : Machine) → (b ≡ true → most ≡ None)
@@ -161,7 +161,7 @@ asked_so true true left size l s is none = eqb-true size 0 s
 asked_so true false left size l s is none = absurd cc
 asked_so false y left size l s is none = let zero : (left == 0) ≡ true = eq-eqb left 0 none in absurd cc
 
--- nothing is asked for only where nothing is wanted
+-- nothing is asked for only if nothing is wanted
 nothing_asked : (left size all : ℕ) → (left == 0 && not (size == 0)) ≡ false → size ≡ min all 131072 → min size left ≡ 0 → all ≡ 0
 nothing_asked left size all is same none =
     let none_left = asked_so (left == 0) (size == 0) left size refl refl is in

@@ -25,7 +25,7 @@ as_refused step why b = if b && not (leaves_a_part step) then answers.NoMemory s
 pub refused_on : (step : NumberedStep) (why : ErrorKind) (m : Machine) → refuses_memory why ≡ false → answer_on m (failed_with step why) ≡ failed (fault_of why)
 refused_on step why m fine = ap (λ (b : Bool). answer_on m (as_refused step why b)) fine
 
--- where the tree refuses the last call, the step failed with its fault
+-- if the tree refuses the last call, the step failed with its fault
 pub refused_agrees : (step : NumberedStep) (fault : Fault) (end : CallResult) (m n : Machine) → ((why : ErrorKind) → refuses_memory why ≡ false → fault_of why ≡ fault → answer_on n (answer_of step (says.Failed why)) ≡ failed fault)
     → IsRefused fault m end n → outcome (failed fault) m.tree ≡ led_to step end n
 refused_agrees step fault end m n same (why, told, is, memory, stays) =
@@ -69,13 +69,13 @@ broken_so step why end m n part b false whole memory is fine tree stays done =
           (ap (answer_on n) is ∙ ap failed (sym (never_missing why fine))) tree),
     )
 
--- a step whose last call failed without cause, where a part of it may be left done
+-- a step's last call failed without cause, and may have left a part of it done
 pub broken_part : (step : NumberedStep) (why : ErrorKind) (end : CallResult) (m n : Machine) (part : Option ℕ) → answer_of step end ≡ failed_with step why
     → misses why ≡ false → n.tree ≡ left_by m.tree (step_on m step) part → (leaves_a_part step ≡ false → n.tree ≡ m.tree) → IsDone m step → IsLucky m step end n
 broken_part step why end m n part is fine tree stays done =
     broken_so step why end m n part (leaves_a_part step) (refuses_memory why) refl refl is fine tree stays done
 
--- the same where nothing changed
+-- the same if nothing changed
 pub broken_agrees : (step : NumberedStep) (why : ErrorKind) (end : CallResult) (m n : Machine) → answer_of step end ≡ failed_with step why
     → misses why ≡ false → n.tree ≡ m.tree → IsDone m step → IsLucky m step end n
 broken_agrees step why end m n is fine tree done = broken_part step why end m n None is fine tree (λ whole. tree) done

@@ -151,7 +151,7 @@ pub file_say : (t : Tree) (path : List ℕ) → Sayable (file_at t path InvalidI
 unfolding file_at
 file_say t path = and_say (leads t path) (λ names. bytes_there InvalidInput (look t names)) (leads_say t path) (λ names. bytes_say (look t names))
 
--- a fault of what is linked, as it is said
+-- a fault of what is linked can be said
 abbrev pub LinkSayable : Result Node Fault → Type 0
 LinkSayable r = IfErr r (λ fault. CanSay (link_fault fault))
 

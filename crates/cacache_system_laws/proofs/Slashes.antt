@@ -65,7 +65,7 @@ front_fine u tail fine =
     (sym (list_any-append is_above (pieces u) (pieces tail)) ∙ ap (list_any is_above) (sym (pieces-slash u tail)) ∙ parts.1) in
     ap (λ (x : Bool). x || list_any is_above (pieces u)) nul.0 ∙ up.0
 
--- names, with one name more behind them or none
+-- names, with one more name after them or none
 abbrev pub OneMore : Names → Names → Type 0
 OneMore front all = (all ≡ front) ⊎ ((name : List ℕ) × (all ≡ front ++ name ∷ []))
 
@@ -123,9 +123,9 @@ above_so path ns (a_slash i is within cut none) fine same two =
 pub above : (path : List ℕ) (ns : Names) → names_of path ≡ Ok ns → 2 ≤ length ns → Above path ns
 above path ns is two = let n = named path ns is in above_so path ns (slash_of path) n.0 n.1 two
 
--- ---- names beside a path
+-- ---- names next to a path
 
--- the names of a path that ends with one, and of what has another name in its folder
+-- the names of a path that ends with a name, and of other paths in its folder
 pub record Beside (path : List ℕ) (ns : Names) : Type 0 where
   pub front : Names
   pub last : List ℕ
@@ -198,6 +198,6 @@ beside_so path ns found (a_slash i is within cut none) at named fine same =
           ∙ named_below u name (front_fine u tail (ap is_bad (sym cut) ∙ fine)) proper;
     }
 
--- a name beside a path that ends with one
+-- a name next to a path that ends with a name
 pub beside : (path : List ℕ) (ns : Names) → names_of path ≡ Ok ns → EndsInName path → Beside path ns
 beside path ns is ends = let n = named path ns is in beside_so path ns (last_slash path (length path)) (slash_of path) refl ends n.0 n.1

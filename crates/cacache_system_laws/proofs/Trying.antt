@@ -6,7 +6,7 @@ use Rattle.cacache_system.specs.{declared.call.{SystemCall.{SystemCall}, CallRes
 use Rattle.cacache_system.specs.declared.call.CallResult.TheVariants as says
 use Rattle.cacache_system_laws.{specs.{Machine.{Machine}, Calls.{LeavesPart}}, proofs.{Leading.{Claim, Tried}, Claims.{way_of, Well, cases_of}}}
 
--- what a call that went well said, and what holds then
+-- what a call that wasn't interrupted said, and what holds then
 pub record SaidWell (P : Claim) (said : CallResult) (n : Machine) : Type 0 where
   pub is : CallResult
   pub same : said ≡ is

@@ -1,9 +1,9 @@
--- What stands where a path leads.
+-- What a path leads to.
 use Rattle.std.{proofs.Common.{◌≡◌, ℕ, zero, suc, List, refl, sym, ap, ◌∙◌}, specs.Prelude.{Option, None, Some, Result, Ok, Err}}
 use Rattle.cacache_core.specs.{declared.errors.Fault.{Fault, TheVariants.{NotFound, TooDeep}}, PathNames.{Names}}
 use Rattle.cacache_disk.specs.{declared.node.Node.{Node, TheVariants.{Folder, File, Link}}, Tree.{Tree, look}, LedTo.{and_then, on_link, followed, standing, leads, found, file_at, folder, place, bytes_there, where_there, where_folder}}
 
--- no link stands there
+-- no link is there
 abbrev pub NoLink : Option Node → Type 0
 NoLink here = (target : List ℕ) → here ≡ Some (Link target) → ⊥
 
@@ -60,13 +60,13 @@ view_of : (t : Tree) (path : List ℕ) (r : Result Names Fault) → leads t path
 view_of t path (Ok names) is = view_at t path names (look t names) is refl
 view_of t path (Err fault) is = nowhere fault (found_at t path (Err fault) is) (λ what. file_from t path what (Err fault) is)
 
--- what stands where a path leads
+-- what a path leads to
 pub view : (t : Tree) (path : List ℕ) → View t path
 view t path = view_of t path (leads t path) refl
 
 -- ---- folders
 
--- no link stands at the last name of a path
+-- no link is at the last name of a path
 abbrev pub NoLinkAt : Tree → List ℕ → Type 0
 NoLinkAt t path = (names : Names) → place t path ≡ Ok names → NoLink (look t names)
 

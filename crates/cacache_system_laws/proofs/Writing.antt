@@ -58,7 +58,7 @@ no_folder_names (Some Folder) names n is = absurd cc
 no_folder_names (Some (File bytes)) names n is = cc
 no_folder_names (Some (Link target)) names n is = cc
 
--- where a path can be written it leads, and no folder stands there
+-- if a path can be written, it leads, and no folder is there
 pub writable_at : (t : Tree) (path : List ℕ) (names : Names) → writable t path ≡ Ok names → (leads t path ≡ Ok names) × (where_no_folder (look t names) names ≡ Ok names)
 unfolding writable
 writable_at t path names is =
@@ -207,7 +207,7 @@ module _ (m : Machine) (temp : NumberedTemp) (names : Names) (bytes more : List 
       ∙ ap (λ (o : Option Node). Some (bytes_of o)) (look_same m.tree names (File (bytes_of (look m.tree names) ++ part)))
       ∙ ap (λ (o : Option Node). Some (bytes_of o ++ part)) ready.stands
 
-  -- a write that went well
+  -- a write that succeeded
   wrote_so : (most : Option ℕ) (l : Machine) → l.tree ≡ lengthened m.tree names (take (taken most more) more) → l.files ≡ m.files
       → outcome (apply m.tree (step_on m (steps.Write temp more)) (luck_of most)).0 (lengthened m.tree names (take (taken most more) more)) ≡ led_to (steps.Write temp more) (says.Count (taken most more)) l
   wrote_so most l tree files =
@@ -235,7 +235,7 @@ module _ (m : Machine) (temp : NumberedTemp) (names : Names) (bytes more : List 
             ∙ wrote_so None l w.1.0 w.1.1),
       ))
 
-  -- a write that failed, where a part of it is left
+  -- a write that failed, and left a part done
   failed_write : (why : ErrorKind) (part : ℕ) (l : Machine) → misses why ≡ false → refuses_memory why ≡ false → l.tree ≡ lengthened m.tree names (take part more) → WritesSome m temp names more (says.Failed why) l
   failed_write why part l fine memory tree =
       inl (

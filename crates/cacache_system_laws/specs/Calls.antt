@@ -1,4 +1,4 @@
--- What each call says and leaves, as POSIX has it where no folder on the way is a link.
+-- What each call says and leaves, as POSIX has it if no folder on the way is a link.
 use Rattle.std.specs.Prelude.{◌≡◌, ◌||◌, ℕ, Bool, true, false, List, [], ◌∷◌, Option, None, Some, Result, Ok, MatchResult, take}
 use Rattle.std_io.specs.declared.io.kind.ErrorKind.{ErrorKind}
 use Rattle.cacache_core.specs.{Contexts.{fault_of}, declared.errors.Fault.{Fault, TheVariants.{InvalidInput}}, PathNames.{Names}}
@@ -8,7 +8,7 @@ use Rattle.cacache_system.specs.declared.call.SystemCall.TheVariants as asks
 use Rattle.cacache_system.specs.declared.call.CallResult.TheVariants as says
 use Rattle.cacache_system_laws.specs.{Folders.{OpensFolder, ReadsFolder}, Machine.{OpenFile, Machine, HasTree, IsRefused, ChangesTree, OpensIf, with_empty, ShowsEnd, ShowsOpen, ReadsOpen, WritesOpen, SyncsOpen, GivesOwner, GivesMode, LinksNode, CopiesBytes, MovesNode, SpellsEnd}}
 
--- What a call says and leaves where it doesn't fail without cause. A read or a write moves all the bytes that it may, or at
+-- What a call says and leaves if it doesn't fail without cause. A read or a write moves all the bytes that it may, or at
 -- most so many. A folder gives its names in the order of the tree's.
 abbrev pub GoesWell : Option ℕ → Machine → SystemCall → CallResult → Machine → Type 0
 GoesWell most m (asks.OpenToRead path) said after =
@@ -51,13 +51,13 @@ GoesWell most m (asks.ReadNames number size) said after = ReadsFolder number m s
 
 -- ---- failures without cause
 
--- the tree where a write left so many bytes done
+-- the tree after a write that left so many bytes done
 abbrev pub part_written : Option OpenFile → List ℕ → Option ℕ → Tree → Tree
 part_written (Some file) bytes (Some part) t =
     lengthened t file.names (take (taken (Some part) bytes) bytes)
 part_written file bytes part t = t
 
--- the tree where a copy did
+-- the tree after a copy that did
 abbrev pub part_copied : Result (List ℕ) Fault → Result Names Fault → Option ℕ → Tree → Tree
 part_copied (Ok bytes) (Ok names) (Some part) t =
     put t names (File (take (taken (Some part) bytes) bytes))
@@ -67,13 +67,13 @@ part_copied source ends part t = t
 abbrev pub did_nothing : ErrorKind → Bool
 did_nothing why = interrupts why || refuses_memory why
 
--- what a write leaves that fails without cause, where so many bytes were taken
+-- what a write that fails without cause leaves, after so many bytes were taken
 abbrev pub LeavesWritten : Bool → ℕ → List ℕ → Option ℕ → Machine → Machine → Type 0
 LeavesWritten true number bytes part m after = after ≡ m
 LeavesWritten false number bytes part m after =
     HasTree m (part_written (m.files number) bytes part m.tree) after
 
--- what a call leaves that fails without cause, where so many bytes were moved
+-- what a call that fails without cause leaves, after so many bytes were moved
 abbrev pub LeavesPart : Machine → SystemCall → ErrorKind → Option ℕ → Machine → Type 0
 LeavesPart m (asks.Write number bytes) why part after =
     LeavesWritten (did_nothing why) number bytes part m after

@@ -28,7 +28,7 @@ pub record HasLaw (temps : Names → Bool) (m : Machine) (hint : Hint) (step : N
   pub done : IsDone m step
   pub spares : SparesOpen temps m.tree (step_on m step)
 
--- an open temporary file is written, which still stands at its path
+-- an open temporary file that is still at its path is written
 abbrev pub WritesTemp : (Names → Bool) → Machine → NumberedStep → Type 0
 WritesTemp temps m (steps.Write temp more) =
     (names : Names) × (bytes : List ℕ) × StillStands m temp names bytes × (temps names ≡ true)
@@ -43,8 +43,8 @@ AreMade temps m (s ∷ made) =
     × (HasLaw temps s.before s.hint s.step ⊎ WritesTemp temps s.before s.step)
     × AreMade (temps_left temps s) s.after made
 
--- A disk does each of these steps under some luck with the same answer, but those that came back. Of what follows a copy
--- that left its fresh file nothing is said.
+-- A disk does each of these steps under some luck with the same answer, except those that came back. Nothing is said
+-- about what follows a copy that left its fresh file.
 abbrev pub DiskDoes : Tree → List StepMade → Type 0
 DiskDoes d [] = Unit {0}
 DiskDoes d (s ∷ made) =

@@ -19,7 +19,7 @@ with_synced names (Some Folder) fixed = record {
 }
 with_synced names here fixed = fixed
 
--- what is fixed after these syncs, of which the latest stands first
+-- what is fixed after these syncs, the latest first
 abbrev pub after_syncs : List SyncedNode → Fixed → Fixed
 after_syncs [] fixed = fixed
 after_syncs (node ∷ nodes) fixed = with_synced node.0 node.1 (after_syncs nodes fixed)

@@ -44,7 +44,7 @@ OpensFolder ends m said after =
     MatchResult ends (λ names. OpensNames names (look m.tree names) m said after)
     (λ fault. IsRefused fault m said after)
 
--- some of the names that are left are given, and none only where none is left
+-- some of the names that are left are given, and none only if none is left
 abbrev pub ReadsSome : ℕ → List (List ℕ) → Machine → CallResult → Machine → Type 0
 ReadsSome number left m said after =
     (given : List (List ℕ)) × (rest : List (List ℕ)) × (left ≡ given ++ rest)

@@ -11,11 +11,11 @@ use Rattle.cacache_system_laws.specs.{Machine.{OpenFile, Machine}, Calls.{GoesWe
 
 -- ---- handles on a machine
 
--- the bytes that stand where a file was opened
+-- the bytes that are where a file was opened
 abbrev pub bytes_in : Machine → OpenFile → List ℕ
 bytes_in m file = bytes_of (look m.tree file.names)
 
--- a temporary file has the bytes that stand where it was made
+-- a temporary file has the bytes that are where it was made
 abbrev pub temp_on : Machine → NumberedTemp → PlainTemp
 temp_on m temp = record {
   path = temp.path;
@@ -45,7 +45,7 @@ answer_on m answer = answer_as (file_on m) (temp_on m) answer
 abbrev pub outcome : PlainAnswer → Tree → PlainAnswer × Tree
 outcome answer t = (answer, t)
 
--- what a step answers and leaves, where its calls end so on a machine
+-- what a step answers and leaves, if its calls end so on a machine
 abbrev pub led_to : NumberedStep → CallResult → Machine → PlainAnswer × Tree
 led_to step end m = outcome (answer_on m (answer_of step end)) m.tree
 
@@ -58,7 +58,7 @@ Leads Happens s m Holds =
     (items : List CallItem) (end : CallResult) (after : Machine) → Runs s items end
     → EachCall Happens m items after → Holds end after
 
--- where memory isn't refused, it is as under plain luck
+-- if memory isn't refused, it is as under plain luck
 abbrev pub IsPlain : Machine → NumberedStep → CallResult → Machine → Type 0
 IsPlain m step end after =
     (end ≡ Failed kind.OutOfMemory → ⊥)
@@ -73,8 +73,8 @@ LeavesFresh m (steps.Copy from to) answer after =
     × (after.tree ≡ put m.tree (above ++ fresh_name number ∷ []) (File bytes))
 LeavesFresh m step answer after = ⊥
 
--- It is as under some luck, or the step comes back for want of memory and nothing changed, or it is a copy whose fresh
--- file stays.
+-- It is as under some luck, or the step comes back for want of memory and nothing changed, or it is a copy that leaves
+-- its fresh file.
 abbrev pub IsLucky : Machine → NumberedStep → CallResult → Machine → Type 0
 IsLucky m step end after =
     ((luck : Luck) × (apply m.tree (step_on m step) luck ≡ led_to step end after))
@@ -85,11 +85,11 @@ IsLucky m step end after =
 abbrev pub IsDone : Machine → NumberedStep → Type 0
 IsDone m step = fault_told (apply m.tree (step_on m step) Plain).0 ≡ None
 
--- where no call fails without cause or moves only a part, a step is as under plain luck
+-- if no call fails without cause or moves only a part, a step is as under plain luck
 abbrev pub GoesPlainly : Machine → Hint → NumberedStep → Type 0
 GoesPlainly m hint step = Leads (GoesWell None) (first hint step) m (IsPlain m step)
 
--- where the disk's table does a step, any of its calls may fail without cause
+-- if the disk's table does a step, any of its calls may fail without cause
 abbrev pub MayBreak : Machine → Hint → NumberedStep → Type 0
 MayBreak m hint step =
     IsDone m step → Leads OccursSomehow (first hint step) m (IsLucky m step)

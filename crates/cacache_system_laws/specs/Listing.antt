@@ -8,7 +8,7 @@ use Rattle.cacache_disk.specs.{declared.{luck.Luck.TheVariants.{Plain}, node.Nod
 use Rattle.cacache_system.specs.{declared.call.CallResult.{CallResult, TheVariants.{Failed}}, ListedNames.{text_of, with_slash}, AnswersOf.{Hint, is_named, first}}
 use Rattle.cacache_system_laws.specs.{Machine.{Machine}, Calls.{GoesWell}, Laws.{step_on, led_to, Leads, MayBreak}}
 
--- an entry of a folder: its name is proper and is told as it is, and it stands under it
+-- an entry of a folder: its name is proper and is given as it is, and the entry is under it
 pub record IsPlainEntry (t : Tree) (path : List ℕ) (names : Names) (entry : Name) : Type 0 where
   pub proper : IsProperName entry.name
   pub told : text_of entry.name ≡ entry.name
@@ -18,7 +18,7 @@ pub record IsPlainEntry (t : Tree) (path : List ℕ) (names : Names) (entry : Na
   pub there : look t (names ++ entry.name ∷ []) ≡ Some node
   pub kind : kind_of node ≡ entry.kind
 
--- a folder stands at a path, and its entries are such
+-- a folder is at a path, and its entries are such
 pub record ListsPlainly (t : Tree) (path : List ℕ) : Type 0 where
   pub names : Names
   pub some : (length path == 0) ≡ false
@@ -28,19 +28,19 @@ pub record ListsPlainly (t : Tree) (path : List ℕ) : Type 0 where
   pub there : look t names ≡ Some Folder
   pub entries : AllByRecursion (IsPlainEntry t path names) (listing t names)
 
--- where memory isn't refused, and a folder doesn't give too many names, it is as under plain luck
+-- if memory isn't refused, and a folder doesn't give too many names, it is as under plain luck
 abbrev pub IsListed : Machine → List ℕ → CallResult → Machine → Type 0
 IsListed m path end after =
     (end ≡ Failed kind.OutOfMemory → ⊥) → (end ≡ Failed kind.FileTooLarge → ⊥)
     → apply m.tree (step_on m (steps.ReadDir path)) Plain ≡ led_to (steps.ReadDir path) end after
 
--- where no call fails without cause, a folder is listed
+-- if no call fails without cause, a folder is listed
 abbrev pub ReadDirGoesPlainly : Type 0
 ReadDirGoesPlainly =
     (m : Machine) (hint : Hint) (path : List ℕ) → ListsPlainly m.tree path
     → Leads (GoesWell None) (first hint (steps.ReadDir path)) m (IsListed m path)
 
--- any of its calls may fail without cause, where no listing named the folder before
+-- any of its calls may fail without cause, if no listing named the folder before
 abbrev pub ReadDirBreaks : Type 0
 ReadDirBreaks =
     (m : Machine) (hint : Hint) (path : List ℕ) → ListsPlainly m.tree path

@@ -14,7 +14,7 @@ IsDisks m step answer after =
     ⊎ ((answer ≡ answers.NoMemory step) × (after.tree ≡ m.tree))
     ⊎ LeavesFresh m step answer after
 
--- where a log gained a run of a step's calls, as the contract of a store of real folders says, and they happened so
+-- if a log gained a run of a step's calls, as the contract of a store of real folders says, and they happened so
 abbrev pub LogsAgree : Type 0
 LogsAgree =
     (m after : Machine) (hint : Hint) (step : NumberedStep) (answer : NumberedAnswer)

@@ -1,4 +1,4 @@
--- A model of the system: what stands, which files are open, and what a call may say and leave.
+-- A model of the system: what is there, which files are open, and what a call may say and leave.
 use Rattle.std.specs.Prelude.{◌≡◌, suc, Ok, ◌+◌, ◌==◌, ℕ, Bool, true, false, if◌then◌else◌, List, [], ◌∷◌, Option, None, Some, Result, MatchResult, IfSome, length, take, drop}
 use Rattle.std_io.specs.declared.io.kind.ErrorKind.{ErrorKind}
 use Rattle.cacache_core.specs.{Contexts.{fault_of}, declared.errors.Fault.{Fault, TheVariants.{IsADirectory, Device}}, PathNames.{Names, is_name}}
@@ -11,12 +11,12 @@ pub record OpenFile : Type 0 where
   pub names : Names
   pub read : ℕ
 
--- the names of a file or folder that was synced, and what stood there
+-- the names of a file or folder that was synced, and what was there
 abbrev pub SyncedNode : Type 0
 SyncedNode = Names × Option Node
 
--- what stands, the open file of each number, what was synced, latest first, the number and device of what stands, and the
--- names that an open folder has left to give
+-- what is there, the open file of each number, what was synced, latest first, the number and device of what is there, and
+-- the names that an open folder has left to give
 pub record Machine : Type 0 where
   pub tree : Tree
   pub files : ℕ → Option OpenFile
@@ -24,7 +24,7 @@ pub record Machine : Type 0 where
   pub inodes : Names → ℕ × ℕ
   pub folders : ℕ → Option (List (List ℕ))
 
--- what stands behind the last `/`, if there is one
+-- what comes after the last `/`, if there is one
 abbrev pub behind_slash : Option ℕ → List ℕ → List ℕ
 behind_slash None path = path
 behind_slash (Some i) path = drop (suc i) path
@@ -35,12 +35,13 @@ EndsInName path = is_name (behind_slash (last_slash path (length path)) path) �
 
 -- ---- what a call leaves
 
--- these stand, are open and were synced; the numbers of what stands may be others
+-- the tree, the open files and what was synced are these; the numbers of what is there may be
+-- others
 abbrev pub Became : Tree → (ℕ → Option OpenFile) → List SyncedNode → Machine → Type 0
 Became t files synced after =
     (after.tree ≡ t) × (after.files ≡ files) × (after.synced ≡ synced)
 
--- another tree stands
+-- the tree is another
 abbrev pub HasTree : Machine → Tree → Machine → Type 0
 HasTree m t after = Became t m.files m.synced after
 
@@ -61,11 +62,11 @@ ChangesTree ends new m said after =
     MatchResult ends (λ names. (said ≡ says.Done) × HasTree m (new names) after)
     (λ fault. IsRefused fault m said after)
 
--- an open file of which nothing was read
+-- an open file from which nothing was read
 abbrev pub unread : Names → OpenFile
 unread names = record { names = names; read = 0 }
 
--- a file is opened under a number that no other has, where this tree stands then
+-- a file is opened under a number that no other has, and this is the tree then
 abbrev pub OpensAt : Names → Tree → Machine → CallResult → Machine → Type 0
 OpensAt names t m said after =
     (number : ℕ) × (said ≡ says.Opened number) × (m.files number ≡ None)
@@ -77,7 +78,7 @@ OpensIf ends new m said after =
     MatchResult ends (λ names. OpensAt names (new names) m said after)
     (λ fault. IsRefused fault m said after)
 
--- the tree with an empty file where nothing stood
+-- the tree with an empty file where nothing was
 abbrev pub with_empty : Tree → Names → Tree
 with_empty t names = if_missing (look t names) (put t names (File [])) t
 
@@ -102,18 +103,18 @@ pub record Describes (node : Node) (inode : ℕ × ℕ) (info : FileInfo) : Type
   pub size : HasSize node info.size
   pub number : (info.inode, info.device) ≡ inode
 
--- it is said what stands at these names, and nothing changed
+-- the call says what is at these names, and nothing changed
 abbrev pub ShowsNode : Names → Machine → CallResult → Machine → Type 0
 ShowsNode names m said after =
     (info : FileInfo) × (said ≡ says.Info info)
     × IfSome (look m.tree names) (λ node. Describes node (m.inodes names) info) × (after ≡ m)
 
--- it is said what stands where a path leads, or why it leads nowhere
+-- the call says what is where a path leads, or why it leads nowhere
 abbrev pub ShowsEnd : Result Names Fault → Machine → CallResult → Machine → Type 0
 ShowsEnd ends m said after =
     MatchResult ends (λ names. ShowsNode names m said after) (λ fault. IsRefused fault m said after)
 
--- of an open file it is said what it is; where none has the number nothing is said
+-- the call says what an open file is; nothing is said if no file has the number
 abbrev pub ShowsOpen : ℕ → Machine → CallResult → Machine → Type 0
 ShowsOpen number m said after =
     IfSome (m.files number) (λ file. ShowsNode file.names m said after)

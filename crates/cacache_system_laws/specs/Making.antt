@@ -6,7 +6,7 @@ use Rattle.cacache_disk.specs.{declared.node.Node.TheVariants.{Link}, Tree.{Tree
 use Rattle.cacache_system.specs.AnswersOf.{Hint}
 use Rattle.cacache_system_laws.specs.{Machine.{Machine}, Laws.{Agrees}}
 
--- no link stands on a path, nor at its last name
+-- no link is on a path, nor at its last name
 abbrev pub HasNoLink : Tree → List ℕ → Type 0
 HasNoLink t path =
     (names front rest : Names) → names_of path ≡ Ok names → names ≡ front ++ rest

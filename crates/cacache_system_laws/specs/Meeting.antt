@@ -14,7 +14,7 @@ CanSpell m (RealPath path) =
     IfOk (found m.tree path) (λ names. (text : List ℕ) × Spells m.tree text names)
 CanSpell m call = Unit {0}
 
--- each call can go well on each such machine
+-- each call can happen as `GoesWell` says on each such machine
 abbrev pub CallsCanGoWell : Type 0
 CallsCanGoWell =
     (most : Option ℕ) (m : Machine) (call : SystemCall) → HasRoom m → CanSpell m call

@@ -30,7 +30,7 @@ abbrev pub ReflinkBreaks : Type 0
 ReflinkBreaks =
     (m : Machine) (hint : Hint) (from to : List ℕ) → MayBreak m hint (steps.Reflink from to)
 
--- a temporary file that still stands at its path
+-- a temporary file that is still at its path
 pub record StillStands (m : Machine) (temp : NumberedTemp) (names : Names) (bytes : List ℕ)
     : Type 0 where
   pub named : names_of temp.path ≡ Ok names

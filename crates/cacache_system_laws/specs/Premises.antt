@@ -6,15 +6,15 @@ use Rattle.cacache_disk.specs.{declared.node.Node.{Node}, LedTo.{linked}, Rooted
 use Rattle.cacache_system.specs.{Seen.{NumberedFile, NumberedTemp, NumberedStep}, AnswersOf.{Hint, is_named}}
 use Rattle.cacache_system_laws.specs.{Machine.{OpenFile, Machine}, Laws.{MayBreak}, OneCall.{StillStands}, Reading.{StaysOpen}, Writing.{CanCopy}, Making.{HasNoLink}, Listing.{ListsPlainly}, Removing.{WalkStands}, Moving.{MayReplace}, Syncing.{EndsInNoLink}}
 
--- a temporary file still stands at its path
+-- a temporary file is still at its path
 abbrev pub IsStill : Machine → NumberedTemp → Type 0
 IsStill m temp = (names : Names) × (bytes : List ℕ) × StillStands m temp names bytes
 
--- an open file still stands where it was found
+-- an open file is still where it was found
 abbrev pub IsOpen : Machine → NumberedFile → Type 0
 IsOpen m file = (found : OpenFile) × (bytes : List ℕ) × StaysOpen m file found bytes
 
--- a file or link stands at a path
+-- a file or link is at a path
 abbrev pub IsLinked : Machine → List ℕ → Type 0
 IsLinked m path = (node : Node) × (linked m.tree path ≡ Ok node)
 

@@ -9,7 +9,7 @@ use Rattle.cacache_system_laws.specs.{Machine.{OpenFile, Machine}, Laws.{Agrees,
 abbrev pub ReadAllAgrees : Type 0
 ReadAllAgrees = (m : Machine) (hint : Hint) (path : List ℕ) → Agrees m hint (steps.ReadAll path)
 
--- an open file that still stands where it was opened
+-- an open file that is still where it was opened
 pub record StaysOpen (m : Machine) (file : NumberedFile) (found : OpenFile) (bytes : List ℕ)
     : Type 0 where
   pub known : m.files file.number ≡ Some found

@@ -18,19 +18,19 @@ NoSecondWrite =
     (item (asks.OpenToAppend path) (Opened file) ∷ item (asks.Write file bytes) (Count k)
     ∷ item (asks.Write file bytes) (Count j) ∷ [])
 
--- what stands where a file is put isn't removed first
+-- what is where a file is put isn't removed first
 abbrev pub NoRemovalBeforePut : Type 0
 NoRemovalBeforePut =
     (temp : NumberedTemp) (path : List ℕ) (said : CallResult) (rest : List CallItem)
     → IsNoRun (steps.Persist temp path) (item (asks.RemoveFile path) said ∷ rest)
 
--- a temporary file has no other mode than that its owner alone may read and write it
+-- a temporary file has no mode other than the one with which only its owner may read and write it
 abbrev pub NoOtherMode : Type 0
 NoOtherMode =
     (path : List ℕ) (mode : ℕ) (said : CallResult) (rest : List CallItem) → (mode ≡ 384 → ⊥)
     → IsNoRun (steps.CreateTemp path) (item (asks.CreateNew path mode) said ∷ rest)
 
--- no other file is synced than the temporary one
+-- no file other than the temporary one is synced
 abbrev pub NoOtherSync : Type 0
 NoOtherSync =
     (temp : NumberedTemp) (file : ℕ) (said : CallResult) (rest : List CallItem)
@@ -46,7 +46,7 @@ NoFileForFolder =
     (item (asks.OpenToRead path) (Opened file) ∷ item (asks.StatFile file) (Info info)
     ∷ item (asks.Sync file) said ∷ rest)
 
--- a file that stands at the target of a copy isn't opened, since the copy would empty it for each of its paths
+-- a file at the target of a copy isn't opened, since the copy would empty it for each of its paths
 abbrev pub NoCopyInPlace : Type 0
 NoCopyInPlace =
     (from to onto : List ℕ) (source target : FileInfo) (said : CallResult) (rest : List CallItem)
@@ -55,7 +55,7 @@ NoCopyInPlace =
     (item (asks.Stat from) (Info source) ∷ item (asks.StatLink to) (Info target)
     ∷ item (asks.CopyFile from onto) said ∷ rest)
 
--- where a link took the place of a folder that a walk is in, nothing is removed
+-- if a link took the place of a folder that a walk is in, nothing is removed
 abbrev pub NoRemovalThroughLink : Type 0
 NoRemovalThroughLink =
     (node last : FileInfo) (above path gone : List ℕ) (entered : List (List ℕ)) (link : FileInfo)

@@ -6,7 +6,7 @@ use Rattle.cacache_disk.specs.{Tree.{Tree}, LedTo.{folder}}
 use Rattle.cacache_system.specs.AnswersOf.{Hint, no_hint, is_missing, was_named, in_walk, rewrites}
 use Rattle.cacache_system_laws.specs.{Machine.{Machine}, Laws.{Agrees}}
 
--- a folder stands at a path
+-- a folder is at a path
 abbrev pub IsFolderAt : Tree → List ℕ → Type 0
 IsFolderAt t path = (names : Names) × (folder t path ≡ Ok names)
 

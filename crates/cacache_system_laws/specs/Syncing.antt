@@ -6,7 +6,7 @@ use Rattle.cacache_disk.specs.{declared.node.Node.TheVariants.{Link}, Tree.{Tree
 use Rattle.cacache_system.specs.{Seen.{NumberedTemp}, AnswersOf.{Hint}}
 use Rattle.cacache_system_laws.specs.{Machine.{Machine}, Laws.{Agrees}, OneCall.{StillStands}}
 
--- no link stands at the last name of a path
+-- no link is at the last name of a path
 abbrev pub EndsInNoLink : Tree → List ℕ → Type 0
 EndsInNoLink t path =
     (names : Names) → place t path ≡ Ok names → (target : List ℕ)

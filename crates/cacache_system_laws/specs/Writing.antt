@@ -32,7 +32,7 @@ pub record Writes (m : Machine) (hint : Hint) (temp : NumberedTemp) (names : Nam
   pub breaking : Leads OccursSomehow (first hint (steps.Write temp more)) m
       (WritesSome m temp names more)
 
--- a temporary file that stands at its path
+-- a temporary file that is at its path
 abbrev pub WriteAgrees : Type 0
 WriteAgrees =
     (m : Machine) (hint : Hint) (temp : NumberedTemp) (names : Names) (bytes more : List ℕ)
@@ -43,7 +43,7 @@ abbrev pub TellsFilesApart : Machine → Type 0
 TellsFilesApart m =
     (a b : Names) → m.inodes a ≡ m.inodes b → look m.tree a ≡ look m.tree b
 
--- nothing stands under a name that a copy gives its fresh file
+-- nothing is under a name that a copy gives its fresh file
 abbrev pub HasNoFresh : Machine → Type 0
 HasNoFresh m = (above : Names) (number : ℕ) → look m.tree (above ++ fresh_name number ∷ []) ≡ None
 

@@ -18,8 +18,8 @@ ghost use Rattle.cacache_system_laws.specs.Writing.{CopyAgrees, WriteAgrees};
 
 /// A step that makes or moves something answers and leaves what the disk's table says of it.
 ///
-/// Where none of its calls fails without cause, that is under plain luck; where some do, under some luck, if the table does
-/// the step. A `Reflink` is refused by luck alone.
+/// If none of its calls fails without cause, that is under plain luck; if some do, under some luck, provided that the
+/// table does the step. A `Reflink` is refused by luck alone.
 pub fn change_laws()
     ensures create { CreateAgrees }
     ensures persist { PersistAgrees }
@@ -35,7 +35,7 @@ pub fn look_laws()
     ensures open { OpenAgrees }
 {}
 
-/// So does a listing of a folder that stands.
+/// So does a listing of a folder that is there.
 pub fn list_laws()
     ensures plainly { ReadDirGoesPlainly }
     ensures breaking { ReadDirBreaks }
@@ -48,7 +48,7 @@ pub fn read_laws()
     ensures plainly { PiecesReadPlainly }
 {}
 
-/// So do an append and a copy; and a write, but that its file grows in the tree.
+/// So do an append and a copy; and a write, except that its file grows in the tree.
 pub fn write_laws()
     ensures append { AppendAgrees }
     ensures write { WriteAgrees }
@@ -60,7 +60,7 @@ pub fn folder_laws()
     ensures make { MakeDirsAgrees }
 {}
 
-/// So does a removal, also where the folders of a walk are looked at before.
+/// So does a removal, also if the folders of a walk are looked at before.
 pub fn removal_laws()
     ensures file { RemoveFileAgrees }
     ensures folder { RemoveDirAgrees }
@@ -80,24 +80,24 @@ pub fn fixing_laws()
     ensures folder { SyncDirFixes }
 {}
 
-/// Each kind of step but writes, at once: where it has what its law asks, and the disk's table does it, it is
-/// as under some luck.
+/// Each kind of step except writes, at once: if it has what its law asks, and the disk's table does it, it is as
+/// under some luck.
 pub fn covered_laws()
     ensures breaking { EachMayBreak }
 {}
 
-/// So is a step whose run a store's log gained, which is what the contract of a store of real folders says.
+/// So is a step with a run that a store's log gained, which is what the contract of a store of real folders says.
 pub fn logged_laws()
     ensures agree { LogsAgree }
 {}
 
-/// What many steps do on a system, a disk in memory does that has the bytes of open temporary files in their handles.
+/// A disk in memory that has the bytes of open temporary files in their handles does what many steps do on a system.
 pub fn mirror_laws()
     ensures step { StepsMirror }
     ensures run { RunsMirror }
 {}
 
-/// The model can be met: each call can go well.
+/// The model can be met: each call can happen as it says.
 pub fn model_laws()
     ensures calls { CallsCanGoWell }
 {}

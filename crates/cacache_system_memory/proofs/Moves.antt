@@ -1,4 +1,4 @@
--- Hard links and moves, whose source is looked at first.
+-- Hard links and moves, which first look at their source.
 use Rattle.std.{proofs.Common.{◌≡◌, ℕ, List, refl, sym, ap}, specs.Prelude.{⊤, Option, None, Some, Result, Ok, Err, MatchResult, IsOk, IsOkAnd}}
 use Rattle.cacache_core.specs.{declared.errors.Fault.{Fault}, PathNames.{Names}}
 use Rattle.cacache_store.specs.declared.store.step.Step.TheVariants as steps

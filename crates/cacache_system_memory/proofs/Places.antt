@@ -11,12 +11,12 @@ unfolding place
 place_bad t path (stop.Fault fault) e = rw e refl
 place_bad t path stop.OutOfMemory e = tt
 
--- where the folders on the way let through, the path leads to its names
+-- if the folders on the way let through, the path leads to its names
 pub place_led : (t : Tree) (path : List ℕ) (names : Names) → names_of path ≡ Ok names → way_fault t [] names ≡ None → place t path ≡ Ok names
 unfolding place
 place_led t path names e way = rw (e, way) refl
 
--- and else it leads nowhere
+-- and otherwise it leads nowhere
 pub place_blocked : (t : Tree) (path : List ℕ) (names : Names) (why : Stop) → names_of path ≡ Ok names → Blocks why (way_fault t [] names) → Stops why (place t path)
 unfolding place
 place_blocked t path names (stop.Fault fault) e way = rw (e, way) refl
@@ -34,6 +34,6 @@ way_short t above [] h = refl
 way_short t above (name ∷ []) h = refl
 way_short t above (name ∷ next ∷ rest) h = absurd (omega (arith, h))
 
--- behind the last folder nothing is asked
+-- after the last folder nothing is asked
 pub way_over : (t : Tree) (names : Names) (i : ℕ) → length names ≤ i + 1 → way_fault t (take i names) (drop i names) ≡ None
 way_over t names i h = way_short t (take i names) (drop i names) (let e : length (drop i names) ≡ length names - i = length-drop i names in omega (arith, h, e))

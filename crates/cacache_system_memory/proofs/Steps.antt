@@ -1,4 +1,4 @@
--- What the disk's table says of the steps that stand for calls.
+-- What the disk's table says about the steps that stand for calls.
 use Rattle.std.proofs.{Common.{◌≡◌, ◌∙◌, ◌<◌, ◌==◌, ℕ, suc, false, List, [], ◌∷◌, ◌++◌, length, refl, sym, ap, subst, append_assoc, arith}, lemmas.Bool.Decides.{nat_tests}}
 use Rattle.std.specs.Prelude.{⊤, Option, None, Some, Result, Ok, Err}
 use Rattle.cacache_core.specs.{declared.errors.Fault.{Fault, TheVariants.{AlreadyExists}}, PathNames.{Names, names_of}}
@@ -52,7 +52,7 @@ through_ok (Some Folder) later e = (refl, e)
 through_ok (Some (File bytes)) later e = absurd cc
 through_ok (Some (Link target)) later e = absurd cc
 
--- where nothing stands at names whose folder stands, one folder is missing
+-- if nothing is at names and their folder is there, one folder is missing
 make_last : (t : Tree) (above rest whole : Names) (most : ℕ) → above ++ rest ≡ whole → 0 < length rest → way_fault t above rest ≡ None → look t whole ≡ None
     → (dirs_fault t above rest ≡ None) × (make_some t above rest (suc most) ≡ put t whole Folder)
 make_last t above [] whole most same some way missing = absurd (omega (arith, some))
@@ -65,7 +65,7 @@ make_last t above (name ∷ next ∷ rest) whole most same some way missing =
     let more = make_last t (above ++ name ∷ []) (next ∷ rest) whole most (append_assoc above (name ∷ []) (next ∷ rest) ∙ same) (omega arith) on.1 missing in
     (rw on.0 more.0, rw on.0 more.1)
 
--- the names of a path whose folder stands
+-- the names of a path, if its folder is there
 pub place_parts : (t : Tree) (path : List ℕ) (names : Names) → place t path ≡ Ok names → (names_of path ≡ Ok names) × (way_fault t [] names ≡ None)
 unfolding place
 place_parts t path names led =
@@ -87,13 +87,13 @@ makes_folder t u path (name ∷ names) done rooted led missing does =
     rw (free_is t path (name ∷ names) led missing)
     (changes (Ok (name ∷ names)) (λ names. put t names Folder) t u (steps.MakeDirs path) done (rw (parts.0, made.0, made.1) refl) does)
 
--- where the path leads nowhere
+-- if the path leads nowhere
 pub makes_nothing : (t : Tree) (path : List ℕ) (why : Stop) → Stops why (place t path) → Changed (free t path) (λ names. put t names Folder) (Err why) t t
 unfolding free
 makes_nothing t path (stop.Fault fault) e = (rw e refl, refl)
 makes_nothing t path stop.OutOfMemory e = refl
 
--- where something stands
+-- if something is there
 pub makes_no_second : (t : Tree) (path : List ℕ) (names : Names) (node : Node) → place t path ≡ Ok names → Some node ≡ look t names → free t path ≡ Err AlreadyExists
 unfolding free
 makes_no_second t path names node led there = rw (led, ← there) refl

@@ -1,4 +1,4 @@
--- What the calls do to the tree, where memory may be refused.
+-- What the calls do to the tree, when memory may be refused.
 use Rattle.std.specs.Prelude.{◌≡◌, ⊤, ℕ, List, Option, None, Some, IsSomeAnd, Result, Ok, Err, MatchResult, IsOkAnd, length}
 use Rattle.cacache_core.specs.{declared.errors.Fault.{Fault, TheVariants.{Unsupported}}, PathNames.{Names}}
 use Rattle.cacache_store.specs.{Plain.{PlainStep, PlainAnswer}, declared.store.answer.Answer.TheVariants.{Failed}}
@@ -25,7 +25,7 @@ Changed ends new (Err stop.OutOfMemory) t u = u ≡ t
 abbrev pub Stopped : Fault → Result ⊤ Stop → Tree → Tree → Type 0
 Stopped fault done t u = Changed {A = Names} (Err fault) (λ names. t) done t u
 
--- why a link isn't made, where that is why its source isn't one
+-- why a link isn't made, if this is why its source can't be linked
 abbrev pub link_stop : Stop → Stop
 link_stop (stop.Fault fault) = stop.Fault (link_fault fault)
 link_stop stop.OutOfMemory = stop.OutOfMemory
@@ -45,13 +45,13 @@ MovedNode old (Some (File bytes)) ends done t u =
     Changed ends (λ new. put (cut t old) new (File bytes)) done t u
 MovedNode old (Some (Link target)) ends done t u = Stopped Unsupported done t u
 
--- the same of what stands at a path
+-- the same for what is at a path
 abbrev pub Moved : Tree → List ℕ → List ℕ → Result ⊤ Stop → Tree → Type 0
 Moved t from to done u =
     MatchResult (place t from) (λ old. MovedNode old (look t old) (replaceable t to) done t u)
     (λ fault. Stopped fault done t u)
 
--- why what stands somewhere isn't moved
+-- why what is somewhere isn't moved
 abbrev pub IsUnmoved : Option Node → Fault → Type 0
 IsUnmoved None fault = ⊤
 IsUnmoved (Some Folder) fault = ⊤
@@ -84,7 +84,7 @@ info_of node = record {
   group = 0;
 }
 
--- it is said what stands where something was found, or why nothing is
+-- it is said what is where something was found, or why nothing is
 abbrev pub Shown : Result Names Fault → Tree → Result FileInfo Stop → Type 0
 Shown ends t (Ok info) =
     IsOkAnd ends (λ names. IsSomeAnd (look t names) (λ node. info ≡ info_of node))

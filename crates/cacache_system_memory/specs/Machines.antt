@@ -42,7 +42,7 @@ Goes old call said new =
     GoesWell None (machine_of old) call said (machine_of new)
     ⊎ GivesUp kind.OutOfMemory (machine_of old) said (machine_of new)
 
--- so did a move, but that a link isn't moved
+-- so did a move, except that a link isn't moved
 abbrev pub GoesUnlessLink : MemorySystem → SystemCall → CallResult → MemorySystem → Type 0
 GoesUnlessLink old call said new =
     Goes old call said new ⊎ GivesUp kind.Unsupported (machine_of old) said (machine_of new)

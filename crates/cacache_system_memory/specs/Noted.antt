@@ -1,4 +1,4 @@
--- What a log of calls says of a note.
+-- What a log of calls says about a note.
 use Rattle.std.specs.Prelude.{List, [], Option, None, Some}
 use Rattle.cacache_system.specs.{declared.call.{SystemCall.{SystemCall}, CallResult.{CallResult}, CallItem.{CallItem}}, CallLog.{item}}
 use Rattle.cacache_system.specs.declared.call.SystemCall.TheVariants as asks
@@ -45,7 +45,7 @@ told (say.Failed why) = says.Failed why
 abbrev pub noted : Note → CallItem
 noted note = item (asked note.call) (told note.said)
 
--- the calls of a log that has some, none of any other
+-- the calls of a log that has some, and none of any other
 abbrev pub calls_in : Option LoggedCalls → List CallItem
 calls_in None = []
 calls_in (Some calls) = calls.items

@@ -26,7 +26,7 @@ abbrev pub kind_of : Stop → ErrorKind
 kind_of (stop.Fault fault) = kind_for fault
 kind_of stop.OutOfMemory = kind.OutOfMemory
 
--- what is said of a call that gave this or stopped
+-- what is said about a call that gave this or stopped
 abbrev pub outcome : {A : Type 0} → (A → CallResult) → Result A Stop → CallResult
 outcome say (Ok value) = say value
 outcome say (Err why) = Failed (kind_of why)

@@ -1,4 +1,4 @@
-//! A log of calls that clauses alone see. It takes no memory, so that none can be refused.
+//! A log of calls that only clauses see. It takes no memory, so that none can be refused.
 ghost use Rattle.std.specs.Prelude.{◌≡◌, ◌++◌, ◌∷◌, [], List};
 ghost use Rattle.std.specs.Borrow.{ftrue};
 ghost use Rattle.std.specs.Coded.{coded_list};
@@ -128,7 +128,7 @@ impl Log {
         self.calls = Some(calls);
     }
 
-    /// A call more, which failed.
+    /// One more call, which failed.
     pub(crate) fn fail(&mut self, call: Asked<'_>, stop: Stop) -> io::Error
         ensures logged { items_of self.new
             ≡ items_of self.old ++ item (asked call.entry) (says.Failed (error_kind result)) ∷ [] }
@@ -139,7 +139,7 @@ impl Log {
         io::Error::from(why)
     }
 
-    /// A call more, which was to do something.
+    /// One more call, which was to do something.
     pub(crate) fn end(&mut self, call: Asked<'_>, done: Result<(), Stop>) -> io::Result<()>
         ensures logged { items_of self.new
             ≡ items_of self.old ++ item (asked call.entry) (said (λ _. says.Done) result) ∷ [] }
@@ -154,7 +154,7 @@ impl Log {
         }
     }
 
-    /// A call more, which asked what stands somewhere.
+    /// One more call, which asked what is somewhere.
     pub(crate) fn tell(
         &mut self,
         call: Asked<'_>,
@@ -173,7 +173,7 @@ impl Log {
         }
     }
 
-    /// A call more, which was to open a file.
+    /// One more call, which was to open a file.
     pub(crate) fn open(
         &mut self,
         call: Asked<'_>,

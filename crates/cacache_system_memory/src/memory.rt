@@ -27,7 +27,7 @@ pub(crate) struct OpenFile {
     read: usize,
 }
 
-/// The bytes of an open file behind those that were read from it.
+/// The bytes of an open file after those that were read from it.
 fn rest_of<'a>(disk: &'a Disk, file: &OpenFile) -> Result<&'a [u8], Stop>
     ensures { IfOk result (λ rest. file.now.read + length rest.now < 2 ^ 64) }
 {
@@ -49,7 +49,7 @@ pub struct Memory {
 }
 
 impl Memory {
-    /// Opens a file that stands.
+    /// Opens a file that is there.
     fn open(&mut self, path: &str, names: Path) -> Result<u64, Stop> {
         let number = self.files.len() as u64;
         let path = Text::from_str(self.alloc, path)?;
@@ -70,7 +70,7 @@ impl Memory {
         self.open(path, names)
     }
 
-    /// Makes an empty file and opens it. Where memory is refused, it isn't made.
+    /// Makes an empty file and opens it. If memory is refused, it isn't made.
     pub(crate) fn create(&mut self, path: &str) -> Result<u64, Stop> {
         let names = place(&self.disk, path)?;
         let step = Step::CreateTemp(Text::from_str(self.alloc, path)?);
@@ -107,7 +107,7 @@ impl Memory {
         Ok(count)
     }
 
-    /// Reads all that is left of an open file behind `bytes`.
+    /// Appends all that is left of an open file to `bytes`.
     pub(crate) fn read_all(&mut self, number: u64, bytes: &mut Vec<u8>) -> Result<usize, Stop>
         ensures { StartsWith bytes.new.items bytes.old.items }
     {
@@ -120,7 +120,7 @@ impl Memory {
         Ok(rest.len())
     }
 
-    /// Puts bytes at the end of an open file, if that still stands where it was found.
+    /// Puts bytes at the end of an open file, if that is still where it was found.
     pub(crate) fn append(&mut self, number: u64, buf: &[u8]) -> Result<usize, Stop>
         ensures { IfOk result (λ count. count ≤ length buf.now) }
     {

@@ -1,4 +1,4 @@
-//! A store over a system in memory, whose log has the runs of its steps.
+//! A store over a system in memory, with a log of the runs of its steps.
 ghost use Rattle.cacache_store.specs.declared.store.step.Step.TheVariants as steps;
 ghost use Rattle.cacache_folder.specs.FolderNumbers.{answered};
 ghost use Rattle.cacache_system_memory.specs.Machines.{calls_of};

@@ -17,7 +17,7 @@ use cacache_system::{FileInfo, System};
 use std::alloc::{Alloc, AllocError, Global};
 use std::io;
 
-/// Why a call is refused that this system doesn't have.
+/// Why a call that this system doesn't have is refused.
 const UNSUPPORTED: Stop = Stop::Fault(Fault::Unsupported);
 
 /// A system of folders, files and links in memory, which keeps a log of its calls. Contracts see the log and the tree.
@@ -35,7 +35,7 @@ pub struct MemorySystem {
 impl MemorySystem {
     ghost use Rattle.cacache_system_memory.specs.Machines.{calls_of, machine_of};
 
-    /// A system of which nothing was asked yet, with nothing but the top folder.
+    /// A system that was asked nothing yet, with nothing but the top folder.
     pub fn new(alloc: Global) -> Result<MemorySystem, AllocError>
         ensures log { IfOk result (λ system. calls_of system ≡ []) }
         ensures tree { IfOk result (λ system. (machine_of system).tree ≡ bare) }

@@ -52,7 +52,7 @@ pub(crate) fn do_step(disk: &mut Disk, step: Step<PlainFile, PlainTemp>) -> Resu
     }
 }
 
-/// Whether the folders on the way of some names stand.
+/// Whether the folders on the way of some names are there.
 #[tactic(auto, using(crate::proofs::Places::way_next, crate::proofs::Places::way_over))]
 fn way(disk: &Disk, names: &Path) -> Result<(), Stop>
     ensures ok { IfOk result (λ _. way_fault disk.now [] names.now ≡ None) }
@@ -72,7 +72,7 @@ fn way(disk: &Disk, names: &Path) -> Result<(), Stop>
     Ok(())
 }
 
-/// The names of a path whose folder stands.
+/// The names of a path, if its folder is there.
 #[tactic(auto, using(crate::proofs::Places::place_bad, crate::proofs::Places::place_led, crate::proofs::Places::place_blocked))]
 pub(crate) fn place(disk: &Disk, path: &str) -> Result<Path, Stop>
     ensures ok { IfOk result (λ names. place disk.now path.now ≡ Ok names) }
@@ -95,7 +95,7 @@ pub(crate) fn shown(disk: &Disk, path: &str) -> Result<FileInfo, Stop>
     }
 }
 
-/// What stands at a path.
+/// What is at a path.
 #[tactic(auto, using(crate::proofs::Looks::standing_there, crate::proofs::Looks::standing_missing, crate::proofs::Looks::standing_bad))]
 pub(crate) fn shown_link(disk: &Disk, path: &str) -> Result<FileInfo, Stop>
     ensures { Shown (standing disk.now path.now) disk.now result }
@@ -154,7 +154,7 @@ pub(crate) fn symlink(disk: &mut Disk, alloc: Global, target: &str, path: &str) 
     do_step(disk, Step::Symlink(target, Text::from_str(alloc, path)?))
 }
 
-/// Whether a file or a link stands at a path.
+/// Whether a file or a link is at a path.
 #[tactic(auto, using(crate::proofs::Moves::linked_is, crate::proofs::Moves::linked_bad))]
 fn linkable(disk: &Disk, path: &str) -> Result<(), Stop>
     ensures ok { IfOk result (λ _. IsOk (linked disk.now path.now)) }
@@ -168,7 +168,7 @@ fn linkable(disk: &Disk, path: &str) -> Result<(), Stop>
     }
 }
 
-/// Why a hard link isn't made, where its source is no file or link.
+/// Why a hard link isn't made, if its source is no file or link.
 fn link_stop(stop: Stop) -> Stop
     ensures { result ≡ link_stop stop }
 {

@@ -17,7 +17,7 @@ fn millis(rt: HostRuntime) -> io::Result<u64> {
     }
 }
 
-/// Waits until std's time is another one, and returns it.
+/// Waits until std's time has changed, and returns it.
 fn next_after(rt: HostRuntime, last: u64) -> io::Result<u64> {
     for _ in 0..u64::MAX {
         let now = millis(rt)?;
@@ -28,7 +28,8 @@ fn next_after(rt: HostRuntime, last: u64) -> io::Result<u64> {
     Ok(last)
 }
 
-/// Whether a clock tells a time between those that std's tells before and after, each of three times that it is asked.
+/// Whether a clock gives a time between those that std's gives before and after, each of three times that it is
+/// asked.
 pub(crate) fn is_between(rt: HostRuntime) -> io::Result<bool> {
     let mut clock = SystemClock::new(rt);
     let mut last = 0;
@@ -36,7 +37,7 @@ pub(crate) fn is_between(rt: HostRuntime) -> io::Result<bool> {
         let before = next_after(rt, last)?;
         let now = clock.now();
         last = millis(rt)?;
-        // where the clock was set back meanwhile, there is no between
+        // if the clock was set back meanwhile, there is no between
         if last >= before && (now < before || last < now) {
             return Ok(false);
         }

@@ -18,7 +18,7 @@ mod ways;
 use std::io;
 use trial::Folders;
 
-/// Tries rows, prints how they went, and tells whether each of them holds.
+/// Tries rows, prints how they went, and returns whether each of them holds.
 pub fn all_hold(rt: &HostRuntime, rows: &str) -> io::Result<bool> {
     let mut folders = Folders::new(*rt);
     rows::all_hold(rt, rows, &mut folders)

@@ -1,4 +1,4 @@
-//! Open folders whose names are made up: `a`, and more in a folder `odd`, `slow`, `torn`, `gone` or `late`.
+//! Open folders with made-up names: `a`, and more in a folder `odd`, `slow`, `torn`, `gone` or `late`.
 use crate::watched_file::Notes;
 use std::io;
 use std::io::{ErrorKind, Read};
@@ -23,7 +23,7 @@ enum Giving {
     Late,
 }
 
-/// An open folder with made-up names, of which so many reads were made. It holds the notes while it is open.
+/// An open folder with made-up names, and how many reads were made of it. It holds the notes while it is open.
 #[derive(Drop)]
 pub(crate) struct MadeUp {
     giving: Giving,

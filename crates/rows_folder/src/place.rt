@@ -40,7 +40,7 @@ fn removed<Y: System + Drop>(alloc: Global, temp: Option<SystemTemp<Y>>) -> Resu
 }
 
 impl<Y: System + AllocGlobal + Clone + Drop> Stand<Y> {
-    /// A store of which nothing is held.
+    /// A store without any held handles.
     fn new(store: SystemStore<Y>) -> Stand<Y> {
         Stand {
             store,
@@ -62,7 +62,7 @@ impl<Y: System + AllocGlobal + Clone + Drop> Stand<Y> {
 pub(crate) enum Place {
     /// On real folders.
     Real(Stand<Host<HostRuntime>>),
-    /// The same, where all calls are noted, and files behave in ways of their own.
+    /// The same, with all calls noted, and with files that behave in ways of their own.
     Watched(Stand<Host<Watched>>, Notes),
 }
 
@@ -101,8 +101,8 @@ impl Place {
         came
     }
 
-    /// Does what the words say with each number from one up to another at their end, until one fails. Shows what comes of the last
-    /// that is done.
+    /// Does what the words say with each number from one up to another at their end, until one fails. Shows what
+    /// comes of the last one that is done.
     fn each(&mut self, alloc: Global, root: &str, words: &str) -> Result<String, Flaw> {
         let (from, words) = cut(words);
         let (to, words) = cut(words);

@@ -1,4 +1,5 @@
-//! A folder of the rows' own, below the system's for temporary files, and what is done there beside the store.
+//! A folder of the rows' own, below the system's for temporary files, and what is done there besides the store's
+//! work.
 use crate::held::failed;
 use crate::texts::path_of;
 use cacache_core::keeping::{beside, let_go};

@@ -85,7 +85,7 @@ fn counted(alloc: Global, names: &Listing) -> Result<String, AllocError> {
     format!(in alloc; "Names {files} {folders} {links}")
 }
 
-/// Bytes behind the word for their answer.
+/// Bytes after the word for their answer.
 fn shown_bytes(alloc: Global, word: &str, bytes: &[u8]) -> Result<String, AllocError> {
     let text = text_of(alloc, bytes)?;
     format!(in alloc; "{word} {text}")

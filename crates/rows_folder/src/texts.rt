@@ -16,12 +16,12 @@ fn counting(alloc: Global, first: usize, count: usize) -> Result<Vec<u8>, AllocE
     Ok(bytes)
 }
 
-/// How many bytes a text stands for that is a `*` with their number.
+/// How many bytes a text stands for, if it is a `*` with their number.
 fn count_in(text: &str) -> Option<usize> {
     text.strip_prefix('*')?.parse::<usize>().ok()
 }
 
-/// The bytes of a word: none of `-`, of `*1000` so many, which count from 0 on, and else its own.
+/// The bytes of a word: none for `-`, so many for `*1000`, which count from 0 on, and otherwise its own.
 pub(crate) fn bytes_of(alloc: Global, word: &str) -> Result<Bytes, AllocError> {
     let bytes = match count_in(word) {
         Some(count) => counting(alloc, 0, count)?,
@@ -51,7 +51,7 @@ pub(crate) fn text_of(alloc: Global, bytes: &[u8]) -> Result<String, AllocError>
     }
 }
 
-/// The path of a word: that behind a `=`, and else one below the folder.
+/// The path of a word: the one after a `=`, and otherwise one below the folder.
 pub(crate) fn path_of(alloc: Global, root: &str, word: &str) -> Result<Text, AllocError> {
     match word.strip_prefix('=') {
         Some(path) => Text::from_str(alloc, path),

@@ -38,7 +38,7 @@ impl Drop for Group {
             place,
             root,
         } = self;
-        // the place first, whose temporary file is removed by its path
+        // the place first, since its temporary file is removed by its path
         let_go(place);
         let_go(root);
     }
@@ -88,7 +88,7 @@ impl Group {
         }
     }
 
-    /// The same, and the calls that it takes where they are wanted.
+    /// The same, and the calls that it takes if they are wanted.
     fn got_with(&mut self, act: &str, with_calls: bool) -> Result<String, Flaw> {
         self.place.forget(self.alloc);
         let got = self.got(act)?;
@@ -118,7 +118,7 @@ impl Folders {
         }
     }
 
-    /// What an act gives, with the calls that it takes where they are wanted.
+    /// What an act gives, with the calls that it takes if they are wanted.
     fn got(&mut self, act: &str, with_calls: bool) -> Result<String, Flaw> {
         let alloc = self.rt.alloc();
         match cut(act) {

@@ -18,9 +18,9 @@ pub(crate) fn taken(notes: &Notes, alloc: Global) -> String {
         .unwrap_or(String::new(alloc))
 }
 
-/// The system's runtime, but its files behave in ways of their own. No memory is found to open a file `full`, a file whose
-/// name begins with `bare` has five bytes and no number, a file `kept` isn't removed, a folder `shy` is made and said to be
-/// refused, and a device stands in a folder `special`. The names of each folder are made up.
+/// The system's runtime, but its files behave in ways of their own. No memory is found to open a file `full`. A file
+/// with a name that begins with `bare` has five bytes and no number. A file `kept` isn't removed, a folder `shy` is
+/// made and said to be refused, and a device is in a folder `special`. The names of each folder are made up.
 #[derive(Clone, Drop)]
 pub(crate) struct Watched {
     host: HostRuntime,
@@ -41,7 +41,7 @@ impl Watched {
         Ok((watched, notes))
     }
 
-    /// Notes a call on some paths, and refuses it where such calls are refused.
+    /// Notes a call on some paths, and refuses it if such calls are refused.
     fn asked(&self, call: &str, paths: &[&str]) -> io::Result<()> {
         if self.ways.paths {
             note_paths(&self.notes, call, paths)?;

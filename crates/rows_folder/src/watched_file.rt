@@ -8,10 +8,10 @@ use std::io;
 use std::io::{ErrorKind, Read, Seek, SeekFrom, Write};
 use std::rc::Rc;
 
-/// What was asked, with a `;` behind each call.
+/// What was asked, with a `;` after each call.
 pub(crate) type Notes = Rc<RefCell<String>>;
 
-/// Notes a path. The number of a fresh file, which differs from run to run, is told as a `*`.
+/// Notes a path. The number of a fresh file, which differs from run to run, is noted as a `*`.
 fn note_path(notes: &mut String, path: &str) -> io::Result<()> {
     match path.rsplit_once(".tmp") {
         Some((front, digits)) if digits.len() == 16 => {
@@ -41,7 +41,7 @@ pub(crate) fn note(notes: &Notes, call: &str) -> io::Result<()> {
     note_paths(notes, call, &[])
 }
 
-/// Fails where calls are to fail.
+/// Fails if calls are to fail.
 pub(crate) fn failing(kind: Option<ErrorKind>) -> io::Result<()> {
     match kind {
         Some(kind) => Err(io::Error::from(kind)),
@@ -58,7 +58,7 @@ pub(crate) struct WatchedFile {
 }
 
 impl WatchedFile {
-    /// How many bytes the next read or write moves, of those that there is room for.
+    /// How many bytes the next read or write moves, out of those for which there is room.
     fn room(&mut self, call: &str, room: usize) -> io::Result<usize>
         ensures { IfOk result (λ count. count ≤ room) }
     {

@@ -12,7 +12,7 @@ pub(crate) struct Ways {
     pub(crate) interruptions: u32,
     /// The most bytes that a read or a write moves.
     pub(crate) most: usize,
-    /// What the file says of its size, if it isn't to say its true size.
+    /// What the file gives as its size, if it isn't to give its true size.
     pub(crate) size: Option<u64>,
     /// Why each rename fails.
     pub(crate) rename: Option<ErrorKind>,
@@ -151,7 +151,8 @@ fn named(name: &str) -> Result<Ways, Flaw> {
     })
 }
 
-/// Files that say so many bytes of their size; `slow` ones are also interrupted once, and then give three bytes at a time.
+/// Files that give so many bytes as their size; `slow` ones are also interrupted once, and then give three bytes at a
+/// time.
 fn sized(name: &str, size: usize) -> Result<Ways, Flaw> {
     let sized = Ways {
         size: Some(size as u64),

@@ -16,7 +16,7 @@ use rows::answers::refused;
 use rows::words::{cut, string_of};
 use std::alloc::{AllocError, Global};
 
-/// Puts a word behind the others.
+/// Puts a word after the others.
 fn push(words: &mut Vec<String>, word: Result<String, AllocError>) -> Result<(), AllocError> {
     words.push(word?)?;
     Ok(())
@@ -71,7 +71,7 @@ fn planted<S: Store>(env: &mut On<S>, path: &str, input: &str) -> Result<bool, A
     plant(env, path.as_str(), &bytes)
 }
 
-/// Writes bytes of which another size is expected: the key, and the size.
+/// Writes bytes for which another size is expected: the key, and the size.
 fn sized<S: Store>(env: &mut On<S>, cache: &str, words: &str, bytes: &[u8]) -> Answered<Integrity> {
     let (key, size) = cut(words);
     let opts = WriteOpts::new().size(size.parse::<usize>().unwrap_or(0));
@@ -79,7 +79,7 @@ fn sized<S: Store>(env: &mut On<S>, cache: &str, words: &str, bytes: &[u8]) -> A
     writer.write_or_abandon(env, bytes)?.commit(env)
 }
 
-/// What a call gives that is given the bytes of the input.
+/// What a call gives for the bytes of the input.
 fn written<S: Store>(
     env: &mut On<S>,
     name: &str,
@@ -104,7 +104,7 @@ fn removed<S: Store>(env: &mut On<S>, cache: &str, text: &str) -> Result<String,
     }
 }
 
-/// What a call gives that keeps a cache in order.
+/// What a call that keeps a cache in order gives.
 fn kept<S: Store>(env: &mut On<S>, name: &str, cache: &str) -> Result<String, Flaw> {
     let alloc = env.alloc;
     let durable = CompactOpts::new().durable(true);
@@ -155,7 +155,7 @@ fn acted<S: Reasons>(env: &mut On<S>, act: &str, input: &str) -> Result<String, 
     }
 }
 
-/// What an act gives; behind `stuck` and a kind of step over a store where these fail.
+/// What an act gives; after `stuck` and a kind of step, over a store on which these fail.
 pub(crate) fn made<S: Reasons>(env: &mut On<S>, act: &str, input: &str) -> Result<String, Flaw> {
     let (name, words) = cut(act);
     if name != "stuck" {

@@ -7,7 +7,7 @@ use rows::answers::refused;
 use rows::words::{word_of, written_out};
 use std::alloc::{AllocError, Global};
 
-/// What a call answers where it doesn't fail.
+/// What a call answers if it doesn't fail.
 pub(crate) trait Shown {
     /// The line on it.
     fn shown(&self, alloc: Global) -> Result<String, AllocError>;
@@ -73,7 +73,7 @@ impl Shown for Compacted {
     }
 }
 
-/// The counts and the bytes that a verification tells.
+/// The counts and the bytes that a verification gives.
 impl Shown for Verdict {
     fn shown(&self, alloc: Global) -> Result<String, AllocError> {
         let (good, good_bytes) = (self.good, self.good_bytes);

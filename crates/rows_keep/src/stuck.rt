@@ -1,4 +1,4 @@
-//! A store of which one kind of step fails.
+//! A store on which one kind of step fails.
 ghost use Rattle.std.specs.Prelude.{None};
 ghost use Rattle.cacache.specs.Stores.{Fits, Logs, plain_step, plain_answer};
 
@@ -71,7 +71,7 @@ impl Kind {
     }
 }
 
-/// Another store, of which steps of one kind fail.
+/// Another store, on which steps of one kind fail.
 #[derive(Drop)]
 pub(crate) struct Stuck<'a, S> {
     pub(crate) store: &'a mut S,
@@ -99,7 +99,7 @@ impl<'a, S: Store> Store for Stuck<'a, S> {
     }
 }
 
-/// What it refuses itself has no reason of a system's.
+/// What it refuses itself has no reason from a system.
 impl<'a, S: Store> Reasons for Stuck<'a, S> {
     ghost known = { λ _. None };
 

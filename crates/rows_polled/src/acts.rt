@@ -56,7 +56,7 @@ fn bytes_read(alloc: Global, came: io::Result<Answered<Vec<u8>>>) -> Result<Stri
     Ok(read(alloc, bytes)?)
 }
 
-/// What a call gives whose future is ready at once.
+/// What a call with a future that is ready at once gives.
 fn called<R: Wait + RandomSource + AllocGlobal, S: Store>(
     rt: &R,
     env: &mut On<S>,

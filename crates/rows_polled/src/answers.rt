@@ -6,7 +6,7 @@ use rows::answers::refused;
 use rows::words::{is_nothing, word_of, written_out};
 use std::alloc::{AllocError, Global};
 
-/// Puts an answer behind those before it.
+/// Puts an answer after those before it.
 pub(crate) fn add(line: &mut String, answer: &str) -> Result<(), AllocError> {
     if !line.is_empty() {
         line.push_str("; ")?;
@@ -14,7 +14,7 @@ pub(crate) fn add(line: &mut String, answer: &str) -> Result<(), AllocError> {
     line.push_str(answer)
 }
 
-/// A line with an answer behind it.
+/// A line with an answer after it.
 pub(crate) fn with(line: String, answer: Result<String, AllocError>) -> Result<String, AllocError> {
     let (answer, mut line) = beside(answer, line)?;
     let (_, line) = beside(add(&mut line, answer.as_str()), line)?;

@@ -1,4 +1,4 @@
-//! The core of a writer: what it is asked, and what it is told of its work.
+//! The core of a writer: what it is asked, and what it learns of its work.
 use crate::answers::bytes_of;
 use crate::steps::{Stepped, in_turn};
 use cacache_core::errors::{Fault, Result as Answered};
@@ -10,7 +10,7 @@ use rows::answers::given;
 use rows::words::{cut, number_of, word_of};
 use std::alloc::{AllocError, Global};
 
-/// What a core answers a poll. A poll that memory was refused to changed nothing, so it is made once more.
+/// What a core answers to a poll. A poll for which memory was refused changed nothing, so it is made once more.
 fn polled(alloc: Global, core: &mut WriterCore, poll: Request<'_>) -> Answered<Polled> {
     match core.poll(alloc, poll) {
         Err(error) => {
@@ -58,7 +58,7 @@ fn fault_of(name: &str) -> Result<Fault, Flaw> {
     }
 }
 
-/// What a step tells a core of its work.
+/// What a step reports to a core about its work.
 fn completion_of(name: &str, what: &str) -> Result<Completion, Flaw> {
     match name {
         "wrote" => Ok(Completion::Wrote(number_of(what)?)),
@@ -98,7 +98,7 @@ fn finished(alloc: Global, core: &mut WriterCore) -> Result<String, Flaw> {
     Ok(line?)
 }
 
-/// What a step gives that isn't a poll.
+/// What a step that isn't a poll gives.
 fn ended(alloc: Global, core: &mut WriterCore, name: &str, what: &str) -> Result<String, Flaw> {
     let word = match name {
         "finish" => return finished(alloc, core),

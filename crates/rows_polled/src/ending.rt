@@ -1,4 +1,4 @@
-//! The end of a writer: a commit, which may be pending at first, or a drop. What comes behind it.
+//! The end of a writer: a commit, which may be pending at first, or a drop. What comes after it.
 use crate::answers::{add, with};
 use crate::gates::{turned, worked};
 use crate::steps::{Stepped, with_steps};
@@ -24,7 +24,7 @@ fn ended(alloc: Global, polled: Poll<Answered<Integrity>>) -> Result<String, All
     }
 }
 
-/// What a step gives behind the first poll of a commit: a further poll, or a turn of the worker.
+/// What a step gives after the first poll of a commit: a further poll, or a turn of the worker.
 fn stepped<R, S, T>(
     rt: &R,
     task: &MockTask,
@@ -44,7 +44,7 @@ where
     }
 }
 
-/// Adds what the steps behind the first poll of a commit give.
+/// Adds what the steps after the first poll of a commit give.
 fn add_behind<R, S, T>(
     rt: &R,
     task: &MockTask,
@@ -65,7 +65,7 @@ where
     Ok(())
 }
 
-/// What the commit gives, or a close, and the steps behind it.
+/// What the commit gives, or a close, and the steps after it.
 pub(crate) fn committed<R, S, T>(
     rt: &R,
     env: &mut On<S>,
@@ -116,7 +116,7 @@ where
     Ok(with(line, String::from_str(rt.alloc(), "-"))?)
 }
 
-/// A worker whose writer was dropped.
+/// A worker after its writer was dropped.
 #[derive(Drop)]
 struct Alone<'a, R, T> {
     rt: &'a R,

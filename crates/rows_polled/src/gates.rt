@@ -7,7 +7,7 @@ use rows::words::{cut, number_of};
 use std::alloc::AllocGlobal;
 use std::sync::Wait;
 
-/// A gate that lets turns through from this one on, and says so of those before.
+/// A gate that lets turns through from this one on, and gives this answer to those before.
 #[derive(Clone, Copy)]
 struct OpensAt {
     first: u64,

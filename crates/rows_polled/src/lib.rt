@@ -27,7 +27,7 @@ use std::random::RandomSource;
 use std::rt::Files;
 use std::sync::Wait;
 
-/// Tries rows, prints how they went, and tells whether each of them holds.
+/// Tries rows, prints how they went, and returns whether each of them holds.
 pub fn all_hold<R>(rt: &R, rows: &str) -> io::Result<bool>
 where
     R: Wait + RandomSource + Files + AllocGlobal + Print + Clone + Drop,

@@ -1,4 +1,4 @@
-//! Links whose target is read by polls. A poll of a read is always ready.
+//! Links to a target that is read by polls. A poll of a read is always ready.
 use crate::answers::with;
 use crate::readers::{Readable, read_in_turn};
 use cacache_async::linker::ToLinker;
@@ -19,7 +19,8 @@ use std::alloc::AllocGlobal;
 use std::random::RandomSource;
 use std::sync::Wait;
 
-/// A linker that is opened with options, of which there are none: `options CACHE KEY TARGET` or `options_hash CACHE - TARGET`.
+/// A linker that is opened with options, though none are set: `options CACHE KEY TARGET` or `options_hash CACHE -
+/// TARGET`.
 fn opened_with<R: Wait + RandomSource + AllocGlobal, S: Store>(
     rt: &R,
     env: &mut On<S>,
@@ -59,7 +60,7 @@ impl<F: OpenedFile> Readable for ToLinker<F> {
     }
 }
 
-/// What the reads give, and the commit behind them, if there is one.
+/// What the reads give, and the commit after them, if there is one.
 fn read_and_committed<R: Wait + RandomSource + AllocGlobal, S: Store>(
     rt: &R,
     env: &mut On<S>,
@@ -77,7 +78,7 @@ fn read_and_committed<R: Wait + RandomSource + AllocGlobal, S: Store>(
     Ok(with(line, stored(alloc, committed))?)
 }
 
-/// What the steps give of a linker that is opened so.
+/// What the steps of a linker that is opened so give.
 pub(crate) fn linked_by_polls<R: Wait + RandomSource + AllocGlobal, S: Store>(
     rt: &R,
     env: &mut On<S>,

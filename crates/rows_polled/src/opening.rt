@@ -18,7 +18,7 @@ use std::sync::Wait;
 /// The future that opens a writer.
 type Opening<'a, S> = WriteOptsOpenFuture<'a, S, Still, Numbers>;
 
-/// All that a commit may be told: five bytes of this integrity are expected.
+/// All that can be said to a commit: five bytes of this integrity are expected.
 fn all_opts(alloc: Global, integrity: &str) -> Result<WriteOpts, Flaw> {
     let sri = integrity_of(alloc, integrity)?;
     let (raw, sri) = beside(vec![in alloc; 9; 2], sri)?;
@@ -33,8 +33,8 @@ fn all_opts(alloc: Global, integrity: &str) -> Result<WriteOpts, Flaw> {
     )
 }
 
-/// That of a writer with options: `open CACHE KEY SIZE` and `open_hash CACHE SIZE` expect so many bytes, and `with CACHE
-/// KEY INTEGRITY` says all that a commit may be told.
+/// That of a writer with options: `open CACHE KEY SIZE` and `open_hash CACHE SIZE` expect so many bytes, and `with
+/// CACHE KEY INTEGRITY` says all that can be said to a commit.
 fn opening_with<'a, S: Store>(
     env: &'a mut On<S>,
     way: &str,

@@ -59,7 +59,7 @@ fn mishaps_of(words: &str) -> Result<Mishaps, Flaw> {
     Ok(mishaps)
 }
 
-/// What a writer's steps give over a store whose files have mishaps, and then what the content holds.
+/// What a writer's steps give over a store with files that have mishaps, and then what the content holds.
 fn with_mishaps<R: Wait + RandomSource + AllocGlobal>(
     rt: &R,
     env: &mut On<Faulty>,
@@ -70,13 +70,13 @@ fn with_mishaps<R: Wait + RandomSource + AllocGlobal>(
     Ok(with(line, holds)?)
 }
 
-/// An environment over a store whose files have this luck.
+/// An environment over a store with files that have this luck.
 fn with_luck(alloc: Global, luck: &str) -> Result<On<Faulty>, Flaw> {
     let store = Faulty::new(alloc, mishaps_of(luck)?)?;
     Ok(on(alloc, store, "/")?)
 }
 
-/// The same for a writer whose temporary file has this luck.
+/// The same for a writer with a temporary file that has this luck.
 fn unlucky<R: Wait + RandomSource + AllocGlobal>(
     rt: &R,
     luck: &str,
@@ -86,7 +86,7 @@ fn unlucky<R: Wait + RandomSource + AllocGlobal>(
     with_mishaps(rt, &mut env, steps)
 }
 
-/// What an act gives that opens the file of a store with the luck in front of it.
+/// What an act that opens the file of a store gives, with the luck in front of it.
 fn faulty<R: Wait + RandomSource + AllocGlobal>(rt: &R, words: &str) -> Result<String, Flaw> {
     let Some((luck, act)) = words.split_once(", ") else {
         return Err(Flaw::NotRead);
@@ -106,7 +106,8 @@ where
     Ok(in_both(places.rt.alloc(), in_memory, in_folders)?)
 }
 
-/// What an act gives: `core`, `unlucky` and `faulty` at no place, after `memory` or `folders` there alone, else at both places.
+/// What an act gives: `core`, `unlucky` and `faulty` at no place, after `memory` or `folders` only there, otherwise
+/// at both places.
 fn tried<R>(places: &mut Places<R>, act: &str) -> Result<String, Flaw>
 where
     R: Wait + RandomSource + Files + AllocGlobal + Clone + Drop,

@@ -108,7 +108,7 @@ pub(crate) fn read_in_turn<P: Readable>(
     in_turn(alloc, &mut reads, steps)
 }
 
-/// What the reads give, and the check behind them, if there is one.
+/// What the reads give, and the check after them, if there is one.
 fn read_and_checked<F: OpenedFile>(
     alloc: Global,
     task: &MockTask,
@@ -123,7 +123,7 @@ fn read_and_checked<F: OpenedFile>(
     Ok(with(line, checked(alloc, reader.check()))?)
 }
 
-/// What the steps give of a reader that is opened so.
+/// What the steps of a reader that is opened so give.
 pub(crate) fn read_by_polls<R: Wait + RandomSource + AllocGlobal, S: Store>(
     rt: &R,
     env: &mut On<S>,

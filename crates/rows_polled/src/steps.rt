@@ -35,7 +35,7 @@ pub(crate) fn in_turn<S: Stepped>(
     Ok(line)
 }
 
-/// A line with what the steps behind the end of a writer give, if there are any.
+/// A line with what the steps after the end of a writer give, if there are any.
 pub(crate) fn with_steps<S: Stepped>(
     mut line: String,
     stepped: &mut S,

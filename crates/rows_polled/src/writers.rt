@@ -82,7 +82,7 @@ fn stepped_in_turn<R: Wait + AllocGlobal, T: RemovableTemp>(
 /// What ends a writer: a commit, a close, a commit that is never polled, or a drop.
 const ENDS: [&str; 4] = ["; commit", "; shut", "; leave", "; drop"];
 
-/// The steps up to the end of a writer, its end, and those behind it. Both are empty where it isn't ended.
+/// The steps up to the end of a writer, its end, and those after it. Both are empty if it isn't ended.
 fn cut_at_end(steps: &str) -> (&str, &'static str, &str) {
     for end in ENDS {
         if let Some((before, after)) = steps.split_once(end) {
@@ -92,7 +92,7 @@ fn cut_at_end(steps: &str) -> (&str, &'static str, &str) {
     (steps, "", "")
 }
 
-/// What the steps give up to the end of the writer, its end, and the steps behind it.
+/// What the steps give up to the end of the writer, its end, and the steps after it.
 fn made_with<R, S, T>(
     rt: &R,
     env: &mut On<S>,
@@ -133,7 +133,7 @@ fn desk_of<R: RandomSource + AllocGlobal, T: Drop>(
     })
 }
 
-/// What the steps give of a writer that is opened so.
+/// What the steps of a writer that is opened so give.
 pub(crate) fn written<R, S, T>(
     rt: &R,
     env: &mut On<S>,

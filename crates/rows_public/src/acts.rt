@@ -1,4 +1,4 @@
-//! What a row does: a public call, or what somebody else does beside it.
+//! What a row does: a public call, or something that somebody else does.
 use crate::calls::called;
 use crate::exports::exported;
 use crate::linkers::linked;
@@ -56,7 +56,7 @@ fn asked<S: Store>(env: &mut On<S>, act: &str, row: Row<'_>) -> Result<String, F
     Ok(format!(in env.alloc; "clock {clock}, numbers {numbers}: {line}")?)
 }
 
-/// What a step of somebody else gives, where the name is that of one: whether it was done.
+/// What a step of somebody else gives, if the name is that of one: whether it was done.
 fn made_beside<S: Store>(
     env: &mut On<S>,
     name: &str,
@@ -101,7 +101,7 @@ fn made_of<S: Store>(env: &mut On<S>, row: Row<'_>) -> Result<String, Flaw> {
     }
 }
 
-/// What an act gives in an environment whose base is the folder that the act begins with.
+/// What an act gives in an environment with the folder that the act begins with as its base.
 fn made_from<S: Store>(env: &mut On<S>, act: &str, row: Row<'_>) -> Result<String, Flaw> {
     let (base, act) = cut(act);
     let here = env.base.clone()?;
@@ -118,7 +118,7 @@ const OPEN: &str = "/proc/self/fd";
 /// How much memory the program has, on real folders: its first number is that of pages.
 const MEMORY: &str = "/proc/self/statm";
 
-/// The most pages that calls may add which are made again and again.
+/// The most pages that calls which are made again and again may add.
 const FEW: usize = 256;
 
 /// How many pages of memory the program has, and how many descriptors are open, if both can be had.
@@ -131,7 +131,7 @@ fn kept<S: Store>(env: &mut On<S>) -> Result<Option<(usize, usize)>, Flaw> {
     }
 }
 
-/// What an act gives that is made so many times, and must give the same each time.
+/// What an act that is made so many times gives, which must be the same each time.
 fn made_often<S: Store>(env: &mut On<S>, row: Row<'_>, count: usize) -> Result<String, Flaw> {
     let first = made_of(env, row)?;
     for number in 1..count {
@@ -143,7 +143,8 @@ fn made_often<S: Store>(env: &mut On<S>, row: Row<'_>, count: usize) -> Result<S
     Ok(first)
 }
 
-/// What an act gives that is made a few times and then so many times more, and whether these keep memory or a descriptor.
+/// What an act that is made a few times and then so many times more gives, and whether these keep memory or a
+/// descriptor.
 fn again<S: Store>(env: &mut On<S>, act: &str, row: Row<'_>) -> Result<String, Flaw> {
     let (count, act) = cut(act);
     let count = number_of(count)?;

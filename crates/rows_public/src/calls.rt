@@ -1,5 +1,5 @@
-//! Public calls that give one answer. A call's name is followed by the cache and what else the call is given. Each function
-//! knows some of the names and hands on the others.
+//! Public calls that give one answer. A call's name is followed by the cache and whatever else the call is given.
+//! Each function knows some of the names and hands on the others.
 use crate::lines::{contents, done, exists, first, found, has, listed, read};
 use crate::options::options_of;
 use crate::row::Row;
@@ -74,7 +74,8 @@ fn storing_vec_under<S: Store>(
     Ok(stored(alloc, result)?)
 }
 
-/// The line on a call that stores these bytes, which is given an algorithm's name, the cache, and a key where it has one.
+/// The line on a call that stores these bytes, which is given an algorithm's name, the cache, and a key if it has
+/// one.
 fn storing_under<S: Store>(
     env: &mut On<S>,
     name: &str,
@@ -218,7 +219,7 @@ fn on_cache<S: Store>(
     Ok(line?)
 }
 
-/// The line on the call of the row, whose words may have `\t` and the like.
+/// The line on the call of the row; the row's words may have `\t` and the like.
 pub(crate) fn called<S: Store>(env: &mut On<S>, row: Row<'_>) -> Result<String, Flaw> {
     let (name, words) = cut(row.act);
     let words = string_of(env.alloc, words)?;

@@ -1,4 +1,4 @@
-//! A store of which one step fails.
+//! A store with one step that fails.
 ghost use Rattle.std.specs.Prelude.{None};
 ghost use Rattle.cacache.specs.Stores.{Fits, Logs, plain_step, plain_answer};
 
@@ -6,7 +6,7 @@ use cacache::errors::Fault;
 use cacache::store::{Answer, Step, Store};
 use cacache_core::keeping::let_go;
 
-/// Another store, of which one step fails.
+/// Another store, with one step that fails.
 #[derive(Drop)]
 pub(crate) struct Failing<'a, S> {
     pub(crate) store: &'a mut S,
@@ -14,7 +14,7 @@ pub(crate) struct Failing<'a, S> {
     pub(crate) asked: usize,
     /// The number of the step that fails, counted from 0.
     pub(crate) fails: usize,
-    /// Why it fails; None where memory is refused.
+    /// Why it fails; None if memory is refused.
     pub(crate) fault: Option<Fault>,
 }
 

@@ -1,5 +1,5 @@
-//! Tries rows on the public calls and on the program, each on a disk in memory, on real folders, and as a future where the
-//! call has one. Each row has three columns with bars between them:
+//! Tries rows on the public calls and on the program, each on a disk in memory, on real folders, and as a future if
+//! the call has one. Each row has three columns with bars between them:
 //!
 //!     ACT | INPUT | RESULT
 //!
@@ -57,7 +57,7 @@ fn take<R: Threads + Wait + Clock + RandomSource + AllocGlobal + Print + Sync>(
     }
 }
 
-/// Tries rows at these places, and tells whether each holds.
+/// Tries rows at these places, and returns whether each holds.
 fn all_hold_at<R: Threads + Wait + Clock + RandomSource + AllocGlobal + Print + Sync>(
     rt: &R,
     places: &mut Places,
@@ -70,8 +70,8 @@ fn all_hold_at<R: Threads + Wait + Clock + RandomSource + AllocGlobal + Print + 
     report.end(rt)
 }
 
-/// Tries rows, prints how they went, and tells whether each of them holds. `rt` waits and starts threads, and `host` is the
-/// same runtime.
+/// Tries rows, prints how they went, and returns whether each of them holds. `rt` waits and starts threads, and
+/// `host` is the same runtime.
 pub fn all_hold<R: Threads + Wait + Clock + RandomSource + AllocGlobal + Print + Sync>(
     rt: &R,
     host: &HostRuntime,

@@ -133,7 +133,7 @@ fn lines_of<S: Store, C, N>(alloc: Global, items: Ls<S, C, N>) -> Result<Vec<Str
     lines
 }
 
-/// The lines behind the word for a listing, sorted.
+/// The lines after the word for a listing, sorted.
 fn joined(alloc: Global, mut lines: Vec<String>) -> Result<String, AllocError> {
     lines.sort()?;
     let mut line = String::from_str(alloc, "Listed")?;

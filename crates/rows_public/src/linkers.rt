@@ -1,5 +1,5 @@
-//! Links whose target is read in pieces: how the linker is opened, the cache, the key, the target, how many bytes are
-//! read before the commit, and options.
+//! Links to a target that is read in pieces: how the linker is opened, the cache, the key, the target, how many bytes
+//! are read before the commit, and options.
 use crate::lines::pair;
 use crate::options::options_of;
 use crate::readers::first_of;
@@ -14,7 +14,7 @@ use rows::parts::algorithm_of;
 use rows::words::{cut, number_of};
 use std::alloc::AllocError;
 
-/// A cache, a key and a target. The key is an algorithm's name where the linker has none.
+/// A cache, a key and a target. The key is an algorithm's name if the linker has none.
 #[derive(Clone, Copy)]
 struct Link<'a> {
     cache: &'a str,
@@ -22,7 +22,7 @@ struct Link<'a> {
     target: &'a str,
 }
 
-/// A cache, a key and a target, and the words behind them.
+/// A cache, a key and a target, and the words after them.
 fn link_of(words: &str) -> (Link<'_>, &str) {
     let (cache, words) = cut(words);
     let (key, words) = cut(words);
@@ -30,7 +30,7 @@ fn link_of(words: &str) -> (Link<'_>, &str) {
     (Link { cache, key, target }, words)
 }
 
-/// A linker that is opened with options, where the word says so.
+/// A linker that is opened with options, if the word says so.
 fn opened_with<S: Store>(
     env: &mut On<S>,
     way: &str,
@@ -49,7 +49,7 @@ fn opened_with<S: Store>(
     }
 }
 
-/// A linker that is opened in one of the ways, where the word is one.
+/// A linker that is opened in one of the ways, if the word is one.
 fn opened<S: Store>(
     env: &mut On<S>,
     way: &str,
@@ -65,7 +65,8 @@ fn opened<S: Store>(
     }
 }
 
-/// The line on a linker of which so many bytes are read, and on its commit, but after `drop`; or why it wasn't opened.
+/// The line on a linker after a read of so many bytes, and on its commit, except after `drop`; or why it wasn't
+/// opened.
 fn committed<S: Store>(
     env: &mut On<S>,
     opened: Answered<SyncToLinker<S::File>>,

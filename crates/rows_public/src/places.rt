@@ -1,4 +1,5 @@
-//! The places at which rows are tried: a disk in memory, real folders, and a disk in memory whose calls are futures.
+//! The places at which rows are tried: a disk in memory, real folders, and a disk in memory with calls that are
+//! futures.
 use crate::polled::polled;
 use crate::program::ran_or_made;
 use crate::row::{Row, row_of};
@@ -40,7 +41,7 @@ impl Places {
         })
     }
 
-    /// Begins a group of rows, whose temporary files are numbered from 0.
+    /// Begins a group of rows, and numbers their temporary files from 0.
     pub(crate) fn begin(&mut self) {
         self.memory.names = Numbers { next: 0 };
         self.folders.names = Numbers { next: 0 };
@@ -62,7 +63,7 @@ fn made_in_memory<R: Threads + Wait + Clock + AllocGlobal + Sync>(
     }
 }
 
-/// What the row's act gives as a future, where it is a call that has one.
+/// What the row's act gives as a future, if it is a call that has one.
 fn by_future<R: Threads + Wait + Clock + RandomSource + AllocGlobal + Sync>(
     rt: &R,
     futures: &mut On<MemStore>,
@@ -93,7 +94,7 @@ fn in_both_memories<R: Threads + Wait + Clock + RandomSource + AllocGlobal + Syn
     Ok(format!(in rt.alloc(); "{line}, but as a future {of_future}")?)
 }
 
-/// What the row's act gives on real folders, where behind `beside` somebody else makes it.
+/// What the row's act gives on real folders; after `beside` somebody else makes it.
 fn made_in_folders<R: Threads + Wait + Clock + AllocGlobal + Sync>(
     rt: &R,
     places: &mut Places,
@@ -116,8 +117,8 @@ fn everywhere<R: Threads + Wait + Clock + RandomSource + AllocGlobal + Sync>(
     Ok(in_both(rt.alloc(), in_memory, in_folders)?)
 }
 
-/// What the row's act gives: after the words `in memory` or `in folders` there alone, after `failing` on disks in memory of
-/// its own, else everywhere.
+/// What the row's act gives: after the words `in memory` or `in folders` only there, after `failing` on disks in
+/// memory of its own, otherwise everywhere.
 fn tried<R: Threads + Wait + Clock + RandomSource + AllocGlobal + Sync>(
     rt: &R,
     places: &mut Places,

@@ -19,7 +19,7 @@ use std::alloc::AllocGlobal;
 use std::random::RandomSource;
 use std::sync::Wait;
 
-/// What a row's act gives, where it is a call that has a future.
+/// What a row's act gives, if it is a call that has a future.
 pub(crate) type Told = Result<Option<String>, Flaw>;
 
 /// The line on a call by integrity.
@@ -43,7 +43,8 @@ fn by_hash<R: Wait + RandomSource + AllocGlobal, S: Store>(
     Ok(Some(line?))
 }
 
-/// The line on a call that stores these bytes, which is given an algorithm's name, the cache, and a key where it has one.
+/// The line on a call that stores these bytes, which is given an algorithm's name, the cache, and a key if it has
+/// one.
 fn storing_under<R: Wait + RandomSource + AllocGlobal, S: Store>(
     rt: &R,
     env: &mut On<S>,
@@ -179,7 +180,7 @@ fn by_key<R: Wait + RandomSource + AllocGlobal, S: Store>(
     Ok(Some(line?))
 }
 
-/// The line on a call, whose words may have `\t` and the like.
+/// The line on a call; its words may have `\t` and the like.
 fn called<R: Wait + RandomSource + AllocGlobal, S: Store>(
     rt: &R,
     env: &mut On<S>,
@@ -193,7 +194,7 @@ fn called<R: Wait + RandomSource + AllocGlobal, S: Store>(
     by_key(rt, env, name, words.as_str(), row.input)
 }
 
-/// What the row's act gives, where it is a call that has a future.
+/// What the row's act gives, if it is a call that has a future.
 pub(crate) fn polled<R: Wait + RandomSource + AllocGlobal, S: Store>(
     rt: &R,
     env: &mut On<S>,

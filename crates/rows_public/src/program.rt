@@ -27,8 +27,8 @@ struct Run<'a> {
     room: usize,
 }
 
-/// The run that an act asks for: `torn ..` for an input that fails at its end, `vast ..` for one that memory is refused
-/// for, `full N ..` for an output with room for N bytes.
+/// The run that an act asks for: `torn ..` for an input that fails at its end, `vast ..` for one for which memory is
+/// refused, `full N ..` for an output with room for N bytes.
 fn run_of(act: &str) -> Result<Run<'_>, Flaw> {
     let (words, end, room) = match cut(act) {
         ("torn", words) => (words, End::Torn, AMPLE),
@@ -88,7 +88,7 @@ fn ran<T: Threads + Wait + Clock + AllocGlobal + Sync, S: Reasons>(
     Ok(ran_with(rt, env, &words, Input { bytes, end }, room)?)
 }
 
-/// What the row's act gives, if it is a run of the program, and else as a call.
+/// What the row's act gives, as a run of the program if it is one, and otherwise as a call.
 pub(crate) fn ran_or_made<T: Threads + Wait + Clock + AllocGlobal + Sync, S: Reasons>(
     rt: &T,
     env: &mut On<S>,
@@ -100,7 +100,7 @@ pub(crate) fn ran_or_made<T: Threads + Wait + Clock + AllocGlobal + Sync, S: Rea
     }
 }
 
-/// What is told of a storm that ends early.
+/// What is reported of a storm that ends early.
 pub(crate) fn ended(alloc: Global, why: &str) -> Result<String, Flaw> {
     let fault = match why {
         "count" => StormFault::Count,
@@ -115,7 +115,7 @@ pub(crate) fn ended(alloc: Global, why: &str) -> Result<String, Flaw> {
     Ok(told(alloc, status, b"", &errors.output)?)
 }
 
-/// What is told where the words can't be had, since memory ran out or a word isn't UTF-8.
+/// What is reported if the words can't be had, since memory ran out or a word isn't UTF-8.
 pub(crate) fn without(alloc: Global, why: &str) -> Result<String, Flaw> {
     let kind = match why {
         "memory" => ErrorKind::OutOfMemory,

@@ -13,7 +13,7 @@ use rows::parts::{expected_of, size_of};
 use rows::words::cut;
 use std::alloc::{AllocError, Global};
 
-/// The put of these data under a key at the moment 1, of which an expected size and an expected integrity are said.
+/// The put of these data under a key at the moment 1, with an expected size and an expected integrity.
 fn put_with(key: Text, data: Bytes, size: Option<usize>, integrity: Option<Integrity>) -> Command {
     Command::Put(Put {
         key: Some(key),

@@ -1,5 +1,5 @@
 //! Contents that are read in pieces: how the reader is opened, the cache, the key or the integrity's text, how many
-//! bytes are read at first, and what is done then. The input is the path of the content where that is spoilt.
+//! bytes are read at first, and what is done then. The input is the path of the content if that is spoilt.
 use crate::lines::pair;
 use crate::words::shown;
 use cacache::content::read::open;
@@ -15,7 +15,7 @@ use rows::words::{cut, number_of};
 use std::alloc::{AllocError, Global};
 use std::io::Read;
 
-/// A reader that is opened in one of the ways, where the word is one.
+/// A reader that is opened in one of the ways, if the word is one.
 fn opened<S: Store>(
     env: &mut On<S>,
     way: &str,
@@ -81,7 +81,7 @@ fn parts_of<S: Store>(
     pair(alloc, first, rest_of(alloc, reader))
 }
 
-/// The line on the parts of a reader and on its check, but after `drop`; or why it wasn't opened.
+/// The line on the parts of a reader and on its check, except after `drop`; or why it wasn't opened.
 fn told<S: Store>(
     env: &mut On<S>,
     opened: Answered<SyncReader<S::File>>,

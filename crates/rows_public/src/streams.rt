@@ -1,7 +1,7 @@
 //! Streams that fail.
 use std::io::{self, ErrorKind, Read, Write};
 
-/// What comes behind the last byte of an input.
+/// What comes after the last byte of an input.
 #[derive(Clone, Copy)]
 pub(crate) enum End {
     /// Nothing.

@@ -69,7 +69,7 @@ fn items(alloc: Global, log: &[LogItem]) -> Result<String, AllocError> {
     Ok(line)
 }
 
-/// Where the log stands before an act, and what the act gives.
+/// Where the log is before an act, and what the act gives.
 fn made_from(env: &mut On<MemStore>, row: Row<'_>) -> Result<(usize, String), Flaw> {
     let before = env.store.log().len();
     Ok((before, made(env, row)?))

@@ -1,4 +1,4 @@
-//! Acts of which one step fails, with each fault in turn, on a disk in memory of their own.
+//! Acts with one step that fails, with each fault in turn, on a disk in memory of their own.
 use crate::acts::made;
 use crate::failing::Failing;
 use crate::row::Row;
@@ -12,7 +12,7 @@ use std::alloc::{AllocError, Global};
 /// More steps than any act makes.
 const MOST: usize = 400;
 
-/// Why steps fail, beside `Device`; None where memory is refused.
+/// Why steps fail, besides `Device`; None if memory is refused.
 const FAULTS: [Option<Fault>; 14] = [
     None,
     Some(Fault::NotFound),
@@ -30,7 +30,7 @@ const FAULTS: [Option<Fault>; 14] = [
     Some(Fault::TooDeep),
 ];
 
-/// A look at the cache, the acts before, and the act whose steps fail.
+/// A look at the cache, the acts before, and the act with steps that fail.
 #[derive(Clone, Copy)]
 struct Scene<'a> {
     alloc: Global,
@@ -39,7 +39,7 @@ struct Scene<'a> {
     act: Row<'a>,
 }
 
-/// What the act gives where no step fails, and what the look gives before and after it.
+/// What the act gives if no step fails, and what the look gives before and after it.
 #[derive(Drop)]
 struct Plain {
     line: String,
@@ -56,7 +56,7 @@ fn told(alloc: Global, fault: Option<Fault>) -> Result<String, AllocError> {
 }
 
 impl Plain {
-    /// The mark of what the look gives: `=` where it is that of before, `+` where it is that of after, else `?`.
+    /// The mark of what the look gives: `=` if it is that of before, `+` if it is that of after, otherwise `?`.
     fn state(&self, seen: &str) -> char {
         if seen == self.before.as_str() {
             '='
@@ -67,8 +67,8 @@ impl Plain {
         }
     }
 
-    /// The mark of an act of which a step failed: what the look gives, behind the answer in brackets where that doesn't say
-    /// why the step failed. `.` stands for the answer where no step fails, and what the look gives then.
+    /// The mark of an act with a step that failed: what the look gives, after the answer in brackets if that doesn't
+    /// say why the step failed. `.` stands for the answer if no step fails, and what the look gives then.
     fn mark(
         &self,
         alloc: Global,
@@ -97,7 +97,7 @@ fn prepare(env: &mut On<MemStore>, scene: Scene<'_>) -> Result<(), Flaw> {
     Ok(())
 }
 
-/// What the act gives where this step fails; None where it makes fewer steps.
+/// What the act gives if this step fails; None if it makes fewer steps.
 fn failed(
     env: &mut On<MemStore>,
     row: Row<'_>,
@@ -119,7 +119,7 @@ fn failed(
     })
 }
 
-/// The mark of the act where this step fails, on an empty disk; None where it makes fewer steps.
+/// The mark of the act if this step fails, on an empty disk; None if it makes fewer steps.
 fn trial(
     env: &mut On<MemStore>,
     scene: Scene<'_>,
@@ -137,7 +137,7 @@ fn trial(
     }
 }
 
-/// The marks of the act, one for each of its steps where this fails so.
+/// The marks of the act, one for each of its steps, if this fails so.
 fn marks(scene: Scene<'_>, plain: &Plain, fault: Option<Fault>) -> Result<String, Flaw> {
     let mut marks = String::new(scene.alloc);
     for fails in 0..MOST {
@@ -150,7 +150,7 @@ fn marks(scene: Scene<'_>, plain: &Plain, fault: Option<Fault>) -> Result<String
     Err(Flaw::Unfit)
 }
 
-/// What the act gives on an empty disk where no step fails.
+/// What the act gives on an empty disk if no step fails.
 fn plain_of(env: &mut On<MemStore>, scene: Scene<'_>) -> Result<Plain, Flaw> {
     prepare(env, scene)?;
     let before = made(env, scene.look)?;
@@ -163,7 +163,7 @@ fn plain_of(env: &mut On<MemStore>, scene: Scene<'_>) -> Result<Plain, Flaw> {
     })
 }
 
-/// The marks of the act with `Device`, and behind them each other fault that gives others.
+/// The marks of the act with `Device`, and after them each other fault that gives others.
 fn all_marks(scene: Scene<'_>, plain: &Plain) -> Result<String, Flaw> {
     let alloc = scene.alloc;
     let device = marks(scene, plain, Some(Fault::Device))?;
@@ -181,7 +181,7 @@ fn all_marks(scene: Scene<'_>, plain: &Plain) -> Result<String, Flaw> {
     Ok(line)
 }
 
-/// What comes of a row: a look, the acts before and the act whose steps fail, with `; ` between them.
+/// What comes of a row: a look, the acts before and the act with steps that fail, with `; ` between them.
 pub(crate) fn tried(alloc: Global, row: Row<'_>) -> Result<String, Flaw> {
     let Some((look, acts)) = row.act.split_once("; ") else {
         return Err(Flaw::NotRead);

@@ -2,7 +2,7 @@
 use rows::words::{string_of, word_of, written_out};
 use std::alloc::{AllocError, Global};
 
-/// Puts a word behind the others.
+/// Puts a word after the others.
 fn push(words: &mut Vec<String>, word: Result<String, AllocError>) -> Result<(), AllocError> {
     words.push(word?)?;
     Ok(())

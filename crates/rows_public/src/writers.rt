@@ -15,7 +15,7 @@ use rows::words::{cut, is_nothing};
 use std::alloc::{AllocError, Global};
 use std::io::Write;
 
-/// A writer that is opened with options, where the word says so.
+/// A writer that is opened with options, if the word says so.
 fn opened_with<S: Store>(
     env: &mut On<S>,
     way: &str,
@@ -36,7 +36,7 @@ fn opened_with<S: Store>(
     }
 }
 
-/// A writer that is opened in one of the ways, where the word is one. The key is an algorithm's name and the key for
+/// A writer that is opened in one of the ways, if the word is one. The key is an algorithm's name and the key for
 /// `create_with_algo`.
 fn opened<S: Store>(
     env: &mut On<S>,
@@ -55,7 +55,7 @@ fn opened<S: Store>(
     }
 }
 
-/// Writes the pieces, a piece a write, and tells whether all were taken.
+/// Writes the pieces, a piece a write, and returns whether all were taken.
 fn takes<W: Write>(writer: &mut W, pieces: &str) -> bool {
     if is_nothing(pieces) {
         return true;

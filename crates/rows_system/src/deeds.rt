@@ -137,7 +137,7 @@ impl World {
         tell(self.alloc, self.system.step(step))
     }
 
-    /// Compares what the system answered, and its own error, with what was foretold.
+    /// Compares what the system answered, and its own error, with what was predicted.
     fn check(&mut self, foretold: &Foretold, came: &str, odd: Option<Odd>) -> Result<(), Bad> {
         let drawn = foretold.drawn.as_str();
         self.compare(drawn, foretold.told.text.as_str(), came, odd)?;
@@ -165,7 +165,7 @@ impl World {
         }
     }
 
-    /// Keeps what a step left that was done at these paths.
+    /// Keeps what a step that was done at these paths left.
     fn keep(
         &mut self,
         deed: &Deed,
@@ -179,7 +179,7 @@ impl World {
         Ok(self.keep_opened(deed, one, foretold, real)?)
     }
 
-    /// Does a step on the system, and compares its answer with what was foretold.
+    /// Does a step on the system, and compares its answer with what was predicted.
     fn follow(
         &mut self,
         deed: &Deed,

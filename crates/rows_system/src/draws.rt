@@ -7,13 +7,13 @@ use std::alloc::{AllocError, Global};
 /// The names of most steps.
 const NAMES: [&str; 5] = ["a", "a", "b", "b", "c"];
 
-/// Odd names, and names of a chain of twenty links, of which the disk follows sixteen.
+/// Odd names, and names of a chain of twenty links, sixteen of which the disk follows.
 const ODD: [&str; 8] = [".", "..", "", "k0", "k3", "k4", "..", "."];
 
 /// How many names paths have.
 const COUNTS: [usize; 6] = [1, 1, 1, 2, 2, 3];
 
-/// What may stand behind a path.
+/// What may come after a path.
 const TAILS: [&str; 6] = ["/", "/.", "/", "//", "/..", "\0"];
 
 /// Targets that are no paths of the folder.
@@ -25,7 +25,7 @@ const TEXTS: [&str; 4] = ["x", "yz", "some more bytes", ""];
 /// The links of the chain.
 pub(crate) const CHAIN: usize = 20;
 
-/// What steps do; those that stand here more than once are made more often.
+/// What steps do; those that are here more than once are made more often.
 const ACTS: [Act; 31] = [
     Act::MakeDirs,
     Act::MakeDirs,
@@ -89,7 +89,7 @@ impl Draws {
         self.random.pick(items).copied().unwrap_or("a")
     }
 
-    /// Puts a name behind a path.
+    /// Puts a name after a path.
     fn push_name(&mut self, path: &mut String) -> Result<(), AllocError> {
         path.push('/')?;
         match self.random.below(100) {
@@ -136,7 +136,7 @@ impl Draws {
         self.one_of(&TEXTS)
     }
 
-    /// A step that has paths alone.
+    /// A step that has only paths.
     pub(crate) fn deed(&mut self) -> Result<Deed, AllocError> {
         let is_rare = self.random.below(40) == 0;
         let act = if is_rare {
@@ -163,7 +163,7 @@ impl Draws {
     }
 }
 
-/// Puts a name of so many bytes behind a path.
+/// Puts a name of so many bytes after a path.
 fn push_long(path: &mut String, count: usize) -> Result<(), AllocError> {
     for _ in 0..count {
         path.push('n')?;
@@ -171,7 +171,7 @@ fn push_long(path: &mut String, count: usize) -> Result<(), AllocError> {
     Ok(())
 }
 
-/// Puts so many names `.` behind a path that it is too long.
+/// Puts so many names `.` after a path that it is too long.
 fn push_dots(path: &mut String) -> Result<(), AllocError> {
     for _ in 0..2048 {
         path.push_str("/.")?;

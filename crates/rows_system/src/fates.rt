@@ -1,5 +1,5 @@
-//! What Linux makes of a step that has paths alone: it fails, or it does what the disk's table says of paths that have no
-//! links and no odd names.
+//! What Linux makes of a step that has only paths: it fails, or it does what the disk's table says about paths that
+//! have no links and no odd names.
 use crate::acts::{Act, Deed};
 use crate::look::{End, Follow, Halt, Look, What};
 use crate::odds::Odd;
@@ -20,7 +20,7 @@ fn has_nul(path: &str) -> bool {
     path.as_bytes().contains(&0)
 }
 
-/// The error where this doesn't hold.
+/// The error if this doesn't hold.
 fn want(holds: bool, kind: ErrorKind) -> Result<(), Halt> {
     if holds {
         Ok(())
@@ -39,7 +39,7 @@ fn unremovable(end: &End) -> Option<ErrorKind> {
     }
 }
 
-/// Why a step can't be done at an end, whatever stands there.
+/// Why a step can't be done at an end, whatever is there.
 fn fault_at(act: Act, end: &End) -> Option<ErrorKind> {
     match act {
         Act::RemoveDir => unremovable(end),
@@ -52,7 +52,7 @@ fn fault_at(act: Act, end: &End) -> Option<ErrorKind> {
     }
 }
 
-/// Why a step can't be done at an end where this stands.
+/// Why a step can't be done at an end that has this.
 fn fault_where(act: Act, end: &End, what: &What) -> Option<ErrorKind> {
     match (act, what) {
         (Act::RemoveFile, What::File | What::Link(_)) if end.slash => {
@@ -72,7 +72,7 @@ impl<'a> Look<'a> {
         Ok(path)
     }
 
-    /// The path of a folder that is listed. Where a link leads to nothing, it is no folder.
+    /// The path of a folder that is listed. If a link leads to nothing, it is no folder.
     fn listed(&mut self, path: &str) -> Result<String, Halt> {
         let spot = self.spot(path, Follow::All);
         let hangs = self.odds.last && !path.ends_with('/');
@@ -156,7 +156,7 @@ impl<'a> Look<'a> {
         linked
     }
 
-    /// The path to which a file is copied. What has a `/` behind it is looked at as a folder.
+    /// The path to which a file is copied. What has a `/` after it is looked at as a folder.
     fn copied_to(&mut self, to: &str) -> Result<String, Halt> {
         if to.ends_with('/') {
             let_go(self.spot(to, Follow::All)?);

@@ -1,4 +1,4 @@
-//! What is foretold of a step that has paths alone.
+//! What is predicted for a step that has only paths.
 use crate::acts::{Act, Deed, step_of};
 use crate::fates::Fate;
 use crate::look::Halt;
@@ -13,7 +13,7 @@ use rows::Flaw;
 use std::alloc::{AllocError, Global};
 use std::io::ErrorKind;
 
-/// What is foretold of a step.
+/// What is predicted for a step.
 #[derive(Drop)]
 pub(crate) struct Foretold {
     /// What the disk answers to the step as it was drawn.
@@ -43,7 +43,7 @@ fn asked(
     applied(alloc, disk, step_of(alloc, deed, one, two)?)
 }
 
-/// What Linux answers where a step fails with this kind of error.
+/// What Linux answers if a step fails with this kind of error.
 fn refusal(alloc: Global, act: Act, kind: ErrorKind) -> Result<String, AllocError> {
     match (act, kind) {
         (Act::Exists, ErrorKind::NotFound | ErrorKind::NotADirectory) => {
@@ -54,7 +54,7 @@ fn refusal(alloc: Global, act: Act, kind: ErrorKind) -> Result<String, AllocErro
 }
 
 impl World {
-    /// What Linux makes of a step, and what is odd of its paths; None where it leads out of the folder.
+    /// What Linux makes of a step, and what is odd about its paths; None if it leads out of the folder.
     fn looked_at(&self, deed: &Deed) -> Result<Option<(Fate, Odds)>, Bad> {
         let mut look = self.look();
         match look.foretold(deed) {
@@ -64,7 +64,7 @@ impl World {
         }
     }
 
-    /// What Linux makes of a step, and the kind of difference that it may make; None where it leads out of the folder.
+    /// What Linux makes of a step, and the kind of difference that it may make; None if it leads out of the folder.
     pub(crate) fn fate(&mut self, deed: &Deed) -> Result<Option<(Fate, Option<Odd>)>, Bad> {
         let Some((fate, odds)) = self.looked_at(deed)? else {
             return Ok(None);
@@ -75,7 +75,7 @@ impl World {
         Ok(Some((fate, odds.kind(Some(deed.act)))))
     }
 
-    /// What is foretold where Linux fails; the disk is asked beside that.
+    /// What is predicted if Linux fails; the disk is asked besides.
     fn refused(&self, deed: &Deed, drawn: String, kind: ErrorKind) -> Result<Foretold, AllocError> {
         Ok(Foretold {
             drawn,
@@ -98,7 +98,8 @@ impl World {
         Ok(answer?.into_text())
     }
 
-    /// What is foretold of folders that are made at a path with links or odd names; None where that leads out of the folder.
+    /// What is predicted for folders that are made at a path with links or odd names; None if that leads out of the
+    /// folder.
     fn making(&mut self, deed: &Deed) -> Result<Option<Foretold>, AllocError> {
         let drawn = self.drawn(deed)?;
         let mut disk = self.disk.clone()?;
@@ -122,7 +123,7 @@ impl World {
         Ok(Some(Foretold { drawn, told, kind }))
     }
 
-    /// What is foretold of a step that may make no difference.
+    /// What is predicted for a step that may make no difference.
     fn plain(&mut self, deed: &Deed, fate: &Fate) -> Result<Foretold, AllocError> {
         let told = asked(
             self.alloc,
@@ -145,7 +146,7 @@ impl World {
         }
     }
 
-    /// What is foretold of a step that may make a difference.
+    /// What is predicted for a step that may make a difference.
     fn odd(&mut self, deed: &Deed, fate: &Fate) -> Result<Foretold, AllocError> {
         let drawn = self.drawn(deed)?;
         match fate {
@@ -161,7 +162,7 @@ impl World {
         }
     }
 
-    /// What is foretold of a step; None where it leads out of the folder.
+    /// What is predicted for a step; None if it leads out of the folder.
     pub(crate) fn foretell(
         &mut self,
         deed: &Deed,

@@ -8,7 +8,7 @@ use cacache_core::keeping::{beside, let_go};
 use cacache_store::store::{PlainFile, PlainStep, PlainTemp, Step, Store};
 use std::alloc::AllocError;
 
-/// The bytes from a place on; none behind the end.
+/// The bytes from a place on; none after the end.
 fn behind(bytes: &[u8], place: usize) -> &[u8] {
     bytes.get(place..).unwrap_or(&[])
 }
@@ -56,7 +56,7 @@ impl World {
         Ok(drawn == came)
     }
 
-    /// The disk's open file behind a read: opened anew where it read other bytes.
+    /// The disk's open file after a read: opened anew if it read other bytes.
     fn plain_after(
         &self,
         drawn: PlainTold,
@@ -103,7 +103,7 @@ impl World {
         self.keep_read(drawn, came, given, number, offset)
     }
 
-    /// Keeps what was written to a temporary file: it stands from the end of what was written before on.
+    /// Keeps what was written to a temporary file: it begins at the end of what was written before.
     fn overwrite(&mut self, number: usize, offset: usize, text: &str) -> Result<(), Bad> {
         let old = self.inodes.bytes(number);
         let mut all = Vec::from_slice(self.alloc, old.get(..offset).unwrap_or(old))?;
@@ -115,7 +115,7 @@ impl World {
         self.spread(number, Odd::TempShows)
     }
 
-    /// Does a step on a temporary file in both, whose answers are to be the same, and keeps it.
+    /// Does a step on a temporary file in both, which should give the same answer, and keeps it.
     fn alike(
         &mut self,
         number: usize,

@@ -21,7 +21,7 @@ fn moved(alloc: Global, disk: &mut Disk, plain: PlainTemp, to: Text) -> Result<S
 }
 
 impl World {
-    /// Removes the file or link at a path without links from the disk, if one stands there.
+    /// Removes the file or link at a path without links from the disk, if one is there.
     fn remove(&mut self, path: &str) -> Result<bool, Bad> {
         let step = Step::RemoveFile(Text::from_str(self.alloc, path)?);
         let answer = applied(self.alloc, &mut self.disk, step)?;
@@ -29,7 +29,7 @@ impl World {
         Ok(answer.text.as_str() == "Done")
     }
 
-    /// Removes what stands at the path of a temporary file that was let go, as Linux does.
+    /// Removes what is at the path of a temporary file that was let go, as Linux does.
     fn unlink(&mut self, path: &str) -> Result<(), Bad> {
         let found = self.look().place(Act::RemoveFile, path);
         match found {
@@ -55,7 +55,7 @@ impl World {
         self.unlink(plain.path.as_str())
     }
 
-    /// What Linux makes of a move, and the kind of difference that it may make; None where it leads out of the folder.
+    /// What Linux makes of a move, and the kind of difference that it may make; None if it leads out of the folder.
     fn foretold_move(
         &self,
         number: usize,
@@ -81,12 +81,12 @@ impl World {
         Ok(Some((moved, odd)))
     }
 
-    /// Whether the temporary file itself stands at a path, with what was written to it.
+    /// Whether the temporary file itself is at a path, with what was written to it.
     fn is_own(&self, number: usize, plain: &PlainTemp, path: &str) -> bool {
         self.inodes.number_of(path) == Some(number) && self.inodes.bytes(number) == written(plain)
     }
 
-    /// Moves what stands at a path on the disk as Linux does. Where it is a folder, both are let go.
+    /// Moves what is at a path on the disk as Linux does. If it is a folder, both are let go.
     fn shift(&mut self, from: &str, to: &str) -> Result<(), Bad> {
         let what = match self.look().what(from) {
             Ok(what) => what,
@@ -208,7 +208,8 @@ impl World {
         self.keep_move(moved, &path, does)
     }
 
-    /// Compares what a move came to. One that leaves other things than the disk's is counted also where both answer the same.
+    /// Compares what a move came to. One that leaves other things than the disk's is counted even if both answer the
+    /// same.
     fn check_move(
         &mut self,
         drawn: &str,

@@ -1,10 +1,12 @@
-//! Random steps on real folders and on a disk in memory, each answer compared, and at the end all that stands. Each row is
+//! Random steps on real folders and on a disk in memory, with each answer compared, and in the end all files. Each
+//! row is
 //!
 //!     SEED STEPS | COUNTS
 //!
-//! Where a real folder answers otherwise than the disk's table, the difference must be one of those that `odds.rt` names, in the one
-//! form that `look.rt`, `fates.rt` and `moves.rt` give it: what Linux answers is foretold. The counts say how often each
-//! was met. Any other difference ends the row, and the result is the step with both answers.
+//! If a real folder doesn't answer as the disk's table does, the difference must be one of those that `odds.rt`
+//! names, in the one form that `look.rt`, `fates.rt` and `moves.rt` give it: what Linux answers is predicted. The
+//! counts say how often each was met. Any other difference ends the row, and the result is the step with both
+//! answers.
 #![tactic(auto)]
 
 mod acts;
@@ -27,7 +29,7 @@ mod world;
 use std::io;
 use trial::Steps;
 
-/// Tries rows, prints how they went, and tells whether each of them holds.
+/// Tries rows, prints how they went, and returns whether each of them holds.
 pub fn all_hold(rt: &HostRuntime, rows: &str) -> io::Result<bool> {
     rows::all_hold(rt, rows, &mut Steps::new(*rt))
 }

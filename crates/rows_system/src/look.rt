@@ -1,4 +1,4 @@
-//! Where a path leads on Linux, name by name, over all that stands on the disk.
+//! Where a path leads on Linux, name by name, over all that is on the disk.
 use crate::odds::{MOST_ON_DISK, Odds};
 use cacache_core::keeping::set;
 use cacache_core::paths::join;
@@ -41,7 +41,7 @@ impl<T: Drop> From<AllocFailed<T>> for Halt {
     }
 }
 
-/// What stands at a path.
+/// What is at a path.
 #[derive(Drop)]
 pub(crate) enum What {
     Nothing,
@@ -55,7 +55,7 @@ pub(crate) enum What {
 pub(crate) enum Follow {
     None,
     All,
-    /// All, but none behind which a `/` stands: such a name can't be made.
+    /// All, but none that has a `/` after it: such a name can't be made.
     Making,
 }
 
@@ -64,7 +64,7 @@ pub(crate) enum Follow {
 pub(crate) struct End {
     pub(crate) folder: String,
     pub(crate) name: String,
-    /// Whether a `/` stands behind the name.
+    /// Whether a `/` comes after the name.
     pub(crate) slash: bool,
 }
 
@@ -91,7 +91,7 @@ fn is_within(folder: &str, path: &str) -> bool {
     }
 }
 
-/// A look at paths, and what of them is odd.
+/// A look at paths, and what is odd about them.
 #[derive(Clone, Copy)]
 pub(crate) struct Look<'a> {
     pub(crate) alloc: Global,
@@ -111,7 +111,7 @@ impl<'a> Look<'a> {
         }
     }
 
-    /// What stands at a path that has no odd names, where no link is followed.
+    /// What is at a path that has no odd names, if no link is followed.
     pub(crate) fn what(&self, path: &str) -> Result<What, Halt> {
         let Ok(names) = Path::of(self.alloc, path) else {
             return Err(Halt::NoMemory);
@@ -124,7 +124,7 @@ impl<'a> Look<'a> {
         })
     }
 
-    /// Notes what is odd of a text.
+    /// Notes what is odd about a text.
     fn note(&mut self, text: &str) {
         for name in text.split('/') {
             self.odds.up |= name == "..";
@@ -134,7 +134,7 @@ impl<'a> Look<'a> {
         self.odds.end |= text.ends_with('/') || text.ends_with("/.");
     }
 
-    /// Refuses two texts that are seen to be no paths before anything is looked up.
+    /// Refuses two texts that can't be paths before anything is looked up.
     pub(crate) fn check_texts(&mut self, one: &str, two: &str) -> Result<(), Halt> {
         if one.as_bytes().contains(&0) || two.as_bytes().contains(&0) {
             return Err(Halt::Fails(ErrorKind::InvalidInput));
@@ -235,7 +235,7 @@ impl<'a> Look<'a> {
         }
     }
 
-    /// The target of a link that stands under the last name, if one does.
+    /// The target of a link under the last name, if there is one.
     fn link_at(&self, folder: &str, name: &str) -> Result<Option<String>, Halt> {
         if matches!(name, "." | "..") || name.len() > MOST_OF_NAME {
             return Ok(None);
@@ -309,7 +309,7 @@ impl<'a> Look<'a> {
         Ok(end)
     }
 
-    /// What a path leads to, and its path without links. A `/` behind it wants a folder.
+    /// What a path leads to, and its path without links. A `/` after it wants a folder.
     pub(crate) fn spot(&mut self, text: &str, follow: Follow) -> Result<(String, What), Halt> {
         let end = self.walk(text, follow)?;
         let path = self.at(&end)?;

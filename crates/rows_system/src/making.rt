@@ -1,5 +1,5 @@
-//! How folders are made on Linux where a path has links or odd names: by one call for each folder, from the last name up until
-//! one can be made, and then down again.
+//! How folders are made on Linux if a path has links or odd names: by one call for each folder, from the last name up
+//! until one can be made, and then down again.
 use crate::acts::Act;
 use crate::look::{Follow, Halt, Look, What};
 use cacache_core::keeping::let_go;
@@ -9,10 +9,10 @@ use cacache_store::store::Step;
 use std::alloc::{AllocError, Global};
 use std::io::ErrorKind;
 
-/// More folders than lie above one another on a path.
+/// More folders than are above one another on a path.
 const MOST_FOLDERS: u16 = 5000;
 
-/// A disk on which folders are made, and the folder that no path may lead out of.
+/// A disk on which folders are made, and the folder that no path may leave.
 #[derive(Drop)]
 pub(crate) struct Making<'a> {
     pub(crate) alloc: Global,
@@ -30,7 +30,7 @@ pub(crate) fn put(alloc: Global, disk: &mut Disk, path: &str) -> Result<(), Allo
 }
 
 impl<'a> Making<'a> {
-    /// Whether a folder stands at the path. Anything else there is an error.
+    /// Whether a folder is at the path. Anything else there is an error.
     fn stands(&self, path: &str) -> Result<bool, Halt> {
         let mut look = Look::new(self.alloc, self.disk, self.top);
         match look.spot(path, Follow::All) {
@@ -47,7 +47,7 @@ impl<'a> Making<'a> {
         look.place(Act::MakeDirs, path)
     }
 
-    /// Makes one folder, which may stand already.
+    /// Makes one folder, which may be there already.
     fn make_one(&mut self, path: &str) -> Result<(), Halt> {
         match self.new_folder(path) {
             Ok(path) => Ok(put(self.alloc, self.disk, path.as_str())?),
@@ -60,7 +60,7 @@ impl<'a> Making<'a> {
         }
     }
 
-    /// Makes a folder, and those above it where one is missing.
+    /// Makes a folder, and those above it if one is missing.
     fn make_missing(&mut self, path: &str, most: u16) -> Result<(), Halt> {
         match self.make_one(path) {
             Err(Halt::Fails(ErrorKind::NotFound)) if most > 0 => {

@@ -1,4 +1,4 @@
-//! What Linux makes of the move of a temporary file: it moves whatever stands at the file's path.
+//! What Linux makes of the move of a temporary file: it moves whatever is at the file's path.
 use crate::inodes::Inodes;
 use crate::look::{End, Follow, Halt, Look, What};
 use crate::odds::Odd;
@@ -11,11 +11,11 @@ pub(crate) enum Move {
     Fails(ErrorKind),
     /// It is done, and changes nothing: both paths are of one file.
     Stays,
-    /// What stands at the first path moves to the second.
+    /// What is at the first path moves to the second.
     Goes(String, String),
 }
 
-/// The error of a move where it fails.
+/// The error of a move that fails.
 fn fails<T>(kind: ErrorKind) -> Result<T, Halt> {
     Err(Halt::Fails(kind))
 }
@@ -63,7 +63,7 @@ impl<'a> Look<'a> {
         }
     }
 
-    /// Why what stands at a path can't move to another one.
+    /// Why what is at a path can't move to another one.
     fn moves(&mut self, from: &str, what: &What, to: &str) -> Result<(), Halt> {
         if is_below(to, from) && !matches!(self.what(to)?, What::Nothing) {
             self.odds.own = Some(Odd::OwnFolder);
@@ -108,7 +108,7 @@ impl<'a> Look<'a> {
         self.move_between(inodes, &source, &target)
     }
 
-    /// Whether a file stands at a temporary file's path, by the disk's table.
+    /// Whether a file is at a temporary file's path, by the disk's table.
     fn is_kept(&mut self, from: &str) -> bool {
         matches!(self.spot(from, Follow::None), Ok((_, What::File)))
     }

@@ -1,5 +1,5 @@
-//! Where a real folder differs from the disk's table: each kind by its name, what of a path makes for one, and how often each
-//! was met.
+//! Where a real folder differs from the disk's table: each kind by its name, what in a path makes for one, and how
+//! often each was met.
 use crate::acts::Act;
 use std::alloc::{AllocError, Global};
 
@@ -64,7 +64,7 @@ impl Odd {
 /// The most links that the disk follows.
 pub(crate) const MOST_ON_DISK: u8 = 16;
 
-/// What of a step's paths may make for a difference.
+/// What in a step's paths may make for a difference.
 #[derive(Clone, Copy)]
 pub(crate) struct Odds {
     /// A name `..`.
@@ -75,7 +75,7 @@ pub(crate) struct Odds {
     pub(crate) end: bool,
     /// A link before the last name.
     pub(crate) way: bool,
-    /// A link whose target doesn't begin with `/`.
+    /// A link with a target that doesn't begin with `/`.
     pub(crate) relative: bool,
     /// A link as the last name, which was followed.
     pub(crate) last: bool,
@@ -174,7 +174,7 @@ impl Tally {
         Ok(())
     }
 
-    /// The counts, each behind its kind's name.
+    /// The counts, each after its kind's name.
     pub(crate) fn text(&self) -> Result<String, AllocError> {
         let mut text = String::new(self.alloc);
         for known in &self.counts {

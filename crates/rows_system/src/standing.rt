@@ -1,4 +1,4 @@
-//! All that stands in a real folder and on a disk, a line each.
+//! All that is in a real folder and on a disk, a line each.
 use crate::told::text_of;
 use crate::world::{Bad, World};
 use cacache_core::paths::join;
@@ -7,10 +7,10 @@ use std::alloc::{AllocError, Global};
 use std::rt::Files;
 use std::{fs, io};
 
-/// More folders than stand there.
+/// More folders than are there.
 const MOST_FOLDERS: usize = 100_000;
 
-/// The line of what stands at a path of the disk.
+/// The line of what is at a path of the disk.
 fn line_of(alloc: Global, item: &TreeItem) -> Result<String, AllocError> {
     let path = item.path.as_str();
     match &item.node {
@@ -20,7 +20,7 @@ fn line_of(alloc: Global, item: &TreeItem) -> Result<String, AllocError> {
     }
 }
 
-/// The first line of a list that another one hasn't at its place.
+/// The first line of a list that isn't at the same place in another one.
 fn differing<'a>(one: &'a [String], two: &[String]) -> Option<&'a str> {
     for (number, line) in one.iter().enumerate() {
         match two.get(number) {
@@ -32,7 +32,7 @@ fn differing<'a>(one: &'a [String], two: &[String]) -> Option<&'a str> {
 }
 
 impl World {
-    /// What stands on the disk in the folder that is tried.
+    /// What is on the disk in the folder that is tried.
     fn on_disk(&self) -> Result<Vec<String>, AllocError> {
         let mut lines = Vec::new(self.alloc);
         for item in self.disk.standing()? {
@@ -44,7 +44,7 @@ impl World {
         Ok(lines)
     }
 
-    /// The line of what stands at a path of the real folder.
+    /// The line of what is at a path of the real folder.
     fn real_line(&self, path: &str) -> io::Result<String> {
         let found = self.rt.symlink_metadata(path)?;
         if found.is_symlink() {
@@ -68,7 +68,7 @@ impl World {
         Ok(())
     }
 
-    /// What stands in the real folder that is tried.
+    /// What is in the real folder that is tried.
     fn in_folder(&self) -> io::Result<Vec<String>> {
         let mut lines = Vec::new(self.alloc);
         let mut paths = Vec::new(self.alloc);
@@ -86,7 +86,7 @@ impl World {
         Ok(lines)
     }
 
-    /// The difference of all that stands, if there is one.
+    /// The difference in all that is there, if there is one.
     fn first_difference(&self) -> Result<Option<String>, Bad> {
         let mut disk = self.on_disk()?;
         let mut folder = self.in_folder()?;
@@ -101,7 +101,7 @@ impl World {
         }
     }
 
-    /// Compares all that stands.
+    /// Compares all that is there.
     pub(crate) fn compare_all(&mut self) -> Result<(), Bad> {
         match self.first_difference()? {
             Some(how) => Err(self.differs(how)),

@@ -93,7 +93,7 @@ impl World {
         }
     }
 
-    /// Says of a difference that it came of this step.
+    /// Says that a difference came from this step.
     fn differs_at(&mut self, deed: &Deed) -> Result<(), Bad> {
         let how = self.difference.take().unwrap_or(String::new(self.alloc));
         let how = format!(in self.alloc;

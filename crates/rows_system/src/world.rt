@@ -47,7 +47,7 @@ pub(crate) struct Made {
 pub(crate) enum Bad {
     /// They can't be.
     Flaw(Flaw),
-    /// An answer, or what stands, differs in a way that isn't known: the world says how.
+    /// An answer, or what is there, differs in a way that isn't known: the world says how.
     Differs,
 }
 
@@ -84,12 +84,12 @@ pub(crate) struct World {
     pub(crate) inodes: Inodes,
     pub(crate) files: Vec<Opened>,
     pub(crate) temps: Vec<Made>,
-    /// The folder that no path leads out of.
+    /// The folder that no path leaves.
     pub(crate) top: String,
     pub(crate) tally: Tally,
     /// Whether both hold different things from here on.
     pub(crate) is_over: bool,
-    /// How they differ, where it isn't known that they may.
+    /// How they differ, if it isn't known that they may.
     pub(crate) difference: Option<String>,
 }
 
@@ -155,7 +155,7 @@ impl World {
         Bad::Differs
     }
 
-    /// Compares what Linux answered with what was foretold, and with what the disk answers.
+    /// Compares what Linux answered with what was predicted, and with what the disk answers.
     pub(crate) fn compare(
         &mut self,
         drawn: &str,
@@ -176,7 +176,7 @@ impl World {
         Err(self.differs(how))
     }
 
-    /// Compares the system's own error with the one that was foretold, if one was.
+    /// Compares the system's own error with the predicted one, if there is one.
     pub(crate) fn check_reason(&mut self, came: &str, kind: Option<ErrorKind>) -> Result<(), Bad> {
         if kind.is_some() && came.starts_with("Failed") && self.system.reason() != kind {
             let how = String::from_str(self.alloc, "Linux has another error")?;
@@ -185,7 +185,7 @@ impl World {
         Ok(())
     }
 
-    /// Puts a file's bytes at each of its names where the disk has others.
+    /// Puts a file's bytes at each of its names at which the disk has others.
     pub(crate) fn spread(&mut self, number: usize, odd: Odd) -> Result<(), Bad> {
         for name in self.inodes.names(number) {
             let bytes = self.inodes.bytes(number);

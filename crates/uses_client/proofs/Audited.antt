@@ -1,10 +1,10 @@
--- What the answers of an audit's calls say of the cache.
+-- What the answers of an audit's calls say about the cache.
 use Rattle.std.proofs.{Common.{◌≡◌, inl, inr, ℕ, Bool, true, false, List, [], ◌∷◌, ◌++◌, Vec, Result, Ok, Err, map, refl, sym, ap, subst, ◌∙◌}, lemmas.List.Elements.{All-nil, All-cons, All-head, All-tail}}
 use Rattle.std.specs.Prelude.{IfOk}
 use Rattle.cacache.specs.{Calls.{Error}, Entries.{Found}, Integrities.{Hash}, Laws.{AreAllEntries, LiesWhole, NamesFolder, OutOfMemory, bytes_under, tree_of}, Stores.{LogItem}}
 use Rattle.uses_client.specs.{declared.auditing.Verdict.{Verdict}, Audits.{AreRight, IsRight, entries_in}}
 
--- an error but out of memory says that no whole bytes lie there, since these are read unless memory is refused
+-- an error other than out of memory says that no whole bytes lie there, since these are read unless memory is refused
 pub no_is_right : (cache : List ℕ) (i : List Hash) (e : Error) (old : List LogItem) → ((bytes : List ℕ) → NamesFolder cache → LiesWhole cache i old bytes → e ≡ OutOfMemory) → (r : Result Bool Error)
     → IfOk r (λ told. (told ≡ false) × (e ≡ OutOfMemory → ⊥)) → IfOk r (IsRight cache i old)
 no_is_right cache i e old reads (Ok told) is = subst (IsRight cache i old) (sym is.0) (λ folder bytes lies. is.1 (reads bytes folder lies))

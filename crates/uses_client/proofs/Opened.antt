@@ -1,4 +1,4 @@
--- What an opening tells of the bytes that are to be opened.
+-- What an opening says about the bytes that are to be opened.
 use Rattle.std.proofs.Common.{◌≡◌, ◌⊎◌, inl, inr, ℕ, List, [], Result, Ok, Err, refl}
 use Rattle.cacache.specs.{Calls.{Error, without_message}, Laws.{Fault, IoError, OpensAs, OutOfMemory}, Stores.{PlainFile}}
 

@@ -1,4 +1,4 @@
--- What an audit says of the entries of a cache.
+-- What an audit says about the entries of a cache.
 use Rattle.std.specs.Prelude.{ℕ, All, Bool, true, false, List, map}
 use Rattle.cacache.specs.{Entries.{Found}, Integrities.{Hash}, Laws.{LiesWhole, NamesFolder}, Stores.{LogItem}}
 use Rattle.uses_client.specs.declared.auditing.Verdict.{Verdict}

@@ -33,8 +33,7 @@ ArrivesAt cache key to result old new =
     (λ count. (shown (tree_of new) to ≡ Some bytes) × (count ≡ length bytes))
     (λ e. IsExcused e old new)
 
--- a package whose bytes are damaged or missing isn't exported: the error says so, or that memory was
--- refused
+-- a package with bytes that are damaged or missing isn't exported: the error says so, or that memory was refused
 abbrev pub RefusesBroken : List ℕ → List ℕ → Result ℕ Error → List LogItem → Type 0
 RefusesBroken cache key result old =
     (i : List Hash)
@@ -43,8 +42,7 @@ RefusesBroken cache key result old =
     → IsDamaged cache i fault old → FailsFor (IntegrityError fault) result)
     × (lies_under cache i old ≡ None → FailsFor (IoError NotFound []) result)
 
--- where the file shows bytes, and no link that leads nowhere lies in the way, it is linked unless memory
--- is refused
+-- if the file shows bytes, and no link that leads nowhere lies in the way, it is linked unless memory is refused
 abbrev pub LinksShown : List ℕ → List ℕ → Result (List Hash) Error → List LogItem → Type 0
 LinksShown cache file result old =
     (held : List ℕ)

@@ -1,4 +1,4 @@
--- What is said of a package.
+-- What is said about a package.
 use Rattle.std.specs.Prelude.{ℕ, Some}
 use Rattle.cacache.specs.{Calls.{Said, nothing_said}, Laws.{Data}}
 

@@ -47,7 +47,7 @@ pub fn list<C: Clock, N: Names>(env: &mut Env<MemStore, C, N>, cache: &str) -> R
     }
 }
 
-/// No, unless the error is out of memory, which says nothing of what lies there.
+/// No, unless the error is out of memory, which says nothing about what lies there.
 fn no_unless_memory(error: Error) -> Result<bool>
     ensures { IfOk result (λ told. (told ≡ false) × (error ≡ OutOfMemory → ⊥)) }
 {

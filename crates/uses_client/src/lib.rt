@@ -1,6 +1,6 @@
 //! A package manager over a cache in memory: each function's contract says what it does in a caller's words, and is
-//! proved from the contracts of the public calls and the public laws alone. Behind each call its law is called, so that an
-//! answer is one term.
+//! proved only from the contracts of the public calls and the public laws. After each call its law is called, so that
+//! an answer is one term.
 //!
 //! | Module | Functions |
 //! |---|---|

@@ -9,8 +9,8 @@ use cacache::store::MemStore;
 use cacache::{Integrity, Result, SyncToLinker};
 use std::io::Read;
 
-/// Links a file into the cache under a key. Where the cache's path names a folder, and the file shows bytes, that fails for
-/// memory alone, unless a link that leads nowhere lies under their integrity.
+/// Links a file into the cache under a key. If the cache's path names a folder, and the file shows bytes, that fails
+/// for memory alone, unless a link that leads nowhere lies under their integrity.
 pub fn link<C: Clock, N: Names>(
     env: &mut Env<MemStore, C, N>,
     cache: &str,
@@ -77,8 +77,8 @@ pub fn adopt<C: Clock, N: Names>(
     read
 }
 
-/// Copies the bytes under a key to a path outside of the cache, and counts them. Where the cache's path names a folder, an
-/// error says what is wrong with the key, its bytes or the path, and nothing changed, or that memory was refused.
+/// Copies the bytes under a key to a path outside of the cache, and counts them. If the cache's path names a folder,
+/// an error says what is wrong with the key, its bytes or the path, and nothing changed, or that memory was refused.
 pub fn export<C: Clock, N: Names>(
     env: &mut Env<MemStore, C, N>,
     cache: &str,

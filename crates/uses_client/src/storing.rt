@@ -76,7 +76,7 @@ pub fn install_two<C: Clock, N: Names>(
     Ok(Installed { first, second })
 }
 
-/// Stores bytes under a key, and tries once more where that fails.
+/// Stores bytes under a key, and tries once more if that fails.
 pub fn retry_install<C: Clock, N: Names>(
     env: &mut Env<MemStore, C, N>,
     cache: &str,

@@ -1,4 +1,4 @@
--- What the values that calls give tell of a cache in memory.
+-- What the values that calls give say about a cache in memory.
 use Rattle.std.specs.Prelude.{◌≡◌, ◌⊎◌, ℕ, List, [], Some, IfOk, Result, Vec, map, string_bytes}
 use Rattle.cacache_core.specs.{declared.{errors.Error.{Error}, integrity.digest.Hash.{Hash}}, Integrity.{Meets}, PathNames.{Names, home_of}}
 use Rattle.cacache_store.specs.declared.store.log.LogItem.{LogItem}
@@ -27,7 +27,7 @@ IsMended v = (v.damaged.items ≡ []) × (map found_view v.dangling.items ≡ []
 
 -- ---- collections
 
--- the contents that an entry has are left, and this tells of the others
+-- the contents that an entry has are left, and the value says what became of the others
 abbrev pub LeavesAs : Site → Names → List LogItem → List LogItem → Collected → Type 0
 LeavesAs site home old new c =
     LeavesLive site home (tree_of old) (tree_of new) c.kept c.dropped.items
@@ -37,7 +37,7 @@ abbrev pub MayRead : Site → List ℕ → List LogItem → List ℕ → Type 0
 MayRead site key log bytes =
     AnswersOn site (tree_of log) (commands.Get key) (replies.Read bytes)
 
--- where all links lead out of the cache, a read gives what it might have given on the older log
+-- if all links lead out of the cache, a read gives what it might have given on the older log
 abbrev pub ReadsStill :
     {A : Type 0} → List ℕ → List ℕ → List ℕ → Result (Vec ℕ A) Error → List LogItem → Type 0
 ReadsStill cache base key result old =
@@ -54,9 +54,9 @@ ReadsAsRemoved cache base gone key result old =
     → Removed cache (commands.RemoveFully gone) old other
     → IfOk result (λ bytes. MayRead (site_of cache base 0) key other bytes.items)
 
--- In a cache that only calls wrote to a read gives the bytes that the key led to on the older log, where
--- since then a content was exported apart from the cache and these bytes were written under another key.
--- Or it gives what was written, if that meets the integrity too
+-- A content of a cache that only calls wrote to was exported apart from it, and these bytes were written under
+-- another key. Then a read gives the bytes that the key led to on the older log, or what was written, if that meets
+-- the integrity too
 abbrev pub ReadsBeside : {A : Type 0} → List ℕ → List ℕ → List ℕ → List ℕ → List ℕ
     → Result (Vec ℕ A) Error → List LogItem → Type 0
 ReadsBeside cache key to other added result old =
@@ -66,7 +66,7 @@ ReadsBeside cache key to other added result old =
 
 -- ---- compactions
 
--- where each thing lies in its place, a read gives what it might have given on the older log
+-- if each thing lies in its place, a read gives what it might have given on the older log
 abbrev pub ReadsHoused :
     {A : Type 0} → List ℕ → List ℕ → List ℕ → Result (Vec ℕ A) Error → List LogItem → Type 0
 ReadsHoused cache base key result old =
@@ -76,7 +76,7 @@ ReadsHoused cache base key result old =
 
 -- ---- repairs
 
--- where each thing lies in its place, the cache is mended, and this tells how
+-- if each thing lies in its place, the cache is mended, and the value says how
 abbrev pub MendsPlaced :
     List ℕ → List ℕ → Result Repaired Error → List LogItem → List LogItem → Type 0
 MendsPlaced cache base result old new =
@@ -87,8 +87,8 @@ MendsPlaced cache base result old new =
 
 -- ---- a sweep, a repair and a compaction
 
--- In between a log led to a tree where the key leads to this entry, whose content is good, and where a
--- read may answer these bytes. On the new log the key leads to it, and the content is the old one.
+-- In between a log led to a tree in which the key leads to this entry, its content is good, and a read may answer
+-- these bytes. On the new log the key leads to it, and the content is the old one.
 abbrev pub KeepsGood : Site → Names → List ℕ → Found → Hash → List LogItem → List LogItem → List ℕ
     → Type 0
 KeepsGood site home key found hash old new bytes =
@@ -97,7 +97,7 @@ KeepsGood site home key found hash old new bytes =
     × (found_in home (tree_of new) key ≡ Some found)
     × (content_in home (tree_of new) hash ≡ content_in home (tree_of old) hash)
 
--- so it is of a key that led to a good content, where each thing lay in its place
+-- so it is for a key that led to a good content, if each thing lay in its place
 abbrev pub ReadsTended : {A : Type 0} → List ℕ → List ℕ → List ℕ → Result (Vec ℕ A) Error
     → List LogItem → List LogItem → Type 0
 ReadsTended cache base key result old new =

@@ -1,5 +1,5 @@
 //! Functions of a caller's own that verify a cache in memory, sweep, repair, collect and compact it. Their contracts
-//! are proved from clauses alone: those of the calls, of `keep_laws`, of `answer_laws` and of `cache_laws`.
+//! are proved only from clauses: those of the calls, of `keep_laws`, of `answer_laws` and of `cache_laws`.
 #![tactic(auto)]
 
 ghost use Rattle.std.specs.Prelude.{◌≡◌, [], Some, IfOk, map};
@@ -25,8 +25,8 @@ use cacache_reads::{copy_sync, read_sync};
 use cacache_sequence::cache_laws;
 use cacache_store::env::{Clock, Env, Names};
 
-/// Verifies a cache in memory: the good contents are those whose bytes meet their address, and all
-/// others are named.
+/// Verifies a cache in memory: the good contents are those with bytes that meet their address, and all others are
+/// named.
 pub fn judged<C: Clock, N: Names>(env: &mut Env<MemStore, C, N>, cache: &str) -> Result<Verdict>
     ensures { (home : PathNames) → home_of cache.now ≡ Some home → IfOk result (λ v.
         JudgesAs (site_of cache.now env.old.base 0) home env.old.store v) }
@@ -136,8 +136,8 @@ pub fn collected_as_planned<C: Clock, N: Names>(
     Ok((planned, collected))
 }
 
-/// Repairs a cache in memory where each thing lies in its place: the good contents stay, the others go, and
-/// each key leads where it led but those that are told, which lead to nothing.
+/// Repairs a cache in memory in which each thing lies in its place: the good contents stay, the others go, and each
+/// key leads where it led, except those that are reported, which lead to nothing.
 pub fn repaired<C: Clock, N: Names>(env: &mut Env<MemStore, C, N>, cache: &str) -> Result<Repaired>
     ensures { MendsPlaced cache.now env.old.base result env.old.store env.new.store }
 {
@@ -146,8 +146,8 @@ pub fn repaired<C: Clock, N: Names>(env: &mut Env<MemStore, C, N>, cache: &str) 
     Ok(repaired)
 }
 
-/// Repairs a cache in memory where each thing lies in its place, and verifies it: no content is damaged then, and no entry
-/// lacks its content.
+/// Repairs a cache in memory in which each thing lies in its place, and verifies it: no content is damaged then, and
+/// no entry lacks its content.
 pub fn repaired_whole<C: Clock, N: Names>(
     env: &mut Env<MemStore, C, N>,
     cache: &str,
@@ -177,8 +177,8 @@ pub fn collected_twice<C: Clock, N: Names>(
     Ok(again)
 }
 
-/// Compacts a cache in memory where each thing lies in its place, and reads by a key. It reads what it would
-/// have read without the compaction.
+/// Compacts a cache in memory in which each thing lies in its place, and reads by a key. It reads what it would have
+/// read without the compaction.
 pub fn read_compacted<C: Clock, N: Names>(
     env: &mut Env<MemStore, C, N>,
     cache: &str,

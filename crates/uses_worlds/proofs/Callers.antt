@@ -1,4 +1,4 @@
--- What a user says of many callers follows from the laws of places.
+-- What a user says about many callers follows from the laws of places.
 use Rattle.std.proofs.Common.{◌≡◌, ◌⊎◌, inl, inr, ℕ, suc, List, [], ◌∷◌, Option, None, Some, slice_get, sym, ap, subst, ◌∙◌, arith}
 use Rattle.cacache.specs.{Calls.{Reply}, Entries.{Found}, Histories.{Call, Command, FoundOfPuts, Headline, History, IsCase, MetDigestsAreSame, MoveAt, Moved, Put, Reaches, SparesKey, call_site, found_of_put, now_before}, Integrities.{Meets}}
 use Rattle.uses_worlds.specs.Callers.{CrashesAreSafe, OneOfTwo, PutThenGet, ReadersNeverLie, RemovalsAreSafe}

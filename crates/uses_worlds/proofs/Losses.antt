@@ -1,14 +1,14 @@
--- What a user says of a loss of power follows from the laws of what it leaves.
+-- What a user says about a loss of power follows from the laws of what it leaves.
 use Rattle.std.{proofs.Common.{◌≡◌, inl, inr, ℕ, List, Some, Vec, Global, Result, Ok, Err, refl, sym, ap, subst, ◌∙◌}, specs.Prelude.{IfErr, IsErrAnd}}
 use Rattle.cacache.specs.{Calls.{Error}, Histories.{FewCalls, HistoriesOutlive, History, IsStanding, LeadsToDigest, LeftBy, LeftRead, LeftWritten, LinksOutlast, Loss, LossesLeaveLast, LossesLeaveLastLinks, LossesLeavePuts, LossesLeaveStanding, MetDigestsAreSame, Names, Outlives, Put, PutsStandLast, chosen, digest, home}, Laws.{GivesJust, KeepsBeside, OutOfMemory, StaysKnown, tree_of}, Stores.{LogItem}, Integrities.{Hash, Sha256}}
 use Rattle.uses_worlds.specs.{Losses.{GivesPut, GoesOn, LinkSurvives, LinkedSurvives, SomeSurvive, Survives, SurvivesAlone}, declared.losing.Reads.{Reads}}
 
--- what `?` hands on where memory was refused
+-- what `?` hands on if memory was refused
 pub handed_on : {X : Type 0} (P : Result X Error → Type 0) (r : Result X Error) (e : Error) → IsErrAnd r (λ x. x ≡ e) → e ≡ OutOfMemory → P (Err OutOfMemory) → P r
 handed_on P (Ok x) e same is p = absurd same
 handed_on P (Err x) e same is p = subst (λ x. P (Err x)) (sym (same ∙ is)) p
 
--- where memory is refused before the read
+-- if memory is refused before the read
 pub refused : (h : History) (loss : Loss) (key : List ℕ) → Outlives h → FewCalls h → LossesLeavePuts → Survives h loss key (Err OutOfMemory)
 refused h loss key outlives few puts folder p here put keyed none =
     let lost = chosen loss.undone.items loss.tails.items in
@@ -33,7 +33,7 @@ survives_here h loss key r old new outlives few puts stands lost read folder p h
     let left = puts h chosen_loss folder key p (tree_of old) outlives few lost here put keyed none in
     (tree_of old, lost, left.0, left.1, λ last. led h key folder p r old new here (left.2 last old refl) (read (stands h chosen_loss old outlives lost)))
 
--- nothing is asked of what is left where nobody appended behind the entry
+-- nothing is asked of what is left if nobody appended after the entry
 pub alone_here : (h : History) (loss : Loss) (key : List ℕ) (r : Result (Vec ℕ Global) Error) (old new : List LogItem) → Outlives h → FewCalls h → LossesLeaveLast → LossesLeaveStanding
     → LeftBy h loss (tree_of old) → (IsStanding h.setup.cache old → LeftRead h.setup.cache key r old new) → SurvivesAlone h key r
 alone_here h loss key r old new outlives few lasts stands lost read folder p here put keyed none last =
@@ -41,7 +41,7 @@ alone_here h loss key r old new outlives few lasts stands lost read folder p her
     let leads = lasts h chosen_loss folder key p (tree_of old) outlives few lost here put keyed none last old refl in
     led h key folder p r old new here leads (read (stands h chosen_loss old outlives lost))
 
--- ---- where the content may be a link
+-- ---- if the content may be a link
 
 pub link_here : (h : History) (loss : Loss) (key : List ℕ) (r : Result (Vec ℕ Global) Error) (old new : List LogItem) → Outlives h → LinksOutlast h → FewCalls h → LossesLeaveLastLinks → LossesLeaveStanding
     → LeftBy h loss (tree_of old) → (IsStanding h.setup.cache old → LeftRead h.setup.cache key r old new) → LinkSurvives h key r
@@ -51,14 +51,14 @@ link_here h loss key r old new outlives outlast few lasts stands lost read folde
     let one = read (stands h chosen_loss old outlives lost) in
     gives p leads.bytes r old new leads.same (one.reads _ leads.bytes leads.leads leads.formed leads.lies) (one.reads_on folder _ leads.bytes here leads.leads leads.formed leads.lies)
 
--- no step changes a link's target where no call exports or removes
+-- no step changes a link's target if no call exports or removes
 pub linked_too : (h : History) (key : List ℕ) (r : Result (Vec ℕ Global) Error) → LinksOutlast h → LinkSurvives h key r → LinkedSurvives h key r
 linked_too h key r outlast survives folder p only here put keyed none last =
     survives folder p here put keyed none (outlast.unchanged only put.before put.rest put.is p) last
 
 -- ---- writes after a loss
 
--- a key leads to bytes with the digest of a put's, also where others were written at their address
+-- a key leads to bytes with the digest of a put's, even if others were written at their address
 leads_beside : (cache written key added : List ℕ) (own : List Hash) (p : Put) (old new : List LogItem) → MetDigestsAreSame → (key ≡ written → ⊥) → KeepsBeside cache (Some written) own added old new
     → LeadsToDigest cache key p old → LeadsToDigest cache key p new
 leads_beside cache written key added own p old new met differ keeps led =
@@ -86,7 +86,7 @@ goes_on_here h loss written added key i reads old late read new outlives few las
           ap (digest p.options.algorithm) (two.gives _ still.bytes still.held) ∙ still.same,
     )
 
--- ---- histories of which this speaks
+-- ---- histories that this is about
 
 pub some_survive : PutsStandLast → HistoriesOutlive → LossesLeaveLast → SomeSurvive
 some_survive stand outlive lasts cache folder key p is stores =

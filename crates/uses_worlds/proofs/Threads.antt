@@ -1,4 +1,4 @@
--- What a user says of threads follows from what each command of a seat was answered.
+-- What a user says about threads follows from what each command of a seat was answered.
 use Rattle.std.{proofs.Common.{◌≡◌, inl, inr, List, [], ◌∷◌, Option, None, Some, refl, sym, ap, subst, ◌∙◌}, specs.Prelude.{All, filter_map, map, slice_index_or}}
 use Rattle.cacache.specs.{Calls.{Read, Refused, Reply, plain_reply}, Histories.{Answers, Command, History, IsLegal, call_site}, Integrities.{Meets}, Laws.{OutOfMemory}, Shared.{AreAnswered, IsGiven, SeatAgrees, SeatIsAnswered, SeatsAreAnswered, Taken, said_command, said_reply}}
 use Rattle.cacache.specs.Calls as commands

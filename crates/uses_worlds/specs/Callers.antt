@@ -1,4 +1,4 @@
--- What a user says of many callers.
+-- What a user says about many callers.
 use Rattle.std.specs.Prelude.{◌≡◌, ◌⊎◌, ◌≤◌, ℕ, suc, List, [], ◌∷◌, Option, None, Some}
 use Rattle.cacache.specs.{Calls.{LookedUp, Read, Reply, Stored}, Entries.{Found}, Histories.{AreRemovals, Call, CallIn, CommitsAs, DropsAmong, History, IsOneOfPuts, MoveAt, MovesAre, Put, PutBytes, Reaches, RemovesFound, SparesKey, WasWritten, content_path, deeds, digest, found_of_put, lookup_at, now_before, put_commit}, Integrities.{Hash, Meets}}
 use Rattle.cacache.specs.Calls as commands
@@ -14,7 +14,7 @@ PutThenGet h =
     → get.command ≡ commands.Get key → CallIn h between n reader get (Some (Read bytes))
     → digest p.options.algorithm bytes ≡ digest p.options.algorithm p.data
 
--- where nobody else writes the key, a lookup finds the entry of one of the two puts
+-- if nobody else writes the key, a lookup finds the entry of one of the two puts
 abbrev pub OneOfTwo : History → Type 0
 OneOfTwo h =
     (key : List ℕ) (p q : Put) (n caller : ℕ) (call : Call) (found : Found)

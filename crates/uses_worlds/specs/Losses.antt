@@ -1,4 +1,4 @@
--- What a user says of a loss of power.
+-- What a user says about a loss of power.
 use Rattle.std.specs.{Prelude.{◌≡◌, ℕ, List, None, Some, Ok, Vec, Result, IfOk, MatchResult}, Global.{Global}}
 use Rattle.cacache.specs.{Calls.{Error}, Entries.{Entry}, Histories.{AnsweredPut, DurablePut, FewCalls, GoElsewhere, History, IsLast, IsLegal, LeadsToDigest, LeadsUnchanged, LeftBy, Loss, Names, NoneAnswers, OnlyLinksIn, Put, Record, StandsBefore, StandsIn, StoresDurably, Tree, address_of_put, digest, followed_by, home, names_of}, Laws.{OutOfMemory, tree_of}, Stores.{LogItem}}
 use Rattle.uses_worlds.specs.declared.losing.Reads.{Reads}
@@ -9,8 +9,8 @@ GivesPut p r =
     MatchResult r (λ v. digest p.options.algorithm v.items ≡ digest p.options.algorithm p.data)
     (λ e. e ≡ OutOfMemory)
 
--- what a durable put stored that answered is read after a loss of power, where in what is left no
--- entry behind its own answers to its key
+-- what a durable put that answered stored is read after a loss of power, if in what is left no entry after its own
+-- answers to its key
 abbrev pub Survives : History → Loss → List ℕ → Result (Vec ℕ Global) Error → Type 0
 Survives h loss key r =
     (folder : Names) (p : Put) → home h.setup ≡ Some folder → DurablePut h folder p
@@ -18,15 +18,15 @@ Survives h loss key r =
     → (left : Tree) × LeftBy h loss left × (more : List Entry)
     × StandsBefore h.setup.cache key p more left × (NoneAnswers key more → GivesPut p r)
 
--- it is read without asking what is left, where nobody appended to the key's bucket behind its entry
+-- it is read without asking what is left, if nobody appended to the key's bucket after its entry
 abbrev pub SurvivesAlone : History → List ℕ → Result (Vec ℕ Global) Error → Type 0
 SurvivesAlone h key r =
     (folder : Names) (p : Put) → home h.setup ≡ Some folder → (put : DurablePut h folder p)
     → p.key ≡ Some key → p.options.integrity ≡ None
     → IsLast h folder put.rest put.call.caller key p → GivesPut p r
 
--- so it is whatever stood at the address of its content, where a link there led to a file that no step
--- of the history changed
+-- so it is whatever was at the address of its content, if a link there led to a file that no step of the history
+-- changed
 abbrev pub LinkSurvives : History → List ℕ → Result (Vec ℕ Global) Error → Type 0
 LinkSurvives h key r =
     (folder : Names) (p : Put) → home h.setup ≡ Some folder → (put : AnsweredPut h folder p)
@@ -34,7 +34,7 @@ LinkSurvives h key r =
     → LeadsUnchanged h put.before (address_of_put p)
     → IsLast h folder put.rest put.call.caller key p → GivesPut p r
 
--- it is read without asking of links, where no call of the history exports or removes
+-- it is read without asking about links, if no call of the history exports or removes
 abbrev pub LinkedSurvives : History → List ℕ → Result (Vec ℕ Global) Error → Type 0
 LinkedSurvives h key r =
     (folder : Names) (p : Put) → OnlyLinksIn h.records → home h.setup ≡ Some folder
@@ -43,8 +43,8 @@ LinkedSurvives h key r =
 
 -- ---- writes after a loss
 
--- what was written is read; and so is what a durable put stored before under another key, where
--- nobody appended to that key's bucket behind its entry: bytes with the digest of the put's
+-- what was written is read; and so is what a durable put stored before under another key, if nobody appended to that
+-- key's bucket after its entry: bytes with the digest of the put's
 abbrev pub GoesOn : History → Loss → List ℕ → List ℕ → List ℕ → Result Reads Error → Type 0
 GoesOn h loss written added key r =
     IfOk r (λ reads. (reads.since.items ≡ added)
@@ -53,7 +53,7 @@ GoesOn h loss written added key r =
     → IsLast h folder put.rest put.call.caller key p → (key ≡ written → ⊥)
     → digest p.options.algorithm reads.before.items ≡ digest p.options.algorithm p.data))
 
--- ---- histories of which this speaks
+-- ---- histories that this is about
 
 -- each loss of a legal history leaves the key leading to bytes with the digest of the put's
 abbrev pub LosesNothing : History → List ℕ → Put → Type 0
@@ -61,7 +61,7 @@ LosesNothing h key p =
     IsLegal h → FewCalls h → (loss : Loss) (log : List LogItem) → LeftBy h loss (tree_of log)
     → LeadsToDigest h.setup.cache key p log
 
--- so does some history of each durable put that expects nothing, whatever goes elsewhere behind it
+-- so does some history of each durable put that expects nothing, whatever goes elsewhere after it
 abbrev pub SomeSurvive : Type 0
 SomeSurvive =
     (cache : List ℕ) (folder : Names) (key : List ℕ) (p : Put) → names_of cache ≡ Ok folder

@@ -1,7 +1,8 @@
-//! What a caller of worlds can prove of many callers at one cache, with the clauses of a world and of a few laws alone.
+//! What a caller of worlds can prove about many callers at one cache, with only the clauses of a world and of a few
+//! laws.
 //!
 //! - [`survives`] says what is read after a loss of power, and [`goes_on`] what is written and read then; [`some_survive`]
-//!   says that there are histories of which they speak. [`link_survives`] says what is read where a put found a link.
+//!   says that there are histories they are about. [`link_survives`] says what is read if a put found a link.
 //! - [`put_then_get`], [`one_of_two`], [`crash_safe`], [`removals_are_safe`] and [`readers_never_lie`] say what many callers see of one
 //!   cache, of each world.
 //! - [`close_after_reads`] says what threads that shared a world were answered.

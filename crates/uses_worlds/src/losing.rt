@@ -1,4 +1,4 @@
-//! What is read after a loss of power, in words of a user.
+//! What is read after a loss of power, in a user's words.
 ghost use Rattle.std.specs.Prelude.{◌≡◌, IfOk, IfErr};
 ghost use Rattle.cacache.specs.Histories.{IsStanding, LeftBy, LeftRead, LeftWritten};
 ghost use Rattle.cacache.specs.Integrities.{Sha256};
@@ -14,7 +14,7 @@ use cacache::store::MemStore;
 use cacache::world::{Loss, World};
 use cacache::{Algorithm, Error, Integrity, Result, read_sync, write_sync};
 
-/// An environment that begins with what is left of a world's disk where the power goes now.
+/// An environment that begins with what is left of a world's disk if the power goes now.
 fn begun<C: Clock, N: Names>(
     world: &World,
     loss: &Loss,
@@ -34,7 +34,7 @@ fn begun<C: Clock, N: Names>(
     }
 }
 
-/// Reads the key from a store of which no more is known than that everything stands where it may.
+/// Reads the key from a store about which no more is known than that everything is where it may be.
 fn read_left<C: Clock, N: Names>(
     env: &mut Env<MemStore, C, N>,
     cache: &str,
@@ -66,7 +66,8 @@ pub fn survives<C: Clock, N: Names>(
     read_left(&mut env, world.cache(), key)
 }
 
-/// The power goes in a world, and a key is read that was put durably where a link may have stood at the content's address.
+/// The power goes in a world, and a key is read that was put durably when a link may have been at the content's
+/// address.
 pub fn link_survives<C: Clock, N: Names>(
     world: &World,
     loss: &Loss,
@@ -129,8 +130,9 @@ pub fn goes_on<C: Clock, N: Names>(
     Ok(Reads { since, before })
 }
 
-/// What `survives` asks, that nobody appended behind the put's entry, is so in some history: at each cache whose text names
-/// a folder one durable put may stand alone, and whatever goes elsewhere behind it, each loss leaves its bytes.
+/// What `survives` asks, that nobody appended after the put's entry, is so in some history: at each cache with a text
+/// that names a folder, one durable put may be alone, and whatever goes elsewhere after it, each loss leaves its
+/// bytes.
 pub fn some_survive()
     ensures { SomeSurvive }
 {

@@ -1,4 +1,4 @@
-//! What threads that shared a world were answered, in words of a user.
+//! What threads that shared a world were answered, in a user's words.
 ghost use Rattle.std.specs.Prelude.{◌≡◌, All, OnOk};
 ghost use Rattle.uses_worlds.specs.Threads.{ReadIsRight};
 
@@ -6,8 +6,8 @@ use cacache::laws::seat_laws;
 use cacache::world::{Seat, SharedWorld, World};
 use std::sync::ledger::Ledger;
 
-/// A world that was new when threads came to share it is closed. Bytes that a thread was answered which read one content
-/// alone meet its integrity.
+/// A world that was new when threads came to share it is closed. Bytes that a thread which read only one content was
+/// answered meet its integrity.
 pub fn close_after_reads<L: Ledger>(
     shared: SharedWorld<L>,
     seats: Vec<Seat<L>>,

@@ -1,4 +1,4 @@
-//! What many callers see of one cache, in words of their user. Nothing is done: a world has these facts.
+//! What many callers see of one cache, in a user's words. Nothing is done: a world has these facts.
 ghost use Rattle.uses_worlds.specs.Callers.{CrashesAreSafe, OneOfTwo, PutThenGet, ReadersNeverLie, RemovalsAreSafe};
 
 use cacache::laws::digest_laws;
@@ -13,7 +13,7 @@ pub fn put_then_get(world: &World)
     digest_laws();
 }
 
-/// Where two puts alone write a key, each lookup finds the entry of one of them, or none.
+/// If two puts alone write a key, each lookup finds the entry of one of them, or none.
 pub fn one_of_two(world: &World)
     ensures { OneOfTwo world.now }
 {

@@ -12,7 +12,7 @@ use cacache_system::System;
 use std::io;
 use std::io::ErrorKind;
 
-/// How often a call is made that a signal interrupts each time.
+/// How often a call is made if a signal interrupts it each time.
 const TRIES: u64 = u64::MAX;
 
 /// Whether a signal interrupted the call.

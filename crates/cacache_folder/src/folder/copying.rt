@@ -32,14 +32,14 @@ fn is_onto_itself(source: &FileInfo, target: &FileInfo, from: &str, to: &str) ->
     from == to || is_same(source, target)
 }
 
-/// Whether a link stands there.
+/// Whether a link is there.
 fn is_link(kind: Kind) -> bool
     ensures { result ≡ calls.is_link kind }
 {
     matches!(kind, Kind::Link)
 }
 
-/// The system's copy of the file into what stands at the second path, and its size in bytes.
+/// The system's copy of the file into what is at the second path, and its size in bytes.
 fn write_into<Y: System>(system: &mut Y, from: &str, to: &str) -> io::Result<usize>
     ensures { RunLogged (calls.only (asks.CopyFile from.now to.now)) (said says.Count result)
         (Y.calls system.old) (Y.calls system.new) }
@@ -67,7 +67,7 @@ fn replace_end<Y: System + AllocGlobal>(
     }
 }
 
-/// Copies the file to where the link at the second path leads, where nothing stands yet.
+/// Copies the file to where the link at the second path leads, if nothing is there yet.
 fn make_end<Y: System + AllocGlobal>(
     system: &mut Y,
     number: u64,
@@ -86,8 +86,8 @@ fn make_end<Y: System + AllocGlobal>(
     }
 }
 
-/// Copies the file of which the system said this over what stands at the second path, of which it said that. A folder is
-/// refused, the file itself stays, and what is neither file nor folder is written into.
+/// Copies the file about which the system said this over what is at the second path, about which it said that. A
+/// folder is refused, the file itself stays, and what is neither file nor folder is written into.
 fn copy_over<Y: System + AllocGlobal>(
     system: &mut Y,
     is_through: bool,
@@ -112,7 +112,7 @@ fn copy_over<Y: System + AllocGlobal>(
     }
 }
 
-/// Copies the file of which the system said this over what the link at the second path leads to.
+/// Copies the file about which the system said this over what the link at the second path leads to.
 fn copy_through<Y: System + AllocGlobal>(
     system: &mut Y,
     source: &FileInfo,
@@ -132,7 +132,7 @@ fn copy_through<Y: System + AllocGlobal>(
     }
 }
 
-/// Copies the file of which the system said this.
+/// Copies the file about which the system said this.
 fn copy_found<Y: System + AllocGlobal>(
     system: &mut Y,
     source: &FileInfo,

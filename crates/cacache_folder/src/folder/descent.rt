@@ -8,8 +8,8 @@ use std::alloc::{AllocError, Global};
 use std::collections::HashMap;
 use std::mem::swap;
 
-/// After so many steps of a walk, the folder that it removes a folder from is looked at before. A look each time would
-/// cost the clearing of a cache a tenth of its time, and an empty folder is all that is removed through a link.
+/// After so many steps of a walk, the folder from which it removes a folder is looked at first. A look each time
+/// would cost the clearing of a cache a tenth of its time, and an empty folder is all that is removed through a link.
 const STEPS: u32 = 16;
 
 /// What a folder was when a listing named it, and whether it was listed itself since.
@@ -46,7 +46,7 @@ impl Walk {
         }
     }
 
-    /// The folder whose path has this number, if the walk listed it.
+    /// The folder with a path of this number, if the walk listed it.
     fn known(&self, number: u64) -> Option<Known> {
         match self.named.get(&number) {
             Some(named) => if named.is_listed {
@@ -108,8 +108,8 @@ impl Descent {
         self.steps = 0;
     }
 
-    /// Keeps that the folder at the path was listed, and which folders the listing named. A walk begins there unless it
-    /// was named itself.
+    /// Records that the folder at the path was listed, and which folders the listing named. A walk begins there
+    /// unless it was named itself.
     pub(crate) fn list(
         &mut self,
         path: &str,
@@ -133,7 +133,7 @@ impl Descent {
         Ok(())
     }
 
-    /// The folder whose path has this number, if one of the walks listed it.
+    /// The folder with a path of this number, if one of the walks listed it.
     fn known(&self, number: u64) -> Option<Known> {
         match self.last.known(number) {
             Some(known) => Some(known),
@@ -141,8 +141,8 @@ impl Descent {
         }
     }
 
-    /// Before a file or a link is removed from a folder: what is known of the folder, if it is to be looked at. It is,
-    /// unless the step before listed it.
+    /// Before a file or a link is removed from a folder: what is known about the folder, if it is to be looked at. It
+    /// is, unless the step before listed it.
     pub(crate) fn due_for_file(&mut self, folder: &str) -> Option<Known> {
         let number = number_of(folder);
         let is_fresh = number == self.fresh;
@@ -151,7 +151,7 @@ impl Descent {
         if is_fresh { None } else { self.known(number) }
     }
 
-    /// Before the folder at the path is removed from another one, which the walks leave then: what is known of the
+    /// Before the folder at the path is removed from another one, which the walks leave then: what is known about the
     /// other, if it is to be looked at.
     pub(crate) fn due_for_folder(&mut self, path: &str, folder: &str) -> Option<Known> {
         let number = number_of(path);

@@ -1,4 +1,4 @@
-//! What stands under the names of a folder.
+//! What is under the names of a folder.
 ghost use Rattle.std.specs.Prelude.{◌≡◌, ◌==◌, ◌++◌, ◌∷◌, [], ◌↔◌, true, IfOk, IfErr, OnOk, IsTrue};
 ghost use Rattle.std.specs.List.{list_any};
 ghost use Rattle.std_io.specs.declared.io.kind.ErrorKind.TheVariants as kinds_of_error;
@@ -94,7 +94,7 @@ fn enter(alloc: Global, names: &mut Vec<Name>, name: &[u8], kind: Kind) -> Looke
     }
 }
 
-/// Notes what stands at the path, if that is a folder.
+/// Notes what is at the path, if that is a folder.
 fn note(folders: &mut Vec<Place>, path: &str, info: &FileInfo) -> Result<(), AllocError> {
     if matches!(info.kind, Kind::Folder) {
         folders.push(Place::new(path, info))?;
@@ -102,7 +102,7 @@ fn note(folders: &mut Vec<Place>, path: &str, info: &FileInfo) -> Result<(), All
     Ok(())
 }
 
-/// What kind of thing stands at the path; None if it was removed since the folder was read. A folder is noted.
+/// What kind of thing is at the path; None if it was removed since the folder was read. A folder is noted.
 fn kind_at<Y: System>(system: &mut Y, folders: &mut Vec<Place>, path: &str) -> Looked<Option<Kind>>
     ensures { AsksKind path.now result (Y.calls system.old) (Y.calls system.new) }
 {
@@ -119,7 +119,8 @@ fn kind_at<Y: System>(system: &mut Y, folders: &mut Vec<Place>, path: &str) -> L
     }
 }
 
-/// The same where the path is text. The runtime is asked by texts alone: what has a name that is none counts as a file.
+/// The same if the path is text. The runtime is asked by texts alone: what has a name that is no text counts as a
+/// file.
 fn kind_if_text<Y: System>(
     system: &mut Y,
     folders: &mut Vec<Place>,
@@ -133,7 +134,7 @@ fn kind_if_text<Y: System>(
     }
 }
 
-/// The same under a name of a folder, whose path ends in a `/`.
+/// The same under a name of a folder; the folder's path ends in a `/`.
 fn kind_below<Y: System>(
     system: &mut Y,
     folders: &mut Vec<Place>,
@@ -155,8 +156,8 @@ fn kind_below<Y: System>(
     }
 }
 
-/// Adds what stands under a name of a folder, whose path ends in a `/`, unless it was removed since the folder was
-/// read.
+/// Adds what is under a name of a folder, unless it was removed since the folder was read. The folder's path ends in
+/// a `/`.
 pub(crate) fn add<Y: System + AllocGlobal>(
     system: &mut Y,
     listed: &mut Listed,

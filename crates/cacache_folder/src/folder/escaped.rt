@@ -10,7 +10,7 @@ ghost use Rattle.cacache_folder.specs.Escaped.{raw_name};
 use cacache_core::text::Text;
 use std::alloc::{AllocError, Global};
 
-/// What an escaped name begins with: 256 bytes, where the system's names have at most 255.
+/// What an escaped name begins with: 256 bytes, while the system's names have at most 255.
 const MARK: &str = "\
 %%%%%%%%%%%%%%%%%%%%%%%%%%%%%%%%%%%%%%%%%%%%%%%%%%%%%%%%%%%%%%%%\
 %%%%%%%%%%%%%%%%%%%%%%%%%%%%%%%%%%%%%%%%%%%%%%%%%%%%%%%%%%%%%%%%\

@@ -43,8 +43,8 @@ fn may_do_a_part<Y: System + Drop>(step: &Step<SystemFile<Y>, SystemTemp<Y>>) ->
     )
 }
 
-/// The answer to a step that failed with this error, whose kind becomes the reason. Out of memory hands the step back
-/// only if nothing can have changed.
+/// The answer to a step that failed with this error; the error's kind becomes the reason. Out of memory hands the
+/// step back only if nothing can have changed.
 pub(crate) fn failed_answer<Y: System + Drop>(
     error: io::Error,
     step: Step<SystemFile<Y>, SystemTemp<Y>>,

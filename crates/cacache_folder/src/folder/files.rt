@@ -17,7 +17,7 @@ use cacache_system::{FileInfo, System};
 use std::io;
 use std::io::ErrorKind;
 
-/// The mode of a temporary file: its owner alone may read and write it.
+/// The mode of a temporary file: only its owner may read and write it.
 pub(crate) const PRIVATE: u32 = 0o600;
 
 /// A new empty file that only its owner may read and write, with a system that can write and remove it.
@@ -49,7 +49,7 @@ pub(crate) fn append<Y: System>(system: &mut Y, path: &str, bytes: &[u8]) -> io:
     }
 }
 
-/// The file or folder at the path, opened to read, and what the system says of it.
+/// The file or folder at the path, opened to read, and what the system says about it.
 pub(crate) fn opened<Y: System>(system: &mut Y, path: &str) -> io::Result<(Y::File, FileInfo)>
     ensures { OpensFile Y.number path.now result (Y.calls system.old) (Y.calls system.new) }
 {
@@ -90,7 +90,7 @@ pub(crate) fn open_with<Y: System + Clone>(system: &mut Y, path: &str) -> io::Re
     }
 }
 
-/// What the system says of the file at the path.
+/// What the system says about the file at the path.
 pub(crate) fn size<Y: System>(system: &mut Y, path: &str) -> io::Result<FileInfo>
     ensures { RunLogged (calls.sizing path.now) (said says.Info result)
         (Y.calls system.old) (Y.calls system.new) }

@@ -12,7 +12,7 @@ pub(crate) struct Place {
 }
 
 impl Place {
-    /// The folder at the path, of which the system says this.
+    /// The folder at the path, about which the system says this.
     pub(crate) fn new(path: &str, info: &FileInfo) -> Place {
         Place {
             number: number_of(path),
@@ -21,8 +21,8 @@ impl Place {
     }
 }
 
-/// A number that a path goes by. Where two have the same, a look takes the folder of one for another folder than was
-/// listed.
+/// A number that a path goes by. If two have the same, a look takes the folder of one for another folder than the one
+/// that was listed.
 pub(crate) fn number_of(path: &str) -> u64 {
     let mut number = 0xcbf2_9ce4_8422_2325u64;
     for byte in path.as_bytes() {

@@ -27,7 +27,7 @@ pub(crate) fn count_of(count: u64) -> usize
     usize::try_from(count).unwrap_or(usize::MAX)
 }
 
-/// Puts the name of a fresh file behind a text.
+/// Puts the name of a fresh file after a text.
 fn push_name(text: &mut String, alloc: Global, number: u64) -> Result<(), AllocError>
     ensures { OnOk result (string_bytes text.new
         ≡ string_bytes text.old ++ calls.fresh_name number) }
@@ -50,14 +50,14 @@ fn fresh_beside(alloc: Global, path: &str, number: u64) -> Result<Text, AllocErr
     Ok(Text::new(text))
 }
 
-/// Whether something stands there.
+/// Whether something is there.
 fn already_exists(kind: ErrorKind) -> bool
     ensures { result ≡ calls.already_exists kind }
 {
     matches!(kind, ErrorKind::AlreadyExists)
 }
 
-/// Makes an empty file beside the path, under the first of its names that is free, and returns its path.
+/// Makes an empty file next to the path, under the first of its names that is free, and returns its path.
 fn make_fresh<Y: System>(
     system: &mut Y,
     alloc: Global,
@@ -83,7 +83,7 @@ fn make_fresh<Y: System>(
     }
 }
 
-/// Removes a fresh file that isn't wanted after all. Where that fails, nobody is told.
+/// Removes a fresh file that isn't wanted after all. A failure to do so isn't reported.
 fn scrap<Y: System>(system: &mut Y, fresh: &str)
     ensures { (answer : CallResult) × MakesCall (Y.calls system.old) (Y.calls system.new)
         (asks.RemoveFile fresh.now) answer }
@@ -91,7 +91,7 @@ fn scrap<Y: System>(system: &mut Y, fresh: &str)
     let_go(system.remove_file(fresh));
 }
 
-/// Moves the filled file to the path, over what stands there.
+/// Moves the filled file to the path, over what is there.
 fn put<Y: System>(system: &mut Y, count: u64, fresh: &str, path: &str) -> io::Result<usize>
     ensures { RunLogged (calls.replacing count fresh.now path.now) (said says.Count result)
         (Y.calls system.old) (Y.calls system.new) }
@@ -105,7 +105,7 @@ fn put<Y: System>(system: &mut Y, count: u64, fresh: &str, path: &str) -> io::Re
     }
 }
 
-/// Fills the fresh file with what stands at the first path, and moves it to the second.
+/// Fills the fresh file with what is at the first path, and moves it to the second.
 fn fill<Y: System>(system: &mut Y, from: &str, fresh: &str, path: &str) -> io::Result<usize>
     ensures { RunLogged (calls.filling from.now fresh.now path.now) (said says.Count result)
         (Y.calls system.old) (Y.calls system.new) }
@@ -119,7 +119,7 @@ fn fill<Y: System>(system: &mut Y, from: &str, fresh: &str, path: &str) -> io::R
     }
 }
 
-/// Copies the file at the first path to a fresh one, which takes the place of what stands at the second. What fails
+/// Copies the file at the first path to a fresh one, which takes the place of what is at the second. What fails
 /// leaves nothing, unless the system then removes no file either.
 pub(crate) fn replace<Y: System + AllocGlobal>(
     system: &mut Y,

@@ -23,7 +23,7 @@ use std::io::ErrorKind;
 /// How many bytes of names one read asks for. There is room for any name.
 const NAMES: usize = 4096;
 
-/// The most bytes that stand behind a folder's path: a `/` and the longest of the system's names.
+/// The most bytes after a folder's path: a `/` and the longest of the system's names.
 const BEHIND: usize = 256;
 
 /// Where the first NUL is.
@@ -33,7 +33,7 @@ fn nul_in(names: &[u8]) -> Option<usize>
     names.iter().position(|byte| *byte == 0)
 }
 
-/// The first of some names, each of which is ended by a NUL, and those behind it.
+/// The first of some names, each of which is ended by a NUL, and those after it.
 fn first_name(names: &[u8]) -> (&[u8], &[u8])
     requires { 0 < length names.now }
     ensures shorter { length result.1.now < length names.now }
@@ -45,7 +45,7 @@ fn first_name(names: &[u8]) -> (&[u8], &[u8])
     }
 }
 
-/// The path of the folder with a `/` behind it, so that the system follows a link there. There is room for any name.
+/// The path of the folder with a `/` after it, so that the system follows a link there. There is room for any name.
 fn folder_path(alloc: Global, path: &str) -> Result<String, AllocError>
     ensures { IfOk result (λ folder. folder.bytes.items ≡ with_slash path.now) }
 {
@@ -57,7 +57,7 @@ fn folder_path(alloc: Global, path: &str) -> Result<String, AllocError>
     Ok(folder)
 }
 
-/// Adds what stands under some names, each of which is ended by a NUL.
+/// Adds what is under some names, each of which is ended by a NUL.
 fn add_all<Y: System + AllocGlobal>(
     system: &mut Y,
     listed: &mut Listed,
@@ -82,8 +82,8 @@ fn add_all<Y: System + AllocGlobal>(
     Ok(())
 }
 
-/// The error of a listing that broke off. An open folder isn't missing, even if the system says so: who hears that takes
-/// it for one without names.
+/// The error of a listing that broke off. An open folder isn't missing, even if the system says so: whoever hears
+/// that takes it for one without names.
 fn broken_off(why: ErrorKind) -> ErrorKind
     ensures { result ≡ calls.broken_off why }
 {
@@ -93,8 +93,8 @@ fn broken_off(why: ErrorKind) -> ErrorKind
     }
 }
 
-/// Adds what stands under the names of one read of an open folder, whose path ends in a `/`. Returns whether it gave
-/// any.
+/// Adds what is under the names of one read of an open folder, and returns whether it gave any. The folder's path
+/// ends in a `/`.
 fn add_some<Y: System + AllocGlobal>(
     system: &mut Y,
     listed: &mut Listed,
@@ -124,7 +124,7 @@ fn add_some<Y: System + AllocGlobal>(
     }
 }
 
-/// Adds what stands under the names that an open folder gives, whose path ends in a `/`.
+/// Adds what is under the names that an open folder gives; the folder's path ends in a `/`.
 fn fill<Y: System + AllocGlobal>(
     system: &mut Y,
     listed: &mut Listed,
@@ -156,7 +156,7 @@ struct Opened<D> {
     was_led: bool,
 }
 
-/// The names that an open folder gives, whose path ends in a `/`.
+/// The names that an open folder gives; the folder's path ends in a `/`.
 fn names_from<Y: System + AllocGlobal>(
     system: &mut Y,
     opened: Opened<Y::Folder>,
@@ -180,14 +180,14 @@ fn names_from<Y: System + AllocGlobal>(
     }
 }
 
-/// Whether what is there is no folder, or a link.
+/// Whether what is there isn't a folder, or is a link.
 fn is_no_folder(kind: ErrorKind) -> bool
     ensures { result ≡ calls.is_no_folder kind }
 {
     matches!(kind, ErrorKind::NotADirectory | ErrorKind::FilesystemLoop)
 }
 
-/// Opens a folder to which a link may lead; one that leads to nothing is none. `folder` is its path with a `/` behind
+/// Opens a folder to which a link may lead; one that leads to nothing is none. `folder` is its path with a `/` after
 /// it.
 fn open_led<Y: System>(system: &mut Y, folder: &str) -> Looked<Opened<Y::Folder>>
     ensures { (path : List ℕ) → folder.now ≡ with_slash path
@@ -208,7 +208,7 @@ fn open_led<Y: System>(system: &mut Y, folder: &str) -> Looked<Opened<Y::Folder>
 }
 
 /// Opens a folder. One that a listing named has to be a folder still, and no link; elsewhere a link is followed.
-/// `folder` is the path with a `/` behind it.
+/// `folder` is the path with a `/` after it.
 fn open_folder<Y: System>(
     system: &mut Y,
     path: &str,
@@ -255,7 +255,7 @@ fn names_in<Y: System + AllocGlobal>(system: &mut Y, path: &str, was_named: bool
 
 impl<Y: System + AllocGlobal + Clone + Drop> SystemStore<Y> {
     /// What is in the folder, in the system's order. A name that isn't UTF-8 is listed as an escaped one. What was
-    /// removed meanwhile is left out; the kind of all else has to be had.
+    /// removed meanwhile is left out; the kind of everything else is needed.
     pub(crate) fn read_dir(&mut self, path: &str) -> io::Result<Listing>
         ensures proper { IfOk result (λ listing. AreProperNames listing) }
         ensures kept { self.new.reason ≡ self.old.reason }

@@ -1,4 +1,4 @@
-//! What the system tells one file or folder from another by.
+//! What the system distinguishes files and folders by.
 ghost use Rattle.std.specs.Prelude.{◌≡◌, ◌==◌, ◌&&◌, not};
 
 use cacache_system::FileInfo;
@@ -11,7 +11,7 @@ pub(crate) struct Node {
 }
 
 impl Node {
-    /// What the system says of a file or folder.
+    /// What the system says about a file or folder.
     pub(crate) fn of(info: &FileInfo) -> Node
         ensures number { result.number ≡ info.now.inode }
         ensures device { result.device ≡ info.now.device }
@@ -22,7 +22,7 @@ impl Node {
         }
     }
 
-    /// Of what nobody asked the system for.
+    /// For what nobody asked the system about.
     pub(crate) fn unknown() -> Node {
         Node {
             number: 0,

@@ -17,7 +17,7 @@ use std::io;
 use std::io::{ErrorKind, Read};
 
 /// An open file of a system, with a system of its own, which its reads ask. It gives at most 2^64 - 1 bytes. A read
-/// behind them fails, and never says that the file ended.
+/// past them fails, and never says that the file ended.
 #[derive(Drop)]
 pub struct SystemFile<Y: System + Drop> {
     pub(crate) system: Y,
@@ -29,7 +29,7 @@ pub struct SystemFile<Y: System + Drop> {
 pub type FolderFile<R> = SystemFile<Host<R>>;
 
 impl<Y: System + Drop> SystemFile<Y> {
-    /// The open file, of which nothing was read yet, with a system for its reads.
+    /// The open file, from which nothing was read yet, with a system for its reads.
     pub(crate) fn new(system: Y, file: Y::File) -> SystemFile<Y>
         ensures system { result.system ≡ system }
         ensures file { result.file ≡ file }

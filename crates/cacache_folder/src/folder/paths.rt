@@ -24,14 +24,14 @@ pub(crate) fn above(path: &str) -> Option<&str>
     }
 }
 
-/// Whether nothing stands there.
+/// Whether nothing is there.
 pub(crate) fn is_absent(kind: ErrorKind) -> bool
     ensures { result ≡ absent_of kind }
 {
     matches!(kind, ErrorKind::NotFound)
 }
 
-/// What stands is to be a folder.
+/// What is there has to be a folder.
 fn stood(kind: Kind) -> io::Result<bool>
     ensures end { (s : Stage) → calls.if_folder kind ErrorKind.AlreadyExists s
         ≡ onward (λ _. s) result }
@@ -43,7 +43,7 @@ fn stood(kind: Kind) -> io::Result<bool>
     }
 }
 
-/// Asks whether the folder stands after all. If nothing stands there, the first error tells why.
+/// Asks whether the folder is there after all. If nothing is there, the first error says why.
 fn confirm<Y: System>(system: &mut Y, path: &str, first: io::Error) -> io::Result<bool>
     requires { absent_of (error_kind first) ≡ false }
     ensures gone { Confirms path.now (error_kind first) result
@@ -60,8 +60,8 @@ fn confirm<Y: System>(system: &mut Y, path: &str, first: io::Error) -> io::Resul
     }
 }
 
-/// Makes one folder. Returns whether it was missing. It may stand already, after a wrong guess or where somebody else
-/// just made it, and not each file system says then that it exists.
+/// Makes one folder. Returns whether it was missing. It may be there already, after a wrong guess or if somebody else
+/// has made it, and not each file system says then that it exists.
 fn make_dir<Y: System>(system: &mut Y, path: &str) -> io::Result<bool>
     ensures { (again : Bool) (todo : List (List ℕ)) → CallsLogged (calls.making again path.now todo)
         (made again path.now todo result) (Y.calls system.old) (Y.calls system.new) }
@@ -76,7 +76,7 @@ fn make_dir<Y: System>(system: &mut Y, path: &str) -> io::Result<bool>
     }
 }
 
-/// Makes the folder, and those above it where the system misses one. Returns whether it was missing.
+/// Makes the folder, and those above it if the system misses one. Returns whether it was missing.
 fn make_missing<Y: System>(system: &mut Y, path: &str) -> io::Result<bool>
     ensures { (todo : List (List ℕ)) → CallsLogged (calls.making false path.now todo)
         (onward (λ _. below todo) result) (Y.calls system.old) (Y.calls system.new) }
@@ -97,7 +97,8 @@ fn make_missing<Y: System>(system: &mut Y, path: &str) -> io::Result<bool>
     }
 }
 
-/// Asks for the folder, and makes it if it is missing, which it returns. Anything else that stands there is an error.
+/// Asks for the folder, makes it if it is missing, and returns whether it was. Anything else that is there is an
+/// error.
 fn ask_first<Y: System>(system: &mut Y, path: &str) -> io::Result<bool>
     ensures { CallsLogged (calls.standing path.now) (onward (λ _. calls.over says.Done) result)
         (Y.calls system.old) (Y.calls system.new) }
@@ -112,9 +113,9 @@ fn ask_first<Y: System>(system: &mut Y, path: &str) -> io::Result<bool>
     }
 }
 
-/// Makes every missing folder of the path, and returns whether the last one was missing. A folder that stands costs one
-/// question to the system, and one that alone is missing costs one call that makes it. A wrong guess which of them it is
-/// costs one more.
+/// Makes every missing folder of the path, and returns whether the last one was missing. A folder that is there costs
+/// one question to the system, and one that alone is missing costs one call that makes it. A wrong guess which of
+/// them it is costs one more.
 pub(crate) fn make_dirs<Y: System>(system: &mut Y, path: &str, is_guessed: bool) -> io::Result<bool>
     ensures { RunLogged (make_first is_guessed path.now) (said (λ _. says.Done) result)
         (Y.calls system.old) (Y.calls system.new) }

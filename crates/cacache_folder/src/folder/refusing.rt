@@ -1,4 +1,4 @@
-//! What isn't done to a file or folder of this kind.
+//! Refusals of a file or folder because of its kind.
 ghost use Rattle.std.specs.Prelude.{◌≡◌};
 ghost use Rattle.cacache_system.specs.CallsOf.{Stage, unless_folder as no_folder_goes, if_folder as folders_go};
 ghost use Rattle.cacache_folder.specs.Goings.{unless};
@@ -16,7 +16,7 @@ pub(crate) fn unless_folder(kind: Kind) -> Option<ErrorKind>
     }
 }
 
-/// Why what is no folder is refused, which is the kind that is given.
+/// Why what isn't a folder is refused: for the reason that is given.
 pub(crate) fn if_folder(kind: Kind, why: ErrorKind) -> Option<ErrorKind>
     ensures { (s : Stage) → folders_go kind why s ≡ unless result s }
 {

@@ -18,8 +18,8 @@ use cacache_system::{Host, System};
 use std::io;
 use std::io::Write;
 
-/// A temporary file of a system, with a system of its own, which its writes and its removal ask. Dropping it closes the
-/// file and removes it; where that fails, nobody is told.
+/// A temporary file of a system, with a system of its own, which its writes and its removal ask. Dropping it closes
+/// the file and removes it; a failure to do so isn't reported.
 pub struct SystemTemp<Y: System + Drop> {
     pub(crate) system: Y,
     pub(crate) file: Y::File,

@@ -1,4 +1,4 @@
-//! Answers that say no more than a value.
+//! Answers that give only a value.
 ghost use Rattle.std.specs.Prelude.{◌≡◌};
 ghost use Rattle.std.specs.Result.{result_map_both};
 ghost use Rattle.cacache_store.specs.declared.store.answer.Answer.TheVariants as answers;

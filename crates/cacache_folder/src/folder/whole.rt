@@ -98,8 +98,8 @@ fn read_through<Y: System + AllocGlobal>(
     }
 }
 
-/// All that the file has. `size` is what it says of its size in bytes: most files of that size are read in one read,
-/// and a second one sees the end.
+/// All that the file has. `size` is what it says about its size in bytes: most files of that size are read in one
+/// read, and a second one sees the end.
 fn read_whole<Y: System + AllocGlobal>(
     system: &mut Y,
     file: &mut Y::File,

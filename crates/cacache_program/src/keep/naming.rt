@@ -33,7 +33,7 @@ fn damaged_lines(alloc: Global, damaged: Vec<Integrity>) -> std::result::Result<
     Ok(text)
 }
 
-/// The line of an entry whose content isn't there. Memory alone can fail.
+/// The line of an entry without its content. Memory alone can fail.
 fn dangling_line(alloc: Global, entry: Metadata) -> Result<Vec<u8>>
     ensures { IfOk result (λ line. line.items ≡ line_of_dangling (found_view entry)) }
 {

@@ -1,4 +1,4 @@
--- The law of a key behind a collection, an export and a write, and that of the read.
+-- The law of a key after a collection, an export and a write, and that of the read.
 use Rattle.std.proofs.Common.{◌≡◌, ◌⊎◌, inl, inr, ◌<◌, ◌^◌, true, [], ◌∷◌, length, refl, sym, subst, ◌∙◌, arith}
 use Rattle.cacache_core.specs.{Integrity.{Meets}, declared.integrity.algorithm.Algorithm.TheVariants.{Sha256}}
 use Rattle.cacache_table.specs.declared.command.Command.TheVariants as commands

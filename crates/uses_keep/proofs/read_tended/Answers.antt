@@ -1,4 +1,4 @@
--- The laws of a sweep, a repair, a compaction and a read, one behind another, with the base folder that all had.
+-- The laws of a sweep, a repair, a compaction and a read, one after another, with the base folder that all had.
 use Rattle.std.proofs.Common.{◌≡◌, Some, [], ◌∷◌, ap, false, inl, map, refl, subst, sym, ◌∙◌}
 use Rattle.cacache_core.specs.declared.integrity.digest.Hash.{Hash}
 use Rattle.cacache_memory.specs.Replay.{tree_of}

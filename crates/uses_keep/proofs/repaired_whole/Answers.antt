@@ -1,4 +1,4 @@
--- The law of a verification behind a repair, with the base folder that both had.
+-- The law of a verification after a repair, with the base folder that both had.
 use Rattle.std.proofs.Common.{Some, refl, subst, string_bytes, map}
 use Rattle.cacache_entry.specs.View.{found_view}
 use Rattle.cacache_jobs.specs.Sites.{site_of}

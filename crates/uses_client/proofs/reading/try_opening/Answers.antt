@@ -1,4 +1,4 @@
--- What an opening of a content tells of it.
+-- What an opening of a content says about it.
 use Rattle.std.proofs.Common.{Ok, Err}
 use Rattle.cacache.specs.Laws.{bytes_under}
 use Rattle.uses_client.proofs.Opened.{some_opened, why_none}
