@@ -30,7 +30,7 @@ fn compile(rt: HostRuntime, unit: &Unit) -> Result<()> {
 }
 
 /// Stores the interfaces of all units, each in a thread of its own, and returns once all threads have ended. If the
-/// system gives no thread, the calls are made one after another, which serves since none waits for another one. `rt`
+/// system gives no thread, the calls are made one after another. That is enough, because no call waits for another. `rt`
 /// starts the threads, and `host`, the same runtime, goes to each.
 fn store_all<R: Threads + Sync>(rt: &R, host: HostRuntime) -> Result<()> {
     let ends = thread::map_indices(rt, host.alloc(), UNITS.len(), &|at| store(host, &UNITS[at]))?;

@@ -14,7 +14,7 @@ use std::thread;
 use std::thread::Threads;
 use std::time::Clock;
 
-/// Writes and commits, while a worker does the work: how many bytes it took, and the integrity.
+/// Writes and commits, while a worker does the work. Returns how many bytes it took, and the integrity.
 fn written<R>(
     rt: R,
     mut env: &mut Memory,
@@ -29,7 +29,7 @@ where
     Ok((count, sri))
 }
 
-/// The same with a writer whose worker runs in a thread of its own.
+/// Does what `written` does, with a writer that has its worker in a thread of its own.
 fn made<R>(rt: R, mut env: Memory) -> Result<(usize, Integrity)>
 where
     R: Threads + Wait + Clock + RandomSource + AllocGlobal + Copy + Sync + Send + 'static,
