@@ -1,9 +1,9 @@
 -- Moves of temporary files and appends, after what comes before them.
-use Rattle.std.proofs.Common.{◌≡◌, ℕ, Bool, true, false, if◌then◌else◌, List, refl, sym, ap, subst, ◌∙◌}
-use Rattle.std.specs.Prelude.{Option, Result, Ok, Err}
+use Rattle.std.{proofs.Common.{◌≡◌, ℕ, Bool, true, false, if◌then◌else◌, List, refl, sym, ap, subst, ◌∙◌}, specs.Prelude.{Option, Result, Ok, Err}}
 use Rattle.std_io.specs.{IoError.{error_kind}, declared.io.{error.Error.{Error}, kind.ErrorKind.{ErrorKind}}}
 use Rattle.cacache_system.specs.{declared.call.{FileInfo.{FileInfo}, SystemCall.{SystemCall, TheVariants.{Sync, Stat, Rename}}, CallResult.{CallResult, TheVariants.{Done, Count, Info, Failed}}, CallItem.{CallItem}}, CallLog.{said, MakesCall}, CallsOf.{Stage, over, only, preparing, keeping, give, sync_again, appending, is_absent, CallsLogged, RunLogged}, Seen.{NumberedTemp}, AnswersOf.{Hint, no_hint, rewrites, look_first, persist}}
-use Rattle.cacache_folder.{specs.{Goings.{onward}, Looks.{LooksFirst}, Moves.{GoesBefore, Moves, Rewrites, Persists, Appends}}, proofs.CallRuns.{run_one, calls_none, calls_one, calls_on, calls_run, calls_over}}
+use Rattle.cacache_folder.specs.{Goings.{onward}, Looks.{LooksFirst}, Moves.{GoesBefore, Moves, Rewrites, Persists, Appends}}
+use Rattle.cacache_folder.proofs.CallRuns.{run_one, calls_none, calls_one, calls_on, calls_run, calls_over}
 
 abbrev Log : Type 0
 Log = Option (List CallItem)

@@ -1,6 +1,5 @@
 use Rattle.std.proofs.Common.{◌≡◌, true, false, refl, sym, ap, subst, ◌∙◌}
-use Rattle.cacache_folder.{specs.{FolderNumbers.{numbered_temp}, Moves.{Persists}}, proofs.Moving.{persists_kept, persists_plain}}
-use Rattle.cacache_folder.proofs.Answering.{temp_of}
+use Rattle.cacache_folder.{specs.{FolderNumbers.{numbered_temp}, Moves.{Persists}}, proofs.{Moving.{persists_kept, persists_plain}, Answering.{temp_of}}}
 use Rattle.cacache_folder.proofs.folder.SystemStore.persist.Goals as goal
 
 pub returns-then-is_of-clause-ran : goal.returns-then-is_of-clause-ran
