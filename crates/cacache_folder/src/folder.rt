@@ -81,9 +81,10 @@ type AnswerOf<Y> = Answer<SystemFile<Y>, SystemTemp<Y>>;
 /// mode. If they can't be kept, the step fails, and the file stays as it was. Any other `Persist` leaves the temporary
 /// file's own, so that its owner alone reads it.
 ///
-/// After a listing, a step that removes, replaces or appends to something below the listed folder looks whether the
-/// folder there is still one, and fails with `NotADirectory` if a link took its place. It looks not before each step: see
-/// `RemoveDir` and appends of puts.
+/// In a walk, which lists a folder and those below it, a step looks whether the folder that it changes is still the one
+/// that was listed. If a link took its place, the step fails with `NotADirectory`. A step that removes a file looks so,
+/// unless it comes right after the listing; one that removes a folder, now and then; a `Persist` that replaces a file
+/// that was read; and an `Append`, unless a temporary file was made since the listing, as in a put.
 #[derive(Drop)]
 pub struct SystemStore<Y> {
     system: Y,

@@ -139,6 +139,12 @@ impl Files for Watched {
         self.host.rename(from, to)
     }
 
+    fn lchown(&self, path: &str, owner: Option<u32>, group: Option<u32>) -> io::Result<()> {
+        self.asked("lchown", &[path])?;
+        failing(self.ways.owner)?;
+        self.host.lchown(path, owner, group)
+    }
+
     fn remove_file(&self, path: &str) -> io::Result<()> {
         self.asked("remove_file", &[path])?;
         if path.ends_with("/kept") {

@@ -3,7 +3,7 @@ ghost use Rattle.std.specs.Prelude.{◌≤◌, IfOk};
 
 use crate::ways::Ways;
 use std::cell::RefCell;
-use std::fs::{File, Metadata, OpenFile};
+use std::fs::{File, Metadata, OpenFile, Permissions};
 use std::io;
 use std::io::{ErrorKind, Read, Seek, SeekFrom, Write};
 use std::rc::Rc;
@@ -110,6 +110,12 @@ impl OpenFile for WatchedFile {
     fn set_len(&self, size: u64) -> io::Result<()> {
         note(&self.notes, "set_len")?;
         self.file.set_len(size)
+    }
+
+    fn set_permissions(&self, permissions: Permissions) -> io::Result<()> {
+        note(&self.notes, "set_permissions")?;
+        failing(self.ways.mode)?;
+        self.file.set_permissions(permissions)
     }
 
     fn sync_all(&self) -> io::Result<()> {

@@ -16,6 +16,10 @@ pub(crate) struct Ways {
     pub(crate) size: Option<u64>,
     /// Why each rename fails.
     pub(crate) rename: Option<ErrorKind>,
+    /// Why no file gets an owner.
+    pub(crate) owner: Option<ErrorKind>,
+    /// Why no file gets a mode.
+    pub(crate) mode: Option<ErrorKind>,
     /// Why each copy fails, after it wrote its bytes.
     pub(crate) copy: Option<ErrorKind>,
     /// Why no fresh file is made.
@@ -33,6 +37,8 @@ const PLAIN: Ways = Ways {
     most: usize::MAX,
     size: None,
     rename: None,
+    owner: None,
+    mode: None,
     copy: None,
     made: None,
     refused: None,
@@ -67,6 +73,18 @@ const UNMOVED: Ways = Ways {
 const UNCOPIED: Ways = Ways {
     copy: Some(ErrorKind::StorageFull),
     ..PLAIN
+};
+
+/// No file gets an owner.
+const UNOWNED: Ways = Ways {
+    owner: Some(ErrorKind::PermissionDenied),
+    ..TOLD
+};
+
+/// No file gets a mode.
+const UNMODED: Ways = Ways {
+    mode: Some(ErrorKind::PermissionDenied),
+    ..TOLD
 };
 
 /// No fresh file is made.
@@ -137,6 +155,8 @@ fn named(name: &str) -> Result<Ways, Flaw> {
         "full" => FULL,
         "unmoved" => UNMOVED,
         "uncopied" => UNCOPIED,
+        "unowned" => UNOWNED,
+        "unmoded" => UNMODED,
         "unmade" => UNMADE,
         "taken" => TAKEN,
         "crowded" => CROWDED,

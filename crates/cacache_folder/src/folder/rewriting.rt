@@ -57,11 +57,7 @@ fn sync_again<Y: System + Drop>(system: &mut Y, temp: &SystemTemp<Y>) -> io::Res
 }
 
 /// Gives the temporary file this mode.
-fn give_mode<Y: System + Drop>(
-    system: &mut Y,
-    temp: &SystemTemp<Y>,
-    mode: u32,
-) -> io::Result<()>
+fn give_mode<Y: System + Drop>(system: &mut Y, temp: &SystemTemp<Y>, mode: u32) -> io::Result<()>
     ensures { GoesBefore (calls.give_mode (Y.number temp.now.file) temp.now.is_synced mode) result
         (Y.calls system.old) (Y.calls system.new) }
 {
@@ -73,11 +69,7 @@ fn give_mode<Y: System + Drop>(
 
 /// Gives the temporary file this owner, this group and this mode. The mode comes last: a new owner takes bits of it
 /// away.
-fn give<Y: System + Drop>(
-    system: &mut Y,
-    temp: &SystemTemp<Y>,
-    info: &FileInfo,
-) -> io::Result<()>
+fn give<Y: System + Drop>(system: &mut Y, temp: &SystemTemp<Y>, info: &FileInfo) -> io::Result<()>
     ensures { GoesBefore (calls.give (Y.number temp.now.file) temp.now.path temp.now.is_synced
         info.now) result (Y.calls system.old) (Y.calls system.new) }
 {
