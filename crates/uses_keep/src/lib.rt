@@ -195,8 +195,8 @@ pub fn read_compacted<C: Clock, N: Names>(
 }
 
 /// Sweeps, repairs and compacts a cache in memory where each thing lies in its place, and reads by a key that led to a good
-/// content. The key still leads to the same entry, and its content is what it was. The function reads what it might
-/// have read before the compaction.
+/// content. The key still leads to the same entry, and its content is what it was. The function reads what a read
+/// before the compaction might have given.
 pub fn read_tended<C: Clock, N: Names>(
     env: &mut Env<MemStore, C, N>,
     cache: &str,
