@@ -1,12 +1,22 @@
--- Steps that leave what is at a path, and what of it is fixed.
-use Rattle.std.{proofs.Common.{◌≡◌, ◌⊎◌, inl, inr, ℕ, Bool, true, false, cond, List, [], ◌∷◌, ◌++◌, None, Some, refl, sym, ap, subst, ◌∙◌}, specs.Prelude.{unwrap_or}}
-use Rattle.cacache_core.specs.{declared.errors.Fault.TheVariants.{IsADirectory}, PathNames.{Names, names_of}}
+-- Steps that leave what stands at a path, and what of it is fixed.
+use Rattle.std.proofs.Common.{◌≡◌, ◌⊎◌, inl, inr, ℕ, Bool, true, false, cond, List, [], ◌∷◌, ◌++◌, None, Some, Result, Ok, Err, refl, sym, ap, subst, ◌∙◌}
+use Rattle.std.specs.Prelude.{unwrap_or}
+use Rattle.cacache_core.specs.{declared.errors.Fault.{Fault, TheVariants.{IsADirectory}}, PathNames.{Names, names_of}}
 use Rattle.cacache_store.specs.{declared.store.{plain.PlainTemp.{PlainTemp}, step.Step.TheVariants.{MakeDirs, CreateTemp, Write, Persist, ReadAll, ReadDir, SyncTemp, SyncFile, SyncDir}}, Plain.{PlainStep, PlainAnswer}}
+use Rattle.cacache_disk.proofs.Maps.{same_path-true}
 use Rattle.cacache_disk.specs.{declared.{luck.Luck.TheVariants.{Plain}, node.Node.{Node, TheVariants.{File}}}, LedTo.{file_at, folder, leads}, Tree.{Tree, bytes_of, cut, look}, Apply.{apply}}
 use Rattle.cacache_table.specs.Runs.{Moves}
 use Rattle.cacache_loss.specs.{declared.fixing.Fixing.{Fixing}, CalmMoves.{is_calm}, Fixing.{Fixed, changed, file_synced, fixed_after, folder_synced, is_at, is_child_of, is_sync, is_synced, synced, temp_synced}, Moments.{Moment, next}}
 use Rattle.cacache_loss.proofs.{KeptPaths.{sync_tree}, StepCases.{PersistCase, asked_keeps, cut_misses, dirs_keep, make_keeps, moved, persist_case, put_misses, refused, step_keeps, temp_keeps}, UnchangedPaths.{Misses, at_names, file_kept, moved_false, name_kept, rewrites_false, writes_false}}
 use Rattle.cacache_keep.proofs.MomentRuns.{later}
+
+-- a path names what it is said to name
+pub named_there : (path : List ℕ) (q : Names) → is_at (names_of path) q ≡ true → names_of path ≡ Ok q
+named_there path q = by (names_of path)
+  where
+    by : (r : Result Names Fault) → is_at r q ≡ true → r ≡ Ok q
+    by (Ok names) here = ap Ok (sym (same_path-true q names here))
+    by (Err fault) here = absurd cc
 
 -- a step that makes folders, or that reads, syncs, writes or moves what lies elsewhere
 abbrev pub Apart : Names → PlainStep → Type 0

@@ -1,13 +1,14 @@
 -- Questions and listings, one after another.
-use Rattle.std.proofs.{Common.{◌≡◌, ℕ, List, [], ◌∷◌, ◌++◌, Bool, true, false, Option, Ok, Err, Result, IfOk, inl, refl, sym, ap, subst, ◌∙◌, map}, lemmas.List.{map-append, Elements.{filter-append}}}
+use Rattle.std.proofs.{Common.{◌≡◌, ℕ, List, [], ◌∷◌, ◌++◌, Bool, true, false, Option, Ok, Err, Result, IfOk, inl, inr, refl, sym, ap, subst, ◌∙◌, map}, lemmas.List.{map-append, Elements.{filter-append}}}
 use Rattle.std.specs.{List.{filter}, Prelude.{OnOk, not}}
+use Rattle.cacache_core.specs.declared.errors.{Error.TheVariants.{IoError}, Fault.TheVariants.{NotFound}}
 use Rattle.cacache_store.specs.declared.{env.Env.{Env}, store.log.LogItem.{LogItem}}
 use Rattle.cacache_entry.specs.Latest.{Found}
 use Rattle.cacache_table.specs.{declared.{command.Command.{Command}, reply.Reply.{Reply}}, State.{Site, Item}, Table.{opening}, Runs.{Ran, plain_item}}
 use Rattle.cacache_table.specs.declared.command.Command.TheVariants as commands
 use Rattle.cacache_table.specs.declared.reply.Reply.TheVariants as replies
 use Rattle.cacache_jobs.specs.{Environment.{KeepsRest}, Sites.{site_of}}
-use Rattle.cacache_keep.specs.Calls.{AsksEach, ListsEntries, MadeCalls, question_of}
+use Rattle.cacache_keep.specs.{Calls.{AsksEach, HasNoIndex, MadeCalls, question_of}, Checking.{ReadsIndex}, Walking.{MeetsIndex}}
 
 -- ---- the environment
 
@@ -73,10 +74,19 @@ plain_entries : (entries : List Found) → map plain_item (map Ok entries) ≡ m
 plain_entries [] = refl
 plain_entries (f ∷ fs) = ap (λ (l : List Item). Ok f ∷ l) (plain_entries fs)
 
-pub entries_listed : (site : Site) (items : List Item) (entries : List Found) (old new : Option (List LogItem)) → Ran (opening site commands.Ls) (replies.Listed (map plain_item items)) old new → items ≡ map Ok entries → ListsEntries site entries old new
-entries_listed site items entries old new ran is =
+-- a listing whose items are entries
+pub index_read : (site : Site) (items : List Item) (entries : List Found) (odd : List (List ℕ)) (old new : Option (List LogItem)) → MeetsIndex site.cache (map plain_item items) odd old new → items ≡ map Ok entries → ReadsIndex site entries odd old new
+index_read site items entries odd old new met is =
     let plain : map plain_item items ≡ map Ok entries = ap (map plain_item) is ∙ plain_entries entries in
-    (map Ok entries, inl refl, subst (λ (l : List Item). Ran (opening site commands.Ls) (replies.Listed l) old new) plain ran)
+    let m = subst (λ (l : List Item). MeetsIndex site.cache l odd old new) plain met in
+    ((map Ok entries, inl refl, m.0), m.1)
+
+-- a listing that finds no folder of the index
+pub no_index_read : (site : Site) (items : List Item) (entries : List Found) (odd : List (List ℕ)) (old new : Option (List LogItem)) → MeetsIndex site.cache (map plain_item items) odd old new → HasNoIndex items → entries ≡ [] → ReadsIndex site entries odd old new
+no_index_read site items entries odd old new met (message, is) none =
+    let missing : List Item = Err (IoError NotFound []) ∷ [] in
+    let m = subst (λ (l : List Item). MeetsIndex site.cache l odd old new) (ap (map plain_item) is) met in
+    ((missing, inr (([], refl), none), m.0), m.1)
 
 -- what holds of a value if something else does
 pub value_so : {X E : Type 0} {P Q : X → Type 0} (r : Result X E) → ((x : X) → P x → Q x) → IfOk r P → IfOk r Q

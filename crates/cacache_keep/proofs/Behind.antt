@@ -15,7 +15,7 @@ use Rattle.cacache_sequence.proofs.{Putting.{Beside.{removals_keep, writes_keep}
 use Rattle.cacache_keep_laws.specs.{Collecting.{is_live}, Contents.{bucket_in, content_in}, Index.{IndexLists}, Mending.{found_in}}
 use Rattle.cacache_keep_laws.proofs.{Collected.{live_so}, Idle.{address_is}, Led.{found_listed}, Logged.{log_rooted}, Members.{contains_member, member_contains}, SoundRemovals.{removals_leave_sound}}
 use Rattle.cacache_keep.specs.{Behind.{CollectionsKeepKeys, Event, Happen, Happens, KeepsKey, LaterKeysStay, LeadsOn, collects, commits, deletes, exports, gives_up, inserts, looks, opens, puts, text_of}, Kept.{LeavesTree}}
-use Rattle.cacache_keep.proofs.{CheckedLogs.{collected_on}, Leaving.{leaves_live, steps_done, unused}}
+use Rattle.cacache_keep.proofs.Leaving.{leaves_live, steps_done, unused}
 
 -- ---- a collection
 
@@ -52,14 +52,12 @@ module _ (site : Site) (home : Names) (old new : List LogItem) (is : home_of sit
 
 pub collections_keep_keys : CollectionsKeepKeys
 collections_keep_keys site home kept dropped old new is logged sound c =
-    let k = collected_on site kept dropped old new logged c in
-    let known = same_stays_known site.cache old k.log (ap (value_of_tree (home_of site.cache)) k.stays) in
-    let done = steps_done site home kept dropped k.log new is logged k.so in
-    let live = leaves_live site home kept dropped k.log new is logged k.so in
+    let done = steps_done site home kept dropped old new is logged c.1.0 in
+    let live = leaves_live site home kept dropped old new is logged c.1.0 in
     record {
-      sound = removals_leave_sound site.cache (unused site home kept dropped k.log new is logged k.so) (tree_of k.log) (tree_of new) done.removes (subst (IsSound (home_of site.cache)) (sym k.stays) sound);
-      finds = λ key. found_same site home k.log new is key (live.buckets (sha1 key) (keys_have_digests key)) ∙ known.finds key;
-      key = λ key bytes i has. key_same site home k.log new is live.entries live.index live.left live.buckets key bytes i (known.key key bytes i has);
+      sound = removals_leave_sound site.cache (unused site home kept dropped old new is logged c.1.0) (tree_of old) (tree_of new) done.removes sound;
+      finds = λ key. found_same site home old new is key (live.buckets (sha1 key) (keys_have_digests key));
+      key = key_same site home old new is live.entries live.index live.left live.buckets;
     }
 
 -- ---- texts

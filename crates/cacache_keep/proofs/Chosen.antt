@@ -16,7 +16,7 @@ use Rattle.cacache_walks.specs.{Listing.{content_area_in}, Reading.{top_folder}}
 use Rattle.cacache_keep_laws.specs.{Contents.{HoldsJust}, Index.{IndexLists}}
 use Rattle.cacache_keep_laws.proofs.{Agreed.{holdings_agree, indexes_agree}, Held.{holds_just}, Logged.{answered_rest, answered_split, gains_join, log_rooted, looked, tree_rest, walked}}
 use Rattle.cacache_keep.specs.{Calls.{MadeCalls, has_entry, removal}, Keeping.{Chooses}, Kept.{PlansForetell, PlansLeave}, Planning.{Sized, TellsSizes}}
-use Rattle.cacache_keep.proofs.{CheckedLogs.{collected_on}, Judged.{index_lists}, Parts.{AllLook, calls_gain, gains_none}}
+use Rattle.cacache_keep.proofs.{Judged.{index_lists}, Parts.{AllLook, calls_gain, gains_none}}
 
 -- ---- a choice
 
@@ -109,7 +109,7 @@ pub plans_foretell : PlansForetell
 plans_foretell site home kept others unused dropped old planned mid collected is logged later same p c =
     let keeps = sizes_keep site.cache unused p.0 (Some planned) p.2 in
     let one = choice site home kept (map (λ u. u.0) unused) old planned p.0 is logged p.1 keeps.moves keeps.gains in
-    let k = collected_on site others dropped mid collected later c in
-    let gone = calls_gain site (map removal dropped) k.so.0 (Some collected) k.so.2 in
-    let two = choice site home others dropped k.log collected k.so.0 is later k.so.1 gone.0 gone.1 in
-    chosen_same site home kept others (map (λ u. u.0) unused) dropped old k.log p.0 k.so.0 p.1 k.so.1 (k.stays ∙ same) one.holds one.index two.holds two.index
+    let it = c.1.0 in
+    let gone = calls_gain site (map removal dropped) it.0 (Some collected) it.2 in
+    let two = choice site home others dropped mid collected it.0 is later it.1 gone.0 gone.1 in
+    chosen_same site home kept others (map (λ u. u.0) unused) dropped old mid p.0 it.0 p.1 it.1 same one.holds one.index two.holds two.index

@@ -11,7 +11,7 @@ use Rattle.cacache_value.proofs.KindsApart.{kind-below}
 use Rattle.cacache_keep_laws.specs.{Contents.{content_in}, Housed.{Beside, Housed, Still}, Temporary.{IsTemporary, LeavesUntemporary}}
 use Rattle.cacache_keep_laws.proofs.{Led.{found_integrity}, StillThere.{good_still}}
 use Rattle.cacache_keep.specs.{Houses.{RepairsHouse, SweepsHouse, SweepsKeepGood}, Kept.{LeadsToGood}}
-use Rattle.cacache_keep.proofs.{CheckedLogs.{repaired_on}, SweptCaches.{caches_are_swept}, Whole.{first_hash, rehoused}}
+use Rattle.cacache_keep.proofs.{ListedLogs.{repaired_on}, SweptCaches.{caches_are_swept}, Whole.{first_hash, rehoused}}
 
 -- ---- places
 
@@ -49,7 +49,7 @@ sweeps_house cache home files bytes strange old new is logged housed s =
 pub repairs_house : RepairsHouse
 repairs_house site home damaged hidden old new is logged housed v =
     let k = repaired_on site home damaged hidden old new is logged v in
-    rehoused site home damaged hidden k.log new is logged (subst (Housed (Some home)) (sym k.stays) housed) k.so
+    rehoused site home k.entries damaged hidden k.log new is logged (subst (Housed (Some home)) (sym k.stays) housed) k.index k.so
 
 -- ---- good contents
 

@@ -12,7 +12,7 @@ use Rattle.cacache_sequence.specs.Sequence.{tree_on, AreAnswered}
 use Rattle.cacache_keep_laws.specs.{Contents.{HoldsJust}, Index.{IndexLists}, Collecting.{LeavesLive, LinksLeadOut, Removes, is_live}, Idle.{LacksIdle}}
 use Rattle.cacache_keep_laws.proofs.{Collected.{lacks, leaves, others_gone, picked_left, rest_stays}, Logged.{gains_join, log_rooted}, Removed.{removals_run}}
 use Rattle.cacache_keep.specs.{Calls.{MadeCalls, has_entry, removal}, Keeping.{CollectsFrom}, Kept.{CollectionsLackIdle, CollectionsLeave}}
-use Rattle.cacache_keep.proofs.{CheckedLogs.{collected_on}, Chosen.{choice}, Parts.{gains_none}}
+use Rattle.cacache_keep.proofs.{Chosen.{choice}, Parts.{gains_none}}
 
 -- ---- removals
 
@@ -101,15 +101,12 @@ module _ (site : Site) (home : Names) (kept : ℕ) (dropped : List (List Hash)) 
 
 pub collections_leave : CollectionsLeave
 collections_leave site home kept dropped old new is logged c =
-    let k = collected_on site kept dropped old new logged c in
-    subst (λ (t : Tree). LeavesLive site home t (tree_of new) kept dropped) k.stays (leaves_live site home kept dropped k.log new is logged k.so)
+    leaves_live site home kept dropped old new is logged c.1.0
 
 -- ---- what it lacks
 
 pub collections_lack_idle : CollectionsLackIdle
 collections_lack_idle site home kept dropped old new is logged out c =
-    let k = collected_on site kept dropped old new logged c in
-    let c = k.so in
-    let d = steps_done site home kept dropped k.log new is logged k.so in
-    let outward = subst (LinksLeadOut home) (sym k.stays) out in
-    subst (λ (t : Tree). LacksIdle site.cache home t (tree_of new)) k.stays (lacks site home (tree_of k.log) (tree_of new) c.1.order.hashes c.1.strange c.1.entries is d.holds d.index d.removes (log_rooted k.log) outward c.1.unused.formed)
+    let it = c.1.0 in
+    let d = steps_done site home kept dropped old new is logged it in
+    lacks site home (tree_of old) (tree_of new) it.1.order.hashes it.1.strange it.1.entries is d.holds d.index d.removes (log_rooted old) out it.1.unused.formed

@@ -27,8 +27,8 @@ mod Tidying
 mod Settled
 mod TreeRuns
 mod FoundBuckets
-mod Checks
-mod CheckedLogs
+mod IndexWalks
+mod ListedLogs
 mod HexNames
 mod MovedFiles
 mod Rewritten

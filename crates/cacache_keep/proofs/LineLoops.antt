@@ -1,8 +1,8 @@
 -- How the lines of a bucket come together, and which are chosen.
-use Rattle.std.proofs.{Common.{◌≡◌, ◌+◌, ℕ, List, [], ◌∷◌, ◌++◌, Bool, true, false, cond, not, ◌&&◌, ◌||◌, Option, Some, None, map, filter_map, drop, take, refl, sym, ap, subst, ◌∙◌, bytes_eq}, lemmas.{Slice.Eq.{bytes_eq-Decides}, List.{reverse-append}, Map.Text.{btree_map_updates_str}}}
+use Rattle.std.proofs.{Common.{◌≡◌, ◌+◌, ℕ, List, [], ◌∷◌, ◌++◌, Bool, true, false, cond, not, ◌&&◌, ◌||◌, Option, Some, None, map, filter_map, drop, take, refl, sym, ap, subst, ◌∙◌, bytes_eq}, lemmas.{List.{reverse-append}, Map.Text.{btree_map_updates_str}}}
 use Rattle.std.specs.{Prelude.{Result, Ok, Err, OnOk, is_some}, List.{cons_option, list_any}, Option.{option_to_list}, BTreeMap.{BTreeMap, UpdatesBy, get_by}, Borrow.{Bor}, Cmp.Lexicographic.{slice_cmp}, Ordering.{nat_cmp}}
 use Rattle.cacache_entry.specs.Bucket.{CutsAt}
-use Rattle.cacache_keep_laws.specs.Compacting.{Decision, Line, decided, kept, line_of_piece, lines_of}
+use Rattle.cacache_keep_laws.{specs.Compacting.{Decision, Line, decided, kept, line_of_piece, lines_of}, proofs.CompactAnswers.{same_key}}
 use Rattle.cacache_keep.specs.{Lines.{HasKeys, has_key, in_order, last_lines, line_view, without_tombstones}, declared.lines.Line.{Line as Held}}
 
 onto : (o : Option Line) (ls : List Line) → cons_option o ls ≡ option_to_list o ++ ls
@@ -53,15 +53,6 @@ two_passes odd ((t, Some d) ∷ ls) = by (list_any (bytes_eq d.0) (decided ls)) 
     by false rest = last rest
 
 -- ---- from the last line to the first
-
-same_key : (a b : List ℕ) → bytes_eq a b ≡ bytes_eq b a
-same_key a b = by (bytes_eq a b) refl (bytes_eq b a) refl
-  where
-    by : (x : Bool) → bytes_eq a b ≡ x → (y : Bool) → bytes_eq b a ≡ y → x ≡ y
-    by true e true f = refl
-    by false e false f = refl
-    by true e false f = let no : true ≡ false = sym ((bytes_eq-Decides b a).1 (sym ((bytes_eq-Decides a b).0 e))) ∙ f in absurd cc
-    by false e true f = let no : true ≡ false = sym ((bytes_eq-Decides a b).1 (sym ((bytes_eq-Decides b a).0 f))) ∙ e in absurd cc
 
 -- one line more comes before the others
 pub in_order_more : (met : List (Bor Held)) (l : Bor Held) → in_order (met ++ l ∷ []) ≡ line_view l.now ∷ in_order met

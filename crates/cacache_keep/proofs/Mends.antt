@@ -6,16 +6,14 @@ use Rattle.cacache_store.specs.declared.store.{log.LogItem.{LogItem}, step.Step.
 use Rattle.cacache_disk.specs.{declared.luck.Luck.TheVariants.{Plain}, Tree.{Tree}, Apply.{apply}}
 use Rattle.cacache_memory.specs.Replay.{tree_of, IsLog}
 use Rattle.cacache_entry.specs.Latest.{Found, latest}
-use Rattle.cacache_table.specs.declared.command.Command.TheVariants as commands
-use Rattle.cacache_table.specs.declared.reply.Reply.TheVariants as replies
 use Rattle.cacache_table.specs.State.{Site}
 use Rattle.cacache_value.{specs.{Placed.{Placed}, Acts.{list_of}}, proofs.Traces.{steps_keep_placed}}
 use Rattle.cacache_sequence.{specs.Sequence.{tree_on}, proofs.Calls.InParts.{logs_lead}}
 use Rattle.cacache_walks.specs.{Listing.{content_area_in}, Reading.{top_folder}}
-use Rattle.cacache_keep_laws.specs.{Collecting.{Removes}, Contents.{HoldsJust}, Index.{IndexLists}, Mending.{found_in}, Verifying.{has_content, is_good}}
-use Rattle.cacache_keep_laws.proofs.{Collected.{from_kept, kept_in, leaves}, Held.{holds_just}, Logged.{answered_rest, answered_split, gains_join, log_rooted, looked, tree_rest, tree_split, walked}, Members.{Member, contains_member, member_contains}, Mended.{repairs_leave}}
+use Rattle.cacache_keep_laws.specs.{Collecting.{Removes}, Contents.{HoldsJust}, Mending.{found_in}, Verifying.{has_content, is_good}}
+use Rattle.cacache_keep_laws.proofs.{Collected.{from_kept, kept_in, leaves}, Held.{holds_just}, Logged.{answered_rest, answered_split, gains_join, log_rooted, tree_rest, tree_split, walked}, Members.{Member, contains_member, member_contains}, Mended.{repairs_leave}}
 use Rattle.cacache_keep.specs.{Calls.{MadeCalls, question_of, removal}, Kept.{IsKeyOf, MendsCache, RepairsMend}, Reading.{Judged}, Repairing.{Fate, RepairsFrom, is_buried}}
-use Rattle.cacache_keep.proofs.{CheckedLogs.{repaired_on}, Buried.{After, all_told}, Judged.{asks_told, index_lists, others_named, reads_judged}, Leaving.{removals, removals_gain, removed_by}, Parts.{made_looks}, Shown.{burial_of}, Verdicts.{all_questions}}
+use Rattle.cacache_keep.proofs.{ListedLogs.{repaired_on}, Buried.{After, all_told}, Judged.{asks_told, others_named, reads_judged}, Leaving.{removals, removals_gain, removed_by}, Parts.{made_looks}, Shown.{burial_of}, Verdicts.{all_questions}}
 
 pub map_from : {X Y : Type 0} (f : X → Y) (y : Y) (xs : List X) → Member y (map f xs) → (x : X) × Member x xs × (f x ≡ y)
 map_from f y [] m = absurd m
@@ -58,8 +56,8 @@ module _ (site : Site) (home : Names) (is : home_of site.cache ≡ Some home) wh
 
   -- ---- a repair
 
-  module _ (damaged : List (List Hash)) (buried : List Found) (old new : List LogItem)
-      (logged : IsLog new) (placed : Placed (Some home) (tree_of old)) (v : RepairsFrom site damaged buried (Some old) (Some new)) where
+  module _ (entries : List Found) (damaged : List (List Hash)) (buried : List Found) (old new : List LogItem)
+      (logged : IsLog new) (placed : Placed (Some home) (tree_of old)) (v : RepairsFrom site entries damaged buried (Some old) (Some new)) where
     abbrev t : Tree
     t = tree_of old
 
@@ -75,8 +73,7 @@ module _ (site : Site) (home : Names) (is : home_of site.cache ≡ Some home) wh
       pub broken : damaged ≡ map (λ h. h ∷ []) bad
       pub mid : Tree
       pub removes : Removes site.cache bad (tree_of old) mid
-      pub index : IndexLists site mid v.entries
-      pub absent : v.dangling ≡ filter (λ f. not (has_content site.cache mid f)) v.entries
+      pub absent : v.dangling ≡ filter (λ f. not (has_content site.cache mid f)) entries
       pub after : After site home is (burial_of v).each.fates mid (tree_of new)
 
     pub steps_done : Repaired
@@ -86,20 +83,18 @@ module _ (site : Site) (home : Names) (is : home_of site.cache ≡ Some home) wh
         let gone = singles (λ (x : Judged). not x.1) v.reading.reads hashes (v.reading.each ∙ v.order.single) in
         let ones : damaged ≡ map (λ h. h ∷ []) gone.0 = v.reading.broken ∙ gone.1 in
         let rem = removals_gain site gone.0 v.read v.removed (subst (λ d. MadeCalls site (map removal d) v.read v.removed) ones v.removing) in
-        let l = v.listing.2 in
         let cut = removals site.cache gone.0 in
         let mid = tree_on (tree_of old) cut in
-        let a = made_looks site mid (map question_of v.asking.asks) v.listed v.asked (all_questions v.asking.asks) v.asking.asking in
+        let a = made_looks site mid (map question_of v.asking.asks) v.removed v.asked (all_questions v.asking.asks) v.asking.asking in
         let w = burial_of v in
         let b = all_told site home is w.each.fates w.looked (Some new) w.each.keys w.each.calls in
         let last = w.moves ++ b.moves in
-        let late = l.0 ++ (a.moves ++ last) in
+        let late = a.moves ++ last in
         let gains = gains_join (Some old) v.found (Some new) c.0 (r.moves ++ (cut ++ late)) c.1
         (gains_join v.found v.read (Some new) r.moves (cut ++ late) r.gains
         (gains_join v.read v.removed (Some new) cut late rem
-        (gains_join v.removed v.listed (Some new) l.0 (a.moves ++ last) l.2
-        (gains_join v.listed v.asked (Some new) a.moves last a.gains
-        (gains_join v.asked w.looked (Some new) w.moves b.moves w.gains b.gains))))) in
+        (gains_join v.removed v.asked (Some new) a.moves last a.gains
+        (gains_join v.asked w.looked (Some new) w.moves b.moves w.gains b.gains)))) in
         let lead = logs_lead old new (c.0 ++ (r.moves ++ (cut ++ late))) gains logged in
         let walk = walked (tree_of old) c.0 (top_folder (content_area_in site.cache) ∷ []) c.2 (answered_split (tree_of old) c.0 (r.moves ++ (cut ++ late)) lead.0).0 in
         let after_walk = answered_rest (tree_of old) c.0 (r.moves ++ (cut ++ late)) walk.1 lead.0 in
@@ -111,21 +106,18 @@ module _ (site : Site) (home : Names) (is : home_of site.cache ≡ Some home) wh
         let same : gone.0 ≡ bad = same_singles gone.0 bad (sym ones ∙ broken) in
         let split = answered_split (tree_of old) cut late after_reads in
         let placed_mid = removals_placed gone.0 (tree_of old) placed in
-        let index = looked site mid commands.Ls (replies.Listed v.listing.0) l.0 tt l.1 (answered_split mid l.0 (a.moves ++ last) split.1).0 in
-        let asked = answered_rest mid l.0 (a.moves ++ last) index.1 split.1 in
-        let questions = a.tells (answered_split mid a.moves last asked).0 in
-        let looking = answered_rest mid a.moves last questions.1 asked in
+        let questions = a.tells (answered_split mid a.moves last split.1).0 in
+        let looking = answered_rest mid a.moves last questions.1 split.1 in
         let stays = w.stays mid (answered_split mid w.moves b.moves looking).0 in
         let told = b.tells mid placed_mid (answered_rest mid w.moves b.moves stays looking) in
         let leads : tree_of new ≡ tree_on mid b.moves
         = lead.1 ∙ tree_rest (tree_of old) c.0 (r.moves ++ (cut ++ late)) walk.1 ∙ tree_rest (tree_of old) r.moves (cut ++ late) reads.1 ∙ tree_split (tree_of old) cut late
-        ∙ tree_rest mid l.0 (a.moves ++ last) index.1 ∙ tree_rest mid a.moves last questions.1 ∙ tree_rest mid w.moves b.moves stays in
+        ∙ tree_rest mid a.moves last questions.1 ∙ tree_rest mid w.moves b.moves stays in
         record {
           holds = holds;
           broken = broken;
           mid = mid;
           removes = subst (λ (hs : List Hash). Removes site.cache hs (tree_of old) mid) same (removed_by site.cache gone.0 (tree_of old) split.0);
-          index = index_lists site mid v.listing.0 v.entries v.listing.1 index.0;
           absent = v.asking.absent ∙ asks_told site mid v.asking.asks questions.0 ∙ ap (λ l. filter (λ f. not (has_content site.cache mid f)) l) v.asking.each;
           after = subst (After site home is (burial_of v).each.fates mid) (sym leads) told;
         }
@@ -162,4 +154,4 @@ pub repairs_mend : RepairsMend
 repairs_mend site home damaged buried old new is logged placed v =
     let k = repaired_on site home damaged buried old new is logged v in
     let placed_there = subst (Placed (Some home)) (sym k.stays) placed in
-    subst (λ (t : Tree). MendsCache site home t (tree_of new) damaged buried) k.stays (repaired site home is damaged buried k.log new logged placed_there k.so)
+    subst (λ (t : Tree). MendsCache site home t (tree_of new) damaged buried) k.stays (repaired site home is k.entries damaged buried k.log new logged placed_there k.so)

@@ -1,18 +1,17 @@
 -- During a durable compaction a bucket has its bytes or its compacted ones, in each moment and after each loss.
-use Rattle.std.proofs.Common.{◌≡◌, ◌⊎◌, inl, inr, ℕ, List, [], ◌∷◌, ◌++◌, Bool, true, false, cond, Option, None, Some, Result, Ok, Err, refl, sym, ap, subst, ◌∙◌}
-use Rattle.std.specs.Prelude.{unwrap_or}
+use Rattle.std.{proofs.Common.{◌≡◌, ◌⊎◌, inl, inr, ℕ, List, [], ◌∷◌, ◌++◌, Bool, true, false, cond, Option, None, Some, Ok, refl, sym, ap, subst, ◌∙◌}, specs.Prelude.{unwrap_or}}
 use Rattle.cacache_core.specs.{declared.errors.{Error.{Error}, Fault.{Fault}}, PathNames.{Names, home_of, names_of}}
 use Rattle.cacache_store.specs.declared.store.answer.Answer.TheVariants as answers
 use Rattle.cacache_store.specs.declared.store.{log.LogItem.{LogItem}, plain.PlainTemp.{PlainTemp}}
 use Rattle.cacache_store.specs.declared.store.step.Step.TheVariants as steps
 use Rattle.cacache_disk.specs.{declared.{luck.Luck.TheVariants.{Plain}, node.Node.TheVariants.{File}}, Rooted.{Rooted}, Tree.{Tree, cut, look, put}, Apply.{apply}}
-use Rattle.cacache_disk.proofs.{Maps.{same_path-true}, PutNodes.{look-put}, Roots.{same_self}}
+use Rattle.cacache_disk.proofs.{PutNodes.{look-put}, Roots.{same_self}}
 use Rattle.cacache_table.specs.{Runs.{Moves}, SingleSteps.{Does, FailsAt}}
 use Rattle.cacache_value.specs.Kinds.{Bucket as IsBucket, path_kind}
 use Rattle.cacache_loss.{specs.{declared.fixing.Place.{Place}, Fixing.{is_at, place_now}, Moments.{Moment, next}}, proofs.UnchangedPaths.{file_kept, name_kept}}
 use Rattle.cacache_keep_laws.{specs.Compacting.{compact_text}, proofs.{CompactTwice.{compact_again}, Led.{file_shown}}}
 use Rattle.cacache_keep.specs.{Compacting.{Bucket, CompactsBucket, CompactsEach, RewritesIf, StopsBucket, StopsUnchanged, is_loose}, Losses.{CompactsDurably}, Rewriting.{MakesTemp, Rewrites, StopsMoving, StopsRewriting, Took, folder_of}, Syncing.{folders_above}}
-use Rattle.cacache_keep.proofs.{ApartSteps.{EachApart, IsWhole, Kept, step_kept, whole_still}, ApartBuckets.{Full, IfSpared, bucket_apart, bucket_stops, early_stops, full_apart, making_stops, sync_apart, sync_stops, temp_sync_apart, unread_stops, unsecured_stops, writing_stops}, ApartCompactions.{finding_apart, finding_stops, syncs_apart, syncs_stop}, MomentRuns.{Fixes, fixes_as, fixes_failed, fixes_none, fixes_step, fixes_then, later}, MovedFiles.{moved, unmoved}}
+use Rattle.cacache_keep.proofs.{ApartSteps.{EachApart, IsWhole, Kept, named_there, step_kept, whole_still}, ApartBuckets.{Full, IfSpared, bucket_apart, bucket_stops, early_stops, full_apart, making_stops, sync_apart, sync_stops, temp_sync_apart, unread_stops, unsecured_stops, writing_stops}, ApartCompactions.{finding_apart, finding_stops, syncs_apart, syncs_stop}, MomentRuns.{Fixes, fixes_as, fixes_failed, fixes_none, fixes_step, fixes_then, later}, MovedFiles.{moved, unmoved}}
 
 module _ (cache : List ℕ) (home : Names) (is : home_of cache ≡ Some home) (q : Names) (kind : path_kind (Some home) q ≡ IsBucket) (bytes : List ℕ) where
   -- the bucket's bytes, or the compacted ones
@@ -162,12 +161,8 @@ module _ (cache : List ℕ) (home : Names) (is : home_of cache ≡ Some home) (q
       (settle_safe (is_loose true b) b read new named rest)
       (λ w one two rooted a s safe. safe_then w one two (apart_safe w one a.0) (s (subst Good (a.1 safe.0.0 safe.0.2) safe.0.1)) safe)
 
-  at_names : (path : List ℕ) (r : Result Names Fault) → names_of path ≡ r → is_at r q ≡ true → names_of path ≡ Ok q
-  at_names path (Ok names) e here = e ∙ ap Ok (sym (same_path-true q names here))
-  at_names path (Err fault) e here = absurd cc
-
   one_safe : (here : Bool) (b : Bucket) (old new : Option (List LogItem)) → is_at (names_of b.0) q ≡ here → CompactsBucket true cache b old new → Fixes StaysSafe old new
-  one_safe true b old new here c = own_safe b old new (at_names b.0 (names_of b.0) refl here) c
+  one_safe true b old new here c = own_safe b old new (named_there b.0 q here) c
   one_safe false b old new here c = apart_fixes old new (bucket_apart cache home is q IsBucket kind (λ e. cc) b old new here c)
 
   each_safe : (buckets : List Bucket) (old new : Option (List LogItem)) → CompactsEach true cache buckets old new → Fixes StaysSafe old new
@@ -226,7 +221,7 @@ module _ (cache : List ℕ) (home : Names) (is : home_of cache ≡ Some home) (q
       by (inr (same, stop)) = fixes_as (λ w moves. EachApart q moves) (Settles (path, text)) read new (sync_stops cache home is q IsBucket kind (λ e. cc) path e read new stop) (λ w moves rooted apart good. apart_safe w moves apart)
 
   one_stops : (here : Bool) (path : List ℕ) (e : Error) (old new : Option (List LogItem)) → is_at (names_of path) q ≡ here → StopsBucket true cache path e old new → Fixes StaysSafe old new
-  one_stops true path e old new here stop = own_stops path e old new (at_names path (names_of path) refl here) stop
+  one_stops true path e old new here stop = own_stops path e old new (named_there path q here) stop
   one_stops false path e old new here stop = apart_fixes old new (bucket_stops cache home is q IsBucket kind (λ e. cc) path e old new here stop)
 
   -- ---- a compaction, also if an error ends it

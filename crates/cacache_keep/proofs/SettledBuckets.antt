@@ -1,18 +1,17 @@
 -- A durable compaction fixes the bytes and the names of its buckets.
-use Rattle.std.proofs.Common.{◌≡◌, inl, inr, ℕ, List, [], ◌∷◌, ◌++◌, Bool, true, false, cond, map, Option, None, Some, Result, Ok, Err, refl, sym, ap, subst, ◌∙◌}
+use Rattle.std.proofs.Common.{◌≡◌, inl, inr, ℕ, List, [], ◌∷◌, ◌++◌, Bool, true, false, cond, map, Option, None, Some, Ok, refl, sym, ap, subst, ◌∙◌}
 use Rattle.std.specs.{List.{AllByRecursion}, Prelude.{unwrap_or}}
-use Rattle.cacache_core.specs.{declared.errors.Fault.{Fault}, PathNames.{Names, home_of, names_of}}
+use Rattle.cacache_core.specs.PathNames.{Names, home_of, names_of}
 use Rattle.cacache_store.specs.declared.store.answer.Answer.TheVariants as answers
 use Rattle.cacache_store.specs.declared.store.{log.LogItem.{LogItem}, plain.PlainTemp.{PlainTemp}}
 use Rattle.cacache_store.specs.declared.store.step.Step.TheVariants as steps
-use Rattle.cacache_disk.specs.{declared.node.Node.TheVariants.{File}, Tree.{Tree, bytes_of, cut, look, put}}
-use Rattle.cacache_disk.proofs.{Maps.{same_path-true}, PutNodes.{look-put}, Roots.{same_self}}
+use Rattle.cacache_disk.{specs.{declared.node.Node.TheVariants.{File}, Tree.{Tree, bytes_of, cut, look, put}}, proofs.{PutNodes.{look-put}, Roots.{same_self}}}
 use Rattle.cacache_table.specs.{Runs.{Moves}, SingleSteps.{Does}}
 use Rattle.cacache_value.specs.Kinds.{Bucket as IsBucket, path_kind}
 use Rattle.cacache_loss.{specs.{Fixing.{is_at, synced}, Moments.{Moment}}, proofs.{Buckets.{leads_file}, KeptPaths.{sync_fixes}}}
 use Rattle.cacache_keep_laws.{specs.Compacting.{compact_text}, proofs.Members.{Member}}
 use Rattle.cacache_keep.specs.{Compacting.{Bucket, CompactsBucket, CompactsEach, RewritesIf, is_loose}, Rewriting.{Rewrites, SyncsBucket, folder_of}}
-use Rattle.cacache_keep.proofs.{ApartSteps.{EachApart, moves_kept, name_still, synced_still}, ApartBuckets.{AllApart, Full, bucket_apart, full_apart}, FoundFolders.{FolderNamed}, MomentRuns.{Fixes, fixes_as, fixes_none, fixes_step, fixes_then, later, later_split}, MovedFiles.{moved}}
+use Rattle.cacache_keep.proofs.{ApartSteps.{EachApart, moves_kept, named_there, name_still, synced_still}, ApartBuckets.{AllApart, Full, bucket_apart, full_apart}, FoundFolders.{FolderNamed}, MomentRuns.{Fixes, fixes_as, fixes_none, fixes_step, fixes_then, later, later_split}, MovedFiles.{moved}}
 
 -- a file is there
 abbrev pub Held : Moment → Names → Type 0
@@ -138,13 +137,9 @@ module _ (cache : List ℕ) (home : Names) (is : home_of cache ≡ Some home) (d
       StaysHeld q w moves
       × ((path : List ℕ) → Member path paths → names_of path ≡ Ok q → Held w q → Settled (later w moves) q)
 
-  at_names : (path : List ℕ) → (r : Result Names Fault) → names_of path ≡ r → is_at r q ≡ true → names_of path ≡ Ok q
-  at_names path (Ok names) e here = e ∙ ap Ok (sym (same_path-true q names here))
-  at_names path (Err fault) e here = absurd cc
-
   one_settles : (b : Bucket) (old new : Option (List LogItem)) → FolderNamed b.0 → CompactsBucket true cache b old new → (here : Bool) → is_at (names_of b.0) q ≡ here → Fixes (SettlesThese (b.0 ∷ [])) old new
   one_settles b old new folder c true here =
-      let named = at_names b.0 (names_of b.0) refl here in
+      let named = named_there b.0 q here in
       fixes_as Settles (SettlesThese (b.0 ∷ [])) old new (bucket_settles b old new named (folder d n named) c)
       (λ w moves rooted s. ((λ h. let t = s h in (t.0.0, t.0.1), λ h. s (h.0.0, h.0.1)), λ path m e h. s h))
   one_settles b old new folder c false here =

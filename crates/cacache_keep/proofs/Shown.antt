@@ -40,8 +40,8 @@ burial site (f ∷ entries) buried old new (look, looked, walk, each) = record {
   each = each;
 }
 
-pub burial_of : {site : Site} {damaged : List (List Hash)} {buried : List Found} {old new : Option (List LogItem)} (v : RepairsFrom site damaged buried old new) → Burial site v.dangling buried v.asked new
-burial_of {site} {damaged} {buried} {old} {new} v = burial site v.dangling buried v.asked new v.burying
+pub burial_of : {site : Site} {entries : List Found} {damaged : List (List Hash)} {buried : List Found} {old new : Option (List LogItem)} (v : RepairsFrom site entries damaged buried old new) → Burial site v.dangling buried v.asked new
+burial_of {site} {entries} {damaged} {buried} {old} {new} v = burial site v.dangling buried v.asked new v.burying
 
 -- ---- the contents that a walk shows
 

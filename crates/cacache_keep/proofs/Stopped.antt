@@ -1,14 +1,15 @@
 -- Calls that an error ends.
 use Rattle.std.proofs.{Common.{◌≡◌, ◌⊎◌, ◌<◌, ◌+◌, ℕ, List, [], ◌∷◌, ◌++◌, Bool, Option, Ok, Err, Result, IfErr, inl, inr, refl, sym, ap, subst, ◌∙◌, map, length, take, drop, get_or, append_assoc}, lemmas.List.{drop_more, take-append-drop, Elements.{All-append, All-cons, All-map, All-nil}}}
 use Rattle.std.specs.Prelude.{All, IsErrAnd}
-use Rattle.cacache_core.specs.declared.errors.{Error.{Error, TheVariants.{EntryNotFound, SizeMismatch, IoError, SerdeError, IntegrityError, OutOfMemory}}, Fault.{Fault, TheVariants.{NotFound}}}
+use Rattle.cacache_core.specs.declared.{errors.{Error.{Error, TheVariants.{EntryNotFound, SizeMismatch, IoError, SerdeError, IntegrityError, OutOfMemory}}, Fault.{Fault, TheVariants.{NotFound}}}, integrity.digest.Hash.{Hash}}
 use Rattle.cacache_store.specs.declared.store.log.LogItem.{LogItem}
 use Rattle.cacache_entry.specs.Latest.{Found}
 use Rattle.cacache_table.specs.{declared.{command.Command.{Command}, reply.Reply.{Reply}}, State.{Site, Item}, Table.{opening}, Runs.{Ran, plain_item, without_message}}
 use Rattle.cacache_table.specs.declared.command.Command.TheVariants as commands
 use Rattle.cacache_table.specs.declared.reply.Reply.TheVariants as replies
 use Rattle.cacache_jobs.specs.Sites.{site_of}
-use Rattle.cacache_keep.specs.Calls.{AsksEach, IsFirstError, HasNoIndex, ListsOrAsks, ListsEntries, MadeCalls, SaysWhy, StopsReading, question_of}
+use Rattle.cacache_walks.specs.Listing.{ListsContents}
+use Rattle.cacache_keep.specs.{Calls.{AsksEach, IsFirstError, HasNoIndex, ListsOrAsks, ListsEntries, MadeCalls, SaysWhy, StopsReading, question_of, removal}, Reading.{ReadsEach}, Repairing.{DropsDamaged}, Walking.{LosesIndex}}
 
 -- ---- calls after calls
 
@@ -99,6 +100,10 @@ asks_stop site entries dangling e old mid new r s = stops_on site (map question_
 pub entries_stop : (site : Site) (entries : List Found) (e : Error) (old mid new : Option (List LogItem)) → ListsEntries site entries old mid → StopsReading site e mid new → StopsReading site e old new
 entries_stop site entries e old mid new l s = stops_on site (listing l.0) e old mid new (mid, l.2, refl) (listing_harmless l.0) s
 
+-- memory ran out in a listing
+pub index_lost : (site : Site) (e : Error) (old new : Option (List LogItem)) → LosesIndex site.cache e old new → StopsReading site e old new
+index_lost site e old new (memory, ran) = subst (λ x. StopsReading site x old new) (sym memory) (stops_at site commands.Ls OutOfMemory old new tt ran)
+
 -- memory ran out right there
 pub lost_here : (site : Site) (log : Option (List LogItem)) → StopsReading site OutOfMemory log log
 lost_here site log = stops_lost site [] log log refl (All-nil (λ (c : Command × Reply). ListsOrAsks c.0))
@@ -122,3 +127,20 @@ error_as P (Err x) e same p = subst P (sym same) p
 -- what holds at a base folder holds at the same one
 pub at_base : (P : Site → Type 0) (cache base before : List ℕ) → before ≡ base → P (site_of cache before 0) → P (site_of cache base 0)
 at_base P cache base before same p = subst (λ (b : List ℕ). P (site_of cache b 0)) same p
+
+-- ---- contents that are dropped
+
+-- a listing of the contents, the reading of each, and the removal of the damaged ones, where the base folder is the same
+pub drops : (cache base before : List ℕ) (addresses damaged : List (List Hash)) (strange : List (List ℕ)) (good : ℕ) (old found read new : Option (List LogItem)) → before ≡ base
+    → ListsContents cache addresses strange old found → ReadsEach cache addresses good damaged found read → MadeCalls (site_of cache before 0) (map removal damaged) read new → DropsDamaged (site_of cache base 0) old new
+drops cache base before addresses damaged strange good old found read new same lists reads removes = record {
+  addresses = addresses;
+  strange = strange;
+  found = found;
+  contents = lists;
+  good = good;
+  damaged = damaged;
+  read = read;
+  reading = reads;
+  removing = at_base (λ s. MadeCalls s (map removal damaged) read new) cache base before same removes;
+}

@@ -10,10 +10,10 @@ use Rattle.cacache_memory.specs.Replay.{tree_of, IsLog}
 use Rattle.cacache_entry.specs.Latest.{Found, latest}
 use Rattle.cacache_table.specs.{State.{Site}, StepPaths.{content_path}}
 use Rattle.cacache_value.specs.Acts.{list_of}
-use Rattle.cacache_keep_laws.specs.{Contents.{content_in}, Housed.{Housed, Still}, Mending.{LeavesGood, found_in}, Verifying.{Judges, has_content, is_good, says_yes}}
+use Rattle.cacache_keep_laws.specs.{Contents.{content_in}, Housed.{Housed, Still}, Index.{IndexLists}, Mending.{LeavesGood, found_in}, Verifying.{Judges, has_content, is_good, says_yes}}
 use Rattle.cacache_keep_laws.proofs.{Collected.{dropped_hash, kept_in, leaves, picked_left}, Housed.{removes_house, removes_root, removes_still}, Led.{found_integrity, found_listed, indexes_lead}, Logged.{log_rooted}, Members.{Member, contains_member, member_contains}, StillThere.{good_still, good_there, has_still}}
 use Rattle.cacache_keep.specs.{Kept.{LeadsToGood, RepairsKeepGood, RepairsVerify}, Repairing.{Fate, RepairsFrom}}
-use Rattle.cacache_keep.proofs.{CheckedLogs.{repaired_on}, Buried.{Whole}, Mends.{Repaired, map_from, repaired, steps_done}, Shown.{burial_of}, Verdicts.{verdicts_judge}}
+use Rattle.cacache_keep.proofs.{ListedLogs.{repaired_on}, Buried.{Whole}, Mends.{Repaired, map_from, repaired, steps_done}, Shown.{burial_of}, Verdicts.{verdicts_judge}}
 
 -- a filter that takes none
 none_kept : {X : Type 0} (p : X → Bool) (xs : List X) → ((x : X) → Member x xs → p x ≡ false) → filter p xs ≡ []
@@ -28,13 +28,13 @@ pub first_hash : (i : List Hash) (h : Hash) → address i ≡ Some h → (hs : L
 first_hash [] h e = absurd cc
 first_hash (g ∷ hs) h e = (hs, ap (λ (x : Hash). x ∷ hs) cc)
 
-module _ (site : Site) (home : Names) (damaged : List (List Hash)) (hidden : List Found) (old new : List LogItem)
-    (is : home_of site.cache ≡ Some home) (logged : IsLog new) (housed : Housed (Some home) (tree_of old)) (v : RepairsFrom site damaged hidden (Some old) (Some new)) where
+module _ (site : Site) (home : Names) (entries : List Found) (damaged : List (List Hash)) (hidden : List Found) (old new : List LogItem)
+    (is : home_of site.cache ≡ Some home) (logged : IsLog new) (housed : Housed (Some home) (tree_of old)) (index : IndexLists site (tree_of old) entries) (v : RepairsFrom site entries damaged hidden (Some old) (Some new)) where
   abbrev t : Tree
   t = tree_of old
 
-  done : Repaired site home is damaged hidden old new logged housed.placed v
-  done = steps_done site home is damaged hidden old new logged housed.placed v
+  done : Repaired site home is entries damaged hidden old new logged housed.placed v
+  done = steps_done site home is entries damaged hidden old new logged housed.placed v
 
   gone_hash : (h : Hash) → Member h (filter (λ h. not (is_good home (tree_of old) h)) v.order.hashes) → IsHash h
   gone_hash h m =
@@ -60,7 +60,7 @@ module _ (site : Site) (home : Names) (damaged : List (List Hash)) (hidden : Lis
   all_still q node k there = whole.still q node k (mid_still q node k there)
 
   kept : LeavesGood home (tree_of old) (tree_of new)
-  kept = (repaired site home is damaged hidden old new logged housed.placed v).leaves
+  kept = (repaired site home is entries damaged hidden old new logged housed.placed v).leaves
 
   -- ---- contents
 
@@ -70,20 +70,26 @@ module _ (site : Site) (home : Names) (damaged : List (List Hash)) (hidden : Lis
 
   -- ---- entries
 
+  -- the removals hide no key
+  same_found : (key : List ℕ) → found_in home done.mid key ≡ found_in home (tree_of old) key
+  same_found key =
+      let gone = leaves site home (tree_of old) done.mid v.order.hashes v.strange (is_good home (tree_of old)) is done.holds done.removes in
+      ap (λ o. latest key (list_of o)) (gone.buckets (sha1 key) (keys_have_digests key))
+
   -- what leads nowhere in the tree without damaged contents was asked for, and leads nowhere or to a content
-  asked_at : (f : Found) (b : Bool) → has_content site.cache done.mid f ≡ b → found_in home (tree_of new) f.key ≡ Some f → found_in home done.mid f.key ≡ Some f → Member f v.entries → has_content site.cache (tree_of new) f ≡ true
+  asked_at : (f : Found) (b : Bool) → has_content site.cache done.mid f ≡ b → found_in home (tree_of new) f.key ≡ Some f → found_in home done.mid f.key ≡ Some f → Member f entries → has_content site.cache (tree_of new) f ≡ true
   asked_at f true has leads led m =
       has_still site.cache home is done.mid (tree_of new) whole.still mid_housed.placed f.integrity mid_rooted whole.rooted (found_integrity home done.mid f.key f mid_housed led) done.after.keeps.contents has
   asked_at f false lacks leads led m =
-      let among : Member f v.dangling = subst (Member f) (sym done.absent) (kept_in (λ g. not (has_content site.cache done.mid g)) f v.entries (ap not lacks) m) in
+      let among : Member f v.dangling = subst (Member f) (sym done.absent) (kept_in (λ g. not (has_content site.cache done.mid g)) f entries (ap not lacks) m) in
       let fate = map_from (λ (x : Found × Fate). x.0) f (burial_of v).each.fates (subst (Member f) (sym (burial_of v).each.each) among) in
       whole.sound fate.0 f fate.1 (ap (λ (x : Found). found_in home (tree_of new) x.key) fate.2 ∙ leads)
 
   there_at : (f : Found) → found_in home (tree_of new) f.key ≡ Some f → has_content site.cache (tree_of new) f ≡ true
   there_at f leads =
       let led = whole.back f.key f leads in
-      let listed = found_listed site home done.mid is mid_rooted v.entries f.key f done.index led in
-      asked_at f (has_content site.cache done.mid f) refl leads led (member_contains f v.entries listed)
+      let listed = found_listed site home (tree_of old) is (log_rooted old) entries f.key f index (sym (same_found f.key) ∙ led) in
+      asked_at f (has_content site.cache done.mid f) refl leads led (member_contains f entries listed)
 
   -- ---- a verdict
 
@@ -112,8 +118,7 @@ module _ (site : Site) (home : Names) (damaged : List (List Hash)) (hidden : Lis
       let left = picked_left site home (tree_of old) done.mid v.order.hashes v.strange (is_good home (tree_of old)) is done.holds done.removes led.hash hash led.good in
       let there = good_there site.cache home is (tree_of old) done.mid mid_still housed.placed led.hash i.0 mid_rooted hash left led.good in
       let has : has_content site.cache done.mid f ≡ true = has_at i.0 led.hash f i.1 there in
-      let gone = leaves site home (tree_of old) done.mid v.order.hashes v.strange (is_good home (tree_of old)) is done.holds done.removes in
-      let before : found_in home done.mid key ≡ Some f = ap (λ o. latest key (list_of o)) (gone.buckets (sha1 key) (keys_have_digests key)) ∙ led.leads in
+      let before : found_in home done.mid key ≡ Some f = same_found key ∙ led.leads in
       let same = kept.kept led.hash hash led.good in (
         record {
           leads = whole.on key f before has;
@@ -135,13 +140,13 @@ repairs_verify site home damaged broken hidden dangling good strange old new lat
     let k = repaired_on site home damaged hidden old new is logged v in
     let there = subst (Housed (Some home)) (sym k.stays) housed in
     let j = subst (λ t. Judges site home t good broken dangling strange) stays (verdicts_judge site home good broken dangling strange later verified is after w).0 in (
-      none_broken site home damaged hidden k.log new is logged there k.so good broken dangling strange j,
-      none_dangling site home damaged hidden k.log new is logged there k.so good broken dangling strange j,
+      none_broken site home k.entries damaged hidden k.log new is logged there k.index k.so good broken dangling strange j,
+      none_dangling site home k.entries damaged hidden k.log new is logged there k.index k.so good broken dangling strange j,
     )
 
 pub repairs_keep_good : RepairsKeepGood
 repairs_keep_good site home damaged hidden old new key f is logged housed v led =
     let k = repaired_on site home damaged hidden old new is logged v in
     let there = subst (Housed (Some home)) (sym k.stays) housed in
-    let kept = good_key site home damaged hidden k.log new is logged there k.so key f in
+    let kept = good_key site home k.entries damaged hidden k.log new is logged there k.index k.so key f in
     subst (λ (t : Tree). (l : LeadsToGood home t key f) → LeadsToGood home (tree_of new) key f × (content_in home (tree_of new) l.hash ≡ content_in home t l.hash)) k.stays kept led

@@ -5,7 +5,7 @@ use Rattle.cacache_store.specs.declared.store.log.LogItem.{LogItem}
 use Rattle.cacache_entry.specs.Latest.{Found}
 use Rattle.cacache_table.specs.State.{Site}
 use Rattle.cacache_walks.specs.Listing.{IsByHash, ListsContents, StopsListing}
-use Rattle.cacache_keep.specs.{declared.checking.OddLines.{OddLines}, Checking.{Checks, StopsChecking}, Calls.{AreUnused, AsksEach, ListsEntries, MadeCalls, StopsReading, StopsRemoving, removal}, Reading.{ReadsEach, StopsEach}}
+use Rattle.cacache_keep.specs.{declared.checking.OddLines.{OddLines}, Checking.{Allows, RefusesOdd, odd_in}, Calls.{AreUnused, AsksEach, ListsEntries, MadeCalls, StopsReading, StopsRemoving, removal}, Reading.{ReadsEach, StopsEach}}
 
 -- The contents are listed, each is read in pieces, the index is listed, and each entry is asked
 -- whether its content is there.
@@ -37,25 +37,30 @@ pub record Chooses
   pub unused : AreUnused entries addresses dropped
   pub counts : kept + length dropped ≡ length addresses
 
--- and then each of them is removed
+-- and these are the buckets with odd lines that the listing of the index read
+abbrev pub ChoosesAs : Site → ℕ → List (List Hash) → List (List ℕ)
+    → Option (List LogItem) → Option (List LogItem) → Type 0
+ChoosesAs site kept dropped odd old new =
+    (c : Chooses site kept dropped old new) × (odd ≡ odd_in c.listing.2.0)
+
+-- each address that is chosen is removed
 abbrev pub CollectsFrom : Site → ℕ → List (List Hash)
     → Option (List LogItem) → Option (List LogItem) → Type 0
 CollectsFrom site kept dropped old new =
     (chosen : Option (List LogItem)) × Chooses site kept dropped old chosen
     × MadeCalls site (map removal dropped) chosen new
 
--- so it is after a check for odd lines
+-- so it is, and the listing of the index read no odd line, if these are refused
 abbrev pub CollectsWith : OddLines → Site → ℕ → List (List Hash)
     → Option (List LogItem) → Option (List LogItem) → Type 0
-CollectsWith odd site kept dropped old new =
-    (checked : Option (List LogItem)) × Checks odd site.cache old checked
-    × CollectsFrom site kept dropped checked new
+CollectsWith choice site kept dropped old new =
+    (it : CollectsFrom site kept dropped old new) × Allows choice (odd_in it.1.listing.2.0)
 
 -- with one choice about them or the other
 abbrev pub Collects : Site → ℕ → List (List Hash)
     → Option (List LogItem) → Option (List LogItem) → Type 0
 Collects site kept dropped old new =
-    (odd : OddLines) × CollectsWith odd site kept dropped old new
+    (choice : OddLines) × CollectsWith choice site kept dropped old new
 
 -- ---- errors
 
@@ -83,18 +88,18 @@ StopsEarly site e old new =
     × (found : Option (List LogItem)) × ListsContents site.cache addresses strange old found
     × StopsReading site e found new)
 
--- so it did, or it ended the removals
-abbrev pub StopsCollectingFrom :
-    Site → Error → Option (List LogItem) → Option (List LogItem) → Type 0
-StopsCollectingFrom site e old new =
-    StopsEarly site e old new
-    ⊎ ((kept : ℕ) × (dropped : List (List Hash)) × (chosen : Option (List LogItem))
-    × Chooses site kept dropped old chosen × StopsRemoving site dropped e chosen new)
+-- odd lines in these buckets are refused before anything is removed; or the error ended the removals
+abbrev pub StopsRemovals : OddLines → Site → List (List ℕ) → List (List Hash) → Error
+    → Option (List LogItem) → Option (List LogItem) → Type 0
+StopsRemovals choice site odd dropped e old new =
+    (RefusesOdd choice odd e × (new ≡ old))
+    ⊎ (Allows choice odd × StopsRemoving site dropped e old new)
 
--- the error ended the check for odd lines, or what came after it
+-- the error ended the choice, or what came after it
 abbrev pub StopsCollecting :
     OddLines → Site → Error → Option (List LogItem) → Option (List LogItem) → Type 0
-StopsCollecting odd site e old new =
-    StopsChecking odd site.cache e old new
-    ⊎ ((checked : Option (List LogItem)) × Checks odd site.cache old checked
-    × StopsCollectingFrom site e checked new)
+StopsCollecting choice site e old new =
+    StopsEarly site e old new
+    ⊎ ((kept : ℕ) × (dropped : List (List Hash)) × (chosen : Option (List LogItem))
+    × (c : Chooses site kept dropped old chosen)
+    × StopsRemovals choice site (odd_in c.listing.2.0) dropped e chosen new)

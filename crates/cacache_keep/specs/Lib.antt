@@ -10,6 +10,7 @@ pub mod Repairing
 pub mod Lines
 pub mod Buckets
 pub mod Checking
+pub mod Walking
 pub mod Missing
 pub mod Rewriting
 pub mod Syncing

@@ -1,10 +1,10 @@
 -- What shows that a content isn't there, over any store.
-use Rattle.std.specs.{Prelude.{◌≡◌, ◌⊎◌, ◌&&◌, ℕ, List, [], ◌∷◌, Bool, false, Option, codes, drop, length, map, not, string_bytes, take}, Bool.{nat_eq}, Cmp.Lexicographic.{pointwise}, List.{list_any, starts_with}}
+use Rattle.std.specs.{Prelude.{◌≡◌, ◌⊎◌, ◌&&◌, ℕ, List, [], ◌∷◌, Bool, false, Option, codes, drop, length, map, not, take}, Bool.{nat_eq}, Cmp.Lexicographic.{pointwise}, List.{list_any, starts_with}}
 use Rattle.cacache_core.specs.declared.{errors.{Error.{Error, TheVariants.{OutOfMemory}}, Fault.TheVariants.{Device}}, integrity.digest.Hash.{Hash}}
 use Rattle.cacache_store.specs.declared.store.log.LogItem.{LogItem}
 use Rattle.cacache_table.specs.{Common.{fails}, Runs.{EndsAs}, StepPaths.{content_path}}
 use Rattle.cacache_walks.specs.Listing.{ListsContents, StopsListing}
-use Rattle.cacache_keep.specs.{declared.missing.Shown.{Shown}, Calls.{has_address_in}}
+use Rattle.cacache_keep.specs.Calls.{has_address_in}
 
 -- ---- a look at the contents
 
@@ -16,10 +16,6 @@ Look = List Hash × List (List ℕ)
 abbrev pub ShowsContents :
     List ℕ → Look → Option (List LogItem) → Option (List LogItem) → Type 0
 ShowsContents cache look = ListsContents cache (map (λ h. h ∷ []) look.0) look.1
-
--- the same as values hold it
-abbrev pub look_of : Shown → Look
-look_of s = (s.contents.items, map string_bytes s.strange.items)
 
 -- ---- a content
 

@@ -8,7 +8,7 @@ use Rattle.cacache_table.specs.declared.command.Command.TheVariants as commands
 use Rattle.cacache_table.specs.declared.reply.Reply.TheVariants as replies
 use Rattle.cacache_reads.specs.Lookups.{delete_of}
 use Rattle.cacache_walks.specs.Listing.{IsByHash, ListsContents, StopsListing}
-use Rattle.cacache_keep.specs.{declared.checking.OddLines.{OddLines}, Checking.{Checks, StopsChecking}, Calls.{AsksEach, ListsEntries, MadeCalls, SaysWhy, StopsReading, StopsRemoving, removal}, Missing.{Doubts, Look, ShowsContents, StopsShowing, is_missing}, Reading.{ReadsEach, StopsEach}}
+use Rattle.cacache_keep.specs.{declared.checking.OddLines.{OddLines}, Checking.{Allows, ReadsIndex, RefusesOdd}, Calls.{AsksEach, MadeCalls, SaysWhy, StopsReading, StopsRemoving, removal}, Missing.{Doubts, Look, ShowsContents, StopsShowing, is_missing}, Reading.{ReadsEach, StopsEach}}
 
 -- ---- a key that may lead to no content
 
@@ -100,11 +100,11 @@ BuriesAll site (f ∷ entries) buried old new =
 
 -- ---- a repair
 
--- The contents are listed, and each is read; the damaged ones are removed, one after another. Then
--- the index is listed, each entry is asked whether its content is there, and the keys of those
--- whose content is missing get tombstones, unless they lead elsewhere.
+-- Of a cache whose index has these entries, the contents are listed, and each is read; the damaged ones
+-- are removed, one after another. Then of each entry is asked whether its content is there, and the keys
+-- of those whose content is missing get tombstones, unless they lead elsewhere.
 pub record RepairsFrom
-    (site : Site) (damaged : List (List Hash)) (buried : List Found)
+    (site : Site) (entries : List Found) (damaged : List (List Hash)) (buried : List Found)
     (old new : Option (List LogItem)) : Type 0 where
   pub addresses : List (List Hash)
   pub order : IsByHash addresses
@@ -116,26 +116,24 @@ pub record RepairsFrom
   pub reading : ReadsEach site.cache addresses good damaged found read
   pub removed : Option (List LogItem)
   pub removing : MadeCalls site (map removal damaged) read removed
-  pub entries : List Found
-  pub listed : Option (List LogItem)
-  pub listing : ListsEntries site entries removed listed
   pub dangling : List Found
   pub asked : Option (List LogItem)
-  pub asking : AsksEach site entries dangling listed asked
+  pub asking : AsksEach site entries dangling removed asked
   pub burying : BuriesAll site dangling buried asked new
 
--- so it is after a check for odd lines
+-- so it is after a listing of the index, which read no odd line, if these are refused
 abbrev pub RepairsWith : OddLines → Site → List (List Hash) → List Found
     → Option (List LogItem) → Option (List LogItem) → Type 0
-RepairsWith odd site damaged buried old new =
-    (checked : Option (List LogItem)) × Checks odd site.cache old checked
-    × RepairsFrom site damaged buried checked new
+RepairsWith choice site damaged buried old new =
+    (entries : List Found) × (odd : List (List ℕ)) × (listed : Option (List LogItem))
+    × ReadsIndex site entries odd old listed × Allows choice odd
+    × RepairsFrom site entries damaged buried listed new
 
 -- with one choice about them or the other
 abbrev pub RepairsCache : Site → List (List Hash) → List Found
     → Option (List LogItem) → Option (List LogItem) → Type 0
 RepairsCache site damaged buried old new =
-    (odd : OddLines) × RepairsWith odd site damaged buried old new
+    (choice : OddLines) × RepairsWith choice site damaged buried old new
 
 -- ---- errors
 
@@ -224,21 +222,29 @@ StopsDropping site e old new =
     × ReadsEach site.cache addresses good damaged found read
     × StopsRemoving site damaged e read new)))
 
--- it ended that, or the calls after it: the listing of the index, the questions, the tombstones
+-- it ended that, or the calls after it: the questions for the contents of these entries, the tombstones
 abbrev pub StopsRepairingFrom :
-    Site → Error → Option (List LogItem) → Option (List LogItem) → Type 0
-StopsRepairingFrom site e old new =
+    Site → List Found → Error → Option (List LogItem) → Option (List LogItem) → Type 0
+StopsRepairingFrom site entries e old new =
     StopsDropping site e old new
     ⊎ ((clean : Option (List LogItem)) × DropsDamaged site old clean
     × (StopsReading site e clean new
-    ⊎ ((entries dangling : List Found) × (listed asked : Option (List LogItem))
-    × ListsEntries site entries clean listed × AsksEach site entries dangling listed asked
+    ⊎ ((dangling : List Found) × (asked : Option (List LogItem))
+    × AsksEach site entries dangling clean asked
     × StopsBuryingAll site dangling e asked new)))
 
--- the error ended the check for odd lines, or what came after it
+-- odd lines in these buckets are refused before all else; or the error ended the repair after that
+abbrev pub StopsMending : OddLines → Site → List Found → List (List ℕ) → Error
+    → Option (List LogItem) → Option (List LogItem) → Type 0
+StopsMending choice site entries odd e old new =
+    (RefusesOdd choice odd e × (new ≡ old))
+    ⊎ (Allows choice odd × StopsRepairingFrom site entries e old new)
+
+-- the error ended the listing of the index, or what came after it
 abbrev pub StopsRepairing :
     OddLines → Site → Error → Option (List LogItem) → Option (List LogItem) → Type 0
-StopsRepairing odd site e old new =
-    StopsChecking odd site.cache e old new
-    ⊎ ((checked : Option (List LogItem)) × Checks odd site.cache old checked
-    × StopsRepairingFrom site e checked new)
+StopsRepairing choice site e old new =
+    StopsReading site e old new
+    ⊎ ((entries : List Found) × (odd : List (List ℕ)) × (listed : Option (List LogItem))
+    × ReadsIndex site entries odd old listed
+    × StopsMending choice site entries odd e listed new)

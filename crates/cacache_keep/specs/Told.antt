@@ -3,20 +3,28 @@ use Rattle.std.specs.Prelude.{◌≡◌, ℕ, List, Option, map, string_bytes}
 use Rattle.cacache_store.specs.declared.store.log.LogItem.{LogItem}
 use Rattle.cacache_entry.specs.{Latest.{Found}, View.{found_view}, declared.metadata.Metadata.{Metadata}}
 use Rattle.cacache_table.specs.State.{Site}
-use Rattle.cacache_keep.specs.{declared.{checking.OddLines.{OddLines}, repairing.Repaired.{Repaired}, sweeping.Swept.{Swept}, verifying.Verdict.{Verdict}}, Calls.{AsksEach}, Keeping.{VerifiesCache}, Reading.{Judged, damaged_bytes_of, good_bytes_of}, Missing.{Look}, Repairing.{BuriesAll, BuriesEach, RepairsFrom, RepairsWith}, Sweeping.{SweepsCache}}
+use Rattle.cacache_keep.specs.{declared.{checking.OddLines.{OddLines}, planning.Planned.{Planned}, repairing.Repaired.{Repaired}, sweeping.Swept.{Swept}, verifying.Verdict.{Verdict}}, Calls.{AsksEach}, Checking.{odd_in}, Keeping.{VerifiesCache}, Planning.{PlansCache, sized_of}, Reading.{Judged, damaged_bytes_of, good_bytes_of}, Missing.{Look}, Repairing.{BuriesAll, BuriesEach, RepairsFrom, RepairsWith}, Sweeping.{SweepsCache}}
 
 -- these contents were read, and the verdict gives the bytes of the good ones and of the damaged ones
 abbrev pub TellsBytes : Verdict → List Judged → Type 0
 TellsBytes v reads =
     (v.good_bytes ≡ good_bytes_of reads) × (v.damaged_bytes ≡ damaged_bytes_of reads)
 
--- the log gained a verification, and this is its verdict
+-- the log gained a verification, and this is its verdict; it tells the buckets with odd lines that the
+-- listing of the index read
 abbrev pub VerifiesAs :
     Site → Verdict → Option (List LogItem) → Option (List LogItem) → Type 0
 VerifiesAs site v old new =
     (it : VerifiesCache site v.good v.damaged.items
     (map found_view v.dangling.items) (map string_bytes v.strange.items) old new)
-    × TellsBytes v it.reading.reads
+    × TellsBytes v it.reading.reads × (v.odd.items ≡ odd_in it.listing.2.0)
+
+-- the log gained a plan, which this tells, with the buckets with odd lines that the listing read
+abbrev pub PlansAs :
+    Site → Planned → Option (List LogItem) → Option (List LogItem) → Type 0
+PlansAs site p old new =
+    (it : PlansCache site p.kept (map sized_of p.unused.items) old new)
+    × (p.odd.items ≡ odd_in it.1.listing.2.0)
 
 -- the log gained a question for the content of each entry, and these are those without one
 abbrev pub AsksAs : Site → List Found → List Metadata
@@ -35,13 +43,13 @@ abbrev pub BuriesAllAs : Site → List Metadata → List Metadata
 BuriesAllAs site entries buried old new =
     BuriesAll site (map found_view entries) (map found_view buried) old new
 
--- the log gained a repair without a check for odd lines, and this says what it did
+-- the log gained a repair of a cache whose index has these entries, and this tells what it did
 abbrev pub RepairsFromAs :
-    Site → Repaired → Option (List LogItem) → Option (List LogItem) → Type 0
-RepairsFromAs site r old new =
-    RepairsFrom site r.damaged.items (map found_view r.dangling.items) old new
+    Site → List Found → Repaired → Option (List LogItem) → Option (List LogItem) → Type 0
+RepairsFromAs site entries r old new =
+    RepairsFrom site entries r.damaged.items (map found_view r.dangling.items) old new
 
--- so it did after the check
+-- so it did after a listing of the index
 abbrev pub RepairsAs :
     OddLines → Site → Repaired → Option (List LogItem) → Option (List LogItem) → Type 0
 RepairsAs odd site r old new =

@@ -1,11 +1,8 @@
 //! Tombstones for keys that lead to no content.
 ghost use Rattle.std.specs.Prelude.{◌≡◌, IfOk, IfErr, map};
-ghost use Rattle.std.specs.List.Sorted.{IsSorted};
 ghost use Rattle.cacache_entry.specs.View.{found_view};
 ghost use Rattle.cacache_jobs.specs.Environment.{KeepsRest};
 ghost use Rattle.cacache_jobs.specs.Sites.{site_of};
-ghost use Rattle.cacache_walks.specs.Listing.{hash_cmp};
-ghost use Rattle.cacache_keep.specs.Missing.{look_of};
 ghost use Rattle.cacache_keep.specs.Repairing.{AsksFor, BuriesKey, LooksUp, StopsAsking, StopsBurying, StopsBuryingAll, StopsFate, StopsLooking};
 ghost use Rattle.cacache_keep.specs.Told.{BuriesAllAs, BuriesAs};
 
@@ -25,11 +22,10 @@ fn is_lost<S: Store, C: Clock, N: Names>(
     cache: &str,
     sri: &Integrity,
 ) -> Result<bool>
-    requires { IsSorted hash_cmp shown.now.contents.items }
-    ensures asks { IfOk result (λ lost. AsksFor (site_of cache.now env.old.base 0) (look_of shown.now)
+    ensures asks { IfOk result (λ lost. AsksFor (site_of cache.now env.old.base 0) shown.now
         sri.now lost (S.log env.old.store) (S.log env.new.store)) }
     ensures stops { IfErr result (λ e. StopsAsking (site_of cache.now env.old.base 0)
-        (look_of shown.now) sri.now e (S.log env.old.store) (S.log env.new.store)) }
+        shown.now sri.now e (S.log env.old.store) (S.log env.new.store)) }
     ensures rest { KeepsRest env.old env.new }
 {
     if exists_sync(env, cache, sri)? {
@@ -46,11 +42,10 @@ fn leads_nowhere<S: Store, C: Clock, N: Names>(
     cache: &str,
     key: &str,
 ) -> Result<bool>
-    requires { IsSorted hash_cmp shown.now.contents.items }
     ensures looks { IfOk result (λ nowhere. LooksUp (site_of cache.now env.old.base 0)
-        (look_of shown.now) key.now nowhere (S.log env.old.store) (S.log env.new.store)) }
+        shown.now key.now nowhere (S.log env.old.store) (S.log env.new.store)) }
     ensures stops { IfErr result (λ e. StopsLooking (site_of cache.now env.old.base 0)
-        (look_of shown.now) e (S.log env.old.store) (S.log env.new.store)) }
+        shown.now e (S.log env.old.store) (S.log env.new.store)) }
     ensures rest { KeepsRest env.old env.new }
 {
     match find(env, cache, key)? {
@@ -67,11 +62,10 @@ fn bury<S: Store, C: Clock, N: Names>(
     cache: &str,
     key: &str,
 ) -> Result<bool>
-    requires { IsSorted hash_cmp shown.now.contents.items }
     ensures buries { IfOk result (λ spared. BuriesKey (site_of cache.now env.old.base 0)
-        (look_of shown.now) key.now spared (S.log env.old.store) (S.log env.new.store)) }
+        shown.now key.now spared (S.log env.old.store) (S.log env.new.store)) }
     ensures stops { IfErr result (λ e. StopsFate (site_of cache.now env.old.base 0)
-        (look_of shown.now) key.now e (S.log env.old.store) (S.log env.new.store)) }
+        shown.now key.now e (S.log env.old.store) (S.log env.new.store)) }
     ensures names { env.new.names ≡ env.old.names }
     ensures base { env.new.base ≡ env.old.base }
 {
@@ -89,11 +83,10 @@ fn bury_each<S: Store, C: Clock, N: Names>(
     cache: &str,
     entries: Vec<Metadata>,
 ) -> Result<Vec<Metadata>>
-    requires { IsSorted hash_cmp shown.now.contents.items }
     ensures buries { IfOk result (λ buried. BuriesAs (site_of cache.now env.old.base 0)
-        (look_of shown.now) entries.items buried.items (S.log env.old.store) (S.log env.new.store)) }
+        shown.now entries.items buried.items (S.log env.old.store) (S.log env.new.store)) }
     ensures stops { IfErr result (λ e. StopsBurying (site_of cache.now env.old.base 0)
-        (look_of shown.now) (map found_view entries.items) e
+        shown.now (map found_view entries.items) e
         (S.log env.old.store) (S.log env.new.store)) }
     ensures names { env.new.names ≡ env.old.names }
     ensures base { env.new.base ≡ env.old.base }

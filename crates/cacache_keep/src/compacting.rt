@@ -97,8 +97,8 @@ fn compact_all<S: Store, C: Clock, N: Names>(
 /// is moved over the bucket: whatever fails, a bucket has its old bytes or its new ones. Nothing is
 /// synced, unless that is asked for by `CompactOpts::durable`.
 ///
-/// A fault: a bucket that is written anew is a new file. It has the mode of a temporary file, and its owner is whoever
-/// runs the compaction.
+/// Over real folders a rewritten bucket keeps its mode and its owner. If the owner can't be kept, the call ends with an
+/// error that names the bucket, which stays as it was.
 ///
 /// Compact a cache while nobody else uses it: an entry that is added meanwhile may be lost.
 ///

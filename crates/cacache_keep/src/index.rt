@@ -1,31 +1,23 @@
 //! The entries of the index.
-ghost use Rattle.std.specs.Prelude.{◌≡◌, ◌⊎◌, Ok, true, false, IfOk, IfErr, map};
+ghost use Rattle.std.specs.Prelude.{◌≡◌, ◌⊎◌, ℕ, List, Ok, true, false, IfOk, IfErr, map};
 ghost use Rattle.cacache_core.specs.declared.errors.Error.TheVariants.{OutOfMemory};
-ghost use Rattle.cacache_table.specs.Runs.{reply_of};
-ghost use Rattle.cacache_jobs.specs.Environment.{Calls, KeepsRest};
 ghost use Rattle.cacache_jobs.specs.Sites.{site_of};
-ghost use Rattle.cacache_keep.specs.Calls.{IsFirstError, HasNoIndex, ListsEntries, StopsReading, listing_reply};
+ghost use Rattle.cacache_keep.specs.Calls.{IsFirstError, HasNoIndex, StopsReading};
+ghost use Rattle.cacache_keep.specs.Checking.{ReadsIndex};
 
+use crate::walking::{Met, walk_index};
 use cacache_core::errors::{Error, Fault, Result};
 use cacache_core::keeping::let_go;
-use cacache_jobs::call;
-use cacache_store::env::Env;
+use cacache_core::text::Text;
 use cacache_store::store::Store;
-use cacache_table::{Command, Found, Reply};
+use cacache_table::Found;
 use std::alloc::Global;
 
-/// The items of a listing, or why the call failed.
-fn items<S: Store, C, N>(
-    env: &mut Env<S, C, N>,
-    cache: &str,
-) -> Result<Vec<std::result::Result<Found, Error>>>
-    ensures { Calls S.log env.old env.new cache.now Command.Ls (reply_of listing_reply result) }
-{
-    match call(env, cache, Command::Ls, 0) {
-        Reply::Listed(items) => Ok(items.into_vec()),
-        Reply::Refused(error) => Err(error),
-        _ => unreachable!(),
-    }
+/// The entries of all keys, and the paths of the buckets with odd lines, in the order of their reading.
+#[derive(Drop)]
+pub(crate) struct Index {
+    pub(crate) entries: Vec<Found>,
+    pub(crate) odd: Vec<Text>,
 }
 
 /// Whether the only item says that the folder of the index isn't there.
@@ -54,18 +46,20 @@ fn entries_of(alloc: Global, items: Vec<std::result::Result<Found, Error>>) -> R
     Ok(entries)
 }
 
-/// The entries of all keys. If the folder of the index isn't there, there are none.
-pub(crate) fn entries<S: Store, C, N>(env: &mut Env<S, C, N>, cache: &str) -> Result<Vec<Found>>
-    ensures lists { IfOk result (λ entries. ListsEntries (site_of cache.now env.old.base 0)
-        entries.items (S.log env.old.store) (S.log env.new.store)) }
-    ensures stops { IfErr result (λ e. StopsReading (site_of cache.now env.old.base 0) e
-        (S.log env.old.store) (S.log env.new.store)) }
-    ensures rest { KeepsRest env.old env.new }
+/// The entries of all keys, and the buckets with odd lines. Each bucket is read once. Where the folder of the index
+/// isn't there, there are none.
+pub(crate) fn read_index<S: Store>(alloc: Global, store: &mut S, cache: &str) -> Result<Index>
+    ensures reads { IfOk result (λ index. (base : List ℕ) → ReadsIndex (site_of cache.now base 0)
+        index.entries.items index.odd.items (S.log store.old) (S.log store.new)) }
+    ensures stops { IfErr result (λ e. (base : List ℕ) → StopsReading (site_of cache.now base 0) e
+        (S.log store.old) (S.log store.new)) }
 {
-    let items = items(env, cache)?;
+    let Met { items, odd } = walk_index(alloc, store, cache)?;
     if has_no_index(items.as_slice()) {
         let_go(items);
-        return Ok(Vec::new(env.alloc));
+        let entries = Vec::new(alloc);
+        return Ok(Index { entries, odd });
     }
-    entries_of(env.alloc, items)
+    let entries = entries_of(alloc, items)?;
+    Ok(Index { entries, odd })
 }

@@ -22,6 +22,7 @@ mod settling;
 mod sweeping;
 mod syncing;
 mod verifying;
+mod walking;
 
 pub use checking::OddLines;
 pub use collecting::{Collected, collect, collect_with};

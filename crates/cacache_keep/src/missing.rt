@@ -1,10 +1,8 @@
 //! What shows that a content isn't there: a walk through the contents that doesn't meet it.
 ghost use Rattle.std.specs.Prelude.{◌≡◌, Some, true, IfOk, IfErr, OnOk, map, string_bytes};
-ghost use Rattle.std.specs.List.Sorted.{IsSorted};
 ghost use Rattle.cacache_core.specs.Integrity.{address as address_of};
 ghost use Rattle.cacache_jobs.specs.Environment.{KeepsRest};
-ghost use Rattle.cacache_walks.specs.Listing.{hash_cmp};
-ghost use Rattle.cacache_keep.specs.Missing.{Doubts, ShowsContents, StopsShowing, is_below as is_below_of, is_hidden as is_hidden_of, is_missing, look_of};
+ghost use Rattle.cacache_keep.specs.Missing.{Doubts, ShowsContents, StopsShowing, is_below as is_below_of, is_hidden as is_hidden_of, is_missing};
 
 use crate::live::is_live;
 use cacache_core::digest::Hash;
@@ -17,12 +15,26 @@ use cacache_store::store::Store;
 use cacache_table::Refusal;
 use cacache_walks::{Contents, list};
 use std::alloc::{AllocError, Global};
+use std::marker::Model;
 
-/// The contents that a cache shows, and the paths of whatever else lies among them.
+/// The contents that a cache shows, in order, and the paths of what lies among them and is none. Contracts see both.
 #[derive(Drop)]
 pub(crate) struct Shown {
     contents: Vec<Hash>,
     strange: Vec<String>,
+}
+
+impl Model for Shown {
+    ghost use Rattle.std.specs.List.Sorted.{IsSorted};
+    ghost use Rattle.std.specs.Prelude.{map, string_bytes};
+    ghost use Rattle.cacache_keep.specs.Missing.{Look};
+    ghost use Rattle.cacache_walks.specs.Listing.{hash_cmp};
+
+    ghost Value = { Look };
+
+    ghost view = { λ s. (s.contents.items, map string_bytes s.strange.items) };
+
+    ghost invariant = { λ s. IsSorted hash_cmp s.contents.items };
 }
 
 /// The hashes of these addresses.
@@ -41,9 +53,8 @@ pub(crate) fn look<S: Store, C: Clock, N: Names>(
     env: &mut Env<S, C, N>,
     cache: &str,
 ) -> Result<Shown>
-    ensures shows { IfOk result (λ s. ShowsContents cache.now (look_of s)
+    ensures shows { IfOk result (λ s. ShowsContents cache.now s
         (S.log env.old.store) (S.log env.new.store)) }
-    ensures order { IfOk result (λ s. IsSorted hash_cmp s.contents.items) }
     ensures stops { IfErr result
         (λ e. StopsShowing cache.now e (S.log env.old.store) (S.log env.new.store)) }
     ensures rest { KeepsRest env.old env.new }
@@ -82,9 +93,8 @@ fn doubtful(alloc: Global, path: &Text) -> std::result::Result<Text, AllocError>
 
 /// Makes sure that the content isn't there: the walk didn't show it, and nothing strange hides it.
 pub(crate) fn confirm(alloc: Global, shown: &Shown, cache: &str, sri: &Integrity) -> Result<()>
-    requires { IsSorted hash_cmp shown.now.contents.items }
-    ensures sure { OnOk result (is_missing cache.now (look_of shown.now) sri.now ≡ true) }
-    ensures doubts { IfErr result (λ e. Doubts cache.now (look_of shown.now) sri.now e) }
+    ensures sure { OnOk result (is_missing cache.now shown.now sri.now ≡ true) }
+    ensures doubts { IfErr result (λ e. Doubts cache.now shown.now sri.now e) }
 {
     let path = content_path(alloc, cache, sri)?;
     let is_shown = is_live(shown.contents.as_slice(), sri.address());

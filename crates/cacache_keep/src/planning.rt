@@ -1,7 +1,8 @@
 //! The call that says what a collection would remove.
 ghost use Rattle.std.specs.Prelude.{◌≡◌, IfOk, IfErr, map};
 ghost use Rattle.cacache_jobs.specs.Sites.{site_of};
-ghost use Rattle.cacache_keep.specs.Planning.{HidesSize, PlansCache, StopsPlanning, StopsTelling, TellsSize, TellsSizes, sized_of};
+ghost use Rattle.cacache_keep.specs.Planning.{HidesSize, StopsPlanning, StopsTelling, TellsSize, TellsSizes, sized_of};
+ghost use Rattle.cacache_keep.specs.Told.{PlansAs};
 
 use crate::choosing::{Chosen, choose};
 use crate::reading::says_gone;
@@ -30,6 +31,9 @@ pub struct Planned {
     pub kept: u64,
     /// The contents that it would remove.
     pub unused: Vec<Unused>,
+    /// The paths of the buckets with odd lines, in the order in which the index is read. If there is one, `collect` ends
+    /// with an error that names the first.
+    pub odd: Vec<Text>,
 }
 
 /// The content didn't give its size.
@@ -82,22 +86,22 @@ fn sizes_of<S: Store>(
     Ok(unused)
 }
 
-/// Says which contents a `collect` would remove, each with its bytes, and how many it would leave. Nothing changes.
-/// What a later `collect` removes is the same while nobody writes in between; it ends with an error if a bucket has a
-/// line that this crate can't read and another reader may.
+/// Tells which contents a `collect` would remove, each with its bytes, and how many it would leave.
+/// Nothing changes. What a later `collect` removes is the same while nobody writes in between. It ends with an error if a
+/// bucket has a line that this crate can't read and another reader may: the plan names these buckets.
 ///
 /// Errors are those of `content::read::list`, the first error among the items of the index, and an `IoError` if a
 /// content didn't give its size, such as a link to a folder. `OutOfMemory` may come at any time.
 pub fn plan<S: Store, C: Clock, N: Names>(env: &mut Env<S, C, N>, cache: &str) -> Result<Planned>
-    ensures plans { IfOk result (λ p. PlansCache (site_of cache.now env.old.base 0)
-        p.kept (map sized_of p.unused.items) (S.log env.old.store) (S.log env.new.store)) }
+    ensures plans { IfOk result (λ p. PlansAs (site_of cache.now env.old.base 0) p
+        (S.log env.old.store) (S.log env.new.store)) }
     ensures stops { IfErr result (λ e. StopsPlanning (site_of cache.now env.old.base 0) e
         (S.log env.old.store) (S.log env.new.store)) }
     ensures clock { env.new.clock ≡ env.old.clock }
     ensures names { env.new.names ≡ env.old.names }
     ensures base { env.new.base ≡ env.old.base }
 {
-    let Chosen { kept, dropped } = choose(env, cache)?;
+    let Chosen { kept, dropped, odd } = choose(env, cache)?;
     let unused = sizes_of(env.alloc, &mut env.store, cache, dropped)?;
-    Ok(Planned { kept, unused })
+    Ok(Planned { kept, unused, odd })
 }

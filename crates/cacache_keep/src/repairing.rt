@@ -8,7 +8,7 @@ ghost use Rattle.cacache_keep.specs.Told.{RepairsAs, RepairsFromAs};
 use crate::asking::dangling_of;
 use crate::burying::bury_all;
 use crate::checking::{OddLines, check};
-use crate::index::entries;
+use crate::index::{Index, read_index};
 use crate::reading::{Read, read_each};
 use crate::removing::remove_each;
 use cacache_core::errors::Result;
@@ -17,6 +17,7 @@ use cacache_core::keeping::let_go;
 use cacache_entry::Metadata;
 use cacache_store::env::{Clock, Env, Names};
 use cacache_store::store::Store;
+use cacache_table::Found;
 use cacache_walks::{Contents, list};
 
 /// What a repair did.
@@ -28,15 +29,16 @@ pub struct Repaired {
     pub dangling: Vec<Metadata>,
 }
 
-/// Repairs a cache without checking for odd lines.
+/// Repairs a cache whose index has these entries.
 fn repair_from<S: Store, C: Clock, N: Names>(
     env: &mut Env<S, C, N>,
     cache: &str,
+    entries: Vec<Found>,
 ) -> Result<Repaired>
-    ensures repairs { IfOk result (λ r. RepairsFromAs (site_of cache.now env.old.base 0) r
-        (S.log env.old.store) (S.log env.new.store)) }
-    ensures stops { IfErr result (λ e. StopsRepairingFrom (site_of cache.now env.old.base 0) e
-        (S.log env.old.store) (S.log env.new.store)) }
+    ensures repairs { IfOk result (λ r. RepairsFromAs (site_of cache.now env.old.base 0)
+        entries.items r (S.log env.old.store) (S.log env.new.store)) }
+    ensures stops { IfErr result (λ e. StopsRepairingFrom (site_of cache.now env.old.base 0)
+        entries.items e (S.log env.old.store) (S.log env.new.store)) }
     ensures names { env.new.names ≡ env.old.names }
     ensures base { env.new.base ≡ env.old.base }
 {
@@ -49,7 +51,6 @@ fn repair_from<S: Store, C: Clock, N: Names>(
         damaged_bytes: _,
     } = read_each(env.alloc, &mut env.store, cache, addresses)?;
     remove_each(env, cache, damaged.as_slice())?;
-    let entries = entries(env, cache)?;
     let dangling = dangling_of(env, cache, entries)?;
     let dangling = bury_all(env, cache, dangling)?;
     Ok(Repaired { damaged, dangling })
@@ -58,8 +59,7 @@ fn repair_from<S: Store, C: Clock, N: Names>(
 /// Repairs a cache as `repair` does, with the choice of what to do about odd lines in its index. With
 /// `OddLines::Ignore` a key may get a tombstone that hides such a line from another reader.
 ///
-/// Errors are those of `repair`. With `OddLines::Ignore` the buckets aren't checked, so the errors of that check
-/// don't occur.
+/// Errors are those of `repair`, with `OddLines::Ignore` without the one about odd lines.
 pub fn repair_with<S: Store, C: Clock, N: Names>(
     env: &mut Env<S, C, N>,
     cache: &str,
@@ -72,8 +72,10 @@ pub fn repair_with<S: Store, C: Clock, N: Names>(
     ensures names { env.new.names ≡ env.old.names }
     ensures base { env.new.base ≡ env.old.base }
 {
-    check(env.alloc, &mut env.store, odd, cache)?;
-    repair_from(env, cache)
+    let index = read_index(env.alloc, &mut env.store, cache)?;
+    check(env.alloc, odd, index.odd.as_slice())?;
+    let Index { entries, odd: _ } = index;
+    repair_from(env, cache, entries)
 }
 
 /// Removes each damaged content of a cache, and adds a tombstone for each key that leads to an entry whose content is
@@ -89,13 +91,12 @@ pub fn repair_with<S: Store, C: Clock, N: Names>(
 /// Repair a cache while nobody writes to it: a content is stored before its entry.
 ///
 /// A line of the index with a right digest that this crate can't read is odd: another reader may read it, and a tombstone
-/// after it would hide it. So a cache with such a line isn't repaired: the buckets are read before all else, and the call
-/// ends with an `IoError` of `Unsupported`, which names the bucket. `repair_with` can go on.
+/// after it would hide it. So a cache with such a line isn't repaired: the index is read before all else, each bucket
+/// once, and the call ends with an `IoError` of `Unsupported`, which names the first such bucket. `repair_with` can go on.
 ///
-/// Errors are that one, and `IoError` if a folder of the index couldn't be listed or a bucket couldn't be read. They
-/// are also those of `verify`, of a removal, of the second walk and of a tombstone, and the one about a content that
-/// may be there. Contents before the error are removed then, and keys before it have tombstones. `OutOfMemory` may
-/// come at any time.
+/// Errors are the first among the items of the index, then that one, those of `verify` about contents, of a removal, of
+/// the second walk and of a tombstone, and the one about a content that may be there. Contents before the error are
+/// removed then, and keys before it have tombstones. `OutOfMemory` may come at any time.
 pub fn repair<S: Store, C: Clock, N: Names>(env: &mut Env<S, C, N>, cache: &str) -> Result<Repaired>
     ensures repairs { IfOk result (λ r. RepairsAs Refuse (site_of cache.now env.old.base 0) r
         (S.log env.old.store) (S.log env.new.store)) }

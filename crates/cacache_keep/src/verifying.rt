@@ -5,10 +5,11 @@ ghost use Rattle.cacache_keep.specs.Keeping.{StopsVerifying};
 ghost use Rattle.cacache_keep.specs.Told.{VerifiesAs};
 
 use crate::asking::dangling_of;
-use crate::index::entries;
+use crate::index::{Index, read_index};
 use crate::reading::{Read, read_each};
 use cacache_core::errors::Result;
 use cacache_core::integrity::Integrity;
+use cacache_core::text::Text;
 use cacache_entry::Metadata;
 use cacache_store::env::{Clock, Env, Names};
 use cacache_store::store::Store;
@@ -29,17 +30,23 @@ pub struct Verdict {
     pub dangling: Vec<Metadata>,
     /// The paths of whatever else lies among the contents, by their bytes.
     pub strange: Vec<String>,
+    /// The paths of the buckets with odd lines, in the order in which the index is read.
+    pub odd: Vec<Text>,
 }
 
 /// Reads each content of a cache, and asks for each entry whether its content is there. Nothing changes. A content is
 /// read in pieces of 8 KiB, one of them in memory at a time, and its bytes are counted. For a cache whose folder
 /// isn't there the verdict has nothing.
 ///
-/// A content whose bytes don't meet its address is damaged, and so is one that was gone when it was to be opened. One
-/// that is a link is judged by its target's bytes, and is damaged if it leads to nothing. Errors are those of
-/// `content::read::list`, of an opening or a read that failed otherwise, and the first error among the items of the
-/// index. A folder of the index that isn't there has no items; a link in its place that leads to nothing is an
-/// `IoError`. `OutOfMemory` may come at any time.
+/// A line of the index with a right digest that this crate can't read is odd: another reader may read it. Its entry isn't
+/// asked for, and the verdict names its bucket. Each bucket is read once.
+///
+/// A content whose bytes don't meet its address is damaged, and so is one that was gone when it was
+/// to be opened. One that is a link is judged by its target's bytes, and is damaged where it leads to
+/// nothing. Errors are those of `content::read::list`, of an opening or a read that failed
+/// otherwise, and the first error among the items of the index. A folder of the index that isn't
+/// there has no items; a link in its place that leads to nothing is an `IoError`. `OutOfMemory` may
+/// come at any time.
 pub fn verify<S: Store, C: Clock, N: Names>(env: &mut Env<S, C, N>, cache: &str) -> Result<Verdict>
     ensures verifies { IfOk result (λ v. VerifiesAs (site_of cache.now env.old.base 0) v
         (S.log env.old.store) (S.log env.new.store)) }
@@ -56,7 +63,7 @@ pub fn verify<S: Store, C: Clock, N: Names>(env: &mut Env<S, C, N>, cache: &str)
         damaged,
         damaged_bytes,
     } = read_each(env.alloc, &mut env.store, cache, addresses)?;
-    let entries = entries(env, cache)?;
+    let Index { entries, odd } = read_index(env.alloc, &mut env.store, cache)?;
     let dangling = dangling_of(env, cache, entries)?;
     Ok(Verdict {
         good,
@@ -65,5 +72,6 @@ pub fn verify<S: Store, C: Clock, N: Names>(env: &mut Env<S, C, N>, cache: &str)
         damaged_bytes,
         dangling,
         strange,
+        odd,
     })
 }

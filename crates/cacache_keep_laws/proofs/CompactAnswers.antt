@@ -36,7 +36,7 @@ found_in p = option_and_then (λ (e : Entry). option_flatten (answer_of e e.inte
 abbrev pub found_as : Option (List ℕ) → Option Found
 found_as o = option_and_then found_in o
 
-same_key : (a b : List ℕ) → bytes_eq a b ≡ bytes_eq b a
+pub same_key : (a b : List ℕ) → bytes_eq a b ≡ bytes_eq b a
 same_key a b = by (bytes_eq a b) refl (bytes_eq b a) refl
   where
     by : (x : Bool) → bytes_eq a b ≡ x → (y : Bool) → bytes_eq b a ≡ y → x ≡ y

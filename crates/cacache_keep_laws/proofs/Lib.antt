@@ -34,7 +34,7 @@ pub mod CompactLines
 mod KeptLines
 pub mod CompactTwice
 mod CompactFound
-mod CompactAnswers
+pub mod CompactAnswers
 pub mod CompactTexts
 mod Shapes
 pub mod LeanTrees

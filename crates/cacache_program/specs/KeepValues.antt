@@ -2,7 +2,7 @@
 use Rattle.std.specs.Prelude.{ℕ, List, Option, length, map, string_bytes}
 use Rattle.cacache.specs.Entries.{found_view}
 use Rattle.cacache_keep.specs.declared.{collecting.Collected.{Collected}, compacting.Compacted.{Compacted}, planning.Planned.{Planned}, repairing.Repaired.{Repaired}, sweeping.Swept.{Swept}, verifying.Verdict.{Verdict}}
-use Rattle.cacache_program.specs.{WordCollect.{collected_text}, WordCompact.{compacted_text}, WordList.{TellsList, listed_text}, WordPlan.{planned_text}, WordRepair.{repaired_text}, WordSweep.{swept_text}, WordVerify.{TellsVerdict, verdict_status, verdict_text}}
+use Rattle.cacache_program.specs.{WordCollect.{collected_text}, WordCompact.{compacted_text}, WordList.{TellsList, listed_text}, WordPlan.{planned_counts, planned_text}, WordRepair.{repaired_text}, WordSweep.{swept_text}, WordVerify.{Findings, TellsVerdict, verdict_status, verdict_text}}
 
 -- ---- a verification
 
@@ -22,17 +22,23 @@ PutsVerdict v before after status =
     TellsVerdict v.good (length v.damaged.items) (length v.dangling.items) (length v.strange.items)
     before after status
 
+-- what it found
+abbrev pub findings_of : Verdict → Findings
+findings_of v = (
+  v.good,
+  v.damaged.items,
+  map found_view v.dangling.items,
+  map string_bytes v.strange.items,
+  v.odd.items,
+)
+
 -- its counts, and the list after them
 abbrev pub list_of_verdict : Verdict → List ℕ
-list_of_verdict v =
-    listed_text v.good v.damaged.items
-    (map found_view v.dangling.items) (map string_bytes v.strange.items)
+list_of_verdict v = listed_text (findings_of v)
 
 -- they were put out with its status, or a beginning of them with status 1
 abbrev pub PutsList : Verdict → Option (List ℕ) → Option (List ℕ) → ℕ → Type 0
-PutsList v before after status =
-    TellsList v.good v.damaged.items
-    (map found_view v.dangling.items) (map string_bytes v.strange.items) before after status
+PutsList v before after status = TellsList (findings_of v) before after status
 
 -- ---- the other calls
 
@@ -41,8 +47,12 @@ abbrev pub text_of_collected : Collected → List ℕ
 text_of_collected c = collected_text c.kept (length c.dropped.items)
 
 -- those of a plan
+abbrev pub counts_of_planned : Planned → List ℕ
+counts_of_planned p = planned_counts p.kept (length p.unused.items)
+
+-- and a line for each bucket with an odd line
 abbrev pub text_of_planned : Planned → List ℕ
-text_of_planned p = planned_text p.kept (length p.unused.items)
+text_of_planned p = planned_text p.kept (length p.unused.items) p.odd.items
 
 -- those of a sweep
 abbrev pub text_of_swept : Swept → List ℕ

@@ -2,7 +2,7 @@
 use Rattle.std.specs.{Prelude.{◌++◌, ℕ, List, [], ◌∷◌, Option, codes, length}, List.{flat_map}}
 use Rattle.cacache_core.specs.declared.integrity.digest.Hash.{Hash}
 use Rattle.cacache.specs.{Stores.{LogItem}, Calls.{Env}, Entries.{Found}, Integrities.{integrity_text}}
-use Rattle.cacache_program.specs.{Escaping.{escaped}, Output.{PutsOutWith}, PrintedEntries.{entry_text}, WordVerify.{VerifiesTelling, verdict_status, verdict_text}}
+use Rattle.cacache_program.specs.{Escaping.{escaped}, Output.{PutsOutWith}, PrintedEntries.{entry_text}, WordVerify.{Findings, VerifiesTelling, verdict_status, verdict_text}}
 
 -- the line of a damaged content: its address
 abbrev pub damaged_line : List Hash → List ℕ
@@ -16,27 +16,31 @@ dangling_line f = codes "dangling " ++ (entry_text f ++ 10 ∷ [])
 abbrev pub strange_line : List ℕ → List ℕ
 strange_line path = codes "strange " ++ (escaped path ++ 10 ∷ [])
 
+-- the line of a bucket with an odd line: its path, escaped
+abbrev pub odd_line : List ℕ → List ℕ
+odd_line path = codes "odd " ++ (escaped path ++ 10 ∷ [])
+
 -- a line each
-abbrev pub list_text : List (List Hash) → List Found → List (List ℕ) → List ℕ
-list_text damaged dangling strange =
+abbrev pub list_text : Findings → List ℕ
+list_text (good, damaged, dangling, strange, odd) =
     flat_map damaged_line damaged
-    ++ (flat_map dangling_line dangling ++ flat_map strange_line strange)
+    ++ (flat_map dangling_line dangling
+    ++ (flat_map strange_line strange ++ flat_map odd_line odd))
 
 -- what `verify` prints, and the list after it
-abbrev pub listed_text : ℕ → List (List Hash) → List Found → List (List ℕ) → List ℕ
-listed_text good damaged dangling strange =
+abbrev pub listed_text : Findings → List ℕ
+listed_text (good, damaged, dangling, strange, odd) =
     verdict_text good (length damaged) (length dangling) (length strange)
-    ++ list_text damaged dangling strange
+    ++ list_text (good, damaged, dangling, strange, odd)
 
 -- that was put out with the verdict's status, or a beginning of it with status 1
-abbrev pub TellsList : ℕ → List (List Hash) → List Found → List (List ℕ)
-    → Option (List ℕ) → Option (List ℕ) → ℕ → Type 0
-TellsList good damaged dangling strange before after status =
+abbrev pub TellsList : Findings → Option (List ℕ) → Option (List ℕ) → ℕ → Type 0
+TellsList (good, damaged, dangling, strange, odd) before after status =
     PutsOutWith (verdict_status (length damaged) (length dangling) (length strange))
-    (listed_text good damaged dangling strange) before after status
+    (listed_text (good, damaged, dangling, strange, odd)) before after status
 
 module _ {S C N : Type 0} (log : S → Option (List LogItem)) where
-  -- the cache was verified, and the counts are printed with the list after them
+  -- the cache was verified, and the counts are told with the list after them
   abbrev pub ListsVerdict :
       List ℕ → Env S C N → Env S C N → Option (List ℕ) → Option (List ℕ) → ℕ → Type 0
   ListsVerdict cache old new before after status =

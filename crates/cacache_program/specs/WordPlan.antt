@@ -1,23 +1,27 @@
 -- The word `plan` of the program `cacache-keep`.
-use Rattle.std.specs.{Prelude.{◌⊎◌, ◌++◌, ℕ, List, Option, codes, length}, Fmt.{decimal}}
+use Rattle.std.specs.{Prelude.{◌⊎◌, ◌++◌, ℕ, List, Option, codes, length}, Fmt.{decimal}, List.{flat_map}}
 use Rattle.cacache.specs.{Stores.{LogItem}, Calls.{Env, KeepsRest}}
 use Rattle.cacache_jobs.specs.Sites.{site_of}
-use Rattle.cacache_keep.specs.Planning.{PlansCache, Sized, StopsPlanning}
-use Rattle.cacache_program.specs.{KeepFails.{Fails}, Output.{PutsOut}}
+use Rattle.cacache_keep.specs.{Checking.{odd_in}, Planning.{PlansCache, Sized, StopsPlanning}}
+use Rattle.cacache_program.specs.{KeepFails.{Fails}, Output.{PutsOut}, WordList.{odd_line}}
 
 -- how many contents a collection would keep, and how many no entry has, a line each
-abbrev pub planned_text : ℕ → ℕ → List ℕ
-planned_text kept unused =
+abbrev pub planned_counts : ℕ → ℕ → List ℕ
+planned_counts kept unused =
     codes "kept " ++ (decimal kept ++ (codes "\nunused " ++ (decimal unused ++ codes "\n")))
 
+-- these counts, and a line for each bucket with an odd line
+abbrev pub planned_text : ℕ → ℕ → List (List ℕ) → List ℕ
+planned_text kept unused odd = planned_counts kept unused ++ flat_map odd_line odd
+
 module _ {S C N : Type 0} (log : S → Option (List LogItem)) where
-  -- the log gained a plan, and its counts were printed
+  -- the log gained a plan, and its counts were told, with the buckets that have odd lines
   abbrev pub PrintsPlan :
       List ℕ → Env S C N → Env S C N → Option (List ℕ) → Option (List ℕ) → ℕ → Type 0
   PrintsPlan cache old new before after status =
       (kept : ℕ) × (unused : List Sized)
-      × PlansCache (site_of cache old.base 0) kept unused (log old.store) (log new.store)
-      × PutsOut (planned_text kept (length unused)) before after status
+      × (it : PlansCache (site_of cache old.base 0) kept unused (log old.store) (log new.store))
+      × PutsOut (planned_text kept (length unused) (odd_in it.1.listing.2.0)) before after status
 
   -- an error ended the plan, and nothing was put out
   abbrev pub FailsToPlan :

@@ -3,7 +3,7 @@ use Rattle.std.specs.{Prelude.{◌⊎◌, ◌++◌, ◌==◌, ◌&&◌, ℕ, Boo
 use Rattle.cacache_core.specs.declared.integrity.digest.Hash.{Hash}
 use Rattle.cacache.specs.{Stores.{LogItem}, Calls.{Env, KeepsRest}, Entries.{Found}}
 use Rattle.cacache_jobs.specs.Sites.{site_of}
-use Rattle.cacache_keep.specs.Keeping.{StopsVerifying, VerifiesCache}
+use Rattle.cacache_keep.specs.{Checking.{odd_in}, Keeping.{StopsVerifying, VerifiesCache}}
 use Rattle.cacache_program.specs.{KeepFails.{Fails}, Output.{PutsOutWith}}
 
 -- how many contents are good and damaged, entries dangle, and other files are there, a line each
@@ -29,24 +29,27 @@ TellsVerdict good damaged dangling strange before after status =
     PutsOutWith (verdict_status damaged dangling strange)
     (verdict_text good damaged dangling strange) before after status
 
--- so were the counts of these findings
-abbrev pub TellsCounts : ℕ → List (List Hash) → List Found → List (List ℕ)
-    → Option (List ℕ) → Option (List ℕ) → ℕ → Type 0
-TellsCounts good damaged dangling strange before after status =
+-- what a verification found: good and damaged contents, entries without one, other files, and buckets
+-- with odd lines
+abbrev pub Findings : Type 0
+Findings = ℕ × List (List Hash) × List Found × List (List ℕ) × List (List ℕ)
+
+-- so were the counts of these findings, without the buckets
+abbrev pub TellsCounts : Findings → Option (List ℕ) → Option (List ℕ) → ℕ → Type 0
+TellsCounts (good, damaged, dangling, strange, odd) before after status =
     TellsVerdict good (length damaged) (length dangling) (length strange) before after status
 
 module _ {S C N : Type 0} (log : S → Option (List LogItem)) where
   -- the log gained a verification, and what it found was printed in this way
   abbrev pub PrintsFindings :
-      (ℕ → List (List Hash) → List Found → List (List ℕ)
-      → Option (List ℕ) → Option (List ℕ) → ℕ → Type 0)
+      (Findings → Option (List ℕ) → Option (List ℕ) → ℕ → Type 0)
       → List ℕ → Env S C N → Env S C N → Option (List ℕ) → Option (List ℕ) → ℕ → Type 0
   PrintsFindings Tells cache old new before after status =
       (good : ℕ) × (damaged : List (List Hash)) × (dangling : List Found)
       × (strange : List (List ℕ))
-      × VerifiesCache (site_of cache old.base 0) good damaged dangling strange
-      (log old.store) (log new.store)
-      × Tells good damaged dangling strange before after status
+      × (it : VerifiesCache (site_of cache old.base 0) good damaged dangling strange
+      (log old.store) (log new.store))
+      × Tells (good, damaged, dangling, strange, odd_in it.listing.2.0) before after status
 
   -- an error ended the verification, and nothing was put out
   abbrev pub FailsToVerify :
@@ -56,8 +59,7 @@ module _ {S C N : Type 0} (log : S → Option (List LogItem)) where
 
   -- one of the two, and in the environment only the store may have changed
   abbrev pub VerifiesTelling :
-      (ℕ → List (List Hash) → List Found → List (List ℕ)
-      → Option (List ℕ) → Option (List ℕ) → ℕ → Type 0)
+      (Findings → Option (List ℕ) → Option (List ℕ) → ℕ → Type 0)
       → List ℕ → Env S C N → Env S C N → Option (List ℕ) → Option (List ℕ) → ℕ → Type 0
   VerifiesTelling Tells cache old new before after status =
       KeepsRest old new

@@ -1,6 +1,7 @@
 //! Answers of calls, as rows say them.
 use cacache::{Integrity, Result as Answered};
 use cacache_core::keeping::{beside, let_go};
+use cacache_core::text::Text;
 use cacache_keep::{Collected, Compacted, Planned, Repaired, Swept, Unused, Verdict};
 use rows::Flaw;
 use rows::answers::refused;
@@ -39,12 +40,21 @@ impl Shown for Swept {
     }
 }
 
+/// Names the buckets with odd lines.
+fn push_odd(alloc: Global, line: &mut String, odd: &[Text]) -> Result<(), AllocError> {
+    for path in odd {
+        line.push_str(format!(in alloc; " odd {path}")?.as_str())?;
+    }
+    Ok(())
+}
+
 impl Shown for Planned {
     fn shown(&self, alloc: Global) -> Result<String, AllocError> {
         let mut line = format!(in alloc; "kept {}", self.kept)?;
         for Unused { address, bytes } in &self.unused {
             line.push_str(format!(in alloc; " unused {address} {bytes}")?.as_str())?;
         }
+        push_odd(alloc, &mut line, self.odd.as_slice())?;
         Ok(line)
     }
 }
@@ -73,15 +83,17 @@ impl Shown for Compacted {
     }
 }
 
-/// The counts and the bytes that a verification gives.
+/// The counts and the bytes that a verification tells, and the buckets with odd lines.
 impl Shown for Verdict {
     fn shown(&self, alloc: Global) -> Result<String, AllocError> {
         let (good, good_bytes) = (self.good, self.good_bytes);
         let (bad, bad_bytes) = (self.damaged.len(), self.damaged_bytes);
         let (keys, others) = (self.dangling.len(), self.strange.len());
-        format!(in alloc;
+        let mut line = format!(in alloc;
             "good {good} of {good_bytes} bytes damaged {bad} of {bad_bytes} bytes dangling {keys} strange {others}"
-        )
+        )?;
+        push_odd(alloc, &mut line, self.odd.as_slice())?;
+        Ok(line)
     }
 }
 

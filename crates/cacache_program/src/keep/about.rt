@@ -14,12 +14,14 @@ pub const HELP: &str =
   verify CACHE   counts good and damaged contents, entries without one, and other files;
                  the status is 3 if there are any but good contents
   verify --list CACHE
-                 the same, and after it a line for each but the good contents, which names it;
+                 the same, and after it a line for each but the good contents, which names it,
+                 and for each bucket with lines that only other readers can read;
                  in a path, \\\\ stands for \\, and \\x and two hex digits for a control character
   collect CACHE  removes the contents that no entry has, and counts the kept and the dropped
   collect --anyway CACHE
                  the same, even if the index has lines that only other readers can read
-  plan CACHE     counts what collect would keep and drop, and changes nothing
+  plan CACHE     counts what collect would keep and drop, and changes nothing; it names
+                 each bucket with lines that only other readers can read
   sweep CACHE    removes temporary files, and counts them, their bytes, and other files there
   repair CACHE   removes damaged contents, and the keys that lead to none, and counts both
   repair --anyway CACHE

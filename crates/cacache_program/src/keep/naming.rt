@@ -1,8 +1,8 @@
-//! The list of what a verification found.
+//! Lines that name what a verification found, and buckets with odd lines.
 ghost use Rattle.std.specs.Prelude.{◌≡◌, ◌⊎◌, IfOk, map, string_bytes};
 ghost use Rattle.std.specs.List.{flat_map};
 ghost use Rattle.cacache.specs.Entries.{found_view};
-ghost use Rattle.cacache_program.specs.WordList.{damaged_line as line_of_damaged, dangling_line as line_of_dangling, strange_line as line_of_strange};
+ghost use Rattle.cacache_program.specs.WordList.{damaged_line as line_of_damaged, dangling_line as line_of_dangling, odd_line as line_of_odd, strange_line as line_of_strange};
 ghost use Rattle.cacache_program.specs.KeepValues.{PutsList, list_of_verdict};
 
 use crate::entries::entry_text;
@@ -11,6 +11,7 @@ use crate::keep::escaping::push_escaped;
 use crate::keep::output::{status_of, verdict_text};
 use crate::output::put_out_with;
 use cacache::{Integrity, Metadata, Result};
+use cacache_core::text::Text;
 use cacache_keep::Verdict;
 use std::alloc::{AllocError, Global};
 use std::io::Write;
@@ -78,7 +79,28 @@ fn strange_lines(alloc: Global, strange: Vec<String>) -> std::result::Result<Vec
     Ok(text)
 }
 
-/// What is printed for a verification, and the list of what it found except good contents. Memory alone can fail.
+/// The line of a bucket with an odd line: its path, so that it is one line whatever that holds.
+fn odd_line(alloc: Global, path: &str) -> std::result::Result<Vec<u8>, AllocError>
+    ensures { IfOk result (λ line. line.items ≡ line_of_odd path.now) }
+{
+    let mut line = Vec::from_slice(alloc, b"odd ")?;
+    push_escaped(&mut line, path)?;
+    line.push(b'\n')?;
+    Ok(line)
+}
+
+/// A line for each of these buckets.
+pub(crate) fn odd_lines(alloc: Global, odd: Vec<Text>) -> std::result::Result<Vec<u8>, AllocError>
+    ensures { IfOk result (λ text. text.items ≡ flat_map line_of_odd odd.items) }
+{
+    let mut text = Vec::new(alloc);
+    for path in odd {
+        text.extend_from_slice(&odd_line(alloc, path.as_str())?)?;
+    }
+    Ok(text)
+}
+
+/// What is printed of a verification, and the list of what it found but good contents. Memory alone can fail.
 fn listed_text(alloc: Global, verdict: Verdict) -> Result<Vec<u8>>
     ensures { IfOk result (λ text. text.items ≡ list_of_verdict verdict) }
 {
@@ -90,10 +112,12 @@ fn listed_text(alloc: Global, verdict: Verdict) -> Result<Vec<u8>>
         damaged_bytes: _,
         dangling,
         strange,
+        odd,
     } = verdict;
     text.extend_from_slice(&damaged_lines(alloc, damaged)?)?;
     text.extend_from_slice(&dangling_lines(alloc, dangling)?)?;
     text.extend_from_slice(&strange_lines(alloc, strange)?)?;
+    text.extend_from_slice(&odd_lines(alloc, odd)?)?;
     Ok(text)
 }
 

@@ -1,9 +1,10 @@
 //! What goes to the output.
 ghost use Rattle.std.specs.Prelude.{◌≡◌, ◌⊎◌, IfOk, string_bytes};
 ghost use Rattle.cacache_program.specs.Output.{PutsOut};
-ghost use Rattle.cacache_program.specs.KeepValues.{PutsVerdict, status_of_verdict, text_of_collected, text_of_compacted, text_of_planned, text_of_repaired, text_of_swept, text_of_verdict};
+ghost use Rattle.cacache_program.specs.KeepValues.{PutsVerdict, counts_of_planned, status_of_verdict, text_of_collected, text_of_compacted, text_of_planned, text_of_repaired, text_of_swept, text_of_verdict};
 
 use crate::errors::{Errors, tell_failed_call};
+use crate::keep::naming::odd_lines;
 use crate::output::{put_out, put_out_with};
 use cacache::errors::Error;
 use cacache_keep::{Collected, Compacted, Planned, Repaired, Swept, Verdict};
@@ -74,27 +75,41 @@ pub(crate) fn print_collected<W: Write, E: Write>(
     }
 }
 
-/// What is printed for a plan.
-fn planned_text(alloc: Global, planned: &Planned) -> Result<String, AllocError>
-    ensures { IfOk result (λ text. string_bytes text ≡ text_of_planned planned.now) }
+/// The counts of a plan.
+fn planned_counts(alloc: Global, planned: &Planned) -> Result<String, AllocError>
+    ensures { IfOk result (λ text. string_bytes text ≡ counts_of_planned planned.now) }
 {
     let (kept, unused) = (planned.kept, planned.unused.len());
     format!(in alloc; "kept {kept}\nunused {unused}\n")
 }
 
-/// Prints what a collection would do, and returns the status: 0, or 1 if the text can't be had or printed.
+/// What is printed of a plan: its counts, and a line for each bucket with an odd line.
+fn planned_text(alloc: Global, planned: Planned) -> Result<Vec<u8>, AllocError>
+    ensures { IfOk result (λ text. text.items ≡ text_of_planned planned) }
+{
+    let mut text = planned_counts(alloc, &planned)?.into_bytes();
+    let Planned {
+        kept: _,
+        unused: _unused,
+        odd,
+    } = planned;
+    text.extend_from_slice(&odd_lines(alloc, odd)?)?;
+    Ok(text)
+}
+
+/// Prints what a collection would do, and returns the status: 0, or 1 where the text can't be had or printed.
 pub(crate) fn print_planned<W: Write, E: Write>(
     alloc: Global,
-    planned: &Planned,
+    planned: Planned,
     output: &mut W,
     errors: &mut Errors<E>,
 ) -> u8
-    ensures tells { PutsOut (text_of_planned planned.now)
+    ensures tells { PutsOut (text_of_planned planned)
         (W.contents output.old) (W.contents output.new) result }
     ensures quiet { result ≡ 0 → errors.new ≡ errors.old }
 {
     match planned_text(alloc, planned) {
-        Ok(text) => put_out(output, text.as_bytes(), errors),
+        Ok(text) => put_out(output, &text, errors),
         Err(_) => tell_failed_call(errors, &Error::OutOfMemory, None),
     }
 }

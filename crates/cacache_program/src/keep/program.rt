@@ -40,7 +40,8 @@ fn verify_and_print<S: Reasons, C: Clock, N: Names, W: Write, E: Write>(
     }
 }
 
-/// Verifies the cache, and prints the same counts, and after them a line for each thing that isn't a good content.
+/// Verifies the cache, and prints the same counts, and after them a line for each of what isn't a good content and for
+/// each bucket with an odd line.
 fn verify_and_list<S: Reasons, C: Clock, N: Names, W: Write, E: Write>(
     env: &mut Env<S, C, N>,
     cache: &str,
@@ -76,7 +77,8 @@ fn collect_and_print<S: Reasons, C: Clock, N: Names, W: Write, E: Write>(
     }
 }
 
-/// Plans a collection of the cache, and prints how many contents it would keep, and how many no entry has.
+/// Plans a collection of the cache, and prints how many contents it would keep, how many no entry has, and a line for
+/// each bucket with an odd line.
 fn plan_and_print<S: Reasons, C: Clock, N: Names, W: Write, E: Write>(
     env: &mut Env<S, C, N>,
     cache: &str,
@@ -88,7 +90,7 @@ fn plan_and_print<S: Reasons, C: Clock, N: Names, W: Write, E: Write>(
     ensures quiet { result ≡ 0 → errors.new ≡ errors.old }
 {
     match plan(env, cache) {
-        Ok(planned) => print_planned(env.alloc, &planned, output, errors),
+        Ok(planned) => print_planned(env.alloc, planned, output, errors),
         Err(error) => tell_failed_call(errors, &error, env.store.reason()),
     }
 }

@@ -3,7 +3,7 @@ use Rattle.std.specs.Prelude.{IsUtf8}
 use Rattle.cacache_core.specs.declared.errors.Error.TheVariants.{OutOfMemory}
 use Rattle.cacache_entry.specs.{Latest.{Found}, View.{found_view}}
 use Rattle.cacache_jobs.specs.Sites.{site_of}
-use Rattle.cacache_keep.specs.{Calls.{MadeCalls}, Missing.{look_of}, Repairing.{BuriesEach, IsFateOf, StopsBurying, StopsFate, calls_for}}
+use Rattle.cacache_keep.specs.{Calls.{MadeCalls}, Repairing.{BuriesEach, IsFateOf, StopsBurying, StopsFate, calls_for}}
 use Rattle.cacache_keep.proofs.{Stopped.{at_base, error_as}, Tombs.{buried_so, lost_between, next_stops_burying, none_buried, one_buried, one_spared, spared_so}}
 use Rattle.cacache_keep.proofs.burying.bury_each.Goals as goal
 
@@ -16,7 +16,7 @@ loop-entry-preserved-in_ok-push g c =
     let cache = c.args.cache.now in
     let base = c.args.env.now.base in
     let site = site_of cache base 0 in
-    let look = look_of c.args.shown.now in
+    let look = c.args.shown.now in
     let old = g.S.Store.log c.args.env.now.store in
     let mid = g.S.Store.log c.loop-entry.env.store in
     let new = g.S.Store.log c.bury.new.env.store in
@@ -40,7 +40,7 @@ loop-entry-preserved g c =
     let cache = c.args.cache.now in
     let base = c.args.env.now.base in
     let site = site_of cache base 0 in
-    let look = look_of c.args.shown.now in
+    let look = c.args.shown.now in
     let old = g.S.Store.log c.args.env.now.store in
     let mid = g.S.Store.log c.loop-entry.env.store in
     let new = g.S.Store.log c.bury.new.env.store in
@@ -63,7 +63,7 @@ loop-entry-preserved-else-not-branch g c =
     let cache = c.args.cache.now in
     let base = c.args.env.now.base in
     let site = site_of cache base 0 in
-    let look = look_of c.args.shown.now in
+    let look = c.args.shown.now in
     let old = g.S.Store.log c.args.env.now.store in
     let mid = g.S.Store.log c.loop-entry.env.store in
     let new = g.S.Store.log c.bury.new.env.store in
@@ -86,7 +86,7 @@ returns-in_err-bury-clause-stops g c =
     let cache = c.args.cache.now in
     let base = c.args.env.now.base in
     let site = site_of cache base 0 in
-    let look = look_of c.args.shown.now in
+    let look = c.args.shown.now in
     let old = g.S.Store.log c.args.env.now.store in
     let mid = g.S.Store.log c.loop-entry.env.store in
     let new = g.S.Store.log c.bury.new.env.store in
@@ -108,7 +108,7 @@ returns-in_err-push-clause-stops g c =
     let cache = c.args.cache.now in
     let base = c.args.env.now.base in
     let site = site_of cache base 0 in
-    let look = look_of c.args.shown.now in
+    let look = c.args.shown.now in
     let old = g.S.Store.log c.args.env.now.store in
     let mid = g.S.Store.log c.loop-entry.env.store in
     let new = g.S.Store.log c.bury.new.env.store in

@@ -3,14 +3,14 @@ use Rattle.cacache_entry.specs.View.{found_view}
 use Rattle.cacache_table.specs.declared.command.Command.TheVariants as commands
 use Rattle.cacache_table.specs.declared.reply.Reply.TheVariants as replies
 use Rattle.cacache_jobs.specs.Sites.{site_of}
-use Rattle.cacache_keep.specs.{Missing.{look_of}, Repairing.{AsksFor, StopsAsking, StopsLooking}}
+use Rattle.cacache_keep.specs.Repairing.{AsksFor, StopsAsking, StopsLooking}
 use Rattle.cacache_keep.proofs.{Asked.{ran_at, value_so}, Stopped.{at_base, error_as, error_so}, Tombs.{led_by, look_stops, question_stops}}
 use Rattle.cacache_keep.proofs.burying.leads_nowhere.Goals as goal
 
 pub returns-in_err-found-clause-stops : goal.returns-in_err-found-clause-stops
 returns-in_err-found-clause-stops g c =
     let site = site_of c.args.cache.now c.args.env.now.base 0 in
-    let look = look_of c.args.shown.now in
+    let look = c.args.shown.now in
     let old = g.S.Store.log c.args.env.now.store in
     let new = g.S.Store.log c.find.new.env.store in
     let e = c.in_err-found.field-0.0 in
@@ -21,7 +21,7 @@ returns-in-Some-clause-looks g c =
     let cache = c.args.cache.now in
     let base = c.args.env.now.base in
     let site = site_of cache base 0 in
-    let look = look_of c.args.shown.now in
+    let look = c.args.shown.now in
     let old = g.S.Store.log c.args.env.now.store in
     let mid = g.S.Store.log c.find.new.env.store in
     let new = g.S.Store.log c.is_lost.new.env.store in
@@ -35,7 +35,7 @@ returns-in-Some-clause-stops g c =
     let cache = c.args.cache.now in
     let base = c.args.env.now.base in
     let site = site_of cache base 0 in
-    let look = look_of c.args.shown.now in
+    let look = c.args.shown.now in
     let old = g.S.Store.log c.args.env.now.store in
     let mid = g.S.Store.log c.find.new.env.store in
     let new = g.S.Store.log c.is_lost.new.env.store in

@@ -1,7 +1,7 @@
-use Rattle.std.proofs.Common.{inl, inr, map, string_bytes}
+use Rattle.std.proofs.Common.{◌≡◌, ◌+◌, ◌-◌, inl, inr, length, map, rules, string_bytes}
 use Rattle.cacache_core.specs.declared.errors.Error.TheVariants.{OutOfMemory}
 use Rattle.cacache_jobs.specs.Sites.{site_of}
-use Rattle.cacache_keep.{specs.{Calls.{ListsEntries, StopsReading}, Keeping.{StopsEarly}}, proofs.Stopped.{at_base, entries_stop, error_as, lost_here}}
+use Rattle.cacache_keep.{specs.{Calls.{AreUnused}, Keeping.{Chooses, StopsEarly}}, proofs.Stopped.{entries_stop, error_as, lost_here}}
 use Rattle.cacache_keep.proofs.choosing.choose.Goals as goal
 
 pub returns-in_err-addresses-clause-stops : goal.returns-in_err-addresses-clause-stops
@@ -10,25 +10,44 @@ returns-in_err-addresses-clause-stops g c =
 
 pub returns-in_err-entries-clause-stops : goal.returns-in_err-entries-clause-stops
 returns-in_err-entries-clause-stops g c =
-    let cache = c.args.cache.now in
     let base = c.args.env.now.base in
-    let site = site_of cache base 0 in
+    let site = site_of c.args.cache.now base 0 in
     let log = g.S.Store.log in
-    let found = log c.list.new.env.store in
-    let new = log c.entries.new.env.store in
     let e = c.in_err-entries.field-0.0 in
-    let stop = at_base (λ s. StopsReading s e found new) cache base c.list.new.env.base c.list.ensures.base c.in_err-entries.ensures.stops in
-    error_as (λ x. StopsEarly site x (log c.args.env.now.store) new) c.from_residual-in_err-entries.result e c.from_residual-in_err-entries.ensures.1
-    (inr (c.in_ok-addresses.field-0.addresses.items, map string_bytes c.in_ok-addresses.field-0.strange.items, found, c.in_ok-addresses.ensures.lists, stop))
+    error_as (λ x. StopsEarly site x (log c.args.env.now.store) (log c.read_index.new.store)) c.from_residual-in_err-entries.result e c.from_residual-in_err-entries.ensures.1
+    (inr (c.in_ok-addresses.field-0.addresses.items, map string_bytes c.in_ok-addresses.field-0.strange.items, log c.list.new.env.store, c.in_ok-addresses.ensures.lists, c.in_err-entries.ensures.stops base))
 
 pub returns-in_err-dropped-clause-stops : goal.returns-in_err-dropped-clause-stops
 returns-in_err-dropped-clause-stops g c =
-    let cache = c.args.cache.now in
     let base = c.args.env.now.base in
-    let site = site_of cache base 0 in
+    let site = site_of c.args.cache.now base 0 in
     let log = g.S.Store.log in
     let found = log c.list.new.env.store in
-    let new = log c.entries.new.env.store in
-    let lists = at_base (λ s. ListsEntries s c.in_ok-entries.entries.items found new) cache base c.list.new.env.base c.list.ensures.base c.in_ok-entries.ensures.lists in
+    let new = log c.read_index.new.store in
+    let reads = c.in_ok-entries.ensures.reads base in
     error_as (λ x. StopsEarly site x (log c.args.env.now.store) new) c.from_residual-in_err-dropped.result OutOfMemory c.from_residual-in_err-dropped.ensures.1
-    (inr (c.in_ok-addresses.field-0.addresses.items, map string_bytes c.in_ok-addresses.field-0.strange.items, found, c.in_ok-addresses.ensures.lists, entries_stop site _ OutOfMemory found new new lists (lost_here site new)))
+    (inr (c.in_ok-addresses.field-0.addresses.items, map string_bytes c.in_ok-addresses.field-0.strange.items, found, c.in_ok-addresses.ensures.lists, entries_stop site _ OutOfMemory found new new reads.0 (lost_here site new)))
+
+pub returns-clause-chooses : goal.returns-clause-chooses
+returns-clause-chooses g c =
+    let base = c.args.env.now.base in
+    let log = g.S.Store.log in
+    let addresses = c.in_ok-addresses.field-0.addresses.items in
+    let entries = c.in_ok-entries.field-0.entries.items in
+    let dropped = c.in_ok-dropped.dropped.items in
+    let kept = c.len-count.result - c.len.result in
+    let reads = c.in_ok-entries.ensures.reads base in
+    let unused : AreUnused entries addresses dropped = search (rules, c.in_ok-dropped.ensures) in
+    let counts : kept + length dropped ≡ length addresses = search (rules, unused.fewer) in
+    let it : Chooses (site_of c.args.cache.now base 0) kept dropped (log c.args.env.now.store) (log c.read_index.new.store) = record {
+      addresses = addresses;
+      order = c.in_ok-addresses.ensures.by_hash;
+      strange = map string_bytes c.in_ok-addresses.field-0.strange.items;
+      found = log c.list.new.env.store;
+      contents = c.in_ok-addresses.ensures.lists;
+      entries = entries;
+      listing = reads.0;
+      unused = unused;
+      counts = counts;
+    } in
+    (it, reads.1)

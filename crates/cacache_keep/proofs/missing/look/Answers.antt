@@ -18,6 +18,6 @@ returns-clause-shows g c =
     let single = single_hashes c.in_ok-contents.contents.items addresses c.in_ok-addresses.ensures.by_hash (c.in_ok-contents.ensures ∙ ap (map address) c.as_slice.ensures.value) in
     subst (λ (l : List (List Hash)). ListsContents c.args.cache.now l strange (g.S.Store.log c.args.env.now.store) (g.S.Store.log c.list.new.env.store)) single c.in_ok-addresses.ensures.lists
 
-pub returns-clause-order : goal.returns-clause-order
-returns-clause-order g c =
+pub invariant_of-result : goal.invariant_of-result
+invariant_of-result g c =
     sorted_hashes c.in_ok-contents.contents.items c.in_ok-addresses.field-0.addresses.items c.in_ok-addresses.ensures.by_hash (c.in_ok-contents.ensures ∙ ap (map address) c.as_slice.ensures.value)

@@ -1,0 +1,84 @@
+//! A walk through the index, which reads each bucket once and notes those with odd lines.
+ghost use Rattle.std.specs.Prelude.{◌≡◌, ◌++◌, IfOk, IfErr, OnOk, map};
+ghost use Rattle.std.specs.Option.{option_to_list};
+ghost use Rattle.cacache_core.specs.declared.errors.Error.TheVariants.{OutOfMemory};
+ghost use Rattle.cacache_store.specs.Plain.{plain_answer};
+ghost use Rattle.cacache_table.specs.Runs.{plain_item};
+ghost use Rattle.cacache_table.specs.Walking.{visit_step};
+ghost use Rattle.cacache_keep.specs.Checking.{odd_read};
+ghost use Rattle.cacache_keep.specs.Walking.{LosesIndex, MeetsIndex, VisitGoes, VisitStops};
+
+use crate::lines::has_odd;
+use cacache_core::errors::{Error, Result};
+use cacache_core::paths::{INDEX_AREA, join};
+use cacache_core::text::Text;
+use cacache_store::store::{Answer, FileHandle, Store, TempHandle};
+use cacache_table::{Found, Visit};
+use cacache_walks::Walk;
+use std::alloc::Global;
+use std::mem::swap;
+
+/// The items of a listing of the index, and the paths of the buckets with odd lines, in the order of their reading.
+#[derive(Drop)]
+pub(crate) struct Met {
+    pub(crate) items: Vec<std::result::Result<Found, Error>>,
+    pub(crate) odd: Vec<Text>,
+}
+
+/// Notes the bucket that a visit read, if it has an odd line.
+fn note<F: FileHandle, T: TempHandle>(
+    alloc: Global,
+    odd: &mut Vec<Text>,
+    visit: &Visit,
+    answer: &Answer<F, T>,
+) -> Result<()>
+    ensures notes { OnOk result (odd.new.items ≡ odd.old.items ++ option_to_list
+        (odd_read (visit_step visit.now) (plain_answer F.seen T.seen answer.now))) }
+    ensures memory { IfErr result (λ e. e ≡ OutOfMemory) }
+{
+    if let Visit::ReadBucket(path) = visit {
+        if let Answer::Bytes(bytes) = answer {
+            if has_odd(alloc, bytes.as_slice())? {
+                odd.push(path.clone()?)?;
+            }
+        }
+    }
+    Ok(())
+}
+
+/// Makes a visit of the walk, and goes on to the next one.
+fn make<S: Store>(
+    alloc: Global,
+    store: &mut S,
+    walk: &mut Walk,
+    odd: &mut Vec<Text>,
+    visit: Visit,
+) -> Result<Option<Visit>>
+    ensures goes { IfOk result (λ next. VisitGoes visit walk.old odd.old.items
+        next walk.new odd.new.items (S.log store.old) (S.log store.new)) }
+    ensures stops { IfErr result (λ e. VisitStops visit walk.old odd.old.items e
+        (S.log store.old) (S.log store.new)) }
+{
+    let step = visit.step()?;
+    let answer = store.step(step);
+    note(alloc, odd, &visit, &answer)?;
+    walk.resume(alloc, visit, answer)
+}
+
+/// Lists the index of a cache.
+pub(crate) fn walk_index<S: Store>(alloc: Global, store: &mut S, cache: &str) -> Result<Met>
+    ensures meets { IfOk result (λ met. MeetsIndex cache.now (map plain_item met.items.items)
+        met.odd.items (S.log store.old) (S.log store.new)) }
+    ensures stops { IfErr result
+        (λ e. LosesIndex cache.now e (S.log store.old) (S.log store.new)) }
+{
+    let (mut walk, visit) = Walk::new(alloc, false, join(alloc, cache, INDEX_AREA)?)?;
+    let mut odd = Vec::new(alloc);
+    let mut next = Some(visit);
+    'visits: while let Some(visit) = next {
+        next = make(alloc, store, &mut walk, &mut odd, visit)?;
+    }
+    let mut items = Vec::new(alloc);
+    swap(&mut items, &mut walk.items);
+    Ok(Met { items, odd })
+}
