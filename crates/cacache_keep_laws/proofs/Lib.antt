@@ -42,3 +42,5 @@ mod LeanReads
 mod Follows
 pub mod Unseen
 pub mod LeanCalls
+mod SparedCalls
+mod SparedKeys

@@ -7,7 +7,7 @@ use Rattle.cacache_disk.specs.{declared.{luck.Luck.TheVariants.{Plain}, node.Nod
 use Rattle.cacache_disk.proofs.KeptFolders.{steps_keep_rooted}
 use Rattle.cacache_memory.specs.Replay.{tree_of}
 use Rattle.cacache_entry.{specs.FittingEntries.{IsEntry}, proofs.EntryCauses.{Fits-no_cause}}
-use Rattle.cacache_table.specs.{declared.{command.{Command.{Command}, Put.{Put}}, reply.Reply.{Reply}}, Causes.{HasCause, own_of as faults_of}, Effects.{Commits, Effect, Indexes, Inserts, IsRefused, TookAll, effects_of, sent, stored}, Inserting.{bucket_line, refused_cause}, Runs.{Moves, Runs, plain_reply}, Sound.{Sound}, State.{Insertion, Site, State}, StepPaths.{bucket_path, content_path}, Storing.{insertion_of, put_commit}, Table.{after, opening}}
+use Rattle.cacache_table.specs.{declared.{command.{Command.{Command}, Put.{Put}}, reply.Reply.{Reply}}, Causes.{HasCause, own_of as faults_of}, Effects.{Commits, Effect, Indexes, Inserts, IsRefused, TookAll, effects_of, sent, stored}, Inserting.{bucket_line, refused_cause}, Runs.{Moves, Runs, plain_reply}, Sound.{FormedIfWritten, Sound}, State.{Insertion, Site, State}, StepPaths.{bucket_path, content_path}, Storing.{insertion_of, put_commit}, Table.{after, opening}}
 use Rattle.cacache_table.proofs.{EarnedErrors.{io_errors_have_causes}, Effects.{puts_commit}, Promises.{calls_answer}, Sound.{begins_sound, stays_sound}}
 use Rattle.cacache_table.specs.declared.command.Command.TheVariants as commands
 use Rattle.cacache_table.specs.declared.reply.Reply.TheVariants as replies
@@ -20,7 +20,7 @@ use Rattle.cacache_sequence.proofs.{Putting.{Beside.{put_keeps}, Persisting.{put
 
 -- ---- turns of a cache whose text names no folder: whatever stands on the disk, it holds no entry
 
-abbrev nowhere : Setup
+abbrev pub nowhere : Setup
 nowhere = setup_at (0 ∷ []) []
 
 no_home : home nowhere ≡ None
@@ -53,14 +53,14 @@ module _ (s : Setup) (apart : LieApart (home s) s.outside) (n : ℕ) (command : 
   own = own_of (call_site s n) command
 
   -- what its moves are, and that they leave things where they may stand
-  record Went (t : Tree) (moves : Moves) : Type 0 where
-    trace : IsTrace (home s) t (plain_moves moves)
-    hold : TurnsHold nowhere (turns_on t moves)
-    makes : EachTurn (λ turn. Makes (own_of (call_site s n) command) turn.move.step) (turns_on t moves)
-    placed : Placed (home s) t → Placed (home s) (tree_on t moves)
-    rooted : Rooted (tree_on t moves)
+  pub record Went (t : Tree) (moves : Moves) : Type 0 where
+    pub trace : IsTrace (home s) t (plain_moves moves)
+    pub hold : TurnsHold nowhere (turns_on t moves)
+    pub makes : EachTurn (λ turn. Makes (own_of (call_site s n) command) turn.move.step) (turns_on t moves)
+    pub placed : Placed (home s) t → Placed (home s) (tree_on t moves)
+    pub rooted : Rooted (tree_on t moves)
 
-  went : (t : Tree) (state : State) (moves : Moves) (r : Reply) → Rooted t → Sound (call_site s n) (may_export s) (is_outside s) state → Carries (own_of (call_site s n) command) state
+  pub went : (t : Tree) (state : State) (moves : Moves) (r : Reply) → Rooted t → Sound (call_site s n) (may_export s) (is_outside s) state → Carries (own_of (call_site s n) command) state
       → Runs state moves r → AreAnswered t moves → Went t moves
   went t state [] r rooted sound carries run answered = record { trace = tt; hold = tt; makes = tt; placed = λ h. h; rooted = rooted }
   went t state (m ∷ moves) r rooted sound carries run answered =
@@ -76,7 +76,7 @@ module _ (s : Setup) (apart : LieApart (home s) s.outside) (n : ℕ) (command : 
         rooted = more.rooted;
       }
 
--- ---- what a put did
+-- ---- what an insertion and a put did
 
 refused : (r : Reply) → IsRefused r → IsNotOk (Some r)
 refused (replies.Refused e) h = tt
@@ -88,8 +88,17 @@ sent_adds i r a new (inl e) (inl h) = inl (h.0, refused r e)
 sent_adds i r a new (inr took) (inl h) = absurd (h.1 (took_entry i.durable i.entry a took))
 sent_adds i r a new end (inr h) = inr (does (AddEntries h.0 (i.entry ∷ [])), (h.0, h.1, refl), h.2)
 
+pub insertion_adds : (i : Insertion) (own : Own) (r : Reply) (es : List Effect) (ds : List Deed) → FormedIfWritten i → Realizes own es ds → Inserts i es r → InsertionAdds i ds (Some r)
+unfolding bucket_line refused_cause
+insertion_adds i own r es ds fits real (inl h) = inl (subst (λ x. Realizes own x ds) h.0 real, refused r h.1)
+insertion_adds i own r es ds fits real (inr h) =
+    let formed = fits h.0 in
+    let k : Realizes own (sent (bucket_path i.cache i.entry.key) (bucket_line i) h.1.0 ∷ []) ds = subst (λ x. Realizes own x ds) h.1.1 real in
+    let all : ds ≡ k.0 = k.2 ∙ ap (λ more. k.0 ++ more) k.4 ∙ append-nil k.0 in
+    subst (λ x. InsertionAdds i x (Some r)) (sym all) (sent_adds i r h.1.0 k.0 h.1.2 (k.3 i.entry i.durable formed (Fits-no_cause i.entry formed h.0) refl))
+
 module _ (cache : List ℕ) (p : Put) (r : Reply) (fits : FitsEntry cache p) where
-  abbrev put_own : Own
+  abbrev pub put_own : Own
   put_own = own_bytes p.data (content_path cache (own_integrity p))
 
   put_deed : (d : Deed) → PutsAt put_own (content_path cache (own_integrity p)) d → PutsContent (put_commit cache p) (λ names. PutBytes names p.data) d
@@ -98,20 +107,13 @@ module _ (cache : List ℕ) (p : Put) (r : Reply) (fits : FitsEntry cache p) whe
 
   put_adds : (key : List ℕ) (es : List Effect) (ds : List Deed) → p.key ≡ Some key → Realizes put_own es ds → Inserts (insertion_of (put_commit cache p) key) es r
       → InsertionAdds (insertion_of (put_commit cache p) key) ds (Some r)
-  unfolding bucket_line refused_cause
-  put_adds key es ds keyed real (inl h) = inl (subst (λ x. Realizes put_own x ds) h.0 real, refused r h.1)
-  put_adds key es ds keyed real (inr h) =
-      let i = insertion_of (put_commit cache p) key in
-      let formed = fits key keyed h.0 in
-      let k : Realizes put_own (sent (bucket_path i.cache i.entry.key) (bucket_line i) h.1.0 ∷ []) ds = subst (λ x. Realizes put_own x ds) h.1.1 real in
-      let all : ds ≡ k.0 = k.2 ∙ ap (λ more. k.0 ++ more) k.4 ∙ append-nil k.0 in
-      subst (λ x. InsertionAdds i x (Some r)) (sym all) (sent_adds i r h.1.0 k.0 h.1.2 (k.3 i.entry i.durable formed (Fits-no_cause i.entry formed h.0) refl))
+  put_adds key es ds keyed real h = insertion_adds (insertion_of (put_commit cache p) key) put_own r es ds (fits key keyed) real h
 
   put_after : (key : Option (List ℕ)) (es : List Effect) (ds : List Deed) → p.key ≡ key → Realizes put_own es ds → Indexes (put_commit cache p) key es r → AddsAfter (put_commit cache p) key ds (Some r)
   put_after None es ds keyed real h = subst (λ x. Realizes put_own x ds) h real
   put_after (Some key) es ds keyed real h = put_adds key es ds keyed real h
 
-  put_commits : (es : List Effect) (ds : List Deed) → Realizes put_own es ds → Commits (put_commit cache p) es r → CommitsAs (put_commit cache p) (λ names. PutBytes names p.data) ds (Some r)
+  pub put_commits : (es : List Effect) (ds : List Deed) → Realizes put_own es ds → Commits (put_commit cache p) es r → CommitsAs (put_commit cache p) (λ names. PutBytes names p.data) ds (Some r)
   put_commits es ds real (inl h) = inl (subst (λ x. Realizes put_own x ds) h.0 real, refused r h.1)
   put_commits es ds real (inr h) =
       let k : Realizes put_own (stored (content_path cache (own_integrity p)) ∷ h.0) ds = subst (λ x. Realizes put_own x ds) h.1 real in
