@@ -43,4 +43,5 @@ mod Follows
 pub mod Unseen
 pub mod LeanCalls
 mod SparedCalls
+mod SparedCommits
 mod SparedKeys

@@ -137,7 +137,7 @@ module _ (cache key : List ℕ) (i : List Hash) where
     leads = λ held has. inl (keeps.key key held i (λ e. differ (sym e)) has);
   }
 
-  beside_left : (o : Option (List ℕ)) (own : List Hash) (added : List ℕ) (old new : List LogItem) → IsOther o key → IsStanding cache new → KeepsBeside cache o own added old new → Left (Some added) old new
+  pub beside_left : (o : Option (List ℕ)) (own : List Hash) (added : List ℕ) (old new : List LogItem) → IsOther o key → IsStanding cache new → KeepsBeside cache o own added old new → Left (Some added) old new
   beside_left o own added old new other standing keeps = record {
     standing = standing;
     finds = keeps.finds key other;
@@ -158,7 +158,7 @@ module _ (cache key : List ℕ) (i : List Hash) where
   }
 
   -- a key that isn't the written one
-  other_of : (o : Option (List ℕ)) → (o ≡ Some key → ⊥) → IsOther o key
+  pub other_of : (o : Option (List ℕ)) → (o ≡ Some key → ⊥) → IsOther o key
   other_of None differ = tt
   other_of (Some other) differ = λ e. differ (ap Some (sym e))
 

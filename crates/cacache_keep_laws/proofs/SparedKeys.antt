@@ -15,8 +15,8 @@ use Rattle.cacache_value.{specs.{Placed.{Placed}, Value.{value_of_tree}}, proofs
 use Rattle.cacache_history.specs.{Commits.{deeds}, Setup.{call_site}}
 use Rattle.cacache_sequence.specs.{Caches.{Called, HasKey, setup_at}, GivenUp.{GivesUpTemp, drop_temp}, Keeping.{found_under}, OpenWriters.{OpensWriter, make_file, make_folder}, Sequence.{Alike, after_deeds, turns_on}, Standing.{IsStanding}}
 use Rattle.cacache_sequence.proofs.{Calls.{InParts.{logs_lead}, Logs.{some_same}}, Putting.{KeptKeys.{stays_known}, OpenWriters.{folder_first, gains_join, gains_none, put_nothing, temp_made}}, Readings.{Looked.{same_stays_known}, Standing.{standing_reads}}, Spares.GivenUp.{still_alike, temp_for}}
-use Rattle.cacache_keep_laws.specs.Later.{AllSpare, Later, ReadsOf, Spares, SparedKeysStay, StaysRead, calls, gives_up, looks, opens, written}
-use Rattle.cacache_keep_laws.proofs.{Members.{contains_member, member_contains}, SparedCalls.{Left, call_left, idle, known_left, stands}}
+use Rattle.cacache_keep_laws.specs.Later.{AllSpare, Later, ReadsOf, Spares, SparedKeysStay, StaysRead, calls, commits, gives_up, looks, opens, written}
+use Rattle.cacache_keep_laws.proofs.{Members.{contains_member, member_contains}, SparedCalls.{Left, call_left, idle, known_left, stands}, SparedCommits.{commit_left}}
 
 -- ---- the tree as it was
 
@@ -126,6 +126,7 @@ module _ (cache key : List ℕ) (i : List Hash) where
   one_left (calls command) bytes old new logged standing has call =
       call_left cache key i has.content.formed call.reply old new standing command call.called call.may call.key_spared call.content_spared
   one_left (opens number) bytes old new logged standing has (r, opened) = opening_left cache key i number r old new logged standing opened
+  one_left (commits number p) bytes old new logged standing has (differ, fits, opened, r, made) = commit_left cache p number fits opened r old new standing made key i differ
   one_left (gives_up number) bytes old new logged standing has gives = given_up cache key i number old new logged standing gives
 
   reads_of : (bytes : List ℕ) (log : List LogItem) → IsStanding cache log → HasKey cache key i bytes log → ReadsOf cache key i bytes log

@@ -5,9 +5,9 @@ use Rattle.cacache_store.specs.declared.store.{log.LogItem.{LogItem}, plain.Plai
 use Rattle.cacache_memory.specs.Replay.{IsLog, tree_of}
 use Rattle.cacache_entry.specs.Latest.{Found}
 use Rattle.cacache_table.specs.declared.command.Command.TheVariants as commands
-use Rattle.cacache_table.specs.{declared.{command.Command.{Command}, reply.Reply.{Reply}}, Sound.{MayBegin}}
+use Rattle.cacache_table.specs.{declared.{command.{Command.{Command}, Put.{Put}}, reply.Reply.{Reply}}, Sound.{MayBegin}}
 use Rattle.cacache_history.specs.{Lookups.{SparesKey}, Setup.{call_site, is_outside, may_export}}
-use Rattle.cacache_sequence.specs.{Beside.{ShareAddress}, Caches.{Called, GivesBytes, HasKey, setup_at}, GivenUp.{GivesUpTemp}, Keeping.{found_under}, OpenWriters.{OpensWriter}, Standing.{IsStanding}}
+use Rattle.cacache_sequence.specs.{Beside.{FitsEntry, ShareAddress}, Caches.{Called, GivesBytes, HasKey, setup_at}, GivenUp.{GivesUpTemp}, Keeping.{found_under}, OpenWriters.{CommitsBytes, IsOpened, OpensWriter}, Standing.{IsStanding}}
 
 -- ---- what spares a key
 
@@ -41,12 +41,15 @@ pub data Later : Type 0 where
   calls : Command → Later
   -- a writer is opened, with a temporary file of this number
   opens : ℕ → Later
+  -- it is committed with these bytes and options
+  commits : ℕ → Put → Later
   -- it is given up
   gives_up : ℕ → Later
 
 -- the text that it writes, if any
 abbrev pub written : Later → Option (List ℕ)
 written (calls (commands.Put p)) = Some p.data
+written (commits number p) = Some p.data
 written other = None
 
 module _ (cache key : List ℕ) (i : List Hash) where
@@ -56,6 +59,9 @@ module _ (cache key : List ℕ) (i : List Hash) where
   Spares (calls command) old new = SparingCall cache key i command old new
   Spares (opens number) old new =
       (r : Result PlainTemp Error) × OpensWriter cache number r (Some old) (Some new)
+  Spares (commits number p) old new =
+      (p.key ≡ Some key → ⊥) × FitsEntry cache p × IsOpened cache number
+      × (r : Reply) × CommitsBytes cache p number r old new
   Spares (gives_up number) old new = GivesUpTemp cache number (Some old) (Some new)
 
   -- so it did with each of these, one after another

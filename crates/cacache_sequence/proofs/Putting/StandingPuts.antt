@@ -13,7 +13,7 @@ use Rattle.cacache_table.specs.declared.command.Command.TheVariants as commands
 use Rattle.cacache_table.specs.declared.reply.Reply.TheVariants as replies
 use Rattle.cacache_value.specs.{Acts.{AddEntries, PutBytes}, Kinds.{Elsewhere, path_kind}, OpeningTrees.{LieApart}, Placed.{MayStand, Placed}, Traces.{IsTrace}, Value.{value_of_tree}}
 use Rattle.cacache_value.proofs.Traces.{steps_keep_placed, traces_act}
-use Rattle.cacache_history.specs.{Commits.{AddsAfter, CommitsAs, Deed, InsertionAdds, IsNotOk, PutsContent, deeds, does, finds}, History.{turn_of}, Setup.{Setup, call_site, home, is_outside, may_export}, Turns.{EachTurn, made_in}}
+use Rattle.cacache_history.specs.{Commits.{AddsAfter, CommitsAs, Deed, InsertionAdds, IsNotOk, PutsContent, deeds, does, finds}, History.{Turn, turn_of}, Setup.{Setup, call_site, home, is_outside, may_export}, Turns.{EachTurn, made_in}}
 use Rattle.cacache_history.proofs.{Contents.{Carrying.{Carries, Makes, Own, carries_makes, carries_on, opening_carries, own_bytes, own_of}, Deeds.{PutsAt, Realizes, SendsEntry, took_entry, turns_realize}}, Entries.Formed.{TreeFormed}, Histories.Holding.{TurnHolds, TurnsHold}, Proper.{sound_proper}}
 use Rattle.cacache_sequence.specs.{Beside.{FitsEntry, own_integrity}, CallErrors.{IsPlainPut}, Caches.{Called, IsExcused, setup_at}, Puts.{ExpectsIntegrity, HasPut}, Sequence.{Alike, AreAnswered, after_deeds, plain_moves, tree_on, turns_on}, Standing.{IsStanding, PutStands, StandingWrites}}
 use Rattle.cacache_sequence.proofs.{Putting.{Beside.{put_keeps}, Persisting.{puts_find_nothing}, Puts.{has_or_found, leads, may_lead}}, Calls.{CallErrors.{calls_fail_only}, InParts.{logs_lead}, Logs.{some_same}, Sequence.{moves_after, moves_follow, turns_made}}, Readings.Known.{excused_by}}
@@ -37,14 +37,22 @@ any_node (Some Folder) = tt
 any_node (Some (File bytes)) = tt
 any_node (Some (Link target)) = any_target (names_of target)
 
-any_turn : (t : Tree) (step : PlainStep) (a : PlainAnswer) → Rooted t → a ≡ (apply t step Plain).0 → Fits step a → TurnHolds nowhere (turn_of t Plain (step, a))
-any_turn t step a rooted answered fits = record {
-  placed = subst (λ (f : Option Names). Placed f t) (sym no_home) (λ names. any_node (look t names));
+held_there : (turn : Turn) → Rooted turn.place → turn.move.answer ≡ (apply turn.place turn.move.step turn.move.luck).0 → Fits turn.move.step turn.move.answer → TurnHolds nowhere turn
+held_there turn rooted answered fits = record {
+  placed = subst (λ (f : Option Names). Placed f turn.place) (sym no_home) (λ names. any_node (look turn.place names));
   rooted = rooted;
-  formed = subst (λ (f : Option Names). TreeFormed f t) (sym no_home) (λ digest. All-nil IsEntry);
+  formed = subst (λ (f : Option Names). TreeFormed f turn.place) (sym no_home) (λ digest. All-nil IsEntry);
   answered = answered;
   fits = fits;
 }
+
+-- turns of any cache are such
+pub turns_there : (s : Setup) (turns : List Turn) → TurnsHold s turns → TurnsHold nowhere turns
+turns_there s [] h = tt
+turns_there s (turn ∷ turns) h = (held_there turn h.0.rooted h.0.answered h.0.fits, turns_there s turns h.1)
+
+any_turn : (t : Tree) (step : PlainStep) (a : PlainAnswer) → Rooted t → a ≡ (apply t step Plain).0 → Fits step a → TurnHolds nowhere (turn_of t Plain (step, a))
+any_turn t step a rooted answered fits = held_there (turn_of t Plain (step, a)) rooted answered fits
 
 -- ---- a run
 
