@@ -44,4 +44,4 @@ pub mod Unseen
 pub mod LeanCalls
 mod SparedCalls
 mod SparedCommits
-mod SparedKeys
+pub mod SparedKeys

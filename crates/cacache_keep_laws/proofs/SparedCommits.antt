@@ -1,5 +1,5 @@
 -- What a writer's commit leaves of a key that it spares, on a store that stands.
-use Rattle.std.proofs.Common.{◌≡◌, ℕ, List, [], ◌∷◌, ◌++◌, Option, Some, refl, sym, ap, subst, ◌∙◌, append-nil}
+use Rattle.std.proofs.Common.{◌≡◌, ℕ, List, [], ◌∷◌, ◌++◌, Some, refl, sym, ap, subst, ◌∙◌, append-nil}
 use Rattle.cacache_core.specs.{declared.integrity.digest.Hash.{Hash}, PathNames.{home_of}}
 use Rattle.cacache_store.specs.declared.store.answer.Answer.TheVariants as answers
 use Rattle.cacache_store.specs.declared.store.log.LogItem.{LogItem}
@@ -9,7 +9,7 @@ use Rattle.cacache_table.specs.declared.command.Command.TheVariants as commands
 use Rattle.cacache_table.specs.{declared.{command.Put.{Put}, reply.Reply.{Reply}}, Effects.{effects_of}, Runs.{Moves, Runs}, State.{Site, State}, StepPaths.{temp_folder, temp_path}, Storing.{persist, put_commit}, Table.{opening}}
 use Rattle.cacache_table.proofs.Effects.{puts_commit}
 use Rattle.cacache_value.{specs.{Acts.{PutBytes}, Placed.{Placed}, Value.{value_of_tree}}, proofs.Traces.{traces_act}}
-use Rattle.cacache_history.specs.{Commits.{CommitsAs, Deed, deeds}, History.{Turn}, Setup.{Setup, call_site}, Turns.{EachTurn, made_in}}
+use Rattle.cacache_history.specs.{Commits.{CommitsAs, Deed, deeds}, History.{Turn}, Setup.{Setup, call_site}, Turns.{made_in}}
 use Rattle.cacache_history.proofs.{Contents.{Carrying.{Makes, own_of}, Deeds.{turns_realize}}, Histories.Holding.{CallHolds, TurnsHold}}
 use Rattle.cacache_sequence.specs.{Beside.{FitsEntry, own_integrity}, Caches.{setup_at}, InParts.{AreSilent, Begun, IsOnItsWay, turns_in, with_part}, OpenWriters.{CommitsBytes, IsOpened, make_file}, Sequence.{Alike, AreAnswered, after_deeds, plain_moves, tree_on, turns_on}, Standing.{IsStanding}}
 use Rattle.cacache_sequence.proofs.{Calls.{Handed.{writes_are_parts}, InParts.{each_through, logs_lead, made_more, runs_through, way_holds}, Sequence.{moves_after, moves_follow, turns_made}}, Putting.{Beside.{put_keeps}, Committing.{deeds_later, is_opened, opened, opened_by}, OpenWriters.{folder_first}, StandingPuts.{Went, nowhere, put_commits, turns_there, went}}}

@@ -1,5 +1,5 @@
 -- Where a key leads after later calls that spare it, on a store that stands.
-use Rattle.std.proofs.Common.{◌≡◌, inl, inr, ℕ, List, [], ◌∷◌, Option, None, Some, Result, Ok, Err, filter_map, refl, sym, ap, subst, ◌∙◌}
+use Rattle.std.proofs.Common.{◌≡◌, inl, inr, ℕ, List, [], ◌∷◌, Option, None, Some, Result, Ok, Err, arith, filter_map, refl, sym, ap, subst, ◌∙◌}
 use Rattle.std.specs.{Prelude.{Contains}, List.{cons_option}}
 use Rattle.cacache_core.specs.{declared.{errors.{Error.{Error, TheVariants.{EntryNotFound, SizeMismatch, IoError, SerdeError, IntegrityError, OutOfMemory}}, Fault.{Fault}}, integrity.digest.Hash.{Hash}}, PathNames.{home_of}}
 use Rattle.cacache_store.specs.declared.store.answer.Answer.TheVariants as answers
@@ -7,15 +7,15 @@ use Rattle.cacache_store.specs.declared.store.{log.LogItem.{LogItem}, plain.Plai
 use Rattle.cacache_store.specs.declared.store.step.Step.TheVariants as steps
 use Rattle.cacache_disk.{specs.{declared.luck.Luck.TheVariants.{Plain}, Apply.{apply}, Rooted.{Rooted}}, proofs.KeptFolders.{steps_keep_rooted}}
 use Rattle.cacache_memory.specs.Replay.{IsLog, tree_of}
-use Rattle.cacache_table.specs.{Common.{fails}, Runs.{Gains, Goes, Moves}, SingleSteps.{Does, FailsAt}, State.{State}, StepPaths.{temp_folder, temp_path}, Storing.{persist, put_commit}, Table.{opening}}
+use Rattle.cacache_table.specs.{Common.{fails}, Inserting.{refused_cause}, Runs.{Gains, Goes, Moves}, SingleSteps.{Does, FailsAt}, State.{State}, StepPaths.{temp_folder, temp_path}, Storing.{persist, put_commit}, Table.{opening}}
 use Rattle.cacache_table.proofs.Going.{goes_lost}
 use Rattle.cacache_table.specs.declared.command.Command.TheVariants as commands
 use Rattle.cacache_table.specs.declared.reply.Reply.TheVariants as replies
 use Rattle.cacache_value.{specs.{Placed.{Placed}, Value.{value_of_tree}}, proofs.Traces.{steps_keep_placed}}
 use Rattle.cacache_history.specs.{Commits.{deeds}, Setup.{call_site}}
 use Rattle.cacache_sequence.specs.{Caches.{Called, HasKey, setup_at}, GivenUp.{GivesUpTemp, drop_temp}, Keeping.{found_under}, OpenWriters.{OpensWriter, make_file, make_folder}, Sequence.{Alike, after_deeds, turns_on}, Standing.{IsStanding}}
-use Rattle.cacache_sequence.proofs.{Calls.{InParts.{logs_lead}, Logs.{some_same}}, Putting.{KeptKeys.{stays_known}, OpenWriters.{folder_first, gains_join, gains_none, put_nothing, temp_made}}, Readings.{Looked.{same_stays_known}, Standing.{standing_reads}}, Spares.GivenUp.{still_alike, temp_for}}
-use Rattle.cacache_keep_laws.specs.Later.{AllSpare, Later, ReadsOf, Spares, SparedKeysStay, StaysRead, calls, commits, gives_up, looks, opens, written}
+use Rattle.cacache_sequence.proofs.{Calls.{InParts.{logs_lead}, Logs.{some_same}}, Putting.{Forms.{bare_written}, KeptKeys.{stays_known}, OpenWriters.{folder_first, gains_join, gains_none, put_nothing, temp_made}}, Readings.{Looked.{same_stays_known}, Standing.{standing_reads}}, Spares.GivenUp.{still_alike, temp_for}}
+use Rattle.cacache_keep_laws.specs.Later.{AllSpare, Later, ReadsOf, Spares, SparedKeysStay, StaysRead, TombstonesFit, calls, commits, gives_up, looks, opens, written}
 use Rattle.cacache_keep_laws.proofs.{Members.{contains_member, member_contains}, SparedCalls.{Left, call_left, idle, known_left, stands}, SparedCommits.{commit_left}}
 
 -- ---- the tree as it was
@@ -174,3 +174,7 @@ module _ (cache key : List ℕ) (i : List Hash) where
 
 pub spared_keys_stay : SparedKeysStay
 spared_keys_stay cache key i bytes later old new standing has spares = all_left cache key i later bytes old new standing has spares
+
+pub tombstones_fit : TombstonesFit
+unfolding refused_cause
+tombstones_fit cache d utf8 early none = (bare_written d.key None d.moment 0 utf8 tt early (omega arith)).formed

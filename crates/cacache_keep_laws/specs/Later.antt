@@ -1,11 +1,11 @@
 -- Where a key leads after later calls that spare it, on any store in memory that stands.
-use Rattle.std.specs.Prelude.{◌≡◌, ◌⊎◌, ℕ, List, [], ◌∷◌, Option, None, Some, Result, Contains, filter_map}
+use Rattle.std.specs.Prelude.{◌≡◌, ◌⊎◌, ◌<◌, ◌^◌, ℕ, List, [], ◌∷◌, Option, None, Some, Result, Contains, IsUtf8, filter_map}
 use Rattle.cacache_core.specs.{declared.{errors.Error.{Error}, integrity.digest.Hash.{Hash}}, Integrity.{IsIntegrity}}
 use Rattle.cacache_store.specs.declared.store.{log.LogItem.{LogItem}, plain.PlainTemp.{PlainTemp}}
 use Rattle.cacache_memory.specs.Replay.{IsLog, tree_of}
 use Rattle.cacache_entry.specs.Latest.{Found}
 use Rattle.cacache_table.specs.declared.command.Command.TheVariants as commands
-use Rattle.cacache_table.specs.{declared.{command.{Command.{Command}, Put.{Put}}, reply.Reply.{Reply}}, Sound.{MayBegin}}
+use Rattle.cacache_table.specs.{declared.{command.{Command.{Command}, Delete.{Delete}, Put.{Put}}, reply.Reply.{Reply}}, Inserting.{deletion}, Sound.{FormedIfWritten, MayBegin}}
 use Rattle.cacache_history.specs.{Lookups.{SparesKey}, Setup.{call_site, is_outside, may_export}}
 use Rattle.cacache_sequence.specs.{Beside.{FitsEntry, ShareAddress}, Caches.{Called, GivesBytes, HasKey, setup_at}, GivenUp.{GivesUpTemp}, Keeping.{found_under}, OpenWriters.{CommitsBytes, IsOpened, OpensWriter}, Standing.{IsStanding}}
 
@@ -96,3 +96,9 @@ SparedKeysStay =
     (old new : List LogItem) → IsStanding cache old → HasKey cache key i bytes old
     → AllSpare cache key i later old new
     → StaysRead cache key i bytes (filter_map written later) old new
+
+-- a tombstone's entry is well-formed or refused, so that its call might begin
+abbrev pub TombstonesFit : Type 0
+TombstonesFit =
+    (cache : List ℕ) (d : Delete) → IsUtf8 d.key → d.moment < 2 ^ 64
+    → FormedIfWritten (deletion cache d)
