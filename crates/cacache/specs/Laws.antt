@@ -37,4 +37,4 @@ pub use Rattle.cacache_results.specs.Links.{LeadsOn, LiesLinked, LinksBytes, Lin
 pub use Rattle.cacache_results.specs.Linkers.{MemLinker, IsLinking, OpenedLinker, LinkedBytes}
 pub use Rattle.cacache_table.specs.ListReplies.{In}
 pub use Rattle.cacache_results.specs.Lists.{AreAllEntries, ListedEntries}
-pub use Rattle.cacache_results.specs.Handles.{MemWriter, IsWriting, OpenedWriter, SaysFit, IsEntryFor, LeadsToEntry, LiesOrStayed, CommittedBytes, said_integrity}
+pub use Rattle.cacache_results.specs.Handles.{MemWriter, IsWriting, OpenedWriter, SaysFit, IsEntryFor, LeadsToEntry, MayLeadToEntry, LiesOrStayed, CommittedBytes, said_integrity}

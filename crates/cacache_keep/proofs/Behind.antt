@@ -20,7 +20,7 @@ use Rattle.cacache_keep.proofs.Leaving.{leaves_live, steps_done, unused}
 -- ---- a collection
 
 module _ (site : Site) (home : Names) (old new : List LogItem) (is : home_of site.cache ≡ Some home) where
-  found_same : (key : List ℕ) → bucket_in home (tree_of new) (sha1 key) ≡ bucket_in home (tree_of old) (sha1 key) → found_under site.cache key new ≡ found_under site.cache key old
+  pub found_same : (key : List ℕ) → bucket_in home (tree_of new) (sha1 key) ≡ bucket_in home (tree_of old) (sha1 key) → found_under site.cache key new ≡ found_under site.cache key old
   found_same key same =
       subst (λ (f : Option Names). latest key (entries_on f (tree_of new) key) ≡ latest key (entries_on f (tree_of old) key)) (sym is)
       (ap (λ o. latest key (list_of o)) same)
@@ -31,7 +31,7 @@ module _ (site : Site) (home : Names) (old new : List LogItem) (is : home_of sit
       (subst (λ (a : Option Hash). blob_at (value_of_tree (Some home) (tree_of new)) a ≡ blob_at (value_of_tree (Some home) (tree_of old)) a) (sym at) same)
 
   -- what a key leads to is live
-  key_same : (entries : List Found) → IndexLists site (tree_of old) entries → ((h : Hash) → IsHash h → is_live entries h ≡ true → content_in home (tree_of new) h ≡ content_in home (tree_of old) h)
+  pub key_same : (entries : List Found) → IndexLists site (tree_of old) entries → ((h : Hash) → IsHash h → is_live entries h ≡ true → content_in home (tree_of new) h ≡ content_in home (tree_of old) h)
       → ((digest : List ℕ) → IsKeyDigest digest → bucket_in home (tree_of new) digest ≡ bucket_in home (tree_of old) digest) → (key bytes : List ℕ) (i : List Hash) → HasKey site.cache key i bytes old
       → HasKey site.cache key i bytes new
   key_same entries index left buckets key bytes i has =

@@ -50,3 +50,4 @@ mod LeanLosses
 mod SparedLosses
 mod LaterLosses
 mod GrownLosses
+mod LaterCalls

@@ -17,3 +17,4 @@ pub mod Syncing
 pub mod Compacting
 pub mod Told
 pub mod Losses
+pub mod Later

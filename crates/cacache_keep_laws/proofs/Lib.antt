@@ -42,3 +42,6 @@ mod LeanReads
 mod Follows
 pub mod Unseen
 pub mod LeanCalls
+mod SparedCalls
+mod SparedCommits
+pub mod SparedKeys

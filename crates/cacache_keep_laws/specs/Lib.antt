@@ -11,3 +11,4 @@ pub mod Mending
 pub mod Housed
 pub mod Compacting
 pub mod Compacted
+pub mod Later

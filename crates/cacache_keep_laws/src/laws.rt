@@ -7,6 +7,7 @@ ghost use Rattle.cacache_keep_laws.specs.Contents.{ContentsShown, HoldingsAgree,
 ghost use Rattle.cacache_keep_laws.specs.Housed.{CachesAreHoused, IndexesLead, TombstonesHouse};
 ghost use Rattle.cacache_keep_laws.specs.Idle.{IdleIsUnseen, StillLacksIdle};
 ghost use Rattle.cacache_keep_laws.specs.Index.{IndexesAgree, IndexesFind, ListsEachKey};
+ghost use Rattle.cacache_keep_laws.specs.Later.{SparedKeysStay, TombstonesFit};
 ghost use Rattle.cacache_keep_laws.specs.Mending.{RepairsLeave, TombstonesHide, TombstonesKeepContents};
 ghost use Rattle.cacache_keep_laws.specs.Removing.{RemovalsRun};
 ghost use Rattle.cacache_keep_laws.specs.Temporary.{SweepsLeave};
@@ -97,4 +98,11 @@ pub fn compact_laws()
     ensures keeps { CompactionsKeep }
     ensures calls { CompactionsAnswer }
     ensures fit { HousesAreFit }
+{}
+
+/// In any store that stands a key that leads to bytes leads to the same entry and the same bytes, after any list of calls
+/// that spare it, over or broken off (`stay`). One of the texts written since may be there instead, if it meets the integrity too.
+pub fn spared_laws()
+    ensures fit { TombstonesFit }
+    ensures stay { SparedKeysStay }
 {}

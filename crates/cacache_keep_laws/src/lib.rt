@@ -5,5 +5,5 @@ mod laws;
 
 pub use laws::{
     answer_laws, collect_laws, compact_laws, contents_laws, idle_laws, index_laws, repair_laws,
-    sweep_laws, verify_laws, walk_laws,
+    spared_laws, sweep_laws, verify_laws, walk_laws,
 };

@@ -7,7 +7,7 @@ use Rattle.cacache_table.specs.declared.command.Command.TheVariants as commands
 use Rattle.cacache_table.{specs.{declared.reply.Reply.TheVariants.{Stored}, Inserting.{refused_cause}, Runs.{reply_of, without_message}}, proofs.IntegrityUtf8.{integrity_utf8}}
 use Rattle.cacache_sequence.specs.{CallErrors.{IsPlainPut}, Caches.{HasKey, IsExcused, plain_put}, Puts.{entry_of_put}, Standing.{PutStands}}
 use Rattle.cacache_sequence.proofs.Putting.{Beside.{plain_writes_fit}, Forms.{bare_written}, StandingPuts.{standing_writes}}
-use Rattle.cacache_results.{specs.Losses.{LeftWriteMeans}, proofs.{Told.{called, excused}, WriteResults.{leads_so}}}
+use Rattle.cacache_results.{specs.Losses.{LeftWriteMeans}, proofs.{Told.{called, excused}, WriteResults.{keyed_succeeds, leads_so}}}
 
 left_told : (a : Algorithm) (cache key bytes : List ℕ) (moment : ℕ) (r : Result (List Hash) Error) (old new : List LogItem) → PutStands cache (plain_put a key bytes moment) (reply_of Stored r) old new
     → IsPlainPut cache key (plain_put a key bytes moment)
@@ -34,4 +34,5 @@ left_write_means moments numbers a cache key bytes r new utf8 small logged old s
       leads = leads_so cache key a bytes ran.0 old.store new.store k.may_lead;
       keeps = k.keeps;
       fails = told.1;
+      succeeds = λ ready. keyed_succeeds a cache key bytes ran.0 r old.store new.store utf8 small ran.2.1 ready standing c;
     }

@@ -11,7 +11,7 @@ use Rattle.cacache_table.specs.{declared.{command.Insert.{Insert}, reply.Reply.T
 use Rattle.cacache_table.proofs.IntegrityUtf8.{integrity_utf8}
 use Rattle.cacache_jobs.specs.{Environment.{HasMoment}, Sites.{site_of}}
 use Rattle.cacache_put.specs.{Options.{Said, options_of}, Puts.{insert_of, unkeyed_put}}
-use Rattle.cacache_sequence.specs.{Beside.{FitsEntry, KeepsBeside}, Caches.{Called, IsCache, HasContent, HasKey, IsExcused, WritesKey, plain_put}, Inserts.{InsertsKey, leads_to}, Keeping.{found_under}, Puts.{MayLeadToPut}, Succeeds.{NamesFolder, IsReady, put_reply, unless_unwritable}}
+use Rattle.cacache_sequence.specs.{Beside.{FitsEntry, KeepsBeside}, Caches.{Called, IsCache, HasContent, HasKey, IsExcused, WritesKey, plain_put}, Inserts.{InsertsKey, leads_to}, Keeping.{found_under}, Puts.{MayLeadToPut}, Standing.{IsStanding}, Succeeds.{NamesFolder, IsReady, put_reply, unless_unwritable}}
 use Rattle.cacache_sequence.proofs.{Putting.{Beside.{plain_writes_fit, writes_keep}, Forms.{Written, bare_written}, Inserting.{inserts_last}, Puts.{puts_leave, puts_may_lead}, WritesLast.{writes_last}}, Calls.{CallErrors.{contents_fail}, Logs.{calls_grow}}, Readings.{Known.{excuse, known}, Standing.{caches_stand}}, Sure.Succeeds.{puts_answer, insertions_answer}, Spares.Unused.{others_leave_none, puts_leave_tidy, stays_ready}}
 use Rattle.cacache_results.specs.{Success.{FailsForMemory}, Writes.{ContentWriteMeans, InsertionMeans, KeepsUntouched, SaysPlain, WriteMeans}}
 use Rattle.cacache_results.proofs.{SureResults.{for_memory, so_ready}, Told.{called, excused}}
@@ -55,15 +55,15 @@ own_of a cache key bytes moment (Ok i) old new fits sound c = (puts_leave cache 
 own_of a cache key bytes moment (Err e) old new fits sound c = tt
 
 -- such a write stores, if memory isn't refused
-keyed_succeeds : (a : Algorithm) (cache key bytes : List ℕ) (moment : ℕ) (r : Result (List Hash) Error) (old new : List LogItem) → IsUtf8 key → length bytes < 2 ^ 64 → moment < 2 ^ 64 → IsReady cache old → IsCache cache old
+pub keyed_succeeds : (a : Algorithm) (cache key bytes : List ℕ) (moment : ℕ) (r : Result (List Hash) Error) (old new : List LogItem) → IsUtf8 key → length bytes < 2 ^ 64 → moment < 2 ^ 64 → IsReady cache old → IsStanding cache old
     → Called cache (commands.Put (plain_put a key bytes moment)) (reply_of Stored r) old new → FailsForMemory r
 unfolding refused_cause
-keyed_succeeds a cache key bytes moment r old new utf8 small early ready sound c =
+keyed_succeeds a cache key bytes moment r old new utf8 small early ready standing c =
     let p = plain_put a key bytes moment in
     let i = insertion_of (put_commit cache p) key in
     let w = bare_written key (Some (integrity_text (integrity_under a bytes))) moment (length bytes) utf8 (integrity_utf8 (integrity_under a bytes)) early small in
     let fits : put_reply cache (plain_put a key bytes moment) ≡ Stored (integrity_under a bytes) = ap (unless_unwritable (Stored (integrity_under a bytes))) w.no_cause in
-    elim (puts_answer cache p (reply_of Stored r) old new c ready.folder (caches_stand cache old sound) (ready.tidy c.number)) [
+    elim (puts_answer cache p (reply_of Stored r) old new c ready.folder standing (ready.tidy c.number)) [
       | inl m ↦ for_memory Stored r (Stored (integrity_under a bytes)) tt (inl m)
       | inr h ↦ for_memory Stored r (Stored (integrity_under a bytes)) tt (inr (h.0 ∙ fits))
     ]
@@ -83,7 +83,7 @@ write_means moments numbers a cache key bytes r new utf8 small logged old sound 
       leads = leads_so cache key a bytes ran.0 old.store new.store (puts_may_lead cache p (reply_of Stored r) old.store new.store fits tt sound c);
       keeps = untouched cache (Some key) (integrity_under a bytes) bytes old.store new.store (writes_keep cache p (reply_of Stored r) old.store new.store fits sound c).1;
       fails = told.1;
-      succeeds = λ ready. keyed_succeeds a cache key bytes ran.0 r old.store new.store utf8 small ran.2.1 ready sound c;
+      succeeds = λ ready. keyed_succeeds a cache key bytes ran.0 r old.store new.store utf8 small ran.2.1 ready (caches_stand cache old.store sound) c;
       ready = λ ready. so_ready Stored (λ i. tt) cache r old.store new.store (λ ready. puts_leave_tidy cache p (reply_of Stored r) old.store new.store c ready.folder fits sound ready.tidy) ready;
     }
 

@@ -7,14 +7,14 @@ use Rattle.cacache_store.specs.{declared.{env.Env.{Env}, store.{log.LogItem.{Log
 use Rattle.cacache_store.specs.declared.store.answer.Answer.TheVariants as answers
 use Rattle.cacache_store.specs.declared.store.step.Step.TheVariants as steps
 use Rattle.cacache_memory.specs.Replay.{IsLog}
-use Rattle.cacache_table.specs.{declared.{command.Put.{Put}, reply.Reply.{Reply, TheVariants.{Stored}}}, Inserting.{given_or, refused_cause}, Runs.{reply_of}, SingleSteps.{Does}, StepPaths.{temp_path}}
+use Rattle.cacache_table.specs.{declared.{command.Put.{Put}, reply.Reply.{Reply, TheVariants.{Stored}}}, Inserting.{given_or, refused_cause}, Promises.{answered}, Runs.{reply_of}, SingleSteps.{Does}, StepPaths.{temp_path}}
 use Rattle.cacache_table.proofs.IntegrityUtf8.{integrity_utf8}
 use Rattle.cacache_content.specs.OpenWrites.{RemovesTemp, TriesToRemove, counted_bytes}
 use Rattle.cacache_jobs.specs.Environment.{MomentOf}
 use Rattle.cacache_put.specs.{KeyedWriters.{CommitsWriter, OpensAt}, Options.{Said, options_of}}
-use Rattle.cacache_sequence.specs.{Beside.{FitsEntry}, Caches.{IsCache}, GivenUp.{GivesUpTemp}, OpenWriters.{CommitsBytes}, Puts.{HasCommitted, entry_of_put}, OpenSucceeds.{FileAt}, Succeeds.{put_reply, unless_unwritable}}
+use Rattle.cacache_sequence.specs.{Beside.{FitsEntry}, Caches.{IsCache}, GivenUp.{GivesUpTemp}, OpenWriters.{CommitsBytes}, Puts.{HasCommitted, MayLeadToPut, entry_of_put}, OpenSucceeds.{FileAt}, Succeeds.{put_reply, unless_unwritable}}
 use Rattle.cacache_sequence.proofs.{Putting.{Committing.{commits_last}, Forms.{bare_written}, OpenWriters.{writers_open}, Puts.{commits_keep, commits_leave}}, Readings.Standing.{caches_stand}, Sure.SureWriters.{commits_answer, openings_succeed}, Spares.GivenUp.{giving_up_lasts}}
-use Rattle.cacache_results.specs.{Handles.{CommitsMean, CommitsSucceed, FailedWritesMean, GivingUpMeans, IsText, IsWriting, LeadsToEntry, MemWriter, OpenedWriter, OpeningsMean, SaysFit, WritersGoOn, said_integrity}, Writes.{SaysPlain}}
+use Rattle.cacache_results.specs.{Handles.{CommitsMean, CommitsSucceed, FailedWritesMean, GivingUpMeans, IsText, IsWriting, LeadsToEntry, MayLeadToEntry, MemWriter, OpenedWriter, OpeningsMean, SaysFit, WritersGoOn, said_integrity}, Writes.{SaysPlain}}
 use Rattle.cacache_results.proofs.{SureResults.{for_memory}, Told.{plain_result}, WriteResults.{early_of, untouched}}
 
 -- ---- openings
@@ -119,6 +119,15 @@ leads_so cache None s bytes moment i old new h k is = absurd cc
 leads_so cache (Some key) s bytes moment i old new h k is =
     (entry_of_put cache (put_of (Some key) s bytes moment) k, h.entry k is, record { integrity = sym h.stored; size = refl; metadata = refl; raw_metadata = refl })
 
+may_lead_so : (cache : List ℕ) (key : Option (List ℕ)) (s : Said) (bytes : List ℕ) (moment : ℕ) (old new : List LogItem) → MayLeadToPut cache (put_of key s bytes moment) old new
+    → (k : List ℕ) → key ≡ Some k → MayLeadToEntry cache k s (answered (said_integrity s bytes) s.integrity key) (length bytes) old new
+may_lead_so cache None s bytes moment old new may k is = absurd cc
+may_lead_so cache (Some key) s bytes moment old new may k is =
+    elim (may k is) [
+      | inl same ↦ inl same
+      | inr led ↦ inr (entry_of_put cache (put_of (Some key) s bytes moment) k, led, record { integrity = refl; size = refl; metadata = refl; raw_metadata = refl })
+    ]
+
 pub commits_mean : {C N : Type 0} (moments : C → Option (List ℕ)) (new : Env (List LogItem) C N) → IsLog new.store → CommitsMean moments new
 commits_mean moments new logged cache key s bytes w (Ok i) old sound t says text small h =
     let p = put_of key s bytes h.0 in
@@ -132,6 +141,7 @@ commits_mean moments new logged cache key s bytes w (Ok i) old sound t says text
       grows = last.1;
       stored = left.stored;
       leads = leads_so cache key s bytes h.0 i old.store new.store left;
+      may_lead = may_lead_so cache key s bytes h.0 old.store new.store kept.0;
       content = left.content;
       keeps = untouched cache key (said_integrity s bytes) bytes old.store new.store kept.1;
     }
@@ -146,6 +156,7 @@ commits_mean moments new logged cache key s bytes w (Err e) old sound t says tex
       grows = last.1;
       stored = tt;
       leads = tt;
+      may_lead = may_lead_so cache key s bytes h.0 old.store new.store kept.0;
       content = tt;
       keeps = untouched cache key (said_integrity s bytes) bytes old.store new.store kept.1;
     }

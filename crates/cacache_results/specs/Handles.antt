@@ -68,7 +68,13 @@ abbrev pub LeadsToEntry : List ℕ → List ℕ → Said → List Hash → ℕ �
 LeadsToEntry cache key s i count log =
     (found : Found) × (found_under cache key log ≡ Some found) × IsEntryFor s i count found
 
--- the bytes lie under the integrity; if they couldn't be moved there, what lay there stayed
+-- the key leads where it led, or to such an entry
+abbrev pub MayLeadToEntry : List ℕ → List ℕ → Said → List Hash → ℕ
+    → List LogItem → List LogItem → Type 0
+MayLeadToEntry cache key s i count old new =
+    (found_under cache key new ≡ found_under cache key old) ⊎ LeadsToEntry cache key s i count new
+
+-- the bytes lie under the integrity; where they couldn't be moved there, what lay there stayed
 abbrev pub LiesOrStayed :
     List ℕ → List Hash → List ℕ → List LogItem → List LogItem → Type 0
 LiesOrStayed cache own bytes old new =
@@ -76,7 +82,8 @@ LiesOrStayed cache own bytes old new =
     ⊎ (IsThere (lies_under cache own old)
     × (lies_under cache own new ≡ lies_under cache own old))
 
--- a commit: the key leads to an entry of what was said, the bytes lie there, and what wasn't written stays
+-- a commit: the key leads to an entry of what was said, the bytes lie there, and what wasn't written stays.
+-- Whatever it answers, the key leads where it led, or to that entry
 pub record CommittedBytes (cache : List ℕ) (key : Option (List ℕ)) (s : Said) (bytes : List ℕ)
     (r : Result (List Hash) Error) (old new : List LogItem) : Type 0 where
   pub sound : IsCache cache new
@@ -84,6 +91,8 @@ pub record CommittedBytes (cache : List ℕ) (key : Option (List ℕ)) (s : Said
   pub stored : IfOk r (λ i. i ≡ answered (said_integrity s bytes) s.integrity key)
   pub leads : IfOk r (λ i. (k : List ℕ) → key ≡ Some k
       → LeadsToEntry cache k s i (length bytes) new)
+  pub may_lead : (k : List ℕ) → key ≡ Some k → MayLeadToEntry cache k s
+      (answered (said_integrity s bytes) s.integrity key) (length bytes) old new
   pub content : IfOk r (λ i. LiesOrStayed cache (said_integrity s bytes) bytes old new)
   pub keeps : KeepsUntouched cache key (said_integrity s bytes) bytes old new
 

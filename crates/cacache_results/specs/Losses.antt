@@ -13,7 +13,7 @@ use Rattle.cacache_durable.specs.{FewCalls.{FewCalls}, Behind.{NoneAppends}, Out
 use Rattle.cacache_jobs.specs.Environment.{Calls, RunsPut}
 use Rattle.cacache_put.specs.Puts.{keyed_put}
 use Rattle.cacache_reads.specs.Reads.{bytes_read}
-use Rattle.cacache_sequence.specs.{Beside.{KeepsBeside}, Caches.{HasKey, IsExcused}, Inserts.{leads_to}, Keeping.{found_under, StaysKnown}, ReadAnswers.{entries_on}, Standing.{IsStanding}}
+use Rattle.cacache_sequence.specs.{Beside.{KeepsBeside}, Caches.{HasKey, IsExcused}, Inserts.{leads_to}, Keeping.{found_under, StaysKnown}, ReadAnswers.{entries_on}, Standing.{IsStanding}, Succeeds.{IsReady}}
 use Rattle.cacache_results.specs.{Reads.{GivesJust, LiesWhole}, Success.{FailsForMemory}}
 
 -- ---- what is left
@@ -75,8 +75,9 @@ pub record LeftRead (cache key : List ℕ) (r : Result (Vec ℕ Global) Error) (
 
 -- ---- writes
 
--- a write under a key: it leads to the bytes, or the error is excused. Everything is still where it
--- may be; other keys lead where they led, and contents stay, except at the address of the bytes
+-- a write under a key: it leads to the bytes, or the error is excused. Everything stands where it
+-- may still; other keys lead where they led, and contents stay, but at the address of the bytes. On a
+-- store that is ready only memory fails it
 pub record LeftWritten (a : Algorithm) (cache key bytes : List ℕ) (r : Result (List Hash) Error)
     (old new : List LogItem) : Type 0 where
   pub standing : IsStanding cache new
@@ -85,6 +86,7 @@ pub record LeftWritten (a : Algorithm) (cache key bytes : List ℕ) (r : Result 
       ⊎ (leads_to cache key new ≡ Some (integrity_under a bytes))
   pub keeps : KeepsBeside cache (Some key) (integrity_under a bytes) bytes old new
   pub fails : IfErr r (λ e. IsExcused e old new)
+  pub succeeds : IsReady cache old → FailsForMemory r
 
 -- ---- laws
 

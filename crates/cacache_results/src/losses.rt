@@ -51,8 +51,9 @@ pub fn after_read_left<C: Clock, N: Names>(
     let _log = env.store.log();
 }
 
-/// After `write_sync` of such a store: the key leads to the bytes, or the error is excused. Other keys lead where
-/// they led, and contents stay, except at the address of the bytes, where these lie then.
+/// Behind `write_sync` of such a store: the key leads to the bytes, or the error is excused. Other keys lead where they led,
+/// and contents stay, but at the address of the bytes, where these lie then. Where the cache's text names a folder and no
+/// temporary file is left in it, only memory fails the write.
 pub fn after_write_left<C: Clock, N: Names>(
     env: &Env<MemStore, C, N>,
     algo: Algorithm,

@@ -1,6 +1,6 @@
 -- What a user says about a loss of power follows from the laws of what it leaves.
 use Rattle.std.{proofs.Common.{◌≡◌, inl, inr, ℕ, List, Some, Vec, Global, Result, Ok, Err, refl, sym, ap, subst, ◌∙◌}, specs.Prelude.{IfErr, IsErrAnd}}
-use Rattle.cacache.specs.{Calls.{Error}, Histories.{FewCalls, HistoriesOutlive, History, IsStanding, LeadsToDigest, LeftBy, LeftRead, LeftWritten, LinksOutlast, Loss, LossesLeaveLast, LossesLeaveLastLinks, LossesLeavePuts, LossesLeaveStanding, MetDigestsAreSame, Names, Outlives, Put, PutsStandLast, chosen, digest, home}, Laws.{GivesJust, KeepsBeside, OutOfMemory, StaysKnown, tree_of}, Stores.{LogItem}, Integrities.{Hash, Sha256}}
+use Rattle.cacache.specs.{Calls.{Error}, Histories.{DurablePut, FewCalls, HistoriesOutlive, History, IsLast, IsStanding, LeadsToDigest, LeftBy, LeftRead, LeftWritten, LinksOutlast, Loss, LossesLeaveLast, LossesLeaveLastLinks, LossesLeavePuts, LossesLeaveStanding, MetDigestsAreSame, Names, Outlives, Put, PutsStandLast, chosen, digest, home}, Laws.{GivesJust, KeepsBeside, OutOfMemory, StaysKnown, tree_of}, Stores.{LogItem}, Integrities.{Hash, Sha256}}
 use Rattle.uses_worlds.specs.{Losses.{GivesPut, GoesOn, LinkSurvives, LinkedSurvives, SomeSurvive, Survives, SurvivesAlone}, declared.losing.Reads.{Reads}}
 
 -- what `?` hands on if memory was refused
@@ -8,7 +8,12 @@ pub handed_on : {X : Type 0} (P : Result X Error → Type 0) (r : Result X Error
 handed_on P (Ok x) e same is p = absurd same
 handed_on P (Err x) e same is p = subst (λ x. P (Err x)) (sym (same ∙ is)) p
 
--- if memory is refused before the read
+-- what it hands on otherwise
+pub told_on : {X : Type 0} (P : Result X Error → Type 0) (r : Result X Error) (e : Error) → IsErrAnd r (λ x. x ≡ e) → P (Err e) → P r
+told_on P (Ok x) e same p = absurd same
+told_on P (Err x) e same p = subst (λ x. P (Err x)) (sym same) p
+
+-- where memory is refused before the read
 pub refused : (h : History) (loss : Loss) (key : List ℕ) → Outlives h → FewCalls h → LossesLeavePuts → Survives h loss key (Err OutOfMemory)
 refused h loss key outlives few puts folder p here put keyed none =
     let lost = chosen loss.undone.items loss.tails.items in
@@ -70,21 +75,45 @@ leads_beside cache written key added own p old new met differ keeps led =
 leads_known : (cache key : List ℕ) (p : Put) (old new : List LogItem) → StaysKnown cache old new → LeadsToDigest cache key p old → LeadsToDigest cache key p new
 leads_known cache key p old new known led = record { bytes = led.bytes; same = led.same; held = known.key key led.bytes _ led.held }
 
-pub goes_on_here : (h : History) (loss : Loss) (written added key : List ℕ) (i : List Hash) (reads : Reads) (old late read new : List LogItem) → Outlives h → FewCalls h → LossesLeaveLast → LossesLeaveStanding → MetDigestsAreSame
-    → LeftBy h loss (tree_of old) → (IsStanding h.setup.cache old → LeftWritten Sha256 h.setup.cache written added (Ok i) old late)
-    → (IsStanding h.setup.cache late → LeftRead h.setup.cache written (Ok reads.since) late read) → (IsStanding h.setup.cache read → LeftRead h.setup.cache key (Ok reads.before) read new)
-    → GoesOn h loss written added key (Ok reads)
-goes_on_here h loss written added key i reads old late read new outlives few lasts stands met lost write first second =
-    let chosen_loss = chosen loss.undone.items loss.tails.items in
-    let wrote = write (stands h chosen_loss old outlives lost) in
-    let one = first wrote.standing in
-    let two = second one.standing in (
-      one.gives i added wrote.stored.1,
-      λ folder p here put keyed none last differ.
-          let led = lasts h chosen_loss folder key p (tree_of old) outlives few lost here put keyed none last old refl in
-          let still = leads_known h.setup.cache key p late read one.known (leads_beside h.setup.cache written key added _ p old late met differ wrote.keeps led) in
-          ap (digest p.options.algorithm) (two.gives _ still.bytes still.held) ∙ still.same,
-    )
+-- a world's power goes, and a write and two reads follow
+module _ (h : History) (loss : Loss) (written added key : List ℕ) (old late : List LogItem) (outlives : Outlives h) (stands : LossesLeaveStanding) (lost : LeftBy h loss (tree_of old)) where
+  here : IsStanding h.setup.cache old
+  here = stands h (chosen loss.undone.items loss.tails.items) old outlives lost
+
+  pub write_failed : (e : Error) → (IsStanding h.setup.cache old → LeftWritten Sha256 h.setup.cache written added (Err e) old late) → GoesOn h loss written key (Err e)
+  write_failed e write folder p home put keyed none last differ ready = (write here).succeeds (ready old lost)
+
+  module _ (i : List Hash) (write : IsStanding h.setup.cache old → LeftWritten Sha256 h.setup.cache written added (Ok i) old late) where
+    wrote : LeftWritten Sha256 h.setup.cache written added (Ok i) old late
+    wrote = write here
+
+    pub first_failed : (e : Error) (read : List LogItem) → (IsStanding h.setup.cache late → LeftRead h.setup.cache written (Err e) late read) → GoesOn h loss written key (Err e)
+    first_failed e read first folder p home put keyed none last differ ready = (first wrote.standing).succeeds folder i added home wrote.stored.1
+
+    module _ (since : Vec ℕ Global) (read new : List LogItem) (first : IsStanding h.setup.cache late → LeftRead h.setup.cache written (Ok since) late read) where
+      one : LeftRead h.setup.cache written (Ok since) late read
+      one = first wrote.standing
+
+      pub since_here : since.items ≡ added
+      since_here = one.gives i added wrote.stored.1
+
+      module _ (few : FewCalls h) (lasts : LossesLeaveLast) (met : MetDigestsAreSame) where
+        -- the put's key still leads to bytes with its digest
+        still : (folder : Names) (p : Put) → home h.setup ≡ Some folder → (put : DurablePut h folder p) → p.key ≡ Some key → p.options.integrity ≡ None → IsLast h folder put.rest put.call.caller key p
+            → (key ≡ written → ⊥) → LeadsToDigest h.setup.cache key p read
+        still folder p home put keyed none last differ =
+            let led = lasts h (chosen loss.undone.items loss.tails.items) folder key p (tree_of old) outlives few lost home put keyed none last old refl in
+            leads_known h.setup.cache key p late read one.known (leads_beside h.setup.cache written key added _ p old late met differ wrote.keeps led)
+
+        pub second_failed : (e : Error) → (IsStanding h.setup.cache read → LeftRead h.setup.cache key (Err e) read new) → GoesOn h loss written key (Err e)
+        second_failed e second folder p home put keyed none last differ ready =
+            let led = still folder p home put keyed none last differ in
+            (second one.standing).succeeds folder _ led.bytes home led.held
+
+        pub before_here : (before : Vec ℕ Global) → (IsStanding h.setup.cache read → LeftRead h.setup.cache key (Ok before) read new) → GoesOn h loss written key (Ok (record { since = since; before = before }))
+        before_here before second folder p home put keyed none last differ =
+            let led = still folder p home put keyed none last differ in
+            ap (digest p.options.algorithm) ((second one.standing).gives _ led.bytes led.held) ∙ led.same
 
 -- ---- histories that this is about
 

@@ -1,6 +1,6 @@
 -- What a user says about a loss of power.
 use Rattle.std.specs.{Prelude.{◌≡◌, ℕ, List, None, Some, Ok, Vec, Result, IfOk, MatchResult}, Global.{Global}}
-use Rattle.cacache.specs.{Calls.{Error}, Entries.{Entry}, Histories.{AnsweredPut, DurablePut, FewCalls, GoElsewhere, History, IsLast, IsLegal, LeadsToDigest, LeadsUnchanged, LeftBy, Loss, Names, NoneAnswers, OnlyLinksIn, Put, Record, StandsBefore, StandsIn, StoresDurably, Tree, address_of_put, digest, followed_by, home, names_of}, Laws.{OutOfMemory, tree_of}, Stores.{LogItem}}
+use Rattle.cacache.specs.{Calls.{Error}, Entries.{Entry}, Histories.{AnsweredPut, DurablePut, FewCalls, GoElsewhere, History, IsLast, IsLegal, LeadsToDigest, LeadsUnchanged, LeftBy, Loss, Names, NoneAnswers, OnlyLinksIn, Put, Record, StandsBefore, StandsIn, StoresDurably, Tree, address_of_put, digest, followed_by, home, names_of}, Laws.{IsReady, OutOfMemory, tree_of}, Stores.{LogItem}}
 use Rattle.uses_worlds.specs.declared.losing.Reads.{Reads}
 
 -- bytes with the digest of the put's, unless memory was refused
@@ -43,15 +43,27 @@ LinkedSurvives h key r =
 
 -- ---- writes after a loss
 
--- what was written is read; and so is what a durable put stored before under another key, if nobody appended to that
--- key's bucket after its entry: bytes with the digest of the put's
-abbrev pub GoesOn : History → Loss → List ℕ → List ℕ → List ℕ → Result Reads Error → Type 0
-GoesOn h loss written added key r =
-    IfOk r (λ reads. (reads.since.items ≡ added)
-    × ((folder : Names) (p : Put) → home h.setup ≡ Some folder → (put : DurablePut h folder p)
+-- what a loss leaves is ready for a write: the cache's text names a folder, and no temporary file is
+-- left in it
+abbrev pub LeavesReady : History → Loss → Type 0
+LeavesReady h loss =
+    (log : List LogItem) → LeftBy h loss (tree_of log) → IsReady h.setup.cache log
+
+-- the first read gives what was written
+abbrev pub GivesWritten : List ℕ → Result Reads Error → Type 0
+GivesWritten added r = IfOk r (λ reads. reads.since.items ≡ added)
+
+-- the second one gives what a durable put stored before under another key, where nobody appended to that
+-- key's bucket behind its entry: bytes with the digest of the put's. Where what is left is ready for a
+-- write, only memory fails the write and the reads
+abbrev pub GoesOn : History → Loss → List ℕ → List ℕ → Result Reads Error → Type 0
+GoesOn h loss written key r =
+    (folder : Names) (p : Put) → home h.setup ≡ Some folder → (put : DurablePut h folder p)
     → p.key ≡ Some key → p.options.integrity ≡ None
     → IsLast h folder put.rest put.call.caller key p → (key ≡ written → ⊥)
-    → digest p.options.algorithm reads.before.items ≡ digest p.options.algorithm p.data))
+    → MatchResult r
+    (λ reads. digest p.options.algorithm reads.before.items ≡ digest p.options.algorithm p.data)
+    (λ e. LeavesReady h loss → e ≡ OutOfMemory)
 
 -- ---- histories that this is about
 

@@ -3,7 +3,7 @@ ghost use Rattle.std.specs.Prelude.{◌≡◌, IfOk, IfErr};
 ghost use Rattle.cacache.specs.Histories.{IsStanding, LeftBy, LeftRead, LeftWritten};
 ghost use Rattle.cacache.specs.Integrities.{Sha256};
 ghost use Rattle.cacache.specs.Laws.{OutOfMemory, tree_of};
-ghost use Rattle.uses_worlds.specs.Losses.{GoesOn, LinkSurvives, LinkedSurvives, SomeSurvive, Survives, SurvivesAlone};
+ghost use Rattle.uses_worlds.specs.Losses.{GivesWritten, GoesOn, LinkSurvives, LinkedSurvives, SomeSurvive, Survives, SurvivesAlone};
 
 use cacache::env::{Clock, Env, Names};
 use cacache::laws::{
@@ -108,6 +108,7 @@ pub struct Reads {
 }
 
 /// The power goes in a world. In what is left of its disk a key is written and read, and then a key that was put before.
+/// If no temporary file is left there, only memory fails this.
 pub fn goes_on<C: Clock, N: Names>(
     world: &World,
     loss: &Loss,
@@ -117,7 +118,8 @@ pub fn goes_on<C: Clock, N: Names>(
     clock: C,
     names: N,
 ) -> Result<Reads>
-    ensures { GoesOn world.now loss.now written.now «data».now key.now result }
+    ensures since { GivesWritten «data».now result }
+    ensures before { GoesOn world.now loss.now written.now key.now result }
 {
     world.stands();
     loss_results();

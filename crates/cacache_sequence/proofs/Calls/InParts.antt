@@ -63,7 +63,7 @@ parts_more s [] more h k = k
 parts_more s (made t moves ∷ parts) more h k = (h.0, h.1, parts_more s parts more h.2 k)
 parts_more s (took t file ∷ parts) more h k = (h.0, parts_more s parts more h.1 k)
 
-made_more : (xs ys : List Turn) → made_in (xs ++ ys) ≡ made_in xs ++ made_in ys
+pub made_more : (xs ys : List Turn) → made_in (xs ++ ys) ≡ made_in xs ++ made_in ys
 made_more [] ys = refl
 made_more (turn ∷ xs) ys = ap (λ l. (turn.move.step, turn.move.answer) ∷ l) (made_more xs ys)
 
@@ -72,7 +72,7 @@ all_made [] = refl
 all_made (made t moves ∷ parts) = made_more (turns_on t moves) (turns_in parts) ∙ ap (λ l. l ++ made_in (turns_in parts)) (turns_made t moves) ∙ ap (λ l. moves ++ l) (all_made parts)
 all_made (took t file ∷ parts) = ap (λ l. byte_read file ∷ l) (all_made parts)
 
-each_through : (P : Turn → Type 0) (xs ys : List Turn) → EachTurn P xs → EachTurn P ys → EachTurn P (xs ++ ys)
+pub each_through : (P : Turn → Type 0) (xs ys : List Turn) → EachTurn P xs → EachTurn P ys → EachTurn P (xs ++ ys)
 each_through P [] ys h k = k
 each_through P (turn ∷ xs) ys h k = (h.0, each_through P xs ys h.1 k)
 
@@ -88,7 +88,7 @@ byte_answered t file = refl
 
 module _ (s : Setup) (apart : LieApart (home s) s.outside) (command : Command) (number : ℕ) where
   -- the call after these turns
-  abbrev stands : List Turn → State → histories.Call
+  abbrev pub stands : List Turn → State → histories.Call
   stands turns state = record { command = command; number = number; turns = turns; state = state }
 
   way_is : (t : Tree) (moves : Moves) (turns : List Turn) (state next : State) → Goes state moves next → on_its_way t moves (stands turns state) ≡ stands (turns ++ turns_on t moves) next
@@ -158,7 +158,7 @@ with_part_goes s call state next t moves way sound g answered =
     with_parts s call state next (made t moves ∷ []) way (sound, answered, tt) (subst (λ l. Goes state l next) (sym (append-nil moves)) g)
 
 module _ (s : Setup) (apart : LieApart (home s) s.outside) (call : Begun) where
-  way_holds : (state : State) → IsOnItsWay s call state
+  pub way_holds : (state : State) → IsOnItsWay s call state
       → CallHolds s (stands s apart call.command call.number (turns_in call.parts) state) × EachTurn (KeyedTurn s) (turns_in call.parts)
   way_holds state way =
       parts_hold s apart call.command call.number call.parts [] (opening (call_site s call.number) call.command) state way.parts (begins_hold s call.number call.command way.may way.named) way.goes

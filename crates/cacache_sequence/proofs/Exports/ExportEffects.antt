@@ -21,7 +21,7 @@ module _ (home : Option Names) where
   finds_only (steps.Exists path) (answers.There true) rest v = refl
   finds_only step a rest v = refl
 
-  nothing_done : (turns : List Turn) (v : Value) → EachTurn TurnDoesNothing turns → after_deeds home (deeds turns) v ≡ v
+  pub nothing_done : (turns : List Turn) (v : Value) → EachTurn TurnDoesNothing turns → after_deeds home (deeds turns) v ≡ v
   nothing_done [] v h = refl
   nothing_done (turn ∷ turns) v h =
       ap (λ act. after_deeds home ((deeds_of_act act ++ finds_in turn.move.step turn.move.answer) ++ deeds turns) v) h.0

@@ -50,7 +50,7 @@ pub record Ended (cache : List ℕ) (p : Put) (number : ℕ) (r : Reply) (old ne
 
 module _ (cache : List ℕ) (p : Put) (number : ℕ) (may : (key : List ℕ) → p.key ≡ Some key → FormedIfWritten (insertion_of (put_commit cache p) key)) (o : IsOpened cache number) where
   -- the two steps of the opening
-  abbrev opened_by : Moves
+  abbrev pub opened_by : Moves
   opened_by = (make_folder cache number, answers.Done) ∷ (make_file cache number, answers.Temp (made_temp (temp_path cache number))) ∷ []
 
   opened_faultless : (fault : Fault) → Faulted opened_by fault → ⊥
@@ -58,13 +58,13 @@ module _ (cache : List ℕ) (p : Put) (number : ℕ) (may : (key : List ℕ) →
   opened_faultless fault (inr (inl h)) = h
   opened_faultless fault (inr (inr h)) = h
 
-  abbrev started : Begun
+  abbrev pub started : Begun
   started = record { command = commands.Put p; number = number; parts = [] }
 
-  abbrev opened : Begun
+  abbrev pub opened : Begun
   opened = with_part started (tree_of o.old) opened_by
 
-  is_opened : IsOnItsWay (setup_at cache []) opened (write_rest (put_commit cache p) (made_temp (temp_path cache number)) p.data)
+  pub is_opened : IsOnItsWay (setup_at cache []) opened (write_rest (put_commit cache p) (made_temp (temp_path cache number)) p.data)
   is_opened =
       let s = setup_at cache [] in
       let gains = gains_join o.old o.new o.opens.0 ((make_folder cache number, answers.Done) ∷ []) ((make_file cache number, answers.Temp (made_temp (temp_path cache number))) ∷ []) o.opens.1 o.opens.2 in

@@ -58,7 +58,7 @@ made_so : (t : Tree) (path : List ℕ) (new : Names → Tree) (r : Result Names 
 made_so t path new (Ok names) file e = cc
 made_so t path new (Err fault) file e = absurd cc
 
-temp_made : (t : Tree) (path : List ℕ) (file : PlainTemp) → answers.Temp file ≡ (apply t (steps.CreateTemp path) Plain).0 → file ≡ made_temp path
+pub temp_made : (t : Tree) (path : List ℕ) (file : PlainTemp) → answers.Temp file ≡ (apply t (steps.CreateTemp path) Plain).0 → file ≡ made_temp path
 unfolding apply
 temp_made t path file e = made_so t path (λ names. put t names (File [])) (free t path) file e
 

@@ -7,20 +7,20 @@ use Rattle.cacache_disk.specs.{declared.{luck.Luck.TheVariants.{Plain}, node.Nod
 use Rattle.cacache_disk.proofs.KeptFolders.{steps_keep_rooted}
 use Rattle.cacache_memory.specs.Replay.{tree_of}
 use Rattle.cacache_entry.{specs.FittingEntries.{IsEntry}, proofs.EntryCauses.{Fits-no_cause}}
-use Rattle.cacache_table.specs.{declared.{command.{Command.{Command}, Put.{Put}}, reply.Reply.{Reply}}, Causes.{HasCause, own_of as faults_of}, Effects.{Commits, Effect, Indexes, Inserts, IsRefused, TookAll, effects_of, sent, stored}, Inserting.{bucket_line, refused_cause}, Runs.{Moves, Runs, plain_reply}, Sound.{Sound}, State.{Insertion, Site, State}, StepPaths.{bucket_path, content_path}, Storing.{insertion_of, put_commit}, Table.{after, opening}}
+use Rattle.cacache_table.specs.{declared.{command.{Command.{Command}, Put.{Put}}, reply.Reply.{Reply}}, Causes.{HasCause, own_of as faults_of}, Effects.{Commits, Effect, Indexes, Inserts, IsRefused, TookAll, effects_of, sent, stored}, Inserting.{bucket_line, refused_cause}, Runs.{Moves, Runs, plain_reply}, Sound.{FormedIfWritten, Sound}, State.{Insertion, Site, State}, StepPaths.{bucket_path, content_path}, Storing.{insertion_of, put_commit}, Table.{after, opening}}
 use Rattle.cacache_table.proofs.{EarnedErrors.{io_errors_have_causes}, Effects.{puts_commit}, Promises.{calls_answer}, Sound.{begins_sound, stays_sound}}
 use Rattle.cacache_table.specs.declared.command.Command.TheVariants as commands
 use Rattle.cacache_table.specs.declared.reply.Reply.TheVariants as replies
 use Rattle.cacache_value.specs.{Acts.{AddEntries, PutBytes}, Kinds.{Elsewhere, path_kind}, OpeningTrees.{LieApart}, Placed.{MayStand, Placed}, Traces.{IsTrace}, Value.{value_of_tree}}
 use Rattle.cacache_value.proofs.Traces.{steps_keep_placed, traces_act}
-use Rattle.cacache_history.specs.{Commits.{AddsAfter, CommitsAs, Deed, InsertionAdds, IsNotOk, PutsContent, deeds, does, finds}, History.{turn_of}, Setup.{Setup, call_site, home, is_outside, may_export}, Turns.{EachTurn, made_in}}
+use Rattle.cacache_history.specs.{Commits.{AddsAfter, CommitsAs, Deed, InsertionAdds, IsNotOk, PutsContent, deeds, does, finds}, History.{Turn, turn_of}, Setup.{Setup, call_site, home, is_outside, may_export}, Turns.{EachTurn, made_in}}
 use Rattle.cacache_history.proofs.{Contents.{Carrying.{Carries, Makes, Own, carries_makes, carries_on, opening_carries, own_bytes, own_of}, Deeds.{PutsAt, Realizes, SendsEntry, took_entry, turns_realize}}, Entries.Formed.{TreeFormed}, Histories.Holding.{TurnHolds, TurnsHold}, Proper.{sound_proper}}
 use Rattle.cacache_sequence.specs.{Beside.{FitsEntry, own_integrity}, CallErrors.{IsPlainPut}, Caches.{Called, IsExcused, setup_at}, Puts.{ExpectsIntegrity, HasPut}, Sequence.{Alike, AreAnswered, after_deeds, plain_moves, tree_on, turns_on}, Standing.{IsStanding, PutStands, StandingWrites}}
 use Rattle.cacache_sequence.proofs.{Putting.{Beside.{put_keeps}, Persisting.{puts_find_nothing}, Puts.{has_or_found, leads, may_lead}}, Calls.{CallErrors.{calls_fail_only}, InParts.{logs_lead}, Logs.{some_same}, Sequence.{moves_after, moves_follow, turns_made}}, Readings.Known.{excused_by}}
 
 -- ---- turns of a cache that names no folder: whatever is on the disk, it holds no entry
 
-abbrev nowhere : Setup
+abbrev pub nowhere : Setup
 nowhere = setup_at (0 ∷ []) []
 
 no_home : home nowhere ≡ None
@@ -37,14 +37,22 @@ any_node (Some Folder) = tt
 any_node (Some (File bytes)) = tt
 any_node (Some (Link target)) = any_target (names_of target)
 
-any_turn : (t : Tree) (step : PlainStep) (a : PlainAnswer) → Rooted t → a ≡ (apply t step Plain).0 → Fits step a → TurnHolds nowhere (turn_of t Plain (step, a))
-any_turn t step a rooted answered fits = record {
-  placed = subst (λ (f : Option Names). Placed f t) (sym no_home) (λ names. any_node (look t names));
+held_there : (turn : Turn) → Rooted turn.place → turn.move.answer ≡ (apply turn.place turn.move.step turn.move.luck).0 → Fits turn.move.step turn.move.answer → TurnHolds nowhere turn
+held_there turn rooted answered fits = record {
+  placed = subst (λ (f : Option Names). Placed f turn.place) (sym no_home) (λ names. any_node (look turn.place names));
   rooted = rooted;
-  formed = subst (λ (f : Option Names). TreeFormed f t) (sym no_home) (λ digest. All-nil IsEntry);
+  formed = subst (λ (f : Option Names). TreeFormed f turn.place) (sym no_home) (λ digest. All-nil IsEntry);
   answered = answered;
   fits = fits;
 }
+
+-- turns of any cache are such
+pub turns_there : (s : Setup) (turns : List Turn) → TurnsHold s turns → TurnsHold nowhere turns
+turns_there s [] h = tt
+turns_there s (turn ∷ turns) h = (held_there turn h.0.rooted h.0.answered h.0.fits, turns_there s turns h.1)
+
+any_turn : (t : Tree) (step : PlainStep) (a : PlainAnswer) → Rooted t → a ≡ (apply t step Plain).0 → Fits step a → TurnHolds nowhere (turn_of t Plain (step, a))
+any_turn t step a rooted answered fits = held_there (turn_of t Plain (step, a)) rooted answered fits
 
 -- ---- a run
 
@@ -52,15 +60,15 @@ module _ (s : Setup) (apart : LieApart (home s) s.outside) (n : ℕ) (command : 
   abbrev own : Own
   own = own_of (call_site s n) command
 
-  -- what its moves are, and that they leave things where they may be
-  record Went (t : Tree) (moves : Moves) : Type 0 where
-    trace : IsTrace (home s) t (plain_moves moves)
-    hold : TurnsHold nowhere (turns_on t moves)
-    makes : EachTurn (λ turn. Makes (own_of (call_site s n) command) turn.move.step) (turns_on t moves)
-    placed : Placed (home s) t → Placed (home s) (tree_on t moves)
-    rooted : Rooted (tree_on t moves)
+  -- what its moves are, and that they leave things where they may stand
+  pub record Went (t : Tree) (moves : Moves) : Type 0 where
+    pub trace : IsTrace (home s) t (plain_moves moves)
+    pub hold : TurnsHold nowhere (turns_on t moves)
+    pub makes : EachTurn (λ turn. Makes (own_of (call_site s n) command) turn.move.step) (turns_on t moves)
+    pub placed : Placed (home s) t → Placed (home s) (tree_on t moves)
+    pub rooted : Rooted (tree_on t moves)
 
-  went : (t : Tree) (state : State) (moves : Moves) (r : Reply) → Rooted t → Sound (call_site s n) (may_export s) (is_outside s) state → Carries (own_of (call_site s n) command) state
+  pub went : (t : Tree) (state : State) (moves : Moves) (r : Reply) → Rooted t → Sound (call_site s n) (may_export s) (is_outside s) state → Carries (own_of (call_site s n) command) state
       → Runs state moves r → AreAnswered t moves → Went t moves
   went t state [] r rooted sound carries run answered = record { trace = tt; hold = tt; makes = tt; placed = λ h. h; rooted = rooted }
   went t state (m ∷ moves) r rooted sound carries run answered =
@@ -76,7 +84,7 @@ module _ (s : Setup) (apart : LieApart (home s) s.outside) (n : ℕ) (command : 
         rooted = more.rooted;
       }
 
--- ---- what a put did
+-- ---- what an insertion and a put did
 
 refused : (r : Reply) → IsRefused r → IsNotOk (Some r)
 refused (replies.Refused e) h = tt
@@ -88,8 +96,17 @@ sent_adds i r a new (inl e) (inl h) = inl (h.0, refused r e)
 sent_adds i r a new (inr took) (inl h) = absurd (h.1 (took_entry i.durable i.entry a took))
 sent_adds i r a new end (inr h) = inr (does (AddEntries h.0 (i.entry ∷ [])), (h.0, h.1, refl), h.2)
 
+pub insertion_adds : (i : Insertion) (own : Own) (r : Reply) (es : List Effect) (ds : List Deed) → FormedIfWritten i → Realizes own es ds → Inserts i es r → InsertionAdds i ds (Some r)
+unfolding bucket_line refused_cause
+insertion_adds i own r es ds fits real (inl h) = inl (subst (λ x. Realizes own x ds) h.0 real, refused r h.1)
+insertion_adds i own r es ds fits real (inr h) =
+    let formed = fits h.0 in
+    let k : Realizes own (sent (bucket_path i.cache i.entry.key) (bucket_line i) h.1.0 ∷ []) ds = subst (λ x. Realizes own x ds) h.1.1 real in
+    let all : ds ≡ k.0 = k.2 ∙ ap (λ more. k.0 ++ more) k.4 ∙ append-nil k.0 in
+    subst (λ x. InsertionAdds i x (Some r)) (sym all) (sent_adds i r h.1.0 k.0 h.1.2 (k.3 i.entry i.durable formed (Fits-no_cause i.entry formed h.0) refl))
+
 module _ (cache : List ℕ) (p : Put) (r : Reply) (fits : FitsEntry cache p) where
-  abbrev put_own : Own
+  abbrev pub put_own : Own
   put_own = own_bytes p.data (content_path cache (own_integrity p))
 
   put_deed : (d : Deed) → PutsAt put_own (content_path cache (own_integrity p)) d → PutsContent (put_commit cache p) (λ names. PutBytes names p.data) d
@@ -98,20 +115,13 @@ module _ (cache : List ℕ) (p : Put) (r : Reply) (fits : FitsEntry cache p) whe
 
   put_adds : (key : List ℕ) (es : List Effect) (ds : List Deed) → p.key ≡ Some key → Realizes put_own es ds → Inserts (insertion_of (put_commit cache p) key) es r
       → InsertionAdds (insertion_of (put_commit cache p) key) ds (Some r)
-  unfolding bucket_line refused_cause
-  put_adds key es ds keyed real (inl h) = inl (subst (λ x. Realizes put_own x ds) h.0 real, refused r h.1)
-  put_adds key es ds keyed real (inr h) =
-      let i = insertion_of (put_commit cache p) key in
-      let formed = fits key keyed h.0 in
-      let k : Realizes put_own (sent (bucket_path i.cache i.entry.key) (bucket_line i) h.1.0 ∷ []) ds = subst (λ x. Realizes put_own x ds) h.1.1 real in
-      let all : ds ≡ k.0 = k.2 ∙ ap (λ more. k.0 ++ more) k.4 ∙ append-nil k.0 in
-      subst (λ x. InsertionAdds i x (Some r)) (sym all) (sent_adds i r h.1.0 k.0 h.1.2 (k.3 i.entry i.durable formed (Fits-no_cause i.entry formed h.0) refl))
+  put_adds key es ds keyed real h = insertion_adds (insertion_of (put_commit cache p) key) put_own r es ds (fits key keyed) real h
 
   put_after : (key : Option (List ℕ)) (es : List Effect) (ds : List Deed) → p.key ≡ key → Realizes put_own es ds → Indexes (put_commit cache p) key es r → AddsAfter (put_commit cache p) key ds (Some r)
   put_after None es ds keyed real h = subst (λ x. Realizes put_own x ds) h real
   put_after (Some key) es ds keyed real h = put_adds key es ds keyed real h
 
-  put_commits : (es : List Effect) (ds : List Deed) → Realizes put_own es ds → Commits (put_commit cache p) es r → CommitsAs (put_commit cache p) (λ names. PutBytes names p.data) ds (Some r)
+  pub put_commits : (es : List Effect) (ds : List Deed) → Realizes put_own es ds → Commits (put_commit cache p) es r → CommitsAs (put_commit cache p) (λ names. PutBytes names p.data) ds (Some r)
   put_commits es ds real (inl h) = inl (subst (λ x. Realizes put_own x ds) h.0 real, refused r h.1)
   put_commits es ds real (inr h) =
       let k : Realizes put_own (stored (content_path cache (own_integrity p)) ∷ h.0) ds = subst (λ x. Realizes put_own x ds) h.1 real in

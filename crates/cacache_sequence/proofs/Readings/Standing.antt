@@ -32,7 +32,7 @@ looks_leave_standing cache command r old new looks c standing =
 -- ---- what answers show
 
 -- a lookup in what the answer shows finds what one in the bucket does, or the step was refused
-found_shown : (key : List ℕ) (bucket : Option (List Entry)) (a : PlainAnswer) → ShowsBucket bucket a
+pub found_shown : (key : List ℕ) (bucket : Option (List Entry)) (a : PlainAnswer) → ShowsBucket bucket a
     → (lookup key (bucket_shown a) ≡ Ok (latest key (list_of bucket))) ⊎ ((refusal : Refusal) × (lookup key (bucket_shown a) ≡ Err refusal))
 found_shown key bucket (answers.Bytes bytes) is = inl (ap (λ b. Ok (latest key (list_of b))) (sym is))
 found_shown key bucket (answers.Failed faults.NotFound) is = inl (ap (λ b. Ok (latest key (list_of b))) (sym is))

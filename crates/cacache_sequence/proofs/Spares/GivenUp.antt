@@ -9,7 +9,7 @@ use Rattle.cacache_disk.{specs.{declared.luck.Luck.TheVariants.{Plain}, Tree.{Tr
 use Rattle.cacache_memory.specs.Replay.{tree_of}
 use Rattle.cacache_table.specs.declared.command.Command.TheVariants as commands
 use Rattle.cacache_table.specs.{Runs.{Moves}, StepPaths.{temp_path}}
-use Rattle.cacache_value.specs.{Acts.{Act, Drop, act_at, act_if_done, list_of}, Kinds.{Content, Bucket, Temporary, IsFor, is_path_of, path_kind}, Value.{Value, value_of_tree}}
+use Rattle.cacache_value.specs.{Acts.{Act, Drop, act_at, act_if_done, list_of}, Kinds.{Content, Bucket, Temporary, IsFor, is_path_of, path_kind}, Placed.{Placed}, Value.{Value, value_of_tree}}
 use Rattle.cacache_value.proofs.{KindsApart.{unseen}, PathKinds.{paths_are_for}, Traces.{steps_keep_placed, traces_act}}
 use Rattle.cacache_history.{specs.Commits.{deeds, deeds_of_act}, proofs.{Entries.{Formed.{step_formed}, Keyed.{step_keyed}, Owned.{step_own}}, Contents.Righted.{stays_right}}}
 use Rattle.cacache_sequence.specs.{Caches.{IsCache, setup_at}, GivenUp.{GivingUpLasts, drop_temp}, OpenWriters.{LeavesKnownCache}, Sequence.{Alike, IsSound, after_deeds, plain_moves, turns_on}}
@@ -46,12 +46,14 @@ module _ (cache path : List ℕ) (t : Tree) (sound : IsSound (home_of cache) t) 
     own = step_own (home_of cache) t (steps.RemoveFile path) Plain sound.placed tt tt sound.own;
   }
 
-  still_alike : (a : PlainAnswer) → IsFor (home_of cache) Temporary path → a ≡ (apply t (steps.RemoveFile path) Plain).0
+-- what it holds stays, whatever its contents and buckets are
+module _ (cache path : List ℕ) (t : Tree) (placed : Placed (home_of cache) t) where
+  pub still_alike : (a : PlainAnswer) → IsFor (home_of cache) Temporary path → a ≡ (apply t (steps.RemoveFile path) Plain).0
       → Alike (value_of_tree (home_of cache) (apply t (steps.RemoveFile path) Plain).1) (value_of_tree (home_of cache) t)
   still_alike a is answered =
       let moves : Moves = (steps.RemoveFile path, a) ∷ [] in
       let v = value_of_tree (home_of cache) t in
-      let acts = ap (value_of_tree (home_of cache)) (sym (moves_after t moves)) ∙ traces_act (home_of cache) t (plain_moves moves) sound.placed (tt, answered, tt) in
+      let acts = ap (value_of_tree (home_of cache)) (sym (moves_after t moves)) ∙ traces_act (home_of cache) t (plain_moves moves) placed (tt, answered, tt) in
       let follows = moves_follow (setup_at cache []) tt t moves acts in
       let same : deeds (turns_on t moves) ≡ deeds_of_act (act_if_done a (act_at (names_of path) Drop)) ++ []
       = ap (λ l. l ++ []) (append-nil (deeds_of_act (act_if_done a (act_at (names_of path) Drop)))) in
@@ -61,7 +63,7 @@ module _ (cache path : List ℕ) (t : Tree) (sound : IsSound (home_of cache) t) 
 
 -- ---- the law
 
-temp_for : (cache : List ℕ) (number : ℕ) → IsFor (home_of cache) Temporary (temp_path cache number)
+pub temp_for : (cache : List ℕ) (number : ℕ) → IsFor (home_of cache) Temporary (temp_path cache number)
 unfolding temp_path
 temp_for cache number = (paths_are_for cache).temporary number
 
@@ -80,7 +82,7 @@ giving_up_lasts cache number old new sound (inr h) logged =
     let moves : Moves = (drop_temp cache number, h.0) ∷ [] in
     let lead = logs_lead old new moves h.1 logged in
     let t = tree_of old in
-    let alike = still_alike cache path t sound h.0 (temp_for cache number) lead.0.0 in (
+    let alike = still_alike cache path t sound.placed h.0 (temp_for cache number) lead.0.0 in (
       subst (IsSound (home_of cache)) (sym lead.1) (still_sound cache path t sound),
       stays_known cache old new (subst (λ x. Alike (value_of_tree (home_of cache) x) (value_of_tree (home_of cache) (tree_of old))) (sym lead.1) alike),
       gains_grow old new moves h.1,

@@ -1,0 +1,5 @@
+use Rattle.cacache_keep.proofs.LaterCalls.{collected_keys_stay, collections_keep_led}
+use Rattle.cacache_keep.proofs.later.later_laws.Goals as goal
+
+pub returns : goal.returns
+returns c = record { led = collections_keep_led; stays = collected_keys_stay }

@@ -1,0 +1,38 @@
+-- Where a key leads after a collection of any store that stands, and after later calls that spare it.
+use Rattle.std.specs.Prelude.{◌≡◌, ℕ, List, Some, filter_map}
+use Rattle.cacache_core.specs.{declared.integrity.digest.Hash.{Hash}, PathNames.{Names, home_of}}
+use Rattle.cacache_store.specs.declared.store.log.LogItem.{LogItem}
+use Rattle.cacache_memory.specs.Replay.{IsLog}
+use Rattle.cacache_table.specs.State.{Site}
+use Rattle.cacache_sequence.specs.{Caches.{HasKey}, Keeping.{found_under}, Standing.{IsStanding}}
+use Rattle.cacache_keep_laws.specs.Later.{AllSpare, Later, StaysRead, written}
+use Rattle.cacache_keep.specs.Keeping.{Collects}
+
+-- the log gained a collection
+abbrev pub IsCollected : Site → List LogItem → List LogItem → Type 0
+IsCollected site old new =
+    (kept : ℕ) × (dropped : List (List Hash)) × Collects site kept dropped (Some old) (Some new)
+
+-- everything stands where it may still; each key leads to the entry that it led to, and to the bytes
+pub record KeepsLed (cache : List ℕ) (old new : List LogItem) : Type 0 where
+  pub standing : IsStanding cache new
+  pub finds : (key : List ℕ) → found_under cache key new ≡ found_under cache key old
+  pub key : (key bytes : List ℕ) (i : List Hash)
+      → HasKey cache key i bytes old → HasKey cache key i bytes new
+
+-- so it is after a collection of a store that stands, whatever its contents are
+abbrev pub CollectionsKeepLed : Type 0
+CollectionsKeepLed =
+    (site : Site) (home : Names) (old new : List LogItem) → home_of site.cache ≡ Some home
+    → IsLog new → IsStanding site.cache old → IsCollected site old new
+    → KeepsLed site.cache old new
+
+-- after later calls that spare a key, it leads to the same entry and the same bytes, or to one of the
+-- texts that were written since, if that meets its integrity too. A read by the key gives them
+abbrev pub CollectedKeysStay : Type 0
+CollectedKeysStay =
+    (site : Site) (home : Names) (key : List ℕ) (i : List Hash) (bytes : List ℕ)
+    (later : List Later) (old mid new : List LogItem) → home_of site.cache ≡ Some home
+    → IsLog mid → IsStanding site.cache old → HasKey site.cache key i bytes old
+    → IsCollected site old mid → AllSpare site.cache key i later mid new
+    → StaysRead site.cache key i bytes (filter_map written later) old new
