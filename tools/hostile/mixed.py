@@ -21,7 +21,7 @@ WAYS = ["durable", "durable in pieces", "durable by hash", "plain", "plain in pi
 KEEPS = ["compact durably", "collect", "repair", "sweep", "compact"]
 VERSIONS = 4  # how many numbers have one key
 ROUNDS, NUMBERS = 3, 10  # of a start, and of each of its two processes in a round
-PART, EARLIER, REQUESTS = 4, 2, 500  # losses of one disk, earlier moments of a loss, and requests before a loss
+PART, EARLIER, REQUESTS = 4, 2, 900  # losses of one disk, earlier moments of a loss, and requests before a loss
 
 
 def way_of(number):
