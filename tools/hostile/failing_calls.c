@@ -1,9 +1,9 @@
 /* failing_calls: stands before the C library for `tools/hostile/each`, and lets one call on files go wrong.
 
    It counts the program's calls. The one with the number EACH_AT goes wrong as EACH_HOW says: `errno N` (the call isn't made and says N),
-   `stays N` (and so does each later one of its name on the same path), `short` (a read or a write takes half of its bytes), `before`, `half` and `after` (the process is killed before the call, once a half
-   was read or written, or behind the call). EACH_TELL is a file that gets a line for that call, and for each call where EACH_AT is 0: its
-   name, and the path or what lies open under its number. */
+   `stays N` (and so does each later one of its name on the same path), `short` (a read or a write takes half of its bytes), `before`,
+   `half` and `after` (the process is killed before the call, once a half was read or written, or after the call). EACH_TELL is a file that
+   gets a line for that call, and for each call if EACH_AT is 0: its name, and the path or what lies open under its number. */
 #define _GNU_SOURCE
 #include <dirent.h>
 #include <dlfcn.h>
@@ -93,6 +93,9 @@ WHOLE(int, mkdir, (const char *path, mode_t mode), (path, mode), path, -1)
 WHOLE(int, fsync, (int fd), (fd), NULL, fd)
 WHOLE(int, fdatasync, (int fd), (fd), NULL, fd)
 WHOLE(int, fchmod, (int fd, mode_t mode), (fd, mode), NULL, fd)
+WHOLE(int, fchown, (int fd, uid_t owner, gid_t group), (fd, owner, group), NULL, fd)
+WHOLE(int, chown, (const char *path, uid_t owner, gid_t group), (path, owner, group), path, -1)
+WHOLE(int, lchown, (const char *path, uid_t owner, gid_t group), (path, owner, group), path, -1)
 WHOLE(int, ftruncate, (int fd, off_t size), (fd, size), NULL, fd)
 
 /* Of what lies open it is called `fstat` here. */

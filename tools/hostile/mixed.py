@@ -5,9 +5,9 @@ The power goes at a random write or flush, or at the end. Then the machine start
 It starts too on what would have been left at a few earlier moments: a beginning of the writes and flushes, of which a loss takes as ever.
 
 What may be there: of each content and each key the state of its last durable call that had answered by then, or any that it had or could
-come to have since. A durable put fixes its content and its key's entry, a durable put by hash its content. What a plain put, a removal, a
-damage, a collection or a repair did since may be lost or not; a compaction that isn't durable may take a key's lines. So a durable content
-that was removed and put again plainly may be absent.
+come to have since. A durable put fixes its content and its key's entry, a durable put by hash its content, and a durable compaction the entry
+that each key has, or its lack. What a plain put, a removal, a damage, a collection or a repair did since may be lost or not; a compaction
+that isn't durable may take a key's lines. So a durable content that was removed and put again plainly may be absent.
 """
 import random
 import re
@@ -21,7 +21,7 @@ WAYS = ["durable", "durable in pieces", "durable by hash", "plain", "plain in pi
 KEEPS = ["compact durably", "collect", "repair", "sweep", "compact"]
 VERSIONS = 4  # how many numbers have one key
 ROUNDS, NUMBERS = 3, 10  # of a start, and of each of its two processes in a round
-PART, EARLIER, REQUESTS = 4, 2, 500  # losses of one disk, earlier moments of a loss, and requests before a loss
+PART, EARLIER, REQUESTS = 4, 2, 900  # losses of one disk, earlier moments of a loss, and requests before a loss
 
 
 def way_of(number):
@@ -66,8 +66,8 @@ class State:
             states = ["is"] if fixed and sure else ["other", "is"]
             self.put(number, states, "hash" not in way, fixed, sure)
 
-    def keep(self, which, _):
-        """An upkeep is made."""
+    def keep(self, which, sure):
+        """An upkeep is made; sure: it has answered."""
         kind, alive = KEEPS[which], set(self.key.values())
         for number in self.content:
             if kind == "collect" and number not in alive or kind == "repair" and self.content[number] == "other":
@@ -78,6 +78,8 @@ class State:
                 self.keys[key].add(None)
             if kind == "repair" and self.content.get(number) != "is":
                 self.key[key] = None
+            if kind == "compact durably" and sure:
+                self.keys[key] = {number}
 
 
 def events(lines, noted):

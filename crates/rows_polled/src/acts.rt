@@ -83,6 +83,19 @@ fn called<R: Wait + RandomSource + AllocGlobal, S: Store>(
     }
 }
 
+/// What an act gives that is also made beside an open writer: it counts the names of a folder, or is such a call.
+pub(crate) fn asked<R: Wait + RandomSource + AllocGlobal, S: Store>(
+    rt: &R,
+    env: &mut On<S>,
+    act: &str,
+) -> Result<String, Flaw> {
+    let (name, words) = cut(act);
+    match name {
+        "names" => Ok(names(env, words)?),
+        _ => called(rt, env, name, words),
+    }
+}
+
 /// What an act gives.
 pub(crate) fn made<R, S, T>(rt: &R, env: &mut On<S>, act: &str) -> Result<String, Flaw>
 where
@@ -96,9 +109,8 @@ where
         "writer" => written(rt, env, on, steps),
         "reader" => read_by_polls(rt, env, on, steps),
         "linker" => linked_by_polls(rt, env, on, steps),
-        "names" => Ok(names(env, words)?),
         "plant" => Ok(planted(env, words)?),
         "unpolled" => Ok(unpolled(env, words)?),
-        _ => called(rt, env, name, words),
+        _ => asked(rt, env, act),
     }
 }

@@ -1,7 +1,8 @@
 //! The end of a writer: a commit, which may be pending at first, or a drop. What comes after it.
+use crate::acts::asked;
 use crate::answers::{add, with};
 use crate::gates::{turned, worked};
-use crate::steps::{Stepped, with_steps};
+use crate::steps::{Stepped, is_act, with_steps};
 use crate::writers::Desk;
 use cacache_core::errors::Result as Answered;
 use cacache_core::integrity::Integrity;
@@ -14,6 +15,7 @@ use row_places::{Numbers, On, Still};
 use rows::Flaw;
 use rows::answers::stored;
 use std::alloc::{AllocError, AllocGlobal, Global};
+use std::random::RandomSource;
 use std::sync::Wait;
 
 /// The answer to a poll of a commit.
@@ -116,38 +118,60 @@ where
     Ok(with(line, String::from_str(rt.alloc(), "-"))?)
 }
 
-/// A worker after its writer was dropped.
+/// A worker whose writer was dropped, and the environment.
 #[derive(Drop)]
-struct Alone<'a, R, T> {
+struct Alone<'a, R, S, T> {
     rt: &'a R,
+    env: &'a mut On<S>,
     worker: &'a mut Worker<T>,
 }
 
-impl<'a, R: Wait + AllocGlobal, T: RemovableTemp> Stepped for Alone<'a, R, T> {
+impl<'a, R, S, T> Stepped for Alone<'a, R, S, T>
+where
+    R: Wait + RandomSource + AllocGlobal,
+    S: Store<Temp = T>,
+    T: RemovableTemp,
+{
     fn step(&mut self, step: &str) -> Result<String, Flaw> {
-        let word = turned(self.rt, self.worker, step)?;
-        Ok(String::from_str(self.rt.alloc(), word)?)
+        if is_act(step) {
+            asked(self.rt, self.env, step)
+        } else {
+            let word = turned(self.rt, self.worker, step)?;
+            Ok(String::from_str(self.rt.alloc(), word)?)
+        }
     }
 }
 
-/// A line with what the turns of such a worker give.
-fn with_turns<R: Wait + AllocGlobal, T: RemovableTemp>(
+/// A line with what the turns of such a worker give, and the acts between them.
+fn with_turns<R, S, T>(
     rt: &R,
+    env: &mut On<S>,
     worker: &mut Worker<T>,
     after: &str,
     line: String,
-) -> Result<String, Flaw> {
-    let mut alone = Alone { rt, worker };
+) -> Result<String, Flaw>
+where
+    R: Wait + RandomSource + AllocGlobal,
+    S: Store<Temp = T>,
+    T: RemovableTemp,
+{
+    let mut alone = Alone { rt, env, worker };
     with_steps(line, &mut alone, after)
 }
 
 /// What the worker's turns give once the writer is dropped.
-pub(crate) fn left<R: Wait + AllocGlobal, T: RemovableTemp>(
+pub(crate) fn left<R, S, T>(
     rt: &R,
+    env: &mut On<S>,
     desk: Desk<T>,
     after: &str,
     line: String,
-) -> Result<String, Flaw> {
+) -> Result<String, Flaw>
+where
+    R: Wait + RandomSource + AllocGlobal,
+    S: Store<Temp = T>,
+    T: RemovableTemp,
+{
     let Desk {
         task,
         writer,
@@ -157,5 +181,5 @@ pub(crate) fn left<R: Wait + AllocGlobal, T: RemovableTemp>(
     let_go(task);
     let line = with(line, String::from_str(rt.alloc(), "-"));
     let (line, mut worker) = beside(line, worker)?;
-    with_turns(rt, &mut worker, after, line)
+    with_turns(rt, env, &mut worker, after, line)
 }

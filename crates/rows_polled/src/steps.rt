@@ -2,7 +2,14 @@
 use crate::answers::add;
 use cacache_core::keeping::beside;
 use rows::Flaw;
+use rows::words::cut;
 use std::alloc::Global;
+
+/// Whether a step of a writer's row is an act in its environment: it counts a folder's names, or clears a cache.
+pub(crate) fn is_act(step: &str) -> bool {
+    let (name, _) = cut(step);
+    matches!(name, "names" | "clear")
+}
 
 /// What steps are made with.
 pub(crate) trait Stepped {

@@ -1,10 +1,11 @@
 //! Writers and their workers: what polls and turns give, one after another.
+use crate::acts::asked;
 use crate::answers::bytes_of;
 use crate::ending::{committed, left, unpolled};
 use crate::gates::{turned, worked};
 use crate::opening::opened;
 use crate::polls::{close, flush, write};
-use crate::steps::{Stepped, in_turn};
+use crate::steps::{Stepped, in_turn, is_act};
 use cacache_core::keeping::{beside, let_go};
 use cacache_store::store::Store;
 use cacache_writers::{RemovableTemp, Worker, Writer};
@@ -55,27 +56,43 @@ fn stepped<R: Wait + AllocGlobal, T: RemovableTemp>(
     }
 }
 
-/// A desk at which steps are made.
+/// A desk at which steps are made, and the environment of the writer.
 #[derive(Drop)]
-struct Shift<'a, R, T> {
+struct Shift<'a, R, S, T> {
     rt: &'a R,
+    env: &'a mut On<S>,
     desk: &'a mut Desk<T>,
 }
 
-impl<'a, R: Wait + AllocGlobal, T: RemovableTemp> Stepped for Shift<'a, R, T> {
+impl<'a, R, S, T> Stepped for Shift<'a, R, S, T>
+where
+    R: Wait + RandomSource + AllocGlobal,
+    S: Store<Temp = T>,
+    T: RemovableTemp,
+{
     fn step(&mut self, step: &str) -> Result<String, Flaw> {
-        stepped(self.rt, self.desk, step)
+        if is_act(step) {
+            asked(self.rt, self.env, step)
+        } else {
+            stepped(self.rt, self.desk, step)
+        }
     }
 }
 
 /// What steps give, one after another.
-fn stepped_in_turn<R: Wait + AllocGlobal, T: RemovableTemp>(
+fn stepped_in_turn<R, S, T>(
     rt: &R,
+    env: &mut On<S>,
     desk: &mut Desk<T>,
     steps: &str,
-) -> Result<String, Flaw> {
+) -> Result<String, Flaw>
+where
+    R: Wait + RandomSource + AllocGlobal,
+    S: Store<Temp = T>,
+    T: RemovableTemp,
+{
     let alloc = rt.alloc();
-    let mut shift = Shift { rt, desk };
+    let mut shift = Shift { rt, env, desk };
     in_turn(alloc, &mut shift, steps)
 }
 
@@ -100,18 +117,18 @@ fn made_with<R, S, T>(
     steps: &str,
 ) -> Result<String, Flaw>
 where
-    R: Wait + AllocGlobal,
+    R: Wait + RandomSource + AllocGlobal,
     S: Store<Temp = T>,
     T: RemovableTemp,
 {
     let (before, end, after) = cut_at_end(steps);
-    let line = stepped_in_turn(rt, &mut desk, before);
+    let line = stepped_in_turn(rt, env, &mut desk, before);
     let (line, desk) = beside(line, desk)?;
     match end {
         "; commit" => committed(rt, env, desk, false, after, line),
         "; shut" => committed(rt, env, desk, true, after, line),
         "; leave" => unpolled(rt, env, desk, line),
-        "; drop" => left(rt, desk, after, line),
+        "; drop" => left(rt, env, desk, after, line),
         _ => {
             let_go(desk);
             Ok(line)
