@@ -249,14 +249,14 @@ module _ (cache key : List ℕ) (i : List Hash) (formed : IsIntegrity i) (r : Re
       let ts = turns cache (commands.RemoveFully gone) r old new standing c may in
       at_first (Left cache key i None old new)
       (λ a hs at is.
-          let bucket = bucket_goes cache key a is gone differ in
-          elim (key_removed (site cache command r old new standing c may) gone ts r (run cache command r old new standing c may)) [
-            | inl drops ↦ removal_left command c may a hs at is (bucket_path cache gone ∷ []) (bucket, tt) drops
-            | inr (found, first, drops) ↦
-                let from = apart found (finds_first gone c.ran.0 found (leads cache command r old new standing c may).0 first) in
-                removal_left command c may a hs at is (content_path cache found.integrity ∷ bucket_path cache gone ∷ [])
-                (content_goes cache key a is found.integrity from.0 (apart_at found.integrity a hs at from.1), (bucket, tt)) drops
-          ])
+      let bucket = bucket_goes cache key a is gone differ in
+      elim (key_removed (site cache command r old new standing c may) gone ts r (run cache command r old new standing c may)) [
+        | inl drops ↦ removal_left command c may a hs at is (bucket_path cache gone ∷ []) (bucket, tt) drops
+        | inr (found, first, drops) ↦
+            let from = apart found (finds_first gone c.ran.0 found (leads cache command r old new standing c may).0 first) in
+            removal_left command c may a hs at is (content_path cache found.integrity ∷ bucket_path cache gone ∷ [])
+            (content_goes cache key a is found.integrity from.0 (apart_at found.integrity a hs at from.1), (bucket, tt)) drops
+      ])
 
   -- a call of any command that spares the key
   pub call_left : (command : Command) (c : Called cache command r old new) → May command c → SparesKey key command → SparesContent cache i old command → Left cache key i (written (calls command)) old new
