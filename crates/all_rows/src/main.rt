@@ -41,8 +41,8 @@ where
         "hostile" => rows_hostile::all_hold(host, rows),
         "polled" => rows_polled::all_hold(rt, rows),
         "public" => rows_public::all_hold(rt, host, rows),
-        "keep" => rows_keep::all_hold(host, rows),
-        "system" => rows_system::all_hold(host, rows),
+        "keep" => rows_public::keep::all_hold(host, rows),
+        "system" => rows_folder::system::all_hold(host, rows),
         _ => {
             println!(host; "no rows have this name")?;
             Ok(false)

@@ -11,10 +11,10 @@ pub use Rattle.cacache_jobs.specs.Jobs.{can_go_on, has_out, is_step}
 pub use Rattle.cacache_jobs.specs.ReadFirst.{ReadsFound, Verified, Linked}
 pub use Rattle.cacache_table.specs.Blank.{blank}
 pub use Rattle.cacache_table.specs.Replies.{done, looked_up}
-pub use Rattle.cacache_put.specs.Options.{Said, nothing_said, options_of}
-pub use Rattle.cacache_put.specs.LinkCalls.{link_to, HoldsTarget}
-pub use Rattle.cacache_reads.specs.Lookups.{ReadsBucket, Finds, LooksUp, delete_of}
+pub use Rattle.cacache_sync.specs.put.Options.{Said, nothing_said, options_of}
+pub use Rattle.cacache_sync.specs.put.LinkCalls.{link_to, HoldsTarget}
+pub use Rattle.cacache_sync.specs.Lookups.{ReadsBucket, Finds, LooksUp, delete_of}
 pub use Rattle.cacache_jobs.specs.Environment.{KeepsRest, Steps, Calls, MomentOf, RunsNumbered, RunsTimed, RunsPut}
-pub use Rattle.cacache_put.specs.Puts.{keyed_put, unkeyed_put, insert_of}
-pub use Rattle.cacache_reads.specs.Reads.{AsksContent, bytes_read, has}
-pub use Rattle.cacache_reads.specs.Exports.{exporting, checked_export, unchecked_export}
+pub use Rattle.cacache_sync.specs.put.Puts.{keyed_put, unkeyed_put, insert_of}
+pub use Rattle.cacache_sync.specs.Reads.{AsksContent, bytes_read, has}
+pub use Rattle.cacache_sync.specs.Exports.{exporting, checked_export, unchecked_export}

@@ -3,4 +3,4 @@ pub use Rattle.cacache_core.specs.Digests.{sha256_hex}
 pub use Rattle.cacache_entry.specs.Entry.{Entry, text_of, line_of}
 pub use Rattle.cacache_entry.specs.Latest.{Found}
 pub use Rattle.cacache_entry.specs.View.{entry_view, found_view}
-pub use Rattle.cacache_reads.specs.Printing.{printed_entry}
+pub use Rattle.cacache_sync.specs.Printing.{printed_entry}

@@ -22,12 +22,12 @@ pub use Rattle.cacache_history.specs.Lookups.{FoundOfPuts, IsOneOfPuts, SparesKe
 pub use Rattle.cacache_history.specs.Places.{CallIn, MoveAt, MovesAre, now_before}
 pub use Rattle.cacache_history.specs.Setup.{call_site, home}
 pub use Rattle.cacache_history.specs.Values.{MetDigestsAreSame}
-pub use Rattle.cacache_durable.specs.FewCalls.{FewCalls}
-pub use Rattle.cacache_durable.specs.Behind.{Behind, NoneAppends, StaysSynced}
-pub use Rattle.cacache_durable.specs.Outlasting.{AnsweredPut, DurableInsert, DurablePut, EntriesHaveBehind, FoundLink, HistoriesOutlive, KeepsLink, Outlives, OutlastsWith, PutsOrLinksOutlast}
+pub use Rattle.cacache_history.specs.durable.FewCalls.{FewCalls}
+pub use Rattle.cacache_history.specs.durable.Behind.{Behind, NoneAppends, StaysSynced}
+pub use Rattle.cacache_history.specs.durable.Outlasting.{AnsweredPut, DurableInsert, DurablePut, EntriesHaveBehind, FoundLink, HistoriesOutlive, KeepsLink, Outlives, OutlastsWith, PutsOrLinksOutlast}
 pub use Rattle.cacache_world.specs.Losses.{LeftBy}
-pub use Rattle.cacache_sequence.specs.Standing.{IsStanding}
-pub use Rattle.cacache_results.specs.DurableCases.{CanBeWritten, GoElsewhere, InsertsStandInOne, IsLastPut, PutsStandInOne, PutsStandLast, StandsIn, StoresDurably, followed_by}
-pub use Rattle.cacache_results.specs.FoundLinks.{GivesDigest, HistoriesKeepLinks, LeadsUnchanged, LinksLeadUnchanged, LinksOutlast, OnlyLinksIn, PutsOrLinksGive, StaysUnchanged, UnchangedFilesStay, linking_in}
-pub use Rattle.cacache_results.specs.LeftLinks.{LeadsThrough, LinkIsLeft, LossesLeaveLastLinks, LossesLeaveLinks}
-pub use Rattle.cacache_results.specs.Losses.{IsLast, IsLeft, LeadsToDigest, LeftRead, LeftReadMeans, LeftWriteMeans, LeftWritten, LossesLeaveLast, LossesLeavePuts, LossesLeaveStanding, PutIsLeft, StandsBefore}
+pub use Rattle.cacache_laws.specs.Standing.{IsStanding}
+pub use Rattle.cacache_laws.specs.results.DurableCases.{CanBeWritten, GoElsewhere, InsertsStandInOne, IsLastPut, PutsStandInOne, PutsStandLast, StandsIn, StoresDurably, followed_by}
+pub use Rattle.cacache_laws.specs.results.FoundLinks.{GivesDigest, HistoriesKeepLinks, LeadsUnchanged, LinksLeadUnchanged, LinksOutlast, OnlyLinksIn, PutsOrLinksGive, StaysUnchanged, UnchangedFilesStay, linking_in}
+pub use Rattle.cacache_laws.specs.results.LeftLinks.{LeadsThrough, LinkIsLeft, LossesLeaveLastLinks, LossesLeaveLinks}
+pub use Rattle.cacache_laws.specs.results.Losses.{IsLast, IsLeft, LeadsToDigest, LeftRead, LeftReadMeans, LeftWriteMeans, LeftWritten, LossesLeaveLast, LossesLeavePuts, LossesLeaveStanding, PutIsLeft, StandsBefore}

@@ -7,7 +7,7 @@ pub use Rattle.cacache_core.specs.declared.errors.Fault.{Fault}
 pub use Rattle.cacache_core.specs.declared.errors.Fault.TheVariants.{NotFound}
 pub use Rattle.cacache_core.specs.declared.errors.IntegrityFault.{IntegrityFault}
 pub use Rattle.cacache_core.specs.Integrity.{IsIntegrity}
-pub use Rattle.cacache_memory.specs.Replay.{IsLog, shown, tree_of}
+pub use Rattle.cacache_disk.specs.memory.Replay.{IsLog, shown, tree_of}
 pub use Rattle.cacache_entry.specs.FittingEntries.{AreBytes, IsJson}
 pub use Rattle.cacache_table.specs.declared.command.Source.TheVariants.{Key, Hash as OfHash}
 pub use Rattle.cacache_table.specs.declared.command.How.TheVariants.{Copy, Reflink, HardLink}
@@ -15,26 +15,26 @@ pub use Rattle.cacache_table.specs.Linking.{based}
 pub use Rattle.cacache_table.specs.Promises.{answered}
 pub use Rattle.cacache_value.specs.Value.{InFile, AtLink}
 pub use Rattle.cacache_history.specs.Values.{IsThere}
-pub use Rattle.cacache_sequence.specs.Caches.{IsCache, IsEmptyCache, HasContent, HasKey, LacksKey, Grows, AStepFailed, IsExcused, Called, lies_under}
-pub use Rattle.cacache_sequence.specs.Keeping.{StaysKnown, KeepsOthers, found_under}
-pub use Rattle.cacache_sequence.specs.Inserts.{leads_to}
-pub use Rattle.cacache_sequence.specs.Beside.{IsOther, KeepsBeside, ShareAddress}
-pub use Rattle.cacache_sequence.specs.Removed.{KeepsApart, KeepsApartFrom}
-pub use Rattle.cacache_sequence.specs.Links.{KeepsBesideLink}
-pub use Rattle.cacache_sequence.specs.Looks.{IsDamaged, GivesHeld, GivesOfKey, bytes_under}
-pub use Rattle.cacache_sequence.specs.ExportEffects.{IsApart, NamesBytes}
-pub use Rattle.cacache_sequence.specs.OpenWriters.{LeavesKnownCache, NothingElse}
-pub use Rattle.cacache_sequence.specs.Succeeds.{NamesFolder, IsReady, IsTidy, IsUnused}
-pub use Rattle.cacache_sequence.specs.Succeeds.{ListsAll, Clears}
-pub use Rattle.cacache_sequence.specs.OpenSucceeds.{FileAt, MayTake}
-pub use Rattle.cacache_results.specs.Success.{FailsForMemory, FailsAs, FailsFor}
-pub use Rattle.cacache_results.specs.Reads.{GivesJust, GivesNoEntry, LiesWhole, KeyLiesWhole, LinksToFile, KeyRead, ContentRead, EntryFound, AskedContent}
-pub use Rattle.cacache_results.specs.Writes.{DontClash, KeepsUntouched, SaysPlain, KeyWritten, ContentWritten, KeyInserted}
-pub use Rattle.cacache_results.specs.Removals.{KeyRemoved, ContentRemoved, KeyRemovedFully, FailsClearing, Cleared}
-pub use Rattle.cacache_results.specs.Exports.{NamesHeld, LiesUnread, TellsSource, TellsPath, FailsExport, RefusesSource, CopiedOut, SharedOut}
-pub use Rattle.cacache_sequence.specs.LinkAnswers.{OpensAs, target_bytes}
-pub use Rattle.cacache_results.specs.Links.{LeadsOn, LiesLinked, LinksBytes, LinkedFile}
-pub use Rattle.cacache_results.specs.Linkers.{MemLinker, IsLinking, OpenedLinker, LinkedBytes}
+pub use Rattle.cacache_laws.specs.Caches.{IsCache, IsEmptyCache, HasContent, HasKey, LacksKey, Grows, AStepFailed, IsExcused, Called, lies_under}
+pub use Rattle.cacache_laws.specs.Keeping.{StaysKnown, KeepsOthers, found_under}
+pub use Rattle.cacache_laws.specs.Inserts.{leads_to}
+pub use Rattle.cacache_laws.specs.Beside.{IsOther, KeepsBeside, ShareAddress}
+pub use Rattle.cacache_laws.specs.Removed.{KeepsApart, KeepsApartFrom}
+pub use Rattle.cacache_laws.specs.Links.{KeepsBesideLink}
+pub use Rattle.cacache_laws.specs.Looks.{IsDamaged, GivesHeld, GivesOfKey, bytes_under}
+pub use Rattle.cacache_laws.specs.ExportEffects.{IsApart, NamesBytes}
+pub use Rattle.cacache_laws.specs.OpenWriters.{LeavesKnownCache, NothingElse}
+pub use Rattle.cacache_laws.specs.Succeeds.{NamesFolder, IsReady, IsTidy, IsUnused}
+pub use Rattle.cacache_laws.specs.Succeeds.{ListsAll, Clears}
+pub use Rattle.cacache_laws.specs.OpenSucceeds.{FileAt, MayTake}
+pub use Rattle.cacache_laws.specs.results.Success.{FailsForMemory, FailsAs, FailsFor}
+pub use Rattle.cacache_laws.specs.results.Reads.{GivesJust, GivesNoEntry, LiesWhole, KeyLiesWhole, LinksToFile, KeyRead, ContentRead, EntryFound, AskedContent}
+pub use Rattle.cacache_laws.specs.results.Writes.{DontClash, KeepsUntouched, SaysPlain, KeyWritten, ContentWritten, KeyInserted}
+pub use Rattle.cacache_laws.specs.results.Removals.{KeyRemoved, ContentRemoved, KeyRemovedFully, FailsClearing, Cleared}
+pub use Rattle.cacache_laws.specs.results.Exports.{NamesHeld, LiesUnread, TellsSource, TellsPath, FailsExport, RefusesSource, CopiedOut, SharedOut}
+pub use Rattle.cacache_laws.specs.LinkAnswers.{OpensAs, target_bytes}
+pub use Rattle.cacache_laws.specs.results.Links.{LeadsOn, LiesLinked, LinksBytes, LinkedFile}
+pub use Rattle.cacache_laws.specs.results.Linkers.{MemLinker, IsLinking, OpenedLinker, LinkedBytes}
 pub use Rattle.cacache_table.specs.ListReplies.{In}
-pub use Rattle.cacache_results.specs.Lists.{AreAllEntries, ListedEntries}
-pub use Rattle.cacache_results.specs.Handles.{MemWriter, IsWriting, OpenedWriter, SaysFit, IsEntryFor, LeadsToEntry, MayLeadToEntry, LiesOrStayed, CommittedBytes, said_integrity}
+pub use Rattle.cacache_laws.specs.results.Lists.{AreAllEntries, ListedEntries}
+pub use Rattle.cacache_laws.specs.results.Handles.{MemWriter, IsWriting, OpenedWriter, SaysFit, IsEntryFor, LeadsToEntry, MayLeadToEntry, LiesOrStayed, CommittedBytes, said_integrity}

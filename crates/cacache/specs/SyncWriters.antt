@@ -1,2 +1,2 @@
 -- Open writers with all options, for the crates above: how they open, and what their commit does.
-pub use Rattle.cacache_put.specs.KeyedWriters.{IsNewWriter, OpensAt, OpensKeyed, CommitsWriter, writer_commit}
+pub use Rattle.cacache_sync.specs.put.KeyedWriters.{IsNewWriter, OpensAt, OpensKeyed, CommitsWriter, writer_commit}

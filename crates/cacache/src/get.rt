@@ -8,9 +8,9 @@ pub use cacache_async::exports::{
 pub use cacache_async::index::{FindAsyncFuture as MetadataFuture, find_async as metadata};
 pub use cacache_async::read::{ExistsFuture, ReadFuture, ReadHashFuture, exists, read, read_hash};
 pub use cacache_async::reader::{Reader, ReaderOpenFuture, ReaderOpenHashFuture};
-pub use cacache_content::reader::SyncReader;
-pub use cacache_reads::index::find as metadata_sync;
-pub use cacache_reads::{
+pub use cacache_sync::content::reader::SyncReader;
+pub use cacache_sync::index::find as metadata_sync;
+pub use cacache_sync::{
     copy_hash_sync, copy_hash_unchecked_sync, copy_sync, copy_unchecked_sync, exists_sync,
     hard_link_hash_sync, hard_link_hash_unchecked_sync, hard_link_sync, hard_link_unchecked_sync,
     read_hash_sync, read_sync, reflink_hash_sync, reflink_hash_unchecked_sync, reflink_sync,

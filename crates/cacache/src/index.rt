@@ -4,8 +4,8 @@ pub use cacache_async::index::{
 };
 pub use cacache_async::rm::{RemoveAsync, RemoveOptsRemoveFuture};
 pub use cacache_entry::{Lookup, Metadata, SerializableMetadata, entries, latest, line};
-pub use cacache_put::index::insert;
-pub use cacache_reads::entries::{entry_of, text};
-pub use cacache_reads::index::{delete, find};
-pub use cacache_reads::rm::RemoveOpts;
+pub use cacache_sync::entries::{entry_of, text};
+pub use cacache_sync::index::{delete, find};
+pub use cacache_sync::put::index::insert;
+pub use cacache_sync::rm::RemoveOpts;
 pub use cacache_walks::ls;

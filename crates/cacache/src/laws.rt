@@ -3,19 +3,19 @@
 //! arguments and its answer: they say what it left. The words of their contracts are those of `specs/Laws`, and for
 //! worlds and losses those of `specs/Histories`.
 pub use cacache_core::laws::{integrity_laws, path_laws, text_laws};
-pub use cacache_durable::durable_laws;
 pub use cacache_entry::{bucket_laws, entry_laws, lookup_laws};
+pub use cacache_history::durable::durable_laws;
 pub use cacache_history::{digest_laws, history_laws};
-pub use cacache_polled::laws::event_laws;
-pub use cacache_results::{
+pub use cacache_laws::results::{
     after_clear, after_copy, after_exists, after_find, after_insert, after_link, after_link_hash,
     after_list, after_read, after_read_hash, after_read_left, after_remove, after_remove_fully,
     after_remove_hash, after_share, after_write, after_write_hash, after_write_left, durable_cases,
     joining_laws, link_losses, linker_laws, loss_results, writer_laws,
 };
-pub use cacache_sequence::{
+pub use cacache_laws::{
     cache_laws, handle_laws, look_laws, parts_laws, sequence_laws, standing_laws, success_laws,
 };
+pub use cacache_polled::laws::event_laws;
 pub use cacache_shared::seat_laws;
 pub use cacache_table::{
     effect_laws, licence_laws, promise_laws, reply_laws, row_laws, run_laws, sound_laws,

@@ -1,6 +1,6 @@
 -- What an opening is to link, by what it is called with.
 use Rattle.std.specs.Prelude.{ℕ, List, option_map}
-use Rattle.cacache_put.specs.{OpenLinkers.{LinkTarget, linked_by}, Options.{nothing_said}}
+use Rattle.cacache_sync.specs.put.{OpenLinkers.{LinkTarget, linked_by}, Options.{nothing_said}}
 use Rattle.cacache_async.specs.declared.linking.{SizedTargetCall.{SizedTargetCall}, TargetCall.{TargetCall}}
 
 -- by its options

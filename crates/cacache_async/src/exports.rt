@@ -6,17 +6,17 @@ ghost use Rattle.cacache_table.specs.Replies.{done};
 ghost use Rattle.cacache_table.specs.Runs.{reply_of};
 ghost use Rattle.cacache_jobs.specs.ReadFirst.{Verified};
 ghost use Rattle.cacache_jobs.specs.Environment.{Calls};
-ghost use Rattle.cacache_reads.specs.declared.exporting.Named.TheVariants.{Key, Hash};
-ghost use Rattle.cacache_reads.specs.Exports.{exporting, named_source, IsFormed};
+ghost use Rattle.cacache_sync.specs.declared.exporting.Named.TheVariants.{Key, Hash};
+ghost use Rattle.cacache_sync.specs.Exports.{exporting, named_source, IsFormed};
 ghost use Rattle.cacache_async.specs.Waiting.{Waits};
 
 use crate::call::Call;
 use crate::future::CallFuture;
 use cacache_core::errors::Result;
 use cacache_core::integrity::Integrity;
-use cacache_reads::{Named, copy_content, link_content};
 use cacache_store::env::{Clock, Env, Names};
 use cacache_store::store::Store;
+use cacache_sync::{Named, copy_content, link_content};
 use cacache_table::How;
 
 /// What a copy is called with: a cache, what names the content, whether it is verified first, and a path.

@@ -6,8 +6,8 @@ ghost use Rattle.cacache_table.specs.Inserting.{given_or, no_integrity};
 ghost use Rattle.cacache_table.specs.Replies.{done, looked_up};
 ghost use Rattle.cacache_table.specs.Runs.{reply_of};
 ghost use Rattle.cacache_jobs.specs.Environment.{Calls, RunsTimed};
-ghost use Rattle.cacache_reads.specs.Lookups.{LooksUp, delete_of};
-ghost use Rattle.cacache_put.specs.Puts.{insert_of};
+ghost use Rattle.cacache_sync.specs.Lookups.{LooksUp, delete_of};
+ghost use Rattle.cacache_sync.specs.put.Puts.{insert_of};
 ghost use Rattle.cacache_async.specs.Waiting.{Waits};
 
 use crate::call::Call;
@@ -15,11 +15,11 @@ use crate::future::CallFuture;
 use cacache_core::errors::Result;
 use cacache_core::integrity::Integrity;
 use cacache_entry::Metadata;
-use cacache_put::index::insert;
-use cacache_put::opts::WriteOpts;
-use cacache_reads::index::{delete, find};
 use cacache_store::env::{Clock, Env, Names};
 use cacache_store::store::Store;
+use cacache_sync::index::{delete, find};
+use cacache_sync::put::index::insert;
+use cacache_sync::put::opts::WriteOpts;
 
 /// What `find` is called with.
 #[derive(Clone, Copy)]

@@ -7,10 +7,10 @@ ghost use Rattle.futures.specs.Task.{Keeps};
 ghost use Rattle.cacache_store.specs.Handles.{LeftFalls};
 ghost use Rattle.cacache_table.specs.declared.reply.Reply.TheVariants.{Stored};
 ghost use Rattle.cacache_table.specs.Runs.{reply_of};
-ghost use Rattle.cacache_content.specs.OpenWrites.{IsRetried};
-ghost use Rattle.cacache_content.specs.Passed.{passed};
-ghost use Rattle.cacache_put.specs.OpenLinkers.{CommitsLink, HasHashed, HashesMore, HashesPart, StoresWhole};
-ghost use Rattle.cacache_put.specs.Options.{saying};
+ghost use Rattle.cacache_sync.specs.content.OpenWrites.{IsRetried};
+ghost use Rattle.cacache_sync.specs.content.Passed.{passed};
+ghost use Rattle.cacache_sync.specs.put.OpenLinkers.{CommitsLink, HasHashed, HashesMore, HashesPart, StoresWhole};
+ghost use Rattle.cacache_sync.specs.put.Options.{saying};
 ghost use Rattle.cacache_async.specs.Waiting.{Waits};
 ghost use Rattle.cacache_async.specs.Polling.{TellsRead};
 
@@ -21,10 +21,10 @@ use crate::linking::{
 };
 use cacache_core::errors::{Fault, Result};
 use cacache_core::integrity::{Algorithm, Integrity};
-use cacache_put::linker::SyncToLinker;
-use cacache_put::opts::WriteOpts;
 use cacache_store::env::{Clock, Env, Names};
 use cacache_store::store::{OpenedFile, Store};
+use cacache_sync::put::linker::SyncToLinker;
+use cacache_sync::put::opts::WriteOpts;
 use futures::task::{Context, Poll};
 use std::alloc::Global;
 use std::io;

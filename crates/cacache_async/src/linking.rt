@@ -1,6 +1,6 @@
 //! Futures that open the target of a link.
 ghost use Rattle.std.specs.Prelude.{◌≡◌, None, Some};
-ghost use Rattle.cacache_put.specs.OpenLinkers.{BeginsLink, OpensLink, OpensWithSize, asks_file, asks_size};
+ghost use Rattle.cacache_sync.specs.put.OpenLinkers.{BeginsLink, OpensLink, OpensWithSize, asks_file, asks_size};
 ghost use Rattle.cacache_async.specs.Waiting.{Waits};
 ghost use Rattle.cacache_async.specs.Polling.{linker_in};
 ghost use Rattle.cacache_async.specs.Targets.{target_asked, target_said};
@@ -9,10 +9,10 @@ use crate::call::Call;
 use crate::future::CallFuture;
 use crate::linker::ToLinker;
 use cacache_core::errors::Result;
-use cacache_put::linker::SyncToLinker;
-use cacache_put::opts::WriteOpts;
 use cacache_store::env::{Clock, Env, Names};
 use cacache_store::store::{OpenedFile, Store};
+use cacache_sync::put::linker::SyncToLinker;
+use cacache_sync::put::opts::WriteOpts;
 use std::alloc::Global;
 
 /// The linker, or why there is none.

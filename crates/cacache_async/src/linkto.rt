@@ -5,16 +5,16 @@ ghost use Rattle.cacache_table.specs.declared.reply.Reply.TheVariants.{Stored};
 ghost use Rattle.cacache_table.specs.Linking.{based};
 ghost use Rattle.cacache_table.specs.Runs.{reply_of};
 ghost use Rattle.cacache_jobs.specs.Environment.{Calls, RunsTimed};
-ghost use Rattle.cacache_put.specs.LinkCalls.{link_to as linked, HoldsTarget};
+ghost use Rattle.cacache_sync.specs.put.LinkCalls.{link_to as linked, HoldsTarget};
 ghost use Rattle.cacache_async.specs.Waiting.{Waits};
 
 use crate::call::Call;
 use crate::future::CallFuture;
 use cacache_core::errors::Result;
 use cacache_core::integrity::Integrity;
-use cacache_put::linkto::{link_to_hash_sync, link_to_sync};
 use cacache_store::env::{Clock, Env, Names};
 use cacache_store::store::Store;
+use cacache_sync::put::linkto::{link_to_hash_sync, link_to_sync};
 
 /// What `link_to_sync` is called with.
 #[derive(Clone, Copy)]

@@ -6,16 +6,16 @@ ghost use Rattle.cacache_table.specs.declared.command.Command.TheVariants as com
 ghost use Rattle.cacache_table.specs.declared.reply.Reply.TheVariants.{Stored};
 ghost use Rattle.cacache_table.specs.Runs.{reply_of};
 ghost use Rattle.cacache_jobs.specs.Environment.{RunsNumbered, RunsPut};
-ghost use Rattle.cacache_put.specs.Puts.{keyed_put, unkeyed_put};
+ghost use Rattle.cacache_sync.specs.put.Puts.{keyed_put, unkeyed_put};
 ghost use Rattle.cacache_async.specs.Waiting.{Waits};
 
 use crate::call::Call;
 use crate::future::CallFuture;
 use cacache_core::errors::Result;
 use cacache_core::integrity::{Algorithm, Integrity};
-use cacache_put::put::{write_hash_sync_with_algo, write_sync_with_algo};
 use cacache_store::env::{Clock, Env, Names};
 use cacache_store::store::Store;
+use cacache_sync::put::bytes::{write_hash_sync_with_algo, write_sync_with_algo};
 
 /// What `write_sync_with_algo` is called with.
 #[derive(Clone, Copy)]

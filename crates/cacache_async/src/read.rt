@@ -7,16 +7,16 @@ ghost use Rattle.cacache_table.specs.declared.reply.Reply.TheVariants.{Exists};
 ghost use Rattle.cacache_table.specs.Runs.{reply_of};
 ghost use Rattle.cacache_jobs.specs.ReadFirst.{ReadsFound};
 ghost use Rattle.cacache_jobs.specs.Environment.{Calls};
-ghost use Rattle.cacache_reads.specs.Reads.{AsksContent, bytes_read, has};
+ghost use Rattle.cacache_sync.specs.Reads.{AsksContent, bytes_read, has};
 ghost use Rattle.cacache_async.specs.Waiting.{Waits};
 
 use crate::call::Call;
 use crate::future::CallFuture;
 use cacache_core::errors::Result;
 use cacache_core::integrity::Integrity;
-use cacache_reads::{exists_sync, has_content, read_hash_sync, read_sync};
 use cacache_store::env::{Clock, Env, Names};
 use cacache_store::store::Store;
+use cacache_sync::{exists_sync, has_content, read_hash_sync, read_sync};
 
 /// What `read_sync` is called with.
 #[derive(Clone, Copy)]

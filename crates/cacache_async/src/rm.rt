@@ -5,16 +5,16 @@ ghost use Rattle.cacache_table.specs.declared.command.Command.TheVariants as com
 ghost use Rattle.cacache_table.specs.Replies.{done};
 ghost use Rattle.cacache_table.specs.Runs.{reply_of};
 ghost use Rattle.cacache_jobs.specs.Environment.{Calls, RunsTimed};
-ghost use Rattle.cacache_reads.specs.Lookups.{delete_of};
+ghost use Rattle.cacache_sync.specs.Lookups.{delete_of};
 ghost use Rattle.cacache_async.specs.Waiting.{Waits};
 
 use crate::call::Call;
 use crate::future::CallFuture;
 use cacache_core::errors::Result;
 use cacache_core::integrity::Integrity;
-use cacache_reads::rm::{RemoveOpts, clear_sync, remove_hash_sync};
 use cacache_store::env::{Clock, Env, Names};
 use cacache_store::store::Store;
+use cacache_sync::rm::{RemoveOpts, clear_sync, remove_hash_sync};
 
 /// What `remove_hash_sync` is called with.
 #[derive(Clone, Copy)]

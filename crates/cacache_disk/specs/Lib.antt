@@ -6,3 +6,4 @@ pub mod Plans
 pub mod Rooted
 pub mod Deepest
 pub mod AllStanding
+pub mod memory

@@ -1,4 +1,6 @@
 //! A disk in memory: a tree of folders, files and links, and the steps of a store on it.
+//!
+//! The module `memory` has such a disk as a store, with a log of all that happened on it.
 #![tactic(auto)]
 
 mod change;
@@ -6,6 +8,7 @@ mod contents;
 mod disk;
 mod find;
 mod luck;
+pub mod memory;
 mod name;
 mod node;
 mod nodes;

@@ -15,3 +15,4 @@ pub mod Places
 pub mod Lookups
 pub mod Headline
 pub mod LegalCases
+pub mod durable

@@ -9,8 +9,11 @@
 //! | `Places`, `Lookups` | which call each move is of, and what a lookup finds at each place, by what was written |
 //! | `TurnReplies`, `ReadingCalls` | what a turn's call answers, and which calls only look |
 //! | `Headline`, `LegalCases` | the claim as a whole, and a legal history of each kind |
+//!
+//! The module `durable` says what the durable commits of a history leave after a loss of power.
 #![tactic(auto)]
 
+pub mod durable;
 mod laws;
 mod record;
 

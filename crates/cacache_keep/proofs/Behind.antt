@@ -5,15 +5,13 @@ use Rattle.sha1.specs.Sha1.{sha1}
 use Rattle.cacache_core.specs.{declared.integrity.digest.Hash.{Hash}, Integrity.{IsHash, address}, PathLaws.{IsKeyDigest}, PathNames.{Names, home_of}}
 use Rattle.cacache_core.proofs.PathLemmas.{keys_have_digests}
 use Rattle.cacache_store.specs.declared.store.log.LogItem.{LogItem}
-use Rattle.cacache_memory.specs.Replay.{tree_of, IsLog}
+use Rattle.cacache_disk.specs.memory.Replay.{tree_of, IsLog}
 use Rattle.cacache_entry.specs.Latest.{Found, latest}
 use Rattle.cacache_table.specs.State.{Site}
 use Rattle.cacache_value.specs.{Acts.{list_of}, Value.{value_of_tree}}
 use Rattle.cacache_history.specs.ShownTurns.{blob_at}
-use Rattle.cacache_sequence.specs.{Beside.{IsOther, KeepsBeside, own_integrity}, Caches.{IsCache, HasKey, lies_under}, Keeping.{found_under, KeepsOthers, StaysKnown}, ReadAnswers.{entries_on}, Sequence.{IsSound}}
-use Rattle.cacache_sequence.proofs.{Putting.{Beside.{removals_keep, writes_keep}, Committing.{commits_last}, Inserting.{inserts_last}, OpenWriters.{writers_open}, Puts.{commits_keep}}, Exports.ExportEffects.{exports_keep}, Spares.GivenUp.{giving_up_lasts}, Readings.Looked.{same_stays_known}, Removing.Removals.{removals_last}}
-use Rattle.cacache_keep_laws.specs.{Collecting.{is_live}, Contents.{bucket_in, content_in}, Index.{IndexLists}, Mending.{found_in}}
-use Rattle.cacache_keep_laws.proofs.{Collected.{live_so}, Idle.{address_is}, Led.{found_listed}, Logged.{log_rooted}, Members.{contains_member, member_contains}, SoundRemovals.{removals_leave_sound}}
+use Rattle.cacache_laws.specs.{Beside.{IsOther, KeepsBeside, own_integrity}, Caches.{IsCache, HasKey, lies_under}, Keeping.{found_under, KeepsOthers, StaysKnown}, ReadAnswers.{entries_on}, Sequence.{IsSound}, trees.{Collecting.{is_live}, Contents.{bucket_in, content_in}, Index.{IndexLists}, Mending.{found_in}}}
+use Rattle.cacache_laws.proofs.{Putting.{Beside.{removals_keep, writes_keep}, Committing.{commits_last}, Inserting.{inserts_last}, OpenWriters.{writers_open}, Puts.{commits_keep}}, Exports.ExportEffects.{exports_keep}, Spares.GivenUp.{giving_up_lasts}, Readings.Looked.{same_stays_known}, Removing.Removals.{removals_last}, trees.{Collected.{live_so}, Idle.{address_is}, Led.{found_listed}, Logged.{log_rooted}, Members.{contains_member, member_contains}, SoundRemovals.{removals_leave_sound}}}
 use Rattle.cacache_keep.specs.{Behind.{CollectionsKeepKeys, Event, Happen, Happens, KeepsKey, LaterKeysStay, LeadsOn, collects, commits, deletes, exports, gives_up, inserts, looks, opens, puts, text_of}, Kept.{LeavesTree}}
 use Rattle.cacache_keep.proofs.Leaving.{leaves_live, steps_done, unused}
 

@@ -10,10 +10,9 @@ use Rattle.cacache_table.proofs.Within.{calls_keep_to}
 use Rattle.cacache_table.specs.declared.command.Command.TheVariants as commands
 use Rattle.cacache_table.specs.declared.reply.Reply.TheVariants as replies
 use Rattle.cacache_value.specs.Placed.{Placed}
-use Rattle.cacache_sequence.{specs.Sequence.{tree_on, AreAnswered}, proofs.{Putting.Forms.{bare_written}, Readings.Looks.{moves_keep}}}
-use Rattle.cacache_reads.specs.Lookups.{delete_of}
-use Rattle.cacache_keep_laws.specs.{Contents.{content_in}, Housed.{Housed, Still}, Mending.{KeepsContents, found_in}, Verifying.{has_content}}
-use Rattle.cacache_keep_laws.proofs.{HiddenKeys.{tombstones_hide}, Housed.{moves_rooted, tombstones_house}, Led.{finds_led, found_integrity}, Logged.{answered_rest, answered_split, gains_join, looked, tree_rest, tree_split}, Members.{Member}, StillThere.{has_still}, Tombstones.{tombstones_keep_contents}}
+use Rattle.cacache_laws.specs.{Sequence.{tree_on, AreAnswered}, trees.{Contents.{content_in}, Housed.{Housed, Still}, Mending.{KeepsContents, found_in}, Verifying.{has_content}}}
+use Rattle.cacache_laws.proofs.{Putting.Forms.{bare_written}, Readings.Looks.{moves_keep}, trees.{HiddenKeys.{tombstones_hide}, Housed.{moves_rooted, tombstones_house}, Led.{finds_led, found_integrity}, Logged.{answered_rest, answered_split, gains_join, looked, tree_rest, tree_split}, Members.{Member}, StillThere.{has_still}, Tombstones.{tombstones_keep_contents}}}
+use Rattle.cacache_sync.specs.Lookups.{delete_of}
 use Rattle.cacache_keep.specs.{Calls.{MadeCalls}, Repairing.{Fate, IsFateOf, Led, calls_for, is_buried, leads_nowhere, looks_of, tombstone}}
 use Rattle.cacache_keep.proofs.{Judged.{there_told}, Parts.{gains_none}}
 

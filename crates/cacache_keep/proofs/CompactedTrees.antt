@@ -9,9 +9,8 @@ use Rattle.cacache_disk.specs.{declared.{luck.Luck.TheVariants.{Plain}, node.Nod
 use Rattle.cacache_disk.proofs.{Maps.{same_path-true}, Roots.{same_self}, Standing.{upper_folder}}
 use Rattle.cacache_table.specs.{SingleSteps.{Does}, StepPaths.{temp_folder, temp_path}}
 use Rattle.cacache_value.specs.Kinds.{path_kind}
-use Rattle.cacache_sequence.proofs.Readings.ReadsStay.{reading_keeps}
-use Rattle.cacache_keep_laws.specs.{Compacted.{Compacted, CutShort}, Compacting.{compact_text}}
-use Rattle.cacache_keep_laws.proofs.{CompactTwice.{compact_again}, LeanTrees.{Becomes, compacted_more, compacted_none, cut_later, cut_short}, Led.{file_shown}}
+use Rattle.cacache_laws.proofs.{Readings.ReadsStay.{reading_keeps}, trees.{CompactTwice.{compact_again}, LeanTrees.{Becomes, compacted_more, compacted_none, cut_later, cut_short}, Led.{file_shown}}}
+use Rattle.cacache_laws.specs.trees.{Compacted.{Compacted, CutShort}, Compacting.{compact_text}}
 use Rattle.cacache_keep.specs.{Compacting.{Bucket, CompactsBucket, CompactsEach, RewritesIf, StopsBucket, StopsCompactingEach, is_loose}, Rewriting.{MakesTemp, Rewrites, StopsMaking, StopsRewriting, StopsWriting, SyncsTemp, Took}}
 use Rattle.cacache_keep.proofs.{FoundBuckets.{IsBucketFile, Stays}, MovedFiles.{MovedTo, moved, unmoved}, Rewritten.{Has, HasTemp, IsRewritten, TookSo, folder_made, left_over, rewritten, temp_failed, temp_made, writes_keep, writes_stay, writes_take}, SyncedTrees.{bucket_synced, bucket_unsynced, folder_synced, folder_unsynced, temp_synced, temp_unsynced}, TightBuckets.{IsTight, not_loose, tight_still}, TreeRuns.{Leads, leads_as, leads_failed, leads_none, leads_step, leads_then}}
 

@@ -9,7 +9,7 @@ use Rattle.cacache_disk.proofs.{FoundNodes.{and_then_ok, place_ok}, Standing.{up
 use Rattle.cacache_table.specs.Runs.{Moves}
 use Rattle.cacache_loss.specs.{declared.fixing.Place.{Place}, Fixing.{is_child_of}, Loss.{Loss, begins, lead_folders, left_at, node_left}, Moments.{Moment, lost_then}}
 use Rattle.cacache_loss.proofs.{KeptPaths.{cond_none, sync_fixes}, SyncedFolders.{IsFirm, left_firm}, UnchangedPaths.{bytes_same}}
-use Rattle.cacache_keep_laws.proofs.Members.{Member}
+use Rattle.cacache_laws.proofs.trees.Members.{Member}
 use Rattle.cacache_keep.specs.{Losses.{IsFixedAt, WayFixed}, Syncing.{SyncsInTurn}}
 use Rattle.cacache_keep.proofs.{MomentRuns.{Fixes, fixes_none, fixes_step, fixes_then, later, later_split}, SettledBuckets.{StaysHeld, apart_held, held_then}}
 

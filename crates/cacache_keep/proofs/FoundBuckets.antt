@@ -8,11 +8,10 @@ use Rattle.cacache_store.specs.declared.store.answer.Kind.TheVariants as kinds
 use Rattle.cacache_store.specs.declared.store.step.Step.TheVariants as steps
 use Rattle.cacache_disk.specs.{declared.{luck.Luck.TheVariants.{Plain}, node.Node.{Node, TheVariants.{Folder, File, Link}}}, Tree.{Tree, kind_of, look}, Apply.{apply}, Rooted.{Rooted}}
 use Rattle.cacache_disk.proofs.Standing.{upper_folder}
-use Rattle.cacache_sequence.proofs.Readings.ReadsStay.{listing_keeps}
+use Rattle.cacache_laws.proofs.{Readings.ReadsStay.{listing_keeps}, trees.{Children.{FolderShows, Stands, child_listed, folder_shown, listed, listed_child, missing, proper_child}, Covering.{named_on}, Collected.{kept_in}, Members.{Member, in_left, in_right}}}
+use Rattle.cacache_laws.specs.trees.Temporary.{is_file}
 use Rattle.cacache_walks.specs.Reading.{names_shown}
 use Rattle.cacache_value.{specs.Kinds.{Bucket, path_kind}, proofs.KindsApart.{kind-below}}
-use Rattle.cacache_keep_laws.specs.Temporary.{is_file}
-use Rattle.cacache_keep_laws.proofs.{Children.{FolderShows, Stands, child_listed, folder_shown, listed, listed_child, missing, proper_child}, Covering.{named_on}, Collected.{kept_in}, Members.{Member, in_left, in_right}}
 use Rattle.cacache_keep.specs.{Buckets.{FindsBuckets, Listed, ListsInTurn, ListsParts, StopsFinding, StopsNextPart, StopsParts, belongs, index_area_in, is_hex_name, parts_in}, Sweeping.{ListsFolder}}
 use Rattle.cacache_keep.proofs.TreeRuns.{Leads, leads_as, leads_failed, leads_none, leads_step, leads_then}
 

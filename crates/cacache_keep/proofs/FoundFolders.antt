@@ -4,7 +4,7 @@ use Rattle.std.specs.{List.{AllByRecursion, flat_map, list_all}, Prelude.{IfOk}}
 use Rattle.cacache_core.specs.{PathNames.{Names, names_of, home_of, IsProperName}, Paths.{index_area, join}}
 use Rattle.cacache_store.specs.declared.store.{answer.Name.{Name}, log.LogItem.{LogItem}}
 use Rattle.cacache_value.specs.Kinds.{Bucket, path_kind}
-use Rattle.cacache_keep_laws.{specs.Temporary.{is_file}, proofs.Covering.{named_on}}
+use Rattle.cacache_laws.{specs.trees.Temporary.{is_file}, proofs.trees.Covering.{named_on}}
 use Rattle.cacache_keep.specs.{Buckets.{FindsBuckets, Listed, ListsParts, belongs, index_area_in, is_folder, is_hex_digit, is_hex_name, parts_in}, Rewriting.{folder_of}}
 use Rattle.cacache_keep.proofs.{FoundBuckets.{InIndex, area_named, bucket_kind, longer}, ParentTexts.{EndsHex, digits_end, digits_proper, folder_is, joined_ends}}
 

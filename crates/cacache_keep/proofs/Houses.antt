@@ -3,13 +3,12 @@ use Rattle.std.{proofs.{Common.{◌≡◌, inl, inr, ℕ, List, [], ◌∷◌, �
 use Rattle.sha1.specs.Sha1.{sha1}
 use Rattle.cacache_core.specs.{declared.integrity.digest.Hash.{Hash}, Integrity.{IsHash, IsIntegrity}, PathNames.{Names, home_of}, Paths.{bucket_names_of, temp_area}}
 use Rattle.cacache_core.proofs.PathLemmas.{keys_have_digests}
-use Rattle.cacache_disk.specs.{declared.node.Node.{Node}, Tree.{Tree, look}}
-use Rattle.cacache_memory.specs.Replay.{tree_of}
+use Rattle.cacache_disk.specs.{declared.node.Node.{Node}, Tree.{Tree, look}, memory.Replay.{tree_of}}
 use Rattle.cacache_entry.specs.{FittingEntries.{IsEntry}, Latest.{Found, latest}}
 use Rattle.cacache_value.specs.{Acts.{list_of}, Kinds.{Bucket, Elsewhere, Temporary, Way, path_kind}, Placed.{MayStand}, Value.{bucket_in, wide_value}}
 use Rattle.cacache_value.proofs.KindsApart.{kind-below}
-use Rattle.cacache_keep_laws.specs.{Contents.{content_in}, Housed.{Beside, Housed, Still}, Temporary.{IsTemporary, LeavesUntemporary}}
-use Rattle.cacache_keep_laws.proofs.{Led.{found_integrity}, StillThere.{good_still}}
+use Rattle.cacache_laws.specs.trees.{Contents.{content_in}, Housed.{Beside, Housed, Still}, Temporary.{IsTemporary, LeavesUntemporary}}
+use Rattle.cacache_laws.proofs.trees.{Led.{found_integrity}, StillThere.{good_still}}
 use Rattle.cacache_keep.specs.{Houses.{RepairsHouse, SweepsHouse, SweepsKeepGood}, Kept.{LeadsToGood}}
 use Rattle.cacache_keep.proofs.{ListedLogs.{repaired_on}, SweptCaches.{caches_are_swept}, Whole.{first_hash, rehoused}}
 

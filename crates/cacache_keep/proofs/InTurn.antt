@@ -3,7 +3,7 @@ use Rattle.std.proofs.{Common.{◌≡◌, ◌+◌, ◌-◌, ◌^◌, ◌<◌, �
 use Rattle.std.specs.{List.{filter}, Prelude.{min, not}}
 use Rattle.cacache_core.specs.declared.{errors.Error.{Error, TheVariants.{OutOfMemory}}, integrity.digest.Hash.{Hash}}
 use Rattle.cacache_store.specs.declared.store.log.LogItem.{LogItem}
-use Rattle.cacache_keep_laws.specs.Temporary.{total}
+use Rattle.cacache_laws.specs.trees.Temporary.{total}
 use Rattle.cacache_keep.specs.Reading.{Judged, ReadsEach, SaysGood, SaysOfEach, StopsContent, StopsEach, StopsNext, WeighsOthers}
 use Rattle.cacache_keep.proofs.{Asked.{kept, passed}, Sweeps.{total_more}}
 

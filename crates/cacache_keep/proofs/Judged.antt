@@ -12,10 +12,9 @@ use Rattle.cacache_table.specs.declared.command.Command.TheVariants as commands
 use Rattle.cacache_table.specs.declared.reply.Reply.TheVariants as replies
 use Rattle.cacache_table.specs.{Answers.{there_in}, Replies.{there_reply}, Runs.{Moves, Gains}, State.{Site, Item}, StepPaths.{content_path}, Table.{piece}}
 use Rattle.cacache_table.proofs.Replies.{exists_shown}
-use Rattle.cacache_sequence.specs.Sequence.{AreAnswered, tree_on}
+use Rattle.cacache_laws.specs.{Sequence.{AreAnswered, tree_on}, trees.{Contents.{IsHeld, content_in}, Answers.{AnsweredBy, AnswersOn}, Index.{IndexLists, entries_in, is_failure}, Verifying.{is_good, is_met, says_yes, has_content}}}
+use Rattle.cacache_laws.proofs.trees.{Logged.{answered_rest, answered_split, gains_join, tree_rest}, Members.{Member, member_contains}, Verified.{content_file}}
 use Rattle.cacache_value.specs.Shows.{blob_bytes}
-use Rattle.cacache_keep_laws.specs.{Contents.{IsHeld, content_in}, Answers.{AnsweredBy, AnswersOn}, Index.{IndexLists, entries_in, is_failure}, Verifying.{is_good, is_met, says_yes, has_content}}
-use Rattle.cacache_keep_laws.proofs.{Logged.{answered_rest, answered_split, gains_join, tree_rest}, Members.{Member, member_contains}, Verified.{content_file}}
 use Rattle.cacache_keep.{specs.{Calls.{AreEntries, question_of}, Reading.{Judged, Pieces, SaysGood, SaysOfEach}}, proofs.Parts.{EachOn, gains_none}}
 
 -- ---- reads of an open file

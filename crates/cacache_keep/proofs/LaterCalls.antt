@@ -3,11 +3,10 @@ use Rattle.std.proofs.Common.{ℕ, List, [], ◌∷◌, sym, ap, subst, ◌∙�
 use Rattle.sha1.specs.Sha1.{sha1}
 use Rattle.cacache_core.{specs.{declared.integrity.digest.Hash.{Hash}, PathNames.{home_of}, Paths.{joined, content_names}}, proofs.PathLemmas.{keys_have_digests}}
 use Rattle.cacache_store.specs.declared.store.step.Step.TheVariants.{RemoveFile}
-use Rattle.cacache_disk.{specs.{declared.luck.Luck.TheVariants.{Plain}, Apply.{apply}, Rooted.{Rooted}, Tree.{Tree}}, proofs.KeptFolders.{steps_keep_rooted}}
-use Rattle.cacache_memory.specs.Replay.{tree_of}
+use Rattle.cacache_disk.specs.{declared.luck.Luck.TheVariants.{Plain}, Apply.{apply}, Rooted.{Rooted}, Tree.{Tree}, memory.Replay.{tree_of}}
+use Rattle.cacache_disk.proofs.KeptFolders.{steps_keep_rooted}
 use Rattle.cacache_value.{specs.{Placed.{Placed}, Value.{value_of_tree}}, proofs.Traces.{steps_keep_placed}}
-use Rattle.cacache_sequence.proofs.Readings.Looked.{same_stays_known}
-use Rattle.cacache_keep_laws.{specs.Collecting.{Removes}, proofs.SparedKeys.{spared_keys_stay}}
+use Rattle.cacache_laws.{proofs.{Readings.Looked.{same_stays_known}, trees.SparedKeys.{spared_keys_stay}}, specs.trees.Collecting.{Removes}}
 use Rattle.cacache_keep.specs.Later.{CollectedKeysStay, CollectionsKeepLed}
 use Rattle.cacache_keep.proofs.{Behind.{found_same, key_same}, CheckedLogs.{collected_on}, Leaving.{leaves_live, steps_done, unused}}
 

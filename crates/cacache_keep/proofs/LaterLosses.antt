@@ -2,13 +2,12 @@
 use Rattle.std.{proofs.Common.{◌≡◌, ℕ, Bool, true, false, cond, List, [], ◌∷◌, ◌++◌, None, Some, refl, ap, subst, ◌∙◌, append_assoc}, specs.Prelude.{unwrap_or}}
 use Rattle.cacache_core.specs.{PathNames.{Names, names_of}, Paths.{bucket_names_of, index_area}}
 use Rattle.cacache_store.specs.{declared.store.step.Step.TheVariants.{SyncTemp, SyncFile, SyncDir}, Plain.{PlainStep, PlainAnswer}}
-use Rattle.cacache_disk.specs.{declared.{luck.Luck.{Luck}, node.Node.TheVariants.{File}}, LedTo.{leads}, Rooted.{Rooted}, Tree.{Tree, bytes_of, look}, Apply.{apply}}
+use Rattle.cacache_disk.specs.{declared.{luck.Luck.{Luck}, node.Node.TheVariants.{File}}, LedTo.{leads}, Rooted.{Rooted}, Tree.{Tree, bytes_of, look}, Apply.{apply}, memory.Replay.{tree_of}}
 use Rattle.cacache_disk.proofs.KeptFolders.{steps_keep_rooted}
-use Rattle.cacache_memory.specs.Replay.{tree_of}
 use Rattle.cacache_value.specs.Traces.{Move}
 use Rattle.cacache_loss.specs.{declared.fixing.Fixing.{Fixing}, Fixing.{Fixed, file_synced, fixed_after, folder_synced, is_at, is_child_of, is_synced, temp_synced}, Moments.{EachMove, Moment, after, next}, Syncs.{Leaves, LeavesStep}}
 use Rattle.cacache_loss.proofs.{KeptPaths.{cond_none, cond_whole, sync_tree}, UnchangedPaths.{file_kept, name_kept}}
-use Rattle.cacache_keep_laws.specs.Compacting.{compact_text}
+use Rattle.cacache_laws.specs.trees.Compacting.{compact_text}
 use Rattle.cacache_keep.specs.Losses.{CompactionsLast, IsFixedAt, LeavesWay, WayFixed, moment_after}
 use Rattle.cacache_keep.proofs.{ApartSteps.{IsWhole}, FixedFolders.{file_lost}, FoundBuckets.{AreBucketNames}, HexNames.{bucket_names_hex}, LeanLosses.{lean_now}}
 

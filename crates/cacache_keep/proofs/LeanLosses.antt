@@ -3,14 +3,13 @@ use Rattle.std.{proofs.Common.{◌≡◌, ◌⊎◌, inl, inr, ℕ, List, [], �
 use Rattle.sha1.specs.Sha1.{sha1}
 use Rattle.cacache_core.{specs.{PathLaws.{IsKeyDigest}, PathNames.{Names, home_of, names_of}, Paths.{bucket_names_of, index_area}}, proofs.PathLemmas.{keys_have_digests}}
 use Rattle.cacache_store.specs.declared.store.log.LogItem.{LogItem}
-use Rattle.cacache_disk.specs.{declared.node.Node.{Node, TheVariants.{Folder, File, Link}}, Rooted.{Rooted}, Tree.{Tree, look}}
+use Rattle.cacache_disk.specs.{declared.node.Node.{Node, TheVariants.{Folder, File, Link}}, Rooted.{Rooted}, Tree.{Tree, look}, memory.Replay.{tree_of, IsLog}}
 use Rattle.cacache_entry.specs.Latest.{Found, latest}
-use Rattle.cacache_memory.specs.Replay.{tree_of, IsLog}
 use Rattle.cacache_table.specs.Runs.{Gains, Moves}
 use Rattle.cacache_value.{specs.{Acts.{list_of}, Kinds.{Bucket as IsBucket, path_kind}, Value.{bucket_in}}, proofs.KindsApart.{kind-below}}
 use Rattle.cacache_loss.specs.{declared.fixing.Fixing.{Fixing}, Fixing.{Fixed, synced}, Loss.{Loss}, LostValues.{LeftOf}, Moments.{Moment}}
-use Rattle.cacache_keep_laws.specs.{Compacting.{compact_text}, Mending.{found_in}}
-use Rattle.cacache_keep_laws.proofs.{CompactTexts.{compact_texts_answer}, LeanTrees.{Becomes}, Covering.{home_named}, Logged.{log_rooted}, Members.{Member, in_left, in_right}}
+use Rattle.cacache_laws.specs.trees.{Compacting.{compact_text}, Mending.{found_in}}
+use Rattle.cacache_laws.proofs.trees.{CompactTexts.{compact_texts_answer}, LeanTrees.{Becomes}, Covering.{home_named}, Logged.{log_rooted}, Members.{Member, in_left, in_right}}
 use Rattle.cacache_keep.specs.{Buckets.{index_area_in}, Compacting.{CompactsAll, CompactsCache}, Losses.{BucketsFixed, CompactionsFix, CompactionsOutlast, IsFixedAt, KeepsLean, moment_after}, Syncing.{folders_above}}
 use Rattle.cacache_keep.proofs.{ApartSteps.{IsWhole}, FixedFolders.{IsFixedFolder, SyncsNames, file_lost, in_turn_fixed}, FoundBuckets.{AreBucketNames, FindsFiles, area_named, buckets_found}, FoundFolders.{FolderNamed, folders_named}, HexNames.{bucket_names_hex}, MomentRuns.{Fixes, OfTrees, fixes_leads, fixes_on, fixes_then, later, later_split, tree_then}, SettledBuckets.{Held, HeldWhole, Settled, SettlesThese, each_settles}, TightBuckets.{same_file}, WholeCompactions.{compactions_leave}}
 

@@ -2,7 +2,7 @@
 use Rattle.std.proofs.{Common.{◌≡◌, ◌+◌, ℕ, List, [], ◌∷◌, ◌++◌, Bool, true, false, cond, not, ◌&&◌, ◌||◌, Option, Some, None, map, filter_map, drop, take, refl, sym, ap, subst, ◌∙◌, bytes_eq}, lemmas.{List.{reverse-append}, Map.Text.{btree_map_updates_str}}}
 use Rattle.std.specs.{Prelude.{Result, Ok, Err, OnOk, is_some}, List.{cons_option, list_any}, Option.{option_to_list}, BTreeMap.{BTreeMap, UpdatesBy, get_by}, Borrow.{Bor}, Cmp.Lexicographic.{slice_cmp}, Ordering.{nat_cmp}}
 use Rattle.cacache_entry.specs.Bucket.{CutsAt}
-use Rattle.cacache_keep_laws.{specs.Compacting.{Decision, Line, decided, kept, line_of_piece, lines_of}, proofs.CompactAnswers.{same_key}}
+use Rattle.cacache_laws.{specs.trees.Compacting.{Decision, Line, decided, kept, line_of_piece, lines_of}, proofs.trees.CompactAnswers.{same_key}}
 use Rattle.cacache_keep.specs.{Lines.{HasKeys, has_key, in_order, last_lines, line_view, without_tombstones}, declared.lines.Line.{Line as Held}}
 
 onto : (o : Option Line) (ls : List Line) → cons_option o ls ≡ option_to_list o ++ ls

@@ -3,15 +3,13 @@ use Rattle.std.{proofs.Common.{◌≡◌, inl, inr, ℕ, Bool, true, false, cond
 use Rattle.sha1.specs.Sha1.{sha1}
 use Rattle.cacache_core.{specs.{declared.integrity.digest.Hash.{Hash}, PathNames.{Names, home_of}, Paths.{joined, content_names}}, proofs.PathLemmas.{keys_have_digests}}
 use Rattle.cacache_store.specs.declared.store.{log.LogItem.{LogItem}, step.Step.TheVariants.{RemoveFile}}
-use Rattle.cacache_disk.specs.{declared.luck.Luck.TheVariants.{Plain}, Tree.{Tree}, Apply.{apply}}
-use Rattle.cacache_memory.specs.Replay.{tree_of, IsLog}
+use Rattle.cacache_disk.specs.{declared.luck.Luck.TheVariants.{Plain}, Tree.{Tree}, Apply.{apply}, memory.Replay.{tree_of, IsLog}}
 use Rattle.cacache_entry.specs.Latest.{Found, latest}
 use Rattle.cacache_table.specs.State.{Site}
 use Rattle.cacache_value.{specs.{Placed.{Placed}, Acts.{list_of}}, proofs.Traces.{steps_keep_placed}}
-use Rattle.cacache_sequence.{specs.Sequence.{tree_on}, proofs.Calls.InParts.{logs_lead}}
+use Rattle.cacache_laws.specs.{Sequence.{tree_on}, trees.{Collecting.{Removes}, Contents.{HoldsJust}, Mending.{found_in}, Verifying.{has_content, is_good}}}
+use Rattle.cacache_laws.proofs.{Calls.InParts.{logs_lead}, trees.{Collected.{from_kept, kept_in, leaves}, Held.{holds_just}, Logged.{answered_rest, answered_split, gains_join, log_rooted, tree_rest, tree_split, walked}, Members.{Member, contains_member, member_contains}, Mended.{repairs_leave}}}
 use Rattle.cacache_walks.specs.{Listing.{content_area_in}, Reading.{top_folder}}
-use Rattle.cacache_keep_laws.specs.{Collecting.{Removes}, Contents.{HoldsJust}, Mending.{found_in}, Verifying.{has_content, is_good}}
-use Rattle.cacache_keep_laws.proofs.{Collected.{from_kept, kept_in, leaves}, Held.{holds_just}, Logged.{answered_rest, answered_split, gains_join, log_rooted, tree_rest, tree_split, walked}, Members.{Member, contains_member, member_contains}, Mended.{repairs_leave}}
 use Rattle.cacache_keep.specs.{Calls.{MadeCalls, question_of, removal}, Kept.{IsKeyOf, MendsCache, RepairsMend}, Reading.{Judged}, Repairing.{Fate, RepairsFrom, is_buried}}
 use Rattle.cacache_keep.proofs.{ListedLogs.{repaired_on}, Buried.{After, all_told}, Judged.{asks_told, others_named, reads_judged}, Leaving.{removals, removals_gain, removed_by}, Parts.{made_looks}, Shown.{burial_of}, Verdicts.{all_questions}}
 

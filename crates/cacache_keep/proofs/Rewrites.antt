@@ -7,7 +7,7 @@ use Rattle.cacache_store.specs.{declared.store.{log.LogItem.{LogItem}, plain.Pla
 use Rattle.cacache_store.specs.declared.store.step.Step.TheVariants as steps
 use Rattle.cacache_table.specs.{declared.answers.Refusal.{Refusal}, Answers.{bytes_in, done_in, synced_in, temp_in, written_in}, Common.{fails, refuse}, Runs.{EndsAs, Moves}, SingleSteps.{Does, FailsAt}}
 use Rattle.cacache_table.proofs.Going.{no_gain}
-use Rattle.cacache_keep_laws.proofs.Logged.{gains_join}
+use Rattle.cacache_laws.proofs.trees.Logged.{gains_join}
 use Rattle.cacache_jobs.specs.Brought.{Brings, EndsRefused}
 use Rattle.cacache_keep.specs.Rewriting.{MakesTemp, Rewrites, StopsMoving, StopsRewriting, StopsSecuring, StopsSyncing, StopsWriting, SyncsFolder, SyncsTemp, Takes, Took}
 use Rattle.cacache_keep.proofs.Sweeps.{Refuses, step_fails}

@@ -9,7 +9,7 @@ use Rattle.cacache_disk.proofs.{PutNodes.{look-put}, Roots.{same_self}}
 use Rattle.cacache_table.specs.{Runs.{Moves}, SingleSteps.{Does, FailsAt}}
 use Rattle.cacache_value.specs.Kinds.{Bucket as IsBucket, path_kind}
 use Rattle.cacache_loss.{specs.{declared.fixing.Place.{Place}, Fixing.{is_at, place_now}, Moments.{Moment, next}}, proofs.UnchangedPaths.{file_kept, name_kept}}
-use Rattle.cacache_keep_laws.{specs.Compacting.{compact_text}, proofs.{CompactTwice.{compact_again}, Led.{file_shown}}}
+use Rattle.cacache_laws.{specs.trees.Compacting.{compact_text}, proofs.trees.{CompactTwice.{compact_again}, Led.{file_shown}}}
 use Rattle.cacache_keep.specs.{Compacting.{Bucket, CompactsBucket, CompactsEach, RewritesIf, StopsBucket, StopsUnchanged, is_loose}, Losses.{CompactsDurably}, Rewriting.{MakesTemp, Rewrites, StopsMoving, StopsRewriting, Took, folder_of}, Syncing.{folders_above}}
 use Rattle.cacache_keep.proofs.{ApartSteps.{EachApart, IsWhole, Kept, named_there, step_kept, whole_still}, ApartBuckets.{Full, IfSpared, bucket_apart, bucket_stops, early_stops, full_apart, making_stops, sync_apart, sync_stops, temp_sync_apart, unread_stops, unsecured_stops, writing_stops}, ApartCompactions.{finding_apart, finding_stops, syncs_apart, syncs_stop}, MomentRuns.{Fixes, fixes_as, fixes_failed, fixes_none, fixes_step, fixes_then, later}, MovedFiles.{moved, unmoved}}
 

@@ -5,7 +5,7 @@ use Rattle.cacache_core.specs.{declared.integrity.digest.Hash.{Hash}, Integrity.
 use Rattle.cacache_core.proofs.Meeting.{lists_finds}
 use Rattle.cacache_entry.specs.Latest.{Found}
 use Rattle.cacache_walks.specs.Listing.{hash_cmp}
-use Rattle.cacache_keep_laws.specs.Collecting.{is_address, is_live}
+use Rattle.cacache_laws.specs.trees.Collecting.{is_address, is_live}
 use Rattle.cacache_keep.{specs.Calls.{AreOthers, AreUnused, has_address_in, has_entry}, proofs.Asked.{kept, passed}}
 
 -- ---- the order

@@ -2,13 +2,12 @@
 use Rattle.std.proofs.Common.{◌≡◌, inl, inr, ℕ, Bool, true, false, cond, List, [], ◌∷◌, None, Some, map, filter, length, refl, sym, ap, subst, ◌∙◌}
 use Rattle.std.specs.{Prelude.{Contains, not}, List.{AllByRecursion, Sorted.{IsStrictlySortedBy}}, declared.cmp.Ordering.{Ordering, TheVariants.{Less}}}
 use Rattle.cacache_core.specs.{declared.integrity.digest.Hash.{Hash}, PathNames.{Names}}
-use Rattle.cacache_disk.specs.Tree.{Tree}
+use Rattle.cacache_disk.specs.{Tree.{Tree}, memory.Replay.{tree_of}}
 use Rattle.cacache_entry.specs.Latest.{Found}
-use Rattle.cacache_memory.specs.Replay.{tree_of}
 use Rattle.cacache_table.specs.{declared.reply.Reply.TheVariants.{Listed}, State.{Site}}
 use Rattle.cacache_walks.specs.Listing.{hash_cmp}
-use Rattle.cacache_keep_laws.specs.{Collecting.{LeavesLive, ReadsAsBefore, is_live}, Contents.{IsHeld}, Index.{IndexLists}}
-use Rattle.cacache_keep_laws.proofs.{Agreed.{indexes_agree, same_sorted}, Collected.{from_kept, kept_in}, Members.{Member, contains_member, member_contains}, Unseen.{idle_is_unseen}}
+use Rattle.cacache_laws.specs.trees.{Collecting.{LeavesLive, ReadsAsBefore, is_live}, Contents.{IsHeld}, Index.{IndexLists}}
+use Rattle.cacache_laws.proofs.trees.{Agreed.{indexes_agree, same_sorted}, Collected.{from_kept, kept_in}, Members.{Member, contains_member, member_contains}, Unseen.{idle_is_unseen}}
 use Rattle.cacache_keep.{specs.Kept.{CollectionsSettle}, proofs.{Leaving.{collections_lack_idle, collections_leave}, Searching.{hash_total}}}
 
 -- ---- parts of sorted lists

@@ -9,7 +9,7 @@ use Rattle.cacache_disk.{specs.{declared.node.Node.TheVariants.{File}, Tree.{Tre
 use Rattle.cacache_table.specs.{Runs.{Moves}, SingleSteps.{Does}}
 use Rattle.cacache_value.specs.Kinds.{Bucket as IsBucket, path_kind}
 use Rattle.cacache_loss.{specs.{Fixing.{is_at, synced}, Moments.{Moment}}, proofs.{Buckets.{leads_file}, KeptPaths.{sync_fixes}}}
-use Rattle.cacache_keep_laws.{specs.Compacting.{compact_text}, proofs.Members.{Member}}
+use Rattle.cacache_laws.{specs.trees.Compacting.{compact_text}, proofs.trees.Members.{Member}}
 use Rattle.cacache_keep.specs.{Compacting.{Bucket, CompactsBucket, CompactsEach, RewritesIf, is_loose}, Rewriting.{Rewrites, SyncsBucket, folder_of}}
 use Rattle.cacache_keep.proofs.{ApartSteps.{EachApart, moves_kept, named_there, name_still, synced_still}, ApartBuckets.{AllApart, Full, bucket_apart, full_apart}, FoundFolders.{FolderNamed}, MomentRuns.{Fixes, fixes_as, fixes_none, fixes_step, fixes_then, later, later_split}, MovedFiles.{moved}}
 

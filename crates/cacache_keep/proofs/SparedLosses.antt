@@ -3,13 +3,12 @@ use Rattle.std.proofs.Common.{◌≡◌, inl, inr, ℕ, List, [], ◌∷◌, ◌
 use Rattle.sha1.specs.Sha1.{sha1}
 use Rattle.cacache_core.{specs.{PathLaws.{IsKeyDigest}, PathNames.{Names, home_of}, Paths.{bucket_names_of, index_area}}, proofs.PathLemmas.{keys_have_digests}}
 use Rattle.cacache_store.specs.declared.store.log.LogItem.{LogItem}
-use Rattle.cacache_disk.{specs.{declared.node.Node.{Node, TheVariants.{Folder, File}}, Tree.{Tree, look}}, proofs.Standing.{upper_folder}}
-use Rattle.cacache_memory.specs.Replay.{tree_of, IsLog}
+use Rattle.cacache_disk.{specs.{declared.node.Node.{Node, TheVariants.{Folder, File}}, Tree.{Tree, look}, memory.Replay.{tree_of, IsLog}}, proofs.Standing.{upper_folder}}
 use Rattle.cacache_table.specs.Runs.{Gains, Moves}
 use Rattle.cacache_value.{specs.Kinds.{Bucket as IsBucket, Way, path_kind}, proofs.KindsApart.{kind-below}}
 use Rattle.cacache_loss.specs.{declared.fixing.Place.{Place}, Fixing.{Fixed}, Loss.{Loss, left_at, node_left}, LostValues.{LeftOf}, Moments.{Moment}}
 use Rattle.cacache_loss.proofs.SyncedFolders.{left_was}
-use Rattle.cacache_keep_laws.proofs.Logged.{log_rooted}
+use Rattle.cacache_laws.proofs.trees.Logged.{log_rooted}
 use Rattle.cacache_keep.specs.Losses.{BucketsFixed, CompactionsSpare, CompactsDurably, IsFixedAt, WayFixed, moment_after}
 use Rattle.cacache_keep.proofs.{ApartSteps.{EachApart, moves_kept, name_still}, ApartCompactions.{compaction_apart}, FixedFolders.{node_lost}, LeanLosses.{IsEither, keys_keep}, MomentRuns.{fixes_on, later, later_rooted}, SafeBuckets.{Good, GoodPlace, Safe, StaysSafe, WasGood, compaction_safe, front_safe}}
 

@@ -8,7 +8,7 @@ use Rattle.cacache_store.specs.declared.store.step.Step.TheVariants as steps
 use Rattle.cacache_table.specs.{declared.answers.Refusal.{Refusal}, Answers.{done_in, length_in, names_in}, Common.{fails, refuse}, Runs.{EndsAs, Gains, Moves}, SingleSteps.{Does, FailsAt}}
 use Rattle.cacache_table.proofs.Going.{no_gain}
 use Rattle.cacache_table.specs.declared.answers.Refusal.TheVariants as refusals
-use Rattle.cacache_keep_laws.{proofs.Logged.{gains_join}, specs.Temporary.{sized_removals, total}}
+use Rattle.cacache_laws.{proofs.trees.Logged.{gains_join}, specs.trees.Temporary.{sized_removals, total}}
 use Rattle.cacache_keep.{specs.{Reading.{finds_none, is_gone}, Sweeping.{ListsFolder, RemovesSized, StopsRemoval, StopsSized}}, proofs.Gives.{failed, lost, none_found, not_gone}}
 
 -- ---- a step that was refused

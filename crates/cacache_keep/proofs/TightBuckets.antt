@@ -3,7 +3,7 @@ use Rattle.std.proofs.{Common.{◌≡◌, inl, inr, ℕ, List, Bool, true, false
 use Rattle.std.specs.Prelude.{not}
 use Rattle.cacache_core.specs.PathNames.{Names, names_of}
 use Rattle.cacache_disk.specs.{declared.node.Node.{Node, TheVariants.{File}}, Tree.{Tree, look}}
-use Rattle.cacache_keep_laws.{specs.Compacting.{compact_text}, proofs.LeanTrees.{Becomes}}
+use Rattle.cacache_laws.{specs.trees.Compacting.{compact_text}, proofs.trees.LeanTrees.{Becomes}}
 use Rattle.cacache_keep.specs.Compacting.{Bucket, is_loose, same_bytes}
 
 -- the file at the path has bytes that a compaction, durable or not, leaves

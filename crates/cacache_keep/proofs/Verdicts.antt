@@ -2,16 +2,14 @@
 use Rattle.std.{proofs.Common.{◌≡◌, Bool, ℕ, List, [], ◌∷◌, ◌++◌, Some, map, length, ap, ◌∙◌, filter}, specs.Prelude.{not}}
 use Rattle.cacache_core.specs.{declared.integrity.digest.Hash.{Hash}, PathNames.{Names, home_of}}
 use Rattle.cacache_store.specs.declared.store.log.LogItem.{LogItem}
-use Rattle.cacache_disk.specs.Tree.{Tree}
-use Rattle.cacache_memory.specs.Replay.{tree_of, IsLog}
+use Rattle.cacache_disk.specs.{Tree.{Tree}, memory.Replay.{tree_of, IsLog}}
 use Rattle.cacache_entry.specs.Latest.{Found}
 use Rattle.cacache_table.specs.declared.command.Command.TheVariants as commands
 use Rattle.cacache_table.specs.declared.reply.Reply.TheVariants as replies
 use Rattle.cacache_table.specs.State.{Site}
-use Rattle.cacache_sequence.proofs.Calls.InParts.{logs_lead}
+use Rattle.cacache_laws.proofs.{Calls.InParts.{logs_lead}, trees.{Members.{contains_member}, Held.{holds_just}, Logged.{answered_rest, answered_split, gains_join, log_rooted, looked, tree_rest, walked}}}
+use Rattle.cacache_laws.specs.trees.{Contents.{HoldsJust}, Verifying.{Judges, has_content}}
 use Rattle.cacache_walks.specs.{Listing.{content_area_in}, Reading.{top_folder}}
-use Rattle.cacache_keep_laws.specs.{Contents.{HoldsJust}, Verifying.{Judges, has_content}}
-use Rattle.cacache_keep_laws.proofs.{Members.{contains_member}, Held.{holds_just}, Logged.{answered_rest, answered_split, gains_join, log_rooted, looked, tree_rest, walked}}
 use Rattle.cacache_keep.specs.{Calls.{question_of}, Keeping.{VerifiesCache}, Kept.{LeavesTree, ListsHold, VerdictsJudge}, Reading.{Judged}}
 use Rattle.cacache_keep.proofs.{Judged.{asks_told, good_counted, index_lists, others_named, reads_judged}, Parts.{AllLook, made_looks}}
 

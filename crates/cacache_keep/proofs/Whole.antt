@@ -5,13 +5,12 @@ use Rattle.sha1.specs.Sha1.{sha1}
 use Rattle.cacache_core.specs.{declared.integrity.digest.Hash.{Hash}, Integrity.{IsHash, IsIntegrity, address}, PathNames.{Names, home_of}}
 use Rattle.cacache_core.proofs.PathLemmas.{keys_have_digests}
 use Rattle.cacache_store.specs.declared.store.{log.LogItem.{LogItem}, step.Step.TheVariants.{Exists}}
-use Rattle.cacache_disk.specs.{declared.luck.Luck.TheVariants.{Plain}, Apply.{apply}, Rooted.{Rooted}, Tree.{Tree}}
-use Rattle.cacache_memory.specs.Replay.{tree_of, IsLog}
+use Rattle.cacache_disk.specs.{declared.luck.Luck.TheVariants.{Plain}, Apply.{apply}, Rooted.{Rooted}, Tree.{Tree}, memory.Replay.{tree_of, IsLog}}
 use Rattle.cacache_entry.specs.Latest.{Found, latest}
 use Rattle.cacache_table.specs.{State.{Site}, StepPaths.{content_path}}
 use Rattle.cacache_value.specs.Acts.{list_of}
-use Rattle.cacache_keep_laws.specs.{Contents.{content_in}, Housed.{Housed, Still}, Index.{IndexLists}, Mending.{LeavesGood, found_in}, Verifying.{Judges, has_content, is_good, says_yes}}
-use Rattle.cacache_keep_laws.proofs.{Collected.{dropped_hash, kept_in, leaves, picked_left}, Housed.{removes_house, removes_root, removes_still}, Led.{found_integrity, found_listed, indexes_lead}, Logged.{log_rooted}, Members.{Member, contains_member, member_contains}, StillThere.{good_still, good_there, has_still}}
+use Rattle.cacache_laws.specs.trees.{Contents.{content_in}, Housed.{Housed, Still}, Index.{IndexLists}, Mending.{LeavesGood, found_in}, Verifying.{Judges, has_content, is_good, says_yes}}
+use Rattle.cacache_laws.proofs.trees.{Collected.{dropped_hash, kept_in, leaves, picked_left}, Housed.{removes_house, removes_root, removes_still}, Led.{found_integrity, found_listed, indexes_lead}, Logged.{log_rooted}, Members.{Member, contains_member, member_contains}, StillThere.{good_still, good_there, has_still}}
 use Rattle.cacache_keep.specs.{Kept.{LeadsToGood, RepairsKeepGood, RepairsVerify}, Repairing.{Fate, RepairsFrom}}
 use Rattle.cacache_keep.proofs.{ListedLogs.{repaired_on}, Buried.{Whole}, Mends.{Repaired, map_from, repaired, steps_done}, Shown.{burial_of}, Verdicts.{verdicts_judge}}
 

@@ -2,10 +2,9 @@
 use Rattle.std.{proofs.Common.{◌≡◌, ◌⊎◌, inl, inr, ℕ, List, [], ◌∷◌, ◌++◌, Bool, None, Option, Some, Ok, sym, ap, subst, ◌∙◌}, specs.List.{AllByRecursion}}
 use Rattle.cacache_core.specs.{PathNames.{Names, home_of, names_of}, Paths.{index_area}, declared.errors.Error.{Error}}
 use Rattle.cacache_store.specs.declared.store.log.LogItem.{LogItem}
-use Rattle.cacache_disk.specs.{declared.node.Node.TheVariants.{File}, Tree.{Tree, look}}
-use Rattle.cacache_memory.specs.Replay.{IsLog, tree_of}
-use Rattle.cacache_keep_laws.specs.{Compacted.{Compacted, CutShort}, Compacting.{compact_text}}
-use Rattle.cacache_keep_laws.proofs.{LeanCalls.{compactions_answer}, LeanTrees.{compactions_keep, Becomes, compacted_none, cut_short}, Led.{houses_are_fit}, Logged.{log_rooted}, Members.{Member}}
+use Rattle.cacache_disk.specs.{declared.node.Node.TheVariants.{File}, Tree.{Tree, look}, memory.Replay.{IsLog, tree_of}}
+use Rattle.cacache_laws.specs.trees.{Compacted.{Compacted, CutShort}, Compacting.{compact_text}}
+use Rattle.cacache_laws.proofs.trees.{LeanCalls.{compactions_answer}, LeanTrees.{compactions_keep, Becomes, compacted_none, cut_short}, Led.{houses_are_fit}, Logged.{log_rooted}, Members.{Member}}
 use Rattle.cacache_keep.specs.{Compacting.{CompactsAll, CompactsCache, StopsAfterAll, StopsCompactingEach}, Syncing.{SyncsAbove}, Kept.{CompactionsAreUnseen, CompactionsLeave, CompactionsStop, MayCompact}}
 use Rattle.cacache_keep.proofs.{FoundBuckets.{AreBucketNames, FindsFiles, IsBucketFile, Stays, buckets_found, finding_stays}, HexNames.{bucket_names_hex}, TreeRuns.{Leads, leads_as, leads_on, leads_then}, CompactedTrees.{CompactsThese, each_leads, stop_leads}, SyncedTrees.{above_synced, above_unsynced}, TightBuckets.{IsTight, same_file}}
 

@@ -5,7 +5,7 @@ use Rattle.cacache_store.specs.declared.store.{answer.{Kind.{Kind}, Name.{Name}}
 use Rattle.cacache_store.specs.declared.store.answer.Kind.TheVariants as kinds
 use Rattle.cacache_store.specs.declared.store.step.Step.TheVariants as steps
 use Rattle.cacache_table.specs.SingleSteps.{FailsAt}
-use Rattle.cacache_keep_laws.specs.Temporary.{is_file}
+use Rattle.cacache_laws.specs.trees.Temporary.{is_file}
 use Rattle.cacache_keep.specs.{Reading.{is_gone}, Sweeping.{ListsFolder}}
 
 -- ---- names in the index

@@ -6,7 +6,7 @@ use Rattle.cacache_entry.specs.Latest.{Found}
 use Rattle.cacache_table.specs.{declared.{command.Command.{Command}, reply.Reply.{Reply}}, State.{Site, Item}, Table.{opening}, Runs.{Ran, plain_item, without_message}}
 use Rattle.cacache_table.specs.declared.command.Command.TheVariants as commands
 use Rattle.cacache_table.specs.declared.reply.Reply.TheVariants as replies
-use Rattle.cacache_keep_laws.specs.Collecting.{is_live}
+use Rattle.cacache_laws.specs.trees.Collecting.{is_live}
 
 -- the log gained runs of these calls with these replies, one after another
 abbrev pub MadeCalls : Site → List (Command × Reply)

@@ -2,10 +2,10 @@
 use Rattle.std.specs.Prelude.{◌≡◌, ℕ, List, Some}
 use Rattle.cacache_core.specs.{declared.integrity.digest.Hash.{Hash}, PathNames.{Names, home_of}}
 use Rattle.cacache_store.specs.declared.store.log.LogItem.{LogItem}
-use Rattle.cacache_memory.specs.Replay.{tree_of, IsLog}
+use Rattle.cacache_disk.specs.memory.Replay.{tree_of, IsLog}
 use Rattle.cacache_entry.specs.Latest.{Found}
 use Rattle.cacache_table.specs.State.{Site}
-use Rattle.cacache_keep_laws.specs.{Contents.{content_in}, Housed.{Housed}}
+use Rattle.cacache_laws.specs.trees.{Contents.{content_in}, Housed.{Housed}}
 use Rattle.cacache_keep.specs.{Kept.{LeadsToGood}, Repairing.{RepairsCache}, Sweeping.{SweepsCache}}
 
 -- a sweep leaves each thing in its place, and each entry in its key's bucket

@@ -2,14 +2,12 @@
 use Rattle.std.specs.Prelude.{◌≡◌, ◌⊎◌, ◌++◌, ℕ, List, [], ◌∷◌, Bool, Option, true, None, Some, Contains, filter, filter_map, map, not}
 use Rattle.cacache_core.specs.{declared.{errors.Error.{Error}, integrity.digest.Hash.{Hash}}, Integrity.{address as address_of}, PathLaws.{IsKeyDigest}, PathNames.{Names, home_of}, Paths.{bucket_names_of}}
 use Rattle.cacache_store.specs.declared.store.log.LogItem.{LogItem}
-use Rattle.cacache_disk.specs.{declared.node.Node.TheVariants.{File}, Tree.{Tree, look}}
-use Rattle.cacache_memory.specs.Replay.{tree_of, IsLog}
+use Rattle.cacache_disk.specs.{declared.node.Node.TheVariants.{File}, Tree.{Tree, look}, memory.Replay.{tree_of, IsLog}}
 use Rattle.cacache_entry.specs.Latest.{Found}
 use Rattle.cacache_table.specs.{declared.{command.Command.{Command}, reply.Reply.{Reply}}, State.{Site}}
 use Rattle.cacache_value.specs.Placed.{Placed}
-use Rattle.cacache_sequence.specs.{Caches.{Called}, Looks.{OnlyLooks}}
+use Rattle.cacache_laws.specs.{Caches.{Called}, Looks.{OnlyLooks}, trees.{Compacted.{Compacted, CutShort, KeepsFound}, Compacting.{compact_text}, Contents.{HoldsJust, content_in}, Housed.{Housed}, Verifying.{Judges, is_good}, Collecting.{LeavesLive, LinksLeadOut, ReadsAsBefore}, Idle.{LacksIdle, Removed}, Mending.{LeavesGood, found_in}, Temporary.{LeavesUntemporary}}}
 use Rattle.cacache_walks.specs.Listing.{IsByHash, ListsContents}
-use Rattle.cacache_keep_laws.specs.{Compacted.{Compacted, CutShort, KeepsFound}, Compacting.{compact_text}, Contents.{HoldsJust, content_in}, Housed.{Housed}, Verifying.{Judges, is_good}, Collecting.{LeavesLive, LinksLeadOut, ReadsAsBefore}, Idle.{LacksIdle, Removed}, Mending.{LeavesGood, found_in}, Temporary.{LeavesUntemporary}}
 use Rattle.cacache_keep.specs.{Compacting.{CompactsCache, StopsCompacting}, Keeping.{Collects, VerifiesCache}, Planning.{PlansCache, Sized}, Repairing.{RepairsCache}, Sweeping.{SweepsCache}}
 
 -- the log leads to the tree that it led to

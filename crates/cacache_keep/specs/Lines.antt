@@ -1,7 +1,7 @@
 -- What a line of a bucket stands for, and which lines are chosen in two passes.
 use Rattle.std.specs.{Prelude.{◌≡◌, ◌||◌, ℕ, List, [], ◌∷◌, Bool, false, None, Some, if◌then◌else◌, bytes_eq, is_some, map, option_map, reverse}, List.{list_any}, BTreeMap.{BTreeMap, get_by}, Borrow.{Bor}, Cmp.Lexicographic.{slice_cmp}, Ordering.{nat_cmp}}
 use Rattle.cacache_entry.specs.View.{entry_view}
-use Rattle.cacache_keep_laws.specs.Compacting.{Decision, Line, decided, is_odd}
+use Rattle.cacache_laws.specs.trees.Compacting.{Decision, Line, decided, is_odd}
 use Rattle.cacache_keep.specs.declared.lines.{Decided.{Decided}, Line.{Line as Held}}
 
 -- ---- views

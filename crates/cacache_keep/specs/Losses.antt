@@ -3,14 +3,12 @@ use Rattle.std.specs.Prelude.{◌≡◌, ◌⊎◌, ◌++◌, ℕ, List, [], ◌
 use Rattle.sha1.specs.Sha1.{sha1}
 use Rattle.cacache_core.specs.{declared.errors.Error.{Error}, PathLaws.{IsKeyDigest}, PathNames.{Names, home_of}, Paths.{bucket_names_of}}
 use Rattle.cacache_store.specs.declared.store.log.LogItem.{LogItem}
-use Rattle.cacache_disk.specs.{declared.node.Node.TheVariants.{File}, Tree.{Tree, look}}
+use Rattle.cacache_disk.specs.{declared.node.Node.TheVariants.{File}, Tree.{Tree, look}, memory.Replay.{tree_of, IsLog}}
 use Rattle.cacache_entry.specs.{Bucket.{entries_of}, Latest.{Found, latest}}
-use Rattle.cacache_memory.specs.Replay.{tree_of, IsLog}
 use Rattle.cacache_table.specs.Runs.{Gains, Moves}
-use Rattle.cacache_sequence.specs.Sequence.{plain_moves}
+use Rattle.cacache_laws.specs.{Sequence.{plain_moves}, trees.{Compacting.{compact_text}, Mending.{found_in}}}
 use Rattle.cacache_value.specs.{Placed.{Placed}, Traces.{Move}}
 use Rattle.cacache_loss.specs.{CalmMoves.{AreCalm}, Fixing.{Fixed}, Loss.{Loss}, LossLaws.{BeginsWith, FindsOrLater}, LostValues.{LeftOf}, Moments.{EachMove, Moment, after}, Syncs.{Leaves}}
-use Rattle.cacache_keep_laws.specs.{Compacting.{compact_text}, Mending.{found_in}}
 use Rattle.cacache_keep.specs.Compacting.{CompactsCache, StopsCompacting}
 
 -- the moment after these moves, from a tree that had so much fixed

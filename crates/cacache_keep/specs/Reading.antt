@@ -6,7 +6,7 @@ use Rattle.cacache_store.specs.declared.store.{log.LogItem.{LogItem}, plain.Plai
 use Rattle.cacache_store.specs.declared.store.step.Step.TheVariants as steps
 use Rattle.cacache_table.specs.{declared.answers.Refusal.{Refusal}, Runs.{Moves, Gains}, SingleSteps.{Does, FailsAt}, StepPaths.{content_path}, Table.{piece}}
 use Rattle.cacache_table.specs.declared.answers.Refusal.TheVariants as refusals
-use Rattle.cacache_keep_laws.specs.Temporary.{total}
+use Rattle.cacache_laws.specs.trees.Temporary.{total}
 
 -- ---- an open file
 

@@ -7,9 +7,9 @@ ghost use Rattle.cacache_keep.specs.Told.{AsksAs};
 
 use cacache_core::errors::Result;
 use cacache_entry::Metadata;
-use cacache_reads::exists_sync;
 use cacache_store::env::{Clock, Env, Names};
 use cacache_store::store::Store;
+use cacache_sync::exists_sync;
 use cacache_table::Found;
 
 /// The entries among these whose content isn't there.

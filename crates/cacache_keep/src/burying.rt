@@ -10,10 +10,10 @@ use crate::missing::{Shown, confirm, look};
 use cacache_core::errors::Result;
 use cacache_core::integrity::Integrity;
 use cacache_entry::Metadata;
-use cacache_reads::exists_sync;
-use cacache_reads::index::{delete, find};
 use cacache_store::env::{Clock, Env, Names};
 use cacache_store::store::Store;
+use cacache_sync::exists_sync;
+use cacache_sync::index::{delete, find};
 
 /// Whether the content is missing. A no to the question alone doesn't say so: it must be confirmed.
 fn is_lost<S: Store, C: Clock, N: Names>(

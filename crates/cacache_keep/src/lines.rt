@@ -7,7 +7,7 @@ ghost use Rattle.cacache_core.specs.declared.errors.Error.TheVariants.{OutOfMemo
 ghost use Rattle.cacache_entry.specs.Bucket.{cut, CutsAt, without_cr as less_cr};
 ghost use Rattle.cacache_entry.specs.Entry.{closing};
 ghost use Rattle.cacache_entry.specs.View.{entry_view};
-ghost use Rattle.cacache_keep_laws.specs.Compacting.{compact_text as compact_text_of, decision, decision_of, is_closed as is_closed_by, is_line as is_line_of, is_odd as is_odd_line, key_of, line_of_piece, lines_of as lines_in, Line as LineOf, text_of};
+ghost use Rattle.cacache_laws.specs.trees.Compacting.{compact_text as compact_text_of, decision, decision_of, is_closed as is_closed_by, is_line as is_line_of, is_odd as is_odd_line, key_of, line_of_piece, lines_of as lines_in, Line as LineOf, text_of};
 ghost use Rattle.cacache_keep.specs.Checking.{has_odd as has_odd_line};
 ghost use Rattle.cacache_keep.specs.Lines.{HasKeys, decision_view, finds as finds_in, in_order, last_lines as last_of, line_view, without_tombstones};
 

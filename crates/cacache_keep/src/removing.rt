@@ -6,9 +6,9 @@ ghost use Rattle.cacache_keep.specs.Calls.{MadeCalls, StopsRemoving, removal};
 
 use cacache_core::errors::Result;
 use cacache_core::integrity::Integrity;
-use cacache_reads::rm::remove_hash_sync;
 use cacache_store::env::{Clock, Env, Names};
 use cacache_store::store::Store;
+use cacache_sync::rm::remove_hash_sync;
 
 /// Removes the contents of these addresses.
 pub(crate) fn remove_each<S: Store, C: Clock, N: Names>(

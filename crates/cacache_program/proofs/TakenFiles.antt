@@ -7,9 +7,8 @@ use Rattle.cacache_store.specs.declared.store.answer.Answer.TheVariants as answe
 use Rattle.cacache_store.specs.declared.store.step.Step.TheVariants as steps
 use Rattle.cacache_table.specs.{declared.{command.Options.{Options}, reply.Reply.TheVariants.{Stored}}, Answers.{file_in}, Promises.{Stores, answered}, Runs.{reply_of}, SingleSteps.{Does, FailsAt}}
 use Rattle.cacache_jobs.specs.{Brought.{Brings}, Environment.{KeepsRest, MomentOf}}
-use Rattle.cacache_content.specs.{OpenReads.{FailsToOpen, OpensFile}, OpenWrites.{EndsWriter, HasTaken, TriesToRemove}}
-use Rattle.cacache_content.proofs.StepAnswers.{file_refused, refusal_of, refused_fails}
-use Rattle.cacache_put.specs.{declared.writer.SyncWriter.{SyncWriter}, KeyedWriters.{CommitsWriter, OpensKeyed, writer_commit}, Options.{nothing_said, options_of}}
+use Rattle.cacache_sync.specs.{content.{OpenReads.{FailsToOpen, OpensFile}, OpenWrites.{EndsWriter, HasTaken, TriesToRemove}}, declared.put.writer.SyncWriter.{SyncWriter}, put.{KeyedWriters.{CommitsWriter, OpensKeyed, writer_commit}, Options.{nothing_said, options_of}}}
+use Rattle.cacache_sync.proofs.content.StepAnswers.{file_refused, refusal_of, refused_fails}
 use Rattle.cacache_program.specs.{WordStore.{EndsFile, GivesUp, WentOn}, WordWrite.{AreAllOf}}
 
 -- ---- the file is opened

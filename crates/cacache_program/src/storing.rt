@@ -1,6 +1,6 @@
 //! The word `store`.
 ghost use Rattle.std.specs.Prelude.{◌≡◌, ◌≤◌, ℕ, List, IfErr, IfOk, OnOk};
-ghost use Rattle.cacache_content.specs.OpenWrites.{given_up};
+ghost use Rattle.cacache_sync.specs.content.OpenWrites.{given_up};
 ghost use Rattle.cacache.specs.Calls.{KeepsRest};
 ghost use Rattle.cacache.specs.Readers.{FailsToOpen, OpensFile};
 ghost use Rattle.cacache.specs.Writers.{TriesToRemove};

@@ -3,7 +3,7 @@ use Rattle.std.specs.Prelude.{◌≡◌, ◌⊎◌, ℕ, ◌==◌, List, [], ◌
 use Rattle.cacache_core.specs.declared.errors.Error.TheVariants.{OutOfMemory}
 use Rattle.cacache_table.specs.{declared.{command.Command.{Command}, reply.Reply.{Reply, TheVariants.{Refused}}}, Promises.{Answers}, Runs.{plain_reply}}
 use Rattle.cacache_history.specs.{declared.record.Record.{Record, TheVariants.{Began, Moved, Stopped}}, Setup.{call_site}, History.{History, Call, IsLegal, Reaches, now_at}}
-pub use Rattle.cacache_agree.specs.Said.{said_command, said_reply}
+pub use Rattle.cacache_threads.specs.Said.{said_command, said_reply}
 use Rattle.cacache_shared.specs.Seats.{Taken, SeatAgrees}
 
 -- ---- in the records

@@ -5,7 +5,7 @@ use Rattle.cacache_table.specs.declared.{command.Command.{Command}, reply.Reply.
 use Rattle.cacache_history.specs.{declared.record.Record.{Record, TheVariants.{Began}}, History.{History}}
 use Rattle.cacache_world.specs.{declared.event.Move.{Move}, WorldKept.{AddsRecord, MovesOn}}
 use Rattle.cacache_world.specs.declared.event.Move.TheVariants as told
-use Rattle.cacache_agree.specs.Said.{said_command, said_reply}
+use Rattle.cacache_threads.specs.Said.{said_command, said_reply}
 use Rattle.cacache_shared.specs.{declared.seat.Went.{Went, TheVariants.{More, Done}}, Lines.{records_of, moves_of, commands_of, replies_of}}
 
 -- a caller, how many records and how many moves are its own, what it began and what it was answered

@@ -1,12 +1,12 @@
 //! Whether a seat agrees with its caller's records.
 ghost use Rattle.std.specs.Prelude.{◌≡◌, ◌↔◌, IfOk, IsTrue, map};
-ghost use Rattle.cacache_agree.specs.Said.{said_command, said_reply};
+ghost use Rattle.cacache_threads.specs.Said.{said_command, said_reply};
 ghost use Rattle.cacache_shared.specs.Lines.{commands_of, replies_of};
 
 use crate::lines::{command_in, reply_in};
-use cacache_agree::{same_command, same_reply};
 use cacache_history::Record;
 use cacache_table::{Command, Reply};
+use cacache_threads::{same_command, same_reply};
 use std::alloc::{AllocError, Global};
 
 /// Whether these are the commands that the caller began, JSON values by their compact texts.

@@ -2,8 +2,7 @@
 use Rattle.std.specs.Prelude.{ℕ, List}
 use Rattle.cacache_disk.specs.Tree.{Tree}
 use Rattle.cacache_loss.specs.{declared.loss.Loss.{Loss}, Chosen.{chosen}, Loss.{Lost}}
-use Rattle.cacache_history.specs.{declared.record.Record.{Record}, History.{History}, Setup.{home}}
-use Rattle.cacache_durable.specs.Outlasting.{moment_at}
+use Rattle.cacache_history.specs.{declared.record.Record.{Record}, History.{History}, Setup.{home}, durable.Outlasting.{moment_at}}
 use Rattle.cacache_world.specs.WorldKept.{history_of, setup_of}
 
 -- a tree is the one that this loss leaves there

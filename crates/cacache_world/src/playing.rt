@@ -1,7 +1,7 @@
 //! Events in their order.
 ghost use Rattle.std.specs.Prelude.{◌≡◌, OnOk, OnErr, IfErr};
-ghost use Rattle.cacache_durable.specs.FewCalls.{FewCalls};
-ghost use Rattle.cacache_durable.specs.Outlasting.{Outlives};
+ghost use Rattle.cacache_history.specs.durable.FewCalls.{FewCalls};
+ghost use Rattle.cacache_history.specs.durable.Outlasting.{Outlives};
 ghost use Rattle.cacache_history.specs.Headline.{Headline};
 ghost use Rattle.cacache_world.specs.Played.{Happens, HappenAll, CantBe, StopAt};
 

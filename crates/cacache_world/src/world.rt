@@ -1,7 +1,7 @@
 //! Callers with calls that take turns on one disk.
 ghost use Rattle.std.specs.Prelude.{◌≡◌, IfOk, IfErr, OnOk, OnErr, []};
-ghost use Rattle.cacache_durable.specs.FewCalls.{FewCalls};
-ghost use Rattle.cacache_durable.specs.Outlasting.{Outlives};
+ghost use Rattle.cacache_history.specs.durable.FewCalls.{FewCalls};
+ghost use Rattle.cacache_history.specs.durable.Outlasting.{Outlives};
 ghost use Rattle.cacache_history.specs.Headline.{Headline};
 ghost use Rattle.cacache_history.specs.History.{IsLegal};
 ghost use Rattle.cacache_history.specs.declared.record.Record.TheVariants.{Began, Stopped};

@@ -2,8 +2,7 @@
 use Rattle.std.specs.Prelude.{◌≡◌, ◌⊎◌, ℕ, List, Option, Result, Ok, Err}
 use Rattle.cacache_core.specs.declared.errors.Error.{Error, TheVariants.{OutOfMemory}}
 use Rattle.cacache_store.specs.{declared.{env.Env.{Env}, store.{log.LogItem.{LogItem}, plain.PlainTemp.{PlainTemp}}}, Given.{AddsAnswer}}
-use Rattle.cacache_content.specs.OpenWrites.{Makes, FailsToMake}
-use Rattle.cacache_put.specs.Options.{Said, options_of}
+use Rattle.cacache_sync.specs.{content.OpenWrites.{Makes, FailsToMake}, put.Options.{Said, options_of}}
 use Rattle.cacache_writers.specs.declared.{about.About.{About}, writer.Writer.{Writer}}
 
 -- what the caller said about a content under this key

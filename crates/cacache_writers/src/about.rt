@@ -6,7 +6,7 @@ ghost use Rattle.cacache_writers.specs.Opening.{IsAbout};
 use cacache_core::integrity::Integrity;
 use cacache_core::keeping::beside;
 use cacache_core::text::Text;
-use cacache_put::opts::WriteOpts;
+use cacache_sync::put::opts::WriteOpts;
 use cacache_table::{Commit, Options};
 use std::alloc::{AllocError, Global};
 

@@ -9,9 +9,9 @@ use cacache_async::{Call, CallFuture};
 use cacache_core::errors::Result;
 use cacache_core::keeping::beside;
 use cacache_core::text::Text;
-use cacache_put::opts::WriteOpts;
 use cacache_store::env::{Clock, Env, Names};
 use cacache_store::store::Store;
+use cacache_sync::put::opts::WriteOpts;
 use std::alloc::{AllocError, Global};
 
 /// The key as a text of its own, if there is one.

@@ -1,18 +1,18 @@
 //! How polled writers are opened.
-ghost use Rattle.cacache_content.specs.OpenWrites.{MakesTemp};
+ghost use Rattle.cacache_sync.specs.content.OpenWrites.{MakesTemp};
 ghost use Rattle.cacache_writers.specs.Opening.{OpensAt};
 
 use crate::about::About;
 use crate::file::PolledFile;
 use crate::writer::Writer;
-use cacache_content::writer;
 use cacache_core::errors::Result;
 use cacache_core::integrity::Algorithm;
 use cacache_core::keeping::beside;
 use cacache_core::text::Text;
 use cacache_jobs::temp_path;
-use cacache_put::opts::WriteOpts;
 use cacache_store::store::Store;
+use cacache_sync::content::writer;
+use cacache_sync::put::opts::WriteOpts;
 use std::alloc::Global;
 
 /// Makes the temporary file of this number.

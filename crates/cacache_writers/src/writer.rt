@@ -4,7 +4,7 @@ ghost use Rattle.std.specs.Arc.{arc_value};
 ghost use Rattle.futures.specs.Poll.{OnPending};
 ghost use Rattle.futures.specs.Task.{IsArmed, Keeps};
 ghost use Rattle.cacache_core.specs.declared.errors.Error.TheVariants.{OutOfMemory};
-ghost use Rattle.cacache_put.specs.Options.{nothing_said, saying};
+ghost use Rattle.cacache_sync.specs.put.Options.{nothing_said, saying};
 ghost use Rattle.cacache_async.specs.Waiting.{Waits};
 ghost use Rattle.cacache_writers.specs.Turning.{IsWorkerOf};
 
@@ -18,9 +18,9 @@ use crate::worker::Worker;
 use cacache_async::CallFuture;
 use cacache_core::errors::Result;
 use cacache_core::integrity::Algorithm;
-use cacache_put::opts::WriteOpts;
 use cacache_store::env::{Clock, Env, Names};
 use cacache_store::store::Store;
+use cacache_sync::put::opts::WriteOpts;
 use futures::task::{Context, Poll};
 use std::sync::Wait;
 

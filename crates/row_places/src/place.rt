@@ -1,7 +1,7 @@
 //! An environment in which rows are tried: its clock stands still, and its numbers begin at 0.
 use cacache_core::keeping::beside;
+use cacache_disk::memory::MemStore;
 use cacache_folder::FolderStore;
-use cacache_memory::MemStore;
 use cacache_store::env::{Clock, Env, Names};
 use cacache_store::store::Store;
 use std::alloc::{AllocError, AllocGlobal, Global};

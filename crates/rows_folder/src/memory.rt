@@ -5,7 +5,7 @@ use cacache_core::keeping::{beside, let_go};
 use cacache_core::text::Text;
 use cacache_folder::SystemStore;
 use cacache_store::store::{Step, Store};
-use cacache_system_memory::{MemorySystem, make_and_append};
+use cacache_system_model::memory::{MemorySystem, make_and_append};
 use std::alloc::{AllocError, Global};
 
 /// The folder that is made.

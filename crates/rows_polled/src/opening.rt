@@ -1,8 +1,8 @@
 //! The ways in which a writer is opened: each is a future that is ready at once.
 use cacache_core::errors::Result as Answered;
 use cacache_core::keeping::beside;
-use cacache_put::opts::WriteOpts;
 use cacache_store::store::Store;
+use cacache_sync::put::opts::WriteOpts;
 use cacache_writers::{OpenAsync, WriteOptsOpenFuture, Writer};
 use futures::executor::block_on;
 use row_places::{Numbers, On, Still};

@@ -7,7 +7,7 @@ use Rattle.cacache_entry.specs.{declared.metadata.Metadata.{Metadata}, Latest.{F
 use Rattle.cacache_table.specs.declared.command.Command.TheVariants as commands
 use Rattle.cacache_table.specs.declared.reply.Reply.TheVariants as replies
 use Rattle.cacache_table.specs.{Causes.{Faulted}, Runs.{Moves, reply_of}, Replies.{looked_up}}
-use Rattle.cacache_sequence.specs.{Caches.{IsCache, HasKey, HasContent, LacksKey, AStepFailed, IsExcused, Called, Grows, ExcusesLast, lies_under, SaysThere, AsksWhetherHeld}, Keeping.{found_under}, Inserts.{leads_to}, Looks.{GivesFound, FindsFound, SaysAbsent, AsksAbsent}}
+use Rattle.cacache_laws.specs.{Caches.{IsCache, HasKey, HasContent, LacksKey, AStepFailed, IsExcused, Called, Grows, ExcusesLast, lies_under, SaysThere, AsksWhetherHeld}, Keeping.{found_under}, Inserts.{leads_to}, Looks.{GivesFound, FindsFound, SaysAbsent, AsksAbsent}}
 use Rattle.uses.{specs.Asked.{IsEntryOf}, proofs.Told.{excused}}
 
 -- ---- whether a content is there

@@ -6,8 +6,8 @@ use Rattle.cacache_table.specs.declared.command.Command.TheVariants as commands
 use Rattle.cacache_table.specs.declared.reply.Reply.TheVariants as replies
 use Rattle.cacache_table.specs.{Runs.{Ran, reply_of, without_message}, declared.reply.Reply.{Reply}, Table.{opening}}
 use Rattle.cacache_jobs.specs.{Sites.{site_of}, Environment.{RunsTimed}}
-use Rattle.cacache_put.specs.{Options.{Said, nothing_said}, Puts.{insert_of}}
-use Rattle.cacache_sequence.specs.{Caches.{IsCache, IsExcused, Called}, Keeping.{KeepsOthers}, Inserts.{leads_to, InsertsKey, InsertsLast, plain_insert, PlainInsertsFit}}
+use Rattle.cacache_sync.specs.put.{Options.{Said, nothing_said}, Puts.{insert_of}}
+use Rattle.cacache_laws.specs.{Caches.{IsCache, IsExcused, Called}, Keeping.{KeepsOthers}, Inserts.{leads_to, InsertsKey, InsertsLast, plain_insert, PlainInsertsFit}}
 use Rattle.uses.proofs.Told.{excused}
 
 -- blank options with this integrity

@@ -2,7 +2,7 @@
 use Rattle.std.specs.Prelude.{◌≡◌, ℕ, List, IfErr, IfOk, Result, Vec}
 use Rattle.cacache_core.specs.declared.{errors.Error.{Error}, integrity.digest.Hash.{Hash}}
 use Rattle.cacache_store.specs.declared.store.log.LogItem.{LogItem}
-use Rattle.cacache_sequence.specs.Caches.{HasContent, HasKey, IsExcused}
+use Rattle.cacache_laws.specs.Caches.{HasContent, HasKey, IsExcused}
 
 -- the bytes that the key leads to are given, and stay
 abbrev pub GivesKey :

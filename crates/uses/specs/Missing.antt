@@ -2,7 +2,7 @@
 use Rattle.std.specs.Prelude.{◌≡◌, ◌⊎◌, ℕ, List, Vec, Result, Ok, Err}
 use Rattle.cacache_core.specs.declared.errors.Error.{Error, TheVariants.{EntryNotFound}}
 use Rattle.cacache_store.specs.declared.store.log.LogItem.{LogItem}
-use Rattle.cacache_sequence.specs.Caches.{IsExcused}
+use Rattle.cacache_laws.specs.Caches.{IsExcused}
 
 -- no bytes: `EntryNotFound`, unless memory was refused or a step failed
 abbrev pub FindsNothing :

@@ -1,6 +1,6 @@
 //! Functions of a caller's own that ask what a cache has.
 ghost use Rattle.std.specs.Prelude.{◌≡◌, None, false, IfOk, IfErr};
-ghost use Rattle.cacache_sequence.specs.Caches.{IsCache, AStepFailed, IsExcused};
+ghost use Rattle.cacache_laws.specs.Caches.{IsCache, AStepFailed, IsExcused};
 ghost use Rattle.uses.specs.Asked.{IsEntryOf};
 
 use crate::calls::{remove, write};
@@ -8,7 +8,7 @@ use crate::questions::{exists, metadata};
 use cacache::env::{Clock, Env, Names};
 use cacache::store::MemStore;
 use cacache::{Integrity, Metadata, Result};
-use cacache_sequence::cache_laws;
+use cacache_laws::cache_laws;
 
 /// What was stored, whether it is there, and what the index has of its key.
 #[derive(Drop)]

@@ -1,13 +1,13 @@
 //! Single calls on a cache in memory, each with what it does there.
 ghost use Rattle.std.specs.Prelude.{ℕ, List, IfOk, IfErr, OnOk};
-ghost use Rattle.cacache_sequence.specs.Caches.{IsCache, IsEmptyCache, HasKey, HasContent, LacksKey, Grows, IsExcused};
+ghost use Rattle.cacache_laws.specs.Caches.{IsCache, IsEmptyCache, HasKey, HasContent, LacksKey, Grows, IsExcused};
 ghost use Rattle.uses.specs.Given.{GivesContent, GivesKey, MissesKey};
 ghost use Rattle.uses.specs.Missing.{FindsNothing};
 
 use cacache::env::{Clock, Env, Names};
 use cacache::store::MemStore;
 use cacache::{Integrity, Result};
-use cacache_sequence::cache_laws;
+use cacache_laws::cache_laws;
 
 /// `write_sync`: afterwards the key leads to the bytes.
 pub(crate) fn write<C: Clock, N: Names>(

@@ -1,13 +1,13 @@
 //! Functions of a caller's own, composed of calls.
 ghost use Rattle.std.specs.Prelude.{◌≡◌, IfOk, IfErr, OnOk};
-ghost use Rattle.cacache_sequence.specs.Caches.{IsCache, IsEmptyCache, IsExcused};
+ghost use Rattle.cacache_laws.specs.Caches.{IsCache, IsEmptyCache, IsExcused};
 ghost use Rattle.uses.specs.Missing.{FindsNothing};
 
 use crate::calls::{clear, read, read_hash, remove, write};
 use cacache::env::{Clock, CountNames, Env, Names};
 use cacache::store::MemStore;
 use cacache::{Integrity, Result};
-use cacache_sequence::cache_laws;
+use cacache_laws::cache_laws;
 use std::alloc::Global;
 
 /// What was stored, and what was read back.

@@ -1,13 +1,13 @@
 //! Copies of contents out of a cache in memory.
 ghost use Rattle.std.specs.Prelude.{◌≡◌, ℕ, List, length, IfOk};
-ghost use Rattle.cacache_sequence.specs.Caches.{IsCache, HasContent};
-ghost use Rattle.cacache_sequence.specs.ExportEffects.{IsApart};
-ghost use Rattle.cacache_sequence.specs.Keeping.{StaysKnown};
+ghost use Rattle.cacache_laws.specs.Caches.{IsCache, HasContent};
+ghost use Rattle.cacache_laws.specs.ExportEffects.{IsApart};
+ghost use Rattle.cacache_laws.specs.Keeping.{StaysKnown};
 
 use cacache::env::{Clock, Env, Names};
 use cacache::store::MemStore;
 use cacache::{Integrity, Result};
-use cacache_sequence::cache_laws;
+use cacache_laws::cache_laws;
 
 /// Copies the content of an integrity out of a cache in memory, to a path apart from it. All that was known of the cache
 /// is so still, whatever the copy answers. A count that it answers is that of the bytes that lie under the integrity.

@@ -1,15 +1,15 @@
 //! Entries that are inserted in a cache in memory.
 ghost use Rattle.std.specs.Prelude.{◌≡◌, Some, IfOk, IfErr, OnOk};
-ghost use Rattle.cacache_sequence.specs.Caches.{IsCache, Grows, IsExcused};
-ghost use Rattle.cacache_sequence.specs.Keeping.{KeepsOthers};
-ghost use Rattle.cacache_sequence.specs.Inserts.{leads_to};
+ghost use Rattle.cacache_laws.specs.Caches.{IsCache, Grows, IsExcused};
+ghost use Rattle.cacache_laws.specs.Keeping.{KeepsOthers};
+ghost use Rattle.cacache_laws.specs.Inserts.{leads_to};
 ghost use Rattle.uses.specs.Asked.{IsEntryOf};
 
 use crate::questions::metadata;
 use cacache::env::{Clock, Env, Names};
 use cacache::store::MemStore;
 use cacache::{Integrity, Metadata, Result, WriteOpts, index};
-use cacache_sequence::cache_laws;
+use cacache_laws::cache_laws;
 
 /// `index::insert` of an entry with this integrity: afterwards the key leads to it. All else stays, whatever it answers.
 fn insert<C: Clock, N: Names>(

@@ -11,7 +11,7 @@
 //!
 //! How that is proved:
 //!
-//! - `cache_laws` of `cacache_sequence` says what each call does to a cache in a store in memory, in words such as
+//! - `cache_laws` of `cacache_laws` says what each call does to a cache in a store in memory, in words such as
 //!   `IsCache`, `HasKey` and `IsExcused`, and that the store's log is a disk's. A function that calls it has these laws;
 //!   the call itself does nothing. `look_laws` says the same of calls that only look.
 //! - That a call was made is said by the call's own clause `ran`: the store's log gained a run of it, with its reply.

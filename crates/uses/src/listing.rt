@@ -6,9 +6,9 @@ ghost use Rattle.cacache_core.specs.Integrity.{Meets};
 ghost use Rattle.cacache_entry.specs.Latest.{Found as Entry};
 ghost use Rattle.cacache_table.specs.ListReplies.{In};
 ghost use Rattle.cacache_table.specs.Runs.{plain_item, without_message};
-ghost use Rattle.cacache_sequence.specs.Caches.{IsCache, Grows, IsExcused};
-ghost use Rattle.cacache_sequence.specs.Keeping.{found_under, StaysKnown};
-ghost use Rattle.cacache_sequence.specs.ListedKeys.{ListsKeys};
+ghost use Rattle.cacache_laws.specs.Caches.{IsCache, Grows, IsExcused};
+ghost use Rattle.cacache_laws.specs.Keeping.{found_under, StaysKnown};
+ghost use Rattle.cacache_laws.specs.ListedKeys.{ListsKeys};
 
 use crate::calls::write;
 use cacache::Result;
@@ -16,7 +16,7 @@ use cacache::env::{Clock, Env, Names};
 use cacache::errors::Error;
 use cacache::jobs::{Command, Found, Reply, call};
 use cacache::store::MemStore;
-use cacache_sequence::{cache_laws, look_laws};
+use cacache_laws::{cache_laws, look_laws};
 use std::alloc::Global;
 
 /// The items of a listing: entries that keys lead to, no key twice, and all of them unless an item is an error.

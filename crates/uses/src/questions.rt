@@ -2,15 +2,15 @@
 ghost use Rattle.std.specs.Prelude.{◌≡◌, ℕ, List, None, Some, false, IfOk, IfErr};
 ghost use Rattle.cacache_core.specs.declared.errors.Error.TheVariants.{OutOfMemory};
 ghost use Rattle.cacache_core.specs.declared.integrity.digest.Hash.{Hash};
-ghost use Rattle.cacache_sequence.specs.Caches.{IsCache, HasKey, HasContent, LacksKey, Grows, AStepFailed, IsExcused, lies_under};
-ghost use Rattle.cacache_sequence.specs.Inserts.{leads_to};
-ghost use Rattle.cacache_sequence.specs.Keeping.{StaysKnown};
+ghost use Rattle.cacache_laws.specs.Caches.{IsCache, HasKey, HasContent, LacksKey, Grows, AStepFailed, IsExcused, lies_under};
+ghost use Rattle.cacache_laws.specs.Inserts.{leads_to};
+ghost use Rattle.cacache_laws.specs.Keeping.{StaysKnown};
 ghost use Rattle.uses.specs.Asked.{IsEntryOf};
 
 use cacache::env::{Clock, Env, Names};
 use cacache::store::MemStore;
 use cacache::{Integrity, Metadata, Result};
-use cacache_sequence::{cache_laws, look_laws};
+use cacache_laws::{cache_laws, look_laws};
 
 /// `exists_sync`: a content that is there is denied only where a step failed, and one that isn't is always denied.
 pub(crate) fn exists<C: Clock, N: Names>(

@@ -2,15 +2,14 @@
 use Rattle.std.specs.Prelude.{◌≡◌, ◌⊎◌, ℕ, List, [], Some, IfOk, Result, Vec, map, string_bytes}
 use Rattle.cacache_core.specs.{declared.{errors.Error.{Error}, integrity.digest.Hash.{Hash}}, Integrity.{Meets}, PathNames.{Names, home_of}}
 use Rattle.cacache_store.specs.declared.store.log.LogItem.{LogItem}
-use Rattle.cacache_memory.specs.Replay.{tree_of}
+use Rattle.cacache_disk.specs.memory.Replay.{tree_of}
 use Rattle.cacache_entry.specs.{Latest.{Found}, View.{found_view}}
 use Rattle.cacache_table.specs.declared.command.Command.TheVariants as commands
 use Rattle.cacache_table.specs.declared.reply.Reply.TheVariants as replies
 use Rattle.cacache_table.specs.State.{Site}
 use Rattle.cacache_value.specs.Placed.{Placed}
 use Rattle.cacache_jobs.specs.Sites.{site_of}
-use Rattle.cacache_sequence.specs.{Caches.{HasKey, IsCache}, ExportEffects.{IsApart}}
-use Rattle.cacache_keep_laws.specs.{Answers.{AnswersOn}, Collecting.{LeavesLive, LinksLeadOut}, Contents.{content_in}, Housed.{Housed}, Idle.{Removed}, Mending.{found_in}, Verifying.{Judges}}
+use Rattle.cacache_laws.specs.{Caches.{HasKey, IsCache}, ExportEffects.{IsApart}, trees.{Answers.{AnswersOn}, Collecting.{LeavesLive, LinksLeadOut}, Contents.{content_in}, Housed.{Housed}, Idle.{Removed}, Mending.{found_in}, Verifying.{Judges}}}
 use Rattle.cacache_keep.specs.{declared.{collecting.Collected.{Collected}, repairing.Repaired.{Repaired}, verifying.Verdict.{Verdict}}, Kept.{LeadsToGood, MendsCache}}
 
 -- ---- verdicts

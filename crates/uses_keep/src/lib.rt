@@ -4,26 +4,26 @@
 
 ghost use Rattle.std.specs.Prelude.{◌≡◌, [], Some, IfOk, map};
 ghost use Rattle.cacache_core.specs.PathNames.{Names as PathNames, home_of};
-ghost use Rattle.cacache_memory.specs.Replay.{tree_of};
+ghost use Rattle.cacache_disk.specs.memory.Replay.{tree_of};
 ghost use Rattle.cacache_jobs.specs.Sites.{site_of};
-ghost use Rattle.cacache_keep_laws.specs.Collecting.{LinksLeadOut};
-ghost use Rattle.cacache_keep_laws.specs.Housed.{Housed};
-ghost use Rattle.cacache_keep_laws.specs.Temporary.{LeavesUntemporary};
+ghost use Rattle.cacache_laws.specs.trees.Collecting.{LinksLeadOut};
+ghost use Rattle.cacache_laws.specs.trees.Housed.{Housed};
+ghost use Rattle.cacache_laws.specs.trees.Temporary.{LeavesUntemporary};
 ghost use Rattle.uses_keep.specs.Told.{IsMended, JudgesAs, LeavesAs, MendsPlaced, ReadsBeside, ReadsHoused, ReadsStill, ReadsAsRemoved, ReadsTended};
 
 use cacache_core::errors::Result;
 use cacache_core::keeping::let_go;
+use cacache_disk::memory::MemStore;
 use cacache_keep::{
     Collected, Planned, Repaired, Swept, Verdict, collect, compact, keep_laws, plan, repair, sweep,
     verify,
 };
-use cacache_keep_laws::answer_laws;
-use cacache_memory::MemStore;
-use cacache_put::put::write_sync;
-use cacache_reads::rm::RemoveOpts;
-use cacache_reads::{copy_sync, read_sync};
-use cacache_sequence::cache_laws;
+use cacache_laws::cache_laws;
+use cacache_laws::trees::answer_laws;
 use cacache_store::env::{Clock, Env, Names};
+use cacache_sync::put::bytes::write_sync;
+use cacache_sync::rm::RemoveOpts;
+use cacache_sync::{copy_sync, read_sync};
 
 /// Verifies a cache in memory: the good contents are those with bytes that meet their address, and all others are
 /// named.

@@ -3,4 +3,4 @@ pub use cacache_async::linker::{
     ToLinker as AsyncToLinker, ToLinkerCommitFuture as AsyncToLinkerCommitFuture,
 };
 pub use cacache_async::linking::AsyncToLinkerNewFuture;
-pub use cacache_put::linker::SyncToLinker as ToLinker;
+pub use cacache_sync::put::linker::SyncToLinker as ToLinker;

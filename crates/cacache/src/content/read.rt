@@ -10,8 +10,8 @@ pub use cacache_async::read::{
     read_hash as read_async,
 };
 pub use cacache_async::reader::{OpenAsyncFuture, Reader as AsyncReader, open_async};
-pub use cacache_content::reader::{SyncReader as Reader, open};
-pub use cacache_reads::{
+pub use cacache_sync::content::reader::{SyncReader as Reader, open};
+pub use cacache_sync::{
     copy_hash_sync as copy, copy_hash_unchecked_sync as copy_unchecked,
     hard_link_hash_sync as hard_link, hard_link_hash_unchecked_sync as hard_link_unchecked,
     has_content, read_hash_sync as read, reflink_hash_sync as reflink,

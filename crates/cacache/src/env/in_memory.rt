@@ -2,14 +2,14 @@
 ghost use Rattle.std.specs.Prelude.{◌≡◌, [], IfErr, IfOk};
 ghost use Rattle.cacache_core.specs.declared.errors.Error.TheVariants.{OutOfMemory};
 
-use cacache_content::reader::SyncReader;
 use cacache_core::errors::Result;
+use cacache_disk::memory::MemStore;
 use cacache_folder::{ProcessNames, SystemClock};
-use cacache_memory::MemStore;
-use cacache_put::linker::SyncToLinker;
-use cacache_put::writer::SyncWriter;
 use cacache_store::env::Env;
 use cacache_store::store::{PlainFile, PlainTemp};
+use cacache_sync::content::reader::SyncReader;
+use cacache_sync::put::linker::SyncToLinker;
+use cacache_sync::put::writer::SyncWriter;
 
 /// The environment of caches on a disk in memory.
 pub type Memory = Env<MemStore, SystemClock<HostRuntime>, ProcessNames>;

@@ -2,12 +2,12 @@
 ghost use Rattle.std.specs.Prelude.{◌≡◌, IfErr, IfOk};
 ghost use Rattle.cacache_core.specs.declared.errors.Error.TheVariants.{OutOfMemory};
 
-use cacache_content::reader::SyncReader;
 use cacache_core::errors::Result;
 use cacache_folder::{FolderFile, FolderStore, FolderTemp, ProcessNames, SystemClock};
-use cacache_put::linker::SyncToLinker;
-use cacache_put::writer::SyncWriter;
 use cacache_store::env::Env;
+use cacache_sync::content::reader::SyncReader;
+use cacache_sync::put::linker::SyncToLinker;
+use cacache_sync::put::writer::SyncWriter;
 
 /// The environment of caches in real folders.
 pub type Folders = Env<FolderStore<HostRuntime>, SystemClock<HostRuntime>, ProcessNames>;

@@ -2,8 +2,8 @@
 ghost use Rattle.std.specs.Prelude.{◌≡◌, Option, None};
 ghost use Rattle.std.specs.declared.io.ErrorKind.{ErrorKind};
 
+use cacache_disk::memory::MemStore;
 use cacache_folder::FolderStore;
-use cacache_memory::MemStore;
 use cacache_store::store::Store;
 use std::io::ErrorKind;
 use std::rt::Files;

@@ -5,7 +5,7 @@ use Rattle.cacache_table.specs.declared.command.Command.TheVariants as commands
 use Rattle.cacache_table.specs.declared.command.{How.TheVariants.{Copy}, Source.TheVariants.{Key}}
 use Rattle.cacache_table.specs.declared.reply.Reply.TheVariants as replies
 use Rattle.cacache_jobs.specs.Sites.{site_of}
-use Rattle.cacache_sequence.specs.{Caches.{Called, plain_put}, ExportEffects.{copy_from}}
+use Rattle.cacache_laws.specs.{Caches.{Called, plain_put}, ExportEffects.{copy_from}}
 use Rattle.cacache_keep.specs.{declared.checking.OddLines.TheVariants.{Refuse}, Behind.{collects, exports, puts}}
 use Rattle.uses_keep.proofs.Texts.{only}
 use Rattle.uses_keep.proofs.read_beside.Goals as goal

@@ -1,5 +1,5 @@
 use Rattle.std.proofs.Common.{◌≡◌, ◌++◌, List, length, map}
-use Rattle.cacache_keep_laws.specs.Compacting.{Line}
+use Rattle.cacache_laws.specs.trees.Compacting.{Line}
 use Rattle.cacache_keep.specs.Lines.{HasKeys, in_order, last_lines, line_view}
 use Rattle.cacache_keep.proofs.lines.last_lines.Given as goal
 

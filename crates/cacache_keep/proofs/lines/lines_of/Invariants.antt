@@ -1,5 +1,5 @@
 use Rattle.std.proofs.Common.{◌≡◌, ◌++◌, ◌≤◌, map, length}
-use Rattle.cacache_keep_laws.specs.Compacting.{lines_of}
+use Rattle.cacache_laws.specs.trees.Compacting.{lines_of}
 use Rattle.cacache_keep.specs.Lines.{line_view}
 use Rattle.cacache_keep.proofs.lines.lines_of.Given as goal
 

@@ -1,5 +1,5 @@
 use Rattle.std.{proofs.Common.{◌≡◌, drop, map}, specs.List.{list_any}}
-use Rattle.cacache_keep_laws.specs.Compacting.{is_odd}
+use Rattle.cacache_laws.specs.trees.Compacting.{is_odd}
 use Rattle.cacache_keep.specs.Lines.{line_view}
 use Rattle.cacache_keep.proofs.lines.some_odd.Given as goal
 

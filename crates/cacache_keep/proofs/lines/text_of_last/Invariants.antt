@@ -1,5 +1,5 @@
 use Rattle.std.proofs.Common.{◌≡◌, ◌++◌, false, length}
-use Rattle.cacache_keep_laws.specs.Compacting.{text_of}
+use Rattle.cacache_laws.specs.trees.Compacting.{text_of}
 use Rattle.cacache_keep.specs.Lines.{in_order, without_tombstones}
 use Rattle.cacache_keep.proofs.lines.text_of_last.Given as goal
 

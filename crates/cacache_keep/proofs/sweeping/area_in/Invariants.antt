@@ -1,5 +1,5 @@
 use Rattle.std.proofs.Common.{◌≡◌, length}
-use Rattle.cacache_keep_laws.specs.Temporary.{area_of}
+use Rattle.cacache_laws.specs.trees.Temporary.{area_of}
 use Rattle.cacache_keep.proofs.sweeping.area_in.Given as goal
 
 abbrev pub invariant-loop-name : goal.invariant-loop-name

@@ -1,7 +1,7 @@
 use Rattle.std.{proofs.Common.{◌≡◌, ℕ, List, Some, inl, inr, rules, refl, subst}, specs.Prelude.{Result, Ok, Err, IfOk, IsErrAnd}}
 use Rattle.cacache_core.specs.declared.errors.Error.TheVariants.{OutOfMemory}
 use Rattle.cacache_store.specs.declared.store.answer.Kind.TheVariants as kinds
-use Rattle.cacache_keep_laws.specs.Temporary.{area_of}
+use Rattle.cacache_laws.specs.trees.Temporary.{area_of}
 use Rattle.cacache_keep.{specs.Sweeping.{ListsFolder, StopsFinding, StopsFolder}, proofs.Stopped.{error_as}}
 use Rattle.cacache_keep.proofs.sweeping.find_files.Goals as goal
 

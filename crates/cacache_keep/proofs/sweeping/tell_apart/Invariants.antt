@@ -1,6 +1,6 @@
 use Rattle.std.{proofs.Common.{◌≡◌, filter, map, string_bytes}, specs.Prelude.{not}}
 use Rattle.cacache_core.specs.Paths.{join}
-use Rattle.cacache_keep_laws.specs.Temporary.{is_temporary}
+use Rattle.cacache_laws.specs.trees.Temporary.{is_temporary}
 use Rattle.cacache_keep.proofs.sweeping.tell_apart.Given as goal
 
 abbrev pub invariant-loop-name : goal.invariant-loop-name

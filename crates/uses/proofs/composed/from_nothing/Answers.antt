@@ -1,5 +1,5 @@
 use Rattle.std.proofs.Common.{sym, subst, ◌∙◌}
-use Rattle.cacache_sequence.specs.Caches.{IsCache}
+use Rattle.cacache_laws.specs.Caches.{IsCache}
 use Rattle.uses.proofs.composed.from_nothing.Goals as goal
 
 pub store_and_read-requires : goal.store_and_read-requires

@@ -2,8 +2,8 @@ use Rattle.std.proofs.Common.{Some, refl, ap, ◌∙◌}
 use Rattle.cacache_core.specs.declared.integrity.algorithm.Algorithm.TheVariants.{Sha256}
 use Rattle.cacache_table.specs.declared.command.Command.TheVariants as commands
 use Rattle.cacache_table.specs.declared.reply.Reply.TheVariants.{Stored}
-use Rattle.cacache_put.specs.Options.{Said}
-use Rattle.cacache_sequence.specs.Inserts.{plain_insert}
+use Rattle.cacache_sync.specs.put.Options.{Said}
+use Rattle.cacache_laws.specs.Inserts.{plain_insert}
 use Rattle.uses.proofs.{Told.{called}, Indexed.{timed, inserted}}
 use Rattle.uses.proofs.inserting.insert.Goals as goal
 

@@ -1,6 +1,5 @@
 use Rattle.std.proofs.Common.{◌≤◌, ◌^◌, ℕ, subst, arith}
-use Rattle.cacache_history.proofs.Headline.{headline}
-use Rattle.cacache_durable.proofs.Outlasting.{histories_outlive}
+use Rattle.cacache_history.proofs.{Headline.{headline}, durable.Outlasting.{histories_outlive}}
 use Rattle.cacache_world.proofs.world.World.stands.Goals as goal
 
 pub returns : goal.returns

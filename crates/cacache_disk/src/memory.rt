@@ -1,0 +1,5 @@
+//! A disk in memory as a store, with the log of all that happened on it.
+
+mod store;
+
+pub use store::MemStore;

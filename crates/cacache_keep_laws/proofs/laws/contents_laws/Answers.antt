@@ -1,5 +1,0 @@
-use Rattle.cacache_keep_laws.proofs.{Agreed.{holdings_agree}, Held.{contents_shown, listings_hold}}
-use Rattle.cacache_keep_laws.proofs.laws.contents_laws.Goals as goal
-
-pub returns : goal.returns
-returns c = record { shown = contents_shown; holds = listings_hold; agree = holdings_agree }

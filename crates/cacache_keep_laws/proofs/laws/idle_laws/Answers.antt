@@ -1,5 +1,0 @@
-use Rattle.cacache_keep_laws.proofs.{Unseen.{idle_is_unseen}, BothLogs.{still_lacks_idle}}
-use Rattle.cacache_keep_laws.proofs.laws.idle_laws.Goals as goal
-
-pub returns : goal.returns
-returns c = record { removals = still_lacks_idle; unseen = idle_is_unseen }

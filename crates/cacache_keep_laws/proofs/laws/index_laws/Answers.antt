@@ -1,5 +1,0 @@
-use Rattle.cacache_keep_laws.proofs.{Agreed.{indexes_agree}, Collected.{indexes_find}, Indexed.{lists_each_key}}
-use Rattle.cacache_keep_laws.proofs.laws.index_laws.Goals as goal
-
-pub returns : goal.returns
-returns c = record { each = lists_each_key; finds = indexes_find; agree = indexes_agree }

@@ -1,5 +1,0 @@
-use Rattle.cacache_keep_laws.proofs.SparedKeys.{spared_keys_stay, tombstones_fit}
-use Rattle.cacache_keep_laws.proofs.laws.spared_laws.Goals as goal
-
-pub returns : goal.returns
-returns c = record { fit = tombstones_fit; stay = spared_keys_stay }

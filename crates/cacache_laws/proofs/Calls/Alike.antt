@@ -1,0 +1,93 @@
+-- The deeds of a call alone change contents and entries.
+use Rattle.std.proofs.Common.{◌≡◌, Bool, true, false, cond, List, [], ◌∷◌, ◌++◌, Option, None, Some, refl, sym, ap, subst, ◌∙◌, append-nil}
+use Rattle.cacache_core.specs.{PathNames.{Names}, Paths.{content_names, bucket_names_of}}
+use Rattle.cacache_store.specs.declared.store.step.Step.TheVariants as steps
+use Rattle.cacache_store.specs.declared.store.answer.Answer.TheVariants as answers
+use Rattle.cacache_store.specs.Plain.{PlainStep, PlainAnswer}
+use Rattle.cacache_disk.specs.{declared.luck.Luck.TheVariants.{Plain}, Tree.{Tree}, Apply.{apply}}
+use Rattle.cacache_entry.specs.Entry.{Entry}
+use Rattle.cacache_table.specs.Runs.{Moves}
+use Rattle.cacache_value.specs.{Kinds.{is_path_of}, Value.{InFile, AtLink, Value}, Acts.{Act, Nothing, PutBytes, PutLink, AddEntries, Drop, MakeFolders, DropFolder, act_of, change, list_of}, Traces.{acts}}
+use Rattle.cacache_history.specs.Commits.{Deed, does, finds, deeds_of_act, finds_in, deeds}
+use Rattle.cacache_laws.specs.Sequence.{turns_on, plain_moves, Alike, after_deeds}
+
+-- ---- one act
+
+added : (b : Bool) (o p : Option (List Entry)) (new : List Entry) → list_of o ≡ list_of p
+    → list_of (cond b (Some (list_of o ++ new)) o) ≡ list_of (cond b (Some (list_of p ++ new)) p)
+added true o p new e = ap (λ l. l ++ new) e
+added false o p new e = e
+
+dropped : (b : Bool) (o p : Option (List Entry)) → list_of o ≡ list_of p → list_of (cond b None o) ≡ list_of (cond b None p)
+dropped true o p e = refl
+dropped false o p e = e
+
+none_added : (b : Bool) (o : Option (List Entry)) → list_of (cond b (Some (list_of o ++ [])) o) ≡ list_of o
+none_added true o = append-nil (list_of o)
+none_added false o = refl
+
+pub alike_self : (v : Value) → Alike v v
+alike_self v = record { contents = λ a. refl; lists = λ d. refl }
+
+pub alike_on : (u v w : Value) → Alike u v → Alike v w → Alike u w
+alike_on u v w h k = record { contents = λ a. h.contents a ∙ k.contents a; lists = λ d. h.lists d ∙ k.lists d }
+
+module _ (folder : Option Names) where
+  pub change_alike : (act : Act) (v w : Value) → Alike v w → Alike (change folder act v) (change folder act w)
+  change_alike Nothing v w h = h
+  change_alike (PutBytes path bytes) v w h = record {
+    contents = λ a. ap (cond (is_path_of folder (content_names a) path) (Some (InFile bytes))) (h.contents a);
+    lists = h.lists;
+  }
+  change_alike (PutLink path target) v w h = record {
+    contents = λ a. ap (cond (is_path_of folder (content_names a) path) (Some (AtLink target))) (h.contents a);
+    lists = h.lists;
+  }
+  change_alike (AddEntries path new) v w h = record {
+    contents = h.contents;
+    lists = λ d. added (is_path_of folder (bucket_names_of d) path) (v.buckets d) (w.buckets d) new (h.lists d);
+  }
+  change_alike (Drop path) v w h = record {
+    contents = λ a. ap (cond (is_path_of folder (content_names a) path) None) (h.contents a);
+    lists = λ d. dropped (is_path_of folder (bucket_names_of d) path) (v.buckets d) (w.buckets d) (h.lists d);
+  }
+  change_alike (MakeFolders path count) v w h = record { contents = h.contents; lists = h.lists }
+  change_alike (DropFolder path) v w h = record { contents = h.contents; lists = h.lists }
+
+  -- an act, and its deeds
+  act_alike : (act : Act) (v w : Value) → Alike v w → Alike (change folder act v) (after_deeds folder (deeds_of_act act) w)
+  act_alike Nothing v w h = h
+  act_alike (PutBytes path bytes) v w h = change_alike (PutBytes path bytes) v w h
+  act_alike (PutLink path target) v w h = change_alike (PutLink path target) v w h
+  act_alike (AddEntries path []) v w h = record {
+    contents = h.contents;
+    lists = λ d. none_added (is_path_of folder (bucket_names_of d) path) (v.buckets d) ∙ h.lists d;
+  }
+  act_alike (AddEntries path (e ∷ es)) v w h = change_alike (AddEntries path (e ∷ es)) v w h
+  act_alike (Drop path) v w h = change_alike (Drop path) v w h
+  act_alike (MakeFolders path count) v w h = record { contents = h.contents; lists = h.lists }
+  act_alike (DropFolder path) v w h = record { contents = h.contents; lists = h.lists }
+
+  -- ---- one after another
+
+  after_more : (ds more : List Deed) (w : Value) → after_deeds folder (ds ++ more) w ≡ after_deeds folder more (after_deeds folder ds w)
+  after_more [] more w = refl
+  after_more (does act ∷ ds) more w = after_more ds more (change folder act w)
+  after_more (finds path ∷ ds) more w = after_more ds more w
+
+  after_finds : (step : PlainStep) (answer : PlainAnswer) (w : Value) → after_deeds folder (finds_in step answer) w ≡ w
+  after_finds (steps.Exists path) (answers.There true) w = refl
+  after_finds step answer w = refl
+
+  pub moves_alike : (t : Tree) (moves : Moves) (v w : Value) → Alike v w
+      → Alike (acts folder v (plain_moves moves)) (after_deeds folder (deeds (turns_on t moves)) w)
+  moves_alike t [] v w h = h
+  moves_alike t (m ∷ moves) v w h =
+      let act = act_of m.0 Plain m.1 in
+      let here = deeds_of_act (act_of m.0 Plain m.1) in
+      let found = finds_in m.0 m.1 in
+      let rest = deeds (turns_on (apply t m.0 Plain).1 moves) in
+      let one : after_deeds folder (here ++ found) w ≡ after_deeds folder here w = after_more here found w ∙ after_finds m.0 m.1 (after_deeds folder here w) in
+      subst (Alike (acts folder (change folder act v) (plain_moves moves))) (sym (after_more (here ++ found) rest w))
+      (moves_alike (apply t m.0 Plain).1 moves (change folder act v) (after_deeds folder (here ++ found) w)
+      (subst (Alike (change folder act v)) (sym one) (act_alike act v w h)))

@@ -1,0 +1,132 @@
+-- Calls that store, remove or clear give no error except that of a step, or out of memory.
+use Rattle.std.proofs.Common.{◌≡◌, ◌⊎◌, inl, inr, ℕ, Bool, true, List, [], ◌∷◌, Option, None, Some, get_or, refl, sym, subst, ◌∙◌}
+use Rattle.cacache_core.specs.declared.{errors.{SerdeCause.{SerdeCause}, Error.TheVariants.{SerdeError}}, integrity.digest.Hash.{Hash}}
+use Rattle.cacache_store.specs.Plain.{PlainAnswer}
+use Rattle.cacache_table.specs.declared.command.Command.TheVariants as commands
+use Rattle.cacache_table.specs.{declared.{command.{Insert.{Insert}, Put.{Put}}, reply.Reply.{Reply, TheVariants.{Refused}}, carried.Commit.{Commit}}, Inserting.{unless_refused, insertion, deletion, refused_cause}, State.{State, Site, doing, creating, writing, syncing, persisting, linking, confirming, appending, walking, over, Insertion}, Storing.{insertion_of, indexed, sized, compared, placed, put_commit}, Table.{after, opening}, Runs.{Moves, Runs}}
+use Rattle.cacache_table.proofs.{Closed.{AnyAnswer, ClosedCommit, ClosedWalk, Closed, kept_always}, Visits.{MayMeet}}
+use Rattle.cacache_laws.{specs.CallErrors.{FailsOnly, CallsFailOnly}, proofs.Removing.Tasks.{Clears, ClearsAt}}
+
+-- a commit that expects no integrity and no size, and has an entry that can be written
+pub record Plain (c : Commit) : Type 0 where
+  pub no_integrity : c.options.integrity ≡ None
+  pub no_size : c.options.size ≡ None
+  pub written : (key : List ℕ) → c.key ≡ Some key → refused_cause (insertion_of c key) ≡ None
+
+-- from this state on a call gives no other error
+abbrev Calm : State → Type 0
+Calm (doing errand s) = Calm s
+Calm (creating number c rest) = Plain c
+Calm (writing c file rest) = Plain c
+Calm (syncing c file) = Plain c
+Calm (persisting c file) = Plain c
+Calm (linking c target) = Plain c
+Calm (confirming c fault) = Plain c
+Calm (appending i) = FailsOnly i.reply
+Calm (walking w v todo) = (w.clears ≡ true) × (ClearsAt v × Clears todo)
+Calm (over r) = FailsOnly r
+Calm other = ⊥
+
+-- ---- commits
+
+by_cause : (i : Insertion) (cause : Option SerdeCause) → cause ≡ None → FailsOnly i.reply → Calm (unless_refused i cause)
+by_cause i None e h = h
+by_cause i (Some cause) e h = absurd cc
+
+by_key : (c : Commit) (key : Option (List ℕ)) → c.key ≡ key → Plain c → Calm (indexed c key)
+by_key c None e p = tt
+by_key c (Some key) e p = by_cause (insertion_of c key) (refused_cause (insertion_of c key)) (p.written key e) tt
+
+by_size : (c : Commit) (size : Option ℕ) → size ≡ None → Plain c → Calm (sized c size)
+by_size c None e p = by_key c c.key refl p
+by_size c (Some wanted) e p = absurd cc
+
+by_integrity : (c : Commit) (expected : Option (List Hash)) → expected ≡ None → Plain c → Calm (compared c expected)
+by_integrity c None e p = by_size c c.options.size p.no_size p
+by_integrity c (Some expected) e p = absurd cc
+
+places : (c : Commit) → Plain c → Calm (placed c)
+places c p = by_integrity c c.options.integrity p.no_integrity p
+
+-- ---- runs
+
+abbrev IsClearing : Bool → Type 0
+IsClearing clears = clears ≡ true
+
+commits_calm : ClosedCommit AnyAnswer Calm
+commits_calm = record {
+  created = λ number c rest file b h. h;
+  wrote = λ c file rest w b h. h;
+  moved = λ c file h. (h, h);
+  synced = λ c file new b h. h;
+  persisted = λ c file fault h. h;
+  linked = λ c target fault h. h;
+  there = λ c fault h. (places c h, λ p s k. (k, k));
+}
+
+walks_calm : ClosedWalk AnyAnswer Calm IsClearing ClearsAt
+walks_calm = record {
+  visited = λ w v todo h. h;
+  visiting = λ w v todo h k t. (h, (k, t));
+  names = λ b level p names br h k i d lt. subst (λ b. MayMeet ClearsAt level p b (get_or names i d)) (sym h) (tt, tt);
+  left = λ level p h k. tt;
+  cleared = λ h. tt;
+  listed = λ items h. absurd cc;
+}
+
+closed : Closed AnyAnswer Calm IsClearing ClearsAt
+closed = record {
+  ends = record { failed = λ s fault h. tt; memory = λ s h. tt; errand = λ e s h. h };
+  commits = commits_calm;
+  inserts = λ i h. (h, λ p s k. (k, k));
+  reads = record { found = λ l found h. absurd h; met = λ k bytes e h. absurd h; unmet = λ k bytes h. absurd h; asked = λ k there h. absurd h };
+  files = record { sized = λ t n h. absurd h; opened = λ x file b h. absurd h; got = λ x file bytes g b h. absurd h; copied = λ from to count n h. absurd h };
+  walks = walks_calm;
+}
+
+calm_after : (s : State) (a : PlainAnswer) → Calm s → Calm (after s a)
+calm_after s a h = kept_always Calm IsClearing ClearsAt closed s a h
+
+pub calm_run : (s : State) (moves : Moves) (r : Reply) → Calm s → Runs s moves r → FailsOnly r
+calm_run s [] r h (inl e) = subst Calm e h
+calm_run s [] r h (inr e) = subst FailsOnly (sym e) tt
+calm_run s (m ∷ moves) r h run = calm_run (after s m.1) moves r (calm_after s m.1 h) run.2
+
+same_key : (P : List ℕ → Type 0) (a b : List ℕ) (o : Option (List ℕ)) → o ≡ Some a → o ≡ Some b → P a → P b
+same_key P a b o e f h = let same : Some a ≡ Some b = sym e ∙ f in let is : a ≡ b = cc in subst P is h
+
+pub calls_fail_only : CallsFailOnly
+calls_fail_only = record {
+  puts = λ site key p moves r is run.
+      let plain : Plain (put_commit site.cache p)
+      = record {
+        no_integrity = is.no_integrity;
+        no_size = is.no_size;
+        written = λ k e. same_key (λ k. refused_cause (insertion_of (put_commit site.cache p) k) ≡ None) key k p.key is.key_is e is.written;
+      } in
+      calm_run (opening site (commands.Put p)) moves r plain run;
+  deletes = λ site d moves r written run.
+      calm_run (opening site (commands.Delete d)) moves r (by_cause (deletion site.cache d) (refused_cause (deletion site.cache d)) written tt) run;
+  clears = λ site moves r run. calm_run (opening site commands.Clear) moves r (refl, (tt, tt)) run;
+}
+
+-- so is a put without a key
+pub contents_fail : (site : Site) (p : Put) (moves : Moves) (r : Reply) → p.key ≡ None → p.options.integrity ≡ None → p.options.size ≡ None → Runs (opening site (commands.Put p)) moves r → FailsOnly r
+contents_fail site p moves r none no_integrity no_size run =
+    let plain : Plain (put_commit site.cache p)
+    = record { no_integrity = no_integrity; no_size = no_size; written = λ k e. let no : None ≡ Some k = sym none ∙ e in absurd cc } in
+    calm_run (opening site (commands.Put p)) moves r plain run
+
+-- ---- insertions
+
+-- an insertion gives no other error, except that its entry can't be written
+pub inserts_fail : (site : Site) (i : Insert) (moves : Moves) (r : Reply) → Runs (opening site (commands.Insert i)) moves r
+    → FailsOnly r ⊎ ((cause : SerdeCause) × (refused_cause (insertion site.cache i) ≡ Some cause) × (r ≡ Refused (SerdeError cause [])))
+inserts_fail site i moves r run = by (refused_cause (insertion site.cache i)) refl moves run
+  where
+    by : (cause : Option SerdeCause) → refused_cause (insertion site.cache i) ≡ cause → (moves : Moves) → Runs (unless_refused (insertion site.cache i) cause) moves r
+        → FailsOnly r ⊎ ((cause : SerdeCause) × (refused_cause (insertion site.cache i) ≡ Some cause) × (r ≡ Refused (SerdeError cause [])))
+    by None none moves run = inl (calm_run (unless_refused (insertion site.cache i) None) moves r (by_cause (insertion site.cache i) None refl tt) run)
+    by (Some cause) some [] (inl e) = inr (cause, some, cc)
+    by (Some cause) some [] (inr e) = inl (subst FailsOnly (sym e) tt)
+    by (Some cause) some (m ∷ moves) run = absurd cc

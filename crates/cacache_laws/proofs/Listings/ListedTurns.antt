@@ -1,0 +1,175 @@
+-- The turns of a listing that finds one tree at all of them: what they give, and that they find all.
+use Rattle.std.proofs.{Common.{◌≡◌, ◌⊎◌, inl, inr, ℕ, List, [], ◌∷◌, Option, None, Some, Result, Ok, Err, refl, sym, ap, subst, ◌∙◌}, lemmas.List.Elements.{All-nil, All-cons, All-append, All-weaker}}
+use Rattle.std.specs.Prelude.{All}
+use Rattle.sha1.specs.Sha1.{sha1}
+use Rattle.cacache_core.specs.{declared.errors.Fault.{Fault}, Paths.{bucket_names_of}}
+use Rattle.cacache_core.specs.declared.errors.Fault.TheVariants as faults
+use Rattle.cacache_store.specs.{declared.store.answer.Name.{Name}, Plain.{PlainStep, PlainAnswer}, Fits.{Fits}}
+use Rattle.cacache_store.specs.declared.store.answer.Answer.TheVariants as answers
+use Rattle.cacache_store.specs.declared.store.step.Step.TheVariants as steps
+use Rattle.cacache_disk.specs.{Tree.{Tree, listing}, LedTo.{file_at, folder}, Apply.{apply, unless}}
+use Rattle.cacache_entry.specs.{Entry.{Entry}, Latest.{Found, latest}}
+use Rattle.cacache_table.specs.{declared.answers.Refusal.{Refusal}, Answers.{names_in}, Causes.{Faults, Faulted}, ListReplies.{by_folder, In}, StepPaths.{bucket_path}, State.{Item}, Walking.{failed}}
+use Rattle.cacache_table.specs.declared.answers.Refusal.TheVariants as refusals
+use Rattle.cacache_value.{specs.{Acts.{list_of}, Kinds.{NamesBelow}, Value.{value_of_tree}}, proofs.Shows.{apply_answer}}
+use Rattle.cacache_history.specs.{Setup.{Setup, home}, History.{Turn}, ShownTurns.{entries_at, shown_result, bucket_read, by_entries}, Turns.{made_in, EachTurn}, ListingTurns.{IsFound, TurnGives, TurnsGive, AnyTurn, HasBucket, TurnReadsBucket, FailsAbove}}
+use Rattle.cacache_history.proofs.Histories.{Holding.{TurnHolds, TurnsHold}, ShownTurns.{bucket_below, bucket_at_turn}}
+use Rattle.cacache_laws.specs.{ReadAnswers.{entries_on}, ListedKeys.{AreAllFound}}
+use Rattle.cacache_laws.proofs.{Readings.ReadAnswers.{is_shown}, Listings.ListedItems.{in_left, in_right, entries_left, entries_right, lists_entries, lists_found}}
+
+-- ---- errors come from steps
+
+-- an error has such a fault
+abbrev pub Explained : (Fault → Type 0) → Item → Type 0
+Explained Why (Ok f) = Unit {0}
+Explained Why (Err e) = (fault : Fault) × Why fault
+
+explained_later : (Why More : Fault → Type 0) → ((fault : Fault) → Why fault → More fault) → (item : Item) → Explained Why item → Explained More item
+explained_later Why More f (Ok found) h = tt
+explained_later Why More f (Err e) h = (h.0, f h.0 h.1)
+
+failed_so : (step : PlainStep) (fault : Fault) → All (Explained (Faults step (answers.Failed fault))) (failed fault ∷ [])
+failed_so step fault = All-cons (Explained (Faults step (answers.Failed fault))) (failed fault) [] (fault, refl) (All-nil (Explained (Faults step (answers.Failed fault))))
+
+folder_explained : (step : PlainStep) (path : List ℕ) (a : PlainAnswer) → Fits (steps.ReadDir path) a → All (Explained (Faults step a)) (by_folder (names_in a))
+folder_explained step path (answers.Names names) fits = All-nil (Explained (Faults step (answers.Names names)))
+folder_explained step path (answers.Failed fault) fits = failed_so step fault
+folder_explained step path (answers.NoMemory back) fits = All-nil (Explained (Faults step (answers.NoMemory back)))
+folder_explained step path other fits = absurd fits
+
+bucket_explained : (step : PlainStep) (es : List Entry) (a : PlainAnswer) → All (Explained (Faults step a)) (by_entries (shown_result a (Ok es)))
+bucket_explained step es (answers.Failed faults.NotFound) = lists_entries (Explained (Faults step (answers.Failed faults.NotFound))) (λ f. tt) es
+bucket_explained step es (answers.Failed fault) = failed_so step fault
+bucket_explained step es (answers.NoMemory back) = All-nil (Explained (Faults step (answers.NoMemory back)))
+bucket_explained step es other = lists_entries (Explained (Faults step other)) (λ f. tt) es
+
+module _ (s : Setup) where
+  turn_explained : (turn : Turn) (step : PlainStep) (items : List Item) → turn.move.step ≡ step → TurnHolds s turn → TurnGives s turn step items → All (Explained (Faults turn.move.step turn.move.answer)) items
+  turn_explained turn (steps.ReadDir path) items is holds g =
+      subst (All (Explained (Faults turn.move.step turn.move.answer))) (sym g.1) (folder_explained turn.move.step path turn.move.answer (subst (λ x. Fits x turn.move.answer) is holds.fits))
+  turn_explained turn (steps.ReadAll path) items is holds g =
+      subst (All (Explained (Faults turn.move.step turn.move.answer))) (sym g.2) (bucket_explained turn.move.step (entries_at s (sha1 g.0) turn) turn.move.answer)
+  turn_explained turn step items is holds g = absurd g
+
+  pub turns_explained : (turns : List Turn) (items : List Item) → TurnsHold s turns → TurnsGive s turns items → All (Explained (Faulted (made_in turns))) items
+  turns_explained [] items hold g = subst (All (Explained (Faulted []))) (sym g) (All-nil (Explained (Faulted [])))
+  turns_explained (turn ∷ turns) items hold g =
+      let why = Faulted (made_in (turn ∷ turns)) in
+      subst (All (Explained (Faulted (made_in (turn ∷ turns))))) (sym g.2)
+      (All-append (Explained why) g.0 g.1
+      (All-weaker (Explained (Faults turn.move.step turn.move.answer)) (Explained why) (explained_later (Faults turn.move.step turn.move.answer) why (λ fault h. inl h)) g.0 (turn_explained turn turn.move.step g.0 refl hold.0 g.3))
+      (All-weaker (Explained (Faulted (made_in turns))) (Explained why) (explained_later (Faulted (made_in turns)) why (λ fault h. inr h)) g.1 (turns_explained turns g.1 hold.1 g.4)))
+
+-- ---- entries are what their keys lead to
+
+abbrev pub Leads : Setup → Tree → Item → Type 0
+Leads s t (Ok f) = latest f.key (entries_on (home s) t f.key) ≡ Some f
+Leads s t (Err e) = Unit {0}
+
+module _ (s : Setup) (t : Tree) where
+  abbrev IsHere : Turn → Type 0
+  IsHere turn = turn.place ≡ t
+
+  found_leads : (turn : Turn) → IsHere turn → (item : Item) → IsFound s turn item → Leads s t item
+  found_leads turn here (Ok f) h = ap (λ p. latest f.key (entries_on (home s) p f.key)) (sym here) ∙ h
+  found_leads turn here (Err e) h = tt
+
+  folder_leads : (a : Result (List Name) Refusal) → All (Leads s t) (by_folder a)
+  folder_leads (Ok names) = All-nil (Leads s t)
+  folder_leads (Err (refusals.Fault fault)) = All-cons (Leads s t) (failed fault) [] tt (All-nil (Leads s t))
+  folder_leads (Err refusals.Memory) = All-nil (Leads s t)
+
+  turn_leads : (turn : Turn) (step : PlainStep) (items : List Item) → IsHere turn → TurnGives s turn step items → All (Leads s t) items
+  turn_leads turn (steps.ReadDir path) items here g = subst (All (Leads s t)) (sym g.1) (folder_leads (names_in turn.move.answer))
+  turn_leads turn (steps.ReadAll path) items here g = All-weaker (IsFound s turn) (Leads s t) (found_leads turn here) items g.3
+  turn_leads turn step items here g = absurd g
+
+  pub turns_lead : (turns : List Turn) (items : List Item) → EachTurn IsHere turns → TurnsGive s turns items → All (Leads s t) items
+  turns_lead [] items here g = subst (All (Leads s t)) (sym g) (All-nil (Leads s t))
+  turns_lead (turn ∷ turns) items here g =
+      subst (All (Leads s t)) (sym g.2) (All-append (Leads s t) g.0 g.1 (turn_leads turn turn.move.step g.0 here.0 g.3) (turns_lead turns g.1 here.1 g.4))
+
+-- ---- a disk never wants memory
+
+abbrev IsGiven : PlainAnswer → Type 0
+IsGiven (answers.NoMemory back) = ⊥
+IsGiven other = Unit {0}
+
+unless_given : {A : Type 0} (t : Tree) (answer : A → PlainAnswer) → ((x : A) → IsGiven (answer x)) → (r : Result A Fault) → IsGiven (unless r t (λ x. (answer x, t))).0
+unless_given t answer given (Ok x) = given x
+unless_given t answer given (Err fault) = tt
+
+module _ (s : Setup) (turn : Turn) (holds : TurnHolds s turn) (path : List ℕ) where
+  folder_given : turn.move.step ≡ steps.ReadDir path → IsGiven turn.move.answer
+  folder_given is =
+      subst IsGiven (sym (holds.answered ∙ ap (λ x. (apply turn.place x turn.move.luck).0) is))
+      (apply_answer IsGiven (λ fault. tt) turn.place (steps.ReadDir path) turn.move.luck
+      (λ most. unless_given turn.place (λ names. answers.Names (listing turn.place names)) (λ names. tt) (folder turn.place path)))
+
+  bucket_given : turn.move.step ≡ steps.ReadAll path → IsGiven turn.move.answer
+  bucket_given is =
+      subst IsGiven (sym (holds.answered ∙ ap (λ x. (apply turn.place x turn.move.luck).0) is))
+      (apply_answer IsGiven (λ fault. tt) turn.place (steps.ReadAll path) turn.move.luck
+      (λ most. unless_given turn.place answers.Bytes (λ bytes. tt) (file_at turn.place path faults.IsADirectory)))
+
+-- ---- what fails gives an error
+
+folder_errs : (a : PlainAnswer) (refusal : Refusal) → IsGiven a → names_in a ≡ Err refusal → AreAllFound (by_folder (names_in a)) → ⊥
+folder_errs (answers.Names names) refusal given is h = absurd cc
+folder_errs (answers.Failed fault) refusal given is h = h
+folder_errs (answers.NoMemory back) refusal given is h = given
+folder_errs other refusal given is h = h
+
+bucket_errs : (es : List Entry) (a : PlainAnswer) (refusal : Refusal) → IsGiven a → shown_result a (Ok es) ≡ Err refusal → AreAllFound (by_entries (shown_result a (Ok es))) → ⊥
+bucket_errs es (answers.Failed faults.NotFound) refusal given is h = absurd cc
+bucket_errs es (answers.Failed fault) refusal given is h = h
+bucket_errs es (answers.NoMemory back) refusal given is h = given
+bucket_errs es other refusal given is h = absurd cc
+
+-- ---- what a key leads to is found
+
+module _ (s : Setup) (t : Tree) (key : List ℕ) (f : Found) (leads : latest key (entries_on (home s) t key) ≡ Some f) where
+  is_bucket : (bucket : Option (List Entry)) → latest key (list_of bucket) ≡ Some f → (entries : List Entry) × (bucket ≡ Some entries)
+  is_bucket None h = absurd cc
+  is_bucket (Some entries) h = (entries, refl)
+
+  pub has_bucket : (turns : List Turn) → EachTurn (IsHere s t) turns → EachTurn (HasBucket s key) turns
+  has_bucket [] here = tt
+  has_bucket (turn ∷ turns) here =
+      let b = is_bucket ((value_of_tree (home s) t).buckets (sha1 key)) leads in
+      ((b.0, ap (λ p. (value_of_tree (home s) p).buckets (sha1 key)) here.0 ∙ b.1), has_bucket turns here.1)
+
+  module _ (turn : Turn) (holds : TurnHolds s turn) (here : IsHere s t turn) where
+    -- of the key's bucket, whichever key the turn names it by
+    reads_same : (other : List ℕ) → turn.move.step ≡ steps.ReadAll (bucket_path s.cache key) → bucket_path s.cache key ≡ bucket_path s.cache other
+        → bucket_read s (sha1 other) turn ≡ bucket_read s (sha1 key) turn
+    reads_same other is same =
+        sym (bucket_at_turn s turn holds (bucket_path s.cache key) (sha1 other) is (subst (NamesBelow (home s) (bucket_names_of (sha1 other))) (sym same) (bucket_below s other)))
+        ∙ bucket_at_turn s turn holds (bucket_path s.cache key) (sha1 key) is (bucket_below s key)
+
+    bucket_lists : (items : List Item) → turn.move.step ≡ steps.ReadAll (bucket_path s.cache key) → TurnGives s turn (steps.ReadAll (bucket_path s.cache key)) items → AreAllFound items → In (Ok f) items
+    bucket_lists items is g entries =
+        let es = entries_at s (sha1 key) turn in
+        let same : items ≡ by_entries (shown_result turn.move.answer (Ok (entries_at s (sha1 key) turn))) = g.2 ∙ ap by_entries (reads_same g.0 is g.1) in
+        elim (is_shown turn.move.answer (Ok es)) [
+          | inl e ↦ subst (In (Ok f)) (sym (same ∙ ap by_entries e)) (lists_found key es f (ap (λ p. latest key (entries_on (home s) p key)) here ∙ leads))
+          | inr e ↦ absurd (bucket_errs es turn.move.answer e.0 (bucket_given s turn holds (bucket_path s.cache key) is) e.1 (subst AreAllFound same entries))
+        ]
+
+    folder_lists : (path : List ℕ) (items : List Item) (refusal : Refusal) → turn.move.step ≡ steps.ReadDir path → names_in turn.move.answer ≡ Err refusal → TurnGives s turn (steps.ReadDir path) items → AreAllFound items
+        → In (Ok f) items
+    folder_lists path items refusal is fails g entries = absurd (folder_errs turn.move.answer refusal (folder_given s turn holds path is) fails (subst AreAllFound g.1 entries))
+
+    turn_lists : (items : List Item) → TurnGives s turn turn.move.step items → AreAllFound items → TurnReadsBucket s key turn ⊎ FailsAbove s key turn → In (Ok f) items
+    turn_lists items g entries (inl reads) = bucket_lists items reads (subst (λ step. TurnGives s turn step items) reads g) entries
+    turn_lists items g entries (inr fails) = folder_lists _ items fails.1 fails.2 fails.3 (subst (λ step. TurnGives s turn step items) fails.2 g) entries
+
+  pub turns_list : (turns : List Turn) (items : List Item) → TurnsHold s turns → EachTurn (IsHere s t) turns → TurnsGive s turns items → AreAllFound items
+      → AnyTurn (λ turn. TurnReadsBucket s key turn ⊎ FailsAbove s key turn) turns → In (Ok f) items
+  turns_list [] items hold here g entries any = absurd any
+  turns_list (turn ∷ turns) items hold here g entries (inl sees) =
+      let all = subst AreAllFound g.2 entries in
+      subst (In (Ok f)) (sym g.2) (in_left (Ok f) g.0 g.1 (turn_lists turn hold.0 here.0 g.0 g.3 (entries_left g.0 g.1 all) sees))
+  turns_list (turn ∷ turns) items hold here g entries (inr later) =
+      let all = subst AreAllFound g.2 entries in
+      subst (In (Ok f)) (sym g.2) (in_right (Ok f) g.0 g.1 (turns_list turns g.1 hold.1 here.1 g.4 (entries_right g.0 g.1 all) later))

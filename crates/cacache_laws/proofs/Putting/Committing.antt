@@ -1,0 +1,149 @@
+-- What the commit of a writer leaves in a cache.
+use Rattle.std.{proofs.Common.{◌≡◌, ◌⊎◌, inl, inr, ℕ, List, [], ◌∷◌, ◌++◌, Option, None, Some, map, refl, sym, ap, subst, ◌∙◌, append-nil, append_assoc}, specs.Prelude.{length}}
+use Rattle.cacache_core.specs.{declared.{errors.{Error.TheVariants.{IoError}, Fault.{Fault}}, integrity.{algorithm.Algorithm.{Algorithm}, digest.Hash.{Hash}}}, PathNames.{home_of}, Integrity.{IsHash, integrity_under}, Texts.{integrity_text}}
+use Rattle.cacache_store.specs.declared.store.answer.Answer.TheVariants as answers
+use Rattle.cacache_store.specs.declared.store.log.LogItem.{LogItem, TheVariants.{Made}}
+use Rattle.cacache_disk.specs.{Apply.{made_temp}, memory.Replay.{tree_of}}
+use Rattle.cacache_table.specs.declared.command.Command.TheVariants as commands
+use Rattle.cacache_table.specs.{declared.{command.Put.{Put}, reply.Reply.{Reply}}, Causes.{Faulted, HasCause, own_of}, StepPaths.{content_path, temp_folder, temp_path}, Runs.{Moves, Runs, plain_reply}, Sound.{FormedIfWritten}, Storing.{insertion_of, put_commit, persist, write_rest}, Table.{opening}, Inserting.{refused_cause}, Promises.{Stores}}
+use Rattle.cacache_table.proofs.{Promises.{calls_answer}, IntegrityUtf8.{integrity_utf8}}
+use Rattle.cacache_table.specs.declared.reply.Reply.TheVariants as replies
+use Rattle.cacache_value.specs.{Acts.{PutBytes}, Value.{Blob, InFile, value_of_tree}}
+use Rattle.cacache_history.{specs.{Setup.{call_site}, History.{Turn}, Commits.{Deed, finds, deeds_of, deeds, CommitsAs}, Values.{IsThere}}, proofs.Contents.Digests.{digest_hash}}
+use Rattle.cacache_laws.specs.{Sequence.{tree_on, turns_on, Alike, after_deeds, IsSound}, Stored.{own_hash}, InParts.{moves_in, Begun, with_part, IsOnItsWay}, Caches.{IsCache, setup_at, plain_put, WritesKey}, OpenWriters.{NothingElse, make_folder, make_file, IsOpened, CommitsBytes, CommitsLast, CommitsStore}}
+use Rattle.cacache_laws.proofs.{Calls.{Logs.{some_same}, InParts.{logs_lead, runs_through, calls_begin, parts_go_on, parts_answer}, Handed.{writes_are_parts}, CallErrors.{calls_fail_only}}, Putting.{Forms.{bare_written}, Stored.{stores as stores_so}, OpenWriters.{gains_join, gains_grow, folder_first}, WritesLast.{has_key, keyed_formed}}, Readings.Known.{excused_by}}
+use Rattle.cacache_entry.specs.FittingEntries.{IsEntry}
+
+deeds_through : (xs ys : List Turn) → deeds (xs ++ ys) ≡ deeds xs ++ deeds ys
+deeds_through [] ys = refl
+deeds_through (turn ∷ xs) ys = ap (λ l. deeds_of turn.move ++ l) (deeds_through xs ys) ∙ sym (append_assoc (deeds_of turn.move) (deeds xs) (deeds ys))
+
+-- the later of two parts has all deeds, if the earlier one has none
+pub deeds_later : (xs ys : List Turn) → deeds xs ≡ [] → deeds (xs ++ ys) ≡ deeds ys
+deeds_later xs ys none = deeds_through xs ys ∙ ap (λ l. l ++ deeds ys) none
+
+-- the same holds of faults
+fault_later : (xs ys : Moves) (fault : Fault) → (Faulted xs fault → ⊥) → Faulted (xs ++ ys) fault → Faulted ys fault
+fault_later [] ys fault none h = h
+fault_later (m ∷ xs) ys fault none (inl h) = absurd (none (inl h))
+fault_later (m ∷ xs) ys fault none (inr h) = fault_later xs ys fault (λ later. none (inr later)) h
+
+pub cause_later : (own : Fault → Type 0) (xs ys : Moves) (r : Reply) → ((fault : Fault) → Faulted xs fault → ⊥) → HasCause own (xs ++ ys) r → HasCause own ys r
+cause_later own xs ys (replies.Refused (IoError fault message)) none (inl mine) = inl mine
+cause_later own xs ys (replies.Refused (IoError fault message)) none (inr h) = inr (fault_later xs ys fault (none fault) h)
+cause_later own xs ys other none h = tt
+
+-- what is known of a commit: all steps of its writer are a run of a put, and its own steps answer as a put does
+pub record Ended (cache : List ℕ) (p : Put) (number : ℕ) (r : Reply) (old new : List LogItem) : Type 0 where
+  pub whole : Moves
+  pub run : Runs (opening (call_site (setup_at cache []) number) (commands.Put p)) whole r
+  pub moves : Moves
+  pub gained : new ≡ old ++ map (λ m. Made m.0 m.1) moves
+  pub follows : Alike (value_of_tree (home_of cache) (tree_on (tree_of old) moves)) (after_deeds (home_of cache) (deeds (turns_on (tree_of old) moves)) (value_of_tree (home_of cache) (tree_of old)))
+  pub found : (a : Hash) (more : List Deed) → IsHash a → deeds (turns_on (tree_of old) moves) ≡ finds (content_path cache (a ∷ [])) ∷ more
+      → IsThere ((value_of_tree (home_of cache) (tree_of old)).contents a)
+  pub commits : CommitsAs (put_commit cache p) (λ names. PutBytes names p.data) (deeds (turns_on (tree_of old) moves)) (Some r)
+  pub causes : HasCause (own_of (commands.Put p)) moves (plain_reply r)
+  pub sound : IsCache cache new
+  pub leads : tree_of new ≡ tree_on (tree_of old) moves
+
+module _ (cache : List ℕ) (p : Put) (number : ℕ) (may : (key : List ℕ) → p.key ≡ Some key → FormedIfWritten (insertion_of (put_commit cache p) key)) (o : IsOpened cache number) where
+  -- the two steps of the opening
+  abbrev pub opened_by : Moves
+  opened_by = (make_folder cache number, answers.Done) ∷ (make_file cache number, answers.Temp (made_temp (temp_path cache number))) ∷ []
+
+  opened_faultless : (fault : Fault) → Faulted opened_by fault → ⊥
+  opened_faultless fault (inl h) = h
+  opened_faultless fault (inr (inl h)) = h
+  opened_faultless fault (inr (inr h)) = h
+
+  abbrev pub started : Begun
+  started = record { command = commands.Put p; number = number; parts = [] }
+
+  abbrev pub opened : Begun
+  opened = with_part started (tree_of o.old) opened_by
+
+  pub is_opened : IsOnItsWay (setup_at cache []) opened (write_rest (put_commit cache p) (made_temp (temp_path cache number)) p.data)
+  is_opened =
+      let s = setup_at cache [] in
+      let gains = gains_join o.old o.new o.opens.0 ((make_folder cache number, answers.Done) ∷ []) ((make_file cache number, answers.Temp (made_temp (temp_path cache number))) ∷ []) o.opens.1 o.opens.2 in
+      let lead = logs_lead o.old o.new opened_by gains o.logged in
+      let way = calls_begin s (commands.Put p) number may tt in
+      (parts_go_on s started (opening (call_site s number) (commands.Put p)) (write_rest (put_commit cache p) (made_temp (temp_path cache number)) p.data) (tree_of o.old) opened_by tt way o.sound
+      (refl, tt, (refl, refl, refl)) lead.0).0
+
+  pub ended : (r : Reply) (old new : List LogItem) → IsCache cache old → CommitsBytes cache p number r old new → Ended cache p number r old new
+  ended r old new sound c =
+      let s = setup_at cache [] in
+      let w = writes_are_parts s opened (put_commit cache p) (made_temp (temp_path cache number)) c.file p.data (tree_of old) is_opened sound refl c.path_is c.bytes_are in
+      let call = with_part opened (tree_of old) w.0 in
+      let state = persist (put_commit cache p) c.file in
+      let lead = logs_lead old new c.ran.0 c.ran.2 c.logged in
+      let a = parts_answer s call state (tree_of old) c.ran.0 r tt w.1 sound (subst (Runs state c.ran.0) (sym c.plain) c.ran.1) lead.0 in
+      let turns = turns_on (tree_of old) c.ran.0 in
+      let before = turns_on (tree_of o.old) opened_by in
+      let hidden = turns_on (tree_of old) w.0 in
+      let none : deeds (turns_on (tree_of o.old) opened_by) ≡ []
+      = folder_first (tree_of o.old) (temp_folder cache) answers.Done ((make_file cache number, answers.Temp (made_temp (temp_path cache number))) ∷ []) refl in
+      let own : deeds (before ++ (hidden ++ (turns ++ []))) ≡ deeds turns
+      = deeds_later before (hidden ++ (turns ++ [])) none ∙ deeds_later hidden (turns ++ []) w.2.nothing ∙ ap deeds (append-nil turns) in
+      let cause = cause_later (own_of (commands.Put p)) w.0 (c.ran.0 ++ []) (plain_reply r) w.2.faultless
+      (cause_later (own_of (commands.Put p)) opened_by (w.0 ++ (c.ran.0 ++ [])) (plain_reply r) opened_faultless a.0.causes) in
+      record {
+        whole = moves_in call.parts ++ c.ran.0;
+        run = runs_through (opening (call_site s number) (commands.Put p)) state (moves_in call.parts) c.ran.0 r w.1.goes c.ran.1;
+        moves = c.ran.0;
+        gained = some_same new (old ++ map (λ m. Made m.0 m.1) c.ran.0) c.ran.2;
+        follows = a.1.follows;
+        found = a.1.found;
+        commits = subst (λ ds. CommitsAs (put_commit cache p) (λ names. PutBytes names p.data) ds (Some r)) own a.0.commits;
+        causes = subst (λ moves. HasCause (own_of (commands.Put p)) moves (plain_reply r)) (append-nil c.ran.0) cause;
+        sound = subst (IsSound (home_of cache)) (sym lead.1) a.1.sound;
+        leads = lead.1;
+      }
+
+pub commits_last : CommitsLast
+commits_last cache p number r old new may o sound c = let e = ended cache p number may o r old new sound c in (e.sound, gains_grow old new c.ran.0 c.ran.2)
+
+-- ---- of bytes under a key
+
+module _ (a : Algorithm) (cache key bytes : List ℕ) (moment number : ℕ) (old new : List LogItem) (free : NothingElse cache (integrity_under a bytes) bytes old)
+    (written : refused_cause (insertion_of (put_commit cache (plain_put a key bytes moment)) key) ≡ None) where
+  -- the reply is one of a put
+  is_of_put : (r : Reply) → Ended cache (plain_put a key bytes moment) number r old new → Stores (put_commit cache (plain_put a key bytes moment)) r
+  is_of_put r e = calls_answer (call_site (setup_at cache []) number) (commands.Put (plain_put a key bytes moment)) e.whole r e.run
+
+  -- a content that the commit finds has the bytes, since nothing else lies there
+  found_free : (r : Reply) → Ended cache (plain_put a key bytes moment) number r old new → IsThere ((value_of_tree (home_of cache) (tree_of old)).contents (own_hash (plain_put a key bytes moment)))
+      → (value_of_tree (home_of cache) (tree_of old)).contents (own_hash (plain_put a key bytes moment)) ≡ Some (InFile bytes)
+  found_free r e there = there_free ((value_of_tree (home_of cache) (tree_of old)).contents (own_hash (plain_put a key bytes moment))) free there
+    where
+      there_free : (o : Option Blob) → (o ≡ None) ⊎ (o ≡ Some (InFile bytes)) → IsThere o → o ≡ Some (InFile bytes)
+      there_free o (inl none) h = absurd (subst IsThere none h)
+      there_free o (inr is) h = is
+
+  stores : (r : Reply) → Ended cache (plain_put a key bytes moment) number r old new → WritesKey cache key bytes r old new
+  stores (replies.Stored i) e =
+      let p = plain_put a key bytes moment in
+      has_key a cache [] key bytes moment old new written i (tree_on (tree_of old) e.moves) (is_of_put (replies.Stored i) e).0 e.leads
+      (stores_so (setup_at cache []) (tree_of old) (tree_on (tree_of old) e.moves) (deeds (turns_on (tree_of old) e.moves)) e.follows (plain_put a key bytes moment) key (replies.Stored i)
+      (λ path more eq is. found_free (replies.Stored i) e (e.found (own_hash (plain_put a key bytes moment)) more (digest_hash a bytes) (eq ∙ ap (λ path. finds path ∷ more) is)))
+      (λ no. no) e.commits refl)
+  stores (replies.Refused error) e =
+      excused_by (own_of (commands.Put (plain_put a key bytes moment))) old new e.moves (λ fault none. none) e.gained error e.causes
+      (calls_fail_only.puts (call_site (setup_at cache []) number) key (plain_put a key bytes moment) e.whole (replies.Refused error)
+      (record { key_is = refl; no_integrity = refl; no_size = refl; written = written }) e.run)
+  stores (replies.Read b) e = absurd (is_of_put (replies.Read b) e)
+  stores (replies.LookedUp found) e = absurd (is_of_put (replies.LookedUp found) e)
+  stores (replies.Exists there) e = absurd (is_of_put (replies.Exists there) e)
+  stores (replies.Copied n) e = absurd (is_of_put (replies.Copied n) e)
+  stores (replies.Listed items) e = absurd (is_of_put (replies.Listed items) e)
+  stores replies.Done e = absurd (is_of_put replies.Done e)
+
+pub commits_store : CommitsStore
+unfolding refused_cause
+commits_store a cache key bytes moment number r old new utf8 small early o sound free c =
+    let p = plain_put a key bytes moment in
+    let w = bare_written key (Some (integrity_text (integrity_under a bytes))) moment (length bytes) utf8 (integrity_utf8 (integrity_under a bytes)) early small in
+    let e = ended cache p number (λ k is none. keyed_formed (λ k. IsEntry (insertion_of (put_commit cache (plain_put a key bytes moment)) k).entry) key k is w.formed) o r old new sound c in
+    (e.sound, gains_grow old new c.ran.0 c.ran.2, stores a cache key bytes moment number old new free w.no_cause r e)

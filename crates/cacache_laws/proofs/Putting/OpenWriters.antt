@@ -1,0 +1,160 @@
+-- What the opening of a writer leaves in a cache.
+use Rattle.std.proofs.Common.{◌≡◌, ◌⊎◌, inl, inr, ℕ, false, List, [], ◌∷◌, ◌++◌, Option, None, Some, option_map, Result, Ok, Err, map, refl, sym, ap, subst, ◌∙◌, append-nil}
+use Rattle.serde_json.specs.Data.{null}
+use Rattle.cacache_core.specs.{declared.{errors.{Error.{Error, TheVariants.{EntryNotFound, SizeMismatch, IoError, SerdeError, IntegrityError, OutOfMemory}}, Fault.{Fault}}, integrity.algorithm.Algorithm.TheVariants.{Sha256}}, PathNames.{Names, names_of, home_of}}
+use Rattle.cacache_store.specs.declared.store.answer.Answer.TheVariants as answers
+use Rattle.cacache_store.specs.{declared.store.{log.LogItem.{LogItem, TheVariants.{Made}}, plain.PlainTemp.{PlainTemp}}, Plain.{PlainAnswer}}
+use Rattle.cacache_store.specs.declared.store.step.Step.TheVariants as steps
+use Rattle.cacache_disk.specs.{declared.{luck.Luck.TheVariants.{Plain}, node.Node.TheVariants.{File}}, Tree.{Tree, put}, LedTo.{free}, Apply.{apply, unless, made_temp}, memory.Replay.{tree_of, IsLog}}
+use Rattle.cacache_table.specs.declared.command.Command.TheVariants as commands
+use Rattle.cacache_table.specs.{declared.command.Put.{Put}, Causes.{Faulted}, Common.{fails}, StepPaths.{temp_folder, temp_path}, Runs.{Moves, Goes, Gains}, State.{State}, Storing.{put_commit, persist}, Table.{opening}, SingleSteps.{Does, FailsAt}}
+use Rattle.cacache_value.specs.{Acts.{MakeFolders, act_at, act_with, folders_left}, Value.{value_of_tree}}
+use Rattle.cacache_history.specs.{Setup.{call_site}, Commits.{deeds_of_act, deeds}}
+use Rattle.cacache_laws.specs.{Sequence.{tree_on, turns_on, Alike, after_deeds, IsSound}, InParts.{Begun}, Caches.{IsCache, Grows, IsExcused, setup_at}, OpenWriters.{LeavesKnownCache, make_folder, make_file, OpensWriter, HasOpened, WritersOpen}}
+use Rattle.cacache_laws.proofs.{Putting.KeptKeys.{stays_known}, Calls.{Logs.{some_same, joined}, InParts.{logs_lead, calls_begin, parts_go_on}}}
+
+-- ---- logs
+
+pub gains_join : (old new : List LogItem) (mid : Option (List LogItem)) (xs ys : Moves) → Gains (Some old) mid xs → Gains mid (Some new) ys → Gains (Some old) (Some new) (xs ++ ys)
+gains_join old new mid xs ys g h =
+    let between = old ++ map (λ m. Made m.0 m.1) xs in
+    ap Some (joined old between new xs ys refl
+    (some_same new (between ++ map (λ m. Made m.0 m.1) ys) (h ∙ ap (option_map (λ log. log ++ map (λ m. Made m.0 m.1) ys)) g)))
+
+pub gains_none : (old : Option (List LogItem)) (new : List LogItem) → Some new ≡ old → Gains old (Some new) []
+gains_none old new same = by old same
+  where
+    by : (old : Option (List LogItem)) → Some new ≡ old → Gains old (Some new) []
+    by None e = absurd cc
+    by (Some log) e = e ∙ ap Some (sym (append-nil log))
+
+pub gains_grow : (old new : List LogItem) (moves : Moves) → Gains (Some old) (Some new) moves → Grows old new
+gains_grow old new moves g = (moves, some_same new (old ++ map (λ m. Made m.0 m.1) moves) g)
+
+-- an error that a step of these excuses
+pub excused_step : (old new : List LogItem) (moves : Moves) → Gains (Some old) (Some new) moves → (e : Error) (fault : Fault) → Faulted moves fault
+    → (e ≡ OutOfMemory) ⊎ ((message : List ℕ) × (e ≡ IoError fault message)) → IsExcused e old new
+excused_step old new moves g e fault h (inl is) = inl is
+excused_step old new moves g e fault h (inr is) = inr (moves, some_same new (old ++ map (λ m. Made m.0 m.1) moves) g, fault, h)
+
+-- ---- the deeds of an opening
+
+folders_made : (r : Result Names Fault) (count : Names → Option ℕ) → deeds_of_act (act_at r (λ names. act_with (count names) (MakeFolders names))) ≡ []
+folders_made (Err fault) count = refl
+folders_made (Ok names) count = by (count names)
+  where
+    by : (o : Option ℕ) → deeds_of_act (act_with o (MakeFolders names)) ≡ []
+    by None = refl
+    by (Some n) = refl
+
+pub folder_first : (t : Tree) (path : List ℕ) (a : PlainAnswer) (more : Moves) → deeds (turns_on (apply t (steps.MakeDirs path) Plain).1 more) ≡ []
+    → deeds (turns_on t ((steps.MakeDirs path, a) ∷ more)) ≡ []
+folder_first t path a more none =
+    ap (λ l. (l ++ []) ++ deeds (turns_on (apply t (steps.MakeDirs path) Plain).1 more)) (folders_made (names_of path) (λ names. folders_left names Plain a)) ∙ none
+
+made_so : (t : Tree) (path : List ℕ) (new : Names → Tree) (r : Result Names Fault) (file : PlainTemp) → answers.Temp file ≡ (unless r t (λ names. (answers.Temp (made_temp path), new names))).0
+    → file ≡ made_temp path
+made_so t path new (Ok names) file e = cc
+made_so t path new (Err fault) file e = absurd cc
+
+pub temp_made : (t : Tree) (path : List ℕ) (file : PlainTemp) → answers.Temp file ≡ (apply t (steps.CreateTemp path) Plain).0 → file ≡ made_temp path
+unfolding apply
+temp_made t path file e = made_so t path (λ names. put t names (File [])) (free t path) file e
+
+-- ---- an opening
+
+-- a put of nothing: its opening is that of each put
+abbrev pub put_nothing : Put
+put_nothing = record {
+  key = None;
+  «data» = [];
+  moment = 0;
+  options = record {
+    algorithm = Sha256;
+    size = None;
+    integrity = None;
+    metadata = null;
+    raw_metadata = None;
+    durable = false;
+  };
+}
+
+module _ (cache : List ℕ) (number : ℕ) (old new : List LogItem) (sound : IsCache cache old) (logged : IsLog new) where
+  abbrev begins : State
+  begins = opening (call_site (setup_at cache []) number) (commands.Put put_nothing)
+
+  -- what it keeps, as far as it goes
+  abbrev Kept : Type 0
+  Kept = LeavesKnownCache cache old new
+
+  part_keeps : (moves : Moves) (next : State) → Goes begins moves next → deeds (turns_on (tree_of old) moves) ≡ [] → Gains (Some old) (Some new) moves → Kept
+  part_keeps moves next goes nothing gains =
+      let s = setup_at cache [] in
+      let lead = logs_lead old new moves gains logged in
+      let call : Begun = record { command = commands.Put put_nothing; number = number; parts = [] } in
+      let way = calls_begin s (commands.Put put_nothing) number (λ key e. absurd cc) tt in
+      let changes = (parts_go_on s call begins next (tree_of old) moves tt way sound goes lead.0).1 in
+      let same : Alike (value_of_tree (home_of cache) (tree_on (tree_of old) moves)) (value_of_tree (home_of cache) (tree_of old))
+      = subst (λ ds. Alike (value_of_tree (home_of cache) (tree_on (tree_of old) moves)) (after_deeds (home_of cache) ds (value_of_tree (home_of cache) (tree_of old)))) nothing changes.follows in (
+        subst (IsSound (home_of cache)) (sym lead.1) changes.sound,
+        stays_known cache old new (subst (λ t. Alike (value_of_tree (home_of cache) t) (value_of_tree (home_of cache) (tree_of old))) (sym lead.1) same),
+        gains_grow old new moves gains,
+      )
+
+  -- the same if it ends with an error
+  abbrev KeptWith : Error → Type 0
+  KeptWith e = Kept × IsExcused e old new
+
+  folder_fails : (e : Error) (fault : Fault) → (e ≡ OutOfMemory) ⊎ ((message : List ℕ) × (e ≡ IoError fault message)) → Does (make_folder cache number) (answers.Failed fault) (Some old) (Some new)
+      → KeptWith e
+  folder_fails e fault is g =
+      let moves : Moves = (make_folder cache number, answers.Failed fault) ∷ [] in
+      (part_keeps moves (fails fault) (refl, tt, refl) (folder_first (tree_of old) (temp_folder cache) (answers.Failed fault) [] refl) g, excused_step old new moves g e fault (inl refl) is)
+
+  folder_errs : (e : Error) → FailsAt (make_folder cache number) e (Some old) (Some new) → KeptWith e
+  folder_errs (IoError fault message) h = folder_fails (IoError fault message) fault (inr (message, refl)) h
+  folder_errs OutOfMemory (inl same) = (part_keeps [] begins refl refl (gains_none (Some old) new same), inl refl)
+  folder_errs OutOfMemory (inr h) = folder_fails OutOfMemory h.0 (inl refl) h.1
+  folder_errs (EntryNotFound c key) h = absurd h
+  folder_errs (SizeMismatch wanted actual) h = absurd h
+  folder_errs (SerdeError cause message) h = absurd h
+  folder_errs (IntegrityError fault) h = absurd h
+
+  module _ (mid : Option (List LogItem)) (made : Does (make_folder cache number) answers.Done (Some old) mid) where
+    file_fails : (e : Error) (fault : Fault) → (e ≡ OutOfMemory) ⊎ ((message : List ℕ) × (e ≡ IoError fault message)) → Does (make_file cache number) (answers.Failed fault) mid (Some new) → KeptWith e
+    file_fails e fault is g =
+        let moves : Moves = (make_folder cache number, answers.Done) ∷ (make_file cache number, answers.Failed fault) ∷ [] in
+        let gains = gains_join old new mid ((make_folder cache number, answers.Done) ∷ []) ((make_file cache number, answers.Failed fault) ∷ []) made g in (
+          part_keeps moves (fails fault) (refl, tt, (refl, tt, refl)) (folder_first (tree_of old) (temp_folder cache) answers.Done ((make_file cache number, answers.Failed fault) ∷ []) refl) gains,
+          excused_step old new moves gains e fault (inr (inl refl)) is,
+        )
+
+    file_errs : (e : Error) → FailsAt (make_file cache number) e mid (Some new) → KeptWith e
+    file_errs (IoError fault message) h = file_fails (IoError fault message) fault (inr (message, refl)) h
+    file_errs OutOfMemory (inl same) = (
+      part_keeps ((make_folder cache number, answers.Done) ∷ []) _ (refl, tt, refl) (folder_first (tree_of old) (temp_folder cache) answers.Done [] refl)
+          (gains_join old new mid ((make_folder cache number, answers.Done) ∷ []) [] made (gains_none mid new same)),
+      inl refl,
+    )
+    file_errs OutOfMemory (inr h) = file_fails OutOfMemory h.0 (inl refl) h.1
+    file_errs (EntryNotFound c key) h = absurd h
+    file_errs (SizeMismatch wanted actual) h = absurd h
+    file_errs (SerdeError cause message) h = absurd h
+    file_errs (IntegrityError fault) h = absurd h
+
+  opens : (r : Result PlainTemp Error) → OpensWriter cache number r (Some old) (Some new) → Kept × HasOpened cache number r old new
+  opens (Err e) (inl h) = folder_errs e h
+  opens (Err e) (inr h) = file_errs h.0 h.1 e h.2
+  opens (Ok file) h =
+      let path = temp_path cache number in
+      let moves : Moves = (make_folder cache number, answers.Done) ∷ (make_file cache number, answers.Temp file) ∷ [] in
+      let gains = gains_join old new h.0 ((make_folder cache number, answers.Done) ∷ []) ((make_file cache number, answers.Temp file) ∷ []) h.1 h.2 in
+      let lead = logs_lead old new moves gains logged in
+      let same = temp_made (apply (tree_of old) (make_folder cache number) Plain).1 path file lead.0.1.0 in (
+        part_keeps moves (persist (put_commit cache put_nothing) file) (refl, tt, (refl, ap (λ (f : PlainTemp). f.path) same, refl))
+            (folder_first (tree_of old) (temp_folder cache) answers.Done ((make_file cache number, answers.Temp file) ∷ []) refl) gains,
+        (ap (λ (f : PlainTemp). f.path) same, ap (λ (f : PlainTemp). f.bytes) same, record { old = old; new = new; sound = sound; opens = (h.0, h.1, subst (λ f. Does (make_file cache number) (answers.Temp f) h.0 (Some new)) same h.2); logged = logged }),
+      )
+
+pub writers_open : WritersOpen
+writers_open cache number r old new sound h logged = opens cache number old new sound logged r h

@@ -1,0 +1,248 @@
+-- The content of a put comes to its place: nothing keeps its temporary file from it.
+use Rattle.std.proofs.{Common.{◌≡◌, ◌==◌, ℕ, List, ◌∷◌, ◌++◌, Option, None, Some, Ok, nat_le, length, drop, refl, sym, ap, subst, ◌∙◌, arith, append_assoc}, lemmas.List.Elements.{All-nil, All-cons, All-head, All-tail}}
+use Rattle.std.specs.Prelude.{All, []}
+use Rattle.hex.specs.Hex.{encode_lower}
+use Rattle.cacache_core.specs.declared.errors.Fault.TheVariants as faults
+use Rattle.cacache_core.specs.{declared.{errors.SerdeCause.{SerdeCause}, integrity.digest.Hash.{Hash}}, Digests.{digest}, Integrity.{hash_of}, PathNames.{Names, names_of, home_of, names_below, IsProperName}, Paths.{content_names, folder_names}}
+use Rattle.cacache_core.proofs.{JoinedNames.{joined_texts_name}, ProperNames.{names_are_proper}}
+use Rattle.cacache_store.specs.{declared.store.plain.PlainTemp.{PlainTemp}, Plain.{PlainStep, PlainAnswer}}
+use Rattle.cacache_store.specs.declared.store.step.Step.TheVariants as steps
+use Rattle.cacache_store.specs.declared.store.answer.Answer.TheVariants as answers
+use Rattle.cacache_disk.specs.{declared.luck.Luck.TheVariants.{Plain}, Tree.{Tree}, LedTo.{place, file_at, folder}, Rooted.{Rooted}, Apply.{apply, plain}}
+use Rattle.cacache_disk.proofs.{FoundNodes.{place_ok}, KeptFolders.{steps_keep_rooted, apply_tree, unless_tree}}
+use Rattle.cacache_table.specs.{declared.{command.Put.{Put}, reply.Reply.{Reply}, carried.Commit.{Commit}}, Answers.{done_in, temp_in, written_in, synced_in, taken_in}, Common.{fails, errand_step}, Inserting.{unless_refused, bucket_line, recorded, after_append, refused_cause}, StepPaths.{content_path, content_folder, temp_path, bucket_path}, Runs.{Moves, Runs}, State.{State, doing, creating, writing, syncing, persisting, appending, over, Site, Insertion, make_folder, sync_file, sync_dir, Errand}, Storing.{insertion_of, indexed, sized, compared, matches, write_rest, after_write, put_commit}, Table.{wants, after, opening}}
+use Rattle.cacache_table.proofs.{Branches.{cond_leads, go_on_leads}, Leading.{moves_on, secures, records}}
+use Rattle.cacache_table.specs.declared.command.Command.TheVariants as commands
+use Rattle.cacache_value.specs.{Acts.{Act, Nothing, PutBytes, PutLink, AddEntries, Drop, MakeFolders, DropFolder, act_of}, Kinds.{Content, IsFor, path_kind}, Placed.{Placed, Proper}, Traces.{IsTrace}}
+use Rattle.cacache_value.proofs.{FoundPaths.{of_names, suits}, Traces.{steps_keep_placed}}
+use Rattle.cacache_history.{specs.Commits.{Deed, finds, deeds_of_act, finds_in, deeds}, proofs.{Contents.Digests.{digest_hash}, Syncing.{temp_synced}}}
+use Rattle.cacache_laws.specs.Sequence.{turns_on, plain_moves}
+use Rattle.cacache_laws.proofs.Putting.MadeNodes.{FoldersMade, made_so, made_place, Stands, created_so, wrote_so, still_stands, persisted_so}
+
+-- ---- the path of a content and its folder
+
+-- the content's path has one name more than its folder's
+abbrev HasPlace : Commit → Type 0
+HasPlace c =
+    (names : Names) → names_of (content_folder c.cache c.computed) ≡ Ok names → (name : List ℕ) × (names_of (content_path c.cache c.computed) ≡ Ok (names ++ name ∷ []))
+
+one_more : (home : Option Names) (front : Names) (name : List ℕ) (names : Names) → names_below home front ≡ Ok names → names_below home (front ++ name ∷ []) ≡ Ok (names ++ name ∷ [])
+one_more None front name names e = absurd cc
+one_more (Some home) front name names e =
+    let same : home ++ front ≡ names = cc in
+    ap Ok (sym (append_assoc home front (name ∷ [])) ∙ ap (λ (n : Names). n ++ name ∷ []) same)
+
+all_front : (ns ms : Names) → All IsProperName (ns ++ ms) → All IsProperName ns
+all_front [] ms all = All-nil IsProperName
+all_front (n ∷ ns) ms all = All-cons IsProperName n ns (All-head IsProperName n (ns ++ ms) all) (all_front ns ms (All-tail IsProperName n (ns ++ ms) all))
+
+has_place : (cache : List ℕ) (p : Put) → HasPlace (put_commit cache p)
+unfolding content_path content_folder
+has_place cache p names e =
+    let h = hash_of p.options.algorithm (digest p.options.algorithm p.data) in
+    let proper = names_are_proper.contents h (digest_hash p.options.algorithm p.data) in
+    let name : List ℕ = drop 4 (encode_lower h.digest) in
+    let front = joined_texts_name cache (folder_names (content_names h)) (all_front (folder_names (content_names h)) (name ∷ []) proper) (omega arith) in
+    (name, joined_texts_name cache (content_names h) proper (omega arith) ∙ one_more (home_of cache) (folder_names (content_names h)) name names (sym front ∙ e))
+
+-- ---- the states of a put
+
+-- the temporary file is there on its way to its place, and nothing is asked
+abbrev Ready : Tree → State → Type 0
+Ready t (doing (make_folder p) (creating number c rest)) = HasPlace c
+Ready t (doing (make_folder p) (syncing c file)) = (p ≡ content_folder c.cache c.computed) × HasPlace c × Stands t file
+Ready t (doing (make_folder p) (persisting c file)) = (p ≡ content_folder c.cache c.computed) × HasPlace c × Stands t file
+Ready t (doing (make_folder p) (appending i)) = Unit {0}
+Ready t (doing (sync_file p) s) = Ready t s
+Ready t (doing (sync_dir p) s) = Ready t s
+Ready t (creating number c rest) = HasPlace c
+Ready t (writing c file rest) = HasPlace c × Stands t file
+Ready t (syncing c file) = Stands t file × (names : Names) × (place t (content_path c.cache c.computed) ≡ Ok names)
+Ready t (persisting c file) = Stands t file × (names : Names) × (place t (content_path c.cache c.computed) ≡ Ok names)
+Ready t (appending i) = Unit {0}
+Ready t (over r) = Unit {0}
+Ready t other = ⊥
+
+done_is : (a : PlainAnswer) (u : Unit {0}) → done_in a ≡ Ok u → a ≡ answers.Done
+done_is answers.Done u e = refl
+done_is other u e = absurd cc
+
+temp_is : (a : PlainAnswer) (file : PlainTemp) → temp_in a ≡ Ok file → a ≡ answers.Temp file
+temp_is (answers.Temp f) file e = let same : f ≡ file = cc in ap answers.Temp same
+temp_is other file e = absurd cc
+
+written_is : (a : PlainAnswer) (w : PlainTemp × ℕ) → written_in a ≡ Ok w → a ≡ answers.Wrote w.0 w.1
+written_is (answers.Wrote f n) w e = let same : (f, n) ≡ w = cc in ap (λ (x : PlainTemp × ℕ). answers.Wrote x.0 x.1) same
+written_is other w e = absurd cc
+
+module _ (t : Tree) where
+  by_cause : (i : Insertion) (cause : Option SerdeCause) → Ready t (unless_refused i cause)
+  by_cause i None = tt
+  by_cause i (Some cause) = tt
+
+  by_key : (c : Commit) (key : Option (List ℕ)) → Ready t (indexed c key)
+  by_key c None = tt
+  by_key c (Some key) = by_cause (insertion_of c key) (refused_cause (insertion_of c key))
+
+  by_size : (c : Commit) (size : Option ℕ) → Ready t (sized c size)
+  by_size c None = by_key c c.key
+  by_size c (Some wanted) = cond_leads (Ready t) (wanted == c.count) _ _ (λ _. by_key c c.key) (λ _. tt)
+
+  by_integrity : (c : Commit) (expected : Option (List Hash)) → Ready t (compared c expected)
+  by_integrity c None = by_size c c.options.size
+  by_integrity c (Some expected) = cond_leads (Ready t) (matches expected c.computed) _ _ (λ _. by_size c c.options.size) (λ _. tt)
+
+  writes_rest : (c : Commit) (file : PlainTemp) (rest : List ℕ) → HasPlace c → Stands t file → Ready t (write_rest c file rest)
+  writes_rest c file [] place s = moves_on (λ next. Ready t (doing (make_folder (content_folder c.cache c.computed)) next)) c file (refl, place, s) (refl, place, s)
+  writes_rest c file (b ∷ bs) place s = (place, s)
+
+  writes : (c : Commit) (rest : List ℕ) (w : PlainTemp × ℕ) → HasPlace c → Stands t w.0 → Ready t (after_write c rest w)
+  writes c rest w place s = cond_leads (Ready t) (w.1 == 0) (fails faults.WriteZero) (write_rest c w.0 (drop w.1 rest)) (λ _. tt) (λ _. writes_rest c w.0 (drop w.1 rest) place s)
+
+  appends : (i : Insertion) (n : ℕ) → Ready t (after_append i n)
+  appends i n = cond_leads (Ready t) (nat_le (length (bucket_line i)) n) (recorded i) (fails faults.ShortAppend) (λ _. records (Ready t) (λ p s h. (h, h)) i tt) (λ _. tt)
+
+module _ (home : Option Names) (t : Tree) (rooted : Rooted t) (is_placed : Placed home t) where
+  -- a state that is ready is still ready after the disk's answer to this step
+  abbrev Goes : State → PlainStep → Type 0
+  Goes s step = Ready (apply t step Plain).1 (after s (apply t step Plain).0)
+
+  folder_made : (c : Commit) (file : PlainTemp) (p : List ℕ) → p ≡ content_folder c.cache c.computed → HasPlace c → Stands t file
+      → (made : FoldersMade t (apply t (steps.MakeDirs p) Plain).1 p) → Ready (apply t (steps.MakeDirs p) Plain).1 (persisting c file)
+  folder_made c file p is place s made =
+      let new = (apply t (steps.MakeDirs p) Plain).1 in
+      let name = place made.names (ap names_of (sym is) ∙ made.named) in (
+        still_stands t (apply t (steps.MakeDirs p) Plain).1 p file made s,
+        made.names ++ name.0 ∷ [],
+        made_place t (apply t (steps.MakeDirs p) Plain).1 p (content_path c.cache c.computed) made.names name.0 rooted (steps_keep_rooted t (steps.MakeDirs p) Plain rooted) made name.1,
+      )
+
+  into_folder : (c : Commit) (file : PlainTemp) (p : List ℕ) (next : State) → ((new : Tree) → Ready new (persisting c file) → Ready new next) → (p ≡ content_folder c.cache c.computed) × HasPlace c × Stands t file
+      → Goes (doing (make_folder p) next) (steps.MakeDirs p)
+  into_folder c file p next leads ready =
+      let new = (apply t (steps.MakeDirs p) Plain).1 in
+      go_on_leads (Ready (apply t (steps.MakeDirs p) Plain).1) (done_in (apply t (steps.MakeDirs p) Plain).0) fails (λ _. next) tt (λ fault. tt)
+      (λ u e. leads new (folder_made c file p ready.0 ready.1 ready.2 (made_so t p (done_is (apply t (steps.MakeDirs p) Plain).0 u e))))
+
+  -- a sync leaves the tree, and the state after it is ready on that
+  syncs : (errand : Errand) (s : State) → Ready t s → ((most : Option ℕ) → Ready (plain t (errand_step errand) most).1 s) → Goes (doing errand s) (errand_step errand)
+  syncs errand s ready left =
+      go_on_leads (Ready (apply t (errand_step errand) Plain).1) (done_in (apply t (errand_step errand) Plain).0) fails (λ _. s) tt (λ fault. tt)
+      (λ u e. apply_tree (λ new. Ready new s) t (errand_step errand) Plain ready left)
+
+  persists : (c : Commit) (file : PlainTemp) → Ready t (persisting c file) → IsFor home Content (content_path c.cache c.computed)
+      → Goes (persisting c file) (steps.Persist file (content_path c.cache c.computed))
+  persists c file ready for =
+      let path = content_path c.cache c.computed in
+      let new = (apply t (steps.Persist file (content_path c.cache c.computed)) Plain).1 in
+      let kind = of_names (λ names. path_kind home names ≡ Content) path ready.1 for (place_ok t path ready.1 ready.2) in
+      let done = persisted_so home t file path ready.1 ready.0 ready.2 (suits home t ready.1 Content kind is_placed) in
+      subst (λ a. Ready (apply t (steps.Persist file (content_path c.cache c.computed)) Plain).1 (after (persisting c file) a)) (sym done)
+      (secures (Ready new) (λ p s h. (h, h)) c (by_integrity new c c.options.integrity))
+
+  goes : (s : State) (step : PlainStep) → Ready t s → wants s ≡ Some step → Proper home step → Goes s step
+  goes (doing (make_folder p) (creating number c rest)) step ready want proper =
+      let same : steps.MakeDirs p ≡ step = cc in
+      go_on_leads (Ready (apply t step Plain).1) (done_in (apply t step Plain).0) fails (λ _. creating number c rest) tt (λ fault. tt) (λ u e. ready)
+  goes (doing (make_folder p) (appending i)) step ready want proper =
+      go_on_leads (Ready (apply t step Plain).1) (done_in (apply t step Plain).0) fails (λ _. appending i) tt (λ fault. tt) (λ u e. tt)
+  goes (doing (make_folder p) (syncing c file)) step ready want proper =
+      let same : steps.MakeDirs p ≡ step = cc in
+      subst (Goes (doing (make_folder p) (syncing c file))) same (into_folder c file p (syncing c file) (λ new h. h) ready)
+  goes (doing (make_folder p) (persisting c file)) step ready want proper =
+      let same : steps.MakeDirs p ≡ step = cc in
+      subst (Goes (doing (make_folder p) (persisting c file))) same (into_folder c file p (persisting c file) (λ new h. h) ready)
+  goes (doing (sync_file p) s) step ready want proper =
+      let same : steps.SyncFile p ≡ step = cc in
+      subst (Goes (doing (sync_file p) s)) same (syncs (sync_file p) s ready (λ most. unless_tree (λ new. Ready new s) (file_at t p faults.IsADirectory) t _ ready (λ _ _. ready)))
+  goes (doing (sync_dir p) s) step ready want proper =
+      let same : steps.SyncDir p ≡ step = cc in
+      subst (Goes (doing (sync_dir p) s)) same (syncs (sync_dir p) s ready (λ most. unless_tree (λ new. Ready new s) (folder t p) t _ ready (λ _ _. ready)))
+  goes (syncing c file) step ready want proper =
+      let same : steps.SyncTemp file ≡ step = cc in
+      subst (Goes (syncing c file)) same
+      (go_on_leads (Ready (apply t (steps.SyncTemp file) Plain).1) (synced_in (apply t (steps.SyncTemp file) Plain).0) fails (persisting c) tt (λ fault. tt)
+      (λ new e. subst (λ f. Ready (apply t (steps.SyncTemp file) Plain).1 (persisting c f)) (temp_synced t file new Plain e)
+      (apply_tree (λ new. Ready new (persisting c file)) t (steps.SyncTemp file) Plain ready (λ most. ready))))
+  goes (creating number c rest) step ready want proper =
+      let path = temp_path c.cache number in
+      let same : steps.CreateTemp (temp_path c.cache number) ≡ step = cc in
+      subst (Goes (creating number c rest)) same
+      (go_on_leads (Ready (apply t (steps.CreateTemp path) Plain).1) (temp_in (apply t (steps.CreateTemp path) Plain).0) fails (λ file. write_rest c file rest) tt (λ fault. tt)
+      (λ file e. writes_rest (apply t (steps.CreateTemp path) Plain).1 c file rest ready (created_so t path file (temp_is (apply t (steps.CreateTemp path) Plain).0 file e))))
+  goes (writing c file rest) step ready want proper =
+      let same : steps.Write file rest ≡ step = cc in
+      subst (Goes (writing c file rest)) same
+      (go_on_leads (Ready (apply t (steps.Write file rest) Plain).1) (written_in (apply t (steps.Write file rest) Plain).0) fails (after_write c rest) tt (λ fault. tt)
+      (λ w e. writes (apply t (steps.Write file rest) Plain).1 c rest w ready.0 (wrote_so t file w.0 rest w.1 ready.1 (written_is (apply t (steps.Write file rest) Plain).0 w e))))
+  goes (persisting c file) step ready want proper =
+      let same : steps.Persist file (content_path c.cache c.computed) ≡ step = cc in
+      subst (Goes (persisting c file)) same (persists c file ready (subst (Proper home) (sym same) proper).1)
+  goes (appending i) step ready want proper =
+      go_on_leads (Ready (apply t step Plain).1) (taken_in (apply t step Plain).0) fails (after_append i) tt (λ fault. tt) (λ n e. appends (apply t step Plain).1 i n)
+  goes (over r) step ready want proper = absurd cc
+  goes other step ready want proper = absurd ready
+
+-- ---- a run
+
+-- a step that isn't a question
+abbrev IsNoQuestion : PlainStep → Type 0
+IsNoQuestion (steps.Exists path) = ⊥
+IsNoQuestion step = Unit {0}
+
+-- none of the steps is a question
+abbrev Quiet : Moves → Type 0
+Quiet [] = Unit {0}
+Quiet (m ∷ moves) = IsNoQuestion m.0 × Quiet moves
+
+no_question : (t : Tree) (s : State) (step : PlainStep) → Ready t s → wants s ≡ Some step → IsNoQuestion step
+no_question t (doing (make_folder p) next) step ready want = let same : steps.MakeDirs p ≡ step = cc in subst IsNoQuestion same tt
+no_question t (doing (sync_file p) next) step ready want = let same : steps.SyncFile p ≡ step = cc in subst IsNoQuestion same tt
+no_question t (doing (sync_dir p) next) step ready want = let same : steps.SyncDir p ≡ step = cc in subst IsNoQuestion same tt
+no_question t (creating number c rest) step ready want =
+    let same : steps.CreateTemp (temp_path c.cache number) ≡ step = cc in subst IsNoQuestion same tt
+no_question t (writing c file rest) step ready want = let same : steps.Write file rest ≡ step = cc in subst IsNoQuestion same tt
+no_question t (syncing c file) step ready want = let same : steps.SyncTemp file ≡ step = cc in subst IsNoQuestion same tt
+no_question t (persisting c file) step ready want = let same : steps.Persist file (content_path c.cache c.computed) ≡ step = cc in subst IsNoQuestion same tt
+no_question t (appending i) step ready want =
+    let same : steps.Append (bucket_path i.cache i.entry.key) (bucket_line i) ≡ step = cc in subst IsNoQuestion same tt
+no_question t (over r) step ready want = absurd cc
+no_question t other step ready want = absurd ready
+
+quiet : (home : Option Names) (t : Tree) (s : State) (moves : Moves) (r : Reply) → Rooted t → Placed home t → Ready t s → IsTrace home t (plain_moves moves) → Runs s moves r → Quiet moves
+quiet home t s [] r rooted is_placed ready trace run = tt
+quiet home t s (m ∷ moves) r rooted is_placed ready trace run =
+    let next : Ready (apply t m.0 Plain).1 (after s m.1)
+    = subst (λ a. Ready (apply t m.0 Plain).1 (after s a)) (sym trace.1) (goes home t rooted is_placed s m.0 ready run.0 trace.0) in (
+      no_question t s m.0 ready run.0,
+      quiet home (apply t m.0 Plain).1 (after s m.1) moves r (steps_keep_rooted t m.0 Plain rooted) (steps_keep_placed home t m.0 Plain is_placed trace.0) next trace.2 run.2,
+    )
+
+finds_nothing : (step : PlainStep) (a : PlainAnswer) → IsNoQuestion step → finds_in step a ≡ []
+finds_nothing (steps.Exists path) a other = absurd other
+finds_nothing step a other = refl
+
+module _ (path : List ℕ) (more : List Deed) where
+  acts_first : (act : Act) (rest : List Deed) → deeds_of_act act ++ rest ≡ finds path ∷ more → rest ≡ finds path ∷ more
+  acts_first Nothing rest e = e
+  acts_first (PutBytes names bytes) rest e = absurd cc
+  acts_first (PutLink names target) rest e = absurd cc
+  acts_first (AddEntries names []) rest e = e
+  acts_first (AddEntries names (x ∷ xs)) rest e = absurd cc
+  acts_first (Drop names) rest e = absurd cc
+  acts_first (MakeFolders names count) rest e = e
+  acts_first (DropFolder names) rest e = e
+
+  quiet_deeds : (t : Tree) (moves : Moves) → Quiet moves → deeds (turns_on t moves) ≡ finds path ∷ more → ⊥
+  quiet_deeds t [] asks e = absurd cc
+  quiet_deeds t (m ∷ moves) asks e =
+      let act = act_of m.0 Plain m.1 in
+      let rest = deeds (turns_on (apply t m.0 Plain).1 moves) in
+      let whole = sym (append_assoc (deeds_of_act (act_of m.0 Plain m.1)) (finds_in m.0 m.1) (deeds (turns_on (apply t m.0 Plain).1 moves))) ∙ e in
+      quiet_deeds (apply t m.0 Plain).1 moves asks.1 (ap (λ x. x ++ deeds (turns_on (apply t m.0 Plain).1 moves)) (sym (finds_nothing m.0 m.1 asks.0)) ∙ acts_first act (finds_in m.0 m.1 ++ rest) whole)
+
+-- no put finds that its content is there: it puts it
+pub puts_find_nothing : (home : Option Names) (site : Site) (p : Put) (t : Tree) (moves : Moves) (r : Reply) (path : List ℕ) (more : List Deed) → Rooted t → Placed home t
+    → IsTrace home t (plain_moves moves) → Runs (opening site (commands.Put p)) moves r → deeds (turns_on t moves) ≡ finds path ∷ more → ⊥
+puts_find_nothing home site p t moves r path more rooted is_placed trace run e =
+    quiet_deeds path more t moves (quiet home t (opening site (commands.Put p)) moves r rooted is_placed (has_place site.cache p) trace run) e

@@ -1,0 +1,74 @@
+-- What is known of a call that was made on a cache in a store in memory.
+use Rattle.std.proofs.Common.{◌≡◌, inl, inr, ℕ, List, [], ◌++◌, map, refl, sym, subst}
+use Rattle.cacache_core.specs.{declared.errors.{Error.{Error, TheVariants.{EntryNotFound, SizeMismatch, IoError, SerdeError, IntegrityError, OutOfMemory}}, Fault.{Fault}}, PathNames.{home_of}}
+use Rattle.cacache_store.specs.declared.store.log.LogItem.{LogItem, TheVariants.{Made}}
+use Rattle.cacache_disk.specs.{Tree.{bare}, memory.Replay.{tree_of}}
+use Rattle.cacache_table.specs.{declared.{command.Command.{Command}, reply.Reply.{Reply}}, Causes.{HasCause, own_of}, Runs.{Moves, Runs, plain_reply}, Sound.{MayBegin}, Table.{opening}}
+use Rattle.cacache_table.specs.declared.reply.Reply.TheVariants as replies
+use Rattle.cacache_value.proofs.OpeningTrees.{files_open}
+use Rattle.cacache_history.specs.{Setup.{call_site, may_export, is_outside}, History.{NamesIntegrity}}
+use Rattle.cacache_laws.specs.{Sequence.{SequenceCall, IsMadeOn, tree_on, CallIsAnswered}, CallErrors.{FailsOnly}, Caches.{IsCache, IsExcused, Called, setup_at, FreshIsEmpty, CachesLast}}
+use Rattle.cacache_laws.proofs.Calls.Sequence.{openings_are_sound, calls_answer_alone}
+
+pub fresh_is_empty : FreshIsEmpty
+unfolding tree_of
+fresh_is_empty cache =
+    let o = files_open (home_of cache) [] bare tt refl in
+    record { sound = openings_are_sound (home_of cache) bare o; nothing = o.nothing }
+
+-- ---- a call that was made
+
+-- what is known of it
+pub record Known (cache base : List ℕ) (command : Command) (r : Reply) (old new : List LogItem) : Type 0 where
+  pub call : SequenceCall
+  pub command_is : call.command ≡ command
+  pub reply_is : call.reply ≡ r
+  pub gained : new ≡ old ++ map (λ m. Made m.0 m.1) call.moves
+  pub run : Runs (opening (record { cache = cache; base = base; number = call.number }) command) call.moves r
+  pub answers : CallIsAnswered (setup_at cache base) (tree_of old) call
+  pub sound : IsCache cache new
+  pub leads : tree_of new ≡ tree_on (tree_of old) call.moves
+
+module _ (cache : List ℕ) (command : Command) (r : Reply) (old new : List LogItem) where
+  pub known : (c : Called cache command r old new) → MayBegin (call_site (setup_at cache c.base) c.number) (may_export (setup_at cache c.base)) (is_outside (setup_at cache c.base)) command
+      → NamesIntegrity command → IsCache cache old → Known cache c.base command r old new
+  known c may named sound =
+      let s = setup_at cache c.base in
+      let call : SequenceCall = record { command = command; number = c.number; moves = c.ran.0; reply = r } in
+      let made : IsMadeOn (setup_at cache c.base) old (record { command = command; number = c.number; moves = c.ran.0; reply = r }) new
+      = record {
+        run = subst (λ x. Runs (opening (call_site (setup_at cache c.base) c.number) command) c.ran.0 x) (sym c.plain) c.ran.1;
+        gained = cc;
+      } in
+      let a = calls_answer_alone s call old new tt (may, named, tt) sound made c.logged in
+      record {
+        call = call;
+        command_is = refl;
+        reply_is = refl;
+        gained = made.gained;
+        run = c.ran.1;
+        answers = a.0;
+        sound = a.1;
+        leads = a.2;
+      }
+
+pub caches_last : CachesLast
+caches_last cache command r old new c may named sound = (known cache command r old new c may named sound).sound
+
+-- a failure has its cause among these steps, if the call has no fault of its own
+pub excused_by : (own : Fault → Type 0) (old new : List LogItem) (moves : Moves) → ((fault : Fault) → own fault → ⊥) → new ≡ old ++ map (λ m. Made m.0 m.1) moves → (e : Error)
+    → HasCause own moves (plain_reply (replies.Refused e)) → FailsOnly (replies.Refused e) → IsExcused e old new
+excused_by own old new moves none gained OutOfMemory cause h = inl refl
+excused_by own old new moves none gained (IoError fault message) cause h = inr (moves, gained, fault, elim cause [ inl mine ↦ absurd (none fault mine) | inr f ↦ f ])
+excused_by own old new moves none gained (EntryNotFound c key) cause h = absurd h
+excused_by own old new moves none gained (SizeMismatch wanted actual) cause h = absurd h
+excused_by own old new moves none gained (SerdeError cause message) fault h = absurd h
+excused_by own old new moves none gained (IntegrityError fault) cause h = absurd h
+
+pub excuse : (cache base : List ℕ) (command : Command) (old new : List LogItem) → ((fault : Fault) → own_of command fault → ⊥) → (e : Error)
+    → Known cache base command (replies.Refused e) old new → FailsOnly (replies.Refused e) → IsExcused e old new
+excuse cache base command old new none e k h =
+    excused_by (own_of command) old new k.call.moves none k.gained e
+    (subst (λ c. HasCause (own_of c) k.call.moves (plain_reply (replies.Refused e))) k.command_is
+    (subst (λ r. HasCause (own_of k.call.command) k.call.moves (plain_reply r)) k.reply_is k.answers.causes))
+    h

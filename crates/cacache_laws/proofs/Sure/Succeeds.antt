@@ -1,0 +1,143 @@
+-- What calls answer if all of their steps succeed.
+use Rattle.std.proofs.{Common.{◌≡◌, inl, inr, ℕ, List, [], ◌∷◌, ◌++◌, Option, None, Some, Ok, refl, sym, ap, subst, ◌∙◌, arith}, lemmas.List.Elements.{All-head}}
+use Rattle.sha1.specs.Sha1.{sha1}
+use Rattle.cacache_core.specs.{declared.{errors.Error.TheVariants.{EntryNotFound}, integrity.digest.Hash.{Hash}}, Integrity.{IsHash, IsIntegrity, address}, PathNames.{Names, names_of, home_of}, Paths.{temp_names}}
+use Rattle.cacache_store.specs.declared.store.log.LogItem.{LogItem}
+use Rattle.cacache_disk.specs.{Tree.{Tree}, memory.Replay.{tree_of}}
+use Rattle.cacache_entry.specs.Latest.{Found, latest}
+use Rattle.cacache_table.specs.declared.carried.Aim.TheVariants as aims
+use Rattle.cacache_table.specs.{declared.{carried.Lookup.{Lookup}, command.Command.{Command}, reply.Reply.{Reply, TheVariants.{LookedUp, Exists, Done, Refused}}}, Inserting.{insert, insertion, deletion}, Removing.{remove_content}, Looking.{found_for}, Replies.{OrMemory}, State.{Insertion, reading, asking, over}, Table.{opening}}
+use Rattle.cacache_table.specs.declared.command.Command.TheVariants as commands
+use Rattle.cacache_value.specs.{Kinds.{node_below}, Placed.{Placed}, Shows.{blob_there}, Value.{Blob, value_of_tree}}
+use Rattle.cacache_history.{specs.ShownTurns.{blob_at}, proofs.Entries.Spelled.{HasIntegrity, latest_has}}
+use Rattle.cacache_laws.specs.{Caches.{Called, setup_at}, Keeping.{found_under}, ReadAnswers.{entries_on, get_on, read_on}, Standing.{IsStanding}, Succeeds.{NamesFolder, insertion_reply, put_reply, is_yes, removal_reply, PutsAnswer, InsertionsAnswer, DeletionsAnswer, LookupsAnswer, ContentReadsAnswer, KeyReadsAnswer, QuestionsAnswer, RemovalsAnswer}}
+use Rattle.cacache_laws.proofs.{Removing.Emptied.{home_is}, Readings.Standing.{caches_stand}, Sure.{SureInserts.{Inserted, inserts_so}, SurePuts.{PutSo, puts_so}, SureTemps.{own_temporary_at}, SureReads.{looks_so, reads_so, asks_so, removes_so}, SureRuns.{EndsSo, ends, of_log}, SureSteps.{Ground}}}
+
+-- ---- a store on which no step fails
+
+home_ground : (cache : List ℕ) (log : List LogItem) (home : Names) → home_of cache ≡ Some home → IsStanding cache log → Ground home (tree_of log)
+home_ground cache log home is standing = record {
+  placed = subst (λ h. Placed h (tree_of log)) is standing.placed;
+  rooted = standing.rooted;
+}
+
+pub ground : (cache : List ℕ) (log : List LogItem) (home : Names) → names_of cache ≡ Ok home → IsStanding cache log → Ground home (tree_of log)
+ground cache log home is = home_ground cache log home (home_is cache home is)
+
+-- what holds with the folder's names holds with the cache's
+pub back : (cache : List ℕ) (home : Names) → names_of cache ≡ Ok home → (P : Option Names → Type 0) → P (Some home) → P (home_of cache)
+back cache home is P p = subst P (sym (home_is cache home is)) p
+
+pub either : {A B : Type 0} (r : Reply) → (A → B) → OrMemory A r → OrMemory B r
+either r f (inl e) = inl e
+either r f (inr a) = inr (f a)
+
+-- ---- what stores
+
+pub puts_answer : PutsAnswer
+puts_answer cache p r old new c folder standing unused =
+    let home = folder.0 in
+    let none = subst (λ h. node_below h (tree_of old) (temp_names c.number) ≡ None) (home_is cache home folder.1) unused in
+    back cache home folder.1 (λ h. OrMemory ((r ≡ put_reply cache p) × (node_below h (tree_of new) (temp_names c.number) ≡ None)) r)
+    (of_log (PutSo cache home folder.1 p (home ++ temp_names c.number) (own_temporary_at cache home folder.1 c.number) (put_reply cache p)) (opening (record { cache = cache; base = c.base; number = c.number }) (commands.Put p)) r old new
+    (puts_so cache home folder.1 p c.number c.base (tree_of old) (ground cache old home folder.1 standing) none) c.ran c.logged)
+
+-- an insertion at this cache
+inserted : (cache : List ℕ) (i : Insertion) (command : Command) (r : Reply) (old new : List LogItem) (c : Called cache command r old new) → i.cache ≡ cache
+    → opening (record { cache = cache; base = c.base; number = c.number }) command ≡ insert i → NamesFolder cache → IsStanding cache old → OrMemory (r ≡ insertion_reply i) r
+inserted cache i command r old new c here begins folder standing =
+    let home = folder.0 in
+    let is = ap names_of here ∙ folder.1 in
+    let g = ground cache old home folder.1 standing in
+    let Q = Inserted i home is (tree_of old) g (insertion_reply i) in
+    either r (λ h. h.0)
+    (of_log (Inserted i home (ap names_of here ∙ folder.1) (tree_of old) (ground cache old home folder.1 standing) (insertion_reply i)) (opening (record { cache = cache; base = c.base; number = c.number }) command) r old new
+    (subst (EndsSo Q (tree_of old)) (sym begins) (inserts_so i home is (tree_of old) g)) c.ran c.logged)
+
+pub insertions_answer : InsertionsAnswer
+insertions_answer cache i r old new folder standing c = inserted cache (insertion cache i) (commands.Insert i) r old new c refl refl folder standing
+
+pub deletions_answer : DeletionsAnswer
+deletions_answer cache d r old new folder standing c = inserted cache (deletion cache d) (commands.Delete d) r old new c refl refl folder standing
+
+-- ---- what looks
+
+pub lookups_answer : LookupsAnswer
+lookups_answer cache key r old new folder standing c =
+    let home = folder.0 in
+    let t = tree_of old in
+    back cache home folder.1 (λ h. OrMemory (r ≡ LookedUp (latest key (entries_on h (tree_of old) key))) r)
+    (of_log (λ _ x. x ≡ LookedUp (latest key (entries_on (Some home) t key))) (opening (record { cache = cache; base = c.base; number = c.number }) (commands.Find key)) r old new
+    (looks_so (λ _ x. x ≡ LookedUp (latest key (entries_on (Some home) t key))) home t (ground cache old home folder.1 standing) (record { cache = cache; key = key; aim = aims.Report }) (home_is cache home folder.1)
+    (ends (λ _ x. x ≡ LookedUp (latest key (entries_on (Some home) t key))) t (LookedUp (latest key (entries_on (Some home) t key))) refl)) c.ran c.logged)
+
+-- a read of an integrity's content
+reads_at : (cache : List ℕ) (home : Names) (is : home_of cache ≡ Some home) (t : Tree) (g : Ground home t) (i : List Hash) → IsIntegrity i
+    → EndsSo (λ _ x. x ≡ read_on (Some home) t i) t (reading (record { cache = cache; integrity = i }))
+reads_at cache home is t g [] formed = absurd (omega (arith, formed.nonempty))
+reads_at cache home is t g (h ∷ hs) formed = reads_so (λ _ x. x ≡ read_on (Some home) t (h ∷ hs)) home t g cache is h hs (All-head IsHash h hs formed.hashes) refl
+
+pub content_reads_answer : ContentReadsAnswer
+content_reads_answer cache i r old new folder standing formed c =
+    let home = folder.0 in
+    back cache home folder.1 (λ h. OrMemory (r ≡ read_on h (tree_of old) i) r)
+    (of_log (λ _ x. x ≡ read_on (Some home) (tree_of old) i) (opening (record { cache = cache; base = c.base; number = c.number }) (commands.GetHash i)) r old new
+    (reads_at cache home (home_is cache home folder.1) (tree_of old) (ground cache old home folder.1 standing) i formed) c.ran c.logged)
+
+module _ (cache key : List ℕ) (home : Names) (is : home_of cache ≡ Some home) (t : Tree) (g : Ground home t) where
+  abbrev look_up : Lookup
+  look_up = record { cache = cache; key = key; aim = aims.Read }
+
+  by_found : (found : Option Found) → HasIntegrity found → EndsSo (λ _ x. x ≡ get_on (setup_at cache []) t key found) t (found_for look_up aims.Read found)
+  by_found None has = ends (λ _ x. x ≡ Refused (EntryNotFound cache key)) t (Refused (EntryNotFound cache key)) refl
+  by_found (Some f) has =
+      subst (λ h. EndsSo (λ _ x. x ≡ read_on h t f.integrity) t (reading (record { cache = cache; integrity = f.integrity }))) (sym is) (reads_at cache home is t g f.integrity has)
+
+-- a read by key of what is there, if what the key leads to has an integrity
+pub standing_key_reads : (cache key : List ℕ) (home : Names) (r : Reply) (old new : List LogItem) → home_of cache ≡ Some home → IsStanding cache old → HasIntegrity (found_under cache key old)
+    → Called cache (commands.Get key) r old new → OrMemory (r ≡ get_on (setup_at cache []) (tree_of old) key (found_under cache key old)) r
+standing_key_reads cache key home r old new is standing formed c =
+    let t = tree_of old in
+    let g = home_ground cache old home is standing in
+    let has : HasIntegrity (latest key (entries_on (Some home) t key)) = subst (λ h. HasIntegrity (latest key (entries_on h (tree_of old) key))) is formed in
+    let Q : Tree → Reply → Type 0 = λ _ x. x ≡ get_on (setup_at cache []) (tree_of old) key (latest key (entries_on (Some home) (tree_of old) key)) in
+    subst (λ h. OrMemory (r ≡ get_on (setup_at cache []) (tree_of old) key (latest key (entries_on h (tree_of old) key))) r) (sym is)
+    (of_log Q (opening (record { cache = cache; base = c.base; number = c.number }) (commands.Get key)) r old new
+    (looks_so Q home t g (look_up cache key home is t g) is (by_found cache key home is t g (latest key (entries_on (Some home) t key)) has)) c.ran c.logged)
+
+pub key_reads_answer : KeyReadsAnswer
+key_reads_answer cache key r old new folder sound c =
+    standing_key_reads cache key folder.0 r old new (home_is cache folder.0 folder.1) (caches_stand cache old sound)
+    (latest_has key (entries_on (home_of cache) (tree_of old) key) (sound.formed (sha1 key))) c
+
+-- ---- questions and removals
+
+module _ (cache : List ℕ) (home : Names) (is : names_of cache ≡ Ok home) (t : Tree) (g : Ground home t) where
+  -- what lies there
+  abbrev lies_at : List Hash → Option Blob
+  lies_at i = blob_at (value_of_tree (Some home) t) (address i)
+
+  asks_at : (i : List Hash) → IsIntegrity i → EndsSo (λ _ x. x ≡ Exists (is_yes (blob_there t (lies_at i)))) t (asking (record { cache = cache; integrity = i }))
+  asks_at [] formed = absurd (omega (arith, formed.nonempty))
+  asks_at (h ∷ hs) formed = asks_so (λ _ x. x ≡ Exists (is_yes (blob_there t (lies_at (h ∷ hs))))) home t g cache (home_is cache home is) h hs (All-head IsHash h hs formed.hashes) refl
+
+  removes_at : (i : List Hash) → IsIntegrity i → EndsSo (λ _ x. x ≡ removal_reply (lies_at i)) t (remove_content cache i (over Done))
+  removes_at [] formed = absurd (omega (arith, formed.nonempty))
+  removes_at (h ∷ hs) formed =
+      removes_so (λ _ x. x ≡ removal_reply (lies_at (h ∷ hs))) home t g cache (home_is cache home is) h hs (All-head IsHash h hs formed.hashes) (over Done)
+      (λ blob there rest. ends (λ _ x. x ≡ removal_reply (lies_at (h ∷ hs))) _ Done (sym (ap removal_reply there)))
+      (λ none. sym (ap removal_reply none))
+
+pub questions_answer : QuestionsAnswer
+questions_answer cache i r old new folder standing formed c =
+    let home = folder.0 in
+    back cache home folder.1 (λ h. OrMemory (r ≡ Exists (is_yes (blob_there (tree_of old) (blob_at (value_of_tree h (tree_of old)) (address i))))) r)
+    (of_log (λ _ x. x ≡ Exists (is_yes (blob_there (tree_of old) (blob_at (value_of_tree (Some home) (tree_of old)) (address i))))) (opening (record { cache = cache; base = c.base; number = c.number }) (commands.Exists i)) r old new
+    (asks_at cache home folder.1 (tree_of old) (ground cache old home folder.1 standing) i formed) c.ran c.logged)
+
+pub removals_answer : RemovalsAnswer
+removals_answer cache i r old new folder standing formed c =
+    let home = folder.0 in
+    back cache home folder.1 (λ h. OrMemory (r ≡ removal_reply (blob_at (value_of_tree h (tree_of old)) (address i))) r)
+    (of_log (λ _ x. x ≡ removal_reply (blob_at (value_of_tree (Some home) (tree_of old)) (address i))) (opening (record { cache = cache; base = c.base; number = c.number }) (commands.RemoveHash i)) r old new
+    (removes_at cache home folder.1 (tree_of old) (ground cache old home folder.1 standing) i formed) c.ran c.logged)

@@ -1,0 +1,266 @@
+-- An export in which all steps succeed.
+use Rattle.std.proofs.{Common.{◌≡◌, ℕ, Bool, true, false, cond, List, [], ◌∷◌, ◌++◌, Option, None, Some, Result, Ok, Err, length, take, refl, sym, ap, subst, ◌∙◌, arith}, lemmas.List.Elements.{All-head}}
+use Rattle.sha1.specs.Sha1.{sha1}
+use Rattle.cacache_core.specs.{declared.{errors.{Error.TheVariants.{EntryNotFound, IoError, IntegrityError}, Fault.{Fault}, IntegrityFault.TheVariants.{Check}}, integrity.digest.Hash.{Hash}}, Integrity.{IsHash, IsIntegrity, Meets, actual, address}, Meeting.{meets}, PathNames.{Names, home_of, names_of}, Paths.{content_names}}
+use Rattle.cacache_core.proofs.Meeting.{meets_finds}
+use Rattle.cacache_core.specs.declared.errors.Fault.TheVariants as faults
+use Rattle.cacache_store.specs.declared.store.answer.Answer.TheVariants as answers
+use Rattle.cacache_store.specs.declared.store.log.LogItem.{LogItem}
+use Rattle.cacache_store.specs.declared.store.step.Step.TheVariants as steps
+use Rattle.cacache_disk.specs.{declared.{luck.Luck.TheVariants.{Plain}, node.Node.{Node, TheVariants.{Folder, File, Link}}}, Tree.{Tree, look, put}, LedTo.{and_then, bytes_there, file_at, free, linked, writable}, Apply.{apply, opened, unless}, memory.Replay.{tree_of}}
+use Rattle.cacache_entry.specs.Latest.{Found, latest}
+use Rattle.cacache_table.specs.declared.carried.Aim.TheVariants as aims
+use Rattle.cacache_table.specs.{declared.{carried.{Content.{Content}, Lookup.{Lookup}}, command.{Export.{Export}, How.{How, TheVariants.{Copy, HardLink, Reflink}}}, reply.Reply.{Reply, TheVariants.{Copied, Done, Refused}}}, Common.{ends_with}, Exporting.{copied_count, export, export_content, export_from, verified}, Looking.{found_for}, Replies.{OrMemory}, State.{State, copying, doing, hard_link, opening_file, over, reflink, to_verify}, StepPaths.{content_path}, Table.{opening}}
+use Rattle.cacache_table.specs.declared.command.Command.TheVariants as commands
+use Rattle.cacache_table.specs.declared.command.Source.TheVariants as sources
+use Rattle.cacache_value.specs.{Kinds.{Content as AtContent}, Placed.{MayStand}, Shows.{blob_bytes, link_end}, Value.{AtLink, Blob, InFile, blob_in, value_of_tree}}
+use Rattle.cacache_history.{specs.ShownTurns.{blob_at}, proofs.Entries.Spelled.{HasIntegrity, latest_has}}
+use Rattle.cacache_laws.specs.{Caches.{HasContent}, ExportAnswers.{ExportsAnswer, StaysIfRefused, blob_named, blob_read, exported_reply, led_reply, made_reply, or_told, verified_reply}, Exported.{export_by}, OpenSucceeds.{ExportsSucceed, MayTake, exported}, ReadAnswers.{entries_on}}
+use Rattle.cacache_laws.proofs.{Removing.Emptied.{home_is}, Readings.Standing.{caches_stand}, Sure.{Succeeds.{back, either, ground}, SureFiles.{opens_as, reads_whole}, SureReads.{bytes_at, held, led_there, looks_so, read_at, suited}, SureRuns.{EndsSo, both, ends, goes, of_log}, SureSteps.{Ground, Reached, arrives, missing}}}
+
+-- ---- what lies there
+
+-- bytes that were read, and are copied then, are the same
+same_node : (here : Option Node) (read copied : List ℕ) → bytes_there faults.IsADirectory here ≡ Ok read → bytes_there faults.InvalidInput here ≡ Ok copied → read ≡ copied
+same_node None read copied a b = absurd cc
+same_node (Some Folder) read copied a b = absurd cc
+same_node (Some (File bytes)) read copied a b = cc
+same_node (Some (Link target)) read copied a b = absurd cc
+
+same_end : (t : Tree) (end : Result Names Fault) (read copied : List ℕ) → and_then end (λ names. bytes_there faults.IsADirectory (look t names)) ≡ Ok read
+    → and_then end (λ names. bytes_there faults.InvalidInput (look t names)) ≡ Ok copied → read ≡ copied
+same_end t (Ok names) read copied a b = same_node (look t names) read copied a b
+same_end t (Err fault) read copied a b = absurd cc
+
+same_read : (t : Tree) (blob : Option Blob) (read copied : List ℕ) → blob_bytes t blob ≡ Ok read → blob_read faults.InvalidInput t blob ≡ Ok copied → read ≡ copied
+same_read t None read copied a b = absurd cc
+same_read t (Some (InFile bytes)) read copied a b = cc
+same_read t (Some (AtLink target)) read copied a b = same_end t (link_end t target) read copied a b
+
+-- the node that a hard link is a name of
+abbrev named : Option Node → Result Node Fault
+named None = Err faults.NotFound
+named (Some node) = Ok node
+
+module _ (home : Names) (t : Tree) (p : List ℕ) (names : Names) where
+  named_as : (here : Option Node) → look t names ≡ here → MayStand (Some home) here AtContent → Reached t p names → linked t p ≡ named here
+  unfolding linked
+  named_as None e s (arrives w) = rw (w, e) refl
+  named_as None e s (missing h w) = rw w refl
+  named_as (Some Folder) e s r = absurd s
+  named_as (Some (File bytes)) e s (arrives w) = rw (w, e) refl
+  named_as (Some (File bytes)) e s (missing h w) = let differ : Some (File bytes) ≡ None = sym e ∙ h in absurd cc
+  named_as (Some (Link target)) e s (arrives w) = rw (w, e) refl
+  named_as (Some (Link target)) e s (missing h w) = let differ : Some (Link target) ≡ None = sym e ∙ h in absurd cc
+
+  told_so : (here : Option Node) → MayStand (Some home) here AtContent → or_told (named here) (λ node. Done) ≡ or_told (blob_named (blob_in here)) (λ blob. Done)
+  told_so None s = refl
+  told_so (Some Folder) s = absurd s
+  told_so (Some (File bytes)) s = refl
+  told_so (Some (Link target)) s = refl
+
+-- ---- an export of a content
+
+module _ (cache : List ℕ) (home : Names) (is : names_of cache ≡ Ok home) (t : Tree) (g : Ground home t) (e : Export) where
+  -- this reply, and after a refusal the same tree
+  abbrev pub Gives : Reply → Tree → Reply → Type 0
+  Gives wanted new r = (r ≡ wanted) × StaysIfRefused r t new
+
+  abbrev Leads : Reply → State → Type 0
+  Leads wanted s = EndsSo (Gives wanted) t s
+
+  module _ (h : Hash) (hs : List Hash) (hash : IsHash h) where
+    -- the content of the integrity
+    abbrev k : Content
+    k = record { cache = cache; integrity = h ∷ hs }
+
+    abbrev path : List ℕ
+    path = content_path cache (h ∷ hs)
+
+    -- what lies there
+    abbrev blob : Option Blob
+    blob = held home t g cache (home_is cache home is) h hs hash
+
+    abbrev names : Names
+    names = home ++ content_names h
+
+    from_at : (folder : Fault) → file_at t path folder ≡ blob_read folder t blob
+    from_at folder = read_at home t g cache (home_is cache home is) h hs hash folder
+
+    -- ---- its last step
+
+    copy_is : (r : Result (List ℕ) Fault) (w : Result Names Fault) → file_at t path faults.InvalidInput ≡ r → writable t e.to ≡ w
+        → apply t (steps.Copy path e.to) Plain ≡ unless r t (λ bytes. unless w t (λ q. (answers.Took (length bytes), put t q (File (take (length bytes) bytes)))))
+    unfolding apply
+    copy_is r w from to =
+        ap (λ x. unless x t (λ bytes. unless (writable t e.to) t (λ q. (answers.Took (length bytes), put t q (File (take (length bytes) bytes)))))) from
+        ∙ ap (λ x. unless r t (λ bytes. unless x t (λ q. (answers.Took (length bytes), put t q (File (take (length bytes) bytes)))))) to
+
+    reflink_is : (w : Result Names Fault) (r : Result (List ℕ) Fault) → free t e.to ≡ w → file_at t path faults.IsADirectory ≡ r
+        → apply t (steps.Reflink path e.to) Plain ≡ unless w t (λ q. unless r t (λ bytes. (answers.Done, put t q (File bytes))))
+    unfolding apply
+    reflink_is w r to from =
+        ap (λ x. unless x t (λ q. unless (file_at t path faults.IsADirectory) t (λ bytes. (answers.Done, put t q (File bytes))))) to
+        ∙ ap (λ x. unless w t (λ q. unless x t (λ bytes. (answers.Done, put t q (File bytes))))) from
+
+    hard_link_is : (w : Result Names Fault) (n : Result Node Fault) → free t e.to ≡ w → linked t path ≡ n
+        → apply t (steps.HardLink path e.to) Plain ≡ unless w t (λ q. unless n t (λ node. (answers.Done, put t q node)))
+    unfolding apply
+    hard_link_is w n to from =
+        ap (λ x. unless x t (λ q. unless (linked t path) t (λ node. (answers.Done, put t q node)))) to
+        ∙ ap (λ x. unless w t (λ q. unless x t (λ node. (answers.Done, put t q node)))) from
+
+    -- a refusal
+    refused : (fault : Fault) → EndsSo (Gives (Refused (IoError fault []))) t (over (Refused (IoError fault [])))
+    refused fault = ends (Gives (Refused (IoError fault []))) t (Refused (IoError fault [])) (refl, refl)
+
+    -- a count that was verified is that of the bytes
+    abbrev Counts : Option ℕ → Type 0
+    Counts count = (bytes : List ℕ) → blob_read faults.InvalidInput t blob ≡ Ok bytes → copied_count count (length bytes) ≡ length bytes
+
+    copy_ends : (count : Option ℕ) (r : Result (List ℕ) Fault) (w : Result Names Fault) → blob_read faults.InvalidInput t blob ≡ r → writable t e.to ≡ w → Counts count
+        → Leads (or_told r (λ bytes. or_told w (λ q. Copied (length bytes)))) (copying path e.to count)
+    copy_ends count (Err fault) w from to counts =
+        goes (Gives (Refused (IoError fault []))) t t (copying path e.to count) (steps.Copy path e.to) (answers.Failed fault) refl (copy_is (Err fault) w (from_at faults.InvalidInput ∙ from) to) (refused fault)
+    copy_ends count (Ok bytes) (Err fault) from to counts =
+        goes (Gives (Refused (IoError fault []))) t t (copying path e.to count) (steps.Copy path e.to) (answers.Failed fault) refl (copy_is (Ok bytes) (Err fault) (from_at faults.InvalidInput ∙ from) to) (refused fault)
+    copy_ends count (Ok bytes) (Ok q) from to counts =
+        goes (Gives (Copied (length bytes))) t (put t q (File (take (length bytes) bytes))) (copying path e.to count) (steps.Copy path e.to) (answers.Took (length bytes)) refl
+        (copy_is (Ok bytes) (Ok q) (from_at faults.InvalidInput ∙ from) to)
+        (ends (Gives (Copied (length bytes))) (put t q (File (take (length bytes) bytes))) (Copied (copied_count count (length bytes))) (ap Copied (counts bytes from), tt))
+
+    reflink_ends : (w : Result Names Fault) (r : Result (List ℕ) Fault) → free t e.to ≡ w → file_at t path faults.IsADirectory ≡ r
+        → Leads (or_told w (λ q. or_told r (λ bytes. Done))) (doing (reflink path e.to) (over Done))
+    reflink_ends (Err fault) r to from =
+        goes (Gives (Refused (IoError fault []))) t t (doing (reflink path e.to) (over Done)) (steps.Reflink path e.to) (answers.Failed fault) refl (reflink_is (Err fault) r to from) (refused fault)
+    reflink_ends (Ok q) (Err fault) to from =
+        goes (Gives (Refused (IoError fault []))) t t (doing (reflink path e.to) (over Done)) (steps.Reflink path e.to) (answers.Failed fault) refl (reflink_is (Ok q) (Err fault) to from) (refused fault)
+    reflink_ends (Ok q) (Ok bytes) to from =
+        goes (Gives Done) t (put t q (File bytes)) (doing (reflink path e.to) (over Done)) (steps.Reflink path e.to) answers.Done refl (reflink_is (Ok q) (Ok bytes) to from)
+        (ends (Gives Done) (put t q (File bytes)) Done (refl, tt))
+
+    hard_link_ends : (w : Result Names Fault) (n : Result Node Fault) → free t e.to ≡ w → linked t path ≡ n
+        → Leads (or_told w (λ q. or_told n (λ node. Done))) (doing (hard_link path e.to) (over Done))
+    hard_link_ends (Err fault) n to from =
+        goes (Gives (Refused (IoError fault []))) t t (doing (hard_link path e.to) (over Done)) (steps.HardLink path e.to) (answers.Failed fault) refl (hard_link_is (Err fault) n to from) (refused fault)
+    hard_link_ends (Ok q) (Err fault) to from =
+        goes (Gives (Refused (IoError fault []))) t t (doing (hard_link path e.to) (over Done)) (steps.HardLink path e.to) (answers.Failed fault) refl (hard_link_is (Ok q) (Err fault) to from) (refused fault)
+    hard_link_ends (Ok q) (Ok node) to from =
+        goes (Gives Done) t (put t q node) (doing (hard_link path e.to) (over Done)) (steps.HardLink path e.to) answers.Done refl (hard_link_is (Ok q) (Ok node) to from)
+        (ends (Gives Done) (put t q node) Done (refl, tt))
+
+    made_ends : (how : How) (count : Option ℕ) → Counts count → Leads (made_reply how e.to t blob) (export_from how path e.to count)
+    made_ends Copy count counts = copy_ends count (blob_read faults.InvalidInput t blob) (writable t e.to) refl refl counts
+    made_ends Reflink count counts = reflink_ends (free t e.to) (blob_bytes t blob) refl (bytes_at home t g cache (home_is cache home is) h hs hash)
+    made_ends HardLink count counts =
+        subst (λ reply. Leads (or_told (free t e.to) (λ q. reply)) (doing (hard_link path e.to) (over Done))) (told_so home t path names (look t names) (suited home t g cache (home_is cache home is) h hs hash))
+        (hard_link_ends (free t e.to) (named (look t names)) refl (named_as home t path names (look t names) refl (suited home t g cache (home_is cache home is) h hs hash) (led_there home t g cache (home_is cache home is) h hs hash)))
+
+    -- ---- before it
+
+    verified_ends : (bytes : List ℕ) → blob_bytes t blob ≡ Ok bytes → Leads (verified_reply (h ∷ hs) (made_reply e.how e.to t blob) bytes) (verified k e bytes)
+    verified_ends bytes whole =
+        let unmet = Refused (IntegrityError (Check (h ∷ hs) (actual (h ∷ hs) bytes))) in
+        both Leads (meets (h ∷ hs) bytes) (made_reply e.how e.to t blob) unmet (export_content k e (Some (length bytes))) (ends_with (IntegrityError (Check (h ∷ hs) (actual (h ∷ hs) bytes))))
+        (made_ends e.how (Some (length bytes)) (λ copied from. ap (λ (b : List ℕ). length b) (same_read t blob bytes copied whole from)))
+        (ends (Gives unmet) t unmet (refl, refl))
+
+    checked_ends : (r : Result (List ℕ) Fault) → blob_bytes t blob ≡ r → Leads (or_told r (verified_reply (h ∷ hs) (made_reply e.how e.to t blob))) (opening_file (to_verify k e))
+    checked_ends (Err fault) from =
+        goes (Gives (Refused (IoError fault []))) t t (opening_file (to_verify k e)) (steps.Open path) (answers.Failed fault) refl (opens_as t path (Err fault) (bytes_at home t g cache (home_is cache home is) h hs hash ∙ from)) (refused fault)
+    checked_ends (Ok bytes) from =
+        let wanted = verified_reply (h ∷ hs) (made_reply e.how e.to t blob) bytes in
+        goes (Gives wanted) t t (opening_file (to_verify k e)) (steps.Open path) (answers.File (opened bytes)) refl (opens_as t path (Ok bytes) (bytes_at home t g cache (home_is cache home is) h hs hash ∙ from))
+        (reads_whole (Gives wanted) t (to_verify k e) bytes (verified_ends bytes from) bytes [] refl)
+
+    export_ends : Leads (exported_reply (h ∷ hs) e t blob) (export k e)
+    export_ends =
+        both Leads e.checked (or_told (blob_bytes t blob) (verified_reply (h ∷ hs) (made_reply e.how e.to t blob))) (made_reply e.how e.to t blob) (opening_file (to_verify k e)) (export_content k e None)
+        (checked_ends (blob_bytes t blob) refl) (made_ends e.how None (λ bytes from. refl))
+
+  -- what lies under an integrity
+  abbrev lies_at : List Hash → Option Blob
+  lies_at i = blob_at (value_of_tree (Some home) t) (address i)
+
+  pub content_ends : (i : List Hash) → IsIntegrity i → Leads (exported_reply i e t (lies_at i)) (export (record { cache = cache; integrity = i }) e)
+  content_ends [] formed = absurd (omega (arith, formed.nonempty))
+  content_ends (h ∷ hs) formed = export_ends h hs (All-head IsHash h hs formed.hashes)
+
+-- ---- by its source
+
+module _ (cache key : List ℕ) (home : Names) (is : names_of cache ≡ Ok home) (old : List LogItem) (g : Ground home (tree_of old)) (e : Export) where
+  abbrev look_up : Lookup
+  look_up = record { cache = cache; key = key; aim = aims.Export e }
+
+  by_found : (found : Option Found) → HasIntegrity found → EndsSo (Gives cache home is (tree_of old) g e (led_reply cache key e old found)) (tree_of old) (found_for look_up (aims.Export e) found)
+  by_found None has = ends (Gives cache home is (tree_of old) g e (Refused (EntryNotFound cache key))) (tree_of old) (Refused (EntryNotFound cache key)) (refl, refl)
+  by_found (Some f) has =
+      back cache home is
+      (λ h. EndsSo (Gives cache home is (tree_of old) g e (exported_reply f.integrity e (tree_of old) (blob_at (value_of_tree h (tree_of old)) (address f.integrity)))) (tree_of old) (export (record { cache = cache; integrity = f.integrity }) e))
+      (content_ends cache home is (tree_of old) g e f.integrity has)
+
+pub exports_answer : ExportsAnswer
+exports_answer cache (sources.Hash i) e r old new folder formed sound c =
+    let home = folder.0 in
+    let g = ground cache old home folder.1 (caches_stand cache old sound) in
+    back cache home folder.1 (λ h. OrMemory ((r ≡ exported_reply i e (tree_of old) (blob_at (value_of_tree h (tree_of old)) (address i))) × StaysIfRefused r (tree_of old) (tree_of new)) r)
+    (of_log (Gives cache home folder.1 (tree_of old) g e (exported_reply i e (tree_of old) (blob_at (value_of_tree (Some home) (tree_of old)) (address i)))) (opening (record { cache = cache; base = c.base; number = c.number }) (commands.Export (sources.Hash i) e)) r old new
+    (content_ends cache home folder.1 (tree_of old) g e i formed) c.ran c.logged)
+exports_answer cache (sources.Key key) e r old new folder formed sound c =
+    let home = folder.0 in
+    let g = ground cache old home folder.1 (caches_stand cache old sound) in
+    let led = latest key (entries_on (Some home) (tree_of old) key) in
+    let has : HasIntegrity (latest key (entries_on (home_of cache) (tree_of old) key)) = latest_has key (entries_on (home_of cache) (tree_of old) key) (sound.formed (sha1 key)) in
+    let led_has : HasIntegrity led = subst (λ h. HasIntegrity (latest key (entries_on h (tree_of old) key))) (home_is cache home folder.1) has in
+    let Q : Tree → Reply → Type 0 = Gives cache home folder.1 (tree_of old) g e (led_reply cache key e old (latest key (entries_on (Some home) (tree_of old) key))) in
+    back cache home folder.1 (λ h. OrMemory ((r ≡ led_reply cache key e old (latest key (entries_on h (tree_of old) key))) × StaysIfRefused r (tree_of old) (tree_of new)) r)
+    (of_log Q (opening (record { cache = cache; base = c.base; number = c.number }) (commands.Export (sources.Key key) e)) r old new
+    (looks_so Q home (tree_of old) g (look_up cache key home folder.1 old g e) (home_is cache home folder.1) (by_found cache key home folder.1 old g e led led_has)) c.ran c.logged)
+
+-- ---- of bytes that are there
+
+-- if the path may take it, an export of these bytes is done
+made_so : (how : How) (to bytes : List ℕ) (log : List LogItem) → MayTake how to log → made_reply how to (tree_of log) (Some (InFile bytes)) ≡ exported how bytes
+made_so Copy to bytes log may = ap (λ w. or_told w (λ q. Copied (length bytes))) may.1
+made_so Reflink to bytes log may = ap (λ w. or_told w (λ q. Done)) may.1
+made_so HardLink to bytes log may = ap (λ w. or_told w (λ q. Done)) may.1
+
+exported_so : (checked : Bool) (how : How) (to bytes : List ℕ) (i : List Hash) (log : List LogItem) → Meets i bytes → MayTake how to log
+    → exported_reply i (record { how = how; checked = checked; to = to }) (tree_of log) (Some (InFile bytes)) ≡ exported how bytes
+exported_so true how to bytes i log met may =
+    ap (λ b. cond b (made_reply how to (tree_of log) (Some (InFile bytes))) (Refused (IntegrityError (Check i (actual i bytes))))) ((meets_finds i bytes).1 met) ∙ made_so how to bytes log may
+exported_so false how to bytes i log met may = made_so how to bytes log may
+
+module _ (cache bytes to : List ℕ) (how : How) (checked : Bool) (old : List LogItem) (home : Names) (is : names_of cache ≡ Ok home) (g : Ground home (tree_of old)) (may : MayTake how to old) where
+  abbrev to_path : Export
+  to_path = record { how = how; checked = checked; to = to }
+
+  -- the same holds of what lies under an integrity
+  by_content : (i : List Hash) → HasContent cache i bytes old → EndsSo (Gives cache home is (tree_of old) g to_path (exported how bytes)) (tree_of old) (export (record { cache = cache; integrity = i }) to_path)
+  by_content i has =
+      let lies : blob_at (value_of_tree (Some home) (tree_of old)) (address i) ≡ Some (InFile bytes) = subst (λ h. blob_at (value_of_tree h (tree_of old)) (address i) ≡ Some (InFile bytes)) (home_is cache home is) has.content in
+      subst (λ wanted. EndsSo (Gives cache home is (tree_of old) g to_path wanted) (tree_of old) (export (record { cache = cache; integrity = i }) to_path))
+      (ap (λ blob. exported_reply i to_path (tree_of old) blob) lies ∙ exported_so checked how to bytes i old has.meets may)
+      (content_ends cache home is (tree_of old) g to_path i has.formed)
+
+pub exports_succeed : ExportsSucceed
+exports_succeed cache bytes to how (sources.Hash i) checked r old new folder standing has may c =
+    let home = folder.0 in
+    let g = ground cache old home folder.1 standing in
+    let e : Export = record { how = how; checked = checked; to = to } in
+    either r (λ h. h.0)
+    (of_log (Gives cache home folder.1 (tree_of old) g e (exported how bytes)) (opening (record { cache = cache; base = c.base; number = c.number }) (export_by how (sources.Hash i) checked to)) r old new
+    (by_content cache bytes to how checked old home folder.1 g may i has) c.ran c.logged)
+exports_succeed cache bytes to how (sources.Key key) checked r old new folder standing has may c =
+    let home = folder.0 in
+    let g = ground cache old home folder.1 standing in
+    let e : Export = record { how = how; checked = checked; to = to } in
+    let l : Lookup = record { cache = cache; key = key; aim = aims.Export e } in
+    let Q : Tree → Reply → Type 0 = Gives cache home folder.1 (tree_of old) g e (exported how bytes) in
+    let finds : latest key (entries_on (Some home) (tree_of old) key) ≡ Some has.1.found = subst (λ h. latest key (entries_on h (tree_of old) key) ≡ Some has.1.found) (home_is cache home folder.1) has.1.finds in
+    let next = subst (λ i. EndsSo Q (tree_of old) (export (record { cache = cache; integrity = i }) (record { how = how; checked = checked; to = to }))) (sym has.1.integrity)
+    (by_content cache bytes to how checked old home folder.1 g may has.0 has.1.content) in
+    either r (λ h. h.0)
+    (of_log Q (opening (record { cache = cache; base = c.base; number = c.number }) (export_by how (sources.Key key) checked to)) r old new
+    (looks_so Q home (tree_of old) g l (home_is cache home folder.1)
+    (subst (λ f. EndsSo Q (tree_of old) (found_for l (aims.Export e) f)) (sym finds) next)) c.ran c.logged)

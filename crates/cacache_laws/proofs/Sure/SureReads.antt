@@ -1,0 +1,217 @@
+-- Lookups, reads, questions and removals in which all steps succeed.
+use Rattle.std.proofs.Common.{◌≡◌, ◌⊎◌, inl, inr, ℕ, Bool, true, false, cond, List, [], ◌∷◌, ◌++◌, Option, None, Some, Result, Ok, Err, refl, sym, ap, subst, ◌∙◌}
+use Rattle.cacache_core.specs.{declared.{errors.{Error.TheVariants.{IoError, IntegrityError}, Fault.{Fault}, IntegrityFault.TheVariants.{Check}}, integrity.digest.Hash.{Hash}}, Integrity.{IsHash, actual}, Meeting.{meets}, PathNames.{Names, names_of, home_of}, Paths.{bucket_names, content_names}}
+use Rattle.cacache_core.specs.declared.errors.Fault.TheVariants as faults
+use Rattle.cacache_store.specs.declared.store.step.Step.TheVariants as steps
+use Rattle.cacache_store.specs.declared.store.answer.Answer.TheVariants as answers
+use Rattle.cacache_store.specs.Plain.{PlainAnswer}
+use Rattle.cacache_disk.specs.{declared.{luck.Luck.TheVariants.{Plain}, node.Node.{Node, TheVariants.{Folder, File, Link}}}, Tree.{Tree, look, cut}, LedTo.{leads, followed, file_at, found, removable}, Apply.{apply, is_there}}
+use Rattle.cacache_entry.specs.Latest.{Found, latest}
+use Rattle.cacache_table.specs.{declared.{carried.Lookup.{Lookup}, reply.Reply.{Reply, TheVariants.{Read, Exists, Refused}}}, Common.{ends_with}, Looking.{found_for, found_in}, State.{State, doing, looking, reading, asking, over, remove}, StepPaths.{bucket_path, content_path}, Replies.{content_reply}}
+use Rattle.cacache_value.specs.{Kinds.{Content, Bucket, is_used}, Placed.{MayStand}, Shows.{link_end, blob_bytes, blob_there}, Acts.{list_of}, Value.{Blob, InFile, AtLink, blob_in, bucket_in, value_of_tree}}
+use Rattle.cacache_value.proofs.FoundPaths.{suits}
+use Rattle.cacache_history.specs.ShownTurns.{as_refusal}
+use Rattle.cacache_laws.specs.{ExportAnswers.{blob_read}, ReadAnswers.{entries_on, read_on}, Succeeds.{is_yes}}
+use Rattle.cacache_laws.proofs.Sure.{SureInserts.{bucket_lies}, SureTemps.{content_lies}, SureRuns.{EndsSo, ends, goes}, SureSteps.{Ground, Lies, Reached, arrives, missing, goes_to, reached}}
+
+-- ---- what a bucket's file answers
+
+-- the answer to a read of what is there
+abbrev file_told : Option Node → PlainAnswer
+file_told None = answers.Failed faults.NotFound
+file_told (Some Folder) = answers.Failed faults.IsADirectory
+file_told (Some (File bytes)) = answers.Bytes bytes
+file_told (Some (Link target)) = answers.Failed faults.TooDeep
+
+bucket_read : (home : Names) (t : Tree) (p : List ℕ) (names : Names) (here : Option Node) → look t names ≡ here → MayStand (Some home) here Bucket → Reached t p names
+    → apply t (steps.ReadAll p) Plain ≡ (file_told here, t)
+unfolding apply file_at leads followed
+bucket_read home t p names None e s (arrives w) = rw (w, e, e) refl
+bucket_read home t p names None e s (missing h w) = rw w refl
+bucket_read home t p names (Some Folder) e s r = absurd s
+bucket_read home t p names (Some (File bytes)) e s (arrives w) = rw (w, e, e) refl
+bucket_read home t p names (Some (File bytes)) e s (missing h w) = let differ : Some (File bytes) ≡ None = sym e ∙ h in absurd cc
+bucket_read home t p names (Some (Link target)) e s r = absurd s
+
+-- ---- what a content's path answers
+
+-- bytes, or why there are none
+abbrev told : Result (List ℕ) Fault → PlainAnswer
+told (Ok bytes) = answers.Bytes bytes
+told (Err fault) = answers.Failed fault
+
+told_all : (t : Tree) (p : List ℕ) (r : Result (List ℕ) Fault) → file_at t p faults.IsADirectory ≡ r → apply t (steps.ReadAll p) Plain ≡ (told r, t)
+unfolding apply
+told_all t p (Ok bytes) e = rw e refl
+told_all t p (Err fault) e = rw e refl
+
+-- the bytes of a content, if a folder at a link's end gives `IsADirectory`
+pub as_bytes : (t : Tree) (blob : Option Blob) → blob_read faults.IsADirectory t blob ≡ blob_bytes t blob
+as_bytes t None = refl
+as_bytes t (Some (InFile bytes)) = refl
+as_bytes t (Some (AtLink target)) = refl
+
+module _ (home : Names) (t : Tree) (p : List ℕ) (names : Names) where
+  pub read_as : (folder : Fault) (here : Option Node) → look t names ≡ here → MayStand (Some home) here Content → Reached t p names → file_at t p folder ≡ blob_read folder t (blob_in here)
+  unfolding file_at leads followed link_end
+  read_as folder None e s (arrives w) = rw (w, e, e) refl
+  read_as folder None e s (missing h w) = rw w refl
+  read_as folder (Some Folder) e s r = absurd s
+  read_as folder (Some (File bytes)) e s (arrives w) = rw (w, e, e) refl
+  read_as folder (Some (File bytes)) e s (missing h w) = let differ : Some (File bytes) ≡ None = sym e ∙ h in absurd cc
+  read_as folder (Some (Link target)) e s (arrives w) = rw (w, e) refl
+  read_as folder (Some (Link target)) e s (missing h w) = let differ : Some (Link target) ≡ None = sym e ∙ h in absurd cc
+
+  pub content_there : (here : Option Node) → look t names ≡ here → MayStand (Some home) here Content → Reached t p names → is_there (found t p) ≡ blob_there t (blob_in here)
+  unfolding found leads followed link_end
+  content_there None e s (arrives w) = rw (w, e, e) refl
+  content_there None e s (missing h w) = rw w refl
+  content_there (Some Folder) e s r = absurd s
+  content_there (Some (File bytes)) e s (arrives w) = rw (w, e, e) refl
+  content_there (Some (File bytes)) e s (missing h w) = let differ : Some (File bytes) ≡ None = sym e ∙ h in absurd cc
+  content_there (Some (Link target)) e s (arrives w) = rw (w, e) refl
+  content_there (Some (Link target)) e s (missing h w) = let differ : Some (Link target) ≡ None = sym e ∙ h in absurd cc
+
+  -- what is there can be removed, and nothing else
+  removed : (here : Option Node) → look t names ≡ here → MayStand (Some home) here Content → Reached t p names
+      → ((here ≡ None) × (apply t (steps.RemoveFile p) Plain ≡ (answers.Failed faults.NotFound, t))) ⊎ ((node : Node) × (here ≡ Some node) × (apply t (steps.RemoveFile p) Plain ≡ (answers.Done, cut t names)))
+  unfolding apply removable
+  removed None e s (arrives w) = inl (refl, rw (w, e) refl)
+  removed None e s (missing h w) = inl (refl, rw w refl)
+  removed (Some Folder) e s r = absurd s
+  removed (Some (File bytes)) e s (arrives w) = inr (File bytes, refl, rw (w, e) refl)
+  removed (Some (File bytes)) e s (missing h w) = let differ : Some (File bytes) ≡ None = sym e ∙ h in absurd cc
+  removed (Some (Link target)) e s (arrives w) = inr (Link target, refl, rw (w, e) refl)
+  removed (Some (Link target)) e s (missing h w) = let differ : Some (Link target) ≡ None = sym e ∙ h in absurd cc
+
+pub asks : (t : Tree) (p : List ℕ) (a : PlainAnswer) → is_there (found t p) ≡ a → apply t (steps.Exists p) Plain ≡ (a, t)
+unfolding apply
+asks t p a e = ap (λ x. (x, t)) e
+
+-- what answers a question
+abbrev pub IsAsked : PlainAnswer → Type 0
+IsAsked (answers.There there) = Unit {0}
+IsAsked (answers.Failed fault) = Unit {0}
+IsAsked other = ⊥
+
+pub is_asked : (r : Result Names Fault) → IsAsked (is_there r)
+is_asked (Ok names) = tt
+is_asked (Err faults.NotFound) = tt
+is_asked (Err faults.NotADirectory) = tt
+is_asked (Err other) = tt
+
+-- what is at a content's path is a content
+is_blob : (home : Names) (here : Option Node) → MayStand (Some home) here Content → (node : Node) → here ≡ Some node → (blob : Blob) × (blob_in here ≡ Some blob)
+is_blob home None s node e = absurd cc
+is_blob home (Some Folder) s node e = absurd s
+is_blob home (Some (File bytes)) s node e = (InFile bytes, refl)
+is_blob home (Some (Link target)) s node e = (AtLink target, refl)
+
+-- ---- lookups
+
+module _ (Q : Tree → Reply → Type 0) (home : Names) (t : Tree) (g : Ground home t) (l : Lookup) (is : home_of l.cache ≡ Some home) where
+  -- what the key leads to
+  abbrev led : Option Found
+  led = latest l.key (entries_on (Some home) t l.key)
+
+  by_bucket : (here : Option Node) → look t (home ++ bucket_names l.key) ≡ here → EndsSo Q t (found_for l l.aim (latest l.key (entries_on (Some home) t l.key))) → MayStand (Some home) here Bucket
+      → apply t (steps.ReadAll (bucket_path l.cache l.key)) Plain ≡ (file_told here, t) → EndsSo Q t (looking l)
+  unfolding found_in
+  by_bucket None e next s read =
+      let none : latest l.key (entries_on (Some home) t l.key) ≡ None = ap (λ n. latest l.key (list_of (bucket_in n))) e in
+      goes Q t t (looking l) (steps.ReadAll (bucket_path l.cache l.key)) (answers.Failed faults.NotFound) refl read
+      (subst (λ f. EndsSo Q t (found_for l l.aim f)) none next)
+  by_bucket (Some Folder) e next s read = absurd s
+  by_bucket (Some (File bytes)) e next s read =
+      let some : latest l.key (entries_on (Some home) t l.key) ≡ found_in l.key bytes = ap (λ n. latest l.key (list_of (bucket_in n))) e in
+      goes Q t t (looking l) (steps.ReadAll (bucket_path l.cache l.key)) (answers.Bytes bytes) refl read
+      (subst (λ f. EndsSo Q t (found_for l l.aim f)) some next)
+  by_bucket (Some (Link target)) e next s read = absurd s
+
+  -- a lookup goes on with what the key leads to
+  pub looks_so : EndsSo Q t (found_for l l.aim (latest l.key (entries_on (Some home) t l.key))) → EndsSo Q t (looking l)
+  looks_so next =
+      let lies = bucket_lies l.cache home is l.key in
+      let names = home ++ bucket_names l.key in
+      let s = suits (Some home) t (home ++ bucket_names l.key) Bucket lies.kind g.placed in
+      let r = reached home t (bucket_path l.cache l.key) (home ++ bucket_names l.key) g lies.named (ap is_used lies.kind) (look t names) refl in
+      by_bucket (look t names) refl next s (bucket_read home t (bucket_path l.cache l.key) names (look t names) refl s r)
+
+-- ---- contents
+
+module _ (home : Names) (t : Tree) (g : Ground home t) (cache : List ℕ) (is : home_of cache ≡ Some home) (h : Hash) (hs : List Hash) (hash : IsHash h) where
+  abbrev pub content_at : Names
+  content_at = home ++ content_names h
+
+  -- what lies there
+  abbrev pub held : Option Blob
+  held = (value_of_tree (Some home) t).contents h
+
+  lies : Lies home (content_path cache (h ∷ hs)) (content_names h) Content
+  lies = content_lies cache home is h hs hash
+
+  pub suited : MayStand (Some home) (look t content_at) Content
+  suited = suits (Some home) t content_at Content lies.kind g.placed
+
+  pub led_there : Reached t (content_path cache (h ∷ hs)) content_at
+  led_there = reached home t (content_path cache (h ∷ hs)) content_at g lies.named (ap is_used lies.kind) (look t content_at) refl
+
+  -- the bytes that are read there, if a folder gives this fault
+  pub read_at : (folder : Fault) → file_at t (content_path cache (h ∷ hs)) folder ≡ blob_read folder t held
+  read_at folder = read_as home t (content_path cache (h ∷ hs)) content_at folder (look t content_at) refl suited led_there
+
+  pub bytes_at : file_at t (content_path cache (h ∷ hs)) faults.IsADirectory ≡ blob_bytes t held
+  bytes_at = read_at faults.IsADirectory ∙ as_bytes t held
+
+module _ (Q : Tree → Reply → Type 0) (home : Names) (t : Tree) (g : Ground home t) (cache : List ℕ) (is : home_of cache ≡ Some home) (h : Hash) (hs : List Hash) (hash : IsHash h) where
+  abbrev names : Names
+  names = home ++ content_names h
+
+  by_bytes : (r : Result (List ℕ) Fault) → blob_bytes t ((value_of_tree (Some home) t).contents h) ≡ r → Q t (content_reply (h ∷ hs) (as_refusal r))
+      → apply t (steps.ReadAll (content_path cache (h ∷ hs))) Plain ≡ (told r, t) → EndsSo Q t (reading (record { cache = cache; integrity = h ∷ hs }))
+  by_bytes (Ok bytes) e q read =
+      goes Q t t (reading (record { cache = cache; integrity = h ∷ hs })) (steps.ReadAll (content_path cache (h ∷ hs))) (answers.Bytes bytes) refl read
+      (by_meeting (meets (h ∷ hs) bytes) q)
+    where
+      by_meeting : (b : Bool) → Q t (cond b (Read bytes) (Refused (IntegrityError (Check (h ∷ hs) (actual (h ∷ hs) bytes)))))
+          → EndsSo Q t (cond b (over (Read bytes)) (ends_with (IntegrityError (Check (h ∷ hs) (actual (h ∷ hs) bytes)))))
+      by_meeting true q = ends Q t (Read bytes) q
+      by_meeting false q = ends Q t (Refused (IntegrityError (Check (h ∷ hs) (actual (h ∷ hs) bytes)))) q
+  by_bytes (Err fault) e q read =
+      goes Q t t (reading (record { cache = cache; integrity = h ∷ hs })) (steps.ReadAll (content_path cache (h ∷ hs))) (answers.Failed fault) refl read
+      (ends Q t (Refused (IoError fault [])) q)
+
+  -- a read answers what lies there
+  pub reads_so : Q t (read_on (Some home) t (h ∷ hs)) → EndsSo Q t (reading (record { cache = cache; integrity = h ∷ hs }))
+  reads_so q =
+      let r = blob_bytes t ((value_of_tree (Some home) t).contents h) in
+      by_bytes r refl q (told_all t (content_path cache (h ∷ hs)) r (bytes_at home t g cache is h hs hash))
+
+  by_there : (a : PlainAnswer) → Q t (Exists (is_yes a)) → apply t (steps.Exists (content_path cache (h ∷ hs))) Plain ≡ (a, t) → IsAsked a
+      → EndsSo Q t (asking (record { cache = cache; integrity = h ∷ hs }))
+  by_there (answers.There there) q read asked =
+      goes Q t t (asking (record { cache = cache; integrity = h ∷ hs })) (steps.Exists (content_path cache (h ∷ hs))) (answers.There there) refl read (ends Q t (Exists there) q)
+  by_there (answers.Failed fault) q read asked =
+      goes Q t t (asking (record { cache = cache; integrity = h ∷ hs })) (steps.Exists (content_path cache (h ∷ hs))) (answers.Failed fault) refl read (ends Q t (Exists false) q)
+  by_there other q read asked = absurd asked
+
+  -- a question answers whether something does
+  pub asks_so : Q t (Exists (is_yes (blob_there t ((value_of_tree (Some home) t).contents h)))) → EndsSo Q t (asking (record { cache = cache; integrity = h ∷ hs }))
+  asks_so q =
+      let a = blob_there t ((value_of_tree (Some home) t).contents h) in
+      let same = content_there home t (content_path cache (h ∷ hs)) names (look t names) refl (suited home t g cache is h hs hash) (led_there home t g cache is h hs hash) in
+      by_there a q (asks t (content_path cache (h ∷ hs)) a same) (subst IsAsked same (is_asked (found t (content_path cache (h ∷ hs)))))
+
+  -- a removal is done if something is there
+  pub removes_so : (next : State) → ((blob : Blob) → held home t g cache is h hs hash ≡ Some blob → Ground home (cut t names) → EndsSo Q (cut t names) next) → (held home t g cache is h hs hash ≡ None → Q t (Refused (IoError faults.NotFound [])))
+      → EndsSo Q t (doing (remove (content_path cache (h ∷ hs))) next)
+  removes_so next there none =
+      let path = content_path cache (h ∷ hs) in
+      elim (removed home t (content_path cache (h ∷ hs)) names (look t names) refl (suited home t g cache is h hs hash) (led_there home t g cache is h hs hash)) [
+        | inl n ↦
+            goes Q t t (doing (remove path) next) (steps.RemoveFile path) (answers.Failed faults.NotFound) refl n.1
+            (ends Q t (Refused (IoError faults.NotFound [])) (none (ap blob_in n.0)))
+        | inr s ↦
+            let some = is_blob home (look t names) (suited home t g cache is h hs hash) s.0 s.1 in
+            goes Q t (cut t names) (doing (remove path) next) (steps.RemoveFile path) answers.Done refl s.2 (there some.0 some.1 (goes_to home t (cut t names) (steps.RemoveFile path) answers.Done g tt s.2))
+      ]

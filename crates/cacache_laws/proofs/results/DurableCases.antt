@@ -1,0 +1,178 @@
+-- Histories of one durable commit, on a disk that holds nothing.
+use Rattle.std.proofs.Common.{◌≡◌, ℕ, true, List, [], ◌∷◌, ◌++◌, None, Some, Ok, append-nil, codes, refl, sym, ap, subst, ◌∙◌, arith}
+use Rattle.cacache_core.specs.{PathNames.{Names, names_of}, Paths.{bucket_names, content_names}, declared.integrity.digest.Hash.{Hash}}
+use Rattle.cacache_store.specs.Plain.{PlainStep}
+use Rattle.cacache_store.specs.declared.store.step.Step.TheVariants as steps
+use Rattle.cacache_disk.{specs.Tree.{bare}, proofs.Roots.{bare_below}}
+use Rattle.cacache_entry.proofs.EntryCauses.{no_cause_is_fit}
+use Rattle.cacache_table.specs.{Inserting.{insert, insertion, refused_cause, unless_refused}, Runs.{Moves}, State.{State, creating, doing, Insertion, make_folder}, StepPaths.{bucket_folder, temp_folder}, Storing.{insertion_of, put_commit}, Sound.{MayBegin}, Table.{opening, wants}, declared.{command.{Command.{Command}, Insert.{Insert}, Put.{Put}}, reply.Reply.{Reply, TheVariants.{Stored}}}}
+use Rattle.cacache_table.specs.declared.command.Command.TheVariants as commands
+use Rattle.cacache_value.{specs.{OpeningTrees.{IsOpening}, Placed.{Placed}, Value.{AtLink, Value}}, proofs.OpeningTrees.{files_open}}
+use Rattle.cacache_history.specs.{AddedEntries.{address_of_put}, declared.record.Record.{Record, TheVariants.{Began}}, History.{Call, History, IsLegal, Made, NamesIntegrity, Now, initial, new_call, replayed}, Setup.{Setup, call_site, home, is_outside, may_export}, Values.{value_at}, durable.{Ending.{CallEndsWith, EndsFrom}, Outlasting.{DurablePut, IsNoLink}, QuietMoves.{AreQuiet, IsQuietMove, PutsDurably}}}
+use Rattle.cacache_laws.specs.{Sequence.{AreAnswered}, results.{DurableCases.{CanBeWritten, GoElsewhere, InsertsStandInOne, IsLastPut, PutsStandInOne, PutsStandLast, StandsIn, StoresDurably}, Losses.{entry_written}}}
+use Rattle.cacache_laws.proofs.{Removing.Emptied.{home_is}, Sure.SureSteps.{Ground}, results.{LastPuts.{none_last}, PlainRecords.{quiet_more, records_end, records_legal, records_of, records_quiet}, PlainRuns.{Plays, Reaches, inserts_play}, PlainPuts.{put_plays}}}
+
+-- the moves of a call that makes one
+record Moving (s : State) (r : Reply) : Type 0 where
+  first : Made
+  more : Moves
+  run : Reaches s (first ∷ more) r
+  answered : AreAnswered bare (first ∷ more)
+
+moving : (s : State) (r : Reply) (step : PlainStep) → wants s ≡ Some step → Plays r bare s → Moving s r
+moving s r step want ([], run, answered) = let no : Some step ≡ None = sym want ∙ ap wants run in absurd cc
+moving s r step want (m ∷ more, run, answered) = record { first = m; more = more; run = run; answered = answered }
+
+abbrev setup_of : List ℕ → Setup
+setup_of cache = record { cache = cache; base = codes "/"; outside = []; callers = 1 }
+
+opens : (cache : List ℕ) → IsOpening (home (setup_of cache)) bare
+opens cache = files_open (home (setup_of cache)) [] bare tt refl
+
+ground : (cache : List ℕ) (folder : Names) → names_of cache ≡ Ok folder → Ground folder bare
+ground cache folder is = record { placed = subst (λ h. Placed h bare) (home_is cache folder is) (opens cache).placed; rooted = (opens cache).rooted }
+
+-- a command that may begin there
+abbrev MayStart : List ℕ → Command → Type 0
+MayStart cache command = MayBegin (call_site (setup_of cache) 0) (may_export (setup_of cache)) (is_outside (setup_of cache)) command
+
+module _ (cache : List ℕ) (i : List Hash) (command : Command) (m : Moving (opening (call_site (setup_of cache) 0) command) (Stored i)) where
+  abbrev rest : List Record
+  rest = records_of m.first m.more (Stored i)
+
+  -- the call begins, and these records follow
+  abbrev begins_with : List Record → History
+  begins_with records = record { setup = setup_of cache; records = Began 0 command ∷ records }
+
+  abbrev begun : Now
+  begun = replayed (setup_of cache) (initial (setup_of cache)) (Began 0 command ∷ [])
+
+  abbrev call : Call
+  call = new_call (setup_of cache) 0 command
+
+  alone_legal : MayStart cache command → NamesIntegrity command → IsLegal (begins_with rest)
+  alone_legal may named = record {
+    apart = tt;
+    opens = refl;
+    legal = ((omega arith, refl, may, named), records_legal (setup_of cache) i begun call m.first m.more refl m.run m.answered);
+  }
+
+  ends_in : (records : List Record) → CallEndsWith 0 (Stored i) records → EndsFrom (begins_with records) (Began 0 command ∷ []) records command (Stored i)
+  ends_in records ends = record { caller = 0; call = call; is = refl; command_is = refl; nothing = refl; ends = ends }
+
+  alone_ends : EndsFrom (begins_with rest) (Began 0 command ∷ []) rest command (Stored i)
+  alone_ends = ends_in rest (subst (CallEndsWith 0 (Stored i)) (append-nil rest) (records_end (setup_of cache) i m.first m.more []))
+
+  alone_quiet : (path : Names) → ((call : Call) (m : Made) → call.command ≡ command → IsQuietMove path (Some call) (Some m)) → AreQuiet (setup_of cache) path begun rest
+  alone_quiet path quiet = records_quiet (setup_of cache) i command path quiet begun call m.first m.more refl refl
+
+no_links : (cache : List ℕ) (command : Command) (records : List Record) (address : Hash) → IsNoLink address (value_at (record { setup = setup_of cache; records = records }) (Began 0 command ∷ []))
+no_links cache command records address target e = let none : None ≡ Some (AtLink target) = sym (ap (λ (v : Value). v.contents address) (opens cache).nothing) ∙ e in absurd cc
+
+-- ---- the laws
+
+insert_quiet : (n : Insert) (call : Call) (m : Made) → call.command ≡ commands.Insert n → IsQuietMove [] (Some call) (Some m)
+insert_quiet n call m e = rw e (refl, tt)
+
+puts_durably : (content : Names) (p : Put) (step : PlainStep) → p.options.durable ≡ true → PutsDurably content (commands.Put p) step
+puts_durably content p (steps.Persist f to) durable = λ named. durable
+puts_durably content p step durable = tt
+
+put_quiet : (path : Names) (p : Put) → p.options.durable ≡ true → (call : Call) (m : Made) → call.command ≡ commands.Put p → IsQuietMove path (Some call) (Some m)
+put_quiet path p durable call m e = rw e (refl, puts_durably path p m.0 durable)
+
+wants_some : (j : Insertion) → CanBeWritten j.entry → wants (insert j) ≡ Some (steps.MakeDirs (bucket_folder j.cache j.entry.key))
+unfolding refused_cause
+wants_some j can = ap (λ o. wants (unless_refused j o)) ((no_cause_is_fit j.entry can.0).1 can.1)
+
+pub inserts_stand : InsertsStandInOne
+inserts_stand cache folder n is durable can =
+    let j = insertion cache n in
+    let m = moving (insert (insertion cache n)) j.reply _ (wants_some j can) (inserts_play folder j is durable bare (ground cache folder is) can) in (
+      begins_with cache _ (commands.Insert n) m (rest cache _ (commands.Insert n) m),
+      refl,
+      alone_legal cache _ (commands.Insert n) m (λ written. can.0) tt,
+      record {
+        before = Began 0 (commands.Insert n) ∷ [];
+        rest = rest cache _ (commands.Insert n) m;
+        is = refl;
+        durable = durable;
+        reply = j.reply;
+        call = alone_ends cache _ (commands.Insert n) m;
+        stored = (_, refl);
+        quiet = alone_quiet cache _ (commands.Insert n) m [] (insert_quiet n);
+      },
+    )
+
+-- a durable put that expects nothing
+module _ (cache : List ℕ) (folder : Names) (p : Put) (is : names_of cache ≡ Ok folder) (durable : p.options.durable ≡ true) (no_integrity : p.options.integrity ≡ None) (no_size : p.options.size ≡ None)
+    (writable : (key : List ℕ) → p.key ≡ Some key → CanBeWritten (insertion_of (put_commit cache p) key).entry) where
+  abbrev own : List Hash
+  own = (put_commit cache p).computed
+
+  abbrev path : Names
+  path = folder ++ content_names (address_of_put p)
+
+  put_moves : Moving (opening (call_site (setup_of cache) 0) (commands.Put p)) (Stored own)
+  put_moves =
+      let plays = put_plays cache folder is p durable no_integrity no_size writable bare (ground cache folder is) (bare_below folder _ _) in
+      moving (doing (make_folder (temp_folder cache)) (creating 0 (put_commit cache p) p.data)) (Stored own) (steps.MakeDirs (temp_folder cache)) refl plays
+
+  abbrev put_rest : List Record
+  put_rest = rest cache own (commands.Put p) put_moves
+
+  put_alone_quiet : AreQuiet (setup_of cache) path (begun cache own (commands.Put p) put_moves) put_rest
+  put_alone_quiet = alone_quiet cache own (commands.Put p) put_moves path (put_quiet path p durable)
+
+  -- it is in such a history if its records are among these
+  abbrev put_in : (records : List Record) → EndsFrom (begins_with cache own (commands.Put p) put_moves records) (Began 0 (commands.Put p) ∷ []) records (commands.Put p) (Stored own)
+      → AreQuiet (setup_of cache) path (begun cache own (commands.Put p) put_moves) records → DurablePut (begins_with cache own (commands.Put p) put_moves records) folder p
+  put_in records ends quiet = record {
+    before = Began 0 (commands.Put p) ∷ [];
+    rest = records;
+    is = refl;
+    durable = durable;
+    reply = own;
+    call = ends;
+    quiet = quiet;
+    no_link = λ found. no_links cache (commands.Put p) (Began 0 (commands.Put p) ∷ records) (address_of_put p);
+  }
+
+  put_legal : IsLegal (begins_with cache own (commands.Put p) put_moves put_rest)
+  put_legal = alone_legal cache own (commands.Put p) put_moves (λ key keyed written. (writable key keyed).0) tt
+
+  put_stands : StandsIn cache (λ h. DurablePut h folder p)
+  put_stands = (begins_with cache own (commands.Put p) put_moves put_rest, refl, put_legal, put_in put_rest (alone_ends cache own (commands.Put p) put_moves) put_alone_quiet)
+
+  -- and it is the last of its bucket, whatever goes elsewhere after it
+  put_last : (key : List ℕ) → StoresDurably cache key p → (more : List Record) → GoElsewhere (begins_with cache own (commands.Put p) put_moves put_rest) folder key p more
+      → IsLastPut (begins_with cache own (commands.Put p) put_moves (put_rest ++ more)) folder key p
+  put_last key stores more elsewhere =
+      let ends = ends_in cache own (commands.Put p) put_moves (put_rest ++ more) (records_end (setup_of cache) own put_moves.first put_moves.more more) in
+      let quiet = quiet_more (setup_of cache) path (begun cache own (commands.Put p) put_moves) put_rest more put_alone_quiet elsewhere.quiet in
+      record {
+        here = home_is cache folder is;
+        stores = stores;
+        put = put_in (put_rest ++ more) ends quiet;
+        last = none_last (folder ++ bucket_names key) more elsewhere.none (opening (call_site (setup_of cache) 0) (commands.Put p)) put_moves.first put_moves.more (Stored own) (Stored own) _ cache key (entry_written cache key p) tt put_moves.run;
+      }
+
+pub puts_stand : PutsStandInOne
+puts_stand cache folder p is durable no_integrity no_size writable = put_stands cache folder p is durable no_integrity no_size writable
+
+-- what holds of the put's key holds of each that it has
+of_key : (P : List ℕ → Type 0) (p : Put) (key other : List ℕ) → p.key ≡ Some key → p.key ≡ Some other → P key → P other
+of_key P p key other is also h =
+    let both : Some key ≡ Some other = sym is ∙ also in
+    let same : key ≡ other = cc in
+    subst P same h
+
+pub puts_stand_last : PutsStandLast
+puts_stand_last cache folder key p is stores =
+    let writable : (other : List ℕ) → p.key ≡ Some other → CanBeWritten (insertion_of (put_commit cache p) other).entry
+    = λ other also. of_key (λ (k : List ℕ). CanBeWritten (insertion_of (put_commit cache p) k).entry) p key other stores.keyed also stores.written in (
+      begins_with cache _ (commands.Put p) (put_moves cache folder p is stores.durable stores.no_integrity stores.no_size writable) (put_rest cache folder p is stores.durable stores.no_integrity stores.no_size writable),
+      refl,
+      put_legal cache folder p is stores.durable stores.no_integrity stores.no_size writable,
+      put_last cache folder p is stores.durable stores.no_integrity stores.no_size writable key stores,
+    )

@@ -1,0 +1,83 @@
+-- What exports gave and left.
+use Rattle.std.{proofs.Common.{◌≡◌, ℕ, Bool, List, Option, None, Some, Result, Ok, Err, length, refl, ap}, specs.Prelude.{MatchResult}}
+use Rattle.cacache_core.specs.declared.errors.Error.{Error}
+use Rattle.cacache_store.specs.declared.{env.Env.{Env}, store.log.LogItem.{LogItem}}
+use Rattle.cacache_disk.specs.{declared.node.Node.{Node}, Tree.{Names, Tree, look}, LedTo.{followed, free, leads, place, where_free, writable}, memory.Replay.{IsLog, shown, tree_of}}
+use Rattle.cacache_disk.proofs.FoundNodes.{and_then_ok}
+use Rattle.cacache_table.specs.{declared.{command.{Command.{Command}, How.{How, TheVariants.{Copy, Reflink, HardLink}}, Source.{Source}}, reply.Reply.{Reply, TheVariants.{Copied}}}, Replies.{done}, Runs.{reply_of}}
+use Rattle.cacache_sync.specs.Exports.{exporting}
+use Rattle.cacache_history.specs.History.{NamesSource}
+use Rattle.cacache_laws.specs.{Caches.{Called, IsCache, IsExcused}, Exported.{Arrives, export_by}, ExportEffects.{IsApart}, OpenWriters.{LeavesKnownCache}, OpenSucceeds.{MayTake, exported}, Succeeds.{NamesFolder}, results.Exports.{CopyMeans, SharingMeans}}
+use Rattle.cacache_laws.proofs.{Readings.Standing.{caches_stand}, Sure.SureExports.{exports_answer, exports_succeed}, Exports.{Exported.{exports_arrive}, ExportEffects.{exports_keep}}, Calls.Logs.{calls_grow}, results.{ExportErrors.{Answered, copy_missing, fails_so, missing_fails, refuses_so}, SureResults.{IsGiven, for_memory}, Told.{called, excused}}}
+
+leaves : (cache : List ℕ) (source : Source) (how : How) (checked : Bool) (to : List ℕ) (r : Reply) (old new : List LogItem) → IsApart cache to → NamesSource source → IsCache cache old
+    → Called cache (export_by how source checked to) r old new → LeavesKnownCache cache old new
+leaves cache source how checked to r old new apart named sound c =
+    let k = exports_keep cache source (record { how = how; checked = checked; to = to }) r old new apart named sound c in
+    (k.0, k.1, calls_grow cache (export_by how source checked to) r old new c)
+
+copied : (r : Result ℕ Error) (bytes to : List ℕ) (old new : List LogItem) → Arrives bytes to (reply_of Copied r) old new
+    → MatchResult r (λ n. (shown (tree_of new) to ≡ Some bytes) × (n ≡ length bytes)) (λ e. IsExcused e old new)
+copied (Ok n) bytes to old new h = h
+copied (Err e) bytes to old new h = excused e old new h
+
+pub copy_means : {C N : Type 0} (cache : List ℕ) (source : Source) (checked : Bool) (to : List ℕ) (r : Result ℕ Error) (new : Env (List LogItem) C N) → IsLog new.store → CopyMeans cache source checked to r new
+copy_means cache source checked to r new logged old apart named sound ran =
+    let c = called Copied (λ n. refl) r cache old.base 0 (exporting Copy checked source to) old.store new.store ran.0.0 logged in
+    let answers : NamesFolder cache → Answered cache source Copy checked to (reply_of Copied r) old.store new.store
+    = λ folder. exports_answer cache source (record { how = Copy; checked = checked; to = to }) (reply_of Copied r) old.store new.store folder named sound c in
+    record {
+      leaves = leaves cache source Copy checked to (reply_of Copied r) old.store new.store apart named sound c;
+      arrives = λ bytes has. copied r bytes to old.store new.store (exports_arrive cache bytes to Copy source checked (reply_of Copied r) old.store new.store apart sound has c);
+      succeeds = λ bytes folder has may.
+          for_memory Copied r (Copied (length bytes)) tt (exports_succeed cache bytes to Copy source checked (reply_of Copied r) old.store new.store folder (caches_stand cache old.store sound) has may c);
+      fails = λ folder. fails_so Copied r cache source Copy checked to old.store new.store (answers folder);
+      refuses = λ folder. refuses_so Copied (λ n. tt) r cache source Copy checked to old.store new.store (answers folder);
+      missing = λ i folder. copy_missing Copied (λ n. tt) r cache source checked to old.store new.store (answers folder) i;
+    }
+
+shared : (r : Result (Unit {0}) Error) (bytes to : List ℕ) (old new : List LogItem) → Arrives bytes to (reply_of done r) old new
+    → MatchResult r (λ u. shown (tree_of new) to ≡ Some bytes) (λ e. IsExcused e old new)
+shared (Ok u) bytes to old new h = h
+shared (Err e) bytes to old new h = excused e old new h
+
+-- ---- where an export may go
+
+-- if nothing is there a file can be written
+free_at : (here : Option Node) (old new : Names) → where_free here old ≡ Ok new → (here ≡ None) × (old ≡ new)
+free_at None old new e = (refl, cc)
+free_at (Some node) old new e = absurd cc
+
+free_writable : (t : Tree) (to : List ℕ) (names : Names) → free t to ≡ Ok names → writable t to ≡ Ok names
+unfolding free writable leads followed
+free_writable t to names e =
+    let f = and_then_ok (place t to) (λ names. where_free (look t names) names) names e in
+    let at = free_at (look t f.0) f.0 names f.2 in
+    rw (f.1, at.0, at.0) (ap Ok at.1)
+
+may_take : (how : How) (to : List ℕ) (log : List LogItem) → MayTake HardLink to log → MayTake how to log
+may_take Copy to log may = (may.0, free_writable (tree_of log) to may.0 may.1)
+may_take Reflink to log may = may
+may_take HardLink to log may = may
+
+is_given : (how : How) (bytes : List ℕ) → IsGiven (exported how bytes)
+is_given Copy bytes = tt
+is_given Reflink bytes = tt
+is_given HardLink bytes = tt
+
+pub sharing_means : {C N : Type 0} (cache : List ℕ) (source : Source) (how : How) (checked : Bool) (to : List ℕ) (r : Result (Unit {0}) Error) (new : Env (List LogItem) C N) → IsLog new.store
+    → SharingMeans cache source how checked to r new
+sharing_means cache source how checked to r new logged old apart named sound ran =
+    let c = called done (λ u. refl) r cache old.base 0 (exporting how checked source to) old.store new.store ran.0.0 logged in
+    let answers : NamesFolder cache → Answered cache source how checked to (reply_of done r) old.store new.store
+    = λ folder. exports_answer cache source (record { how = how; checked = checked; to = to }) (reply_of done r) old.store new.store folder named sound c in
+    record {
+      leaves = leaves cache source how checked to (reply_of done r) old.store new.store apart named sound c;
+      arrives = λ bytes has. shared r bytes to old.store new.store (exports_arrive cache bytes to how source checked (reply_of done r) old.store new.store apart sound has c);
+      succeeds = λ bytes folder has may.
+          for_memory done r (exported how bytes) (is_given how bytes)
+          (exports_succeed cache bytes to how source checked (reply_of done r) old.store new.store folder (caches_stand cache old.store sound) has (may_take how to old.store may) c);
+      fails = λ folder. fails_so done r cache source how checked to old.store new.store (answers folder);
+      refuses = λ folder. refuses_so done (λ u. tt) r cache source how checked to old.store new.store (answers folder);
+      missing = λ i folder. missing_fails done (λ u. tt) r cache source how checked to old.store new.store (answers folder) i;
+    }

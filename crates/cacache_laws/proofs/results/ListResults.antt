@@ -1,0 +1,70 @@
+-- What a listing gave and left.
+use Rattle.std.proofs.{Common.{◌≡◌, inl, inr, ℕ, List, [], ◌∷◌, Some, Result, Ok, Err, map, refl, sym, ap, subst, ◌∙◌}, lemmas.List.Elements.{All-nil, All-cons, All-head, All-tail}}
+use Rattle.std.specs.Prelude.{All}
+use Rattle.cacache_store.specs.declared.{env.Env.{Env}, store.log.LogItem.{LogItem}}
+use Rattle.cacache_disk.specs.memory.Replay.{IsLog}
+use Rattle.cacache_entry.specs.Latest.{Found}
+use Rattle.cacache_table.specs.declared.command.Command.TheVariants as commands
+use Rattle.cacache_table.specs.{declared.reply.Reply.{Reply}, ListReplies.{In}, Runs.{plain_item, plain_reply}, State.{Item}}
+use Rattle.cacache_table.specs.declared.reply.Reply.TheVariants as replies
+use Rattle.cacache_laws.specs.{Caches.{Called}, Keeping.{found_under}, ListedKeys.{AreAllFound, GivesKeys, IsShown, ListsKeys}, results.Lists.{AreAllEntries, ListingMeans}}
+use Rattle.cacache_laws.proofs.{Readings.{Known.{caches_last}, Standing.{caches_stand}, Looks.{tree_stays}}, Listings.ListedKeys.{listings_give}, Sure.SureLists.{listings_answer}, results.Told.{looks_leave, plain_twice}}
+
+-- ---- replies without messages
+
+item_plain : (item : Item) → plain_item (plain_item item) ≡ plain_item item
+item_plain (Ok f) = refl
+item_plain (Err e) = ap (λ x. Err x) (plain_twice e)
+
+items_plain : (items : List Item) → map plain_item (map plain_item items) ≡ map plain_item items
+items_plain [] = refl
+items_plain (item ∷ items) = ap (λ x. x ∷ map plain_item (map plain_item items)) (item_plain item) ∙ ap (λ l. plain_item item ∷ l) (items_plain items)
+
+reply_plain : (r : Reply) → plain_reply (plain_reply r) ≡ plain_reply r
+reply_plain (replies.Listed items) = ap (λ l. replies.Listed l) (items_plain items)
+reply_plain (replies.Refused e) = ap (λ x. replies.Refused x) (plain_twice e)
+reply_plain (replies.Stored i) = refl
+reply_plain (replies.Read b) = refl
+reply_plain (replies.LookedUp found) = refl
+reply_plain (replies.Exists there) = refl
+reply_plain (replies.Copied n) = refl
+reply_plain replies.Done = refl
+
+-- ---- entries alone
+
+plain_entries : (entries : List Found) → map plain_item (map (λ f. Ok f) entries) ≡ map (λ f. Ok f) entries
+plain_entries [] = refl
+plain_entries (f ∷ fs) = ap (λ l. Ok f ∷ l) (plain_entries fs)
+
+are_found : (entries : List Found) → AreAllFound (map (λ f. Ok f) entries)
+are_found [] = tt
+are_found (f ∷ fs) = are_found fs
+
+each_entry : (cache : List ℕ) (old new : List LogItem) (entries : List Found) → All (IsShown cache old new) (map (λ f. Ok f) entries) → All (λ entry. found_under cache entry.key old ≡ Some entry) entries
+each_entry cache old new [] h = All-nil (λ entry. found_under cache entry.key old ≡ Some entry)
+each_entry cache old new (f ∷ fs) h =
+    All-cons (λ (entry : Found). found_under cache entry.key old ≡ Some entry) f fs (All-head (IsShown cache old new) (Ok f) (map (λ f. Ok f) fs) h)
+    (each_entry cache old new fs (All-tail (IsShown cache old new) (Ok f) (map (λ f. Ok f) fs) h))
+
+in_entries : (f : Found) (entries : List Found) → In {X = Item} (Ok f) (map (λ f. Ok f) entries) → In f entries
+in_entries f [] i = i
+in_entries f (g ∷ gs) (inl e) = inl cc
+in_entries f (g ∷ gs) (inr i) = inr (in_entries f gs i)
+
+are_entries : (cache : List ℕ) (r : Reply) (entries : List Found) (old new : List LogItem) → r ≡ replies.Listed (map (λ f. Ok f) entries) → GivesKeys cache (plain_reply r) old new → AreAllEntries cache old entries
+are_entries cache r entries old new is h =
+    let all : ListsKeys cache (map plain_item (map (λ f. Ok f) entries)) old new = subst (λ x. GivesKeys cache (plain_reply x) old new) is h in
+    let lists : ListsKeys cache (map (λ f. Ok f) entries) old new = subst (λ l. ListsKeys cache l old new) (plain_entries entries) all in
+    record { each = each_entry cache old new entries lists.shown; all = λ key entry leads. in_entries entry entries (lists.all (are_found entries) key entry leads) }
+
+pub listing_means : {C N : Type 0} (cache : List ℕ) (r : Reply) (new : Env (List LogItem) C N) → IsLog new.store → ListingMeans cache r new
+listing_means cache r new logged old sound ran =
+    let c : Called cache commands.Ls (plain_reply r) old.store new.store = record { base = old.base; number = 0; ran = ran; plain = reply_plain r; logged = logged } in
+    let gives = listings_give cache (plain_reply r) old.store new.store sound c in
+    record {
+      leaves = looks_leave cache commands.Ls (plain_reply r) old.store new.store tt c (caches_last cache commands.Ls (plain_reply r) old.store new.store c tt tt sound);
+      same = tree_stays cache commands.Ls (plain_reply r) old.store new.store tt c;
+      entries = λ entries is. are_entries cache r entries old.store new.store is gives;
+      any = gives;
+      succeeds = λ folder. listings_answer cache (plain_reply r) old.store new.store folder (caches_stand cache old.store sound) c;
+    }

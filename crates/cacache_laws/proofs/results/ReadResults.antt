@@ -1,0 +1,153 @@
+-- What reads and questions gave and left.
+use Rattle.std.proofs.Common.{◌≡◌, inl, inr, ℕ, Bool, true, false, List, [], Option, None, Some, Vec, Global, Result, Ok, Err, refl, sym, ap, subst, ◌∙◌}
+use Rattle.std.specs.Prelude.{IfOk, IfErr, option_map}
+use Rattle.cacache_core.specs.{declared.{errors.Error.{Error, TheVariants.{OutOfMemory}}, integrity.digest.Hash.{Hash}}, Integrity.{IsIntegrity}, PathNames.{home_of}}
+use Rattle.cacache_store.specs.declared.{env.Env.{Env}, store.log.LogItem.{LogItem}}
+use Rattle.cacache_entry.specs.{declared.metadata.Metadata.{Metadata}, Latest.{Found}, View.{found_view}}
+use Rattle.cacache_table.specs.declared.command.Command.TheVariants as commands
+use Rattle.cacache_table.specs.declared.reply.Reply.TheVariants as replies
+use Rattle.cacache_table.specs.{Replies.{looked_up, OrMemory, content_reply}, Runs.{reply_of, without_message}}
+use Rattle.cacache_sync.specs.Reads.{bytes_read}
+use Rattle.cacache_laws.specs.{Caches.{Called, IsCache, HasContent, HasKey, LacksKey, IsExcused, AStepFailed, GivesBytes, FindsNone, SaysThere, setup_at}, Inserts.{leads_to}, Keeping.{found_under}, Looks.{GivesFound, GivesHeld, GivesOfKey, SaysAbsent}, ReadAnswers.{get_on, read_on}, Succeeds.{NamesFolder, exists_reply, is_yes}, results.{Reads.{AskedContent, ContentReadMeans, EntryFound, GivesJust, GivesNoEntry, LinksToFile, LiesWhole, KeyLiesWhole, KeyReadMeans, LookupMeans, QuestionMeans, ContentRead, KeyRead}, Success.{FailsForMemory}}}
+use Rattle.cacache_laws.proofs.{Readings.{AskedContents.{asks_absent, asks_content}, GivenReads.{content_reads_give, key_reads_give}, Known.{caches_last}, Looked.{finds_found}, Looks.{tree_stays}, ReadsKeep.{reads_content, reads_key, reads_none}, Standing.{caches_stand, met_reply}}, Links.LinkedReads.{links_show}, Sure.Succeeds.{content_reads_answer, key_reads_answer, lookups_answer, questions_answer}, results.{SureResults.{for_memory, for_missing, or_as}, Told.{called, excused, looks_leave, of_memory, of_missing}}}
+use Rattle.cacache_disk.specs.memory.Replay.{IsLog, tree_of}
+use Rattle.cacache_value.specs.Shows.{blob_bytes, blob_there}
+use Rattle.cacache_history.specs.ShownTurns.{as_refusal}
+
+-- ---- reads
+
+pub given : (r : Result (Vec ℕ Global) Error) (Stays : Type 0) (bytes : List ℕ) (old new : List LogItem) → GivesBytes Stays bytes (reply_of bytes_read r) old new → GivesJust bytes r old new
+given (Ok v) Stays bytes old new h = h.0
+given (Err e) Stays bytes old new h = excused e old new h
+
+none_given : (r : Result (Vec ℕ Global) Error) (cache key : List ℕ) (old new : List LogItem) → FindsNone cache key (reply_of bytes_read r) old new → GivesNoEntry cache key r old new
+none_given (Ok v) cache key old new h = h
+none_given (Err e) cache key old new (inl is) = inl (of_missing e cache key is)
+none_given (Err e) cache key old new (inr h) = inr (excused e old new h)
+
+whole_of : (r : Result (Vec ℕ Global) Error) (cache key : List ℕ) (old new : List LogItem) → GivesOfKey cache key (reply_of bytes_read r) old new → IfOk r (λ v. KeyLiesWhole cache key old v.items)
+whole_of (Ok v) cache key old new h = h
+whole_of (Err e) cache key old new h = tt
+
+-- if a link lies there, whole bytes are those that its target shows
+linked_whole : (cache target held bytes : List ℕ) (i : List Hash) (log : List LogItem) → LinksToFile cache i target held log → LiesWhole cache i log bytes → bytes ≡ held
+linked_whole cache target held bytes i log at h = links_show cache target bytes held i log at.lies at.shows h.0
+
+linked_of : (r : Result (Vec ℕ Global) Error) (cache key target held : List ℕ) (i : List Hash) (old : List LogItem) → leads_to cache key old ≡ Some i → LinksToFile cache i target held old
+    → IfOk r (λ v. KeyLiesWhole cache key old v.items) → IfOk r (λ v. v.items ≡ held)
+linked_of (Ok v) cache key target held i old leads at h =
+    let led : Some h.0.integrity ≡ Some i = sym (ap (option_map (λ (f : Found). f.integrity)) h.1) ∙ leads in
+    let same : h.0.integrity ≡ i = cc in
+    linked_whole cache target held v.items i old at (subst (λ j. LiesWhole cache j old v.items) same h.2)
+linked_of (Err e) cache key target held i old leads at h = tt
+
+linked_held : (r : Result (Vec ℕ Global) Error) (cache target held : List ℕ) (i : List Hash) (old : List LogItem) → LinksToFile cache i target held old
+    → IfOk r (λ v. LiesWhole cache i old v.items) → IfOk r (λ v. v.items ≡ held)
+linked_held (Ok v) cache target held i old at h = linked_whole cache target held v.items i old at h
+linked_held (Err e) cache target held i old at h = tt
+
+-- a read of bytes that meet their integrity gives them, also through a link
+pub whole_gives : (cache : List ℕ) (i : List Hash) (bytes : List ℕ) (log : List LogItem) → LiesWhole cache i log bytes → read_on (home_of cache) (tree_of log) i ≡ replies.Read bytes
+whole_gives cache i bytes log lies = ap (λ held. content_reply i (as_refusal held)) lies.0 ∙ met_reply i bytes lies.1
+
+pub lies_whole : (cache : List ℕ) (i : List Hash) (bytes : List ℕ) (log : List LogItem) → HasContent cache i bytes log → LiesWhole cache i log bytes
+lies_whole cache i bytes log has = (ap (blob_bytes (tree_of log)) has.content, has.meets)
+
+key_gives : (cache key : List ℕ) (i : List Hash) (bytes : List ℕ) (log : List LogItem) → HasKey cache key i bytes log → get_on (setup_at cache []) (tree_of log) key (found_under cache key log) ≡ replies.Read bytes
+key_gives cache key i bytes log has =
+    ap (get_on (setup_at cache []) (tree_of log) key) has.finds
+    ∙ ap (read_on (home_of cache) (tree_of log)) has.integrity
+    ∙ whole_gives cache i bytes log (lies_whole cache i bytes log has.content)
+
+pub key_read_means : {C N : Type 0} (cache key : List ℕ) (r : Result (Vec ℕ Global) Error) (new : Env (List LogItem) C N) → IsLog new.store → KeyReadMeans cache key r new
+key_read_means cache key r new logged old sound ran =
+    let c = called bytes_read (λ b. refl) r cache old.base 0 (commands.Get key) old.store new.store ran.0.0 logged in
+    let any = key_reads_give cache key (reply_of bytes_read r) old.store new.store sound c in
+    record {
+      leaves = looks_leave cache (commands.Get key) (reply_of bytes_read r) old.store new.store tt c (caches_last cache (commands.Get key) (reply_of bytes_read r) old.store new.store c tt tt sound);
+      same = tree_stays cache (commands.Get key) (reply_of bytes_read r) old.store new.store tt c;
+      gives = λ i bytes has. given r (HasKey cache key i bytes new.store) bytes old.store new.store (reads_key cache key bytes i (reply_of bytes_read r) old.store new.store sound has c).1;
+      lacks = λ lacks. none_given r cache key old.store new.store (reads_none cache key (reply_of bytes_read r) old.store new.store sound lacks c).1;
+      whole = whole_of r cache key old.store new.store any;
+      linked = λ i target held leads at. linked_of r cache key target held i old.store leads at (whole_of r cache key old.store new.store any);
+      any = any;
+      succeeds = λ i bytes folder has.
+          for_memory bytes_read r (replies.Read bytes) tt (or_as (reply_of bytes_read r) (key_gives cache key i bytes old.store has) (key_reads_answer cache key (reply_of bytes_read r) old.store new.store folder sound c));
+      missing = λ folder lacks.
+          for_missing bytes_read r cache key (or_as (reply_of bytes_read r) (ap (get_on (setup_at cache []) (tree_of old.store) key) lacks) (key_reads_answer cache key (reply_of bytes_read r) old.store new.store folder sound c));
+    }
+
+held_whole : (r : Result (Vec ℕ Global) Error) (cache : List ℕ) (i : List Hash) (old new : List LogItem) → GivesHeld cache i (reply_of bytes_read r) old new → IfOk r (λ v. LiesWhole cache i old v.items)
+held_whole (Ok v) cache i old new h = h
+held_whole (Err e) cache i old new h = tt
+
+pub content_read_means : {C N : Type 0} (cache : List ℕ) (i : List Hash) (r : Result (Vec ℕ Global) Error) (new : Env (List LogItem) C N) → IsIntegrity i → IsLog new.store → ContentReadMeans cache i r new
+content_read_means cache i r new formed logged old sound ran =
+    let c = called bytes_read (λ b. refl) r cache old.base 0 (commands.GetHash i) old.store new.store ran.0.0 logged in
+    let any = content_reads_give cache i (reply_of bytes_read r) old.store new.store formed sound c in
+    let reads_on : (bytes : List ℕ) → NamesFolder cache → LiesWhole cache i old.store bytes → FailsForMemory r
+    = λ bytes folder lies.
+    for_memory bytes_read r (replies.Read bytes) tt
+    (or_as (reply_of bytes_read r) (whole_gives cache i bytes old.store lies) (content_reads_answer cache i (reply_of bytes_read r) old.store new.store folder (caches_stand cache old.store sound) formed c)) in
+    record {
+      leaves = looks_leave cache (commands.GetHash i) (reply_of bytes_read r) old.store new.store tt c (caches_last cache (commands.GetHash i) (reply_of bytes_read r) old.store new.store c tt formed sound);
+      same = tree_stays cache (commands.GetHash i) (reply_of bytes_read r) old.store new.store tt c;
+      gives = λ bytes has. given r (HasContent cache i bytes new.store) bytes old.store new.store (reads_content cache bytes i (reply_of bytes_read r) old.store new.store sound has c).1;
+      whole = held_whole r cache i old.store new.store any;
+      linked = λ target held at. linked_held r cache target held i old.store at (held_whole r cache i old.store new.store any);
+      any = any;
+      succeeds = λ bytes folder has. reads_on bytes folder (lies_whole cache i bytes old.store has);
+      reads_on = reads_on;
+    }
+
+-- ---- questions
+
+found : (r : Result (Option Metadata) Error) (there : Option Found) (old new : List LogItem) → GivesFound there (reply_of looked_up r) old new
+    → IfOk r (λ found. option_map found_view found ≡ there) × IfErr r (λ e. IsExcused e old new)
+found (Ok f) there old new h = (h, tt)
+found (Err e) there old new h = (tt, excused e old new h)
+
+pub lookup_means : {C N : Type 0} (cache key : List ℕ) (r : Result (Option Metadata) Error) (new : Env (List LogItem) C N) → IsLog new.store → LookupMeans cache key r new
+lookup_means cache key r new logged old sound ran =
+    let c = called looked_up (λ b. refl) r cache old.base 0 (commands.Find key) old.store new.store ran.0.0 logged in
+    let f = found r (found_under cache key old.store) old.store new.store (finds_found cache key (reply_of looked_up r) old.store new.store sound c) in
+    record {
+      leaves = looks_leave cache (commands.Find key) (reply_of looked_up r) old.store new.store tt c (caches_last cache (commands.Find key) (reply_of looked_up r) old.store new.store c tt tt sound);
+      same = tree_stays cache (commands.Find key) (reply_of looked_up r) old.store new.store tt c;
+      finds = f.0;
+      fails = f.1;
+      succeeds = λ folder.
+          for_memory looked_up r (replies.LookedUp (found_under cache key old.store)) tt (lookups_answer cache key (reply_of looked_up r) old.store new.store folder (caches_stand cache old.store sound) c);
+    }
+
+said : (r : Result Bool Error) (Stays : Type 0) (old new : List LogItem) → SaysThere Stays (reply_of replies.Exists r) old new
+    → IfOk r (λ there. there ≡ false → AStepFailed old new)
+said (Ok true) Stays old new h = λ no. absurd cc
+said (Ok false) Stays old new h = λ no. h
+said (Err e) Stays old new h = tt
+
+-- a yes about bytes that lie there
+held_yes : (r : Result Bool Error) (cache : List ℕ) (i : List Hash) (bytes : List ℕ) (log : List LogItem) → HasContent cache i bytes log → OrMemory (reply_of replies.Exists r ≡ exists_reply cache i log) (reply_of replies.Exists r)
+    → IfOk r (λ there. there ≡ true)
+held_yes (Ok there) cache i bytes log has (inl m) = absurd cc
+held_yes (Ok there) cache i bytes log has (inr is) =
+    let yes : replies.Exists there ≡ replies.Exists true = is ∙ ap (λ b. replies.Exists (is_yes (blob_there (tree_of log) b))) has.content in cc
+held_yes (Err e) cache i bytes log has h = tt
+
+denied : (r : Result Bool Error) → SaysAbsent (reply_of replies.Exists r) → IfOk r (λ there. there ≡ false)
+denied (Ok true) h = absurd h
+denied (Ok false) h = refl
+denied (Err e) h = tt
+
+pub question_means : {C N : Type 0} (cache : List ℕ) (i : List Hash) (r : Result Bool Error) (new : Env (List LogItem) C N) → IsIntegrity i → IsLog new.store → QuestionMeans cache i r new
+question_means cache i r new formed logged old sound ran =
+    let c = called replies.Exists (λ b. refl) r cache old.base 0 (commands.Exists i) old.store new.store ran.0.0 logged in
+    record {
+      leaves = looks_leave cache (commands.Exists i) (reply_of replies.Exists r) old.store new.store tt c (caches_last cache (commands.Exists i) (reply_of replies.Exists r) old.store new.store c tt formed sound);
+      same = tree_stays cache (commands.Exists i) (reply_of replies.Exists r) old.store new.store tt c;
+      there = λ bytes has. said r (HasContent cache i bytes new.store) old.store new.store (asks_content cache bytes i (reply_of replies.Exists r) old.store new.store sound has c).1;
+      absent = λ none. denied r (asks_absent cache i (reply_of replies.Exists r) old.store new.store sound formed none c);
+      succeeds = λ folder.
+          for_memory replies.Exists r (exists_reply cache i old.store) tt (questions_answer cache i (reply_of replies.Exists r) old.store new.store folder (caches_stand cache old.store sound) formed c);
+      held = λ bytes folder has. held_yes r cache i bytes old.store has (questions_answer cache i (reply_of replies.Exists r) old.store new.store folder (caches_stand cache old.store sound) formed c);
+    }

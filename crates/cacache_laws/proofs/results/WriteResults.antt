@@ -1,0 +1,186 @@
+-- What writes and insertions gave and left.
+use Rattle.std.proofs.Common.{◌≡◌, ◌⊎◌, inl, inr, ◌<◌, ◌^◌, ℕ, List, Option, None, Some, option_map, Result, Ok, Err, length, refl, sym, ap, subst, ◌∙◌, arith}
+use Rattle.std.specs.Prelude.{IfOk, IfErr, IsUtf8}
+use Rattle.serde_json.specs.Data.{Data, null}
+use Rattle.cacache_core.specs.{declared.{errors.Error.{Error, TheVariants.{EntryNotFound, SizeMismatch, IoError, SerdeError, IntegrityError, OutOfMemory}}, integrity.{algorithm.Algorithm.{Algorithm}, digest.Hash.{Hash}}}, Integrity.{integrity_under}, Texts.{integrity_text}}
+use Rattle.cacache_store.specs.declared.{env.Env.{Env}, store.log.LogItem.{LogItem}}
+use Rattle.cacache_disk.specs.memory.Replay.{IsLog}
+use Rattle.cacache_entry.specs.{Entry.{Entry}, FittingEntries.{IsUtf8IfAny}, Latest.{Found}}
+use Rattle.cacache_table.specs.declared.command.Command.TheVariants as commands
+use Rattle.cacache_table.specs.{declared.{command.Insert.{Insert}, reply.Reply.TheVariants.{Refused, Stored}}, Inserting.{entry_of, given_size, given_text, insertion, refused_cause}, Runs.{reply_of, without_message}, Storing.{insertion_of, put_commit}}
+use Rattle.cacache_table.proofs.IntegrityUtf8.{integrity_utf8}
+use Rattle.cacache_jobs.specs.{Environment.{HasMoment}, Sites.{site_of}}
+use Rattle.cacache_sync.specs.put.{Options.{Said, options_of}, Puts.{insert_of, unkeyed_put}}
+use Rattle.cacache_laws.specs.{Beside.{FitsEntry, KeepsBeside}, Caches.{Called, IsCache, HasContent, HasKey, IsExcused, WritesKey, plain_put}, Inserts.{InsertsKey, leads_to}, Keeping.{found_under}, Puts.{MayLeadToPut}, Standing.{IsStanding}, Succeeds.{NamesFolder, IsReady, put_reply, unless_unwritable}, results.{Success.{FailsForMemory}, Writes.{ContentWriteMeans, InsertionMeans, KeepsUntouched, SaysPlain, WriteMeans}}}
+use Rattle.cacache_laws.proofs.{Putting.{Beside.{plain_writes_fit, writes_keep}, Forms.{Written, bare_written}, Inserting.{inserts_last}, Puts.{puts_leave, puts_may_lead}, WritesLast.{writes_last}}, Calls.{CallErrors.{contents_fail}, Logs.{calls_grow}}, Readings.{Known.{excuse, known}, Standing.{caches_stand}}, Sure.Succeeds.{puts_answer, insertions_answer}, Spares.Unused.{others_leave_none, puts_leave_tidy, stays_ready}, results.{SureResults.{for_memory, so_ready}, Told.{called, excused}}}
+
+-- ---- what stays
+
+-- if added bytes lie at the address of others, they are the same
+pub untouched : (cache : List ℕ) (written : Option (List ℕ)) (own : List Hash) (added : List ℕ) (old new : List LogItem) → KeepsBeside cache written own added old new
+    → KeepsUntouched cache written own added old new
+untouched cache written own added old new k = record {
+  finds = k.finds;
+  content = λ i bytes apart has. elim (k.content i bytes has) [
+    | inl stays ↦ stays
+    | inr at ↦ subst (λ b. HasContent cache i b new) (sym (apart at.0)) at.1
+  ];
+  key = λ other bytes i differ apart has. elim (k.key other bytes i differ has) [
+    | inl stays ↦ stays
+    | inr at ↦ subst (λ b. HasKey cache other i b new) (sym (apart at.0)) at.1
+  ];
+}
+
+-- ---- writes
+
+wrote_so : (r : Result (List Hash) Error) (cache key bytes : List ℕ) (own : List Hash) (old new : List LogItem) → IfOk r (λ i. i ≡ own) → WritesKey cache key bytes (reply_of Stored r) old new
+    → IfOk r (λ i. (i ≡ own) × HasKey cache key i bytes new) × IfErr r (λ e. IsExcused e old new)
+wrote_so (Ok i) cache key bytes own old new is h = ((is, h), tt)
+wrote_so (Err e) cache key bytes own old new is h = (tt, excused e old new h)
+
+pub leads_so : (cache key : List ℕ) (a : Algorithm) (bytes : List ℕ) (moment : ℕ) (old new : List LogItem) → MayLeadToPut cache (plain_put a key bytes moment) old new
+    → (found_under cache key new ≡ found_under cache key old) ⊎ (leads_to cache key new ≡ Some (integrity_under a bytes))
+leads_so cache key a bytes moment old new may =
+    elim (may key refl) [
+      | inl same ↦ inl same
+      | inr led ↦ inr (ap (option_map (λ (f : Found). f.integrity)) led)
+    ]
+
+-- the integrity that a write answered is that of its bytes
+own_of : (a : Algorithm) (cache key bytes : List ℕ) (moment : ℕ) (r : Result (List Hash) Error) (old new : List LogItem) → FitsEntry cache (plain_put a key bytes moment) → IsCache cache old
+    → Called cache (commands.Put (plain_put a key bytes moment)) (reply_of Stored r) old new → IfOk r (λ i. i ≡ integrity_under a bytes)
+own_of a cache key bytes moment (Ok i) old new fits sound c = (puts_leave cache (plain_put a key bytes moment) i old new fits tt sound c).stored
+own_of a cache key bytes moment (Err e) old new fits sound c = tt
+
+-- such a write stores, if memory isn't refused
+pub keyed_succeeds : (a : Algorithm) (cache key bytes : List ℕ) (moment : ℕ) (r : Result (List Hash) Error) (old new : List LogItem) → IsUtf8 key → length bytes < 2 ^ 64 → moment < 2 ^ 64 → IsReady cache old → IsStanding cache old
+    → Called cache (commands.Put (plain_put a key bytes moment)) (reply_of Stored r) old new → FailsForMemory r
+unfolding refused_cause
+keyed_succeeds a cache key bytes moment r old new utf8 small early ready standing c =
+    let p = plain_put a key bytes moment in
+    let i = insertion_of (put_commit cache p) key in
+    let w = bare_written key (Some (integrity_text (integrity_under a bytes))) moment (length bytes) utf8 (integrity_utf8 (integrity_under a bytes)) early small in
+    let fits : put_reply cache (plain_put a key bytes moment) ≡ Stored (integrity_under a bytes) = ap (unless_unwritable (Stored (integrity_under a bytes))) w.no_cause in
+    elim (puts_answer cache p (reply_of Stored r) old new c ready.folder standing (ready.tidy c.number)) [
+      | inl m ↦ for_memory Stored r (Stored (integrity_under a bytes)) tt (inl m)
+      | inr h ↦ for_memory Stored r (Stored (integrity_under a bytes)) tt (inr (h.0 ∙ fits))
+    ]
+
+pub write_means : {C N : Type 0} (moments : C → Option (List ℕ)) (numbers : N → Option (List ℕ)) (a : Algorithm) (cache key bytes : List ℕ) (r : Result (List Hash) Error) (new : Env (List LogItem) C N)
+    → IsUtf8 key → length bytes < 2 ^ 64 → IsLog new.store → WriteMeans moments numbers a cache key bytes r new
+write_means moments numbers a cache key bytes r new utf8 small logged old sound ran =
+    let p = plain_put a key bytes ran.0 in
+    let c = called Stored (λ i. refl) r cache old.base ran.1 (commands.Put (plain_put a key bytes ran.0)) old.store new.store ran.4.0 logged in
+    let fits = plain_writes_fit a cache key bytes ran.0 utf8 small ran.2.1 in
+    let w = writes_last a cache key bytes ran.0 (reply_of Stored r) old.store new.store utf8 small ran.2.1 sound c in
+    let told = wrote_so r cache key bytes (integrity_under a bytes) old.store new.store (own_of a cache key bytes ran.0 r old.store new.store fits sound c) w.1 in
+    record {
+      sound = w.0;
+      grows = calls_grow cache (commands.Put p) (reply_of Stored r) old.store new.store c;
+      stored = told.0;
+      leads = leads_so cache key a bytes ran.0 old.store new.store (puts_may_lead cache p (reply_of Stored r) old.store new.store fits tt sound c);
+      keeps = untouched cache (Some key) (integrity_under a bytes) bytes old.store new.store (writes_keep cache p (reply_of Stored r) old.store new.store fits sound c).1;
+      fails = told.1;
+      succeeds = λ ready. keyed_succeeds a cache key bytes ran.0 r old.store new.store utf8 small ran.2.1 ready (caches_stand cache old.store sound) c;
+      ready = λ ready. so_ready Stored (λ i. tt) cache r old.store new.store (λ ready. puts_leave_tidy cache p (reply_of Stored r) old.store new.store c ready.folder fits sound ready.tidy) ready;
+    }
+
+-- ---- without a key
+
+no_entry : (a : Algorithm) (cache bytes : List ℕ) → FitsEntry cache (unkeyed_put a bytes)
+no_entry a cache bytes key is = absurd cc
+
+content_so : (a : Algorithm) (cache bytes : List ℕ) (r : Result (List Hash) Error) (old new : List LogItem) → IsCache cache old → Called cache (commands.Put (unkeyed_put a bytes)) (reply_of Stored r) old new
+    → IfOk r (λ i. (i ≡ integrity_under a bytes) × HasContent cache i bytes new) × IfErr r (λ e. IsExcused e old new)
+content_so a cache bytes (Ok i) old new sound c =
+    let h = puts_leave cache (unkeyed_put a bytes) i old new (no_entry a cache bytes) tt sound c in
+    ((h.stored, subst (λ j. HasContent cache j bytes new) (sym h.stored) h.content), tt)
+content_so a cache bytes (Err e) old new sound c =
+    let p = unkeyed_put a bytes in
+    let k = known cache (commands.Put p) (Refused (without_message e)) old new c (no_entry a cache bytes) tt sound in (
+      tt,
+      excused e old new
+          (excuse cache c.base (commands.Put p) old new (λ fault none. none) (without_message e) k
+          (contents_fail (site_of cache c.base k.call.number) p k.call.moves (Refused (without_message e)) refl refl refl k.run)),
+    )
+
+pub content_write_means : {C N : Type 0} (moments : C → Option (List ℕ)) (numbers : N → Option (List ℕ)) (a : Algorithm) (cache bytes : List ℕ) (r : Result (List Hash) Error) (new : Env (List LogItem) C N)
+    → IsLog new.store → ContentWriteMeans moments numbers a cache bytes r new
+content_write_means moments numbers a cache bytes r new logged old sound ran =
+    let p = unkeyed_put a bytes in
+    let c = called Stored (λ i. refl) r cache old.base ran.0 (commands.Put (unkeyed_put a bytes)) old.store new.store ran.2.0 logged in
+    let kept = writes_keep cache p (reply_of Stored r) old.store new.store (no_entry a cache bytes) sound c in
+    let told = content_so a cache bytes r old.store new.store sound c in
+    record {
+      sound = kept.0;
+      grows = calls_grow cache (commands.Put p) (reply_of Stored r) old.store new.store c;
+      stored = told.0;
+      keeps = untouched cache None (integrity_under a bytes) bytes old.store new.store kept.1;
+      fails = told.1;
+      succeeds = λ ready.
+          elim (puts_answer cache p (reply_of Stored r) old.store new.store c ready.folder (caches_stand cache old.store sound) (ready.tidy c.number)) [
+            | inl m ↦ for_memory Stored r (Stored (integrity_under a bytes)) tt (inl m)
+            | inr h ↦ for_memory Stored r (Stored (integrity_under a bytes)) tt (inr h.0)
+          ];
+      ready = λ ready.
+          so_ready Stored (λ i. tt) cache r old.store new.store (λ ready. puts_leave_tidy cache p (reply_of Stored r) old.store new.store c ready.folder (no_entry a cache bytes) sound ready.tidy) ready;
+    }
+
+-- ---- insertions
+
+inserted_so : (r : Result (List Hash) Error) (cache : List ℕ) (i : Insert) (old new : List LogItem) → refused_cause (insertion cache i) ≡ None → InsertsKey cache i (reply_of Stored r) old new
+    → IfOk r (λ j. leads_to cache i.key new ≡ i.options.integrity) × IfErr r (λ e. IsExcused e old new)
+inserted_so (Ok j) cache i old new fits h = (h, tt)
+inserted_so (Err (EntryNotFound c k)) cache i old new fits h = (tt, h)
+inserted_so (Err (SizeMismatch wanted actual)) cache i old new fits h = (tt, h)
+inserted_so (Err (IoError fault message)) cache i old new fits h = (tt, excused (IoError fault message) old new h)
+inserted_so (Err (SerdeError cause message)) cache i old new fits h = let no : None ≡ Some cause = sym fits ∙ h in absurd cc
+inserted_so (Err (IntegrityError fault)) cache i old new fits h = (tt, h)
+inserted_so (Err OutOfMemory) cache i old new fits h = (tt, h)
+
+pub early_of : {C : Type 0} (moments : C → Option (List ℕ)) (time : Option ℕ) (old new : C) (moment : ℕ) → ((t : ℕ) → time ≡ Some t → t < 2 ^ 64) → HasMoment moments time old new moment → moment < 2 ^ 64
+early_of moments None old new moment early h = h.1
+early_of moments (Some t) old new moment early h = subst (λ m. m < 2 ^ 64) (sym h.1) (early t refl)
+
+given_utf8 : (integrity : Option (List Hash)) → IsUtf8IfAny (given_text integrity)
+given_utf8 None = tt
+given_utf8 (Some i) = integrity_utf8 i
+
+-- the entry of a plain insertion
+entry_written : (key : List ℕ) (said : Said) (moment : ℕ) → IsUtf8 key → moment < 2 ^ 64 → SaysPlain said → Written (entry_of key (given_text said.integrity) (given_size said.size) moment (options_of said))
+entry_written key said moment utf8 early plain =
+    let at : Option ℕ → Data → Option (List ℕ) → Entry
+    = λ size metadata raw. record { key = key; integrity = given_text said.integrity; time = moment; size = given_size size; metadata = metadata; raw_metadata = raw } in
+    subst (λ s. Written (at s said.metadata said.raw_metadata)) (sym plain.size)
+    (subst (λ m. Written (at None m said.raw_metadata)) (sym plain.metadata)
+    (subst (λ raw. Written (at None null raw)) (sym plain.raw_metadata)
+    (bare_written key (given_text said.integrity) moment 0 utf8 (given_utf8 said.integrity) early (omega arith))))
+
+-- an insertion whose entry can be written is done, if memory isn't refused
+insertion_succeeds : (cache : List ℕ) (i : Insert) (r : Result (List Hash) Error) (old new : List LogItem) → refused_cause (insertion cache i) ≡ None → NamesFolder cache → IsCache cache old
+    → Called cache (commands.Insert i) (reply_of Stored r) old new → FailsForMemory r
+insertion_succeeds cache i r old new fits folder sound c =
+    let wanted = (insertion cache i).reply in
+    elim (insertions_answer cache i (reply_of Stored r) old new folder (caches_stand cache old sound) c) [
+      | inl m ↦ for_memory Stored r wanted tt (inl m)
+      | inr h ↦ for_memory Stored r wanted tt (inr (h ∙ ap (unless_unwritable (insertion cache i).reply) fits))
+    ]
+
+pub insertion_means : {C N : Type 0} (moments : C → Option (List ℕ)) (numbers : N → Option (List ℕ)) (cache key : List ℕ) (said : Said) (r : Result (List Hash) Error) (new : Env (List LogItem) C N)
+    → IsUtf8 key → IsLog new.store → InsertionMeans moments numbers cache key said r new
+unfolding refused_cause
+insertion_means moments numbers cache key said r new utf8 logged old plain sound ran =
+    let i = insert_of key said ran.0 in
+    let c = called Stored (λ i. refl) r cache old.base 0 (commands.Insert (insert_of key said ran.0)) old.store new.store ran.2.0 logged in
+    let w = entry_written key said ran.0 utf8 (early_of moments said.time old.clock new.clock ran.0 plain.early ran.1) plain in
+    let done = inserts_last cache i (reply_of Stored r) old.store new.store plain.formed (λ none. w.formed) sound c in
+    let told = inserted_so r cache i old.store new.store w.no_cause done.1 in
+    record {
+      sound = done.0;
+      grows = calls_grow cache (commands.Insert i) (reply_of Stored r) old.store new.store c;
+      leads = told.0;
+      others = done.2;
+      fails = told.1;
+      succeeds = λ folder. insertion_succeeds cache i r old.store new.store w.no_cause folder sound c;
+      ready = stays_ready cache old.store new.store (others_leave_none cache (commands.Insert i) (reply_of Stored r) old.store new.store c (λ none. w.formed) tt tt sound);
+    }

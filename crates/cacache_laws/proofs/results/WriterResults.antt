@@ -1,0 +1,230 @@
+-- What open writers did.
+use Rattle.std.proofs.Common.{◌≡◌, inl, inr, ◌<◌, ◌^◌, ◌++◌, ℕ, Bool, List, Option, None, Some, Result, Ok, Err, length, refl, sym, ap, subst, ◌∙◌, arith}
+use Rattle.std.specs.{Prelude.{IsUtf8}, Io.KnownBytes.{Appends}}
+use Rattle.cacache_core.specs.{declared.{errors.Error.{Error, TheVariants.{EntryNotFound, SizeMismatch, IoError, SerdeError, IntegrityError, OutOfMemory}}, integrity.{algorithm.Algorithm.{Algorithm}, digest.Hash.{Hash}}}, Integrity.{integrity_under}, Texts.{integrity_text}}
+use Rattle.serde_json.specs.Data.{Data, null}
+use Rattle.cacache_store.specs.{declared.{env.Env.{Env}, store.{log.LogItem.{LogItem}, plain.PlainTemp.{PlainTemp}}}, Plain.{PlainAnswer}}
+use Rattle.cacache_store.specs.declared.store.answer.Answer.TheVariants as answers
+use Rattle.cacache_store.specs.declared.store.step.Step.TheVariants as steps
+use Rattle.cacache_disk.specs.memory.Replay.{IsLog}
+use Rattle.cacache_table.specs.{declared.{command.Put.{Put}, reply.Reply.{Reply, TheVariants.{Stored}}}, Inserting.{given_or, refused_cause}, Promises.{answered}, Runs.{reply_of}, SingleSteps.{Does}, StepPaths.{temp_path}}
+use Rattle.cacache_table.proofs.IntegrityUtf8.{integrity_utf8}
+use Rattle.cacache_sync.specs.{content.OpenWrites.{RemovesTemp, TriesToRemove, counted_bytes}, put.{KeyedWriters.{CommitsWriter, OpensAt}, Options.{Said, options_of}}}
+use Rattle.cacache_jobs.specs.Environment.{MomentOf}
+use Rattle.cacache_laws.specs.{Beside.{FitsEntry}, Caches.{IsCache}, GivenUp.{GivesUpTemp}, OpenWriters.{CommitsBytes}, Puts.{HasCommitted, MayLeadToPut, entry_of_put}, OpenSucceeds.{FileAt}, Succeeds.{put_reply, unless_unwritable}, results.{Handles.{CommitsMean, CommitsSucceed, FailedWritesMean, GivingUpMeans, IsText, IsWriting, LeadsToEntry, MayLeadToEntry, MemWriter, OpenedWriter, OpeningsMean, SaysFit, WritersGoOn, said_integrity}, Writes.{SaysPlain}}}
+use Rattle.cacache_laws.proofs.{Putting.{Committing.{commits_last}, Forms.{bare_written}, OpenWriters.{writers_open}, Puts.{commits_keep, commits_leave}}, Readings.Standing.{caches_stand}, Sure.SureWriters.{commits_answer, openings_succeed}, Spares.GivenUp.{giving_up_lasts}, results.{SureResults.{for_memory}, Told.{plain_result}, WriteResults.{early_of, untouched}}}
+
+-- ---- openings
+
+opened : (cache : List ℕ) (key : Option (List ℕ)) (s : Said) (number : ℕ) (r : Result MemWriter Error) (old new : List LogItem) → IsCache cache old → IsLog new
+    → OpensAt (λ (f : PlainTemp). f) cache key s r (Some old) (Some new) number → OpenedWriter cache key s r old new
+opened cache key s number (Ok w) old new sound logged h =
+    let file_is : w.writer.file.path ≡ w.writer.path = (writers_open cache number (Ok w.writer.file) old new sound h.1 logged).1.0 ∙ sym h.0.fresh.path_is in
+    let o = writers_open cache number (Ok w.writer.file) old new sound h.1 logged in
+    record {
+      leaves = o.0;
+      writer = record {
+        number = number;
+        opened = o.1.2;
+        here = h.0.fresh.cache_is;
+        algorithm_is = h.0.fresh.algorithm_is;
+        path_is = h.0.fresh.path_is;
+        file_is = o.1.0;
+        bytes_are = o.1.1;
+        taken = h.0.fresh.empty;
+        key_is = h.0.key_is;
+        time_is = h.0.time_is;
+        options_are = h.0.options_are;
+      };
+      fails = tt;
+      succeeds = λ ready. tt;
+      stands = λ ready.
+          subst (λ p. FileAt p new) file_is (openings_succeed cache number (Ok w.writer.file) old new ready.folder (caches_stand cache old sound) (ready.tidy number) h.1 logged).0;
+    }
+opened cache key s number (Err e) old new sound logged h =
+    let o = writers_open cache number (Err e) old new sound h logged in
+    record {
+      leaves = o.0;
+      writer = tt;
+      fails = o.1;
+      succeeds = λ ready. (openings_succeed cache number (Err e) old new ready.folder (caches_stand cache old sound) (ready.tidy number) h logged).1;
+      stands = λ ready. tt;
+    }
+
+pub openings_mean : {C N : Type 0} (numbers : N → Option (List ℕ)) (new : Env (List LogItem) C N) → IsLog new.store → OpeningsMean numbers new
+openings_mean numbers new logged cache key s r old sound h = opened cache key s h.0 r old.store new.store sound logged h.2
+
+-- ---- bytes that are handed over
+
+-- known bytes that grew
+grown : (old new : Option (List ℕ)) (xs more : List ℕ) → old ≡ Some xs → Appends old new more → new ≡ Some (xs ++ more)
+grown None new xs more is h = absurd cc
+grown (Some ys) None xs more is h = absurd h
+grown (Some ys) (Some zs) xs more is h =
+    let same : ys ≡ xs = cc in
+    ap Some (h ∙ ap (λ (x : List ℕ). x ++ more) same)
+
+pub writers_go_on : WritersGoOn
+writers_go_on cache key s bytes more w v t appends takes on said = record {
+  number = t.number;
+  opened = t.opened;
+  here = on.0 ∙ t.here;
+  algorithm_is = on.2 ∙ t.algorithm_is;
+  path_is = on.1 ∙ t.path_is;
+  file_is = on.3 ∙ t.file_is;
+  bytes_are = grown w.writer.file.bytes v.writer.file.bytes bytes more t.bytes_are appends;
+  taken = takes bytes t.taken;
+  key_is = ap (λ (x : MemWriter). x.key) said ∙ t.key_is;
+  time_is = ap (λ (x : MemWriter). x.time) said ∙ t.time_is;
+  options_are = ap (λ (x : MemWriter). x.options) said ∙ t.options_are;
+}
+
+-- ---- commits
+
+-- the put that a commit makes
+abbrev put_of : Option (List ℕ) → Said → List ℕ → ℕ → Put
+put_of key s bytes moment = record { key = key; «data» = bytes; moment = moment; options = options_of s }
+
+pub fits : (cache : List ℕ) (key : Option (List ℕ)) (s : Said) (bytes : List ℕ) (moment : ℕ) → SaysFit s → IsText key → length bytes < 2 ^ 64 → FitsEntry cache (put_of key s bytes moment)
+fits cache None s bytes moment says text small k is = absurd cc
+fits cache (Some key) s bytes moment says text small k is = λ none. record {
+  key = (let same : key ≡ k = cc in subst (λ (x : List ℕ). IsUtf8 x) same text);
+  integrity = integrity_utf8 (given_or (said_integrity s bytes) s.integrity);
+  size = small;
+  metadata = says.json;
+  raw_metadata = says.raw;
+}
+
+module _ (cache : List ℕ) (key : Option (List ℕ)) (s : Said) (bytes : List ℕ) (w : MemWriter) (t : IsWriting cache key s bytes w) (small : length bytes < 2 ^ 64) where
+  commits_bytes : {C N : Type 0} (moments : C → Option (List ℕ)) (r : Result (List Hash) Error) (old new : Env (List LogItem) C N) → IsLog new.store
+      → (h : CommitsWriter (λ (f : PlainTemp). f) (λ (log : List LogItem). Some log) moments old new w bytes (reply_of Stored r))
+      → CommitsBytes cache (put_of key s bytes h.0) t.number (reply_of Stored r) old.store new.store
+  commits_bytes moments r old new logged h =
+      let count_is : counted_bytes bytes ≡ length bytes = omega arith in
+      record {
+        file = w.writer.file;
+        path_is = t.file_is;
+        bytes_are = t.bytes_are;
+        ran = rw (t.here, t.key_is, t.algorithm_is, count_is, t.options_are) at h.2;
+        plain = plain_result Stored (λ i. refl) r;
+        logged = logged;
+      }
+
+leads_so : (cache : List ℕ) (key : Option (List ℕ)) (s : Said) (bytes : List ℕ) (moment : ℕ) (i : List Hash) (old new : List LogItem) → HasCommitted cache (put_of key s bytes moment) i old new
+    → (k : List ℕ) → key ≡ Some k → LeadsToEntry cache k s i (length bytes) new
+leads_so cache None s bytes moment i old new h k is = absurd cc
+leads_so cache (Some key) s bytes moment i old new h k is =
+    (entry_of_put cache (put_of (Some key) s bytes moment) k, h.entry k is, record { integrity = sym h.stored; size = refl; metadata = refl; raw_metadata = refl })
+
+may_lead_so : (cache : List ℕ) (key : Option (List ℕ)) (s : Said) (bytes : List ℕ) (moment : ℕ) (old new : List LogItem) → MayLeadToPut cache (put_of key s bytes moment) old new
+    → (k : List ℕ) → key ≡ Some k → MayLeadToEntry cache k s (answered (said_integrity s bytes) s.integrity key) (length bytes) old new
+may_lead_so cache None s bytes moment old new may k is = absurd cc
+may_lead_so cache (Some key) s bytes moment old new may k is =
+    elim (may k is) [
+      | inl same ↦ inl same
+      | inr led ↦ inr (entry_of_put cache (put_of (Some key) s bytes moment) k, led, record { integrity = refl; size = refl; metadata = refl; raw_metadata = refl })
+    ]
+
+pub commits_mean : {C N : Type 0} (moments : C → Option (List ℕ)) (new : Env (List LogItem) C N) → IsLog new.store → CommitsMean moments new
+commits_mean moments new logged cache key s bytes w (Ok i) old sound t says text small h =
+    let p = put_of key s bytes h.0 in
+    let c = commits_bytes cache key s bytes w t small moments (Ok i) old new logged h in
+    let fit = fits cache key s bytes h.0 says text small in
+    let last = commits_last cache p t.number (Stored i) old.store new.store fit t.opened sound c in
+    let left = commits_leave cache p t.number i old.store new.store fit says.formed t.opened sound c in
+    let kept = commits_keep cache p t.number (Stored i) old.store new.store fit says.formed t.opened sound c in
+    record {
+      sound = last.0;
+      grows = last.1;
+      stored = left.stored;
+      leads = leads_so cache key s bytes h.0 i old.store new.store left;
+      may_lead = may_lead_so cache key s bytes h.0 old.store new.store kept.0;
+      content = left.content;
+      keeps = untouched cache key (said_integrity s bytes) bytes old.store new.store kept.1;
+    }
+commits_mean moments new logged cache key s bytes w (Err e) old sound t says text small h =
+    let p = put_of key s bytes h.0 in
+    let c = commits_bytes cache key s bytes w t small moments (Err e) old new logged h in
+    let fit = fits cache key s bytes h.0 says text small in
+    let last = commits_last cache p t.number (reply_of Stored (Err e)) old.store new.store fit t.opened sound c in
+    let kept = commits_keep cache p t.number (reply_of Stored (Err e)) old.store new.store fit says.formed t.opened sound c in
+    record {
+      sound = last.0;
+      grows = last.1;
+      stored = tt;
+      leads = tt;
+      may_lead = may_lead_so cache key s bytes h.0 old.store new.store kept.0;
+      content = tt;
+      keeps = untouched cache key (said_integrity s bytes) bytes old.store new.store kept.1;
+    }
+
+-- ---- commits that fail for memory alone
+
+-- a put that expects nothing, and says nothing, stores
+plain_stores : (cache : List ℕ) (key : Option (List ℕ)) (bytes : List ℕ) (moment : ℕ) (a : Algorithm) (durable : Bool) → IsText key → length bytes < 2 ^ 64 → moment < 2 ^ 64
+    → put_reply cache (record { key = key; «data» = bytes; moment = moment; options = record { algorithm = a; size = None; integrity = None; metadata = null; raw_metadata = None; durable = durable } }) ≡ Stored (integrity_under a bytes)
+unfolding refused_cause
+plain_stores cache None bytes moment a durable text small early = refl
+plain_stores cache (Some key) bytes moment a durable text small early =
+    ap (unless_unwritable (Stored (integrity_under a bytes)))
+    (bare_written key (Some (integrity_text (integrity_under a bytes))) moment (length bytes) text (integrity_utf8 (integrity_under a bytes)) early small).no_cause
+
+said_plain : (cache : List ℕ) (key : Option (List ℕ)) (s : Said) (bytes : List ℕ) (moment : ℕ) → SaysPlain s → s.integrity ≡ None → IsText key → length bytes < 2 ^ 64 → moment < 2 ^ 64
+    → put_reply cache (put_of key s bytes moment) ≡ Stored (said_integrity s bytes)
+said_plain cache key s bytes moment plain none text small early =
+    let at : Option ℕ → Option (List Hash) → Data → Option (List ℕ) → Reply
+    = λ size integrity metadata raw.
+    put_reply cache (record { key = key; «data» = bytes; moment = moment; options = record { algorithm = s.algorithm; size = size; integrity = integrity; metadata = metadata; raw_metadata = raw; durable = s.durable } }) in
+    ap (λ x. at x s.integrity s.metadata s.raw_metadata) plain.size
+    ∙ ap (λ x. at None x s.metadata s.raw_metadata) none
+    ∙ ap (λ x. at None None x s.raw_metadata) plain.metadata
+    ∙ ap (λ x. at None None null x) plain.raw_metadata
+    ∙ plain_stores cache key bytes moment s.algorithm s.durable text small early
+
+moment_early : {C : Type 0} (moments : C → Option (List ℕ)) (key : Option (List ℕ)) (time : Option ℕ) (old new : C) (moment : ℕ) → ((t : ℕ) → time ≡ Some t → t < 2 ^ 64) → MomentOf moments key time old new moment → moment < 2 ^ 64
+moment_early moments None time old new moment early h = subst (λ m. m < 2 ^ 64) (sym h.1) (omega arith)
+moment_early moments (Some key) time old new moment early h = early_of moments time old new moment early h
+
+pub commits_succeed : {C N : Type 0} (moments : C → Option (List ℕ)) (new : Env (List LogItem) C N) → IsLog new.store → CommitsSucceed moments new
+commits_succeed moments new logged cache key s bytes w r old sound folder file t plain none text small h =
+    let p = put_of key s bytes h.0 in
+    let c = commits_bytes cache key s bytes w t small moments r old new logged h in
+    let early = moment_early moments w.key w.time old.clock new.clock h.0 (λ time is. plain.early time (sym t.time_is ∙ is)) h.1 in
+    let stands = subst (λ x. FileAt x old.store) t.path_is file in
+    elim (commits_answer cache p t.number (reply_of Stored r) old.store new.store folder (caches_stand cache old.store sound) stands c) [
+      | inl m ↦ for_memory Stored r (Stored (said_integrity s bytes)) tt (inl m)
+      | inr done ↦ for_memory Stored r (Stored (said_integrity s bytes)) tt (inr (done.0 ∙ said_plain cache key s bytes h.0 plain none text small early))
+    ]
+
+-- ---- writers that are given up
+
+module _ (cache : List ℕ) (number : ℕ) (path : List ℕ) (is : path ≡ temp_path cache number) (old new : List LogItem) where
+  asked : (a : PlainAnswer) → Does (steps.RemoveFile path) a (Some old) (Some new) → GivesUpTemp cache number (Some old) (Some new)
+  asked a h = inr (a, subst (λ p. Does (steps.RemoveFile p) a (Some old) (Some new)) is h)
+
+  removed : (r : Result (Unit {0}) Error) → RemovesTemp path r (Some old) (Some new) → GivesUpTemp cache number (Some old) (Some new)
+  removed (Ok u) h = asked answers.Done h
+  removed (Err (IoError fault message)) h = asked (answers.Failed fault) h
+  removed (Err OutOfMemory) (inl same) = inl same
+  removed (Err OutOfMemory) (inr h) = asked (answers.Failed h.0) h.1
+  removed (Err (EntryNotFound c k)) h = absurd h
+  removed (Err (SizeMismatch wanted actual)) h = absurd h
+  removed (Err (SerdeError cause message)) h = absurd h
+  removed (Err (IntegrityError fault)) h = absurd h
+
+  tried : (e : Error) → TriesToRemove path e (Some old) (Some new) → GivesUpTemp cache number (Some old) (Some new)
+  tried OutOfMemory (inl same) = inl same
+  tried OutOfMemory (inr h) = asked h.0 h.1
+  tried (IoError fault message) h = asked h.0 h.1
+  tried (EntryNotFound c k) h = asked h.0 h.1
+  tried (SizeMismatch wanted actual) h = asked h.0 h.1
+  tried (SerdeError cause message) h = asked h.0 h.1
+  tried (IntegrityError fault) h = asked h.0 h.1
+
+pub giving_up_means : {C N : Type 0} (new : Env (List LogItem) C N) → IsLog new.store → GivingUpMeans new
+giving_up_means new logged cache key s bytes w r old sound t h =
+    giving_up_lasts cache t.number old.store new.store sound (removed cache t.number w.writer.path t.path_is old.store new.store r h) logged
+
+pub failed_writes_mean : {C N : Type 0} (new : Env (List LogItem) C N) → IsLog new.store → FailedWritesMean new
+failed_writes_mean new logged cache key s bytes w e old sound t h =
+    giving_up_lasts cache t.number old.store new.store sound (tried cache t.number w.writer.path t.path_is old.store new.store e h) logged

@@ -1,0 +1,5 @@
+use Rattle.cacache_laws.proofs.results.LinkResults.{content_link_means}
+use Rattle.cacache_laws.proofs.results.outside.after_link_hash.Goals as goal
+
+pub returns : goal.returns
+returns g c = content_link_means c.args.cache.now c.args.target.now c.args.linked.now c.args.env.now c.log-log.ensures.replayable

@@ -1,0 +1,187 @@
+-- After a tombstone its key leads to nothing, and each other key leads where it led.
+use Rattle.std.proofs.{Common.{◌≡◌, ◌≤◌, ℕ, Bool, true, false, cond, nat_le, List, [], ◌∷◌, ◌++◌, Option, None, Some, Result, Ok, Err, inl, inr, length, refl, sym, ap, ap₂, subst, ◌∙◌, leb-true, append-nil}, lemmas.{List.Sums.{fold-append}, Slice.Eq.{bytes_eq-Decides}}}
+use Rattle.std.specs.Prelude.{bytes_eq}
+use Rattle.sha1.specs.Sha1.{sha1}
+use Rattle.cacache_core.specs.{declared.errors.{Fault.{Fault, TheVariants.{ShortAppend}}, SerdeCause.{SerdeCause}}, PathNames.{Names, home_of, names_below, names_of}, Paths.{bucket_names_of}}
+use Rattle.cacache_store.specs.declared.store.answer.Answer.TheVariants as answers
+use Rattle.cacache_store.specs.declared.store.step.Step.TheVariants as steps
+use Rattle.cacache_store.specs.Plain.{PlainAnswer, PlainStep}
+use Rattle.cacache_disk.{specs.{declared.luck.Luck.TheVariants.{Plain}, Tree.{Tree}, Apply.{apply}}, proofs.Roots.{same_self}}
+use Rattle.cacache_entry.{specs.{Entry.{Entry, line_of}, Latest.{after_entry, latest}}, proofs.EntryCauses.{Fits-no_cause}}
+use Rattle.cacache_table.specs.declared.command.Command.TheVariants as commands
+use Rattle.cacache_table.specs.{declared.{command.Delete.{Delete}, reply.Reply.{Reply, TheVariants.{Done}}}, Common.{fails}, Inserting.{bucket_line, deletion, recorded, refused_cause, unless_refused}, Runs.{Moves, Runs}, State.{Insertion, Site, State, appending, doing, make_folder, over}, StepPaths.{bucket_folder, bucket_path}, Table.{after, opening}}
+use Rattle.cacache_table.proofs.Sound.{begins_sound, stays_sound}
+use Rattle.cacache_table.specs.Sound as calls
+use Rattle.cacache_value.specs.{Acts.{MakeFolders, act_at, act_of, act_with, change, folders_left, list_of}, Kinds.{is_path_of}, Placed.{Placed, Proper}, Value.{Value, wide_value}}
+use Rattle.cacache_value.proofs.{AppendedLines.{whole_lines_add}, Traces.{steps_act, steps_keep_placed}}
+use Rattle.cacache_history.{specs.Setup.{Setup, is_outside, may_export}, proofs.{Proper.{sound_proper}, Histories.ShownTurns.{bucket_below}}}
+use Rattle.cacache_laws.specs.{Caches.{setup_at}, Sequence.{tree_on, AreAnswered}, trees.Mending.{TombstonesHide}}
+
+-- ---- the run of a tombstone
+
+ended : (moves : Moves) (r : Reply) → Runs (over r) moves Done → (moves ≡ []) × (r ≡ Done)
+ended [] r (inl e) = (refl, cc)
+ended [] r (inr e) = absurd cc
+ended (m ∷ moves) r run = absurd (let wrong : None ≡ Some m.0 = run.0 in cc)
+
+pair : (m : PlainStep × PlainAnswer) (step : PlainStep) (answer : PlainAnswer) (more rest : Moves) → m.0 ≡ step → m.1 ≡ answer → more ≡ rest → m ∷ more ≡ (step, answer) ∷ rest
+pair m step answer more rest e f g = ap₂ (λ (x : PlainStep × PlainAnswer) (l : Moves). x ∷ l) (ap₂ (λ (s : PlainStep) (a : PlainAnswer). (s, a)) e f) g
+
+module _ (site : Site) (d : Delete) where
+  abbrev i : Insertion
+  i = deletion site.cache d
+
+  -- it makes the bucket's folder and appends the whole line
+  pub record Buried (moves : Moves) : Type 0 where
+    pub fits : refused_cause i ≡ None
+    pub count : ℕ
+    pub whole : length (bucket_line i) ≤ count
+    pub are : moves ≡ (steps.MakeDirs (bucket_folder site.cache d.key), answers.Done) ∷ (steps.Append (bucket_path site.cache d.key) (bucket_line i), answers.Took count) ∷ []
+
+  took_all : (b : Bool) (n : ℕ) (moves : Moves) → nat_le (length (bucket_line i)) n ≡ b → Runs (cond b (recorded i) (fails ShortAppend)) moves Done → (length (bucket_line i) ≤ n) × (moves ≡ [])
+  took_all true n moves e run = (leb-true (length (bucket_line i)) n e, (ended moves Done run).0)
+  took_all false n moves e run = absurd (let wrong = (ended moves _ run).1 in cc)
+
+  appended : (t : PlainAnswer) (moves : Moves) → Runs (after (appending i) t) moves Done → (n : ℕ) × (t ≡ answers.Took n) × (length (bucket_line i) ≤ n) × (moves ≡ [])
+  appended (answers.Took n) moves run = let took = took_all (nat_le (length (bucket_line i)) n) n moves refl run in (n, refl, took.0, took.1)
+  appended (answers.Failed fault) moves run = absurd (let e = (ended moves _ run).1 in cc)
+  appended t moves run = absurd (let e = (ended moves _ run).1 in cc)
+
+  append_run : (moves : Moves) → Runs (appending i) moves Done → (n : ℕ) × (length (bucket_line i) ≤ n) × (moves ≡ (steps.Append (bucket_path site.cache d.key) (bucket_line i), answers.Took n) ∷ [])
+  append_run [] (inl e) = absurd cc
+  append_run [] (inr e) = absurd cc
+  append_run (m ∷ more) run =
+      let step : steps.Append (bucket_path site.cache d.key) (bucket_line i) ≡ m.0 = (let e : Some (steps.Append (bucket_path site.cache d.key) (bucket_line i)) ≡ Some m.0 = run.0 in cc) in
+      let rest = appended m.1 more run.2 in
+      (rest.0, rest.2, pair m (steps.Append (bucket_path site.cache d.key) (bucket_line i)) (answers.Took rest.0) more [] (sym step) rest.1 rest.3)
+
+  made : (t : PlainAnswer) (moves : Moves) → Runs (after (doing (make_folder (bucket_folder site.cache d.key)) (appending i)) t) moves Done → (t ≡ answers.Done) × Runs (appending i) moves Done
+  made answers.Done moves run = (refl, run)
+  made (answers.Failed fault) moves run = absurd (let e = (ended moves _ run).1 in cc)
+  made t moves run = absurd (let e = (ended moves _ run).1 in cc)
+
+  inserted : (cause : Option SerdeCause) (moves : Moves) → refused_cause i ≡ cause → Runs (unless_refused i cause) moves Done → Buried moves
+  inserted (Some cause) moves e run = absurd (let wrong = (ended moves _ run).1 in cc)
+  inserted None [] e (inl f) = absurd cc
+  inserted None [] e (inr f) = absurd cc
+  inserted None (m ∷ more) e run =
+      let step : steps.MakeDirs (bucket_folder site.cache d.key) ≡ m.0 = (let e : Some (steps.MakeDirs (bucket_folder site.cache d.key)) ≡ Some m.0 = run.0 in cc) in
+      let first = made m.1 more run.2 in
+      let rest = append_run more first.1 in
+      record { fits = e; count = rest.0; whole = rest.1; are = pair m (steps.MakeDirs (bucket_folder site.cache d.key)) answers.Done more _ (sym step) first.0 rest.2 }
+
+  pub buried : (moves : Moves) → Runs (opening site (commands.Delete d)) moves Done → Buried moves
+  buried moves run = inserted (refused_cause i) moves refl run
+
+-- ---- lookups
+
+latest_more : (key : List ℕ) (es : List Entry) (e : Entry) → latest key (es ++ e ∷ []) ≡ after_entry key (latest key es) e
+latest_more key es e = fold-append (after_entry key) None es (e ∷ [])
+
+module _ (cache : List ℕ) (d : Delete) where
+  abbrev tomb : Entry
+  tomb = (deletion cache d).entry
+
+  own_hidden : (es : List Entry) → latest d.key (es ++ tomb ∷ []) ≡ None
+  own_hidden es = latest_more d.key es tomb ∙ rw ((bytes_eq-Decides d.key d.key).1 refl) refl
+
+  apart : (key : List ℕ) (b : Bool) → bytes_eq d.key key ≡ b → (key ≡ d.key → ⊥) → b ≡ false
+  apart key true e other = absurd (other (sym ((bytes_eq-Decides d.key key).0 e)))
+  apart key false e other = refl
+
+  other_found : (key : List ℕ) (es : List Entry) → (key ≡ d.key → ⊥) → latest key (es ++ tomb ∷ []) ≡ latest key es
+  other_found key es other = latest_more key es tomb ∙ rw (apart key (bytes_eq d.key key) refl other) refl
+
+  other_at : (b : Bool) (key : List ℕ) (o : Option (List Entry)) → (key ≡ d.key → ⊥) → latest key (list_of (cond b (Some (list_of o ++ tomb ∷ [])) o)) ≡ latest key (list_of o)
+  other_at true key o other = other_found key (list_of o) other
+  other_at false key o other = refl
+
+  own_at : (b : Bool) (o : Option (List Entry)) → b ≡ true → latest d.key (list_of (cond b (Some (list_of o ++ tomb ∷ [])) o)) ≡ None
+  own_at true o e = own_hidden (list_of o)
+  own_at false o e = absurd cc
+
+-- without a closing byte the line is the entry's
+short : (cache : List ℕ) (d : Delete) (n : ℕ) → length (bucket_line (deletion cache d)) ≤ n → length (line_of (deletion cache d).entry) ≤ n
+unfolding bucket_line
+short cache d n low =
+    subst (λ (l : List ℕ). length l ≤ n) (append-nil (line_of (deletion cache d).entry)) low
+
+-- ---- its two steps
+
+module _ (site : Site) (d : Delete) (formed : calls.FormedIfWritten (deletion site.cache d)) where
+  abbrev x : Setup
+  x = setup_at site.cache site.base
+
+  -- each step of a run is proper
+  abbrev pub AllProper : Moves → Type 0
+  AllProper [] = Unit {0}
+  AllProper (m ∷ moves) = Proper (home_of site.cache) m.0 × AllProper moves
+
+  pub proper_run : (s : State) (moves : Moves) (r : Reply) → calls.Sound site (may_export x) (is_outside x) s → Runs s moves r → AllProper moves
+  proper_run s [] r sound run = tt
+  proper_run s (m ∷ moves) r sound run = (
+    sound_proper x site.number tt s m.0 sound run.0,
+    proper_run (after s m.1) moves r (stays_sound site (may_export x) (is_outside x) s m.0 m.1 sound run.0 run.1) run.2,
+  )
+
+  abbrev folder : Option Names
+  folder = home_of site.cache
+
+  -- the value after them
+  buckets_made : (v : Value) (p digest : List ℕ) → (change folder (act_of (steps.MakeDirs p) Plain answers.Done) v).buckets digest ≡ v.buckets digest
+  buckets_made v p digest = by (names_of p)
+    where
+      by : (r : Result Names Fault) → (change (home_of site.cache) (act_at r (λ names. act_with (folders_left names Plain answers.Done) (MakeFolders names))) v).buckets digest ≡ v.buckets digest
+      by (Ok names) = refl
+      by (Err fault) = refl
+
+  -- where the bucket lies
+  record At : Type 0 where
+    names : Names
+    named : names_of (bucket_path site.cache d.key) ≡ Ok names
+    is : is_path_of (home_of site.cache) (bucket_names_of (sha1 d.key)) names ≡ true
+
+  here : (f : Option Names) (r : Result Names Fault) → r ≡ names_below f (bucket_names_of (sha1 d.key)) → (home : Names) → f ≡ Some home → (names : Names) × (r ≡ Ok names) × (is_path_of f (bucket_names_of (sha1 d.key)) names ≡ true)
+  here None r e home is = absurd cc
+  here (Some home) r e h is = (home ++ bucket_names_of (sha1 d.key), e, same_self (home ++ bucket_names_of (sha1 d.key)))
+
+  at : (home : Names) → home_of site.cache ≡ Some home → At
+  at home is =
+      let k = here (home_of site.cache) (names_of (bucket_path site.cache d.key)) (bucket_below x d.key) home is in
+      record { names = k.0; named = k.1; is = k.2 }
+
+  pub hides : (home : Names) (moves : Moves) (t : Tree) → home_of site.cache ≡ Some home → Runs (opening site (commands.Delete d)) moves Done → AreAnswered t moves → Placed folder t
+      → (latest d.key (list_of ((wide_value folder (tree_on t moves)).buckets (sha1 d.key))) ≡ None)
+      × ((key : List ℕ) → (key ≡ d.key → ⊥) → latest key (list_of ((wide_value folder (tree_on t moves)).buckets (sha1 key))) ≡ latest key (list_of ((wide_value folder t).buckets (sha1 key))))
+  unfolding bucket_line refused_cause
+  hides home moves t is run answered placed =
+      let b = buried site d moves run in
+      let proper = subst AllProper b.are (proper_run (opening site (commands.Delete d)) moves Done (begins_sound site (may_export x) (is_outside x) (commands.Delete d) formed) run) in
+      let a = subst (AreAnswered t) b.are answered in
+      let make = steps.MakeDirs (bucket_folder site.cache d.key) in
+      let append = steps.Append (bucket_path site.cache d.key) (bucket_line (deletion site.cache d)) in
+      let mid = (apply t make Plain).1 in
+      let first = steps_act folder t make Plain placed proper.0 in
+      let second = steps_act folder mid append Plain (steps_keep_placed folder t make Plain placed proper.0) proper.1.0 in
+      let k = at home is in
+      let act = whole_lines_add (deletion site.cache d).entry b.count (formed b.fits) (Fits-no_cause (deletion site.cache d).entry (formed b.fits) b.fits) (short site.cache d b.count b.whole) false (bucket_path site.cache d.key) k.names Plain (answers.Took b.count) k.named refl in
+      let v = wide_value folder t in
+      let value : (digest : List ℕ) → (wide_value folder (tree_on t moves)).buckets digest ≡ cond (is_path_of folder (bucket_names_of digest) k.names) (Some (list_of (v.buckets digest) ++ (deletion site.cache d).entry ∷ [])) (v.buckets digest)
+      = λ digest.
+      ap (λ (m : Moves). (wide_value folder (tree_on t m)).buckets digest) b.are
+      ∙ ap (λ (w : Value). w.buckets digest) second
+      ∙ ap (λ (t : PlainAnswer). (change folder (act_of append Plain t) (wide_value folder mid)).buckets digest) (sym a.1.0)
+      ∙ ap (λ act. (change folder act (wide_value folder mid)).buckets digest) act
+      ∙ ap (λ o. cond (is_path_of folder (bucket_names_of digest) k.names) (Some (list_of o ++ (deletion site.cache d).entry ∷ [])) o)
+      (ap (λ (w : Value). w.buckets digest) first ∙ ap (λ (t : PlainAnswer). (change folder (act_of make Plain t) v).buckets digest) (sym a.0) ∙ buckets_made v (bucket_folder site.cache d.key) digest) in (
+        ap (λ o. latest d.key (list_of o)) (value (sha1 d.key)) ∙ own_at site.cache d (is_path_of folder (bucket_names_of (sha1 d.key)) k.names) (v.buckets (sha1 d.key)) k.is,
+        λ key other. ap (λ o. latest key (list_of o)) (value (sha1 key)) ∙ other_at site.cache d (is_path_of folder (bucket_names_of (sha1 key)) k.names) key (v.buckets (sha1 key)) other,
+      )
+
+pub tombstones_hide : TombstonesHide
+tombstones_hide site home d moves t is formed run answered placed =
+    let h = hides site d formed home moves t is run answered (subst (λ (f : Option Names). Placed f t) (sym is) placed) in
+    record {
+      own = subst (λ (f : Option Names). latest d.key (list_of ((wide_value f (tree_on t moves)).buckets (sha1 d.key))) ≡ None) is h.0;
+      others = λ key other. subst (λ (f : Option Names). latest key (list_of ((wide_value f (tree_on t moves)).buckets (sha1 key))) ≡ latest key (list_of ((wide_value f t).buckets (sha1 key)))) is (h.1 key other);
+    }

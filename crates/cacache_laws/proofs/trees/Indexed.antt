@@ -1,0 +1,195 @@
+-- On a tree that nobody changes, a listing reads each bucket and lists the entry of each key.
+use Rattle.std.proofs.{Common.{◌≡◌, ◌⊎◌, inl, inr, ℕ, ◌+◌, List, [], ◌∷◌, ◌++◌, Option, Some, None, Bool, true, false, cond, nat_lt, Result, Ok, Err, refl, sym, ap, ap₂, subst, ◌∙◌, append_assoc, arith}, lemmas.{Slice.Eq.{bytes_eq-Decides}, List.Elements.{All-cons, All-nil}}}
+use Rattle.std.specs.Prelude.{option_map, fold, bytes_eq}
+use Rattle.sha1.specs.Sha1.{sha1}
+use Rattle.cacache_core.specs.{declared.errors.Fault.{Fault, TheVariants.{NotFound, TooDeep, IsADirectory}}, PathNames.{Names, names_of, home_of, IsProperName}, Paths.{join, joined, cut_digits, bucket_names, index_area}}
+use Rattle.cacache_core.proofs.{JoinedNames.{joined_texts_name}, ProperNames.{names_are_proper, proper_bucket_folder}, PathLemmas.{keys_have_digests}}
+use Rattle.hex.specs.Hex.{encode_lower}
+use Rattle.cacache_store.specs.{declared.store.{answer.{Kind.{Kind}, Name.{Name}, Answer.TheVariants.{Bytes}}, step.Step.TheVariants.{ReadAll}}, Plain.{PlainStep, PlainAnswer}}
+use Rattle.cacache_store.specs.declared.store.answer.Kind.TheVariants as kinds
+use Rattle.cacache_disk.specs.{declared.{luck.Luck.TheVariants.{Plain}, node.Node.{Node, TheVariants.{Folder, File, Link}}}, Tree.{Tree, look, listing}, LedTo.{and_then, or_fault, on_link, bytes_there, standing, way_fault, place, followed, leads, file_at}, Rooted.{Rooted}, Apply.{apply, unless}}
+use Rattle.cacache_entry.specs.{Entry.{Entry}, Bucket.{entries_of}, Latest.{Found, latest, after_entry}}
+use Rattle.cacache_table.specs.{State.{Item, Site}, declared.visit.{Task.{Task, TheVariants.{Make, Stumble}}, Visit.TheVariants.{Enter, ReadBucket, RemoveFile, RemoveFolder}}, Walking.{task_for_name, tasks_of, items_in, items_of, once}, Runs.{Moves}, ListReplies.{items_given, given_by, In, keys_of}, StepPaths.{bucket_path}}
+use Rattle.cacache_table.proofs.Keys.{each_key_once}
+use Rattle.cacache_walks.specs.Reading.{names_shown}
+use Rattle.cacache_laws.specs.trees.{Walks.{is_leaf}, Answers.{AnsweredBy}, Index.{ListsEachKey}}
+use Rattle.cacache_laws.proofs.trees.{Members.{Member, contains_member, in_left, in_right, mapped}, Children.{child_listed, none_below, proper_child, FolderShows, listed, missing, folder_shown}, Covering.{named_on}, Listing.{ReadsAll, Good, listing_runs}}
+
+-- ---- tasks
+
+task_in : (level : ℕ) (p : List ℕ) (n : Name) (names : List Name) → Member n names → Member (task_for_name false level (join p n.name) n.kind) (tasks_of false level p names)
+task_in level p n [] m = absurd m
+task_in level p n (k ∷ ns) (inl same) = inl (ap (λ (x : Name). task_for_name false level (join p x.name) x.kind) same)
+task_in level p n (k ∷ ns) (inr m) = inr (task_in level p n ns m)
+
+-- whoever reads all stumbles over nothing
+no_stumble : (moves : Moves) (todo : List Task) (fault : Fault) (path : List ℕ) → ReadsAll todo moves → Member (Stumble fault path) todo → ⊥
+no_stumble moves [] fault path r m = m
+no_stumble moves (Stumble other below ∷ todo) fault path r m = r
+no_stumble [] (Make (Enter p level) ∷ todo) fault path r m = r
+no_stumble [] (Make (ReadBucket p) ∷ todo) fault path r m = r
+no_stumble moves (Make (RemoveFile p) ∷ todo) fault path r m = r
+no_stumble moves (Make (RemoveFolder p) ∷ todo) fault path r m = r
+no_stumble (x ∷ moves) (Make v ∷ todo) fault path r (inl same) = absurd (let wrong : Stumble fault path ≡ Make v = same in cc)
+no_stumble (x ∷ moves) (Make (Enter p level) ∷ todo) fault path r (inr m) = no_stumble moves (tasks_of false level p r.1.0 ++ todo) fault path r.1.2 (in_right (Stumble fault path) (tasks_of false level p r.1.0) todo m)
+no_stumble (x ∷ moves) (Make (ReadBucket p) ∷ todo) fault path r (inr m) = no_stumble moves todo fault path r.1 m
+
+-- ---- on a tree
+
+module _ (t : Tree) (rooted : Rooted t) where
+  -- the tree's answer to a read of a path
+  abbrev reads : List ℕ → PlainStep × PlainAnswer
+  reads path = (ReadAll path, (apply t (ReadAll path) Plain).0)
+
+  same_move : (m : PlainStep × PlainAnswer) (path : List ℕ) → m.0 ≡ ReadAll path → m.1 ≡ (apply t m.0 Plain).0 → reads path ≡ m
+  same_move m path step answer = ap₂ (λ (s : PlainStep) (a : PlainAnswer). (s, a)) (sym step) (sym (answer ∙ ap (λ s. (apply t s Plain).0) step))
+
+  -- a bucket that is to be read is read
+  bucket_reached : (moves : Moves) (todo : List Task) (path : List ℕ) → ReadsAll todo moves → AnsweredBy t moves → Member (Make (ReadBucket path)) todo → Member (reads path) moves
+  bucket_reached moves [] path r a k = absurd k
+  bucket_reached moves (Stumble other below ∷ todo) path r a k = absurd r
+  bucket_reached [] (Make (Enter p level) ∷ todo) path r a k = absurd r
+  bucket_reached [] (Make (ReadBucket p) ∷ todo) path r a k = absurd r
+  bucket_reached moves (Make (RemoveFile p) ∷ todo) path r a k = absurd r
+  bucket_reached moves (Make (RemoveFolder p) ∷ todo) path r a k = absurd r
+  bucket_reached (m ∷ moves) (Make (Enter p level) ∷ todo) path r a (inl same) = absurd (let wrong : Make (ReadBucket path) ≡ Make (Enter p level) = same in cc)
+  bucket_reached (m ∷ moves) (Make (Enter p level) ∷ todo) path r a (inr k) = inr (bucket_reached moves (tasks_of false level p r.1.0 ++ todo) path r.1.2 a.1 (in_right (Make (ReadBucket path)) (tasks_of false level p r.1.0) todo k))
+  bucket_reached (m ∷ moves) (Make (ReadBucket p) ∷ todo) path r a (inl same) =
+      let is : path ≡ p = (let e : Make (ReadBucket path) ≡ Make (ReadBucket p) = same in cc) in
+      inl (same_move m path (r.0 ∙ ap ReadAll (sym is)) a.0)
+  bucket_reached (m ∷ moves) (Make (ReadBucket p) ∷ todo) path r a (inr k) = inr (bucket_reached moves todo path r.1 a.1 k)
+
+  -- so is a file or link below a folder that is to be read
+  abbrev Reaches : List Task → Moves → Type 0
+  Reaches todo moves = (p : List ℕ) (level : ℕ) (base : Names) (x : List ℕ) (xs : Names) → Member (Make (Enter p level)) todo → names_of p ≡ Ok base → is_leaf (look t (base ++ x ∷ xs)) ≡ true → Member (reads (joined p (x ∷ xs))) moves
+
+  no_leaf : (base : Names) (here : Option Node) → here ≡ None → is_leaf here ≡ true → ⊥
+  no_leaf base here e leaf = let wrong : false ≡ true = ap is_leaf (sym e) ∙ leaf in cc
+
+  module _ (m : PlainStep × PlainAnswer) (moves : Moves) (p : List ℕ) (level : ℕ) (base : Names) (names : List Name) (todo : List Task) (rest : ReadsAll (tasks_of false level p names ++ todo) moves) (a : AnsweredBy t moves) (next : Reaches (tasks_of false level p names ++ todo) moves) (named : names_of p ≡ Ok base) where
+    a_bucket : (x : List ℕ) (kind : Kind) → Member (record { name = x; kind = kind }) names → task_for_name false level (join p x) kind ≡ Make (ReadBucket (join p x)) → Member (reads (join p x)) (m ∷ moves)
+    a_bucket x kind member is =
+        let task = subst (λ (k : Task). Member k (tasks_of false level p names)) is (task_in level p (record { name = x; kind = kind }) names member) in
+        inr (bucket_reached moves (tasks_of false level p names ++ todo) (join p x) rest a (in_left (Make (ReadBucket (join p x))) (tasks_of false level p names) todo task))
+
+    a_folder : (x y : List ℕ) (ys : Names) (b : Bool) → Member (cond b (Make (Enter (join p x) (level + 1))) (Stumble TooDeep (join p x))) (tasks_of false level p names) → look t (base ++ x ∷ []) ≡ Some Folder → is_leaf (look t (base ++ x ∷ y ∷ ys)) ≡ true → Member (reads (joined p (x ∷ y ∷ ys))) (m ∷ moves)
+    a_folder x y ys true task is leaf =
+        inr (next (join p x) (level + 1) (base ++ x ∷ []) y ys (in_left (Make (Enter (join p x) (level + 1))) (tasks_of false level p names) todo task) (named_on p base x named (proper_child t base x Folder rooted is)) (ap (λ n. is_leaf (look t n)) (append_assoc base (x ∷ []) (y ∷ ys)) ∙ leaf))
+    a_folder x y ys false task is leaf = absurd (no_stumble moves (tasks_of false level p names ++ todo) TooDeep (join p x) rest (in_left (Stumble TooDeep (join p x)) (tasks_of false level p names) todo task))
+
+    below_no : (x y : List ℕ) (ys : Names) (here : Option Node) → look t (base ++ x ∷ []) ≡ here → (here ≡ Some Folder → ⊥) → is_leaf (look t (base ++ x ∷ y ∷ ys)) ≡ true → ⊥
+    below_no x y ys here is apart leaf = no_leaf base (look t (base ++ x ∷ y ∷ ys)) (ap (look t) (sym (append_assoc base (x ∷ []) (y ∷ ys))) ∙ none_below t (base ++ x ∷ []) y ys rooted (λ folder. apart (sym is ∙ folder))) leaf
+
+    at_node : (x : List ℕ) (xs : Names) (here : Option Node) → look t (base ++ x ∷ []) ≡ here → names ≡ listing t base → is_leaf (look t (base ++ x ∷ xs)) ≡ true → Member (reads (joined p (x ∷ xs))) (m ∷ moves)
+    at_node x [] None is all leaf = absurd (no_leaf base (look t (base ++ x ∷ [])) is leaf)
+    at_node x (y ∷ ys) None is all leaf = absurd (below_no x y ys None is (λ e. cc) leaf)
+    at_node x [] (Some Folder) is all leaf = absurd (let wrong : false ≡ true = ap is_leaf (sym is) ∙ leaf in cc)
+    at_node x (y ∷ ys) (Some Folder) is all leaf = a_folder x y ys (nat_lt level 16) (task_in level p (record { name = x; kind = kinds.Folder }) names (subst (Member _) (sym all) (child_listed t base x Folder is))) is leaf
+    at_node x [] (Some (File bytes)) is all leaf = a_bucket x kinds.File (subst (Member _) (sym all) (child_listed t base x (File bytes) is)) refl
+    at_node x (y ∷ ys) (Some (File bytes)) is all leaf = absurd (below_no x y ys (Some (File bytes)) is (λ e. cc) leaf)
+    at_node x [] (Some (Link target)) is all leaf = a_bucket x kinds.Link (subst (Member _) (sym all) (child_listed t base x (Link target) is)) refl
+    at_node x (y ∷ ys) (Some (Link target)) is all leaf = absurd (below_no x y ys (Some (Link target)) is (λ e. cc) leaf)
+
+    reached_first : (x : List ℕ) (xs : Names) → FolderShows t base names → is_leaf (look t (base ++ x ∷ xs)) ≡ true → Member (reads (joined p (x ∷ xs))) (m ∷ moves)
+    reached_first x xs (listed all) leaf = at_node x xs (look t (base ++ x ∷ [])) refl all leaf
+    reached_first x xs (missing apart none) leaf = absurd (no_leaf base (look t (base ++ x ∷ xs)) (none_below t base x xs rooted apart) leaf)
+
+  reaches : (moves : Moves) (todo : List Task) → ReadsAll todo moves → AnsweredBy t moves → Reaches todo moves
+  reaches moves [] r a p level base x xs k named leaf = absurd k
+  reaches moves (Stumble other path ∷ todo) r a p level base x xs k named leaf = absurd r
+  reaches [] (Make (Enter q l) ∷ todo) r a p level base x xs k named leaf = absurd r
+  reaches [] (Make (ReadBucket q) ∷ todo) r a p level base x xs k named leaf = absurd r
+  reaches moves (Make (RemoveFile q) ∷ todo) r a p level base x xs k named leaf = absurd r
+  reaches moves (Make (RemoveFolder q) ∷ todo) r a p level base x xs k named leaf = absurd r
+  reaches (m ∷ moves) (Make (ReadBucket q) ∷ todo) r a p level base x xs (inl same) named leaf = absurd (let wrong : Make (Enter p level) ≡ Make (ReadBucket q) = same in cc)
+  reaches (m ∷ moves) (Make (ReadBucket q) ∷ todo) r a p level base x xs (inr k) named leaf = inr (reaches moves todo r.1 a.1 p level base x xs k named leaf)
+  reaches (m ∷ moves) (Make (Enter q l) ∷ todo) r a p level base x xs (inr k) named leaf =
+      inr (reaches moves (tasks_of false l q r.1.0 ++ todo) r.1.2 a.1 p level base x xs (in_right (Make (Enter p level)) (tasks_of false l q r.1.0) todo k) named leaf)
+  reaches (m ∷ moves) (Make (Enter q l) ∷ todo) r a p level base x xs (inl same) named leaf =
+      let is : p ≡ q = (let e : Make (Enter p level) ≡ Make (Enter q l) = same in cc) in
+      let named_q : names_of q ≡ Ok base = ap names_of (sym is) ∙ named in
+      let names = r.1.0 in
+      let shows = folder_shown t q base Plain names rooted named_q (ap (λ s. names_shown (apply t s Plain).0) (sym r.0) ∙ ap names_shown (sym a.0) ∙ r.1.1) in
+      subst (λ (z : List ℕ). Member (reads (joined z (x ∷ xs))) (m ∷ moves)) (sym is)
+      (reached_first m moves q l base names todo r.1.2 a.1 (reaches moves (tasks_of false l q names ++ todo) r.1.2 a.1) named_q x xs shows leaf)
+
+  -- ---- what can be read is a file or a link
+
+  judged : (here : Option Node) (names : Names) (go : List ℕ → Result Names Fault) (bytes : List ℕ) → look t names ≡ here → and_then (on_link here names go) (λ n. bytes_there IsADirectory (look t n)) ≡ Ok bytes → is_leaf here ≡ true
+  judged None names go bytes is e = let wrong : Err NotFound ≡ Ok bytes = rw is at e in absurd cc
+  judged (Some Folder) names go bytes is e = let wrong : Err IsADirectory ≡ Ok bytes = rw is at e in absurd cc
+  judged (Some (File b)) names go bytes is e = refl
+  judged (Some (Link target)) names go bytes is e = refl
+
+  placed_leaf : (names : Names) (fault : Option Fault) (bytes : List ℕ) → and_then (and_then (or_fault fault names) (followed 16 t)) (λ n. bytes_there IsADirectory (look t n)) ≡ Ok bytes → is_leaf (look t names) ≡ true
+  unfolding followed
+  placed_leaf names None bytes e = judged (look t names) names (λ target. and_then (standing t target) (followed 15 t)) bytes refl e
+  placed_leaf names (Some fault) bytes e = absurd cc
+
+  file_leaf : (path : List ℕ) (names : Names) (bytes : List ℕ) → names_of path ≡ Ok names → file_at t path IsADirectory ≡ Ok bytes → is_leaf (look t names) ≡ true
+  unfolding file_at leads place
+  file_leaf path names bytes is e = placed_leaf names (way_fault t [] names) bytes (rw is at e)
+
+  answered : (r : Result (List ℕ) Fault) (bytes : List ℕ) → (unless r t (λ b. (Bytes b, t))).0 ≡ Bytes bytes → r ≡ Ok bytes
+  answered (Ok b) bytes e = let same : b ≡ bytes = cc in ap Ok same
+  answered (Err fault) bytes e = absurd cc
+
+  read_leaf : (path : List ℕ) (names : Names) (bytes : List ℕ) → names_of path ≡ Ok names → (apply t (ReadAll path) Plain).0 ≡ Bytes bytes → is_leaf (look t names) ≡ true
+  unfolding apply
+  read_leaf path names bytes is e = file_leaf path names bytes is (answered (file_at t path IsADirectory) bytes e)
+
+-- ---- lookups
+
+found_at : (key : List ℕ) (x : Entry) (es : List Entry) (before : Option Found) (found : Found) (b : Bool) → bytes_eq x.key key ≡ b → (after_entry key before x ≡ Some found) ⊎ In key (keys_of es) → (before ≡ Some found) ⊎ In key (keys_of (x ∷ es))
+found_at key x es before found true is rest = inr (inl (sym ((bytes_eq-Decides x.key key).0 is)))
+found_at key x es before found false is (inl now) =
+    let same : after_entry key before x ≡ before = rw is refl in
+    inl (sym same ∙ now)
+found_at key x es before found false is (inr later) = inr (inr later)
+
+found_key : (key : List ℕ) (es : List Entry) (before : Option Found) (found : Found) → fold (after_entry key) before es ≡ Some found → (before ≡ Some found) ⊎ In key (keys_of es)
+found_key key [] before found e = inl e
+found_key key (x ∷ es) before found e = found_at key x es before found (bytes_eq x.key key) refl (found_key key es (after_entry key before x) found e)
+
+latest_key : (key : List ℕ) (es : List Entry) (found : Found) → latest key es ≡ Some found → In key (keys_of es)
+latest_key key es found e = elim (found_key key es None found e) [ inl none ↦ absurd (let wrong : None ≡ Some found = none in cc) | inr there ↦ there ]
+
+member_in : {X : Type 0} (x : X) (xs : List X) → In x xs → Member x xs
+member_in x [] m = m
+member_in x (y ∷ ys) (inl e) = inl e
+member_in x (y ∷ ys) (inr m) = inr (member_in x ys m)
+
+looked_up : (key : List ℕ) (es : List Entry) (found : Found) → latest key es ≡ Some found → Member (Ok found) (items_of es)
+looked_up key es found e =
+    let there = (each_key_once es).1 key in
+    mapped (λ (k : List ℕ). option_map Ok (latest k es)) key (Ok found) (once (keys_of es)) (member_in key (once (keys_of es)) (there.1 (latest_key key es found e))) (ap (option_map Ok) e)
+
+given_member : (m : PlainStep × PlainAnswer) (moves : Moves) (x : Item) → Member m moves → Member x (given_by m.0 m.1) → Member x (items_given moves)
+given_member m [] x k h = absurd k
+given_member m (n ∷ moves) x (inl same) h = in_left x (given_by n.0 n.1) (items_given moves) (subst (λ (k : PlainStep × PlainAnswer). Member x (given_by k.0 k.1)) same h)
+given_member m (n ∷ moves) x (inr k) h = in_right x (given_by n.0 n.1) (items_given moves) (given_member m moves x k h)
+
+-- ---- the entry of a key
+
+module _ (site : Site) (home : Names) (t : Tree) (rooted : Rooted t) (is : home_of site.cache ≡ Some home) where
+  bucket_named : (key : List ℕ) → names_of (joined site.cache (bucket_names key)) ≡ Ok (home ++ bucket_names key)
+  bucket_named key = joined_texts_name site.cache (bucket_names key) (names_are_proper.buckets (sha1 key) (keys_have_digests key)) (omega arith) ∙ rw is refl
+
+  index_named : (key : List ℕ) → names_of (join site.cache index_area) ≡ Ok (home ++ index_area ∷ [])
+  index_named key = joined_texts_name site.cache (index_area ∷ []) (All-cons IsProperName index_area [] proper_bucket_folder (All-nil IsProperName)) (omega arith) ∙ rw is refl
+
+  item_in : (key bytes : List ℕ) (found : Found) (moves : Moves) (items : List Item) → (apply t (ReadAll (bucket_path site.cache key)) Plain).0 ≡ Bytes bytes → latest key (entries_of bytes) ≡ Some found → AnsweredBy t moves → Good items moves (Make (Enter (join site.cache index_area) 0) ∷ []) [] → Member (Ok found) items
+  unfolding items_in bucket_path
+  item_in key bytes found moves items answer e answered g =
+      let rest = cut_digits (encode_lower (sha1 key)) in
+      let path = joined site.cache (bucket_names key) in
+      let leaf : is_leaf (look t ((home ++ index_area ∷ []) ++ rest)) ≡ true = ap (λ n. is_leaf (look t n)) (append_assoc home (index_area ∷ []) rest) ∙ read_leaf t rooted path (home ++ bucket_names key) bytes (bucket_named key) answer in
+      let read = reaches t rooted moves (Make (Enter (join site.cache index_area) 0) ∷ []) g.reads answered (join site.cache index_area) 0 (home ++ index_area ∷ []) _ _ (inl refl) (index_named key) leaf in
+      g.gives (Ok found) (given_member (reads t rooted path) moves (Ok found) read (rw answer (looked_up key (entries_of bytes) found e)))
+
+pub lists_each_key : ListsEachKey
+lists_each_key site home t moves items key bytes found is rooted run answered fine answer e =
+    elim (listing_runs items moves (join site.cache index_area) run) [
+      | inl bad ↦ absurd (let wrong : true ≡ false = sym bad.2 ∙ fine bad.0 (contains_member bad.0 items bad.1) in cc)
+      | inr g ↦ contains_member (Ok found) items (item_in site home t rooted is key bytes found moves items answer e answered g)
+    ]

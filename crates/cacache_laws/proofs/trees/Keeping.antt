@@ -1,0 +1,202 @@
+-- What removals of contents leave, and that lookups and reads by key don't see them.
+use Rattle.std.proofs.Common.{◌≡◌, ◌⊎◌, inl, inr, ℕ, List, [], ◌∷◌, ◌++◌, Option, Some, None, Bool, true, false, cond, Result, Ok, Err, refl, sym, ap, subst, ◌∙◌, arith}
+use Rattle.std.specs.Prelude.{Contains}
+use Rattle.std.specs.FinMap as map
+use Rattle.sha1.specs.Sha1.{sha1}
+use Rattle.cacache_core.specs.{declared.{errors.Fault.{Fault, TheVariants.{NotFound}}, integrity.digest.Hash.{Hash}}, Integrity.{IsHash, IsIntegrity}, PathNames.{Names, names_of, home_of}, Paths.{joined, content_names, bucket_names, bucket_names_of}}
+use Rattle.cacache_core.proofs.{JoinedNames.{joined_texts_name}, ProperNames.{names_are_proper}, PathLemmas.{keys_have_digests}, PathTexts.{paths_differ}}
+use Rattle.cacache_store.specs.{declared.store.{step.Step.TheVariants.{ReadAll, RemoveFile}, answer.Answer.TheVariants.{Done}}, Plain.{PlainAnswer}}
+use Rattle.cacache_store.specs.declared.store.answer.Answer.TheVariants as answers
+use Rattle.cacache_disk.specs.{declared.{luck.Luck.TheVariants.{Plain}, node.Node.{Node}}, Tree.{Tree, look, cut, same_path}, LedTo.{removable}, Apply.{apply, unless}, Rooted.{Rooted}}
+use Rattle.cacache_disk.proofs.{Maps.{total, same_path-true}, Roots.{same_self}, FoundNodes.{removable_ok}}
+use Rattle.cacache_entry.specs.Latest.{Found}
+use Rattle.cacache_table.specs.declared.command.Command.TheVariants as commands
+use Rattle.cacache_table.specs.{declared.reply.Reply.{Reply, TheVariants.{Listed}}, State.{looking, Site, Item}, StepPaths.{addressed, bucket_path, content_path}, Table.{opening, after}, Runs.{Moves, Runs}}
+use Rattle.cacache_table.specs.declared.carried.Aim.TheVariants as aims
+use Rattle.cacache_value.{specs.{Kinds.{Content, Bucket, path_kind, is_used}, Value.{blob_in, bucket_in}}, proofs.KindsApart.{kind-below}}
+use Rattle.cacache_laws.proofs.trees.{Members.{Member, contains_member, member_contains}, Indexed.{lists_each_key}, Agreeing.{read_same}, Idle.{address_is, get_moves, moved_same, over_done}, Twice.{leaf_done}}
+use Rattle.cacache_laws.specs.trees.{Answers.{AnsweredBy}, Index.{is_failure}, Walks.{is_leaf}, Idle.{Finds, IsNeeded, LacksIdle}, Collecting.{LinksLeadOut, IsLive, Removes, RemovalsLeave, CollectionsKeepReads, CollectionsKeepLookups}}
+
+-- ---- removals
+
+pub content_named : (cache : List ℕ) (home : Names) (h : Hash) → home_of cache ≡ Some home → IsHash h → names_of (joined cache (content_names h)) ≡ Ok (home ++ content_names h)
+content_named cache home h is hash = joined_texts_name cache (content_names h) (names_are_proper.contents h hash) (omega arith) ∙ rw is refl
+
+content_kind : (home : Names) (h : Hash) → path_kind (Some home) (home ++ content_names h) ≡ Content
+content_kind home h = kind-below home (content_names h)
+
+done_at : (t : Tree) (r : Result Names Fault) (names : Names) → ((n : Names) → r ≡ Ok n → n ≡ names) → (unless r t (λ n. (Done, cut t n))).0 ≡ Done → (unless r t (λ n. (Done, cut t n))).1 ≡ cut t names
+done_at t (Ok n) names h e = ap (cut t) (h n refl)
+done_at t (Err fault) names h e = absurd cc
+
+pub removed : (t : Tree) (path : List ℕ) (names : Names) → names_of path ≡ Ok names → (apply t (RemoveFile path) Plain).0 ≡ Done → (apply t (RemoveFile path) Plain).1 ≡ cut t names
+unfolding apply
+removed t path names is e =
+    done_at t (removable t path) names (λ n found. let both : Ok n ≡ Ok names = sym (removable_ok t path n found).0 ∙ is in cc) e
+
+look_cut : (t : Tree) (names q : Names) → look (cut t names) q ≡ cond (same_path q names) None (look t q)
+look_cut t names q = map.get-remove total t names q
+
+apart_at : (q names : Names) (b : Bool) → same_path q names ≡ b → (q ≡ names → ⊥) → b ≡ false
+apart_at q names true is apart = absurd (apart (same_path-true q names is))
+apart_at q names false is apart = refl
+
+none_at : (b : Bool) (here : Option Node) → here ≡ None → cond b None here ≡ None
+none_at true here e = refl
+none_at false here e = e
+
+same_rest : (base xs ys : Names) → base ++ xs ≡ base ++ ys → xs ≡ ys
+same_rest [] xs ys e = e
+same_rest (b ∷ base) xs ys e = same_rest base xs ys cc
+
+module _ (cache : List ℕ) (home : Names) (is : home_of cache ≡ Some home) where
+  -- one removal
+  look_after : (t : Tree) (h : Hash) (q : Names) → IsHash h → (apply t (RemoveFile (joined cache (content_names h))) Plain).0 ≡ Done → look (apply t (RemoveFile (joined cache (content_names h))) Plain).1 q ≡ cond (same_path q (home ++ content_names h)) None (look t q)
+  look_after t h q hash e = ap (λ (x : Tree). look x q) (removed t (joined cache (content_names h)) (home ++ content_names h) (content_named cache home h is hash) e) ∙ look_cut t (home ++ content_names h) q
+
+  none_stays : (hs : List Hash) (t new : Tree) (q : Names) → ((h : Hash) → Member h hs → IsHash h) → Removes cache hs t new → look t q ≡ None → look new q ≡ None
+  none_stays [] t new q hashes r none = ap (λ (x : Tree). look x q) r ∙ none
+  none_stays (h ∷ hs) t new q hashes r none =
+      none_stays hs (apply t (RemoveFile (joined cache (content_names h))) Plain).1 new q (λ g m. hashes g (inr m)) r.1
+      (look_after t h q (hashes h (inl refl)) r.0 ∙ none_at (same_path q (home ++ content_names h)) (look t q) none)
+
+  gone : (hs : List Hash) (t new : Tree) (h : Hash) → ((g : Hash) → Member g hs → IsHash g) → Removes cache hs t new → Member h hs → look new (home ++ content_names h) ≡ None
+  gone [] t new h hashes r m = absurd m
+  gone (k ∷ hs) t new h hashes r (inl same) =
+      let q = home ++ content_names k in
+      let none : look (apply t (RemoveFile (joined cache (content_names k))) Plain).1 q ≡ None = look_after t k q (hashes k (inl refl)) r.0 ∙ rw (same_self q) refl in
+      ap (λ (g : Hash). look new (home ++ content_names g)) same ∙ none_stays hs (apply t (RemoveFile (joined cache (content_names k))) Plain).1 new q (λ g m. hashes g (inr m)) r.1 none
+  gone (k ∷ hs) t new h hashes r (inr m) = gone hs (apply t (RemoveFile (joined cache (content_names k))) Plain).1 new h (λ g m. hashes g (inr m)) r.1 m
+
+  -- each of them was a file or link
+  after_leaf : (t : Tree) (h g : Hash) → IsHash h → (apply t (RemoveFile (joined cache (content_names h))) Plain).0 ≡ Done → is_leaf (look (apply t (RemoveFile (joined cache (content_names h))) Plain).1 (home ++ content_names g)) ≡ true → is_leaf (look t (home ++ content_names g)) ≡ true
+  after_leaf t h g hash e leaf = by (same_path (home ++ content_names g) (home ++ content_names h)) (ap is_leaf (sym (look_after t h (home ++ content_names g) hash e)) ∙ leaf)
+    where
+      by : (b : Bool) → is_leaf (cond b None (look t (home ++ content_names g))) ≡ true → is_leaf (look t (home ++ content_names g)) ≡ true
+      by true e = absurd cc
+      by false e = e
+
+  stood : (hs : List Hash) (t new : Tree) (h : Hash) → ((g : Hash) → Member g hs → IsHash g) → Removes cache hs t new → Member h hs → is_leaf (look t (home ++ content_names h)) ≡ true
+  stood [] t new h hashes r m = absurd m
+  stood (k ∷ hs) t new h hashes r (inl same) =
+      ap (λ (g : Hash). is_leaf (look t (home ++ content_names g))) same ∙ leaf_done t (joined cache (content_names k)) (home ++ content_names k) (content_named cache home k is (hashes k (inl refl))) r.0
+  stood (k ∷ hs) t new h hashes r (inr m) =
+      after_leaf t k h (hashes k (inl refl)) r.0 (stood hs (apply t (RemoveFile (joined cache (content_names k))) Plain).1 new h (λ g n. hashes g (inr n)) r.1 m)
+
+  pub stays : (hs : List Hash) (t new : Tree) (q : Names) → ((g : Hash) → Member g hs → IsHash g) → Removes cache hs t new → ((g : Hash) → Member g hs → q ≡ home ++ content_names g → ⊥) → look new q ≡ look t q
+  stays [] t new q hashes r apart = ap (λ (x : Tree). look x q) r
+  stays (h ∷ hs) t new q hashes r apart =
+      let off : same_path q (home ++ content_names h) ≡ false = apart_at q (home ++ content_names h) (same_path q (home ++ content_names h)) refl (apart h (inl refl)) in
+      stays hs (apply t (RemoveFile (joined cache (content_names h))) Plain).1 new q (λ g m. hashes g (inr m)) r.1 (λ g m. apart g (inr m))
+      ∙ look_after t h q (hashes h (inl refl)) r.0 ∙ rw off refl
+
+  not_content : (q : Names) (g : Hash) → (path_kind (Some home) q ≡ Content → ⊥) → q ≡ home ++ content_names g → ⊥
+  not_content q g apart e = apart (ap (path_kind (Some home)) e ∙ content_kind home g)
+
+  other_content : (h g : Hash) → IsHash h → IsHash g → (h ≡ g → ⊥) → home ++ content_names h ≡ home ++ content_names g → ⊥
+  other_content h g p q apart e =
+      let names : content_names h ≡ content_names g = same_rest home (content_names h) (content_names g) e in
+      apart ((paths_differ.contents cache h g p q).0 (ap (joined cache) names))
+
+  kept_at : (hs : List Hash) (t new : Tree) (h : Hash) → ((g : Hash) → Member g hs → IsHash g) → Removes cache hs t new → IsHash h → (Member h hs → ⊥) → look new (home ++ content_names h) ≡ look t (home ++ content_names h)
+  kept_at hs t new h hashes r hash apart = stays hs t new (home ++ content_names h) hashes r (λ g m. other_content h g hash (hashes g m) (λ e. apart (subst (λ (x : Hash). Member x hs) (sym e) m)))
+
+  agree : (hs : List Hash) (t new : Tree) → ((g : Hash) → Member g hs → IsHash g) → Removes cache hs t new → (q : Names) → (path_kind (Some home) q ≡ Content → ⊥) → look new q ≡ look t q
+  agree hs t new hashes r q apart = stays hs t new q hashes r (λ g m. not_content q g apart)
+
+bucket_apart : (home : Names) (digest : List ℕ) → path_kind (Some home) (home ++ bucket_names_of digest) ≡ Content → ⊥
+bucket_apart home digest c = let wrong : Bucket ≡ Content = sym (kind-below home (bucket_names_of digest)) ∙ c in cc
+
+pub removals_leave : RemovalsLeave
+removals_leave cache home dropped t new is hashes r =
+    let all = λ (g : Hash) (m : Member g dropped). hashes g (contains_member g dropped m) in
+    record {
+      gone = λ h c. ap blob_in (gone cache home is dropped t new h all r (member_contains h dropped c));
+      kept = λ h hash apart. ap blob_in (kept_at cache home is dropped t new h all r hash (λ m. apart (contains_member h dropped m)));
+      buckets = λ digest d. ap bucket_in (agree cache home is dropped t new all r (home ++ bucket_names_of digest) (bucket_apart home digest));
+    }
+
+-- ---- reads by key
+
+-- a path is that of one of the contents, or of none
+found_in : (home q : Names) (hs : List Hash) → ((g : Hash) × Member g hs × (q ≡ home ++ content_names g)) ⊎ ((g : Hash) → Member g hs → q ≡ home ++ content_names g → ⊥)
+found_in home q [] = inr (λ g m e. m)
+found_in home q (h ∷ hs) = at (same_path q (home ++ content_names h)) refl (found_in home q hs)
+  where
+    at : (b : Bool) → same_path q (home ++ content_names h) ≡ b → ((g : Hash) × Member g hs × (q ≡ home ++ content_names g)) ⊎ ((g : Hash) → Member g hs → q ≡ home ++ content_names g → ⊥)
+        → ((g : Hash) × Member g (h ∷ hs) × (q ≡ home ++ content_names g)) ⊎ ((g : Hash) → Member g (h ∷ hs) → q ≡ home ++ content_names g → ⊥)
+    at true is later = inl (h, inl refl, same_path-true q (home ++ content_names h) is)
+    at false is (inl k) = inl (k.0, inr k.1, k.2)
+    at false is (inr never) = inr (λ g m e. elim m [
+      | inl same ↦ (let wrong : false ≡ true = sym is ∙ ap (λ (x : Hash). same_path q (home ++ content_names x)) (sym same) ∙ ap (same_path q) (sym e) ∙ same_self q in absurd cc)
+      | inr k ↦ never g k e
+    ])
+
+module _ (site : Site) (home : Names) (t new : Tree) (listing : Moves) (items : List Item) (dropped : List Hash)
+    (is : home_of site.cache ≡ Some home) (rooted : Rooted t) (out : LinksLeadOut home t)
+    (ls : Runs (opening site commands.Ls) listing (Listed items)) (at : AnsweredBy t listing)
+    (fine : (item : Item) → Contains items item → is_failure item ≡ false)
+    (integrities : (found : Found) → Contains items (Ok found) → IsIntegrity found.integrity)
+    (apart : (h : Hash) → Contains dropped h → IsHash h × (IsLive items h → ⊥))
+    (r : Removes site.cache dropped t new) where
+  hashes : (g : Hash) → Member g dropped → IsHash g
+  hashes g m = (apart g (contains_member g dropped m)).0
+
+  listed : (key : List ℕ) (found : Found) → Finds site.cache t key found → Contains items (Ok found)
+  listed key found f = lists_each_key site home t listing items key f.0 found is rooted ls at fine f.1 f.2
+
+  -- no lookup leads to what was removed
+  unneeded : (g : Hash) (q : Names) → Member g dropped → q ≡ home ++ content_names g → IsNeeded site.cache t q → ⊥
+  unfolding content_path
+  unneeded g q m e n =
+      let item = listed n.0 n.1 n.2 in
+      let a = address_is n.1.integrity (integrities n.1 item) in
+      let path = ap (addressed (λ (x : Hash). joined site.cache (content_names x))) a.2 in
+      let both : Ok (home ++ content_names a.0) ≡ Ok (home ++ content_names g) = sym (content_named site.cache home a.0 is a.1) ∙ ap names_of (sym path) ∙ n.3 ∙ ap Ok e in
+      let names : content_names a.0 ≡ content_names g = same_rest home (content_names a.0) (content_names g) cc in
+      let same : a.0 ≡ g = (paths_differ.contents site.cache a.0 g a.1 (hashes g m)).0 (ap (joined site.cache) names) in
+      (apart g (contains_member g dropped m)).1 (n.1, item, a.2 ∙ ap Some same)
+
+  -- it only lacks what is idle
+  pub lacks_idle : LacksIdle site.cache home t new
+  lacks_idle = record {
+    nodes = λ q. elim (found_in home q dropped) [
+      | inl k ↦ inr (
+        ap (look new) k.2 ∙ gone site.cache home is dropped t new k.0 hashes r k.1,
+        record {
+          kind = ap (path_kind (Some home)) k.2 ∙ content_kind home k.0;
+          stands = ap (λ n. is_leaf (look t n)) k.2 ∙ stood site.cache home is dropped t new k.0 hashes r k.1;
+          idle = unneeded k.0 q k.1 k.2;
+        },
+      )
+      | inr never ↦ inl (stays site.cache home is dropped t new q hashes r never)
+    ];
+    links = out;
+    formed = λ key found f. integrities found (listed key found f);
+  }
+
+pub collections_keep_reads : CollectionsKeepReads
+collections_keep_reads site home t new listing items dropped key moves reply is rooted out ls at fine integrities apart r run answered =
+    get_moves site.cache home t new is (lacks_idle site home t new listing items dropped is rooted out ls at fine integrities apart r) key reply moves run answered
+
+-- ---- lookups
+
+report_over : (t : Tree) (site : Site) (key : List ℕ) (u : PlainAnswer) (more : Moves) (reply : Reply) → Runs (after (looking (record { cache = site.cache; key = key; aim = aims.Report })) u) more reply → AnsweredBy t more
+report_over t site key (answers.Bytes b) more reply run = over_done t _ more reply run
+report_over t site key (answers.Failed NotFound) more reply run = over_done t _ more reply run
+report_over t site key (answers.Failed other) more reply run = over_done t _ more reply run
+report_over t site key other more reply run = over_done t _ more reply run
+
+bucket_kept : (site : Site) (home : Names) (t new : Tree) (dropped : List Hash) (key : List ℕ) → home_of site.cache ≡ Some home → LinksLeadOut home t → ((h : Hash) → Member h dropped → IsHash h) → Removes site.cache dropped t new → (apply new (ReadAll (bucket_path site.cache key)) Plain).0 ≡ (apply t (ReadAll (bucket_path site.cache key)) Plain).0
+unfolding bucket_path
+bucket_kept site home t new dropped key is out hashes r =
+    let same = agree site.cache home is dropped t new hashes r in
+    let named : names_of (joined site.cache (bucket_names key)) ≡ Ok (home ++ bucket_names key) = joined_texts_name site.cache (bucket_names key) (names_are_proper.buckets (sha1 key) (keys_have_digests key)) (omega arith) ∙ rw is refl in
+    read_same home t new same out (joined site.cache (bucket_names key)) (home ++ bucket_names key) named (inl (ap is_used (kind-below home (bucket_names key)))) (same (home ++ bucket_names key) (bucket_apart home (sha1 key)))
+
+pub collections_keep_lookups : CollectionsKeepLookups
+collections_keep_lookups site home t new dropped key [] reply is out hashes r run a = tt
+collections_keep_lookups site home t new dropped key (m ∷ more) reply is out hashes r run a =
+    let step : ReadAll (bucket_path site.cache key) ≡ m.0 = (let e : Some (ReadAll (bucket_path site.cache key)) ≡ Some m.0 = run.0 in cc) in
+    let all = λ (g : Hash) (k : Member g dropped). hashes g (contains_member g dropped k) in
+    (moved_same t new m (ReadAll (bucket_path site.cache key)) step a.0 (bucket_kept site home t new dropped key is out all r), report_over t site key m.1 more reply run.2)

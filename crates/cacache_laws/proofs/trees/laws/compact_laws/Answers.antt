@@ -1,0 +1,13 @@
+use Rattle.cacache_laws.proofs.trees.{CompactTexts.{compact_texts_answer}, CompactFound.{compact_texts_keep_found}, CompactTwice.{compact_closes, compact_twice}, LeanCalls.{compactions_answer}, LeanTrees.{compactions_keep}, Led.{houses_are_fit}}
+use Rattle.cacache_laws.proofs.trees.laws.compact_laws.Goals as goal
+
+pub returns : goal.returns
+returns c = record {
+  answer = compact_texts_answer;
+  settle = compact_twice;
+  closes = compact_closes;
+  found = compact_texts_keep_found;
+  keeps = compactions_keep;
+  calls = compactions_answer;
+  fit = houses_are_fit;
+}

@@ -1,0 +1,12 @@
+use Rattle.cacache_laws.proofs.trees.{HiddenKeys.{tombstones_hide}, Housed.{tombstones_house}, Led.{caches_are_housed, indexes_lead}, Mended.{repairs_leave}, Tombstones.{tombstones_keep_contents}}
+use Rattle.cacache_laws.proofs.trees.laws.repair_laws.Goals as goal
+
+pub returns : goal.returns
+returns c = record {
+  contents = tombstones_keep_contents;
+  leaves = repairs_leave;
+  hides = tombstones_hide;
+  houses = tombstones_house;
+  caches = caches_are_housed;
+  leads = indexes_lead;
+}

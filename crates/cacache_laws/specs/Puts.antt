@@ -1,0 +1,87 @@
+-- What a put and a writer's commit leave, with any options, in the words of their caller.
+use Rattle.std.specs.Prelude.{◌≡◌, ◌⊎◌, ℕ, List, Some, IfSome}
+use Rattle.cacache_core.specs.{declared.integrity.digest.Hash.{Hash}, Integrity.{IsIntegrity}}
+use Rattle.cacache_store.specs.declared.store.log.LogItem.{LogItem}
+use Rattle.cacache_entry.specs.Latest.{Found, found_of}
+use Rattle.cacache_table.specs.declared.command.Command.TheVariants as commands
+use Rattle.cacache_table.specs.{declared.{command.Put.{Put}, reply.Reply.{Reply, TheVariants.{Stored}}}, Inserting.{given_or}, Promises.{answered}, Storing.{insertion_of, put_commit}}
+use Rattle.cacache_history.specs.Values.{IsThere}
+use Rattle.cacache_laws.specs.{Caches.{IsCache, HasContent, Called, lies_under}, Keeping.{found_under}, Beside.{FitsEntry, KeepsBeside, own_integrity}, OpenWriters.{CommitsBytes, IsOpened}}
+
+-- ---- keys
+
+-- the integrity that a put answers: with a key the expected one, if there is one, and otherwise
+-- that of its bytes
+abbrev pub stored_as : Put → List Hash
+stored_as p = answered (own_integrity p) p.options.integrity p.key
+
+-- the entry that a lookup of a put's key finds: of its options, and the count of its bytes
+abbrev pub entry_of_put : List ℕ → Put → List ℕ → Found
+entry_of_put cache p key =
+    found_of (insertion_of (put_commit cache p) key).entry
+    (given_or (own_integrity p) p.options.integrity)
+
+-- the key, if there is one, leads to the put's entry
+abbrev pub LeadsToPut : List ℕ → Put → List LogItem → Type 0
+LeadsToPut cache p log =
+    (key : List ℕ) → p.key ≡ Some key → found_under cache key log ≡ Some (entry_of_put cache p key)
+
+-- it does, or leads where it led
+abbrev pub MayLeadToPut : List ℕ → Put → List LogItem → List LogItem → Type 0
+MayLeadToPut cache p old new =
+    (key : List ℕ) → p.key ≡ Some key
+    → (found_under cache key new ≡ found_under cache key old)
+    ⊎ (found_under cache key new ≡ Some (entry_of_put cache p key))
+
+-- an expected integrity is one, as each value of the program's type
+abbrev pub ExpectsIntegrity : Put → Type 0
+ExpectsIntegrity p = IfSome p.options.integrity IsIntegrity
+
+-- ---- puts
+
+-- the key leads to the put's entry, and the bytes lie under their integrity
+pub record HasPut (cache : List ℕ) (p : Put) (i : List Hash) (log : List LogItem) : Type 0 where
+  pub stored : i ≡ stored_as p
+  pub entry : LeadsToPut cache p log
+  pub content : HasContent cache (own_integrity p) p.data log
+
+-- this holds after a put that stored, with any options, with or without a key
+abbrev pub PutsLeave : Type 0
+PutsLeave =
+    (cache : List ℕ) (p : Put) (i : List Hash) (old new : List LogItem)
+    → FitsEntry cache p → ExpectsIntegrity p → IsCache cache old
+    → Called cache (commands.Put p) (Stored i) old new → HasPut cache p i new
+
+-- whatever a put answers, its key leads there or where it led
+abbrev pub PutsMayLead : Type 0
+PutsMayLead =
+    (cache : List ℕ) (p : Put) (r : Reply) (old new : List LogItem)
+    → FitsEntry cache p → ExpectsIntegrity p → IsCache cache old
+    → Called cache (commands.Put p) r old new → MayLeadToPut cache p old new
+
+-- ---- commits
+
+-- the same of a commit, except that what was there may have stayed if its bytes couldn't be moved
+-- to their place: they, or another text with their digest, or a link
+pub record HasCommitted (cache : List ℕ) (p : Put) (i : List Hash) (old new : List LogItem)
+    : Type 0 where
+  pub stored : i ≡ stored_as p
+  pub entry : LeadsToPut cache p new
+  pub content : HasContent cache (own_integrity p) p.data new
+      ⊎ (IsThere (lies_under cache (own_integrity p) old)
+      × (lies_under cache (own_integrity p) new ≡ lies_under cache (own_integrity p) old))
+
+-- this holds after a commit that stored, with any options, with or without a key
+abbrev pub CommitsLeave : Type 0
+CommitsLeave =
+    (cache : List ℕ) (p : Put) (number : ℕ) (i : List Hash) (old new : List LogItem)
+    → FitsEntry cache p → ExpectsIntegrity p → IsOpened cache number → IsCache cache old
+    → CommitsBytes cache p number (Stored i) old new → HasCommitted cache p i old new
+
+-- whatever a commit answers, its key leads there or where it led, and all else stays
+abbrev pub CommitsKeep : Type 0
+CommitsKeep =
+    (cache : List ℕ) (p : Put) (number : ℕ) (r : Reply) (old new : List LogItem)
+    → FitsEntry cache p → ExpectsIntegrity p → IsOpened cache number → IsCache cache old
+    → CommitsBytes cache p number r old new
+    → MayLeadToPut cache p old new × KeepsBeside cache p.key (own_integrity p) p.data old new

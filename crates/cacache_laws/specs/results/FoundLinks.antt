@@ -1,0 +1,81 @@
+-- What losses of power leave of a durable put that found a link at its content's address.
+use Rattle.std.specs.Prelude.{◌≡◌, ℕ, List, [], ◌∷◌, ◌++◌, Some, true, Ok}
+use Rattle.cacache_core.specs.{declared.integrity.digest.Hash.{Hash}, PathNames.{Names, names_of}}
+use Rattle.cacache_disk.specs.{declared.node.Node.TheVariants.{File}, Tree.{Tree, look}}
+use Rattle.cacache_table.specs.{declared.command.Put.{Put}, Licence.{KeepsTo, Licence, taking_in}}
+use Rattle.cacache_value.specs.{Shows.{blob_bytes}, Value.{AtLink, value_of_tree}}
+use Rattle.cacache_loss.specs.{Loss.{Loss}, LossLaws.{HasDigest}, LostValues.{LeftOf}, Moments.{EachMove}, Syncs.{Leaves}}
+use Rattle.cacache_history.specs.{declared.record.Record.{Record, TheVariants.{Began, Moved, Stopped}}, AddedEntries.{address_of_put}, History.{History, IsLegal, initial}, Setup.{home}, Values.{steps_of, value_at}, durable.{FewCalls.{FewCalls}, Outlasting.{AnsweredPut, EntriesHaveBehind, PutsOrLinksOutlast, moment_at}}}
+
+-- ---- what is left
+
+-- a target was, when the history began, the path of a file of these bytes, which no step changed
+pub record StaysUnchanged (h : History) (target bytes : List ℕ) : Type 0 where
+  pub path : Names
+  pub named : names_of target ≡ Ok path
+  pub first : look (initial h.setup).tree path ≡ Some (File bytes)
+  pub leaves : EachMove (Leaves path) (moment_at h []) (steps_of h.records)
+
+-- each link that was at an address after the first records leads to such a file
+abbrev pub LeadsUnchanged : History → List Record → Hash → Type 0
+LeadsUnchanged h before address =
+    (target : List ℕ) → (value_at h before).contents address ≡ Some (AtLink target)
+    → (bytes : List ℕ) × StaysUnchanged h target bytes
+
+-- bytes, entries and links may come in, but nothing goes out or is removed
+abbrev pub linking_in : Licence
+linking_in = record taking_in { links = true }
+
+-- each call that begins in these records does no more than this
+abbrev pub OnlyLinksIn : List Record → Type 0
+OnlyLinksIn [] = Unit {0}
+OnlyLinksIn (Began caller command ∷ records) =
+    KeepsTo linking_in command × OnlyLinksIn records
+OnlyLinksIn (Moved caller luck made reply ∷ records) = OnlyLinksIn records
+OnlyLinksIn (Stopped caller ∷ records) = OnlyLinksIn records
+
+-- what lies at an address, or where a link there leads, is bytes with its digest
+abbrev pub GivesDigest : Names → Hash → Tree → Type 0
+GivesDigest folder address t =
+    (bytes : List ℕ) × HasDigest address bytes
+    × (blob_bytes t ((value_of_tree (Some folder) t).contents address) ≡ Ok bytes)
+
+-- ---- the laws
+
+-- a file that no step changed is there after each loss, with its bytes
+abbrev pub UnchangedFilesStay : History → Type 0
+UnchangedFilesStay h =
+    (folder : Names) (target bytes : List ℕ) (loss : Loss) (left : Tree)
+    → home h.setup ≡ Some folder → (file : StaysUnchanged h target bytes)
+    → LeftOf folder (moment_at h h.records) loss left
+    → look left file.path ≡ Some (File bytes)
+
+-- so if the link leads to such a file, what lies at the put's address gives bytes with its digest
+abbrev pub PutsOrLinksGive : History → Type 0
+PutsOrLinksGive h =
+    (folder : Names) (p : Put) (loss : Loss) (left : Tree) → home h.setup ≡ Some folder
+    → (put : AnsweredPut h folder p) → LeftOf folder (moment_at h h.records) loss left
+    → LeadsUnchanged h put.before (address_of_put p) → GivesDigest folder (address_of_put p) left
+
+-- if no call exports or removes, each link at a put's address leads to such a file
+abbrev pub LinksLeadUnchanged : History → Type 0
+LinksLeadUnchanged h =
+    OnlyLinksIn h.records → (before later : List Record) → h.records ≡ before ++ later
+    → (p : Put) → LeadsUnchanged h before (address_of_put p)
+
+-- what a loss of power leaves of durable puts that found a link
+pub record LinksOutlast (h : History) : Type 0 where
+  -- the content or the link, if each call has a temporary file of its own
+  pub puts : FewCalls h → PutsOrLinksOutlast h
+  -- what is left after the entry of such a put
+  pub behind : EntriesHaveBehind h
+  -- the link's target
+  pub files : UnchangedFilesStay h
+  -- which no step changes, if no call exports or removes
+  pub unchanged : LinksLeadUnchanged h
+  -- and so what both give
+  pub gives : FewCalls h → PutsOrLinksGive h
+
+-- so it is for every legal history
+abbrev pub HistoriesKeepLinks : Type 0
+HistoriesKeepLinks = (h : History) → IsLegal h → LinksOutlast h

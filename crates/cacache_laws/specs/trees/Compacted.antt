@@ -1,0 +1,80 @@
+-- What a compaction leaves of a tree, and what lookups, reads and listings answer there.
+use Rattle.std.specs.Prelude.{◌≡◌, ◌⊎◌, ◌++◌, ℕ, List, [], ◌∷◌, Bool, true, Option, None, Some}
+use Rattle.cacache_core.specs.{declared.integrity.digest.Hash.{Hash}, Integrity.{IsIntegrity}, PathNames.{Names, home_of}, Paths.{temp_area}}
+use Rattle.cacache_disk.specs.{declared.node.Node.{Node, TheVariants.{Folder, File}}, Rooted.{Rooted}, Tree.{Tree, look}}
+use Rattle.cacache_entry.specs.Latest.{Found}
+use Rattle.cacache_table.specs.State.{Site}
+use Rattle.cacache_value.specs.Kinds.{Bucket, path_kind}
+use Rattle.cacache_laws.specs.trees.{Collecting.{LinksLeadOut, ReadsAsBefore}, Compacting.{compact_text}, Contents.{content_in}, Housed.{Housed}, Idle.{Finds}, Mending.{found_in}, Temporary.{is_temp_name, temp_at}}
+
+-- ---- at one path, from what was there to what is there
+
+-- it is a bucket, and its bytes are compacted, durably or not
+abbrev pub IsCompacted : Bool → Names → Names → Option Node → Option Node → Type 0
+IsCompacted durable home names old new =
+    (path_kind (Some home) names ≡ Bucket) × (bytes : List ℕ)
+    × (old ≡ Some (File bytes)) × (new ≡ Some (File (compact_text durable bytes)))
+
+-- it is the folder of temporary files, and was made
+abbrev pub IsTempFolder : Names → Names → Option Node → Option Node → Type 0
+IsTempFolder home names old new =
+    (names ≡ home ++ temp_area ∷ []) × (old ≡ None) × (new ≡ Some Folder)
+
+-- it is a temporary file that was left, and nothing was there before
+abbrev pub IsLeftOver : Names → Names → Option Node → Option Node → Type 0
+IsLeftOver home names old new =
+    (name : List ℕ) × (names ≡ temp_at home name) × (is_temp_name name ≡ true)
+    × (old ≡ None) × (new ≡ Some (File []))
+
+-- ---- of the whole tree
+
+-- all is as it was, except that buckets may be compacted, and the folder of temporary files be new
+abbrev pub Compacted : Bool → Names → Tree → Tree → Type 0
+Compacted durable home t new =
+    (names : Names)
+    → (look new names ≡ look t names)
+    ⊎ (IsCompacted durable home names (look t names) (look new names)
+    ⊎ IsTempFolder home names (look t names) (look new names))
+
+-- so it is if that was cut short, except that temporary files may be left
+abbrev pub CutShort : Bool → Names → Tree → Tree → Type 0
+CutShort durable home t new =
+    (names : Names)
+    → (look new names ≡ look t names)
+    ⊎ (IsCompacted durable home names (look t names) (look new names)
+    ⊎ (IsTempFolder home names (look t names) (look new names)
+    ⊎ IsLeftOver home names (look t names) (look new names)))
+
+-- ---- what is found there
+
+-- each key leads where it led, and each address has the content that it had
+pub record KeepsFound (home : Names) (t new : Tree) : Type 0 where
+  pub keys : (key : List ℕ) → found_in home new key ≡ found_in home t key
+  pub contents : (h : Hash) → content_in home new h ≡ content_in home t h
+
+-- each entry that a lookup finds has an integrity
+abbrev pub FindsFormed : List ℕ → Tree → Type 0
+FindsFormed cache t =
+    (key : List ℕ) (found : Found) → Finds cache t key found → IsIntegrity found.integrity
+
+-- ---- laws
+
+-- a compaction keeps what is found, also if it is cut short
+abbrev pub CompactionsKeep : Type 0
+CompactionsKeep =
+    (durable : Bool) (home : Names) (t new : Tree)
+    → CutShort durable home t new → KeepsFound home t new
+
+-- if links lead out of the cache and found entries have integrities, calls answer as before
+abbrev pub CompactionsAnswer : Type 0
+CompactionsAnswer =
+    (durable : Bool) (site : Site) (home : Names) (t new : Tree)
+    → home_of site.cache ≡ Some home → LinksLeadOut home t → FindsFormed site.cache t
+    → CutShort durable home t new → ReadsAsBefore site t new
+
+-- so it is if each thing lies in its place, and entries in the buckets of their keys
+abbrev pub HousesAreFit : Type 0
+HousesAreFit =
+    (cache : List ℕ) (home : Names) (t : Tree)
+    → home_of cache ≡ Some home → Rooted t → Housed (Some home) t
+    → LinksLeadOut home t × FindsFormed cache t

@@ -1,6 +1,0 @@
-use Rattle.std.specs.Vec.Iter.{into_iter_items}
-use Rattle.cacache_memory.proofs.Receiving.{Receives}
-use Rattle.cacache_memory.proofs.memory.MemStore.of.Given as goal
-
-abbrev pub invariant-loop-item : goal.invariant-loop-item
-invariant-loop-item l = Receives l.disk l.store (into_iter_items l.item-iterator)

@@ -1,4 +1,0 @@
-pub mod Lookups
-pub mod Printing
-pub mod Reads
-pub mod Exports

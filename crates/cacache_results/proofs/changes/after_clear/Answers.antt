@@ -1,5 +1,0 @@
-use Rattle.cacache_results.proofs.RemovalResults.{clearing_means}
-use Rattle.cacache_results.proofs.changes.after_clear.Goals as goal
-
-pub returns : goal.returns
-returns g c = clearing_means c.args.cache.now c.args.cleared.now c.args.env.now c.log-log.ensures.replayable

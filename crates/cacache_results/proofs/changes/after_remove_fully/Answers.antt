@@ -1,5 +1,0 @@
-use Rattle.cacache_results.proofs.RemovalResults.{full_removal_means}
-use Rattle.cacache_results.proofs.changes.after_remove_fully.Goals as goal
-
-pub returns : goal.returns
-returns g c = full_removal_means c.args.cache.now c.args.key.now c.args.removed.now c.args.env.now c.log-log.ensures.replayable

@@ -1,5 +1,0 @@
-use Rattle.cacache_results.proofs.RemovalResults.{content_removal_means}
-use Rattle.cacache_results.proofs.changes.after_remove_hash.Goals as goal
-
-pub returns : goal.returns
-returns g c = content_removal_means c.args.cache.now c.args.sri.now c.args.removed.now c.args.env.now c.address-address.ensures.integrity c.log-log.ensures.replayable

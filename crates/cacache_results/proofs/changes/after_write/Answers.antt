@@ -1,6 +1,0 @@
-use Rattle.std.proofs.Common.{arith}
-use Rattle.cacache_results.proofs.WriteResults.{write_means}
-use Rattle.cacache_results.proofs.changes.after_write.Goals as goal
-
-pub returns : goal.returns
-returns g c = write_means g.C.Clock.given g.N.Names.given c.args.algo c.args.cache.now c.args.key.now c.args.data.now c.args.written.now c.args.env.now c.utf8.key (omega arith) c.log-log.ensures.replayable

@@ -1,5 +1,0 @@
-use Rattle.cacache_results.proofs.ListResults.{listing_means}
-use Rattle.cacache_results.proofs.listing.after_list.Goals as goal
-
-pub returns : goal.returns
-returns g c = listing_means c.args.cache.now c.args.listed.now c.args.env.now c.log-log.ensures.replayable

@@ -1,5 +1,0 @@
-use Rattle.cacache_results.proofs.ReadResults.{question_means}
-use Rattle.cacache_results.proofs.looks.after_exists.Goals as goal
-
-pub returns : goal.returns
-returns g c = question_means c.args.cache.now c.args.sri.now c.args.there.now c.args.env.now c.address-address.ensures.integrity c.log-log.ensures.replayable

@@ -1,5 +1,0 @@
-use Rattle.cacache_results.proofs.LossResults.{left_read_means}
-use Rattle.cacache_results.proofs.losses.after_read_left.Goals as goal
-
-pub returns : goal.returns
-returns g c = left_read_means c.args.cache.now c.args.key.now c.args.read.now c.args.env.now c.log-log.ensures.replayable

@@ -1,5 +1,0 @@
-use Rattle.cacache_results.proofs.DurableCases.{inserts_stand, puts_stand, puts_stand_last}
-use Rattle.cacache_results.proofs.losses.durable_cases.Goals as goal
-
-pub returns : goal.returns
-returns c = record { inserts = inserts_stand; puts = puts_stand; last = puts_stand_last }

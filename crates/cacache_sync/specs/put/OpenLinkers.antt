@@ -1,0 +1,151 @@
+-- Links whose target is read in pieces before they are made.
+use Rattle.std.specs.{Prelude.{◌≡◌, ◌⊎◌, ◌-◌, ◌^◌, ◌++◌, ℕ, List, [], Option, None, Some, Result, Ok, Err, length, min}, Io.KnownBytes.{Consumes}}
+use Rattle.cacache_core.specs.{declared.{errors.Error.{Error}, integrity.digest.Hash.{Hash}}, Hashers.{Holds, algorithm_of}}
+use Rattle.cacache_store.specs.declared.{env.Env.{Env}, store.{log.LogItem.{LogItem}, plain.PlainFile.{PlainFile}}}
+use Rattle.cacache_store.specs.declared.store.answer.Answer.TheVariants as answers
+use Rattle.cacache_store.specs.declared.store.step.Step.TheVariants as steps
+use Rattle.cacache_table.specs.{declared.{reply.Reply.{Reply, TheVariants.{Stored, Refused}}, target.Target.{Target}}, Linking.{commit_for, linked_to, with_size, target_at}, Promises.{Stores}, Runs.{Moves, Gains, Gone, Ran, without_message}, State.{State, sizing, opening_file, hashing, to_link}, Verifying.{Gives}, SingleSteps.{Does, FailsAt}}
+use Rattle.cacache_sync.specs.{declared.put.linker.SyncToLinker.{SyncToLinker}, put.Options.{Said, options_of}, content.OpenReads.{OpensFile, FailsToOpen}}
+use Rattle.cacache_jobs.specs.Environment.{HasMoment, KeepsRest}
+
+-- a target that is to be linked to; if it has no moment, the clock is asked for it
+abbrev pub LinkTarget : Type 0
+LinkTarget = Target (Option ℕ)
+
+-- what is to be linked by what was said of it; without a key the time has no effect
+abbrev pub linked_by : List ℕ → List ℕ → Option (List ℕ) → List ℕ → Said → LinkTarget
+linked_by base cache None target s = linked_to base cache None target (Some 0) (options_of s)
+linked_by base cache (Some key) target s =
+    linked_to base cache (Some key) target s.time (options_of s)
+
+-- ---- where a call with it begins
+
+-- the target's size is asked first
+abbrev pub asks_size : LinkTarget → ℕ → State
+asks_size l moment = sizing (target_at l moment)
+
+-- it isn't
+abbrev pub asks_file : LinkTarget → ℕ → State
+asks_file l moment = opening_file (to_link (target_at l moment))
+
+-- it was asked, and is the one that the link is to have; or why it wasn't given
+abbrev pub Sizes :
+    LinkTarget → Result LinkTarget Error → Option (List LogItem) → Option (List LogItem) → Type 0
+Sizes l (Ok sized) old new =
+    (sized.moment ≡ l.moment)
+    × ((moment : ℕ) → Gone (asks_size l moment) (asks_file sized moment) old new)
+Sizes l (Err e) old new = (moment : ℕ) → Ran (asks_size l moment) (Refused (without_message e)) old new
+
+-- ---- how far a linker is
+
+-- the linker took these bytes of its target so far
+abbrev pub HasHashed : {F : Type 0} → SyncToLinker F → List ℕ → Type 0
+HasHashed l bytes =
+    Holds l.hasher bytes × (algorithm_of l.hasher ≡ l.linked.options.algorithm)
+    × (l.count ≡ min (length bytes) (2 ^ 64 - 1))
+
+-- the linker took these bytes more, whatever it took before
+abbrev pub HashesMore : {F : Type 0} → SyncToLinker F → SyncToLinker F → List ℕ → Type 0
+HashesMore old new more = (bytes : List ℕ) → HasHashed old bytes → HasHashed new (bytes ++ more)
+
+-- it took a beginning of these, which its file lost
+abbrev pub HashesPart :
+    {F : Type 0} → (F → PlainFile) → SyncToLinker F → SyncToLinker F → List ℕ → Type 0
+HashesPart file old new bytes =
+    (front rest : List ℕ) × (bytes ≡ front ++ rest) × HashesMore old new front
+    × Consumes (file old.file).bytes (file new.file).bytes front
+
+-- the linker took nothing yet, and is to make this link
+pub record IsNewLinker {F : Type 0} (linked : LinkTarget) (l : SyncToLinker F) : Type 0 where
+  pub linked_is : l.linked ≡ linked
+  pub empty : HasHashed l []
+
+-- ---- the opening: before and after
+
+-- the target's size was asked, and is this
+abbrev pub HasSize : List ℕ → ℕ → Option (List LogItem) → Option (List LogItem) → Type 0
+HasSize path size old new = Does (steps.Size path) (answers.Length size) old new
+
+-- it wasn't given
+abbrev pub FailsToSize : List ℕ → Error → Option (List LogItem) → Option (List LogItem) → Type 0
+FailsToSize path e old new = FailsAt (steps.Size path) e old new
+
+-- what is to be linked, with the size that was asked; or why it has none
+abbrev pub AsksSize :
+    LinkTarget → Result LinkTarget Error → Option (List LogItem) → Option (List LogItem) → Type 0
+AsksSize l (Ok next) old new =
+    (size : ℕ) × (next ≡ with_size l size) × HasSize l.path size old new
+AsksSize l (Err e) old new = FailsToSize l.path e old new
+
+module _ {F : Type 0} (file : F → PlainFile) where
+  -- the target was opened, and the linker took nothing of it yet; or why it wasn't
+  abbrev pub OpensTarget :
+      LinkTarget → Result (SyncToLinker F) Error → Option (List LogItem) → Option (List LogItem) → Type 0
+  OpensTarget linked (Ok l) old new =
+      IsNewLinker linked l × OpensFile linked.path (file l.file) old new
+  OpensTarget linked (Err e) old new = FailsToOpen linked.path e old new
+
+  -- its size was asked first, and is the one that the link is to have
+  abbrev pub OpensSized :
+      LinkTarget → Result (SyncToLinker F) Error → Option (List LogItem) → Option (List LogItem) → Type 0
+  OpensSized linked (Ok l) old new =
+      (size : ℕ) × (mid : Option (List LogItem)) × HasSize linked.path size old mid
+      × OpensTarget (with_size linked size) (Ok l) mid new
+  OpensSized linked (Err e) old new =
+      FailsToSize linked.path e old new
+      ⊎ ((size : ℕ) × (mid : Option (List LogItem)) × HasSize linked.path size old mid
+      × FailsToOpen linked.path e mid new)
+
+  module _ {S C N : Type 0} (log : S → Option (List LogItem)) where
+    -- the target was opened, and the environment stayed except for the store
+    abbrev pub OpensLink :
+        Env S C N → Env S C N → LinkTarget → Result (SyncToLinker F) Error → Type 0
+    OpensLink old new linked r =
+        OpensTarget linked r (log old.store) (log new.store) × KeepsRest old new
+
+    -- the same after its size was asked
+    abbrev pub OpensWithSize :
+        Env S C N → Env S C N → LinkTarget → Result (SyncToLinker F) Error → Type 0
+    OpensWithSize old new linked r =
+        OpensSized linked r (log old.store) (log new.store) × KeepsRest old new
+
+  -- ---- the opening as moves of a run
+
+  -- the state of the linker's call
+  abbrev pub stands_at : SyncToLinker F → List ℕ → ℕ → State
+  stands_at l bytes moment = hashing (to_link (target_at l.linked moment)) (file l.file) bytes
+
+  -- a linker that took nothing yet, with this time; or why there is none
+  abbrev pub OpensLinker :
+      Option ℕ → (ℕ → State) → Result (SyncToLinker F) Error
+      → Option (List LogItem) → Option (List LogItem) → Type 0
+  OpensLinker time start (Ok l) old new =
+      HasHashed l [] × (l.linked.moment ≡ time)
+      × ((moment : ℕ) → Gone (start moment) (stands_at l [] moment) old new)
+  OpensLinker time start (Err e) old new =
+      (moment : ℕ) → Ran (start moment) (Refused (without_message e)) old new
+
+  -- the environment's store made the moves of such an opening
+  abbrev pub BeginsLink :
+      {S C N : Type 0} → (S → Option (List LogItem)) → Env S C N → Env S C N
+      → (LinkTarget → ℕ → State) → LinkTarget → Result (SyncToLinker F) Error → Type 0
+  BeginsLink log old new asks l r = OpensLinker l.moment (asks l) r (log old.store) (log new.store)
+
+  -- what a commit does to the environment: it runs the rest of the call, of a moment that was set or
+  -- asked for once
+  abbrev pub CommitsLink :
+      {S C N : Type 0} → (S → Option (List LogItem)) → (C → Option (List ℕ))
+      → Env S C N → Env S C N → SyncToLinker F → List ℕ → Reply → Type 0
+  CommitsLink log moments old new l bytes reply =
+      (moment : ℕ) × HasMoment moments l.linked.moment old.clock new.clock moment
+      × Ran (stands_at l bytes moment) reply (log old.store) (log new.store)
+      × (new.names ≡ old.names) × (new.base ≡ old.base)
+
+  -- a log that is kept gained moves that begin with reads of the target's rest, to its end: a commit of
+  -- all its bytes, those that were taken and the rest, stores this integrity
+  abbrev pub StoresWhole :
+      SyncToLinker F → List ℕ → List Hash → Option (List LogItem) → Option (List LogItem) → Type 0
+  StoresWhole l bytes i old new =
+      (moves : Moves) × Gains old new moves
+      × (rest : List ℕ) × Gives (file l.file) rest moves
+      × (moment : ℕ) × Stores (commit_for (target_at l.linked moment) (bytes ++ rest)) (Stored i)

@@ -1,0 +1,4 @@
+//! Open handles on contents: bytes in pieces, in constant memory.
+
+pub mod reader;
+pub mod writer;

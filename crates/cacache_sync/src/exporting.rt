@@ -1,0 +1,105 @@
+//! Exports: a content is copied, shares its storage, or has one more name. A checked one verifies the content first.
+ghost use Rattle.std.specs.Prelude.{◌≡◌, ◌≢◌, true, IfOk};
+ghost use Rattle.cacache_table.specs.declared.command.How.TheVariants.{Copy};
+ghost use Rattle.cacache_table.specs.declared.reply.Reply.TheVariants.{Copied, Done};
+ghost use Rattle.cacache_table.specs.Runs.{reply_of};
+ghost use Rattle.cacache_sync.specs.Exports.{exporting, named_source, IsFormed, SaysCount, SaysNothing};
+ghost use Rattle.cacache_jobs.specs.ReadFirst.{ReadsFirst, Verified};
+ghost use Rattle.cacache_jobs.specs.Sites.{site_of};
+ghost use Rattle.cacache_table.specs.Replies.{done as says_done};
+ghost use Rattle.cacache_jobs.specs.Environment.{Calls};
+
+use cacache_core::errors::Result;
+use cacache_core::integrity::Integrity;
+use cacache_core::text::Text;
+use cacache_jobs::call;
+use cacache_store::env::Env;
+use cacache_store::store::Store;
+use cacache_table::{Command, Export, How, Source};
+use std::alloc::{AllocError, Global};
+
+/// Makes a call that says how many bytes were copied.
+fn make_copy<S: Store, C, N>(env: &mut Env<S, C, N>, cache: &str, command: Command) -> Result<u64>
+    requires { SaysCount command }
+    ensures first { IfOk result (λ count. ReadsFirst (site_of cache.now env.old.base 0) command
+        (Copied count) (S.log env.old.store) (S.log env.new.store)) }
+    ensures ran { Calls S.log env.old env.new cache.now command (reply_of Copied result) }
+{
+    call(env, cache, command, 0).copied()
+}
+
+/// Makes a call that only says that it is done.
+fn make_link<S: Store, C, N>(env: &mut Env<S, C, N>, cache: &str, command: Command) -> Result<()>
+    requires { SaysNothing command }
+    ensures first { IfOk result (λ _. ReadsFirst (site_of cache.now env.old.base 0) command
+        Done (S.log env.old.store) (S.log env.new.store)) }
+    ensures ran { Calls S.log env.old env.new cache.now command (reply_of says_done result) }
+{
+    call(env, cache, command, 0).done()
+}
+
+/// What names the content that is exported.
+#[derive(Clone, Copy)]
+pub enum Named<'a> {
+    /// The integrity that a lookup of this key finds.
+    Key(&'a str),
+    /// This integrity.
+    Hash(&'a Integrity),
+}
+
+/// The same as the source of a command.
+fn source_of(alloc: Global, named: Named<'_>) -> std::result::Result<Source, AllocError>
+    ensures source { IfOk result (λ source. source ≡ named_source named.entry) }
+    ensures formed { IsFormed named.entry }
+{
+    match named {
+        Named::Key(key) => Ok(Source::Key(Text::from_str(alloc, key)?)),
+        Named::Hash(sri) => {
+            let _address = sri.address();
+            Ok(Source::Hash(sri.clone()?))
+        }
+    }
+}
+
+/// Copies the content to this path, verified first or not, and answers how many bytes it has.
+pub fn copy_content<S: Store, C, N>(
+    env: &mut Env<S, C, N>,
+    cache: &str,
+    named: Named<'_>,
+    checked: bool,
+    to: &str,
+) -> Result<u64>
+    ensures formed { IsFormed named.entry }
+    ensures verified { checked ≡ true → IfOk result (λ count. Verified cache.now
+        (named_source named.entry) (Copied count) (S.log env.old.store) (S.log env.new.store)) }
+    ensures ran { Calls S.log env.old env.new cache.now
+        (exporting Copy checked (named_source named.entry) to.now) (reply_of Copied result) }
+{
+    let source = source_of(env.alloc, named)?;
+    let to = Text::from_str(env.alloc, to)?;
+    let how = How::Copy;
+    let export = Export { how, checked, to };
+    make_copy(env, cache, Command::Export(source, export))
+}
+
+/// Shares the storage of the content with this path, or gives it this name, verified first or not.
+pub fn link_content<S: Store, C, N>(
+    env: &mut Env<S, C, N>,
+    cache: &str,
+    named: Named<'_>,
+    how: How,
+    checked: bool,
+    to: &str,
+) -> Result<()>
+    requires { how ≢ Copy }
+    ensures formed { IsFormed named.entry }
+    ensures verified { checked ≡ true → IfOk result (λ _. Verified cache.now
+        (named_source named.entry) Done (S.log env.old.store) (S.log env.new.store)) }
+    ensures ran { Calls S.log env.old env.new cache.now
+        (exporting how checked (named_source named.entry) to.now) (reply_of says_done result) }
+{
+    let source = source_of(env.alloc, named)?;
+    let to = Text::from_str(env.alloc, to)?;
+    let export = Export { how, checked, to };
+    make_link(env, cache, Command::Export(source, export))
+}

@@ -1,0 +1,34 @@
+//! Calls that find, read, remove and write: keys are found, deleted and removed, contents are read at once and exported, and
+//! contents and caches removed.
+//!
+//! - `by_hash`: exports of the content of an integrity
+//! - `by_key`: exports of the content that a key names
+//! - `content`: open handles on contents, which take or give bytes in pieces
+//! - `entries`: entries that were found, as entries again and as texts
+//! - `exporting`: exports: a content is copied, shares its storage, or has one more name
+//! - `index`: keys are found and deleted
+//! - `put`: calls that write bytes and links into a cache, and entries into its index
+//! - `reading`: contents that are read at once, and the question whether one is there
+//! - `rm`: calls that remove
+#![tactic(auto)]
+
+mod by_hash;
+mod by_key;
+pub mod content;
+pub mod entries;
+mod exporting;
+pub mod index;
+pub mod put;
+mod reading;
+pub mod rm;
+
+pub use by_hash::{
+    copy_hash_sync, copy_hash_unchecked_sync, hard_link_hash_sync, hard_link_hash_unchecked_sync,
+    reflink_hash_sync, reflink_hash_unchecked_sync,
+};
+pub use by_key::{
+    copy_sync, copy_unchecked_sync, hard_link_sync, hard_link_unchecked_sync, reflink_sync,
+    reflink_unchecked_sync,
+};
+pub use exporting::{Named, copy_content, link_content};
+pub use reading::{exists_sync, has_content, read_hash_sync, read_sync};

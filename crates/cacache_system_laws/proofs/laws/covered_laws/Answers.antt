@@ -1,5 +1,0 @@
-use Rattle.cacache_system_laws.proofs.Covered.{each_may_break}
-use Rattle.cacache_system_laws.proofs.laws.covered_laws.Goals as goal
-
-pub returns : goal.returns
-returns c = record { breaking = each_may_break }

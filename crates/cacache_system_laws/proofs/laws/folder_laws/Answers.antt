@@ -1,5 +1,0 @@
-use Rattle.cacache_system_laws.proofs.Dirs.{make_dirs_agrees}
-use Rattle.cacache_system_laws.proofs.laws.folder_laws.Goals as goal
-
-pub returns : goal.returns
-returns c = record { make = make_dirs_agrees }

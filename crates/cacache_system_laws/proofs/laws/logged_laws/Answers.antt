@@ -1,5 +1,0 @@
-use Rattle.cacache_system_laws.proofs.Logging.{logs_agree}
-use Rattle.cacache_system_laws.proofs.laws.logged_laws.Goals as goal
-
-pub returns : goal.returns
-returns c = record { agree = logs_agree }

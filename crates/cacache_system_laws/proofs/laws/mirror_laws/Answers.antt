@@ -1,5 +1,0 @@
-use Rattle.cacache_system_laws.proofs.{Chaining.{runs_mirror}, Keeping.{steps_mirror}}
-use Rattle.cacache_system_laws.proofs.laws.mirror_laws.Goals as goal
-
-pub returns : goal.returns
-returns c = record { step = steps_mirror; run = runs_mirror }

@@ -1,5 +1,0 @@
-use Rattle.cacache_system_laws.proofs.{Copying.{copy_agrees}, Writing.{append_agrees, write_agrees}}
-use Rattle.cacache_system_laws.proofs.laws.write_laws.Goals as goal
-
-pub returns : goal.returns
-returns c = record { append = append_agrees; write = write_agrees; copy = copy_agrees }

@@ -1,9 +1,0 @@
-//! What the system's calls mean, and that a run of a step's calls does what the disk's table of steps says.
-#![tactic(auto)]
-
-mod laws;
-
-pub use laws::{
-    change_laws, covered_laws, fixing_laws, folder_laws, list_laws, logged_laws, look_laws,
-    mirror_laws, model_laws, read_laws, refusal_laws, removal_laws, sync_laws, write_laws,
-};

@@ -1,9 +1,0 @@
-use Rattle.cacache_disk.specs.{Tree.{cut}, LedTo.{emptied}}
-use Rattle.cacache_system_laws.proofs.Saying.{emptied_say}
-use Rattle.cacache_system_memory.proofs.Goings.{goes_changed}
-use Rattle.cacache_system_memory.proofs.system.MemorySystemSystem.remove_folder.Goals as goal
-
-pub returns-clause-goes : goal.returns-clause-goes
-returns-clause-goes c =
-    goes_changed c.args.self.now.memory.disk c.remove_folder-done.new.disk c.args.self.now.memory.files.items (emptied c.args.self.now.memory.disk c.args.path.now) (cut c.args.self.now.memory.disk) c.remove_folder-done.result _ (emptied_say c.args.self.now.memory.disk c.args.path.now)
-    c.end.ensures.told c.remove_folder-done.ensures

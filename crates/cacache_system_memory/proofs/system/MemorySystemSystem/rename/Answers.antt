@@ -1,9 +1,0 @@
-use Rattle.cacache_disk.specs.LedTo.{place, replaceable}
-use Rattle.cacache_system_laws.proofs.Saying.{place_say, replaceable_say}
-use Rattle.cacache_system_memory.proofs.Goings.{goes_moved}
-use Rattle.cacache_system_memory.proofs.system.MemorySystemSystem.rename.Goals as goal
-
-pub returns-clause-goes : goal.returns-clause-goes
-returns-clause-goes c =
-    goes_moved c.args.self.now.memory.disk c.rename-done.new.disk c.args.self.now.memory.files.items (place c.args.self.now.memory.disk c.args.from.now) (replaceable c.args.self.now.memory.disk c.args.to.now) c.rename-done.result _
-    (place_say c.args.self.now.memory.disk c.args.from.now) (replaceable_say c.args.self.now.memory.disk c.args.to.now) c.end.ensures.told c.rename-done.ensures

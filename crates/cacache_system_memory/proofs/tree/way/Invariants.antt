@@ -1,6 +1,0 @@
-use Rattle.std.proofs.Common.{◌≡◌, [], take, drop}
-use Rattle.cacache_disk.specs.LedTo.{way_fault}
-use Rattle.cacache_system_memory.proofs.tree.way.Given as goal
-
-abbrev pub invariant-loop-i : goal.invariant-loop-i
-invariant-loop-i l = way_fault l.disk [] l.names ≡ way_fault l.disk (take l.i l.names) (drop l.i l.names)

@@ -1,8 +1,0 @@
-//! Laws, on a function that does nothing.
-ghost use Rattle.cacache_system_memory.specs.Machines.{GoesOccur, MovesOccur};
-
-/// A call of a system in memory that goes as its clause says happens on the model under some luck.
-pub fn model_laws()
-    ensures goes { GoesOccur }
-    ensures moves { MovesOccur }
-{}

@@ -1,0 +1,26 @@
+-- Each step's law, if the step has what the law asks.
+use Rattle.cacache_store.specs.declared.store.step.Step.TheVariants as steps
+use Rattle.cacache_system_model.specs.Premises.{EachMayBreak}
+use Rattle.cacache_system_model.proofs.{Changing.{create_agrees, exists_agrees, symlink_agrees, hard_link_agrees, reflink_breaks}, Copying.{copy_agrees}, Dirs.{make_dirs_agrees}, Listing.{read_dir_breaks}, Looking.{open_agrees, size_agrees}, Moving.{persist_agrees}, Reading.{read_breaks}, Removing.{remove_file_agrees, remove_dir_agrees}, Syncing.{sync_temp_agrees, sync_file_agrees, sync_dir_agrees}, Whole.{read_all_agrees}, Writing.{append_agrees}}
+
+pub each_may_break : EachMayBreak
+each_may_break m hint (steps.MakeDirs p) (rooted, link) = (make_dirs_agrees m hint p rooted link).breaking
+each_may_break m hint (steps.CreateTemp p) asks = (create_agrees m hint p).breaking
+each_may_break m hint (steps.Write t bytes) asks = absurd asks
+each_may_break m hint (steps.Persist t p) ((names, bytes, stands), may) = (persist_agrees m hint t p names bytes stands may).breaking
+each_may_break m hint (steps.Append p bytes) asks = (append_agrees m hint p bytes asks).breaking
+each_may_break m hint (steps.ReadAll p) asks = (read_all_agrees m hint p).breaking
+each_may_break m hint (steps.Open p) asks = (open_agrees m hint p).breaking
+each_may_break m hint (steps.Read f max) (found, bytes, stays) = read_breaks m hint f found bytes max stays
+each_may_break m hint (steps.Exists p) asks = (exists_agrees m hint p).breaking
+each_may_break m hint (steps.Size p) asks = (size_agrees m hint p).breaking
+each_may_break m hint (steps.Symlink target p) asks = (symlink_agrees m hint target p).breaking
+each_may_break m hint (steps.Copy p q) asks = (copy_agrees m hint p q asks).breaking
+each_may_break m hint (steps.Reflink p q) asks = reflink_breaks m hint p q
+each_may_break m hint (steps.HardLink p q) (node, is) = (hard_link_agrees m hint p q node is).breaking
+each_may_break m hint (steps.ReadDir p) (plain, fresh) = read_dir_breaks m hint p plain fresh
+each_may_break m hint (steps.RemoveFile p) asks = (remove_file_agrees m hint p asks).breaking
+each_may_break m hint (steps.RemoveDir p) asks = (remove_dir_agrees m hint p asks).breaking
+each_may_break m hint (steps.SyncTemp t) (names, bytes, stands) = (sync_temp_agrees m hint t names bytes stands).breaking
+each_may_break m hint (steps.SyncFile p) asks = (sync_file_agrees m hint p).breaking
+each_may_break m hint (steps.SyncDir p) asks = (sync_dir_agrees m hint p asks).breaking

@@ -1,0 +1,151 @@
+-- What syncs fix.
+use Rattle.std.proofs.Common.{◌≡◌, ◌&&◌, not, ℕ, Bool, true, false, cond, if◌then◌else◌, List, [], ◌∷◌, refl, sym, ap, subst, ◌∙◌}
+use Rattle.std.specs.{Prelude.{Option, None, Some, Result, Ok, option_map}, Option.{unwrap_or}}
+use Rattle.std_io.specs.declared.io.kind.ErrorKind.{ErrorKind}
+use Rattle.std_io.specs.declared.io.kind.ErrorKind.TheVariants as kind
+use Rattle.cacache_core.specs.{Contexts.{fault_of}, declared.errors.Fault.{Fault}, PathNames.{Names, names_of}}
+use Rattle.cacache_store.specs.declared.store.answer.Kind.{Kind}
+use Rattle.cacache_store.specs.declared.store.step.Step.TheVariants as steps
+use Rattle.cacache_store.specs.declared.store.answer.Answer.TheVariants as answers
+use Rattle.cacache_disk.specs.{declared.node.Node.{Node, TheVariants.{Folder, File, Link}}, Tree.{Tree, look, bytes_of, same_path}, LedTo.{found, leads}}
+use Rattle.cacache_disk.proofs.{Maps.{same_path-true}, FoundNodes.{place_ok}}
+use Rattle.cacache_loss.specs.Fixing.{Fixed, synced, is_at, is_child_of, is_synced, temp_synced, file_synced, folder_synced}
+use Rattle.cacache_system.specs.{declared.call.FileInfo.{FileInfo}, CallsOf.{to_sync, to_sync_folder, only, if_folder, opened}, Seen.{NumberedTemp, NumberedStep}, AnswersOf.{failed_with, refuses_memory, leaves_a_part}}
+use Rattle.cacache_system.specs.declared.call.SystemCall.TheVariants as asks
+use Rattle.cacache_system.specs.declared.call.CallResult.TheVariants as says
+use Rattle.cacache_system_model.specs.{Machine.{OpenFile, Machine, SyncedNode, Describes}, Laws.{bytes_in, temp_on, answer_on, Leads}, Syncing.{EndsInNoLink}, Fixing.{with_synced, FixesSynced, SyncTempFixes, SyncFileFixes, SyncDirFixes}}
+use Rattle.cacache_system_model.proofs.{Claims.{way_of}, Opening.{OpenedOn, Openings, opening_leads}, Views.{nowhere, a_folder, a_file, view, leads_straight}, Looking.{link_there, refused_folder, wanted_file}, Syncing.{WasSynced, sync_leads, refused_other, open_under}}
+
+-- ---- a sync that failed
+
+not_synced_so : (step : NumberedStep) (why : ErrorKind) (n : Machine) (c : Bool) → (refuses_memory why && not (leaves_a_part step)) ≡ c
+    → is_synced (answer_on n (if c then answers.NoMemory step else answers.Failed (fault_of why))) ≡ false
+not_synced_so step why n true is = refl
+not_synced_so step why n false is = refl
+
+not_synced : (step : NumberedStep) (why : ErrorKind) (n : Machine) → is_synced (answer_on n (failed_with step why)) ≡ false
+not_synced step why n = not_synced_so step why n (refuses_memory why && not (leaves_a_part step)) refl
+
+file_failed : (m n : Machine) (path : List ℕ) (why : ErrorKind) → n.synced ≡ m.synced → FixesSynced m (steps.SyncFile path) (says.Failed why) n
+file_failed m n path why same =
+    ([], same, λ fixed. ap (λ (c : Bool). if c then file_synced fixed m.tree path else fixed) (not_synced (steps.SyncFile path) why n))
+
+folder_failed : (m n : Machine) (path : List ℕ) (why : ErrorKind) → n.synced ≡ m.synced → FixesSynced m (steps.SyncDir path) (says.Failed why) n
+folder_failed m n path why same =
+    ([], same, λ fixed. ap (λ (c : Bool). if c then folder_synced fixed path else fixed) (not_synced (steps.SyncDir path) why n))
+
+-- ---- a file
+
+leads_found : (t : Tree) (path : List ℕ) (names : Names) → found t path ≡ Ok names → leads t path ≡ Ok names
+leads_found t path names is = elim (view t path) as (λ v. leads t path ≡ Ok names) [
+  | nowhere f e file ↦ absurd cc
+  | a_folder other l e stands file ↦ let same : other ≡ names = cc in l ∙ ap (λ (n : Names). let r : Result Names Fault = Ok n in r) same
+  | a_file other more l e stands file ↦ let same : other ≡ names = cc in l ∙ ap (λ (n : Names). let r : Result Names Fault = Ok n in r) same
+]
+
+abbrev with_bytes : Fixed → (Names → Bool) → (Names → List ℕ) → Fixed
+with_bytes fixed here bytes = record { files = λ q. if here q then synced (bytes q) else fixed.files q; names = fixed.names }
+
+bytes_same : {A : Type 0} (of : List ℕ → A) (c : Bool) (x y : List ℕ) (old : A) → (c ≡ true → x ≡ y) → cond c (of x) old ≡ cond c (of y) old
+bytes_same of true x y old same = ap of (same refl)
+bytes_same of false x y old same = refl
+
+same_bytes : (fixed : Fixed) (here : Names → Bool) (f g : Names → List ℕ) → ((q : Names) → here q ≡ true → f q ≡ g q) → with_bytes fixed here f ≡ with_bytes fixed here g
+same_bytes fixed here f g same = λ i. record { files = λ q. bytes_same synced (here q) (f q) (g q) (fixed.files q) (same q) i; names = fixed.names }
+
+file_fixed : (fixed : Fixed) (t : Tree) (path : List ℕ) (names : Names) (bytes : List ℕ) → leads t path ≡ Ok names → look t names ≡ Some (File bytes)
+    → file_synced fixed t path ≡ with_synced names (Some (File bytes)) fixed
+file_fixed fixed t path names bytes is stands =
+    ap (λ (r : Result Names Fault). with_bytes fixed (is_at r) (λ q. bytes_of (look t q))) is
+    ∙ same_bytes fixed (λ q. same_path q names) (λ q. bytes_of (look t q)) (λ q. bytes)
+    (λ q same. ap (λ (n : Names). bytes_of (look t n)) (same_path-true q names same) ∙ ap bytes_of stands)
+
+synced_more : (m n l : Machine) (names : Names) (node : Node) → WasSynced n l names → n.synced ≡ m.synced → n.tree ≡ m.tree → look m.tree names ≡ Some node
+    → l.synced ≡ (names, Some node) ∷ m.synced
+synced_more m n l names node was same tree stands =
+    was.synced
+    ∙ ap (λ (t : Tree). let s : List SyncedNode = (names, look t names) ∷ n.synced in s) tree
+    ∙ ap (λ (o : Option Node). let s : List SyncedNode = (names, o) ∷ n.synced in s) stands
+    ∙ ap (λ (s : List SyncedNode). let r : List SyncedNode = (names, Some node) ∷ s in r) same
+
+module _ (m : Machine) (path : List ℕ) where
+  file_opens : (number : ℕ) (names : Names) (node : Node) (info : FileInfo) (n : Machine) (inode : ℕ × ℕ) → found m.tree path ≡ Ok names → look m.tree names ≡ Some node
+      → OpenedOn m n number names → Describes node inode info → Leads (way_of false) (opened to_sync number info) n (FixesSynced m (steps.SyncFile path))
+  file_opens number names Folder info n inode is stands open_on described =
+      refused_folder false info.kind (only (asks.Sync number)) n (FixesSynced m (steps.SyncFile path)) described.kind (file_failed m n path kind.IsADirectory open_on.synced)
+  file_opens number names (File bytes) info n inode is stands open_on described =
+      wanted_file false info.kind (only (asks.Sync number)) n (FixesSynced m (steps.SyncFile path)) described.kind
+      (sync_leads false n number _ (FixesSynced m (steps.SyncFile path)) open_on.file
+      (λ l was. ((names, Some (File bytes)) ∷ [], synced_more m n l names (File bytes) was open_on.synced open_on.tree stands, λ fixed. file_fixed fixed m.tree path names bytes (leads_found m.tree path names is) stands))
+      (λ why l broke fine stays. file_failed m l path why (ap (λ (x : Machine). x.synced) stays ∙ open_on.synced)))
+  file_opens number names (Link target) info n inode is stands open_on described = absurd (link_there m.tree path names target is stands)
+
+  file_fixes : Openings false m to_sync path (FixesSynced m (steps.SyncFile path))
+  file_fixes = record {
+    refuses = λ fault why is of memory. file_failed m m path why refl;
+    breaks = λ why n broke fine stays same. file_failed m n path why same;
+    opens = file_opens;
+  }
+
+pub sync_file_fixes : SyncFileFixes
+sync_file_fixes m hint path = opening_leads false m to_sync path (FixesSynced m (steps.SyncFile path)) (file_fixes m path)
+
+-- ---- a folder
+
+folder_fixed : (fixed : Fixed) (path : List ℕ) (names : Names) → names_of path ≡ Ok names → folder_synced fixed path ≡ with_synced names (Some Folder) fixed
+folder_fixed fixed path names is = ap (λ (r : Result Names Fault). let f : Fixed = record { files = fixed.files; names = λ q. if is_child_of r q then None else fixed.names q } in f) is
+
+module _ (m : Machine) (path : List ℕ) (none : EndsInNoLink m.tree path) where
+  folder_opens : (number : ℕ) (names : Names) (node : Node) (info : FileInfo) (n : Machine) (inode : ℕ × ℕ) → found m.tree path ≡ Ok names → look m.tree names ≡ Some node
+      → OpenedOn m n number names → Describes node inode info → Leads (way_of false) (opened to_sync_folder number info) n (FixesSynced m (steps.SyncDir path))
+  folder_opens number names Folder info n inode is stands open_on described =
+      subst (λ (k : Kind). Leads (way_of false) (if_folder k kind.NotADirectory (only (asks.Sync number))) n (FixesSynced m (steps.SyncDir path))) (sym described.kind)
+      (sync_leads false n number _ (FixesSynced m (steps.SyncDir path)) open_on.file
+      (λ l was. (
+        (names, Some Folder) ∷ [],
+        synced_more m n l names Folder was open_on.synced open_on.tree stands,
+        λ fixed. folder_fixed fixed path names (place_ok m.tree path names (sym (leads_straight m.tree path none) ∙ leads_found m.tree path names is)),
+      ))
+      (λ why l broke fine stays. folder_failed m l path why (ap (λ (x : Machine). x.synced) stays ∙ open_on.synced)))
+  folder_opens number names (File bytes) info n inode is stands open_on described =
+      refused_other false info.kind kind.NotADirectory (only (asks.Sync number)) n (FixesSynced m (steps.SyncDir path)) described.kind (folder_failed m n path kind.NotADirectory open_on.synced)
+  folder_opens number names (Link target) info n inode is stands open_on described = absurd (link_there m.tree path names target is stands)
+
+  folder_fixes : Openings false m to_sync_folder path (FixesSynced m (steps.SyncDir path))
+  folder_fixes = record {
+    refuses = λ fault why is of memory. folder_failed m m path why refl;
+    breaks = λ why n broke fine stays same. folder_failed m n path why same;
+    opens = folder_opens;
+  }
+
+pub sync_dir_fixes : SyncDirFixes
+sync_dir_fixes m hint path none = opening_leads false m to_sync_folder path (FixesSynced m (steps.SyncDir path)) (folder_fixes m path none)
+
+-- ---- a temporary file
+
+temp_failed : (m n : Machine) (temp : NumberedTemp) (why : ErrorKind) → n.synced ≡ m.synced → FixesSynced m (steps.SyncTemp temp) (says.Failed why) n
+temp_failed m n temp why same =
+    ([], same, λ fixed. ap (λ (c : Bool). if c then temp_synced fixed (temp_on m temp) else fixed) (not_synced (steps.SyncTemp temp) why n))
+
+temp_fixed : (fixed : Fixed) (path : List ℕ) (held : Option (List ℕ)) (names : Names) (bytes : List ℕ) → names_of path ≡ Ok names → held ≡ Some bytes
+    → temp_synced fixed (record { path = path; bytes = held }) ≡ with_synced names (Some (File bytes)) fixed
+temp_fixed fixed path held names bytes named is =
+    ap (λ (r : Result Names Fault). with_bytes fixed (is_at r) (λ q. unwrap_or held [])) named
+    ∙ ap (λ (o : Option (List ℕ)). with_bytes fixed (λ q. same_path q names) (λ q. unwrap_or o [])) is
+
+temp_names : (file : Option OpenFile) (f : OpenFile) (names : Names) → file ≡ Some f → option_map (λ (g : OpenFile). g.names) file ≡ Some names → f.names ≡ names
+temp_names file f names is at = let same : Some f.names ≡ Some names = ap (option_map (λ (g : OpenFile). g.names)) (sym is) ∙ at in cc
+
+pub sync_temp_fixes : SyncTempFixes
+sync_temp_fixes m hint temp names bytes ready =
+    let file = open_under (m.files temp.number) names ready.opened in
+    let at : file.0.names ≡ names = temp_names (m.files temp.number) file.0 names file.1 ready.opened in
+    let held : option_map (bytes_in m) (m.files temp.number) ≡ Some bytes
+    = ap (option_map (bytes_in m)) file.1 ∙ ap (λ (n : Names). Some (bytes_of (look m.tree n))) at ∙ ap (λ (o : Option Node). Some (bytes_of o)) ready.stands in
+    sync_leads false m temp.number file.0 (FixesSynced m (steps.SyncTemp temp)) file.1
+    (λ l was. (
+      (names, Some (File bytes)) ∷ [],
+      synced_more m m l names (File bytes) (subst (λ (n : Names). WasSynced m l n) at was) refl refl ready.stands,
+      λ fixed. temp_fixed fixed temp.path (option_map (bytes_in m) (m.files temp.number)) names bytes ready.named held,
+    ))
+    (λ why l broke fine stays. temp_failed m l temp why (ap (λ (x : Machine). x.synced) stays))

@@ -1,0 +1,166 @@
+-- Each call can happen as `GoesWell` says.
+use Rattle.std.proofs.Common.{◌≡◌, ◌+◌, ℕ, List, [], ◌∷◌, ◌++◌, length, take, drop, refl, sym, ap, subst, inr}
+use Rattle.std.specs.Prelude.{Option, None, Some, Result, Ok, Err, IfSome, IfOk, MatchResult}
+use Rattle.cacache_core.specs.{declared.errors.Fault.{Fault, TheVariants.{IsADirectory, InvalidInput}}, PathNames.{Names}}
+use Rattle.cacache_disk.specs.{declared.node.Node.{Node, TheVariants.{Folder, File, Link}}, Tree.{Tree, look, put, cut, kind_of, listing}, LedTo.{place, standing, found, file_at, writable, free, replaceable, linked, removable, emptied}, Apply.{taken, readable, lengthened}}
+use Rattle.cacache_system.specs.declared.call.{FileInfo.{FileInfo}, CallResult.{CallResult}}
+use Rattle.cacache_system.specs.declared.call.SystemCall.TheVariants as asks
+use Rattle.cacache_system.specs.declared.call.CallResult.TheVariants as says
+use Rattle.cacache_system_model.specs.{Machine.{OpenFile, Machine, Became, IsRefused, ChangesTree, OpensIf, with_file, unread, is_regular, Describes, ShowsNode, ShowsEnd, ReadsFile, GivesOwner, link_fault, LinksNode, CopiesBytes, CopiesTo, MovesNode, with_empty, Spells, SpellsEnd}, Folders.{GivesNames, ended, HasLeft, OpensNames, OpensFolder, ReadsSome}, Meeting.{HasRoom, CallsCanGoWell}}
+use Rattle.cacache_system_model.proofs.Saying.{CanSay, a_folder, Sayable, place_say, standing_say, found_say, writable_say, free_say, replaceable_say, removable_say, emptied_say, file_say, LinkSayable, linked_say}
+use Rattle.cacache_store.specs.declared.store.answer.Name.{Name}
+
+-- ---- calls
+
+abbrev Can : (CallResult → Machine → Type 0) → Type 0
+Can Claim = (said : CallResult) × (after : Machine) × Claim said after
+
+can_refuse : (fault : Fault) (m : Machine) → CanSay fault → Can (IsRefused fault m)
+can_refuse fault m (why, is, memory) = (says.Failed why, m, (why, refl, is, memory, refl))
+
+abbrev standing_on : Machine → Tree → Machine
+standing_on m t = record { tree = t; files = m.files; synced = m.synced; inodes = m.inodes; folders = m.folders }
+
+abbrev open_on : Machine → Tree → ℕ → OpenFile → Machine
+open_on m t number file = record { tree = t; files = with_file m.files number file; synced = m.synced; inodes = m.inodes; folders = m.folders }
+
+can_change : (m : Machine) (ends : Result Names Fault) (new : Names → Tree) → Sayable ends → Can (ChangesTree ends new m)
+can_change m (Ok names) new can = (says.Done, standing_on m (new names), (refl, (refl, refl, refl)))
+can_change m (Err fault) new can = can_refuse fault m can
+
+can_open : (m : Machine) (ends : Result Names Fault) (new : Names → Tree) → HasRoom m → Sayable ends → Can (OpensIf ends new m)
+can_open m (Ok names) new (number, room) can = (says.Opened number, open_on m (new names) number (unread names), (number, refl, room, (refl, refl, refl)))
+can_open m (Err fault) new room can = can_refuse fault m can
+
+abbrev size_of : Option Node → ℕ
+size_of None = 0
+size_of (Some Folder) = 0
+size_of (Some (File bytes)) = length bytes
+size_of (Some (Link target)) = 0
+
+abbrev info_of : Node → ℕ × ℕ → FileInfo
+info_of node inode = record { kind = kind_of node; regular = is_regular node; size = size_of (Some node); inode = inode.0; device = inode.1; mode = 0; owner = 0; group = 0 }
+
+described : (node : Node) (inode : ℕ × ℕ) → Describes node inode (info_of node inode)
+described Folder inode = record { kind = refl; regular = refl; size = tt; number = refl }
+described (File bytes) inode = record { kind = refl; regular = refl; size = refl; number = refl }
+described (Link target) inode = record { kind = refl; regular = refl; size = tt; number = refl }
+
+can_show_node : (m : Machine) (names : Names) (o : Option Node) → look m.tree names ≡ o → Can (ShowsNode names m)
+can_show_node m names None is =
+    (says.Info (info_of Folder (m.inodes names)), m, (info_of Folder (m.inodes names), refl, subst (λ (o : Option Node). IfSome o (λ node. Describes node (m.inodes names) (info_of Folder (m.inodes names)))) (sym is) tt, refl))
+can_show_node m names (Some node) is =
+    (says.Info (info_of node (m.inodes names)), m, (info_of node (m.inodes names), refl, subst (λ (o : Option Node). IfSome o (λ x. Describes x (m.inodes names) (info_of node (m.inodes names)))) (sym is) (described node (m.inodes names)), refl))
+
+can_show : (m : Machine) (ends : Result Names Fault) → Sayable ends → Can (ShowsEnd ends m)
+can_show m (Ok names) can = can_show_node m names (look m.tree names) refl
+can_show m (Err fault) can = can_refuse fault m can
+
+of_open : (o : Option OpenFile) (Claim : OpenFile → CallResult → Machine → Type 0) (m : Machine) → ((file : OpenFile) → Can (Claim file)) → Can (λ said after. IfSome o (λ file. Claim file said after))
+of_open None Claim m can = (says.Done, m, tt)
+of_open (Some file) Claim m can = can file
+
+can_read : (m : Machine) (pick : List ℕ → List ℕ) (number : ℕ) (file : OpenFile) (here : Option Node) → Can (ReadsFile pick number file here m)
+can_read m pick number file None = (says.Done, m, tt)
+can_read m pick number file (Some Folder) = can_refuse IsADirectory m a_folder
+can_read m pick number file (Some (File bytes)) =
+    let next = pick (drop file.read bytes) in
+    (says.Bytes next, open_on m m.tree number (record { names = file.names; read = file.read + length next }), (refl, (refl, refl, refl)))
+can_read m pick number file (Some (Link target)) = (says.Done, m, tt)
+
+can_move : (m : Machine) (old : Names) (here : Option Node) (ends : Result Names Fault) → Sayable ends → Can (MovesNode old here ends m)
+can_move m old None ends can = (says.Done, m, tt)
+can_move m old (Some Folder) ends can = (says.Done, m, tt)
+can_move m old (Some (File bytes)) ends can = can_change m ends (λ new. put (cut m.tree old) new (File bytes)) can
+can_move m old (Some (Link target)) ends can = can_change m ends (λ new. put (cut m.tree old) new (Link target)) can
+
+can_rename : (m : Machine) (from : Result Names Fault) (ends : Result Names Fault) → Sayable from → Sayable ends
+    → Can (λ said after. MatchResult from (λ old. MovesNode old (look m.tree old) ends m said after) (λ fault. IsRefused fault m said after))
+can_rename m (Ok old) ends begin can = can_move m old (look m.tree old) ends can
+can_rename m (Err fault) ends begin can = can_refuse fault m begin
+
+can_link : (m : Machine) (source : Result Node Fault) (ends : Result Names Fault) → LinkSayable source → Sayable ends → Can (LinksNode source ends m)
+can_link m (Ok node) ends begin can = can_change m ends (λ names. put m.tree names node) can
+can_link m (Err fault) ends begin can = can_refuse (link_fault fault) m begin
+
+can_copy_to : (m : Machine) (bytes : List ℕ) (ends : Result Names Fault) → Sayable ends → Can (CopiesTo bytes ends m)
+can_copy_to m bytes (Ok names) can = (says.Count (length bytes), standing_on m (put m.tree names (File bytes)), (refl, (refl, refl, refl)))
+can_copy_to m bytes (Err fault) can = can_refuse fault m can
+
+can_copy : (m : Machine) (source : Result (List ℕ) Fault) (ends : Result Names Fault) → Sayable source → Sayable ends → Can (CopiesBytes source ends m)
+can_copy m (Ok bytes) ends begin can = can_copy_to m bytes ends can
+can_copy m (Err fault) ends begin can = can_refuse fault m begin
+
+-- ---- folders
+
+abbrev names_given : List Name → List (List ℕ)
+names_given [] = []
+names_given (e ∷ es) = e.name ∷ names_given es
+
+gives_all : (es : List Name) → GivesNames (names_given es) es
+gives_all [] = refl
+gives_all (e ∷ es) = inr (e, es, refl, refl, gives_all es)
+
+abbrev folders_on : Machine → List (List ℕ) → Machine
+folders_on m left = record { tree = m.tree; files = m.files; synced = m.synced; inodes = m.inodes; folders = λ number. Some left }
+
+has_left : (m : Machine) (number : ℕ) (left : List (List ℕ)) → HasLeft number left m (folders_on m left)
+has_left m number left = record { tree = refl; files = refl; synced = refl; left = refl }
+
+can_list : (m : Machine) (names : Names) (o : Option Node) → Can (OpensNames names o m)
+can_list m names (Some Folder) =
+    let given = names_given (listing m.tree names) in
+    (says.Opened 0, folders_on m given, (0, given, refl, gives_all (listing m.tree names), has_left m 0 given))
+can_list m names _ = (says.Done, m, tt)
+
+can_open_folder : (m : Machine) (ends : Result Names Fault) → Sayable ends → Can (OpensFolder ends m)
+can_open_folder m (Ok names) can = can_list m names (look m.tree names)
+can_open_folder m (Err fault) can = can_refuse fault m can
+
+append-none : (xs : List (List ℕ)) → xs ≡ xs ++ []
+append-none [] = refl
+append-none (x ∷ xs) = ap (λ l. x ∷ l) (append-none xs)
+
+can_read_names : (m : Machine) (number : ℕ) (o : Option (List (List ℕ))) → Can (λ said after. IfSome o (λ left. ReadsSome number left m said after))
+can_read_names m number None = (says.Done, m, tt)
+can_read_names m number (Some left) =
+    (says.Bytes (ended left), folders_on m [], (left, [], append-none left, (λ _. refl), refl, has_left m number []))
+
+can_spell : (m : Machine) (ends : Result Names Fault) → Sayable ends → IfOk ends (λ names. (text : List ℕ) × Spells m.tree text names) → Can (SpellsEnd ends m)
+can_spell m (Ok names) can (text, spells) = (says.Bytes text, m, (text, refl, spells, refl))
+can_spell m (Err fault) can spelt = can_refuse fault m can
+
+can_own : (m : Machine) (ends : Result Names Fault) → Sayable ends → Can (GivesOwner ends m)
+can_own m (Ok names) can = (says.Done, m, (refl, refl))
+can_own m (Err fault) can = can_refuse fault m can
+
+pub calls_can_go_well : CallsCanGoWell
+calls_can_go_well most m (asks.OpenToRead path) room spelt = can_open m (found m.tree path) (λ names. m.tree) room (found_say m.tree path)
+calls_can_go_well most m (asks.CreateNew path mode) room spelt = can_open m (free m.tree path) (λ names. put m.tree names (File [])) room (free_say m.tree path)
+calls_can_go_well most m (asks.OpenToAppend path) room spelt = can_open m (writable m.tree path) (with_empty m.tree) room (writable_say m.tree path)
+calls_can_go_well most m (asks.Read number size) room spelt =
+    of_open (m.files number) (λ file. ReadsFile (take (readable most size)) number file (look m.tree file.names) m) m (λ file. can_read m (take (readable most size)) number file (look m.tree file.names))
+calls_can_go_well most m (asks.ReadRest number) room spelt =
+    of_open (m.files number) (λ file. ReadsFile (λ bytes. bytes) number file (look m.tree file.names) m) m (λ file. can_read m (λ bytes. bytes) number file (look m.tree file.names))
+calls_can_go_well most m (asks.Write number bytes) room spelt =
+    of_open (m.files number) (λ file said after. (said ≡ says.Count (taken most bytes)) × Became (lengthened m.tree file.names (take (taken most bytes) bytes)) m.files m.synced after) m
+    (λ file. (says.Count (taken most bytes), standing_on m (lengthened m.tree file.names (take (taken most bytes) bytes)), (refl, (refl, refl, refl))))
+calls_can_go_well most m (asks.Sync number) room spelt =
+    of_open (m.files number) (λ file said after. (said ≡ says.Done) × Became m.tree m.files ((file.names, look m.tree file.names) ∷ m.synced) after) m
+    (λ file. (says.Done, record { tree = m.tree; files = m.files; synced = (file.names, look m.tree file.names) ∷ m.synced; inodes = m.inodes; folders = m.folders }, (refl, (refl, refl, refl))))
+calls_can_go_well most m (asks.SetOwner path owner group) room spelt = can_own m (standing m.tree path) (standing_say m.tree path)
+calls_can_go_well most m (asks.SetMode number mode) room spelt =
+    of_open (m.files number) (λ file said after. (said ≡ says.Done) × (after ≡ m)) m (λ file. (says.Done, m, (refl, refl)))
+calls_can_go_well most m (asks.StatFile number) room spelt = of_open (m.files number) (λ file. ShowsNode file.names m) m (λ file. can_show_node m file.names (look m.tree file.names) refl)
+calls_can_go_well most m (asks.Stat path) room spelt = can_show m (found m.tree path) (found_say m.tree path)
+calls_can_go_well most m (asks.StatLink path) room spelt = can_show m (standing m.tree path) (standing_say m.tree path)
+calls_can_go_well most m (asks.Rename from to) room spelt = can_rename m (place m.tree from) (replaceable m.tree to) (place_say m.tree from) (replaceable_say m.tree to)
+calls_can_go_well most m (asks.MakeFolder path) room spelt = can_change m (free m.tree path) (λ names. put m.tree names Folder) (free_say m.tree path)
+calls_can_go_well most m (asks.RemoveFile path) room spelt = can_change m (removable m.tree path) (cut m.tree) (removable_say m.tree path)
+calls_can_go_well most m (asks.RemoveFolder path) room spelt = can_change m (emptied m.tree path) (cut m.tree) (emptied_say m.tree path)
+calls_can_go_well most m (asks.Symlink target path) room spelt = can_change m (free m.tree path) (λ names. put m.tree names (Link target)) (free_say m.tree path)
+calls_can_go_well most m (asks.HardLink from to) room spelt = can_link m (linked m.tree from) (free m.tree to) (linked_say m.tree from) (free_say m.tree to)
+calls_can_go_well most m (asks.CopyFile from to) room spelt = can_copy m (file_at m.tree from InvalidInput) (writable m.tree to) (file_say m.tree from) (writable_say m.tree to)
+calls_can_go_well most m (asks.OpenFolder path) room spelt = can_open_folder m (standing m.tree path) (standing_say m.tree path)
+calls_can_go_well most m (asks.ReadNames number size) room spelt = can_read_names m number (m.folders number)
+calls_can_go_well most m (asks.RealPath path) room spelt = can_spell m (found m.tree path) (found_say m.tree path) spelt

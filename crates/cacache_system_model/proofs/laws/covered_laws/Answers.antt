@@ -1,0 +1,5 @@
+use Rattle.cacache_system_model.proofs.Covered.{each_may_break}
+use Rattle.cacache_system_model.proofs.laws.covered_laws.Goals as goal
+
+pub returns : goal.returns
+returns c = record { breaking = each_may_break }

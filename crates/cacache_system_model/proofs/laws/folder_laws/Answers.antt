@@ -1,0 +1,5 @@
+use Rattle.cacache_system_model.proofs.Dirs.{make_dirs_agrees}
+use Rattle.cacache_system_model.proofs.laws.folder_laws.Goals as goal
+
+pub returns : goal.returns
+returns c = record { make = make_dirs_agrees }

@@ -1,0 +1,5 @@
+use Rattle.cacache_system_model.proofs.Listing.{read_dir_goes, read_dir_breaks}
+use Rattle.cacache_system_model.proofs.laws.list_laws.Goals as goal
+
+pub returns : goal.returns
+returns c = record { plainly = read_dir_goes; breaking = read_dir_breaks }

@@ -1,0 +1,27 @@
+-- What goes as the model says, or fails for want of memory, happens under some luck.
+use Rattle.std.{proofs.Common.{◌≡◌, ℕ, List, refl, inl, inr}, specs.Prelude.{None, Result, Ok, Err}}
+use Rattle.std_io.specs.declared.io.kind.ErrorKind.TheVariants as kind
+use Rattle.cacache_core.specs.{declared.errors.Fault.{Fault, TheVariants.{Unsupported, Device, InvalidInput}}, PathNames.{Names}}
+use Rattle.cacache_disk.specs.{declared.luck.Luck.TheVariants.{Plain, Fail}, Tree.{Tree}, LedTo.{file_at, writable}}
+use Rattle.cacache_system.specs.declared.call.SystemCall.{SystemCall}
+use Rattle.cacache_system.specs.declared.call.SystemCall.TheVariants as asks
+use Rattle.cacache_system_model.specs.{Machine.{Machine}, Calls.{part_copied, LeavesPart}, memory.Machines.{GoesOccur, MovesOccur}}
+
+none_copied : (source : Result (List ℕ) Fault) (ends : Result Names Fault) (t : Tree) → t ≡ part_copied source ends None t
+none_copied (Ok bytes) (Ok names) t = refl
+none_copied (Ok bytes) (Err fault) t = refl
+none_copied (Err fault) ends t = refl
+
+-- a call for which memory is refused leaves all as it was
+leaves : (m : Machine) (call : SystemCall) → LeavesPart m call kind.OutOfMemory None m
+leaves m (asks.Write number bytes) = refl
+leaves m (asks.CopyFile from to) = (none_copied (file_at m.tree from InvalidInput) (writable m.tree to) m.tree, refl, refl)
+leaves m _ = refl
+
+pub goes_occur : GoesOccur
+goes_occur old new call said (inl well) = (Plain, well)
+goes_occur old new call said (inr (is, same)) = (Fail Device None, (kind.OutOfMemory, is, refl, refl, rw same (leaves _ call)))
+
+pub moves_occur : MovesOccur
+moves_occur old new from to said (inl goes) = goes_occur old new (asks.Rename from to) said goes
+moves_occur old new from to said (inr (is, same)) = (Fail Unsupported None, (kind.Unsupported, is, refl, refl, same))

@@ -1,0 +1,62 @@
+-- Steps one after the other on a system, and on a disk in memory that mirrors it.
+use Rattle.std.specs.Prelude.{◌≡◌, ◌⊎◌, ℕ, Bool, true, List, [], ◌∷◌}
+use Rattle.cacache_core.specs.PathNames.{Names}
+use Rattle.cacache_store.specs.declared.store.step.Step.TheVariants as steps
+use Rattle.cacache_store.specs.declared.store.answer.Answer.TheVariants as answers
+use Rattle.cacache_disk.specs.{declared.luck.Luck.{Luck}, Tree.{Tree}, Apply.{apply}}
+use Rattle.cacache_system.specs.{declared.call.{CallItem.{CallItem}, CallResult.{CallResult}}, Seen.{NumberedStep}, CallsOf.{Runs}, AnswersOf.{Hint, first, answer_of}}
+use Rattle.cacache_system_model.specs.{Machine.{Machine}, Calls.{OccursSomehow, EachCall}, Laws.{step_on, answer_on, outcome, LeavesFresh, IsDone}, OneCall.{StillStands}, Premises.{Premise}, Mirrors.{Mirrors, temps_after, SparesOpen}}
+
+-- a step that was made: the machine before and after it, how its calls began, what they were, and their end
+pub record StepMade : Type 0 where
+  pub before : Machine
+  pub after : Machine
+  pub step : NumberedStep
+  pub hint : Hint
+  pub items : List CallItem
+  pub end : CallResult
+
+-- the open temporary files after it
+abbrev pub temps_left : (Names → Bool) → StepMade → Names → Bool
+temps_left temps s =
+    temps_after temps (step_on s.before s.step) (answer_on s.after (answer_of s.step s.end))
+
+-- a step has what its law asks, the disk's table does it, and it spares the open temporary files
+pub record HasLaw (temps : Names → Bool) (m : Machine) (hint : Hint) (step : NumberedStep)
+    : Type 0 where
+  pub premise : Premise m hint step
+  pub done : IsDone m step
+  pub spares : SparesOpen temps m.tree (step_on m step)
+
+-- an open temporary file that is still at its path is written
+abbrev pub WritesTemp : (Names → Bool) → Machine → NumberedStep → Type 0
+WritesTemp temps m (steps.Write temp more) =
+    (names : Names) × (bytes : List ℕ) × StillStands m temp names bytes × (temps names ≡ true)
+WritesTemp temps m step = ⊥
+
+-- each step is made where the one before it led, by a run of its calls, some of which may fail
+abbrev pub AreMade : (Names → Bool) → Machine → List StepMade → Type 0
+AreMade temps m [] = Unit {0}
+AreMade temps m (s ∷ made) =
+    (s.before ≡ m) × Runs (first s.hint s.step) s.items s.end
+    × EachCall OccursSomehow s.before s.items s.after
+    × (HasLaw temps s.before s.hint s.step ⊎ WritesTemp temps s.before s.step)
+    × AreMade (temps_left temps s) s.after made
+
+-- A disk does each of these steps under some luck with the same answer, except those that came back. Nothing is said
+-- about what follows a copy that left its fresh file.
+abbrev pub DiskDoes : Tree → List StepMade → Type 0
+DiskDoes d [] = Unit {0}
+DiskDoes d (s ∷ made) =
+    ((luck : Luck) × (new : Tree)
+    × (apply d (step_on s.before s.step) luck
+    ≡ outcome (answer_on s.after (answer_of s.step s.end)) new)
+    × DiskDoes new made)
+    ⊎ ((answer_of s.step s.end ≡ answers.NoMemory s.step) × DiskDoes d made)
+    ⊎ LeavesFresh s.before s.step (answer_of s.step s.end) s.after
+
+-- what many steps do on a system a disk that mirrors it does
+abbrev pub RunsMirror : Type 0
+RunsMirror =
+    (temps : Names → Bool) (d : Tree) (m : Machine) (made : List StepMade) → Mirrors temps m.tree d
+    → AreMade temps m made → DiskDoes d made

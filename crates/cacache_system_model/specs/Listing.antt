@@ -1,0 +1,47 @@
+-- The law on listings.
+use Rattle.std.specs.{Prelude.{◌≡◌, ◌==◌, ℕ, Bool, true, false, List, [], ◌∷◌, ◌++◌, Some, Ok, None, length}, List.{AllByRecursion}, Str.{is_utf8}}
+use Rattle.std_io.specs.declared.io.kind.ErrorKind.TheVariants as kind
+use Rattle.cacache_core.specs.PathNames.{Names, IsProperName}
+use Rattle.cacache_store.specs.declared.store.step.Step.TheVariants as steps
+use Rattle.cacache_store.specs.declared.store.answer.Name.{Name}
+use Rattle.cacache_disk.specs.{declared.{luck.Luck.TheVariants.{Plain}, node.Node.{Node, TheVariants.{Folder}}}, Tree.{Tree, look, listing, kind_of}, LedTo.{standing, folder}, Apply.{apply}}
+use Rattle.cacache_system.specs.{declared.call.CallResult.{CallResult, TheVariants.{Failed}}, ListedNames.{text_of, with_slash}, AnswersOf.{Hint, is_named, first}}
+use Rattle.cacache_system_model.specs.{Machine.{Machine}, Calls.{GoesWell}, Laws.{step_on, led_to, Leads, MayBreak}}
+
+-- an entry of a folder: its name is proper and is given as it is, and the entry is under it
+pub record IsPlainEntry (t : Tree) (path : List ℕ) (names : Names) (entry : Name) : Type 0 where
+  pub proper : IsProperName entry.name
+  pub told : text_of entry.name ≡ entry.name
+  pub text : is_utf8 (with_slash path ++ entry.name) ≡ true
+  pub stands : standing t (with_slash path ++ entry.name) ≡ Ok (names ++ entry.name ∷ [])
+  pub node : Node
+  pub there : look t (names ++ entry.name ∷ []) ≡ Some node
+  pub kind : kind_of node ≡ entry.kind
+
+-- a folder is at a path, and its entries are such
+pub record ListsPlainly (t : Tree) (path : List ℕ) : Type 0 where
+  pub names : Names
+  pub some : (length path == 0) ≡ false
+  pub stands : standing t path ≡ Ok names
+  pub slashed : standing t (with_slash path) ≡ Ok names
+  pub folder : folder t path ≡ Ok names
+  pub there : look t names ≡ Some Folder
+  pub entries : AllByRecursion (IsPlainEntry t path names) (listing t names)
+
+-- if memory isn't refused, and a folder doesn't give too many names, it is as under plain luck
+abbrev pub IsListed : Machine → List ℕ → CallResult → Machine → Type 0
+IsListed m path end after =
+    (end ≡ Failed kind.OutOfMemory → ⊥) → (end ≡ Failed kind.FileTooLarge → ⊥)
+    → apply m.tree (step_on m (steps.ReadDir path)) Plain ≡ led_to (steps.ReadDir path) end after
+
+-- if no call fails without cause, a folder is listed
+abbrev pub ReadDirGoesPlainly : Type 0
+ReadDirGoesPlainly =
+    (m : Machine) (hint : Hint) (path : List ℕ) → ListsPlainly m.tree path
+    → Leads (GoesWell None) (first hint (steps.ReadDir path)) m (IsListed m path)
+
+-- any of its calls may fail without cause, if no listing named the folder before
+abbrev pub ReadDirBreaks : Type 0
+ReadDirBreaks =
+    (m : Machine) (hint : Hint) (path : List ℕ) → ListsPlainly m.tree path
+    → is_named hint ≡ false → MayBreak m hint (steps.ReadDir path)

@@ -1,0 +1,21 @@
+-- That the model can be met.
+use Rattle.std.specs.Prelude.{◌≡◌, ℕ, List, Option, None, IfOk}
+use Rattle.cacache_disk.specs.LedTo.{found}
+use Rattle.cacache_system.specs.declared.call.{SystemCall.{SystemCall, TheVariants.{RealPath}}, CallResult.{CallResult}}
+use Rattle.cacache_system_model.specs.{Machine.{Machine, Spells}, Calls.{GoesWell}}
+
+-- some number has no open file
+abbrev pub HasRoom : Machine → Type 0
+HasRoom m = (number : ℕ) × (m.files number ≡ None)
+
+-- what a real path is asked for has one
+abbrev pub CanSpell : Machine → SystemCall → Type 0
+CanSpell m (RealPath path) =
+    IfOk (found m.tree path) (λ names. (text : List ℕ) × Spells m.tree text names)
+CanSpell m call = Unit {0}
+
+-- each call can happen as `GoesWell` says on each such machine
+abbrev pub CallsCanGoWell : Type 0
+CallsCanGoWell =
+    (most : Option ℕ) (m : Machine) (call : SystemCall) → HasRoom m → CanSpell m call
+    → (said : CallResult) × (after : Machine) × GoesWell most m call said after

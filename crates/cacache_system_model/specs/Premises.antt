@@ -1,0 +1,40 @@
+-- What each step asks of the machine for its law.
+use Rattle.std.specs.Prelude.{◌≡◌, ℕ, false, List, Ok}
+use Rattle.cacache_core.specs.PathNames.{Names}
+use Rattle.cacache_store.specs.declared.store.step.Step.TheVariants.{MakeDirs, Write, Persist, Append, Read, Copy, HardLink, ReadDir, RemoveFile, RemoveDir, SyncTemp, SyncDir}
+use Rattle.cacache_disk.specs.{declared.node.Node.{Node}, LedTo.{linked}, Rooted.{Rooted}}
+use Rattle.cacache_system.specs.{Seen.{NumberedFile, NumberedTemp, NumberedStep}, AnswersOf.{Hint, is_named}}
+use Rattle.cacache_system_model.specs.{Machine.{OpenFile, Machine}, Laws.{MayBreak}, OneCall.{StillStands}, Reading.{StaysOpen}, Writing.{CanCopy}, Making.{HasNoLink}, Listing.{ListsPlainly}, Removing.{WalkStands}, Moving.{MayReplace}, Syncing.{EndsInNoLink}}
+
+-- a temporary file is still at its path
+abbrev pub IsStill : Machine → NumberedTemp → Type 0
+IsStill m temp = (names : Names) × (bytes : List ℕ) × StillStands m temp names bytes
+
+-- an open file is still where it was found
+abbrev pub IsOpen : Machine → NumberedFile → Type 0
+IsOpen m file = (found : OpenFile) × (bytes : List ℕ) × StaysOpen m file found bytes
+
+-- a file or link is at a path
+abbrev pub IsLinked : Machine → List ℕ → Type 0
+IsLinked m path = (node : Node) × (linked m.tree path ≡ Ok node)
+
+-- What a step asks. A write has a law of its own: the tree changes under it.
+abbrev pub Premise : Machine → Hint → NumberedStep → Type 0
+Premise m hint (MakeDirs p) = Rooted m.tree × HasNoLink m.tree p
+Premise m hint (Write t bytes) = ⊥
+Premise m hint (Persist t p) = IsStill m t × MayReplace m.tree hint p
+Premise m hint (Append p b) = WalkStands m.tree hint
+Premise m hint (Read f max) = IsOpen m f
+Premise m hint (Copy p q) = CanCopy m q
+Premise m hint (HardLink p q) = IsLinked m p
+Premise m hint (ReadDir p) = ListsPlainly m.tree p × (is_named hint ≡ false)
+Premise m hint (RemoveFile p) = WalkStands m.tree hint
+Premise m hint (RemoveDir p) = WalkStands m.tree hint
+Premise m hint (SyncTemp t) = IsStill m t
+Premise m hint (SyncDir p) = EndsInNoLink m.tree p
+Premise m hint step = Unit {0}
+
+-- each step that the disk's table does is as under some luck, whichever of its calls fail without cause
+abbrev pub EachMayBreak : Type 0
+EachMayBreak =
+    (m : Machine) (hint : Hint) (step : NumberedStep) → Premise m hint step → MayBreak m hint step

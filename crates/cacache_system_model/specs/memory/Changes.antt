@@ -1,0 +1,91 @@
+-- What the calls do to the tree, when memory may be refused.
+use Rattle.std.specs.Prelude.{◌≡◌, ⊤, ℕ, List, Option, None, Some, IsSomeAnd, Result, Ok, Err, MatchResult, IsOkAnd, length}
+use Rattle.cacache_core.specs.{declared.errors.Fault.{Fault, TheVariants.{Unsupported}}, PathNames.{Names}}
+use Rattle.cacache_store.specs.{Plain.{PlainStep, PlainAnswer}, declared.store.answer.Answer.TheVariants.{Failed}}
+use Rattle.cacache_disk.specs.{declared.{luck.Luck.TheVariants.{Plain}, node.Node.{Node, TheVariants.{Folder, File, Link}}, stop.Stop.{Stop}}, Tree.{Tree, look, put, cut, kind_of}, Stops.{Stops}, LedTo.{place, free, replaceable, linked}, Apply.{apply, fault_told}}
+use Rattle.cacache_disk.specs.declared.stop.Stop.TheVariants as stop
+use Rattle.cacache_system.specs.declared.call.FileInfo.{FileInfo}
+use Rattle.cacache_system_model.specs.Machine.{link_fault, is_regular}
+
+-- a step was done, or failed as the table says, or memory was refused and nothing changed
+abbrev pub Does : Tree → PlainStep → Result ⊤ Stop → Tree → Type 0
+Does t step (Ok done) u =
+    (answer : PlainAnswer) × (apply t step Plain ≡ (answer, u)) × (fault_told answer ≡ None)
+Does t step (Err (stop.Fault fault)) u = apply t step Plain ≡ (Failed fault, u)
+Does t step (Err stop.OutOfMemory) u = u ≡ t
+
+-- the tree became another at what was found, or that says why not, or memory was refused
+abbrev pub Changed : {A : Type 0} → Result A Fault → (A → Tree) → Result ⊤ Stop → Tree → Tree
+    → Type 0
+Changed ends new (Ok done) t u = IsOkAnd ends (λ found. u ≡ new found)
+Changed ends new (Err (stop.Fault fault)) t u = (ends ≡ Err fault) × (u ≡ t)
+Changed ends new (Err stop.OutOfMemory) t u = u ≡ t
+
+-- a fault kept the tree as it was, unless memory was refused
+abbrev pub Stopped : Fault → Result ⊤ Stop → Tree → Tree → Type 0
+Stopped fault done t u = Changed {A = Names} (Err fault) (λ names. t) done t u
+
+-- why a link isn't made, if this is why its source can't be linked
+abbrev pub link_stop : Stop → Stop
+link_stop (stop.Fault fault) = stop.Fault (link_fault fault)
+link_stop stop.OutOfMemory = stop.OutOfMemory
+
+-- a file or link got a second name; what is linked is looked at first
+abbrev pub Linked : Tree → List ℕ → List ℕ → Result ⊤ Stop → Tree → Type 0
+Linked t from to done u =
+    MatchResult (linked t from) (λ node. Changed (free t to) (λ names. put t names node) done t u)
+    (λ fault. Stopped (link_fault fault) done t u)
+
+-- a file was moved, and a link wasn't
+abbrev pub MovedNode : Names → Option Node → Result Names Fault → Result ⊤ Stop → Tree → Tree
+    → Type 0
+MovedNode old None ends done t u = ⊤
+MovedNode old (Some Folder) ends done t u = ⊤
+MovedNode old (Some (File bytes)) ends done t u =
+    Changed ends (λ new. put (cut t old) new (File bytes)) done t u
+MovedNode old (Some (Link target)) ends done t u = Stopped Unsupported done t u
+
+-- the same for what is at a path
+abbrev pub Moved : Tree → List ℕ → List ℕ → Result ⊤ Stop → Tree → Type 0
+Moved t from to done u =
+    MatchResult (place t from) (λ old. MovedNode old (look t old) (replaceable t to) done t u)
+    (λ fault. Stopped fault done t u)
+
+-- why what is somewhere isn't moved
+abbrev pub IsUnmoved : Option Node → Fault → Type 0
+IsUnmoved None fault = ⊤
+IsUnmoved (Some Folder) fault = ⊤
+IsUnmoved (Some (File bytes)) fault = ⊥
+IsUnmoved (Some (Link target)) fault = fault ≡ Unsupported
+
+-- the bytes of a file that is to be moved, or why it isn't
+abbrev pub Movable : Tree → List ℕ → Result (List ℕ) Stop → Type 0
+Movable t path (Ok bytes) = IsOkAnd (place t path) (λ names. look t names ≡ Some (File bytes))
+Movable t path (Err (stop.Fault fault)) =
+    MatchResult (place t path) (λ names. IsUnmoved (look t names) fault) (λ why. why ≡ fault)
+Movable t path (Err stop.OutOfMemory) = ⊤
+
+-- a file's size, and none of anything else
+abbrev pub size_of : Node → ℕ
+size_of Folder = 0
+size_of (File bytes) = length bytes
+size_of (Link target) = 0
+
+-- what is said of a node: none has a number, and all have the same mode and owner
+abbrev pub info_of : Node → FileInfo
+info_of node = record {
+  kind = kind_of node;
+  regular = is_regular node;
+  size = size_of node;
+  inode = 0;
+  device = 0;
+  mode = 420;
+  owner = 0;
+  group = 0;
+}
+
+-- it is said what is where something was found, or why nothing is
+abbrev pub Shown : Result Names Fault → Tree → Result FileInfo Stop → Type 0
+Shown ends t (Ok info) =
+    IsOkAnd ends (λ names. IsSomeAnd (look t names) (λ node. info ≡ info_of node))
+Shown ends t (Err why) = Stops why ends

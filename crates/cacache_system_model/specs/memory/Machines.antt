@@ -1,0 +1,60 @@
+-- The machine that a system in memory is, and what its calls say and leave there.
+use Rattle.std.specs.Prelude.{◌≡◌, ◌⊎◌, ℕ, List, [], None, option_map, slice_get}
+use Rattle.std_io.specs.declared.io.kind.ErrorKind.{ErrorKind}
+use Rattle.std_io.specs.declared.io.kind.ErrorKind.TheVariants as kind
+use Rattle.cacache_disk.specs.Tree.{Tree}
+use Rattle.cacache_system.specs.declared.call.{SystemCall.{SystemCall}, CallResult.{CallResult}, CallItem.{CallItem}}
+use Rattle.cacache_system.specs.declared.call.SystemCall.TheVariants as asks
+use Rattle.cacache_system.specs.declared.call.CallResult.TheVariants as says
+use Rattle.cacache_system_model.specs.Machine as model
+use Rattle.cacache_system_model.specs.{Machine.{Machine}, Calls.{GoesWell, OccursSomehow}, declared.memory.{state.OpenFile.{OpenFile}, system.MemorySystem.{MemorySystem}}, memory.Noted.{items_of}}
+
+-- all calls so far, oldest first
+abbrev pub calls_of : MemorySystem → List CallItem
+calls_of system = items_of system.log
+
+-- an open file as the model has it
+abbrev pub open_of : OpenFile → model.OpenFile
+open_of file = record { names = file.names; read = file.read }
+
+-- this tree with these open files: nothing was synced, nothing has a number, and no folder is open
+abbrev pub machine : Tree → List OpenFile → Machine
+machine t files = record {
+  tree = t;
+  files = λ number. option_map open_of (slice_get files number);
+  synced = [];
+  inodes = λ names. (0, 0);
+  folders = λ number. None;
+}
+
+-- the machine that a system is
+abbrev pub machine_of : MemorySystem → Machine
+machine_of system = machine system.memory.disk system.memory.files.items
+
+-- a call failed with this error, and nothing changed
+abbrev pub GivesUp : ErrorKind → Machine → CallResult → Machine → Type 0
+GivesUp why m said after = (said ≡ says.Failed why) × (after ≡ m)
+
+-- a call said and left what the model says, or memory was refused
+abbrev pub Goes : MemorySystem → SystemCall → CallResult → MemorySystem → Type 0
+Goes old call said new =
+    GoesWell None (machine_of old) call said (machine_of new)
+    ⊎ GivesUp kind.OutOfMemory (machine_of old) said (machine_of new)
+
+-- so did a move, except that a link isn't moved
+abbrev pub GoesUnlessLink : MemorySystem → SystemCall → CallResult → MemorySystem → Type 0
+GoesUnlessLink old call said new =
+    Goes old call said new ⊎ GivesUp kind.Unsupported (machine_of old) said (machine_of new)
+
+-- a call that goes so happens under some luck
+abbrev pub GoesOccur : Type 0
+GoesOccur =
+    (old new : MemorySystem) (call : SystemCall) (said : CallResult) → Goes old call said new
+    → OccursSomehow (machine_of old) call said (machine_of new)
+
+-- so does a move
+abbrev pub MovesOccur : Type 0
+MovesOccur =
+    (old new : MemorySystem) (from to : List ℕ) (said : CallResult)
+    → GoesUnlessLink old (asks.Rename from to) said new
+    → OccursSomehow (machine_of old) (asks.Rename from to) said (machine_of new)

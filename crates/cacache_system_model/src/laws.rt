@@ -1,0 +1,117 @@
+//! Laws, on functions that do nothing.
+ghost use Rattle.cacache_system_model.specs.Chains.{RunsMirror};
+ghost use Rattle.cacache_system_model.specs.Fixing.{SyncDirFixes, SyncFileFixes, SyncTempFixes};
+ghost use Rattle.cacache_system_model.specs.Listing.{ReadDirBreaks, ReadDirGoesPlainly};
+ghost use Rattle.cacache_system_model.specs.Logged.{LogsAgree};
+ghost use Rattle.cacache_system_model.specs.Making.{MakeDirsAgrees};
+ghost use Rattle.cacache_system_model.specs.Moving.{PersistAgrees};
+ghost use Rattle.cacache_system_model.specs.Meeting.{CallsCanGoWell};
+ghost use Rattle.cacache_system_model.specs.Mirrors.{StepsMirror};
+ghost use Rattle.cacache_system_model.specs.OneCall.{CreateAgrees, ExistsAgrees, HardLinkAgrees, ReflinkBreaks, SymlinkAgrees};
+ghost use Rattle.cacache_system_model.specs.Opening.{OpenAgrees, SizeAgrees};
+ghost use Rattle.cacache_system_model.specs.Premises.{EachMayBreak};
+ghost use Rattle.cacache_system_model.specs.Reading.{PiecesReadPlainly, ReadAllAgrees, ReadBreaks};
+ghost use Rattle.cacache_system_model.specs.Refusals.{NoAppendThroughLink, NoCallWithoutOwner, NoCopyInPlace, NoFileForFolder, NoMoveWithoutMode, NoOtherMode, NoOtherSync, NoRemovalBeforePut, NoRemovalThroughLink, NoSecondWrite};
+ghost use Rattle.cacache_system_model.specs.Removing.{AppendAgrees, RemoveDirAgrees, RemoveFileAgrees};
+ghost use Rattle.cacache_system_model.specs.Syncing.{SyncDirAgrees, SyncFileAgrees, SyncTempAgrees};
+ghost use Rattle.cacache_system_model.specs.Writing.{CopyAgrees, WriteAgrees};
+
+/// A step that makes or moves something answers and leaves what the disk's table says of it.
+///
+/// If none of its calls fails without cause, that is under plain luck; if some do, under some luck, provided that the
+/// table does the step. A `Reflink` is refused by luck alone.
+pub fn change_laws()
+    ensures create { CreateAgrees }
+    ensures persist { PersistAgrees }
+    ensures symlink { SymlinkAgrees }
+    ensures hard_link { HardLinkAgrees }
+    ensures reflink { ReflinkBreaks }
+{}
+
+/// So does a step that asks for something, or opens a file.
+pub fn look_laws()
+    ensures exists { ExistsAgrees }
+    ensures size { SizeAgrees }
+    ensures open { OpenAgrees }
+{}
+
+/// So does a listing of a folder that is there.
+pub fn list_laws()
+    ensures plainly { ReadDirGoesPlainly }
+    ensures breaking { ReadDirBreaks }
+{}
+
+/// So does a read: of a whole file, and of a piece of an open one.
+pub fn read_laws()
+    ensures whole { ReadAllAgrees }
+    ensures piece { ReadBreaks }
+    ensures plainly { PiecesReadPlainly }
+{}
+
+/// So do an append and a copy; and a write, except that its file grows in the tree.
+pub fn write_laws()
+    ensures append { AppendAgrees }
+    ensures write { WriteAgrees }
+    ensures copy { CopyAgrees }
+{}
+
+/// So does a step that makes folders, whether it asks for them first or not.
+pub fn folder_laws()
+    ensures make { MakeDirsAgrees }
+{}
+
+/// So does a removal, also if the folders of a walk are looked at before.
+pub fn removal_laws()
+    ensures file { RemoveFileAgrees }
+    ensures folder { RemoveDirAgrees }
+{}
+
+/// So does a sync.
+pub fn sync_laws()
+    ensures temp { SyncTempAgrees }
+    ensures file { SyncFileAgrees }
+    ensures folder { SyncDirAgrees }
+{}
+
+/// A sync fixes what its calls synced and nothing else, as the losses of power count it.
+pub fn fixing_laws()
+    ensures temp { SyncTempFixes }
+    ensures file { SyncFileFixes }
+    ensures folder { SyncDirFixes }
+{}
+
+/// Each kind of step except writes, at once: if it has what its law asks, and the disk's table does it, it is as
+/// under some luck.
+pub fn covered_laws()
+    ensures breaking { EachMayBreak }
+{}
+
+/// So is a step with a run that a store's log gained, which is what the contract of a store of real folders says.
+pub fn logged_laws()
+    ensures agree { LogsAgree }
+{}
+
+/// A disk in memory that has the bytes of open temporary files in their handles does what many steps do on a system.
+pub fn mirror_laws()
+    ensures step { StepsMirror }
+    ensures run { RunsMirror }
+{}
+
+/// The model can be met: each call can happen as it says.
+pub fn model_laws()
+    ensures calls { CallsCanGoWell }
+{}
+
+/// Calls that are no run of their step.
+pub fn refusal_laws()
+    ensures second_write { NoSecondWrite }
+    ensures removal_first { NoRemovalBeforePut }
+    ensures mode { NoOtherMode }
+    ensures sync { NoOtherSync }
+    ensures folder { NoFileForFolder }
+    ensures copy { NoCopyInPlace }
+    ensures link { NoRemovalThroughLink }
+    ensures append { NoAppendThroughLink }
+    ensures move_first { NoMoveWithoutMode }
+    ensures owner { NoCallWithoutOwner }
+{}

@@ -1,0 +1,12 @@
+//! What the system's calls mean, and that a run of a step's calls does what the disk's table of steps says.
+//!
+//! The module `memory` has a system in memory that keeps a log of its calls.
+#![tactic(auto)]
+
+mod laws;
+pub mod memory;
+
+pub use laws::{
+    change_laws, covered_laws, fixing_laws, folder_laws, list_laws, logged_laws, look_laws,
+    mirror_laws, model_laws, read_laws, refusal_laws, removal_laws, sync_laws, write_laws,
+};

@@ -1,0 +1,47 @@
+//! A disk in memory and real folders, which go through the same rows.
+use crate::keep::acts::made;
+use cacache::store::{FolderStore, MemStore};
+use row_places::{On, in_both, in_folders, in_memory};
+use rows::words::column;
+use rows::{Flaw, Outcome, Trial};
+use std::alloc::Global;
+use std::io;
+
+/// A disk in memory and real folders.
+#[derive(Drop)]
+pub(crate) struct Places {
+    alloc: Global,
+    memory: On<MemStore>,
+    folders: On<FolderStore<HostRuntime>>,
+}
+
+impl Places {
+    /// Empty ones. The folders are those below the one where the program runs.
+    pub(crate) fn new(rt: &HostRuntime) -> io::Result<Places> {
+        let alloc = rt.alloc();
+        let folders = in_folders(rt)?;
+        let memory = in_memory(alloc)?;
+        Ok(Places {
+            alloc,
+            memory,
+            folders,
+        })
+    }
+
+    /// What an act gives at both places.
+    fn everywhere(&mut self, act: &str, input: &str) -> Result<String, Flaw> {
+        let in_memory = made(&mut self.memory, act, input)?;
+        let in_folders = made(&mut self.folders, act, input)?;
+        Ok(in_both(self.alloc, in_memory, in_folders)?)
+    }
+}
+
+impl Trial for Places {
+    fn outcome(&mut self, row: &str) -> Result<Outcome, Flaw> {
+        let (act, rest) = column(row)?;
+        let (input, wanted) = column(rest)?;
+        let wanted = String::from_str(self.alloc, wanted)?;
+        let got = self.everywhere(act, input)?;
+        Ok(Outcome { wanted, got })
+    }
+}
