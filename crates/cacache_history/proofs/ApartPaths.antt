@@ -3,15 +3,13 @@ use Rattle.std.proofs.{Common.{◌≡◌, ◌⊎◌, inl, inr, ℕ, Bool, true, 
 use Rattle.cacache_core.specs.PathNames.{Names}
 use Rattle.cacache_store.specs.declared.store.answer.Name.{Name}
 use Rattle.cacache_history.{specs.Setup.{are_apart}, proofs.Listings.ToldFolders.{Each, AreDistinct}}
+use Rattle.cacache_loss.proofs.UnchangedPaths.{bytes_same}
 
 -- ---- paths that are apart
 
-itself : (n : List ℕ) → bytes_eq n n ≡ true
-itself n = (bytes_eq-Decides n n).1 refl
-
 not_apart : (q : Names) → are_apart q q ≡ true → ⊥
 not_apart [] e = cc
-not_apart (n ∷ q) e = not_apart q (sym (ap (λ b. cond b (are_apart q q) true) (itself n)) ∙ e)
+not_apart (n ∷ q) e = not_apart q (sym (ap (λ b. cond b (are_apart q q) true) (bytes_same n)) ∙ e)
 
 -- paths that are apart stay apart if either goes on
 apart_left : (q c more : Names) → are_apart q c ≡ true → are_apart (q ++ more) c ≡ true
@@ -39,7 +37,7 @@ siblings [] n m other = by (bytes_eq n m) refl
     by : (b : Bool) → bytes_eq n m ≡ b → cond b (are_apart [] []) true ≡ true
     by true e = absurd (other ((bytes_eq-Decides n m).0 e))
     by false e = refl
-siblings (x ∷ q) n m other = ap (λ b. cond b (are_apart (q ++ n ∷ []) (q ++ m ∷ [])) true) (itself x) ∙ siblings q n m other
+siblings (x ∷ q) n m other = ap (λ b. cond b (are_apart (q ++ n ∷ []) (q ++ m ∷ [])) true) (bytes_same x) ∙ siblings q n m other
 
 abbrev pub ApartAll : Names → List Names → Type 0
 ApartAll q [] = Unit {0}

@@ -54,7 +54,7 @@ digest_hash Sha512 m = record { bytes = sha512_bytes m; long_enough = omega (ari
 
 -- ---- an integrity
 
-own_ordered : (a : Algorithm) (d : List ℕ) → strongest_first (hash_of a d ∷ []) ≡ hash_of a d ∷ []
+pub own_ordered : (a : Algorithm) (d : List ℕ) → strongest_first (hash_of a d ∷ []) ≡ hash_of a d ∷ []
 own_ordered Sha1 d = refl
 own_ordered Sha256 d = refl
 own_ordered Sha384 d = refl

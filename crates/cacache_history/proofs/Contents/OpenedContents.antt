@@ -64,7 +64,7 @@ abbrev pub GivesNext : List ℕ → PlainAnswer → Type 0
 GivesNext all (answers.Got file bytes) = (rest : List ℕ) × (file.bytes ≡ Some rest) × (bytes ++ rest ≡ all) × (bytes ≡ [] → all ≡ [])
 GivesNext all a = Unit {0}
 
-no_first : (size : ℕ) (all : List ℕ) → 0 < size → take size all ≡ [] → all ≡ []
+pub no_first : (size : ℕ) (all : List ℕ) → 0 < size → take size all ≡ [] → all ≡ []
 no_first zero all lt e = absurd (omega (arith, lt))
 no_first (suc size) [] lt e = refl
 no_first (suc size) (b ∷ bs) lt e = absurd cc

@@ -9,6 +9,7 @@ use Rattle.cacache_entry.specs.Bucket.{entries_of}
 use Rattle.cacache_table.specs.{declared.{reply.Reply.{Reply}, carried.Commit.{Commit}}, StepPaths.{content_path}, State.{Insertion}, Storing.{insertion_of}}
 use Rattle.cacache_value.specs.{Acts.{Act, Nothing, PutBytes, PutLink, AddEntries, Drop, MakeFolders, DropFolder, act_at, act_with, act_if_done, folders_left, amount_left, act_of, change}, Kinds.{is_path_of}, Traces.{Move}, Value.{Blob, InFile, AtLink, Value}}
 use Rattle.cacache_history.specs.{History.{Turn}, Commits.{Deed, does, finds, deeds_of_act, finds_in, deeds_of, deeds, PutsContent, IsAdded, InsertionAdds, AddsAfter, CommitsAs}, AddedEntries.{IsAmong}}
+use Rattle.cacache_history.proofs.Entries.Lookups.{among_left, among_right}
 
 -- ---- the step that puts a link
 
@@ -77,15 +78,6 @@ from_act folder v (MakeFolders path count) a target e = inl e
 from_act folder v (DropFolder path) a target e = inl e
 
 -- ---- the deed among those of its call
-
-among_left : (d : Deed) (xs ys : List Deed) → IsAmong d xs → IsAmong d (xs ++ ys)
-among_left d [] ys h = absurd h
-among_left d (x ∷ xs) ys (inl e) = inl e
-among_left d (x ∷ xs) ys (inr h) = inr (among_left d xs ys h)
-
-among_right : (d : Deed) (xs ys : List Deed) → IsAmong d ys → IsAmong d (xs ++ ys)
-among_right d [] ys h = h
-among_right d (x ∷ xs) ys h = inr (among_right d xs ys h)
 
 pub among_last : (d : Deed) (turns : List Turn) (turn : Turn) → IsAmong d (deeds_of turn.move) → IsAmong d (deeds (turns ++ turn ∷ []))
 among_last d [] turn h = among_left d (deeds_of turn.move) [] h

@@ -94,7 +94,7 @@ here (Some folder) a names e =
     subst (λ p. is_path_of (Some folder) (content_names a) p ≡ true) same (same_self (folder ++ content_names a))
 
 -- what blob an answer of yes is about
-blob_is : (t : Tree) (blob : Option Blob) → there_in (blob_there t blob) ≡ Ok true → IsThere blob
+pub blob_is : (t : Tree) (blob : Option Blob) → there_in (blob_there t blob) ≡ Ok true → IsThere blob
 blob_is t None e = absurd cc
 blob_is t (Some blob) e = tt
 

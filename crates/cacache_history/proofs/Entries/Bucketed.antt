@@ -8,7 +8,7 @@ use Rattle.cacache_table.{specs.declared.reply.Reply.{Reply}, proofs.Sound.{step
 use Rattle.cacache_table.specs.Sound as calls
 use Rattle.cacache_value.specs.OpeningTrees.{LieApart}
 use Rattle.cacache_history.specs.{declared.record.Record.{Record, TheVariants.{Began, Moved, Stopped}}, Setup.{Setup, call_site, home, may_export, is_outside}, History.{Call, Now, History, Turn, Made, initial, moved_tree, now_after, replayed, now_at, MayMove, MayCome, Legal, IsLegal, Reaches}, Turns.{EachTurn}, TurnPlaces.{TurnAt}, Buckets.{BucketsHaveKeys, BucketsAreOfKeys, BucketsHoldOwn}}
-use Rattle.cacache_history.proofs.{Histories.{Holding.{AllHold, CallHolds, of_caller, made_proper, next_holds, first_opens, first_holds, legal_before}, ShownTurns.{bucket_below}, Turned.{reached_turns}}, Entries.{Owned.{AppendsOwn, TreeOwn, step_own, opening_own}, Keyed.{ToKeys, step_keyed, opening_keyed}}}
+use Rattle.cacache_history.proofs.{Histories.{Holding.{AllHold, CallHolds, of_caller, made_proper, next_holds, first_opens, first_holds, legal_before}, ShownTurns.{bucket_below}, Turned.{reached_turns}, Places.{each_turn}}, Entries.{Owned.{AppendsOwn, TreeOwn, step_own, opening_own}, Keyed.{ToKeys, step_keyed, opening_keyed}}}
 use Rattle.cacache_entry.proofs.EntryCauses.{Fits-no_cause}
 
 -- a step that a call may make appends to the bucket of a key
@@ -74,10 +74,6 @@ KeyedTurn s turn = Keeps s turn.place
 turn_keyed : (h : History) (legal : IsLegal h) (turn : Turn) → TurnAt h turn → KeyedTurn h.setup turn
 turn_keyed h legal turn at =
     subst (KeyedTurn h.setup) (sym at.turn_is) (kept_at h legal at.before (Moved at.caller at.luck (Some at.made) at.reply ∷ at.later) at.is)
-
-each_turn : (P Q : Turn → Type 0) → ((turn : Turn) → P turn → Q turn) → (turns : List Turn) → EachTurn P turns → EachTurn Q turns
-each_turn P Q f [] h = tt
-each_turn P Q f (turn ∷ turns) h = (f turn h.0, each_turn P Q f turns h.1)
 
 pub turns_keyed : (h : History) → IsLegal h → (call : Call) (reply : Option Reply) → Reaches h call reply → EachTurn (KeyedTurn h.setup) call.turns
 turns_keyed h legal call reply reaches = each_turn (TurnAt h) (KeyedTurn h.setup) (turn_keyed h legal) call.turns (reached_turns h call reply reaches)

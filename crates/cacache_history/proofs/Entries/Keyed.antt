@@ -3,11 +3,12 @@ use Rattle.std.proofs.{Common.{◌≡◌, ◌-◌, ◌==◌, ℕ, Bool, true, fa
 use Rattle.std.specs.Prelude.{IfOk, []}
 use Rattle.cacache_core.specs.{declared.errors.Fault.{Fault, TheVariants.{NotFound, IsADirectory, InvalidInput}}, PathNames.{Names, names_of, names_below}, Paths.{bucket_names, content_area, index_area, temp_area}}
 use Rattle.cacache_store.specs.{declared.store.step.Step.TheVariants.{MakeDirs, CreateTemp, Write, Persist, Append, ReadAll, Open, Read, Size, Exists, Symlink, Copy, Reflink, HardLink, ReadDir, RemoveFile, RemoveDir, SyncTemp, SyncFile, SyncDir}, Plain.{PlainStep, PlainAnswer}}
-use Rattle.cacache_disk.specs.{declared.{luck.Luck.{Luck}, node.Node.{Node, TheVariants.{Folder, File, Link}}}, Tree.{Tree, look, put, cut, same_path, bytes_of}, Rooted.{is_folder, Rooted}, LedTo.{or_fault, dirs, dirs_fault, free, known, kept, replaceable, writable, file_at, linked, removable, emptied, folder}, Apply.{apply, plain, unless, taken, making, make_some, if_missing}}
-use Rattle.cacache_disk.proofs.{Maps.{same_path-true}, PutNodes.{look-put, look-cut}, FoundNodes.{and_then_ok, or_fault_none, free_ok, replaceable_ok}, KeptFolders.{apply_tree, unless_tree}, Standing.{upper_folder}}
+use Rattle.cacache_disk.specs.{declared.{luck.Luck.{Luck}, node.Node.{Node, TheVariants.{Folder, File, Link}}}, Tree.{Tree, look, put, cut, same_path, bytes_of}, Rooted.{is_folder, Rooted}, LedTo.{dirs, free, known, kept, replaceable, writable, file_at, linked, removable, emptied, folder}, Apply.{apply, plain, unless, taken, making, make_some, if_missing}}
+use Rattle.cacache_disk.proofs.{Maps.{same_path-true}, PutNodes.{look-put, look-cut}, FoundNodes.{free_ok, replaceable_ok}, KeptFolders.{apply_tree, unless_tree}, Standing.{upper_folder}}
 use Rattle.cacache_value.specs.{Kinds.{PathKind, Content, Bucket, Temporary, Way, Stray, Elsewhere, kind_below, kind_beside, path_kind, IsFor}, Value.{value_of_tree, empty_value}, Placed.{Placed, Proper}, OpeningTrees.{IsOpening}}
 use Rattle.cacache_value.proofs.{KindsApart.{further, way_here}, FoundPaths.{Reaches, found, missing, bucket_reached, unreachable, of_names, writable_out}}
 use Rattle.cacache_history.specs.Buckets.{IsOfKey, BucketsHaveKeys}
+use Rattle.cacache_loss.proofs.StepCases.{dirs_ok}
 
 -- ---- what is put and cut
 
@@ -45,12 +46,6 @@ make_keyed home t above (name ∷ rest) count k h =
     make_at home (above ++ name ∷ []) rest t (look t (above ++ name ∷ [])) count (count == 0)
     (λ e. let no : Way ≡ Bucket = sym (way_here home above rest name k) ∙ e in cc) h
     (λ new count g. make_keyed home new (above ++ name ∷ []) rest count (further home Way above rest name k) g)
-
-dirs_ok : (t : Tree) (path : List ℕ) (names : Names) → dirs t path ≡ Ok names → names_of path ≡ Ok names
-unfolding dirs
-dirs_ok t path names e =
-    let f = and_then_ok (names_of path) (λ names. or_fault (dirs_fault t [] names) names) names e in
-    f.1 ∙ ap Ok (or_fault_none (dirs_fault t [] f.0) f.0 names f.2).1
 
 -- ---- steps
 

@@ -13,12 +13,12 @@ use Rattle.cacache_history.proofs.{Entries.{AddedEntries.{acts_last}, Writes.{ad
 
 -- ---- deeds of a last move
 
-among_left : (d : Deed) (xs ys : List Deed) → IsAmong d xs → IsAmong d (xs ++ ys)
+pub among_left : (d : Deed) (xs ys : List Deed) → IsAmong d xs → IsAmong d (xs ++ ys)
 among_left d [] ys among = absurd among
 among_left d (x ∷ xs) ys (inl here) = inl here
 among_left d (x ∷ xs) ys (inr more) = inr (among_left d xs ys more)
 
-among_right : (d : Deed) (xs ys : List Deed) → IsAmong d ys → IsAmong d (xs ++ ys)
+pub among_right : (d : Deed) (xs ys : List Deed) → IsAmong d ys → IsAmong d (xs ++ ys)
 among_right d [] ys among = among
 among_right d (x ∷ xs) ys among = inr (among_right d xs ys among)
 

@@ -1,9 +1,9 @@
 -- What a move adds to a bucket is what its call's command writes; and which buckets it removes.
-use Rattle.std.proofs.{Common.{◌≡◌, ◌⊎◌, inl, inr, ℕ, Bool, true, false, List, [], ◌∷◌, ◌++◌, Option, None, Some, Ok, refl, sym, ap, subst, ◌∙◌, arith}, lemmas.List.{append_cancel_left, Elements.{All-head}}}
+use Rattle.std.proofs.{Common.{◌≡◌, ◌⊎◌, inl, inr, ℕ, true, false, List, [], ◌∷◌, ◌++◌, Option, None, Some, Ok, refl, sym, ap, subst, ◌∙◌, arith}, lemmas.List.{append_cancel_left, Elements.{All-head}}}
 use Rattle.sha1.specs.Sha1.{sha1}
 use Rattle.cacache_core.specs.{declared.integrity.digest.Hash.{Hash}, Integrity.{IsHash, IsIntegrity}, PathNames.{Names, names_of, names_below}, Paths.{joined, content_names, bucket_names_of}}
 use Rattle.cacache_core.proofs.{PathLemmas.{keys_have_digests}, PathTexts.{paths_differ}}
-use Rattle.cacache_disk.proofs.Maps.{same_path-true}
+use Rattle.cacache_disk.proofs.{Maps.{same_path-true}, Roots.{not_true}}
 use Rattle.cacache_entry.specs.{Entry.{Entry}, Latest.{Found}}
 use Rattle.cacache_table.specs.{declared.{carried.Commit.{Commit}, command.{Command.{Command}, Link.{Link}}, reply.Reply.{Reply}}, Inserting.{insertion, deletion}, Linking.{commit_for, link_target}, Replies.{lookup}, State.{Site, Insertion}, StepPaths.{content_path, bucket_path}, Storing.{insertion_of, put_commit}}
 use Rattle.cacache_table.specs.declared.command.Command.TheVariants as commands
@@ -136,7 +136,7 @@ module _ (h : History) (legal : IsLegal h) (call : Call) (reply : Option Reply) 
 -- ---- what is removed
 
 -- names below the cache are those of one path
-one_path : (folder : Option Names) (mine others names : Names) → names_below folder mine ≡ Ok names → is_path_of folder others names ≡ true → others ≡ mine
+pub one_path : (folder : Option Names) (mine others names : Names) → names_below folder mine ≡ Ok names → is_path_of folder others names ≡ true → others ≡ mine
 one_path None mine others names e is = absurd cc
 one_path (Some folder) mine others names e is =
     let there : folder ++ mine ≡ names = cc in
@@ -144,10 +144,6 @@ one_path (Some folder) mine others names e is =
 
 not_content : (a : Hash) (d : List ℕ) → bucket_names_of d ≡ content_names a → ⊥
 not_content a d e = absurd cc
-
-is_not : (b : Bool) → (b ≡ true → ⊥) → b ≡ false
-is_not true h = absurd (h refl)
-is_not false h = refl
 
 module _ (s : Setup) (key : List ℕ) where
   -- the path isn't that of the key's bucket
@@ -157,12 +153,12 @@ module _ (s : Setup) (key : List ℕ) where
   content_apart : (i : List Hash) → IsIntegrity i → (names : Names) → names_of (content_path s.cache i) ≡ Ok names → IsApart names
   content_apart [] is names e = absurd (omega (arith, is.nonempty))
   content_apart (a ∷ hs) is names e =
-      is_not (is_path_of (home s) (bucket_names_of (sha1 key)) names)
+      not_true (is_path_of (home s) (bucket_names_of (sha1 key)) names)
       (λ here. not_content a (sha1 key) (one_path (home s) (content_names a) (bucket_names_of (sha1 key)) names (sym (content_below s a hs (All-head IsHash a hs is.hashes)) ∙ e) here))
 
   bucket_apart : (other : List ℕ) → (sha1 other ≡ sha1 key → ⊥) → (names : Names) → names_of (bucket_path s.cache other) ≡ Ok names → IsApart names
   bucket_apart other differ names e =
-      is_not (is_path_of (home s) (bucket_names_of (sha1 key)) names)
+      not_true (is_path_of (home s) (bucket_names_of (sha1 key)) names)
       (λ here. differ ((paths_differ.buckets [] (sha1 other) (sha1 key) (keys_have_digests other) (keys_have_digests key)).0
       (ap (joined []) (sym (one_path (home s) (bucket_names_of (sha1 other)) (bucket_names_of (sha1 key)) names (sym (bucket_below s other) ∙ e) here)))))
 

@@ -57,7 +57,7 @@ moves_are_of_calls h legal place caller move =
 
 -- ---- turns are a caller's own
 
-each_turn : (P Q : Turn → Type 0) → ((turn : Turn) → P turn → Q turn) → (turns : List Turn) → EachTurn P turns → EachTurn Q turns
+pub each_turn : (P Q : Turn → Type 0) → ((turn : Turn) → P turn → Q turn) → (turns : List Turn) → EachTurn P turns → EachTurn Q turns
 each_turn P Q f [] h = tt
 each_turn P Q f (turn ∷ turns) h = (f turn h.0, each_turn P Q f turns h.1)
 

@@ -66,7 +66,7 @@ folder_low t home folder names placed here there =
 pub index_is_shallow : (h : History) → IsLegal h → IndexIsShallow h
 index_is_shallow h legal before later is folder names here there = folder_low (now_at h before).tree (home h.setup) folder names (held_at h legal before later is).placed here there
 
-joined_more : (path : List ℕ) (names : Names) (n : List ℕ) → joined path (names ++ n ∷ []) ≡ join (joined path names) n
+pub joined_more : (path : List ℕ) (names : Names) (n : List ℕ) → joined path (names ++ n ∷ []) ≡ join (joined path names) n
 joined_more path [] n = refl
 joined_more path (m ∷ names) n = joined_more (join path m) names n
 

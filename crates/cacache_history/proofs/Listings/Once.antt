@@ -13,7 +13,7 @@ use Rattle.cacache_table.proofs.Branches.{cond_leads}
 use Rattle.cacache_table.specs.declared.answers.Refusal.TheVariants as refusals
 use Rattle.cacache_table.specs.declared.command.Command.TheVariants as commands
 use Rattle.cacache_history.specs.{Setup.{Setup, call_site, home}, History.{Turn}, Turns.{made_in, EachTurn}, ListingTurns.{IsIndexFolder, NoneTwice}}
-use Rattle.cacache_history.proofs.{Histories.Holding.{TurnHolds, TurnsHold}, Listings.{ToldFolders.{AreDistinct, names_told, listing_distinct}, ListingWalks.{Visits, Tasks, tasks_append, no_leaving, folder_tasks, proper_names, below_is, child_named}}, Entries.Bucketed.{KeyedTurn}, ApartPaths.{ApartAll, AllApart, children, children_apart, BelowSome, below_child, never_below, never_deeper}}
+use Rattle.cacache_history.proofs.{Histories.{Holding.{TurnHolds, TurnsHold}, Places.{each_turn}}, Listings.{ToldFolders.{AreDistinct, names_told, listing_distinct}, ListingWalks.{Visits, Tasks, tasks_append, no_leaving, folder_tasks, proper_names, below_is, child_named}, Ended.{pick}}, Entries.Bucketed.{KeyedTurn}, ApartPaths.{ApartAll, AllApart, children, children_apart, BelowSome, below_child, never_below, never_deeper}}
 
 -- ---- tasks and turns
 
@@ -41,10 +41,6 @@ at_append (Stumble fault path ∷ a) b ps qs h k = absurd h
 Under : List Names → Turn → Type 0
 Under qs turn = (q : Names) × (names_of (step_path turn.move.step) ≡ Ok q) × BelowSome qs q
 
-each_weaker : (P Q : Turn → Type 0) → ((turn : Turn) → P turn → Q turn) → (turns : List Turn) → EachTurn P turns → EachTurn Q turns
-each_weaker P Q f [] h = tt
-each_weaker P Q f (turn ∷ turns) h = (f turn h.0, each_weaker P Q f turns h.1)
-
 -- the turns lie below these paths, and none makes the step of another
 abbrev Once : List Names → List Turn → Type 0
 Once qs turns = EachTurn (Under qs) turns × NoneTwice turns
@@ -54,8 +50,8 @@ once_more : (q : Names) (qs : List Names) (ns : List Name) (turn : Turn) (turns 
     → Once (q ∷ qs) (turn ∷ turns)
 unfolding Under
 once_more q qs ns turn turns at apart h = (
-  ((q, at, inl ([], append-nil q)), each_weaker (Under (children q ns ++ qs)) (Under (q ∷ qs)) wider turns h.0),
-  (each_weaker (Under (children q ns ++ qs)) (λ later. later.move.step ≡ turn.move.step → ⊥) differs turns h.0, h.1),
+  ((q, at, inl ([], append-nil q)), each_turn (Under (children q ns ++ qs)) (Under (q ∷ qs)) wider turns h.0),
+  (each_turn (Under (children q ns ++ qs)) (λ later. later.move.step ≡ turn.move.step → ⊥) differs turns h.0, h.1),
 )
   where
     wider : (later : Turn) → Under (children q ns ++ qs) later → Under (q ∷ qs) later
@@ -69,10 +65,6 @@ once_more q qs ns turn turns at apart h = (
           | inl b ↦ never_deeper q b.0 b.1 (b.2 ∙ here)
           | inr b ↦ never_below q qs apart (subst (BelowSome qs) here b)
         ]
-
-pick : (P : State → Type 0) (b : Bool) (s t : State) → b ≡ false → P (cond b s t) → P t
-pick P true s t e h = absurd cc
-pick P false s t e h = h
 
 -- the tasks that a folder brings are at its names
 child_tasks : (level : ℕ) (p : List ℕ) (q : Names) (ns : List Name) → ((n : Name) → IsProperName n.name → names_of (join p n.name) ≡ Ok (q ++ n.name ∷ [])) → AreProperNames ns
@@ -228,7 +220,7 @@ module _ (s : Setup) where
     -- the top has no names: it can't be read
     first_alone : (turn : Turn) (turns : List Turn) → Once [] turns → NoneTwice (turn ∷ turns)
     unfolding Under
-    first_alone turn turns h = (each_weaker (Under []) (λ later. later.move.step ≡ turn.move.step → ⊥) (λ later u same. u.2) turns h.0, h.1)
+    first_alone turn turns h = (each_turn (Under []) (λ later. later.move.step ≡ turn.move.step → ⊥) (λ later u same. u.2) turns h.0, h.1)
 
     unread : (turn : Turn) (turns : List Turn) (top : List ℕ) (w : Walk) (fault : Fault) → names_of top ≡ Err fault → TurnHolds s turn → steps.ReadDir top ≡ turn.move.step → w.clears ≡ false
         → (a : Result (List Name) Refusal) → names_in turn.move.answer ≡ a → Rest (go_on a (miss w (walk_on [])) (entered w top 0 [])) turns → Once [] turns

@@ -1,6 +1,6 @@
 -- What a listing of a folder says of the nodes in it.
-use Rattle.std.proofs.{Common.{◌≡◌, ◌⊎◌, inl, inr, ◌+◌, ◌&&◌, ℕ, Bool, true, false, cond, List, [], ◌∷◌, ◌++◌, Option, None, Some, Result, Ok, Err, length, take, refl, sym, ap, subst, ◌∙◌, arith, eqb-true, ap₂, length-append}, lemmas.{Bool.{and_parts, eq-eqb}, List.{take_all, take_at, get_or_at}}}
-use Rattle.std.specs.{Prelude.{T, slice_index_or, filter_map}, List.{cons_option}, FinMap.Entries.{below_all}, declared.cmp.Ordering.{Ordering, TheVariants.{Less, Equal, Greater}}, Ordering.{is_lt, is_eq, ordering_reverse, nat_cmp}, Cmp.{eq_by_cmp_equiv, Lexicographic.{pointwise, slice_cmp, lists_ties, texts_ties}}, Bool.{nat_eq}}
+use Rattle.std.proofs.{Common.{◌≡◌, ◌⊎◌, inl, inr, ◌+◌, ◌&&◌, ℕ, Bool, true, false, cond, List, [], ◌∷◌, ◌++◌, Option, None, Some, Result, Ok, Err, length, take, refl, sym, ap, subst, ◌∙◌, arith, eqb-true, ap₂}, lemmas.{Bool.{and_parts}, List.{take_all, get_or_at}}}
+use Rattle.std.specs.{Prelude.{T, slice_index_or, filter_map}, List.{cons_option}, FinMap.Entries.{below_all}, declared.cmp.Ordering.{Ordering, TheVariants.{Less, Equal, Greater}}, Ordering.{is_lt, is_eq, ordering_reverse}, Cmp.{eq_by_cmp_equiv}}
 use Rattle.std.specs.FinMap as map
 use Rattle.cacache_core.specs.{declared.errors.Fault.{Fault}, PathNames.{Names, names_of}}
 use Rattle.cacache_store.specs.declared.store.answer.{Kind.{Kind}, Name.{Name}}
@@ -10,6 +10,7 @@ use Rattle.cacache_store.specs.declared.store.step.Step.TheVariants as steps
 use Rattle.cacache_store.specs.declared.store.answer.Answer.TheVariants as answers
 use Rattle.cacache_table.specs.Answers.{names_in}
 use Rattle.cacache_value.proofs.Shows.{apply_answer}
+use Rattle.cacache_loss.proofs.KeptPaths.{child_of_self}
 
 -- ---- the entries of a map
 
@@ -21,7 +22,7 @@ each_weaker : {X : Type 0} (P Q : X → Type 0) → ((x : X) → P x → Q x) �
 each_weaker P Q f [] h = tt
 each_weaker P Q f (x ∷ xs) h = (f x h.0, each_weaker P Q f xs h.1)
 
-both_parts : (a b : Bool) → T (a && b) → T a × T b
+pub both_parts : (a b : Bool) → T (a && b) → T a × T b
 both_parts true b h = (tt, h)
 both_parts false b h = absurd h
 
@@ -139,13 +140,6 @@ abbrev pub IsAmong : Name → List Name → Type 0
 IsAmong n [] = ⊥
 IsAmong n (m ∷ ns) = (n ≡ m) ⊎ IsAmong n ns
 
-is_child-snoc : (p : Names) (name : List ℕ) → is_child p (p ++ name ∷ []) ≡ true
-is_child-snoc p name =
-    let l : length (p ++ name ∷ []) ≡ length p + 1 = omega (arith, length-append p (name ∷ [])) in
-    let front : take (length p) (p ++ name ∷ []) ≡ p = take_at p (name ∷ []) (length p) refl in
-    let same : pointwise (pointwise nat_eq) p p ≡ true = lists_ties (slice_cmp nat_cmp) texts_ties p p ∙ (eq_by_cmp_equiv total).refl p in
-    rw (eq-eqb (length (p ++ name ∷ [])) (length p + 1) l, front, same) refl
-
 -- the name of a child
 child_name : Names → List ℕ → Node → Name
 child_name folder name node = record { name = name; kind = kind_of node }
@@ -155,7 +149,7 @@ listed_at : (folder : Names) (name : List ℕ) (node : Node) (e : Names × Node)
 unfolding child_name
 listed_at folder name node e rest same is =
     let path : folder ++ name ∷ [] ≡ e.0 = same_path-true (folder ++ name ∷ []) e.0 same in
-    let child : is_child folder e.0 ≡ true = ap (is_child folder) (sym path) ∙ is_child-snoc folder name in
+    let child : is_child folder e.0 ≡ true = ap (is_child folder) (sym path) ∙ child_of_self folder name in
     let own : name ≡ slice_index_or e.0 (length folder) [] = sym (get_or_at folder name [] [] (length folder) refl) ∙ ap (λ (q : Names). slice_index_or q (length folder) []) path in
     subst (λ b. IsAmong (child_name folder name node) (cons_option (cond b (Some (record { name = slice_index_or e.0 (length folder) []; kind = kind_of e.1 })) None) rest)) (sym child)
     (inl (ap₂ (λ (n : List ℕ) (k : Kind). record { name = n; kind = k }) own (ap kind_of (sym is))))

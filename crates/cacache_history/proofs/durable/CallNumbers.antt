@@ -10,11 +10,11 @@ use Rattle.cacache_loss.specs.Fixing.{is_at}
 
 -- ---- paths of temporary files
 
-temps_named : (cache : List ℕ) (n : ℕ) → names_of (temp_path cache n) ≡ names_below (home_of cache) (temp_names n)
+pub temps_named : (cache : List ℕ) (n : ℕ) → names_of (temp_path cache n) ≡ names_below (home_of cache) (temp_names n)
 unfolding temp_path
 temps_named cache n = joined_texts_name cache (temp_names n) (names_are_proper.temporaries n) (omega arith)
 
-same_number : (cache : List ℕ) (folder : Names) (n m : ℕ) → n < 2 ^ 64 → m < 2 ^ 64 → folder ++ temp_names n ≡ folder ++ temp_names m → n ≡ m
+pub same_number : (cache : List ℕ) (folder : Names) (n m : ℕ) → n < 2 ^ 64 → m < 2 ^ 64 → folder ++ temp_names n ≡ folder ++ temp_names m → n ≡ m
 same_number cache folder n m few less e =
     (paths_differ.temporaries cache n m few less).0 (ap (joined cache) (append_cancel_left folder (temp_names n) (temp_names m) e))
 

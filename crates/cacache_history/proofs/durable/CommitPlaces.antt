@@ -14,7 +14,7 @@ use Rattle.cacache_history.proofs.{Contents.Carrying.{Makes, own_bytes, own_of},
 
 -- ---- the whole run of a call
 
-goes_runs : (s t : State) (a b : Moves) (r : Reply) → Goes s a t → Runs t b r → Runs s (a ++ b) r
+pub goes_runs : (s t : State) (a b : Moves) (r : Reply) → Goes s a t → Runs t b r → Runs s (a ++ b) r
 goes_runs s t [] b r goes run = subst (λ s. Runs s b r) (sym goes) run
 goes_runs s t (m ∷ a) b r goes run = (goes.0, goes.1, goes_runs (after s m.1) t a b r goes.2 run)
 
