@@ -10,7 +10,6 @@ pub mod LinkResults
 pub mod WriterResults
 pub mod JoinedResults
 pub mod ListResults
-pub mod LeftReads
 pub mod LossResults
 pub mod LeftWrites
 pub mod UnchangedFiles

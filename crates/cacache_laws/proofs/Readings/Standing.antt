@@ -1,5 +1,5 @@
 -- Reads and lookups if each thing is where it may be, whatever the bytes of contents and buckets.
-use Rattle.std.proofs.{Common.{◌≡◌, ◌⊎◌, inl, inr, ℕ, Bool, true, false, cond, List, [], ◌∷◌, ◌++◌, Option, Some, Result, Ok, Err, map, refl, sym, ap, subst, ◌∙◌, arith}, lemmas.List.Elements.{All-head}}
+use Rattle.std.proofs.{Common.{◌≡◌, ◌⊎◌, inl, inr, ℕ, Bool, true, false, cond, List, [], ◌∷◌, ◌++◌, Option, None, Some, Result, Ok, Err, map, option_map, refl, sym, ap, subst, ◌∙◌, arith}, lemmas.List.Elements.{All-head}}
 use Rattle.sha1.specs.Sha1.{sha1}
 use Rattle.cacache_core.specs.{declared.{errors.{Error.TheVariants.{IntegrityError, IoError, OutOfMemory}, IntegrityFault.TheVariants.{Check}, Fault.{Fault}}, integrity.digest.Hash.{Hash}}, Integrity.{IsHash, IsIntegrity, Meets, actual, address}, Meeting.{meets}, PathNames.{home_of}}
 use Rattle.cacache_core.proofs.Meeting.{meets_finds}
@@ -17,7 +17,7 @@ use Rattle.cacache_table.specs.declared.reply.Reply.TheVariants as replies
 use Rattle.cacache_value.specs.{Acts.{list_of}, Placed.{Placed}, Shows.{ReadsShow, ShowsBucket, ShowsContent, blob_bytes}, Value.{Value, value_of_tree}}
 use Rattle.cacache_value.proofs.Shows.{trees_show}
 use Rattle.cacache_history.{specs.ShownTurns.{blob_at}, proofs.Histories.ShownTurns.{bucket_below, content_below}}
-use Rattle.cacache_laws.specs.{Caches.{HasKey, Called, GivesBytes, IsExcused, setup_at}, Keeping.{found_under}, Looks.{GivesFound}, Sequence.{AreAnswered}, Standing.{IsStanding, CachesStand, LooksLeaveStanding, StandingFinds, StandingReads}}
+use Rattle.cacache_laws.specs.{Caches.{HasKey, Called, GivesBytes, IsExcused, setup_at}, Inserts.{leads_to}, Keeping.{found_under}, Looks.{GivesFound, bytes_under}, Sequence.{AreAnswered}, Standing.{IsStanding, CachesStand, LooksLeaveStanding, StandingFinds, StandingReads}}
 use Rattle.cacache_laws.proofs.{Calls.{InParts.{logs_lead}, Logs.{some_same}}, Readings.{Known.{excused_by}, Looks.{looks_keep, tree_stays}, ReadsKeep.{key_stays}, ReadsStay.{reading_keeps}}}
 
 pub caches_stand : CachesStand
@@ -124,22 +124,20 @@ standing_finds cache key r old new standing c =
 
 -- ---- reads
 
-module _ (cache key bytes : List ℕ) (i : List Hash) (r : Reply) (old new : List LogItem) (standing : IsStanding cache old) (has : HasKey cache key i bytes old) (c : Called cache (commands.Get key) r old new) where
+-- the key leads to these bytes
+module _ (cache key : List ℕ) (r : Reply) (old new : List LogItem) (standing : IsStanding cache old) (c : Called cache (commands.Get key) r old new) (Stays : Type 0) (stays : Stays) (bytes : List ℕ) (found : Found)
+    (finds : found_under cache key old ≡ Some found) (formed : IsIntegrity found.integrity) (lies : bytes_under cache found.integrity old ≡ Ok bytes) (met : Meets found.integrity bytes) where
   abbrev Gives : Reply → Type 0
-  Gives x = GivesBytes (HasKey cache key i bytes new) bytes x old new
-
-  stays : HasKey cache key i bytes new
-  stays = key_stays cache key bytes i old new (looks_keep cache (commands.Get key) r old new tt c) has
+  Gives x = GivesBytes Stays bytes x old new
 
   by_refusal : (refusal : Refusal) → r ≡ refusal_reply refusal → Gives r
   by_refusal refusal e = refused cache (commands.Get key) r old new (λ fault own. own) standing c refusal e Gives (λ fault excused. excused) (inl refl)
 
-  by_content : (a : PlainAnswer) → a ≡ (apply (tree_of old) (steps.ReadAll (content_path cache i)) Plain).0 → r ≡ content_reply i (bytes_in a) → Gives r
+  by_content : (a : PlainAnswer) → a ≡ (apply (tree_of old) (steps.ReadAll (content_path cache found.integrity)) Plain).0 → r ≡ content_reply found.integrity (bytes_in a) → Gives r
   by_content a is e =
-      let lies : blob_bytes (tree_of old) (blob_at (value_of_tree (home_of cache) (tree_of old)) (address i)) ≡ Ok bytes = ap (blob_bytes (tree_of old)) has.content.content in
-      elim (content_answer cache (commands.Get key) r old new (λ fault own. own) standing c i bytes a has.content.formed lies is) [
-        | inl given ↦ subst Gives (sym (e ∙ ap (content_reply i) given ∙ met_reply i bytes has.content.meets)) (refl, stays)
-        | inr why ↦ by_refusal why.0 (e ∙ ap (content_reply i) why.1)
+      elim (content_answer cache (commands.Get key) r old new (λ fault own. own) standing c found.integrity bytes a formed lies is) [
+        | inl given ↦ subst Gives (sym (e ∙ ap (content_reply found.integrity) given ∙ met_reply found.integrity bytes met)) (refl, stays)
+        | inr why ↦ by_refusal why.0 (e ∙ ap (content_reply found.integrity) why.1)
       ]
 
   by_bucket : (a : PlainAnswer) (more : Moves) → c.ran.0 ≡ (steps.ReadAll (bucket_path cache key), a) ∷ more → ReadsOn cache key (lookup key (bucket_shown a)) more r → Gives r
@@ -147,18 +145,33 @@ module _ (cache key bytes : List ℕ) (i : List Hash) (r : Reply) (old new : Lis
       let shown = bucket_answer cache (commands.Get key) r old new (λ fault own. own) standing c key a more begins in
       elim (found_shown key _ a shown.0) [
         | inl is ↦
-            let read : ReadsOn cache key (Ok (Some has.found)) more r = subst (λ l. ReadsOn cache key l more r) (is ∙ ap Ok has.finds) on in
-            let one : AreAnswered (tree_of old) ((steps.ReadAll (content_path cache has.found.integrity), read.0) ∷ []) = subst (AreAnswered (tree_of old)) read.1 shown.1 in
-            by_content read.0 (one.0 ∙ ap (λ j. (apply (tree_of old) (steps.ReadAll (content_path cache j)) Plain).0) has.integrity) (read.2 ∙ ap (λ j. content_reply j (bytes_in read.0)) has.integrity)
+            let read : ReadsOn cache key (Ok (Some found)) more r = subst (λ l. ReadsOn cache key l more r) (is ∙ ap Ok finds) on in
+            let one : AreAnswered (tree_of old) ((steps.ReadAll (content_path cache found.integrity), read.0) ∷ []) = subst (AreAnswered (tree_of old)) read.1 shown.1 in
+            by_content read.0 one.0 read.2
         | inr why ↦ by_refusal why.0 (subst (λ l. ReadsOn cache key l more r) why.1 on).1
       ]
 
-  read_given : Gives r
-  read_given =
+  pub found_read : Gives r
+  found_read =
       elim (gets_shown (site cache (commands.Get key) r old new (λ fault own. own) standing c) key c.ran.0 r c.ran.1) [
         | inl memory ↦ subst Gives (sym memory) (inl refl)
         | inr shown ↦ by_bucket shown.0 shown.1 shown.2 shown.3
       ]
 
 pub standing_reads : StandingReads
-standing_reads cache key bytes i r old new standing has c = read_given cache key bytes i r old new standing has c
+standing_reads cache key bytes i r old new standing has c =
+    let same = sym has.integrity in
+    found_read cache key r old new standing c (HasKey cache key i bytes new) (key_stays cache key bytes i old new (looks_keep cache (commands.Get key) r old new tt c) has) bytes has.found has.finds
+    (subst IsIntegrity same has.content.formed) (subst (λ j. bytes_under cache j old ≡ Ok bytes) same (ap (blob_bytes (tree_of old)) has.content.content)) (subst (λ j. Meets j bytes) same has.content.meets)
+
+-- what lies under the integrity that a key leads to, or where a link there leads
+module _ (cache key : List ℕ) (r : Reply) (old new : List LogItem) (standing : IsStanding cache old) (c : Called cache (commands.Get key) r old new) (i : List Hash) (bytes : List ℕ)
+    (formed : IsIntegrity i) (lies : bytes_under cache i old ≡ Ok bytes) (met : Meets i bytes) where
+  by_found : (o : Option Found) → found_under cache key old ≡ o → option_map (λ (found : Found). found.integrity) o ≡ Some i → GivesBytes (Unit {0}) bytes r old new
+  by_found None is e = absurd cc
+  by_found (Some found) is e =
+      let same : i ≡ found.integrity = cc in
+      found_read cache key r old new standing c (Unit {0}) tt bytes found is (subst IsIntegrity same formed) (subst (λ i. bytes_under cache i old ≡ Ok bytes) same lies) (subst (λ i. Meets i bytes) same met)
+
+  pub left_read : leads_to cache key old ≡ Some i → GivesBytes (Unit {0}) bytes r old new
+  left_read leads = by_found (found_under cache key old) refl leads

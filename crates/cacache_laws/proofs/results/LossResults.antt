@@ -8,13 +8,13 @@ use Rattle.cacache_disk.specs.{Rooted.{Rooted}, Tree.{Tree}, memory.Replay.{IsLo
 use Rattle.cacache_entry.{specs.{Entry.{Entry}, Latest.{Found, NoneAnswers, answer_to, latest}}, proofs.Lookups.{last_answer_decides}}
 use Rattle.cacache_table.specs.declared.command.Command.TheVariants as commands
 use Rattle.cacache_table.specs.{declared.{command.Put.{Put}, reply.Reply.TheVariants.{Read}}, Inserting.{given_or}, Runs.{reply_of}}
-use Rattle.cacache_value.specs.{Acts.{list_of}, Placed.{Placed}, Value.{Value, value_of_tree}}
-use Rattle.cacache_loss.specs.{Loss.{Loss, Lost}, LostValues.{HoldsContent}}
-use Rattle.cacache_history.specs.{AddedEntries.{address_of_put}, History.{History}, Lookups.{found_of_put}, Setup.{home}, durable.{FewCalls.{FewCalls}, Outlasting.{DurablePut, EntryOutlasts, KeyOutlasts, Outlives, moment_at}}}
+use Rattle.cacache_value.specs.{Acts.{list_of}, Placed.{Placed}, Value.{value_of_tree}}
+use Rattle.cacache_loss.specs.{Loss.{Lost}, LostValues.{HoldsContent}}
+use Rattle.cacache_history.specs.{AddedEntries.{address_of_put}, Lookups.{found_of_put}, Setup.{home}, durable.Outlasting.{EntryOutlasts, KeyOutlasts, moment_at}}
 use Rattle.cacache_history.proofs.{Contents.Digests.{own_integrity}, Histories.PlacedAnswers.{answers_so}, Entries.Spelled.{HasIntegrity}}
 use Rattle.cacache_sync.specs.Reads.{bytes_read}
-use Rattle.cacache_laws.specs.{Caches.{HasContent, HasKey, setup_at}, Inserts.{leads_to}, Keeping.{found_under}, ReadAnswers.{get_on, read_on}, Standing.{IsStanding}, results.{Reads.{LiesWhole}, Success.{FailsForMemory}, Losses.{IsLeft, LeadsToDigest, LeftReadMeans, LossesLeaveLast, LossesLeavePuts, LossesLeaveStanding, PutIsLeft, entry_written}}}
-use Rattle.cacache_laws.proofs.{Readings.{Looked.{same_stays_known}, Looks.{looks_keep, tree_stays}, Standing.{looks_leave_standing, standing_reads}}, Sure.Succeeds.{standing_key_reads}, results.{LeftReads.{left_read}, ReadResults.{given, lies_whole, whole_gives}, SureResults.{for_memory, or_as}, Told.{called}}}
+use Rattle.cacache_laws.specs.{Caches.{HasKey, setup_at}, Inserts.{leads_to}, Keeping.{found_under}, ReadAnswers.{get_on, read_on}, results.{Reads.{LiesWhole}, Success.{FailsForMemory}, Losses.{LeadsToDigest, LeftReadMeans, LossesLeaveLast, LossesLeavePuts, LossesLeaveStanding, entry_written}}}
+use Rattle.cacache_laws.proofs.{Readings.{Looked.{same_stays_known}, Looks.{looks_keep, tree_stays}, Standing.{left_read, looks_leave_standing, standing_reads}}, Sure.Succeeds.{standing_key_reads}, results.{ReadResults.{given, lies_whole, whole_gives}, SureResults.{for_memory, or_as}, Told.{called}}}
 
 pub losses_leave_standing : LossesLeaveStanding
 losses_leave_standing h loss log outlives left =
