@@ -7,7 +7,7 @@ use Rattle.cacache_store.specs.declared.store.answer.Answer.TheVariants as answe
 use Rattle.cacache_store.specs.declared.store.{log.LogItem.{LogItem}, plain.PlainFile.{PlainFile}}
 use Rattle.cacache_store.specs.declared.store.step.Step.TheVariants as steps
 use Rattle.cacache_disk.specs.{Apply.{opened}, memory.Replay.{IsLog, shown, tree_of}}
-use Rattle.cacache_table.specs.{declared.{command.Link.{Link}, reply.Reply.{Reply, TheVariants.{Refused}}}, Inserting.{refused_cause}, Linking.{based, link_target}, Runs.{Ran, plain_reply}, SingleSteps.{Does, FailsAt}, State.{hashing, to_link}, Storing.{insertion_of, put_commit}}
+use Rattle.cacache_table.specs.{declared.{command.Link.{Link}, reply.Reply.{Reply, TheVariants.{Refused}}}, Inserting.{refused_cause}, Linking.{based, link_target}, Runs.{Ran, plain_reply}, SingleSteps.{Does, FailsAt}, State.{hashing, to_link}, Storing.{insertion_of, put_commit}, Effects.{IsRefused}}
 use Rattle.cacache_laws.specs.{Beside.{own_integrity}, Caches.{IsCache, IsExcused, Grows}, ExportEffects.{IsApart}, Links.{FitsLink, KeepsBesideLink, LeavesLink, put_like}, OpenWriters.{LeavesKnownCache}, Puts.{ExpectsIntegrity}}
 
 -- ---- an opening
@@ -122,11 +122,6 @@ LinkersFail =
     → TargetOpened cache (based base l.target) (bytes ++ rest) first
     → IsCache cache old → CommitsRest cache base l bytes rest (Refused e) old new
     → IsExcused e old new
-
--- no reply but a refusal
-abbrev pub IsRefused : Reply → Type 0
-IsRefused (Refused e) = Unit {0}
-IsRefused r = ⊥
 
 -- a commit that expects another size than that of the target's bytes is refused: all keys lead
 -- where they led, and each content stays, but at the address of these bytes the link may lie

@@ -69,7 +69,7 @@ fold_in key found (e ∷ es) f is =
     by true same here = inr (inl (sym ((bytes_eq-Decides e.key key).0 same)))
     by false same here = inl here
 
-found_in : (key : List ℕ) (es : List Entry) (f : Found) → latest key es ≡ Some f → In key (keys_of es)
+pub found_in : (key : List ℕ) (es : List Entry) (f : Found) → latest key es ≡ Some f → In key (keys_of es)
 found_in key es f is = elim (fold_in key None es f is) [ inl e ↦ absurd cc | inr i ↦ i ]
 
 cons_in : {Y : Type 0} (y : Y) (o : Option Y) (rest : List Y) → In y rest → In y (cons_option o rest)

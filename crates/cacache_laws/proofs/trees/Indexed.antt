@@ -1,6 +1,6 @@
 -- On a tree that nobody changes, a listing reads each bucket and lists the entry of each key.
-use Rattle.std.proofs.{Common.{◌≡◌, ◌⊎◌, inl, inr, ℕ, ◌+◌, List, [], ◌∷◌, ◌++◌, Option, Some, None, Bool, true, false, cond, nat_lt, Result, Ok, Err, refl, sym, ap, ap₂, subst, ◌∙◌, append_assoc, arith}, lemmas.{Slice.Eq.{bytes_eq-Decides}, List.Elements.{All-cons, All-nil}}}
-use Rattle.std.specs.Prelude.{option_map, fold, bytes_eq}
+use Rattle.std.proofs.{Common.{◌≡◌, inl, inr, ℕ, ◌+◌, List, [], ◌∷◌, ◌++◌, Option, Some, None, Bool, true, false, cond, nat_lt, Result, Ok, Err, refl, sym, ap, ap₂, subst, ◌∙◌, append_assoc, arith}, lemmas.List.Elements.{All-cons, All-nil}}
+use Rattle.std.specs.Prelude.{option_map}
 use Rattle.sha1.specs.Sha1.{sha1}
 use Rattle.cacache_core.specs.{declared.errors.Fault.{Fault, TheVariants.{NotFound, TooDeep, IsADirectory}}, PathNames.{Names, names_of, home_of, IsProperName}, Paths.{join, joined, cut_digits, bucket_names, index_area}}
 use Rattle.cacache_core.proofs.{JoinedNames.{joined_texts_name}, ProperNames.{names_are_proper, proper_bucket_folder}, PathLemmas.{keys_have_digests}}
@@ -8,12 +8,12 @@ use Rattle.hex.specs.Hex.{encode_lower}
 use Rattle.cacache_store.specs.{declared.store.{answer.{Kind.{Kind}, Name.{Name}, Answer.TheVariants.{Bytes}}, step.Step.TheVariants.{ReadAll}}, Plain.{PlainStep, PlainAnswer}}
 use Rattle.cacache_store.specs.declared.store.answer.Kind.TheVariants as kinds
 use Rattle.cacache_disk.specs.{declared.{luck.Luck.TheVariants.{Plain}, node.Node.{Node, TheVariants.{Folder, File, Link}}}, Tree.{Tree, look, listing}, LedTo.{and_then, or_fault, on_link, bytes_there, standing, way_fault, place, followed, leads, file_at}, Rooted.{Rooted}, Apply.{apply, unless}}
-use Rattle.cacache_entry.specs.{Entry.{Entry}, Bucket.{entries_of}, Latest.{Found, latest, after_entry}}
-use Rattle.cacache_table.specs.{State.{Item, Site}, declared.visit.{Task.{Task, TheVariants.{Make, Stumble}}, Visit.TheVariants.{Enter, ReadBucket, RemoveFile, RemoveFolder}}, Walking.{task_for_name, tasks_of, items_in, items_of, once}, Runs.{Moves}, ListReplies.{items_given, given_by, In, keys_of}, StepPaths.{bucket_path}}
+use Rattle.cacache_entry.specs.{Entry.{Entry}, Bucket.{entries_of}, Latest.{Found, latest}}
+use Rattle.cacache_table.specs.{State.{Item, Site}, declared.visit.{Task.{Task, TheVariants.{Make, Stumble}}, Visit.TheVariants.{Enter, ReadBucket, RemoveFile, RemoveFolder}}, Walking.{task_for_name, tasks_of, items_in, items_of, once}, Runs.{Moves}, ListReplies.{items_given, given_by, keys_of}, StepPaths.{bucket_path}}
 use Rattle.cacache_table.proofs.Keys.{each_key_once}
 use Rattle.cacache_walks.specs.Reading.{names_shown}
 use Rattle.cacache_laws.specs.trees.{Walks.{is_leaf}, Answers.{AnsweredBy}, Index.{ListsEachKey}}
-use Rattle.cacache_laws.proofs.trees.{Members.{Member, contains_member, in_left, in_right, mapped}, Children.{child_listed, none_below, proper_child, FolderShows, listed, missing, folder_shown}, Covering.{named_on}, Listing.{ReadsAll, Good, listing_runs}}
+use Rattle.cacache_laws.proofs.{trees.{Members.{Member, contains_member, in_left, in_right, mapped}, Children.{child_listed, none_below, proper_child, FolderShows, listed, missing, folder_shown}, Covering.{named_on}, Listing.{ReadsAll, Good, listing_runs}}, Listings.ListedItems.{found_in}}
 
 -- ---- tasks
 
@@ -140,29 +140,10 @@ module _ (t : Tree) (rooted : Rooted t) where
 
 -- ---- lookups
 
-found_at : (key : List ℕ) (x : Entry) (es : List Entry) (before : Option Found) (found : Found) (b : Bool) → bytes_eq x.key key ≡ b → (after_entry key before x ≡ Some found) ⊎ In key (keys_of es) → (before ≡ Some found) ⊎ In key (keys_of (x ∷ es))
-found_at key x es before found true is rest = inr (inl (sym ((bytes_eq-Decides x.key key).0 is)))
-found_at key x es before found false is (inl now) =
-    let same : after_entry key before x ≡ before = rw is refl in
-    inl (sym same ∙ now)
-found_at key x es before found false is (inr later) = inr (inr later)
-
-found_key : (key : List ℕ) (es : List Entry) (before : Option Found) (found : Found) → fold (after_entry key) before es ≡ Some found → (before ≡ Some found) ⊎ In key (keys_of es)
-found_key key [] before found e = inl e
-found_key key (x ∷ es) before found e = found_at key x es before found (bytes_eq x.key key) refl (found_key key es (after_entry key before x) found e)
-
-latest_key : (key : List ℕ) (es : List Entry) (found : Found) → latest key es ≡ Some found → In key (keys_of es)
-latest_key key es found e = elim (found_key key es None found e) [ inl none ↦ absurd (let wrong : None ≡ Some found = none in cc) | inr there ↦ there ]
-
-member_in : {X : Type 0} (x : X) (xs : List X) → In x xs → Member x xs
-member_in x [] m = m
-member_in x (y ∷ ys) (inl e) = inl e
-member_in x (y ∷ ys) (inr m) = inr (member_in x ys m)
-
 looked_up : (key : List ℕ) (es : List Entry) (found : Found) → latest key es ≡ Some found → Member (Ok found) (items_of es)
 looked_up key es found e =
     let there = (each_key_once es).1 key in
-    mapped (λ (k : List ℕ). option_map Ok (latest k es)) key (Ok found) (once (keys_of es)) (member_in key (once (keys_of es)) (there.1 (latest_key key es found e))) (ap (option_map Ok) e)
+    mapped (λ (k : List ℕ). option_map Ok (latest k es)) key (Ok found) (once (keys_of es)) (there.1 (found_in key es found e)) (ap (option_map Ok) e)
 
 given_member : (m : PlainStep × PlainAnswer) (moves : Moves) (x : Item) → Member m moves → Member x (given_by m.0 m.1) → Member x (items_given moves)
 given_member m [] x k h = absurd k

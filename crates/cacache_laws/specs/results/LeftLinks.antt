@@ -1,27 +1,23 @@
 -- What a store in memory holds if it began with what a loss left of a durable put whose content may be a link.
 use Rattle.std.specs.Prelude.{◌≡◌, ℕ, List, None, Some}
-use Rattle.cacache_core.specs.{declared.integrity.digest.Hash.{Hash}, Digests.{digest}, Integrity.{IsIntegrity, integrity_under}, PathNames.{Names}}
+use Rattle.cacache_core.specs.{Digests.{digest}, Integrity.{IsIntegrity}, PathNames.{Names}}
 use Rattle.cacache_store.specs.declared.store.log.LogItem.{LogItem}
 use Rattle.cacache_disk.specs.{Tree.{Tree}, memory.Replay.{tree_of}}
 use Rattle.cacache_entry.specs.{Entry.{Entry}, Latest.{NoneAnswers}}
 use Rattle.cacache_table.specs.declared.command.Put.{Put}
 use Rattle.cacache_loss.specs.Loss.{Loss}
 use Rattle.cacache_history.specs.{AddedEntries.{address_of_put}, History.{History}, Setup.{home}, durable.{FewCalls.{FewCalls}, Outlasting.{AnsweredPut}}}
-use Rattle.cacache_laws.specs.{Inserts.{leads_to}, results.{FoundLinks.{LeadsUnchanged, LinksOutlast}, Losses.{IsLast, IsLeft, StandsBefore}, Reads.{LiesWhole}}}
+use Rattle.cacache_laws.specs.{Inserts.{leads_to}, results.{FoundLinks.{LeadsUnchanged, LinksOutlast}, Losses.{IsLast, IsLeft, StandsBefore}, Reads.{LiesWhole}}, Beside.{own_integrity}}
 
 -- ---- what is left
-
--- the integrity of a put's bytes
-abbrev pub integrity_put : Put → List Hash
-integrity_put p = integrity_under p.options.algorithm p.data
 
 -- the key leads to bytes that have the digest of the put's, which lie there or where a link leads
 pub record LeadsThrough (cache key : List ℕ) (p : Put) (log : List LogItem) : Type 0 where
   pub bytes : List ℕ
   pub same : digest p.options.algorithm bytes ≡ digest p.options.algorithm p.data
-  pub leads : leads_to cache key log ≡ Some (integrity_put p)
-  pub formed : IsIntegrity (integrity_put p)
-  pub lies : LiesWhole cache (integrity_put p) log bytes
+  pub leads : leads_to cache key log ≡ Some (own_integrity p)
+  pub formed : IsIntegrity (own_integrity p)
+  pub lies : LiesWhole cache (own_integrity p) log bytes
 
 -- the put's entry is there; if none after it answers to the key, the key leads to such bytes in each
 -- store with this tree
