@@ -5,3 +5,4 @@ pub mod CallErrors
 pub mod Logs
 pub mod InParts
 pub mod Handed
+pub mod Messages

@@ -6,3 +6,4 @@ pub mod Removals
 pub mod Removed
 pub mod RemovedKeys
 pub mod Sheds
+pub mod ShedFolders

@@ -1,10 +1,10 @@
 pub mod Members
 pub mod Children
 pub mod Covering
-mod Listing
+pub mod Listing
 mod Indexed
-mod Agreeing
-mod Within
+pub mod Agreeing
+pub mod Within
 pub mod Idle
 mod Twice
 mod Stepping

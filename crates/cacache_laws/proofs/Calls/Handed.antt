@@ -60,13 +60,13 @@ writes_are_parts s call c file full (b ∷ bs) t way sound empty path_is bytes_a
 
 -- ---- bytes that were read of an open file
 
-abbrev file_of : ℕ → List ℕ → PlainFile
+abbrev pub file_of : ℕ → List ℕ → PlainFile
 file_of left bytes = record { left = left; bytes = Some bytes }
 
 byte_rest : (b : ℕ) (all : List ℕ) → rest_of (b ∷ all) 1 ≡ opened all
 byte_rest b all = ap (λ n. file_of n all) (omega arith)
 
-if_so : (x y : PlainAnswer) (b : Bool) → b ≡ true → cond b x y ≡ x
+pub if_so : (x y : PlainAnswer) (b : Bool) → b ≡ true → cond b x y ≡ x
 if_so x y true e = refl
 if_so x y false e = absurd cc
 

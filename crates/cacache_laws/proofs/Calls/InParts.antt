@@ -8,7 +8,7 @@ use Rattle.cacache_table.specs.{declared.{command.Command.{Command}, reply.Reply
 use Rattle.cacache_table.proofs.{EarnedErrors.{io_errors_have_causes}, Going.{goes_lost}}
 use Rattle.cacache_value.{specs.{OpeningTrees.{LieApart}, Value.{value_of_tree}}, proofs.Traces.{traces_act}}
 use Rattle.cacache_history.specs.{Setup.{Setup, call_site, home}, History.{Turn, turn_of}, Turns.{made_in, EachTurn}}
-use Rattle.cacache_history.proofs.{Entries.Bucketed.{KeyedTurn}, Histories.{Holding.{CallHolds, TurnsHold, begins_hold, moved_holds}, Runs.{memory_plain}, TurnReplies.{reads_value}}, Contents.Commits.{cases, plain_refused}}
+use Rattle.cacache_history.proofs.{Entries.Bucketed.{KeyedTurn}, Histories.{Holding.{CallHolds, TurnsHold, begins_hold, moved_holds}, Runs.{memory_plain}, TurnReplies.{reads_value}}, Contents.Commits.{cases, plain_refused}, durable.CommitPlaces.{goes_runs}}
 use Rattle.cacache_history.specs.History as histories
 use Rattle.cacache_laws.specs.{Sequence.{tree_on, turns_on, AreAnswered, plain_moves, IsSound}, InParts.{Part, made, took, byte_read, moves_in, turns_in, AreParts, Begun, with_part, IsOnItsWay, Changes, AnswersInParts, LogsLead, CallsBegin, PartsGoOn, LeftAreCases, PartsAnswer}}
 use Rattle.cacache_laws.proofs.{Readings.Found.{found_before}, Calls.{Replays.{replay_more, replayable_rest, moves_lead, moves_answered}, Sequence.{alone, on_its_way, run_ends, turns_made, moves_after, RunHolds, run_holds, moves_follow, holds_alone, keeps_alone, sound_alone}}}
@@ -31,10 +31,6 @@ logs_lead old new moves gains logged =
 pub goes_through : (s t u : State) (one two : Moves) → Goes s one t → Goes t two u → Goes s (one ++ two) u
 goes_through s t u [] two g h = subst (λ x. Goes x two u) (sym g) h
 goes_through s t u (m ∷ one) two g h = (g.0, g.1, goes_through (after s m.1) t u one two g.2 h)
-
-pub runs_through : (s t : State) (one two : Moves) (r : Reply) → Goes s one t → Runs t two r → Runs s (one ++ two) r
-runs_through s t [] two r g run = subst (λ x. Runs x two r) (sym g) run
-runs_through s t (m ∷ one) two r g run = (g.0, g.1, runs_through (after s m.1) t one two r g.2 run)
 
 -- where the first moves lead, and what the others do from there
 goes_apart : (s u : State) (one two : Moves) → Goes s (one ++ two) u → (t : State) × Goes s one t × Goes t two u
@@ -189,7 +185,7 @@ parts_answer s call state t moves reply apart way sound run answered =
     let u = run_goes state moves (plain_reply reply) run in
     let on = parts_go_on s call state u.0 t moves apart way sound u.1 answered in
     let whole = subst (λ l. Runs (opening (call_site s call.number) call.command) l (plain_reply reply)) (sym (moves_then call.parts t moves))
-    (runs_through (opening (call_site s call.number) call.command) state (moves_in call.parts) moves (plain_reply reply) way.goes run) in
+    (goes_runs (opening (call_site s call.number) call.command) state (moves_in call.parts) moves (plain_reply reply) way.goes run) in
     (run_answers s apart (with_part call t moves) u.0 reply on.0 whole, on.1)
 
 pub left_are_cases : LeftAreCases

@@ -15,7 +15,8 @@ use Rattle.cacache_table.proofs.Branches.{cond_leads}
 use Rattle.cacache_table.specs.declared.command.Source.TheVariants as sources
 use Rattle.cacache_table.specs.declared.reply.Reply.TheVariants as replies
 use Rattle.cacache_value.{specs.{Acts.{list_of}, Shows.{ShowsBucket, ShowsContent, blob_bytes}, Value.{value_of_tree}}, proofs.Shows.{trees_show}}
-use Rattle.cacache_history.{specs.{History.{turn_of}, Setup.{call_site}}, proofs.Histories.{Holding.{TurnHolds}, ShownTurns.{bucket_below, content_below}}}
+use Rattle.cacache_history.specs.{History.{turn_of}, Setup.{call_site}}
+use Rattle.cacache_history.proofs.{Histories.{Holding.{TurnHolds}, ShownTurns.{bucket_below, content_below}}, Contents.OpenedContents.{no_first}}
 use Rattle.cacache_laws.specs.{CallErrors.{FailsOnly}, Caches.{IsCache, HasContent, HasKey, setup_at}, Exported.{Arrives, ExportsArrive, export_by}, Sequence.{AreAnswered, tree_on}}
 use Rattle.cacache_laws.proofs.{Putting.{Arriving.{content_bytes}, WrittenFiles.{copied}}, Exports.{ExportEffects.{exports_apart}, Sharing.{content_stands, hard_linked, reflinked}}, Readings.{Known.{Known, excuse, known}, ReadsStay.{opening_keeps, piece_keeps, reading_keeps}}, Removing.{Removed.{over_run}, RemovedKeys.{found_held}}}
 
@@ -66,11 +67,6 @@ next_of t file size rest a known e = by (file.left == length rest) (e ∙ ap (gi
     by : (b : Bool) → a ≡ cond b (answers.Got (rest_of rest size) (take size rest)) (answers.Failed faults.Closed) → NextOf size rest a
     by true e = inl e
     by false e = inr e
-
-no_more : (size : ℕ) (rest : List ℕ) → 0 < size → take size rest ≡ [] → rest ≡ []
-no_more zero rest lt e = absurd (omega (arith, lt))
-no_more (suc size) [] lt e = refl
-no_more (suc size) (b ∷ bs) lt e = absurd cc
 
 drop_none : (size : ℕ) (rest : List ℕ) → rest ≡ [] → drop size rest ≡ []
 drop_none zero rest e = e
@@ -135,7 +131,7 @@ module _ (cache bytes to : List ℕ) (i : List Hash) (how : How) (checked : Bool
   read_next size file read rest a lt all (inl is) =
       subst (λ x. Exporting (after (hashing (to_verify content export_to) file read) x)) (sym is)
       (read_on (rest_of rest size) read (take size rest) (drop size rest) refl (ap (λ l. read ++ l) (take-append-drop size rest) ∙ all)
-      (λ none. drop_none size rest (no_more size rest lt none)))
+      (λ none. drop_none size rest (no_first size rest lt none)))
   read_next size file read rest a lt all (inr is) = subst (λ x. Exporting (after (hashing (to_verify content export_to) file read) x)) (sym is) tt
 
   -- ---- how it ends

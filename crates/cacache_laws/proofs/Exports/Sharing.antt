@@ -14,7 +14,7 @@ use Rattle.cacache_laws.{specs.Caches.{setup_at}, proofs.Putting.WrittenFiles.{w
 -- ---- a path with nothing at it
 
 -- a file can be written there
-free_writable : (t : Tree) (path : List ℕ) (end : Names) → free t path ≡ Ok end → writable t path ≡ Ok end
+pub free_writable : (t : Tree) (path : List ℕ) (end : Names) → free t path ≡ Ok end → writable t path ≡ Ok end
 unfolding free writable leads followed
 free_writable t path end = by (place t path)
   where

@@ -11,9 +11,9 @@ use Rattle.cacache_table.proofs.Verifying.{links_read_whole}
 use Rattle.cacache_table.specs.declared.reply.Reply.TheVariants as replies
 use Rattle.cacache_value.specs.{Acts.{PutLink}, OpeningTrees.{LieApart}, Value.{value_of_tree}}
 use Rattle.cacache_history.specs.{Commits.{CommitsAs, DidNothing, LinksTo, ReadsTarget, deeds}, Setup.{Setup, home}}
-use Rattle.cacache_history.proofs.Contents.{Digests.{digest_hash}, OpenedContents.{run_asks}}
+use Rattle.cacache_history.proofs.{Contents.{Digests.{digest_hash}, OpenedContents.{run_asks}}, durable.CommitPlaces.{goes_runs}}
 use Rattle.cacache_laws.specs.{Caches.{IsCache, IsExcused, Grows}, ExportEffects.{IsApart}, InParts.{Begun, Changes, AnswersInParts, IsOnItsWay, Part, made, moves_in, turns_in, with_part}, Links.{FitsLink, LeavesLink, put_like}, OpenLinkers.{LinkersFail, CommitsRest, LinkersCommit, TargetOpened}, Puts.{ExpectsIntegrity, stored_as}, Sequence.{Alike, AreAnswered, IsSound, after_deeds, tree_on, turns_on}, Stored.{own_hash}}
-use Rattle.cacache_laws.proofs.{Putting.{Committing.{cause_later, deeds_later}, OpenWriters.{gains_grow}}, Calls.{Handed.{bytes_taken}, InParts.{all_made, calls_begin, logs_lead, moves_then, parts_answer, parts_go_on, run_goes, runs_through}, Logs.{some_same}}, Readings.{Known.{excused_by}, ReadsStay.{sizing_keeps}}, Links.{Linking.{is_there, leaves_by, nothing_shown, on_disks, setup_to}, TargetBytes.{ReadOf, file_held, held_of, parts_on_disks, told_held, turns_more}, ExpectedSizes.{fails_only, suited_run}}}
+use Rattle.cacache_laws.proofs.{Putting.{Committing.{cause_later, deeds_later}, OpenWriters.{gains_grow}}, Calls.{Handed.{bytes_taken}, InParts.{all_made, calls_begin, logs_lead, moves_then, parts_answer, parts_go_on, run_goes}, Logs.{some_same}}, Readings.{Known.{excused_by}, ReadsStay.{sizing_keeps}}, Links.{Linking.{is_there, leaves_by, nothing_shown, on_disks, setup_to}, TargetBytes.{ReadOf, file_held, held_of, parts_on_disks, told_held, turns_more}, ExpectedSizes.{fails_only, suited_run}}}
 
 -- ---- a commit, as the last part of a link
 
@@ -101,7 +101,7 @@ module _ (cache base : List ℕ) (l : Link) (bytes rest : List ℕ) (first : Pla
     whole : Runs (opening site (commands.Link l)) (moves_in call.parts) r
     whole =
         subst (λ ms. Runs (opening site (commands.Link l)) ms r) (sym (moves_then taken.parts (tree_of old) moves))
-        (runs_through (opening site (commands.Link l)) (hashing (to_link target) (opened rest) bytes) (moves_in taken.parts) moves r reads.1.goes run)
+        (goes_runs (opening site (commands.Link l)) (hashing (to_link target) (opened rest) bytes) (moves_in taken.parts) moves r reads.1.goes run)
 
     -- and what they read is what the target showed
     read_so : ReadOf held (moves_in call.parts)

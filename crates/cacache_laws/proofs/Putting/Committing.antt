@@ -9,9 +9,10 @@ use Rattle.cacache_table.specs.{declared.{command.Put.{Put}, reply.Reply.{Reply}
 use Rattle.cacache_table.proofs.{Promises.{calls_answer}, IntegrityUtf8.{integrity_utf8}}
 use Rattle.cacache_table.specs.declared.reply.Reply.TheVariants as replies
 use Rattle.cacache_value.specs.{Acts.{PutBytes}, Value.{Blob, InFile, value_of_tree}}
-use Rattle.cacache_history.{specs.{Setup.{call_site}, History.{Turn}, Commits.{Deed, finds, deeds_of, deeds, CommitsAs}, Values.{IsThere}}, proofs.Contents.Digests.{digest_hash}}
+use Rattle.cacache_history.specs.{Setup.{call_site}, History.{Turn}, Commits.{Deed, finds, deeds_of, deeds, CommitsAs}, Values.{IsThere}}
+use Rattle.cacache_history.proofs.{Contents.Digests.{digest_hash}, durable.CommitPlaces.{goes_runs}}
 use Rattle.cacache_laws.specs.{Sequence.{tree_on, turns_on, Alike, after_deeds, IsSound}, Stored.{own_hash}, InParts.{moves_in, Begun, with_part, IsOnItsWay}, Caches.{IsCache, setup_at, plain_put, WritesKey}, OpenWriters.{NothingElse, make_folder, make_file, IsOpened, CommitsBytes, CommitsLast, CommitsStore}}
-use Rattle.cacache_laws.proofs.{Calls.{Logs.{some_same}, InParts.{logs_lead, runs_through, calls_begin, parts_go_on, parts_answer}, Handed.{writes_are_parts}, CallErrors.{calls_fail_only}}, Putting.{Forms.{bare_written}, Stored.{stores as stores_so}, OpenWriters.{gains_join, gains_grow, folder_first}, WritesLast.{has_key, keyed_formed}}, Readings.Known.{excused_by}}
+use Rattle.cacache_laws.proofs.{Calls.{Logs.{some_same}, InParts.{logs_lead, calls_begin, parts_go_on, parts_answer}, Handed.{writes_are_parts}, CallErrors.{calls_fail_only}}, Putting.{Forms.{bare_written}, Stored.{stores as stores_so}, OpenWriters.{gains_join, gains_grow, folder_first}, WritesLast.{has_key, keyed_formed}}, Readings.Known.{excused_by}}
 use Rattle.cacache_entry.specs.FittingEntries.{IsEntry}
 
 deeds_through : (xs ys : List Turn) → deeds (xs ++ ys) ≡ deeds xs ++ deeds ys
@@ -91,7 +92,7 @@ module _ (cache : List ℕ) (p : Put) (number : ℕ) (may : (key : List ℕ) →
       (cause_later (own_of (commands.Put p)) opened_by (w.0 ++ (c.ran.0 ++ [])) (plain_reply r) opened_faultless a.0.causes) in
       record {
         whole = moves_in call.parts ++ c.ran.0;
-        run = runs_through (opening (call_site s number) (commands.Put p)) state (moves_in call.parts) c.ran.0 r w.1.goes c.ran.1;
+        run = goes_runs (opening (call_site s number) (commands.Put p)) state (moves_in call.parts) c.ran.0 r w.1.goes c.ran.1;
         moves = c.ran.0;
         gained = some_same new (old ++ map (λ m. Made m.0 m.1) c.ran.0) c.ran.2;
         follows = a.1.follows;

@@ -76,7 +76,7 @@ inserts_last cache i r old new formed written sound c =
 
 -- ---- plain insertions
 
-given_utf8 : (integrity : Option (List Hash)) → IsUtf8IfAny (given_text integrity)
+pub given_utf8 : (integrity : Option (List Hash)) → IsUtf8IfAny (given_text integrity)
 given_utf8 None = tt
 given_utf8 (Some i) = integrity_utf8 i
 

@@ -15,7 +15,8 @@ use Rattle.cacache_table.proofs.{Branches.{cond_leads, go_on_leads}, Leading.{mo
 use Rattle.cacache_table.specs.declared.command.Command.TheVariants as commands
 use Rattle.cacache_value.specs.{Acts.{Act, Nothing, PutBytes, PutLink, AddEntries, Drop, MakeFolders, DropFolder, act_of}, Kinds.{Content, IsFor, path_kind}, Placed.{Placed, Proper}, Traces.{IsTrace}}
 use Rattle.cacache_value.proofs.{FoundPaths.{of_names, suits}, Traces.{steps_keep_placed}}
-use Rattle.cacache_history.{specs.Commits.{Deed, finds, deeds_of_act, finds_in, deeds}, proofs.{Contents.Digests.{digest_hash}, Syncing.{temp_synced}}}
+use Rattle.cacache_history.specs.Commits.{Deed, finds, deeds_of_act, finds_in, deeds}
+use Rattle.cacache_history.proofs.{Contents.Digests.{digest_hash}, Syncing.{temp_synced}, durable.CommitMoves.{done_is}}
 use Rattle.cacache_laws.specs.Sequence.{turns_on, plain_moves}
 use Rattle.cacache_laws.proofs.Putting.MadeNodes.{FoldersMade, made_so, made_place, Stands, created_so, wrote_so, still_stands, persisted_so}
 
@@ -62,10 +63,6 @@ Ready t (persisting c file) = Stands t file × (names : Names) × (place t (cont
 Ready t (appending i) = Unit {0}
 Ready t (over r) = Unit {0}
 Ready t other = ⊥
-
-done_is : (a : PlainAnswer) (u : Unit {0}) → done_in a ≡ Ok u → a ≡ answers.Done
-done_is answers.Done u e = refl
-done_is other u e = absurd cc
 
 temp_is : (a : PlainAnswer) (file : PlainTemp) → temp_in a ≡ Ok file → a ≡ answers.Temp file
 temp_is (answers.Temp f) file e = let same : f ≡ file = cc in ap answers.Temp same

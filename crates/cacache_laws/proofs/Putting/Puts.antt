@@ -11,9 +11,9 @@ use Rattle.cacache_table.proofs.Promises.{calls_answer}
 use Rattle.cacache_table.specs.declared.reply.Reply.TheVariants as replies
 use Rattle.cacache_value.specs.{Acts.{PutBytes, list_of}, Value.{Value, InFile, value_of_tree}}
 use Rattle.cacache_history.specs.{Commits.{Deed, does, finds, deeds, AddsAfter, CommitsAs, InsertionAdds, IsNotOk, PutsContent}, Setup.{call_site}}
-use Rattle.cacache_history.proofs.Contents.Digests.{digest_hash}
+use Rattle.cacache_history.proofs.Contents.Digests.{digest_hash, own_integrity as own_formed}
 use Rattle.cacache_laws.specs.{Beside.{own_integrity}, Caches.{HasContent, lies_under, setup_at}, Keeping.{found_under}, Puts.{ExpectsIntegrity, LeadsToPut, MayLeadToPut, PutsLeave, PutsMayLead, CommitsLeave, CommitsKeep, entry_of_put}, ReadAnswers.{entries_on}, Sequence.{Alike, after_deeds, turns_on}, Stored.{own_hash}}
-use Rattle.cacache_laws.proofs.{Putting.{Beside.{later_contents, put_keeps, case_of, follows_of}, Committing.{Ended, ended}, Stored.{adds_entry, first_deed, keeps_entries, puts_blob}, WritesLast.{own_integrity as own_formed}}, Readings.{Known.{known}, Looking.{finds_last}}}
+use Rattle.cacache_laws.proofs.{Putting.{Beside.{later_contents, put_keeps, case_of, follows_of}, Committing.{Ended, ended}, Stored.{adds_entry, first_deed, keeps_entries, puts_blob}}, Readings.{Known.{known}, Looking.{finds_last}}}
 
 -- ---- values
 

@@ -1,6 +1,6 @@
 -- What a write leaves in a cache.
-use Rattle.std.proofs.{Common.{◌≡◌, ℕ, List, [], ◌∷◌, None, Some, option_map, length, refl, sym, ap, subst, ◌∙◌, arith}, lemmas.List.Elements.{All-cons, All-nil}}
-use Rattle.cacache_core.specs.{declared.integrity.{algorithm.Algorithm.{Algorithm, TheVariants.{Sha1, Sha256, Sha384, Sha512}}, digest.Hash.{Hash}}, Digests.{digest}, Integrity.{IsHash, IsIntegrity, Meets, address, hash_of, integrity_under, strongest_first}, PathNames.{home_of}, Texts.{integrity_text}}
+use Rattle.std.proofs.Common.{◌≡◌, ℕ, List, None, Some, option_map, length, refl, sym, ap, subst, ◌∙◌}
+use Rattle.cacache_core.specs.{declared.integrity.{algorithm.Algorithm.{Algorithm}, digest.Hash.{Hash}}, Digests.{digest}, Integrity.{IsIntegrity, Meets, address, hash_of, integrity_under}, PathNames.{home_of}, Texts.{integrity_text}}
 use Rattle.cacache_core.proofs.{Meeting.{own_is_met}, Printed.{printed}}
 use Rattle.cacache_store.specs.declared.store.log.LogItem.{LogItem}
 use Rattle.cacache_disk.specs.{Tree.{Tree}, memory.Replay.{tree_of}}
@@ -10,24 +10,11 @@ use Rattle.cacache_table.specs.{declared.reply.Reply.{Reply}, Inserting.{refused
 use Rattle.cacache_table.proofs.{Promises.{calls_answer}, IntegrityUtf8.{integrity_utf8}}
 use Rattle.cacache_table.specs.declared.reply.Reply.TheVariants as replies
 use Rattle.cacache_value.specs.Value.{value_of_tree}
-use Rattle.cacache_history.{specs.{Setup.{call_site}, ShownTurns.{blob_at}}, proofs.Contents.Digests.{digest_hash}}
+use Rattle.cacache_history.{specs.{Setup.{call_site}, ShownTurns.{blob_at}}, proofs.Contents.Digests.{own_integrity}}
 use Rattle.cacache_laws.specs.{Sequence.{tree_on}, ReadAnswers.{entries_on}, Stored.{HasStored}, Caches.{HasKey, plain_put, setup_at, WritesKey, WritesLast}}
 use Rattle.cacache_laws.proofs.{Putting.{Stored.{puts_store}, Forms.{bare_written}}, Calls.CallErrors.{calls_fail_only}, Readings.{Known.{Known, known, excuse}, Looking.{finds_last}}}
 
 -- ---- the integrity of the bytes
-
-own_ordered : (a : Algorithm) (d : List ℕ) → strongest_first (hash_of a d ∷ []) ≡ hash_of a d ∷ []
-own_ordered Sha1 d = refl
-own_ordered Sha256 d = refl
-own_ordered Sha384 d = refl
-own_ordered Sha512 d = refl
-
-pub own_integrity : (a : Algorithm) (bytes : List ℕ) → IsIntegrity (integrity_under a bytes)
-own_integrity a bytes = record {
-  nonempty = omega arith;
-  ordered = own_ordered a (digest a bytes);
-  hashes = All-cons IsHash (hash_of a (digest a bytes)) [] (digest_hash a bytes) (All-nil IsHash);
-}
 
 -- ---- a write
 

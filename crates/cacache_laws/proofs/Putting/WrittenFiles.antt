@@ -5,7 +5,8 @@ use Rattle.cacache_core.specs.declared.errors.Fault.TheVariants as faults
 use Rattle.cacache_store.specs.declared.store.answer.Answer.TheVariants as answers
 use Rattle.cacache_store.specs.declared.store.step.Step.TheVariants as steps
 use Rattle.cacache_disk.specs.{declared.{luck.Luck.TheVariants.{Plain}, node.Node.{Node, TheVariants.{Folder, File, Link}}}, Apply.{apply, unless}, LedTo.{and_then, or_fault, way_fault, through, bytes_there, on_link, place, standing, followed, leads, file_at, writable, where_there, where_no_folder}, Tree.{Tree, look, put, same_path}, memory.Replay.{bytes_told, shown}}
-use Rattle.cacache_disk.proofs.{Maps.{same_path-true}, PutNodes.{look-put}, Roots.{same_self}}
+use Rattle.cacache_disk.proofs.{Maps.{same_path-true}, PutNodes.{look-put}, Roots.{same_self}, FoundNodes.{or_fault_none}}
+use Rattle.cacache_laws.proofs.trees.Within.{through_none}
 
 -- a place where a file can be written: no folder and no link is there
 abbrev Takes : Option Node → Type 0
@@ -31,23 +32,13 @@ module _ (t : Tree) (end : Names) (bytes : List ℕ) (takes : Takes (look t end)
 
   -- ---- the way to a place
 
-  let_through : (o : Option Node) (later : Option Fault) → through o later ≡ None → (o ≡ Some Folder) × (later ≡ None)
-  let_through None later e = absurd cc
-  let_through (Some Folder) later e = (refl, e)
-  let_through (Some (File b)) later e = absurd cc
-  let_through (Some (Link target)) later e = absurd cc
-
   way_so : (above rest : Names) → way_fault t above rest ≡ None → way_fault new above rest ≡ None
   way_so above [] e = refl
   way_so above (name ∷ []) e = refl
   way_so above (name ∷ next ∷ rest) e =
-      let h = let_through (look t (above ++ name ∷ [])) (way_fault t (above ++ name ∷ []) (next ∷ rest)) e in
+      let h = through_none (look t (above ++ name ∷ [])) (way_fault t (above ++ name ∷ []) (next ∷ rest)) e in
       ap (λ o. through o (way_fault new (above ++ name ∷ []) (next ∷ rest))) (other (above ++ name ∷ []) (Some Folder) h.0 (λ no. no))
       ∙ way_so (above ++ name ∷ []) (next ∷ rest) h.1
-
-  no_fault : (o : Option Fault) (names found : Names) → or_fault o names ≡ Ok found → (o ≡ None) × (names ≡ found)
-  no_fault None names found e = (refl, cc)
-  no_fault (Some fault) names found e = absurd cc
 
   place_so : (path : List ℕ) (found : Names) → place t path ≡ Ok found → place new path ≡ Ok found
   unfolding place
@@ -56,7 +47,7 @@ module _ (t : Tree) (end : Names) (bytes : List ℕ) (takes : Takes (look t end)
       by : (r : Result Names Fault) → and_then r (λ names. or_fault (way_fault t [] names) names) ≡ Ok found → and_then r (λ names. or_fault (way_fault new [] names) names) ≡ Ok found
       by (Err fault) e = absurd cc
       by (Ok names) e =
-          let h = no_fault (way_fault t [] names) names found e in
+          let h = or_fault_none (way_fault t [] names) names found e in
           ap (λ o. or_fault o names) (way_so [] names h.0) ∙ ap Ok h.1
 
   -- ---- links

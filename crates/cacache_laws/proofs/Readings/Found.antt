@@ -1,21 +1,16 @@
 -- What the first deed of a call finds was there before the call.
-use Rattle.std.proofs.Common.{◌≡◌, true, List, [], ◌∷◌, ◌++◌, Option, None, Some, Ok, refl, sym, ap, subst, ◌∙◌, append_assoc}
+use Rattle.std.proofs.Common.{◌≡◌, true, List, [], ◌∷◌, ◌++◌, refl, sym, ap, subst, ◌∙◌, append_assoc}
 use Rattle.cacache_core.specs.{declared.integrity.digest.Hash.{Hash}, Integrity.{IsHash}}
 use Rattle.cacache_store.specs.declared.store.step.Step.TheVariants as steps
 use Rattle.cacache_store.specs.declared.store.answer.Answer.TheVariants as answers
 use Rattle.cacache_store.specs.Plain.{PlainStep, PlainAnswer}
 use Rattle.cacache_disk.specs.{declared.luck.Luck.TheVariants.{Plain}, Tree.{Tree}, Apply.{apply}}
-use Rattle.cacache_table.specs.{Answers.{there_in}, StepPaths.{content_path}, Runs.{Moves}}
-use Rattle.cacache_value.specs.{Value.{Blob, Value, wide_value, value_of_tree}, Shows.{blob_there}, Acts.{Act, Nothing, PutBytes, PutLink, AddEntries, Drop, MakeFolders, DropFolder, act_of, change}, Placed.{Placed}, Traces.{IsTrace}}
+use Rattle.cacache_table.specs.{StepPaths.{content_path}, Runs.{Moves}}
+use Rattle.cacache_value.specs.{Value.{Value, wide_value, value_of_tree}, Acts.{Act, Nothing, PutBytes, PutLink, AddEntries, Drop, MakeFolders, DropFolder, act_of, change}, Placed.{Placed}, Traces.{IsTrace}}
 use Rattle.cacache_value.proofs.Traces.{steps_act, steps_keep_placed}
 use Rattle.cacache_history.specs.{Setup.{Setup, home}, History.{turn_of}, Commits.{Deed, finds, deeds_of_act, finds_in, deeds}, Values.{IsThere}}
-use Rattle.cacache_history.proofs.Histories.{Holding.{TurnHolds, TurnsHold}, ShownTurns.{there_at}}
+use Rattle.cacache_history.proofs.{Histories.{Holding.{TurnHolds, TurnsHold}, ShownTurns.{there_at}}, Entries.AddedEntries.{blob_is}}
 use Rattle.cacache_laws.specs.Sequence.{turns_on, plain_moves}
-
--- what an answer of yes is about
-is_there : (t : Tree) (blob : Option Blob) → there_in (blob_there t blob) ≡ Ok true → IsThere blob
-is_there t None e = absurd cc
-is_there t (Some blob) e = tt
 
 module _ (s : Setup) (a : Hash) (is : IsHash a) (more : List Deed) where
   -- an act whose deeds aren't first leaves contents
@@ -38,7 +33,7 @@ module _ (s : Setup) (a : Hash) (is : IsHash a) (more : List Deed) where
   asked t (steps.Exists p) (answers.There true) rest e holds later =
       let same : p ≡ content_path s.cache (a ∷ []) = cc in
       let seen = there_at s (turn_of t Plain (steps.Exists p, answers.There true)) holds a [] is (ap steps.Exists same) in
-      is_there t ((value_of_tree (home s) t).contents a) (sym seen)
+      blob_is t ((value_of_tree (home s) t).contents a) (sym seen)
   asked t step answer rest e holds later = later e
 
   pub found_before : (t : Tree) (moves : Moves) → Placed (home s) t → IsTrace (home s) t (plain_moves moves) → TurnsHold s (turns_on t moves)

@@ -16,7 +16,7 @@ use Rattle.cacache_table.specs.Table as table
 use Rattle.cacache_value.{specs.{Shows.{blob_bytes, ShowsContent}, Value.{value_of_tree}}, proofs.Shows.{trees_show}}
 use Rattle.cacache_history.proofs.Histories.ShownTurns.{content_below}
 use Rattle.cacache_laws.specs.{Sequence.{tree_on, IsSound}, ReadAnswers.{entries_on, UnlessFailed}, CallErrors.{FailsOnly}, Caches.{IsCache, HasContent, HasKey, LacksKey, Grows, IsExcused, Called, setup_at}, OpenWriters.{LeavesKnownCache}, OpenReaders.{OpensContent, LookupRan, OpensWhatWasFound, OpensByKey, GivesFile, ReadersOpen, GivesNone, ReadersOpenKey}}
-use Rattle.cacache_laws.proofs.{Readings.{ReadsStay.{reading_keeps, opening_keeps, opened_so}, Known.{Known, known, excuse}, Looked.{same_stays_known}, ReadsKeep.{content_stays, answered}}, Calls.{Logs.{some_same, growths_join, excuses_last}, InParts.{logs_lead}}, Putting.OpenWriters.{gains_none, gains_grow, excused_step}}
+use Rattle.cacache_laws.proofs.{Readings.{ReadsStay.{reading_keeps, opening_keeps, opened_so}, Known.{Known, known, excuse}, Looked.{same_stays_known}, ReadsKeep.{content_stays, answered}}, Calls.{Logs.{some_same, growths_join, excuses_last}, InParts.{logs_lead}, Messages.{plain_error, excused_error}}, Putting.OpenWriters.{gains_none, gains_grow, excused_step}}
 
 -- ---- a tree that stays
 
@@ -147,26 +147,6 @@ lookup_keeps t cache key (m ∷ moves) r run =
 
 -- ---- errors without their messages
 
-pub plain_error : (e : Error) → without_message (without_message e) ≡ without_message e
-plain_error (EntryNotFound c k) = refl
-plain_error (SizeMismatch wanted actual) = refl
-plain_error (IoError fault message) = refl
-plain_error (SerdeError cause message) = refl
-plain_error (IntegrityError fault) = refl
-plain_error OutOfMemory = refl
-
-pub memory_error : (e : Error) → without_message e ≡ OutOfMemory → e ≡ OutOfMemory
-memory_error (EntryNotFound c k) h = absurd cc
-memory_error (SizeMismatch wanted actual) h = absurd cc
-memory_error (IoError fault message) h = absurd cc
-memory_error (SerdeError cause message) h = absurd cc
-memory_error (IntegrityError fault) h = absurd cc
-memory_error OutOfMemory h = refl
-
-excused_plain : (e : Error) (old new : List LogItem) → IsExcused (without_message e) old new → IsExcused e old new
-excused_plain e old new (inl m) = inl (memory_error e m)
-excused_plain e old new (inr h) = inr h
-
 lookup_fails : (o : Option Found) (e : Error) → UnlessFailed (replies.LookedUp o) (plain_reply (replies.Refused (without_message e))) → FailsOnly (replies.Refused (without_message e))
 lookup_fails o OutOfMemory h = tt
 lookup_fails o (IoError fault message) h = tt
@@ -206,7 +186,7 @@ module _ (cache base key : List ℕ) (old : List LogItem) (sound : IsCache cache
     refused e ran logged =
         let l = looked (replies.Refused (without_message e)) new (ap replies.Refused (plain_error e)) ran logged in
         let fails = lookup_fails (latest key (entries_on (home_of cache) (tree_of old) key)) e l.reply in
-        let excused = excused_plain e old new (excuse cache base (commands.Find key) old new (λ fault none. none) (without_message e) l.known fails) in
+        let excused = excused_error e old new (excuse cache base (commands.Find key) old new (λ fault none. none) (without_message e) l.known fails) in
         (leaves cache old new sound l.same l.grows, λ i bytes has. excused, λ lacks. inr excused)
 
     missing : (c k : List ℕ) → c ≡ cache → k ≡ key → LookupRan cache base key (replies.LookedUp None) (Some old) (Some new) → IsLog new → Result_of (Err (EntryNotFound c k))

@@ -1,29 +1,23 @@
 -- A clearing that ends as done leaves an empty cache.
-use Rattle.std.proofs.{Common.{◌≡◌, inl, inr, ◌==◌, ◌+◌, ◌-◌, ℕ, Bool, true, false, cond, List, [], ◌∷◌, ◌++◌, Option, None, Some, Result, Ok, Err, length, take, refl, sym, ap, subst, ◌∙◌, arith, eq-eqb, length-append, append_assoc, append-nil}, Math.Seq.{take-append_seam}, lemmas.List.Elements.{All-cons, All-nil}}
-use Rattle.std.specs.{Prelude.{filter, IfSome, slice_index_or}, Ordering.{nat_cmp}, Bool.{nat_eq}, Cmp.Lexicographic.{pointwise, slice_cmp, lists_ties, texts_ties}, List.{filter_map, cons_option}}
+use Rattle.std.proofs.{Common.{◌≡◌, inl, inr, ◌-◌, ℕ, Bool, true, false, cond, List, [], ◌∷◌, ◌++◌, Option, None, Some, Result, Ok, Err, length, refl, sym, ap, subst, ◌∙◌, arith, append_assoc, append-nil}, lemmas.List.Elements.{All-cons, All-nil}}
+use Rattle.std.specs.{Prelude.{slice_index_or}, List.{filter_map, cons_option}}
 use Rattle.std.specs.FinMap as map
-use Rattle.cacache_core.specs.{declared.errors.Fault.{Fault}, Paths.{join}, PathNames.{Names, pieces, is_name, is_bad, names_of, home_of, names_below, IsProperName}}
+use Rattle.cacache_core.specs.{declared.errors.Fault.{Fault}, Paths.{join}, PathNames.{Names, names_of, home_of, names_below, IsProperName}}
 use Rattle.cacache_core.proofs.JoinedNames.{joined_texts_name}
-use Rattle.cacache_core.specs.declared.errors.Fault.TheVariants as faults
 use Rattle.cacache_store.specs.declared.store.step.Step.TheVariants as steps
 use Rattle.cacache_store.specs.declared.store.answer.Answer.TheVariants as answers
 use Rattle.cacache_store.specs.declared.store.answer.{Kind.{Kind}, Name.{Name}}
 use Rattle.cacache_store.specs.declared.store.answer.Kind.TheVariants as kinds
-use Rattle.cacache_disk.specs.{declared.{luck.Luck.TheVariants.{Plain}, node.Node.{Node, TheVariants.{Folder, File, Link}}}, Rooted.{is_folder, StandsIn, AreProper, Rooted}, Tree.{Tree, look, same_path, names_cmp, listing, child_of, is_child, kind_of}, LedTo.{place, where_folder, folder}, Apply.{apply, unless}}
-use Rattle.cacache_disk.proofs.{FoundNodes.{and_then_ok, place_ok}, Maps.{same_path-true}, Roots.{same_self}}
+use Rattle.cacache_disk.specs.{declared.{luck.Luck.TheVariants.{Plain}, node.Node.{Node, TheVariants.{Folder}}}, Rooted.{is_folder, StandsIn, Rooted}, Tree.{Tree, look, same_path, names_cmp, listing, child_of, is_child, kind_of}, LedTo.{folder}, Apply.{apply, unless}}
+use Rattle.cacache_disk.proofs.Maps.{same_path-true}
 use Rattle.cacache_table.specs.{declared.{reply.Reply.TheVariants.{Done}, visit.Visit.TheVariants.{Enter}}, State.{walking, Walk}, Walking.{task_for_name, tasks_of, leaving, most, walk}, Runs.{Moves, Runs}}
 use Rattle.cacache_value.{specs.Value.{blob_in, bucket_in, folders_below, empty_value, value_of_tree}, proofs.PutValues.{same_value}}
 use Rattle.cacache_laws.specs.Sequence.{tree_on, AreAnswered}
-use Rattle.cacache_laws.proofs.{Removing.{Tasks.{clears_more, names_clear, leaves_clear}, Cutting.{Shrinks, Gone}, Clearing.{TaskGone, TasksGone, Ends, goes_on, tasks_front, entered_so, cleared}}, Readings.ReadsStay.{listing_keeps}}
+use Rattle.cacache_laws.proofs.{Removing.{Tasks.{clears_more, names_clear, leaves_clear}, Cutting.{Shrinks, Gone}, Clearing.{TaskGone, TasksGone, Ends, goes_on, tasks_front, entered_so, cleared}}, Readings.ReadsStay.{listing_keeps}, trees.{Children.{proper_child}, Covering.{home_named}}}
+use Rattle.cacache_loss.proofs.KeptPaths.{child_of_self}
+use Rattle.cacache_history.proofs.Listings.ToldFolders.{folder_ok}
 
 -- ---- what a folder's listing names
-
-is_child-snoc : (p : Names) (name : List ℕ) → is_child p (p ++ name ∷ []) ≡ true
-is_child-snoc p name =
-    let l : length (p ++ name ∷ []) ≡ length p + 1 = omega (arith, length-append p (name ∷ [])) in
-    let front : take (length p) (p ++ name ∷ []) ≡ p = take-append_seam p (name ∷ []) in
-    let same : pointwise (pointwise nat_eq) p p ≡ true = lists_ties (slice_cmp nat_cmp) texts_ties p p ∙ same_self p in
-    rw (eq-eqb (length (p ++ name ∷ [])) (length p + 1) l, front, same) refl
 
 task_gone : (t : Tree) (p : List ℕ) (k : Kind) → TaskGone t (task_for_name true 0 p k) → Gone t p
 task_gone t p kinds.Folder h = h refl
@@ -51,31 +45,6 @@ module _ (final : Tree) (home : Names) (top : List ℕ) (q : Names) (child : is_
 last_name : (above : Names) (name : List ℕ) → slice_index_or (above ++ name ∷ []) (length above) [] ≡ name
 last_name [] name = refl
 last_name (first ∷ above) name = last_name above name
-
-pub last_proper : (above : Names) (name : List ℕ) → AreProper (above ++ name ∷ []) → IsProperName name
-last_proper [] name h = h.0
-last_proper (first ∷ above) name h = last_proper above name h.1
-
-folder_is : (node : Option Node) (old new : Names) → where_folder node old ≡ Ok new → old ≡ new
-folder_is None old new e = absurd cc
-folder_is (Some Folder) old new e = cc
-folder_is (Some (File bytes)) old new e = absurd cc
-folder_is (Some (Link target)) old new e = absurd cc
-
-folder_ok : (t : Tree) (path : List ℕ) (names : Names) → folder t path ≡ Ok names → names_of path ≡ Ok names
-unfolding folder
-folder_ok t path names e =
-    let f = and_then_ok (place t path) (λ names. where_folder (look t names) names) names e in
-    place_ok t path f.0 f.1 ∙ ap Ok (folder_is (look t f.0) f.0 names f.2)
-
-pub home_is : (cache : List ℕ) (names : Names) → names_of cache ≡ Ok names → home_of cache ≡ Some names
-unfolding names_of home_of
-home_is cache names e = by (length cache == 0) (is_bad cache) (filter is_name (pieces cache)) e
-  where
-    by : (b c : Bool) (all : Names) → cond b (Err faults.NotFound) (cond c (Err faults.InvalidInput) (Ok all)) ≡ Ok names → cond c None (Some all) ≡ Some names
-    by true c all e = absurd cc
-    by false true all e = absurd cc
-    by false false all e = (let same : all ≡ names = cc in ap Some same)
 
 -- ---- an empty folder
 
@@ -122,13 +91,13 @@ unfolding listing
 child_none t final cache names l rooted shrinks gone name None is = shrinks (l.home ++ name ∷ []) is
 child_none t final cache names l rooted shrinks gone name (Some node) is =
     let q = l.home ++ name ∷ [] in
-    let proper : IsProperName name = last_proper l.home name (subst (λ o. IfSome o (λ node. AreProper (l.home ++ name ∷ []))) is (rooted.proper (l.home ++ name ∷ []))) in
+    let proper = proper_child t l.home name node rooted is in
     let found : map.find names_cmp (l.home ++ name ∷ []) (map.entries t) ≡ Some node = sym (map.get-entries t (l.home ++ name ∷ [])) ∙ is in
     let tasks : TasksGone final (tasks_of true 0 cache (filter_map (child_of l.home) (map.entries t))) = subst (λ ns. TasksGone final (tasks_of true 0 cache ns)) l.listed gone in
-    let h = listed_gone final l.home cache (l.home ++ name ∷ []) (is_child-snoc l.home name) (map.entries t) node found tasks in
+    let h = listed_gone final l.home cache (l.home ++ name ∷ []) (child_of_self l.home name) (map.entries t) node found tasks in
     let path : join cache (slice_index_or (l.home ++ name ∷ []) (length l.home) []) ≡ join cache name = ap (join cache) (last_name l.home name) in
     let named : names_of (join cache name) ≡ Ok (l.home ++ name ∷ [])
-    = joined_texts_name cache (name ∷ []) (All-cons IsProperName name [] proper (All-nil IsProperName)) (omega arith) ∙ ap (λ home. names_below home (name ∷ [])) (home_is cache l.home l.at) in
+    = joined_texts_name cache (name ∷ []) (All-cons IsProperName name [] proper (All-nil IsProperName)) (omega arith) ∙ ap (λ home. names_below home (name ∷ [])) (home_named cache l.home l.at) in
     subst (Gone final) path h (l.home ++ name ∷ []) named
 
 clearing : (t : Tree) (cache : List ℕ) (w : Walk) → w.clears ≡ true → Rooted t → (moves : Moves) → Ends (walking w (Enter cache 0) []) t moves → Rooted (tree_on t moves)
@@ -145,7 +114,7 @@ clearing t cache w clears rooted (m ∷ moves) ends still =
     let l = lists t cache x.names (sym x.answer ∙ ends.1.0 ∙ ap (λ x. (apply t x Plain).0) step) in
     let shrinks = subst (λ x. Shrinks x (tree_on (apply t m.0 Plain).1 moves)) same h.shrinks in
     let final = tree_on (apply t m.0 Plain).1 moves in
-    subst (λ home. value_of_tree home (tree_on (apply t m.0 Plain).1 moves) ≡ empty_value) (sym (home_is cache l.home l.at))
+    subst (λ home. value_of_tree home (tree_on (apply t m.0 Plain).1 moves) ≡ empty_value) (sym (home_named cache l.home l.at))
     (holds_nothing (tree_on (apply t m.0 Plain).1 moves) l.home still (λ name. child_none t (tree_on (apply t m.0 Plain).1 moves) cache x.names l rooted shrinks mine name (look t (l.home ++ name ∷ [])) refl))
 
 pub clears_all : (cache : List ℕ) (t : Tree) (moves : Moves) → Rooted t → Runs (walk true cache) moves Done → AreAnswered t moves → Rooted (tree_on t moves) → value_of_tree (home_of cache) (tree_on t moves) ≡ empty_value

@@ -1,5 +1,5 @@
 -- What the removal of a content, and of a key with its content, leaves in a cache.
-use Rattle.std.proofs.{Common.{◌≡◌, ◌⊎◌, inl, inr, ℕ, Bool, true, false, cond, List, [], ◌∷◌, ◌++◌, Option, None, Some, Result, Ok, Err, refl, sym, ap, subst, ◌∙◌, arith}, lemmas.List.{append_cancel_left, Elements.{All-head}}}
+use Rattle.std.proofs.{Common.{◌≡◌, ◌⊎◌, inl, inr, ℕ, Bool, true, false, cond, List, [], ◌∷◌, ◌++◌, Option, None, Some, Result, Ok, Err, refl, sym, ap, subst, ◌∙◌, arith}, lemmas.List.Elements.{All-head}}
 use Rattle.sha1.specs.Sha1.{sha1}
 use Rattle.cacache_core.specs.{declared.{errors.{Error.{Error, TheVariants.{IoError, OutOfMemory}}, Fault.{Fault}}, integrity.digest.Hash.{Hash}}, Integrity.{IsHash, IsIntegrity}, PathNames.{Names, names_of, names_below, home_of}, Paths.{joined, content_names, bucket_names_of}}
 use Rattle.cacache_core.proofs.{PathLemmas.{keys_have_digests}, PathTexts.{paths_differ}}
@@ -7,13 +7,14 @@ use Rattle.cacache_core.specs.declared.errors.Fault.TheVariants as faults
 use Rattle.cacache_store.specs.declared.store.answer.Answer.TheVariants as answers
 use Rattle.cacache_store.specs.{declared.store.log.LogItem.{LogItem}, Plain.{PlainStep, PlainAnswer}}
 use Rattle.cacache_store.specs.declared.store.step.Step.TheVariants as steps
-use Rattle.cacache_disk.{specs.{declared.luck.Luck.TheVariants.{Plain}, Apply.{apply}, Tree.{Tree}, memory.Replay.{tree_of}}, proofs.{Maps.{same_path-true}, Roots.{same_self}}}
+use Rattle.cacache_disk.{specs.{declared.luck.Luck.TheVariants.{Plain}, Apply.{apply}, Tree.{Tree}, memory.Replay.{tree_of}}, proofs.Roots.{same_self}}
 use Rattle.cacache_entry.specs.{Entry.{Entry}, Latest.{latest}}
 use Rattle.cacache_table.specs.{declared.{command.Command.{Command}, reply.Reply.{Reply}}, Causes.{own_of}, Runs.{Moves, Runs}, State.{State, doing, over, remove}, StepPaths.{content_path}}
 use Rattle.cacache_table.specs.declared.command.Command.TheVariants as commands
 use Rattle.cacache_table.specs.declared.reply.Reply.TheVariants as replies
 use Rattle.cacache_value.specs.{Acts.{Drop, act_at, act_if_done, act_of, list_of}, Kinds.{is_path_of}, Value.{Value, Blob, value_of_tree}}
-use Rattle.cacache_history.{specs.Commits.{Deed, deeds, deeds_of_act, finds_in}, proofs.{Contents.Righted.{one_address}, Histories.ShownTurns.{content_below}}}
+use Rattle.cacache_history.specs.Commits.{Deed, deeds, deeds_of_act, finds_in}
+use Rattle.cacache_history.proofs.{Contents.Righted.{one_address}, Histories.ShownTurns.{content_below}, Entries.Writes.{one_path}}
 use Rattle.cacache_laws.specs.{Beside.{ShareAddress}, CallErrors.{FailsOnly}, Caches.{HasContent, IsExcused, lies_under, setup_at}, Keeping.{found_under}, Removed.{KeepsApart, RemovesContent, ContentsGo}, Sequence.{after_deeds, turns_on}}
 use Rattle.cacache_laws.proofs.{Putting.{Beside.{follows_of}, KeptKeys.{alike_lookup}}, Readings.Known.{Known, known, excuse}}
 
@@ -95,13 +96,6 @@ cut_bucket d e old false is = inl refl
 uncut : {A : Type 0} (old : Option A) (here : Bool) → (here ≡ true → ⊥) → cond here None old ≡ old
 uncut old true never = absurd (never refl)
 uncut old false never = refl
-
--- names below the cache are those of one path
-one_path : (folder : Option Names) (mine others names : Names) → names_below folder mine ≡ Ok names → is_path_of folder others names ≡ true → others ≡ mine
-one_path None mine others names e is = absurd cc
-one_path (Some folder) mine others names e is =
-    let there : folder ++ mine ≡ names = cc in
-    append_cancel_left folder others mine (same_path-true (folder ++ others) names is ∙ sym there)
 
 not_content : (a : Hash) (d : List ℕ) → content_names a ≡ bucket_names_of d → ⊥
 not_content a d e = absurd cc

@@ -6,6 +6,7 @@ use Rattle.cacache_store.specs.declared.store.answer.Name.{Name}
 use Rattle.cacache_disk.specs.{declared.node.Node.{Node}, Tree.{Tree, look, cut, same_path}, Rooted.{Rooted}}
 use Rattle.cacache_disk.proofs.{Maps.{same_path-true}, PutNodes.{look-cut}, Roots.{same_self}, Standing.{above_missing}}
 use Rattle.cacache_history.proofs.Listings.ToldFolders.{IsAmong}
+use Rattle.cacache_loss.proofs.UnchangedPaths.{bytes_same}
 
 -- ---- at a path or below it
 
@@ -15,12 +16,9 @@ under [] q = true
 under (n ∷ p) [] = false
 under (n ∷ p) (m ∷ q) = cond (bytes_eq n m) (under p q) false
 
-same_name : (n : List ℕ) → bytes_eq n n ≡ true
-same_name n = (bytes_eq-Decides n n).1 refl
-
 pub under_self : (p rest : Names) → under p (p ++ rest) ≡ true
 under_self [] rest = refl
-under_self (n ∷ p) rest = rw (same_name n) (under_self p rest)
+under_self (n ∷ p) rest = rw (bytes_same n) (under_self p rest)
 
 under_at : (n m : List ℕ) (p q : Names) (b : Bool) → bytes_eq n m ≡ b → (under p q ≡ true → (rest : Names) × (q ≡ p ++ rest)) → cond b (under p q) false ≡ true → (rest : Names) × (m ∷ q ≡ n ∷ p ++ rest)
 under_at n m p q true is more e = let k = more e in (k.0, ap₂ (λ (x : List ℕ) (y : Names). x ∷ y) (sym ((bytes_eq-Decides n m).0 is)) k.1)
@@ -38,12 +36,12 @@ not_same n m false is apart = refl
 
 pub under_other : (p rest : Names) (n m : List ℕ) → (n ≡ m → ⊥) → under (p ++ n ∷ []) (p ++ m ∷ rest) ≡ false
 under_other [] rest n m apart = rw (not_same n m (bytes_eq n m) refl apart) refl
-under_other (k ∷ p) rest n m apart = rw (same_name k) (under_other p rest n m apart)
+under_other (k ∷ p) rest n m apart = rw (bytes_same k) (under_other p rest n m apart)
 
 -- the folder itself isn't either
 pub under_upper : (p : Names) (n : List ℕ) → under (p ++ n ∷ []) p ≡ false
 under_upper [] n = refl
-under_upper (k ∷ p) n = rw (same_name k) (under_upper p n)
+under_upper (k ∷ p) n = rw (bytes_same k) (under_upper p n)
 
 -- ---- trees without it
 

@@ -1,7 +1,6 @@
 -- Which temporary files calls leave.
-use Rattle.std.proofs.{Common.{◌≡◌, inl, inr, ◌<◌, ◌^◌, ℕ, Bool, true, false, List, [], ◌∷◌, ◌++◌, Option, None, Some, Result, Ok, refl, sym, ap, subst, ◌∙◌, arith}, lemmas.List.{append_cancel_left}}
-use Rattle.cacache_core.specs.{declared.errors.Fault.{Fault}, PathNames.{Names, names_of, home_of, names_below}, Paths.{joined, temp_names}}
-use Rattle.cacache_core.proofs.{JoinedNames.{joined_texts_name}, PathTexts.{paths_differ}, ProperNames.{names_are_proper}}
+use Rattle.std.proofs.{Common.{◌≡◌, inl, inr, ℕ, Bool, true, false, List, [], ◌∷◌, ◌++◌, Option, None, Some, Result, Ok, refl, sym, ap, subst, ◌∙◌}, lemmas.List.{append_cancel_left}}
+use Rattle.cacache_core.specs.{declared.errors.Fault.{Fault}, PathNames.{Names, names_of, home_of, names_below}, Paths.{temp_names}}
 use Rattle.cacache_store.specs.{declared.store.log.LogItem.{LogItem}, Plain.{PlainStep}}
 use Rattle.cacache_store.specs.declared.store.step.Step.TheVariants as steps
 use Rattle.cacache_disk.{specs.{Tree.{Tree, bare, same_path}, memory.Replay.{tree_of}}, proofs.{Maps.{same_path-true}, Roots.{bare_below, same_self}}}
@@ -9,7 +8,8 @@ use Rattle.cacache_table.specs.{declared.{command.{Command.{Command}, Put.{Put}}
 use Rattle.cacache_table.proofs.{Sound.{begins_sound, steps_allowed, stays_sound}, Within.{calls_keep_to}}
 use Rattle.cacache_table.specs.declared.command.Command.TheVariants as commands
 use Rattle.cacache_value.{specs.{Kinds.{node_below}, Placed.{Placed}, Traces.{IsTrace}}, proofs.KindsApart.{kind-below}}
-use Rattle.cacache_history.{specs.{Setup.{call_site, may_export, is_outside}, History.{NamesIntegrity, new_call}}, proofs.Histories.Holding.{begins_hold}}
+use Rattle.cacache_history.specs.{Setup.{call_site, may_export, is_outside}, History.{NamesIntegrity, new_call}}
+use Rattle.cacache_history.proofs.{Histories.Holding.{begins_hold}, durable.CallNumbers.{temps_named, same_number}}
 use Rattle.cacache_laws.specs.{Beside.{FitsEntry}, Caches.{IsCache, Called, setup_at}, Sequence.{tree_on, plain_moves}, Succeeds.{IsUnused, IsTidy, StaysUnused, without_commits, OthersLeaveNone, PutsLeaveOwn, PutsLeaveTidy, IsReady, FreshIsReady, SameIsReady}}
 use Rattle.cacache_laws.proofs.{Calls.{InParts.{logs_lead}, Sequence.{run_holds, holds_alone, keeps_alone}}, Readings.Standing.{caches_stand}, Sure.{Succeeds.{puts_answer}, SureSpares.{Creates, NoneCreates, moves_spare}}}
 
@@ -70,14 +70,10 @@ module _ (site : Site) (apart outside : List ℕ → Bool) (q : Names) (differ :
     other_files (after s m.1) moves r (stays_sound site apart outside s m.0 m.1 sound run.0 run.1) run.2,
   )
 
-pub temp_named : (cache : List ℕ) (n : ℕ) → names_of (temp_path cache n) ≡ names_below (home_of cache) (temp_names n)
-unfolding temp_path
-temp_named cache n = joined_texts_name cache (temp_names n) (names_are_proper.temporaries n) (omega arith)
-
 -- a put's file is that of its number
 pub own_file : (cache : List ℕ) (folder : Names) (n m : ℕ) → home_of cache ≡ Some folder → names_of (temp_path cache n) ≡ Ok (folder ++ temp_names m) → folder ++ temp_names n ≡ folder ++ temp_names m
 own_file cache folder n m is e =
-    let both : ◌≡◌ {A = Result Names Fault} (Ok (folder ++ temp_names n)) (Ok (folder ++ temp_names m)) = sym (temp_named cache n ∙ ap (λ h. names_below h (temp_names n)) is) ∙ e in
+    let both : ◌≡◌ {A = Result Names Fault} (Ok (folder ++ temp_names n)) (Ok (folder ++ temp_names m)) = sym (temps_named cache n ∙ ap (λ h. names_below h (temp_names n)) is) ∙ e in
     cc
 
 -- a put makes no other file
@@ -93,10 +89,6 @@ put_leaves cache p r old new c number may sound differ unused =
     other_files site apart outside (folder ++ temp_names number) (λ e. differ folder (own_file cache folder c.number number is e)) (opening site (commands.Put p)) c.ran.0 r
     (begins_sound site apart outside (commands.Put p) may) c.ran.1)
     unused
-
-pub same_number : (cache : List ℕ) (folder : Names) (n m : ℕ) → n < 2 ^ 64 → m < 2 ^ 64 → folder ++ temp_names n ≡ folder ++ temp_names m → n ≡ m
-same_number cache folder n m few less e =
-    (paths_differ.temporaries cache n m few less).0 (ap (joined cache) (append_cancel_left folder (temp_names n) (temp_names m) e))
 
 pub puts_leave_own : PutsLeaveOwn
 puts_leave_own cache p r old new c number may sound few less differ unused =

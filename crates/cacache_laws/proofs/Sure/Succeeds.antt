@@ -11,7 +11,7 @@ use Rattle.cacache_table.specs.declared.command.Command.TheVariants as commands
 use Rattle.cacache_value.specs.{Kinds.{node_below}, Placed.{Placed}, Shows.{blob_there}, Value.{Blob, value_of_tree}}
 use Rattle.cacache_history.{specs.ShownTurns.{blob_at}, proofs.Entries.Spelled.{HasIntegrity, latest_has}}
 use Rattle.cacache_laws.specs.{Caches.{Called, setup_at}, Keeping.{found_under}, ReadAnswers.{entries_on, get_on, read_on}, Standing.{IsStanding}, Succeeds.{NamesFolder, insertion_reply, put_reply, is_yes, removal_reply, PutsAnswer, InsertionsAnswer, DeletionsAnswer, LookupsAnswer, ContentReadsAnswer, KeyReadsAnswer, QuestionsAnswer, RemovalsAnswer}}
-use Rattle.cacache_laws.proofs.{Removing.Emptied.{home_is}, Readings.Standing.{caches_stand}, Sure.{SureInserts.{Inserted, inserts_so}, SurePuts.{PutSo, puts_so}, SureTemps.{own_temporary_at}, SureReads.{looks_so, reads_so, asks_so, removes_so}, SureRuns.{EndsSo, ends, of_log}, SureSteps.{Ground}}}
+use Rattle.cacache_laws.proofs.{Readings.Standing.{caches_stand}, Sure.{SureInserts.{Inserted, inserts_so}, SurePuts.{PutSo, puts_so}, SureTemps.{own_temporary_at}, SureReads.{looks_so, reads_so, asks_so, removes_so}, SureRuns.{EndsSo, ends, of_log}, SureSteps.{Ground}}, trees.Covering.{home_named}}
 
 -- ---- a store on which no step fails
 
@@ -22,11 +22,11 @@ home_ground cache log home is standing = record {
 }
 
 pub ground : (cache : List ℕ) (log : List LogItem) (home : Names) → names_of cache ≡ Ok home → IsStanding cache log → Ground home (tree_of log)
-ground cache log home is = home_ground cache log home (home_is cache home is)
+ground cache log home is = home_ground cache log home (home_named cache home is)
 
 -- what holds with the folder's names holds with the cache's
 pub back : (cache : List ℕ) (home : Names) → names_of cache ≡ Ok home → (P : Option Names → Type 0) → P (Some home) → P (home_of cache)
-back cache home is P p = subst P (sym (home_is cache home is)) p
+back cache home is P p = subst P (sym (home_named cache home is)) p
 
 pub either : {A B : Type 0} (r : Reply) → (A → B) → OrMemory A r → OrMemory B r
 either r f (inl e) = inl e
@@ -37,7 +37,7 @@ either r f (inr a) = inr (f a)
 pub puts_answer : PutsAnswer
 puts_answer cache p r old new c folder standing unused =
     let home = folder.0 in
-    let none = subst (λ h. node_below h (tree_of old) (temp_names c.number) ≡ None) (home_is cache home folder.1) unused in
+    let none = subst (λ h. node_below h (tree_of old) (temp_names c.number) ≡ None) (home_named cache home folder.1) unused in
     back cache home folder.1 (λ h. OrMemory ((r ≡ put_reply cache p) × (node_below h (tree_of new) (temp_names c.number) ≡ None)) r)
     (of_log (PutSo cache home folder.1 p (home ++ temp_names c.number) (own_temporary_at cache home folder.1 c.number) (put_reply cache p)) (opening (record { cache = cache; base = c.base; number = c.number }) (commands.Put p)) r old new
     (puts_so cache home folder.1 p c.number c.base (tree_of old) (ground cache old home folder.1 standing) none) c.ran c.logged)
@@ -68,7 +68,7 @@ lookups_answer cache key r old new folder standing c =
     let t = tree_of old in
     back cache home folder.1 (λ h. OrMemory (r ≡ LookedUp (latest key (entries_on h (tree_of old) key))) r)
     (of_log (λ _ x. x ≡ LookedUp (latest key (entries_on (Some home) t key))) (opening (record { cache = cache; base = c.base; number = c.number }) (commands.Find key)) r old new
-    (looks_so (λ _ x. x ≡ LookedUp (latest key (entries_on (Some home) t key))) home t (ground cache old home folder.1 standing) (record { cache = cache; key = key; aim = aims.Report }) (home_is cache home folder.1)
+    (looks_so (λ _ x. x ≡ LookedUp (latest key (entries_on (Some home) t key))) home t (ground cache old home folder.1 standing) (record { cache = cache; key = key; aim = aims.Report }) (home_named cache home folder.1)
     (ends (λ _ x. x ≡ LookedUp (latest key (entries_on (Some home) t key))) t (LookedUp (latest key (entries_on (Some home) t key))) refl)) c.ran c.logged)
 
 -- a read of an integrity's content
@@ -82,7 +82,7 @@ content_reads_answer cache i r old new folder standing formed c =
     let home = folder.0 in
     back cache home folder.1 (λ h. OrMemory (r ≡ read_on h (tree_of old) i) r)
     (of_log (λ _ x. x ≡ read_on (Some home) (tree_of old) i) (opening (record { cache = cache; base = c.base; number = c.number }) (commands.GetHash i)) r old new
-    (reads_at cache home (home_is cache home folder.1) (tree_of old) (ground cache old home folder.1 standing) i formed) c.ran c.logged)
+    (reads_at cache home (home_named cache home folder.1) (tree_of old) (ground cache old home folder.1 standing) i formed) c.ran c.logged)
 
 module _ (cache key : List ℕ) (home : Names) (is : home_of cache ≡ Some home) (t : Tree) (g : Ground home t) where
   abbrev look_up : Lookup
@@ -107,7 +107,7 @@ standing_key_reads cache key home r old new is standing formed c =
 
 pub key_reads_answer : KeyReadsAnswer
 key_reads_answer cache key r old new folder sound c =
-    standing_key_reads cache key folder.0 r old new (home_is cache folder.0 folder.1) (caches_stand cache old sound)
+    standing_key_reads cache key folder.0 r old new (home_named cache folder.0 folder.1) (caches_stand cache old sound)
     (latest_has key (entries_on (home_of cache) (tree_of old) key) (sound.formed (sha1 key))) c
 
 -- ---- questions and removals
@@ -119,12 +119,12 @@ module _ (cache : List ℕ) (home : Names) (is : names_of cache ≡ Ok home) (t 
 
   asks_at : (i : List Hash) → IsIntegrity i → EndsSo (λ _ x. x ≡ Exists (is_yes (blob_there t (lies_at i)))) t (asking (record { cache = cache; integrity = i }))
   asks_at [] formed = absurd (omega (arith, formed.nonempty))
-  asks_at (h ∷ hs) formed = asks_so (λ _ x. x ≡ Exists (is_yes (blob_there t (lies_at (h ∷ hs))))) home t g cache (home_is cache home is) h hs (All-head IsHash h hs formed.hashes) refl
+  asks_at (h ∷ hs) formed = asks_so (λ _ x. x ≡ Exists (is_yes (blob_there t (lies_at (h ∷ hs))))) home t g cache (home_named cache home is) h hs (All-head IsHash h hs formed.hashes) refl
 
   removes_at : (i : List Hash) → IsIntegrity i → EndsSo (λ _ x. x ≡ removal_reply (lies_at i)) t (remove_content cache i (over Done))
   removes_at [] formed = absurd (omega (arith, formed.nonempty))
   removes_at (h ∷ hs) formed =
-      removes_so (λ _ x. x ≡ removal_reply (lies_at (h ∷ hs))) home t g cache (home_is cache home is) h hs (All-head IsHash h hs formed.hashes) (over Done)
+      removes_so (λ _ x. x ≡ removal_reply (lies_at (h ∷ hs))) home t g cache (home_named cache home is) h hs (All-head IsHash h hs formed.hashes) (over Done)
       (λ blob there rest. ends (λ _ x. x ≡ removal_reply (lies_at (h ∷ hs))) _ Done (sym (ap removal_reply there)))
       (λ none. sym (ap removal_reply none))
 

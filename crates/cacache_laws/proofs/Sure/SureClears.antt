@@ -1,20 +1,20 @@
 -- A clearing in which all steps succeed.
-use Rattle.std.proofs.{Common.{◌≡◌, ◌⊎◌, inl, inr, ◌==◌, ◌<◌, ◌+◌, ◌-◌, ℕ, zero, suc, Bool, true, false, cond, nat_le, nat_lt, List, [], ◌∷◌, ◌++◌, Option, None, Some, Ok, length, refl, sym, ap, subst, ◌∙◌, arith, append_assoc, append-nil, length-append}, lemmas.Bool.{ltb-true, ne_eqb}}
-use Rattle.std.specs.Prelude.{IfSome, bytes_eq}
-use Rattle.cacache_core.specs.{declared.errors.Error.TheVariants.{IoError}, PathNames.{Names, names_of, IsProperName}, Paths.{content_area, index_area, temp_area, join}}
+use Rattle.std.proofs.{Common.{◌≡◌, ◌⊎◌, inl, inr, ◌==◌, ◌<◌, ◌+◌, ◌-◌, ℕ, zero, suc, Bool, true, false, cond, nat_le, nat_lt, List, [], ◌∷◌, ◌++◌, Option, None, Some, Ok, length, refl, sym, ap, subst, ◌∙◌, arith, append_assoc, append-nil}, lemmas.Bool.{ltb-true, ne_eqb}}
+use Rattle.std.specs.Prelude.{bytes_eq}
+use Rattle.cacache_core.specs.{declared.errors.Error.TheVariants.{IoError}, PathNames.{Names, names_of}, Paths.{content_area, index_area, temp_area, join}}
 use Rattle.cacache_core.specs.declared.errors.Fault.TheVariants as faults
 use Rattle.cacache_store.specs.declared.store.answer.Answer.TheVariants as answers
 use Rattle.cacache_store.specs.declared.store.answer.{Kind.{Kind}, Name.{Name}}
 use Rattle.cacache_store.specs.declared.store.answer.Kind.TheVariants as kinds
 use Rattle.cacache_store.specs.declared.store.step.Step.TheVariants as steps
-use Rattle.cacache_disk.specs.{declared.{luck.Luck.TheVariants.{Plain}, node.Node.{Node, TheVariants.{Folder, File, Link}}}, Tree.{Tree, look, cut, listing, kind_of}, LedTo.{folder, emptied, removable}, Rooted.{AreProper, Rooted}, Apply.{apply}, memory.Replay.{tree_of}}
+use Rattle.cacache_disk.specs.{declared.{luck.Luck.TheVariants.{Plain}, node.Node.{Node, TheVariants.{Folder, File, Link}}}, Tree.{Tree, look, cut, listing, kind_of}, LedTo.{folder, removable}, Rooted.{Rooted}, Apply.{apply}, memory.Replay.{tree_of}}
 use Rattle.cacache_disk.proofs.{KeptFolders.{outcome_rooted}, Standing.{upper_folder}}
 use Rattle.cacache_table.specs.declared.command.Command.TheVariants as commands
 use Rattle.cacache_table.specs.{declared.{reply.Reply.{Reply, TheVariants.{Done, Refused}}, visit.{Task.{Task, TheVariants.{Make, Stumble}}, Visit.TheVariants.{Enter, RemoveFile, RemoveFolder}}}, Replies.{OrMemory}, State.{walking, over, Walk}, Table.{opening}, Walking.{most, task_for_name, tasks_of, too_many, walk, walk_on}}
 use Rattle.cacache_value.{specs.{Kinds.{Way, Stray, kind_below, node_below, path_kind, is_used}, Placed.{MayStand}}, proofs.{FoundPaths.{suits}, KindsApart.{kind-below}}}
-use Rattle.cacache_history.proofs.Listings.ToldFolders.{AreDistinct, Each, Told, child_listed, listing_distinct, listing_told}
+use Rattle.cacache_history.proofs.Listings.ToldFolders.{AreDistinct, Each, Told, listing_distinct, listing_told}
 use Rattle.cacache_laws.specs.Succeeds.{Clears, ClearingsAnswer}
-use Rattle.cacache_laws.proofs.{Removing.{Emptied.{last_proper}, Sheds.{Shed, ShedAll, among, among_below, cut_sheds, folder_apart, listed_among, sheds_more, under, under_other, under_self}}, Sure.{Succeeds.{back, ground}, SureLists.{lists_at, no_folder}, SureRuns.{EndsSo, ends, goes, of_log}, SureSteps.{Ground, one_deeper, place_at, reached}}}
+use Rattle.cacache_laws.proofs.{Removing.{Sheds.{Shed, ShedAll, among, cut_sheds, folder_apart, sheds_more, under}, ShedFolders.{empties, none_listed, told_still, long_names, child_gone, folder_shed, lists_folder}}, Sure.{Succeeds.{back, ground}, SureLists.{no_folder}, SureRuns.{EndsSo, ends, goes, of_log}, SureSteps.{Ground, one_deeper, place_at, reached}}, trees.Children.{proper_child}}
 
 -- ---- steps
 
@@ -23,10 +23,6 @@ unfolding apply removable
 leaf_goes t p names Folder leaf rooted is there = absurd (leaf refl)
 leaf_goes t p names (File bytes) leaf rooted is there = rw (place_at t p names (File bytes) rooted is there, there) refl
 leaf_goes t p names (Link target) leaf rooted is there = rw (place_at t p names (Link target) rooted is there, there) refl
-
-folder_goes : (t : Tree) (p : List ℕ) (names : Names) → Rooted t → names_of p ≡ Ok names → look t names ≡ Some Folder → (length names == 0) ≡ false → listing t names ≡ [] → apply t (steps.RemoveDir p) Plain ≡ (answers.Done, cut t names)
-unfolding apply emptied folder
-folder_goes t p names rooted is there inner none = rw (place_at t p names Folder rooted is there, there, inner, none) refl
 
 -- nothing is below a node that is no folder
 leaf_bare : (t : Tree) (names : Names) (node : Node) → (node ≡ Folder → ⊥) → Rooted t → look t names ≡ Some node → (name : List ℕ) → look t (names ++ name ∷ []) ≡ None
@@ -39,44 +35,6 @@ leaf_bare t names node leaf rooted there name = at (look t (names ++ name ∷ []
         let same : node ≡ Folder = cc in absurd (leaf same)
 
 -- ---- what a listing says of names
-
-none_listed : (t : Tree) (p : Names) (ns : List Name) → Each (Told t p) ns → ((name : List ℕ) → look t (p ++ name ∷ []) ≡ None) → ns ≡ []
-none_listed t p [] told none = refl
-none_listed t p (n ∷ ns) told none = let differ : None ≡ Some told.0.node = sym (none n.name) ∙ told.0.stands in absurd cc
-
-told_still : (t mid : Tree) (p : Names) (n : List ℕ) (ns : List Name) → Shed t mid (p ++ n ∷ []) → Each (λ m. n ≡ m.name → ⊥) ns → Each (Told t p) ns → Each (Told mid p) ns
-told_still t mid p n [] shed apart told = tt
-told_still t mid p n (m ∷ ns) shed apart told = (
-  record {
-    node = told.0.node;
-    stands = shed (p ++ m.name ∷ []) ∙ ap (λ b. cond b None (look t (p ++ m.name ∷ []))) (under_other p [] n m.name apart.0) ∙ told.0.stands;
-    kind = told.0.kind;
-  },
-  told_still t mid p n ns shed apart.1 told.1,
-)
-
-proper_in : (t : Tree) (p : Names) (name : List ℕ) (node : Node) → Rooted t → look t (p ++ name ∷ []) ≡ Some node → IsProperName name
-proper_in t p name node rooted there = last_proper p name (subst (λ o. IfSome o (λ node. AreProper (p ++ name ∷ []))) there (rooted.proper (p ++ name ∷ [])))
-
-long_names : (p : Names) (name : List ℕ) → (length (p ++ name ∷ []) == 0) ≡ false
-long_names p name = ne_eqb (length (p ++ name ∷ [])) 0 (λ e. omega (arith, e, length-append p (name ∷ [])))
-
-none_either : (b : Bool) → cond {A = Option Node} b None None ≡ None
-none_either true = refl
-none_either false = refl
-
-child_gone : (t new : Tree) (p : Names) (name : List ℕ) (here : Option Node) → ShedAll t new p (listing t p) → look t (p ++ name ∷ []) ≡ here → look new (p ++ name ∷ []) ≡ None
-child_gone t new p name None sheds is = sheds (p ++ name ∷ []) ∙ ap (λ x. cond (among p (listing t p) (p ++ name ∷ [])) None x) is ∙ none_either (among p (listing t p) (p ++ name ∷ []))
-child_gone t new p name (Some node) sheds is =
-    sheds (p ++ name ∷ []) ∙ ap (λ b. cond b None (look t (p ++ name ∷ []))) (listed_among p [] (record { name = name; kind = kind_of node }) (listing t p) (child_listed t p name node is))
-
--- with all names in it a folder goes
-folder_shed : (t mid : Tree) (p q : Names) (ns : List Name) (b c : Bool) → under p q ≡ b → among p ns q ≡ c → look mid q ≡ cond c None (look t q) → cond b None (look mid q) ≡ cond b None (look t q)
-folder_shed t mid p q ns true c below some e = refl
-folder_shed t mid p q ns false true below some e =
-    let k = among_below p ns q some in
-    let wrong : false ≡ true = sym below ∙ ap (under p) k.2 ∙ under_self p (k.0 ∷ k.1) in cc
-folder_shed t mid p q ns false false below some e = e
 
 -- ---- a clearing
 
@@ -126,7 +84,7 @@ module _ (level : ℕ) (inner : (level == 0) ≡ false) (deeper : nat_lt level 1
       → GoesOn (λ new. ShedAll t new names ns) rest → EndsSo Ended t (walk_on (tasks_of true level p ns ++ rest) (clears left))
   names_end [] t p names left rest rooted is told apart next = next t left rooted (λ q. refl)
   names_end (n ∷ ns) t p names left rest rooted is told apart next =
-      let own = one_deeper p n.name names is (proper_in t names n.name told.0.node rooted told.0.stands) in
+      let own = one_deeper p n.name names is (proper_child t names n.name told.0.node rooted told.0.stands) in
       name_ends n.kind told.0.node told.0.kind t (join p n.name) (names ++ n.name ∷ []) left (tasks_of true level p ns ++ rest) rooted own told.0.stands (long_names names n.name)
       (λ mid fewer still shed.
       names_end ns mid p names fewer rest still is (told_still t mid names n.name ns shed apart.0 told.1) apart.1
@@ -137,7 +95,7 @@ module _ (level : ℕ) (inner : (level == 0) ≡ false) (deeper : nat_lt level 1
   folder_ends t p names todo rooted is there some next mid left still sheds =
       let none = λ (n : List ℕ). child_gone t mid names n (look t (names ++ n ∷ [])) sheds refl in
       let here : look mid names ≡ Some Folder = sheds names ∙ ap (λ b. cond b None (look t names)) (folder_apart names (listing t names)) ∙ there in
-      let gone = folder_goes mid p names still is here some (none_listed mid names (listing mid names) (listing_told mid names) none) in
+      let gone = empties mid p names still is here some (none_listed mid names (listing mid names) (listing_told mid names) none) in
       goes Ended mid (cut mid names) (walking (clears left) (RemoveFolder p) todo) (steps.RemoveDir p) answers.Done refl gone
       (next (cut mid names) left (outcome_rooted mid (cut mid names) (steps.RemoveDir p) Plain answers.Done still gone)
       (λ q. cut_sheds mid names still none q ∙ folder_shed t mid names q (listing t names) (under names q) (among names (listing t names) q) refl refl (sheds q)))
@@ -152,7 +110,7 @@ module _ (level : ℕ) (inner : (level == 0) ≡ false) (deeper : nat_lt level 1
   enters : Enters level
   enters t p names left todo rooted is there some next =
       let ns = listing t names in
-      goes Ended t t (walking (clears left) (Enter p level) todo) (steps.ReadDir p) (answers.Names ns) refl (lists_at t p names rooted is there)
+      goes Ended t t (walking (clears left) (Enter p level) todo) (steps.ReadDir p) (answers.Names ns) refl (lists_folder t p names rooted is there)
       (subst (λ b. EndsSo Ended t (cond (nat_le (length (listing t names)) left) (walk_on (tasks_of true level p (listing t names) ++ cond b [] (Make (RemoveFolder p) ∷ []) ++ todo) (clears (left - length (listing t names)))) (too_many (clears left)))) (sym inner)
       (entered_ends (nat_le (length ns) left) t p names left (left - length ns) todo rooted is there some next))
 
@@ -182,7 +140,7 @@ top_names : (ns : List Name) (t : Tree) (p : List ℕ) (names : Names) (left : �
     → EndsSo Ended t (walk_on (tasks_of true 0 p ns ++ []) (clears left))
 top_names [] t p names left rooted is told apart folders = ends Ended t Done (inl refl)
 top_names (n ∷ ns) t p names left rooted is told apart folders =
-    let own = one_deeper p n.name names is (proper_in t names n.name told.0.node rooted told.0.stands) in
+    let own = one_deeper p n.name names is (proper_child t names n.name told.0.node rooted told.0.stands) in
     top_name n.kind told.0.node folders.0 told.0.kind t (join p n.name) (names ++ n.name ∷ []) left (tasks_of true 0 p ns ++ []) rooted own told.0.stands (long_names names n.name)
     (λ mid fewer still shed. top_names ns mid p names fewer still is (told_still t mid names n.name ns shed apart.0 told.1) apart.1 folders.1)
 
@@ -230,7 +188,7 @@ module _ (home : Names) (t : Tree) (g : Ground home t) where
       (no_folder t cache home e (reached home t cache home g is (ap is_used (home_way home)) (look t home) refl))
       (ends Q t (Refused (IoError faults.NotFound [])) refl)
   by_folder cache is (Some Folder) e s =
-      goes Ended t t (walk true cache) (steps.ReadDir cache) (answers.Names (listing t home)) refl (lists_at t cache home g.rooted is e)
+      goes Ended t t (walk true cache) (steps.ReadDir cache) (answers.Names (listing t home)) refl (lists_folder t cache home g.rooted is e)
       (top_entered (nat_le (length (listing t home)) most) t cache home most (most - length (listing t home)) g.rooted is (folder_names (listing t home) (listing_told t home)))
   by_folder cache is (Some (File bytes)) e s = absurd s
   by_folder cache is (Some (Link target)) e s = absurd s

@@ -6,7 +6,7 @@ use Rattle.cacache_disk.specs.{Tree.{Tree}, LedTo.{place}, Apply.{make_some}}
 use Rattle.cacache_table.specs.{declared.{carried.Commit.{Commit}, reply.Reply.{Reply, TheVariants.{Stored, Refused}}}, Common.{ends_with}, Inserting.{insert}, State.{State}, StepPaths.{content_path, content_folder}, Storing.{insertion_of, indexed, sized, compared, placed, matches}}
 use Rattle.cacache_value.specs.Kinds.{Content, Way}
 use Rattle.cacache_laws.specs.Succeeds.{keyed_reply, sized_reply, compared_reply}
-use Rattle.cacache_laws.proofs.{Removing.Emptied.{home_is}, Sure.{SureInserts.{Inserted, Spares, inserts_so, one_behind}, SureRuns.{EndsSo, ends, ends_too, both}, SureSteps.{Ground, Lies, dirs_ground, dirs_stand, place_in}, SureTemps.{content_folder_lies, content_lies}}}
+use Rattle.cacache_laws.proofs.{Sure.{SureInserts.{Inserted, Spares, inserts_so, one_behind}, SureRuns.{EndsSo, ends, ends_too, both}, SureSteps.{Ground, Lies, dirs_ground, dirs_stand, place_in}, SureTemps.{content_folder_lies, content_lies}}, trees.Covering.{home_named}}
 
 -- ---- its reply, and something of the tree that an insertion keeps
 
@@ -53,7 +53,7 @@ module _ (cache : List ℕ) (home : Names) (is : names_of cache ≡ Ok home) (t 
   folder_lies = content_folder_lies cache home is h [] hash
 
   pub lies : Lies home (content_path cache (h ∷ [])) (content_names h) Content
-  lies = content_lies cache home (home_is cache home is) h [] hash
+  lies = content_lies cache home (home_named cache home is) h [] hash
 
   -- the tree with it
   abbrev pub made : Tree

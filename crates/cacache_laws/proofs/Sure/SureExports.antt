@@ -16,7 +16,7 @@ use Rattle.cacache_table.specs.declared.command.Source.TheVariants as sources
 use Rattle.cacache_value.specs.{Kinds.{Content as AtContent}, Placed.{MayStand}, Shows.{blob_bytes, link_end}, Value.{AtLink, Blob, InFile, blob_in, value_of_tree}}
 use Rattle.cacache_history.{specs.ShownTurns.{blob_at}, proofs.Entries.Spelled.{HasIntegrity, latest_has}}
 use Rattle.cacache_laws.specs.{Caches.{HasContent}, ExportAnswers.{ExportsAnswer, StaysIfRefused, blob_named, blob_read, exported_reply, led_reply, made_reply, or_told, verified_reply}, Exported.{export_by}, OpenSucceeds.{ExportsSucceed, MayTake, exported}, ReadAnswers.{entries_on}}
-use Rattle.cacache_laws.proofs.{Removing.Emptied.{home_is}, Readings.Standing.{caches_stand}, Sure.{Succeeds.{back, either, ground}, SureFiles.{opens_as, reads_whole}, SureReads.{bytes_at, held, led_there, looks_so, read_at, suited}, SureRuns.{EndsSo, both, ends, goes, of_log}, SureSteps.{Ground, Reached, arrives, missing}}}
+use Rattle.cacache_laws.proofs.{Readings.Standing.{caches_stand}, Sure.{Succeeds.{back, either, ground}, SureFiles.{opens_as, reads_whole}, SureReads.{bytes_at, held, led_there, looks_so, read_at, suited}, SureRuns.{EndsSo, both, ends, goes, of_log}, SureSteps.{Ground, Reached, arrives, missing}}, trees.Covering.{home_named}}
 
 -- ---- what lies there
 
@@ -79,13 +79,13 @@ module _ (cache : List ℕ) (home : Names) (is : names_of cache ≡ Ok home) (t 
 
     -- what lies there
     abbrev blob : Option Blob
-    blob = held home t g cache (home_is cache home is) h hs hash
+    blob = held home t g cache (home_named cache home is) h hs hash
 
     abbrev names : Names
     names = home ++ content_names h
 
     from_at : (folder : Fault) → file_at t path folder ≡ blob_read folder t blob
-    from_at folder = read_at home t g cache (home_is cache home is) h hs hash folder
+    from_at folder = read_at home t g cache (home_named cache home is) h hs hash folder
 
     -- ---- its last step
 
@@ -151,10 +151,10 @@ module _ (cache : List ℕ) (home : Names) (is : names_of cache ≡ Ok home) (t 
 
     made_ends : (how : How) (count : Option ℕ) → Counts count → Leads (made_reply how e.to t blob) (export_from how path e.to count)
     made_ends Copy count counts = copy_ends count (blob_read faults.InvalidInput t blob) (writable t e.to) refl refl counts
-    made_ends Reflink count counts = reflink_ends (free t e.to) (blob_bytes t blob) refl (bytes_at home t g cache (home_is cache home is) h hs hash)
+    made_ends Reflink count counts = reflink_ends (free t e.to) (blob_bytes t blob) refl (bytes_at home t g cache (home_named cache home is) h hs hash)
     made_ends HardLink count counts =
-        subst (λ reply. Leads (or_told (free t e.to) (λ q. reply)) (doing (hard_link path e.to) (over Done))) (told_so home t path names (look t names) (suited home t g cache (home_is cache home is) h hs hash))
-        (hard_link_ends (free t e.to) (named (look t names)) refl (named_as home t path names (look t names) refl (suited home t g cache (home_is cache home is) h hs hash) (led_there home t g cache (home_is cache home is) h hs hash)))
+        subst (λ reply. Leads (or_told (free t e.to) (λ q. reply)) (doing (hard_link path e.to) (over Done))) (told_so home t path names (look t names) (suited home t g cache (home_named cache home is) h hs hash))
+        (hard_link_ends (free t e.to) (named (look t names)) refl (named_as home t path names (look t names) refl (suited home t g cache (home_named cache home is) h hs hash) (led_there home t g cache (home_named cache home is) h hs hash)))
 
     -- ---- before it
 
@@ -167,10 +167,10 @@ module _ (cache : List ℕ) (home : Names) (is : names_of cache ≡ Ok home) (t 
 
     checked_ends : (r : Result (List ℕ) Fault) → blob_bytes t blob ≡ r → Leads (or_told r (verified_reply (h ∷ hs) (made_reply e.how e.to t blob))) (opening_file (to_verify k e))
     checked_ends (Err fault) from =
-        goes (Gives (Refused (IoError fault []))) t t (opening_file (to_verify k e)) (steps.Open path) (answers.Failed fault) refl (opens_as t path (Err fault) (bytes_at home t g cache (home_is cache home is) h hs hash ∙ from)) (refused fault)
+        goes (Gives (Refused (IoError fault []))) t t (opening_file (to_verify k e)) (steps.Open path) (answers.Failed fault) refl (opens_as t path (Err fault) (bytes_at home t g cache (home_named cache home is) h hs hash ∙ from)) (refused fault)
     checked_ends (Ok bytes) from =
         let wanted = verified_reply (h ∷ hs) (made_reply e.how e.to t blob) bytes in
-        goes (Gives wanted) t t (opening_file (to_verify k e)) (steps.Open path) (answers.File (opened bytes)) refl (opens_as t path (Ok bytes) (bytes_at home t g cache (home_is cache home is) h hs hash ∙ from))
+        goes (Gives wanted) t t (opening_file (to_verify k e)) (steps.Open path) (answers.File (opened bytes)) refl (opens_as t path (Ok bytes) (bytes_at home t g cache (home_named cache home is) h hs hash ∙ from))
         (reads_whole (Gives wanted) t (to_verify k e) bytes (verified_ends bytes from) bytes [] refl)
 
     export_ends : Leads (exported_reply (h ∷ hs) e t blob) (export k e)
@@ -211,11 +211,11 @@ exports_answer cache (sources.Key key) e r old new folder formed sound c =
     let g = ground cache old home folder.1 (caches_stand cache old sound) in
     let led = latest key (entries_on (Some home) (tree_of old) key) in
     let has : HasIntegrity (latest key (entries_on (home_of cache) (tree_of old) key)) = latest_has key (entries_on (home_of cache) (tree_of old) key) (sound.formed (sha1 key)) in
-    let led_has : HasIntegrity led = subst (λ h. HasIntegrity (latest key (entries_on h (tree_of old) key))) (home_is cache home folder.1) has in
+    let led_has : HasIntegrity led = subst (λ h. HasIntegrity (latest key (entries_on h (tree_of old) key))) (home_named cache home folder.1) has in
     let Q : Tree → Reply → Type 0 = Gives cache home folder.1 (tree_of old) g e (led_reply cache key e old (latest key (entries_on (Some home) (tree_of old) key))) in
     back cache home folder.1 (λ h. OrMemory ((r ≡ led_reply cache key e old (latest key (entries_on h (tree_of old) key))) × StaysIfRefused r (tree_of old) (tree_of new)) r)
     (of_log Q (opening (record { cache = cache; base = c.base; number = c.number }) (commands.Export (sources.Key key) e)) r old new
-    (looks_so Q home (tree_of old) g (look_up cache key home folder.1 old g e) (home_is cache home folder.1) (by_found cache key home folder.1 old g e led led_has)) c.ran c.logged)
+    (looks_so Q home (tree_of old) g (look_up cache key home folder.1 old g e) (home_named cache home folder.1) (by_found cache key home folder.1 old g e led led_has)) c.ran c.logged)
 
 -- ---- of bytes that are there
 
@@ -238,7 +238,7 @@ module _ (cache bytes to : List ℕ) (how : How) (checked : Bool) (old : List Lo
   -- the same holds of what lies under an integrity
   by_content : (i : List Hash) → HasContent cache i bytes old → EndsSo (Gives cache home is (tree_of old) g to_path (exported how bytes)) (tree_of old) (export (record { cache = cache; integrity = i }) to_path)
   by_content i has =
-      let lies : blob_at (value_of_tree (Some home) (tree_of old)) (address i) ≡ Some (InFile bytes) = subst (λ h. blob_at (value_of_tree h (tree_of old)) (address i) ≡ Some (InFile bytes)) (home_is cache home is) has.content in
+      let lies : blob_at (value_of_tree (Some home) (tree_of old)) (address i) ≡ Some (InFile bytes) = subst (λ h. blob_at (value_of_tree h (tree_of old)) (address i) ≡ Some (InFile bytes)) (home_named cache home is) has.content in
       subst (λ wanted. EndsSo (Gives cache home is (tree_of old) g to_path wanted) (tree_of old) (export (record { cache = cache; integrity = i }) to_path))
       (ap (λ blob. exported_reply i to_path (tree_of old) blob) lies ∙ exported_so checked how to bytes i old has.meets may)
       (content_ends cache home is (tree_of old) g to_path i has.formed)
@@ -257,10 +257,10 @@ exports_succeed cache bytes to how (sources.Key key) checked r old new folder st
     let e : Export = record { how = how; checked = checked; to = to } in
     let l : Lookup = record { cache = cache; key = key; aim = aims.Export e } in
     let Q : Tree → Reply → Type 0 = Gives cache home folder.1 (tree_of old) g e (exported how bytes) in
-    let finds : latest key (entries_on (Some home) (tree_of old) key) ≡ Some has.1.found = subst (λ h. latest key (entries_on h (tree_of old) key) ≡ Some has.1.found) (home_is cache home folder.1) has.1.finds in
+    let finds : latest key (entries_on (Some home) (tree_of old) key) ≡ Some has.1.found = subst (λ h. latest key (entries_on h (tree_of old) key) ≡ Some has.1.found) (home_named cache home folder.1) has.1.finds in
     let next = subst (λ i. EndsSo Q (tree_of old) (export (record { cache = cache; integrity = i }) (record { how = how; checked = checked; to = to }))) (sym has.1.integrity)
     (by_content cache bytes to how checked old home folder.1 g may has.0 has.1.content) in
     either r (λ h. h.0)
     (of_log Q (opening (record { cache = cache; base = c.base; number = c.number }) (export_by how (sources.Key key) checked to)) r old new
-    (looks_so Q home (tree_of old) g l (home_is cache home folder.1)
+    (looks_so Q home (tree_of old) g l (home_named cache home folder.1)
     (subst (λ f. EndsSo Q (tree_of old) (found_for l (aims.Export e) f)) (sym finds) next)) c.ran c.logged)

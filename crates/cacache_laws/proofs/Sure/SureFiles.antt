@@ -1,13 +1,12 @@
 -- A file is opened and read to its end, if no step fails without cause.
-use Rattle.std.proofs.{Common.{◌≡◌, ◌==◌, ◌<◌, ℕ, zero, suc, Bool, true, false, cond, List, [], ◌∷◌, ◌++◌, Some, Result, length, take, drop, refl, sym, ap, subst, ◌∙◌, arith, append_assoc, append-nil, take-append-drop, length-drop}, lemmas.{Bool.{eq-eqb}, List.{length-take, nil_from_length}}}
+use Rattle.std.proofs.{Common.{◌≡◌, ◌==◌, ◌<◌, ℕ, zero, suc, List, [], ◌∷◌, ◌++◌, Result, length, take, drop, refl, sym, ap, subst, ◌∙◌, arith, append_assoc, append-nil, take-append-drop, length-drop}, lemmas.{Bool.{eq-eqb}, List.{length-take, nil_from_length}}}
 use Rattle.cacache_core.specs.declared.errors.Fault.{Fault}
 use Rattle.cacache_core.specs.declared.errors.Fault.TheVariants as faults
 use Rattle.cacache_store.specs.declared.store.answer.Answer.TheVariants as answers
-use Rattle.cacache_store.specs.{declared.store.plain.PlainFile.{PlainFile}, Plain.{PlainAnswer}}
 use Rattle.cacache_store.specs.declared.store.step.Step.TheVariants as steps
 use Rattle.cacache_disk.specs.{declared.luck.Luck.TheVariants.{Plain}, Tree.{Tree}, Apply.{apply, opened, rest_of, unless}, LedTo.{file_at}}
 use Rattle.cacache_table.specs.{declared.reply.Reply.{Reply}, Linking.{after_read, hashed}, State.{Hashing, hashing}, Table.{piece}}
-use Rattle.cacache_laws.proofs.Sure.SureRuns.{EndsSo, goes}
+use Rattle.cacache_laws.proofs.{Sure.SureRuns.{EndsSo, goes}, Calls.Handed.{if_so, file_of}}
 
 -- ---- by its path
 
@@ -21,16 +20,7 @@ sizes_as t p r e = ap (λ x. unless x t (λ bytes. (answers.Length (length bytes
 
 -- ---- a read of a piece
 
-if_so : (x y : PlainAnswer) (b : Bool) → b ≡ true → cond b x y ≡ x
-if_so x y true e = refl
-if_so x y false e = absurd cc
-
--- a file of so many bytes
-file_of : ℕ → List ℕ → PlainFile
-file_of left bytes = record { left = left; bytes = Some bytes }
-
 rest_opened : (rest : List ℕ) (size : ℕ) → rest_of rest size ≡ opened (drop size rest)
-unfolding file_of
 rest_opened rest size = ap (λ n. file_of n (drop size rest)) (omega (arith, length-drop size rest))
 
 pub reads : (t : Tree) (rest : List ℕ) → apply t (steps.Read (opened rest) piece) Plain ≡ (answers.Got (opened (drop piece rest)) (take piece rest), t)

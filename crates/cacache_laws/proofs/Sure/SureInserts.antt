@@ -15,7 +15,7 @@ use Rattle.cacache_table.specs.{declared.reply.Reply.{Reply, TheVariants.{Refuse
 use Rattle.cacache_table.proofs.Branches.{cond_leads}
 use Rattle.cacache_value.{specs.Kinds.{Bucket, Temporary, Way, path_kind}, proofs.FoundPaths.{suits}}
 use Rattle.cacache_laws.specs.Succeeds.{insertion_reply, unless_unwritable}
-use Rattle.cacache_laws.proofs.{Removing.Emptied.{home_is}, Sure.{SureRuns.{EndsSo, ends, goes, syncs}, SureSpares.{dirs_spare, put_other}, SureSteps.{Ground, Lies, SyncsAll, joined_lies, is_for, place_at, place_in, makes_dirs, dirs_ground, dirs_stand, syncs_folders, look_own, appends, syncs_file}}}
+use Rattle.cacache_laws.proofs.{Sure.{SureRuns.{EndsSo, ends, goes, syncs}, SureSpares.{dirs_spare, put_other}, SureSteps.{Ground, Lies, SyncsAll, joined_lies, is_for, place_at, place_in, makes_dirs, dirs_ground, dirs_stand, syncs_folders, look_own, appends, syncs_file}}, trees.Covering.{home_named}}
 
 -- without the last name, proper names are proper too
 pub proper_folder : (ns : Names) → All IsProperName ns → All IsProperName (folder_names ns)
@@ -46,7 +46,7 @@ module _ (cache : List ℕ) (home : Names) (is : home_of cache ≡ Some home) (k
 module _ (cache : List ℕ) (home : Names) (is : names_of cache ≡ Ok home) (key : List ℕ) where
   synced_folders : (t : Tree) (node : Node) → Rooted t → look t (home ++ bucket_names key) ≡ Some node → SyncsAll t (bucket_folders cache key)
   unfolding bucket_folders
-  synced_folders t node rooted there = syncs_folders t cache home (bucket_names key) node rooted is (key_names cache home (home_is cache home is) key) there
+  synced_folders t node rooted there = syncs_folders t cache home (bucket_names key) node rooted is (key_names cache home (home_named cache home is) key) there
 
 -- one more name after those of a folder
 pub one_behind : (home front : Names) (name : List ℕ) → home ++ (front ++ name ∷ []) ≡ (home ++ front) ++ name ∷ []
@@ -60,10 +60,10 @@ module _ (i : Insertion) (home : Names) (is : names_of i.cache ≡ Ok home) (t :
   Inserted wanted new r = (r ≡ wanted) × Spares home t new
 
   folder_lies : Lies home (bucket_folder i.cache i.entry.key) (folder_names (bucket_names i.entry.key)) Way
-  folder_lies = bucket_folder_lies i.cache home (home_is i.cache home is) i.entry.key
+  folder_lies = bucket_folder_lies i.cache home (home_named i.cache home is) i.entry.key
 
   lies : Lies home (bucket_path i.cache i.entry.key) (bucket_names i.entry.key) Bucket
-  lies = bucket_lies i.cache home (home_is i.cache home is) i.entry.key
+  lies = bucket_lies i.cache home (home_named i.cache home is) i.entry.key
 
   abbrev front : Names
   front = folder_names (bucket_names i.entry.key)

@@ -12,7 +12,7 @@ use Rattle.cacache_table.specs.declared.command.Command.TheVariants as commands
 use Rattle.cacache_value.specs.{Kinds.{Content, Elsewhere, IsFor}, Placed.{MayStand, Proper}, Shows.{blob_there}, Value.{AtLink, Blob, InFile, blob_in, value_of_tree}}
 use Rattle.cacache_history.{specs.ShownTurns.{blob_at}, proofs.Contents.Digests.{digest_hash}}
 use Rattle.cacache_laws.specs.{LinkAnswers.{LinkersAnswer, LinksAnswer, link_reply, linked_reply, unless_dangling}, Succeeds.{compared_reply, is_yes}}
-use Rattle.cacache_laws.proofs.{Removing.Emptied.{home_is}, Sure.{Succeeds.{back, ground}, SureCommits.{CommitSo, placed_ends}, SureFiles.{opens_as, reads_whole, sizes_as}, SureInserts.{one_behind}, SureReads.{IsAsked, asks, content_there, is_asked, suited}, SureRuns.{EndsSo, both, ends, ends_too, goes, of_log}, SureSteps.{Ground, arrives, goes_to, is_for, makes_dirs}}}
+use Rattle.cacache_laws.proofs.{Sure.{Succeeds.{back, ground}, SureCommits.{CommitSo, placed_ends}, SureFiles.{opens_as, reads_whole, sizes_as}, SureInserts.{one_behind}, SureReads.{IsAsked, asks, content_there, is_asked, suited}, SureRuns.{EndsSo, both, ends, ends_too, goes, of_log}, SureSteps.{Ground, arrives, goes_to, is_for, makes_dirs}}, trees.Covering.{home_named}}
 use Rattle.cacache_laws.proofs.Sure.SureCommits as commits
 
 -- ---- folders that are there
@@ -129,7 +129,7 @@ module _ (target : Target ℕ) (bytes : List ℕ) (home : Names) (is : names_of 
   link_ends =
       goes (Says (unless_dangling stored t (blob_in (look t names)))) t made (link c target.path) (steps.MakeDirs (content_folder target.cache (h ∷ []))) answers.Done refl
       (makes_dirs home t g (content_folder target.cache (h ∷ [])) front (commits.folder_lies target.cache home is t g h hash))
-      (linked_ends (look t names) refl (suited home t g target.cache (home_is target.cache home is) h [] hash))
+      (linked_ends (look t names) refl (suited home t g target.cache (home_named target.cache home is) h [] hash))
 
 -- ---- on a store in memory
 
@@ -175,7 +175,7 @@ pub links_answer : LinksAnswer
 links_answer cache l r old new c folder standing apart =
     let home = folder.0 in
     let target = link_target (record { cache = cache; base = c.base; number = c.number }) l in
-    let far = subst (λ h. IsFor h Elsewhere target.path) (home_is cache home folder.1) apart in
+    let far = subst (λ h. IsFor h Elsewhere target.path) (home_named cache home folder.1) apart in
     of_log (λ _ x. x ≡ link_reply target old (file_at (tree_of old) target.path faults.IsADirectory)) (opening (record { cache = cache; base = c.base; number = c.number }) (commands.Link l)) r old new
     (whole_of cache home folder.1 old (ground cache old home folder.1 standing) target refl far (file_at (tree_of old) target.path faults.IsADirectory) refl) c.ran c.logged
 
@@ -183,6 +183,6 @@ pub linkers_answer : LinkersAnswer
 linkers_answer cache base l bytes rest r old new folder standing apart c =
     let home = folder.0 in
     let target = link_target (record { cache = cache; base = base; number = 0 }) l in
-    let far = subst (λ h. IsFor h Elsewhere target.path) (home_is cache home folder.1) apart in
+    let far = subst (λ h. IsFor h Elsewhere target.path) (home_named cache home folder.1) apart in
     of_log (λ _ x. x ≡ linked_reply (commit_for target (bytes ++ rest)) old) (hashing (to_link target) (opened rest) bytes) r old new
     (commit_of cache home folder.1 old (ground cache old home folder.1 standing) target refl far bytes rest) c.ran c.logged

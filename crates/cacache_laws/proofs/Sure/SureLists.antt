@@ -1,6 +1,6 @@
 -- A listing in which all steps succeed.
 use Rattle.std.proofs.{Common.{◌≡◌, inl, inr, ◌+◌, ◌-◌, ℕ, Bool, true, false, cond, nat_le, nat_lt, List, [], ◌∷◌, ◌++◌, Option, None, Some, Ok, option_map, length, take, refl, sym, ap, subst, ◌∙◌, append_assoc}, lemmas.List.Elements.{All-head}}
-use Rattle.std.specs.{Prelude.{IfSome, filter_map, zero, suc, map as each}, List.{AllByRecursion, cons_option}}
+use Rattle.std.specs.{Prelude.{filter_map, zero, suc, map as each}, List.{AllByRecursion, cons_option}}
 use Rattle.hex.specs.Hex.{encode_lower}
 use Rattle.sha1.specs.Sha1.{sha1}
 use Rattle.cacache_core.specs.{declared.errors.Error.TheVariants.{IoError}, PathNames.{Names, names_of, IsProperName}, Paths.{cut_digits, index_area, join}}
@@ -10,14 +10,14 @@ use Rattle.cacache_store.specs.declared.store.answer.Answer.TheVariants as answe
 use Rattle.cacache_store.specs.{declared.store.answer.{Kind.{Kind}, Name.{Name}}, Plain.{PlainStep, PlainAnswer}}
 use Rattle.cacache_store.specs.declared.store.answer.Kind.TheVariants as kinds
 use Rattle.cacache_store.specs.declared.store.step.Step.TheVariants as steps
-use Rattle.cacache_disk.specs.{declared.{luck.Luck.TheVariants.{Plain}, node.Node.{Node, TheVariants.{Folder, File, Link}}}, Tree.{Tree, look, listing, kind_of}, LedTo.{folder}, Rooted.{AreProper, Rooted}, Apply.{apply}, memory.Replay.{tree_of}}
+use Rattle.cacache_disk.specs.{declared.{luck.Luck.TheVariants.{Plain}, node.Node.{Node, TheVariants.{Folder, File, Link}}}, Tree.{Tree, look, listing, kind_of}, LedTo.{folder}, Rooted.{Rooted}, Apply.{apply}, memory.Replay.{tree_of}}
 use Rattle.cacache_entry.specs.{Bucket.{entries_of}, Entry.{Entry}, Latest.{Found, latest}}
 use Rattle.cacache_table.specs.declared.command.Command.TheVariants as commands
 use Rattle.cacache_table.specs.{declared.{reply.Reply.{Reply, TheVariants.{Listed}}, visit.{Task.{Task, TheVariants.{Make, Stumble}}, Visit.{Visit, TheVariants.{Enter, ReadBucket, RemoveFile, RemoveFolder}}}}, Replies.{OrMemory}, Runs.{Moves, Runs}, State.{State, walking, over, Item, Walk}, Table.{opening}, Walking.{after_visit, failed, items_in, listed, most, once, task_for_name, tasks_of, too_many, walk, walk_on}}
 use Rattle.cacache_value.{specs.{Kinds.{Bucket, Way, kind_in_area, node_below, path_kind, is_used}, Placed.{MayStand}}, proofs.{FoundPaths.{suits}, KindsApart.{kind-below}}}
 use Rattle.cacache_history.proofs.Listings.ToldFolders.{Each, Told, listing_told}
 use Rattle.cacache_laws.specs.{Sequence.{AreAnswered}, Succeeds.{IsItemOrTooDeep, ListsAll, ListingsAnswer}}
-use Rattle.cacache_laws.proofs.{Removing.Emptied.{last_proper}, Sure.{Succeeds.{back, ground}, SureRuns.{EndsSo, ends, goes, of_log}, SureSteps.{Ground, Reached, arrives, missing, file_so, one_deeper, place_at, reached}}}
+use Rattle.cacache_laws.proofs.{trees.{Children.{proper_child}, Listing.{lists}}, Sure.{Succeeds.{back, ground}, SureRuns.{EndsSo, ends, goes, of_log}, SureSteps.{Ground, Reached, arrives, missing, file_so, one_deeper, place_at, reached}}, Removing.ShedFolders.{lists_folder}}
 
 -- ---- items
 
@@ -58,10 +58,6 @@ over_fine fine is [] r (inl e) = let same : fine ≡ r = cc in inr (subst IsFine
 over_fine fine is [] r (inr e) = inl e
 over_fine fine is (m ∷ moves) r run = absurd cc
 
--- a listing that gave these items
-abbrev lists : List Item → ℕ → Walk
-lists items left = record { clears = false; items = items; left = left }
-
 many_fine : (items : List Item) (left : ℕ) → AllItems items → (moves : Moves) (r : Reply) → Runs (too_many (lists items left)) moves r → OrMemory (IsFine r) r
 many_fine items left all moves r run = over_fine (Listed (items ++ failed faults.TooDeep ∷ [])) (both_all items (failed faults.TooDeep ∷ []) all (refl, tt)) moves r run
 
@@ -73,10 +69,6 @@ no_link home target (a ∷ []) s = s
 no_link home target (a ∷ b ∷ []) s = s
 no_link home target (a ∷ b ∷ c ∷ []) s = s
 no_link home target (a ∷ b ∷ c ∷ d ∷ rest) s = s
-
-pub lists_at : (t : Tree) (p : List ℕ) (names : Names) → Rooted t → names_of p ≡ Ok names → look t names ≡ Some Folder → apply t (steps.ReadDir p) Plain ≡ (answers.Names (listing t names), t)
-unfolding apply folder
-lists_at t p names rooted is there = rw (place_at t p names Folder rooted is there, there) refl
 
 pub no_folder : (t : Tree) (p : List ℕ) (names : Names) → look t names ≡ None → Reached t p names → apply t (steps.ReadDir p) Plain ≡ (answers.Failed faults.NotFound, t)
 unfolding apply folder
@@ -126,8 +118,7 @@ module _ (home : Names) (t : Tree) (g : Ground home t) where
   names_good level p rest is [] told = tt
   names_good level p rest is (n ∷ ns) told =
       let stands = told.0.stands in
-      let proper : IsProperName n.name
-      = last_proper (home ++ index_area ∷ rest) n.name (subst (λ o. IfSome o (λ node. AreProper ((home ++ index_area ∷ rest) ++ n.name ∷ []))) stands (g.rooted.proper ((home ++ index_area ∷ rest) ++ n.name ∷ []))) in
+      let proper = proper_child t (home ++ index_area ∷ rest) n.name told.0.node g.rooted stands in
       let same = append_assoc home (index_area ∷ rest) (n.name ∷ []) in (
         one_good n.kind told.0.node level (join p n.name) (rest ++ n.name ∷ []) told.0.kind (one_deeper p n.name (home ++ index_area ∷ rest) is proper ∙ ap Ok same) (ap (look t) (sym same) ∙ stands),
         names_good level p rest is ns told.1,
@@ -175,7 +166,7 @@ module _ (home : Names) (t : Tree) (g : Ground home t) where
   walks_all (m ∷ moves) items left (Enter p level) todo r all good goods run answered =
       let names = home ++ index_area ∷ good.0 in
       let ns = listing t (home ++ index_area ∷ good.0) in
-      let f = first m moves (steps.ReadDir p) (answers.Names ns) run.0 answered (lists_at t p names g.rooted good.1 good.2) in
+      let f = first m moves (steps.ReadDir p) (answers.Names ns) run.0 answered (lists_folder t p names g.rooted good.1 good.2) in
       let after = subst (λ a. Runs (after_visit (lists items left) (Enter p level) todo a) moves r) f.0 run.2 in
       entered_on moves (walks_all moves) r f.1 (nat_le (length ns) left) (tasks_of false level p ns ++ [] ++ todo) items left (left - length ns) all
       (more_good (tasks_of false level p ns ++ []) todo (more_good (tasks_of false level p ns) [] (names_good level p good.0 good.1 ns (listing_told t names)) tt) goods) after

@@ -13,7 +13,7 @@ use Rattle.cacache_table.specs.{declared.reply.Reply.{Reply, TheVariants.{Looked
 use Rattle.cacache_value.specs.{Shows.{blob_bytes}, Value.{value_of_tree}}
 use Rattle.cacache_history.{specs.ShownTurns.{blob_at}, proofs.Entries.Spelled.{HasIntegrity, latest_has}}
 use Rattle.cacache_laws.specs.{Caches.{Called, IsCache}, Keeping.{found_under}, LinkAnswers.{KeyReadersAnswer, LinkerOpeningsAnswer, OpensAs, OpensLed, ReadersAnswer, SizedOpeningsAnswer, target_bytes}, Looks.{bytes_under}, OpenLinkers.{OpensTarget, TellsSize}, OpenReaders.{LookupRan, OpensByKey, OpensContent, OpensWhatWasFound}, ReadAnswers.{entries_on}, Sequence.{IsSound}, Succeeds.{NamesFolder}}
-use Rattle.cacache_laws.proofs.{Removing.Emptied.{home_is}, Calls.{InParts.{logs_lead}, Logs.{some_same}}, Readings.{Looks.{tree_stays}, OpenReaders.{log_front, memory_error, opened_by, plain_error}, ReadsStay.{sizing_keeps}, Standing.{caches_stand}}, Sure.{Succeeds.{back, ground, lookups_answer}, SureFiles.{opens_as, sizes_as}, SureReads.{bytes_at}}, Links.TargetBytes.{target_opened}}
+use Rattle.cacache_laws.proofs.{Calls.{InParts.{logs_lead}, Logs.{some_same}, Messages.{plain_error, memory_error}}, Readings.{Looks.{tree_stays}, OpenReaders.{log_front, opened_by}, ReadsStay.{sizing_keeps}, Standing.{caches_stand}}, Sure.{Succeeds.{back, ground, lookups_answer}, SureFiles.{opens_as, sizes_as}, SureReads.{bytes_at}}, Links.TargetBytes.{target_opened}, trees.Covering.{home_named}}
 
 -- ---- the opening of a file
 
@@ -99,7 +99,7 @@ readers_answer cache (a ∷ hs) r old new folder standing formed h logged =
     let home = folder.0 in
     let path = content_path cache (a ∷ hs) in
     let held = back cache home folder.1 (λ h. file_at (tree_of old) (content_path cache (a ∷ hs)) faults.IsADirectory ≡ blob_bytes (tree_of old) (blob_at (value_of_tree h (tree_of old)) (Some a)))
-    (bytes_at home (tree_of old) (ground cache old home folder.1 standing) cache (home_is cache home folder.1) a hs (All-head IsHash a hs formed.hashes)) in
+    (bytes_at home (tree_of old) (ground cache old home folder.1 standing) cache (home_named cache home folder.1) a hs (All-head IsHash a hs formed.hashes)) in
     opens_so path (bytes_under cache (a ∷ hs) old) r old new held (as_target cache (a ∷ hs) r (Some old) (Some new) h) logged
 
 -- ---- by key

@@ -1,6 +1,6 @@
 -- Lookups, reads, questions and removals in which all steps succeed.
 use Rattle.std.proofs.Common.{◌≡◌, ◌⊎◌, inl, inr, ℕ, Bool, true, false, cond, List, [], ◌∷◌, ◌++◌, Option, None, Some, Result, Ok, Err, refl, sym, ap, subst, ◌∙◌}
-use Rattle.cacache_core.specs.{declared.{errors.{Error.TheVariants.{IoError, IntegrityError}, Fault.{Fault}, IntegrityFault.TheVariants.{Check}}, integrity.digest.Hash.{Hash}}, Integrity.{IsHash, actual}, Meeting.{meets}, PathNames.{Names, names_of, home_of}, Paths.{bucket_names, content_names}}
+use Rattle.cacache_core.specs.{declared.{errors.{Error.TheVariants.{IoError, IntegrityError}, Fault.{Fault}, IntegrityFault.TheVariants.{Check}}, integrity.digest.Hash.{Hash}}, Integrity.{IsHash, actual}, Meeting.{meets}, PathNames.{Names, home_of}, Paths.{bucket_names, content_names}}
 use Rattle.cacache_core.specs.declared.errors.Fault.TheVariants as faults
 use Rattle.cacache_store.specs.declared.store.step.Step.TheVariants as steps
 use Rattle.cacache_store.specs.declared.store.answer.Answer.TheVariants as answers
@@ -12,7 +12,7 @@ use Rattle.cacache_value.specs.{Kinds.{Content, Bucket, is_used}, Placed.{MaySta
 use Rattle.cacache_value.proofs.FoundPaths.{suits}
 use Rattle.cacache_history.specs.ShownTurns.{as_refusal}
 use Rattle.cacache_laws.specs.{ExportAnswers.{blob_read}, ReadAnswers.{entries_on, read_on}, Succeeds.{is_yes}}
-use Rattle.cacache_laws.proofs.Sure.{SureInserts.{bucket_lies}, SureTemps.{content_lies}, SureRuns.{EndsSo, ends, goes}, SureSteps.{Ground, Lies, Reached, arrives, missing, goes_to, reached}}
+use Rattle.cacache_laws.proofs.{Sure.{SureInserts.{bucket_lies}, SureTemps.{content_lies}, SureRuns.{EndsSo, ends, goes}, SureSteps.{Ground, Lies, Reached, arrives, missing, goes_to, reached}}, trees.Agreeing.{said}}
 
 -- ---- what a bucket's file answers
 
@@ -35,12 +35,7 @@ bucket_read home t p names (Some (Link target)) e s r = absurd s
 
 -- ---- what a content's path answers
 
--- bytes, or why there are none
-abbrev told : Result (List ℕ) Fault → PlainAnswer
-told (Ok bytes) = answers.Bytes bytes
-told (Err fault) = answers.Failed fault
-
-told_all : (t : Tree) (p : List ℕ) (r : Result (List ℕ) Fault) → file_at t p faults.IsADirectory ≡ r → apply t (steps.ReadAll p) Plain ≡ (told r, t)
+told_all : (t : Tree) (p : List ℕ) (r : Result (List ℕ) Fault) → file_at t p faults.IsADirectory ≡ r → apply t (steps.ReadAll p) Plain ≡ (said r, t)
 unfolding apply
 told_all t p (Ok bytes) e = rw e refl
 told_all t p (Err fault) e = rw e refl
@@ -168,7 +163,7 @@ module _ (Q : Tree → Reply → Type 0) (home : Names) (t : Tree) (g : Ground h
   names = home ++ content_names h
 
   by_bytes : (r : Result (List ℕ) Fault) → blob_bytes t ((value_of_tree (Some home) t).contents h) ≡ r → Q t (content_reply (h ∷ hs) (as_refusal r))
-      → apply t (steps.ReadAll (content_path cache (h ∷ hs))) Plain ≡ (told r, t) → EndsSo Q t (reading (record { cache = cache; integrity = h ∷ hs }))
+      → apply t (steps.ReadAll (content_path cache (h ∷ hs))) Plain ≡ (said r, t) → EndsSo Q t (reading (record { cache = cache; integrity = h ∷ hs }))
   by_bytes (Ok bytes) e q read =
       goes Q t t (reading (record { cache = cache; integrity = h ∷ hs })) (steps.ReadAll (content_path cache (h ∷ hs))) (answers.Bytes bytes) refl read
       (by_meeting (meets (h ∷ hs) bytes) q)

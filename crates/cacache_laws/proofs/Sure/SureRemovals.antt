@@ -14,7 +14,7 @@ use Rattle.cacache_table.specs.declared.command.Command.TheVariants as commands
 use Rattle.cacache_value.{specs.{Acts.{list_of}, Kinds.{Bucket, Content, path_kind, is_used}, Placed.{MayStand}, Value.{bucket_in, value_of_tree}}, proofs.FoundPaths.{suits}}
 use Rattle.cacache_history.{specs.ShownTurns.{blob_at}, proofs.Entries.Spelled.{HasIntegrity, latest_has}}
 use Rattle.cacache_laws.specs.{ReadAnswers.{entries_on}, Succeeds.{removal_reply, fully_reply, FullRemovalsAnswer}}
-use Rattle.cacache_laws.proofs.{Removing.Emptied.{home_is}, Readings.Standing.{caches_stand}, Sure.{Succeeds.{back, ground}, SureInserts.{bucket_lies}, SureTemps.{content_lies}, SureReads.{looks_so, removes_so}, SureRuns.{EndsSo, ends, goes, of_log}, SureSteps.{Ground, Lies, Reached, arrives, missing, place_at, reached}}}
+use Rattle.cacache_laws.proofs.{Readings.Standing.{caches_stand}, Sure.{Succeeds.{back, ground}, SureInserts.{bucket_lies}, SureTemps.{content_lies}, SureReads.{looks_so, removes_so}, SureRuns.{EndsSo, ends, goes, of_log}, SureSteps.{Ground, Lies, Reached, arrives, missing, place_at, reached}}, trees.Covering.{home_named}}
 
 -- ---- a bucket
 
@@ -32,7 +32,7 @@ module _ (Q : Tree → Reply → Type 0) (cache : List ℕ) (home : Names) (is :
   names = home ++ bucket_names key
 
   lies : Lies home (bucket_path cache key) (bucket_names key) Bucket
-  lies = bucket_lies cache home (home_is cache home is) key
+  lies = bucket_lies cache home (home_named cache home is) key
 
   bucket_there : (bytes : List ℕ) → look t names ≡ Some (File bytes) → Q (cut t names) Done → EndsSo Q t (remove_bucket cache key)
   bucket_there bytes e q =
@@ -57,8 +57,8 @@ module _ (cache : List ℕ) (home : Names) (is : names_of cache ≡ Ok home) (ke
 
   kept_bucket : (h : Hash) (hs : List Hash) → IsHash h → (node : Node) → bucket ≡ Some node → look (cut t (home ++ content_names h)) (home ++ bucket_names key) ≡ Some node
   kept_bucket h hs hash node e =
-      let here = bucket_lies cache home (home_is cache home is) key in
-      let there = content_lies cache home (home_is cache home is) h hs hash in
+      let here = bucket_lies cache home (home_named cache home is) key in
+      let there = content_lies cache home (home_named cache home is) h hs hash in
       let apart : same_path (home ++ bucket_names key) (home ++ content_names h) ≡ false
       = not_true (same_path (home ++ bucket_names key) (home ++ content_names h))
       (λ s. let differ : Bucket ≡ Content = sym here.kind ∙ ap (path_kind (Some home)) (same_path-true (home ++ bucket_names key) (home ++ content_names h) s) ∙ there.kind in absurd cc) in
@@ -71,7 +71,7 @@ module _ (cache : List ℕ) (home : Names) (is : names_of cache ≡ Ok home) (ke
       let hash = All-head IsHash h hs formed.hashes in
       let Q : Tree → Reply → Type 0 = λ _ x. x ≡ removal_reply (blob_at (value_of_tree (Some home) t) (address (h ∷ hs))) in
       let blob = (value_of_tree (Some home) t).contents h in
-      removes_so Q home t g cache (home_is cache home is) h hs hash (remove_bucket cache key)
+      removes_so Q home t g cache (home_named cache home is) h hs hash (remove_bucket cache key)
       (λ b there rest.
       bucket_there Q cache home is key (cut t (home ++ content_names h)) rest bytes (kept_bucket h hs hash (File bytes) e) (sym (ap removal_reply there)))
       (λ none. sym (ap removal_reply none))
@@ -92,7 +92,7 @@ module _ (cache : List ℕ) (home : Names) (is : names_of cache ≡ Ok home) (ke
   by_found (Some (Link target)) e s found led has = absurd s
 
   pub fully_ends : HasIntegrity led_by → EndsSo (λ _ x. x ≡ fully_reply (Some home) t key led_by) t (found_for (record { cache = cache; key = key; aim = aims.Remove }) aims.Remove led_by)
-  fully_ends has = by_found bucket refl (suits (Some home) t (home ++ bucket_names key) Bucket (bucket_lies cache home (home_is cache home is) key).kind g.placed) led_by refl has
+  fully_ends has = by_found bucket refl (suits (Some home) t (home ++ bucket_names key) Bucket (bucket_lies cache home (home_named cache home is) key).kind g.placed) led_by refl has
 
 pub full_removals_answer : FullRemovalsAnswer
 full_removals_answer cache key r old new folder sound c =
@@ -100,9 +100,9 @@ full_removals_answer cache key r old new folder sound c =
     let t = tree_of old in
     let g = ground cache old home folder.1 (caches_stand cache old sound) in
     let formed : HasIntegrity (latest key (entries_on (home_of cache) t key)) = latest_has key (entries_on (home_of cache) t key) (sound.formed (sha1 key)) in
-    let has = subst (λ h. HasIntegrity (latest key (entries_on h (tree_of old) key))) (home_is cache home folder.1) formed in
+    let has = subst (λ h. HasIntegrity (latest key (entries_on h (tree_of old) key))) (home_named cache home folder.1) formed in
     let Q : Tree → Reply → Type 0 = λ _ x. x ≡ fully_reply (Some home) (tree_of old) key (latest key (entries_on (Some home) (tree_of old) key)) in
     let l : Lookup = record { cache = cache; key = key; aim = aims.Remove } in
     back cache home folder.1 (λ h. OrMemory (r ≡ fully_reply h (tree_of old) key (latest key (entries_on h (tree_of old) key))) r)
     (of_log Q (opening (record { cache = cache; base = c.base; number = c.number }) (commands.RemoveFully key)) r old new
-    (looks_so Q home t g l (home_is cache home folder.1) (fully_ends cache home folder.1 key t g has)) c.ran c.logged)
+    (looks_so Q home t g l (home_named cache home folder.1) (fully_ends cache home folder.1 key t g has)) c.ran c.logged)

@@ -23,7 +23,7 @@ pub put_apart : (t : Tree) (p q : Names) (node : Node) → (q ≡ p → ⊥) →
 put_apart t p q node apart e =
     look-put t p node q ∙ ap (λ b. cond b (Some node) (look t q)) (not_true (same_path q p) (λ s. apart (same_path-true q p s))) ∙ e
 
-cut_none : (b : Bool) (old : Option Node) → old ≡ None → cond b None old ≡ None
+pub cut_none : (b : Bool) (old : Option Node) → old ≡ None → cond b None old ≡ None
 cut_none true old e = refl
 cut_none false old e = e
 

@@ -11,9 +11,9 @@ use Rattle.cacache_table.proofs.{Sound.{begins_sound, stays_sound, steps_allowed
 use Rattle.cacache_table.specs.declared.command.Command.TheVariants as commands
 use Rattle.cacache_value.specs.{Kinds.{Bucket, Content, Elsewhere, IsFor, PathKind, Temporary, path_kind}, Placed.{Placed, Proper}, Traces.{IsTrace}}
 use Rattle.cacache_value.proofs.{FoundPaths.{Reaches, bucket_reached, found, missing, of_names, unreachable, writable_out}, KindsApart.{kind-below}, Traces.{steps_keep_placed}}
-use Rattle.cacache_history.specs.{History.{NamesIntegrity}, Setup.{call_site, is_outside, may_export}}
+use Rattle.cacache_history.{specs.{History.{NamesIntegrity}, Setup.{call_site, is_outside, may_export}}, proofs.durable.CallNumbers.{temps_named, same_number}}
 use Rattle.cacache_laws.specs.{Caches.{Called, IsCache, setup_at}, OpenSucceeds.{FileAt, OthersKeepFiles, PutsKeepFiles, without_takings}, Sequence.{plain_moves, tree_on}}
-use Rattle.cacache_laws.proofs.{Calls.InParts.{logs_lead}, Putting.MadeNodes.{stays}, Spares.Unused.{calls_trace, own_file, same_number, temp_named}}
+use Rattle.cacache_laws.proofs.{Calls.InParts.{logs_lead}, Putting.MadeNodes.{stays}, Spares.Unused.{calls_trace, own_file}}
 
 -- ---- nodes
 
@@ -127,9 +127,9 @@ call_keeps cache command r old new c number may named sound never file = at (hom
   where
     at : (home : Option Names) → home_of cache ≡ home → FileAt (temp_path cache number) new
     at None e =
-        let both : Ok file.0 ≡ Err faults.InvalidInput = sym file.2 ∙ temp_named cache number ∙ ap (λ h. names_below h (temp_names number)) e in absurd cc
+        let both : Ok file.0 ≡ Err faults.InvalidInput = sym file.2 ∙ temps_named cache number ∙ ap (λ h. names_below h (temp_names number)) e in absurd cc
     at (Some folder) e =
-        let both : ◌≡◌ {A = Result Names Fault} (Ok file.0) (Ok (folder ++ temp_names number)) = sym file.2 ∙ temp_named cache number ∙ ap (λ h. names_below h (temp_names number)) e in
+        let both : ◌≡◌ {A = Result Names Fault} (Ok file.0) (Ok (folder ++ temp_names number)) = sym file.2 ∙ temps_named cache number ∙ ap (λ h. names_below h (temp_names number)) e in
         let same : file.0 ≡ folder ++ temp_names number = cc in
         let kind = subst (λ h. path_kind h (folder ++ temp_names number) ≡ Temporary) (sym e) (kind-below folder (temp_names number)) in
         let stays = moves_stay (home_of cache) (folder ++ temp_names number) kind (File file.1) (tree_of old) c.ran.0 sound.placed (calls_trace cache command r old new c may named sound) (never folder e)

@@ -11,7 +11,7 @@ use Rattle.cacache_disk.specs.{declared.{luck.Luck.TheVariants.{Plain}, node.Nod
 use Rattle.cacache_disk.proofs.{KeptFolders.{outcome_rooted}, PlantedNodes.{full}, PutNodes.{look-put}, Roots.{same_self}, Standing.{upper_folder, way_clear}}
 use Rattle.cacache_value.specs.{Kinds.{PathKind, Content, Bucket, Way, path_kind, is_used, kind_below, IsFor}, Placed.{MayStand, Placed, Proper}}
 use Rattle.cacache_value.proofs.{FoundPaths.{OnlyMissing, way_missing}, KindsApart.{kind-below}, MadeFolders.{no_dirs_fault}, Traces.{steps_keep_placed}}
-use Rattle.cacache_laws.proofs.{Removing.Emptied.{home_is}, Putting.MadeNodes.{Stands, way_into, stays, kept_so, replaceable_so}}
+use Rattle.cacache_laws.proofs.{Putting.MadeNodes.{Stands, way_into, stays, kept_so, replaceable_so}, trees.Covering.{home_named}}
 
 -- each thing is where it may be
 pub record Ground (home : Names) (t : Tree) : Type 0 where
@@ -96,7 +96,7 @@ SyncsAll t (p ∷ ps) = (apply t (steps.SyncDir p) Plain ≡ (answers.Done, t)) 
 
 pub one_deeper : (p n : List ℕ) (above : Names) → names_of p ≡ Ok above → IsProperName n → names_of (join p n) ≡ Ok (above ++ n ∷ [])
 one_deeper p n above is proper =
-    joined_texts_name p (n ∷ []) (All-cons IsProperName n [] proper (All-nil IsProperName)) (omega arith) ∙ ap (λ home. names_below home (n ∷ [])) (home_is p above is)
+    joined_texts_name p (n ∷ []) (All-cons IsProperName n [] proper (All-nil IsProperName)) (omega arith) ∙ ap (λ home. names_below home (n ∷ [])) (home_named p above is)
 
 -- the folders that lead to what is there are synced too
 pub syncs_folders : (t : Tree) (p : List ℕ) (above ns : Names) (node : Node) → Rooted t → names_of p ≡ Ok above → All IsProperName ns → look t (above ++ ns) ≡ Some node → SyncsAll t (folders_to p ns)

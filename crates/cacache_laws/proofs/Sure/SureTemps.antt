@@ -9,7 +9,7 @@ use Rattle.cacache_store.specs.declared.store.answer.Answer.TheVariants as answe
 use Rattle.cacache_disk.specs.{declared.{luck.Luck.TheVariants.{Plain}, node.Node.{Node, TheVariants.{File}}}, Tree.{Tree, look, put}, Rooted.{Rooted}, Apply.{apply, make_some, made_temp}}
 use Rattle.cacache_table.specs.StepPaths.{temp_path, temp_folder, content_path, content_folder, content_folders}
 use Rattle.cacache_value.specs.Kinds.{Content, Temporary, Way, path_kind}
-use Rattle.cacache_laws.proofs.{Removing.Emptied.{home_is}, Putting.MadeNodes.{Stands}, Sure.{SureInserts.{one_behind, proper_folder}, SureSpares.{dirs_spare}, SureSteps.{Ground, Lies, SyncsAll, goes_to, joined_lies, is_for, makes_dirs, dirs_ground, dirs_stand, creates, look_own, syncs_folders}}}
+use Rattle.cacache_laws.proofs.{Putting.MadeNodes.{Stands}, Sure.{SureInserts.{one_behind, proper_folder}, SureSpares.{dirs_spare}, SureSteps.{Ground, Lies, SyncsAll, goes_to, joined_lies, is_for, makes_dirs, dirs_ground, dirs_stand, creates, look_own, syncs_folders}}, trees.Covering.{home_named}}
 
 -- ---- paths
 
@@ -23,16 +23,16 @@ module _ (cache : List ℕ) (home : Names) (is : names_of cache ≡ Ok home) whe
 
   pub temp_lies : (number : ℕ) → Lies home (temp_path cache number) (temp_names number) Temporary
   unfolding temp_path
-  temp_lies number = joined_lies cache home (temp_names number) Temporary (home_is cache home is) (temp_proper number) (omega arith) refl
+  temp_lies number = joined_lies cache home (temp_names number) Temporary (home_named cache home is) (temp_proper number) (omega arith) refl
 
   pub temp_folder_lies : Lies home (temp_folder cache) (folder_names (temp_names 0)) Way
   unfolding temp_folder
-  temp_folder_lies = joined_lies cache home (folder_names (temp_names 0)) Way (home_is cache home is) (proper_folder (temp_names 0) (temp_proper 0)) (omega arith) refl
+  temp_folder_lies = joined_lies cache home (folder_names (temp_names 0)) Way (home_named cache home is) (proper_folder (temp_names 0) (temp_proper 0)) (omega arith) refl
 
   module _ (h : Hash) (hs : List Hash) (hash : IsHash h) where
     pub content_folder_lies : Lies home (content_folder cache (h ∷ hs)) (folder_names (content_names h)) Way
     unfolding content_folder
-    content_folder_lies = joined_lies cache home (folder_names (content_names h)) Way (home_is cache home is) (proper_folder (content_names h) (names_are_proper.contents h hash)) (omega arith) refl
+    content_folder_lies = joined_lies cache home (folder_names (content_names h)) Way (home_named cache home is) (proper_folder (content_names h) (names_are_proper.contents h hash)) (omega arith) refl
 
     pub content_synced : (t : Tree) (node : Node) → Rooted t → look t (home ++ content_names h) ≡ Some node → SyncsAll t (content_folders cache (h ∷ hs))
     unfolding content_folders

@@ -7,7 +7,7 @@ use Rattle.cacache_disk.specs.{declared.luck.Luck.TheVariants.{Plain}, Tree.{Tre
 use Rattle.cacache_table.specs.{Replies.{OrMemory}, Runs.{Gains, Moves}, StepPaths.{temp_folder, temp_path}, Storing.{persist, put_commit}}
 use Rattle.cacache_value.specs.Kinds.{node_below}
 use Rattle.cacache_laws.specs.{OpenSucceeds.{FileAt, OpeningsSucceed, CommitsAnswer}, OpenWriters.{make_file, make_folder}, Succeeds.{NamesFolder, IsUnused, put_reply}, Standing.{IsStanding}}
-use Rattle.cacache_laws.proofs.{Removing.Emptied.{home_is}, Calls.InParts.{logs_lead}, Putting.{MadeNodes.{Stands, created_so}, OpenWriters.{gains_join}}, Sure.{Succeeds.{back, ground}, SurePuts.{PutSo, persist_ends}, SureTemps.{made_file, own_temporary_at, temp_folder_lies, with_folder}, SureRuns.{of_log}, SureSteps.{Ground, makes_dirs}}}
+use Rattle.cacache_laws.proofs.{Calls.InParts.{logs_lead}, Putting.{MadeNodes.{Stands, created_so}, OpenWriters.{gains_join}}, Sure.{Succeeds.{back, ground}, SurePuts.{PutSo, persist_ends}, SureTemps.{made_file, own_temporary_at, temp_folder_lies, with_folder}, SureRuns.{of_log}, SureSteps.{Ground, makes_dirs}}, trees.Covering.{home_named}}
 
 -- ---- openings
 
@@ -47,7 +47,7 @@ module _ (cache : List ℕ) (number : ℕ) (old new : List LogItem) (logged : Is
     g = ground cache old home folder.1 standing
 
     free : look (tree_of old) (home ++ temp_names number) ≡ None
-    free = subst (λ h. node_below h (tree_of old) (temp_names number) ≡ None) (home_is cache home folder.1) unused
+    free = subst (λ h. node_below h (tree_of old) (temp_names number) ≡ None) (home_named cache home folder.1) unused
 
     folder_is : apply (tree_of old) (make_folder cache number) Plain ≡ (answers.Done, with_folder cache home folder.1 number (tree_of old) g free)
     folder_is = makes_dirs home (tree_of old) g (temp_folder cache) (folder_names (temp_names 0)) (temp_folder_lies cache home folder.1)

@@ -10,7 +10,7 @@ use Rattle.cacache_table.specs.declared.command.Command.TheVariants as commands
 use Rattle.cacache_value.{specs.{OpeningTrees.{IsOpening}, Placed.{Placed}, Value.{AtLink, Value}}, proofs.OpeningTrees.{files_open}}
 use Rattle.cacache_history.specs.{AddedEntries.{address_of_put}, declared.record.Record.{Record, TheVariants.{Began}}, History.{Call, History, IsLegal, Made, NamesIntegrity, Now, initial, new_call, replayed}, Setup.{Setup, call_site, home, is_outside, may_export}, Values.{value_at}, durable.{Ending.{CallEndsWith, EndsFrom}, Outlasting.{DurablePut, IsNoLink}, QuietMoves.{AreQuiet, IsQuietMove, PutsDurably}}}
 use Rattle.cacache_laws.specs.{Sequence.{AreAnswered}, results.{DurableCases.{CanBeWritten, GoElsewhere, InsertsStandInOne, IsLastPut, PutsStandInOne, PutsStandLast, StandsIn, StoresDurably}, Losses.{entry_written}}}
-use Rattle.cacache_laws.proofs.{Removing.Emptied.{home_is}, Sure.SureSteps.{Ground}, results.{LastPuts.{none_last}, PlainRecords.{quiet_more, records_end, records_legal, records_of, records_quiet}, PlainRuns.{Plays, Reaches, inserts_play}, PlainPuts.{put_plays}}}
+use Rattle.cacache_laws.proofs.{Sure.SureSteps.{Ground}, results.{LastPuts.{none_last}, PlainRecords.{quiet_more, records_end, records_legal, records_of, records_quiet}, PlainRuns.{Plays, Reaches, inserts_play}, PlainPuts.{put_plays}}, trees.Covering.{home_named}}
 
 -- the moves of a call that makes one
 record Moving (s : State) (r : Reply) : Type 0 where
@@ -30,7 +30,7 @@ opens : (cache : List ℕ) → IsOpening (home (setup_of cache)) bare
 opens cache = files_open (home (setup_of cache)) [] bare tt refl
 
 ground : (cache : List ℕ) (folder : Names) → names_of cache ≡ Ok folder → Ground folder bare
-ground cache folder is = record { placed = subst (λ h. Placed h bare) (home_is cache folder is) (opens cache).placed; rooted = (opens cache).rooted }
+ground cache folder is = record { placed = subst (λ h. Placed h bare) (home_named cache folder is) (opens cache).placed; rooted = (opens cache).rooted }
 
 -- a command that may begin there
 abbrev MayStart : List ℕ → Command → Type 0
@@ -151,7 +151,7 @@ module _ (cache : List ℕ) (folder : Names) (p : Put) (is : names_of cache ≡ 
       let ends = ends_in cache own (commands.Put p) put_moves (put_rest ++ more) (records_end (setup_of cache) own put_moves.first put_moves.more more) in
       let quiet = quiet_more (setup_of cache) path (begun cache own (commands.Put p) put_moves) put_rest more put_alone_quiet elsewhere.quiet in
       record {
-        here = home_is cache folder is;
+        here = home_named cache folder is;
         stores = stores;
         put = put_in (put_rest ++ more) ends quiet;
         last = none_last (folder ++ bucket_names key) more elsewhere.none (opening (call_site (setup_of cache) 0) (commands.Put p)) put_moves.first put_moves.more (Stored own) (Stored own) _ cache key (entry_written cache key p) tt put_moves.run;

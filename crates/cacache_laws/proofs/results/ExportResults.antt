@@ -1,14 +1,13 @@
 -- What exports gave and left.
-use Rattle.std.{proofs.Common.{◌≡◌, ℕ, Bool, List, Option, None, Some, Result, Ok, Err, length, refl, ap}, specs.Prelude.{MatchResult}}
+use Rattle.std.{proofs.Common.{◌≡◌, ℕ, Bool, List, Some, Result, Ok, Err, length, refl}, specs.Prelude.{MatchResult}}
 use Rattle.cacache_core.specs.declared.errors.Error.{Error}
 use Rattle.cacache_store.specs.declared.{env.Env.{Env}, store.log.LogItem.{LogItem}}
-use Rattle.cacache_disk.specs.{declared.node.Node.{Node}, Tree.{Names, Tree, look}, LedTo.{followed, free, leads, place, where_free, writable}, memory.Replay.{IsLog, shown, tree_of}}
-use Rattle.cacache_disk.proofs.FoundNodes.{and_then_ok}
-use Rattle.cacache_table.specs.{declared.{command.{Command.{Command}, How.{How, TheVariants.{Copy, Reflink, HardLink}}, Source.{Source}}, reply.Reply.{Reply, TheVariants.{Copied}}}, Replies.{done}, Runs.{reply_of}}
+use Rattle.cacache_disk.specs.memory.Replay.{IsLog, shown, tree_of}
+use Rattle.cacache_table.specs.{declared.{command.{How.{How, TheVariants.{Copy, Reflink, HardLink}}, Source.{Source}}, reply.Reply.{Reply, TheVariants.{Copied}}}, Replies.{done}, Runs.{reply_of}}
 use Rattle.cacache_sync.specs.Exports.{exporting}
 use Rattle.cacache_history.specs.History.{NamesSource}
 use Rattle.cacache_laws.specs.{Caches.{Called, IsCache, IsExcused}, Exported.{Arrives, export_by}, ExportEffects.{IsApart}, OpenWriters.{LeavesKnownCache}, OpenSucceeds.{MayTake, exported}, Succeeds.{NamesFolder}, results.Exports.{CopyMeans, SharingMeans}}
-use Rattle.cacache_laws.proofs.{Readings.Standing.{caches_stand}, Sure.SureExports.{exports_answer, exports_succeed}, Exports.{Exported.{exports_arrive}, ExportEffects.{exports_keep}}, Calls.Logs.{calls_grow}, results.{ExportErrors.{Answered, copy_missing, fails_so, missing_fails, refuses_so}, SureResults.{IsGiven, for_memory}, Told.{called, excused}}}
+use Rattle.cacache_laws.proofs.{Readings.Standing.{caches_stand}, Sure.SureExports.{exports_answer, exports_succeed}, Exports.{Exported.{exports_arrive}, ExportEffects.{exports_keep}, Sharing.{free_writable}}, Calls.{Logs.{calls_grow}, Messages.{excused_error}}, results.{ExportErrors.{Answered, copy_missing, fails_so, missing_fails, refuses_so}, SureResults.{IsGiven, for_memory}, Told.{called}}}
 
 leaves : (cache : List ℕ) (source : Source) (how : How) (checked : Bool) (to : List ℕ) (r : Reply) (old new : List LogItem) → IsApart cache to → NamesSource source → IsCache cache old
     → Called cache (export_by how source checked to) r old new → LeavesKnownCache cache old new
@@ -19,7 +18,7 @@ leaves cache source how checked to r old new apart named sound c =
 copied : (r : Result ℕ Error) (bytes to : List ℕ) (old new : List LogItem) → Arrives bytes to (reply_of Copied r) old new
     → MatchResult r (λ n. (shown (tree_of new) to ≡ Some bytes) × (n ≡ length bytes)) (λ e. IsExcused e old new)
 copied (Ok n) bytes to old new h = h
-copied (Err e) bytes to old new h = excused e old new h
+copied (Err e) bytes to old new h = excused_error e old new h
 
 pub copy_means : {C N : Type 0} (cache : List ℕ) (source : Source) (checked : Bool) (to : List ℕ) (r : Result ℕ Error) (new : Env (List LogItem) C N) → IsLog new.store → CopyMeans cache source checked to r new
 copy_means cache source checked to r new logged old apart named sound ran =
@@ -39,21 +38,9 @@ copy_means cache source checked to r new logged old apart named sound ran =
 shared : (r : Result (Unit {0}) Error) (bytes to : List ℕ) (old new : List LogItem) → Arrives bytes to (reply_of done r) old new
     → MatchResult r (λ u. shown (tree_of new) to ≡ Some bytes) (λ e. IsExcused e old new)
 shared (Ok u) bytes to old new h = h
-shared (Err e) bytes to old new h = excused e old new h
+shared (Err e) bytes to old new h = excused_error e old new h
 
 -- ---- where an export may go
-
--- if nothing is there a file can be written
-free_at : (here : Option Node) (old new : Names) → where_free here old ≡ Ok new → (here ≡ None) × (old ≡ new)
-free_at None old new e = (refl, cc)
-free_at (Some node) old new e = absurd cc
-
-free_writable : (t : Tree) (to : List ℕ) (names : Names) → free t to ≡ Ok names → writable t to ≡ Ok names
-unfolding free writable leads followed
-free_writable t to names e =
-    let f = and_then_ok (place t to) (λ names. where_free (look t names) names) names e in
-    let at = free_at (look t f.0) f.0 names f.2 in
-    rw (f.1, at.0, at.0) (ap Ok at.1)
 
 may_take : (how : How) (to : List ℕ) (log : List LogItem) → MayTake HardLink to log → MayTake how to log
 may_take Copy to log may = (may.0, free_writable (tree_of log) to may.0 may.1)

@@ -1,7 +1,6 @@
 -- What calls left after one another.
-use Rattle.std.proofs.Common.{◌≡◌, inl, inr, List, [], ◌∷◌, ◌++◌, ◌∙◌}
+use Rattle.std.proofs.Common.{inl, inr, [], ◌∷◌, ◌++◌, ◌∙◌}
 use Rattle.cacache_core.specs.declared.errors.Fault.{Fault}
-use Rattle.cacache_store.specs.declared.store.log.LogItem.{LogItem}
 use Rattle.cacache_table.specs.{Causes.{Faulted}, Runs.{Moves}}
 use Rattle.cacache_laws.{proofs.Calls.Logs.{growths_join, joined}, specs.results.Joins.{ExcusesStay, KnownStays, LeavingsJoin, UntouchedJoin}}
 

@@ -6,7 +6,7 @@ use Rattle.cacache_disk.specs.memory.Replay.{IsLog}
 use Rattle.cacache_table.specs.declared.command.Command.TheVariants as commands
 use Rattle.cacache_table.{specs.{declared.reply.Reply.TheVariants.{Stored}, Inserting.{refused_cause}, Runs.{reply_of, without_message}}, proofs.IntegrityUtf8.{integrity_utf8}}
 use Rattle.cacache_laws.specs.{CallErrors.{IsPlainPut}, Caches.{HasKey, IsExcused, plain_put}, Puts.{entry_of_put}, Standing.{PutStands}, results.Losses.{LeftWriteMeans}}
-use Rattle.cacache_laws.proofs.{Putting.{Beside.{plain_writes_fit}, Forms.{bare_written}, StandingPuts.{standing_writes}}, results.{Told.{called, excused}, WriteResults.{keyed_succeeds, leads_so}}}
+use Rattle.cacache_laws.proofs.{Putting.{Beside.{plain_writes_fit}, Forms.{bare_written}, StandingPuts.{standing_writes}}, results.{Told.{called}, WriteResults.{keyed_succeeds, leads_so}}, Calls.Messages.{excused_error}}
 
 left_told : (a : Algorithm) (cache key bytes : List ℕ) (moment : ℕ) (r : Result (List Hash) Error) (old new : List LogItem) → PutStands cache (plain_put a key bytes moment) (reply_of Stored r) old new
     → IsPlainPut cache key (plain_put a key bytes moment)
@@ -16,7 +16,7 @@ left_told a cache key bytes moment (Ok i) old new k plain =
     let h = k.stored i refl in
     let has : HasKey cache key (integrity_under a bytes) bytes new = record { found = entry_of_put cache p key; finds = h.entry key refl; integrity = refl; content = h.content } in
     ((h.stored, subst (λ j. HasKey cache key j bytes new) (sym h.stored) has), tt)
-left_told a cache key bytes moment (Err e) old new k plain = (tt, excused e old new (k.fails key (without_message e) plain refl))
+left_told a cache key bytes moment (Err e) old new k plain = (tt, excused_error e old new (k.fails key (without_message e) plain refl))
 
 pub left_write_means : {C N : Type 0} (moments : C → Option (List ℕ)) (numbers : N → Option (List ℕ)) (a : Algorithm) (cache key bytes : List ℕ) (r : Result (List Hash) Error) (new : Env (List LogItem) C N)
     → IsUtf8 key → length bytes < 2 ^ 64 → IsLog new.store → LeftWriteMeans moments numbers a cache key bytes r new

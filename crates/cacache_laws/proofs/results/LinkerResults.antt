@@ -13,7 +13,7 @@ use Rattle.cacache_table.specs.{declared.{command.Link.{Link}, reply.Reply.TheVa
 use Rattle.cacache_table.proofs.IntegrityUtf8.{integrity_utf8}
 use Rattle.cacache_sync.specs.{content.Passed.{passed}, put.{OpenLinkers.{HasHashed, LinkTarget, OpensLinker, OpensSized, OpensTarget, asks_file, asks_size, stands_at}, Options.{Said, options_of}}}
 use Rattle.cacache_laws.specs.{Caches.{Grows, IsCache, IsExcused}, ExportEffects.{IsApart}, LinkAnswers.{OpensAs, target_bytes}, Links.{FitsLink, HasLinked, LeavesLink, put_like}, OpenLinkers.{CanWrite, CommitsRest, SuitsSize, TargetOpened}, OpenWriters.{LeavesKnownCache}, Puts.{entry_of_put}, Succeeds.{NamesFolder}, results.{Handles.{IsText, LeadsToEntry, SaysFit, said_integrity}, Writes.{SaysPlain}, Linkers.{IsLinking, PlainSaysFit, LinkCommitsMean, LinkOpeningsMean, LinkedBytes, LinkersGoOn, MemLinker, OpenedLinker, SizedOpeningsMean}, Links.{LeadsOn}, Success.{FailsForMemory}}}
-use Rattle.cacache_laws.proofs.{Putting.{Forms.{bare_written}, OpenWriters.{gains_join}}, Calls.Logs.{some_same}, Links.{OpenLinkers.{linkers_commit, linkers_fail}, TargetBytes.{linkers_open, linkers_open_sized}}, Readings.Standing.{caches_stand}, Sure.{SureLinks.{linkers_answer}, SureReaders.{linker_openings_answer, sized_openings_answer}}, results.{LinkResults.{lies_so}, SureLinkResults.{commit_succeeds, shown_read}, Told.{excused, plain_result}, WriteResults.{early_of}, WriterResults.{fits}}}
+use Rattle.cacache_laws.proofs.{Putting.{Forms.{bare_written}, OpenWriters.{gains_join}}, Calls.{Logs.{some_same}, Messages.{excused_error}}, Links.{OpenLinkers.{linkers_commit, linkers_fail}, TargetBytes.{linkers_open, linkers_open_sized}}, Readings.Standing.{caches_stand}, Sure.{SureLinks.{linkers_answer}, SureReaders.{linker_openings_answer, sized_openings_answer}}, results.{LinkResults.{lies_so}, SureLinkResults.{commit_succeeds, shown_read}, Told.{plain_result}, WriteResults.{early_of}, WriterResults.{fits}}}
 
 -- ---- the moves of an opening
 
@@ -257,7 +257,7 @@ link_commits_mean moments new logged cache key path s held bytes w r old sound a
     (λ time e. plain.early time (sym (t.time_is k is) ∙ sym (ap (λ (x : LinkTarget). x.moment) t.linked_is) ∙ e)) h.1 in
     let fails : (e : Error) → r ≡ Err e → SaysPlain s → s.integrity ≡ None → IsExcused e old.store new.store
     = λ e is plain none.
-    excused e old.store new.store
+    excused_error e old.store new.store
     (linkers_fail cache t.base l bytes t.rest t.first (without_message e) old.store new.store (fits_link cache key t.base t.target s t.size h.0 says text) far suits none
     (can_write cache key t.base t.target s t.size h.0 (bytes ++ t.rest) plain none text (subst (λ b. length b < 2 ^ 64) (sym t.all) t.small) (early plain)) shown_so sound
     (subst (λ x. CommitsRest cache t.base l bytes t.rest (reply_of Stored x) old.store new.store) is c)) in

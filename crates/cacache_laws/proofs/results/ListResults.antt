@@ -1,5 +1,5 @@
 -- What a listing gave and left.
-use Rattle.std.proofs.{Common.{◌≡◌, inl, inr, ℕ, List, [], ◌∷◌, Some, Result, Ok, Err, map, refl, sym, ap, subst, ◌∙◌}, lemmas.List.Elements.{All-nil, All-cons, All-head, All-tail}}
+use Rattle.std.proofs.{Common.{◌≡◌, inl, inr, ℕ, List, [], ◌∷◌, Some, Ok, Err, map, refl, ap, subst, ◌∙◌}, lemmas.List.Elements.{All-nil, All-cons, All-head, All-tail}}
 use Rattle.std.specs.Prelude.{All}
 use Rattle.cacache_store.specs.declared.{env.Env.{Env}, store.log.LogItem.{LogItem}}
 use Rattle.cacache_disk.specs.memory.Replay.{IsLog}
@@ -8,13 +8,13 @@ use Rattle.cacache_table.specs.declared.command.Command.TheVariants as commands
 use Rattle.cacache_table.specs.{declared.reply.Reply.{Reply}, ListReplies.{In}, Runs.{plain_item, plain_reply}, State.{Item}}
 use Rattle.cacache_table.specs.declared.reply.Reply.TheVariants as replies
 use Rattle.cacache_laws.specs.{Caches.{Called}, Keeping.{found_under}, ListedKeys.{AreAllFound, GivesKeys, IsShown, ListsKeys}, results.Lists.{AreAllEntries, ListingMeans}}
-use Rattle.cacache_laws.proofs.{Readings.{Known.{caches_last}, Standing.{caches_stand}, Looks.{tree_stays}}, Listings.ListedKeys.{listings_give}, Sure.SureLists.{listings_answer}, results.Told.{looks_leave, plain_twice}}
+use Rattle.cacache_laws.proofs.{Readings.{Known.{caches_last}, Standing.{caches_stand}, Looks.{tree_stays}}, Listings.ListedKeys.{listings_give}, Sure.SureLists.{listings_answer}, results.Told.{looks_leave}, Calls.Messages.{plain_error}}
 
 -- ---- replies without messages
 
 item_plain : (item : Item) → plain_item (plain_item item) ≡ plain_item item
 item_plain (Ok f) = refl
-item_plain (Err e) = ap (λ x. Err x) (plain_twice e)
+item_plain (Err e) = ap (λ x. Err x) (plain_error e)
 
 items_plain : (items : List Item) → map plain_item (map plain_item items) ≡ map plain_item items
 items_plain [] = refl
@@ -22,7 +22,7 @@ items_plain (item ∷ items) = ap (λ x. x ∷ map plain_item (map plain_item it
 
 reply_plain : (r : Reply) → plain_reply (plain_reply r) ≡ plain_reply r
 reply_plain (replies.Listed items) = ap (λ l. replies.Listed l) (items_plain items)
-reply_plain (replies.Refused e) = ap (λ x. replies.Refused x) (plain_twice e)
+reply_plain (replies.Refused e) = ap (λ x. replies.Refused x) (plain_error e)
 reply_plain (replies.Stored i) = refl
 reply_plain (replies.Read b) = refl
 reply_plain (replies.LookedUp found) = refl

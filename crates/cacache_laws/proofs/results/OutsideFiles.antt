@@ -10,7 +10,7 @@ use Rattle.cacache_value.proofs.{FoundPaths.{of_names, suits}, KindsApart.{kind-
 use Rattle.cacache_history.specs.{declared.record.Record.{Record, TheVariants.{Began, Moved, Stopped}}, AddedEntries.{address_of_put}, History.{History, IsLegal, initial, now_at}, Setup.{home}, Values.{steps_of}, durable.Outlasting.{moment_at}}
 use Rattle.cacache_history.proofs.{Contents.{Digests.{digest_hash}, LinkedContents.{links_were_right}}, Histories.Holding.{held_at}, durable.Traces.{made_move, tree_at}}
 use Rattle.cacache_loss.{specs.{Moments.{EachMove, Moment, after, next}, Syncs.{Leaves, LeavesStep}}, proofs.KeptPaths.{sync_tree}}
-use Rattle.cacache_laws.{specs.results.FoundLinks.{LinksLeadUnchanged}, proofs.results.OutsideSteps.{all_leave}}
+use Rattle.cacache_laws.{specs.results.FoundLinks.{LinksLeadUnchanged}, proofs.{results.OutsideSteps.{all_leave}, trees.Within.{file_there}}}
 
 -- ---- what a history begins with has no link
 
@@ -72,12 +72,6 @@ stays_here (Some (Link target)) q end go none e = absurd (none tt)
 followed_none : (t : Tree) (q end : Names) → (IsLink (look t q) → ⊥) → followed 16 t q ≡ Ok end → q ≡ end
 unfolding followed
 followed_none t q end none e = stays_here (look t q) q end _ none e
-
-file_there : (here : Option Node) (bytes : List ℕ) → bytes_there IsADirectory here ≡ Ok bytes → here ≡ Some (File bytes)
-file_there None bytes e = absurd cc
-file_there (Some Folder) bytes e = absurd cc
-file_there (Some (File b)) bytes e = let same : b ≡ bytes = cc in ap (λ b. Some (File b)) same
-file_there (Some (Link target)) bytes e = absurd cc
 
 pub record NamedFile (t : Tree) (path bytes : List ℕ) : Type 0 where
   pub names : Names

@@ -10,7 +10,7 @@ use Rattle.cacache_disk.specs.{declared.{luck.Luck.TheVariants.{Plain}, node.Nod
 use Rattle.cacache_table.specs.{Common.{fails, sync_up}, State.{State, creating, doing, persisting, syncing, writing, make_folder}, StepPaths.{content_folder, content_folders, content_path, temp_folder, temp_path}, Storing.{compared, indexed, insertion_of, move_in, persist, placed, put_commit, secured, sized, write_rest}, declared.{carried.Commit.{Commit}, command.Put.{Put}, reply.Reply.{Reply, TheVariants.{Stored}}}}
 use Rattle.cacache_value.{specs.{Kinds.{Content, Temporary, Way, IsFor}, Placed.{Proper}}, proofs.FoundPaths.{suits}}
 use Rattle.cacache_history.proofs.Contents.Digests.{digest_hash}
-use Rattle.cacache_laws.proofs.{Removing.Emptied.{home_is}, Putting.MadeNodes.{Stands}, Sure.{SureInserts.{one_behind}, SureSteps.{Ground, Lies, dirs_ground, dirs_keep, dirs_stand, goes_to, is_for, look_own, makes_dirs, persists, place_in}, SureTemps.{content_folder_lies, content_lies, content_synced, file_ground, made_file, stands, temp_folder_lies, temp_lies, with_file, with_folder}}, results.PlainRuns.{Plays, goes, inserts_play, syncs}}
+use Rattle.cacache_laws.proofs.{Putting.MadeNodes.{Stands}, Sure.{SureInserts.{one_behind}, SureSteps.{Ground, Lies, dirs_ground, dirs_keep, dirs_stand, goes_to, is_for, look_own, makes_dirs, persists, place_in}, SureTemps.{content_folder_lies, content_lies, content_synced, file_ground, made_file, stands, temp_folder_lies, temp_lies, with_file, with_folder}}, results.PlainRuns.{Plays, goes, inserts_play, syncs}, trees.Covering.{home_named}}
 use Rattle.cacache_laws.specs.results.DurableCases.{CanBeWritten}
 
 module _ (cache : List ℕ) (folder : Names) (is : names_of cache ≡ Ok folder) (p : Put) (durable : p.options.durable ≡ true)
@@ -51,7 +51,7 @@ module _ (cache : List ℕ) (folder : Names) (is : names_of cache ≡ Ok folder)
     above_lies = content_folder_lies cache folder is h [] hash
 
     content_at : Lies folder (content_path cache c.computed) (content_names h) Content
-    content_at = content_lies cache folder (home_is cache folder is) h [] hash
+    content_at = content_lies cache folder (home_named cache folder is) h [] hash
 
     -- the tree with the content's folders
     abbrev with_above : Tree

@@ -13,7 +13,7 @@ use Rattle.cacache_entry.proofs.EntryCauses.{no_cause_is_fit}
 use Rattle.cacache_table.specs.{Common.{fails, sync_up}, Inserting.{bucket_line, insert, recorded, refused_cause, unless_refused}, Runs.{Moves}, State.{State, appending, doing, over, Insertion, make_folder, sync_dir, sync_file}, StepPaths.{bucket_folder, bucket_folders, bucket_path}, Table.{after, wants}, declared.reply.Reply.{Reply}}
 use Rattle.cacache_value.{specs.Kinds.{Bucket, Way}, proofs.FoundPaths.{suits}}
 use Rattle.cacache_laws.specs.{Sequence.{AreAnswered}, results.DurableCases.{CanBeWritten}}
-use Rattle.cacache_laws.proofs.{Removing.Emptied.{home_is}, Sure.{SureInserts.{bucket_folder_lies, bucket_lies, one_behind}, SureSteps.{Ground, Lies, SyncsAll, appends, dirs_ground, dirs_stand, look_own, makes_dirs, place_at, place_in, syncs_file, syncs_folders}}}
+use Rattle.cacache_laws.proofs.{Sure.{SureInserts.{bucket_folder_lies, bucket_lies, one_behind}, SureSteps.{Ground, Lies, SyncsAll, appends, dirs_ground, dirs_stand, look_own, makes_dirs, place_at, place_in, syncs_file, syncs_folders}}, trees.Covering.{home_named}}
 
 -- ---- a run whose steps succeed
 
@@ -52,10 +52,10 @@ module _ (folder : Names) (j : Insertion) (is : names_of j.cache ≡ Ok folder) 
   front = folder_names (bucket_names j.entry.key)
 
   folder_lies : Lies folder (bucket_folder j.cache j.entry.key) front Way
-  folder_lies = bucket_folder_lies j.cache folder (home_is j.cache folder is) j.entry.key
+  folder_lies = bucket_folder_lies j.cache folder (home_named j.cache folder is) j.entry.key
 
   lies : Lies folder path (bucket_names j.entry.key) Bucket
-  lies = bucket_lies j.cache folder (home_is j.cache folder is) j.entry.key
+  lies = bucket_lies j.cache folder (home_named j.cache folder is) j.entry.key
 
   -- the tree with the bucket's folders
   abbrev made : Tree

@@ -1,15 +1,15 @@
 -- What reads and questions gave and left.
-use Rattle.std.proofs.Common.{◌≡◌, inl, inr, ℕ, Bool, true, false, List, [], Option, None, Some, Vec, Global, Result, Ok, Err, refl, sym, ap, subst, ◌∙◌}
+use Rattle.std.proofs.Common.{◌≡◌, inl, inr, ℕ, Bool, true, false, List, [], Option, Some, Vec, Global, Result, Ok, Err, refl, sym, ap, subst, ◌∙◌}
 use Rattle.std.specs.Prelude.{IfOk, IfErr, option_map}
-use Rattle.cacache_core.specs.{declared.{errors.Error.{Error, TheVariants.{OutOfMemory}}, integrity.digest.Hash.{Hash}}, Integrity.{IsIntegrity}, PathNames.{home_of}}
+use Rattle.cacache_core.specs.{declared.{errors.Error.{Error}, integrity.digest.Hash.{Hash}}, Integrity.{IsIntegrity}, PathNames.{home_of}}
 use Rattle.cacache_store.specs.declared.{env.Env.{Env}, store.log.LogItem.{LogItem}}
 use Rattle.cacache_entry.specs.{declared.metadata.Metadata.{Metadata}, Latest.{Found}, View.{found_view}}
 use Rattle.cacache_table.specs.declared.command.Command.TheVariants as commands
 use Rattle.cacache_table.specs.declared.reply.Reply.TheVariants as replies
-use Rattle.cacache_table.specs.{Replies.{looked_up, OrMemory, content_reply}, Runs.{reply_of, without_message}}
+use Rattle.cacache_table.specs.{Replies.{looked_up, OrMemory, content_reply}, Runs.{reply_of}}
 use Rattle.cacache_sync.specs.Reads.{bytes_read}
-use Rattle.cacache_laws.specs.{Caches.{Called, IsCache, HasContent, HasKey, LacksKey, IsExcused, AStepFailed, GivesBytes, FindsNone, SaysThere, setup_at}, Inserts.{leads_to}, Keeping.{found_under}, Looks.{GivesFound, GivesHeld, GivesOfKey, SaysAbsent}, ReadAnswers.{get_on, read_on}, Succeeds.{NamesFolder, exists_reply, is_yes}, results.{Reads.{AskedContent, ContentReadMeans, EntryFound, GivesJust, GivesNoEntry, LinksToFile, LiesWhole, KeyLiesWhole, KeyReadMeans, LookupMeans, QuestionMeans, ContentRead, KeyRead}, Success.{FailsForMemory}}}
-use Rattle.cacache_laws.proofs.{Readings.{AskedContents.{asks_absent, asks_content}, GivenReads.{content_reads_give, key_reads_give}, Known.{caches_last}, Looked.{finds_found}, Looks.{tree_stays}, ReadsKeep.{reads_content, reads_key, reads_none}, Standing.{caches_stand, met_reply}}, Links.LinkedReads.{links_show}, Sure.Succeeds.{content_reads_answer, key_reads_answer, lookups_answer, questions_answer}, results.{SureResults.{for_memory, for_missing, or_as}, Told.{called, excused, looks_leave, of_memory, of_missing}}}
+use Rattle.cacache_laws.specs.{Caches.{HasContent, HasKey, IsExcused, AStepFailed, GivesBytes, FindsNone, SaysThere, setup_at}, Inserts.{leads_to}, Keeping.{found_under}, Looks.{GivesFound, GivesHeld, GivesOfKey, SaysAbsent}, ReadAnswers.{get_on, read_on}, Succeeds.{NamesFolder, exists_reply, is_yes}, results.{Reads.{ContentReadMeans, GivesJust, GivesNoEntry, LinksToFile, LiesWhole, KeyLiesWhole, KeyReadMeans, LookupMeans, QuestionMeans}, Success.{FailsForMemory}}}
+use Rattle.cacache_laws.proofs.{Readings.{AskedContents.{asks_absent, asks_content}, GivenReads.{content_reads_give, key_reads_give}, Known.{caches_last}, Looked.{finds_found}, Looks.{tree_stays}, ReadsKeep.{reads_content, reads_key, reads_none}, Standing.{caches_stand, met_reply}}, Links.LinkedReads.{links_show}, Sure.Succeeds.{content_reads_answer, key_reads_answer, lookups_answer, questions_answer}, results.{SureResults.{for_memory, for_missing, or_as}, Told.{called, looks_leave}}, Calls.Messages.{missing_error, excused_error}}
 use Rattle.cacache_disk.specs.memory.Replay.{IsLog, tree_of}
 use Rattle.cacache_value.specs.Shows.{blob_bytes, blob_there}
 use Rattle.cacache_history.specs.ShownTurns.{as_refusal}
@@ -18,12 +18,12 @@ use Rattle.cacache_history.specs.ShownTurns.{as_refusal}
 
 pub given : (r : Result (Vec ℕ Global) Error) (Stays : Type 0) (bytes : List ℕ) (old new : List LogItem) → GivesBytes Stays bytes (reply_of bytes_read r) old new → GivesJust bytes r old new
 given (Ok v) Stays bytes old new h = h.0
-given (Err e) Stays bytes old new h = excused e old new h
+given (Err e) Stays bytes old new h = excused_error e old new h
 
 none_given : (r : Result (Vec ℕ Global) Error) (cache key : List ℕ) (old new : List LogItem) → FindsNone cache key (reply_of bytes_read r) old new → GivesNoEntry cache key r old new
 none_given (Ok v) cache key old new h = h
-none_given (Err e) cache key old new (inl is) = inl (of_missing e cache key is)
-none_given (Err e) cache key old new (inr h) = inr (excused e old new h)
+none_given (Err e) cache key old new (inl is) = inl (missing_error e cache key is)
+none_given (Err e) cache key old new (inr h) = inr (excused_error e old new h)
 
 whole_of : (r : Result (Vec ℕ Global) Error) (cache key : List ℕ) (old new : List LogItem) → GivesOfKey cache key (reply_of bytes_read r) old new → IfOk r (λ v. KeyLiesWhole cache key old v.items)
 whole_of (Ok v) cache key old new h = h
@@ -105,7 +105,7 @@ content_read_means cache i r new formed logged old sound ran =
 found : (r : Result (Option Metadata) Error) (there : Option Found) (old new : List LogItem) → GivesFound there (reply_of looked_up r) old new
     → IfOk r (λ found. option_map found_view found ≡ there) × IfErr r (λ e. IsExcused e old new)
 found (Ok f) there old new h = (h, tt)
-found (Err e) there old new h = (tt, excused e old new h)
+found (Err e) there old new h = (tt, excused_error e old new h)
 
 pub lookup_means : {C N : Type 0} (cache key : List ℕ) (r : Result (Option Metadata) Error) (new : Env (List LogItem) C N) → IsLog new.store → LookupMeans cache key r new
 lookup_means cache key r new logged old sound ran =

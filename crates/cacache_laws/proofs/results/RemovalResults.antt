@@ -8,12 +8,12 @@ use Rattle.cacache_table.specs.declared.command.Command.TheVariants as commands
 use Rattle.cacache_table.specs.{Inserting.{refused_cause}, Replies.{OrMemory, done}, Runs.{reply_of, without_message}, declared.reply.Reply.TheVariants.{Done, Refused}}
 use Rattle.cacache_sync.specs.Lookups.{delete_of}
 use Rattle.cacache_laws.specs.{Caches.{HasKey, IsEmptyCache, IsExcused, LacksKey, Empties, RemovesKey, lies_under}, Removed.{RemovesContent}, Keeping.{found_under}, Succeeds.{Clears, fully_reply, removal_reply, unless_unwritable}, results.Removals.{FailsClearing, ClearingMeans, ContentRemovalMeans, FullRemovalMeans, RemovalMeans}}
-use Rattle.cacache_laws.proofs.{Putting.{Beside.{removals_keep}, Forms.{bare_written}}, Calls.Logs.{calls_grow}, Readings.Standing.{caches_stand}, Sure.{Succeeds.{deletions_answer, removals_answer}, SureClears.{clearings_answer}, SureRemovals.{full_removals_answer}}, Spares.Unused.{others_leave_none, stays_ready}, Removing.{Removals.{clearings_empty, removals_last}, Removed.{contents_go}, RemovedKeys.{keys_go}}, results.{SureResults.{for_memory, or_as}, Told.{called, excused, of_memory}}}
+use Rattle.cacache_laws.proofs.{Putting.{Beside.{removals_keep}, Forms.{bare_written}}, Calls.{Logs.{calls_grow}, Messages.{memory_error, excused_error}}, Readings.Standing.{caches_stand}, Sure.{Succeeds.{deletions_answer, removals_answer}, SureClears.{clearings_answer}, SureRemovals.{full_removals_answer}}, Spares.Unused.{others_leave_none, stays_ready}, Removing.{Removals.{clearings_empty, removals_last}, Removed.{contents_go}, RemovedKeys.{keys_go}}, results.{SureResults.{for_memory, or_as}, Told.{called}}}
 use Rattle.cacache_history.specs.Values.{IsThere}
 
 gone : (r : Result (Unit {0}) Error) (cache key : List ℕ) (old new : List LogItem) → RemovesKey cache key (reply_of done r) old new → OnOk r (LacksKey cache key new) × IfErr r (λ e. IsExcused e old new)
 gone (Ok u) cache key old new h = (h, tt)
-gone (Err e) cache key old new h = (tt, excused e old new h)
+gone (Err e) cache key old new h = (tt, excused_error e old new h)
 
 removed_if : (blob : Option Blob) → IsThere blob → removal_reply blob ≡ Done
 removed_if None there = absurd there
@@ -49,7 +49,7 @@ removal_means moments cache key r new utf8 logged old sound ran =
 content_gone : (r : Result (Unit {0}) Error) (cache : List ℕ) (i : List Hash) (old new : List LogItem) → RemovesContent cache i (reply_of done r) old new
     → OnOk r (lies_under cache i new ≡ None) × IfErr r (λ e. IsExcused e old new)
 content_gone (Ok u) cache i old new h = (h, tt)
-content_gone (Err e) cache i old new h = (tt, excused e old new h)
+content_gone (Err e) cache i old new h = (tt, excused_error e old new h)
 
 pub content_removal_means : {C N : Type 0} (cache : List ℕ) (i : List Hash) (r : Result (Unit {0}) Error) (new : Env (List LogItem) C N) → IsIntegrity i → IsLog new.store → ContentRemovalMeans cache i r new
 content_removal_means cache i r new formed logged old sound ran =
@@ -95,7 +95,7 @@ clearing_by cache old e (Some node) is (inr h) = let same : without_message e �
 
 clearing_fails : (cache : List ℕ) (r : Result (Unit {0}) Error) (old : List LogItem) → OrMemory (Clears (node_below (home_of cache) (tree_of old) []) (reply_of done r)) (reply_of done r) → IfErr r (λ e. FailsClearing cache old e)
 clearing_fails cache (Ok u) old h = tt
-clearing_fails cache (Err e) old (inl m) = let same : without_message e ≡ OutOfMemory = cc in inl (of_memory e same)
+clearing_fails cache (Err e) old (inl m) = let same : without_message e ≡ OutOfMemory = cc in inl (memory_error e same)
 clearing_fails cache (Err e) old (inr h) = clearing_by cache old e (node_below (home_of cache) (tree_of old) []) refl h
 
 pub clearing_means : {C N : Type 0} (cache : List ℕ) (r : Result (Unit {0}) Error) (new : Env (List LogItem) C N) → IsLog new.store → ClearingMeans cache r new

@@ -1,10 +1,10 @@
--- Results of calls whose steps all succeed.
-use Rattle.std.{proofs.Common.{◌≡◌, ◌⊎◌, inl, inr, ℕ, Bool, true, false, cond, List, Option, None, Some, Result, Ok, Err, refl, sym, ap, subst, ◌∙◌}, specs.Prelude.{IfOk, IfErr}}
-use Rattle.cacache_core.specs.declared.{errors.Error.{Error, TheVariants.{EntryNotFound, OutOfMemory}}, integrity.digest.Hash.{Hash}}
+-- Results of calls whose steps all go well.
+use Rattle.std.{proofs.Common.{◌≡◌, ◌⊎◌, inl, inr, ℕ, List, Result, Ok, Err, sym, subst, ◌∙◌}, specs.Prelude.{IfOk, IfErr}}
+use Rattle.cacache_core.specs.declared.errors.Error.{Error, TheVariants.{EntryNotFound, OutOfMemory}}
 use Rattle.cacache_store.specs.declared.store.log.LogItem.{LogItem}
 use Rattle.cacache_table.specs.{declared.reply.Reply.{Reply}, Replies.{OrMemory}, Runs.{reply_of, without_message}}
 use Rattle.cacache_table.specs.declared.reply.Reply.TheVariants as replies
-use Rattle.cacache_laws.{specs.{Succeeds.{IsReady, IsTidy, NamesFolder}, results.Success.{FailsAs, FailsFor, FailsForMemory}}, proofs.results.Told.{of_memory, of_missing}}
+use Rattle.cacache_laws.{specs.{Succeeds.{IsReady, IsTidy}, results.Success.{FailsAs, FailsFor, FailsForMemory}}, proofs.Calls.Messages.{memory_error, missing_error}}
 
 -- a reply that refuses nothing
 abbrev pub IsGiven : Reply → Type 0
@@ -12,7 +12,7 @@ IsGiven (replies.Refused e) = ⊥
 IsGiven r = Unit {0}
 
 pub of_refused : (e : Error) → replies.Refused (without_message e) ≡ replies.Refused OutOfMemory → e ≡ OutOfMemory
-of_refused e h = let same : without_message e ≡ OutOfMemory = cc in of_memory e same
+of_refused e h = let same : without_message e ≡ OutOfMemory = cc in memory_error e same
 
 -- a call that is to answer such a reply, if memory isn't refused, fails for memory
 pub for_memory : {X : Type 0} (answer : X → Reply) (r : Result X Error) (wanted : Reply) → IsGiven wanted → OrMemory (reply_of answer r ≡ wanted) (reply_of answer r) → FailsForMemory r
@@ -39,7 +39,7 @@ pub for_missing : {X : Type 0} (answer : X → Reply) (r : Result X Error) (cach
     → IfErr r (λ e. (e ≡ EntryNotFound cache key) ⊎ (e ≡ OutOfMemory))
 for_missing answer (Ok x) cache key h = tt
 for_missing answer (Err e) cache key (inl m) = inr (of_refused e m)
-for_missing answer (Err e) cache key (inr is) = let same : without_message e ≡ EntryNotFound cache key = cc in inl (of_missing e cache key same)
+for_missing answer (Err e) cache key (inr is) = let same : without_message e ≡ EntryNotFound cache key = cc in inl (missing_error e cache key same)
 
 -- a call that answers this error, if memory isn't refused, fails for nothing else
 pub fails_for : {X : Type 0} (answer : X → Reply) → ((x : X) → IsGiven (answer x)) → (r : Result X Error) (wanted : Error) → OrMemory (reply_of answer r ≡ replies.Refused wanted) (reply_of answer r) → FailsFor wanted r

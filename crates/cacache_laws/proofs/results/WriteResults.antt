@@ -5,14 +5,14 @@ use Rattle.serde_json.specs.Data.{Data, null}
 use Rattle.cacache_core.specs.{declared.{errors.Error.{Error, TheVariants.{EntryNotFound, SizeMismatch, IoError, SerdeError, IntegrityError, OutOfMemory}}, integrity.{algorithm.Algorithm.{Algorithm}, digest.Hash.{Hash}}}, Integrity.{integrity_under}, Texts.{integrity_text}}
 use Rattle.cacache_store.specs.declared.{env.Env.{Env}, store.log.LogItem.{LogItem}}
 use Rattle.cacache_disk.specs.memory.Replay.{IsLog}
-use Rattle.cacache_entry.specs.{Entry.{Entry}, FittingEntries.{IsUtf8IfAny}, Latest.{Found}}
+use Rattle.cacache_entry.specs.{Entry.{Entry}, Latest.{Found}}
 use Rattle.cacache_table.specs.declared.command.Command.TheVariants as commands
 use Rattle.cacache_table.specs.{declared.{command.Insert.{Insert}, reply.Reply.TheVariants.{Refused, Stored}}, Inserting.{entry_of, given_size, given_text, insertion, refused_cause}, Runs.{reply_of, without_message}, Storing.{insertion_of, put_commit}}
 use Rattle.cacache_table.proofs.IntegrityUtf8.{integrity_utf8}
 use Rattle.cacache_jobs.specs.{Environment.{HasMoment}, Sites.{site_of}}
 use Rattle.cacache_sync.specs.put.{Options.{Said, options_of}, Puts.{insert_of, unkeyed_put}}
 use Rattle.cacache_laws.specs.{Beside.{FitsEntry, KeepsBeside}, Caches.{Called, IsCache, HasContent, HasKey, IsExcused, WritesKey, plain_put}, Inserts.{InsertsKey, leads_to}, Keeping.{found_under}, Puts.{MayLeadToPut}, Standing.{IsStanding}, Succeeds.{NamesFolder, IsReady, put_reply, unless_unwritable}, results.{Success.{FailsForMemory}, Writes.{ContentWriteMeans, InsertionMeans, KeepsUntouched, SaysPlain, WriteMeans}}}
-use Rattle.cacache_laws.proofs.{Putting.{Beside.{plain_writes_fit, writes_keep}, Forms.{Written, bare_written}, Inserting.{inserts_last}, Puts.{puts_leave, puts_may_lead}, WritesLast.{writes_last}}, Calls.{CallErrors.{contents_fail}, Logs.{calls_grow}}, Readings.{Known.{excuse, known}, Standing.{caches_stand}}, Sure.Succeeds.{puts_answer, insertions_answer}, Spares.Unused.{others_leave_none, puts_leave_tidy, stays_ready}, results.{SureResults.{for_memory, so_ready}, Told.{called, excused}}}
+use Rattle.cacache_laws.proofs.{Putting.{Beside.{plain_writes_fit, writes_keep}, Forms.{Written, bare_written}, Inserting.{inserts_last, given_utf8}, Puts.{puts_leave, puts_may_lead}, WritesLast.{writes_last}}, Calls.{CallErrors.{contents_fail}, Logs.{calls_grow}, Messages.{excused_error}}, Readings.{Known.{excuse, known}, Standing.{caches_stand}}, Sure.Succeeds.{puts_answer, insertions_answer}, Spares.Unused.{others_leave_none, puts_leave_tidy, stays_ready}, results.{SureResults.{for_memory, so_ready}, Told.{called}}}
 
 -- ---- what stays
 
@@ -36,7 +36,7 @@ untouched cache written own added old new k = record {
 wrote_so : (r : Result (List Hash) Error) (cache key bytes : List ℕ) (own : List Hash) (old new : List LogItem) → IfOk r (λ i. i ≡ own) → WritesKey cache key bytes (reply_of Stored r) old new
     → IfOk r (λ i. (i ≡ own) × HasKey cache key i bytes new) × IfErr r (λ e. IsExcused e old new)
 wrote_so (Ok i) cache key bytes own old new is h = ((is, h), tt)
-wrote_so (Err e) cache key bytes own old new is h = (tt, excused e old new h)
+wrote_so (Err e) cache key bytes own old new is h = (tt, excused_error e old new h)
 
 pub leads_so : (cache key : List ℕ) (a : Algorithm) (bytes : List ℕ) (moment : ℕ) (old new : List LogItem) → MayLeadToPut cache (plain_put a key bytes moment) old new
     → (found_under cache key new ≡ found_under cache key old) ⊎ (leads_to cache key new ≡ Some (integrity_under a bytes))
@@ -99,7 +99,7 @@ content_so a cache bytes (Err e) old new sound c =
     let p = unkeyed_put a bytes in
     let k = known cache (commands.Put p) (Refused (without_message e)) old new c (no_entry a cache bytes) tt sound in (
       tt,
-      excused e old new
+      excused_error e old new
           (excuse cache c.base (commands.Put p) old new (λ fault none. none) (without_message e) k
           (contents_fail (site_of cache c.base k.call.number) p k.call.moves (Refused (without_message e)) refl refl refl k.run)),
     )
@@ -133,7 +133,7 @@ inserted_so : (r : Result (List Hash) Error) (cache : List ℕ) (i : Insert) (ol
 inserted_so (Ok j) cache i old new fits h = (h, tt)
 inserted_so (Err (EntryNotFound c k)) cache i old new fits h = (tt, h)
 inserted_so (Err (SizeMismatch wanted actual)) cache i old new fits h = (tt, h)
-inserted_so (Err (IoError fault message)) cache i old new fits h = (tt, excused (IoError fault message) old new h)
+inserted_so (Err (IoError fault message)) cache i old new fits h = (tt, excused_error (IoError fault message) old new h)
 inserted_so (Err (SerdeError cause message)) cache i old new fits h = let no : None ≡ Some cause = sym fits ∙ h in absurd cc
 inserted_so (Err (IntegrityError fault)) cache i old new fits h = (tt, h)
 inserted_so (Err OutOfMemory) cache i old new fits h = (tt, h)
@@ -141,10 +141,6 @@ inserted_so (Err OutOfMemory) cache i old new fits h = (tt, h)
 pub early_of : {C : Type 0} (moments : C → Option (List ℕ)) (time : Option ℕ) (old new : C) (moment : ℕ) → ((t : ℕ) → time ≡ Some t → t < 2 ^ 64) → HasMoment moments time old new moment → moment < 2 ^ 64
 early_of moments None old new moment early h = h.1
 early_of moments (Some t) old new moment early h = subst (λ m. m < 2 ^ 64) (sym h.1) (early t refl)
-
-given_utf8 : (integrity : Option (List Hash)) → IsUtf8IfAny (given_text integrity)
-given_utf8 None = tt
-given_utf8 (Some i) = integrity_utf8 i
 
 -- the entry of a plain insertion
 entry_written : (key : List ℕ) (said : Said) (moment : ℕ) → IsUtf8 key → moment < 2 ^ 64 → SaysPlain said → Written (entry_of key (given_text said.integrity) (given_size said.size) moment (options_of said))

@@ -1,6 +1,6 @@
 -- What a listing of a folder says of the nodes in it.
-use Rattle.std.proofs.{Common.{◌≡◌, inl, inr, ◌+◌, ℕ, Bool, true, false, cond, List, [], ◌∷◌, ◌++◌, Option, None, Some, Ok, Err, length, take, drop, get_or, refl, sym, ap, ap₂, subst, ◌∙◌, arith, eqb-true, length-append, append_assoc, take-append-drop}, Math.Seq.{take-append_seam, get_or-append_seam}, lemmas.{List.{drop_more, drop_all}, Bool.{eq-eqb, and_parts, Decides.{Decides-eqb}}, Slice.Eq.{slice_eq-Decides}}}
-use Rattle.std.specs.{Prelude.{Result, IfSome, T, ◌&&◌, slice_index_or}, List.{AllByRecursion}, declared.cmp.Ordering.{Ordering, TheVariants.{Less, Equal, Greater}}, Ordering.{nat_cmp, is_lt, is_eq}, FinMap.Entries.{below_all}, Bool.{nat_eq}, Cmp.Lexicographic.{pointwise, slice_cmp, lists_ties, texts_ties}}
+use Rattle.std.proofs.{Common.{◌≡◌, inl, inr, ◌+◌, ℕ, Bool, true, false, cond, List, [], ◌∷◌, ◌++◌, Option, None, Some, Ok, Err, length, take, drop, get_or, refl, sym, ap, ap₂, subst, ◌∙◌, arith, eqb-true, append_assoc, take-append-drop}, Math.Seq.{get_or-append_seam}, lemmas.{List.{drop_more, drop_all}, Bool.{and_parts, Decides.{Decides-eqb}}, Slice.Eq.{slice_eq-Decides}}}
+use Rattle.std.specs.{Prelude.{Result, IfSome, T, slice_index_or}, declared.cmp.Ordering.{Ordering, TheVariants.{Less, Equal, Greater}}, Ordering.{is_lt, is_eq}, FinMap.Entries.{below_all}, Bool.{nat_eq}, Cmp.Lexicographic.{pointwise}}
 use Rattle.std.specs.FinMap as map
 use Rattle.cacache_core.specs.{declared.errors.Fault.{Fault, TheVariants.{NotFound}}, PathNames.{Names, names_of, IsProperName}}
 use Rattle.cacache_store.specs.{declared.store.{answer.{Name.{Name}, Answer.TheVariants.{Names as Listed, Failed}}, step.Step.TheVariants.{ReadDir}}, Plain.{PlainAnswer}}
@@ -9,15 +9,10 @@ use Rattle.cacache_disk.proofs.{Maps.{same_path-true}, Roots.{same_self}, Standi
 use Rattle.cacache_value.proofs.Shows.{apply_answer}
 use Rattle.cacache_walks.specs.Reading.{names_shown}
 use Rattle.cacache_laws.proofs.trees.Members.{Member, mapped, source}
+use Rattle.cacache_loss.proofs.KeptPaths.{child_of_self}
+use Rattle.cacache_history.proofs.Listings.ToldFolders.{both_parts, folder_ok}
 
 -- ---- a node that is there is listed
-
-is_child-snoc : (p : Names) (name : List ℕ) → is_child p (p ++ name ∷ []) ≡ true
-is_child-snoc p name =
-    let l : length (p ++ name ∷ []) ≡ length p + 1 = omega (arith, length-append p (name ∷ [])) in
-    let front : take (length p) (p ++ name ∷ []) ≡ p = take-append_seam p (name ∷ []) in
-    let same : pointwise (pointwise nat_eq) p p ≡ true = lists_ties (slice_cmp nat_cmp) texts_ties p p ∙ same_self p in
-    rw (eq-eqb (length (p ++ name ∷ [])) (length p + 1) l, front, same) refl
 
 found_at : (q : Names) (e : Names × Node) (es : List (Names × Node)) (node : Node) (b : Bool) → same_path q e.0 ≡ b → (map.find names_cmp q es ≡ Some node → Member (q, node) es) → cond b (Some e.1) (map.find names_cmp q es) ≡ Some node → Member (q, node) (e ∷ es)
 found_at q e es node true is later h = let same : e.1 ≡ node = cc in inl (ap₂ (λ (x : Names) (y : Node). (x, y)) (same_path-true q e.0 is) (sym same))
@@ -28,7 +23,7 @@ found_in q [] node h = absurd cc
 found_in q (e ∷ es) node h = found_at q e es node (same_path q e.0) refl (found_in q es node) h
 
 child_is : (p : Names) (name : List ℕ) (node : Node) → child_of p (p ++ name ∷ [], node) ≡ Some (record { name = name; kind = kind_of node })
-child_is p name node = rw (is_child-snoc p name) (ap (λ (n : List ℕ). Some (record { name = n; kind = kind_of node })) (get_or-append_seam p name [] []))
+child_is p name node = rw (child_of_self p name) (ap (λ (n : List ℕ). Some (record { name = n; kind = kind_of node })) (get_or-append_seam p name [] []))
 
 pub child_listed : (t : Tree) (p : Names) (name : List ℕ) (node : Node) → look t (p ++ name ∷ []) ≡ Some node → Member (record { name = name; kind = kind_of node }) (listing t p)
 unfolding listing
@@ -36,14 +31,10 @@ child_listed t p name node stands = mapped (child_of p) (p ++ name ∷ [], node)
 
 -- ---- and what is listed is there
 
-split_and : (a b : Bool) → T (a && b) → T a × T b
-split_and true b h = (tt, h)
-split_and false b h = absurd h
-
 below_member : (x : Names) (e : Names × Node) (es : List (Names × Node)) → T (below_all names_cmp x es) → Member e es → T (is_lt (names_cmp x e.0))
 below_member x e [] h m = absurd m
-below_member x e (y ∷ es) h (inl same) = subst (λ (z : Names × Node). T (is_lt (names_cmp x z.0))) (sym same) (split_and (is_lt (names_cmp x y.0)) (below_all names_cmp x es) h).0
-below_member x e (y ∷ es) h (inr m) = below_member x e es (split_and (is_lt (names_cmp x y.0)) (below_all names_cmp x es) h).1 m
+below_member x e (y ∷ es) h (inl same) = subst (λ (z : Names × Node). T (is_lt (names_cmp x z.0))) (sym same) (both_parts (is_lt (names_cmp x y.0)) (below_all names_cmp x es) h).0
+below_member x e (y ∷ es) h (inr m) = below_member x e es (both_parts (is_lt (names_cmp x y.0)) (below_all names_cmp x es) h).1 m
 
 not_both : (o : Ordering) → T (is_lt o) → is_eq o ≡ true → ⊥
 not_both Less a e = absurd cc
@@ -58,7 +49,7 @@ member_found : (e : Names × Node) (es : List (Names × Node)) → T (map.is_sor
 member_found e [] s m = absurd m
 member_found e (y ∷ es) s (inl same) = rw (sym same, same_self e.0) refl
 member_found e (y ∷ es) s (inr m) =
-    let parts = split_and (below_all names_cmp y.0 es) (map.is_sorted names_cmp es) s in
+    let parts = both_parts (below_all names_cmp y.0 es) (map.is_sorted names_cmp es) s in
     let apart : same_path e.0 y.0 ≡ false = apart_at y.0 e.0 (same_path e.0 y.0) refl (below_member y.0 e es parts.0 m) in
     rw apart (member_found e es parts.1 m)
 
@@ -110,7 +101,7 @@ none_below t p x (y ∷ ys) rooted apart =
     let none : look t (p ++ x ∷ []) ≡ None = none_in (look t p) (look t (p ++ x ∷ [])) (rooted.folders p x) apart in
     ap (look t) (sym (append_assoc p (x ∷ []) (y ∷ ys))) ∙ none_below t (p ++ x ∷ []) y ys rooted (λ is. let e : None ≡ Some Folder = sym none ∙ is in cc)
 
-last_proper : (p : Names) (name : List ℕ) → AllByRecursion IsProperName (p ++ name ∷ []) → IsProperName name
+last_proper : (p : Names) (name : List ℕ) → AreProper (p ++ name ∷ []) → IsProperName name
 last_proper [] name h = h.0
 last_proper (n ∷ p) name h = last_proper p name h.1
 
@@ -140,12 +131,6 @@ folder_at None old new e = absurd cc
 folder_at (Some Folder) old new e = cc
 folder_at (Some (File bytes)) old new e = absurd cc
 folder_at (Some (Link target)) old new e = absurd cc
-
-folder_ok : (t : Tree) (path : List ℕ) (names : Names) → folder t path ≡ Ok names → names_of path ≡ Ok names
-unfolding folder
-folder_ok t path names e =
-    let f = and_then_ok (place t path) (λ n. where_folder (look t n) n) names e in
-    place_ok t path f.0 f.1 ∙ ap Ok (folder_at (look t f.0) f.0 names f.2)
 
 folder_node : (here : Option Node) (old new : Names) → where_folder here old ≡ Ok new → here ≡ Some Folder
 folder_node None old new e = absurd cc

@@ -1,8 +1,7 @@
 -- A walk finds what is below its folder, and nothing else.
-use Rattle.std.proofs.{Common.{◌≡◌, ◌==◌, filter, ◌⊎◌, inl, inr, ◌+◌, ◌<◌, ℕ, Bool, true, false, List, [], ◌∷◌, ◌++◌, Option, None, Some, Ok, Err, length, refl, sym, ap, subst, ◌∙◌, arith, append_assoc, append-nil}, lemmas.{List.Elements.{All-nil, All-cons, All-append}, Slice.Eq.{bytes_eq-Decides}}}
+use Rattle.std.proofs.{Common.{◌≡◌, ◌==◌, ◌⊎◌, inl, inr, ◌+◌, ◌<◌, ℕ, Bool, true, false, List, [], ◌∷◌, ◌++◌, Option, None, Some, Ok, length, refl, sym, ap, subst, ◌∙◌, arith, append_assoc, append-nil}, lemmas.{List.Elements.{All-nil, All-cons, All-append}, Slice.Eq.{bytes_eq-Decides}}}
 use Rattle.std.specs.Prelude.{All, IsTrue, unwrap_or, bytes_eq}
-use Rattle.cacache_core.specs.{declared.errors.Fault.TheVariants.{NotFound, InvalidInput}, PathNames.{Names, names_of, home_of, names_below, is_bad, is_name, pieces, IsProperName}, Paths.{join, joined}}
-use Rattle.cacache_core.proofs.JoinedNames.{joined_texts_name}
+use Rattle.cacache_core.{specs.{PathNames.{Names, names_of, home_of, names_below, is_bad, IsProperName}, Paths.{join, joined}}, proofs.JoinedNames.{joined_texts_name}}
 use Rattle.cacache_store.specs.{declared.store.{answer.{Kind.{Kind}, Name.{Name}}, step.Step.TheVariants.{ReadDir}}, Plain.{PlainStep, PlainAnswer}}
 use Rattle.cacache_store.specs.declared.store.answer.Kind.TheVariants as kinds
 use Rattle.cacache_disk.specs.{declared.{luck.Luck.{Luck}, node.Node.{Node, TheVariants.{Folder, File, Link}}}, Tree.{Tree, look, listing, kind_of}, Rooted.{Rooted}, Apply.{apply}}
@@ -10,17 +9,13 @@ use Rattle.cacache_table.specs.Runs.{Moves}
 use Rattle.cacache_walks.specs.Reading.{Folder as Spot, ReadsFolders, top_folder, folder_as, file_as, folders_in, file_paths, files_shown, names_shown, shown_by}
 use Rattle.cacache_laws.specs.trees.Walks.{ReadAt, is_leaf, WalksFind, WalksStayBelow}
 use Rattle.cacache_laws.proofs.trees.{Members.{Member, contains_member, member_contains, in_left, in_right, in_either, mapped, source}, Children.{child_listed, Stands, listed_child, none_below, proper_child, FolderShows, listed, missing, folder_shown}}
+use Rattle.cacache_history.proofs.Listings.ListingWalks.{joined_more}
+use Rattle.cacache_loss.proofs.CommitFolders.{named_home}
 
 -- ---- the names of a path's text
 
-home_at : (path : List ℕ) (base : Names) (a b : Bool) → (length path == 0) ≡ a → is_bad path ≡ b → names_of path ≡ Ok base → home_of path ≡ Some base
-unfolding names_of home_of
-home_at path base true b i is e = let wrong : Err NotFound ≡ Ok base = rw i at e in absurd cc
-home_at path base false true i is e = let wrong : Err InvalidInput ≡ Ok base = rw (i, is) at e in absurd cc
-home_at path base false false i is e = let same : Ok (filter is_name (pieces path)) ≡ Ok base = rw (i, is) at e in rw is (let k : filter is_name (pieces path) ≡ base = cc in ap Some k)
-
 pub home_named : (path : List ℕ) (base : Names) → names_of path ≡ Ok base → home_of path ≡ Some base
-home_named path base is = home_at path base (length path == 0) (is_bad path) refl refl is
+home_named path base is = named_home path base (length path == 0) (is_bad path) refl refl is
 
 -- one name more
 pub named_on : (path : List ℕ) (base : Names) (name : List ℕ) → names_of path ≡ Ok base → IsProperName name → names_of (join path name) ≡ Ok (base ++ name ∷ [])
@@ -106,10 +101,6 @@ covers (m ∷ moves) (t ∷ trees) (g ∷ todo) r a f base x xs k named =
     ]
 
 -- ---- what is found is below
-
-joined_more : (top : List ℕ) (ns : Names) (n : List ℕ) → joined top (ns ++ n ∷ []) ≡ join (joined top ns) n
-joined_more top [] n = refl
-joined_more top (m ∷ ns) n = joined_more (join top m) ns n
 
 deeper_path : (k : Kind) (path : List ℕ) (level : ℕ) (f : Spot) → folder_as k path level ≡ Some f → f.path ≡ path
 deeper_path kinds.Folder path level f e = let same : record { path = path; level = level + 1 } ≡ f = cc in ap (λ (h : Spot). h.path) (sym same)
@@ -229,15 +220,11 @@ decided : (p : List ℕ) (xs : List (List ℕ)) → Member p xs ⊎ (Member p xs
 decided p [] = inr (λ m. m)
 decided p (x ∷ xs) = decided_at (bytes_eq p x) p x xs refl (decided p xs)
 
-same_rest : (base xs ys : Names) → base ++ xs ≡ base ++ ys → xs ≡ ys
-same_rest [] xs ys e = e
-same_rest (b ∷ base) xs ys e = same_rest base xs ys cc
-
 not_true : (b : Bool) → b ≡ false → IsTrue b → ⊥
 not_true b e h = let wrong : false ≡ true = sym e ∙ h in cc
 
 named_all : (top : List ℕ) (base ns : Names) → names_of top ≡ Ok base → All IsProperName ns → 0 < length ns → names_of (joined top ns) ≡ Ok (base ++ ns)
-named_all top base ns is proper some = joined_texts_name top ns proper some ∙ ap (λ h. names_below h ns) (home_at top base (length top == 0) (is_bad top) refl refl is)
+named_all top base ns is proper some = joined_texts_name top ns proper some ∙ ap (λ h. names_below h ns) (named_home top base (length top == 0) (is_bad top) refl refl is)
 
 pub walks_find : WalksFind
 walks_find top base moves trees [] is reads at proper some = absurd (omega (arith, some))

@@ -14,14 +14,11 @@ use Rattle.cacache_table.specs.declared.carried.Aim.TheVariants as aims
 use Rattle.cacache_table.specs.declared.carried.Content as carried
 use Rattle.cacache_table.specs.declared.command.Command.TheVariants as commands
 use Rattle.cacache_laws.specs.trees.{Answers.{AnsweredBy}, Collecting.{ReadsAsBefore}, Compacting.{compact_text}, Idle.{Finds}}
-use Rattle.cacache_laws.proofs.trees.{Agreeing.{said}, CompactTexts.{compact_texts_answer}, Covering.{named_on}, Within.{read_answer}}
+use Rattle.cacache_laws.proofs.trees.{Agreeing.{said}, CompactTexts.{compact_texts_answer}, Covering.{named_on}, Within.{read_answer}, Listing.{lists}}
 
 fits_said : (path : List ℕ) (r : Result (List ℕ) Fault) → Fits (ReadAll path) (said r)
 fits_said path (Ok bytes) = tt
 fits_said path (Err fault) = tt
-
-abbrev lists : List Item → ℕ → Walk
-lists items left = record { clears = false; items = items; left = left }
 
 abbrev IsReadAim : Aim → Type 0
 IsReadAim aims.Report = Unit {0}

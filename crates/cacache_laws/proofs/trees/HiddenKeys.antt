@@ -19,7 +19,7 @@ use Rattle.cacache_laws.specs.{Caches.{setup_at}, Sequence.{tree_on, AreAnswered
 
 -- ---- the run of a tombstone
 
-ended : (moves : Moves) (r : Reply) → Runs (over r) moves Done → (moves ≡ []) × (r ≡ Done)
+pub ended : (moves : Moves) (r : Reply) → Runs (over r) moves Done → (moves ≡ []) × (r ≡ Done)
 ended [] r (inl e) = (refl, cc)
 ended [] r (inr e) = absurd cc
 ended (m ∷ moves) r run = absurd (let wrong : None ≡ Some m.0 = run.0 in cc)

@@ -1,20 +1,19 @@
 -- What removals of contents leave, and that lookups and reads by key don't see them.
-use Rattle.std.proofs.Common.{◌≡◌, ◌⊎◌, inl, inr, ℕ, List, [], ◌∷◌, ◌++◌, Option, Some, None, Bool, true, false, cond, Result, Ok, Err, refl, sym, ap, subst, ◌∙◌, arith}
+use Rattle.std.proofs.Common.{◌≡◌, ◌⊎◌, inl, inr, ℕ, List, [], ◌∷◌, ◌++◌, Some, None, Bool, true, false, cond, Result, Ok, Err, refl, sym, ap, subst, ◌∙◌, arith}
 use Rattle.std.specs.Prelude.{Contains}
-use Rattle.std.specs.FinMap as map
 use Rattle.sha1.specs.Sha1.{sha1}
 use Rattle.cacache_core.specs.{declared.{errors.Fault.{Fault, TheVariants.{NotFound}}, integrity.digest.Hash.{Hash}}, Integrity.{IsHash, IsIntegrity}, PathNames.{Names, names_of, home_of}, Paths.{joined, content_names, bucket_names, bucket_names_of}}
 use Rattle.cacache_core.proofs.{JoinedNames.{joined_texts_name}, ProperNames.{names_are_proper}, PathLemmas.{keys_have_digests}, PathTexts.{paths_differ}}
 use Rattle.cacache_store.specs.{declared.store.{step.Step.TheVariants.{ReadAll, RemoveFile}, answer.Answer.TheVariants.{Done}}, Plain.{PlainAnswer}}
 use Rattle.cacache_store.specs.declared.store.answer.Answer.TheVariants as answers
-use Rattle.cacache_disk.specs.{declared.{luck.Luck.TheVariants.{Plain}, node.Node.{Node}}, Tree.{Tree, look, cut, same_path}, LedTo.{removable}, Apply.{apply, unless}, Rooted.{Rooted}}
-use Rattle.cacache_disk.proofs.{Maps.{total, same_path-true}, Roots.{same_self}, FoundNodes.{removable_ok}}
+use Rattle.cacache_disk.specs.{declared.luck.Luck.TheVariants.{Plain}, Tree.{Tree, look, cut, same_path}, LedTo.{removable}, Apply.{apply, unless}, Rooted.{Rooted}}
+use Rattle.cacache_disk.proofs.{Maps.{same_path-true}, Roots.{same_self}, FoundNodes.{removable_ok}, PutNodes.{look-cut}}
 use Rattle.cacache_entry.specs.Latest.{Found}
 use Rattle.cacache_table.specs.declared.command.Command.TheVariants as commands
 use Rattle.cacache_table.specs.{declared.reply.Reply.{Reply, TheVariants.{Listed}}, State.{looking, Site, Item}, StepPaths.{addressed, bucket_path, content_path}, Table.{opening, after}, Runs.{Moves, Runs}}
 use Rattle.cacache_table.specs.declared.carried.Aim.TheVariants as aims
 use Rattle.cacache_value.{specs.{Kinds.{Content, Bucket, path_kind, is_used}, Value.{blob_in, bucket_in}}, proofs.KindsApart.{kind-below}}
-use Rattle.cacache_laws.proofs.trees.{Members.{Member, contains_member, member_contains}, Indexed.{lists_each_key}, Agreeing.{read_same}, Idle.{address_is, get_moves, moved_same, over_done}, Twice.{leaf_done}}
+use Rattle.cacache_laws.proofs.{trees.{Members.{Member, contains_member, member_contains}, Indexed.{lists_each_key}, Agreeing.{read_same}, Idle.{address_is, get_moves, moved_same, over_done}, Twice.{leaf_done}}, Sure.SureSpares.{cut_none}}
 use Rattle.cacache_laws.specs.trees.{Answers.{AnsweredBy}, Index.{is_failure}, Walks.{is_leaf}, Idle.{Finds, IsNeeded, LacksIdle}, Collecting.{LinksLeadOut, IsLive, Removes, RemovalsLeave, CollectionsKeepReads, CollectionsKeepLookups}}
 
 -- ---- removals
@@ -34,31 +33,24 @@ unfolding apply
 removed t path names is e =
     done_at t (removable t path) names (λ n found. let both : Ok n ≡ Ok names = sym (removable_ok t path n found).0 ∙ is in cc) e
 
-look_cut : (t : Tree) (names q : Names) → look (cut t names) q ≡ cond (same_path q names) None (look t q)
-look_cut t names q = map.get-remove total t names q
-
 apart_at : (q names : Names) (b : Bool) → same_path q names ≡ b → (q ≡ names → ⊥) → b ≡ false
 apart_at q names true is apart = absurd (apart (same_path-true q names is))
 apart_at q names false is apart = refl
 
-none_at : (b : Bool) (here : Option Node) → here ≡ None → cond b None here ≡ None
-none_at true here e = refl
-none_at false here e = e
-
-same_rest : (base xs ys : Names) → base ++ xs ≡ base ++ ys → xs ≡ ys
+pub same_rest : (base xs ys : Names) → base ++ xs ≡ base ++ ys → xs ≡ ys
 same_rest [] xs ys e = e
 same_rest (b ∷ base) xs ys e = same_rest base xs ys cc
 
 module _ (cache : List ℕ) (home : Names) (is : home_of cache ≡ Some home) where
   -- one removal
   look_after : (t : Tree) (h : Hash) (q : Names) → IsHash h → (apply t (RemoveFile (joined cache (content_names h))) Plain).0 ≡ Done → look (apply t (RemoveFile (joined cache (content_names h))) Plain).1 q ≡ cond (same_path q (home ++ content_names h)) None (look t q)
-  look_after t h q hash e = ap (λ (x : Tree). look x q) (removed t (joined cache (content_names h)) (home ++ content_names h) (content_named cache home h is hash) e) ∙ look_cut t (home ++ content_names h) q
+  look_after t h q hash e = ap (λ (x : Tree). look x q) (removed t (joined cache (content_names h)) (home ++ content_names h) (content_named cache home h is hash) e) ∙ look-cut t (home ++ content_names h) q
 
   none_stays : (hs : List Hash) (t new : Tree) (q : Names) → ((h : Hash) → Member h hs → IsHash h) → Removes cache hs t new → look t q ≡ None → look new q ≡ None
   none_stays [] t new q hashes r none = ap (λ (x : Tree). look x q) r ∙ none
   none_stays (h ∷ hs) t new q hashes r none =
       none_stays hs (apply t (RemoveFile (joined cache (content_names h))) Plain).1 new q (λ g m. hashes g (inr m)) r.1
-      (look_after t h q (hashes h (inl refl)) r.0 ∙ none_at (same_path q (home ++ content_names h)) (look t q) none)
+      (look_after t h q (hashes h (inl refl)) r.0 ∙ cut_none (same_path q (home ++ content_names h)) (look t q) none)
 
   gone : (hs : List Hash) (t new : Tree) (h : Hash) → ((g : Hash) → Member g hs → IsHash g) → Removes cache hs t new → Member h hs → look new (home ++ content_names h) ≡ None
   gone [] t new h hashes r m = absurd m

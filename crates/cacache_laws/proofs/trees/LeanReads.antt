@@ -7,7 +7,8 @@ use Rattle.cacache_store.specs.declared.store.step.Step.TheVariants.{ReadDir}
 use Rattle.cacache_disk.specs.{declared.{luck.Luck.TheVariants.{Plain}, node.Node.{Node, TheVariants.{Folder, File, Link}}}, Tree.{Tree, look, listing}, LedTo.{and_then, or_fault, through, way_fault, place, standing, where_there, where_folder, on_link, followed, leads, bytes_there, file_at, folder}, Apply.{apply, unless}}
 use Rattle.cacache_disk.proofs.FoundNodes.{and_then_ok, place_ok, standing_ok}
 use Rattle.cacache_value.{specs.Kinds.{Bucket, Elsewhere, path_kind, IsFor}, proofs.{KindsApart.{inner_used, kind-below}, FoundPaths.{of_names}}}
-use Rattle.cacache_laws.{specs.trees.{Collecting.{LinksLeadOut}, Compacting.{compact_text}}, proofs.trees.{Children.{child_path, folder_found}, Shapes.{shape, shaped_listing}}}
+use Rattle.cacache_laws.specs.trees.{Collecting.{LinksLeadOut}, Compacting.{compact_text}}
+use Rattle.cacache_laws.proofs.trees.{Children.{child_path, folder_found}, Shapes.{shape, shaped_listing}, Keeping.{same_rest}}
 
 -- ---- what one shape shows
 
@@ -67,14 +68,10 @@ clear_above home area p rest clear (r, e) = clear (r ++ rest, ap (λ (n : Names)
 pub clear_out : (home : Names) (area : List ℕ) (q : Names) → path_kind (Some home) q ≡ Elsewhere → Clear home area q
 clear_out home area q k (r, e) = inner_used (area ∷ r) (sym (kind-below home (area ∷ r)) ∙ ap (path_kind (Some home)) (sym e) ∙ k)
 
-pub same_below : (home xs ys : Names) → home ++ xs ≡ home ++ ys → xs ≡ ys
-same_below [] xs ys e = e
-same_below (n ∷ home) xs ys e = same_below home xs ys cc
-
 -- what lies below another name of the cache's folder
 pub clear_area : (home : Names) (area : List ℕ) (rest : Names) (other : List ℕ) → bytes_eq other area ≡ false → bytes_eq other other ≡ true → Clear home area (home ++ other ∷ rest)
 clear_area home area rest other apart self (r, e) =
-    let below : other ∷ rest ≡ area ∷ r = same_below home (other ∷ rest) (area ∷ r) e in
+    let below : other ∷ rest ≡ area ∷ r = same_rest home (other ∷ rest) (area ∷ r) e in
     let same : other ≡ area = cc in
     let wrong : true ≡ false = sym self ∙ ap (bytes_eq other) same ∙ apart in
     cc

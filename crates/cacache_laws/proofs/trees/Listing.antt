@@ -57,7 +57,7 @@ shown_missing (answers.Failed NotFound) e = refl
 shown_missing (answers.Failed other) e = absurd cc
 shown_missing other e = absurd cc
 
-abbrev lists : List Item → ℕ → Walk
+abbrev pub lists : List Item → ℕ → Walk
 lists items left = record { clears = false; items = items; left = left }
 
 module _ (list : List Item) where

@@ -1,15 +1,10 @@
 -- The run of a removal.
-use Rattle.std.proofs.Common.{◌≡◌, inl, inr, ℕ, List, [], ◌∷◌, Some, None, refl, sym, ap₂}
+use Rattle.std.proofs.Common.{◌≡◌, inl, inr, ℕ, List, [], ◌∷◌, Some, refl, sym, ap₂}
 use Rattle.cacache_core.specs.Paths.{joined, content_names}
 use Rattle.cacache_store.specs.{declared.store.step.Step.TheVariants.{RemoveFile}, Plain.{PlainStep, PlainAnswer}}
 use Rattle.cacache_store.specs.declared.store.answer.Answer.TheVariants as answers
-use Rattle.cacache_table.specs.{declared.reply.Reply.{Reply, TheVariants.{Done}}, State.{doing, remove, over}, StepPaths.{content_path}, Table.{after}, Runs.{Moves, Runs}}
-use Rattle.cacache_laws.specs.trees.Removing.{RemovalsRun}
-
-ended : (moves : Moves) (r : Reply) → Runs (over r) moves Done → (moves ≡ []) × (r ≡ Done)
-ended [] r (inl e) = (refl, cc)
-ended [] r (inr e) = absurd cc
-ended (m ∷ moves) r run = absurd (let wrong : None ≡ Some m.0 = run.0 in cc)
+use Rattle.cacache_table.specs.{declared.reply.Reply.TheVariants.{Done}, State.{doing, remove, over}, StepPaths.{content_path}, Table.{after}, Runs.{Moves, Runs}}
+use Rattle.cacache_laws.{specs.trees.Removing.{RemovalsRun}, proofs.trees.HiddenKeys.{ended}}
 
 -- the step was answered Done, and nothing follows
 answered : (path : List ℕ) (t : PlainAnswer) (more : Moves) → Runs (after (doing (remove path) (over Done)) t) more Done → (t ≡ answers.Done) × (more ≡ [])

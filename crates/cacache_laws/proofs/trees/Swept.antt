@@ -1,5 +1,5 @@
 -- What a clearing that doesn't break off leaves of a tree.
-use Rattle.std.proofs.Common.{◌≡◌, inl, inr, ◌==◌, ◌<◌, ◌≤◌, ◌+◌, ◌-◌, ℕ, zero, suc, Bool, true, false, cond, nat_le, List, [], ◌∷◌, ◌++◌, Option, None, Some, Ok, length, refl, sym, ap, subst, ◌∙◌, arith, append_assoc, length-append, eqb-true}
+use Rattle.std.proofs.Common.{◌≡◌, inl, inr, ◌==◌, ◌<◌, ◌≤◌, ◌+◌, ◌-◌, ℕ, zero, suc, Bool, true, false, cond, nat_le, List, [], ◌∷◌, ◌++◌, Option, None, Some, Ok, length, refl, sym, ap, subst, ◌∙◌, arith, append_assoc, eqb-true}
 use Rattle.std.specs.Prelude.{nat_lt}
 use Rattle.cacache_core.specs.declared.errors.Fault.TheVariants as faults
 use Rattle.cacache_core.specs.{declared.errors.Error.TheVariants.{IoError}, Paths.{join}, PathNames.{Names, names_of}}
@@ -7,48 +7,17 @@ use Rattle.cacache_store.specs.declared.store.step.Step.TheVariants as steps
 use Rattle.cacache_store.specs.declared.store.answer.Answer.TheVariants as answers
 use Rattle.cacache_store.specs.{declared.store.answer.{Kind.{Kind}, Name.{Name}}, Plain.{PlainAnswer}}
 use Rattle.cacache_store.specs.declared.store.answer.Kind.TheVariants as kinds
-use Rattle.cacache_disk.specs.{declared.{luck.Luck.TheVariants.{Plain}, node.Node.{Node, TheVariants.{Folder, File, Link}}}, Tree.{Tree, look, cut, listing, kind_of}, LedTo.{folder, emptied}, Rooted.{Rooted}, Apply.{apply}}
+use Rattle.cacache_disk.specs.{declared.{luck.Luck.TheVariants.{Plain}, node.Node.{Node, TheVariants.{Folder, File, Link}}}, Tree.{Tree, look, cut, listing, kind_of}, LedTo.{folder}, Rooted.{Rooted}}
 use Rattle.cacache_disk.proofs.KeptFolders.{steps_keep_rooted}
 use Rattle.cacache_table.specs.declared.command.Command.TheVariants as commands
 use Rattle.cacache_table.specs.{declared.{reply.Reply.{Reply, TheVariants.{Listed, Refused}}, visit.{Visit.{Visit, TheVariants.{Enter, ReadBucket, RemoveFile, RemoveFolder}}, Task.{Task, TheVariants.{Make, Stumble}}}}, Common.{fails}, State.{State, walking, over, Walk}, Walking.{failed, give, miss, walk_on, task_for_name, tasks_of, leaving, too_many, entered}, Runs.{Moves, Runs}}
 use Rattle.cacache_laws.specs.{Sequence.{tree_on}, trees.{Walks.{is_leaf}, Idle.{BreaksOff}}}
-use Rattle.cacache_laws.proofs.{Removing.Sheds.{Shed, ShedAll, among, among_below, cut_sheds, folder_apart, listed_among, sheds_more, under, under_other, under_self}, trees.{Children.{none_below, proper_child, folder_there}, Covering.{named_on}, Stepping.{MadeOn, Whole, goes, said_over}, Twice.{leaf_goes}}}
-use Rattle.cacache_history.proofs.Listings.ToldFolders.{Each, Told, AreDistinct, listing_told, listing_distinct, child_listed}
+use Rattle.cacache_laws.proofs.{Removing.{Sheds.{Shed, ShedAll, among, cut_sheds, folder_apart, sheds_more, under}, ShedFolders.{lists_folder, empties, none_listed, told_still, long_names, child_gone, folder_shed}}, trees.{Children.{none_below, proper_child}, Covering.{named_on}, Stepping.{MadeOn, Whole, goes, said_over}, Twice.{leaf_goes}}}
+use Rattle.cacache_history.proofs.Listings.ToldFolders.{Each, Told, AreDistinct, listing_told, listing_distinct}
 
 -- ---- steps
 
-pub lists_folder : (t : Tree) (path : List ℕ) (p : Names) → Rooted t → names_of path ≡ Ok p → look t p ≡ Some Folder → apply t (steps.ReadDir path) Plain ≡ (answers.Names (listing t p), t)
-unfolding apply
-lists_folder t path p rooted is there = rw (folder_there t path p rooted is there) refl
-
-empties : (t : Tree) (path : List ℕ) (p : Names) → Rooted t → names_of path ≡ Ok p → look t p ≡ Some Folder → (length p == 0) ≡ false → listing t p ≡ [] → apply t (steps.RemoveDir path) Plain ≡ (answers.Done, cut t p)
-unfolding apply emptied
-empties t path p rooted is there inner none = rw (folder_there t path p rooted is there, inner, none) refl
-
--- ---- what is said of names
-
--- if there are no nodes, none is listed
-none_listed : (t : Tree) (p : Names) (ns : List Name) → Each (Told t p) ns → ((name : List ℕ) → look t (p ++ name ∷ []) ≡ None) → ns ≡ []
-none_listed t p [] told none = refl
-none_listed t p (n ∷ ns) told none = absurd (let wrong : None ≡ Some told.0.node = sym (none n.name) ∙ told.0.stands in cc)
-
-pub told_still : (t mid : Tree) (p : Names) (n : List ℕ) (ns : List Name) → Shed t mid (p ++ n ∷ []) → Each (λ m. n ≡ m.name → ⊥) ns → Each (Told t p) ns → Each (Told mid p) ns
-told_still t mid p n [] shed apart told = tt
-told_still t mid p n (m ∷ ns) shed apart told = (
-  record {
-    node = told.0.node;
-    stands = shed (p ++ m.name ∷ []) ∙ ap (λ b. cond b None (look t (p ++ m.name ∷ []))) (under_other p [] n m.name apart.0) ∙ told.0.stands;
-    kind = told.0.kind;
-  },
-  told_still t mid p n ns shed apart.1 told.1,
-)
-
-pub long_names : (p : Names) (name : List ℕ) → (length (p ++ name ∷ []) == 0) ≡ false
-long_names p name = by (length (p ++ name ∷ []) == 0) refl
-  where
-    by : (b : Bool) → (length (p ++ name ∷ []) == 0) ≡ b → b ≡ false
-    by true e = absurd (omega (arith, eqb-true (length (p ++ name ∷ [])) 0 e, length-append p (name ∷ [])))
-    by false e = refl
+-- ---- names
 
 deep : (level : ℕ) → (level + 1 == 0) ≡ false
 deep level = by (level + 1 == 0) refl
@@ -56,10 +25,6 @@ deep level = by (level + 1 == 0) refl
     by : (b : Bool) → (level + 1 == 0) ≡ b → b ≡ false
     by true e = absurd (omega (arith, eqb-true (level + 1) 0 e))
     by false e = refl
-
-none_either : (b : Bool) → cond {A = Option Node} b None None ≡ None
-none_either true = refl
-none_either false = refl
 
 leads_on : (t : Tree) (moves more : Moves) (mid : Tree) (later : Moves) (last : Tree) → tree_on t moves ≡ tree_on t more → tree_on t more ≡ tree_on mid later → tree_on mid later ≡ last → tree_on t moves ≡ last
 leads_on t moves more mid later last e f g = e ∙ f ∙ g
@@ -162,19 +127,6 @@ module _ (r : Reply) (whole : BreaksOff commands.Clear r → ⊥) where
           → Runs (walk_on (tasks_of true level path names ++ (Make (RemoveFolder path) ∷ []) ++ todo) (record w { left = w.left - length names })) moves r
       by true run = run
       by false run = absurd (never_too_many w moves clears run)
-
-  child_gone : (t new : Tree) (p : Names) (name : List ℕ) (here : Option Node) → ShedAll t new p (listing t p) → look t (p ++ name ∷ []) ≡ here → look new (p ++ name ∷ []) ≡ None
-  child_gone t new p name None sheds is = sheds (p ++ name ∷ []) ∙ ap (λ x. cond (among p (listing t p) (p ++ name ∷ [])) None x) is ∙ none_either (among p (listing t p) (p ++ name ∷ []))
-  child_gone t new p name (Some node) sheds is =
-      sheds (p ++ name ∷ []) ∙ ap (λ b. cond b None (look t (p ++ name ∷ []))) (listed_among p [] (record { name = name; kind = kind_of node }) (listing t p) (child_listed t p name node is))
-
-  -- with all names in it a folder goes
-  folder_shed : (t mid : Tree) (p q : Names) (ns : List Name) (b c : Bool) → under p q ≡ b → among p ns q ≡ c → look mid q ≡ cond c None (look t q) → cond b None (look mid q) ≡ cond b None (look t q)
-  folder_shed t mid p q ns true c below some e = refl
-  folder_shed t mid p q ns false true below some e =
-      let k = among_below p ns q some in
-      let wrong : false ≡ true = sym below ∙ ap (under p) k.2 ∙ under_self p (k.0 ∷ k.1) in cc
-  folder_shed t mid p q ns false false below some e = e
 
   leaf_only : (here : Option Node) → is_leaf here ≡ true → here ≡ Some Folder → ⊥
   leaf_only here leaf folder = let wrong : true ≡ false = sym leaf ∙ ap is_leaf folder in cc

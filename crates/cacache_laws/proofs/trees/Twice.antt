@@ -5,6 +5,7 @@ use Rattle.cacache_store.specs.declared.store.{step.Step.TheVariants.{RemoveFile
 use Rattle.cacache_disk.specs.{declared.{luck.Luck.TheVariants.{Plain}, node.Node.{Node, TheVariants.{Folder, File, Link}}}, Tree.{Tree, look, cut, same_path}, LedTo.{place, where_removable, removable}, Apply.{apply, unless}, Rooted.{Rooted}}
 use Rattle.cacache_disk.proofs.{FoundNodes.{and_then_ok, place_ok}, Maps.{same_path-true}, PutNodes.{look-cut}, Standing.{way_clear}}
 use Rattle.cacache_laws.{specs.trees.{Walks.{is_leaf}, Idle.{IsNeeded, IsIdle, LacksIdle}}, proofs.trees.{Idle.{Follows, lacks_still}, Within.{Within}}}
+use Rattle.cacache_loss.proofs.StepCases.{cut_misses}
 
 -- ---- on one tree
 
@@ -82,23 +83,20 @@ cut_within t names q node e = by (same_path q names) (sym (look-cut t names q) �
 cut_here : (t : Tree) (names q : Names) → same_path q names ≡ true → look (cut t names) q ≡ None
 cut_here t names q same = look-cut t names q ∙ ap (λ b. cond b None (look t q)) same
 
-cut_apart : (t : Tree) (names q : Names) → same_path q names ≡ false → look (cut t names) q ≡ look t q
-cut_apart t names q apart = look-cut t names q ∙ ap (λ b. cond b None (look t q)) apart
-
 module _ (cache : List ℕ) (home : Names) (full lean : Tree) (l : LacksIdle cache home full lean) where
   both_cut : (names : Names) → LacksIdle cache home (cut full names) (cut lean names)
   both_cut names = lacks_still cache home full lean (cut full names) (cut lean names) l (cut_within full names) (λ q. at q (same_path q names) refl)
     where
       at : (q : Names) (b : Bool) → same_path q names ≡ b → Follows full lean (cut full names) (cut lean names) q
       at q true same = inl (cut_here lean names q same ∙ sym (cut_here full names q same))
-      at q false apart = inr (cut_apart full names q apart, cut_apart lean names q apart)
+      at q false apart = inr (cut_misses full names q apart, cut_misses lean names q apart)
 
   full_cut : (names : Names) → look lean names ≡ None → LacksIdle cache home (cut full names) lean
   full_cut names none = lacks_still cache home full lean (cut full names) lean l (cut_within full names) (λ q. at q (same_path q names) refl)
     where
       at : (q : Names) (b : Bool) → same_path q names ≡ b → Follows full lean (cut full names) lean q
       at q true same = inl (ap (look lean) (same_path-true q names same) ∙ none ∙ sym (cut_here full names q same))
-      at q false apart = inr (cut_apart full names q apart, refl)
+      at q false apart = inr (cut_misses full names q apart, refl)
 
 -- ---- on both
 

@@ -8,7 +8,8 @@ use Rattle.cacache_disk.proofs.Standing.{way_clear}
 use Rattle.cacache_table.specs.{declared.reply.Reply.{Reply, TheVariants.{Read, Refused}}, Answers.{bytes_in}, StepPaths.{content_path}, Replies.{content_reply}, State.{Site}, Runs.{Moves}}
 use Rattle.cacache_table.proofs.Replies.{reads_shown}
 use Rattle.cacache_value.specs.{Value.{Blob, blob_in, value_of_tree}, Shows.{link_end, blob_bytes}}
-use Rattle.cacache_laws.{specs.trees.{Answers.{AnsweredBy}, Verifying.{is_met, is_good, ReadsTellGood}}, proofs.trees.{Agreeing.{said, answer_of}, Keeping.{content_named}}}
+use Rattle.cacache_laws.specs.trees.{Answers.{AnsweredBy}, Verifying.{is_met, is_good, ReadsTellGood}}
+use Rattle.cacache_laws.proofs.trees.{Agreeing.{said}, Keeping.{content_named}, Within.{read_answer}}
 
 -- ---- if a content is there, a read gives its bytes
 
@@ -32,10 +33,6 @@ tells i (Err fault) reply e = (
   (λ k. absurd (let wrong : Refused (IoError fault []) ≡ Read k.0 = sym e ∙ k.1 in cc)),
   (λ k. absurd (let wrong : false ≡ true = k in cc)),
 )
-
-read_answer : (t : Tree) (path : List ℕ) → (apply t (ReadAll path) Plain).0 ≡ said (file_at t path IsADirectory)
-unfolding apply
-read_answer t path = answer_of (file_at t path IsADirectory) t
 
 module _ (site : Site) (home : Names) (t : Tree) (h : Hash) (blob : Blob) (is : home_of site.cache ≡ Some home) (rooted : Rooted t) (hash : IsHash h) (stands : (value_of_tree (Some home) t).contents h ≡ Some blob) where
   -- what the content's path leads to has the bytes that the cache holds there

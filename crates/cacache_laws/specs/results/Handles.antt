@@ -1,5 +1,5 @@
 -- What open writers did, by their results, on a store in memory.
-use Rattle.std.specs.{Prelude.{◌≡◌, ◌⊎◌, ◌<◌, ◌^◌, ◌++◌, ℕ, List, [], Option, None, Some, Result, Ok, Err, IfOk, IfErr, IfSome, IsUtf8, length}, Io.KnownBytes.{Appends}}
+use Rattle.std.specs.{Prelude.{◌≡◌, ◌⊎◌, ◌<◌, ◌^◌, ◌++◌, ℕ, List, [], Option, None, Some, Result, IfOk, IfErr, IfSome, IsUtf8, length}, Io.KnownBytes.{Appends}}
 use Rattle.cacache_core.specs.{declared.{errors.Error.{Error}, integrity.digest.Hash.{Hash}}, Hashers.{algorithm_of}, Integrity.{IsIntegrity, integrity_under}}
 use Rattle.cacache_store.specs.declared.{env.Env.{Env}, store.{log.LogItem.{LogItem}, plain.PlainTemp.{PlainTemp}}}
 use Rattle.cacache_entry.specs.{FittingEntries.{AreBytes, IsJson}, Latest.{Found}}

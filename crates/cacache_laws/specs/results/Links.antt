@@ -1,5 +1,5 @@
 -- What links gave their caller and left, by their results, on a store in memory.
-use Rattle.std.specs.Prelude.{◌≡◌, ◌⊎◌, ◌<◌, ◌^◌, ℕ, true, List, [], Option, None, Some, Result, Err, IfOk, IfSome, length}
+use Rattle.std.specs.Prelude.{◌≡◌, ◌<◌, ◌^◌, ℕ, true, List, [], Option, None, Some, Result, Err, IfOk, IfSome, length}
 use Rattle.cacache_core.specs.{declared.{errors.{Error.{Error, TheVariants.{IoError}}, Fault.{Fault}}, integrity.{algorithm.Algorithm.TheVariants.{Sha256}, digest.Hash.{Hash}}}, Integrity.{integrity_under}}
 use Rattle.cacache_store.specs.declared.{env.Env.{Env}, store.log.LogItem.{LogItem}}
 use Rattle.cacache_disk.specs.memory.Replay.{shown, tree_of}
