@@ -4,6 +4,7 @@
 //! The module `system` tries random steps on real folders and on a disk in memory.
 #![tactic(auto)]
 
+mod devices;
 mod environment;
 mod held;
 mod made_up;

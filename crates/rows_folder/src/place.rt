@@ -10,6 +10,7 @@ use cacache_system::{Host, System};
 use rows::Flaw;
 use rows::words::{cut, number_of};
 use std::alloc::{AllocError, Global};
+use std::io::ErrorKind;
 use std::rc::Rc;
 
 /// A store over a system, and what rows hold of it.
@@ -39,6 +40,14 @@ fn removed<Y: System + Drop>(alloc: Global, temp: Option<SystemTemp<Y>>) -> Resu
     })
 }
 
+/// A reason as a row shows it.
+fn shown_reason(alloc: Global, reason: Option<ErrorKind>) -> Result<String, AllocError> {
+    match reason {
+        Some(kind) => format!(in alloc; "{kind:?}"),
+        None => String::from_str(alloc, "none"),
+    }
+}
+
 impl<Y: System + AllocGlobal + Clone + Drop> Stand<Y> {
     /// A store without any held handles.
     fn new(store: SystemStore<Y>) -> Stand<Y> {
@@ -52,6 +61,9 @@ impl<Y: System + AllocGlobal + Clone + Drop> Stand<Y> {
     fn came(&mut self, alloc: Global, root: &str, words: &str) -> Result<String, Flaw> {
         if words == "remove" {
             return removed(alloc, self.held.temp.take());
+        }
+        if words == "reason" {
+            return Ok(shown_reason(alloc, self.store.reason())?);
         }
         came(alloc, root, &mut self.store, &mut self.held, words)
     }

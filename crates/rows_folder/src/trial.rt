@@ -1,4 +1,5 @@
 //! What a row asks for, and what came.
+use crate::devices::devices_differ;
 use crate::environment::{is_between, numbers, numbers_differ};
 use crate::memory::appended;
 use crate::place::Place;
@@ -125,6 +126,7 @@ impl Folders {
             ("clock", _) => Ok(format!(in alloc; "{}", given(is_between(self.rt))?)?),
             ("numbers", words) => numbers(alloc, words),
             ("numbers-differ", _) => Ok(format!(in alloc; "{}", numbers_differ(self.rt))?),
+            ("devices-differ", _) => Ok(format!(in alloc; "{}", given(devices_differ(self.rt))?)?),
             ("memory", line) => Ok(appended(alloc, line)?),
             _ => self.group()?.got_with(act, with_calls),
         }

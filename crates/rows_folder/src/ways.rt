@@ -63,6 +63,12 @@ const FULL: Ways = Ways {
     ..PLAIN
 };
 
+/// Each read and write finds no room.
+const NO_ROOM: Ways = Ways {
+    fault: Some(ErrorKind::StorageFull),
+    ..PLAIN
+};
+
 /// Each rename fails.
 const UNMOVED: Ways = Ways {
     rename: Some(ErrorKind::PermissionDenied),
@@ -120,6 +126,12 @@ const OFTEN: Ways = Ways {
     ..SHORT
 };
 
+/// The same, but the first sixty-four are interrupted.
+const AT_LAST: Ways = Ways {
+    interruptions: 64,
+    ..SHORT
+};
+
 /// Each call on a path is denied.
 const DENIED: Ways = Ways {
     refused: Some(ErrorKind::PermissionDenied),
@@ -153,6 +165,7 @@ fn named(name: &str) -> Result<Ways, Flaw> {
         "told" => TOLD,
         "broken" => BROKEN,
         "full" => FULL,
+        "no-room" => NO_ROOM,
         "unmoved" => UNMOVED,
         "uncopied" => UNCOPIED,
         "unowned" => UNOWNED,
@@ -163,6 +176,7 @@ fn named(name: &str) -> Result<Ways, Flaw> {
         "short" => SHORT,
         "once" => ONCE,
         "often" => OFTEN,
+        "at-last" => AT_LAST,
         "denied" => DENIED,
         "unknown" => UNKNOWN,
         "denied-inside" => DENIED_INSIDE,

@@ -9,6 +9,7 @@
 
 mod acts;
 mod answers;
+mod clearing;
 mod cores;
 mod ending;
 mod gates;

@@ -36,7 +36,7 @@ fn of_content<S: Store>(
     to: &str,
 ) -> Result<String, Flaw> {
     let answer = match name {
-        "copy" => read::copy(env, cache, sri, to),
+        "copy" | "copy_async" => read::copy(env, cache, sri, to),
         "copy_unchecked" => read::copy_unchecked(env, cache, sri, to),
         _ => return linked_content(env, name, cache, sri, to),
     };

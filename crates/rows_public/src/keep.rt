@@ -3,17 +3,20 @@
 //!
 //!     ACT | INPUT | RESULT
 //!
-//! An act is a call with its cache and its key or integrity; or the words of the program; or what somebody else does.
-//! `plant` makes the file at a path anew with the input, and `link` puts a link to a target in its place, each with
-//! the folders above it. `folder` makes a folder, and `held` shows what the file at a path holds. `sized` writes the
-//! input and expects so many bytes. The result of the program is its status, its output and its errors. After `stuck`
-//! and a kind of step (`remove`, `exists`, `size`, `list`, `open`, `append`, `read`, `make`, `create`, `write`,
-//! `persist`, `sync_temp`, `sync_file`, `sync_dir`) an act is made over a store on which these steps fail.
+//! An act is a call with its cache and its key or integrity; or the words of the program; or what somebody else does: `plant`
+//! makes the file at a path anew with the input, `link` puts a link to a target in its place, each with the folders above it,
+//! `folder` makes a folder, and `held` tells what the file at a path holds.
+//! `sized` writes the input where so many bytes are expected, and `write_each` the digits of each number below another one, under
+//! themselves. The result of the program is its status, its output and its errors.
+//! Behind `stuck` and a kind of step (`remove`, `exists`, `size`, `list`, `open`, `append`, `read`, `piece`, `later_piece`, `make`,
+//! `create`, `write`, `persist`, `sync_temp`, `sync_file`, `sync_dir`) an act is made over a store where these steps fail.
+//! `later_piece` is each read of a piece but the first.
 //!
 //! A row holds if the act with this input gives this result at both places. The rows of a group that hold are counted, and
 //! each other row is printed with what was wanted and what came.
 
 mod acts;
+mod many;
 mod places;
 mod shown;
 mod stuck;

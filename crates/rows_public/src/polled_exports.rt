@@ -3,6 +3,7 @@ use crate::awaited::awaited;
 use crate::lines::{copied, done};
 use crate::polled::Told;
 use cacache::Integrity;
+use cacache::content::read::copy_async;
 use cacache::store::Store;
 use row_places::On;
 use rows::parts::integrity_of;
@@ -25,6 +26,7 @@ fn by_hash<R: Wait + RandomSource + AllocGlobal, S: Store>(
         "copy_hash_sync" | "copy" => {
             copied(alloc, awaited(rt, cacache::copy_hash(env, cache, sri, to))?)
         }
+        "copy_async" => copied(alloc, awaited(rt, copy_async(env, cache, sri, to))?),
         "copy_hash_unchecked_sync" | "copy_unchecked" => {
             copied(
                 alloc,

@@ -1,4 +1,5 @@
 //! What the rows do. Each function knows some of the names and hands on the others.
+use crate::keep::many::written_each;
 use crate::keep::shown::{done, found, printed, told};
 use crate::keep::stuck::{Kind, Stuck};
 use cacache::env::{Clock, Env, Names, Reasons};
@@ -13,7 +14,7 @@ use row_places::planting::{held, make_folder, plant, plant_link};
 use row_places::{On, on};
 use rows::Flaw;
 use rows::answers::refused;
-use rows::words::{cut, string_of};
+use rows::words::{cut, number_of, string_of};
 use std::alloc::{AllocError, Global};
 
 /// Puts a word after the others.
@@ -136,6 +137,7 @@ fn called<S: Store>(
         "read_sync" => told(alloc, cacache::read_sync(env, cache, words)),
         "remove_sync" => told(alloc, cacache::remove_sync(env, cache, words)),
         "remove_hash_sync" => removed(env, cache, words),
+        "write_each" => told(alloc, written_each(env, cache, number_of(words)?)),
         _ => kept(env, name, cache),
     }
 }
@@ -165,10 +167,7 @@ pub(crate) fn made<S: Reasons>(env: &mut On<S>, act: &str, input: &str) -> Resul
     let Some(kind) = Kind::named(kind) else {
         return Err(Flaw::NotRead);
     };
-    let stuck = Stuck {
-        store: &mut env.store,
-        kind,
-    };
+    let stuck = Stuck::new(&mut env.store, kind);
     let mut over = on(env.alloc, stuck, env.base.as_str())?;
     acted(&mut over, act, input)
 }

@@ -18,6 +18,8 @@ pub(crate) enum Kind {
     Open,
     Append,
     Read,
+    Piece,
+    LaterPiece,
     Make,
     Create,
     Write,
@@ -38,6 +40,8 @@ impl Kind {
             "open" => Some(Kind::Open),
             "append" => Some(Kind::Append),
             "read" => Some(Kind::Read),
+            "piece" => Some(Kind::Piece),
+            "later_piece" => Some(Kind::LaterPiece),
             "make" => Some(Kind::Make),
             "create" => Some(Kind::Create),
             "write" => Some(Kind::Write),
@@ -59,6 +63,7 @@ impl Kind {
             Step::Open(_) => matches!(self, Kind::Open),
             Step::Append(_, _) => matches!(self, Kind::Append),
             Step::ReadAll(_) => matches!(self, Kind::Read),
+            Step::Read(_, _) => matches!(self, Kind::Piece | Kind::LaterPiece),
             Step::MakeDirs(_) => matches!(self, Kind::Make),
             Step::CreateTemp(_) => matches!(self, Kind::Create),
             Step::Write(_, _) => matches!(self, Kind::Write),
@@ -74,8 +79,21 @@ impl Kind {
 /// Another store, on which steps of one kind fail.
 #[derive(Drop)]
 pub(crate) struct Stuck<'a, S> {
-    pub(crate) store: &'a mut S,
-    pub(crate) kind: Kind,
+    store: &'a mut S,
+    kind: Kind,
+    /// How many of these steps are still done, before one fails.
+    done: u32,
+}
+
+impl<'a, S> Stuck<'a, S> {
+    /// The store with a kind of step that fails: `LaterPiece` does from the second one on.
+    pub(crate) fn new(store: &'a mut S, kind: Kind) -> Stuck<'a, S> {
+        let done = match kind {
+            Kind::LaterPiece => 1,
+            _ => 0,
+        };
+        Stuck { store, kind, done }
+    }
 }
 
 impl<'a, S: Store> Store for Stuck<'a, S> {
@@ -91,11 +109,15 @@ impl<'a, S: Store> Store for Stuck<'a, S> {
         ensures logged { Logs None None (plain_step S.File.seen S.Temp.seen step)
             (plain_answer S.File.seen S.Temp.seen result) }
     {
-        if self.kind.is_of(&step) {
-            let_go(step);
-            return Answer::Failed(Fault::Device);
+        if !self.kind.is_of(&step) {
+            return self.store.step(step);
         }
-        self.store.step(step)
+        if self.done > 0 {
+            self.done -= 1;
+            return self.store.step(step);
+        }
+        let_go(step);
+        Answer::Failed(Fault::Device)
     }
 }
 
