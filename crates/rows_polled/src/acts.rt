@@ -56,17 +56,7 @@ fn bytes_read(alloc: Global, came: io::Result<Answered<Vec<u8>>>) -> Result<Stri
     Ok(read(alloc, bytes)?)
 }
 
-/// What a clearing gives.
-pub(crate) fn cleared<R: Wait + RandomSource + AllocGlobal, S: Store>(
-    rt: &R,
-    env: &mut On<S>,
-    cache: &str,
-) -> Result<String, Flaw> {
-    let answer = given(block_on(rt, clear(env, cache)))?;
-    Ok(done(rt.alloc(), answer)?)
-}
-
-/// What a call gives whose future is ready at once.
+/// What a call with a future that is ready at once gives.
 fn called<R: Wait + RandomSource + AllocGlobal, S: Store>(
     rt: &R,
     env: &mut On<S>,
@@ -81,7 +71,10 @@ fn called<R: Wait + RandomSource + AllocGlobal, S: Store>(
             let sri = integrity_of(alloc, what)?;
             bytes_read(alloc, block_on(rt, read_hash(env, cache, &sri)))
         }
-        "clear" => cleared(rt, env, cache),
+        "clear" => {
+            let cleared = given(block_on(rt, clear(env, cache)))?;
+            Ok(done(alloc, cleared)?)
+        }
         "find" => {
             let entry = given(block_on(rt, find_async(env, cache, what)))?;
             Ok(found(alloc, entry)?)

@@ -9,7 +9,6 @@
 
 mod acts;
 mod answers;
-mod clearing;
 mod cores;
 mod ending;
 mod gates;

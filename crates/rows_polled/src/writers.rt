@@ -1,7 +1,6 @@
 //! Writers and their workers: what polls and turns give, one after another.
 use crate::acts::asked;
 use crate::answers::bytes_of;
-use crate::clearing::stepped_with_clearing;
 use crate::ending::{committed, left, unpolled};
 use crate::gates::{turned, worked};
 use crate::opening::opened;
@@ -81,7 +80,7 @@ where
 }
 
 /// What steps give, one after another.
-pub(crate) fn stepped_in_turn<R: Wait + AllocGlobal, T: RemovableTemp>(
+fn stepped_in_turn<R, S, T>(
     rt: &R,
     env: &mut On<S>,
     desk: &mut Desk<T>,
@@ -123,7 +122,7 @@ where
     T: RemovableTemp,
 {
     let (before, end, after) = cut_at_end(steps);
-    let line = stepped_with_clearing(rt, env, &mut desk, before);
+    let line = stepped_in_turn(rt, env, &mut desk, before);
     let (line, desk) = beside(line, desk)?;
     match end {
         "; commit" => committed(rt, env, desk, false, after, line),

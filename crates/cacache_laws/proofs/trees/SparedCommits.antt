@@ -9,9 +9,9 @@ use Rattle.cacache_table.specs.{declared.{command.Put.{Put}, reply.Reply.{Reply}
 use Rattle.cacache_table.proofs.Effects.{puts_commit}
 use Rattle.cacache_value.{specs.{Acts.{PutBytes}, Placed.{Placed}, Value.{value_of_tree}}, proofs.Traces.{traces_act}}
 use Rattle.cacache_history.specs.{Commits.{CommitsAs, Deed, deeds}, History.{Turn}, Setup.{Setup, call_site}, Turns.{made_in}}
-use Rattle.cacache_history.proofs.{Contents.{Carrying.{Makes, own_of}, Deeds.{turns_realize}}, Histories.Holding.{CallHolds, TurnsHold}}
+use Rattle.cacache_history.proofs.{Contents.{Carrying.{Makes, own_of}, Deeds.{turns_realize}}, Histories.Holding.{CallHolds, TurnsHold}, durable.CommitPlaces.{goes_runs}}
 use Rattle.cacache_laws.specs.{Beside.{FitsEntry, own_integrity}, Caches.{setup_at}, InParts.{AreSilent, Begun, IsOnItsWay, turns_in, with_part}, OpenWriters.{CommitsBytes, IsOpened, make_file}, Sequence.{Alike, AreAnswered, after_deeds, plain_moves, tree_on, turns_on}, Standing.{IsStanding}}
-use Rattle.cacache_laws.proofs.{Calls.{Handed.{writes_are_parts}, InParts.{each_through, logs_lead, made_more, runs_through, way_holds}, Sequence.{moves_after, moves_follow, turns_made}}, Putting.{Beside.{put_keeps}, Committing.{deeds_later, is_opened, opened, opened_by}, OpenWriters.{folder_first}, StandingPuts.{Went, nowhere, put_commits, turns_there, went}}, trees.SparedCalls.{Left, beside_left, other_of}}
+use Rattle.cacache_laws.proofs.{Calls.{Handed.{writes_are_parts}, InParts.{each_through, logs_lead, made_more, way_holds}, Sequence.{moves_after, moves_follow, turns_made}}, Putting.{Beside.{put_keeps}, Committing.{deeds_later, is_opened, opened, opened_by}, OpenWriters.{folder_first}, StandingPuts.{Went, nowhere, put_commits, turns_there, went}}, trees.SparedCalls.{Left, beside_left, other_of}}
 
 hold_through : (xs ys : List Turn) → TurnsHold nowhere xs → TurnsHold nowhere ys → TurnsHold nowhere (xs ++ ys)
 hold_through [] ys h k = k
@@ -56,7 +56,7 @@ module _ (cache : List ℕ) (p : Put) (number : ℕ) (fits : FitsEntry cache p) 
   run : Runs begins (made_in (before ++ turns)) r
   run =
       subst (λ (moves : Moves). Runs begins moves r) (sym (made_more before turns ∙ ap (λ (moves : Moves). made_in before ++ moves) (turns_made t c.ran.0)))
-      (runs_through begins (persist (put_commit cache p) c.file) (made_in before) c.ran.0 r holds.goes c.ran.1)
+      (goes_runs begins (persist (put_commit cache p) c.file) (made_in before) c.ran.0 r holds.goes c.ran.1)
 
   -- only the commit itself did something to contents or buckets
   silent : deeds (before ++ turns) ≡ deeds turns
