@@ -120,13 +120,13 @@ where
 
 /// A worker whose writer was dropped, and the environment.
 #[derive(Drop)]
-struct Alone<'a, R, S, T> {
+struct Alone<'a, 'b, 'c, R, S, T> {
     rt: &'a R,
-    env: &'a mut On<S>,
-    worker: &'a mut Worker<T>,
+    env: &'b mut On<S>,
+    worker: &'c mut Worker<T>,
 }
 
-impl<'a, R, S, T> Stepped for Alone<'a, R, S, T>
+impl<'a, 'b, 'c, R, S, T> Stepped for Alone<'a, 'b, 'c, R, S, T>
 where
     R: Wait + RandomSource + AllocGlobal,
     S: Store<Temp = T>,

@@ -58,13 +58,13 @@ fn stepped<R: Wait + AllocGlobal, T: RemovableTemp>(
 
 /// A desk at which steps are made, and the environment of the writer.
 #[derive(Drop)]
-struct Shift<'a, R, S, T> {
+struct Shift<'a, 'b, 'c, R, S, T> {
     rt: &'a R,
-    env: &'a mut On<S>,
-    desk: &'a mut Desk<T>,
+    env: &'b mut On<S>,
+    desk: &'c mut Desk<T>,
 }
 
-impl<'a, R, S, T> Stepped for Shift<'a, R, S, T>
+impl<'a, 'b, 'c, R, S, T> Stepped for Shift<'a, 'b, 'c, R, S, T>
 where
     R: Wait + RandomSource + AllocGlobal,
     S: Store<Temp = T>,
