@@ -1,6 +1,6 @@
 //! Packages that are listed and audited.
 ghost use Rattle.std.specs.Prelude.{◌≡◌, IfOk, Ok, false, map};
-ghost use Rattle.cacache.specs.Laws.{IsCache, LeavesKnownCache, AreAllEntries, ListedEntries, OutOfMemory, tree_of};
+ghost use Rattle.cacache.specs.Laws.{IsCache, FailsForMemory, LeavesKnownCache, AreAllEntries, ListedEntries, OutOfMemory, tree_of};
 ghost use Rattle.uses_client.specs.Audits.{AreRight, IsRight, entries_in};
 
 use cacache::env::{Clock, Env, Names};
@@ -49,7 +49,8 @@ pub fn list<C: Clock, N: Names>(env: &mut Env<MemStore, C, N>, cache: &str) -> R
 
 /// No, unless the error is out of memory, which says nothing about what lies there.
 fn no_unless_memory(error: Error) -> Result<bool>
-    ensures { IfOk result (λ told. (told ≡ false) × (error ≡ OutOfMemory → ⊥)) }
+    ensures no { IfOk result (λ told. (told ≡ false) × (error ≡ OutOfMemory → ⊥)) }
+    ensures memory { FailsForMemory result }
 {
     match error {
         Error::OutOfMemory => Err(Error::OutOfMemory),
@@ -57,7 +58,8 @@ fn no_unless_memory(error: Error) -> Result<bool>
     }
 }
 
-/// Whether whole bytes lie under an integrity. A no says that none do, if the cache's path names a folder.
+/// Whether whole bytes lie under an integrity. A no says that none do, if the cache's path names a folder. Only memory
+/// fails it.
 pub fn is_whole<C: Clock, N: Names>(
     env: &mut Env<MemStore, C, N>,
     cache: &str,
@@ -67,6 +69,7 @@ pub fn is_whole<C: Clock, N: Names>(
     ensures leaves { LeavesKnownCache cache.now env.old.store env.new.store }
     ensures same { tree_of env.new.store ≡ tree_of env.old.store }
     ensures right { IfOk result (IsRight cache.now sri.now env.old.store) }
+    ensures fails { FailsForMemory result }
 {
     let read = cacache::read_hash_sync(env, cache, sri);
     after_read_hash(env, cache, sri, &read);

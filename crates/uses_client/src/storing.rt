@@ -41,6 +41,7 @@ pub fn replace<C: Clock, N: Names>(
     ensures later { IfOk result (λ i. (i ≡ integrity_under Sha256 «data».now)
         × HasKey cache.now key.now i «data».now env.new.store) }
     ensures older { KeepsOlder cache.now key.now «data».now env.old.store env.new.store }
+    ensures fails { IfErr result (λ e. IsExcused e env.old.store env.new.store) }
 {
     store(env, cache, key, data)
 }

@@ -9,7 +9,7 @@ use Rattle.cacache_table.specs.declared.reply.Reply.TheVariants as replies
 use Rattle.cacache_table.specs.State.{Site}
 use Rattle.cacache_value.specs.Placed.{Placed}
 use Rattle.cacache_jobs.specs.Sites.{site_of}
-use Rattle.cacache_laws.specs.{Caches.{HasKey, IsCache}, ExportEffects.{IsApart}, trees.{Answers.{AnswersOn}, Collecting.{LeavesLive, LinksLeadOut}, Contents.{content_in}, Housed.{Housed}, Idle.{Removed}, Mending.{found_in}, Verifying.{Judges}}}
+use Rattle.cacache_laws.specs.{Caches.{HasKey, IsCache}, ExportEffects.{IsApart}, Standing.{IsStanding}, trees.{Answers.{AnswersOn}, Collecting.{LeavesLive, LinksLeadOut}, Contents.{content_in}, Housed.{Housed}, Idle.{Removed}, Mending.{found_in}, Verifying.{Judges}}}
 use Rattle.cacache_keep.specs.{declared.{collecting.Collected.{Collected}, repairing.Repaired.{Repaired}, verifying.Verdict.{Verdict}}, Kept.{LeadsToGood, MendsCache}}
 
 -- ---- verdicts
@@ -63,6 +63,15 @@ ReadsBeside cache key to other added result old =
     → IsCache cache old → HasKey cache key i bytes old → IsApart cache to → (key ≡ other → ⊥)
     → IfOk result (λ v. Meets i v.items × ((v.items ≡ bytes) ⊎ (v.items ≡ added)))
 
+-- In any store that stands a read gives the bytes that the key led to on the older log, where since then
+-- another key was removed by a tombstone
+abbrev pub ReadsSpared : {A : Type 0} → List ℕ → List ℕ → List ℕ → Result (Vec ℕ A) Error
+    → List LogItem → Type 0
+ReadsSpared cache gone key result old =
+    (home : Names) (bytes : List ℕ) (i : List Hash) → home_of cache ≡ Some home
+    → IsStanding cache old → HasKey cache key i bytes old → (gone ≡ key → ⊥)
+    → IfOk result (λ v. v.items ≡ bytes)
+
 -- ---- compactions
 
 -- if each thing lies in its place, a read gives what it might have given on the older log
@@ -86,13 +95,15 @@ MendsPlaced cache base result old new =
 
 -- ---- a sweep, a repair and a compaction
 
--- In between a log led to a tree in which the key leads to this entry, its content is good, and a read may answer
--- these bytes. On the new log the key leads to it, and the content is the old one.
+-- In between a log led to a tree where the key leads to this entry, whose content is good and the old
+-- one, and where a read may answer these bytes. On the new log too the key leads to it, and the content
+-- is the old one.
 abbrev pub KeepsGood : Site → Names → List ℕ → Found → Hash → List LogItem → List LogItem → List ℕ
     → Type 0
 KeepsGood site home key found hash old new bytes =
     (between : List LogItem)
     × LeadsToGood home (tree_of between) key found × MayRead site key between bytes
+    × (content_in home (tree_of between) hash ≡ content_in home (tree_of old) hash)
     × (found_in home (tree_of new) key ≡ Some found)
     × (content_in home (tree_of new) hash ≡ content_in home (tree_of old) hash)
 

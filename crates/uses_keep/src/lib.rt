@@ -1,5 +1,6 @@
 //! Functions of a caller's own that verify a cache in memory, sweep, repair, collect and compact it. Their contracts
-//! are proved only from clauses: those of the calls, of `keep_laws`, of `answer_laws` and of `cache_laws`.
+//! are proved from clauses alone: those of the calls, of `keep_laws`, `later_laws`, `spared_laws`, `answer_laws` and
+//! `cache_laws`. They say what is so if all calls answer Ok. Of errors they say nothing: those are the calls' own.
 #![tactic(auto)]
 
 ghost use Rattle.std.specs.Prelude.{◌≡◌, [], Some, IfOk, map};
@@ -9,17 +10,17 @@ ghost use Rattle.cacache_jobs.specs.Sites.{site_of};
 ghost use Rattle.cacache_laws.specs.trees.Collecting.{LinksLeadOut};
 ghost use Rattle.cacache_laws.specs.trees.Housed.{Housed};
 ghost use Rattle.cacache_laws.specs.trees.Temporary.{LeavesUntemporary};
-ghost use Rattle.uses_keep.specs.Told.{IsMended, JudgesAs, LeavesAs, MendsPlaced, ReadsBeside, ReadsHoused, ReadsStill, ReadsAsRemoved, ReadsTended};
+ghost use Rattle.uses_keep.specs.Told.{IsMended, JudgesAs, LeavesAs, MendsPlaced, ReadsBeside, ReadsHoused, ReadsSpared, ReadsStill, ReadsAsRemoved, ReadsTended};
 
 use cacache_core::errors::Result;
 use cacache_core::keeping::let_go;
 use cacache_disk::memory::MemStore;
 use cacache_keep::{
-    Collected, Planned, Repaired, Swept, Verdict, collect, compact, keep_laws, plan, repair, sweep,
-    verify,
+    Collected, Planned, Repaired, Swept, Verdict, collect, compact, keep_laws, later_laws, plan,
+    repair, sweep, verify,
 };
 use cacache_laws::cache_laws;
-use cacache_laws::trees::answer_laws;
+use cacache_laws::trees::{answer_laws, spared_laws};
 use cacache_store::env::{Clock, Env, Names};
 use cacache_sync::put::bytes::write_sync;
 use cacache_sync::rm::RemoveOpts;
@@ -108,6 +109,28 @@ pub fn read_beside<C: Clock, N: Names>(
     keep_laws(&env.store);
     let bytes = read_sync(env, cache, key)?;
     cache_laws(&env.store);
+    Ok(bytes)
+}
+
+/// Collects a store in memory where everything stands where it may, as after a loss of power. Removes another key by a
+/// tombstone, and reads a key. It reads the bytes that the key led to.
+pub fn read_spared<C: Clock, N: Names>(
+    env: &mut Env<MemStore, C, N>,
+    cache: &str,
+    gone: &str,
+    key: &str,
+) -> Result<Vec<u8>>
+    ensures { ReadsSpared cache.now gone.now key.now result env.old.store }
+{
+    let_go(collect(env, cache)?);
+    keep_laws(&env.store);
+    let tombstone = RemoveOpts::new();
+    tombstone.remove_sync(env, cache, gone)?;
+    keep_laws(&env.store);
+    let bytes = read_sync(env, cache, key)?;
+    keep_laws(&env.store);
+    later_laws();
+    spared_laws();
     Ok(bytes)
 }
 

@@ -1,9 +1,9 @@
--- What a user says about a loss of power follows from the laws of what it leaves.
-use Rattle.std.{proofs.Common.{◌≡◌, inl, inr, ℕ, List, Some, Vec, Global, Result, Ok, Err, refl, sym, ap, subst, ◌∙◌}, specs.Prelude.{IfErr, IsErrAnd}}
+-- What a user says of a loss of power follows from the laws of what it leaves.
+use Rattle.std.{proofs.Common.{◌≡◌, inl, inr, ℕ, List, None, Some, Vec, Global, Result, Ok, Err, refl, sym, ap, subst, ◌∙◌}, specs.Prelude.{IfErr, IsErrAnd}}
 use Rattle.cacache.specs.{Calls.{Error}, Histories.{DurablePut, FewCalls, HistoriesOutlive, History, IsLast, IsStanding, LeadsToDigest, LeftBy, LeftRead, LeftWritten, LinksOutlast, Loss, LossesLeaveLast, LossesLeaveLastLinks, LossesLeavePuts, LossesLeaveStanding, MetDigestsAreSame, Names, Outlives, Put, PutsStandLast, chosen, digest, home}, Laws.{GivesJust, KeepsBeside, OutOfMemory, StaysKnown, tree_of}, Stores.{LogItem}, Integrities.{Hash, Sha256}}
-use Rattle.uses_worlds.specs.{Losses.{GivesPut, GoesOn, LinkSurvives, LinkedSurvives, SomeSurvive, Survives, SurvivesAlone}, declared.losing.Reads.{Reads}}
+use Rattle.uses_worlds.specs.Losses.{GivesPut, GoesOn, LinkSurvives, LinkedSurvives, SomeSurvive, Survives, SurvivesAlone}
 
--- what `?` hands on if memory was refused
+-- what `?` hands on where memory was refused
 pub handed_on : {X : Type 0} (P : Result X Error → Type 0) (r : Result X Error) (e : Error) → IsErrAnd r (λ x. x ≡ e) → e ≡ OutOfMemory → P (Err OutOfMemory) → P r
 handed_on P (Ok x) e same is p = absurd same
 handed_on P (Err x) e same is p = subst (λ x. P (Err x)) (sym (same ∙ is)) p
@@ -38,7 +38,7 @@ survives_here h loss key r old new outlives few puts stands lost read folder p h
     let left = puts h chosen_loss folder key p (tree_of old) outlives few lost here put keyed none in
     (tree_of old, lost, left.0, left.1, λ last. led h key folder p r old new here (left.2 last old refl) (read (stands h chosen_loss old outlives lost)))
 
--- nothing is asked of what is left if nobody appended after the entry
+-- nothing is asked of what is left where nobody appended behind the entry
 pub alone_here : (h : History) (loss : Loss) (key : List ℕ) (r : Result (Vec ℕ Global) Error) (old new : List LogItem) → Outlives h → FewCalls h → LossesLeaveLast → LossesLeaveStanding
     → LeftBy h loss (tree_of old) → (IsStanding h.setup.cache old → LeftRead h.setup.cache key r old new) → SurvivesAlone h key r
 alone_here h loss key r old new outlives few lasts stands lost read folder p here put keyed none last =
@@ -46,7 +46,7 @@ alone_here h loss key r old new outlives few lasts stands lost read folder p her
     let leads = lasts h chosen_loss folder key p (tree_of old) outlives few lost here put keyed none last old refl in
     led h key folder p r old new here leads (read (stands h chosen_loss old outlives lost))
 
--- ---- if the content may be a link
+-- ---- where the content may be a link
 
 pub link_here : (h : History) (loss : Loss) (key : List ℕ) (r : Result (Vec ℕ Global) Error) (old new : List LogItem) → Outlives h → LinksOutlast h → FewCalls h → LossesLeaveLastLinks → LossesLeaveStanding
     → LeftBy h loss (tree_of old) → (IsStanding h.setup.cache old → LeftRead h.setup.cache key r old new) → LinkSurvives h key r
@@ -56,14 +56,14 @@ link_here h loss key r old new outlives outlast few lasts stands lost read folde
     let one = read (stands h chosen_loss old outlives lost) in
     gives p leads.bytes r old new leads.same (one.reads _ leads.bytes leads.leads leads.formed leads.lies) (one.reads_on folder _ leads.bytes here leads.leads leads.formed leads.lies)
 
--- no step changes a link's target if no call exports or removes
+-- no step changes a link's target where no call exports or removes
 pub linked_too : (h : History) (key : List ℕ) (r : Result (Vec ℕ Global) Error) → LinksOutlast h → LinkSurvives h key r → LinkedSurvives h key r
 linked_too h key r outlast survives folder p only here put keyed none last =
     survives folder p here put keyed none (outlast.unchanged only put.before put.rest put.is p) last
 
 -- ---- writes after a loss
 
--- a key leads to bytes with the digest of a put's, even if others were written at their address
+-- a key leads to bytes with the digest of a put's, also where others were written at their address
 leads_beside : (cache written key added : List ℕ) (own : List Hash) (p : Put) (old new : List LogItem) → MetDigestsAreSame → (key ≡ written → ⊥) → KeepsBeside cache (Some written) own added old new
     → LeadsToDigest cache key p old → LeadsToDigest cache key p new
 leads_beside cache written key added own p old new met differ keeps led =
@@ -115,7 +115,7 @@ module _ (h : History) (loss : Loss) (written added key : List ℕ) (old late : 
             let led = still folder p home put keyed none last differ in
             ap (digest p.options.algorithm) ((second one.standing).gives _ led.bytes led.held) ∙ led.same
 
--- ---- histories that this is about
+-- ---- histories of which this speaks
 
 pub some_survive : PutsStandLast → HistoriesOutlive → LossesLeaveLast → SomeSurvive
 some_survive stand outlive lasts cache folder key p is stores =

@@ -42,6 +42,7 @@ returns g c = λ home found is housed led.
       mended,
       second.0,
       reads,
+      before ∙ first.1,
       ap (λ t. found_in home t key) stays ∙ unseen.0.keys key ∙ second.0.leads,
       ap (λ t. content_in home t led.hash) stays ∙ unseen.0.contents led.hash ∙ before ∙ first.1,
     )
