@@ -12,6 +12,7 @@ from edits import TOP, crates
 ROOTS = ["cacache", "cacache_keep"]  # the crates whose public paths users name
 KINDS = "fn|struct|enum|trait|type|const|static|mod"
 VISIBLE = r"(?:pub(?:\([^)]*\))? )?"
+WRITTEN = ("API.md", "API-inner.md")  # the pages of docs that tools/api writes
 QUALIFIERS = r"(?:(?:const|unsafe) )*"
 SILENT = r"'\w+|(?:\w+ = )?(?:[A-Z]|Self)(?:::\w+)?"  # arguments of a type that say nothing: `'a`, `S`, `S::File`, `Temp = T`
 SPEAKING = {"Option", "Poll", "Result", "Vec"}  # types that say too little without their arguments
@@ -186,36 +187,35 @@ def short(text):
     return text[:found.end(1)] + (f"<{', '.join(kept)}>" if kept else "") + short(text[after:])
 
 
+def head(text, at):
+    """A function whose name ends at this place: its generics and its arguments, its result if it has one, and where its clauses begin."""
+    generics = text[at + 1:behind(text, at) - 1] if text[at] == "<" else ""
+    at = behind(text, at) if generics else at
+    after = behind(text, at)
+    rest = re.compile(r"(?s)\s*(?:→\s*(.*?)\s*(?=[{;]|\b(?:requires|ensures|where)\b))?(?:where\b.*?(?=[{;]|\b(?:requires|ensures)\b))?").match(text, after)
+    return generics, text[at + 1:after - 1], rest[1], rest.end()
+
+
 def signature(text, at, name):
     """A function on one line, whose name ends at this place: its name, its arguments and its result."""
-    bounds = {}
-    if text[at] == "<":
-        after = behind(text, at)
-        pairs = (it.partition(":")[::2] for it in split(text[at + 1:after - 1]) if ":" in it)
-        bounds, at = {generic: f"impl {short(bound.strip())}" for generic, bound in pairs}, after
-    after = behind(text, at)
+    generics, listed, result, _ = head(text, at)
+    pairs = (it.partition(":")[::2] for it in split(generics) if ":" in it)
+    bounds = {generic: f"impl {short(bound.strip())}" for generic, bound in pairs}
     arguments = []
-    for argument in split(text[at + 1:after - 1]):
+    for argument in split(listed):
         argument = "env" if re.match(r"env: &(?:'\w+ )?mut Env<", argument) else short(argument.removeprefix("mut "))
         for generic, bound in bounds.items():
             inner = f"({bound})" if "+" in bound else bound
             argument = re.sub(rf"&(mut )?{generic}\b(?!::)", lambda it: f"&{it[1] or ''}{inner}", argument)
             argument = re.sub(rf"\b{generic}\b(?!::)", bound, argument)
         arguments.append(argument)
-    result = re.match(r"(?s)\s*→\s*(.*?)\s*(?:[{;]|\b(?:requires|ensures|where)\b)", text[after:])
-    return f"{name}({', '.join(arguments)})" + (f" → {short(result[1])}" if result else "")
+    return f"{name}({', '.join(arguments)})" + (f" → {short(result)}" if result else "")
 
 
 def clauses(text, at):
     """The clauses of a function whose name ends at this place: each on one line, with its name."""
-    place, found = behind(text, at), []
-    if text[at] == "<":
-        place = behind(text, place)
-    head = re.compile(r"\s*→[^{;]*?(?=\s*(?:[{;]|\b(?:requires|ensures|where)\b))").match(text, place)
-    place = head.end() if head else place
-    where = re.compile(r"(?s)\s*where\b.*?(?=\s*(?:[{;]|\b(?:requires|ensures)\b))").match(text, place)
-    place = where.end() if where else place
-    clause = re.compile(r"\s*((?:requires|ensures)\*?(?: \w+)?) (?=\{)")
+    *_, place = head(text, at)
+    clause, found = re.compile(r"\s*((?:requires|ensures)\*?(?: \w+)?) (?=\{)"), []
     while start := clause.match(text, place):
         place = behind(text, start.end())
         found.append(f"{start[1]} {' '.join(text[start.end():place].split())}")
