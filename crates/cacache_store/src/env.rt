@@ -1,4 +1,4 @@
-//! What a call works with: memory, a store, a clock, numbers for temporary names and a base folder.
+//! The environment of a call: memory, a store, a clock, numbers for temporary names and a base folder.
 ghost use Rattle.std.specs.Prelude.{◌≡◌, IfOk};
 
 mod clock;
@@ -12,21 +12,21 @@ use std::alloc::{AllocError, Global};
 /// The environment of the calls on caches.
 #[derive(Drop)]
 pub struct Env<S, C, N> {
-    /// Where memory comes from.
+    /// The allocator of memory.
     pub alloc: Global,
-    /// Where the caches are.
+    /// The store that holds the caches.
     pub store: S,
-    /// Gives an entry its time.
+    /// Supplies the time of an entry.
     pub clock: C,
-    /// Gives the temporary files their numbers.
+    /// Supplies the numbers of the temporary files.
     pub names: N,
-    /// The folder that a relative target of a link starts from.
+    /// The folder against which a relative link target is resolved.
     pub base: Text,
 }
 
 impl<S: Drop, C: Drop, N: Drop> Env<S, C, N> {
-    /// An environment of these parts. It allocates only for a copy of `base`, which is for links alone: a relative
-    /// target of a link starts from there, and each other path goes to the store as it is.
+    /// Makes an environment from these parts. Only the copy of `base` allocates. `base` is used only for links: a
+    /// relative link target is resolved against it. Every other path goes to the store unchanged.
     pub fn new(
         alloc: Global,
         store: S,

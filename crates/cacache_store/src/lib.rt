@@ -1,4 +1,4 @@
-//! The steps of a store and their answers, and what a call works with: a store, a clock and numbers.
+//! The steps of a store and their answers, and the environment of a call: a store, a clock and numbers.
 #![tactic(auto)]
 
 pub mod env;

@@ -1,4 +1,4 @@
-//! A store does one step at a time and answers it.
+//! A store performs one step at a time and returns its answer.
 ghost use Rattle.std.specs.Prelude.{List, Option};
 ghost use Rattle.cacache_store.specs.declared.store.log.LogItem.{LogItem};
 ghost use Rattle.cacache_store.specs.Plain.{plain_step, plain_answer};
@@ -18,13 +18,13 @@ pub use log::LogItem;
 pub use plain::{PlainFile, PlainTemp};
 pub use step::Step;
 
-/// A step on plain files: what contracts see of a step, and what a log keeps of it.
+/// A step on plain files. Contracts see a step, and a log keeps it, in this form.
 pub type PlainStep = Step<PlainFile, PlainTemp>;
 
-/// An answer with plain files: what contracts see of an answer, and what a log keeps of it.
+/// An answer with plain files. Contracts see an answer, and a log keeps it, in this form.
 pub type PlainAnswer = Answer<PlainFile, PlainTemp>;
 
-/// Where a cache is: real folders, or a disk in memory.
+/// The place of a cache: real folders, or a disk in memory.
 pub trait Store: Drop {
     /// An open file.
     type File: OpenedFile;
@@ -32,11 +32,11 @@ pub trait Store: Drop {
     /// A temporary file that is being written.
     type Temp: TempFile;
 
-    /// All that happened so far, oldest first, if the store keeps a log.
+    /// Everything that happened so far, oldest first, if the store keeps a log.
     ghost log: { Self → Option (List LogItem) };
 
-    /// Does one step and answers it. `Answer::Failed` says why it failed. `Answer::NoMemory` hands the step back:
-    /// memory was refused, and nothing changed.
+    /// Performs one step and returns its answer. `Answer::Failed` says why the step failed. `Answer::NoMemory` returns
+    /// the step: an allocation failed, and nothing changed.
     fn step(&mut self, step: Step<Self::File, Self::Temp>) -> Answer<Self::File, Self::Temp>
         ensures fits { Fits (plain_step Self.File.seen Self.Temp.seen step)
             (plain_answer Self.File.seen Self.Temp.seen result) }

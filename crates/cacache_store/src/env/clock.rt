@@ -1,8 +1,8 @@
-//! The time.
+//! The clock.
 ghost use Rattle.std.specs.Prelude.{ℕ, List, Option, None};
 ghost use Rattle.cacache_store.specs.Given.{AddsAnswer};
 
-/// Tells the time.
+/// A source of the time.
 pub trait Clock: Drop {
     /// The answers so far, oldest first, if the clock keeps them.
     ghost given: { Self → Option (List ℕ) } = { λ _. None };

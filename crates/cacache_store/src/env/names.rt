@@ -4,8 +4,8 @@ ghost use Rattle.cacache_store.specs.Given.{AddsAnswer};
 
 use std::marker::Model;
 
-/// Gives the numbers that temporary files are named by. The calls on caches need them to be fresh, and it is up to
-/// the source to see to that.
+/// A source of the numbers in the names of temporary files. The calls on caches need fresh numbers, and it is up to the
+/// source to ensure that they are.
 pub trait Names: Drop {
     /// The answers so far, oldest first, if the source keeps them.
     ghost given: { Self → Option (List ℕ) } = { λ _. None };
@@ -15,7 +15,7 @@ pub trait Names: Drop {
         ensures given { AddsAnswer (given self.old) (given self.new) result };
 }
 
-/// Counts up from a number, and goes on with 0 after 2^64 - 1. Contracts see the number that comes next.
+/// Counts up from a number, and wraps to 0 after 2^64 - 1. Contracts see the next number.
 #[derive(Debug, Drop)]
 pub struct CountNames {
     next: u64,
@@ -30,7 +30,7 @@ impl Model for CountNames {
 }
 
 impl CountNames {
-    /// Counts from `first`, which is the first answer.
+    /// Starts counting at `first`, which is the first answer.
     pub fn from(first: u64) -> CountNames
         ensures { result ≡ first }
     {

@@ -1,4 +1,4 @@
-//! What a store answers.
+//! The answers of a store.
 ghost use Rattle.std.specs.Prelude.{◌≡◌, IfOk};
 ghost use Rattle.std.specs.Cmp.Lexicographic.{pointwise, lists_per};
 
@@ -9,23 +9,23 @@ use cacache_core::text::Text;
 use std::alloc::{AllocError, Global};
 use std::marker::Model;
 
-/// What kind of thing a name in a folder stands for.
+/// The kind of thing that a name in a folder refers to.
 #[derive(Clone, Copy, Debug, PartialEq, Eq)]
 pub enum Kind {
     /// A file.
     File,
     /// A folder.
     Folder,
-    /// A symbolic link, whatever it leads to.
+    /// A symbolic link, whatever its target is.
     Link,
 }
 
-/// A name in a folder, and what kind of thing it stands for.
+/// A name in a folder, and the kind of thing that it refers to.
 #[derive(Debug, Drop, PartialEq)]
 pub struct Name {
     /// The name, without the folder's path.
     pub name: Text,
-    /// What it stands for.
+    /// The kind of thing that it refers to.
     pub kind: Kind,
 }
 
@@ -45,7 +45,7 @@ impl Model for Listing {
 }
 
 impl Listing {
-    /// The listing of these names. It allocates nothing.
+    /// Makes a listing of these names. Allocates nothing.
     pub fn new(names: Vec<Name>) -> Listing
         ensures { result ≡ names.items }
     {
@@ -73,7 +73,7 @@ impl Listing {
         self.names.as_slice()
     }
 
-    /// The names as a vector. It allocates nothing.
+    /// Returns the names as a vector. Allocates nothing.
     pub fn into_vec(self) -> Vec<Name>
         ensures { result.items ≡ self }
     {
@@ -109,18 +109,18 @@ pub enum Answer<F, T> {
     Bytes(Bytes),
     /// The file that was opened.
     File(F),
-    /// The open file, and the bytes that were read: none only at its end, or if none were asked for.
+    /// The open file, and the bytes read. There are none only at the end of the file, or if none were requested.
     Got(F, Bytes),
-    /// Whether a file or folder is there.
+    /// Whether there is a file or folder.
     There(bool),
-    /// How many bytes a file has.
+    /// The length of a file in bytes.
     Length(u64),
-    /// What is in a folder.
+    /// The names in a folder.
     Names(Listing),
-    /// The temporary file, whose bytes would outlast a loss of power.
+    /// The temporary file. Its bytes would survive a loss of power.
     Synced(T),
-    /// Why the step failed. A file that the step was given is dropped.
+    /// Why the step failed. A file that was passed to the step is dropped.
     Failed(Fault),
-    /// Memory was refused and nothing changed: the step, handed back.
+    /// The step, returned because an allocation failed. Nothing changed.
     NoMemory(Step<F, T>),
 }

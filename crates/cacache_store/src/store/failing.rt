@@ -1,4 +1,4 @@
-//! What a failed step means to a call.
+//! The error that a call returns after a failed step.
 ghost use Rattle.std.specs.Prelude.{◌≡◌, MatchResult};
 ghost use Rattle.cacache_core.specs.declared.errors.Error.TheVariants.{IoError, OutOfMemory};
 
@@ -6,8 +6,8 @@ use cacache_core::errors::{Error, Fault};
 use cacache_core::text::Text;
 use std::alloc::AllocError;
 
-/// The error of a call whose step failed: `IoError` with its message, or `OutOfMemory` where there
-/// was no memory for that.
+/// The error of a call after one of its steps failed: `IoError` with its message, or `OutOfMemory` if there was no
+/// memory for the message.
 pub fn failed(fault: Fault, message: Result<Text, AllocError>) -> Error
     ensures { MatchResult message (λ text. result ≡ IoError fault text)
         (λ _. result ≡ OutOfMemory) }

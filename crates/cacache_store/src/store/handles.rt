@@ -11,25 +11,26 @@ use crate::store::plain::{PlainFile, PlainTemp};
 use std::io;
 use std::io::{Read, Write};
 
-/// What contracts know of an open file.
+/// What contracts know about an open file.
 pub trait FileHandle: Drop {
-    /// The plain file that it is seen as.
+    /// The plain file that contracts see for it.
     ghost seen: { Self → PlainFile };
 }
 
-/// What contracts know of a temporary file.
+/// What contracts know about a temporary file.
 pub trait TempHandle: Drop {
-    /// The plain temporary file that it is seen as.
+    /// The plain temporary file that contracts see for it.
     ghost seen: { Self → PlainTemp };
 }
 
 /// An open file. `Read::read` does what `read_some` does.
 pub trait OpenedFile: FileHandle + Read {
-    /// What a read may answer: the file before, the room for its bytes, the answer and the file after.
+    /// Which answers a read may return, as a relation of four: the file before, the room for its bytes, the answer and
+    /// the file after.
     ghost reads: { Self → ℕ → Result ℕ Error → Self → Type 0 } = { λ _ _ _ _. ⊤ };
 
-    /// Reads some bytes into the front of `buf` and returns how many: none only at the end of the file, or if `buf`
-    /// is empty.
+    /// Reads some bytes into the front of `buf` and returns how many. It reads none only at the end of the file, or if
+    /// `buf` is empty.
     fn read_some(&mut self, buf: &mut [u8]) -> io::Result<usize>
         ensures bound { ReadsAtMost result buf.new }
         ensures left { LeftFalls (Self.seen self.old).left (Self.seen self.new).left result }
@@ -40,7 +41,8 @@ pub trait OpenedFile: FileHandle + Read {
 
 /// A temporary file that is being written. `Write::write` does what `write_some` does.
 pub trait TempFile: TempHandle + Write {
-    /// What a write may answer: the file before, how many bytes are handed in, the answer and the file after.
+    /// Which answers a write may return, as a relation of four: the file before, the number of bytes passed in, the
+    /// answer and the file after.
     ghost writes: { Self → ℕ → Result ℕ Error → Self → Type 0 } = { λ _ _ _ _. ⊤ };
 
     /// Appends some bytes from the front of `buf` to the file and returns how many.

@@ -1,4 +1,4 @@
-//! Plain files: bytes in memory, and what contracts see of any file.
+//! Plain files: bytes in memory. Contracts see any file as a plain file.
 ghost use Rattle.std.specs.Prelude.{◌≡◌, IsOk, length};
 ghost use Rattle.std.specs.Io.{ReadsAtMost};
 ghost use Rattle.std.specs.Io.KnownBytes.{ReadConsumes, WriteAppends};
@@ -10,16 +10,16 @@ use cacache_core::text::Text;
 use std::io;
 use std::io::{ErrorKind, Read, Write};
 
-/// An open file in memory, and what contracts see of any open file.
+/// An open file in memory. Contracts see any open file in this form.
 #[derive(Debug, Drop, PartialEq)]
 pub struct PlainFile {
-    /// At least as many bytes as are still to be read.
+    /// An upper bound on the number of bytes still to be read.
     pub left: usize,
     /// The bytes still to be read, if they are known.
     pub bytes: Option<Bytes>,
 }
 
-/// A temporary file in memory, and what contracts see of any temporary file.
+/// A temporary file in memory. Contracts see any temporary file in this form.
 #[derive(Debug, Drop, PartialEq)]
 pub struct PlainTemp {
     /// Its path until it is moved.

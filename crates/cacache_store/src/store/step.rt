@@ -1,8 +1,8 @@
-//! What a store can be asked to do.
+//! The steps of a store.
 use cacache_core::bytes::Bytes;
 use cacache_core::text::Text;
 
-/// One step on a store and all that it needs, with open files of type `F` and temporary files of type `T`.
+/// One step on a store, with everything that it needs. Open files have type `F`, and temporary files have type `T`.
 #[derive(Debug, Drop, PartialEq)]
 pub enum Step<F, T> {
     /// Makes every missing folder of the path.
@@ -19,30 +19,31 @@ pub enum Step<F, T> {
     ReadAll(Text),
     /// Opens a file for reading.
     Open(Text),
-    /// Reads at most so many bytes from an open file.
+    /// Reads at most this many bytes from an open file.
     Read(F, usize),
-    /// Asks whether there is a file or folder at the path.
+    /// Checks whether there is a file or folder at the path.
     Exists(Text),
-    /// Asks how many bytes the file has.
+    /// Finds the length of the file in bytes.
     Size(Text),
     /// Makes a symbolic link: first its target, then its path.
     Symlink(Text, Text),
     /// Copies the file at the first path to the second path.
     Copy(Text, Text),
-    /// The same with shared storage, which real folders can't do. The second path must be free.
+    /// Copies the file at the first path to the second path with shared storage, which real folders can't do. The
+    /// second path must be free.
     Reflink(Text, Text),
     /// Gives the file at the first path a second name. The second path must be free.
     HardLink(Text, Text),
-    /// Lists what is in a folder.
+    /// Lists the names in a folder.
     ReadDir(Text),
     /// Removes a file or a link.
     RemoveFile(Text),
     /// Removes an empty folder.
     RemoveDir(Text),
-    /// Waits until the temporary file's bytes would outlast a loss of power.
+    /// Waits until the temporary file's bytes would survive a loss of power.
     SyncTemp(T),
-    /// The same for the bytes of the file at the path.
+    /// Waits until the bytes of the file at the path would survive a loss of power.
     SyncFile(Text),
-    /// The same for the names in a folder.
+    /// Waits until the names in a folder would survive a loss of power.
     SyncDir(Text),
 }
