@@ -1,4 +1,4 @@
-//! Answers of calls, as rows say them.
+//! Answers of calls, in the words of rows.
 use crate::flaw::Flaw;
 use crate::words::written_out;
 use cacache_core::errors::{Error, Result as Answered};
@@ -6,7 +6,7 @@ use cacache_core::integrity::{Algorithm, Integrity};
 use cacache_core::keeping::let_go;
 use std::alloc::{AllocError, Global};
 
-/// What a call gives, where nothing is wrong.
+/// The value of a call, if it succeeded.
 pub fn given<T, E: Drop>(came: Result<T, E>) -> Result<T, Flaw> {
     match came {
         Ok(value) => Ok(value),
@@ -17,7 +17,7 @@ pub fn given<T, E: Drop>(came: Result<T, E>) -> Result<T, Flaw> {
     }
 }
 
-/// An error: its fault or its cause, where it has one, and its whole text.
+/// Writes an error: its fault or its cause, if it has one, and its whole text.
 pub fn shown_error(alloc: Global, error: &Error) -> Result<String, AllocError> {
     match error {
         Error::IoError(fault, text) => format!(in alloc; "Refused {fault:?}: {text}"),
@@ -26,7 +26,7 @@ pub fn shown_error(alloc: Global, error: &Error) -> Result<String, AllocError> {
     }
 }
 
-/// The line on an error.
+/// The line for an error.
 pub fn refused(alloc: Global, error: Error) -> Result<String, AllocError> {
     let text = shown_error(alloc, &error);
     let_go(error);
@@ -34,7 +34,7 @@ pub fn refused(alloc: Global, error: Error) -> Result<String, AllocError> {
     written_out(alloc, text.as_str())
 }
 
-/// The line on what was stored.
+/// The line for the result of storing.
 pub fn stored(alloc: Global, answer: Answered<Integrity>) -> Result<String, AllocError> {
     match answer {
         Ok(integrity) => format!(in alloc; "Stored {integrity}"),
@@ -42,7 +42,7 @@ pub fn stored(alloc: Global, answer: Answered<Integrity>) -> Result<String, Allo
     }
 }
 
-/// The line on a check.
+/// The line for the result of a check.
 pub fn checked(alloc: Global, answer: Answered<Algorithm>) -> Result<String, AllocError> {
     match answer {
         Ok(algorithm) => format!(in alloc; "checked {algorithm}"),

@@ -5,25 +5,25 @@ use std::fmt::{self, Display, Formatter, Write};
 /// Why a row can't be tried.
 #[derive(Clone, Copy)]
 pub enum Flaw {
-    /// It isn't written as a row is.
+    /// It doesn't have the syntax of a row.
     NotRead,
-    /// Something in it doesn't fit where it stands, as an answer that no step wants.
+    /// Something in it doesn't fit its position, such as an answer that no step needs.
     Unfit,
-    /// Memory for its texts was refused.
+    /// There was no memory for its texts.
     NoMemory,
-    /// Memory for what it tries was refused.
+    /// There was no memory for what it tries.
     Refused,
     /// The system refused the folder in which rows are tried.
     FolderRefused,
-    /// A step was made that no answer is left for.
+    /// A step was made, but no answer is left for it.
     NoAnswerLeft,
-    /// Memory for a step was refused, which changed nothing.
+    /// There was no memory for a step, and nothing changed.
     RefusedAndKept,
-    /// Memory for a step was refused, which changed something.
+    /// There was no memory for a step, but something changed.
     RefusedAndChanged,
-    /// A call as a future logged something else than the call.
+    /// A call made as a future logged something other than the call itself.
     OtherLog,
-    /// A future that had answered was polled again, and didn't say that it is closed.
+    /// A future that had already answered was polled again, and didn't report that it is closed.
     NotClosed,
 }
 

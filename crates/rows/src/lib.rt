@@ -1,6 +1,6 @@
-//! Rows of text that are read and tried, one to a line. A library of rows is a `Trial`, which says what a row wants and what
-//! came, and a function that hands it to `all_hold`; or a loop of its own over a `Report`, where its rows send its runtime to
-//! threads.
+//! Reads and tries rows of text, one per line. A library of rows has a `Trial`, which returns the expected and the actual
+//! result of a row, and a function that passes it to `all_hold`. If its rows send its runtime to threads, it has its own loop
+//! over a `Report` instead.
 #![tactic(auto)]
 
 pub mod answers;

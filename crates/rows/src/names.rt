@@ -1,4 +1,4 @@
-//! Names that stand for longer texts: `{bucket}` in a row is the text of the line `= bucket ..`.
+//! Names for longer texts: `{bucket}` in a row is replaced by the text of the line `= bucket ..`.
 use crate::words::cut;
 use std::alloc::{AllocError, Global};
 
@@ -9,7 +9,7 @@ struct Named {
     text: String,
 }
 
-/// The names so far.
+/// The names defined so far.
 #[derive(Drop)]
 pub(crate) struct Names {
     alloc: Global,
@@ -25,7 +25,7 @@ impl Names {
         }
     }
 
-    /// One name more: its first word, and the text behind it.
+    /// Defines another name: the first word of the line. The rest of the line is its text.
     pub(crate) fn define(&mut self, line: &str) -> Result<(), AllocError> {
         let (name, text) = cut(line);
         let name = format!(in self.alloc; "{{{name}}}")?;
@@ -34,7 +34,7 @@ impl Names {
         Ok(())
     }
 
-    /// A line with the texts of its names.
+    /// The line with each name replaced by its text.
     pub(crate) fn filled(&self, line: &str) -> Result<String, AllocError> {
         let mut line = String::from_str(self.alloc, line)?;
         for named in &self.names {

@@ -1,11 +1,11 @@
-//! Values of the cache that words stand for.
+//! Reads values of the cache from words.
 use crate::flaw::Flaw;
 use crate::words::{is_nothing, number_of};
 use cacache_core::integrity::{Algorithm, Integrity};
 use cacache_core::keeping::let_go;
 use std::alloc::Global;
 
-/// The algorithm of this name.
+/// The algorithm with this name.
 pub fn algorithm_of(name: &str) -> Result<Algorithm, Flaw> {
     match Algorithm::parse(name) {
         Ok(algorithm) => Ok(algorithm),
@@ -16,7 +16,7 @@ pub fn algorithm_of(name: &str) -> Result<Algorithm, Flaw> {
     }
 }
 
-/// The integrity of this text, in which commas part the hashes.
+/// The integrity of this text, in which commas separate the hashes.
 pub fn integrity_of(alloc: Global, text: &str) -> Result<Integrity, Flaw> {
     let text = text.replace(alloc, ",", " ")?;
     match Integrity::parse(alloc, text.as_str()) {
@@ -28,7 +28,7 @@ pub fn integrity_of(alloc: Global, text: &str) -> Result<Integrity, Flaw> {
     }
 }
 
-/// The expected integrity of a word, if it gives one.
+/// The expected integrity that a word states, or None if the word stands for nothing.
 pub fn expected_of(alloc: Global, word: &str) -> Result<Option<Integrity>, Flaw> {
     if is_nothing(word) {
         return Ok(None);
@@ -36,7 +36,7 @@ pub fn expected_of(alloc: Global, word: &str) -> Result<Option<Integrity>, Flaw>
     Ok(Some(integrity_of(alloc, word)?))
 }
 
-/// The expected size of a word, if it gives one.
+/// The expected size that a word states, or None if the word stands for nothing.
 pub fn size_of(word: &str) -> Result<Option<usize>, Flaw> {
     if is_nothing(word) {
         return Ok(None);

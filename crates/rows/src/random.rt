@@ -1,13 +1,13 @@
-//! Numbers that look random.
+//! Pseudorandom numbers.
 
-/// A source of numbers, which gives the same ones for the same seed: splitmix64.
+/// A pseudorandom generator, splitmix64. The same seed yields the same numbers.
 #[derive(Drop)]
 pub struct Random {
     state: u64,
 }
 
 impl Random {
-    /// The source of this seed.
+    /// A generator with this seed.
     pub fn new(seed: u64) -> Random {
         Random { state: seed }
     }
@@ -21,7 +21,7 @@ impl Random {
         mixed ^ (mixed >> 31)
     }
 
-    /// A number below this one; 0 where there is none.
+    /// A number below this one; 0 if there is none.
     pub fn below(&mut self, count: usize) -> usize {
         match self.next().checked_rem(count as u64) {
             Some(number) => number as usize,
@@ -29,7 +29,7 @@ impl Random {
         }
     }
 
-    /// One of these; None where there is none.
+    /// One of these items; None if there are no items.
     pub fn pick<'a, T>(&mut self, items: &'a [T]) -> Option<&'a T> {
         items.get(self.below(items.len()))
     }

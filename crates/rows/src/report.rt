@@ -1,4 +1,4 @@
-//! What is printed of rows.
+//! Prints the results of rows.
 use crate::flaw::Flaw;
 use crate::names::Names;
 use crate::tally::Tally;
@@ -6,34 +6,34 @@ use crate::trial::{Outcome, Trial};
 use std::alloc::Global;
 use std::io;
 
-/// What a line of rows is.
+/// The kind of a line.
 #[derive(Drop)]
 pub enum Line {
     /// A group of rows begins.
     Group,
-    /// A row, in which names are filled in.
+    /// A row, with each name replaced by its text.
     Row(String),
-    /// It is empty, or gives a name: there is nothing to try.
+    /// An empty line, or one that defines a name: there is nothing to try.
     Other,
 }
 
-/// How the rows went so far. A library whose rows send its runtime to threads goes through them by this; each other one has
-/// a `Trial`.
+/// The results of the rows so far. A library of rows that send its runtime to threads loops over them with a `Report`. Every
+/// other library has a `Trial`.
 #[derive(Drop)]
 pub struct Report {
     alloc: Global,
     names: Names,
     /// The group's heading.
     heading: String,
-    /// How many lines were read.
+    /// The number of lines read so far.
     line: u64,
-    /// The rows of the group.
+    /// The counts for the group.
     group: Tally,
-    /// The rows of all groups.
+    /// The counts for all groups.
     all: Tally,
 }
 
-/// Whether a row holds; prints it where it doesn't.
+/// Whether a row holds. Prints the row if it doesn't.
 fn is_held(
     rt: &impl Print,
     line: u64,
@@ -55,7 +55,7 @@ fn is_held(
 }
 
 impl Report {
-    /// Before the first line.
+    /// A report before the first line.
     pub fn new(alloc: Global) -> Report {
         Report {
             alloc,
@@ -67,7 +67,7 @@ impl Report {
         }
     }
 
-    /// Prints how the group went, and forgets it.
+    /// Prints the counts of the group, and resets them.
     fn close(&mut self, rt: &impl Print) -> io::Result<()> {
         let heading = self.heading.as_str();
         match self.group {
@@ -79,8 +79,8 @@ impl Report {
         Ok(())
     }
 
-    /// Reads a line: `# ` begins a group, `= ` gives a name, an empty line says nothing, and any other one is a row. Prints
-    /// how the group before went.
+    /// Reads a line: `# ` begins a group, `= ` defines a name, an empty line is ignored, and any other line is a row. At a
+    /// new group, it prints the counts of the group before.
     pub fn read(&mut self, rt: &impl Print, line: &str) -> io::Result<Line> {
         self.line = self.line.saturating_add(1);
         if line.is_empty() {
@@ -98,7 +98,7 @@ impl Report {
         Ok(Line::Row(self.names.filled(line)?))
     }
 
-    /// Counts a row, and prints it where it doesn't hold.
+    /// Counts a row, and prints it if it doesn't hold.
     pub fn count(
         &mut self,
         rt: &impl Print,
@@ -111,7 +111,7 @@ impl Report {
         Ok(())
     }
 
-    /// Prints how the last group went and how many rows hold in all, and tells whether each one does.
+    /// Prints the counts of the last group and how many rows hold in all. Returns whether every row holds.
     pub fn end(&mut self, rt: &impl Print) -> io::Result<bool> {
         self.close(rt)?;
         println!(rt; "all: {} rows hold", self.all.held)?;
@@ -119,7 +119,7 @@ impl Report {
     }
 }
 
-/// Does what a line says.
+/// Handles a line.
 fn take(
     rt: &impl Print,
     report: &mut Report,
@@ -139,9 +139,9 @@ fn take(
     }
 }
 
-/// Tries the lines of a text as rows, each with this trial. A line `# ..` begins a group of rows, and after a line `= NAME ..`
-/// the text behind the name stands for `{NAME}` in a row. Prints how many rows of each group hold, and each row that doesn't
-/// with what was wanted and what came. Tells whether each row holds.
+/// Tries the lines of a text as rows, each with this trial. A line `# ..` begins a group of rows. After a line `= NAME ..`,
+/// `{NAME}` in a row is replaced by the text that follows the name. Prints how many rows of each group hold. Prints each row
+/// that doesn't hold, with the expected and the actual result. Returns whether every row holds.
 pub fn all_hold(
     rt: &(impl Print + AllocGlobal),
     rows: &str,

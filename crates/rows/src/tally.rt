@@ -1,7 +1,7 @@
 //! Counts of rows.
 ghost use Rattle.std.specs.Prelude.{◌≡◌, ◌<◌, ◌↔◌, IsTrue, IsFalse};
 
-/// How many rows hold, and how many don't.
+/// The number of rows that hold, and of those that don't.
 #[derive(Clone, Copy)]
 pub(crate) struct Tally {
     pub(crate) held: u64,
@@ -9,7 +9,7 @@ pub(crate) struct Tally {
 }
 
 impl Tally {
-    /// Of no rows.
+    /// The counts before any row.
     pub(crate) const NONE: Tally = Tally { held: 0, wrong: 0 };
 
     /// Counts a row.
@@ -24,7 +24,7 @@ impl Tally {
         }
     }
 
-    /// Whether each row holds.
+    /// Whether every row holds.
     pub(crate) fn all_hold(&self) -> bool
         ensures { IsTrue result ↔ (self.now.wrong ≡ 0) }
     {

@@ -1,15 +1,15 @@
-//! What a library of rows tries.
+//! How a library of rows tries a row.
 ghost use Rattle.std.specs.Prelude.{◌≡◌, ◌↔◌, IsTrue};
 ghost use Rattle.std.specs.String.{string_bytes};
 
 use crate::flaw::Flaw;
 
-/// What a row wants, and what came.
+/// The expected and the actual result of a row.
 #[derive(Drop)]
 pub struct Outcome {
-    /// What the row says that comes.
+    /// The result that the row states.
     pub wanted: String,
-    /// What came, in the words of rows.
+    /// The actual result, in the words of rows.
     pub got: String,
 }
 
@@ -22,11 +22,12 @@ impl Outcome {
     }
 }
 
-/// What a library of rows tries.
+/// How a library of rows tries a row.
 pub trait Trial {
-    /// Forgets the rows so far: a group of rows begins.
+    /// Begins a group of rows, and forgets the rows so far.
     fn begin(&mut self) {}
 
-    /// Tries a row, in which names are filled in: it holds if what it wants is what came.
+    /// Tries a row, in which each name is already replaced by its text. The row holds if the actual result is the expected
+    /// one.
     fn outcome(&mut self, row: &str) -> Result<Outcome, Flaw>;
 }

@@ -2,7 +2,7 @@
 use crate::flaw::Flaw;
 use std::alloc::{AllocError, Global};
 
-/// The first column of a row, and those behind it.
+/// The first column of a row, and the columns after it.
 pub fn column(row: &str) -> Result<(&str, &str), Flaw> {
     match row.split_once(" | ") {
         Some(columns) => Ok(columns),
@@ -38,7 +38,7 @@ pub fn string_of(alloc: Global, word: &str) -> Result<String, AllocError> {
     text.replace(alloc, "\\0", "\0")
 }
 
-/// Bytes as a word, in which line feeds, tabs and NULs are not written out; `?` where they aren't UTF-8.
+/// Bytes as a word, without escaping line feeds, tabs and NULs; `?` if the bytes aren't UTF-8.
 pub fn word_of(bytes: &[u8]) -> &str {
     if bytes.is_empty() {
         return "-";
@@ -46,7 +46,7 @@ pub fn word_of(bytes: &[u8]) -> &str {
     str::from_utf8(bytes).unwrap_or("?")
 }
 
-/// A text with its line feeds, tabs and NULs written out.
+/// A text with its line feeds, tabs and NULs escaped.
 pub fn written_out(alloc: Global, text: &str) -> Result<String, AllocError> {
     let text = text.replace(alloc, "\n", "\\n")?;
     let text = text.replace(alloc, "\t", "\\t")?;
