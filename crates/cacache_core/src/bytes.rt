@@ -1,4 +1,4 @@
-//! Bytes that are shared in place of being copied.
+//! Bytes that are shared instead of copied.
 ghost use Rattle.std.specs.Prelude.{◌≡◌, ◌≤◌, ◌==◌, ◌++◌, ℕ, List, IfOk, OnOk, OnErr, length, take, drop};
 ghost use Rattle.std.specs.Arc.{arc_value};
 ghost use Rattle.std.specs.Bool.{nat_eq};
@@ -9,7 +9,7 @@ use std::alloc::{AllocError, Global};
 use std::marker::Model;
 use std::sync::Arc;
 
-/// A window of a shared vector of bytes. Contracts see the list of the bytes in the window.
+/// A window into a shared vector of bytes. Contracts see the list of the bytes in the window.
 #[derive(Debug, Drop)]
 pub struct Bytes {
     shared: Arc<Vec<u8>, Global>,
@@ -29,7 +29,7 @@ impl Model for Bytes {
 }
 
 impl Bytes {
-    /// The vector's bytes, which are moved. The only memory taken is that of the count of owners.
+    /// Moves the vector's bytes in. Allocates only the count of owners.
     pub fn new(alloc: Global, bytes: Vec<u8>) -> Result<Bytes, AllocError>
         ensures { IfOk result (λ b. b ≡ bytes.items) }
     {
@@ -49,7 +49,7 @@ impl Bytes {
         }
     }
 
-    /// The same bytes with one owner more, which copies none of them.
+    /// The same bytes with one more owner. Copies none of them.
     pub fn share(&self) -> Result<Bytes, AllocError>
         ensures { IfOk result (λ b. b ≡ self.now) }
     {
@@ -60,7 +60,7 @@ impl Bytes {
         })
     }
 
-    /// What follows the first `count` bytes.
+    /// The bytes after the first `count`.
     pub fn rest(self, count: usize) -> Bytes
         requires { count ≤ length self }
         ensures { result ≡ drop count self }
@@ -111,8 +111,8 @@ impl Bytes {
         &self.shared[self.from..self.to]
     }
 
-    /// Puts more bytes behind these. They grow in place where nobody else owns the vector inside,
-    /// and else as a copy.
+    /// Appends more bytes. They grow in place if nobody else owns the vector inside; otherwise they
+    /// are copied.
     pub fn extend(&mut self, more: &[u8]) -> Result<(), AllocError>
         ensures ok { OnOk result (self.new ≡ self.old ++ more.now) }
         ensures err { OnErr result (self.new ≡ self.old) }
@@ -127,7 +127,7 @@ impl Bytes {
         Ok(())
     }
 
-    /// A copy with more bytes behind it.
+    /// A copy with more bytes appended.
     fn copied_with(&self, more: &[u8]) -> Result<Bytes, AllocError>
         ensures { IfOk result (λ all. all ≡ self.now ++ more.now) }
     {
@@ -138,8 +138,8 @@ impl Bytes {
         Bytes::new(alloc, all)
     }
 
-    /// The shared vector of these bytes: the one inside where the window is all of it, and else
-    /// a copy with one owner.
+    /// The shared vector of these bytes: the one inside if the window covers all of it, otherwise a
+    /// copy with one owner.
     pub fn into_shared(self) -> Result<Arc<Vec<u8>, Global>, AllocError>
         ensures { IfOk result (λ shared. (arc_value shared).items ≡ self) }
     {
@@ -155,8 +155,8 @@ impl Bytes {
         Ok(shared)
     }
 
-    /// The bytes as a vector: the one inside, moved, where nobody else owns it and the window is
-    /// all of it, and else a copy.
+    /// The bytes as a vector. It is the one inside, moved, if nobody else owns it and the window
+    /// covers all of it; otherwise it is a copy.
     pub fn into_vec(self, alloc: Global) -> Result<Vec<u8>, AllocError>
         ensures { IfOk result (λ v. v.items ≡ self) }
     {

@@ -19,31 +19,31 @@ use thiserror::Error as ErrorTexts;
 /// Why a step of a store failed.
 #[derive(Clone, Copy, Debug, PartialEq, Eq)]
 pub enum Fault {
-    /// Nothing stands at the path, or a folder on the way is missing.
+    /// There is nothing at the path, or a folder on the way is missing.
     NotFound,
-    /// Something stands where a new file, folder or link was to be made.
+    /// There is already something at the path of the new file, folder or link.
     AlreadyExists,
-    /// A file or a link stands where a folder was wanted.
+    /// There is a file or a link, but a folder was needed.
     NotADirectory,
-    /// A folder stands where a file was wanted.
+    /// There is a folder, but a file was needed.
     IsADirectory,
-    /// A folder that was to be removed holds something.
+    /// A folder that was to be removed isn't empty.
     NotEmpty,
     /// The store can't do this kind of step: real folders make no reflinks.
     Unsupported,
-    /// The path can't name anything: it has a name `..` or a NUL.
+    /// The path can't name anything, because it has a name `..` or a NUL.
     InvalidInput,
-    /// A write took none of the bytes.
+    /// A write wrote none of the bytes.
     WriteZero,
-    /// An append took only a part of its line.
+    /// An append wrote only a part of its line.
     ShortAppend,
-    /// The future or the writer was over before.
+    /// The future or the writer had already ended.
     Closed,
-    /// A polled write was handed other bytes than the one that is under way.
+    /// A polled write was passed other bytes than the write under way.
     OtherBytes,
     /// The worker of a polled writer is gone.
     Cancelled,
-    /// Too many links were followed, or a folder lies too deep.
+    /// Too many links were followed, or a folder is nested too deeply.
     TooDeep,
     /// Any other failure of the device or the system.
     Device,
@@ -69,7 +69,7 @@ impl From<ErrorKind> for Fault {
 }
 
 impl Fault {
-    /// A few plain words that say the fault, as `not found`.
+    /// A few plain words for the fault, such as `not found`.
     fn words(self) -> &'static str
         ensures { result.now ≡ fault_text self }
     {
@@ -92,8 +92,8 @@ impl Fault {
     }
 }
 
-/// A few plain words in lower case, with no full stop, as `not found` or `folder not empty`. Takes
-/// no memory.
+/// A few plain words in lower case, without a full stop, such as `not found` or `folder not empty`.
+/// Allocates nothing.
 impl fmt::Display for Fault {
     ghost output = { λ fault. Some (fault_text fault) };
 
@@ -107,53 +107,54 @@ impl fmt::Display for Fault {
 pub enum SerdeCause {
     /// Its time is 2^64 milliseconds or more.
     TimeTooLarge,
-    /// A number of its metadata isn't whole in 64 bits.
+    /// A number of its metadata isn't an integer that fits in 64 bits.
     NotWhole,
-    /// Its text would nest deeper than 127 levels, its own object counted.
+    /// Its text would nest deeper than 127 levels, including its own object.
     TooDeep,
 }
 
 /// Why an integrity was refused.
 #[derive(Debug, Drop, ErrorTexts)]
 pub enum IntegrityFault {
-    /// The text has no hash, or its first wrong hash is wrong in its form.
+    /// The text has no hash, or its first wrong hash is malformed.
     #[error("integrity text not readable")]
     BadText,
-    /// The first wrong hash of the text is well-formed, with a digest under three bytes.
+    /// The first wrong hash of the text is well-formed, but its digest is shorter than three bytes.
     #[error("integrity digest shorter than three bytes")]
     ShortDigest,
-    /// Bytes don't meet the wanted integrity; theirs is the second.
+    /// The bytes don't meet the expected integrity, which is the first. The second is that of the
+    /// bytes.
     #[error("Integrity check failed.\n\tWanted: {0}\n\tActual: {1}")]
     Check(Integrity, Integrity),
 }
 
-/// Why a call failed. Its text tells which step failed, and where; `fault` tells why, which the text
-/// leaves out.
+/// Why a call failed. Its text says which step failed, and where. `fault` returns why, which the
+/// text omits.
 #[derive(Debug, Drop, ErrorTexts)]
 pub enum Error {
-    /// The cache and the key: the key's lookup is None.
+    /// The cache and the key. Looking up the key returned None.
     #[error("Entry not found for key {1:?} in cache {0:?}")]
     EntryNotFound(Text, Text),
-    /// The sizes wanted and found, in bytes.
+    /// The expected size and the actual size, in bytes.
     #[error("Size check failed.\n\tWanted: {0}\n\tActual: {1}")]
     SizeMismatch(usize, usize),
-    /// A step of the call failed; the text says which.
+    /// A step of the call failed. The text says which one.
     #[error("{1}")]
     IoError(Fault, Text),
-    /// The entry can't be written; the text says which.
+    /// The entry can't be written. The text says which one.
     #[error("{1}")]
     SerdeError(SerdeCause, Text),
-    /// A text that is no integrity, or bytes that don't meet one.
+    /// A text isn't an integrity, or bytes don't meet one.
     #[error("{0}")]
     IntegrityError(IntegrityFault),
-    /// There was no memory left for the call.
+    /// The call ran out of memory.
     #[error("out of memory")]
     OutOfMemory,
 }
 
 impl Error {
-    /// Which fault made a step fail: that of an `IoError`. None for each other error. Takes no
-    /// memory.
+    /// The fault that made a step fail: that of an `IoError`. None for every other error. Allocates
+    /// nothing.
     pub fn fault(&self) -> Option<Fault>
         ensures { result ≡ fault_in self.now }
     {

@@ -1,2 +1,2 @@
-//! Hashers that are fed in pieces.
+//! Hashers that take their input in pieces.
 pub use crate::integrity::hasher::{Finished, Hasher};

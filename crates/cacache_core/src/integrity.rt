@@ -1,4 +1,4 @@
-//! What bytes are known by: integrities, and the algorithms that compute their digests.
+//! Integrities, which identify bytes, and the algorithms that compute their digests.
 mod algorithm;
 mod builder;
 mod checker;

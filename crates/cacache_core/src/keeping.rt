@@ -1,13 +1,13 @@
-//! Values that are let go by a call: an inline drop is proved field by field, at each exit of a function, and a call is one step.
+//! Drops values by a call. An inline drop is proved field by field, at each exit of a function; a call is one step.
 ghost use Rattle.std.specs.Prelude.{◌≡◌, Ok, Err, IfOk, IfErr};
 
 use std::mem::replace;
 
-/// Lets a value go by a call, whose proof has nothing of the value's parts.
+/// Drops a value by a call. The proof of the call doesn't see the parts of the value.
 #[inline(always)]
 pub fn let_go<T: Drop>(_value: T) {}
 
-/// Puts a value in the place of another, which is let go.
+/// Replaces a value with another, and drops the old one.
 #[inline(always)]
 pub fn set<T: Drop>(place: &mut T, value: T)
     ensures { place.new ≡ value }
@@ -15,7 +15,8 @@ pub fn set<T: Drop>(place: &mut T, value: T)
     let_go(replace(place, value));
 }
 
-/// The value with another beside it, or the error alone: then the other is let go.
+/// Returns the value paired with the other. On an error, it returns only the error, and drops the
+/// other.
 #[inline(always)]
 pub fn beside<A, B: Drop, E>(tried: Result<A, E>, other: B) -> Result<(A, B), E>
     ensures ok { IfOk result (λ both. (tried ≡ Ok both.0) × (both.1 ≡ other)) }

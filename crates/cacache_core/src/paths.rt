@@ -1,5 +1,5 @@
-//! Where contents, buckets and temporary files lie below a cache folder. What holds of all these
-//! paths is said at `laws::path_laws`.
+//! The paths of contents, buckets and temporary files below a cache folder. `laws::path_laws`
+//! states what holds of all these paths.
 ghost use Rattle.std.specs.Prelude.{◌≡◌, ◌≤◌, ◌<◌, ◌++◌, ◌∷◌, [], ℕ, List, IfOk, OnOk, IfSome, length, drop, slice_index, encode_utf8, string_bytes};
 ghost use Rattle.hex.specs.Hex.{encode_lower, lower_digits};
 ghost use Rattle.cacache_core.specs.Integrity.{address as address_of};
@@ -23,16 +23,16 @@ pub const INDEX_AREA: &str = "index-v5";
 /// The folder of temporary files.
 pub const TEMP_AREA: &str = "tmp";
 
-/// Room for the names behind a cache folder in the path of a SHA-256 content.
+/// Room for the names after the cache folder in the path of a SHA-256 content.
 const ROOM: usize = 96;
 
-/// The digits of the longest digest.
+/// The number of hex digits of the longest digest.
 const MOST_DIGITS: usize = 128;
 
 /// The lower-case hex digits.
 const DIGITS: &[u8; 16] = b"0123456789abcdef";
 
-/// A copy of a path with room for the names that follow it, so that it needn't grow name by name.
+/// A copy of a path with room for the names that follow it, so that it needn't grow at each name.
 fn roomy(alloc: Global, path: &str) -> Result<String, AllocError>
     ensures { IfOk result (λ s. string_bytes s ≡ path.now) }
 {
@@ -41,8 +41,8 @@ fn roomy(alloc: Global, path: &str) -> Result<String, AllocError>
     Ok(copy)
 }
 
-/// A path and a name below it. An empty path gives the name, and a path that ends in `/` gets no
-/// further one.
+/// Joins a path and a name below it. An empty path yields the name, and a path that ends in `/`
+/// gets no further one.
 pub fn join(alloc: Global, path: &str, name: &str) -> Result<Text, AllocError>
     ensures { IfOk result (λ t. t ≡ join_of path.now name.now) }
 {
@@ -51,26 +51,26 @@ pub fn join(alloc: Global, path: &str, name: &str) -> Result<Text, AllocError>
     Ok(Text::new(joined))
 }
 
-/// Whether a piece of a path is `..`, which no path may have.
+/// Whether a component of a path is `..`, which no path may have.
 pub fn is_above(piece: &str) -> bool
     ensures { result ≡ is_above piece.now }
 {
     piece == ".."
 }
 
-/// Whether a piece of a path names something: it is neither empty nor `.`.
+/// Whether a component of a path names something: it is neither empty nor `.`.
 pub fn is_name(piece: &str) -> bool
     ensures { result ≡ is_name piece.now }
 {
     !(piece.is_empty() || piece == ".")
 }
 
-/// Where a file lies.
+/// The place of a file.
 #[derive(Debug, Drop)]
 pub struct Place {
     /// The folder that holds it.
     pub folder: Text,
-    /// Its own path, of which the folder's is the front.
+    /// The file's own path, which begins with the folder's path.
     pub path: Text,
 }
 
@@ -85,7 +85,7 @@ pub fn content_path(alloc: Global, cache: &str, sri: &Integrity) -> Result<Text,
     Ok(Text::new(path))
 }
 
-/// Where that content lies.
+/// The place of the content that has this integrity's address.
 pub fn content_place(alloc: Global, cache: &str, sri: &Integrity) -> Result<Place, AllocError>
     ensures folder { IfOk result
         (λ p. IfSome (address_of sri.now) (λ h. p.folder ≡ folder_of_hash cache.now h)) }
@@ -97,7 +97,7 @@ pub fn content_place(alloc: Global, cache: &str, sri: &Integrity) -> Result<Plac
     place_in(alloc, folder, address.digest.as_slice())
 }
 
-/// The path of the bucket of a key, below the cache folder. It depends on the key's SHA-1 alone.
+/// The path of the bucket of a key, below the cache folder. Of the key, only its SHA-1 matters.
 pub fn bucket_path(alloc: Global, cache: &str, key: &str) -> Result<Text, AllocError>
     ensures { IfOk result (λ t. t ≡ joined cache.now (bucket_names key.now)) }
 {
@@ -107,7 +107,7 @@ pub fn bucket_path(alloc: Global, cache: &str, key: &str) -> Result<Text, AllocE
     Ok(Text::new(path))
 }
 
-/// Where that bucket lies. The key is hashed once for both.
+/// The place of the bucket of a key. The key is hashed once for both folder and path.
 pub fn bucket_place(alloc: Global, cache: &str, key: &str) -> Result<Place, AllocError>
     ensures folder { IfOk result
         (λ p. p.folder ≡ joined cache.now (folder_names (bucket_names key.now))) }
@@ -118,8 +118,8 @@ pub fn bucket_place(alloc: Global, cache: &str, key: &str) -> Result<Place, Allo
     place_in(alloc, folder, &digest)
 }
 
-/// Where the temporary file of a number lies: `.tmp` and the number in 16 lower-case hex digits,
-/// below the folder `tmp`.
+/// The place of the temporary file with this number. Its name is `.tmp` and the number in 16
+/// lower-case hex digits, below the folder `tmp`.
 pub fn temp_place(alloc: Global, cache: &str, number: u64) -> Result<Place, AllocError>
     ensures folder { IfOk result
         (λ p. p.folder ≡ joined cache.now (folder_names (temp_names number))) }
@@ -137,7 +137,7 @@ pub fn temp_place(alloc: Global, cache: &str, number: u64) -> Result<Place, Allo
     })
 }
 
-/// The place below the folder of a digest's first two bytes.
+/// The place of a digest's file in this folder, which belongs to the digest's first two bytes.
 fn place_in(alloc: Global, folder: String, digest: &[u8]) -> Result<Place, AllocError>
     requires { 2 ≤ length digest.now }
     ensures folder { IfOk result (λ p. p.folder ≡ string_bytes folder) }
@@ -152,7 +152,7 @@ fn place_in(alloc: Global, folder: String, digest: &[u8]) -> Result<Place, Alloc
     })
 }
 
-/// The folder of the contents whose digests have the first two bytes of this hash.
+/// The folder of the contents with digests that share the first two bytes of this hash.
 fn folder_of_content(alloc: Global, cache: &str, address: &Hash) -> Result<String, AllocError>
     requires { 2 ≤ length address.now.digest }
     ensures { IfOk result
@@ -165,7 +165,7 @@ fn folder_of_content(alloc: Global, cache: &str, address: &Hash) -> Result<Strin
     Ok(path)
 }
 
-/// The folder of the buckets whose digests have the first two bytes of this one.
+/// The folder of the buckets with digests that share the first two bytes of this one.
 fn folder_of_bucket(alloc: Global, cache: &str, digest: &[u8]) -> Result<String, AllocError>
     requires { 2 ≤ length digest.now }
     ensures { IfOk result
@@ -177,7 +177,7 @@ fn folder_of_bucket(alloc: Global, cache: &str, digest: &[u8]) -> Result<String,
     Ok(path)
 }
 
-/// Puts behind a path the names of a digest's first byte and of its second, which are folders.
+/// Appends to a path the names of a digest's first and second byte, which are folders.
 fn push_first_names(path: &mut String, digest: &[u8]) -> Result<(), AllocError>
     requires { 2 ≤ length digest.now }
     ensures { OnOk result
@@ -187,7 +187,7 @@ fn push_first_names(path: &mut String, digest: &[u8]) -> Result<(), AllocError>
     push_hex(path, &digest[1..2])
 }
 
-/// Puts behind a path the name of all other bytes of a digest, which is a file.
+/// Appends to a path the name of the digest's other bytes, which is a file.
 fn push_last_name(path: &mut String, digest: &[u8]) -> Result<(), AllocError>
     requires { 2 ≤ length digest.now }
     ensures { OnOk result
@@ -196,7 +196,7 @@ fn push_last_name(path: &mut String, digest: &[u8]) -> Result<(), AllocError>
     push_hex(path, &digest[2..])
 }
 
-/// Puts behind a path a name of hex digits.
+/// Appends to a path a name of hex digits.
 fn push_hex(path: &mut String, bytes: &[u8]) -> Result<(), AllocError>
     ensures { OnOk result
         (string_bytes path.new ≡ join_of (string_bytes path.old) (encode_lower bytes.now)) }
@@ -205,7 +205,7 @@ fn push_hex(path: &mut String, bytes: &[u8]) -> Result<(), AllocError>
     push_digits(path, bytes)
 }
 
-/// Puts a name behind a path.
+/// Appends a name to a path.
 fn push_name(path: &mut String, name: &str) -> Result<(), AllocError>
     ensures { OnOk result (string_bytes path.new ≡ join_of (string_bytes path.old) name.now) }
 {
@@ -213,7 +213,7 @@ fn push_name(path: &mut String, name: &str) -> Result<(), AllocError>
     path.push_str(name)
 }
 
-/// Puts behind a path the slash that a further name needs.
+/// Appends to a path the slash that a further name needs.
 #[tactic(auto, unfolding(crate::specs::Paths::join))]
 fn push_slash(path: &mut String) -> Result<(), AllocError>
     ensures { OnOk result
@@ -225,7 +225,8 @@ fn push_slash(path: &mut String) -> Result<(), AllocError>
     path.push_str("/")
 }
 
-/// Puts behind a text the lower-case hex digits of some bytes: those of a digest, or fewer, all at once.
+/// Appends to a text the lower-case hex digits of some bytes. As many bytes as a digest has, or fewer,
+/// are written all at once.
 fn push_digits(text: &mut String, bytes: &[u8]) -> Result<(), AllocError>
     ensures { OnOk result
         (string_bytes text.new ≡ string_bytes text.old ++ encode_lower bytes.now) }
@@ -242,7 +243,7 @@ fn push_digits(text: &mut String, bytes: &[u8]) -> Result<(), AllocError>
     push_each(text, bytes)
 }
 
-/// The same one by one, for any number of bytes.
+/// Appends the lower-case hex digits to a text one by one, for any number of bytes.
 fn push_each(text: &mut String, bytes: &[u8]) -> Result<(), AllocError>
     ensures { OnOk result
         (string_bytes text.new ≡ string_bytes text.old ++ encode_lower bytes.now) }

@@ -12,8 +12,8 @@ use std::cmp::Ordering;
 use std::fmt;
 use std::marker::Model;
 
-/// A text: a path, a key or a message. Two texts are equal in a contract exactly where their bytes
-/// are.
+/// A text: a path, a key or a message. Two texts are equal in a contract exactly if their bytes are
+/// equal.
 #[derive(Drop)]
 pub struct Text {
     text: String,
@@ -28,7 +28,7 @@ impl Model for Text {
 }
 
 impl Text {
-    /// The text of a string, which takes no memory.
+    /// The text of a string. Allocates nothing.
     pub fn new(text: String) -> Text
         ensures { result ≡ string_bytes text }
     {
@@ -50,7 +50,7 @@ impl Text {
         self.text.as_str()
     }
 
-    /// The string inside, which takes no memory.
+    /// The string inside. Allocates nothing.
     pub fn into_string(self) -> String
         ensures { string_bytes result ≡ self }
     {

@@ -1,4 +1,4 @@
-//! Failures with a text that says what failed.
+//! Adds to a failure a text that says what failed.
 ghost use Rattle.std.specs.Prelude.{◌≡◌, ℕ, List, Ok, IsErr, IsErrAnd, MatchResult, string_bytes};
 ghost use Rattle.std.specs.IoError.{error_kind};
 ghost use Rattle.cacache_core.specs.declared.errors.Error.{Error};
@@ -21,16 +21,16 @@ pub trait IoErrorExt<T> {
     /// The error that the failure becomes with a text.
     ghost becomes: { Self → List ℕ → Error → Type 0 };
 
-    /// The value, or the failure as an `Error` with the text that `f` returns. An error of `f`
-    /// itself takes its place. `f` is called for a failure alone.
+    /// Returns the value, or the failure as an `Error` with the text that `f` returns. If `f`
+    /// itself fails, its error is returned instead. `f` is called only for a failure.
     fn with_context<F: FnOnce() -> Result<String>>(self, f: F) -> Result<T>
         requires { fails self → F.pre f }
         ensures { MatchResult result (holds self)
             (λ e. fails self × IsContextError (F.post f)
             (λ text. becomes self (string_bytes text)) e) };
 
-    /// The value, or the failure as an `Error` with this text. The text is copied for a failure
-    /// alone, and where there was no memory for that the error is `OutOfMemory`.
+    /// Returns the value, or the failure as an `Error` with this text. The text is copied only for
+    /// a failure. If there is no memory for the copy, the error is `OutOfMemory`.
     fn context(self, alloc: Global, text: &str) -> Result<T>
         ensures { MatchResult result (holds self)
             (λ e. fails self × IsTextError (becomes self text.now) e) };
@@ -92,7 +92,7 @@ impl<T> IoErrorExt<T> for std::result::Result<T, SerdeCause> {
     }
 }
 
-/// An io error of kind `Other` with this text, cut short past 80 bytes. Takes no memory.
+/// An I/O error of kind `Other` with this text, truncated if longer than 80 bytes. Allocates nothing.
 pub fn io_error(text: &str) -> io::Error
     ensures { error_kind result ≡ ErrorKind.Other }
 {

@@ -4,12 +4,12 @@ ghost use Rattle.std.specs.Prelude.{◌≡◌, ◌≤◌, length, take};
 use crate::errors::Error;
 use std::fmt;
 
-/// The most bytes of a text that are shown.
+/// The maximum number of bytes of a text that are shown.
 const SHOWN: usize = 100;
 
-/// An error, and the beginning of the text that it is about. Shown, as
-/// `integrity text not readable ("sha256")`, the text stands in brackets behind the error's own,
-/// in quotes and escaped as Rust's `{:?}` does it.
+/// An error, and the beginning of the text that it is about. It is displayed as, for example,
+/// `integrity text not readable ("sha256")`. The text follows the error's own text in brackets, quoted
+/// and escaped as by Rust's `{:?}`.
 #[derive(Clone, Copy, Debug)]
 pub struct Quoting<'a> {
     /// The error.
@@ -26,8 +26,8 @@ impl fmt::Display for Quoting<'_> {
 
 impl Error {
     /// This error with the text that it is about, such as one that `Integrity::parse` refused. The
-    /// text is cut to 100 bytes, or up to three fewer where a character would be cut. Takes no
-    /// memory.
+    /// text is truncated to 100 bytes, or up to three fewer so that no character is split.
+    /// Allocates nothing.
     pub fn quoting<'a>(&'a self, text: &'a str) -> Quoting<'a>
         ensures error { result.error.now ≡ self.now }
         ensures short { length result.text.now ≤ 100 }

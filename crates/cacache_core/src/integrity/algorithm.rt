@@ -1,4 +1,4 @@
-//! The algorithms that digests are computed by.
+//! The algorithms that compute digests.
 ghost use Rattle.std.specs.Prelude.{◌≡◌, ◌≢◌, ◌↔◌, Some, IfOk, IfErr};
 ghost use Rattle.std.proofs.Common.{rules};
 ghost use Rattle.std.specs.Cmp.{IsTotalOrder, partial_order_from_own_ties};
@@ -11,22 +11,22 @@ use crate::errors::{Error, IntegrityFault, Result};
 use std::cmp::Ordering;
 use std::fmt;
 
-/// An algorithm of FIPS 180-4. The strongest is the least.
+/// An algorithm of FIPS 180-4. In the order of algorithms, the strongest is the least.
 #[derive(Clone, Copy, Debug, PartialEq, Eq, Hash)]
 pub enum Algorithm {
-    /// SHA-512, whose digests have 64 bytes.
+    /// SHA-512, with digests of 64 bytes.
     Sha512,
-    /// SHA-384, whose digests have 48 bytes.
+    /// SHA-384, with digests of 48 bytes.
     Sha384,
-    /// SHA-256, whose digests have 32 bytes. Calls that name no algorithm take it.
+    /// SHA-256, with digests of 32 bytes. It is the default of calls that name no algorithm.
     Sha256,
-    /// SHA-1, whose digests have 20 bytes. Two files with one digest can be made, so take it only where others
-    /// give the integrity.
+    /// SHA-1, with digests of 20 bytes. Two files with the same digest can be made, so use it only if others
+    /// supply the integrity.
     Sha1,
 }
 
 impl Algorithm {
-    /// The name that integrity texts and paths have, as `sha256`.
+    /// The name used in integrity texts and in paths, such as `sha256`.
     pub fn name(self) -> &'static str
         ensures { result.now ≡ name_of self }
     {
@@ -38,7 +38,7 @@ impl Algorithm {
         }
     }
 
-    /// The algorithm of a name; any other text is `BadText`. Takes no memory.
+    /// The algorithm with this name. Any other text is `BadText`. Allocates nothing.
     pub fn parse(text: &str) -> Result<Algorithm>
         ensures ok { IfOk result (λ a. text.now ≡ name_of a) }
         ensures no_name { IfErr result (λ _. (a : Algorithm) → text.now ≢ name_of a) }

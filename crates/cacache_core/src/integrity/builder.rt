@@ -1,4 +1,4 @@
-//! Making an integrity of bytes that come in pieces.
+//! Computes the integrity of bytes that come in pieces.
 ghost use Rattle.std.specs.Prelude.{◌≡◌, ◌++◌, ℕ, List, [], IfOk, IfErr};
 ghost use Rattle.cacache_core.specs.declared.integrity.algorithm.Algorithm.TheVariants.{Sha256};
 ghost use Rattle.cacache_core.specs.Hashers.{algorithm_of, Holds};
@@ -12,8 +12,8 @@ use crate::integrity::whole::Integrity;
 use sha2::Digest;
 use std::alloc::Global;
 
-/// Makes the integrity of bytes that come in pieces. The algorithm that was set last counts, for
-/// the pieces before it was set too; where none was set it is SHA-256.
+/// Computes the integrity of bytes that come in pieces. The algorithm that was set last applies to
+/// all pieces, including those before it was set. If none was set, it is SHA-256.
 #[derive(Drop)]
 pub struct IntegrityOpts {
     chosen: Algorithm,
@@ -32,7 +32,7 @@ impl Default for IntegrityOpts {
 }
 
 impl IntegrityOpts {
-    /// A builder under SHA-256 that was fed nothing. Takes no memory.
+    /// A builder for SHA-256 without input so far. Allocates nothing.
     pub fn new() -> IntegrityOpts
         ensures fed { WasFed result [] }
         ensures algorithm { last_algorithm result ≡ Algorithm.Sha256 }
@@ -46,7 +46,7 @@ impl IntegrityOpts {
         }
     }
 
-    /// The builder with this algorithm set. Takes no memory.
+    /// The builder with this algorithm set. Allocates nothing.
     pub fn algorithm(mut self, algorithm: Algorithm) -> IntegrityOpts
         ensures fed { (m : List ℕ) → WasFed self m → WasFed result m }
         ensures algorithm { last_algorithm result ≡ algorithm }
@@ -55,7 +55,7 @@ impl IntegrityOpts {
         self
     }
 
-    /// Feeds the builder these bytes after those that it was fed before. Takes no memory.
+    /// Adds these bytes to the builder's input. Allocates nothing.
     pub fn input(&mut self, data: &[u8])
         ensures fed { (m : List ℕ) → WasFed self.old m → WasFed self.new (m ++ «data».now) }
         ensures algorithm { last_algorithm self.new ≡ last_algorithm self.old }
@@ -66,7 +66,7 @@ impl IntegrityOpts {
         self.sha1.update(data);
     }
 
-    /// The integrity of all that the builder was fed.
+    /// The integrity of the builder's whole input.
     pub fn result(self, alloc: Global) -> Result<Integrity>
         ensures ok { (m : List ℕ) → WasFed self m
             → IfOk result (λ i. i ≡ integrity_under (last_algorithm self) m) }

@@ -1,4 +1,4 @@
-//! Checking bytes that come in pieces.
+//! Checks bytes that come in pieces.
 ghost use Rattle.std.specs.Prelude.{◌≡◌, ◌++◌, ℕ, List, [], Some, IsOk, IfOk, IfErr};
 ghost use Rattle.cacache_core.specs.declared.integrity.digest.Hash.{Hash};
 ghost use Rattle.cacache_core.specs.Integrity.{Meets, strongest, actual};
@@ -19,7 +19,7 @@ pub struct IntegrityChecker {
 }
 
 impl IntegrityChecker {
-    /// A checker against this integrity that was fed nothing. Takes no memory.
+    /// A checker against this integrity without input so far. Allocates nothing.
     pub fn new(sri: Integrity) -> IntegrityChecker
         ensures { Compares result sri [] }
     {
@@ -30,7 +30,7 @@ impl IntegrityChecker {
         }
     }
 
-    /// Feeds the checker these bytes after those that it was fed before. Takes no memory.
+    /// Adds these bytes to the checker's input. Allocates nothing.
     pub fn input(&mut self, data: &[u8])
         ensures { (i : List Hash) (m : List ℕ) → Compares self.old i m
             → Compares self.new i (m ++ «data».now) }
@@ -38,8 +38,7 @@ impl IntegrityChecker {
         self.hasher.update(data);
     }
 
-    /// What `Integrity::check` returns for all that the checker was fed. Only the error takes
-    /// memory.
+    /// What `Integrity::check` returns for the checker's whole input. Only the error allocates.
     pub fn result(self, alloc: Global) -> Result<Algorithm>
         ensures ok { (i : List Hash) (m : List ℕ) → Compares self i m
             → IfOk result (λ a. Meets i m × (strongest i ≡ Some a)) }

@@ -34,7 +34,7 @@ impl Model for Digest {
 }
 
 impl Digest {
-    /// The digest of these bytes, which takes no memory.
+    /// The digest with these bytes. Allocates nothing.
     pub fn new(bytes: Vec<u8>) -> Digest
         ensures { result ≡ bytes.items }
     {
@@ -84,7 +84,7 @@ impl fmt::Debug for Digest {
 /// A digest and the algorithm that computed it.
 #[derive(Debug, Drop)]
 pub struct Hash {
-    /// What the digest was computed by.
+    /// The algorithm that computed the digest.
     pub algorithm: Algorithm,
     /// The digest's bytes.
     pub digest: Digest,
@@ -128,7 +128,7 @@ impl PartialOrd for Hash {
     }
 }
 
-/// The stronger algorithm first, and then by the digests' bytes.
+/// Orders by algorithm, the stronger first, and then by the digests' bytes.
 impl Ord for Hash {
     ghost cmp = { hash_cmp };
 
@@ -144,7 +144,7 @@ impl Ord for Hash {
     }
 }
 
-/// Equal hashes feed a map's hasher alike.
+/// Equal hashes feed the same data to a map's hasher.
 impl StdHash for Hash {
     ghost hash_input = { hash_fed };
 

@@ -1,4 +1,4 @@
-//! Hashers that are fed in pieces.
+//! Hashers that take their input in pieces.
 ghost use Rattle.std.specs.Prelude.{◌≡◌, ◌≤◌, ◌++◌, ℕ, List, [], IfOk, IfErr, length};
 ghost use Rattle.base64.specs.GeneralPurpose.{IsBytes};
 ghost use Rattle.cacache_core.specs.Digests.{digest};
@@ -21,7 +21,7 @@ pub enum Hasher {
     Sha1(sha1::Sha1),
 }
 
-/// A digest in an array, which takes no memory.
+/// A digest in an array, which needs no allocation.
 #[derive(Drop)]
 pub enum Finished {
     Sha512([u8; 64]),
@@ -31,7 +31,7 @@ pub enum Finished {
 }
 
 impl Hasher {
-    /// A hasher of the algorithm that was fed nothing.
+    /// A hasher of the algorithm without input so far.
     pub fn new(algorithm: Algorithm) -> Hasher
         ensures fed { Holds result [] }
         ensures algorithm { algorithm_of result ≡ algorithm }
@@ -56,7 +56,7 @@ impl Hasher {
         }
     }
 
-    /// Feeds the hasher these bytes after those that it was fed before.
+    /// Adds these bytes to the hasher's input.
     pub fn update(&mut self, data: &[u8])
         ensures fed { (m : List ℕ) → Holds self.old m → Holds self.new (m ++ «data».now) }
         ensures algorithm { algorithm_of self.new ≡ algorithm_of self.old }
@@ -69,7 +69,7 @@ impl Hasher {
         }
     }
 
-    /// The digest of all that the hasher was fed.
+    /// The digest of the hasher's whole input.
     pub fn finalize(self) -> Finished
         ensures digest { (m : List ℕ) → Holds self m
             → finished_bytes result ≡ digest (algorithm_of self) m }
@@ -84,7 +84,7 @@ impl Hasher {
         }
     }
 
-    /// The integrity of all that the hasher was fed, under its algorithm.
+    /// The integrity of the hasher's whole input, under its algorithm.
     pub fn result(self, alloc: Global) -> errors::Result<Integrity>
         ensures ok { (m : List ℕ) → Holds self m
             → IfOk result (λ i. i ≡ integrity_under (algorithm_of self) m) }
@@ -107,7 +107,7 @@ impl Finished {
         }
     }
 
-    /// The same digest in memory of its own.
+    /// The same digest in its own memory.
     pub fn to_digest(&self, alloc: Global) -> Result<Digest, AllocError>
         ensures { IfOk result (λ d. d ≡ finished_bytes self.now) }
     {

@@ -1,4 +1,4 @@
-//! Reading integrity texts.
+//! Parses integrity texts.
 ghost use Rattle.std.specs.Prelude.{◌≡◌, ◌<◌, ◌≤◌, ◌∷◌, [], ℕ, not, MatchOption, Ok, Err, IfOk, IfErr, IfSome, All, length, slice_index};
 ghost use Rattle.base64.specs.Engines.{standard};
 ghost use Rattle.base64.specs.GeneralPurpose.{decode_of};
@@ -13,7 +13,7 @@ use base64::DecodeAllocError;
 use base64::engine::general_purpose::STANDARD;
 use std::alloc::{AllocError, Global};
 
-/// The hashes of a text in written order, or the fault of its first word that is none.
+/// The hashes of a text in written order, or the fault of its first word that isn't a hash.
 pub(super) fn read_hashes(alloc: Global, text: &[u8]) -> Result<Vec<Hash>>
     ensures ok { IfOk result (λ v. read_words (words_of text.now) ≡ Ok v.items) }
     ensures hashes { IfOk result (λ v. All IsHash v.items) }
@@ -28,8 +28,8 @@ pub(super) fn read_hashes(alloc: Global, text: &[u8]) -> Result<Vec<Hash>>
     Ok(hashes)
 }
 
-/// The same hashes, strongest algorithm first and each algorithm's in their order. One hash is
-/// handed back as it came.
+/// The same hashes, strongest algorithm first. Those of one algorithm keep their order. A single
+/// hash is returned unchanged.
 #[tactic(auto, using(crate::proofs::Order::one_in_order))]
 pub(super) fn in_order(
     alloc: Global,
@@ -58,7 +58,7 @@ pub(super) fn in_order(
     Ok(sha512)
 }
 
-/// The hash of a word, or why it is none.
+/// The hash of a word, or why the word isn't a hash.
 fn read_hash(alloc: Global, word: &[u8]) -> Result<Hash>
     ensures ok { IfOk result (λ h. read_word word.now ≡ Ok h) }
     ensures hash { IfOk result IsHash }
@@ -82,7 +82,7 @@ fn read_hash(alloc: Global, word: &[u8]) -> Result<Hash>
     }
 }
 
-/// The algorithm that a word begins with, and what stands after its name and the dash.
+/// The algorithm that a word begins with, and what follows its name and the dash.
 fn split_name(word: &[u8]) -> Option<(Algorithm, &[u8])>
     ensures { MatchOption result (read_word word.now ≡ Err IntegrityFault.BadText)
         (λ p. read_word word.now ≡ decoded_hash p.0 (decode_of standard p.1.now)) }
@@ -102,7 +102,7 @@ fn split_name(word: &[u8]) -> Option<(Algorithm, &[u8])>
     None
 }
 
-/// The first word of a text, and what stands after it.
+/// The first word of a text, and what follows it.
 fn next_word(text: &[u8]) -> Option<(&[u8], &[u8])>
     ensures words { MatchOption result (words_of text.now ≡ [])
         (λ p. words_of text.now ≡ p.0.now ∷ words_of p.1.now) }
@@ -117,8 +117,8 @@ fn next_word(text: &[u8]) -> Option<(&[u8], &[u8])>
     Some((&text[..end], &text[end..]))
 }
 
-/// The place of the first byte that is a blank, or that is none, as asked; the length where there
-/// is no such byte.
+/// The index of the first blank byte if `blank` is true, and otherwise of the first other byte. The
+/// length of the text if there is no such byte.
 fn first_place(text: &[u8], blank: bool) -> usize
     ensures within { result ≤ length text.now }
     ensures before { (k : ℕ) → k < result → is_blank_of (slice_index text.now k) ≡ not blank }
@@ -132,7 +132,7 @@ fn first_place(text: &[u8], blank: bool) -> usize
     text.len()
 }
 
-/// Whether a byte stands between words: a space, TAB, LF, FF or CR.
+/// Whether a byte separates words: a space, TAB, LF, FF or CR.
 fn is_blank(byte: u8) -> bool
     ensures { result ≡ is_blank_of byte }
 {

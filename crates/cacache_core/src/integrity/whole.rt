@@ -21,7 +21,7 @@ use std::alloc::{AllocError, Global};
 use std::fmt;
 use std::marker::Model;
 
-/// What bytes are known by: one or more hashes, strongest algorithm first.
+/// An integrity identifies bytes: one or more hashes, strongest algorithm first.
 #[derive(Drop)]
 pub struct Integrity {
     hashes: Vec<Hash>,
@@ -41,10 +41,10 @@ impl Model for Integrity {
 }
 
 impl Integrity {
-    /// The integrity of a text: one or more hashes between runs of space, TAB, LF, FF and CR. A
-    /// hash is an algorithm's name, `-`, and its digest in canonical padded base64 (RFC 4648,
-    /// section 4). A text without a hash is `BadText`; else the leftmost wrong hash decides, `BadText` for its
-    /// form and `ShortDigest` for a digest under three bytes.
+    /// Parses a text: one or more hashes between runs of space, TAB, LF, FF and CR. A hash is an
+    /// algorithm's name, `-`, and its digest in canonical padded base64 (RFC 4648, section 4). A text without
+    /// a hash is `BadText`. Otherwise the leftmost wrong hash decides: a malformed one is `BadText`, and a
+    /// digest shorter than three bytes is `ShortDigest`.
     ///
     /// ```
     /// let sri = Integrity::parse(alloc, "sha1-qvTGHdzF6KLavt4PO0gs2a6pQ00=")?;
@@ -81,7 +81,7 @@ impl Integrity {
         Integrity::of_hasher(alloc, hasher)
     }
 
-    /// The integrity of all that a hasher was fed, under its algorithm.
+    /// The integrity of a hasher's whole input, under its algorithm.
     pub(crate) fn of_hasher(alloc: Global, hasher: Hasher) -> Result<Integrity>
         ensures ok { (m : List ℕ) → Holds hasher m
             → IfOk result (λ i. i ≡ integrity_under (algorithm_of hasher) m) }
@@ -91,9 +91,10 @@ impl Integrity {
         Ok(Integrity::of_finished(alloc, algorithm, &hasher.finalize())?)
     }
 
-    /// The integrity of a digest under an algorithm. The algorithm's own length isn't asked of it.
+    /// The integrity of a digest under an algorithm. The digest needn't have the length of the
+    /// algorithm's digests.
     ///
-    /// A digest under three bytes is `ShortDigest`; `OutOfMemory` is the only other error.
+    /// A digest shorter than three bytes is `ShortDigest`. `OutOfMemory` is the only other error.
     #[tactic(auto, using(crate::proofs::Order::one_in_order))]
     pub fn from_digest(alloc: Global, algorithm: Algorithm, digest: Vec<u8>) -> Result<Integrity>
         ensures is { IfOk result (λ i. i ≡ hash_of algorithm digest.items ∷ []) }
@@ -135,7 +136,7 @@ impl Integrity {
         Integrity::of_digest(alloc, algorithm, digest)
     }
 
-    /// The content address: the first hash, one of the strongest algorithm.
+    /// The content address: the first hash, which is one of the strongest algorithm.
     pub fn address(&self) -> &Hash
         ensures address { address_of self.now ≡ Some result.now }
         ensures hash { IsHash result.now }
@@ -144,16 +145,16 @@ impl Integrity {
         &self.hashes[0]
     }
 
-    /// The strongest algorithm. Takes no memory.
+    /// The strongest algorithm. Allocates nothing.
     pub fn pick_algorithm(&self) -> Algorithm
         ensures { strongest self.now ≡ Some result }
     {
         self.address().algorithm
     }
 
-    /// The strongest algorithm where the bytes meet this integrity, their digest being among its
+    /// Returns the strongest algorithm if the bytes meet this integrity: their digest is among its
     /// digests of that algorithm. Otherwise the error is `Check` with this integrity and that of
-    /// the bytes. The bytes are hashed once, and only the error takes memory.
+    /// the bytes. The bytes are hashed once, and only the error allocates.
     ///
     /// ```
     /// let sri = Integrity::from(alloc, b"hello")?;
@@ -170,7 +171,7 @@ impl Integrity {
         self.settle(alloc, algorithm, &hasher.finalize())
     }
 
-    /// Accepts a digest that is listed, and otherwise makes the error of a failed check.
+    /// Accepts a digest that is listed. Otherwise makes the error of a failed check.
     pub(crate) fn settle(
         &self,
         alloc: Global,
@@ -193,8 +194,7 @@ impl Integrity {
         Err(Error::IntegrityError(IntegrityFault::Check(wanted, found)))
     }
 
-    /// The strongest algorithm of the other, where both list an equal digest of it. Takes no
-    /// memory.
+    /// The strongest algorithm of the other, if both list an equal digest of it. Allocates nothing.
     pub fn matches(&self, other: &Integrity) -> Option<Algorithm>
         ensures shared { IfSome result
             (λ a. (strongest other.now ≡ Some a) × ShareDigest a self.now other.now) }
@@ -210,7 +210,7 @@ impl Integrity {
         None
     }
 
-    /// The address's algorithm and its digest in lower-case hex digits.
+    /// The algorithm of the content address, and its digest in lower-case hex digits.
     pub fn to_hex(&self, alloc: Global) -> Result<(Algorithm, String)>
         ensures ok { IfOk result
             (λ p. IfSome (address_of self.now) (λ h. IsHexOf h p.0 (string_bytes p.1))) }
@@ -221,7 +221,7 @@ impl Integrity {
         Ok((address.algorithm, digits))
     }
 
-    /// Whether a digest of the algorithm stands among the hashes.
+    /// Whether the hashes include this digest of the algorithm.
     fn lists(&self, algorithm: Algorithm, digest: &[u8]) -> bool
         ensures { IsTrue result ↔ HasDigest self.now algorithm digest.now }
     {

@@ -10,7 +10,7 @@ use crate::paths::{CONTENT_AREA, INDEX_AREA, join, push_hex, roomy};
 use crate::text::Text;
 use std::alloc::{AllocError, Global};
 
-/// The folder of a digest's first byte below a path.
+/// The folder below a path for a digest's first byte.
 #[tactic(auto, using(crate::proofs::PathLemmas::digits_first))]
 fn join_first(alloc: Global, path: &str, digest: &[u8]) -> Result<Text, AllocError>
     requires { 2 ≤ length digest.now }
@@ -21,7 +21,7 @@ fn join_first(alloc: Global, path: &str, digest: &[u8]) -> Result<Text, AllocErr
     Ok(Text::new(joined))
 }
 
-/// The folder of a digest's second byte below a path.
+/// The folder below a path for a digest's second byte.
 #[tactic(auto, using(crate::proofs::PathLemmas::digits_second))]
 fn join_second(alloc: Global, path: &str, digest: &[u8]) -> Result<Text, AllocError>
     requires { 2 ≤ length digest.now }
@@ -32,7 +32,7 @@ fn join_second(alloc: Global, path: &str, digest: &[u8]) -> Result<Text, AllocEr
     Ok(Text::new(joined))
 }
 
-/// Puts behind some folders the one at this path and those below it of a digest's first byte and of its second.
+/// Appends three folders: the one at this path, and those below it for a digest's first and second byte.
 fn push_folders(
     alloc: Global,
     folders: &mut Vec<Text>,
@@ -65,7 +65,7 @@ fn folders_of_content(alloc: Global, cache: &str, address: &Hash) -> Result<Vec<
     Ok(folders)
 }
 
-/// The folders that lead to the content that has this integrity's address: the cache folder first, and last the one that
+/// The folders that lead to the content that has this integrity's address. The first is the cache folder, and the last
 /// holds the content.
 pub fn content_folders(alloc: Global, cache: &str, sri: &Integrity) -> Result<Vec<Text>, AllocError>
     ensures { IfOk result (λ folders. IfSome (address_of sri.now)
@@ -75,7 +75,7 @@ pub fn content_folders(alloc: Global, cache: &str, sri: &Integrity) -> Result<Ve
     folders_of_content(alloc, cache, address)
 }
 
-/// The folders that lead to the bucket of a key: the cache folder first, and last the one that holds the bucket.
+/// The folders that lead to the bucket of a key. The first is the cache folder, and the last holds the bucket.
 pub fn bucket_folders(alloc: Global, cache: &str, key: &str) -> Result<Vec<Text>, AllocError>
     ensures { IfOk result (λ folders. folders.items ≡ folders_to cache.now (bucket_names key.now)) }
 {

@@ -1,4 +1,4 @@
-//! Integrities of hex digits, and of two others.
+//! Makes integrities from hex digits, and from two other integrities.
 ghost use Rattle.std.specs.Prelude.{◌≡◌, Ok, IfOk, IfErr, OnOk};
 ghost use Rattle.std.specs.List.{fold};
 ghost use Rattle.cacache_core.specs.Joining.{with_hash, read_hex, joined_hashes};
@@ -13,11 +13,11 @@ use hex::FromHexError;
 use std::alloc::{AllocError, Global};
 
 impl Integrity {
-    /// The integrity of a digest in hex digits of either case, under an algorithm, whose own length
-    /// isn't asked of it.
+    /// The integrity of a digest under an algorithm. The digest is given in hex digits of either
+    /// case. It needn't have the length of the algorithm's digests.
     ///
-    /// A text that isn't pairs of hex digits is `BadText`, and a digest under three bytes is
-    /// `ShortDigest`; `OutOfMemory` is the only other error.
+    /// A text that isn't pairs of hex digits is `BadText`. A digest shorter than three bytes is
+    /// `ShortDigest`. `OutOfMemory` is the only other error.
     #[tactic(auto, using(crate::proofs::HexDigits::read_ok, crate::proofs::HexDigits::read_refused))]
     pub fn from_hex(alloc: Global, digits: &str, algorithm: Algorithm) -> Result<Integrity>
         ensures ok { IfOk result (λ i. read_hex algorithm digits.now ≡ Ok i) }
@@ -30,10 +30,10 @@ impl Integrity {
         }
     }
 
-    /// The hashes of both, each once. They stand strongest algorithm first, and each algorithm's
-    /// in the order of their first places: this integrity's, and behind them those of the other
-    /// that this one hasn't. So the content address is this integrity's where the other's
-    /// algorithm isn't stronger. `OutOfMemory` is the only error.
+    /// The hashes of both, each once, strongest algorithm first. Those of one algorithm are ordered
+    /// by first occurrence: this integrity's, then those that only the other has. So the content
+    /// address is this integrity's if the other's algorithm isn't stronger. `OutOfMemory` is the
+    /// only error.
     #[tactic(auto, using(crate::proofs::Joining::joined_is_integrity, crate::proofs::Joining::joined_once))]
     pub fn concat(&self, alloc: Global, other: &Integrity) -> Result<Integrity>
         ensures ok { IfOk result (λ i. i ≡ joined_hashes self.now other.now) }
@@ -47,7 +47,7 @@ impl Integrity {
     }
 }
 
-/// Puts copies of these hashes behind those that are kept, but for those that are kept already.
+/// Appends copies of these hashes to `kept`, except those that it already has.
 fn push_new(kept: &mut Vec<Hash>, hashes: &[Hash]) -> std::result::Result<(), AllocError>
     ensures { OnOk result (kept.new.items ≡ fold with_hash kept.old.items hashes.now) }
 {

@@ -1,4 +1,4 @@
-//! The order of integrities, and what a map's hasher is fed of them.
+//! The order of integrities, and the data that they feed to a map's hasher.
 ghost use Rattle.std.specs.Prelude.{Some};
 ghost use Rattle.std.proofs.Common.{refl};
 ghost use Rattle.std.specs.Hash as fed;
@@ -19,8 +19,8 @@ impl PartialOrd for Integrity {
     }
 }
 
-/// Hash by hash: the stronger algorithm first, and then by the digests' bytes. An integrity that
-/// other hashes follow in another comes before that one. Takes no memory.
+/// Compares hash by hash: the stronger algorithm first, and then by the digests' bytes. An
+/// integrity that is a proper prefix of another comes before it. Allocates nothing.
 impl Ord for Integrity {
     ghost cmp = { hashes_cmp };
 
@@ -35,7 +35,7 @@ impl Ord for Integrity {
     }
 }
 
-/// Equal integrities feed a map's hasher alike. Takes no memory.
+/// Equal integrities feed the same data to a map's hasher. Allocates nothing.
 impl Hash for Integrity {
     ghost hash_input = { fed.slice hash_fed };
 
