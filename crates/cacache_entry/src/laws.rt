@@ -1,4 +1,4 @@
-//! The laws of entries, buckets and lookups. Each call does nothing, and its clauses are the laws.
+//! The laws of entries, buckets and lookups. Each function here does nothing: its clauses are the laws.
 ghost use Rattle.cacache_entry.specs.EntryLaws.{NoCauseIsFit, FlatEntriesFit, BareEntriesFit};
 ghost use Rattle.cacache_entry.specs.EntryLaws.{EmptyHoldsNothing, EntriesSplit, LinesAppend};
 ghost use Rattle.cacache_entry.specs.EntryLaws.{TornTextsReadAsNothing, TornLinesAddNothing, TornLinesHurtNoOther};
@@ -21,7 +21,7 @@ pub fn bucket_laws()
     ensures hurts_no_other { TornLinesHurtNoOther }
 {}
 
-/// What a lookup finds, and how much it reads.
+/// What a lookup finds, and how much of the bucket it reads.
 pub fn lookup_laws()
     ensures last_decides { LastAnswerDecides }
     ensures no_answer { NoAnswerIsNone }

@@ -1,4 +1,4 @@
-//! The entries of the index: the line that holds one, and the entries and lookups that a bucket's bytes hold.
+//! The entries of the index: the line of an entry, and how a bucket's bytes are read and searched for a key.
 #![tactic(auto)]
 
 mod laws;

@@ -1,4 +1,4 @@
-//! What metadata may hold: whole numbers, nested to a limit.
+//! The limits on metadata: only integers, nested to a limited depth.
 ghost use Rattle.std.specs.Prelude.{◌≡◌, not, nat_le};
 ghost use Rattle.serde_json.specs.Data.{depth, items_depth, members_depth};
 ghost use Rattle.serde_json.specs.Written.{has_float, items_have_float, members_have_float};
@@ -6,7 +6,7 @@ ghost use Rattle.serde_json.specs.View.{view, items_view, members_view};
 
 use serde_json::{Map, Value};
 
-/// Whether each number of the value is whole in 64 bits. Only such values can be written as metadata.
+/// Whether each number in the value is a 64-bit integer. Only such values can be written as metadata.
 #[cycle(whole)]
 pub fn is_whole(value: &Value) -> bool
     ensures { result ≡ not (has_float (view value.now)) }
@@ -21,7 +21,7 @@ pub fn is_whole(value: &Value) -> bool
     }
 }
 
-/// Whether each number of the items is whole in 64 bits.
+/// Whether each number in the items is a 64-bit integer.
 #[cycle(whole)]
 fn items_are_whole(items: &Vec<Value>) -> bool
     ensures { result ≡ not (items_have_float (items_view items.now.items)) }
@@ -34,7 +34,7 @@ fn items_are_whole(items: &Vec<Value>) -> bool
     true
 }
 
-/// Whether each number of the members is whole in 64 bits.
+/// Whether each number in the members is a 64-bit integer.
 #[cycle(whole)]
 fn members_are_whole(members: &Map<String, Value>) -> bool
     ensures { result ≡ not (members_have_float (members_view members.now.entries)) }
@@ -47,7 +47,7 @@ fn members_are_whole(members: &Map<String, Value>) -> bool
     true
 }
 
-/// Whether the arrays and objects of the value nest at most so many levels deep.
+/// Whether the arrays and objects in the value nest at most this many levels deep.
 #[cycle(nested)]
 pub(crate) fn nests_within(value: &Value, levels: u64) -> bool
     ensures { result ≡ nat_le (depth (view value.now)) levels }
@@ -62,7 +62,7 @@ pub(crate) fn nests_within(value: &Value, levels: u64) -> bool
     }
 }
 
-/// Whether the items nest at most so many levels deep.
+/// Whether the items nest at most this many levels deep.
 #[cycle(nested)]
 fn items_nest_within(items: &Vec<Value>, levels: u64) -> bool
     ensures { result ≡ nat_le (items_depth (items_view items.now.items)) levels }
@@ -75,7 +75,7 @@ fn items_nest_within(items: &Vec<Value>, levels: u64) -> bool
     true
 }
 
-/// Whether the members nest at most so many levels deep.
+/// Whether the members nest at most this many levels deep.
 #[cycle(nested)]
 fn members_nest_within(members: &Map<String, Value>, levels: u64) -> bool
     ensures { result ≡ nat_le (members_depth (members_view members.now.entries)) levels }

@@ -1,4 +1,4 @@
-//! What the index says of a key.
+//! What the index says about a key.
 ghost use Rattle.std.specs.Prelude.{string_bytes, nat_eq};
 ghost use Rattle.std.specs.Cmp;
 ghost use Rattle.std.specs.Cmp.Lexicographic.{pointwise, bytes_decides, nat_list_eq_equiv};
@@ -12,20 +12,20 @@ use serde_json::Value;
 use std::fmt;
 use std::hash::{Hash, Hasher};
 
-/// What a line of a bucket says of a key. Two of one key are equal and hash equally, whatever else they say.
+/// What a line of a bucket says about a key. Two with the same key are equal and hash equally, whatever else they say.
 #[derive(Debug, Drop)]
 pub struct SerializableMetadata {
     /// The key.
     pub key: String,
-    /// The text of the content's integrity; none in a tombstone, which says that the key was deleted.
+    /// The text of the content's integrity. `None` in a tombstone, which says that the key was deleted.
     pub integrity: Option<String>,
     /// When the entry was made, in milliseconds since 1970.
     pub time: u128,
     /// The content's size in bytes.
     pub size: usize,
-    /// Any data that the writer put beside the content.
+    /// Any data that the writer stored with the content.
     pub metadata: Value,
-    /// Any bytes that the writer put beside the content.
+    /// Any bytes that the writer stored with the content.
     pub raw_metadata: Option<Vec<u8>>,
 }
 
@@ -55,7 +55,7 @@ impl Hash for SerializableMetadata {
     }
 }
 
-/// What a lookup found for a key. It comes of the index alone: the content may have been removed since.
+/// What a lookup found for a key. It comes from the index alone: the content may have been removed since.
 #[derive(Debug, Drop, PartialEq)]
 pub struct Metadata {
     /// The key.
@@ -66,13 +66,13 @@ pub struct Metadata {
     pub time: u128,
     /// The content's size in bytes.
     pub size: usize,
-    /// Any data that the writer put beside the content.
+    /// Any data that the writer stored with the content.
     pub metadata: Value,
-    /// Any bytes that the writer put beside the content.
+    /// Any bytes that the writer stored with the content.
     pub raw_metadata: Option<Vec<u8>>,
 }
 
-/// The compact JSON text that an entry of these parts has in its line. Takes no memory.
+/// The compact JSON text that an entry with these parts has in its line. Allocates no memory.
 impl fmt::Display for Metadata {
     fn fmt<W: fmt::Write>(&self, f: &mut fmt::Formatter<W>) -> fmt::Result {
         write!(

@@ -1,4 +1,4 @@
-//! The entry that a text reads as.
+//! Reads an entry from its JSON text.
 ghost use Rattle.std.specs.Prelude.{◌≡◌, IfOk, codes, option_map, option_and_then, string_bytes};
 ghost use Rattle.serde_json.specs.Find.{get};
 ghost use Rattle.serde_json.specs.View.{view, items_view};
@@ -10,7 +10,7 @@ use crate::metadata::SerializableMetadata;
 use serde_json::Value;
 use std::alloc::{AllocError, Global};
 
-/// The entry that a text reads as, none where it is no JSON object of an entry's members.
+/// The entry that a text is read as. `None` if the text isn't a JSON object with an entry's members.
 pub(crate) fn read_entry(
     alloc: Global,
     text: &str,
@@ -27,8 +27,8 @@ pub(crate) fn read_entry(
     }
 }
 
-/// The entry that a value is, none where it is no object of an entry's members. Its metadata is taken out of the
-/// value, so that it needn't be copied.
+/// The entry that a value is read as. `None` if the value isn't an object with an entry's members. The metadata is
+/// taken out of the value, so that it needn't be copied.
 fn entry_of(alloc: Global, value: &mut Value) -> Result<Option<SerializableMetadata>, AllocError>
     ensures { IfOk result (λ o. option_map entry_view o ≡ entry_of_data (view value.old)) }
 {
@@ -61,7 +61,7 @@ fn entry_of(alloc: Global, value: &mut Value) -> Result<Option<SerializableMetad
     }))
 }
 
-/// Takes the metadata out of a value. None where it is absent, or a number of it isn't whole.
+/// Takes the metadata out of a value. `None` if it is absent, or if one of its numbers isn't a 64-bit integer.
 fn take_metadata(value: &mut Value) -> Option<Value>
     ensures { option_map view result
         ≡ option_and_then whole_value (get (codes "metadata") (view value.old)) }
@@ -76,7 +76,7 @@ fn take_metadata(value: &mut Value) -> Option<Value>
     }
 }
 
-/// The text of a member that may be absent or null, none where it is neither a text.
+/// The text of a member that may be absent or null. `None` if the member is anything else.
 fn text_field(alloc: Global, value: Option<&Value>) -> Result<Option<Option<String>>, AllocError>
     ensures { IfOk result (λ o. option_map (option_map string_bytes) o
         ≡ text_or_none (or_null (option_map (λ v. view v.now) value.entry))) }
@@ -92,7 +92,7 @@ fn text_field(alloc: Global, value: Option<&Value>) -> Result<Option<Option<Stri
     }
 }
 
-/// The bytes of a member that may be absent or null, none where it is no array of bytes.
+/// The bytes of a member that may be absent or null. `None` if the member is anything else.
 fn bytes_field(alloc: Global, value: Option<&Value>) -> Result<Option<Option<Vec<u8>>>, AllocError>
     ensures { IfOk result (λ o. option_map (option_map (λ v. v.items)) o
         ≡ bytes_or_none (or_null (option_map (λ v. view v.now) value.entry))) }
@@ -111,7 +111,7 @@ fn bytes_field(alloc: Global, value: Option<&Value>) -> Result<Option<Option<Vec
     }
 }
 
-/// The bytes that items are, none where an item is no whole number from 0 to 255.
+/// The items as bytes. `None` if an item isn't an integer from 0 to 255.
 fn bytes_of(alloc: Global, items: &Vec<Value>) -> Result<Option<Vec<u8>>, AllocError>
     ensures { IfOk result (λ o. option_map (λ v. v.items) o
         ≡ bytes_of_items (items_view items.now.items)) }

@@ -1,4 +1,5 @@
-//! The parts of an entry's text, where that has no metadata and is spelled as `line` spells it: they are cut out as they stand.
+//! The parts of an entry's text, if it has no metadata and is spelled as `line` writes it. They are cut out of the text
+//! unchanged.
 ghost use Rattle.std.specs.Prelude.{◌≡◌, ◌∷◌, ◌++◌, ◌<◌, ◌^◌, IsTrue, IfSome, decimal, option_map};
 ghost use Rattle.json.specs.Print.{escape, quoted as quoted_text};
 ghost use Rattle.serde_json.specs.Written.{compact_text};
@@ -9,7 +10,7 @@ ghost use Rattle.cacache_entry.specs.EntryParts.{texts_then, numbers_then};
 use crate::read::is_digest_of;
 use memchr::memchr;
 
-/// How many digits the digest of a piece has.
+/// The number of digits in the digest of a piece.
 const DIGITS: usize = 64;
 
 /// What follows the size and its comma in the text of an entry without metadata.
@@ -24,7 +25,7 @@ pub(crate) struct Parts<'a> {
     pub(crate) size: u64,
 }
 
-/// What follows these bytes, where they stand in front.
+/// What follows these bytes, if the input starts with them.
 fn after<'a>(front: &[u8], bytes: &'a [u8]) -> Option<&'a [u8]>
     ensures { IfSome result (λ rest. bytes.now ≡ front.now ++ rest.now) }
 {
@@ -32,7 +33,7 @@ fn after<'a>(front: &[u8], bytes: &'a [u8]) -> Option<&'a [u8]>
     if begin == front { Some(rest) } else { None }
 }
 
-/// What follows this byte, where it stands in front.
+/// What follows this byte, if the input starts with it.
 fn after_byte(byte: u8, bytes: &[u8]) -> Option<&[u8]>
     ensures { IfSome result (λ rest. bytes.now ≡ byte ∷ rest.now) }
 {
@@ -40,7 +41,7 @@ fn after_byte(byte: u8, bytes: &[u8]) -> Option<&[u8]>
     if *first == byte { Some(rest) } else { None }
 }
 
-/// What stands before the first such byte, as text, and what follows it.
+/// The text before the first such byte, and what follows that byte.
 fn cut(byte: u8, bytes: &[u8]) -> Option<(&str, &[u8])>
     ensures { IfSome result (λ p. bytes.now ≡ p.0.now ++ byte ∷ p.1.now) }
 {
@@ -51,8 +52,8 @@ fn cut(byte: u8, bytes: &[u8]) -> Option<(&str, &[u8])>
     Some((text, behind))
 }
 
-/// Whether no byte is a control character, a quote or a backslash, which JSON escapes. There is no way out of the loop,
-/// so that many bytes are looked at at once.
+/// Whether no byte is a control character, a quote or a backslash, which JSON escapes. The loop has no early exit, so
+/// that many bytes are checked at once.
 pub(crate) fn is_plain(text: &[u8]) -> bool
     ensures { IsTrue result → escape text.now ≡ text.now }
 {
@@ -63,7 +64,7 @@ pub(crate) fn is_plain(text: &[u8]) -> bool
     plain
 }
 
-/// A text in quotes and what follows it. None where it needs escapes.
+/// A text in quotes and what follows it. `None` if the text needs escapes.
 fn quoted(bytes: &[u8]) -> Option<(&str, &[u8])>
     ensures { IfSome result (λ p. bytes.now ≡ quoted_text p.0.now ++ p.1.now) }
 {
@@ -75,7 +76,7 @@ fn quoted(bytes: &[u8]) -> Option<(&str, &[u8])>
     }
 }
 
-/// The same, or `null` and what follows that.
+/// A text in quotes or `null`, and what follows it.
 fn quoted_or_null(bytes: &[u8]) -> Option<(Option<&str>, &[u8])>
     ensures { IfSome result (λ p.
         bytes.now ≡ compact_text (text_or_null (option_map (λ t. t.now) p.0)) ++ p.1.now) }
@@ -122,7 +123,7 @@ fn numbers(bytes: &[u8]) -> Option<(u64, u64, &[u8])>
     Some((time, size, rest))
 }
 
-/// The parts of the text, where it is one without metadata.
+/// The parts of the text, if it is the text of an entry without metadata.
 fn parts_of(text: &[u8]) -> Option<Parts<'_>>
     ensures text { IfSome result (λ p. text.now
         ≡ text_of (bare_entry p.key.now (option_map (λ t. t.now) p.integrity) p.time p.size)) }
@@ -142,8 +143,8 @@ fn parts_of(text: &[u8]) -> Option<Parts<'_>>
     }
 }
 
-/// The parts of the entry that the piece is, where that has no metadata and `line` writes it so. None says nothing of
-/// the piece.
+/// The parts of the entry in the piece, if the entry has no metadata and the piece is spelled as `line` writes it.
+/// `None` says nothing about the piece.
 pub(crate) fn written_parts(piece: &[u8]) -> Option<Parts<'_>>
     ensures piece { IfSome result (λ p. piece.now
         ≡ piece_of (bare_entry p.key.now (option_map (λ t. t.now) p.integrity) p.time p.size)) }

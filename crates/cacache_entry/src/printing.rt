@@ -1,8 +1,8 @@
-//! Parts of an entry's JSON text, printed without memory.
+//! Parts of an entry's JSON text, printed without allocating memory.
 
 use std::fmt;
 
-/// A text that prints in quotes, with the escapes of JSON (RFC 8259, section 7).
+/// A text that is printed in quotes, with the escapes of JSON (RFC 8259, section 7).
 #[derive(Clone, Copy)]
 pub(crate) struct Quoted<'a>(pub &'a str);
 
@@ -16,7 +16,7 @@ impl fmt::Display for Quoted<'_> {
     }
 }
 
-/// Prints a letter of a text in quotes.
+/// Prints one character of a text in quotes.
 fn push_letter<W: fmt::Write>(f: &mut fmt::Formatter<W>, letter: char) -> fmt::Result {
     match letter {
         '"' => f.write_str("\\\""),
@@ -31,7 +31,7 @@ fn push_letter<W: fmt::Write>(f: &mut fmt::Formatter<W>, letter: char) -> fmt::R
     }
 }
 
-/// Bytes that print as an array of numbers, or as null where there are none.
+/// Bytes that are printed as an array of numbers, or as null for `None`.
 #[derive(Clone, Copy)]
 pub(crate) struct Numbers<'a>(pub &'a Option<Vec<u8>>);
 

@@ -14,11 +14,11 @@ use memchr::memchr;
 use sha2::{Digest, Sha256};
 use std::alloc::{AllocError, Global};
 
-/// The entries that the bytes of a bucket hold, in order; a piece that is none is skipped alone.
+/// The entries in the bytes of a bucket, in order. A piece that isn't an entry is skipped, and only that piece.
 ///
 /// # Errors
 ///
-/// `OutOfMemory` where memory runs out.
+/// `OutOfMemory` if memory runs out.
 pub fn entries(alloc: Global, bytes: &[u8]) -> errors::Result<Vec<SerializableMetadata>>
     ensures entries { IfOk result (λ found. map entry_view found.items ≡ entries_of bytes.now) }
     ensures refused { IfErr result (λ e. e ≡ OutOfMemory) }
@@ -33,7 +33,7 @@ pub fn entries(alloc: Global, bytes: &[u8]) -> errors::Result<Vec<SerializableMe
     Ok(found)
 }
 
-/// Adds the entry that a piece is, if it is one.
+/// Adds the entry in a piece, if the piece is one.
 fn add(found: &mut Vec<SerializableMetadata>, alloc: Global, piece: &[u8]) -> Result<(), AllocError>
     ensures { OnOk result (map entry_view found.new.items
         ≡ map entry_view found.old.items ++ option_to_list (entry_of_piece (less_cr piece.now))) }
@@ -44,7 +44,7 @@ fn add(found: &mut Vec<SerializableMetadata>, alloc: Global, piece: &[u8]) -> Re
     Ok(())
 }
 
-/// The bytes without one CR at their end.
+/// The bytes without one trailing CR.
 pub(crate) fn without_cr(piece: &[u8]) -> &[u8]
     ensures { result.now ≡ less_cr piece.now }
 {
@@ -54,7 +54,7 @@ pub(crate) fn without_cr(piece: &[u8]) -> &[u8]
     }
 }
 
-/// The first place of the byte.
+/// The index of the first occurrence of the byte.
 fn first(bytes: &[u8], byte: u8) -> Option<usize>
     ensures { MatchOption result (cut byte bytes.now ≡ bytes.now ∷ [])
         (λ i. CutsAt byte bytes.now i) }
@@ -62,7 +62,7 @@ fn first(bytes: &[u8], byte: u8) -> Option<usize>
     memchr(byte, bytes)
 }
 
-/// The entry that a piece is. Most pieces are as `line` writes them, and the others are read as JSON.
+/// The entry in a piece, if it is one. Most pieces are spelled as `line` writes them; the others are read as JSON.
 pub(crate) fn piece_entry(
     alloc: Global,
     piece: &[u8],
@@ -75,7 +75,7 @@ pub(crate) fn piece_entry(
     read_piece(alloc, piece)
 }
 
-/// The same, whatever the spelling.
+/// The entry in a piece, however the piece is spelled.
 fn read_piece(alloc: Global, piece: &[u8]) -> Result<Option<SerializableMetadata>, AllocError>
     ensures { IfOk result (λ o. option_map entry_view o ≡ entry_of_piece piece.now) }
 {
@@ -95,7 +95,7 @@ fn read_piece(alloc: Global, piece: &[u8]) -> Result<Option<SerializableMetadata
     read_entry(alloc, rest)
 }
 
-/// Whether the digits are the lower-case hex digits of the SHA-256 of the bytes.
+/// Whether the digits are the SHA-256 of the bytes in lower-case hex.
 pub(crate) fn is_digest_of(digits: &[u8], bytes: &[u8]) -> bool
     ensures { IsTrue result ↔ (digits.now ≡ sha256_hex bytes.now) }
 {

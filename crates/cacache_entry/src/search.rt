@@ -1,4 +1,4 @@
-//! The lookup of a key, from the end of a bucket.
+//! The lookup of a key, which starts at the end of a bucket.
 ghost use Rattle.std.specs.Prelude.{◌≡◌, ◌<◌, ◌+◌, ◌^◌, IfOk, IfErr, option_map, option_and_then, string_bytes};
 ghost use Rattle.cacache_core.specs.declared.errors.Error.TheVariants.{OutOfMemory};
 ghost use Rattle.cacache_entry.specs.Bucket.{without_cr as less_cr, entry_of_piece, entries_of};
@@ -15,19 +15,19 @@ use std::alloc::{AllocError, Global};
 /// What a lookup found, and how much of the bucket it read.
 #[derive(Debug, Drop, PartialEq)]
 pub struct Lookup {
-    /// The entry; none where the key was deleted or never written.
+    /// The entry, or `None` if the key was deleted or never written.
     pub found: Option<Metadata>,
-    /// How many pieces were decoded: from the deciding one to the last, or all where none decides.
+    /// How many pieces were decoded: from the deciding one to the last, or all if none decides.
     pub pieces: u64,
 }
 
-/// Looks the key up in the bytes of a bucket, from their end: the last entry of the key that is a tombstone or has a
-/// readable integrity decides, and no piece before it is read. Nothing is found where that is a tombstone, or where no
+/// Looks the key up in the bytes of a bucket, from the end. The last entry of the key that is a tombstone or has a
+/// readable integrity decides, and no piece before it is read. Nothing is found if that entry is a tombstone, or if no
 /// entry decides.
 ///
 /// # Errors
 ///
-/// `OutOfMemory` where memory runs out.
+/// `OutOfMemory` if memory runs out.
 pub fn latest(alloc: Global, bytes: &[u8], key: &str) -> errors::Result<Lookup>
     ensures found { IfOk result (λ lookup.
         option_map found_view lookup.found ≡ latest_of key.now (entries_of bytes.now)) }
@@ -46,8 +46,8 @@ pub fn latest(alloc: Global, bytes: &[u8], key: &str) -> errors::Result<Lookup>
     Ok(Lookup { found, pieces })
 }
 
-/// What a piece answers to a lookup of the key: an entry or, if it is a tombstone, that there is none. None where it
-/// is no entry of the key, or its integrity is unreadable. Each call raises `pieces` by one.
+/// What a piece answers to a lookup of the key: an entry or, if it is a tombstone, that there is none. `None` if the
+/// piece isn't an entry of the key, or if its integrity is unreadable. Each call raises `pieces` by one.
 fn piece_answer(
     alloc: Global,
     piece: &[u8],
@@ -85,8 +85,8 @@ fn entry_answer(
     }
 }
 
-/// What an entry that was read before answers to a lookup of its own key: a copy of what it says or, if it is a
-/// tombstone, that there is none. None where its integrity is unreadable.
+/// What an entry that was already read answers to a lookup of its own key: a copy of what it says or, if it is a
+/// tombstone, that there is none. `None` if its integrity is unreadable.
 pub fn answer_of_entry(
     alloc: Global,
     entry: &SerializableMetadata,
@@ -115,8 +115,8 @@ fn copied(entry: &SerializableMetadata, integrity: Integrity) -> Result<Metadata
     })
 }
 
-/// What an entry's integrity answers: what its text reads as or, for a tombstone, that there is none. None where it is
-/// unreadable.
+/// What an entry's integrity answers: the integrity that its text is read as or, for a tombstone, that there is none.
+/// `None` if it is unreadable.
 fn integrity_answer(
     alloc: Global,
     text: &Option<String>,

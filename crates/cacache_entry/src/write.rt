@@ -22,21 +22,21 @@ use serde_json::Value;
 use sha2::{Digest, Sha256};
 use std::alloc::{AllocError, Global};
 
-/// How a line begins: LF, room for the digest's 64 digits, TAB.
+/// The start of a line: LF, room for the digest's 64 digits, TAB.
 const HEAD: &[u8] = b"\n0000000000000000000000000000000000000000000000000000000000000000\t";
 
-/// Room for all of a line but its key, where it has one SHA-256 digest and no metadata.
+/// Room for a whole line except its key, if it has one SHA-256 digest and no metadata.
 const LINE_ROOM: usize = 256;
 
-/// How deep metadata may nest inside the entry's own object.
+/// The depth to which metadata may nest inside the entry's own object.
 const METADATA_LEVELS: u64 = 126;
 
 /// The line of an entry: LF, the SHA-256 of the entry's text in hex digits, TAB, and the text.
 ///
 /// # Errors
 ///
-/// `SerdeError` with the first of these causes that holds: the time is 2^64 or more, a number of the metadata isn't
-/// whole in 64 bits, the text would nest deeper than 127 levels. `OutOfMemory` where memory runs out.
+/// `SerdeError` with the first of these causes that applies: the time is 2^64 or more; a number in the metadata isn't a
+/// 64-bit integer; the text would nest deeper than 127 levels. `OutOfMemory` if memory runs out.
 pub fn line(alloc: Global, entry: &SerializableMetadata) -> errors::Result<Vec<u8>>
     ensures line { IfOk result (λ bytes. bytes.items ≡ line_of (entry_view entry.now)) }
     ensures entry { OnOk result (IsEntry (entry_view entry.now)) }
@@ -50,7 +50,7 @@ pub fn line(alloc: Global, entry: &SerializableMetadata) -> errors::Result<Vec<u
     Ok(fitting_line(alloc, entry)?)
 }
 
-/// Why an entry can't be written.
+/// Why an entry can't be written, if it can't.
 pub(crate) fn cause_of(entry: &SerializableMetadata) -> Option<SerdeCause>
     ensures { result ≡ cause_of_entry (entry_view entry.now) }
 {
@@ -65,14 +65,14 @@ pub(crate) fn cause_of(entry: &SerializableMetadata) -> Option<SerdeCause>
     }
 }
 
-/// The text of a refusal.
+/// The text of the error for an entry that can't be written.
 fn refusal(alloc: Global, key: &str) -> Result<Text, AllocError>
     ensures { IfOk result (λ text. text ≡ refusal_text key.now) }
 {
     Ok(Text::new(format!(in alloc; "Failed to serialize entry with key `{key}`")?))
 }
 
-/// The line of an entry that has no cause against it. The text is written behind room for its digest.
+/// The line of an entry that can be written. The text is written after room for its digest.
 pub(crate) fn fitting_line(
     alloc: Global,
     entry: &SerializableMetadata,
@@ -89,7 +89,7 @@ pub(crate) fn fitting_line(
     Ok(line)
 }
 
-/// Puts the digest of the text behind the head of a line into that head.
+/// Computes the digest of the text that follows a line's head, and writes it into the head.
 fn fill_digest(line: &mut [u8])
     requires { 66 ≤ length line.old }
     ensures { line.new ≡ take 1 line.old ++ (sha256_hex (drop 66 line.old) ++ drop 65 line.old) }
@@ -101,7 +101,7 @@ fn fill_digest(line: &mut [u8])
     }
 }
 
-/// Appends the text of an entry. Time and size come by value, so that their ranges are known.
+/// Appends the text of an entry. Time and size are passed by value, so that their ranges are known.
 fn push_text(
     alloc: Global,
     out: &mut Vec<u8>,
@@ -164,7 +164,7 @@ fn push_quoted(alloc: Global, out: &mut Vec<u8>, text: &str) -> Result<(), Alloc
     out.extend_from_slice(&escaped.into_inner())
 }
 
-/// Appends a text in quotes, or null where there is none.
+/// Appends a text in quotes, or null if there is none.
 fn push_quoted_or_null(
     alloc: Global,
     out: &mut Vec<u8>,
@@ -186,7 +186,7 @@ fn push_number(out: &mut Vec<u8>, number: u64) -> Result<(), AllocError>
     out.extend_from_slice(itoa::Buffer::new().format(number).as_bytes())
 }
 
-/// Appends a value of whole numbers.
+/// Appends a value whose numbers are all integers.
 fn push_value(alloc: Global, out: &mut Vec<u8>, value: &Value) -> Result<(), AllocError>
     requires whole { has_float (view value.now) ≡ false }
     requires flat { depth (view value.now) ≤ max_depth }
@@ -199,7 +199,7 @@ fn push_value(alloc: Global, out: &mut Vec<u8>, value: &Value) -> Result<(), All
     }
 }
 
-/// Appends bytes as an array of numbers, or null where there are none.
+/// Appends bytes as an array of numbers, or null for `None`.
 fn push_bytes(alloc: Global, out: &mut Vec<u8>, bytes: &Option<Vec<u8>>) -> Result<(), AllocError>
     ensures text { OnOk result (out.new.items ≡ out.old.items
         ++ compact_text (bytes_or_null (option_map (λ b. b.items) bytes.now))) }

@@ -1,4 +1,4 @@
-//! The entry of a piece that `line` wrote, which isn't read as JSON.
+//! Reads the entry of a piece that `line` wrote, without parsing it as JSON.
 ghost use Rattle.std.specs.Prelude.{◌≡◌, IfOk, IfSome, Some, option_map};
 ghost use Rattle.cacache_entry.specs.Bucket.{entry_of_piece};
 ghost use Rattle.cacache_entry.specs.EntryLaws.{bare_entry};
@@ -9,7 +9,7 @@ use crate::parts::{Parts, written_parts};
 use serde_json::Value;
 use std::alloc::{AllocError, Global};
 
-/// The entry of these parts.
+/// The entry with these parts.
 fn entry_of(alloc: Global, parts: Parts<'_>) -> Result<SerializableMetadata, AllocError>
     ensures { IfOk result (λ e. entry_view e ≡ bare_entry
         parts.entry.key.now (option_map (λ t. t.now) parts.entry.integrity)
@@ -30,7 +30,8 @@ fn entry_of(alloc: Global, parts: Parts<'_>) -> Result<SerializableMetadata, All
     })
 }
 
-/// The entry that a piece is, where that has no metadata and `line` writes it so. None says nothing of the piece.
+/// The entry in a piece, if the entry has no metadata and the piece is spelled as `line` writes it. `None` says nothing
+/// about the piece.
 pub(crate) fn written_entry(
     alloc: Global,
     piece: &[u8],

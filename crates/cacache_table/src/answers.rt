@@ -1,4 +1,4 @@
-//! What an answer says to a step of one kind, or why the step brought nothing.
+//! What an answer to a step of one kind contains, or why the step was refused.
 ghost use Rattle.std.specs.Prelude.{◌≡◌, Result, Ok, Err};
 ghost use Rattle.cacache_store.specs.Plain.{plain_answer};
 ghost use Rattle.cacache_table.specs.Answers.{refusal_in, done_in, temp_in, written_in, synced_in, taken_in, bytes_in, there_in, file_in, got_in, length_in, names_in};
@@ -27,16 +27,16 @@ pub struct Written<T> {
     pub count: usize,
 }
 
-/// An open file after a read, and the bytes that it gave.
+/// An open file after a read, and the bytes that it returned.
 #[derive(Drop)]
 pub struct Got<F> {
-    /// The open file, which stands behind them.
+    /// The open file, positioned after these bytes.
     pub file: F,
-    /// The bytes: none only at its end, or if none were asked for.
+    /// The bytes. There are none only at the file's end, or if none were requested.
     pub bytes: Bytes,
 }
 
-/// Why the step was refused; an answer of another kind counts as a failure of the device.
+/// Why the step was refused. An answer of another kind counts as a failure of the device.
 fn refusal_of<F: FileHandle, T: TempHandle>(answer: Answer<F, T>) -> Refusal
     ensures { result ≡ refusal_in (plain_answer F.seen T.seen answer) }
 {
@@ -45,7 +45,7 @@ fn refusal_of<F: FileHandle, T: TempHandle>(answer: Answer<F, T>) -> Refusal
     refusal
 }
 
-/// The same of an answer that is kept.
+/// The same for a borrowed answer.
 fn refusal_by<F: FileHandle, T: TempHandle>(answer: &Answer<F, T>) -> Refusal
     ensures { result ≡ refusal_in (plain_answer F.seen T.seen answer.now) }
 {
@@ -136,7 +136,7 @@ pub fn file_of<F: FileHandle, T: TempHandle>(answer: Answer<F, T>) -> Result<F, 
     }
 }
 
-/// The open file after a read, and the bytes that it gave.
+/// The open file after a read, and the bytes that it returned.
 pub fn got_of<F: FileHandle, T: TempHandle>(answer: Answer<F, T>) -> Result<Got<F>, Refusal>
     ensures { seen_by (got_as F.seen) result ≡ got_in (plain_answer F.seen T.seen answer) }
 {

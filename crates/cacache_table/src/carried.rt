@@ -1,14 +1,14 @@
-//! What a call carries from one state to the next. Contracts see these types as they are.
+//! What a call carries from one state to the next. Contracts use these types unchanged.
 use crate::command::{Export, Options};
 use cacache_core::integrity::Integrity;
 use cacache_core::text::Text;
 
-/// A content on its way to its place: what it is known by, and what was said of it.
+/// A content that is about to be stored: what identifies it, and its options.
 #[derive(Drop)]
 pub struct Commit {
     /// The cache's folder.
     pub cache: Text,
-    /// The key of the entry that follows; without one none does.
+    /// The key of the entry that is added afterwards. Without a key no entry is added.
     pub key: Option<Text>,
     /// The integrity of the bytes.
     pub computed: Integrity,
@@ -16,39 +16,39 @@ pub struct Commit {
     pub count: usize,
     /// The entry's time, in milliseconds since 1970.
     pub moment: u128,
-    /// What was said of the content and of its entry.
+    /// The options of the content and of its entry.
     pub options: Options,
 }
 
-/// What a key is looked up for.
+/// The purpose of a lookup.
 #[derive(Drop)]
 pub enum Aim {
-    /// What the lookup found is answered.
+    /// To answer what the lookup found.
     Report,
-    /// The content that it found is read.
+    /// To read the content that it found.
     Read,
-    /// The content that it found is exported.
+    /// To export the content that it found.
     Export(Export),
-    /// The content that it found and the bucket are removed.
+    /// To remove the content that it found, and the bucket.
     Remove,
 }
 
-/// A key that is looked up.
+/// A key that is being looked up.
 #[derive(Drop)]
 pub struct Lookup {
     /// The cache's folder.
     pub cache: Text,
     /// The key.
     pub key: Text,
-    /// What the entry is wanted for.
+    /// The purpose of the lookup.
     pub aim: Aim,
 }
 
-/// A content that is read, exported or asked for.
+/// A content that is read, exported or checked for existence.
 #[derive(Drop)]
 pub struct Content {
     /// The cache's folder.
     pub cache: Text,
-    /// The integrity that the content is known by.
+    /// The integrity that identifies the content.
     pub integrity: Integrity,
 }

@@ -9,57 +9,57 @@ use cacache_core::text::Text;
 use serde_json::Value;
 use std::alloc::AllocError;
 
-/// What a writer may say of a content and of its entry.
+/// What a writer may specify about a content and its entry.
 #[derive(Debug, Drop)]
 pub struct Options {
     /// The algorithm of the content's digest.
     pub algorithm: Algorithm,
-    /// How many bytes the content is to have.
+    /// The expected size of the content, in bytes.
     pub size: Option<usize>,
-    /// The integrity that the content is to meet.
+    /// The expected integrity of the content.
     pub integrity: Option<Integrity>,
-    /// Any data beside the content.
+    /// Any data to store with the content.
     pub metadata: Json,
-    /// Any bytes beside the content.
+    /// Any bytes to store with the content.
     pub raw_metadata: Option<Bytes>,
-    /// Whether the commit waits until a loss of power would leave it whole. Links ignore it.
+    /// Whether the commit waits until it would survive a loss of power whole. Links ignore this.
     pub durable: bool,
 }
 
-/// Stores bytes as a content; with a key, its entry follows.
+/// Stores bytes as a content and, with a key, then adds its entry.
 #[derive(Debug, Drop)]
 pub struct Put {
-    /// The key of the entry; without one none is made.
+    /// The key of the entry. Without a key no entry is made.
     pub key: Option<Text>,
-    /// The bytes, which become the content.
+    /// The bytes of the content.
     pub data: Bytes,
-    /// The entry's time, in milliseconds since 1970; without a key it has no effect.
+    /// The entry's time, in milliseconds since 1970. Without a key it has no effect.
     pub moment: u128,
-    /// What the content is to be, and what its entry says.
+    /// What the content must match, and what its entry says.
     pub options: Options,
 }
 
-/// Makes a content of a link to a file; with a key, its entry follows.
+/// Makes a link to a file a content and, with a key, then adds its entry.
 #[derive(Debug, Drop)]
 pub struct Link {
-    /// The key of the entry; without one none is made.
+    /// The key of the entry. Without a key no entry is made.
     pub key: Option<Text>,
-    /// The file's path; one without a `/` in front starts at the base folder.
+    /// The file's path. One without a leading `/` is resolved against the base folder.
     pub target: Text,
-    /// The entry's time, in milliseconds since 1970; without a key it has no effect.
+    /// The entry's time, in milliseconds since 1970. Without a key it has no effect.
     pub moment: u128,
-    /// What the target is to be, and what its entry says. A size has no effect: the target's own is asked.
+    /// What the target must match, and what its entry says. A size has no effect: the target's own size is asked for instead.
     pub options: Options,
 }
 
-/// Adds an entry to the index; without an integrity it is a tombstone.
+/// Adds an entry to the index. Without an integrity it is a tombstone.
 #[derive(Debug, Drop)]
 pub struct Insert {
     /// The key of the entry.
     pub key: Text,
     /// The entry's time, in milliseconds since 1970.
     pub moment: u128,
-    /// The size and the integrity are the entry's own; the algorithm has no effect. Without a size it records 0.
+    /// The size and the integrity are recorded in the entry; without a size it records 0. The algorithm has no effect.
     pub options: Options,
 }
 
@@ -75,11 +75,11 @@ pub struct Delete {
 /// How a content is exported.
 #[derive(Clone, Copy, Debug, PartialEq, Eq)]
 pub enum How {
-    /// As a copy of its bytes, over a file that stands there.
+    /// As a copy of its bytes, which overwrites a file that is already there.
     Copy,
-    /// As a file that shares its storage, where nothing stands. Real folders answer `Unsupported`.
+    /// As a file that shares its storage, at a path that must be free. Real folders answer `Unsupported`.
     Reflink,
-    /// As one more name of its file, where nothing stands. Whoever then writes to that file damages the cache.
+    /// As one more name of its file, at a path that must be free. Whoever then writes to that file damages the cache.
     HardLink,
 }
 
@@ -92,14 +92,14 @@ pub enum Source {
     Hash(Integrity),
 }
 
-/// Gives a content a second place, outside the cache.
+/// Exports a content to a second place, outside the cache.
 #[derive(Clone, Debug, Drop)]
 pub struct Export {
     /// Whether it is copied or linked.
     pub how: How,
     /// Whether the content is read and verified first.
     pub checked: bool,
-    /// Where it goes.
+    /// The path that it is exported to.
     pub to: Text,
 }
 
@@ -112,21 +112,21 @@ pub enum Command {
     Link(Link),
     /// Adds an entry to the index.
     Insert(Insert),
-    /// Adds a tombstone to the index; the content stays.
+    /// Adds a tombstone to the index. The content stays.
     Delete(Delete),
     /// The entry that a lookup of the key finds, whether or not its content is there.
     Find(Text),
     /// The bytes that a key was last put with.
     Get(Text),
-    /// The bytes of an integrity.
+    /// The bytes of the content with this integrity.
     GetHash(Integrity),
-    /// Whether the content of an integrity is there.
+    /// Whether the content with this integrity is there.
     Exists(Integrity),
     /// The entries of all keys.
     Ls,
     /// Copies or links a content to a place outside the cache.
     Export(Source, Export),
-    /// Removes the content of an integrity; entries stay.
+    /// Removes the content with this integrity. Entries stay.
     RemoveHash(Integrity),
     /// Removes the content that a key's lookup finds, and the key's bucket.
     RemoveFully(Text),
@@ -165,7 +165,7 @@ fn share_bytes(bytes: &Option<Bytes>) -> Result<Option<Bytes>, AllocError>
 }
 
 impl Options {
-    /// Options that say nothing but the algorithm.
+    /// Options that specify only the algorithm.
     pub fn blank(algorithm: Algorithm) -> Options
         ensures { result ≡ blank algorithm }
     {
@@ -179,7 +179,7 @@ impl Options {
         }
     }
 
-    /// A copy, which shares its bytes.
+    /// A copy that shares the bytes of the original.
     pub fn copy(&self) -> Result<Options, AllocError>
         ensures { IfOk result (λ options. options ≡ self.now) }
     {
@@ -193,7 +193,7 @@ impl Options {
         })
     }
 
-    /// The same with this size, in bytes.
+    /// The same options with this size, in bytes.
     pub fn with_size(self, size: usize) -> Options
         ensures { result ≡ record self { size = Some size } }
     {
@@ -205,7 +205,7 @@ impl Options {
 }
 
 impl Put {
-    /// A copy, which shares its bytes.
+    /// A copy that shares the bytes of the original.
     pub fn copy(&self) -> Result<Put, AllocError>
         ensures { IfOk result (λ put. put ≡ self.now) }
     {
@@ -219,7 +219,7 @@ impl Put {
 }
 
 impl Link {
-    /// A copy, which shares its bytes.
+    /// A copy that shares the bytes of the original.
     pub fn copy(&self) -> Result<Link, AllocError>
         ensures { IfOk result (λ link. link ≡ self.now) }
     {
@@ -233,7 +233,7 @@ impl Link {
 }
 
 impl Insert {
-    /// A copy, which shares its bytes.
+    /// A copy that shares the bytes of the original.
     pub fn copy(&self) -> Result<Insert, AllocError>
         ensures { IfOk result (λ insert. insert ≡ self.now) }
     {
@@ -246,7 +246,7 @@ impl Insert {
 }
 
 impl Command {
-    /// A copy, which shares its bytes.
+    /// A copy that shares the bytes of the original.
     pub fn copy(&self) -> Result<Command, AllocError>
         ensures { IfOk result (λ command. command ≡ self.now) }
     {

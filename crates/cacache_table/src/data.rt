@@ -1,4 +1,4 @@
-//! JSON values that contracts see as data.
+//! JSON values, which contracts treat as plain data.
 ghost use Rattle.std.specs.Prelude.{◌≡◌};
 ghost use Rattle.serde_json.specs.View.{view};
 
@@ -6,13 +6,14 @@ use serde_json::Value;
 use std::alloc::AllocError;
 use std::marker::Model;
 
-/// A JSON value. Contracts see its data.
+/// A JSON value. In contracts it is its data.
 #[derive(Debug)]
 pub struct Json {
     value: Value,
 }
 
-// Written out, so that it is a call of its own: whoever lets one go has a proof that doesn't go through a value's variants.
+// Written out, so that dropping a value is a call of its own: the proof of a function that drops one doesn't go through
+// its variants.
 impl Drop for Json {
     fn drop(self) {
         let Json { value: _value } = self;
@@ -32,7 +33,7 @@ impl Model for Json {
 }
 
 impl Json {
-    /// The data of this value, which takes no memory.
+    /// Wraps this value. Allocates no memory.
     pub fn new(value: Value) -> Json
         ensures { result ≡ view value }
     {
@@ -46,7 +47,7 @@ impl Json {
         &self.value
     }
 
-    /// The value inside, moved, which takes no memory.
+    /// Moves the value out. Allocates no memory.
     pub fn into_value(self) -> Value
         ensures { view result ≡ self }
     {

@@ -1,4 +1,5 @@
-//! That the entries which a command or a commit may add are well-formed, as those of all values of their types are.
+//! Shows that the entries which a command or a commit may add are well-formed, as the entries of all values of these
+//! types are.
 ghost use Rattle.std.specs.Prelude.{◌<◌, ◌^◌, ℕ, length};
 ghost use Rattle.cacache_table.specs.declared.command.Command.TheVariants as commands;
 ghost use Rattle.cacache_table.specs.Formed.{FormsCommand, FormsCommit, FormsEntries};
@@ -11,7 +12,7 @@ use crate::values::{look_through, look_through_bytes};
 use cacache_core::bytes::Bytes;
 use cacache_core::text::Text;
 
-/// That each entry of a key with these options is well-formed, where it can be written.
+/// Shows that each entry of a key with these options is well-formed if it can be written.
 fn form(key: &Text, options: &Options)
     ensures { (moment : ℕ) → FormsEntries key.now moment options.now }
 {
@@ -22,7 +23,7 @@ fn form(key: &Text, options: &Options)
     }
 }
 
-/// That the size of an entry has 64 bits, as each has.
+/// Shows that the size of an entry fits in 64 bits, as every size does.
 fn measure(options: &Options)
     ensures { given_size options.now.size < 2 ^ 64 }
 {
@@ -34,19 +35,19 @@ fn measure(options: &Options)
     }
 }
 
-/// How many bytes there are: a number of 64 bits, as each is.
+/// The number of bytes, which fits in 64 bits as every such number does.
 fn count(bytes: &Bytes) -> u64
     ensures { length bytes.now < 2 ^ 64 }
 {
     bytes.len() as u64
 }
 
-/// A number of 64 bits.
+/// A 64-bit number.
 fn word(count: usize)
     ensures { count < 2 ^ 64 }
 {}
 
-/// That the entry of a commit is well-formed, where there is one and it can be written.
+/// Shows that the entry of a commit is well-formed, if there is one and it can be written.
 pub fn form_commit(commit: &Commit)
     ensures { FormsCommit commit.now }
 {
@@ -56,7 +57,7 @@ pub fn form_commit(commit: &Commit)
     }
 }
 
-/// The same of a put.
+/// The same for a put.
 pub fn form_put(put: &Put)
     ensures { (site : Site) → FormsCommand site (commands.Put put.now) }
 {
@@ -66,7 +67,7 @@ pub fn form_put(put: &Put)
     }
 }
 
-/// The same of a link, whatever is read from its target.
+/// The same for a link, whatever is read from its target.
 pub fn form_link(link: &Link)
     ensures { (site : Site) → FormsCommand site (commands.Link link.now) }
 {
@@ -75,7 +76,7 @@ pub fn form_link(link: &Link)
     }
 }
 
-/// The same of an insertion.
+/// The same for an insertion.
 pub fn form_insert(insert: &Insert)
     ensures { (site : Site) → FormsCommand site (commands.Insert insert.now) }
 {
@@ -83,14 +84,15 @@ pub fn form_insert(insert: &Insert)
     form(&insert.key, &insert.options);
 }
 
-/// The same of a tombstone.
+/// The same for a tombstone.
 pub fn form_delete(delete: &Delete)
     ensures { (site : Site) → FormsCommand site (commands.Delete delete.now) }
 {
     let _key = delete.key.as_str();
 }
 
-/// That the entries which a call of this command may add are well-formed, where they can be written. Takes no memory.
+/// Shows that the entries which a call of this command may add are well-formed if they can be written. Allocates no
+/// memory.
 pub fn form_command(command: &Command)
     ensures { (site : Site) → FormsCommand site command.now }
 {

@@ -1,4 +1,4 @@
-//! Replies whose kind is known, as results.
+//! Turns a reply of a known kind into a `Result`.
 ghost use Rattle.std.specs.Prelude.{◌≡◌};
 ghost use Rattle.cacache_table.specs.declared.reply.Reply.TheVariants as replies;
 ghost use Rattle.cacache_table.specs.Promises.{Only, OnlyStores, OnlyReads, OnlyLooksUp, OnlyCopies};
@@ -61,7 +61,7 @@ impl Reply {
         }
     }
 
-    /// Nothing where the call is done, or why it failed.
+    /// Nothing if the call is done, or why it failed.
     pub fn done(self) -> Result<()>
         requires { Only replies.Done (plain_reply self) }
         ensures { reply_of done result ≡ plain_reply self }

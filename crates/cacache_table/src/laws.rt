@@ -10,17 +10,17 @@ ghost use Rattle.cacache_table.specs.Runs.{WantsUntilOver, EffortFalls, MemoryEn
 ghost use Rattle.cacache_table.specs.Sound.{BeginsSound, StepsAllowed, StaysSound};
 ghost use Rattle.cacache_table.specs.Verifying.{ExportsVerify, LinksReadWhole};
 
-/// The call of a state wants a step until it is over, and it ends: each fitting answer lowers the bound on the steps
-/// to come, and out of memory ends it at once.
+/// In each state a call needs a step until it is over, and every call ends. Each fitting answer lowers the bound on the
+/// remaining steps, and out of memory ends the call at once.
 pub fn run_laws()
     ensures over { WantsUntilOver }
     ensures falls { EffortFalls }
     ensures memory { MemoryEnds }
 {}
 
-/// What every reply of a call keeps, whatever its store answered: its kind is the command's, bytes that were read meet
-/// their integrity, no integrity is answered but the one that was computed or given, a checked export verified what it
-/// opened, and a link read its whole target.
+/// What holds of every reply, whatever the store answered. Its kind is the command's. Bytes that were read match their
+/// integrity. The only integrity answered is the one that was computed or given. A checked export verified what it
+/// opened. A link read its whole target.
 pub fn promise_laws()
     ensures states { StatesPromise }
     ensures calls { CallsAnswer }
@@ -28,7 +28,7 @@ pub fn promise_laws()
     ensures links { LinksReadWhole }
 {}
 
-/// What a call answers is a function of what its own steps were shown.
+/// A call's reply is a function of what its own steps were shown.
 pub fn reply_laws()
     ensures finds { FindsShown }
     ensures gets { GetsShown }
@@ -40,8 +40,8 @@ pub fn reply_laws()
     ensures causes { IoErrorsHaveCauses }
 {}
 
-/// What the steps of a call do to contents and buckets: a commit does nothing, or stores its content, or stores its
-/// content and then sends its entry.
+/// What the steps of a call do to contents and buckets. A commit does one of three things: nothing; it stores its
+/// content; or it stores its content and then sends its entry.
 pub fn effect_laws()
     ensures puts { PutsCommit }
     ensures links { LinksCommit }
@@ -50,20 +50,21 @@ pub fn effect_laws()
     ensures errands { ErrandsOnlyChange }
 {}
 
-/// How many steps calls take on answers that a store would give.
+/// How many steps calls take if the answers are those that a store would return.
 pub fn row_laws()
     ensures { Rows }
 {}
 
-/// A call that may begin stands in sound states, whatever fits its steps: its steps name the paths of its own site, each
-/// line is that of a well-formed entry that can be written, exports go apart from the cache, and links lead outside.
+/// A call that may begin is always in a sound state, whatever fitting answers its steps get. Its steps name the paths
+/// of its own site. Each line is that of a well-formed entry that can be written. Exports go to paths apart from the
+/// cache, and links lead outside it.
 pub fn sound_laws()
     ensures begins { BeginsSound }
     ensures allowed { StepsAllowed }
     ensures stays { StaysSound }
 {}
 
-/// A call makes no step but such as its command's licence allows, whatever it is answered.
+/// Whatever answers it gets, a call makes only steps that its command's licence allows.
 pub fn licence_laws()
     ensures keeps { CallsKeepTo }
 {}

@@ -1,4 +1,5 @@
-//! All calls on a cache as one table of states: the step that each state wants, and where an answer takes it.
+//! All calls on a cache as one table of states: the step that each state needs, and the state that each answer leads
+//! to.
 #![tactic(auto)]
 
 pub mod answers;

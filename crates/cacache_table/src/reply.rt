@@ -9,13 +9,13 @@ use cacache_entry::Metadata;
 use std::alloc::{AllocError, Global};
 use std::marker::Model;
 
-/// What a lookup found. Contracts see the entry with its integrity.
+/// What a lookup found. In contracts it is the entry with its integrity.
 #[derive(Debug)]
 pub struct Found {
     metadata: Metadata,
 }
 
-// Written out for the same reason as that of a JSON value.
+// Written out for the same reason as the `Drop` of a JSON value.
 impl Drop for Found {
     fn drop(self) {
         let Found {
@@ -38,7 +38,7 @@ impl Model for Found {
 }
 
 impl Found {
-    /// What these metadata say, which takes no memory.
+    /// Wraps these metadata. Allocates no memory.
     pub fn new(metadata: Metadata) -> Found
         ensures { result ≡ found_view metadata }
     {
@@ -69,7 +69,7 @@ impl Found {
         &self.metadata
     }
 
-    /// The metadata inside, moved, which takes no memory.
+    /// Moves the metadata out. Allocates no memory.
     pub fn into_metadata(self) -> Metadata
         ensures { found_view result ≡ self }
     {
@@ -78,7 +78,7 @@ impl Found {
     }
 }
 
-/// What a listing gives: an entry, or why one couldn't be read. Contracts see the list.
+/// The items of a listing: each is an entry, or the error why one couldn't be read. In contracts this is the list.
 #[derive(Debug, Drop)]
 pub struct Items {
     items: Vec<Result<Found, Error>>,
@@ -99,7 +99,7 @@ impl Model for Items {
 }
 
 impl Items {
-    /// The list of these items, which takes no memory.
+    /// Wraps these items. Allocates no memory.
     pub fn new(items: Vec<Result<Found, Error>>) -> Items
         ensures { result ≡ items.items }
     {
@@ -124,7 +124,7 @@ impl Items {
         self.items.as_slice()
     }
 
-    /// The items as a vector, which takes no memory.
+    /// Moves the items out as a vector. Allocates no memory.
     pub fn into_vec(self) -> Vec<Result<Found, Error>>
         ensures { result.items ≡ self }
     {
@@ -136,9 +136,9 @@ impl Items {
 /// What a call answers.
 #[derive(Debug, Drop)]
 pub enum Reply {
-    /// The content or the entry is stored, and has this integrity.
+    /// The content or the entry was stored, and has this integrity.
     Stored(Integrity),
-    /// These bytes were read, and meet the integrity that they were read by.
+    /// These bytes were read, and match the integrity that they were read by.
     Read(Bytes),
     /// What the lookup of a key found.
     LookedUp(Option<Found>),
@@ -148,13 +148,13 @@ pub enum Reply {
     Copied(u64),
     /// The entries that were listed.
     Listed(Items),
-    /// The call is done, and has nothing to say.
+    /// The call is done, and returns nothing.
     Done,
     /// Why the call failed.
     Refused(Error),
 }
 
-/// A copy of why an integrity was refused.
+/// A copy of the reason why an integrity was refused.
 fn copy_fault(fault: &IntegrityFault) -> Result<IntegrityFault, AllocError>
     ensures { IfOk result (λ copy. copy ≡ fault.now) }
 {
@@ -206,7 +206,7 @@ fn copy_found(found: &Option<Found>) -> Result<Option<Found>, AllocError>
 }
 
 impl Reply {
-    /// A copy, which shares its bytes.
+    /// A copy that shares the bytes of the original.
     pub fn copy(&self, alloc: Global) -> Result<Reply, AllocError>
         ensures { IfOk result (λ reply. reply ≡ self.now) }
     {

@@ -1,4 +1,4 @@
-//! What is to be linked, and what becomes of it.
+//! The target of a link, and the commit that it becomes.
 ghost use Rattle.std.specs.Prelude.{◌≡◌, ℕ, List, IfOk, length};
 ghost use Rattle.cacache_core.specs.Integrity.{integrity_under};
 ghost use Rattle.cacache_table.specs.Linking.{OnceRead, based as based_of, commit_for, linked_to, target_at, with_size as with_size_of};
@@ -11,21 +11,22 @@ use cacache_core::paths;
 use cacache_core::text::Text;
 use std::alloc::{AllocError, Global};
 
-/// A file that is to be linked to, and what is said of the link.
+/// A file to link to, and the options of the link.
 pub struct Target<M> {
     /// The cache's folder.
     pub cache: Text,
-    /// The key of the entry that follows; without one none does.
+    /// The key of the entry that is added afterwards. Without a key no entry is added.
     pub key: Option<Text>,
     /// The file's path.
     pub path: Text,
-    /// The entry's time, in milliseconds since 1970. An open linker has none yet where its commit is to ask the clock.
+    /// The entry's time, in milliseconds since 1970. An open linker has none yet if its commit is to ask the clock.
     pub moment: M,
-    /// What is said of the link and of its entry.
+    /// The options of the link and of its entry.
     pub options: Options,
 }
 
-// Written out, so that it is a call of its own: whoever lets a target go has a proof that doesn't go through its fields.
+// Written out, so that dropping a target is a call of its own: the proof of a function that drops one doesn't go
+// through its fields.
 impl<M: Drop> Drop for Target<M> {
     fn drop(self) {
         let Target {
@@ -39,7 +40,7 @@ impl<M: Drop> Drop for Target<M> {
 }
 
 impl<M: Drop> Target<M> {
-    /// What is to be linked in the cache; a target without a `/` in front starts at the base folder.
+    /// A link to be made in this cache. A target without a leading `/` is resolved against the base folder.
     pub fn new(
         alloc: Global,
         base: &str,
@@ -67,7 +68,7 @@ impl<M: Drop> Target<M> {
         })
     }
 
-    /// The same with the size that the link is to have.
+    /// The same target with the size that the link is expected to have.
     pub fn with_size(self, size: usize) -> Target<M>
         ensures { result ≡ with_size_of self size }
     {
@@ -87,7 +88,7 @@ impl<M: Drop> Target<M> {
         }
     }
 
-    /// The same with this moment.
+    /// The same target with this time.
     pub fn at(self, moment: u128) -> Target<u128>
         ensures { result ≡ target_at self moment }
     {
@@ -109,8 +110,8 @@ impl<M: Drop> Target<M> {
 }
 
 impl Target<u128> {
-    /// The commit of a link to the target, with the integrity and the size that were read, and the target's path. It is
-    /// never durable.
+    /// Two results: the commit of a link to the target, with the integrity and the size that were read; and the
+    /// target's path. The commit is never durable.
     pub fn into_commit(self, computed: Integrity, count: usize) -> (Commit, Text)
         ensures commit { OnceRead self.options.algorithm computed count
             (λ bytes. result.0 ≡ commit_for self bytes) }
@@ -136,7 +137,7 @@ impl Target<u128> {
     }
 }
 
-/// A target that doesn't begin with `/` starts at the base folder.
+/// The path of a target. A target that doesn't begin with `/` is resolved against the base folder.
 pub fn based(alloc: Global, base: &str, target: Text) -> Result<Text, AllocError>
     ensures { IfOk result (λ path. path ≡ based_of base.now target) }
 {

@@ -1,4 +1,5 @@
-//! What each JSON value keeps, and each run of bytes: a look through them tells it to the contracts.
+//! Facts that hold of every JSON value and of all bytes. A function here looks through a value, so that contracts can
+//! use these facts.
 ghost use Rattle.std.specs.Prelude.{◌<◌, ◌^◌, string_cmp, FitsSigned};
 ghost use Rattle.std.specs.Int.{w64};
 ghost use Rattle.std.specs.BTreeMap.{IsOrdered};
@@ -8,7 +9,8 @@ ghost use Rattle.cacache_table.specs.Known.{IsRanged, AllJson, NamedJson};
 
 use serde_json::{Map, Number, Value};
 
-/// Looks through a value. Each prints as UTF-8, and has the names of its objects in order and its numbers in range.
+/// Looks through a value. Every value prints as UTF-8, and has the names of its objects in order and its numbers in
+/// range.
 #[cycle(json)]
 pub fn look_through(value: &Value)
     ensures { IsJson (view value.now) }
@@ -23,12 +25,12 @@ pub fn look_through(value: &Value)
     }
 }
 
-/// A number of 64 bits that isn't negative.
+/// An unsigned 64-bit number.
 fn natural(number: u64)
     ensures { number < 2 ^ 64 }
 {}
 
-/// A number of 64 bits.
+/// A signed 64-bit number.
 fn whole(number: i64)
     ensures { FitsSigned w64 number }
 {}
@@ -65,7 +67,7 @@ fn look_through_members(members: &Map<String, Value>)
     }
 }
 
-/// A number of eight bits.
+/// An 8-bit number.
 fn octet(byte: u8)
     ensures { byte < 256 }
 {}

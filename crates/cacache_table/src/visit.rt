@@ -11,22 +11,22 @@ use std::alloc::AllocError;
 /// One step of a walk, by its path.
 #[derive(Drop)]
 pub enum Visit {
-    /// Lists a folder, which lies at this level; that of the walk's own folder is 0.
+    /// Lists a folder at this level. The walk's own folder has level 0.
     Enter(Text, u8),
     /// Reads a bucket.
     ReadBucket(Text),
     /// Removes a file or a link.
     RemoveFile(Text),
-    /// Removes a folder, which is empty by then.
+    /// Removes a folder, which is already empty.
     RemoveFolder(Text),
 }
 
-/// What a walk has still to do.
+/// What a walk still has to do.
 #[derive(Drop)]
 pub enum Task {
-    /// It makes this visit.
+    /// To make this visit.
     Make(Visit),
-    /// It stumbles over what lies at a path, which takes no step.
+    /// To report a fault at a path, which takes no step.
     Stumble(Fault, Text),
 }
 

@@ -1,4 +1,4 @@
-//! What a bucket lists: each of its keys once, where its lookup finds an entry.
+//! The items that a bucket lists: each of its keys once, if the key's lookup finds an entry.
 ghost use Rattle.std.specs.Prelude.{◌≡◌, ◌++◌, IfOk, IfErr, OnOk, Ok, false, map, option_map, bytes_eq, string_bytes};
 ghost use Rattle.std.specs.List.{list_any};
 ghost use Rattle.std.specs.Option.{option_to_list};
@@ -16,7 +16,7 @@ use cacache_entry::{Metadata, SerializableMetadata, answer_of_entry, entries, la
 use cacache_table::Found;
 use std::alloc::Global;
 
-/// So many entries are compared with each other; for more a map is made.
+/// Up to this many entries are compared with each other. For more, a map is made.
 const FEW: usize = 8;
 
 /// Whether one of the entries has this key.
@@ -33,8 +33,8 @@ fn has_key(entries: &[SerializableMetadata], key: &str) -> bool
     false
 }
 
-/// What the lookup of the key of a bucket's last entry with this key finds. That entry answers as it was read; only where
-/// its integrity is unreadable the bucket is looked through once more.
+/// What the lookup of a key finds, given the bucket's last entry with this key. The entry itself answers, as it was
+/// read. Only if its integrity is unreadable, the bucket is searched again.
 fn look_up(
     alloc: Global,
     bytes: &[u8],
@@ -56,7 +56,7 @@ fn look_up(
     }
 }
 
-/// Adds what the lookup of an entry's key finds, unless the key comes again in a later entry.
+/// Adds what the lookup of an entry's key finds, unless a later entry has the same key.
 fn add(
     alloc: Global,
     items: &mut Vec<Result<Found, Error>>,
@@ -78,7 +78,7 @@ fn add(
     Ok(())
 }
 
-/// The items of a bucket's bytes, whose entries are few enough to compare each key with the later ones.
+/// The items of a bucket's bytes, if its entries are few enough to compare each key with the later ones.
 fn items_of_few(
     alloc: Global,
     bytes: &[u8],
@@ -97,7 +97,7 @@ fn items_of_few(
     Ok(items)
 }
 
-/// Adds what an entry answers to a lookup of its key, unless that is nothing.
+/// Adds what an entry answers to a lookup of its key, if it answers anything.
 fn push(
     alloc: Global,
     items: &mut Vec<Result<Found, Error>>,
@@ -113,7 +113,7 @@ fn push(
     Ok(())
 }
 
-/// The items of any number of entries, from their end: a key that was met has no decider any more.
+/// The items of any number of entries, from the last to the first. Once a key was met, it has no deciding entry left.
 fn items_of_many(
     alloc: Global,
     entries: &[SerializableMetadata],
@@ -135,8 +135,8 @@ fn items_of_many(
     Ok(items)
 }
 
-/// The items of a bucket's bytes. Each line is read and hashed once, unless its integrity is unreadable; of many entries,
-/// always.
+/// The items of a bucket's bytes. Each line is read and hashed once, except that in a bucket of few entries an
+/// unreadable integrity can cause another search.
 pub(crate) fn items(alloc: Global, bytes: &[u8]) -> errors::Result<Vec<Result<Found, Error>>>
     ensures items { IfOk result (λ items. map plain_item items.items ≡ items_in bytes.now) }
     ensures refused { IfErr result (λ e. e ≡ OutOfMemory) }

@@ -21,21 +21,21 @@ use std::alloc::{AllocError, Global};
 /// The files and links below a cache's folder of contents.
 #[derive(Drop)]
 pub struct Contents {
-    /// The addresses of the contents, each an integrity of one hash: strongest algorithm first,
-    /// then by the digests' bytes, none twice.
+    /// The addresses of the contents, each an integrity of one hash. They are in order: strongest
+    /// algorithm first, then by the digests' bytes. None occurs twice.
     pub addresses: Vec<Integrity>,
-    /// The paths of all other files and links, by their bytes, none twice.
+    /// The paths of all other files and links, in the order of their bytes. None occurs twice.
     pub strange: Vec<String>,
 }
 
-/// Files and links, by what their paths are.
+/// Files and links, sorted into content addresses and other paths.
 #[derive(Drop)]
 struct Parts {
     addresses: Vec<Integrity>,
     strange: Vec<Text>,
 }
 
-/// The files and links by what their paths are, as they come.
+/// Sorts files and links into content addresses and other paths, in the order in which they come.
 fn tell_apart(alloc: Global, cache: &str, top: &str, files: Vec<Text>) -> Result<Parts>
     requires { top.now ≡ content_area_in cache.now }
     ensures sorts { IfOk result
@@ -64,7 +64,7 @@ fn strings(alloc: Global, texts: Vec<Text>) -> std::result::Result<Vec<String>, 
     Ok(strings)
 }
 
-/// The files and links in order, by what their paths are.
+/// Sorts files and links into content addresses and other paths, each in their final order.
 fn contents_from(alloc: Global, cache: &str, top: &str, files: Vec<Text>) -> Result<Contents>
     requires { top.now ≡ content_area_in cache.now }
     ensures sorts { IfOk result (λ c. Sorts cache.now files.items
@@ -83,9 +83,9 @@ fn contents_from(alloc: Global, cache: &str, top: &str, files: Vec<Text>) -> Res
     Ok(Contents { addresses, strange })
 }
 
-/// The addresses of a cache's contents, and the paths of all else below its folder of contents. A
-/// folder that isn't there is empty. Folders are read, contents aren't: a path alone tells whose it
-/// is. Nothing changes.
+/// The addresses of a cache's contents, and the paths of all other files and links below its folder
+/// of contents. A missing folder counts as empty. Folders are read, contents aren't: a path alone
+/// shows which content it belongs to. Nothing changes.
 ///
 /// ```
 /// cacache::write_hash_sync(&mut env, "my-cache", b"hello")?;
@@ -95,9 +95,9 @@ fn contents_from(alloc: Global, cache: &str, top: &str, files: Vec<Text>) -> Res
 /// }
 /// ```
 ///
-/// `IoError` has the fault of a folder that couldn't be read, or it has `TooDeep`: a folder lies
-/// more than sixteen levels below the folder of contents, or there are more than 2^63 names.
-/// `OutOfMemory` is the only other error. Clock and numbers aren't asked.
+/// `IoError` has the fault of a folder that couldn't be read. It has `TooDeep` if a folder is more
+/// than sixteen levels below the folder of contents, or if there are more than 2^63 names.
+/// `OutOfMemory` is the only other error. The clock and the numbers aren't used.
 pub fn list<S: Store, C: Clock, N: Names>(env: &mut Env<S, C, N>, cache: &str) -> Result<Contents>
     ensures lists { IfOk result
         (λ c. AnswersContents cache.now c (S.log env.old.store) (S.log env.new.store)) }
@@ -115,7 +115,7 @@ pub fn list<S: Store, C: Clock, N: Names>(env: &mut Env<S, C, N>, cache: &str) -
     contents_from(alloc, cache, top.as_str(), files)
 }
 
-/// What a listing of contents says of one address.
+/// What a listing of contents says about one address.
 pub fn contents_laws()
     ensures shown { ListedAreShown }
 {}

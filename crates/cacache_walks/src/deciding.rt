@@ -10,8 +10,8 @@ use cacache_entry::{SerializableMetadata, answer_of_entry};
 use std::alloc::{AllocError, Global};
 use std::collections::BTreeMap;
 
-/// The entry that decides the lookup of each key: its last one that is a tombstone or has a readable integrity. A key
-/// of which each entry's integrity is unreadable has none.
+/// The entry that decides the lookup of each key: the key's last entry that is a tombstone or has a readable integrity.
+/// A key has none if the integrity of each of its entries is unreadable.
 pub(crate) fn deciders<'a>(
     alloc: Global,
     entries: &'a [SerializableMetadata],

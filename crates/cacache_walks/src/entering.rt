@@ -1,4 +1,4 @@
-//! The names of a folder that a walk enters, and the tasks that they bring.
+//! The names in a folder that a walk enters, and the tasks that they add.
 ghost use Rattle.std.specs.Prelude.{◌≡◌, ◌++◌, OnOk};
 ghost use Rattle.cacache_table.specs.Common.{go_on};
 ghost use Rattle.cacache_table.specs.Walking.{walk_on as walk_on_of, miss as miss_of, entered as entered_of, task_for_name, tasks_of, leaving};
@@ -16,7 +16,7 @@ use std::alloc::{AllocError, Global};
 /// Folders below this level aren't entered.
 const DEEPEST: u8 = 16;
 
-/// The task that a name in a folder of this level brings, by its path. Links are never followed.
+/// The task for a name in a folder at this level, by its path. Links are never followed.
 fn task_at(clears: bool, level: u8, path: Text, kind: Kind) -> Task
     ensures { result ≡ task_for_name clears level path kind }
 {
@@ -45,7 +45,7 @@ fn task_at(clears: bool, level: u8, path: Text, kind: Kind) -> Task
     }
 }
 
-/// Puts the tasks of a folder's names on the stack, so that the first comes first.
+/// Pushes the tasks of a folder's names onto the stack, so that the first name's task comes first.
 #[tactic(auto, using(crate::proofs::Walks::pending_push))]
 fn push_tasks(
     alloc: Global,
@@ -68,7 +68,7 @@ fn push_tasks(
     Ok(())
 }
 
-/// Puts the removal of the folder on the stack, where a clearing leaves one that isn't the top one.
+/// Pushes the removal of the folder onto the stack, if a clearing leaves a folder that isn't the top one.
 #[tactic(auto, using(crate::proofs::Walks::pending_push))]
 fn push_leaving(
     todo: &mut Vec<Task>,
@@ -87,7 +87,7 @@ fn push_leaving(
 }
 
 impl Walk {
-    /// The names of a folder: their tasks come before those that were to do.
+    /// Adds the tasks of a folder's names. They come before the tasks that are already there.
     fn enter_names(
         &mut self,
         alloc: Global,
@@ -116,7 +116,7 @@ impl Walk {
         self.walk_on(alloc)
     }
 
-    /// After a folder was to be listed.
+    /// Goes on after a folder was to be listed.
     pub(crate) fn after_listing(
         &mut self,
         alloc: Global,

@@ -1,4 +1,4 @@
-//! A listing that walks as it is asked.
+//! A listing that walks on demand.
 ghost use Rattle.std.specs.Prelude.{◌≡◌, ◌<◌, ◌≤◌, ℕ, List, [], Option, Some, None, IfOk, OnOk, IfErr};
 ghost use Rattle.std.specs.Borrow.{sem};
 ghost use Rattle.std.specs.Iterator.{at_most};
@@ -18,23 +18,23 @@ use cacache_store::store::Store;
 use cacache_table::{Found, Visit};
 use std::mem::swap;
 
-/// The entries of a cache, one after another: each key once, where its lookup finds an entry. It
-/// borrows the environment, and makes its steps as its items are asked for. It keeps no item that
-/// was given.
+/// The entries of a cache, one after another: each key once, if its lookup finds an entry. The
+/// listing borrows the environment, and makes its steps when its items are requested. It keeps no
+/// item that it has returned.
 ///
-/// A folder or a bucket that can't be read is one item `IoError`, and the listing goes on.
+/// For a folder or a bucket that can't be read, it returns one item `IoError` and goes on.
 /// `OutOfMemory` is the last item.
 #[derive(Drop)]
 pub struct Ls<'a, S, C, N> {
     env: &'a mut Env<S, C, N>,
     walk: Walk,
-    /// The visit that comes next; none once the walk is over.
+    /// The next visit, or `None` once the walk is over.
     visit: Option<Visit>,
-    /// The items of the last visit that weren't given yet; the last comes first.
+    /// The items of the last visit that weren't returned yet, in reverse order.
     ready: Vec<Result<Found, Error>>,
 }
 
-/// An item as callers take it.
+/// An item as it is returned to the caller.
 fn metadata_of(item: Result<Found, Error>) -> errors::Result<Metadata>
     ensures { item_view result ≡ plain_item item }
 {
@@ -45,11 +45,11 @@ fn metadata_of(item: Result<Found, Error>) -> errors::Result<Metadata>
 }
 
 impl<'a, S: Store, C, N> Ls<'a, S, C, N> {
-    /// A listing of this cache, which has made no step.
+    /// A listing of this cache that hasn't made a step yet.
     ///
     /// # Errors
     ///
-    /// `OutOfMemory` alone.
+    /// Only `OutOfMemory`.
     pub(crate) fn new(env: &'a mut Env<S, C, N>, cache: &str) -> errors::Result<Ls<'a, S, C, N>>
         ensures* rests { sem 𝓛 (EnvRests S.row C.row N.row env.entry result) }
         ensures lends { IfOk result (λ ls. ls.env.ghost_name ≡ env.entry.ghost_name) }
@@ -67,7 +67,7 @@ impl<'a, S: Store, C, N> Ls<'a, S, C, N> {
         })
     }
 
-    /// Ends the listing, and hands its environment back as the listing left it.
+    /// Ends the listing, and returns its environment as the listing left it.
     pub fn close(self) -> &'a mut Env<S, C, N>
         ensures same { result.ghost_name ≡ self.entry.env.ghost_name }
         ensures left { result.now ≡ self.entry.env.now }
@@ -135,7 +135,7 @@ impl<'a, S: Store, C, N> Iterator for Ls<'a, S, C, N> {
 
     ghost remaining = { λ ls. at_most (left ls) };
 
-    /// The next item: makes steps until there is one.
+    /// Returns the next item. Makes steps until there is one.
     fn next(&mut self) -> Option<errors::Result<Metadata>> {
         if let Err(error) = self.fill() {
             return Some(Err(error));

@@ -1,13 +1,13 @@
-//! Walks through folders: a clearing removes all that it finds, a listing reads each bucket, and the contents are found
-//! below their folder.
+//! Walks through folders. A clearing removes everything that it finds, a listing reads each bucket, and a third walk
+//! finds the contents below their folder.
 //!
-//! - `bucket`: what a bucket lists: each of its keys once, where its lookup finds an entry
+//! - `bucket`: the items that a bucket lists: each of its keys once, if the key's lookup finds an entry
 //! - `contents`: the call that lists the contents
 //! - `deciding`: which entries of a bucket decide the lookups of its keys
-//! - `entering`: the names of a folder that a walk enters, and the tasks that they bring
-//! - `iterator`: a listing that walks as it is asked
+//! - `entering`: the names in a folder that a walk enters, and the tasks that they add
+//! - `iterator`: a listing that walks on demand
 //! - `listing`: the call that lists the index
-//! - `messages`: what a walk says where a step failed
+//! - `messages`: the texts of a walk's errors when a step failed
 //! - `walk`: a walk, which makes one visit after another
 #![tactic(auto)]
 

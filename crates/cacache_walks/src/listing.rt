@@ -10,9 +10,9 @@ use cacache_core::errors::Result;
 use cacache_store::env::{Clock, Env, Names};
 use cacache_store::store::Store;
 
-/// The entries of the index, one after another: for each bucket each of its keys once, where the
-/// key's lookup there finds an entry. They come in an open order. No step is made before the first
-/// is asked for. Whether their contents are there isn't asked.
+/// The entries of the index, one after another: for each bucket each of its keys once, if the key's
+/// lookup there finds an entry. Their order is unspecified. No step is made before the first item
+/// is requested. It isn't checked whether their contents exist.
 ///
 /// ```
 /// cacache::write_sync(&mut env, "my-cache", "key", b"my data")?;
@@ -22,11 +22,11 @@ use cacache_store::store::Store;
 /// }
 /// ```
 ///
-/// `OutOfMemory` is the only error. Of the items, an `IoError` says which folder or bucket couldn't
-/// be read, or with `TooDeep` that folders lie more than sixteen levels below the index; the
-/// listing then goes on. Where there is no folder of the index, or none of the cache, an `IoError` with
-/// `NotFound` is the only item. Past 2^63 names or items an `IoError` with `TooDeep` is the last item,
-/// and so is `OutOfMemory`. Nothing changes. Clock and numbers aren't asked.
+/// `OutOfMemory` is the only error. An item `IoError` says which folder or bucket couldn't be read
+/// or, with `TooDeep`, that folders are more than sixteen levels below the index. The listing then
+/// goes on. If the folder of the index or of the cache doesn't exist, an `IoError` with `NotFound`
+/// is the only item. Past 2^63 names or items, an `IoError` with `TooDeep` is the last item. An
+/// item `OutOfMemory` is also the last one. Nothing changes. The clock and the numbers aren't used.
 pub fn ls<'a, S: Store, C: Clock, N: Names>(
     env: &'a mut Env<S, C, N>,
     cache: &str,

@@ -1,4 +1,4 @@
-//! What a walk says where a step failed. No contract speaks of these texts; tests show them.
+//! The texts of a walk's errors when a step failed. No contract covers these texts; tests show them.
 use cacache_core::text::Text;
 use std::alloc::{AllocError, Global};
 

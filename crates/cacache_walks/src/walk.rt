@@ -18,21 +18,22 @@ use std::alloc::{AllocError, Global};
 
 /// A walk through all folders below one.
 pub struct Walk {
-    /// Whether it removes what it finds; otherwise it lists.
+    /// Whether the walk removes what it finds. Otherwise it lists.
     pub clears: bool,
-    /// Its own folder.
+    /// The folder that the walk starts in.
     pub top: Text,
-    /// What it listed, and nobody took yet.
+    /// The items that it listed and that nobody took yet.
     pub items: Vec<Result<Found, Error>>,
-    /// How many names it may still take.
+    /// How many more names it may take.
     pub left: u64,
-    /// How many items it may still give.
+    /// How many more items it may list.
     pub room: u64,
-    /// What is still to do; the last comes first.
+    /// The stack of tasks that are still to do: the last comes first.
     pub todo: Vec<Task>,
 }
 
-// Written out, so that it is a call of its own: whoever lets a walk go has a proof that doesn't go through its fields.
+// Written out, so that dropping a walk is a call of its own: the proof of a function that drops one doesn't go through
+// its fields.
 impl Drop for Walk {
     fn drop(self) {
         let Walk {
@@ -46,7 +47,7 @@ impl Drop for Walk {
     }
 }
 
-/// A walk takes at most so many names, and gives at most so many items.
+/// A walk takes at most this many names, and lists at most this many items.
 const MOST: u64 = 0x8000_0000_0000_0000;
 
 impl Walk {
@@ -67,7 +68,7 @@ impl Walk {
         Ok((walk, visit))
     }
 
-    /// What a walk answers that is over.
+    /// The reply of a walk that is over.
     pub fn into_reply(self) -> Reply
         ensures { over (plain_reply result) ≡ walk_ends (walk_of [] self) }
     {
@@ -85,7 +86,8 @@ impl Walk {
         Reply::Listed(Items::new(items))
     }
 
-    /// What a fault is told as at this path, at a step that isn't a bucket's. A listing names its own folder.
+    /// The text for a fault at this path, in a step that isn't a bucket's. For a listing, the text names the listing's
+    /// own folder.
     pub(crate) fn message(&self, alloc: Global, path: &Text) -> Result<Text, AllocError> {
         if self.clears {
             return messages::clearing(alloc, path);
@@ -93,7 +95,7 @@ impl Walk {
         messages::listing_folder(alloc, &self.top)
     }
 
-    /// Past the most a walk ends; the last item of a listing says so.
+    /// Ends a walk that exceeds the maximum. The last item of a listing says so.
     #[tactic(auto, using(crate::proofs::Walks::taken_more))]
     pub(crate) fn end_too_deep(&mut self, alloc: Global) -> errors::Result<()>
         ensures ends { OnOk result ((taken : List Item)
@@ -112,7 +114,7 @@ impl Walk {
         Ok(())
     }
 
-    /// Whether a walk goes on with more items: past the most it ends.
+    /// Adds items. Returns whether the walk goes on: it ends if they exceed the maximum.
     fn give(&mut self, alloc: Global, items: Vec<Result<Found, Error>>) -> errors::Result<bool>
         ensures gives { GivesOn self.old self.new result
             (λ w next. give_of w (map plain_item items.items) next) }
@@ -133,7 +135,8 @@ impl Walk {
         }
     }
 
-    /// Whether a walk goes on after a fault: a clearing ends with it, a listing gives it as an item.
+    /// Handles a fault, and returns whether the walk goes on. A clearing ends with the fault; a listing lists it as an
+    /// item.
     fn miss(
         &mut self,
         alloc: Global,
@@ -152,7 +155,7 @@ impl Walk {
         self.give(alloc, items)
     }
 
-    /// Goes on to the next task that wants a step.
+    /// Goes on to the next task that needs a step.
     pub(crate) fn walk_on(&mut self, alloc: Global) -> errors::Result<Option<Visit>>
         ensures { GoesOn self.old self.new result (λ w todo. walk_on_of todo w) }
     {
@@ -172,7 +175,7 @@ impl Walk {
         Ok(None)
     }
 
-    /// After a refused step.
+    /// Goes on after a refused step.
     pub(crate) fn after_refusal(
         &mut self,
         alloc: Global,
@@ -193,7 +196,7 @@ impl Walk {
         }
     }
 
-    /// The bytes of a bucket: their items are listed.
+    /// Lists the items in the bytes of a bucket.
     fn give_listed(&mut self, alloc: Global, bytes: Bytes) -> errors::Result<Option<Visit>>
         ensures { GoesOn self.old self.new result (λ w todo. listed_of w todo bytes) }
     {
@@ -204,7 +207,7 @@ impl Walk {
         Ok(None)
     }
 
-    /// After a bucket was to be read; one that isn't there is an empty one.
+    /// Goes on after a bucket was to be read. A missing bucket counts as empty.
     fn read(
         &mut self,
         alloc: Global,
@@ -224,7 +227,7 @@ impl Walk {
         }
     }
 
-    /// After a file or a folder was to be removed.
+    /// Goes on after a file or a folder was to be removed.
     fn after_removal(
         &mut self,
         alloc: Global,
@@ -243,9 +246,9 @@ impl Walk {
         }
     }
 
-    /// Goes on with the answer to a visit's step: to the next visit, or to none where the walk is over.
+    /// Goes on with the answer to a visit's step. Returns the next visit, or `None` if the walk is over.
     ///
-    /// A fault ends a clearing as `IoError`; a listing gives it as an item and goes on.
+    /// A fault ends a clearing with an `IoError`. A listing lists it as an item and goes on.
     pub fn resume<F: FileHandle, T: TempHandle>(
         &mut self,
         alloc: Global,

@@ -1,4 +1,4 @@
-//! Which content a path is of.
+//! Which content a path belongs to.
 ghost use Rattle.std.specs.Prelude.{◌≡◌, ◌+◌, ◌<◌, ◌≤◌, Some, Ok, IfOk, IfErr, MatchOption, length, slice_index};
 ghost use Rattle.hex.specs.Hex.{decode_of};
 ghost use Rattle.cacache_core.specs.declared.errors.Error.TheVariants.{OutOfMemory};
@@ -11,7 +11,7 @@ use cacache_core::paths::content_path;
 use hex::FromHexError;
 use std::alloc::{AllocError, Global};
 
-/// The algorithm whose name begins a text, behind a slash. Its fourth letter tells it.
+/// The algorithm whose name begins a text, after a slash. The fourth letter of the name identifies it.
 fn algorithm_in(text: &[u8]) -> Option<Algorithm>
     ensures { result ≡ by_letter (slice_index text.now 4) }
 {
@@ -31,7 +31,7 @@ fn algorithm_in(text: &[u8]) -> Option<Algorithm>
     None
 }
 
-/// The digits in a text of two, two and the rest, each behind a slash.
+/// The digits in a text that has them in three parts, each after a slash: two, two and the rest.
 fn digits_in(alloc: Global, text: &[u8]) -> std::result::Result<Vec<u8>, AllocError>
     requires { 7 ≤ length text.now }
     ensures { IfOk result (λ digits. digits.items ≡ digits_of text.now) }
@@ -43,7 +43,7 @@ fn digits_in(alloc: Global, text: &[u8]) -> std::result::Result<Vec<u8>, AllocEr
     Ok(digits)
 }
 
-/// The bytes of hex digits, if they are that.
+/// The bytes that hex digits encode, if the digits are hex.
 fn decode_hex(alloc: Global, digits: &[u8]) -> Result<Option<Vec<u8>>>
     ensures bytes { IfOk result (λ r. MatchOption r (HasNoBytes digits.now)
         (λ v. decode_of digits.now ≡ Ok v.items)) }
@@ -56,7 +56,7 @@ fn decode_hex(alloc: Global, digits: &[u8]) -> Result<Option<Vec<u8>>>
     }
 }
 
-/// The algorithm and the digest's bytes of the content whose names a text may be.
+/// The algorithm and the digest's bytes of the content that a text may name.
 fn hash_in(alloc: Global, text: &[u8]) -> Result<Option<(Algorithm, Vec<u8>)>>
     ensures hash { IfOk result (λ r. MatchOption r (HasNoNames text.now)
         (λ p. HasParts text.now p.0 p.1.items)) }
@@ -81,7 +81,7 @@ fn hash_in(alloc: Global, text: &[u8]) -> Result<Option<(Algorithm, Vec<u8>)>>
     }
 }
 
-/// The integrity of one hash whose content lies at the path, if there is one.
+/// The integrity of one hash whose content has this path, if there is one.
 pub(crate) fn address_at(
     alloc: Global,
     cache: &str,

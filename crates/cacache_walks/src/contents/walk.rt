@@ -18,7 +18,7 @@ use cacache_table::answers::names_of;
 use cacache_table::{Refusal, Visit};
 use std::alloc::{AllocError, Global};
 
-/// What the walk says of a fault.
+/// The error for a fault of the walk.
 fn failure(alloc: Global, fault: Fault, top: &str) -> Error
     ensures { IsErrorOf (Failed fault) result }
 {
@@ -29,7 +29,8 @@ fn message(alloc: Global, top: &str) -> std::result::Result<Text, AllocError> {
     Ok(Text::new(format!(in alloc; "Error while walking cache contents at {top}")?))
 }
 
-/// The names in a folder that couldn't be read: there are none in one that isn't there.
+/// The names in a folder that couldn't be read. A missing folder has none; any other fault is an
+/// error.
 fn unread(alloc: Global, fault: Fault, top: &str) -> Result<Listing>
     ensures missing { IfOk result (λ names. (fault ≡ NotFound) × (names ≡ [])) }
     ensures fails { IfErr result (λ e. (fault ≢ NotFound) × IsErrorOf (Failed fault) e) }
@@ -40,7 +41,7 @@ fn unread(alloc: Global, fault: Fault, top: &str) -> Result<Listing>
     }
 }
 
-/// The names in a folder; one that isn't there has none.
+/// The names in a folder. A missing folder has none.
 fn names_in<S: Store>(store: &mut S, alloc: Global, top: &str, folder: &Text) -> Result<Listing>
     ensures shows { IfOk result (λ names. (t : PlainAnswer)
         × AnswerShows t names folder.now (S.log store.old) (S.log store.new)) }
@@ -73,8 +74,8 @@ fn push_files(
     Ok(())
 }
 
-/// What a visit is answered; the files that it shows are added. A visit to a file takes no step: it
-/// counts as a bucket that isn't there, which lists nothing.
+/// The answer to a visit. The files that it shows are added. A visit to a file takes no step: it
+/// counts as a missing bucket, which lists nothing.
 fn answer_visit<S: Store>(
     store: &mut S,
     alloc: Global,
@@ -114,7 +115,8 @@ fn make<S: Store>(
         → StopsAt walk.old.left fs e (S.log store.old) (S.log store.new)) }
 {
     let answer = answer_visit(store, alloc, top, files, &visit)?;
-    // It reads no bucket, so its items are `TooDeep` alone, and its only error is out of memory.
+    // This walk reads no bucket, so `TooDeep` is its only item, and out of memory is its only
+    // error.
     let Ok(next) = walk.resume(alloc, visit, answer) else {
         return Err(Error::OutOfMemory);
     };
