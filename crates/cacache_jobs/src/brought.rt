@@ -1,4 +1,4 @@
-//! What the answer to a step brought, for the stages of a job and for callers that make the step themselves.
+//! Reads what an answer to a step brought: for the stages of a job, and for callers that make the step themselves.
 ghost use Rattle.cacache_store.specs.Plain.{plain_answer};
 ghost use Rattle.cacache_table.specs.Answers.{file_in, length_in, temp_in};
 ghost use Rattle.cacache_jobs.specs.Brought.{Brings};
@@ -11,9 +11,9 @@ use cacache_store::store::{Answer, FileHandle, TempHandle};
 use cacache_table::answers::{file_of, length_of, temp_of};
 use std::alloc::Global;
 
-/// The temporary file that was to be made in the cache.
+/// The temporary file that the step was to make in the cache.
 ///
-/// `IoError` says that it wasn't made.
+/// `IoError` reports that it wasn't made.
 #[tactic(auto, using(crate::proofs::RefusedSteps::refused_ends))]
 pub fn made_temp<F: FileHandle, T: TempHandle>(
     alloc: Global,
@@ -28,9 +28,9 @@ pub fn made_temp<F: FileHandle, T: TempHandle>(
     }
 }
 
-/// The file at the path, a content or a link's target, that was to be opened.
+/// The file that the step was to open at the path: a content or a link's target.
 ///
-/// `IoError` says that it wasn't opened.
+/// `IoError` reports that it wasn't opened.
 #[tactic(auto, using(crate::proofs::RefusedSteps::refused_ends))]
 pub fn opened_file<F: FileHandle, T: TempHandle>(
     alloc: Global,
@@ -45,9 +45,9 @@ pub fn opened_file<F: FileHandle, T: TempHandle>(
     }
 }
 
-/// How many bytes the link's target at the path has, which was asked.
+/// The size in bytes of the link's target at the path, which the step was to find.
 ///
-/// `IoError` says that it wasn't told.
+/// `IoError` reports that the size wasn't found.
 #[tactic(auto, using(crate::proofs::RefusedSteps::refused_ends))]
 pub fn told_size<F: FileHandle, T: TempHandle>(
     alloc: Global,

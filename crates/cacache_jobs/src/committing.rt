@@ -1,4 +1,4 @@
-//! Commits of contents whose bytes stand in a temporary file.
+//! Commits contents from a temporary file that already has their bytes.
 ghost use Rattle.std.specs.Prelude.{◌≡◌};
 ghost use Rattle.cacache_core.specs.declared.errors.Error.TheVariants.{OutOfMemory};
 ghost use Rattle.cacache_table.specs.Formed.{FormsCommit};
@@ -13,9 +13,9 @@ use cacache_store::env::Env;
 use cacache_store::store::Store;
 use cacache_table::{Commit, Reply, form_commit};
 
-/// Makes the temporary file the content that the commit says, and goes on to its end. The reply is that of a run of the
-/// call from there on, and where the store keeps its log, that run is what the log gained. Its entry is
-/// well-formed, if it has one that can be written. The clock, the numbers and the base folder stay as they were.
+/// Makes the temporary file the content that the commit describes, and finishes the commit. The reply is that of a run of
+/// the call from there on. If the store keeps its log, the log gained exactly that run. The commit's entry is well-formed,
+/// if it has one that can be written. The clock, the numbers and the base folder stay as they were.
 pub fn commit_from<S: Store, C, N>(env: &mut Env<S, C, N>, commit: Commit, file: S::Temp) -> Reply
     ensures ran { Ran (persist commit (S.Temp.seen file))
         (plain_reply result) (S.log env.old.store) (S.log env.new.store) }
@@ -23,7 +23,7 @@ pub fn commit_from<S: Store, C, N>(env: &mut Env<S, C, N>, commit: Commit, file:
     ensures stored { OnlyStores (plain_reply result) }
     ensures formed { FormsCommit commit }
 
-    // A caller that finds no memory for the reply answers as if the run had found none.
+    // A caller that has no memory left for the reply answers as if the run had run out of memory.
     ensures lost { Ran (persist commit (S.Temp.seen file))
         (Refused OutOfMemory) (S.log env.old.store) (S.log env.new.store) }
     ensures clock { env.new.clock ≡ env.old.clock }

@@ -1,4 +1,4 @@
-//! What was said of a content is compared with it.
+//! Compares a content with the integrity and the size that the caller expects.
 ghost use Rattle.std.specs.Prelude.{◌≡◌, IfOk, IfErr};
 ghost use Rattle.cacache_table.specs.Storing.{placed, sized, indexed, matches};
 ghost use Rattle.cacache_table.specs.Runs.{EndsAs};
@@ -17,7 +17,7 @@ fn agree(expected: &Integrity, computed: &Integrity) -> bool
     expected.matches(computed).is_some()
 }
 
-/// Refuses a content that isn't of the expected integrity.
+/// Refuses a content that doesn't have the expected integrity.
 pub(crate) fn compare_integrity(commit: &Commit) -> errors::Result<()>
     ensures ok { IfOk result (λ _. placed commit.now
         ≡ sized commit.now commit.now.options.size) }
@@ -34,7 +34,7 @@ pub(crate) fn compare_integrity(commit: &Commit) -> errors::Result<()>
     Ok(())
 }
 
-/// Refuses a content that isn't of the expected size.
+/// Refuses a content that doesn't have the expected size.
 pub(crate) fn compare_size(commit: &Commit) -> errors::Result<()>
     ensures ok { IfOk result (λ _. sized commit.now commit.now.options.size
         ≡ indexed commit.now commit.now.key) }

@@ -1,4 +1,4 @@
-//! Exports: an unchecked one is one step; a checked one reads the content to its end first.
+//! Exports of contents. An unchecked export is one step; a checked export first reads the content to its end.
 ghost use Rattle.cacache_table.specs.Common.{go_on, fails};
 ghost use Rattle.cacache_table.specs.Exporting.{export as export_of, export_from as export_from_of, copied_count};
 ghost use Rattle.cacache_table.specs.State.{over};
@@ -33,7 +33,7 @@ pub(crate) fn start<F: FileHandle, T: TempHandle>(
     export_from(export.how, from, export.to, None)
 }
 
-/// Exports the file at a path, with the count that was verified, if any.
+/// Exports the file at a path, with the count of verified bytes, if any.
 pub(crate) fn export_from<F: FileHandle, T: TempHandle>(
     how: How,
     from: Text,
@@ -62,7 +62,7 @@ pub(crate) fn export_from<F: FileHandle, T: TempHandle>(
     })
 }
 
-/// After the content was to be copied; the count that was verified is answered, and else the copy's own.
+/// Goes on after the step that copies the content. Answers the count of verified bytes, or the copy's own if none were.
 pub(crate) fn after_copy<F: FileHandle, T: TempHandle>(
     alloc: Global,
     from: Text,

@@ -1,25 +1,25 @@
-//! Who is asked before each turn of a worker or a thread.
+//! The gate that each worker or thread asks before each of its turns.
 ghost use Rattle.std.specs.Prelude.{◌≡◌};
 ghost use Rattle.cacache_jobs.specs.declared.gate.Pass.TheVariants as passes;
 
-/// What a gate says of a turn.
+/// A gate's answer about a turn.
 #[derive(Clone, Copy, Debug, PartialEq, Eq)]
 pub enum Pass {
     /// The turn may be taken.
     Go,
-    /// It is to be asked for again, a little later.
+    /// Ask again for this turn, a little later.
     NotYet,
-    /// No more turns are to be taken.
+    /// Take no more turns.
     Quit,
 }
 
-/// Is asked before each turn.
+/// Decides before each turn whether it may be taken.
 pub trait Gate {
     /// Whether the turn of this number, counted from 0, may be taken.
     fn pass(&self, turn: u64) -> Pass;
 }
 
-/// A gate that lets each turn through.
+/// A gate that lets every turn through.
 #[derive(Clone, Copy, Debug)]
 pub struct Open;
 

@@ -1,4 +1,4 @@
-//! Files that are read to their end, each byte hashed once and none kept: contents to verify, and targets of links.
+//! Reads files to their end, hashes each byte once and keeps none: contents to verify, and targets of links.
 ghost use Rattle.std.specs.Prelude.{◌≡◌, ℕ, List, ◌++◌, length};
 ghost use Rattle.cacache_table.specs.Linking.{after_read as after_read_of, hashed as hashed_of};
 ghost use Rattle.cacache_table.specs.StepPaths.{content_path as content_path_of};
@@ -21,18 +21,18 @@ use cacache_table::answers::Got;
 use cacache_table::{Content, Export, Refusal, Target};
 use std::alloc::Global;
 
-/// A read asks for at most so many bytes.
+/// The most bytes that one read may ask for.
 pub const PIECE: usize = 8192;
 
-/// What a file is read to its end for, with what hashes its bytes.
+/// Why a file is read to its end, and the hasher of its bytes.
 pub enum Hashing {
-    /// The content at this path is verified for the export.
+    /// To verify the content at this path for the export.
     Verify(IntegrityChecker, Text, Export),
-    /// The target is to be linked to.
+    /// To link to the target.
     Link(Hasher, Target<u128>),
 }
 
-// Written out, so that it is a call of its own: whoever lets one go has a proof that doesn't go through its parts.
+// Written out so that a drop is a separate call: a proof about code that drops one needn't go through its parts.
 impl Drop for Hashing {
     fn drop(self) {
         match self {
@@ -42,7 +42,7 @@ impl Drop for Hashing {
     }
 }
 
-/// Opens the content at this path, to verify it for an export.
+/// Opens the content at this path to verify it for an export.
 pub(crate) fn verify<F: FileHandle, T: TempHandle>(
     alloc: Global,
     content: Content,
@@ -61,7 +61,7 @@ pub(crate) fn verify<F: FileHandle, T: TempHandle>(
     Ok(Phase::Wanting(Stage::Opening(hashing), Step::Open(path)))
 }
 
-/// After the file was to be opened.
+/// Goes on after the step that opens the file.
 pub(crate) fn after_open<F: FileHandle, T: TempHandle>(
     alloc: Global,
     hashing: Box<Hashing>,
@@ -75,7 +75,7 @@ pub(crate) fn after_open<F: FileHandle, T: TempHandle>(
     }
 }
 
-/// The content at this path was read to its end, and has this size: exports it where it is what its integrity says.
+/// Exports the content at this path if it meets its integrity. It was read to its end, and has this size.
 fn export_verified<F: FileHandle, T: TempHandle>(
     alloc: Global,
     checker: IntegrityChecker,
@@ -92,7 +92,7 @@ fn export_verified<F: FileHandle, T: TempHandle>(
 }
 
 impl Hashing {
-    /// Where the file lies.
+    /// The path of the file.
     fn path(&self) -> &Text {
         match self {
             Hashing::Verify(_, from, _) => from,
@@ -100,7 +100,7 @@ impl Hashing {
         }
     }
 
-    /// The file was read to its end, and has this size.
+    /// Goes on after the file was read to its end, with this size.
     fn end<F: FileHandle, T: TempHandle>(
         self,
         alloc: Global,
@@ -120,7 +120,7 @@ impl Hashing {
         }
     }
 
-    /// Hashes these bytes after those before.
+    /// Hashes these bytes after the ones hashed so far.
     fn feed(&mut self, piece: &[u8])
         ensures { (h : Purpose) (bytes : List ℕ) → HashesFor self.old h bytes
             → HashesFor self.new h (bytes ++ piece.now) }
@@ -132,7 +132,7 @@ impl Hashing {
     }
 }
 
-/// A piece of the file, after so many bytes; no bytes stand for the end.
+/// Hashes a piece of the file that follows this many bytes. An empty piece means the end of the file.
 fn hash_piece<F: FileHandle, T: TempHandle>(
     alloc: Global,
     mut hashing: Box<Hashing>,
@@ -146,7 +146,7 @@ fn hash_piece<F: FileHandle, T: TempHandle>(
     if bytes.is_empty() {
         return Box::into_inner(hashing).end(alloc, size);
     }
-    // a longer file has no size that could be told
+    // the size of a longer file can't be represented
     let Some(size) = size.checked_add(bytes.len()) else {
         return Err(Error::OutOfMemory);
     };
@@ -154,7 +154,7 @@ fn hash_piece<F: FileHandle, T: TempHandle>(
     Ok(Phase::Wanting(Stage::Hashing(hashing, size), Step::Read(file, PIECE)))
 }
 
-/// After a piece was to be read, so many bytes having been read before.
+/// Goes on after the step that reads a piece; this many bytes were read before it.
 pub(crate) fn after_read<F: FileHandle, T: TempHandle>(
     alloc: Global,
     hashing: Box<Hashing>,

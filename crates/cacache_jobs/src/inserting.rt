@@ -1,4 +1,4 @@
-//! How an entry goes into its bucket: the test of the entry, the bucket's folder, one append.
+//! Puts an entry into its bucket: tests the entry, makes the bucket's folder and appends once.
 ghost use Rattle.std.specs.Prelude.{◌≡◌, None, IfOk, IfErr, OnOk, option_map, string_bytes, length};
 ghost use Rattle.cacache_core.specs.declared.errors.Error.TheVariants.{OutOfMemory};
 ghost use Rattle.cacache_table.specs.Common.{go_on, fails};
@@ -28,17 +28,17 @@ use cacache_table::{Delete, Insert, Json, Options, Refusal, Reply};
 use serde_json::Value;
 use std::alloc::{AllocError, Global};
 
-/// An entry on its way into the bucket of its key, and what the call answers once it is there.
+/// An entry on its way into its key's bucket, and what the call answers once the entry is there.
 pub struct Insertion {
     pub cache: Text,
     pub key: String,
     /// Whether the bucket is synced before the call answers.
     pub durable: bool,
-    /// What the call answers once the entry is there; None of a deletion, which answers nothing.
+    /// What the call answers once the entry is there; None for a deletion, which answers nothing.
     pub integrity: Option<Integrity>,
 }
 
-// Written out, so that it is a call of its own: whoever lets one go has a proof that doesn't go through its fields.
+// Written out so that a drop is a separate call: a proof about code that drops one needn't go through its fields.
 impl Drop for Insertion {
     fn drop(self) {
         let Insertion {
@@ -68,7 +68,7 @@ impl Insertion {
     }
 }
 
-/// Raw metadata as an entry has them: the bytes inside are moved where nobody else owns them.
+/// Raw metadata in the form that an entry holds. The bytes inside are moved if nobody else owns them.
 fn raw_of(alloc: Global, bytes: Option<Bytes>) -> Result<Option<Vec<u8>>, AllocError>
     ensures { IfOk result (λ raw. option_map (λ v. v.items) raw ≡ bytes) }
 {
@@ -78,7 +78,7 @@ fn raw_of(alloc: Global, bytes: Option<Bytes>) -> Result<Option<Vec<u8>>, AllocE
     }
 }
 
-/// The entry of these parts.
+/// The entry with these parts.
 pub(crate) fn entry_of(
     alloc: Global,
     key: String,
@@ -102,9 +102,9 @@ pub(crate) fn entry_of(
     })
 }
 
-/// The line of an entry that can be written, as its bucket has it; that of a durable commit is closed by a line feed.
+/// The line that the bucket holds for an entry that can be written. The line of a durable commit ends with a line feed.
 ///
-/// `SerdeError` where the entry can't be written.
+/// `SerdeError` if the entry can't be written.
 #[tactic(auto, using(crate::proofs::Refusing::refusal_ends), unfolding(cacache_table::specs::Inserting::bucket_line, cacache_table::specs::Inserting::refused_cause))]
 fn line_of(alloc: Global, entry: &SerializableMetadata, durable: bool) -> errors::Result<Bytes>
     ensures line { IfOk result (λ line. (j : Inserted) → j.entry ≡ entry_view entry.now
@@ -121,7 +121,7 @@ fn line_of(alloc: Global, entry: &SerializableMetadata, durable: bool) -> errors
     Ok(Bytes::new(alloc, line)?)
 }
 
-/// Makes the folder of the bucket, for a line that is to be appended.
+/// Makes the bucket's folder, for a line to append.
 fn make_bucket<F: FileHandle, T: TempHandle>(
     alloc: Global,
     insertion: Insertion,
@@ -138,14 +138,14 @@ fn make_bucket<F: FileHandle, T: TempHandle>(
     ))
 }
 
-/// The key of an entry, whose other parts are let go.
+/// The key of an entry. Drops the entry's other parts.
 fn key_of(entry: SerializableMetadata) -> String
     ensures { string_bytes result ≡ string_bytes entry.key }
 {
     entry.key
 }
 
-/// Tests the entry, and makes the folder of its bucket.
+/// Tests the entry, and makes its bucket's folder.
 pub(crate) fn insert<F: FileHandle, T: TempHandle>(
     alloc: Global,
     cache: Text,
@@ -166,7 +166,7 @@ pub(crate) fn insert<F: FileHandle, T: TempHandle>(
     make_bucket(alloc, insertion, line)
 }
 
-/// The bucket's folder is there: appends the line.
+/// Appends the line, once the bucket's folder is there.
 pub(crate) fn append<F: FileHandle, T: TempHandle>(
     insertion: Insertion,
     line: Bytes,
@@ -179,7 +179,7 @@ pub(crate) fn append<F: FileHandle, T: TempHandle>(
     Phase::Wanting(Stage::Appending(insertion, size), Step::Append(path, line))
 }
 
-/// The line is in the bucket: where the insertion is durable, the bucket and the folders that lead to it are synced.
+/// Goes on once the line is in the bucket. A durable insertion syncs the bucket and the folders that lead to it.
 fn record<F: FileHandle, T: TempHandle>(
     alloc: Global,
     insertion: Insertion,
@@ -194,7 +194,7 @@ fn record<F: FileHandle, T: TempHandle>(
     sync_file(alloc, path, folders, Goal::Answer(insertion))
 }
 
-/// After the line, of this size, was to be appended; a short append is not retried.
+/// Goes on after the step that appends the line, which has this size. A short append is not retried.
 pub(crate) fn after_append<F: FileHandle, T: TempHandle>(
     alloc: Global,
     insertion: Insertion,
@@ -217,7 +217,7 @@ pub(crate) fn after_append<F: FileHandle, T: TempHandle>(
     Err(refused(refusal, message))
 }
 
-/// The integrity that an insertion without one answers: `sha1-deadbeef`.
+/// The integrity that an insertion answers if it was given none: `sha1-deadbeef`.
 fn no_integrity(alloc: Global) -> errors::Result<Integrity>
     ensures ok { IfOk result (λ i. i ≡ without_integrity) }
     ensures err { IfErr result (λ e. e ≡ OutOfMemory) }
@@ -236,7 +236,7 @@ fn integrity_to_answer(alloc: Global, integrity: Option<Integrity>) -> errors::R
     }
 }
 
-/// The text of an integrity that was given.
+/// The text of the given integrity, if there is one.
 fn text_of(alloc: Global, integrity: &Option<Integrity>) -> Result<Option<String>, AllocError>
     ensures { IfOk result (λ text. option_map string_bytes text ≡ given_text integrity.now) }
 {
@@ -246,7 +246,7 @@ fn text_of(alloc: Global, integrity: &Option<Integrity>) -> Result<Option<String
     }
 }
 
-/// Where an insertion begins; without an integrity its entry is a tombstone.
+/// Begins an insertion. Without an integrity, its entry is a tombstone.
 pub(crate) fn begin_insertion<F: FileHandle, T: TempHandle>(
     alloc: Global,
     cache: &str,
@@ -278,7 +278,7 @@ pub(crate) fn begin_insertion<F: FileHandle, T: TempHandle>(
     insert(alloc, cache, entry, durable, Some(answered))
 }
 
-/// Where a deletion begins: its entry is a tombstone.
+/// Begins a deletion. Its entry is a tombstone.
 pub(crate) fn begin_deletion<F: FileHandle, T: TempHandle>(
     alloc: Global,
     cache: &str,

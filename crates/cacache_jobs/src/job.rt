@@ -1,4 +1,4 @@
-//! One call, which asks for its steps.
+//! One call as a job, which hands out its steps one by one.
 ghost use Rattle.std.specs.Prelude.{◌≡◌, IfOk, IsTrue, option_map};
 ghost use Rattle.cacache_store.specs.Plain.{PlainStep, plain_step, plain_answer};
 ghost use Rattle.cacache_table.specs.State.{State};
@@ -20,25 +20,25 @@ use std::mem::replace;
 /// What a job hands out.
 #[derive(Drop)]
 pub enum Next<F, T> {
-    /// The call wants this step, and is to be given its answer.
+    /// The call needs this step, and then its answer.
     Step(Step<F, T>),
     /// The call is over, with this reply.
     Over(Reply),
 }
 
-/// Where a job is between two calls of it.
+/// The state of a job between two calls of its methods.
 #[derive(Drop)]
 pub enum Standing<F, T> {
-    /// No step is out.
+    /// No step is outstanding.
     At(Phase<F, T>),
-    /// The step of this stage is out.
+    /// The step of this stage was handed out, and its answer is outstanding.
     Out(Stage<T>),
     /// The reply was handed out.
     Told,
 }
 
-/// One call, which asks for its steps: `next` hands one out, and `take` goes on with its answer, until `next` hands out
-/// the reply.
+/// One call as a job: `next` hands out a step, and `take` goes on with its answer. This repeats until `next` hands out the
+/// reply.
 pub struct Job<F, T> {
     alloc: Global,
     standing: Standing<F, T>,
@@ -52,7 +52,7 @@ impl<F: Drop, T: Drop> Drop for Job<F, T> {
     }
 }
 
-/// Where a call is that went on so: with an error it is over.
+/// The phase that this result leads to. An error ends the call.
 #[inline(always)]
 pub(crate) fn over_on_error<F: FileHandle, T: TempHandle>(
     phase: errors::Result<Phase<F, T>>,
@@ -65,7 +65,7 @@ pub(crate) fn over_on_error<F: FileHandle, T: TempHandle>(
     }
 }
 
-/// The same, but out of memory isn't the end of a call.
+/// Like `over_on_error`, but running out of memory doesn't end the call: it is returned as an error.
 fn begun<F: FileHandle, T: TempHandle>(
     phase: errors::Result<Phase<F, T>>,
 ) -> Result<Phase<F, T>, AllocError>
@@ -80,12 +80,12 @@ fn begun<F: FileHandle, T: TempHandle>(
 }
 
 impl<F: FileHandle, T: TempHandle> Job<F, T> {
-    /// A call on a cache that has asked for nothing yet. A put's temporary file has this number; relative link targets
-    /// start from the base folder.
+    /// A call on a cache that hasn't handed out a step yet. A put's temporary file has this number. Relative link targets are
+    /// resolved against the base folder.
     ///
     /// # Errors
     ///
-    /// Where memory is refused there is no job.
+    /// If memory is refused, there is no job.
     pub fn try_new(
         alloc: Global,
         cache: &str,
@@ -104,7 +104,7 @@ impl<F: FileHandle, T: TempHandle> Job<F, T> {
         })
     }
 
-    /// The same, but where memory is refused, the call is over with `OutOfMemory`.
+    /// Like `try_new`, but if memory is refused, the call is over with `OutOfMemory`.
     pub fn new(alloc: Global, cache: &str, base: &str, command: Command, number: u64) -> Job<F, T>
         ensures ready { IsTrue (can_go_on result) }
         ensures opens { GoesTo F.seen T.seen result
@@ -132,7 +132,7 @@ impl<F: FileHandle, T: TempHandle> Job<F, T> {
         }
     }
 
-    /// The step that the call wants, or its reply. Takes no memory.
+    /// The step that the call needs, or its reply. Allocates no memory.
     #[inline(always)]
     pub fn next(&mut self) -> Next<F, T>
         requires { IsTrue (can_go_on self.old) }
@@ -150,7 +150,7 @@ impl<F: FileHandle, T: TempHandle> Job<F, T> {
         }
     }
 
-    /// Goes on with the answer to the step that is out. Where memory is refused, the call is over with `OutOfMemory`.
+    /// Goes on with the answer to the outstanding step. If memory is refused, the call is over with `OutOfMemory`.
     #[inline(always)]
     pub fn take(&mut self, answer: Answer<F, T>)
         requires { IsTrue (has_out self.old) }
@@ -167,7 +167,7 @@ impl<F: FileHandle, T: TempHandle> Job<F, T> {
         }
     }
 
-    /// Takes back the step that is out, which changed nothing. Takes no memory.
+    /// Takes back the outstanding step, which changed nothing. Allocates no memory.
     pub fn back(&mut self, step: Step<F, T>)
         requires { IsTrue (has_out self.old) }
         ensures ready { IsTrue (can_go_on self.new) }
@@ -185,7 +185,7 @@ impl<F: FileHandle, T: TempHandle> Job<F, T> {
         }
     }
 
-    /// The reply of a call that is over and hasn't handed it out. Takes no memory.
+    /// The reply, if the call is over and hasn't handed it out. Allocates no memory.
     pub fn reply(&self) -> Option<&Reply>
         ensures is { option_map (λ r. r.now) result ≡ reply_in self.now }
         ensures tells { (s : State) → Stands F.seen T.seen self.now s

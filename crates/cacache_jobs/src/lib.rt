@@ -1,4 +1,4 @@
-//! A call on a cache as a job: the step that it wants, and where an answer takes it.
+//! A call on a cache as a job: which step it needs next, and how it goes on with the answer.
 #![tactic(auto)]
 
 mod brought;

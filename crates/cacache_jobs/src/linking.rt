@@ -1,4 +1,4 @@
-//! Links: the target is read to its end, and a link to it becomes the content.
+//! Links: reads the target to its end, and makes a link to it the content.
 ghost use Rattle.std.specs.Prelude.{◌≡◌};
 ghost use Rattle.cacache_store.specs.Plain.{plain_answer};
 ghost use Rattle.cacache_table.specs.Answers.{length_in};
@@ -25,7 +25,7 @@ use cacache_store::store::{Answer, FileHandle, Step, TempHandle};
 use cacache_table::{Commit, Link, Target};
 use std::alloc::Global;
 
-/// The target was read to its end, and has this integrity and size: makes the content's folder.
+/// Makes the content's folder, once the target was read to its end and has this integrity and size.
 pub(crate) fn link_target<F: FileHandle, T: TempHandle>(
     alloc: Global,
     target: Target<u128>,
@@ -38,7 +38,7 @@ pub(crate) fn link_target<F: FileHandle, T: TempHandle>(
     link(alloc, commit, path)
 }
 
-/// The target was read to its end, and is to be the content that the commit says: makes the content's folder.
+/// Makes the content's folder, once the target was read to its end. A link to it becomes the content of this commit.
 pub(crate) fn link<F: FileHandle, T: TempHandle>(
     alloc: Global,
     commit: Commit,
@@ -55,7 +55,7 @@ pub(crate) fn link<F: FileHandle, T: TempHandle>(
     ))
 }
 
-/// Where a link begins: the size of its target is asked.
+/// Begins a link: asks for the size of its target.
 pub(crate) fn start<F: FileHandle, T: TempHandle>(
     alloc: Global,
     cache: &str,
@@ -76,7 +76,7 @@ pub(crate) fn start<F: FileHandle, T: TempHandle>(
     Ok(Phase::Wanting(Stage::Sizing(target), Step::Size(asked)))
 }
 
-/// Opens the target, to hash it.
+/// Opens the target to hash it.
 fn open_target<F: FileHandle, T: TempHandle>(
     alloc: Global,
     target: Target<u128>,
@@ -89,7 +89,7 @@ fn open_target<F: FileHandle, T: TempHandle>(
     Ok(Phase::Wanting(Stage::Opening(hashing), Step::Open(path)))
 }
 
-/// After the target's size was to be told: the target is opened, to be hashed.
+/// Goes on after the step that finds the target's size: opens the target to hash it.
 #[tactic(auto, using(crate::proofs::RefusedSteps::ends_refused))]
 pub(crate) fn after_size<F: FileHandle, T: TempHandle>(
     alloc: Global,
@@ -103,7 +103,7 @@ pub(crate) fn after_size<F: FileHandle, T: TempHandle>(
     open_target(alloc, Box::into_inner(target).with_size(size as usize))
 }
 
-/// The content's folder is there: makes the link to the target at the content's path.
+/// Makes the link to the target at the content's path, once the content's folder is there.
 pub(crate) fn symlink<F: FileHandle, T: TempHandle>(
     commit: Box<Commit>,
     target: Text,

@@ -1,4 +1,4 @@
-//! Lookups of keys, and what the found entry is wanted for.
+//! Looks up keys, and goes on with what each lookup is for.
 ghost use Rattle.std.specs.Prelude.{◌≡◌, IfOk, IfErr};
 ghost use Rattle.cacache_core.specs.declared.errors.Error.TheVariants.{OutOfMemory};
 ghost use Rattle.cacache_table.specs.Common.{go_on};
@@ -32,7 +32,7 @@ pub(crate) fn start<F: FileHandle, T: TempHandle>(
     Ok(Phase::Wanting(Stage::Looking(lookup), Step::ReadAll(path)))
 }
 
-/// The integrity of an entry, whose other parts are let go.
+/// The integrity of an entry. Drops the entry's other parts.
 fn integrity_of(found: Found) -> Integrity
     ensures { result ≡ found.integrity }
 {
@@ -47,7 +47,7 @@ fn integrity_of(found: Found) -> Integrity
     integrity
 }
 
-/// What the lookup is for, once it found this entry.
+/// Does what the lookup is for, after it found this entry.
 fn go_on_with_entry<F: FileHandle, T: TempHandle>(
     alloc: Global,
     lookup: Lookup,
@@ -69,7 +69,7 @@ fn go_on_with_entry<F: FileHandle, T: TempHandle>(
     }
 }
 
-/// What the lookup is for, once it found nothing.
+/// Does what the lookup is for, after it found nothing.
 fn go_on_without_entry<F: FileHandle, T: TempHandle>(
     alloc: Global,
     lookup: Lookup,
@@ -91,7 +91,7 @@ fn go_on_without_entry<F: FileHandle, T: TempHandle>(
     Err(Error::EntryNotFound(cache, key))
 }
 
-/// What the bytes of the bucket answer to the lookup.
+/// The entry that the lookup finds in the bucket's bytes, if any.
 #[tactic(auto, unfolding(cacache_table::specs::Looking::found_in))]
 fn entry_in(alloc: Global, lookup: &Lookup, bytes: &[u8]) -> errors::Result<Option<Found>>
     ensures found { IfOk result (λ found. found ≡ found_in lookup.now.key bytes.now) }
@@ -104,7 +104,7 @@ fn entry_in(alloc: Global, lookup: &Lookup, bytes: &[u8]) -> errors::Result<Opti
     }
 }
 
-/// After the bucket was to be read; one that isn't there is an empty one.
+/// Goes on after the step that reads the bucket. A missing bucket counts as an empty one.
 pub(crate) fn after_bucket_read<F: FileHandle, T: TempHandle>(
     alloc: Global,
     lookup: Lookup,

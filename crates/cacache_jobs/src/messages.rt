@@ -1,4 +1,4 @@
-//! What a call says where a step failed. No contract speaks of these texts; tests show them.
+//! The messages of a call if a step fails. No contract covers these texts; tests show them.
 use crate::hashing::Hashing;
 use crate::places::{bucket_path, bucket_place, content_path, content_place, temp_folder};
 use crate::stage::Last;
@@ -6,17 +6,17 @@ use cacache_core::text::Text;
 use cacache_table::{Commit, Content};
 use std::alloc::{AllocError, Global};
 
-/// Some words, and the path that they speak of.
+/// Some words, and the path that they are about.
 fn at(alloc: Global, words: &str, path: &Text) -> Result<Text, AllocError> {
     Ok(Text::new(format!(in alloc; "{words}{path}")?))
 }
 
-/// The same with the path in quotes.
+/// Like `at`, with the path in quotes.
 fn at_quoted(alloc: Global, words: &str, path: &Text) -> Result<Text, AllocError> {
     Ok(Text::new(format!(in alloc; "{words}{path:?}")?))
 }
 
-/// Some words, and the two paths that they speak of.
+/// Some words, and the two paths that they are about.
 fn between(alloc: Global, words: &str, from: &Text, to: &Text) -> Result<Text, AllocError> {
     Ok(Text::new(format!(in alloc; "{words}{from} to {to}")?))
 }
@@ -84,13 +84,13 @@ pub fn making_bucket(alloc: Global, cache: &str, key: &str) -> Result<Text, Allo
     )
 }
 
-/// A line wasn't appended to the bucket of a key, or not whole.
+/// A line was not appended to a key's bucket, or only in part.
 pub fn appending(alloc: Global, cache: &str, key: &str) -> Result<Text, AllocError> {
     let bucket = bucket_path(alloc, cache, key)?;
     at_quoted(alloc, "Failed to write to index bucket at ", &bucket)
 }
 
-/// The bucket of a key couldn't be read.
+/// A key's bucket couldn't be read.
 pub fn looking(alloc: Global, cache: &str, key: &str) -> Result<Text, AllocError> {
     let bucket = bucket_path(alloc, cache, key)?;
     at_quoted(alloc, "Failed to read index bucket entries from ", &bucket)
@@ -106,7 +106,7 @@ pub(crate) fn removing_content(alloc: Global, path: &Text) -> Result<Text, Alloc
     at_quoted(alloc, "Failed to remove content at ", path)
 }
 
-/// What the call was to do last wasn't done.
+/// The last action of the call failed.
 pub(crate) fn finishing(alloc: Global, last: &Last) -> Result<Text, AllocError> {
     match last {
         Last::RemoveContent(path) => at(alloc, "Failed to remove cache file ", path),
@@ -145,7 +145,7 @@ pub(crate) fn copying(alloc: Global, from: &Text, to: &Text) -> Result<Text, All
     between(alloc, "Failed to copy cache contents from ", from, to)
 }
 
-/// The size of a link's target wasn't told.
+/// The size of a link's target wasn't found.
 pub fn sizing(alloc: Global, path: &Text) -> Result<Text, AllocError> {
     at(alloc, "Failed to get metadata of ", path)
 }

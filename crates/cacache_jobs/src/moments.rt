@@ -4,7 +4,7 @@ ghost use Rattle.cacache_jobs.specs.Environment.{HasMoment, MomentOf};
 use cacache_core::text::Text;
 use cacache_store::env::Clock;
 
-/// The moment that was set; where none was, the clock is asked for it, once.
+/// The moment that was set. If none was set, asks the clock for it, once.
 pub fn moment<C: Clock>(clock: &mut C, time: Option<u128>) -> u128
     ensures { HasMoment C.given time clock.old clock.new result }
 {
@@ -14,7 +14,7 @@ pub fn moment<C: Clock>(clock: &mut C, time: Option<u128>) -> u128
     }
 }
 
-/// The moment of a commit: without a key there is no entry, and the clock isn't asked.
+/// The moment of a commit. Without a key there is no entry, so the clock isn't asked.
 pub fn moment_of<C: Clock>(clock: &mut C, key: &Option<Text>, time: Option<u128>) -> u128
     ensures { MomentOf C.given key.now time clock.old clock.new result }
 {

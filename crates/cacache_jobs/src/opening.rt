@@ -1,4 +1,4 @@
-//! Where calls begin.
+//! Begins calls.
 ghost use Rattle.std.specs.Prelude.{ℕ, List, true, false};
 ghost use Rattle.cacache_core.specs.Paths.{index_area, join as join_of};
 ghost use Rattle.cacache_table.specs.State.{looking as looking_state, reading as reading_state, asking as asking_state};
@@ -19,7 +19,7 @@ use cacache_store::store::{FileHandle, TempHandle};
 use cacache_table::{Aim, Command, Content, Export, Lookup, Source};
 use std::alloc::Global;
 
-/// Where a lookup of a key begins.
+/// Begins a lookup of a key.
 fn look<F: FileHandle, T: TempHandle>(
     alloc: Global,
     cache: &str,
@@ -33,7 +33,7 @@ fn look<F: FileHandle, T: TempHandle>(
     looking::start(alloc, Lookup { cache, key, aim })
 }
 
-/// Where a read of a content begins.
+/// Begins a read of a content.
 fn read<F: FileHandle, T: TempHandle>(
     alloc: Global,
     cache: &str,
@@ -46,7 +46,7 @@ fn read<F: FileHandle, T: TempHandle>(
     reading::start(alloc, Content { cache, integrity })
 }
 
-/// Where the question begins whether a content is there.
+/// Begins the question whether a content is there.
 fn ask<F: FileHandle, T: TempHandle>(
     alloc: Global,
     cache: &str,
@@ -59,21 +59,21 @@ fn ask<F: FileHandle, T: TempHandle>(
     reading::ask(alloc, Content { cache, integrity })
 }
 
-/// Where a listing begins.
+/// Begins a listing.
 fn list<F: FileHandle, T: TempHandle>(alloc: Global, cache: &str) -> errors::Result<Phase<F, T>>
     ensures { Leads F.seen T.seen result (walk false (join_of cache.now index_area)) }
 {
     walking::start(alloc, false, join(alloc, cache, INDEX_AREA)?)
 }
 
-/// Where a clearing begins.
+/// Begins a clearing.
 fn clear<F: FileHandle, T: TempHandle>(alloc: Global, cache: &str) -> errors::Result<Phase<F, T>>
     ensures { Leads F.seen T.seen result (walk true cache.now) }
 {
     walking::start(alloc, true, Text::from_str(alloc, cache)?)
 }
 
-/// Where an export begins.
+/// Begins an export.
 fn begin_export<F: FileHandle, T: TempHandle>(
     alloc: Global,
     cache: &str,
@@ -93,7 +93,7 @@ fn begin_export<F: FileHandle, T: TempHandle>(
     }
 }
 
-/// Where a call begins.
+/// Begins a call.
 pub(crate) fn open<F: FileHandle, T: TempHandle>(
     alloc: Global,
     cache: &str,

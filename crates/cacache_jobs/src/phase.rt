@@ -1,4 +1,4 @@
-//! Where a call is while no step of it is out.
+//! How far a call is while none of its steps is outstanding.
 ghost use Rattle.cacache_table.specs.Common.{refuse, fails};
 ghost use Rattle.cacache_table.specs.Runs.{EndsAs};
 
@@ -9,15 +9,15 @@ use cacache_store::store::{Step, failed};
 use cacache_table::{Refusal, Reply};
 use std::alloc::AllocError;
 
-/// Where a call is while no step of it is out.
+/// How far a call is while none of its steps is outstanding.
 #[derive(Drop)]
 pub enum Phase<F, T> {
-    /// It is at this stage, and wants this step.
+    /// It is at this stage, and needs this step.
     Wanting(Stage<T>, Step<F, T>),
     Over(Reply),
 }
 
-/// The error of a call whose step was refused; a fault comes with the message.
+/// The error of a call if its step was refused. A fault carries the message.
 pub fn refused(refusal: Refusal, message: Result<Text, AllocError>) -> Error
     ensures { EndsAs result (refuse refusal fails) }
 {

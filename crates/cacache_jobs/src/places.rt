@@ -1,4 +1,4 @@
-//! The paths that a call's steps name.
+//! The paths in a call's steps.
 ghost use Rattle.std.specs.Prelude.{◌≡◌, IfOk};
 ghost use Rattle.cacache_table.specs.StepPaths.{temp_path as temp_path_of, temp_folder as temp_folder_of, content_path as content_path_of, content_folder as content_folder_of, bucket_path as bucket_path_of, bucket_folder as bucket_folder_of, content_folders as content_folders_of, bucket_folders as bucket_folders_of};
 
@@ -15,7 +15,7 @@ pub fn temp_folder(alloc: Global, cache: &str) -> Result<Text, AllocError>
     paths::join(alloc, cache, paths::TEMP_AREA)
 }
 
-/// The path of the temporary file of a number.
+/// The path of the temporary file with this number.
 #[tactic(auto, unfolding(cacache_table::specs::StepPaths::temp_path))]
 pub fn temp_path(alloc: Global, cache: &str, number: u64) -> Result<Text, AllocError>
     ensures { IfOk result (λ path. path ≡ temp_path_of cache.now number) }

@@ -1,4 +1,4 @@
-//! Reads of contents, and the question whether one is there.
+//! Reads contents, and asks whether one is there.
 ghost use Rattle.cacache_table.specs.Common.{go_on, fails};
 ghost use Rattle.cacache_table.specs.ContentReads.{checked as checked_of, answer_there, answer_absent};
 ghost use Rattle.cacache_table.specs.declared.reply.Reply.TheVariants.{Exists};
@@ -40,7 +40,7 @@ pub(crate) fn ask<F: FileHandle, T: TempHandle>(
     Ok(Phase::Wanting(Stage::Asking(content), Step::Exists(path)))
 }
 
-/// The bytes, where they meet the integrity.
+/// Answers the bytes if they meet the integrity.
 fn answer_checked<F: FileHandle, T: TempHandle>(
     alloc: Global,
     content: Content,
@@ -54,7 +54,7 @@ fn answer_checked<F: FileHandle, T: TempHandle>(
     }
 }
 
-/// After the content was to be read: its bytes are answered where they meet the integrity.
+/// Goes on after the step that reads the content: answers its bytes if they meet the integrity.
 pub(crate) fn after_read<F: FileHandle, T: TempHandle>(
     alloc: Global,
     content: Content,
@@ -68,9 +68,9 @@ pub(crate) fn after_read<F: FileHandle, T: TempHandle>(
     }
 }
 
-/// What the answer to the question says: a store that couldn't tell has no content.
+/// Whether the content is there, by the store's answer. If the store failed with a fault, the content counts as absent.
 ///
-/// `OutOfMemory` where memory was refused for the question.
+/// `OutOfMemory` if memory was refused for the question.
 pub fn is_there(there: Result<bool, Refusal>) -> errors::Result<bool>
     ensures { reply_of Exists result ≡ there_reply there }
 {
@@ -81,7 +81,7 @@ pub fn is_there(there: Result<bool, Refusal>) -> errors::Result<bool>
     }
 }
 
-/// After the question.
+/// Goes on after the store was asked whether the content is there.
 pub(crate) fn after_question<F: FileHandle, T: TempHandle>(
     there: Result<bool, Refusal>,
 ) -> errors::Result<Phase<F, T>>

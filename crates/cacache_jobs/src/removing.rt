@@ -1,4 +1,4 @@
-//! Removals of one content, or of one key.
+//! Removes one content, or one key.
 ghost use Rattle.std.specs.Prelude.{◌≡◌, List, ℕ};
 ghost use Rattle.cacache_table.specs.State.{over};
 ghost use Rattle.cacache_table.specs.StepPaths.{bucket_path as bucket_path_of};
@@ -45,7 +45,7 @@ pub(crate) fn remove_bucket<F: FileHandle, T: TempHandle>(path: Text) -> errors:
     ))
 }
 
-/// Removes the content that a key's lookup found, and then the key's bucket.
+/// Removes the content that the key's lookup found, and then the key's bucket.
 pub(crate) fn remove_key<F: FileHandle, T: TempHandle>(
     alloc: Global,
     cache: &str,

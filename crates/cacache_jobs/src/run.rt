@@ -24,7 +24,7 @@ use cacache_store::store::{Answer, Step, Store};
 use cacache_table::{Command, Reply, form_command};
 use std::alloc::Global;
 
-/// Does a step. It stands apart, so that what the store takes of the stack is given back before the call goes on.
+/// Makes a step. It is a separate function, so that the store's stack space is freed before the call goes on.
 #[inline(never)]
 fn ask<S: Store>(store: &mut S, step: Step<S::File, S::Temp>) -> Answer<S::File, S::Temp>
     ensures fits { Fits (plain_step S.File.seen S.Temp.seen step)
@@ -35,7 +35,7 @@ fn ask<S: Store>(store: &mut S, step: Step<S::File, S::Temp>) -> Answer<S::File,
     store.step(step)
 }
 
-/// Does the steps of a call from this phase on, until it is over.
+/// Makes the steps of a call from this phase on, until it is over.
 #[inline(always)]
 fn go_on<S: Store>(store: &mut S, alloc: Global, phase: Phase<S::File, S::Temp>) -> Reply
     requires { (s : State) × PhaseAt S.File.seen S.Temp.seen phase s }
@@ -54,7 +54,7 @@ fn go_on<S: Store>(store: &mut S, alloc: Global, phase: Phase<S::File, S::Temp>)
     }
 }
 
-/// The same of a call that began so; with an error it is over.
+/// Finishes a call that began with this result. An error ends the call.
 #[inline(always)]
 pub(crate) fn finish<S: Store>(
     store: &mut S,
@@ -68,8 +68,8 @@ pub(crate) fn finish<S: Store>(
     go_on(store, alloc, over_on_error(phase))
 }
 
-/// Does the steps of a call until it is over. The reply is that of a run of the call, and where the store keeps its
-/// log, that run is what the log gained.
+/// Makes the steps of a call until it is over. The reply is that of a run of the call. If the store keeps its log, the log
+/// gained exactly that run.
 pub fn drive<S: Store>(store: &mut S, job: Job<S::File, S::Temp>) -> Reply
     requires { (s : State) × Stands S.File.seen S.Temp.seen job s }
     ensures { (s : State) → Stands S.File.seen S.Temp.seen job s
@@ -79,11 +79,11 @@ pub fn drive<S: Store>(store: &mut S, job: Job<S::File, S::Temp>) -> Reply
     go_on(store, alloc, phase)
 }
 
-/// Makes a call on a cache from its beginning to its end. The reply is that of a run of the call, and where the store
-/// keeps its log, that run is what the log gained; over every store the reply is as the command promises, bytes that were
-/// read by key meet the integrity that the call's own read of the bucket gives, a checked export verified the bytes of the
-/// file that it opened, and a link read its whole target. The entries that it may add are well-formed, if they can be
-/// written. The clock, the numbers and the base folder stay as they were.
+/// Makes a call on a cache from its beginning to its end. The reply is that of a run of the call. If the store keeps its
+/// log, the log gained exactly that run. Over every store, the reply is as the command promises. Bytes that were read by key
+/// meet the integrity that the call's own read of the bucket returned. A checked export verified the bytes of the file that
+/// it opened, and a link read its whole target. The entries that the call may add are well-formed, if they can be written.
+/// The clock, the numbers and the base folder stay as they were.
 pub fn call<S: Store, C, N>(
     env: &mut Env<S, C, N>,
     cache: &str,
@@ -100,7 +100,7 @@ pub fn call<S: Store, C, N>(
         (plain_reply result) }
     ensures formed { FormsCommand (site_of cache.now env.old.base number) command }
 
-    // A caller that finds no memory for the reply answers as if the run had found none.
+    // A caller that has no memory left for the reply answers as if the run had run out of memory.
     ensures lost { Ran (opening (site_of cache.now env.old.base number) command)
         (Refused OutOfMemory) (S.log env.old.store) (S.log env.new.store) }
     ensures clock { env.new.clock ≡ env.old.clock }

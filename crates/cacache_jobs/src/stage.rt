@@ -1,4 +1,4 @@
-//! How far a call is while a step of it is out, and where the answer takes it.
+//! How far a call is while one of its steps is outstanding, and how it goes on with the answer.
 ghost use Rattle.cacache_store.specs.Plain.{plain_answer};
 ghost use Rattle.cacache_table.specs.Common.{go_on, fails};
 ghost use Rattle.cacache_table.specs.State.{State};
@@ -24,39 +24,39 @@ use cacache_table::{Commit, Content, Lookup, Refusal, Reply, Target, Visit};
 use cacache_walks::Walk;
 use std::alloc::{AllocError, Global};
 
-/// What a call does last, by the paths that its message names.
+/// The last action of a call, with the paths that its message names.
 #[derive(Drop)]
 pub enum Last {
     RemoveContent(Text),
     RemoveBucket(Text),
     /// The second path shares the storage of the content at the first.
     Reflink(Text, Text),
-    /// The second path is one more name of the content at the first.
+    /// The second path is another name of the content at the first.
     HardLink(Text, Text),
 }
 
-/// What a call does once its errand is done: a folder was made, a file removed, or one of both synced. It moves with every step, so what is
-/// large is boxed.
+/// What a call does once its errand is done: once it made a folder, removed a file, or synced either. The value moves with
+/// every step, so its large parts are boxed.
 #[derive(Drop)]
 pub enum Then<T> {
-    /// Makes the temporary file at this path; the bytes are still to write.
+    /// Makes the temporary file at this path; these bytes are still to be written.
     Create(Box<Commit>, Bytes, Text),
     /// Moves the temporary file to the content's path, or syncs it first.
     Persist(Box<Commit>, T, Text),
-    /// Syncs the next folder, or goes on where all are synced.
+    /// Syncs the next folder, or goes on if all are synced.
     Sync(Syncing),
     /// Appends the line to the bucket at this path.
     Append(Insertion, Bytes, Text),
-    /// The content at the first path is removed; removes the bucket at the second.
+    /// Removes the bucket at the second path, once the content at the first is removed.
     RemoveBucket(Text, Text),
-    /// Makes the link to the target of the first path at the second, which is the content's.
+    /// Makes a link to the target at the first path. The link goes to the second path, which is the content's.
     Symlink(Box<Commit>, Text, Text),
     /// The call is over.
     Finish(Last),
 }
 
 impl<T: TempHandle> Then<T> {
-    /// Why the errand before this one failed, in words.
+    /// The message if the errand before this one failed.
     fn message(&self, alloc: Global) -> Result<Text, AllocError> {
         match self {
             Then::Create(commit, _, _) => messages::making_temps(alloc, commit.cache.as_str()),
@@ -71,7 +71,7 @@ impl<T: TempHandle> Then<T> {
         }
     }
 
-    /// What follows once the errand is done.
+    /// Goes on once the errand is done.
     fn start<F: FileHandle>(self, alloc: Global) -> errors::Result<Phase<F, T>>
         ensures { (next : State) → ThenAt T.seen self next → Leads F.seen T.seen result next }
     {
@@ -92,7 +92,7 @@ impl<T: TempHandle> Then<T> {
         }
     }
 
-    /// Where the end of the errand takes the call.
+    /// Goes on after the errand, whether it is done or was refused.
     fn resume<F: FileHandle>(
         self,
         alloc: Global,
@@ -112,46 +112,46 @@ impl<T: TempHandle> Then<T> {
     }
 }
 
-/// How far a call is: what it does now, and what it needs after that. A temporary file is here while no step carries it.
-/// It moves with every step, so what is large is boxed.
+/// How far a call is: what it does now, and what it needs after that. A temporary file is kept here while no step carries
+/// it. The value moves with every step, so its large parts are boxed.
 #[derive(Drop)]
 pub enum Stage<T> {
-    /// A folder is made, a file removed, or one of both synced.
+    /// A folder is being made, a file removed, or either synced.
     Doing(Then<T>),
-    /// The temporary file is made; the bytes are still to write.
+    /// The temporary file is being made; these bytes are still to be written.
     Creating(Box<Commit>, Bytes),
-    /// These bytes are written.
+    /// These bytes are being written.
     Writing(Box<Commit>, Bytes),
-    /// The temporary file is synced; then it goes to this path.
+    /// The temporary file is being synced; then it goes to this path.
     Syncing(Box<Commit>, Text),
-    /// The temporary file becomes the content.
+    /// The temporary file is becoming the content.
     Persisting(Box<Commit>),
-    /// That, or the link to this target, failed so; a content that is there all the same will do.
+    /// That, or the link to this target, failed with this fault. If the content is there anyway, the call goes on with it.
     Confirming(Box<Commit>, Option<Text>, Fault),
-    /// The line, of this size, is appended.
+    /// The line, which has this size, is being appended.
     Appending(Insertion, usize),
-    /// The bucket is read.
+    /// The bucket is being read.
     Looking(Lookup),
-    /// The content is read.
+    /// The content is being read.
     Reading(Content),
-    /// The store is asked whether the content is there.
+    /// The store is being asked whether the content is there.
     Asking(Content),
-    /// The size of the target is asked.
+    /// The store is being asked for the target's size.
     Sizing(Box<Target<u128>>),
-    /// The file is opened.
+    /// The file is being opened.
     Opening(Box<Hashing>),
-    /// A piece of the file is read, after so many bytes.
+    /// A piece of the file is being read, after this many bytes.
     Hashing(Box<Hashing>, usize),
-    /// The content at the first path is copied to the second; so many bytes were verified, if any.
+    /// The content at the first path is being copied to the second; this many bytes were verified, if any.
     Copying(Text, Text, Option<u64>),
-    /// A link to the target becomes the content.
+    /// A link to the target is becoming the content.
     Linking(Box<Commit>, Text),
-    /// A walk does this.
+    /// A walk is making this visit.
     Walking(Walk, Visit),
 }
 
 impl<T: TempHandle> Stage<T> {
-    /// Where the answer to the stage's step takes the call.
+    /// Goes on with the answer to the stage's step.
     pub(crate) fn resume<F: FileHandle>(
         self,
         alloc: Global,

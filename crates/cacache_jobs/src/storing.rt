@@ -1,4 +1,5 @@
-//! How a commit goes on: its bytes become a content, what was said of it is compared, and with a key its entry follows.
+//! How a commit goes on: its bytes become a content, which is compared with what the caller expects. With a key, its entry
+//! follows.
 ghost use Rattle.std.specs.Prelude.{◌≡◌, ℕ, IfOk, IfErr, drop};
 ghost use Rattle.cacache_core.specs.Integrity.{integrity_under};
 ghost use Rattle.cacache_core.specs.declared.errors.Error.TheVariants.{OutOfMemory};
@@ -32,7 +33,7 @@ use cacache_table::answers::Written;
 use cacache_table::{Commit, Options, Put, Refusal, Reply};
 use std::alloc::Global;
 
-/// The integrity of the bytes of a put.
+/// The integrity of a put's bytes.
 fn computed_of(alloc: Global, algorithm: Algorithm, bytes: &[u8]) -> errors::Result<Integrity>
     ensures ok { IfOk result (λ i. i ≡ integrity_under algorithm bytes.now) }
     ensures err { IfErr result (λ e. e ≡ OutOfMemory) }
@@ -42,7 +43,7 @@ fn computed_of(alloc: Global, algorithm: Algorithm, bytes: &[u8]) -> errors::Res
     hasher.result(alloc)
 }
 
-/// The commit of a put, with its bytes; its integrity is known before its first step.
+/// The commit of a put, and the put's bytes. The integrity is computed before the first step.
 fn commit_of(alloc: Global, cache: &str, put: Put) -> errors::Result<(Box<Commit>, Bytes)>
     ensures commit { IfOk result (λ r. r.0.value ≡ put_commit cache.now put) }
     ensures bytes { IfOk result (λ r. r.1 ≡ put.data) }
@@ -69,7 +70,7 @@ fn commit_of(alloc: Global, cache: &str, put: Put) -> errors::Result<(Box<Commit
     Ok((Box::new(alloc, commit)?, data))
 }
 
-/// Where a put begins.
+/// Begins a put.
 pub(crate) fn store<F: FileHandle, T: TempHandle>(
     alloc: Global,
     cache: &str,
@@ -87,7 +88,7 @@ pub(crate) fn store<F: FileHandle, T: TempHandle>(
     ))
 }
 
-/// The folder of temporary files is there: makes the file at this path.
+/// Makes the temporary file at this path, once the folder of temporary files is there.
 pub(crate) fn create<F: FileHandle, T: TempHandle>(
     commit: Box<Commit>,
     rest: Bytes,
@@ -99,7 +100,7 @@ pub(crate) fn create<F: FileHandle, T: TempHandle>(
     Phase::Wanting(Stage::Creating(commit, rest), Step::CreateTemp(path))
 }
 
-/// The temporary file has all its bytes: makes the content's folder.
+/// Makes the content's folder, once the temporary file has all its bytes.
 fn make_content_folder<F: FileHandle, T: TempHandle>(
     alloc: Global,
     commit: Box<Commit>,
@@ -115,7 +116,7 @@ fn make_content_folder<F: FileHandle, T: TempHandle>(
     ))
 }
 
-/// The same of a commit that isn't on its way yet.
+/// Like `make_content_folder`, for a commit that hasn't begun yet.
 pub(crate) fn begin_commit<F: FileHandle, T: TempHandle>(
     alloc: Global,
     commit: Commit,
@@ -126,7 +127,7 @@ pub(crate) fn begin_commit<F: FileHandle, T: TempHandle>(
     make_content_folder(alloc, Box::new(alloc, commit)?, file)
 }
 
-/// Writes what is left of the bytes, or goes on to the content's folder.
+/// Writes the rest of the bytes, or goes on to the content's folder if none are left.
 fn write_rest<F: FileHandle, T: TempHandle>(
     alloc: Global,
     commit: Box<Commit>,
@@ -142,7 +143,7 @@ fn write_rest<F: FileHandle, T: TempHandle>(
     Ok(Phase::Wanting(Stage::Writing(commit, rest), Step::Write(file, shared)))
 }
 
-/// After the temporary file was to be made.
+/// Goes on after the step that makes the temporary file.
 #[tactic(auto, using(crate::proofs::RefusedSteps::ends_refused))]
 pub(crate) fn after_create<F: FileHandle, T: TempHandle>(
     alloc: Global,
@@ -157,7 +158,7 @@ pub(crate) fn after_create<F: FileHandle, T: TempHandle>(
     write_rest(alloc, commit, file, rest)
 }
 
-/// What a write of so many of the bytes leaves.
+/// The bytes that are left after a write of this many.
 #[tactic(auto, using(std::proofs::lemmas::List::drop_min))]
 fn left_after(bytes: Bytes, count: usize) -> Bytes
     ensures { result ≡ drop count bytes }
@@ -166,7 +167,7 @@ fn left_after(bytes: Bytes, count: usize) -> Bytes
     bytes.rest(count)
 }
 
-/// After these bytes were to be written.
+/// Goes on after the step that writes these bytes.
 pub(crate) fn after_write<F: FileHandle, T: TempHandle>(
     alloc: Global,
     commit: Box<Commit>,
@@ -207,7 +208,7 @@ fn sync_temp<F: FileHandle, T: TempHandle>(commit: Box<Commit>, file: T, path: T
     Phase::Wanting(Stage::Syncing(commit, path), Step::SyncTemp(file))
 }
 
-/// The content's folder is there: moves the temporary file to the content's path, or syncs it first.
+/// Moves the temporary file to the content's path, or syncs it first, once the content's folder is there.
 pub(crate) fn move_in<F: FileHandle, T: TempHandle>(
     commit: Box<Commit>,
     file: T,
@@ -222,7 +223,7 @@ pub(crate) fn move_in<F: FileHandle, T: TempHandle>(
     persist(commit, file, path)
 }
 
-/// After the temporary file was to be synced: moves it to the content's path.
+/// Goes on after the step that syncs the temporary file: moves it to the content's path.
 pub(crate) fn after_sync<F: FileHandle, T: TempHandle>(
     alloc: Global,
     commit: Box<Commit>,
@@ -237,7 +238,7 @@ pub(crate) fn after_sync<F: FileHandle, T: TempHandle>(
     }
 }
 
-/// The content arrived: where the commit is durable, the folders that lead to it are synced.
+/// Goes on once the content arrived. A durable commit syncs the folders that lead to it.
 fn secure<F: FileHandle, T: TempHandle>(
     alloc: Global,
     commit: Box<Commit>,
@@ -251,7 +252,7 @@ fn secure<F: FileHandle, T: TempHandle>(
     sync_up(alloc, folders, Goal::Place(commit))
 }
 
-/// The content was found: where the commit is durable, it is synced as well.
+/// Goes on once the content was found. A durable commit syncs the content as well as the folders.
 fn secure_found<F: FileHandle, T: TempHandle>(
     alloc: Global,
     commit: Box<Commit>,
@@ -266,7 +267,7 @@ fn secure_found<F: FileHandle, T: TempHandle>(
     sync_file(alloc, path, folders, Goal::Place(commit))
 }
 
-/// After the content was to arrive at its place: the temporary file itself, or a link to the target.
+/// Goes on after the step that brings the content to its place: the temporary file itself, or a link to the target.
 pub(crate) fn after_arrival<F: FileHandle, T: TempHandle>(
     alloc: Global,
     commit: Box<Commit>,
@@ -293,7 +294,7 @@ pub(crate) fn after_arrival<F: FileHandle, T: TempHandle>(
     }
 }
 
-/// After the store was asked whether the content is there all the same; without a yes, the first fault is answered.
+/// Goes on after the store was asked whether the content is there anyway. Without a yes, the call answers the first fault.
 pub(crate) fn after_confirm<F: FileHandle, T: TempHandle>(
     alloc: Global,
     commit: Box<Commit>,
@@ -312,7 +313,7 @@ pub(crate) fn after_confirm<F: FileHandle, T: TempHandle>(
     Err(refused(refusal, messages::arriving(alloc, &commit, &target)))
 }
 
-/// What was said of the content is so: with a key its entry follows.
+/// Goes on once the content is as the caller expects. With a key, its entry follows.
 fn index<F: FileHandle, T: TempHandle>(alloc: Global, commit: Commit) -> errors::Result<Phase<F, T>>
     ensures { Leads F.seen T.seen result (indexed commit commit.key) }
 {
@@ -336,7 +337,7 @@ fn index<F: FileHandle, T: TempHandle>(alloc: Global, commit: Commit) -> errors:
         let_go((cache, expected, metadata, raw_metadata));
         return Ok(Phase::Over(Reply::Stored(computed)));
     };
-    // the entry has the expected integrity, where there is one
+    // the entry has the expected integrity, if there is one
     let integrity = expected.unwrap_or(computed);
     let text = integrity.to_string(alloc);
     let kept = (cache, key, integrity, metadata, raw_metadata);
@@ -355,7 +356,7 @@ fn index<F: FileHandle, T: TempHandle>(alloc: Global, commit: Commit) -> errors:
     insert(alloc, cache, entry, durable, Some(integrity))
 }
 
-/// The content is at its place: what was said of it is compared, the integrity first.
+/// Compares the content at its place with what the caller expects: first the integrity, then the size.
 pub(crate) fn compare_and_index<F: FileHandle, T: TempHandle>(
     alloc: Global,
     commit: Box<Commit>,

@@ -1,4 +1,4 @@
-//! How a durable call waits for the device: for a file, and then for the folders that lead to it, from the deepest up.
+//! How a durable call waits for the device: it syncs a file, and then the folders that lead to it, from the deepest up.
 ghost use Rattle.cacache_table.specs.Common.{sync_up as sync_up_of};
 ghost use Rattle.cacache_table.specs.State.{State, doing, sync_file as sync_file_errand, sync_dir as sync_dir_errand};
 ghost use Rattle.cacache_jobs.specs.JobStates.{Leads, GoalAt};
@@ -15,17 +15,17 @@ use cacache_store::store::{FileHandle, Step, TempHandle};
 use cacache_table::Commit;
 use std::alloc::{AllocError, Global};
 
-/// What a durable call does once all is synced.
+/// What a durable call does once everything is synced.
 #[derive(Drop)]
 pub enum Goal {
-    /// The content is at its place: what was said of it is compared.
+    /// The content is at its place: compares it with what the caller expects.
     Place(Box<Commit>),
-    /// The entry is in its bucket: the call answers.
+    /// The entry is in its bucket: answers.
     Answer(Insertion),
 }
 
 impl Goal {
-    /// Goes on once all is synced.
+    /// Goes on once everything is synced.
     fn reach<F: FileHandle, T: TempHandle>(self, alloc: Global) -> errors::Result<Phase<F, T>>
         ensures { (next : State) → GoalAt self next → Leads F.seen T.seen result next }
     {
@@ -36,15 +36,15 @@ impl Goal {
     }
 }
 
-/// The folders that are still to be synced, the deepest last, and what follows then.
+/// The folders that are still to be synced, the deepest last, and what follows.
 pub struct Syncing {
-    /// The file or folder that is being synced.
+    /// The file or folder that is being synced now.
     pub at: Text,
     pub folders: Vec<Text>,
     pub goal: Goal,
 }
 
-// Written out, so that it is a call of its own: whoever lets it go has a proof that doesn't go through its fields.
+// Written out so that a drop is a separate call: a proof about code that drops one needn't go through its fields.
 impl Drop for Syncing {
     fn drop(self) {
         let Syncing {
@@ -56,12 +56,12 @@ impl Drop for Syncing {
 }
 
 impl Syncing {
-    /// Why the sync failed, in words.
+    /// The message if the sync failed.
     pub(crate) fn message(&self, alloc: Global) -> Result<Text, AllocError> {
         messages::syncing(alloc, &self.at)
     }
 
-    /// The sync is done: goes on to the next folder.
+    /// Goes on to the next folder, once the sync is done.
     pub(crate) fn next<F: FileHandle, T: TempHandle>(
         self,
         alloc: Global,
@@ -78,7 +78,7 @@ impl Syncing {
     }
 }
 
-/// Syncs a folder, before others.
+/// Syncs a folder before other folders.
 fn sync_dir<F: FileHandle, T: TempHandle>(
     alloc: Global,
     folder: Text,
@@ -93,7 +93,7 @@ fn sync_dir<F: FileHandle, T: TempHandle>(
     Ok(Phase::Wanting(Stage::Doing(then), Step::SyncDir(folder)))
 }
 
-/// Syncs folders that lead down from the cache's own, from the last one up.
+/// Syncs the folders that lead down from the cache's own, starting with the last and going up.
 #[tactic(auto, using(crate::proofs::SyncedFolders::last_first))]
 pub(crate) fn sync_up<F: FileHandle, T: TempHandle>(
     alloc: Global,
@@ -110,7 +110,7 @@ pub(crate) fn sync_up<F: FileHandle, T: TempHandle>(
     }
 }
 
-/// Syncs a file, before the folders that lead to it.
+/// Syncs a file before the folders that lead to it.
 pub(crate) fn sync_file<F: FileHandle, T: TempHandle>(
     alloc: Global,
     file: Text,

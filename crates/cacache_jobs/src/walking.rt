@@ -1,4 +1,4 @@
-//! Walks through folders as calls: a clearing removes all, a listing reads each bucket.
+//! Calls that walk through folders: a clearing removes everything, a listing reads each bucket.
 ghost use Rattle.std.specs.Prelude.{[]};
 ghost use Rattle.cacache_table.specs.State.{State};
 ghost use Rattle.cacache_table.specs.Walking.{walk as walk_from};
@@ -16,7 +16,7 @@ use cacache_table::Visit;
 use cacache_walks::Walk;
 use std::alloc::Global;
 
-/// Asks for the step of a visit; without one the walk is over.
+/// Hands out the step of a visit. Without a visit, the walk is over.
 fn go_to<F: FileHandle, T: TempHandle>(
     walk: Walk,
     visit: Option<Visit>,
@@ -32,7 +32,7 @@ fn go_to<F: FileHandle, T: TempHandle>(
     }
 }
 
-/// Where a walk through this folder begins.
+/// Begins a walk through this folder.
 pub(crate) fn start<F: FileHandle, T: TempHandle>(
     alloc: Global,
     clears: bool,
@@ -44,7 +44,7 @@ pub(crate) fn start<F: FileHandle, T: TempHandle>(
     go_to(walk, Some(visit))
 }
 
-/// Where the answer to a visit's step takes the walk.
+/// Goes on with the answer to a visit's step.
 pub(crate) fn resume<F: FileHandle, T: TempHandle>(
     alloc: Global,
     walk: Walk,

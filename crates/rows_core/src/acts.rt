@@ -5,13 +5,13 @@ use rows::words::{cut, string_of, written_out};
 use rows::{Flaw, Outcome, Trial};
 use std::alloc::Global;
 
-/// What tries rows.
+/// Tries rows.
 #[derive(Drop)]
 pub(crate) struct Acts {
     pub(crate) alloc: Global,
 }
 
-/// What an act on entries gives.
+/// The result of an act on entries.
 fn of_entries(alloc: Global, act: &str, given: &str) -> Result<String, Flaw> {
     match act {
         "line" => lines::line(alloc, given),
@@ -26,7 +26,7 @@ fn of_entries(alloc: Global, act: &str, given: &str) -> Result<String, Flaw> {
     }
 }
 
-/// What an act on shared bytes, on keys of maps or on a text that is quoted gives.
+/// The result of an act on shared bytes, map keys, a quoted text or entries.
 fn of_bytes(alloc: Global, act: &str, given: &str) -> Result<String, Flaw> {
     match act {
         "window" => shared::window(alloc, given),
@@ -41,7 +41,7 @@ fn of_bytes(alloc: Global, act: &str, given: &str) -> Result<String, Flaw> {
     }
 }
 
-/// What an act on a path, an error, a small part or entries gives.
+/// The result of an act on a path, an error or a small part, or of one that `of_bytes` knows.
 fn of_others(alloc: Global, act: &str, given: &str) -> Result<String, Flaw> {
     match act {
         "content" => paths::content(alloc, given),
@@ -61,7 +61,7 @@ fn of_others(alloc: Global, act: &str, given: &str) -> Result<String, Flaw> {
     }
 }
 
-/// What an act gives.
+/// The result of an act.
 fn got(alloc: Global, act: &str, given: &str) -> Result<String, Flaw> {
     match act {
         "algorithm" => integrities::algorithm(alloc, given),
@@ -82,7 +82,7 @@ fn got(alloc: Global, act: &str, given: &str) -> Result<String, Flaw> {
     }
 }
 
-/// A text with its line feeds, tabs and NULs written out.
+/// A text with its line feeds, tabs and NULs written as visible characters.
 fn visible(alloc: Global, text: Result<String, Flaw>) -> Result<String, Flaw> {
     let text = text?;
     Ok(written_out(alloc, text.as_str())?)

@@ -16,20 +16,20 @@ fn held(alloc: Global, bytes: &[u8]) -> Result<String, Flaw> {
     }
 }
 
-/// How many entries a word's bytes hold, and the time of the last.
+/// How many entries the bytes of a word hold, and the time of the last.
 pub(crate) fn found(alloc: Global, word: &str) -> Result<String, Flaw> {
     let bytes = bytes_of(alloc, word)?;
     held(alloc, &bytes)
 }
 
-/// What two runs of bytes hold, one behind the other.
+/// What two runs of bytes hold, the second right after the first.
 fn held_by_both(alloc: Global, front: &[u8], back: &[u8]) -> Result<String, Flaw> {
     let mut bytes = Vec::from_slice(alloc, front)?;
     bytes.extend_from_slice(back)?;
     held(alloc, &bytes)
 }
 
-/// At how many cuts the bytes hold what a word says, where these bytes lie behind the cut.
+/// At how many cuts the bytes before the cut, followed by these bytes, hold what a word says.
 pub(crate) fn torn(alloc: Global, columns: &str) -> Result<String, Flaw> {
     let (whole, rest) = column(columns);
     let (back, wanted) = column(rest);
@@ -44,7 +44,7 @@ pub(crate) fn torn(alloc: Global, columns: &str) -> Result<String, Flaw> {
     printed(alloc, count)
 }
 
-/// The line of a text, under its own digest.
+/// The line of a text, with the text's own digest.
 fn line_of(alloc: Global, text: &[u8]) -> Result<Vec<u8>, AllocError> {
     let digest = hex::encode(alloc, Sha256::digest(text))?;
     let mut line = Vec::from_slice(alloc, b"\n")?;
@@ -78,14 +78,14 @@ pub(crate) fn torn_text(alloc: Global, columns: &str) -> Result<String, Flaw> {
     printed(alloc, count)
 }
 
-/// What an entry's hash is.
+/// The hash of an entry.
 fn hash_of(entry: &SerializableMetadata) -> u64 {
     let mut state = DefaultHasher::new();
     entry.hash(&mut state);
     state.finish()
 }
 
-/// Whether two entries are equal, and whether they hash equally too.
+/// Whether two entries are equal, and whether they are equal with the same hash.
 fn are_alike(alloc: Global, found: &[SerializableMetadata]) -> Result<String, Flaw> {
     match found {
         [one, other] => {
@@ -100,7 +100,7 @@ fn are_alike(alloc: Global, found: &[SerializableMetadata]) -> Result<String, Fl
     }
 }
 
-/// Whether the two entries of a word's bytes are equal, and whether they hash equally too.
+/// Whether the two entries in a word's bytes are equal, and whether they are equal with the same hash.
 pub(crate) fn alike(alloc: Global, word: &str) -> Result<String, Flaw> {
     let found = given(entries(alloc, word.as_bytes()))?;
     are_alike(alloc, &found)

@@ -1,4 +1,4 @@
-//! What errors say, and errors with a context.
+//! The messages of errors, and errors with a context.
 use crate::words::{Debugged, column, printed, text_of, two};
 use cacache_core::errors::{Error, Fault, IntegrityFault, IoErrorExt, SerdeCause, io_error};
 use cacache_core::integrity::Integrity;
@@ -10,7 +10,7 @@ use rows::words::number_of;
 use std::alloc::{AllocError, Global};
 use std::io::{self, ErrorKind};
 
-/// What is said of two sizes that differ.
+/// The message about two sizes that differ.
 fn sizes(alloc: Global, columns: &str) -> Result<String, Flaw> {
     let (wanted, found) = column(columns);
     let wanted = number_of(wanted)?;
@@ -18,7 +18,7 @@ fn sizes(alloc: Global, columns: &str) -> Result<String, Flaw> {
     printed(alloc, Error::SizeMismatch(wanted, found))
 }
 
-/// What is said of an entry that isn't found.
+/// The message about an entry that isn't found.
 fn missing(alloc: Global, columns: &str) -> Result<String, Flaw> {
     let (cache, key) = column(columns);
     let cache = Text::from_str(alloc, cache)?;
@@ -26,7 +26,7 @@ fn missing(alloc: Global, columns: &str) -> Result<String, Flaw> {
     printed(alloc, Error::EntryNotFound(cache, key))
 }
 
-/// What is said of a check that failed.
+/// The message about a check that failed.
 fn unmet(alloc: Global, columns: &str) -> Result<String, Flaw> {
     let (wanted, found) = column(columns);
     let wanted = given(Integrity::parse(alloc, wanted))?;
@@ -34,7 +34,7 @@ fn unmet(alloc: Global, columns: &str) -> Result<String, Flaw> {
     printed(alloc, Error::from(IntegrityFault::Check(wanted, found)))
 }
 
-/// What is said of an entry that isn't whole, or of a device that failed.
+/// The message about an incomplete entry, or about a device that failed.
 fn failed(alloc: Global, columns: &str, is_device: bool) -> Result<String, Flaw> {
     let text = Text::from_str(alloc, columns)?;
     if is_device {
@@ -43,7 +43,7 @@ fn failed(alloc: Global, columns: &str, is_device: bool) -> Result<String, Flaw>
     printed(alloc, Error::SerdeError(SerdeCause::NotWhole, text))
 }
 
-/// What an error says.
+/// The message of an error.
 pub(crate) fn error(alloc: Global, columns: &str) -> Result<String, Flaw> {
     let (kind, more) = column(columns);
     match kind {
@@ -57,7 +57,7 @@ pub(crate) fn error(alloc: Global, columns: &str) -> Result<String, Flaw> {
     }
 }
 
-/// An io error: of the kind that a word names, or else with the word as its text.
+/// An io error of the kind that the word names; if it names none, one with the word as its text.
 fn failure(word: &str) -> io::Error {
     match word {
         "NotFound" => io::Error::from(ErrorKind::NotFound),
@@ -73,13 +73,14 @@ pub(crate) fn kind(alloc: Global, word: &str) -> Result<String, Flaw> {
     printed(alloc, Debugged(failure(word).kind()))
 }
 
-/// The fault that an io error is, and what the fault says.
+/// The fault of an io error, and the fault's message.
 pub(crate) fn fault(alloc: Global, word: &str) -> Result<String, Flaw> {
     let fault = Fault::from(failure(word).kind());
     two(alloc, Debugged(fault), fault)
 }
 
-/// What a result becomes that is given a context: 7 if it is `fine`, too deep an entry if it is `TooDeep`, and else an io error.
+/// A result after a context is added. The word `fine` stands for 7, `TooDeep` for an entry that is too deep, and any other word
+/// for an io error.
 pub(crate) fn context(alloc: Global, columns: &str) -> Result<String, Flaw> {
     let (word, text) = column(columns);
     let came = match word {
@@ -94,7 +95,7 @@ pub(crate) fn context(alloc: Global, columns: &str) -> Result<String, Flaw> {
     printed(alloc, Debugged(came))
 }
 
-/// What an io error becomes that is given a plain text, and its fault.
+/// The fault of an io error after a plain text is added as its context, and the new error.
 pub(crate) fn plain_context(alloc: Global, columns: &str) -> Result<String, Flaw> {
     let (word, text) = column(columns);
     match Err::<u8, io::Error>(failure(word)).context(alloc, text) {
@@ -106,12 +107,12 @@ pub(crate) fn plain_context(alloc: Global, columns: &str) -> Result<String, Flaw
     }
 }
 
-/// What an error says, with the text that it is about.
+/// The message of an error, with the text that it is about.
 fn quoting(alloc: Global, error: &Error, text: &str) -> Result<String, Flaw> {
     given(error.quoting(text).to_string(alloc))
 }
 
-/// What is said of a text that is no integrity, with the text.
+/// The message about a text that is no integrity, with the text.
 pub(crate) fn quoted(alloc: Global, word: &str) -> Result<String, Flaw> {
     let text = text_of(alloc, word)?;
     match Integrity::parse(alloc, text.as_str()) {

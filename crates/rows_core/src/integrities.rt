@@ -6,7 +6,7 @@ use rows::Flaw;
 use rows::answers::given;
 use std::alloc::Global;
 
-/// The algorithm that a name names.
+/// The algorithm with this name.
 fn named(name: &str) -> Result<Algorithm, Flaw> {
     given(Algorithm::parse(name))
 }
@@ -16,7 +16,7 @@ pub(crate) fn read(alloc: Global, text: &str) -> Result<Integrity, Flaw> {
     given(Integrity::parse(alloc, text))
 }
 
-/// Which algorithm a name names, its name, and what it prints as; or why it names none.
+/// The algorithm with this name: its `Debug` form, its name and what it prints as; or why there is none.
 pub(crate) fn algorithm(alloc: Global, name: &str) -> Result<String, Flaw> {
     match Algorithm::parse(name) {
         Ok(algorithm) => three(alloc, Debugged(algorithm), algorithm.name(), algorithm),
@@ -40,7 +40,7 @@ pub(crate) fn digest(alloc: Global, columns: &str) -> Result<String, Flaw> {
     told(alloc, hasher.result(alloc))
 }
 
-/// The integrity that is computed of data, with no algorithm named.
+/// The integrity that is computed from data, without naming an algorithm.
 pub(crate) fn computed(alloc: Global, data: &str) -> Result<String, Flaw> {
     told(alloc, Integrity::from(alloc, data.as_bytes()))
 }
@@ -51,13 +51,13 @@ pub(crate) fn integrity(alloc: Global, text: &str) -> Result<String, Flaw> {
     told(alloc, Integrity::parse(alloc, text.as_str()))
 }
 
-/// How long that is.
+/// How long the output of `integrity` is.
 pub(crate) fn length(alloc: Global, text: &str) -> Result<String, Flaw> {
     let text = integrity(alloc, text)?;
     printed(alloc, text.len())
 }
 
-/// The integrity of an algorithm and a digest in hex digits.
+/// The integrity with this algorithm and this digest in hex digits.
 pub(crate) fn of_digest(alloc: Global, columns: &str) -> Result<String, Flaw> {
     let (name, digits) = column(columns);
     let algorithm = given(Algorithm::parse(name))?;
@@ -65,7 +65,7 @@ pub(crate) fn of_digest(alloc: Global, columns: &str) -> Result<String, Flaw> {
     told(alloc, Integrity::from_digest(alloc, algorithm, digest))
 }
 
-/// The same, where the integrity is asked to read the digits.
+/// Like `of_digest`, but `Integrity` itself reads the digits.
 pub(crate) fn of_hex(alloc: Global, columns: &str) -> Result<String, Flaw> {
     let (name, digits) = column(columns);
     told(
@@ -74,7 +74,7 @@ pub(crate) fn of_hex(alloc: Global, columns: &str) -> Result<String, Flaw> {
     )
 }
 
-/// The integrity that has the hashes of two.
+/// The integrity that has the hashes of both.
 pub(crate) fn both(alloc: Global, columns: &str) -> Result<String, Flaw> {
     let (one, other) = column(columns);
     let one = read(alloc, one)?;
@@ -82,7 +82,7 @@ pub(crate) fn both(alloc: Global, columns: &str) -> Result<String, Flaw> {
     told(alloc, one.concat(alloc, &other))
 }
 
-/// The algorithm and the digits of an integrity's address, and whether a copy of the integrity is equal.
+/// The algorithm and the hex digits of an integrity's address, and whether a copy of the integrity is equal.
 pub(crate) fn address(alloc: Global, text: &str) -> Result<String, Flaw> {
     let integrity = read(alloc, text)?;
     let copy = integrity.clone()?;
@@ -90,7 +90,7 @@ pub(crate) fn address(alloc: Global, text: &str) -> Result<String, Flaw> {
     three(alloc, algorithm, digits, copy == integrity)
 }
 
-/// The algorithm by which data meet the integrity of a text, or why they don't.
+/// The algorithm by which data meet the integrity in a text, or why they don't.
 pub(crate) fn check(alloc: Global, columns: &str) -> Result<String, Flaw> {
     let (text, data) = column(columns);
     let integrity = read(alloc, text)?;
@@ -105,7 +105,7 @@ pub(crate) fn shares(alloc: Global, columns: &str) -> Result<String, Flaw> {
     printed(alloc, Debugged(one.matches(&other)))
 }
 
-/// The integrity of two pieces, with an algorithm set between them.
+/// The integrity of two pieces, with the algorithm set between them.
 pub(crate) fn build(alloc: Global, columns: &str) -> Result<String, Flaw> {
     let (name, pieces) = column(columns);
     let (first, second) = column(pieces);
@@ -117,7 +117,7 @@ pub(crate) fn build(alloc: Global, columns: &str) -> Result<String, Flaw> {
     told(alloc, builder.result(alloc))
 }
 
-/// The algorithm by which two pieces meet the integrity of a text, or why they don't.
+/// The algorithm by which two pieces meet the integrity in a text, or why they don't.
 pub(crate) fn check_pieces(alloc: Global, columns: &str) -> Result<String, Flaw> {
     let (text, pieces) = column(columns);
     let (first, second) = column(pieces);

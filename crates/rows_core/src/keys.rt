@@ -1,4 +1,4 @@
-//! Integrities in their order, and as the keys of maps.
+//! The order of integrities, and integrities as keys of maps.
 use crate::integrities::read;
 use crate::words::{Debugged, column, printed, two};
 use cacache_core::integrity::Integrity;
@@ -29,7 +29,7 @@ pub(crate) fn less(alloc: Global, columns: &str) -> Result<String, Flaw> {
     printed(alloc, pair.one < pair.other)
 }
 
-/// A map in order that has an integrity.
+/// An ordered map that has this integrity as a key.
 fn map_of(alloc: Global, key: &Integrity) -> Result<BTreeMap<Integrity, u8>, Flaw> {
     let key = key.clone()?;
     let mut map = BTreeMap::new(alloc);
@@ -37,7 +37,7 @@ fn map_of(alloc: Global, key: &Integrity) -> Result<BTreeMap<Integrity, u8>, Fla
     Ok(map)
 }
 
-/// What a map in order finds under an integrity that it has, and under another.
+/// What an ordered map finds under an integrity that it has, and under another one.
 pub(crate) fn ordered(alloc: Global, columns: &str) -> Result<String, Flaw> {
     let pair = pair_of(alloc, columns)?;
     let map = map_of(alloc, &pair.one)?;
@@ -48,7 +48,7 @@ pub(crate) fn ordered(alloc: Global, columns: &str) -> Result<String, Flaw> {
     )
 }
 
-/// A map by hashes that has an integrity.
+/// A hash map that has this integrity as a key.
 fn hashes_of(alloc: Global, key: &Integrity) -> Result<HashMap<Integrity, u8>, Flaw> {
     let key = key.clone()?;
     let mut map = HashMap::new(alloc);
@@ -56,7 +56,7 @@ fn hashes_of(alloc: Global, key: &Integrity) -> Result<HashMap<Integrity, u8>, F
     Ok(map)
 }
 
-/// The same of a map by hashes.
+/// What a hash map finds under an integrity that it has, and under another one.
 pub(crate) fn hashed(alloc: Global, columns: &str) -> Result<String, Flaw> {
     let pair = pair_of(alloc, columns)?;
     let map = hashes_of(alloc, &pair.one)?;

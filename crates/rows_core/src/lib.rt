@@ -1,9 +1,9 @@
-//! Tries rows on core, base and entry. Each row is an act, what it is given, and what comes of it:
+//! Tries rows on core, base and entry. Each row has an act, its input and the expected result:
 //!
 //!     ACT GIVEN | .. | WANTED
 //!
-//! A row holds if the act gives that. The rows of a group that hold are counted, and each other row is printed with what was
-//! wanted and what came.
+//! A row holds if the act returns that result. The rows of a group that hold are counted. Every other row is printed with its
+//! expected and its actual result.
 #![tactic(auto)]
 
 mod acts;
@@ -21,7 +21,7 @@ mod words;
 use acts::Acts;
 use std::io;
 
-/// Tries rows, prints how they went, and tells whether each of them holds.
+/// Tries rows, prints how they went, and returns whether all of them hold.
 pub fn all_hold(rt: &(impl Print + AllocGlobal), rows: &str) -> io::Result<bool> {
     rows::all_hold(rt, rows, &mut Acts { alloc: rt.alloc() })
 }

@@ -8,7 +8,7 @@ use rows::words::{number_of, word_of};
 use serde_json::Value;
 use std::alloc::{AllocError, Global};
 
-/// Where the text of an entry begins in its line: behind LF, 64 hex digits and TAB.
+/// The offset in bytes of an entry's text in its line: after LF, 64 hex digits and TAB.
 const TEXT: usize = 66;
 
 /// The columns of an entry.
@@ -39,7 +39,7 @@ fn columns_of(columns: &str) -> Columns<'_> {
     }
 }
 
-/// The text of a column, where it isn't `none`.
+/// The text of a column, unless it is `none`.
 fn integrity_of(alloc: Global, word: &str) -> Result<Option<String>, Flaw> {
     match word {
         "none" => Ok(None),
@@ -47,7 +47,7 @@ fn integrity_of(alloc: Global, word: &str) -> Result<Option<String>, Flaw> {
     }
 }
 
-/// The bytes of a column, where it isn't `none`.
+/// The bytes of a column, unless it is `none`.
 fn raw_of(alloc: Global, word: &str) -> Result<Option<Vec<u8>>, Flaw> {
     match word {
         "none" => Ok(None),
@@ -61,7 +61,7 @@ fn value_of(alloc: Global, word: &str) -> Result<Value, Flaw> {
     given(Value::from_str(alloc, text.as_str()))
 }
 
-/// The entry of the columns.
+/// The entry that the columns describe.
 fn entry_of(alloc: Global, columns: Columns<'_>) -> Result<SerializableMetadata, Flaw> {
     let time = given(columns.time.parse::<u128>())?;
     let size = number_of(columns.size)?;
@@ -79,7 +79,7 @@ fn entry_of(alloc: Global, columns: Columns<'_>) -> Result<SerializableMetadata,
     })
 }
 
-/// Whether two entries say the same, whatever else their equality looks at.
+/// Whether all fields of two entries are equal, whatever else their own equality compares.
 fn say_the_same(one: &SerializableMetadata, other: &SerializableMetadata) -> bool {
     one.key == other.key
         && one.integrity == other.integrity
@@ -89,7 +89,7 @@ fn say_the_same(one: &SerializableMetadata, other: &SerializableMetadata) -> boo
         && one.raw_metadata == other.raw_metadata
 }
 
-/// Whether entries are this one alone.
+/// Whether the entries are only this one.
 fn are_only(found: &[SerializableMetadata], entry: &SerializableMetadata) -> bool {
     match found {
         [read] => say_the_same(read, entry),
@@ -97,7 +97,7 @@ fn are_only(found: &[SerializableMetadata], entry: &SerializableMetadata) -> boo
     }
 }
 
-/// Whether what a lookup found prints as a line's text.
+/// Whether the result of a lookup prints as the text of this line.
 fn prints_as(alloc: Global, found: &Option<Metadata>, line: &[u8]) -> Result<bool, AllocError> {
     let Some(found) = found else {
         return Ok(false);
@@ -106,7 +106,7 @@ fn prints_as(alloc: Global, found: &Option<Metadata>, line: &[u8]) -> Result<boo
     Ok(line.split_at_checked(TEXT).map(|(_head, text)| text) == Some(printed.as_bytes()))
 }
 
-/// The columns, with an integrity where there is none: a lookup finds no entry without one.
+/// The columns, with an integrity filled in if there is none: a lookup finds no entry without one.
 fn findable(columns: Columns<'_>) -> Columns<'_> {
     match columns.integrity {
         "none" => Columns {
@@ -117,7 +117,7 @@ fn findable(columns: Columns<'_>) -> Columns<'_> {
     }
 }
 
-/// Whether what a lookup finds of the columns' entry prints as the text of its line.
+/// Whether a lookup's result for the columns' entry prints as the text of that entry's line.
 fn is_printed(alloc: Global, columns: Columns<'_>) -> Result<bool, Flaw> {
     let entry = entry_of(alloc, findable(columns))?;
     let line = given(cacache_entry::line(alloc, &entry))?;
@@ -127,7 +127,7 @@ fn is_printed(alloc: Global, columns: Columns<'_>) -> Result<bool, Flaw> {
     Ok(same?)
 }
 
-/// Whether a line reads back as the entry alone, and prints again; how long it is, and the line.
+/// Whether a line reads back as only this entry and prints again, how long the line is, and the line.
 fn shown(
     alloc: Global,
     columns: Columns<'_>,
@@ -144,7 +144,7 @@ fn shown(
     )
 }
 
-/// That of an entry's line, or why there is none.
+/// What `shown` returns for an entry's line, or why there is no line.
 fn written(
     alloc: Global,
     columns: Columns<'_>,
@@ -156,7 +156,7 @@ fn written(
     }
 }
 
-/// Whether the line of an entry reads back and prints again, how long it is, and the line; or why there is none.
+/// Whether an entry's line reads back and prints again, how long it is, and the line; or why there is no line.
 pub(crate) fn line(alloc: Global, columns: &str) -> Result<String, Flaw> {
     let columns = columns_of(columns);
     let entry = entry_of(alloc, columns)?;

@@ -24,7 +24,7 @@ pub(crate) fn latest(alloc: Global, columns: &str) -> Result<String, Flaw> {
     shown
 }
 
-/// Whether two values came and are equal.
+/// Whether both results are values, and the values are equal.
 fn are_equal<T: PartialEq + Drop, E: Drop>(one: Result<T, E>, other: Result<T, E>) -> bool {
     match (one, other) {
         (Ok(one), Ok(other)) => one == other,

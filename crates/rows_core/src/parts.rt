@@ -6,7 +6,7 @@ use rows::Flaw;
 use rows::words::number_of;
 use std::alloc::Global;
 
-/// A text in quotes, whether a copy is equal, and the string inside the copy.
+/// The text in quotes, whether a copy is equal, and the string inside the copy.
 pub(crate) fn text(alloc: Global, word: &str) -> Result<String, Flaw> {
     let text = Text::new(String::from_str(alloc, word)?);
     let copy = text.clone()?;
@@ -22,7 +22,7 @@ pub(crate) fn compare(alloc: Global, columns: &str) -> Result<String, Flaw> {
     three(alloc, one != other, one < other, Debugged(one.cmp(&other)))
 }
 
-/// The number behind so many, from a first one on.
+/// The number that follows after this many, counted from the first one.
 pub(crate) fn number(alloc: Global, columns: &str) -> Result<String, Flaw> {
     let (first, count) = column(columns);
     let mut names = CountNames::from(number_of(first)? as u64);
@@ -32,7 +32,7 @@ pub(crate) fn number(alloc: Global, columns: &str) -> Result<String, Flaw> {
     printed(alloc, names.fresh())
 }
 
-/// The parts of an environment with this base: a number, its store, its clock and its base.
+/// The parts of an environment with this base folder: a number, its store, its clock and its base folder.
 pub(crate) fn environment(alloc: Global, base: &str) -> Result<String, Flaw> {
     let mut env = Env::new(alloc, 3u8, "clock", CountNames::from(7), base)?;
     let number = env.names.fresh();

@@ -9,7 +9,7 @@ use rows::answers::given;
 use rows::words::number_of;
 use std::alloc::Global;
 
-/// The folder and the path of a content's place, and its path.
+/// The folder and the path of a content's place, and the content's path.
 pub(crate) fn content(alloc: Global, columns: &str) -> Result<String, Flaw> {
     let (cache, text) = column(columns);
     let cache = plain(cache);
@@ -19,7 +19,7 @@ pub(crate) fn content(alloc: Global, columns: &str) -> Result<String, Flaw> {
     three(alloc, place.folder, place.path, path)
 }
 
-/// The folder and the path of a bucket's place, and its path.
+/// The folder and the path of a bucket's place, and the bucket's path.
 pub(crate) fn bucket(alloc: Global, columns: &str) -> Result<String, Flaw> {
     let (cache, key) = column(columns);
     let key = plain(key);

@@ -14,12 +14,12 @@ fn bytes(alloc: Global, text: &str) -> Result<Bytes, Flaw> {
     Ok(Bytes::new(alloc, Vec::from_slice(alloc, text.as_bytes())?)?)
 }
 
-/// The text of bytes that are made a vector.
+/// The text of bytes, which are turned into a vector.
 fn text(alloc: Global, bytes: Bytes) -> Result<String, Flaw> {
     given(String::from_utf8(bytes.into_vec(alloc)?))
 }
 
-/// The number that a word spells, if it is no more than this.
+/// The number that a word spells, if it is at most this limit.
 fn at_most(word: &str, limit: usize) -> Result<usize, Flaw>
     ensures { IfOk result (λ number. number ≤ limit) }
 {
@@ -29,7 +29,7 @@ fn at_most(word: &str, limit: usize) -> Result<usize, Flaw>
     }
 }
 
-/// The bytes of a text from one on, so many. Nobody else owns them.
+/// This many bytes of a text, from this one on. Nobody else owns them.
 fn part(alloc: Global, text: &str, from: &str, count: &str) -> Result<Bytes, Flaw> {
     let whole = bytes(alloc, text)?;
     let from = at_most(from, whole.len())?;
@@ -38,7 +38,7 @@ fn part(alloc: Global, text: &str, from: &str, count: &str) -> Result<Bytes, Fla
     Ok(rest.front(count))
 }
 
-/// How many bytes a part of a text has, and they themselves.
+/// The length of a part of a text in bytes, and the part itself.
 pub(crate) fn window(alloc: Global, columns: &str) -> Result<String, Flaw> {
     let (data, columns) = column(columns);
     let (from, count) = column(columns);
@@ -47,7 +47,7 @@ pub(crate) fn window(alloc: Global, columns: &str) -> Result<String, Flaw> {
     two(alloc, length, text(alloc, part)?)
 }
 
-/// Whether a copy of shared bytes is equal, whether nothing follows its last byte, and the bytes that were copied.
+/// Whether a copy of shared bytes is equal, whether nothing follows its last byte, and the original bytes.
 pub(crate) fn shared(alloc: Global, data: &str) -> Result<String, Flaw> {
     let whole = bytes(alloc, data)?;
     let copy = whole.share()?;
@@ -58,21 +58,21 @@ pub(crate) fn shared(alloc: Global, data: &str) -> Result<String, Flaw> {
     three(alloc, is_equal, end.is_empty(), whole)
 }
 
-/// The bytes with more behind them.
+/// The bytes with more appended.
 fn with(bytes: Bytes, more: &str) -> Result<Bytes, Flaw> {
     let mut bytes = bytes;
     bytes.extend(more.as_bytes())?;
     Ok(bytes)
 }
 
-/// The first bytes of a copy, so many, with more behind them.
+/// This many of the first bytes of a copy, with more appended.
 fn front_with(alloc: Global, whole: &Bytes, count: &str, more: &str) -> Result<String, Flaw> {
     let count = at_most(count, whole.len())?;
     let front = whole.share()?.front(count);
     text(alloc, with(front, more)?)
 }
 
-/// The same, and the bytes that were copied.
+/// The first bytes of a copy, with more appended, and the original bytes.
 pub(crate) fn grown(alloc: Global, columns: &str) -> Result<String, Flaw> {
     let (data, columns) = column(columns);
     let (count, more) = column(columns);
@@ -82,7 +82,7 @@ pub(crate) fn grown(alloc: Global, columns: &str) -> Result<String, Flaw> {
     two(alloc, front, whole)
 }
 
-/// A part of a text, with more behind it, twice.
+/// A part of a text, with the same bytes appended twice.
 pub(crate) fn grown_alone(alloc: Global, columns: &str) -> Result<String, Flaw> {
     let (data, columns) = column(columns);
     let (from, columns) = column(columns);

@@ -7,17 +7,17 @@ use rows::words::is_nothing;
 use std::alloc::Global;
 use std::fmt::{self, Debug, Display, Formatter, Write};
 
-/// The first column of what an act is given, and those behind it; what isn't there is empty.
+/// The first column of an act's input, and the columns after it. A missing column is empty.
 pub(crate) fn column(columns: &str) -> (&str, &str) {
     columns.split_once(" | ").unwrap_or((columns, ""))
 }
 
-/// A word as it stands: `-` is the empty one.
+/// A word as it is written, except that `-` is the empty word.
 pub(crate) fn plain(word: &str) -> &str {
     if is_nothing(word) { "" } else { word }
 }
 
-/// Puts a byte behind the bytes, whose two digits a part of a word begins with, and then what follows them.
+/// Appends the byte whose two hex digits begin this part of a word, and then the rest of the part.
 fn push_part(bytes: &mut Vec<u8>, part: &str) -> Result<(), Flaw> {
     let Some((digits, rest)) = part.split_at_checked(2) else {
         return Err(Flaw::NotRead);
@@ -29,7 +29,7 @@ fn push_part(bytes: &mut Vec<u8>, part: &str) -> Result<(), Flaw> {
     Ok(bytes.extend_from_slice(rest.as_bytes())?)
 }
 
-/// The bytes of a word, in which `\xNN` is a byte with these two digits.
+/// The bytes of a word, in which `\xNN` is the byte with these two hex digits.
 pub(crate) fn bytes_of(alloc: Global, word: &str) -> Result<Vec<u8>, Flaw> {
     let mut parts = plain(word).split("\\x");
     let mut bytes = Vec::from_slice(alloc, parts.next().unwrap_or("").as_bytes())?;
@@ -49,7 +49,7 @@ pub(crate) fn printed<T: Display + Drop>(alloc: Global, value: T) -> Result<Stri
     given(value.to_string(alloc))
 }
 
-/// What a value prints as, or what the error says.
+/// What the value or the error prints as.
 pub(crate) fn told<T: Display + Drop>(
     alloc: Global,
     came: Result<T, Error>,
@@ -79,7 +79,7 @@ pub(crate) fn three<A: Display + Drop, B: Display + Drop, C: Display + Drop>(
     given(format!(in alloc; "{one} {other} {third}"))
 }
 
-/// A value that is printed as `Debug` does.
+/// A value that prints in its `Debug` form.
 #[derive(Drop)]
 pub(crate) struct Debugged<T>(pub(crate) T);
 
