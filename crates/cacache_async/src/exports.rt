@@ -1,13 +1,8 @@
 //! Futures of the exports: of the content that a key names, and of that of an integrity.
 ghost use Rattle.std.specs.Prelude.{◌≡◌, true, false, IfOk};
-ghost use Rattle.cacache_table.specs.declared.command.How.TheVariants.{Copy, Reflink, HardLink};
-ghost use Rattle.cacache_table.specs.declared.reply.Reply.TheVariants.{Copied, Done};
-ghost use Rattle.cacache_table.specs.Replies.{done};
-ghost use Rattle.cacache_table.specs.Runs.{reply_of};
-ghost use Rattle.cacache_jobs.specs.ReadFirst.{Verified};
-ghost use Rattle.cacache_jobs.specs.Environment.{Calls};
-ghost use Rattle.cacache_sync.specs.declared.exporting.Named.TheVariants.{Key, Hash};
-ghost use Rattle.cacache_sync.specs.Exports.{exporting, named_source, IsFormed};
+ghost use Rattle.cacache_table.specs.{declared.{command.How.TheVariants.{Copy, Reflink, HardLink}, reply.Reply.TheVariants.{Copied, Done}}, Replies.{done}, Runs.{reply_of}};
+ghost use Rattle.cacache_jobs.specs.{ReadFirst.{Verified}, Environment.{Calls}};
+ghost use Rattle.cacache_sync.specs.{declared.exporting.Named.TheVariants.{Key, Hash}, Exports.{exporting, named_source, IsFormed}};
 ghost use Rattle.cacache_async.specs.Waiting.{Waits};
 
 use crate::call::Call;

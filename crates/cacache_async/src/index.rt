@@ -1,13 +1,9 @@
 //! Futures of the calls on the index.
 ghost use Rattle.std.specs.Prelude.{◌≡◌, None, IfOk};
 ghost use Rattle.cacache_table.specs.declared.command.Command.TheVariants as commands;
-ghost use Rattle.cacache_table.specs.declared.reply.Reply.TheVariants.{Stored};
-ghost use Rattle.cacache_table.specs.Inserting.{given_or, no_integrity};
-ghost use Rattle.cacache_table.specs.Replies.{done, looked_up};
-ghost use Rattle.cacache_table.specs.Runs.{reply_of};
+ghost use Rattle.cacache_table.specs.{declared.reply.Reply.TheVariants.{Stored}, Inserting.{given_or, no_integrity}, Replies.{done, looked_up}, Runs.{reply_of}};
 ghost use Rattle.cacache_jobs.specs.Environment.{Calls, RunsTimed};
-ghost use Rattle.cacache_sync.specs.Lookups.{LooksUp, delete_of};
-ghost use Rattle.cacache_sync.specs.put.Puts.{insert_of};
+ghost use Rattle.cacache_sync.specs.{Lookups.{LooksUp, delete_of}, put.Puts.{insert_of}};
 ghost use Rattle.cacache_async.specs.Waiting.{Waits};
 
 use crate::call::Call;

@@ -1,18 +1,10 @@
 //! Links that are made after their target is read by polls.
-ghost use Rattle.std.specs.Prelude.{◌≡◌, ◌++◌, ℕ, List, None, Some, IfOk, IfErr, OnOk, OnErr, length};
-ghost use Rattle.std.specs.Io.{ReadsAtMost};
-ghost use Rattle.std.specs.Io.KnownBytes.{Consumes, ReadConsumes};
-ghost use Rattle.futures.specs.Poll.{IfReady, OnPending};
-ghost use Rattle.futures.specs.Task.{Keeps};
+ghost use Rattle.std.specs.{Prelude.{◌≡◌, ◌++◌, ℕ, List, None, Some, IfOk, IfErr, OnOk, OnErr, length}, Io.{ReadsAtMost, KnownBytes.{Consumes, ReadConsumes}}};
+ghost use Rattle.futures.specs.{Poll.{IfReady, OnPending}, Task.{Keeps}};
 ghost use Rattle.cacache_store.specs.Handles.{LeftFalls};
-ghost use Rattle.cacache_table.specs.declared.reply.Reply.TheVariants.{Stored};
-ghost use Rattle.cacache_table.specs.Runs.{reply_of};
-ghost use Rattle.cacache_sync.specs.content.OpenWrites.{IsRetried};
-ghost use Rattle.cacache_sync.specs.content.Passed.{passed};
-ghost use Rattle.cacache_sync.specs.put.OpenLinkers.{CommitsLink, HasHashed, HashesMore, HashesPart, StoresWhole};
-ghost use Rattle.cacache_sync.specs.put.Options.{saying};
-ghost use Rattle.cacache_async.specs.Waiting.{Waits};
-ghost use Rattle.cacache_async.specs.Polling.{TellsRead};
+ghost use Rattle.cacache_table.specs.{declared.reply.Reply.TheVariants.{Stored}, Runs.{reply_of}};
+ghost use Rattle.cacache_sync.specs.{content.{OpenWrites.{IsRetried}, Passed.{passed}}, put.{OpenLinkers.{CommitsLink, HasHashed, HashesMore, HashesPart, StoresWhole}, Options.{saying}}};
+ghost use Rattle.cacache_async.specs.{Waiting.{Waits}, Polling.{TellsRead}};
 
 use crate::call::Call;
 use crate::future::{CallFuture, polling};

@@ -1,9 +1,7 @@
 //! Futures that open the target of a link.
 ghost use Rattle.std.specs.Prelude.{◌≡◌, None, Some};
 ghost use Rattle.cacache_sync.specs.put.OpenLinkers.{BeginsLink, OpensLink, OpensWithSize, asks_file, asks_size};
-ghost use Rattle.cacache_async.specs.Waiting.{Waits};
-ghost use Rattle.cacache_async.specs.Polling.{linker_in};
-ghost use Rattle.cacache_async.specs.Targets.{target_asked, target_said};
+ghost use Rattle.cacache_async.specs.{Waiting.{Waits}, Polling.{linker_in}, Targets.{target_asked, target_said}};
 
 use crate::call::Call;
 use crate::future::CallFuture;

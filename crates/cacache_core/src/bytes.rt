@@ -1,9 +1,6 @@
 //! Bytes that are shared instead of copied.
-ghost use Rattle.std.specs.Prelude.{◌≡◌, ◌≤◌, ◌==◌, ◌++◌, ℕ, List, IfOk, OnOk, OnErr, length, take, drop};
-ghost use Rattle.std.specs.Arc.{arc_value};
-ghost use Rattle.std.specs.Bool.{nat_eq};
+ghost use Rattle.std.specs.{Prelude.{◌≡◌, ◌≤◌, ◌==◌, ◌++◌, ℕ, List, IfOk, OnOk, OnErr, length, take, drop}, Arc.{arc_value}, Bool.{nat_eq}, Cmp.Lexicographic.{pointwise, nat_list_eq_equiv}};
 ghost use Rattle.std.specs.Cmp;
-ghost use Rattle.std.specs.Cmp.Lexicographic.{pointwise, nat_list_eq_equiv};
 
 use std::alloc::{AllocError, Global};
 use std::marker::Model;

@@ -1,8 +1,6 @@
 //! Why calls fail.
 ghost use Rattle.std.specs.Prelude.{◌≡◌, Some};
-ghost use Rattle.cacache_core.specs.Contexts.{fault_of, fault_in};
-ghost use Rattle.cacache_core.specs.FaultTexts.{fault_text};
-ghost use Rattle.cacache_core.specs.declared.errors.Error.TheVariants.{OutOfMemory, IntegrityError};
+ghost use Rattle.cacache_core.specs.{Contexts.{fault_of, fault_in}, FaultTexts.{fault_text}, declared.errors.Error.TheVariants.{OutOfMemory, IntegrityError}};
 
 mod context;
 mod quoting;

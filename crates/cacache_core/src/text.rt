@@ -1,11 +1,7 @@
 //! A text that contracts see as its bytes.
-ghost use Rattle.std.specs.Prelude.{◌≡◌, ℕ, List, IfOk, Some, string_bytes, IsUtf8};
+ghost use Rattle.std.specs.{Prelude.{◌≡◌, ℕ, List, IfOk, Some, string_bytes, IsUtf8}, Bool.{nat_eq}, Fmt.{debug_str}, Ordering.{nat_cmp}, Cmp.Lexicographic.{pointwise, slice_cmp, texts_ties, nat_list_eq_equiv, nat_list_cmp_total, texts_po}};
 ghost use Rattle.std.proofs.Common.{refl};
-ghost use Rattle.std.specs.Bool.{nat_eq};
-ghost use Rattle.std.specs.Fmt.{debug_str};
-ghost use Rattle.std.specs.Ordering.{nat_cmp};
 ghost use Rattle.std.specs.Cmp;
-ghost use Rattle.std.specs.Cmp.Lexicographic.{pointwise, slice_cmp, texts_ties, nat_list_eq_equiv, nat_list_cmp_total, texts_po};
 
 use std::alloc::{AllocError, Global};
 use std::cmp::Ordering;

@@ -1,8 +1,6 @@
 //! What a step is about to do.
 ghost use Rattle.std.specs.Prelude.{◌≡◌, OnOk, OnErr};
-ghost use Rattle.cacache_disk.specs.declared.node.Node.TheVariants.{File};
-ghost use Rattle.cacache_disk.specs.Tree.{put, cut};
-ghost use Rattle.cacache_disk.specs.Plans.{changed};
+ghost use Rattle.cacache_disk.specs.{declared.node.Node.TheVariants.{File}, Tree.{put, cut}, Plans.{changed}};
 
 use crate::contents::Contents;
 use crate::node::Node;

@@ -1,6 +1,5 @@
 //! The bytes of a file.
-ghost use Rattle.std.specs.Prelude.{◌≡◌, ◌++◌, [], IfOk, OnOk, OnErr, length};
-ghost use Rattle.std.specs.Arc.{arc_value};
+ghost use Rattle.std.specs.{Prelude.{◌≡◌, ◌++◌, [], IfOk, OnOk, OnErr, length}, Arc.{arc_value}};
 
 use cacache_core::bytes::Bytes;
 use std::alloc::{AllocError, Global};

@@ -1,7 +1,6 @@
 //! What is at a path.
 ghost use Rattle.std.specs.Prelude.{◌≡◌, ◌++◌, Some, OnOk, OnErr};
-ghost use Rattle.cacache_disk.specs.declared.node.Node.TheVariants.{File};
-ghost use Rattle.cacache_disk.specs.Tree.{bytes_of, kind_of};
+ghost use Rattle.cacache_disk.specs.{declared.node.Node.TheVariants.{File}, Tree.{bytes_of, kind_of}};
 
 use crate::contents::Contents;
 use cacache_core::bytes::Bytes;

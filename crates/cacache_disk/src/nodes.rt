@@ -1,10 +1,8 @@
 //! The nodes of a disk, by their paths.
 ghost use Rattle.std.specs.Prelude.{◌≡◌, ◌==◌, IfOk, OnOk, OnErr, length, option_copied};
 ghost use Rattle.std.specs.FinMap as map;
-ghost use Rattle.cacache_disk.specs.declared.node.Node.TheVariants.{File};
+ghost use Rattle.cacache_disk.specs.{declared.node.Node.TheVariants.{File}, Tree.{look, put, cut, listing}, Apply.{lengthened}};
 ghost use Rattle.cacache_store.specs.Fits.{AreProperNames};
-ghost use Rattle.cacache_disk.specs.Tree.{look, put, cut, listing};
-ghost use Rattle.cacache_disk.specs.Apply.{lengthened};
 
 pub(crate) mod standing;
 

@@ -1,8 +1,5 @@
 //! The laws of entries, buckets and lookups. Each function here does nothing: its clauses are the laws.
-ghost use Rattle.cacache_entry.specs.EntryLaws.{NoCauseIsFit, FlatEntriesFit, BareEntriesFit};
-ghost use Rattle.cacache_entry.specs.EntryLaws.{EmptyHoldsNothing, EntriesSplit, LinesAppend};
-ghost use Rattle.cacache_entry.specs.EntryLaws.{TornTextsReadAsNothing, TornLinesAddNothing, TornLinesHurtNoOther};
-ghost use Rattle.cacache_entry.specs.EntryLaws.{LastAnswerDecides, NoAnswerIsNone, LastLineIsEnough};
+ghost use Rattle.cacache_entry.specs.EntryLaws.{NoCauseIsFit, FlatEntriesFit, BareEntriesFit, EmptyHoldsNothing, EntriesSplit, LinesAppend, TornTextsReadAsNothing, TornLinesAddNothing, TornLinesHurtNoOther, LastAnswerDecides, NoAnswerIsNone, LastLineIsEnough};
 
 /// Which entries can be written.
 pub fn entry_laws()

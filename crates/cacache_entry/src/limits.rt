@@ -1,8 +1,6 @@
 //! The limits on metadata: only integers, nested to a limited depth.
 ghost use Rattle.std.specs.Prelude.{◌≡◌, not, nat_le};
-ghost use Rattle.serde_json.specs.Data.{depth, items_depth, members_depth};
-ghost use Rattle.serde_json.specs.Written.{has_float, items_have_float, members_have_float};
-ghost use Rattle.serde_json.specs.View.{view, items_view, members_view};
+ghost use Rattle.serde_json.specs.{Data.{depth, items_depth, members_depth}, Written.{has_float, items_have_float, members_have_float}, View.{view, items_view, members_view}};
 
 use serde_json::{Map, Value};
 

@@ -1,9 +1,7 @@
 //! What the index says about a key.
-ghost use Rattle.std.specs.Prelude.{string_bytes, nat_eq};
+ghost use Rattle.std.specs.{Prelude.{string_bytes, nat_eq}, Cmp.Lexicographic.{pointwise, bytes_decides, nat_list_eq_equiv}, Ordering.{on}};
 ghost use Rattle.std.specs.Cmp;
-ghost use Rattle.std.specs.Cmp.Lexicographic.{pointwise, bytes_decides, nat_list_eq_equiv};
 ghost use Rattle.std.specs.Hash as fed;
-ghost use Rattle.std.specs.Ordering.{on};
 ghost use Rattle.cacache_entry.specs.declared.metadata.SerializableMetadata.{SerializableMetadata as Said};
 
 use crate::printing::{Numbers, Quoted};

@@ -1,9 +1,7 @@
 //! Reads an entry from its JSON text.
 ghost use Rattle.std.specs.Prelude.{◌≡◌, IfOk, codes, option_map, option_and_then, string_bytes};
-ghost use Rattle.serde_json.specs.Find.{get};
-ghost use Rattle.serde_json.specs.View.{view, items_view};
-ghost use Rattle.cacache_entry.specs.EntryTexts.{or_null, whole_value, text_or_none, bytes_or_none, bytes_of as bytes_of_items, entry_read as entry_of_data, read_entry as entry_of_text};
-ghost use Rattle.cacache_entry.specs.View.{entry_view};
+ghost use Rattle.serde_json.specs.{Find.{get}, View.{view, items_view}};
+ghost use Rattle.cacache_entry.specs.{EntryTexts.{or_null, whole_value, text_or_none, bytes_or_none, bytes_of as bytes_of_items, entry_read as entry_of_data, read_entry as entry_of_text}, View.{entry_view}};
 
 use crate::limits::is_whole;
 use crate::metadata::SerializableMetadata;

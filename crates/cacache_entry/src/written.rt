@@ -1,8 +1,6 @@
 //! Reads the entry of a piece that `line` wrote, without parsing it as JSON.
 ghost use Rattle.std.specs.Prelude.{◌≡◌, IfOk, IfSome, Some, option_map};
-ghost use Rattle.cacache_entry.specs.Bucket.{entry_of_piece};
-ghost use Rattle.cacache_entry.specs.EntryLaws.{bare_entry};
-ghost use Rattle.cacache_entry.specs.View.{entry_view};
+ghost use Rattle.cacache_entry.specs.{Bucket.{entry_of_piece}, EntryLaws.{bare_entry}, View.{entry_view}};
 
 use crate::metadata::SerializableMetadata;
 use crate::parts::{Parts, written_parts};

@@ -1,6 +1,5 @@
 //! The system's time.
-ghost use Rattle.std.specs.Prelude.{◌≡◌, ◌-◌, ◌/◌, ◌^◌, MatchResult, min};
-ghost use Rattle.std.specs.Duration.{as_nanos};
+ghost use Rattle.std.specs.{Prelude.{◌≡◌, ◌-◌, ◌/◌, ◌^◌, MatchResult, min}, Duration.{as_nanos}};
 
 use cacache_store::env::Clock;
 use std::io;

@@ -2,18 +2,11 @@
 ghost use Rattle.std.specs.Prelude.{◌≡◌, false, None, IfOk};
 ghost use Rattle.cacache_store.specs.declared.store.step.Step.TheVariants as steps;
 ghost use Rattle.cacache_store.specs.declared.store.answer.Answer.TheVariants as answers;
-ghost use Rattle.cacache_store.specs.Plain.{plain_step, plain_answer};
-ghost use Rattle.cacache_store.specs.Fits.{Fits, is_no_memory};
+ghost use Rattle.cacache_store.specs.{Plain.{plain_step, plain_answer}, Fits.{Fits, is_no_memory}};
 ghost use Rattle.cacache_system.specs.declared.call.CallResult.TheVariants as says;
-ghost use Rattle.cacache_system.specs.CallLog.{said};
+ghost use Rattle.cacache_system.specs.{CallLog.{said}, CallsOf.{RunLogged}, AnswersOf.{StepRuns}};
 ghost use Rattle.cacache_system.specs.CallsOf as calls;
-ghost use Rattle.cacache_system.specs.CallsOf.{RunLogged};
-ghost use Rattle.cacache_system.specs.AnswersOf.{StepRuns};
-ghost use Rattle.cacache_folder.specs.FolderHandles.{seen_file, seen_temp};
-ghost use Rattle.cacache_folder.specs.FolderNumbers.{numbered, answered};
-ghost use Rattle.cacache_folder.specs.PartialSteps.{HandsBackWhole};
-ghost use Rattle.cacache_folder.specs.Reasons.{Explains};
-ghost use Rattle.cacache_folder.specs.StepClauses.{ValueRuns, AnswerFits, AnswersWhole, AnswersRun, RunsByPath};
+ghost use Rattle.cacache_folder.specs.{FolderHandles.{seen_file, seen_temp}, FolderNumbers.{numbered, answered}, PartialSteps.{HandsBackWhole}, Reasons.{Explains}, StepClauses.{ValueRuns, AnswerFits, AnswersWhole, AnswersRun, RunsByPath}};
 
 mod again;
 mod answers;

@@ -1,9 +1,7 @@
 //! What holds of every legal history, on functions that do nothing.
 ghost use Rattle.std.specs.Prelude.{List, ℕ};
 ghost use Rattle.cacache_disk.specs.declared.luck.Luck.{Luck};
-ghost use Rattle.cacache_history.specs.LegalCases.{CasesHold, LookupCases};
-ghost use Rattle.cacache_history.specs.Headline.{HeadlineHolds};
-ghost use Rattle.cacache_history.specs.Values.{DigestsMakeIntegrities, MetDigestsAreSame};
+ghost use Rattle.cacache_history.specs.{LegalCases.{CasesHold, LookupCases}, Headline.{HeadlineHolds}, Values.{DigestsMakeIntegrities, MetDigestsAreSame}};
 
 /// The claim as a whole, of every legal history: see `Headline`.
 ///

@@ -1,11 +1,7 @@
 //! Commits contents from a temporary file that already has their bytes.
 ghost use Rattle.std.specs.Prelude.{◌≡◌};
 ghost use Rattle.cacache_core.specs.declared.errors.Error.TheVariants.{OutOfMemory};
-ghost use Rattle.cacache_table.specs.Formed.{FormsCommit};
-ghost use Rattle.cacache_table.specs.Promises.{OnlyStores, Stores};
-ghost use Rattle.cacache_table.specs.Runs.{Ran, plain_reply};
-ghost use Rattle.cacache_table.specs.Storing.{persist};
-ghost use Rattle.cacache_table.specs.declared.reply.Reply.TheVariants.{Refused};
+ghost use Rattle.cacache_table.specs.{Formed.{FormsCommit}, Promises.{OnlyStores, Stores}, Runs.{Ran, plain_reply}, Storing.{persist}, declared.reply.Reply.TheVariants.{Refused}};
 
 use crate::run::finish;
 use crate::storing::begin_commit;

@@ -1,7 +1,6 @@
 //! Compares a content with the integrity and the size that the caller expects.
 ghost use Rattle.std.specs.Prelude.{◌≡◌, IfOk, IfErr};
-ghost use Rattle.cacache_table.specs.Storing.{placed, sized, indexed, matches};
-ghost use Rattle.cacache_table.specs.Runs.{EndsAs};
+ghost use Rattle.cacache_table.specs.{Storing.{placed, sized, indexed, matches}, Runs.{EndsAs}};
 
 use cacache_core::errors::{self, Error, IntegrityFault};
 use cacache_core::integrity::Integrity;

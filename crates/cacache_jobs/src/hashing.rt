@@ -1,11 +1,7 @@
 //! Reads files to their end, hashes each byte once and keeps none: contents to verify, and targets of links.
 ghost use Rattle.std.specs.Prelude.{◌≡◌, ℕ, List, ◌++◌, length};
-ghost use Rattle.cacache_table.specs.Linking.{after_read as after_read_of, hashed as hashed_of};
-ghost use Rattle.cacache_table.specs.StepPaths.{content_path as content_path_of};
-ghost use Rattle.cacache_table.specs.State.{Hashing as Purpose, opening_file, to_verify};
-ghost use Rattle.cacache_table.specs.Seen.{got_as};
-ghost use Rattle.cacache_jobs.specs.JobStates.{Leads, HashesFor};
-ghost use Rattle.cacache_jobs.specs.LeadsOn.{LeadsOpened, LeadsRead, LeadsVerified};
+ghost use Rattle.cacache_table.specs.{Linking.{after_read as after_read_of, hashed as hashed_of}, StepPaths.{content_path as content_path_of}, State.{Hashing as Purpose, opening_file, to_verify}, Seen.{got_as}};
+ghost use Rattle.cacache_jobs.specs.{JobStates.{Leads, HashesFor}, LeadsOn.{LeadsOpened, LeadsRead, LeadsVerified}};
 
 use crate::brought::opened_file;
 use crate::phase::{Phase, refused};

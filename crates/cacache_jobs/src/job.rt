@@ -1,11 +1,8 @@
 //! One call as a job, which hands out its steps one by one.
 ghost use Rattle.std.specs.Prelude.{◌≡◌, IfOk, IsTrue, option_map};
 ghost use Rattle.cacache_store.specs.Plain.{PlainStep, plain_step, plain_answer};
-ghost use Rattle.cacache_table.specs.State.{State};
-ghost use Rattle.cacache_table.specs.Table.{opening, after};
-ghost use Rattle.cacache_jobs.specs.Sites.{site_of};
-ghost use Rattle.cacache_jobs.specs.Jobs.{Stands, HasOut, GoesTo, PhaseGoesTo, HandsOut, Tells, is_step, has_out, can_go_on, reply_in};
-ghost use Rattle.cacache_jobs.specs.JobStates.{Leads, PhaseAt};
+ghost use Rattle.cacache_table.specs.{State.{State}, Table.{opening, after}};
+ghost use Rattle.cacache_jobs.specs.{Sites.{site_of}, Jobs.{Stands, HasOut, GoesTo, PhaseGoesTo, HandsOut, Tells, is_step, has_out, can_go_on, reply_in}, JobStates.{Leads, PhaseAt}};
 
 use crate::opening::open;
 use crate::phase::Phase;

@@ -1,14 +1,8 @@
 //! Links: reads the target to its end, and makes a link to it the content.
 ghost use Rattle.std.specs.Prelude.{◌≡◌};
 ghost use Rattle.cacache_store.specs.Plain.{plain_answer};
-ghost use Rattle.cacache_table.specs.Answers.{length_in};
-ghost use Rattle.cacache_table.specs.Common.{go_on, fails};
-ghost use Rattle.cacache_table.specs.Linking.{after_size as after_size_of};
-ghost use Rattle.cacache_table.specs.StepPaths.{content_path as content_path_of};
-ghost use Rattle.cacache_table.specs.State.{opening_file, to_link, linking as linking_state};
-ghost use Rattle.cacache_table.specs.Storing.{link as link_of};
-ghost use Rattle.cacache_jobs.specs.JobStates.{Leads};
-ghost use Rattle.cacache_jobs.specs.LeadsOn.{LeadsHashed, LeadsSizing};
+ghost use Rattle.cacache_table.specs.{Answers.{length_in}, Common.{go_on, fails}, Linking.{after_size as after_size_of}, StepPaths.{content_path as content_path_of}, State.{opening_file, to_link, linking as linking_state}, Storing.{link as link_of}};
+ghost use Rattle.cacache_jobs.specs.{JobStates.{Leads}, LeadsOn.{LeadsHashed, LeadsSizing}};
 
 use crate::brought::told_size;
 use crate::hashing::Hashing;

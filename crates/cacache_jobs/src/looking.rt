@@ -1,9 +1,7 @@
 //! Looks up keys, and goes on with what each lookup is for.
 ghost use Rattle.std.specs.Prelude.{◌≡◌, IfOk, IfErr};
 ghost use Rattle.cacache_core.specs.declared.errors.Error.TheVariants.{OutOfMemory};
-ghost use Rattle.cacache_table.specs.Common.{go_on};
-ghost use Rattle.cacache_table.specs.Looking.{found_for, found_in, after_bucket, no_bucket};
-ghost use Rattle.cacache_table.specs.State.{looking as looking_state};
+ghost use Rattle.cacache_table.specs.{Common.{go_on}, Looking.{found_for, found_in, after_bucket, no_bucket}, State.{looking as looking_state}};
 ghost use Rattle.cacache_jobs.specs.JobStates.{Leads};
 
 use crate::phase::{Phase, refused};

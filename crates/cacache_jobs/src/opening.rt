@@ -1,12 +1,9 @@
 //! Begins calls.
 ghost use Rattle.std.specs.Prelude.{ℕ, List, true, false};
 ghost use Rattle.cacache_core.specs.Paths.{index_area, join as join_of};
-ghost use Rattle.cacache_table.specs.State.{looking as looking_state, reading as reading_state, asking as asking_state};
-ghost use Rattle.cacache_table.specs.Table.{opening};
-ghost use Rattle.cacache_table.specs.Walking.{walk};
+ghost use Rattle.cacache_table.specs.{State.{looking as looking_state, reading as reading_state, asking as asking_state}, Table.{opening}, Walking.{walk}};
 ghost use Rattle.cacache_table.specs.declared.command.Command.TheVariants as commands;
-ghost use Rattle.cacache_jobs.specs.Sites.{site_of};
-ghost use Rattle.cacache_jobs.specs.JobStates.{Leads};
+ghost use Rattle.cacache_jobs.specs.{Sites.{site_of}, JobStates.{Leads}};
 
 use crate::phase::Phase;
 use crate::{exporting, inserting, linking, looking, reading, removing, storing, walking};

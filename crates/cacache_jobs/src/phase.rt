@@ -1,6 +1,5 @@
 //! How far a call is while none of its steps is outstanding.
-ghost use Rattle.cacache_table.specs.Common.{refuse, fails};
-ghost use Rattle.cacache_table.specs.Runs.{EndsAs};
+ghost use Rattle.cacache_table.specs.{Common.{refuse, fails}, Runs.{EndsAs}};
 
 use crate::stage::Stage;
 use cacache_core::errors::Error;

@@ -1,11 +1,6 @@
 //! Reads contents, and asks whether one is there.
-ghost use Rattle.cacache_table.specs.Common.{go_on, fails};
-ghost use Rattle.cacache_table.specs.ContentReads.{checked as checked_of, answer_there, answer_absent};
-ghost use Rattle.cacache_table.specs.declared.reply.Reply.TheVariants.{Exists};
-ghost use Rattle.cacache_table.specs.Replies.{there_reply};
-ghost use Rattle.cacache_table.specs.Runs.{reply_of};
+ghost use Rattle.cacache_table.specs.{Common.{go_on, fails}, ContentReads.{checked as checked_of, answer_there, answer_absent}, declared.reply.Reply.TheVariants.{Exists}, Replies.{there_reply}, Runs.{reply_of}, State.{reading as reading_state, asking as asking_state}};
 ghost use Rattle.std.specs.Prelude.{◌≡◌};
-ghost use Rattle.cacache_table.specs.State.{reading as reading_state, asking as asking_state};
 ghost use Rattle.cacache_jobs.specs.JobStates.{Leads};
 
 use crate::messages;

@@ -1,11 +1,7 @@
 //! Links to targets that the caller has already read to their end.
 ghost use Rattle.std.specs.Prelude.{◌≡◌};
 ghost use Rattle.cacache_core.specs.declared.errors.Error.TheVariants.{OutOfMemory};
-ghost use Rattle.cacache_table.specs.Formed.{FormsCommit};
-ghost use Rattle.cacache_table.specs.Promises.{OnlyStores, Stores};
-ghost use Rattle.cacache_table.specs.Runs.{Ran, plain_reply};
-ghost use Rattle.cacache_table.specs.Storing.{link as link_of};
-ghost use Rattle.cacache_table.specs.declared.reply.Reply.TheVariants.{Refused};
+ghost use Rattle.cacache_table.specs.{Formed.{FormsCommit}, Promises.{OnlyStores, Stores}, Runs.{Ran, plain_reply}, Storing.{link as link_of}, declared.reply.Reply.TheVariants.{Refused}};
 
 use crate::linking::link;
 use crate::run::finish;

@@ -1,19 +1,9 @@
 //! Runs a call on a store.
 ghost use Rattle.std.specs.Prelude.{◌≡◌};
 ghost use Rattle.cacache_core.specs.declared.errors.Error.TheVariants.{OutOfMemory};
-ghost use Rattle.cacache_store.specs.Fits.{Fits};
-ghost use Rattle.cacache_store.specs.Plain.{plain_step, plain_answer};
-ghost use Rattle.cacache_table.specs.Formed.{FormsCommand};
-ghost use Rattle.cacache_table.specs.Promises.{Answers};
-ghost use Rattle.cacache_table.specs.Runs.{Ran, plain_reply};
-ghost use Rattle.cacache_table.specs.State.{State};
-ghost use Rattle.cacache_table.specs.Table.{opening};
-ghost use Rattle.cacache_table.specs.declared.reply.Reply.TheVariants.{Refused};
-ghost use Rattle.cacache_jobs.specs.ReadFirst.{FindsBytes, ReadsFirst};
-ghost use Rattle.cacache_jobs.specs.Jobs.{Stands};
-ghost use Rattle.cacache_jobs.specs.Sites.{site_of};
-ghost use Rattle.cacache_jobs.specs.JobStates.{Leads, PhaseAt};
-ghost use Rattle.cacache_jobs.specs.LeadsOn.{LogsSeen};
+ghost use Rattle.cacache_store.specs.{Fits.{Fits}, Plain.{plain_step, plain_answer}};
+ghost use Rattle.cacache_table.specs.{Formed.{FormsCommand}, Promises.{Answers}, Runs.{Ran, plain_reply}, State.{State}, Table.{opening}, declared.reply.Reply.TheVariants.{Refused}};
+ghost use Rattle.cacache_jobs.specs.{ReadFirst.{FindsBytes, ReadsFirst}, Jobs.{Stands}, Sites.{site_of}, JobStates.{Leads, PhaseAt}, LeadsOn.{LogsSeen}};
 
 use crate::job::{Job, over_on_error};
 use crate::opening::open;

@@ -1,8 +1,6 @@
 //! How far a call is while one of its steps is outstanding, and how it goes on with the answer.
 ghost use Rattle.cacache_store.specs.Plain.{plain_answer};
-ghost use Rattle.cacache_table.specs.Common.{go_on, fails};
-ghost use Rattle.cacache_table.specs.State.{State};
-ghost use Rattle.cacache_table.specs.Table.{after};
+ghost use Rattle.cacache_table.specs.{Common.{go_on, fails}, State.{State}, Table.{after}};
 ghost use Rattle.cacache_jobs.specs.JobStates.{Leads, StageAt, ThenAt};
 
 use crate::hashing::Hashing;

@@ -1,17 +1,10 @@
 //! How a commit goes on: its bytes become a content, which is compared with what the caller expects. With a key, its entry
 //! follows.
 ghost use Rattle.std.specs.Prelude.{◌≡◌, ℕ, IfOk, IfErr, drop};
-ghost use Rattle.cacache_core.specs.Integrity.{integrity_under};
-ghost use Rattle.cacache_core.specs.declared.errors.Error.TheVariants.{OutOfMemory};
+ghost use Rattle.cacache_core.specs.{Integrity.{integrity_under}, declared.errors.Error.TheVariants.{OutOfMemory}};
 ghost use Rattle.cacache_store.specs.Plain.{plain_answer};
-ghost use Rattle.cacache_table.specs.Answers.{temp_in};
-ghost use Rattle.cacache_table.specs.Common.{go_on, fails};
-ghost use Rattle.cacache_table.specs.StepPaths.{content_path as content_path_of, temp_path as temp_path_of};
-ghost use Rattle.cacache_table.specs.State.{Site, creating, syncing, persisting, confirming};
-ghost use Rattle.cacache_table.specs.Storing.{persist as persist_of, write_rest as write_rest_of, placed as placed_of, secured as secured_of, secured_found as secured_found_of, move_in as move_in_of, indexed, after_write as after_write_of, after_confirm as after_confirm_of, put_commit, store as store_of};
-ghost use Rattle.cacache_table.specs.Seen.{seen_by, written_as};
-ghost use Rattle.cacache_jobs.specs.JobStates.{Leads, PhaseAt};
-ghost use Rattle.cacache_jobs.specs.LeadsOn.{LeadsSynced};
+ghost use Rattle.cacache_table.specs.{Answers.{temp_in}, Common.{go_on, fails}, StepPaths.{content_path as content_path_of, temp_path as temp_path_of}, State.{Site, creating, syncing, persisting, confirming}, Storing.{persist as persist_of, write_rest as write_rest_of, placed as placed_of, secured as secured_of, secured_found as secured_found_of, move_in as move_in_of, indexed, after_write as after_write_of, after_confirm as after_confirm_of, put_commit, store as store_of}, Seen.{seen_by, written_as}};
+ghost use Rattle.cacache_jobs.specs.{JobStates.{Leads, PhaseAt}, LeadsOn.{LeadsSynced}};
 
 use crate::brought::made_temp;
 use crate::comparing::{compare_integrity, compare_size};

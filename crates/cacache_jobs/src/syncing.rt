@@ -1,6 +1,5 @@
 //! How a durable call waits for the device: it syncs a file, and then the folders that lead to it, from the deepest up.
-ghost use Rattle.cacache_table.specs.Common.{sync_up as sync_up_of};
-ghost use Rattle.cacache_table.specs.State.{State, doing, sync_file as sync_file_errand, sync_dir as sync_dir_errand};
+ghost use Rattle.cacache_table.specs.{Common.{sync_up as sync_up_of}, State.{State, doing, sync_file as sync_file_errand, sync_dir as sync_dir_errand}};
 ghost use Rattle.cacache_jobs.specs.JobStates.{Leads, GoalAt};
 
 use crate::inserting::Insertion;

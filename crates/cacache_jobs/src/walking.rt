@@ -1,10 +1,8 @@
 //! Calls that walk through folders: a clearing removes everything, a listing reads each bucket.
 ghost use Rattle.std.specs.Prelude.{[]};
-ghost use Rattle.cacache_table.specs.State.{State};
-ghost use Rattle.cacache_table.specs.Walking.{walk as walk_from};
+ghost use Rattle.cacache_table.specs.{State.{State}, Walking.{walk as walk_from}};
 ghost use Rattle.cacache_walks.specs.WalkStates.{WalksAt};
-ghost use Rattle.cacache_jobs.specs.JobStates.{Leads};
-ghost use Rattle.cacache_jobs.specs.LeadsOn.{LeadsVisited};
+ghost use Rattle.cacache_jobs.specs.{JobStates.{Leads}, LeadsOn.{LeadsVisited}};
 
 use crate::phase::Phase;
 use crate::stage::Stage;

@@ -1,9 +1,7 @@
 //! Entries whose content isn't there.
 ghost use Rattle.std.specs.Prelude.{IfOk, IfErr};
-ghost use Rattle.cacache_jobs.specs.Environment.{KeepsRest};
-ghost use Rattle.cacache_jobs.specs.Sites.{site_of};
-ghost use Rattle.cacache_keep.specs.Calls.{StopsReading};
-ghost use Rattle.cacache_keep.specs.Told.{AsksAs};
+ghost use Rattle.cacache_jobs.specs.{Environment.{KeepsRest}, Sites.{site_of}};
+ghost use Rattle.cacache_keep.specs.{Calls.{StopsReading}, Told.{AsksAs}};
 
 use cacache_core::errors::Result;
 use cacache_entry::Metadata;

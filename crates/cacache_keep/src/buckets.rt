@@ -1,6 +1,5 @@
 //! Where the buckets of an index lie.
-ghost use Rattle.std.specs.Prelude.{◌≡◌, ◌++◌, IfOk, IfErr, OnOk, filter, map};
-ghost use Rattle.std.specs.List.{list_all};
+ghost use Rattle.std.specs.{Prelude.{◌≡◌, ◌++◌, IfOk, IfErr, OnOk, filter, map}, List.{list_all}};
 ghost use Rattle.cacache_core.specs.Paths.{join as join_of};
 ghost use Rattle.cacache_keep.specs.Buckets.{FindsBuckets, ListsParts, StopsFinding, StopsParts, belongs as belongs_of, is_hex_digit};
 

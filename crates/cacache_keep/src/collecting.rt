@@ -1,8 +1,7 @@
 //! The call that removes what no entry has.
 ghost use Rattle.std.specs.Prelude.{◌≡◌, IfOk, IfErr};
 ghost use Rattle.cacache_jobs.specs.Sites.{site_of};
-ghost use Rattle.cacache_keep.specs.declared.checking.OddLines.TheVariants.{Refuse};
-ghost use Rattle.cacache_keep.specs.Keeping.{CollectsWith, StopsCollecting};
+ghost use Rattle.cacache_keep.specs.{declared.checking.OddLines.TheVariants.{Refuse}, Keeping.{CollectsWith, StopsCollecting}};
 
 use crate::checking::{OddLines, check};
 use crate::choosing::{Chosen, choose};

@@ -1,7 +1,5 @@
 //! The call that writes the buckets of the index anew.
-ghost use Rattle.std.specs.Prelude.{◌≡◌, ◌+◌, ◌-◌, ◌^◌, false, IfOk, IfErr, length, min};
-ghost use Rattle.std.specs.List.{sum};
-ghost use Rattle.std.specs.Option.{option_to_list};
+ghost use Rattle.std.specs.{Prelude.{◌≡◌, ◌+◌, ◌-◌, ◌^◌, false, IfOk, IfErr, length, min}, List.{sum}, Option.{option_to_list}};
 ghost use Rattle.cacache_keep.specs.Compacting.{CompactsAll, CompactsCache, StopsCompacting, StopsCompactingEach};
 
 use crate::buckets::{FoundBuckets, buckets_of};

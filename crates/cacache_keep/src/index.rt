@@ -2,8 +2,7 @@
 ghost use Rattle.std.specs.Prelude.{◌≡◌, ◌⊎◌, ℕ, List, Ok, true, false, IfOk, IfErr, map};
 ghost use Rattle.cacache_core.specs.declared.errors.Error.TheVariants.{OutOfMemory};
 ghost use Rattle.cacache_jobs.specs.Sites.{site_of};
-ghost use Rattle.cacache_keep.specs.Calls.{IsFirstError, HasNoIndex, StopsReading};
-ghost use Rattle.cacache_keep.specs.Checking.{ReadsIndex};
+ghost use Rattle.cacache_keep.specs.{Calls.{IsFirstError, HasNoIndex, StopsReading}, Checking.{ReadsIndex}};
 
 use crate::walking::{Met, walk_index};
 use cacache_core::errors::{Error, Fault, Result};

@@ -1,9 +1,6 @@
 //! What `list`, `verify`, `collect`, `plan`, `sweep`, `repair` and `compact` come to on a store in memory.
 ghost use Rattle.cacache_disk.specs.memory.Replay.{IsLog};
-ghost use Rattle.cacache_keep.specs.Behind.{CollectionsKeepKeys, LaterKeysStay};
-ghost use Rattle.cacache_keep.specs.Houses.{RepairsHouse, SweepsHouse, SweepsKeepGood};
-ghost use Rattle.cacache_keep.specs.Kept.{CachesAreSwept, CollectionsLackIdle, CollectionsLeave, CollectionsSettle, CompactionsAreUnseen, CompactionsLeave, CompactionsStop, LaterReadsStay, ListsHold, LooksStay, PlansForetell, PlansLeave, RepairsKeepGood, RepairsMend, RepairsVerify, VerdictsJudge};
-ghost use Rattle.cacache_keep.specs.Losses.{CompactionsFix, CompactionsGrow, CompactionsLast, CompactionsOutlast, CompactionsSpare};
+ghost use Rattle.cacache_keep.specs.{Behind.{CollectionsKeepKeys, LaterKeysStay}, Houses.{RepairsHouse, SweepsHouse, SweepsKeepGood}, Kept.{CachesAreSwept, CollectionsLackIdle, CollectionsLeave, CollectionsSettle, CompactionsAreUnseen, CompactionsLeave, CompactionsStop, LaterReadsStay, ListsHold, LooksStay, PlansForetell, PlansLeave, RepairsKeepGood, RepairsMend, RepairsVerify, VerdictsJudge}, Losses.{CompactionsFix, CompactionsGrow, CompactionsLast, CompactionsOutlast, CompactionsSpare}};
 
 use cacache_disk::memory::MemStore;
 

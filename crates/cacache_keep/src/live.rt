@@ -1,9 +1,6 @@
 //! Which contents entries have.
-ghost use Rattle.std.specs.Prelude.{◌≡◌, ◌↔◌, Some, All, IfOk, IsOk, Contains, map};
-ghost use Rattle.std.specs.List.Sorted.{IsSorted};
-ghost use Rattle.cacache_core.specs.declared.integrity.digest.Hash.{Hash};
-ghost use Rattle.cacache_core.specs.Integrity.{IsIntegrity, address as address_of};
-ghost use Rattle.cacache_core.specs.Meeting.{lists};
+ghost use Rattle.std.specs.{Prelude.{◌≡◌, ◌↔◌, Some, All, IfOk, IsOk, Contains, map}, List.Sorted.{IsSorted}};
+ghost use Rattle.cacache_core.specs.{declared.integrity.digest.Hash.{Hash}, Integrity.{IsIntegrity, address as address_of}, Meeting.{lists}};
 ghost use Rattle.cacache_walks.specs.Listing.{hash_cmp};
 ghost use Rattle.cacache_keep.specs.Calls.{AreOthers, AreUnused};
 

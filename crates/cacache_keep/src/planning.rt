@@ -1,8 +1,7 @@
 //! The call that says what a collection would remove.
 ghost use Rattle.std.specs.Prelude.{◌≡◌, IfOk, IfErr, map};
 ghost use Rattle.cacache_jobs.specs.Sites.{site_of};
-ghost use Rattle.cacache_keep.specs.Planning.{HidesSize, StopsPlanning, StopsTelling, TellsSize, TellsSizes, sized_of};
-ghost use Rattle.cacache_keep.specs.Told.{PlansAs};
+ghost use Rattle.cacache_keep.specs.{Planning.{HidesSize, StopsPlanning, StopsTelling, TellsSize, TellsSizes, sized_of}, Told.{PlansAs}};
 
 use crate::choosing::{Chosen, choose};
 use crate::reading::says_gone;

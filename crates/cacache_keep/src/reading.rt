@@ -1,9 +1,6 @@
 //! Contents that are read, each in turn: good ones and damaged ones.
 ghost use Rattle.std.specs.Prelude.{◌≡◌, ℕ, List, [], ◌++◌, IfOk, IfErr};
-ghost use Rattle.cacache_core.specs.declared.errors.Error.TheVariants.{OutOfMemory};
-ghost use Rattle.cacache_core.specs.declared.integrity.digest.Hash.{Hash};
-ghost use Rattle.cacache_core.specs.Meeting.{meets};
-ghost use Rattle.cacache_core.specs.Pieces.{Compares};
+ghost use Rattle.cacache_core.specs.{declared.{errors.Error.TheVariants.{OutOfMemory}, integrity.digest.Hash.{Hash}}, Meeting.{meets}, Pieces.{Compares}};
 ghost use Rattle.cacache_keep.specs.Reading.{JudgesBytes, SaysGood, StopsContent, StopsEach, StopsGiving, WeighsEach, WeighsOthers, finds_none};
 
 use cacache_core::errors::{Error, Fault, Result};

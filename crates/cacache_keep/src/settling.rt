@@ -4,8 +4,7 @@ ghost use Rattle.cacache_core.specs.declared.errors.Error.TheVariants.{OutOfMemo
 ghost use Rattle.cacache_store.specs.declared.store.answer.Answer.TheVariants as answers;
 ghost use Rattle.cacache_store.specs.declared.store.step.Step.TheVariants as steps;
 ghost use Rattle.cacache_table.specs.SingleSteps.{Does, FailsAt};
-ghost use Rattle.cacache_keep.specs.Compacting.{Changes, CompactsAt, Settles, StopsBucket, StopsSettling, lean_view, same_bytes};
-ghost use Rattle.cacache_keep.specs.Rewriting.{Rewrites, StopsRewriting};
+ghost use Rattle.cacache_keep.specs.{Compacting.{Changes, CompactsAt, Settles, StopsBucket, StopsSettling, lean_view, same_bytes}, Rewriting.{Rewrites, StopsRewriting}};
 
 use crate::lines::compact_text;
 use crate::rewriting::{rewrite, sync_bucket};

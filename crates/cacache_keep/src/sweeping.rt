@@ -1,8 +1,7 @@
 //! The call that removes temporary files.
 ghost use Rattle.std.specs.Prelude.{◌≡◌, ◌∷◌, [], IfOk, IfErr, filter, map, string_bytes};
 ghost use Rattle.cacache_laws.specs.trees.Temporary.{area_of, cache_folder as cache_folder_of, is_temporary as is_temporary_of};
-ghost use Rattle.cacache_keep.specs.Sweeping.{FindsFiles, ListsFolder, RemovesFile, RemovesFiles, StopsFinding, StopsFolder, StopsRemoval, StopsSized, StopsSweeping, others_in, swept_folder};
-ghost use Rattle.cacache_keep.specs.Told.{SweepsAs};
+ghost use Rattle.cacache_keep.specs.{Sweeping.{FindsFiles, ListsFolder, RemovesFile, RemovesFiles, StopsFinding, StopsFolder, StopsRemoval, StopsSized, StopsSweeping, others_in, swept_folder}, Told.{SweepsAs}};
 
 use crate::reading::says_gone;
 use cacache_core::errors::Result;

@@ -1,8 +1,7 @@
 //! The call that verifies a cache.
 ghost use Rattle.std.specs.Prelude.{◌≡◌, IfOk, IfErr};
 ghost use Rattle.cacache_jobs.specs.Sites.{site_of};
-ghost use Rattle.cacache_keep.specs.Keeping.{StopsVerifying};
-ghost use Rattle.cacache_keep.specs.Told.{VerifiesAs};
+ghost use Rattle.cacache_keep.specs.{Keeping.{StopsVerifying}, Told.{VerifiesAs}};
 
 use crate::asking::dangling_of;
 use crate::index::{Index, read_index};

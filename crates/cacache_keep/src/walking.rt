@@ -1,12 +1,9 @@
 //! A walk through the index, which reads each bucket once and notes those with odd lines.
-ghost use Rattle.std.specs.Prelude.{◌≡◌, ◌++◌, IfOk, IfErr, OnOk, map};
-ghost use Rattle.std.specs.Option.{option_to_list};
+ghost use Rattle.std.specs.{Prelude.{◌≡◌, ◌++◌, IfOk, IfErr, OnOk, map}, Option.{option_to_list}};
 ghost use Rattle.cacache_core.specs.declared.errors.Error.TheVariants.{OutOfMemory};
 ghost use Rattle.cacache_store.specs.Plain.{plain_answer};
-ghost use Rattle.cacache_table.specs.Runs.{plain_item};
-ghost use Rattle.cacache_table.specs.Walking.{visit_step};
-ghost use Rattle.cacache_keep.specs.Checking.{odd_read};
-ghost use Rattle.cacache_keep.specs.Walking.{LosesIndex, MeetsIndex, VisitGoes, VisitStops};
+ghost use Rattle.cacache_table.specs.{Runs.{plain_item}, Walking.{visit_step}};
+ghost use Rattle.cacache_keep.specs.{Checking.{odd_read}, Walking.{LosesIndex, MeetsIndex, VisitGoes, VisitStops}};
 
 use crate::lines::has_odd;
 use cacache_core::errors::{Error, Result};

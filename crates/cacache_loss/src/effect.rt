@@ -1,10 +1,8 @@
 //! What a step does to how far files are fixed.
-ghost use Rattle.std.specs.Prelude.{◌≡◌, if◌then◌else◌, IfOk, OnOk, option_copied};
-ghost use Rattle.std.specs.BTreeMap.{get};
+ghost use Rattle.std.specs.{Prelude.{◌≡◌, if◌then◌else◌, IfOk, OnOk, option_copied}, BTreeMap.{get}};
 ghost use Rattle.cacache_store.specs.declared.store.step.Step.TheVariants.{Persist};
 ghost use Rattle.cacache_disk.specs.Tree.{Tree, Names, names_cmp, look, same_path};
-ghost use Rattle.cacache_loss.specs.Fixing.{renamed, moves_file};
-ghost use Rattle.cacache_loss.specs.Running.{files_in, FixesFiles, KeepsPlace, is_done, arrival, effect_of, arrived, fixing_by, renames};
+ghost use Rattle.cacache_loss.specs.{Fixing.{renamed, moves_file}, Running.{files_in, FixesFiles, KeepsPlace, is_done, arrival, effect_of, arrived, fixing_by, renames}};
 
 use crate::fixing::{Fixing, Place, same_node, same_thing};
 use crate::reached::named;

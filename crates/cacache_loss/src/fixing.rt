@@ -1,7 +1,6 @@
 //! How far files are fixed.
 ghost use Rattle.std.specs.Prelude.{◌≡◌, Some, length, option_copied};
-ghost use Rattle.cacache_disk.specs.declared.node.Node.TheVariants.{File};
-ghost use Rattle.cacache_disk.specs.Tree.{bytes_of};
+ghost use Rattle.cacache_disk.specs.{declared.node.Node.TheVariants.{File}, Tree.{bytes_of}};
 ghost use Rattle.cacache_loss.specs.Fixing.{unsynced, synced, opened_if, refixed, same_node, same_thing};
 
 use cacache_disk::{Contents, Node};

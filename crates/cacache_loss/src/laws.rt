@@ -1,15 +1,5 @@
 //! The laws of losses of power, each on a function that does nothing.
-ghost use Rattle.cacache_loss.specs.LossLaws.{ContentsSurvive, CommitsSurvive, FoundSurvive};
-ghost use Rattle.cacache_loss.specs.LossLaws.{SparedTempsAreLeft, BucketsSurvive};
-ghost use Rattle.cacache_loss.specs.LossLaws.{EntriesSurvive, LookupsSurvive};
-ghost use Rattle.cacache_loss.specs.LostTrees.{MomentsFollowTrees, OpeningsStandWell};
-ghost use Rattle.cacache_loss.specs.LostTrees.{MovesKeepMoments, LossesLeaveTrees, FixedTreesStay};
-ghost use Rattle.cacache_loss.specs.ChangedNames.{OpeningsChangedNone, MovesChangeFew};
-ghost use Rattle.cacache_loss.specs.ChangedNames.{LossesLeaveOneTree, HistoriesLeaveCaches};
-ghost use Rattle.cacache_loss.specs.CommitFolders.{OwnFoldersAreEnough};
-ghost use Rattle.cacache_loss.specs.CommitFolders.{FiveForContents, FourForBuckets};
-ghost use Rattle.cacache_loss.specs.LostValues.{ContentsAreHeld, EntriesAreHeld};
-ghost use Rattle.cacache_loss.specs.LossCases.{LossRows, UndonePutsGo, FailedSyncsFixNothing};
+ghost use Rattle.cacache_loss.specs.{LossLaws.{ContentsSurvive, CommitsSurvive, FoundSurvive, SparedTempsAreLeft, BucketsSurvive, EntriesSurvive, LookupsSurvive}, LostTrees.{MomentsFollowTrees, OpeningsStandWell, MovesKeepMoments, LossesLeaveTrees, FixedTreesStay}, ChangedNames.{OpeningsChangedNone, MovesChangeFew, LossesLeaveOneTree, HistoriesLeaveCaches}, CommitFolders.{OwnFoldersAreEnough, FiveForContents, FourForBuckets}, LostValues.{ContentsAreHeld, EntriesAreHeld}, LossCases.{LossRows, UndonePutsGo, FailedSyncsFixNothing}};
 
 /// What a durable commit put and wrote is there after each loss of power, while others make calm
 /// steps: its content, its line of the bucket, and what a lookup finds by it.

@@ -1,15 +1,9 @@
 //! What a loss of power leaves.
-ghost use Rattle.std.specs.Prelude.{◌≡◌, ◌&&◌, ◌++◌, [], not, None, IfOk, option_copied, unwrap_or, if◌then◌else◌};
-ghost use Rattle.std.specs.BTreeMap.{keys};
+ghost use Rattle.std.specs.{Prelude.{◌≡◌, ◌&&◌, ◌++◌, [], not, None, IfOk, option_copied, unwrap_or, if◌then◌else◌}, BTreeMap.{keys}};
 ghost use Rattle.std.specs.FinMap as map;
 ghost use Rattle.cacache_core.specs.PathNames.{home_of};
-ghost use Rattle.cacache_disk.specs.Rooted.{is_folder};
-ghost use Rattle.cacache_disk.specs.Tree.{look, Names};
-ghost use Rattle.cacache_loss.specs.Chosen.{chosen};
-ghost use Rattle.cacache_loss.specs.Loss.{Lost, bytes_left, lead_folders, node_left, stays};
-ghost use Rattle.cacache_loss.specs.Losing.{loss_of, left_of, lost_of};
-ghost use Rattle.cacache_loss.specs.Reached.{is_among};
-ghost use Rattle.cacache_loss.specs.Running.{moment_of};
+ghost use Rattle.cacache_disk.specs.{Rooted.{is_folder}, Tree.{look, Names}};
+ghost use Rattle.cacache_loss.specs.{Chosen.{chosen}, Loss.{Lost, bytes_left, lead_folders, node_left, stays}, Losing.{loss_of, left_of, lost_of}, Reached.{is_among}, Running.{moment_of}};
 
 use crate::effect::fixing_at;
 use crate::fixing::Fixing;

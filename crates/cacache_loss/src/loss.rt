@@ -1,13 +1,8 @@
 //! What a loss of power takes.
-ghost use Rattle.std.specs.Prelude.{◌≡◌, [], IfOk, unwrap_or};
-ghost use Rattle.std.specs.BTreeMap.{get};
-ghost use Rattle.std.specs.BTreeSet.{contains};
-ghost use Rattle.std.specs.List.{list_any};
+ghost use Rattle.std.specs.{Prelude.{◌≡◌, [], IfOk, unwrap_or}, BTreeMap.{get}, BTreeSet.{contains}, List.{list_any}};
 ghost use Rattle.cacache_core.specs.PathNames.{names_of};
 ghost use Rattle.cacache_disk.specs.Tree.{Names, names_cmp};
-ghost use Rattle.cacache_loss.specs.Fixing.{is_at};
-ghost use Rattle.cacache_loss.specs.Chosen.{tail_at, chosen};
-ghost use Rattle.cacache_loss.specs.Losing.{loss_of};
+ghost use Rattle.cacache_loss.specs.{Fixing.{is_at}, Chosen.{tail_at, chosen}, Losing.{loss_of}};
 
 use crate::reached::named;
 use cacache_core::bytes::Bytes;

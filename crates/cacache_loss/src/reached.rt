@@ -1,6 +1,5 @@
 //! Where a step may change something.
-ghost use Rattle.std.specs.Prelude.{◌≡◌, IfOk, []};
-ghost use Rattle.std.specs.Result.{result_ok};
+ghost use Rattle.std.specs.{Prelude.{◌≡◌, IfOk, []}, Result.{result_ok}};
 ghost use Rattle.cacache_core.specs.PathNames.{names_of};
 ghost use Rattle.cacache_disk.specs.LedTo.{writable};
 ghost use Rattle.cacache_loss.specs.Reached.{listed, fronts, reached};

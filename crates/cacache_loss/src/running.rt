@@ -1,12 +1,7 @@
 //! A disk on which steps are made, and what of it is fixed.
-ghost use Rattle.std.specs.Prelude.{◌≡◌, IfOk, OnOk, map, length, true, false};
-ghost use Rattle.std.specs.BTreeMap.{get};
-ghost use Rattle.cacache_disk.specs.Apply.{apply};
-ghost use Rattle.cacache_disk.specs.Tree.{Tree, names_cmp};
-ghost use Rattle.cacache_loss.specs.ChangedNames.{opening};
-ghost use Rattle.cacache_loss.specs.Fixing.{place_now, is_sync};
-ghost use Rattle.cacache_loss.specs.Moments.{next};
-ghost use Rattle.cacache_loss.specs.Running.{files_in, fixed_in, moment_of, move_of, FilesSettle, NamesSettle};
+ghost use Rattle.std.specs.{Prelude.{◌≡◌, IfOk, OnOk, map, length, true, false}, BTreeMap.{get}};
+ghost use Rattle.cacache_disk.specs.{Apply.{apply}, Tree.{Tree, names_cmp}};
+ghost use Rattle.cacache_loss.specs.{ChangedNames.{opening}, Fixing.{place_now, is_sync}, Moments.{next}, Running.{files_in, fixed_in, moment_of, move_of, FilesSettle, NamesSettle}};
 
 use crate::effect::{Effect, effect_of, fixing_at};
 use crate::fixing::{Fixing, Place};

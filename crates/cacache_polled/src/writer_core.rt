@@ -1,9 +1,7 @@
 //! The core of a polled writer.
 ghost use Rattle.std.specs.Prelude.{◌≡◌, ◌++◌, ◌∷◌, ◌↔◌, ℕ, List, [], IfOk, IfErr, IsOk, IfSome, IfNone, IsTrue};
-ghost use Rattle.cacache_core.specs.declared.errors.Error.TheVariants.{OutOfMemory};
-ghost use Rattle.cacache_core.specs.Hashers.{algorithm_of};
-ghost use Rattle.cacache_polled.specs.Table.{ask_write, write_again as again, fresh, polled, completed, ended_write, closed, ask_of, ask_flush, ask_close};
-ghost use Rattle.cacache_polled.specs.Events.{Event, asks, ends, Answered, Ended, HasHeld, HasSeen, CommitFinds, busy};
+ghost use Rattle.cacache_core.specs.{declared.errors.Error.TheVariants.{OutOfMemory}, Hashers.{algorithm_of}};
+ghost use Rattle.cacache_polled.specs.{Table.{ask_write, write_again as again, fresh, polled, completed, ended_write, closed, ask_of, ask_flush, ask_close}, Events.{Event, asks, ends, Answered, Ended, HasHeld, HasSeen, CommitFinds, busy}};
 
 use crate::kinds::{Completion, Desk, Finish, Finished, Polled, Request, State, Work};
 use cacache_core::bytes::Bytes;

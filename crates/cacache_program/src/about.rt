@@ -1,7 +1,6 @@
 //! What a program says about itself.
 ghost use Rattle.std.specs.Prelude.{◌≡◌, ◌⊎◌, IfNone, IfSome, IsSomeAnd};
-ghost use Rattle.cacache_program.specs.About.{AsksHelp, AsksVersion, help_text, usage_text, version_text};
-ghost use Rattle.cacache_program.specs.Output.{PutsOut};
+ghost use Rattle.cacache_program.specs.{About.{AsksHelp, AsksVersion, help_text, usage_text, version_text}, Output.{PutsOut}};
 
 use crate::errors::Errors;
 use crate::output::put_out;

@@ -1,8 +1,6 @@
 //! The word `copy`.
-ghost use Rattle.std.specs.Fmt.{decimal};
-ghost use Rattle.std.specs.Prelude.{◌≡◌, ◌≤◌, ◌++◌, ◌∷◌, []};
-ghost use Rattle.cacache_program.specs.Output.{PutsOut};
-ghost use Rattle.cacache_program.specs.WordCopy.{Copies};
+ghost use Rattle.std.specs.{Fmt.{decimal}, Prelude.{◌≡◌, ◌≤◌, ◌++◌, ◌∷◌, []}};
+ghost use Rattle.cacache_program.specs.{Output.{PutsOut}, WordCopy.{Copies}};
 
 use crate::errors::{Errors, tell_failed_call, tell_failed_read};
 use crate::output::put_out;

@@ -1,8 +1,7 @@
 //! The word `find`.
 ghost use Rattle.std.specs.Prelude.{◌≡◌, IfOk, option_map};
 ghost use Rattle.cacache.specs.Entries.{found_view};
-ghost use Rattle.cacache_program.specs.PrintedEntries.{entry_text};
-ghost use Rattle.cacache_program.specs.WordFind.{PrintsFound, found_line};
+ghost use Rattle.cacache_program.specs.{PrintedEntries.{entry_text}, WordFind.{PrintsFound, found_line}};
 
 use crate::entries::entry_text;
 use crate::errors::{Errors, tell_failed_call};

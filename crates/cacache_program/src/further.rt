@@ -1,12 +1,6 @@
 //! The words that the usage doesn't list.
 ghost use Rattle.std.specs.Prelude.{◌≡◌, ◌≢◌, ◌≤◌, codes};
-ghost use Rattle.cacache_program.specs.FurtherWords.{FiledDoes, IsNoFiled, IsWrongFurther};
-ghost use Rattle.cacache_program.specs.WordCopy.{Copies};
-ghost use Rattle.cacache_program.specs.WordExists.{AsksHash};
-ghost use Rattle.cacache_program.specs.WordReadHash.{ReadsHash};
-ghost use Rattle.cacache_program.specs.WordStore.{StoresFile};
-ghost use Rattle.cacache_program.specs.WordWriteHash.{WritesHash};
-ghost use Rattle.cacache_program.specs.Words.{KeyedDoes, asked_of};
+ghost use Rattle.cacache_program.specs.{FurtherWords.{FiledDoes, IsNoFiled, IsWrongFurther}, WordCopy.{Copies}, WordExists.{AsksHash}, WordReadHash.{ReadsHash}, WordStore.{StoresFile}, WordWriteHash.{WritesHash}, Words.{KeyedDoes, asked_of}};
 
 use crate::about::USAGE;
 use crate::copying::copy;

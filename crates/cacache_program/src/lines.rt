@@ -1,8 +1,7 @@
 //! The lines of a listing.
 ghost use Rattle.std.specs.Prelude.{◌≡◌, ◌++◌, ◌||◌, IfOk, OnOk, is_some, is_err, option_to_list, map, filter_map};
 ghost use Rattle.cacache.specs.Entries.{found_view};
-ghost use Rattle.cacache_program.specs.WordLs.{IsPrintedListing, has_error, line_in, output_line as output_line_of, listing_text};
-ghost use Rattle.cacache_program.specs.Lines.{line_view, lines_of};
+ghost use Rattle.cacache_program.specs.{WordLs.{IsPrintedListing, has_error, line_in, output_line as output_line_of, listing_text}, Lines.{line_view, lines_of}};
 
 use crate::entries::entry_text;
 use cacache::errors::Error;

@@ -1,6 +1,5 @@
 //! What goes to the output.
-ghost use Rattle.std.specs.Prelude.{◌≡◌, ◌≤◌, IfErr, IfOk, OnErr, OnOk, [], length, take};
-ghost use Rattle.std.specs.Io.KnownBytes.{Appends};
+ghost use Rattle.std.specs.{Prelude.{◌≡◌, ◌≤◌, IfErr, IfOk, OnErr, OnOk, [], length, take}, Io.KnownBytes.{Appends}};
 ghost use Rattle.cacache_program.specs.Output.{AppendsPart, PutsOut, PutsOutWith};
 
 use crate::errors::{Errors, tell_failure};

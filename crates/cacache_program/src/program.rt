@@ -1,14 +1,6 @@
 //! What the program does with its words.
 ghost use Rattle.std.specs.Prelude.{◌≡◌, ◌≢◌, ◌≤◌, codes};
-ghost use Rattle.cacache_program.specs.Words.{asked_of, Keyed, KeyedDoes, Unkeyed, UnkeyedDoes};
-ghost use Rattle.cacache_program.specs.FurtherWords.{AreWrong, DoesFurther};
-ghost use Rattle.cacache_program.specs.WordWrite.{WritesAsked};
-ghost use Rattle.cacache_program.specs.WordRead.{Reads};
-ghost use Rattle.cacache_program.specs.WordFind.{PrintsFound};
-ghost use Rattle.cacache_program.specs.WordRemove.{PrintsRemoval};
-ghost use Rattle.cacache_program.specs.WordClear.{Clears};
-ghost use Rattle.cacache_program.specs.WordLs.{PrintsListing};
-ghost use Rattle.cacache_program.specs.WordStorm.{StormsAlone};
+ghost use Rattle.cacache_program.specs.{Words.{asked_of, Keyed, KeyedDoes, Unkeyed, UnkeyedDoes}, FurtherWords.{AreWrong, DoesFurther}, WordWrite.{WritesAsked}, WordRead.{Reads}, WordFind.{PrintsFound}, WordRemove.{PrintsRemoval}, WordClear.{Clears}, WordLs.{PrintsListing}, WordStorm.{StormsAlone}};
 
 use crate::clearing::clear;
 use crate::errors::Errors;

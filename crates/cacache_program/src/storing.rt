@@ -1,11 +1,8 @@
 //! The word `store`.
 ghost use Rattle.std.specs.Prelude.{◌≡◌, ◌≤◌, ℕ, List, IfErr, IfOk, OnOk};
 ghost use Rattle.cacache_sync.specs.content.OpenWrites.{given_up};
-ghost use Rattle.cacache.specs.Calls.{KeepsRest};
-ghost use Rattle.cacache.specs.Readers.{FailsToOpen, OpensFile};
-ghost use Rattle.cacache.specs.Writers.{TriesToRemove};
-ghost use Rattle.cacache_program.specs.WordWrite.{AreAllOf};
-ghost use Rattle.cacache_program.specs.WordStore.{EndsFile, StoresFile, WentOn};
+ghost use Rattle.cacache.specs.{Calls.{KeepsRest}, Readers.{FailsToOpen, OpensFile}, Writers.{TriesToRemove}};
+ghost use Rattle.cacache_program.specs.{WordWrite.{AreAllOf}, WordStore.{EndsFile, StoresFile, WentOn}};
 
 use crate::errors::{Errors, tell_failed_call};
 use crate::writing::print;

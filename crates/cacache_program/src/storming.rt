@@ -1,7 +1,5 @@
 //! The word `storm`.
-ghost use Rattle.std.specs.Prelude.{◌≡◌, ◌≢◌, IfOk, IfSome, string_bytes, true};
-ghost use Rattle.std.specs.Str.{all_ascii_digits};
-ghost use Rattle.std.specs.Str.Parse.{digits_value};
+ghost use Rattle.std.specs.{Prelude.{◌≡◌, ◌≢◌, IfOk, IfSome, string_bytes, true}, Str.{all_ascii_digits, Parse.{digits_value}}};
 ghost use Rattle.cacache.specs.Shared.{Count};
 ghost use Rattle.cacache_program.specs.WordStorm.{Storms, TellsStorm, storm_text};
 

@@ -1,6 +1,5 @@
 //! The words of a command line.
-ghost use Rattle.std.specs.Prelude.{◌≡◌, ◌≢◌, option_map};
-ghost use Rattle.std.specs.IoError.{error_kind};
+ghost use Rattle.std.specs.{Prelude.{◌≡◌, ◌≢◌, option_map}, IoError.{error_kind}};
 ghost use Rattle.cacache_program.specs.Words.{asked_of, these_asked};
 
 use crate::errors::{Errors, tell_failure, tell_misuse};

@@ -1,8 +1,7 @@
 //! The word `write`.
 ghost use Rattle.std.specs.Prelude.{◌≡◌, ◌++◌, ◌∷◌, []};
 ghost use Rattle.cacache.specs.Integrities.{integrity_text};
-ghost use Rattle.cacache_program.specs.Output.{PutsOut};
-ghost use Rattle.cacache_program.specs.WordWrite.{Writes};
+ghost use Rattle.cacache_program.specs.{Output.{PutsOut}, WordWrite.{Writes}};
 
 use crate::errors::{Errors, tell_failed_call, tell_failure};
 use crate::output::put_out;

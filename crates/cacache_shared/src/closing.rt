@@ -1,8 +1,7 @@
 //! Whether seats agree with the records of a world, and what they count together.
 ghost use Rattle.std.specs.Prelude.{◌≡◌, ◌+◌, All, sum_by, map, vec_len, IsTrue, IfSome, IfNone};
 ghost use Rattle.cacache_threads.specs.Said.{said_command, said_reply};
-ghost use Rattle.cacache_shared.specs.Lines.{commands_of, replies_of};
-ghost use Rattle.cacache_shared.specs.Seats.{SeatAgrees};
+ghost use Rattle.cacache_shared.specs.{Lines.{commands_of, replies_of}, Seats.{SeatAgrees}};
 
 use crate::agreeing::{commands_agree, replies_agree};
 use crate::lines::{later_in, moves_in};

@@ -1,7 +1,6 @@
 //! One world for several threads. Each caller has a seat, which holds one part of the ledger.
 ghost use Rattle.std.specs.Prelude.{◌≡◌, ◌<◌, ◌≤◌, [], All, sum_by, length, vec_capacity, IfOk, IfErr, OnOk, OnErr};
-ghost use Rattle.cacache_shared.specs.Lines.{moves};
-ghost use Rattle.cacache_shared.specs.Seats.{SeatAgrees, SeatGoes, fresh_seats, with_command};
+ghost use Rattle.cacache_shared.specs.{Lines.{moves}, Seats.{SeatAgrees, SeatGoes, fresh_seats, with_command}};
 
 use crate::blank::Blank;
 use crate::closing::{all_agree, merge_seats};

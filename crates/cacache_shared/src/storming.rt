@@ -1,7 +1,6 @@
 //! Many threads at one world, a seat each.
 ghost use Rattle.std.specs.Prelude.{◌≡◌, ◌<◌, Err, IfOk};
-ghost use Rattle.cacache_shared.specs.Storms.{IsCounted, IsOutOfRange};
-ghost use Rattle.cacache_shared.specs.declared.outcome.StormFault.TheVariants.{Count};
+ghost use Rattle.cacache_shared.specs.{Storms.{IsCounted, IsOutOfRange}, declared.outcome.StormFault.TheVariants.{Count}};
 
 use crate::blank::Blank;
 use crate::counting::all_moves;

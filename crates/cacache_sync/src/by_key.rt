@@ -1,13 +1,8 @@
 //! Exports of the content that a key names.
 ghost use Rattle.std.specs.Prelude.{IfOk};
-ghost use Rattle.cacache_table.specs.declared.command.How.TheVariants.{Copy, Reflink, HardLink};
-ghost use Rattle.cacache_table.specs.declared.command.Source.TheVariants.{Key};
-ghost use Rattle.cacache_table.specs.declared.reply.Reply.TheVariants.{Copied, Done};
-ghost use Rattle.cacache_table.specs.Runs.{reply_of};
+ghost use Rattle.cacache_table.specs.{declared.{command.{How.TheVariants.{Copy, Reflink, HardLink}, Source.TheVariants.{Key}}, reply.Reply.TheVariants.{Copied, Done}}, Runs.{reply_of}, Replies.{done}};
 ghost use Rattle.cacache_sync.specs.Exports.{checked_export, unchecked_export};
-ghost use Rattle.cacache_jobs.specs.ReadFirst.{Verified};
-ghost use Rattle.cacache_table.specs.Replies.{done};
-ghost use Rattle.cacache_jobs.specs.Environment.{Calls};
+ghost use Rattle.cacache_jobs.specs.{ReadFirst.{Verified}, Environment.{Calls}};
 
 use crate::exporting::{Named, copy_content, link_content};
 use cacache_core::errors::Result;

@@ -1,13 +1,8 @@
 //! Exports: a content is copied, shares its storage, or has one more name. A checked one verifies the content first.
 ghost use Rattle.std.specs.Prelude.{◌≡◌, ◌≢◌, true, IfOk};
-ghost use Rattle.cacache_table.specs.declared.command.How.TheVariants.{Copy};
-ghost use Rattle.cacache_table.specs.declared.reply.Reply.TheVariants.{Copied, Done};
-ghost use Rattle.cacache_table.specs.Runs.{reply_of};
+ghost use Rattle.cacache_table.specs.{declared.{command.How.TheVariants.{Copy}, reply.Reply.TheVariants.{Copied, Done}}, Runs.{reply_of}, Replies.{done as says_done}};
 ghost use Rattle.cacache_sync.specs.Exports.{exporting, named_source, IsFormed, SaysCount, SaysNothing};
-ghost use Rattle.cacache_jobs.specs.ReadFirst.{ReadsFirst, Verified};
-ghost use Rattle.cacache_jobs.specs.Sites.{site_of};
-ghost use Rattle.cacache_table.specs.Replies.{done as says_done};
-ghost use Rattle.cacache_jobs.specs.Environment.{Calls};
+ghost use Rattle.cacache_jobs.specs.{ReadFirst.{ReadsFirst, Verified}, Sites.{site_of}, Environment.{Calls}};
 
 use cacache_core::errors::Result;
 use cacache_core::integrity::Integrity;

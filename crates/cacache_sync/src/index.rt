@@ -1,8 +1,7 @@
 //! Keys are found and deleted.
 ghost use Rattle.std.specs.Prelude.{None};
 ghost use Rattle.cacache_table.specs.declared.command.Command.TheVariants as commands;
-ghost use Rattle.cacache_table.specs.Replies.{done, looked_up};
-ghost use Rattle.cacache_table.specs.Runs.{reply_of};
+ghost use Rattle.cacache_table.specs.{Replies.{done, looked_up}, Runs.{reply_of}};
 ghost use Rattle.cacache_jobs.specs.Environment.{Calls, RunsTimed};
 ghost use Rattle.cacache_sync.specs.Lookups.{LooksUp, delete_of};
 

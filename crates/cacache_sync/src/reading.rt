@@ -1,14 +1,9 @@
 //! Contents that are read at once, and the question whether one is there.
 ghost use Rattle.std.specs.Prelude.{◌≡◌, IfOk, IfErr, IfSome};
-ghost use Rattle.cacache_core.specs.declared.errors.Error.TheVariants.{OutOfMemory};
-ghost use Rattle.cacache_core.specs.Integrity.{IsIntegrity, Meets};
+ghost use Rattle.cacache_core.specs.{declared.errors.Error.TheVariants.{OutOfMemory}, Integrity.{IsIntegrity, Meets}};
 ghost use Rattle.cacache_table.specs.declared.command.Command.TheVariants as commands;
-ghost use Rattle.cacache_table.specs.declared.reply.Reply.TheVariants.{Read, Exists};
-ghost use Rattle.cacache_table.specs.Promises.{Answers};
-ghost use Rattle.cacache_table.specs.Runs.{reply_of};
-ghost use Rattle.cacache_jobs.specs.Environment.{Calls};
-ghost use Rattle.cacache_jobs.specs.ReadFirst.{FindsBytes, ReadsFound};
-ghost use Rattle.cacache_jobs.specs.Sites.{site_of};
+ghost use Rattle.cacache_table.specs.{declared.reply.Reply.TheVariants.{Read, Exists}, Promises.{Answers}, Runs.{reply_of}};
+ghost use Rattle.cacache_jobs.specs.{Environment.{Calls}, ReadFirst.{FindsBytes, ReadsFound}, Sites.{site_of}};
 ghost use Rattle.cacache_sync.specs.Reads.{ReadsBytes, AsksContent, bytes_read, has};
 
 use cacache_core::errors::Result;

@@ -1,10 +1,8 @@
 //! The system, as a store of real folders sees it.
-ghost use Rattle.std.specs.Prelude.{◌≡◌, ℕ, List, Option, length};
-ghost use Rattle.std.specs.Io.{ReadsAtMost, WritesAtMost, StartsWith};
-ghost use Rattle.cacache_system.specs.declared.call.CallItem.{CallItem};
+ghost use Rattle.std.specs.{Prelude.{◌≡◌, ℕ, List, Option, length}, Io.{ReadsAtMost, WritesAtMost, StartsWith}};
+ghost use Rattle.cacache_system.specs.{declared.call.CallItem.{CallItem}, CallLog.{MakesCall, said, said_bytes, said_rest}};
 ghost use Rattle.cacache_system.specs.declared.call.SystemCall.TheVariants as asks;
 ghost use Rattle.cacache_system.specs.declared.call.CallResult.TheVariants as says;
-ghost use Rattle.cacache_system.specs.CallLog.{MakesCall, said, said_bytes, said_rest};
 
 use crate::call::FileInfo;
 use cacache_core::text::Text;

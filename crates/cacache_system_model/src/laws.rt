@@ -1,20 +1,5 @@
 //! Laws, on functions that do nothing.
-ghost use Rattle.cacache_system_model.specs.Chains.{RunsMirror};
-ghost use Rattle.cacache_system_model.specs.Fixing.{SyncDirFixes, SyncFileFixes, SyncTempFixes};
-ghost use Rattle.cacache_system_model.specs.Listing.{ReadDirBreaks, ReadDirGoesPlainly};
-ghost use Rattle.cacache_system_model.specs.Logged.{LogsAgree};
-ghost use Rattle.cacache_system_model.specs.Making.{MakeDirsAgrees};
-ghost use Rattle.cacache_system_model.specs.Moving.{PersistAgrees};
-ghost use Rattle.cacache_system_model.specs.Meeting.{CallsCanGoWell};
-ghost use Rattle.cacache_system_model.specs.Mirrors.{StepsMirror};
-ghost use Rattle.cacache_system_model.specs.OneCall.{CreateAgrees, ExistsAgrees, HardLinkAgrees, ReflinkBreaks, SymlinkAgrees};
-ghost use Rattle.cacache_system_model.specs.Opening.{OpenAgrees, SizeAgrees};
-ghost use Rattle.cacache_system_model.specs.Premises.{EachMayBreak};
-ghost use Rattle.cacache_system_model.specs.Reading.{PiecesReadPlainly, ReadAllAgrees, ReadBreaks};
-ghost use Rattle.cacache_system_model.specs.Refusals.{NoAppendThroughLink, NoCallWithoutOwner, NoCopyInPlace, NoFileForFolder, NoMoveWithoutMode, NoOtherMode, NoOtherSync, NoRemovalBeforePut, NoRemovalThroughLink, NoSecondWrite};
-ghost use Rattle.cacache_system_model.specs.Removing.{AppendAgrees, RemoveDirAgrees, RemoveFileAgrees};
-ghost use Rattle.cacache_system_model.specs.Syncing.{SyncDirAgrees, SyncFileAgrees, SyncTempAgrees};
-ghost use Rattle.cacache_system_model.specs.Writing.{CopyAgrees, WriteAgrees};
+ghost use Rattle.cacache_system_model.specs.{Chains.{RunsMirror}, Fixing.{SyncDirFixes, SyncFileFixes, SyncTempFixes}, Listing.{ReadDirBreaks, ReadDirGoesPlainly}, Logged.{LogsAgree}, Making.{MakeDirsAgrees}, Moving.{PersistAgrees}, Meeting.{CallsCanGoWell}, Mirrors.{StepsMirror}, OneCall.{CreateAgrees, ExistsAgrees, HardLinkAgrees, ReflinkBreaks, SymlinkAgrees}, Opening.{OpenAgrees, SizeAgrees}, Premises.{EachMayBreak}, Reading.{PiecesReadPlainly, ReadAllAgrees, ReadBreaks}, Refusals.{NoAppendThroughLink, NoCallWithoutOwner, NoCopyInPlace, NoFileForFolder, NoMoveWithoutMode, NoOtherMode, NoOtherSync, NoRemovalBeforePut, NoRemovalThroughLink, NoSecondWrite}, Removing.{AppendAgrees, RemoveDirAgrees, RemoveFileAgrees}, Syncing.{SyncDirAgrees, SyncFileAgrees, SyncTempAgrees}, Writing.{CopyAgrees, WriteAgrees}};
 
 /// A step that makes or moves something answers and leaves what the disk's table says of it.
 ///

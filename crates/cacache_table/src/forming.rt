@@ -2,9 +2,7 @@
 //! types are.
 ghost use Rattle.std.specs.Prelude.{◌<◌, ◌^◌, ℕ, length};
 ghost use Rattle.cacache_table.specs.declared.command.Command.TheVariants as commands;
-ghost use Rattle.cacache_table.specs.Formed.{FormsCommand, FormsCommit, FormsEntries};
-ghost use Rattle.cacache_table.specs.Inserting.{given_size};
-ghost use Rattle.cacache_table.specs.State.{Site};
+ghost use Rattle.cacache_table.specs.{Formed.{FormsCommand, FormsCommit, FormsEntries}, Inserting.{given_size}, State.{Site}};
 
 use crate::carried::Commit;
 use crate::command::{Command, Delete, Insert, Link, Options, Put};

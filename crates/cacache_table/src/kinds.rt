@@ -1,9 +1,7 @@
 //! Turns a reply of a known kind into a `Result`.
 ghost use Rattle.std.specs.Prelude.{◌≡◌};
 ghost use Rattle.cacache_table.specs.declared.reply.Reply.TheVariants as replies;
-ghost use Rattle.cacache_table.specs.Promises.{Only, OnlyStores, OnlyReads, OnlyLooksUp, OnlyCopies};
-ghost use Rattle.cacache_table.specs.Replies.{done, looked_up};
-ghost use Rattle.cacache_table.specs.Runs.{plain_reply, reply_of};
+ghost use Rattle.cacache_table.specs.{Promises.{Only, OnlyStores, OnlyReads, OnlyLooksUp, OnlyCopies}, Replies.{done, looked_up}, Runs.{plain_reply, reply_of}};
 
 use crate::reply::Reply;
 use cacache_core::bytes::Bytes;

@@ -1,14 +1,5 @@
 //! The laws of the table.
-ghost use Rattle.cacache_table.specs.Causes.{IoErrorsHaveCauses};
-ghost use Rattle.cacache_table.specs.Effects.{PutsCommit, LinksCommit, InsertsSend, DeletesSend, ErrandsOnlyChange};
-ghost use Rattle.cacache_table.specs.Licence.{CallsKeepTo};
-ghost use Rattle.cacache_table.specs.ListReplies.{ListsShown, EachKeyOnce};
-ghost use Rattle.cacache_table.specs.Promises.{CallsAnswer, StatesPromise};
-ghost use Rattle.cacache_table.specs.Replies.{FindsShown, GetsShown, ReadsShown, ExistsShown, GetsMeet};
-ghost use Rattle.cacache_table.specs.Rows.{Rows};
-ghost use Rattle.cacache_table.specs.Runs.{WantsUntilOver, EffortFalls, MemoryEnds};
-ghost use Rattle.cacache_table.specs.Sound.{BeginsSound, StepsAllowed, StaysSound};
-ghost use Rattle.cacache_table.specs.Verifying.{ExportsVerify, LinksReadWhole};
+ghost use Rattle.cacache_table.specs.{Causes.{IoErrorsHaveCauses}, Effects.{PutsCommit, LinksCommit, InsertsSend, DeletesSend, ErrandsOnlyChange}, Licence.{CallsKeepTo}, ListReplies.{ListsShown, EachKeyOnce}, Promises.{CallsAnswer, StatesPromise}, Replies.{FindsShown, GetsShown, ReadsShown, ExistsShown, GetsMeet}, Rows.{Rows}, Runs.{WantsUntilOver, EffortFalls, MemoryEnds}, Sound.{BeginsSound, StepsAllowed, StaysSound}, Verifying.{ExportsVerify, LinksReadWhole}};
 
 /// In each state a call needs a step until it is over, and every call ends. Each fitting answer lowers the bound on the
 /// remaining steps, and out of memory ends the call at once.

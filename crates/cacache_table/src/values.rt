@@ -1,8 +1,6 @@
 //! Facts that hold of every JSON value and of all bytes. A function here looks through a value, so that contracts can
 //! use these facts.
-ghost use Rattle.std.specs.Prelude.{◌<◌, ◌^◌, string_cmp, FitsSigned};
-ghost use Rattle.std.specs.Int.{w64};
-ghost use Rattle.std.specs.BTreeMap.{IsOrdered};
+ghost use Rattle.std.specs.{Prelude.{◌<◌, ◌^◌, string_cmp, FitsSigned}, Int.{w64}, BTreeMap.{IsOrdered}};
 ghost use Rattle.serde_json.specs.View.{view, number_view, items_view, members_view};
 ghost use Rattle.cacache_entry.specs.FittingEntries.{EachIsByte, IsJson};
 ghost use Rattle.cacache_table.specs.Known.{IsRanged, AllJson, NamedJson};

@@ -1,16 +1,9 @@
 //! Single cases, which show that the definitions say what they should.
 ghost use Rattle.std.specs.Prelude.{◌≡◌, ◌++◌, List, ℕ, Ok};
-ghost use Rattle.cacache_core.specs.declared.integrity.digest.Hash.{Hash};
-ghost use Rattle.cacache_core.specs.PathNames.{Names, names_of};
-ghost use Rattle.cacache_core.specs.Paths.{content_names, bucket_names_of};
-ghost use Rattle.cacache_disk.specs.declared.luck.Luck.{Luck};
-ghost use Rattle.cacache_disk.specs.Tree.{Tree};
-ghost use Rattle.cacache_entry.specs.Entry.{Entry};
-ghost use Rattle.cacache_entry.specs.FittingEntries.{IsEntry, IsWritable};
-ghost use Rattle.cacache_value.specs.Value.{Value};
-ghost use Rattle.cacache_value.specs.SingleCases.{KindCases, TreeCases, LinkCases, LinesAppend};
-ghost use Rattle.cacache_value.specs.SingleCases.{ContentCases, RemovedBucketsGo, OtherBucketsKeep};
-ghost use Rattle.cacache_value.specs.SingleCases.{FolderCases, row_folder};
+ghost use Rattle.cacache_core.specs.{declared.integrity.digest.Hash.{Hash}, PathNames.{Names, names_of}, Paths.{content_names, bucket_names_of}};
+ghost use Rattle.cacache_disk.specs.{declared.luck.Luck.{Luck}, Tree.{Tree}};
+ghost use Rattle.cacache_entry.specs.{Entry.{Entry}, FittingEntries.{IsEntry, IsWritable}};
+ghost use Rattle.cacache_value.specs.{Value.{Value}, SingleCases.{KindCases, TreeCases, LinkCases, LinesAppend, ContentCases, RemovedBucketsGo, OtherBucketsKeep, FolderCases, row_folder}};
 
 /// What single paths are for.
 pub fn kind_cases()

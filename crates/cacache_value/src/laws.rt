@@ -1,9 +1,6 @@
 //! The laws of the cache's value, each on a function that does nothing.
 ghost use Rattle.std.specs.Prelude.{List, ℕ};
-ghost use Rattle.cacache_value.specs.ValueLaws.{StepsKeepPlaced, StepsAct, StepsKeepRooted, TreesShow};
-ghost use Rattle.cacache_value.specs.ValueLaws.{WholeLinesAdd, TornLinesAddNone, NothingLeftIsNothing};
-ghost use Rattle.cacache_value.specs.ValueLaws.{TracesAct, TracesShow, BucketsGrow, FilesOpen};
-ghost use Rattle.cacache_value.specs.PathKinds.{PathsAreFor, FoldersAreWays};
+ghost use Rattle.cacache_value.specs.{ValueLaws.{StepsKeepPlaced, StepsAct, StepsKeepRooted, TreesShow, WholeLinesAdd, TornLinesAddNone, NothingLeftIsNothing, TracesAct, TracesShow, BucketsGrow, FilesOpen}, PathKinds.{PathsAreFor, FoldersAreWays}};
 
 /// A step that a call may make changes what the cache holds by its act, and leaves a tree on which
 /// the next one can be made. On each such tree reading steps show what the cache holds.

@@ -1,7 +1,6 @@
 //! The names in a folder that a walk enters, and the tasks that they add.
 ghost use Rattle.std.specs.Prelude.{◌≡◌, ◌++◌, OnOk};
-ghost use Rattle.cacache_table.specs.Common.{go_on};
-ghost use Rattle.cacache_table.specs.Walking.{walk_on as walk_on_of, miss as miss_of, entered as entered_of, task_for_name, tasks_of, leaving};
+ghost use Rattle.cacache_table.specs.{Common.{go_on}, Walking.{walk_on as walk_on_of, miss as miss_of, entered as entered_of, task_for_name, tasks_of, leaving}};
 ghost use Rattle.cacache_walks.specs.WalkStates.{GoesOn, pending};
 
 use crate::messages;

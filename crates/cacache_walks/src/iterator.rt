@@ -1,13 +1,9 @@
 //! A listing that walks on demand.
-ghost use Rattle.std.specs.Prelude.{◌≡◌, ◌<◌, ◌≤◌, ℕ, List, [], Option, Some, None, IfOk, OnOk, IfErr};
-ghost use Rattle.std.specs.Borrow.{sem};
-ghost use Rattle.std.specs.Iterator.{at_most};
+ghost use Rattle.std.specs.{Prelude.{◌≡◌, ◌<◌, ◌≤◌, ℕ, List, [], Option, Some, None, IfOk, OnOk, IfErr}, Borrow.{sem}, Iterator.{at_most}};
 ghost use Rattle.cacache_core.specs.declared.errors.Error.TheVariants.{OutOfMemory};
 ghost use Rattle.cacache_store.specs.declared.store.log.LogItem.{LogItem};
-ghost use Rattle.cacache_table.specs.Runs.{plain_item};
-ghost use Rattle.cacache_table.specs.State.{Item};
-ghost use Rattle.cacache_walks.specs.Lending.{EnvRests};
-ghost use Rattle.cacache_walks.specs.Iterating.{Filled, Gave, IsListing, KeepsEnv, NextGives, Shortens, VisitGives, item_view, left};
+ghost use Rattle.cacache_table.specs.{Runs.{plain_item}, State.{Item}};
+ghost use Rattle.cacache_walks.specs.{Lending.{EnvRests}, Iterating.{Filled, Gave, IsListing, KeepsEnv, NextGives, Shortens, VisitGives, item_view, left}};
 
 use crate::walk::Walk;
 use cacache_core::errors::{self, Error};

@@ -1,9 +1,7 @@
 //! The call that lists the index.
-ghost use Rattle.std.specs.Prelude.{◌≡◌, [], IfOk, IfErr};
-ghost use Rattle.std.specs.Borrow.{sem};
+ghost use Rattle.std.specs.{Prelude.{◌≡◌, [], IfOk, IfErr}, Borrow.{sem}};
 ghost use Rattle.cacache_core.specs.declared.errors.Error.TheVariants.{OutOfMemory};
-ghost use Rattle.cacache_walks.specs.Lending.{EnvRests};
-ghost use Rattle.cacache_walks.specs.Iterating.{Gave, IsListing};
+ghost use Rattle.cacache_walks.specs.{Lending.{EnvRests}, Iterating.{Gave, IsListing}};
 
 use crate::iterator::Ls;
 use cacache_core::errors::Result;

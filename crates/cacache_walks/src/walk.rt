@@ -1,10 +1,7 @@
 //! A walk, which makes one visit after another.
 ghost use Rattle.std.specs.Prelude.{◌≡◌, ◌+◌, List, [], OnOk, IfOk, IfErr, length, map, Some};
 ghost use Rattle.cacache_store.specs.Plain.{plain_answer};
-ghost use Rattle.cacache_table.specs.Common.{go_on, refuse};
-ghost use Rattle.cacache_table.specs.Runs.{plain_item, plain_reply, EndsAs};
-ghost use Rattle.cacache_table.specs.State.{Item, over};
-ghost use Rattle.cacache_table.specs.Walking.{walk as walk_from, give as give_of, walk_on as walk_on_of, walk_ends, too_many as too_many_of, miss as miss_of, unread_bucket, listed as listed_of, after_visit};
+ghost use Rattle.cacache_table.specs.{Common.{go_on, refuse}, Runs.{plain_item, plain_reply, EndsAs}, State.{Item, over}, Walking.{walk as walk_from, give as give_of, walk_on as walk_on_of, walk_ends, too_many as too_many_of, miss as miss_of, unread_bucket, listed as listed_of, after_visit}};
 ghost use Rattle.cacache_walks.specs.WalkStates.{WalksAt, GoesOn, GivesOn, walk_of};
 
 use crate::{bucket, messages};

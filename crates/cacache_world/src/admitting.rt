@@ -3,10 +3,8 @@ ghost use Rattle.std.specs.Prelude.{◌≡◌, IfOk, IfErr, OnOk, ℕ, List, cod
 ghost use Rattle.cacache_table.specs.Linking.{based as based_of};
 ghost use Rattle.cacache_core.specs.Integrity.{IsIntegrity};
 ghost use Rattle.cacache_table.specs.declared.command.Command.TheVariants as commands;
-ghost use Rattle.cacache_history.specs.History.{NamesSource};
-ghost use Rattle.cacache_history.specs.Setup.{Setup, is_outside as is_outside_of};
-ghost use Rattle.cacache_world.specs.WorldKept.{setup_of};
-ghost use Rattle.cacache_world.specs.Admitted.{MayAsk, Judges, JudgesIn, IsTurnedAway};
+ghost use Rattle.cacache_history.specs.{History.{NamesSource}, Setup.{Setup, is_outside as is_outside_of}};
+ghost use Rattle.cacache_world.specs.{WorldKept.{setup_of}, Admitted.{MayAsk, Judges, JudgesIn, IsTurnedAway}};
 
 use crate::event::WorldFault;
 use crate::names::{is_outside, may_take};

@@ -1,7 +1,6 @@
 //! The callers' calls, and the list of what happened.
 ghost use Rattle.std.specs.Prelude.{◌≡◌, ◌<◌, ◌++◌, ◌∷◌, [], IfOk, replicate, vec_len, vec_capacity, slice_get, slice_set, option_copied, Some, None, OnOk, IfErr};
-ghost use Rattle.cacache_world.specs.WorldKept.{HasJob, IsLifted};
-ghost use Rattle.cacache_world.specs.Faults.{IsIdleFault, IsBusyFault};
+ghost use Rattle.cacache_world.specs.{WorldKept.{HasJob, IsLifted}, Faults.{IsIdleFault, IsBusyFault}};
 
 use crate::event::WorldFault;
 use crate::turn::Call;

@@ -1,9 +1,7 @@
 //! What a loss of power leaves of a world's disk.
 ghost use Rattle.std.specs.Prelude.{◌≡◌, ◌∷◌, [], IfOk};
 ghost use Rattle.cacache_history.specs.Values.{steps_of};
-ghost use Rattle.cacache_loss.specs.ChangedNames.{opening};
-ghost use Rattle.cacache_loss.specs.Moments.{after};
-ghost use Rattle.cacache_loss.specs.Running.{moment_of};
+ghost use Rattle.cacache_loss.specs.{ChangedNames.{opening}, Moments.{after}, Running.{moment_of}};
 ghost use Rattle.cacache_world.specs.Losses.{LeftAfter};
 
 use crate::outside::plant_all;

@@ -1,12 +1,9 @@
 //! The outside files, which links may lead to.
 ghost use Rattle.std.specs.Prelude.{◌≡◌, Ok, IfOk, IfErr, OnOk};
 ghost use Rattle.cacache_core.specs.PathNames.{home_of};
-ghost use Rattle.cacache_disk.specs.Apply.{planted as planted_tree};
-ghost use Rattle.cacache_disk.specs.Tree.{bare};
-ghost use Rattle.cacache_value.specs.Kinds.{Elsewhere, IsFor};
-ghost use Rattle.cacache_value.specs.OpeningTrees.{with_files, LieApart};
-ghost use Rattle.cacache_world.specs.Faults.{CantPlace, CantOpen};
-ghost use Rattle.cacache_world.specs.WorldKept.{LiesApart, FilesAreApart};
+ghost use Rattle.cacache_disk.specs.{Apply.{planted as planted_tree}, Tree.{bare}};
+ghost use Rattle.cacache_value.specs.{Kinds.{Elsewhere, IsFor}, OpeningTrees.{with_files, LieApart}};
+ghost use Rattle.cacache_world.specs.{Faults.{CantPlace, CantOpen}, WorldKept.{LiesApart, FilesAreApart}};
 
 use crate::event::WorldFault;
 use crate::names::may_take;

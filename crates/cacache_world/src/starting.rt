@@ -1,12 +1,8 @@
 //! How a call begins.
 ghost use Rattle.std.specs.Prelude.{◌≡◌, ◌<◌, ◌+◌, ◌^◌, ℕ, IfOk, IfErr, OnOk, IsTrue, Some, None, codes, slice_get, vec_len, vec_capacity};
 ghost use Rattle.cacache_table.specs.Table.{opening};
-ghost use Rattle.cacache_jobs.specs.Jobs.{can_go_on};
-ghost use Rattle.cacache_jobs.specs.Sites.{site_of};
-ghost use Rattle.cacache_world.specs.Turned.{JobStands};
-ghost use Rattle.cacache_world.specs.WorldKept.{setup_of};
-ghost use Rattle.cacache_world.specs.Admitted.{MayAsk};
-ghost use Rattle.cacache_world.specs.Faults.{IsUnready};
+ghost use Rattle.cacache_jobs.specs.{Jobs.{can_go_on}, Sites.{site_of}};
+ghost use Rattle.cacache_world.specs.{Turned.{JobStands}, WorldKept.{setup_of}, Admitted.{MayAsk}, Faults.{IsUnready}};
 
 use crate::admitting::admit;
 use crate::callers::{check_has_none, make_room};

@@ -1,7 +1,6 @@
 //! What the caller says about a content that is written by polls.
 ghost use Rattle.std.specs.Prelude.{◌≡◌, IfOk};
-ghost use Rattle.cacache_writers.specs.Committing.{commit_about};
-ghost use Rattle.cacache_writers.specs.Opening.{IsAbout};
+ghost use Rattle.cacache_writers.specs.{Committing.{commit_about}, Opening.{IsAbout}};
 
 use cacache_core::integrity::Integrity;
 use cacache_core::keeping::beside;

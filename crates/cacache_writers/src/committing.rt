@@ -1,10 +1,7 @@
 //! The commit of a polled writer as a future.
-ghost use Rattle.std.specs.Prelude.{◌≡◌, ⊤, List, Result, Some, None, IfNone, IfSome};
-ghost use Rattle.std.specs.Arc.{arc_value};
-ghost use Rattle.futures.specs.Poll.{IfReady, OnPending};
-ghost use Rattle.futures.specs.Task.{Covers, Keeps};
-ghost use Rattle.cacache_core.specs.declared.errors.Error.{Error};
-ghost use Rattle.cacache_core.specs.declared.integrity.digest.Hash.{Hash};
+ghost use Rattle.std.specs.{Prelude.{◌≡◌, ⊤, List, Result, Some, None, IfNone, IfSome}, Arc.{arc_value}};
+ghost use Rattle.futures.specs.{Poll.{IfReady, OnPending}, Task.{Covers, Keeps}};
+ghost use Rattle.cacache_core.specs.declared.{errors.Error.{Error}, integrity.digest.Hash.{Hash}};
 ghost use Rattle.cacache_async.specs.Waiting.{SaysOver};
 ghost use Rattle.cacache_writers.specs.Committing.{GivesLocked};
 

@@ -1,9 +1,7 @@
 //! A temporary file that is written by polls.
-ghost use Rattle.std.specs.Prelude.{◌≡◌, IfOk, IfErr};
-ghost use Rattle.std.specs.Arc.{arc_value};
+ghost use Rattle.std.specs.{Prelude.{◌≡◌, IfOk, IfErr}, Arc.{arc_value}};
 ghost use Rattle.cacache_core.specs.declared.errors.Error.TheVariants.{OutOfMemory};
-ghost use Rattle.futures.specs.Poll.{OnPending};
-ghost use Rattle.futures.specs.Task.{IsArmed, Keeps};
+ghost use Rattle.futures.specs.{Poll.{OnPending}, Task.{IsArmed, Keeps}};
 ghost use Rattle.cacache_writers.specs.Turning.{IsWorkerOf};
 
 use crate::kept::Kept;

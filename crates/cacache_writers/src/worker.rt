@@ -1,7 +1,6 @@
 //! The worker of a polled file.
 ghost use Rattle.std.specs.Prelude.{◌≡◌};
-ghost use Rattle.cacache_writers.specs.declared.worker.Turned.TheVariants.{Over};
-ghost use Rattle.cacache_writers.specs.Turning.{CountsAsks, TurnsTo};
+ghost use Rattle.cacache_writers.specs.{declared.worker.Turned.TheVariants.{Over}, Turning.{CountsAsks, TurnsTo}};
 
 use crate::kept::Told;
 use crate::removal::RemovableTemp;

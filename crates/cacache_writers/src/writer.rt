@@ -1,8 +1,6 @@
 //! Contents that are written by polls.
-ghost use Rattle.std.specs.Prelude.{◌≡◌, None, Some, IfOk, IfErr};
-ghost use Rattle.std.specs.Arc.{arc_value};
-ghost use Rattle.futures.specs.Poll.{OnPending};
-ghost use Rattle.futures.specs.Task.{IsArmed, Keeps};
+ghost use Rattle.std.specs.{Prelude.{◌≡◌, None, Some, IfOk, IfErr}, Arc.{arc_value}};
+ghost use Rattle.futures.specs.{Poll.{OnPending}, Task.{IsArmed, Keeps}};
 ghost use Rattle.cacache_core.specs.declared.errors.Error.TheVariants.{OutOfMemory};
 ghost use Rattle.cacache_sync.specs.put.Options.{nothing_said, saying};
 ghost use Rattle.cacache_async.specs.Waiting.{Waits};

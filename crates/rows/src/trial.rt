@@ -1,6 +1,5 @@
 //! How a library of rows tries a row.
-ghost use Rattle.std.specs.Prelude.{◌≡◌, ◌↔◌, IsTrue};
-ghost use Rattle.std.specs.String.{string_bytes};
+ghost use Rattle.std.specs.{Prelude.{◌≡◌, ◌↔◌, IsTrue}, String.{string_bytes}};
 
 use crate::flaw::Flaw;
 

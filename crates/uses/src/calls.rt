@@ -1,8 +1,7 @@
 //! Single calls on a cache in memory, each with what it does there.
 ghost use Rattle.std.specs.Prelude.{ℕ, List, IfOk, IfErr, OnOk};
 ghost use Rattle.cacache_laws.specs.Caches.{IsCache, IsEmptyCache, HasKey, HasContent, LacksKey, Grows, IsExcused};
-ghost use Rattle.uses.specs.Given.{GivesContent, GivesKey, MissesKey};
-ghost use Rattle.uses.specs.Missing.{FindsNothing};
+ghost use Rattle.uses.specs.{Given.{GivesContent, GivesKey, MissesKey}, Missing.{FindsNothing}};
 
 use cacache::env::{Clock, Env, Names};
 use cacache::store::MemStore;

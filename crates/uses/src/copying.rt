@@ -1,8 +1,6 @@
 //! Copies of contents out of a cache in memory.
 ghost use Rattle.std.specs.Prelude.{◌≡◌, ℕ, List, length, IfOk};
-ghost use Rattle.cacache_laws.specs.Caches.{IsCache, HasContent};
-ghost use Rattle.cacache_laws.specs.ExportEffects.{IsApart};
-ghost use Rattle.cacache_laws.specs.Keeping.{StaysKnown};
+ghost use Rattle.cacache_laws.specs.{Caches.{IsCache, HasContent}, ExportEffects.{IsApart}, Keeping.{StaysKnown}};
 
 use cacache::env::{Clock, Env, Names};
 use cacache::store::MemStore;

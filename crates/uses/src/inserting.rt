@@ -1,8 +1,6 @@
 //! Entries that are inserted in a cache in memory.
 ghost use Rattle.std.specs.Prelude.{◌≡◌, Some, IfOk, IfErr, OnOk};
-ghost use Rattle.cacache_laws.specs.Caches.{IsCache, Grows, IsExcused};
-ghost use Rattle.cacache_laws.specs.Keeping.{KeepsOthers};
-ghost use Rattle.cacache_laws.specs.Inserts.{leads_to};
+ghost use Rattle.cacache_laws.specs.{Caches.{IsCache, Grows, IsExcused}, Keeping.{KeepsOthers}, Inserts.{leads_to}};
 ghost use Rattle.uses.specs.Asked.{IsEntryOf};
 
 use crate::questions::metadata;

@@ -1,14 +1,9 @@
 //! Listings of a cache in memory.
 ghost use Rattle.std.specs.Prelude.{◌≡◌, ◌⊎◌, ℕ, List, [], All, Some, Ok, Err, map, IfOk, IfErr};
-ghost use Rattle.cacache_core.specs.declared.errors.Error.TheVariants.{IoError, OutOfMemory};
-ghost use Rattle.cacache_core.specs.declared.errors.Fault.TheVariants.{TooDeep};
-ghost use Rattle.cacache_core.specs.Integrity.{Meets};
+ghost use Rattle.cacache_core.specs.{declared.errors.{Error.TheVariants.{IoError, OutOfMemory}, Fault.TheVariants.{TooDeep}}, Integrity.{Meets}};
 ghost use Rattle.cacache_entry.specs.Latest.{Found as Entry};
-ghost use Rattle.cacache_table.specs.ListReplies.{In};
-ghost use Rattle.cacache_table.specs.Runs.{plain_item, without_message};
-ghost use Rattle.cacache_laws.specs.Caches.{IsCache, Grows, IsExcused};
-ghost use Rattle.cacache_laws.specs.Keeping.{found_under, StaysKnown};
-ghost use Rattle.cacache_laws.specs.ListedKeys.{ListsKeys};
+ghost use Rattle.cacache_table.specs.{ListReplies.{In}, Runs.{plain_item, without_message}};
+ghost use Rattle.cacache_laws.specs.{Caches.{IsCache, Grows, IsExcused}, Keeping.{found_under, StaysKnown}, ListedKeys.{ListsKeys}};
 
 use crate::calls::write;
 use cacache::Result;

@@ -1,10 +1,7 @@
 //! Single questions about a cache in memory, each with what its answer says. What is known of the cache stays.
 ghost use Rattle.std.specs.Prelude.{◌≡◌, ℕ, List, None, Some, false, IfOk, IfErr};
-ghost use Rattle.cacache_core.specs.declared.errors.Error.TheVariants.{OutOfMemory};
-ghost use Rattle.cacache_core.specs.declared.integrity.digest.Hash.{Hash};
-ghost use Rattle.cacache_laws.specs.Caches.{IsCache, HasKey, HasContent, LacksKey, Grows, AStepFailed, IsExcused, lies_under};
-ghost use Rattle.cacache_laws.specs.Inserts.{leads_to};
-ghost use Rattle.cacache_laws.specs.Keeping.{StaysKnown};
+ghost use Rattle.cacache_core.specs.declared.{errors.Error.TheVariants.{OutOfMemory}, integrity.digest.Hash.{Hash}};
+ghost use Rattle.cacache_laws.specs.{Caches.{IsCache, HasKey, HasContent, LacksKey, Grows, AStepFailed, IsExcused, lies_under}, Inserts.{leads_to}, Keeping.{StaysKnown}};
 ghost use Rattle.uses.specs.Asked.{IsEntryOf};
 
 use cacache::env::{Clock, Env, Names};

@@ -1,9 +1,7 @@
 //! Packages that are stored by a writer.
 ghost use Rattle.std.specs.Prelude.{◌≡◌, Some, IfOk, OnOk, length};
-ghost use Rattle.cacache.specs.Integrities.{Sha256, integrity_under};
-ghost use Rattle.cacache.specs.Laws.{IsCache, KeepsUntouched, LeadsToEntry, view};
-ghost use Rattle.uses_client.specs.Given.{LiesIfFree};
-ghost use Rattle.uses_client.specs.Packages.{package_said};
+ghost use Rattle.cacache.specs.{Integrities.{Sha256, integrity_under}, Laws.{IsCache, KeepsUntouched, LeadsToEntry, view}};
+ghost use Rattle.uses_client.specs.{Given.{LiesIfFree}, Packages.{package_said}};
 
 use cacache::env::{Clock, Env, Names};
 use cacache::laws::{joining_laws, writer_laws};

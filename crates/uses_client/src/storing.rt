@@ -1,7 +1,6 @@
 //! Packages that are stored and removed.
 ghost use Rattle.std.specs.Prelude.{◌≡◌, List, Some, IfOk, IfErr, OnOk};
-ghost use Rattle.cacache.specs.Integrities.{Hash, Sha256, integrity_under};
-ghost use Rattle.cacache.specs.Laws.{IsCache, HasKey, LacksKey, IsExcused, DontClash, KeepsUntouched, KeepsOthers};
+ghost use Rattle.cacache.specs.{Integrities.{Hash, Sha256, integrity_under}, Laws.{IsCache, HasKey, LacksKey, IsExcused, DontClash, KeepsUntouched, KeepsOthers}};
 ghost use Rattle.uses_client.specs.Given.{KeepsOlder};
 
 use cacache::env::{Clock, Env, Names};

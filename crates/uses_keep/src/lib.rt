@@ -7,9 +7,7 @@ ghost use Rattle.std.specs.Prelude.{◌≡◌, [], Some, IfOk, map};
 ghost use Rattle.cacache_core.specs.PathNames.{Names as PathNames, home_of};
 ghost use Rattle.cacache_disk.specs.memory.Replay.{tree_of};
 ghost use Rattle.cacache_jobs.specs.Sites.{site_of};
-ghost use Rattle.cacache_laws.specs.trees.Collecting.{LinksLeadOut};
-ghost use Rattle.cacache_laws.specs.trees.Housed.{Housed};
-ghost use Rattle.cacache_laws.specs.trees.Temporary.{LeavesUntemporary};
+ghost use Rattle.cacache_laws.specs.trees.{Collecting.{LinksLeadOut}, Housed.{Housed}, Temporary.{LeavesUntemporary}};
 ghost use Rattle.uses_keep.specs.Told.{IsMended, JudgesAs, LeavesAs, MendsPlaced, ReadsBeside, ReadsHoused, ReadsSpared, ReadsStill, ReadsAsRemoved, ReadsTended};
 
 use cacache_core::errors::Result;

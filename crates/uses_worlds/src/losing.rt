@@ -1,8 +1,6 @@
 //! What is read after a loss of power, in a user's words.
 ghost use Rattle.std.specs.Prelude.{◌≡◌, IfOk, IfErr};
-ghost use Rattle.cacache.specs.Histories.{IsStanding, LeftBy, LeftRead, LeftWritten};
-ghost use Rattle.cacache.specs.Integrities.{Sha256};
-ghost use Rattle.cacache.specs.Laws.{OutOfMemory, tree_of};
+ghost use Rattle.cacache.specs.{Histories.{IsStanding, LeftBy, LeftRead, LeftWritten}, Integrities.{Sha256}, Laws.{OutOfMemory, tree_of}};
 ghost use Rattle.uses_worlds.specs.Losses.{GivesWritten, GoesOn, LinkSurvives, LinkedSurvives, SomeSurvive, Survives, SurvivesAlone};
 
 use cacache::env::{Clock, Env, Names};

@@ -1,6 +1,5 @@
 //! Stores that may know why a step failed.
-ghost use Rattle.std.specs.Prelude.{◌≡◌, Option, None};
-ghost use Rattle.std.specs.declared.io.ErrorKind.{ErrorKind};
+ghost use Rattle.std.specs.{Prelude.{◌≡◌, Option, None}, declared.io.ErrorKind.{ErrorKind}};
 
 use cacache_disk::memory::MemStore;
 use cacache_folder::FolderStore;

@@ -1,11 +1,7 @@
 //! The algorithms that compute digests.
-ghost use Rattle.std.specs.Prelude.{◌≡◌, ◌≢◌, ◌↔◌, Some, IfOk, IfErr};
+ghost use Rattle.std.specs.{Prelude.{◌≡◌, ◌≢◌, ◌↔◌, Some, IfOk, IfErr}, Cmp.{IsTotalOrder, partial_order_from_own_ties, Rules.{comparing}}, Ordering.{nat_cmp, on, as_partial_cmp}};
 ghost use Rattle.std.proofs.Common.{rules};
-ghost use Rattle.std.specs.Cmp.{IsTotalOrder, partial_order_from_own_ties};
-ghost use Rattle.std.specs.Cmp.Rules.{comparing};
-ghost use Rattle.std.specs.Ordering.{nat_cmp, on, as_partial_cmp};
-ghost use Rattle.cacache_core.specs.Integrity.{rank};
-ghost use Rattle.cacache_core.specs.Texts.{name_of};
+ghost use Rattle.cacache_core.specs.{Integrity.{rank}, Texts.{name_of}};
 
 use crate::errors::{Error, IntegrityFault, Result};
 use std::cmp::Ordering;

@@ -1,14 +1,8 @@
 //! Digests, and hashes that name their algorithm.
-ghost use Rattle.std.specs.Prelude.{◌≡◌, ◌↔◌, Some, IsTrue};
-ghost use Rattle.std.specs.Bool.{nat_eq};
+ghost use Rattle.std.{specs.{Prelude.{◌≡◌, ◌↔◌, Some, IsTrue}, Bool.{nat_eq}, Fmt.{debug_list, decimal}, Cmp.Lexicographic.{pointwise, nat_list_eq_equiv}}, proofs.Common.{refl}};
 ghost use Rattle.std.specs.Cmp;
-ghost use Rattle.std.specs.Fmt.{debug_list, decimal};
-ghost use Rattle.std.specs.Cmp.Lexicographic.{pointwise, nat_list_eq_equiv};
-ghost use Rattle.std.proofs.Common.{refl};
 ghost use Rattle.std.specs.Hash as fed;
-ghost use Rattle.cacache_core.specs.Comparing.{hash_cmp, hash_cmp-po, hash_cmp-total, hash_cmp-ties, hash_fed};
-ghost use Rattle.cacache_core.specs.Same.{same_hash, same_hash-Decides, same_hash-equiv};
-ghost use Rattle.cacache_core.specs.Texts.{hash_text};
+ghost use Rattle.cacache_core.specs.{Comparing.{hash_cmp, hash_cmp-po, hash_cmp-total, hash_cmp-ties, hash_fed}, Same.{same_hash, same_hash-Decides, same_hash-equiv}, Texts.{hash_text}};
 
 use crate::integrity::algorithm::Algorithm;
 use base64::display::Base64Display;

@@ -3,11 +3,7 @@ ghost use Rattle.std.specs.Prelude.{◌≡◌, ◌≤◌, ◌∷◌, [], ◌↔�
 ghost use Rattle.std.specs.Cmp;
 ghost use Rattle.base64.specs.GeneralPurpose.{IsBytes};
 ghost use Rattle.hex.specs.Hex.{encode_lower};
-ghost use Rattle.cacache_core.specs.Hashers.{finished_bytes, Holds, algorithm_of};
-ghost use Rattle.cacache_core.specs.Integrity.{IsIntegrity, IsHash, HasDigest, IsHexOf, Meets, ShareDigest, hash_of, strongest, address as address_of, actual, integrity_under};
-ghost use Rattle.cacache_core.specs.Refusals.{IsCheckFailure, IsReadFailure};
-ghost use Rattle.cacache_core.specs.Same.{same_hashes, same_hashes-equiv};
-ghost use Rattle.cacache_core.specs.Texts.{integrity_text, long_hash, read_integrity};
+ghost use Rattle.cacache_core.specs.{Hashers.{finished_bytes, Holds, algorithm_of}, Integrity.{IsIntegrity, IsHash, HasDigest, IsHexOf, Meets, ShareDigest, hash_of, strongest, address as address_of, actual, integrity_under}, Refusals.{IsCheckFailure, IsReadFailure}, Same.{same_hashes, same_hashes-equiv}, Texts.{integrity_text, long_hash, read_integrity}};
 
 mod making;
 mod order;

@@ -1,8 +1,7 @@
 //! The folders that lead from the cache folder to contents and buckets.
 ghost use Rattle.std.specs.Prelude.{◌≡◌, ◌≤◌, ◌++◌, IfOk, OnOk, IfSome, length, take, drop};
 ghost use Rattle.hex.specs.Hex.{encode_lower};
-ghost use Rattle.cacache_core.specs.Integrity.{address as address_of};
-ghost use Rattle.cacache_core.specs.Paths.{join as join_of, content_names, bucket_names, folders_to, folders_of_digest, content_folders_of};
+ghost use Rattle.cacache_core.specs.{Integrity.{address as address_of}, Paths.{join as join_of, content_names, bucket_names, folders_to, folders_of_digest, content_folders_of}};
 
 use crate::digest::Hash;
 use crate::integrity::Integrity;

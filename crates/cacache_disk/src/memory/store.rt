@@ -1,16 +1,8 @@
 //! A store in memory that keeps its log.
-ghost use Rattle.std.specs.Prelude.{◌≡◌, ◌∷◌, ◌++◌, [], ◌<◌, Some, IfOk, IfErr, IfNone, OnOk, OnErr, OnSome, option_map, vec_len, vec_capacity};
-ghost use Rattle.std.specs.Result.{result_err};
+ghost use Rattle.std.specs.{Prelude.{◌≡◌, ◌∷◌, ◌++◌, [], ◌<◌, Some, IfOk, IfErr, IfNone, OnOk, OnErr, OnSome, option_map, vec_len, vec_capacity}, Result.{result_err}};
 ghost use Rattle.cacache_core.specs.declared.errors.Error.TheVariants.{OutOfMemory};
-ghost use Rattle.cacache_store.specs.declared.store.log.LogItem.TheVariants.{Made, Foreign, ForeignFolder};
-ghost use Rattle.cacache_store.specs.declared.store.step.Step.TheVariants.{MakeDirs, Symlink};
-ghost use Rattle.cacache_store.specs.declared.store.answer.Answer.TheVariants.{Done};
-ghost use Rattle.cacache_store.specs.Fits.{Fits, Logs};
-ghost use Rattle.cacache_disk.specs.declared.luck.Luck.TheVariants.{Plain};
-ghost use Rattle.cacache_disk.specs.Apply.{apply, planted, fault_told};
-ghost use Rattle.cacache_disk.specs.memory.ForeignLog.{logged, foreign_log};
-ghost use Rattle.cacache_disk.specs.memory.Replay.{tree_of, HappensOn, IsLog, shown, AnsweredByDisk};
-ghost use Rattle.cacache_disk.specs.memory.PlantRefusals.{IsDueTo, IsEarned};
+ghost use Rattle.cacache_store.specs.{declared.store.{log.LogItem.TheVariants.{Made, Foreign, ForeignFolder}, step.Step.TheVariants.{MakeDirs, Symlink}, answer.Answer.TheVariants.{Done}}, Fits.{Fits, Logs}};
+ghost use Rattle.cacache_disk.specs.{declared.luck.Luck.TheVariants.{Plain}, Apply.{apply, planted, fault_told}, memory.{ForeignLog.{logged, foreign_log}, Replay.{tree_of, HappensOn, IsLog, shown, AnsweredByDisk}, PlantRefusals.{IsDueTo, IsEarned}}};
 
 use crate::{Disk, Luck, TreeItem, TreeNode};
 use cacache_core::bytes::Bytes;

@@ -1,8 +1,7 @@
 //! Steps on folders.
 ghost use Rattle.std.specs.Prelude.{◌≡◌, Option, IfOk, IfErr};
 ghost use Rattle.cacache_store.specs.declared.store.step.Step.TheVariants.{MakeDirs, ReadDir, RemoveDir};
-ghost use Rattle.cacache_disk.specs.Apply.{making};
-ghost use Rattle.cacache_disk.specs.Plans.{IsPlan, Refuses};
+ghost use Rattle.cacache_disk.specs.{Apply.{making}, Plans.{IsPlan, Refuses}};
 
 use crate::change::{Change, Plan};
 use crate::disk::Disk;

@@ -1,8 +1,7 @@
 //! Steps on temporary files and open files.
 ghost use Rattle.std.specs.Prelude.{◌≡◌, ◌-◌, ◌++◌, ◌≤◌, Option, Some, IfOk, IfErr, length, take, drop};
 ghost use Rattle.cacache_store.specs.declared.store.step.Step.TheVariants.{CreateTemp, Write, Persist, Read};
-ghost use Rattle.cacache_disk.specs.Apply.{readable};
-ghost use Rattle.cacache_disk.specs.Plans.{IsPlan, Refuses};
+ghost use Rattle.cacache_disk.specs.{Apply.{readable}, Plans.{IsPlan, Refuses}};
 
 use crate::change::{Change, Plan};
 use crate::contents::Contents;

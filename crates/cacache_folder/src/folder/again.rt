@@ -1,11 +1,9 @@
 //! Reads and writes that a signal interrupts.
-ghost use Rattle.std.specs.Prelude.{◌≡◌, take, length};
-ghost use Rattle.std.specs.Io.{ReadsAtMost, WritesAtMost};
+ghost use Rattle.std.specs.{Prelude.{◌≡◌, take, length}, Io.{ReadsAtMost, WritesAtMost}};
 ghost use Rattle.std_io.specs.IoError.{error_kind};
 ghost use Rattle.cacache_system.specs.declared.call.SystemCall.TheVariants as asks;
 ghost use Rattle.cacache_system.specs.declared.call.CallResult.TheVariants as says;
-ghost use Rattle.cacache_system.specs.CallLog.{said};
-ghost use Rattle.cacache_system.specs.CallsOf.{interrupts};
+ghost use Rattle.cacache_system.specs.{CallLog.{said}, CallsOf.{interrupts}};
 ghost use Rattle.cacache_folder.specs.Interruptions.{Insists};
 
 use cacache_system::System;

@@ -1,12 +1,9 @@
 //! Copies of files.
-ghost use Rattle.std.specs.Prelude.{◌≡◌, ◌||◌};
-ghost use Rattle.std.specs.Bool.{nat_eq};
-ghost use Rattle.std.specs.Cmp.Lexicographic.{pointwise};
+ghost use Rattle.std.specs.{Prelude.{◌≡◌, ◌||◌}, Bool.{nat_eq}, Cmp.Lexicographic.{pointwise}};
 ghost use Rattle.cacache_system.specs.declared.call.SystemCall.TheVariants as asks;
 ghost use Rattle.cacache_system.specs.declared.call.CallResult.TheVariants as says;
-ghost use Rattle.cacache_system.specs.CallLog.{said};
+ghost use Rattle.cacache_system.specs.{CallLog.{said}, CallsOf.{RunLogged, is_same_node}};
 ghost use Rattle.cacache_system.specs.CallsOf as calls;
-ghost use Rattle.cacache_system.specs.CallsOf.{RunLogged, is_same_node};
 
 use crate::folder::fresh::{count_of, replace};
 use crate::folder::node::Node;

@@ -1,6 +1,5 @@
 //! What is under the names of a folder.
-ghost use Rattle.std.specs.Prelude.{◌≡◌, ◌==◌, ◌++◌, ◌∷◌, [], ◌↔◌, true, IfOk, IfErr, OnOk, IsTrue};
-ghost use Rattle.std.specs.List.{list_any};
+ghost use Rattle.std.specs.{Prelude.{◌≡◌, ◌==◌, ◌++◌, ◌∷◌, [], ◌↔◌, true, IfOk, IfErr, OnOk, IsTrue}, List.{list_any}};
 ghost use Rattle.std_io.specs.declared.io.kind.ErrorKind.TheVariants as kinds_of_error;
 ghost use Rattle.cacache_core.specs.PathNames.{ends_name, IsProperName};
 ghost use Rattle.cacache_store.specs.Fits.{AreProperNames};

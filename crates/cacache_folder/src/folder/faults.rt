@@ -1,13 +1,9 @@
 //! Answers to steps that the system refused.
 ghost use Rattle.std.specs.Prelude.{◌≡◌};
-ghost use Rattle.cacache_store.specs.Plain.{plain_step, plain_answer};
-ghost use Rattle.cacache_store.specs.Fits.{Fits};
-ghost use Rattle.cacache_folder.specs.PartialSteps.{may_do_a_part as does_a_part, HandsBackWhole};
-ghost use Rattle.cacache_folder.specs.Reasons.{Explains};
+ghost use Rattle.cacache_store.specs.{Plain.{plain_step, plain_answer}, Fits.{Fits}};
+ghost use Rattle.cacache_folder.specs.{PartialSteps.{may_do_a_part as does_a_part, HandsBackWhole}, Reasons.{Explains}, FolderHandles.{seen_file, seen_temp}, FolderNumbers.{numbered, answered}};
 ghost use Rattle.std_io.specs.IoError.{error_kind};
 ghost use Rattle.cacache_system.specs.AnswersOf.{leaves_a_part, failed_with, refuses_memory as is_no_memory};
-ghost use Rattle.cacache_folder.specs.FolderHandles.{seen_file, seen_temp};
-ghost use Rattle.cacache_folder.specs.FolderNumbers.{numbered, answered};
 
 use crate::folder::opened::SystemFile;
 use crate::folder::temp::SystemTemp;

@@ -2,14 +2,11 @@
 ghost use Rattle.std.specs.Prelude.{◌≡◌, ◌≤◌, IfOk, length};
 ghost use Rattle.cacache_system.specs.declared.call.SystemCall.TheVariants as asks;
 ghost use Rattle.cacache_system.specs.declared.call.CallResult.TheVariants as says;
-ghost use Rattle.cacache_system.specs.CallLog.{said};
+ghost use Rattle.cacache_system.specs.{CallLog.{said}, CallsOf.{RunLogged}, AnswersOf.{misses as is_missing}};
 ghost use Rattle.cacache_system.specs.CallsOf as calls;
-ghost use Rattle.cacache_system.specs.CallsOf.{RunLogged};
 ghost use Rattle.cacache_store.specs.declared.store.step.Step.TheVariants as steps;
 ghost use Rattle.cacache_store.specs.declared.store.answer.Answer.TheVariants as answers;
-ghost use Rattle.cacache_system.specs.AnswersOf.{misses as is_missing};
-ghost use Rattle.cacache_folder.specs.Goings.{said_opened, OpensFile};
-ghost use Rattle.cacache_folder.specs.StepClauses.{ValueRuns};
+ghost use Rattle.cacache_folder.specs.{Goings.{said_opened, OpensFile}, StepClauses.{ValueRuns}};
 
 use crate::folder::again::ask_to_write;
 use crate::folder::refusing::unless_folder;

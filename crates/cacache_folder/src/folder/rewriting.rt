@@ -1,8 +1,7 @@
 //! A file that is read and then replaced: the new one keeps its owner, its group and its mode.
 ghost use Rattle.cacache_system.specs.declared.call.SystemCall.TheVariants as asks;
 ghost use Rattle.cacache_system.specs.CallsOf as calls;
-ghost use Rattle.cacache_folder.specs.FolderNumbers.{numbered_temp};
-ghost use Rattle.cacache_folder.specs.Moves.{GoesBefore, Moves, Rewrites, Persists};
+ghost use Rattle.cacache_folder.specs.{FolderNumbers.{numbered_temp}, Moves.{GoesBefore, Moves, Rewrites, Persists}};
 ghost use Rattle.std.specs.Prelude.{◌≡◌};
 
 use crate::folder::SystemStore;

@@ -1,8 +1,7 @@
 //! Syncs of real files and folders: the system is asked to put what they hold on its device.
 ghost use Rattle.cacache_system.specs.declared.call.CallResult.TheVariants as says;
-ghost use Rattle.cacache_system.specs.CallLog.{said};
+ghost use Rattle.cacache_system.specs.{CallLog.{said}, CallsOf.{RunLogged}};
 ghost use Rattle.cacache_system.specs.CallsOf as calls;
-ghost use Rattle.cacache_system.specs.CallsOf.{RunLogged};
 
 use crate::folder::files::opened;
 use crate::folder::refusing::{if_folder, unless_folder};

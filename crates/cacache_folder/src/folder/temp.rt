@@ -1,14 +1,9 @@
 //! Temporary files of real folders.
-ghost use Rattle.std.specs.Prelude.{◌≡◌, None, IsOk};
-ghost use Rattle.std.specs.Io.{WritesAtMost};
-ghost use Rattle.std.specs.Io.KnownBytes.{WriteAppends};
+ghost use Rattle.std.specs.{Prelude.{◌≡◌, None, IsOk}, Io.{WritesAtMost, KnownBytes.{WriteAppends}}};
 ghost use Rattle.cacache_system.specs.declared.call.SystemCall.TheVariants as asks;
-ghost use Rattle.cacache_system.specs.declared.call.CallResult.{CallResult};
+ghost use Rattle.cacache_system.specs.{declared.call.CallResult.{CallResult}, CallLog.{MakesCall, said}, CallsOf.{RunLogged}};
 ghost use Rattle.cacache_system.specs.declared.call.CallResult.TheVariants as says;
-ghost use Rattle.cacache_system.specs.CallLog.{MakesCall, said};
-ghost use Rattle.cacache_system.specs.CallsOf.{RunLogged};
-ghost use Rattle.cacache_folder.specs.FolderNumbers.{numbered_temp};
-ghost use Rattle.cacache_folder.specs.HandleRuns.{writing};
+ghost use Rattle.cacache_folder.specs.{FolderNumbers.{numbered_temp}, HandleRuns.{writing}};
 
 use crate::folder::again::ask_to_write;
 use cacache_core::keeping::let_go;

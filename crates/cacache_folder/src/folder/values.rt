@@ -1,6 +1,5 @@
 //! Answers that give only a value.
-ghost use Rattle.std.specs.Prelude.{◌≡◌};
-ghost use Rattle.std.specs.Result.{result_map_both};
+ghost use Rattle.std.specs.{Prelude.{◌≡◌}, Result.{result_map_both}};
 ghost use Rattle.cacache_store.specs.declared.store.answer.Answer.TheVariants as answers;
 
 use crate::folder::AnswerOf;

@@ -1,15 +1,11 @@
 //! Files that are read whole, and pieces of open files.
-ghost use Rattle.std.specs.Prelude.{◌≡◌, ◌+◌, ◌≤◌, false, IfOk, OnErr, length, min};
-ghost use Rattle.std.specs.Arc.{arc_value};
+ghost use Rattle.std.specs.{Prelude.{◌≡◌, ◌+◌, ◌≤◌, false, IfOk, OnErr, length, min}, Arc.{arc_value}};
 ghost use Rattle.cacache_system.specs.declared.call.SystemCall.TheVariants as asks;
 ghost use Rattle.cacache_system.specs.declared.call.CallResult.TheVariants as says;
-ghost use Rattle.cacache_system.specs.CallLog.{said, said_bytes};
+ghost use Rattle.cacache_system.specs.{CallLog.{said, said_bytes}, CallsOf.{RunLogged}};
 ghost use Rattle.cacache_system.specs.CallsOf as calls;
-ghost use Rattle.cacache_system.specs.CallsOf.{RunLogged};
 ghost use Rattle.cacache_system.specs.AnswersOf as table;
-ghost use Rattle.cacache_folder.specs.FolderNumbers.{numbered_file};
-ghost use Rattle.cacache_folder.specs.Goings.{piece};
-ghost use Rattle.cacache_folder.specs.Interruptions.{Insists};
+ghost use Rattle.cacache_folder.specs.{FolderNumbers.{numbered_file}, Goings.{piece}, Interruptions.{Insists}};
 
 use crate::folder::again::ask_to_read;
 use crate::folder::files::opened;

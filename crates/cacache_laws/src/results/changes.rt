@@ -1,6 +1,5 @@
 //! After calls that store, insert or remove.
-ghost use Rattle.cacache_laws.specs.results.Writes.{WriteMeans, ContentWriteMeans, InsertionMeans};
-ghost use Rattle.cacache_laws.specs.results.Removals.{RemovalMeans, ContentRemovalMeans, FullRemovalMeans, ClearingMeans};
+ghost use Rattle.cacache_laws.specs.results.{Writes.{WriteMeans, ContentWriteMeans, InsertionMeans}, Removals.{RemovalMeans, ContentRemovalMeans, FullRemovalMeans, ClearingMeans}};
 
 use cacache_core::errors::Result;
 use cacache_core::integrity::{Algorithm, Integrity};

@@ -1,9 +1,5 @@
 //! After a loss of power: a store in memory that began with what it left.
-ghost use Rattle.cacache_laws.specs.results.DurableCases.{InsertsStandInOne, PutsStandInOne, PutsStandLast};
-ghost use Rattle.cacache_laws.specs.results.FoundLinks.{HistoriesKeepLinks};
-ghost use Rattle.cacache_laws.specs.results.LeftLinks.{LossesLeaveLastLinks, LossesLeaveLinks};
-ghost use Rattle.cacache_laws.specs.results.Losses.{LeftReadMeans, LeftWriteMeans, LossesLeaveLast, LossesLeavePuts};
-ghost use Rattle.cacache_laws.specs.results.Losses.{LossesLeaveStanding};
+ghost use Rattle.cacache_laws.specs.results.{DurableCases.{InsertsStandInOne, PutsStandInOne, PutsStandLast}, FoundLinks.{HistoriesKeepLinks}, LeftLinks.{LossesLeaveLastLinks, LossesLeaveLinks}, Losses.{LeftReadMeans, LeftWriteMeans, LossesLeaveLast, LossesLeavePuts, LossesLeaveStanding}};
 
 use cacache_core::errors::Result;
 use cacache_core::integrity::{Algorithm, Integrity};

@@ -1,18 +1,5 @@
 //! Laws, on functions that do nothing.
-ghost use Rattle.cacache_laws.specs.trees.Answers.{AnswersAgree, LooksAnswer, TreesAreRooted};
-ghost use Rattle.cacache_laws.specs.trees.Collecting.{CachesLinkOut, CollectionsKeepLookups, CollectionsKeepReads, RemovalsLeave, RemovalsLeaveSound};
-ghost use Rattle.cacache_laws.specs.trees.Compacted.{CompactionsAnswer, CompactionsKeep, HousesAreFit};
-ghost use Rattle.cacache_laws.specs.trees.Compacting.{CompactTextsAnswer, CompactTextsClose, CompactTextsKeepFound, CompactTextsSettle};
-ghost use Rattle.cacache_laws.specs.trees.Contents.{ContentsShown, HoldingsAgree, ListingsHold};
-ghost use Rattle.cacache_laws.specs.trees.Housed.{CachesAreHoused, IndexesLead, TombstonesHouse};
-ghost use Rattle.cacache_laws.specs.trees.Idle.{IdleIsUnseen, StillLacksIdle};
-ghost use Rattle.cacache_laws.specs.trees.Index.{IndexesAgree, IndexesFind, ListsEachKey};
-ghost use Rattle.cacache_laws.specs.trees.Later.{SparedKeysStay, TombstonesFit};
-ghost use Rattle.cacache_laws.specs.trees.Mending.{RepairsLeave, TombstonesHide, TombstonesKeepContents};
-ghost use Rattle.cacache_laws.specs.trees.Removing.{RemovalsRun};
-ghost use Rattle.cacache_laws.specs.trees.Temporary.{SweepsLeave};
-ghost use Rattle.cacache_laws.specs.trees.Verifying.{ReadsTellGood};
-ghost use Rattle.cacache_laws.specs.trees.Walks.{WalksFind, WalksStayBelow};
+ghost use Rattle.cacache_laws.specs.trees.{Answers.{AnswersAgree, LooksAnswer, TreesAreRooted}, Collecting.{CachesLinkOut, CollectionsKeepLookups, CollectionsKeepReads, RemovalsLeave, RemovalsLeaveSound}, Compacted.{CompactionsAnswer, CompactionsKeep, HousesAreFit}, Compacting.{CompactTextsAnswer, CompactTextsClose, CompactTextsKeepFound, CompactTextsSettle}, Contents.{ContentsShown, HoldingsAgree, ListingsHold}, Housed.{CachesAreHoused, IndexesLead, TombstonesHouse}, Idle.{IdleIsUnseen, StillLacksIdle}, Index.{IndexesAgree, IndexesFind, ListsEachKey}, Later.{SparedKeysStay, TombstonesFit}, Mending.{RepairsLeave, TombstonesHide, TombstonesKeepContents}, Removing.{RemovalsRun}, Temporary.{SweepsLeave}, Verifying.{ReadsTellGood}, Walks.{WalksFind, WalksStayBelow}};
 
 /// A walk finds exactly the files and links that are below its folder, each as it is at one of the places where the
 /// walk read.

@@ -1,6 +1,5 @@
 //! Names as a list prints them, each on one line.
-ghost use Rattle.std.specs.Prelude.{◌≡◌, ◌++◌, ◌<◌, OnOk};
-ghost use Rattle.std.specs.Char.{digit_char};
+ghost use Rattle.std.specs.{Prelude.{◌≡◌, ◌++◌, ◌<◌, OnOk}, Char.{digit_char}};
 ghost use Rattle.cacache_program.specs.Escaping.{escaped, escaped_byte, escaped_control};
 
 use std::alloc::AllocError;

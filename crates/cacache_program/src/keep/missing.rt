@@ -1,8 +1,6 @@
 //! What is said if there is no cache.
 ghost use Rattle.std.specs.Prelude.{◌≡◌, IfNone, IfSome, None, true};
-ghost use Rattle.cacache_program.specs.KeepMissing.{AsksFor, AsksMissing, TellsMissing};
-ghost use Rattle.cacache_program.specs.KeepWords.{IsWrong};
-ghost use Rattle.cacache_program.specs.Words.{asked_of};
+ghost use Rattle.cacache_program.specs.{KeepMissing.{AsksFor, AsksMissing, TellsMissing}, KeepWords.{IsWrong}, Words.{asked_of}};
 
 use crate::errors::Errors;
 use crate::output::write_whole;

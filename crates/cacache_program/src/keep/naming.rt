@@ -1,9 +1,7 @@
 //! Lines that name what a verification found, and buckets with odd lines.
-ghost use Rattle.std.specs.Prelude.{◌≡◌, ◌⊎◌, IfOk, map, string_bytes};
-ghost use Rattle.std.specs.List.{flat_map};
+ghost use Rattle.std.specs.{Prelude.{◌≡◌, ◌⊎◌, IfOk, map, string_bytes}, List.{flat_map}};
 ghost use Rattle.cacache.specs.Entries.{found_view};
-ghost use Rattle.cacache_program.specs.WordList.{damaged_line as line_of_damaged, dangling_line as line_of_dangling, odd_line as line_of_odd, strange_line as line_of_strange};
-ghost use Rattle.cacache_program.specs.KeepValues.{PutsList, list_of_verdict};
+ghost use Rattle.cacache_program.specs.{WordList.{damaged_line as line_of_damaged, dangling_line as line_of_dangling, odd_line as line_of_odd, strange_line as line_of_strange}, KeepValues.{PutsList, list_of_verdict}};
 
 use crate::entries::entry_text;
 use crate::errors::{Errors, tell_failed_call};

@@ -1,7 +1,6 @@
 //! What goes to the output.
 ghost use Rattle.std.specs.Prelude.{◌≡◌, ◌⊎◌, IfOk, string_bytes};
-ghost use Rattle.cacache_program.specs.Output.{PutsOut};
-ghost use Rattle.cacache_program.specs.KeepValues.{PutsVerdict, counts_of_planned, status_of_verdict, text_of_collected, text_of_compacted, text_of_planned, text_of_repaired, text_of_swept, text_of_verdict};
+ghost use Rattle.cacache_program.specs.{Output.{PutsOut}, KeepValues.{PutsVerdict, counts_of_planned, status_of_verdict, text_of_collected, text_of_compacted, text_of_planned, text_of_repaired, text_of_swept, text_of_verdict}};
 
 use crate::errors::{Errors, tell_failed_call};
 use crate::keep::naming::odd_lines;

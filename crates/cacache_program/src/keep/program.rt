@@ -1,15 +1,7 @@
 //! What the program does with its words.
 ghost use Rattle.std.specs.Prelude.{◌≡◌, ◌≢◌, ◌≤◌, false, true, codes};
 ghost use Rattle.cacache_keep.specs.declared.checking.OddLines.TheVariants.{Ignore, Refuse};
-ghost use Rattle.cacache_program.specs.Words.{UnkeyedDoes, asked_of};
-ghost use Rattle.cacache_program.specs.KeepWords.{IsWrong, OptionDoes};
-ghost use Rattle.cacache_program.specs.WordVerify.{Verifies};
-ghost use Rattle.cacache_program.specs.WordList.{ListsVerdict};
-ghost use Rattle.cacache_program.specs.WordCollect.{CollectsUnused};
-ghost use Rattle.cacache_program.specs.WordCompact.{Compacts};
-ghost use Rattle.cacache_program.specs.WordPlan.{Plans};
-ghost use Rattle.cacache_program.specs.WordRepair.{Repairs};
-ghost use Rattle.cacache_program.specs.WordSweep.{Sweeps};
+ghost use Rattle.cacache_program.specs.{Words.{UnkeyedDoes, asked_of}, KeepWords.{IsWrong, OptionDoes}, WordVerify.{Verifies}, WordList.{ListsVerdict}, WordCollect.{CollectsUnused}, WordCompact.{Compacts}, WordPlan.{Plans}, WordRepair.{Repairs}, WordSweep.{Sweeps}};
 
 use crate::errors::{Errors, tell_failed_call, tell_misuse};
 use crate::keep::about::USAGE;

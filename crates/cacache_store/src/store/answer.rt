@@ -1,6 +1,5 @@
 //! The answers of a store.
-ghost use Rattle.std.specs.Prelude.{◌≡◌, IfOk};
-ghost use Rattle.std.specs.Cmp.Lexicographic.{pointwise, lists_per};
+ghost use Rattle.std.specs.{Prelude.{◌≡◌, IfOk}, Cmp.Lexicographic.{pointwise, lists_per}};
 
 use crate::store::step::Step;
 use cacache_core::bytes::Bytes;

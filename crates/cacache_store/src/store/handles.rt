@@ -1,11 +1,6 @@
 //! Open files and temporary files.
-ghost use Rattle.std.specs.Prelude.{◌≡◌, ℕ, Result, ⊤, length};
-ghost use Rattle.std.specs.Io.{ReadsAtMost, WritesAtMost};
-ghost use Rattle.std.specs.Io.KnownBytes.{ReadConsumes, WriteAppends};
-ghost use Rattle.cacache_store.specs.declared.store.plain.PlainFile.{PlainFile};
-ghost use Rattle.cacache_store.specs.declared.store.plain.PlainTemp.{PlainTemp};
-ghost use Rattle.cacache_store.specs.Failures.{Error};
-ghost use Rattle.cacache_store.specs.Handles.{LeftFalls};
+ghost use Rattle.std.specs.{Prelude.{◌≡◌, ℕ, Result, ⊤, length}, Io.{ReadsAtMost, WritesAtMost, KnownBytes.{ReadConsumes, WriteAppends}}};
+ghost use Rattle.cacache_store.specs.{declared.store.plain.{PlainFile.{PlainFile}, PlainTemp.{PlainTemp}}, Failures.{Error}, Handles.{LeftFalls}};
 
 use crate::store::plain::{PlainFile, PlainTemp};
 use std::io;

@@ -1,7 +1,5 @@
 //! Plain files: bytes in memory. Contracts see any file as a plain file.
-ghost use Rattle.std.specs.Prelude.{◌≡◌, IsOk, length};
-ghost use Rattle.std.specs.Io.{ReadsAtMost};
-ghost use Rattle.std.specs.Io.KnownBytes.{ReadConsumes, WriteAppends};
+ghost use Rattle.std.specs.{Prelude.{◌≡◌, IsOk, length}, Io.{ReadsAtMost, KnownBytes.{ReadConsumes, WriteAppends}}};
 ghost use Rattle.cacache_store.specs.Handles.{LeftFalls, GivesAll, TakesAll};
 
 use crate::store::handles::{FileHandle, OpenedFile, TempFile, TempHandle};

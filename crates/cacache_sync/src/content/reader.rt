@@ -1,14 +1,8 @@
 //! Contents that are read in pieces, and checked by what was read.
-ghost use Rattle.std.specs.Prelude.{◌≡◌, ◌++◌, ℕ, List, Some, IsOk, IfOk, IfErr, OnOk, OnErr, length};
-ghost use Rattle.std.specs.Io.{ReadsAtMost};
-ghost use Rattle.std.specs.Io.KnownBytes.{Consumes, ReadConsumes};
-ghost use Rattle.cacache_core.specs.declared.integrity.digest.Hash.{Hash};
-ghost use Rattle.cacache_core.specs.Integrity.{Meets, strongest, actual};
-ghost use Rattle.cacache_core.specs.Refusals.{IsCheckFailure};
+ghost use Rattle.std.specs.{Prelude.{◌≡◌, ◌++◌, ℕ, List, Some, IsOk, IfOk, IfErr, OnOk, OnErr, length}, Io.{ReadsAtMost, KnownBytes.{Consumes, ReadConsumes}}};
+ghost use Rattle.cacache_core.specs.{declared.integrity.digest.Hash.{Hash}, Integrity.{Meets, strongest, actual}, Refusals.{IsCheckFailure}};
 ghost use Rattle.cacache_store.specs.Handles.{LeftFalls};
-ghost use Rattle.cacache_sync.specs.content.OpenReads.{HasRead, OpensHash, OpensKey, ReadsMore, ReadsPart};
-ghost use Rattle.cacache_sync.specs.content.OpenWrites.{IsRetried};
-ghost use Rattle.cacache_sync.specs.content.Passed.{passed};
+ghost use Rattle.cacache_sync.specs.content.{OpenReads.{HasRead, OpensHash, OpensKey, ReadsMore, ReadsPart}, OpenWrites.{IsRetried}, Passed.{passed}};
 
 use cacache_core::errors::{Error, Result};
 use cacache_core::integrity::{Algorithm, Integrity, IntegrityChecker};

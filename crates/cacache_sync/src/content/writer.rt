@@ -1,17 +1,9 @@
 //! Contents that are written in pieces, to a temporary file that a commit moves to its place.
-ghost use Rattle.std.specs.Prelude.{◌≡◌, ℕ, List, None, IfOk, IfErr, IsOk, OnOk, OnErr, length};
-ghost use Rattle.std.specs.Io.{WritesAtMost};
-ghost use Rattle.std.specs.Io.KnownBytes.{Appends, WriteAppends};
-ghost use Rattle.cacache_core.specs.Hashers.{algorithm_of};
-ghost use Rattle.cacache_core.specs.Integrity.{integrity_under};
+ghost use Rattle.std.specs.{Prelude.{◌≡◌, ℕ, List, None, IfOk, IfErr, IsOk, OnOk, OnErr, length}, Io.{WritesAtMost, KnownBytes.{Appends, WriteAppends}}};
+ghost use Rattle.cacache_core.specs.{Hashers.{algorithm_of}, Integrity.{integrity_under}};
 ghost use Rattle.cacache_store.specs.declared.store.answer.Answer.TheVariants.{Done};
-ghost use Rattle.cacache_table.specs.declared.reply.Reply.TheVariants.{Stored};
-ghost use Rattle.cacache_table.specs.Promises.{Stores};
-ghost use Rattle.cacache_table.specs.Runs.{reply_of};
-ghost use Rattle.cacache_table.specs.SingleSteps.{Does, FailsAt};
-ghost use Rattle.cacache_table.specs.StepPaths.{temp_path as temp_path_of};
-ghost use Rattle.cacache_sync.specs.content.Passed.{passed};
-ghost use Rattle.cacache_sync.specs.content.OpenWrites.{HasTaken, IsSameWriter, MakesTemp, OpensTemp, OpensNumbered, EndsByCommit, EndsUnkeyed, RemovesTemp, TriesToRemove, given_up, Takes, TakesPart, WholeFails, IsWriteError, IsRetried, make_folder as making_folder, content_commit};
+ghost use Rattle.cacache_table.specs.{declared.reply.Reply.TheVariants.{Stored}, Promises.{Stores}, Runs.{reply_of}, SingleSteps.{Does, FailsAt}, StepPaths.{temp_path as temp_path_of}};
+ghost use Rattle.cacache_sync.specs.content.{Passed.{passed}, OpenWrites.{HasTaken, IsSameWriter, MakesTemp, OpensTemp, OpensNumbered, EndsByCommit, EndsUnkeyed, RemovesTemp, TriesToRemove, given_up, Takes, TakesPart, WholeFails, IsWriteError, IsRetried, make_folder as making_folder, content_commit}};
 
 use cacache_core::errors::{Error, Fault, Result};
 use cacache_core::hasher::Hasher;

@@ -1,9 +1,7 @@
 //! Entries are inserted into the index.
 ghost use Rattle.std.specs.Prelude.{◌≡◌, IfOk};
 ghost use Rattle.cacache_table.specs.declared.command.Command.TheVariants as commands;
-ghost use Rattle.cacache_table.specs.declared.reply.Reply.TheVariants.{Stored};
-ghost use Rattle.cacache_table.specs.Inserting.{given_or, no_integrity};
-ghost use Rattle.cacache_table.specs.Runs.{reply_of};
+ghost use Rattle.cacache_table.specs.{declared.reply.Reply.TheVariants.{Stored}, Inserting.{given_or, no_integrity}, Runs.{reply_of}};
 ghost use Rattle.cacache_jobs.specs.Environment.{RunsTimed};
 ghost use Rattle.cacache_sync.specs.put.Puts.{insert_of};
 

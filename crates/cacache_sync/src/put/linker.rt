@@ -1,13 +1,8 @@
 //! Links whose target is read in pieces before they are made.
 ghost use Rattle.std.specs.Prelude.{◌≡◌, ℕ, List, None, Some, IfOk};
 ghost use Rattle.cacache_core.specs.declared.integrity.algorithm.Algorithm.TheVariants.{Sha256};
-ghost use Rattle.cacache_table.specs.declared.reply.Reply.TheVariants.{Stored};
-ghost use Rattle.cacache_table.specs.Runs.{reply_of};
-ghost use Rattle.cacache_sync.specs.put.OpenLinkers.{AsksSize, BeginsLink, CommitsLink, HasHashed, OpensLink, OpensLinker, OpensSized, OpensTarget, OpensWithSize, Sizes, StoresWhole, asks_file, asks_size, linked_by};
-ghost use Rattle.cacache_table.specs.Linking.{linked_to};
-ghost use Rattle.cacache_table.specs.Blank.{blank};
-ghost use Rattle.cacache_sync.specs.put.Options.{nothing_said, saying};
-ghost use Rattle.cacache_sync.specs.put.Rest.{LinksRest, LinksHashed};
+ghost use Rattle.cacache_table.specs.{declared.reply.Reply.TheVariants.{Stored}, Runs.{reply_of}, Linking.{linked_to}, Blank.{blank}};
+ghost use Rattle.cacache_sync.specs.put.{OpenLinkers.{AsksSize, BeginsLink, CommitsLink, HasHashed, OpensLink, OpensLinker, OpensSized, OpensTarget, OpensWithSize, Sizes, StoresWhole, asks_file, asks_size, linked_by}, Options.{nothing_said, saying}, Rest.{LinksRest, LinksHashed}};
 
 mod reading;
 

@@ -2,9 +2,7 @@
 ghost use Rattle.std.specs.Prelude.{None, Some, IfOk};
 ghost use Rattle.cacache_core.specs.declared.integrity.algorithm.Algorithm.TheVariants.{Sha256};
 ghost use Rattle.cacache_table.specs.declared.command.Command.TheVariants as commands;
-ghost use Rattle.cacache_table.specs.declared.reply.Reply.TheVariants.{Stored};
-ghost use Rattle.cacache_table.specs.Linking.{based};
-ghost use Rattle.cacache_table.specs.Runs.{reply_of};
+ghost use Rattle.cacache_table.specs.{declared.reply.Reply.TheVariants.{Stored}, Linking.{based}, Runs.{reply_of}};
 ghost use Rattle.cacache_sync.specs.put.LinkCalls.{link_to, HoldsTarget, LinkedTo, RunsLink};
 ghost use Rattle.cacache_jobs.specs.Environment.{Calls};
 

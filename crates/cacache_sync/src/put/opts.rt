@@ -3,8 +3,7 @@ ghost use Rattle.std.specs.Prelude.{◌≡◌, None, Some, IfOk, option_map};
 ghost use Rattle.serde_json.specs.View.{view};
 ghost use Rattle.cacache_core.specs.Integrity.{IsIntegrity};
 ghost use Rattle.cacache_entry.specs.FittingEntries.{EachIsByte, IsJson};
-ghost use Rattle.cacache_sync.specs.put.Options.{nothing_said, options_of};
-ghost use Rattle.cacache_sync.specs.put.KeyedWriters.{OpensKeyed};
+ghost use Rattle.cacache_sync.specs.put.{Options.{nothing_said, options_of}, KeyedWriters.{OpensKeyed}};
 
 use crate::put::writer::{SyncWriter, open_writer};
 use cacache_core::bytes::Bytes;

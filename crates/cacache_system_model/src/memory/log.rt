@@ -1,7 +1,5 @@
 //! A log of calls that only clauses see. It takes no memory, so that none can be refused.
-ghost use Rattle.std.specs.Prelude.{◌≡◌, ◌++◌, ◌∷◌, [], List};
-ghost use Rattle.std.specs.Borrow.{ftrue};
-ghost use Rattle.std.specs.Coded.{coded_list};
+ghost use Rattle.std.specs.{Prelude.{◌≡◌, ◌++◌, ◌∷◌, [], List}, Borrow.{ftrue}, Coded.{coded_list}};
 ghost use Rattle.cacache_system.specs.declared.call.CallItem.{CallItem};
 ghost use Rattle.cacache_system.specs.contracts.call.CallItem as code;
 ghost use Rattle.cacache_system_model.specs.memory.Stopping.{kind_of};

@@ -1,8 +1,7 @@
 //! A store over a system in memory, with a log of the runs of its steps.
 ghost use Rattle.cacache_store.specs.declared.store.step.Step.TheVariants as steps;
 ghost use Rattle.cacache_folder.specs.FolderNumbers.{answered};
-ghost use Rattle.cacache_system_model.specs.memory.Machines.{calls_of};
-ghost use Rattle.cacache_system_model.specs.memory.Runs.{number_of, LogsRuns};
+ghost use Rattle.cacache_system_model.specs.memory.{Machines.{calls_of}, Runs.{number_of, LogsRuns}};
 
 use crate::memory::system::MemorySystem;
 use cacache_core::bytes::Bytes;

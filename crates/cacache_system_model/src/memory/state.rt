@@ -1,7 +1,5 @@
 //! What a system in memory holds: a disk, and the files that are open.
-ghost use Rattle.std.specs.Prelude.{◌≤◌, ◌<◌, ◌+◌, ◌^◌, IfOk, length};
-ghost use Rattle.std.specs.Counts.{IsPrefixLen};
-ghost use Rattle.std.specs.Io.{StartsWith};
+ghost use Rattle.std.specs.{Prelude.{◌≤◌, ◌<◌, ◌+◌, ◌^◌, IfOk, length}, Counts.{IsPrefixLen}, Io.{StartsWith}};
 
 use crate::memory::tree::{do_step, info_of, place};
 use cacache_core::bytes::Bytes;

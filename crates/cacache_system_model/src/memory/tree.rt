@@ -1,10 +1,7 @@
 //! What the calls do to the tree.
 ghost use Rattle.std.specs.Prelude.{◌≡◌, [], None, Ok, IfOk, IfErr, IsOk};
 ghost use Rattle.cacache_store.specs.declared.store.step.Step.TheVariants as steps;
-ghost use Rattle.cacache_disk.specs.declared.node.Node.TheVariants.{Folder, File, Link};
-ghost use Rattle.cacache_disk.specs.Tree.{look, put, cut};
-ghost use Rattle.cacache_disk.specs.LedTo.{way_fault, place, found, standing, free, removable, emptied, linked};
-ghost use Rattle.cacache_disk.specs.Stops.{Stops, Blocks};
+ghost use Rattle.cacache_disk.specs.{declared.node.Node.TheVariants.{Folder, File, Link}, Tree.{look, put, cut}, LedTo.{way_fault, place, found, standing, free, removable, emptied, linked}, Stops.{Stops, Blocks}};
 ghost use Rattle.cacache_system_model.specs.memory.Changes.{Does, Changed, Linked, Movable, Moved, Shown, info_of, link_stop};
 
 use cacache_core::bytes::Bytes;

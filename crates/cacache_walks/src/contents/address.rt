@@ -2,8 +2,7 @@
 ghost use Rattle.std.specs.Prelude.{◌≡◌, ◌+◌, ◌<◌, ◌≤◌, Some, Ok, IfOk, IfErr, MatchOption, length, slice_index};
 ghost use Rattle.hex.specs.Hex.{decode_of};
 ghost use Rattle.cacache_core.specs.declared.errors.Error.TheVariants.{OutOfMemory};
-ghost use Rattle.cacache_walks.specs.Addresses.{HasNoBytes, HasNoNames, HasParts, IsContentPath, IsStrange, by_letter, digits_of};
-ghost use Rattle.cacache_walks.specs.Listing.{content_area_in};
+ghost use Rattle.cacache_walks.specs.{Addresses.{HasNoBytes, HasNoNames, HasParts, IsContentPath, IsStrange, by_letter, digits_of}, Listing.{content_area_in}};
 
 use cacache_core::errors::{Error, Result};
 use cacache_core::integrity::{Algorithm, Integrity};

@@ -1,8 +1,6 @@
 //! The order in which contents are listed.
-ghost use Rattle.std.specs.Prelude.{◌≡◌, ◌↔◌, ◌∷◌, [], ℕ, List, Contains};
-ghost use Rattle.std.specs.Option.{option_cmp};
-ghost use Rattle.cacache_core.specs.declared.integrity.digest.Hash.{Hash};
-ghost use Rattle.cacache_core.specs.Integrity.{address as address_of};
+ghost use Rattle.std.specs.{Prelude.{◌≡◌, ◌↔◌, ◌∷◌, [], ℕ, List, Contains}, Option.{option_cmp}};
+ghost use Rattle.cacache_core.specs.{declared.integrity.digest.Hash.{Hash}, Integrity.{address as address_of}};
 ghost use Rattle.cacache_walks.specs.Listing.{IsByBytes, IsByHash, hash_cmp};
 
 use cacache_core::integrity::Integrity;

@@ -1,8 +1,6 @@
 //! Makes integrities from hex digits, and from two other integrities.
-ghost use Rattle.std.specs.Prelude.{◌≡◌, Ok, IfOk, IfErr, OnOk};
-ghost use Rattle.std.specs.List.{fold};
-ghost use Rattle.cacache_core.specs.Joining.{with_hash, read_hex, joined_hashes};
-ghost use Rattle.cacache_core.specs.Refusals.{IsReadFailure};
+ghost use Rattle.std.specs.{Prelude.{◌≡◌, Ok, IfOk, IfErr, OnOk}, List.{fold}};
+ghost use Rattle.cacache_core.specs.{Joining.{with_hash, read_hex, joined_hashes}, Refusals.{IsReadFailure}};
 
 use crate::errors::{Error, IntegrityFault, Result};
 use crate::integrity::algorithm::Algorithm;

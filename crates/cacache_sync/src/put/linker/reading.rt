@@ -1,11 +1,7 @@
 //! The reads of a linker, which hash what they read.
-ghost use Rattle.std.specs.Prelude.{◌≡◌, ◌++◌, ℕ, List, IfErr, OnOk, OnErr, length};
-ghost use Rattle.std.specs.Io.{ReadsAtMost};
-ghost use Rattle.std.specs.Io.KnownBytes.{Consumes, ReadConsumes};
+ghost use Rattle.std.specs.{Prelude.{◌≡◌, ◌++◌, ℕ, List, IfErr, OnOk, OnErr, length}, Io.{ReadsAtMost, KnownBytes.{Consumes, ReadConsumes}}};
 ghost use Rattle.cacache_store.specs.Handles.{LeftFalls};
-ghost use Rattle.cacache_sync.specs.content.OpenWrites.{IsRetried};
-ghost use Rattle.cacache_sync.specs.content.Passed.{passed};
-ghost use Rattle.cacache_sync.specs.put.OpenLinkers.{HasHashed, HashesMore, HashesPart};
+ghost use Rattle.cacache_sync.specs.{content.{OpenWrites.{IsRetried}, Passed.{passed}}, put.OpenLinkers.{HasHashed, HashesMore, HashesPart}};
 
 use crate::put::linker::SyncToLinker;
 use cacache_store::store::OpenedFile;
