@@ -1,4 +1,4 @@
--- What base64 text decodes to is bytes.
+-- Every element that base64 text decodes to is a byte.
 use Rattle.std.proofs.{Common.{◌≡◌, ◌+◌, ◌*◌, ◌==◌, ◌<◌, ℕ, zero, suc, List, [], ◌∷◌, ◌++◌, length, take, drop, slice_index, get_or, refl, subst, inl, inr, arith}, lemmas.{Bool.{cases_Bool}, List.{get_or-drop}}}
 use Rattle.std.specs.declared.{option.Option.{Option, TheVariants.{None, Some}}, result.Result.{Result, TheVariants.{Ok, Err}}}
 use Rattle.base64.specs.{declared.decode.DecodeError.{DecodeError}, Decode.{IsDecodeTable, decode_group, or_else, symbol_error, group_error, group_bytes, groups_error, groups_bytes, groups_before_last, no_leftover, push_leftover, scan_steps, scan_last, scan_bytes, lone_error, suffix_bytes, decode_outcome, decoded_bytes}, Engines.{standard}, GeneralPurpose.{decode_of, IsBytes}}

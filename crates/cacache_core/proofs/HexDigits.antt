@@ -1,4 +1,4 @@
--- What hex digits read as, from what their bytes do.
+-- The reading of hex digits, derived from the decoding of their bytes.
 use Rattle.std.{proofs.{Common.{inl, inr, ◌≡◌, ◌≤◌, ℕ, List, [], ◌∷◌, length, nat_lt, refl, ap, arith}, lemmas.Bool.{cases_Bool, ltb-true}}, specs.Prelude.{Result, Ok}}
 use Rattle.hex.specs.Hex.{decode_of}
 use Rattle.cacache_core.specs.{declared.{errors.{Error.{Error, TheVariants.{EntryNotFound, SizeMismatch, IoError, SerdeError, IntegrityError, OutOfMemory}}, IntegrityFault.{IntegrityFault}}, integrity.{algorithm.Algorithm.{Algorithm}, digest.Hash.{Hash}}}, Integrity.{hash_of, IsHash}, Joining.{only_hash, read_hex}, Refusals.{IsReadFailure}, Texts.{long_hash}}

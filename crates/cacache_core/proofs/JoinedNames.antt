@@ -1,4 +1,4 @@
--- What the text of names below a folder names.
+-- The text of names below a folder, read back as names.
 use Rattle.std.proofs.{Common.{◌≡◌, ◌==◌, ◌||◌, ◌-◌, ◌+◌, ◌<◌, ℕ, Bool, true, false, cond, List, [], ◌∷◌, ◌++◌, Ok, length, take, slice_index, refl, sym, ap, ap₂, subst, ◌∙◌, arith, append_assoc, append-nil, take-append-drop, filter}, lemmas.{Bool.{eqb-true}, List.{drop_all, drop_more, nil_from_length, Elements.{All-head, All-tail, filter-append}, Folds.{list_any-append}}}}
 use Rattle.std.specs.{List.{list_any}, Prelude.{All}}
 use Rattle.cacache_core.proofs.Splits.{split-append, split_none, none_of_fewer}
@@ -31,7 +31,7 @@ name_in_itself : (n : List ℕ) → IsProperName n → names_in n ≡ n ∷ []
 unfolding names_in
 name_in_itself n proper = rw (one_piece n proper, proper.0) refl
 
--- ---- a text behind a slash
+-- ---- a text after a slash
 
 pieces-slash : (q b : List ℕ) → pieces (q ++ 47 ∷ b) ≡ pieces q ++ pieces b
 unfolding pieces
@@ -67,7 +67,7 @@ nil_not_bad = refl
 
 -- ---- a name joined to a text
 
--- the new text is the old one with one name more
+-- the new text has the names of the old one, then one more
 record IsLonger (p n new : List ℕ) : Type 0 where
   names : names_in new ≡ names_in p ++ n ∷ []
   bad : is_bad new ≡ is_bad p
@@ -134,7 +134,7 @@ named_by_cases p path n ns true bad e b is same =
 named_by_cases p path n ns false true e b is same = rw (e, same, b) refl
 named_by_cases p path n ns false false e b is same = rw (e, same, b) (ap Ok is)
 
--- the text of names below a cache's folder names them there
+-- the text of names below a cache's folder reads as the folder's names, then these names
 pub joined_texts_name : (cache : List ℕ) (ns : Names) → All IsProperName ns → 0 < length ns → names_of (joined cache ns) ≡ names_below (home_of cache) ns
 joined_texts_name cache [] all some = absurd (omega arith)
 joined_texts_name cache (n ∷ ns) all some =

@@ -1,4 +1,4 @@
--- Hashes that are kept once: none is lost, and each is a hash.
+-- Keeping each hash once: no hash is lost, and each that is kept is a hash.
 use Rattle.std.proofs.{Common.{inl, inr, ◌≡◌, ◌<◌, ◌≤◌, ◌+◌, ℕ, true, false, List, [], ◌∷◌, ◌++◌, length, take, get_or, refl, sym, ap, ◌∙◌, length-append, arith}, lemmas.{Bool.{cases_Bool}, List.{Elements.{All-nil, All-head, All-tail, All-append, All-push}, Sums.{fold-append, fold_more}}}}
 use Rattle.std.specs.{Prelude.{All}, List.{fold}}
 use Rattle.cacache_core.specs.{declared.integrity.digest.Hash.{Hash}, Integrity.{IsHash, IsIntegrity}, Joining.{with_hash, each_once, joined_hashes}, Meeting.{lists}}
@@ -29,18 +29,18 @@ some_once : (hs : List Hash) → 0 < length hs → 0 < length (each_once hs)
 some_once [] some = some
 some_once (h ∷ hs) some = omega (arith, longer_once (h ∷ []) hs)
 
--- the hashes of two integrities are one
+-- the joined hashes of two integrities are an integrity
 pub joined_is_integrity : (i j : List Hash) → IsIntegrity i → IsIntegrity j → IsIntegrity (joined_hashes i j)
 joined_is_integrity i j one other =
     ordered_is_integrity (each_once (i ++ j))
     (some_once (i ++ j) (omega (arith, length-append i j, one.nonempty)))
     (all_once [] (i ++ j) (All-nil IsHash) (All-append IsHash i j one.hashes other.hashes))
 
--- kept one after the other
+-- adding the hashes of one list and then those of another is adding those of both lists in a row
 pub joined_once : (i j : List Hash) → fold with_hash (fold with_hash [] i) j ≡ each_once (i ++ j)
 joined_once i j = sym (fold-append with_hash [] i j)
 
--- one hash more
+-- one more hash is kept
 pub once_more : (old hs kept : List Hash) (i : ℕ) (h : Hash) → i < length hs → h ≡ get_or hs i h → kept ≡ fold with_hash old (take i hs)
     → with_hash kept h ≡ fold with_hash old (take (i + 1) hs)
 once_more old hs kept i h below is so =
@@ -48,7 +48,7 @@ once_more old hs kept i h below is so =
     ∙ ap (λ (x : Hash). with_hash (fold with_hash old (take i hs)) x) is
     ∙ sym (fold_more with_hash old hs i h below)
 
--- it was kept before, or it is new
+-- a hash that is kept already adds nothing, and a new one is added
 pub with_there : (hs more : List Hash) (h : Hash) → lists hs h ≡ true → with_hash hs h ≡ more → hs ≡ more
 with_there hs more h there rest =
     let same : with_hash hs h ≡ hs = rw there refl in

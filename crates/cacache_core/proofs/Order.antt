@@ -1,9 +1,9 @@
--- Hashes in order: strongest algorithm first.
+-- Hashes in order: the strongest algorithm first.
 use Rattle.std.proofs.{Common.{inl, inr, ◌≡◌, ◌≢◌, ◌<◌, ◌+◌, ℕ, Bool, true, false, List, [], ◌∷◌, ◌++◌, length, refl, sym, ap, ap₂, ◌∙◌, append-nil, length-append, arith}, lemmas.{Bool.{eqb-true, ne_eqb, cases_Bool}, List.Elements.{All-append, All-filter, filter-append}}}
 use Rattle.std.specs.{Prelude.{All}, List.{filter}}
 use Rattle.cacache_core.specs.{declared.integrity.{algorithm.Algorithm.{Algorithm, TheVariants.{Sha1, Sha256, Sha384, Sha512}}, digest.Hash.{Hash}}, Integrity.{rank, is_of, hash_of, strongest_first, IsHash, IsIntegrity}}
 
--- a filter keeps all that its own filter kept
+-- filtering again by the same test removes nothing
 filter_again : (p : Hash → Bool) (hs : List Hash) → filter p (filter p hs) ≡ filter p hs
 filter_again p [] = refl
 filter_again p (h ∷ hs) = elim (cases_Bool (p h)) [
@@ -11,7 +11,7 @@ filter_again p (h ∷ hs) = elim (cases_Bool (p h)) [
   | inr fails ↦ rw fails (filter_again p hs)
 ]
 
--- and nothing of what a filter kept that lets through none of its own
+-- filtering by one test and then by another keeps nothing if no hash passes both
 filter_none : (p q : Hash → Bool) → ((h : Hash) → q h ≡ true → p h ≡ false) → (hs : List Hash) → filter p (filter q hs) ≡ []
 filter_none p q apart [] = refl
 filter_none p q apart (h ∷ hs) = elim (cases_Bool (q h)) [
@@ -31,7 +31,7 @@ four : (w x y z w' x' y' z' : List Hash) → w ≡ w' → x ≡ x' → y ≡ y' 
 four w x y z w' x' y' z' p q r s =
     ap₂ (λ (a b : List Hash). a ++ b) (ap₂ (λ (a b : List Hash). a ++ b) (ap₂ (λ (a b : List Hash). a ++ b) p q) r) s
 
--- what the order keeps of one algorithm
+-- ordering keeps the hashes of each algorithm as they are
 kept : (a : Algorithm) (hs : List Hash) → filter (is_of a) (strongest_first hs) ≡ filter (is_of a) hs
 kept Sha512 hs =
     let p = is_of Sha512 in
@@ -62,7 +62,7 @@ kept Sha1 hs =
     (filter_none p (is_of Sha384) (other Sha1 Sha384 (λ e. omega arith)) hs) (filter_none p (is_of Sha256) (other Sha1 Sha256 (λ e. omega arith)) hs)
     (filter_again p hs)
 
--- hashes in order stay as they are
+-- ordering hashes that are in order changes nothing
 pub in_order : (hs : List Hash) → strongest_first (strongest_first hs) ≡ strongest_first hs
 in_order hs = four _ _ _ _ _ _ _ _ (kept Sha512 hs) (kept Sha384 hs) (kept Sha256 hs) (kept Sha1 hs)
 
@@ -81,7 +81,7 @@ one_in_order (h ∷ g ∷ hs) few = absurd (omega arith)
 lengths : (w x y z : List Hash) → length (w ++ x ++ y ++ z) ≡ length w + length x + length y + length z
 lengths w x y z = omega (arith, length-append (w ++ x ++ y) z, length-append (w ++ x) y, length-append w x)
 
--- no hash is lost
+-- ordering loses no hash
 longer : (a : Algorithm) (d : List ℕ) (hs : List Hash) → length (strongest_first (hash_of a d ∷ hs)) ≡ length (strongest_first hs) + 1
 longer Sha512 d hs =
     omega (
@@ -108,7 +108,7 @@ longer Sha1 d hs =
       lengths (filter (is_of Sha512) hs) (filter (is_of Sha384) hs) (filter (is_of Sha256) hs) (filter (is_of Sha1) hs),
     )
 
--- hashes in order are an integrity
+-- one or more hashes, put in order, are an integrity
 pub ordered_is_integrity : (hs : List Hash) → 0 < length hs → All IsHash hs → IsIntegrity (strongest_first hs)
 ordered_is_integrity [] some all = absurd (omega arith)
 ordered_is_integrity (h ∷ hs) some all = record {

@@ -1,4 +1,4 @@
--- Names of paths: how digits are cut, and that none is a beginning of another.
+-- Names of paths: how digits are cut, and that no path's names are a prefix of another's.
 use Rattle.std.proofs.{Common.{◌≡◌, ◌*◌, ◌+◌, ℕ, zero, suc, ◌≤◌, List, [], ◌∷◌, Ok, length, get_or, take, drop, refl, sym, ap, ◌∙◌, arith, length-take, length-append, ◌/◌, slice_index, ◌<◌, ◌++◌, ◌%◌, append_assoc, append-nil}, lemmas.List.{take_all, drop_all, drop_more}}
 use Rattle.std.specs.Int.{w32, to_be_bytes}
 use Rattle.base64.specs.GeneralPurpose.{IsBytes}
@@ -27,7 +27,7 @@ digits_rest [] h = absurd (omega arith)
 digits_rest (a ∷ []) h = absurd (omega arith)
 digits_rest (a ∷ b ∷ d) h = refl
 
--- ---- digits put behind a text, byte by byte
+-- ---- digits appended to a text, byte by byte
 
 pub digits_more : (t old new bytes : List ℕ) (k : ℕ) → k < length bytes
     → new ≡ (t ++ slice_index lower_digits (slice_index bytes k / 16) ∷ []) ++ slice_index lower_digits (slice_index bytes k % 16) ∷ []
@@ -49,13 +49,13 @@ unfolding encode_with
 digits_done t old bytes k done before =
     sym (append-nil t) ∙ ap (λ (l : List ℕ). t ++ encode_lower l) (sym (drop_all k bytes done)) ∙ before
 
--- ---- equal digits are of equal bytes
+-- ---- equal digits come from equal bytes
 
 pub same_bytes : (a b : List ℕ) → IsBytes a → IsBytes b → encode_lower a ≡ encode_lower b → a ≡ b
 same_bytes a b p q e =
     let same : Ok a ≡ Ok b = sym (decode_of-encode_lower a p) ∙ ap decode_of e ∙ decode_of-encode_lower b q in cc
 
--- ---- the digest of a key is bytes
+-- ---- the digest of a key consists of bytes
 
 word_bytes : (n : ℕ) → IsBytes (to_be_bytes w32 n)
 word_bytes n zero = omega arith
@@ -86,7 +86,7 @@ length-sha1 m = length-digest_bytes (hash_after (padded_message m) (length (padd
 pub keys_have_digests : KeysHaveDigests
 keys_have_digests key = record { bytes = sha1_bytes key; size = length-sha1 key }
 
--- ---- none is a beginning of another
+-- ---- no path's names are a prefix of another's
 
 shorter : (xs ys : List (List ℕ)) (n : ℕ) → length xs ≡ length ys → take n xs ≡ ys → xs ≡ ys
 shorter xs ys n len e =
@@ -103,7 +103,7 @@ first_kept : (n : ℕ) (x y : List ℕ) (xs ys : List (List ℕ)) → take n (x 
 first_kept zero x y xs ys e = absurd cc
 first_kept (suc n) x y xs ys e = ap (λ (ns : List (List ℕ)). get_or ns 0 []) e
 
--- names that begin differently, the first names having different lengths
+-- if the first names of two lists differ in length, the one list is no prefix of the other
 differ : (x y : List ℕ) (xs ys : List (List ℕ)) → (length x ≡ length y → ⊥) → ¬ Begins (x ∷ xs) (y ∷ ys)
 differ x y xs ys apart b = apart (sym (ap (λ (t : List ℕ). length t) (first_kept b.count y x ys xs b.same)))
 

@@ -5,14 +5,14 @@ use Rattle.hex.{specs.Hex.{encode_lower, lower_digits}, proofs.HexLemmas.{length
 use Rattle.cacache_core.proofs.{PathLemmas.{same_bytes}, ProperNames.{proper_content_folder, proper_content, proper_bucket_folder, proper_bucket, proper_temp_folder, proper_temp, be_bytes}}
 use Rattle.cacache_core.specs.{declared.integrity.{algorithm.Algorithm.{Algorithm, TheVariants.{Sha1, Sha256, Sha384, Sha512}}, digest.Hash.{Hash}}, Integrity.{IsHash, hash_of}, PathLaws.{IsKeyDigest, PathsDiffer, JoinedTextsSpell}, PathNames.{ends_name, IsProperName}, Paths.{join, joined, slashed, cut_digits, content_area, index_area, temp_area, content_names, bucket_names_of, temp_names}, Texts.{name_of}}
 
--- ---- names after a slash each
+-- ---- names, each after a slash
 
--- a text that a further name follows after a slash
+-- a text to which a further name is joined by a slash
 pub record IsOpen (p : List ℕ) : Type 0 where
   pub some : 0 < length p
   pub no_slash : slice_index p (length p - 1) ≢ 47
 
--- a proper name is one
+-- a proper name is such a text
 pub open_name : (n : List ℕ) → IsProperName n → IsOpen n
 open_name [] proper = absurd (let clash : false ≡ true = proper.0 in cc)
 open_name (c ∷ n) proper = record {
@@ -45,7 +45,7 @@ joined_open p (n ∷ ns) is all =
     ∙ joined_open (p ++ 47 ∷ n) ns (open_below p n (open_name n (All-head IsProperName n ns all))) (All-tail IsProperName n ns all)
     ∙ append_assoc p (47 ∷ n) (slashed ns)
 
--- what stands before a first name
+-- the part of a path's text before the first name joined to it
 lead : List ℕ → List ℕ
 lead p = cond (length p == 0) [] (cond (slice_index p (length p - 1) == 47) p (p ++ 47 ∷ []))
 
@@ -65,7 +65,7 @@ joined_lead p n ns is all =
 pub joined_texts_spell : JoinedTextsSpell
 joined_texts_spell p n ns is all = joined_lead p n ns is all ∙ sym (ap (λ (q : List ℕ). q ++ slashed ns) (join_lead p n))
 
--- names of one first name and equal texts
+-- if two paths below one path are equal and share their first name, the texts of their other names are equal
 same_below : (p n : List ℕ) (ns ms : List (List ℕ)) → IsProperName n → All IsProperName ns → All IsProperName ms
     → joined p (n ∷ ns) ≡ joined p (n ∷ ms) → slashed ns ≡ slashed ms
 same_below p n ns ms is all every e =
@@ -76,7 +76,7 @@ same_below p n ns ms is all every e =
 long_digits : (d : List ℕ) → 3 ≤ length d → 4 < length (encode_lower d)
 long_digits d long = omega (arith, length-encode_with lower_digits d)
 
--- the digits, read off their names' text
+-- the digits, read from the text of the names that hold them
 digits_in : List ℕ → List ℕ
 digits_in t = take 2 (drop 1 t) ++ (take 2 (drop 4 t) ++ drop 7 t)
 
@@ -93,11 +93,11 @@ same_digits g h long long' e = sym (digits_in-cut g long) ∙ ap digits_in e ∙
 
 -- ---- contents
 
--- the algorithm of its name's fourth letter
+-- the algorithm, found by the fourth character of its name
 abbrev by_digit : ℕ → Algorithm
 by_digit n = cond (n == 49) Sha1 (cond (n == 50) Sha256 (cond (n == 51) Sha384 Sha512))
 
--- the algorithm that a name's text after a slash is of, and what follows it
+-- the algorithm whose name follows a slash in a text, and the text after that name
 abbrev algorithm_in : List ℕ → Algorithm
 algorithm_in t = by_digit (get_or t 4 0)
 
@@ -116,7 +116,7 @@ after_name-name Sha256 t = refl
 after_name-name Sha384 t = refl
 after_name-name Sha512 t = refl
 
--- a content's names below the folder of contents
+-- the text of a content's names below the folder of contents
 text_in : Hash → List ℕ
 text_in h = slashed (name_of h.algorithm ∷ cut_digits (encode_lower h.digest))
 
@@ -145,7 +145,7 @@ same_bucket cache d e p q same =
 
 -- ---- temporary files
 
--- a number's digits, read off its name's text
+-- a number's digits, read from the text of its name
 digits_behind : List ℕ → List ℕ
 digits_behind t = drop 5 t
 

@@ -1,11 +1,11 @@
--- A printed integrity reads as itself.
+-- The printed text of an integrity reads as that integrity.
 use Rattle.std.proofs.{Common.{◌≡◌, ◌≤◌, ◌+◌, ◌*◌, ◌/◌, ◌%◌, ◌||◌, ℕ, zero, suc, Bool, true, false, List, [], ◌∷◌, ◌++◌, length, replicate, slice_index, map, Ok, Err, refl, ap, ap₂, ◌∙◌, cond, not, length-append, arith, codes}, lemmas.{Bool.{le-ltb, ne_eqb}, List.{Splits.{slice_split_none, slice_split_at}, Elements.{All-nil, All-cons, All-head, All-tail, All-append}}}}
 use Rattle.std.specs.{Prelude.{All}, List.{filter, list_any}}
 use Rattle.base64.specs.{Rfc4648.{encode_symbols, encode_group, padding_len}, Engines.{standard}, GeneralPurpose.{encode_of, decode_of, IsBytes}}
 use Rattle.base64.proofs.EngineFacts.{decode_of-encode_of}
 use Rattle.cacache_core.specs.{declared.{errors.IntegrityFault.TheVariants.{ShortDigest}, integrity.{algorithm.Algorithm.{Algorithm, TheVariants.{Sha1, Sha256, Sha384, Sha512}}, digest.Hash.{Hash}}}, Integrity.{IsHash, IsIntegrity}, Texts.{name_of, hash_text, integrity_text, is_blank, is_some_text, words, decoded_hash, read_word, first_and, read_words, kept_hashes, read_integrity}}
 
--- a byte that is no blank
+-- a byte that isn't a blank
 abbrev IsLetter : ℕ → Type 0
 IsLetter b = is_blank b ≡ false
 
@@ -35,7 +35,7 @@ letters-replicate : (n b : ℕ) → IsLetter b → All IsLetter (replicate n b)
 letters-replicate zero b h = All-nil IsLetter
 letters-replicate (suc n) b h = All-cons IsLetter b (replicate n b) h (letters-replicate n b h)
 
--- a list whose elements pass, and what stands past its end too
+-- if no byte of a text is a blank, reading it at any index finds no blank, even past its end
 letters_at : (t : List ℕ) (k : ℕ) → All IsLetter t → IsLetter (slice_index t k)
 letters_at [] k all = refl
 letters_at (b ∷ t) zero all = All-head IsLetter b t all
@@ -71,7 +71,7 @@ letters-hash_text h =
     All-append IsLetter (name_of h.algorithm) (45 ∷ encode_of standard h.digest) (letters-name_of h.algorithm)
     (All-cons IsLetter 45 (encode_of standard h.digest) refl (letters-encode_of h.digest))
 
--- ---- a printed integrity's words are its hashes' texts
+-- ---- the words of a printed integrity are the texts of its hashes
 
 some-hash_text : (h : Hash) → is_some_text (hash_text h) ≡ true
 some-hash_text h =
@@ -92,7 +92,7 @@ words-text_of [] = refl
 words-text_of (h ∷ []) = words_one h
 words-text_of (h ∷ g ∷ hs) = words_more h (integrity_text (g ∷ hs)) ∙ ap (λ (l : List (List ℕ)). hash_text h ∷ l) (words-text_of (g ∷ hs))
 
--- ---- and each reads as its hash
+-- ---- each of these words reads as its hash
 
 read_behind : (a : Algorithm) (d : List ℕ) → IsBytes d → 3 ≤ length d → decoded_hash a (decode_of standard (encode_of standard d)) ≡ Ok (record { algorithm = a; «digest» = d })
 read_behind a d bytes long =

@@ -1,4 +1,4 @@
--- The names of contents, buckets and temporary files are proper ones.
+-- The names of contents, buckets and temporary files are proper names.
 use Rattle.std.proofs.{Common.{◌≡◌, ◌==◌, ◌||◌, ◌<◌, ◌≤◌, ◌/◌, ◌%◌, ℕ, zero, suc, Bool, true, false, List, [], ◌∷◌, ◌++◌, length, take, drop, slice_index, codes, refl, arith, length-drop}, lemmas.{Bool.{ne_eqb}, List.{length-take-le, Elements.{All-nil, All-cons}, Folds.{list_any_at}}}}
 use Rattle.std.specs.{List.{list_any}, Prelude.{All}, Int.{to_be_bytes, w64}}
 use Rattle.base64.specs.GeneralPurpose.{IsBytes}
@@ -20,7 +20,7 @@ no_end n clear = none_of_fewer ends_name is_special (λ c h. (or_parts (ends_nam
 some_length : (c : ℕ) (n : List ℕ) → (length (c ∷ n) == 0) ≡ false
 some_length c n = ne_eqb (length (c ∷ n)) 0 (λ e. absurd (omega arith))
 
--- ---- a text without any of these is a proper name
+-- ---- a text that isn't empty and has none of these is a proper name
 
 pub proper : (n : List ℕ) → 0 < length n → list_any is_special n ≡ false → IsProperName n
 proper [] some clear = absurd (omega arith)

@@ -2,7 +2,7 @@
 use Rattle.std.proofs.Common.{◌≡◌, Bool, true, false, cond, List, [], ◌∷◌, ◌++◌, ℕ, Result, Ok, Err, refl, sym, ap, ◌∙◌, append_assoc, append-nil, length, ◌<◌, arith}
 use Rattle.cacache_core.specs.{declared.{errors.{Error.{Error, TheVariants.{EntryNotFound, SizeMismatch, IoError, SerdeError, IntegrityError, OutOfMemory}}, IntegrityFault.{IntegrityFault, TheVariants.{BadText}}}, integrity.digest.Hash.{Hash}}, Integrity.{strongest_first}, Texts.{first_and, kept_hashes, read_word, read_words, read_integrity, words}, Refusals.{IsReadFailure}}
 
--- hashes that were read before the others
+-- the hashes read so far, put before the result of reading the rest
 abbrev pub before : List Hash → Result (List Hash) IntegrityFault → Result (List Hash) IntegrityFault
 before hs (Ok gs) = Ok (hs ++ gs)
 before hs (Err e) = Err e
@@ -34,7 +34,7 @@ read_fault hs w ws vs e cut is =
     ap (λ (l : List (List ℕ)). before hs (read_words l)) cut
     ∙ ap (λ (r : Result Hash IntegrityFault). before hs (first_and r (read_words ws))) is
 
--- the failure of a word is that of the whole
+-- if the next word fails to read, reading all words fails in the same way
 pub fail_at : (hs : List Hash) (w : List ℕ) (ws vs : List (List ℕ)) (all : Result (List Hash) IntegrityFault) (e : Error)
     → all ≡ before hs (read_words vs) → vs ≡ w ∷ ws → IsReadFailure (read_word w) e → IsReadFailure all e
 fail_at hs w ws vs all (EntryNotFound cache key) same cut fails = fails
@@ -44,7 +44,7 @@ fail_at hs w ws vs all (SerdeError cause text) same cut fails = fails
 fail_at hs w ws vs all (IntegrityError fault) same cut fails = same ∙ read_fault hs w ws vs fault cut fails
 fail_at hs w ws vs all OutOfMemory same cut fails = fails
 
--- the choice of the fourth of four tests
+-- if only the fourth of four tests passes, its value is chosen
 pub fourth : {A : Type 0} (a b c d : Bool) (x y z u v : A) → a ≡ false → b ≡ false → c ≡ false → d ≡ true
     → cond a x (cond b y (cond c z (cond d u v))) ≡ u
 fourth false false false true x y z u v p q r s = refl
@@ -53,7 +53,7 @@ fourth false false true d x y z u v p q r s = cc
 fourth false true c d x y z u v p q r s = cc
 fourth true b c d x y z u v p q r s = cc
 
--- hashes, if there are any, are kept in order
+-- if the words have one or more hashes, the text reads as them in order
 pub read_some : (t : List ℕ) (hs : List Hash) → read_words (words t) ≡ Ok hs → 0 < length hs → read_integrity t ≡ Ok (strongest_first hs)
 unfolding read_integrity
 read_some t [] is some = absurd (omega arith)
@@ -65,7 +65,7 @@ unfolding read_integrity
 read_none t [] is none = ap kept_hashes is
 read_none t (h ∷ hs) is none = absurd (omega arith)
 
--- a word's failure is the text's
+-- if reading the words fails, reading the text fails in the same way
 pub read_failed : (t : List ℕ) (e : Error) → IsReadFailure (read_words (words t)) e → IsReadFailure (read_integrity t) e
 unfolding read_integrity
 read_failed t (EntryNotFound cache key) fails = fails

@@ -1,11 +1,11 @@
--- A text reads as an integrity exactly where it is one of that integrity.
+-- A text reads as an integrity exactly if it is one of that integrity's texts.
 use Rattle.std.proofs.{Common.{◌≡◌, ◌≤◌, ◌<◌, ℕ, zero, suc, Bool, true, false, cond, List, [], ◌∷◌, ◌++◌, length, drop, nat_eq, nat_lt, codes, Result, Ok, Err, refl, sym, ap, ap₂, subst, ◌∙◌, inl, inr, arith, ◌⊎◌}, lemmas.{Bool.{cases_Bool, ltb-false, Decides.{Decides-eqb}}, List.{Elements.{All-nil, All-cons, All-head, All-tail, All-filter, All-same}, Splits.{slice_split-cons_yes, slice_split-cons_no}}, Slice.Eq.{starts_is}}}
 use Rattle.std.specs.{Prelude.{All}, List.{starts_with, slice_split, onto_first}}
 use Rattle.base64.{specs.{declared.decode.DecodeError.{DecodeError}, Engines.{standard}, GeneralPurpose.{decode_of, IsBytes}}, proofs.EngineFacts.{decode_of_strict}}
 use Rattle.cacache_core.specs.{declared.{errors.IntegrityFault.{IntegrityFault, TheVariants.{ShortDigest}}, integrity.{algorithm.Algorithm.{Algorithm, TheVariants.{Sha1, Sha256, Sha384, Sha512}}, digest.Hash.{Hash}}}, Integrity.{IsHash, IsIntegrity, hash_of}, Texts.{name_of, hash_text, is_blank, is_some_text, words, long_hash, decoded_hash, hash_behind, read_word, first_and, read_words, kept_hashes, read_integrity, AreHashes, IsIntegrityText}}
 use Rattle.cacache_core.proofs.{Decoded.{bytes_drop, decoded_is_bytes}, Order.{ordered_is_integrity}, Printed.{read_word-hash_text}, ReadLemmas.{read_some}}
 
--- ---- what is in the relation reads so
+-- ---- a text in the relation reads as its integrity
 
 are_read : (ws : List (List ℕ)) (hs : List Hash) → AreHashes ws hs → read_words ws ≡ Ok hs
 are_read [] [] are = refl
@@ -18,7 +18,7 @@ pub text_reads : (t : List ℕ) (i : List Hash) → IsIntegrityText t i → read
 text_reads t i is =
     read_some t is.written (are_read (words t) is.written is.spelled) is.nonempty ∙ ap (λ (l : List Hash). Ok l) (sym is.ordered)
 
--- ---- what reads so is in the relation: a word
+-- ---- the converse, for one word: if it reads as a hash, it is in the relation
 
 choose : {A : Type 0} (b : Bool) (x y z : A) → cond b x y ≡ z → ((b ≡ true) × (x ≡ z)) ⊎ ((b ≡ false) × (y ≡ z))
 choose true x y z e = inl (refl, e)
@@ -27,7 +27,7 @@ choose false x y z e = inr (refl, e)
 begins : (w p : List ℕ) → starts_with nat_eq w p ≡ true → w ≡ p ++ drop (length p) w
 begins w p = (starts_is Decides-eqb w p (starts_with nat_eq w p) refl).0
 
--- the word's hash is long, and the word its text
+-- the word is the text of the hash, and the digest is long enough
 abbrev IsTextOf : List ℕ → Hash → Type 0
 IsTextOf w h = (w ≡ hash_text h) × IsHash h
 
@@ -66,7 +66,7 @@ word_is_text w h bytes e = elim (choose (starts_with nat_eq w (codes "sha1-")) _
   ]
 ]
 
--- ---- words of bytes are bytes
+-- ---- the words of a text of bytes consist of bytes
 
 cons_bytes : (b : ℕ) (s : List ℕ) → b < 256 → IsBytes s → IsBytes (b ∷ s)
 cons_bytes b s small bytes zero = small
@@ -85,7 +85,7 @@ split_bytes (b ∷ t) bytes = elim (cases_Bool (is_blank b)) [
       (onto_bytes b (slice_split is_blank t) (bytes 0) (split_bytes t (λ k. bytes (suc k))))
 ]
 
--- ---- and all words
+-- ---- the converse, for all words
 
 first_ok : (r : Result Hash IntegrityFault) (s : Result (List Hash) IntegrityFault) (l : List Hash) → first_and r s ≡ Ok l
     → (h : Hash) × (hs : List Hash) × (r ≡ Ok h) × (s ≡ Ok hs) × (h ∷ hs ≡ l)

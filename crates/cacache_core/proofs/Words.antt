@@ -3,18 +3,18 @@ use Rattle.std.proofs.{Common.{◌≡◌, ◌<◌, ◌≤◌, ℕ, zero, suc, Bo
 use Rattle.std.specs.List.{slice_split, onto_first, filter}
 use Rattle.cacache_core.specs.Texts.{is_blank, is_some_text, words}
 
--- a blank before a text changes no word
+-- a blank before a text doesn't change its words
 pub words_blank : (b : ℕ) (t : List ℕ) → is_blank b ≡ true → words (b ∷ t) ≡ words t
 words_blank b t e = ap (λ (l : List (List ℕ)). filter is_some_text l) (slice_split-cons_yes is_blank b t e)
 
--- nor do blanks
+-- several blanks before a text don't change its words
 pub skip_blanks : (t : List ℕ) (i : ℕ) → i ≤ length t → ((k : ℕ) → k < i → is_blank (get_or t k 0) ≡ true) → words (drop i t) ≡ words t
 skip_blanks t zero within blanks = refl
 skip_blanks [] (suc i) within blanks = absurd (omega arith)
 skip_blanks (b ∷ t) (suc i) within blanks =
     skip_blanks t i (omega arith) (λ k below. blanks (suc k) (omega arith)) ∙ sym (words_blank b t (blanks 0 (omega arith)))
 
--- the parts after a first one that ends where s begins
+-- the parts after the first one, if the rest of the text after the first part is s
 abbrev parts_after : List ℕ → List (List ℕ)
 parts_after [] = []
 parts_after (b ∷ s) = slice_split is_blank s
@@ -53,7 +53,7 @@ cut_word (b ∷ t) (suc j) some within letters blank =
     ∙ kept_first b (take j t) (parts_after (drop j t))
     ∙ ap (λ (l : List (List ℕ)). (b ∷ take j t) ∷ l) (words_after (drop j t) end)
 
--- a text that begins with no blank has its first blank later
+-- if a text doesn't begin with a blank, its first blank comes later
 pub some_letter : (t : List ℕ) (j : ℕ) → 0 < length t → is_blank (get_or t 0 0) ≡ false → (j < length t → is_blank (get_or t j 0) ≡ true) → 0 < j
 some_letter t zero some letter blank = let clash : true ≡ false = sym (blank some) ∙ letter in cc
 some_letter t (suc j) some letter blank = omega arith

@@ -1,19 +1,19 @@
--- The order of hashes and of integrities, and what a map's hasher is fed of them.
+-- The order of hashes and of integrities, and what they feed to a map's hasher.
 use Rattle.std.specs.{Prelude.{◌≡◌, ℕ, ◌++◌, List, Some}, Cmp.{IsTotalOrder, IsPartialOrder, po, then_total, on_total, nat_cmp_total, both_tied, unsigned_ties, Lexicographic.{slice_cmp, lists_total, lists_ties, texts_ties, nat_list_cmp_total}}, Ordering.{nat_cmp, ordering_then, eq_by_cmp}, declared.cmp.Ordering.{Ordering}}
 use Rattle.std.specs.Hash as fed
 use Rattle.cacache_core.specs.{declared.integrity.digest.Hash.{Hash}, Integrity.{rank}, Same.{same_hash, same_hashes}}
 
--- the stronger algorithm first, and then by the digests' bytes
+-- the stronger algorithm comes first; hashes of one algorithm are ordered by their digests' bytes
 abbrev pub hash_cmp : Hash → Hash → Ordering
 hash_cmp h g =
     ordering_then (nat_cmp (rank h.algorithm) (rank g.algorithm))
     (slice_cmp nat_cmp h.digest g.digest)
 
--- hash by hash; a beginning of other hashes comes before them
+-- compared hash by hash; a proper prefix comes before the longer list
 abbrev pub hashes_cmp : List Hash → List Hash → Ordering
 hashes_cmp = slice_cmp hash_cmp
 
--- the algorithm's place, and then the digest's bytes
+-- the rank of the algorithm, and then the digest's bytes
 abbrev pub hash_fed : Hash → List (List ℕ)
 hash_fed h = fed.u8 (rank h.algorithm) ++ fed.slice fed.u8 h.digest
 

@@ -1,10 +1,10 @@
--- Which fault an io error is, and which error a failure becomes under a context.
+-- Which fault an I/O error becomes, and which error a failure becomes when a context is added.
 use Rattle.std.specs.{Prelude.{◌≡◌, Option, None, Some, Result, MatchResult}, declared.io.ErrorKind.{ErrorKind}}
 use Rattle.std.specs.declared.io.ErrorKind.TheVariants as kind
 use Rattle.cacache_core.specs.declared.errors.{Error.{Error}, Fault.{Fault, TheVariants.{NotFound, AlreadyExists, NotADirectory, IsADirectory, NotEmpty, Unsupported, InvalidInput, WriteZero, TooDeep, Device}}}
 use Rattle.cacache_core.specs.declared.errors.Error.TheVariants as error
 
--- the fault of an io error's kind: a kind without a fault of its own is a failure of the device
+-- the fault for an I/O error's kind: a kind without a fault of its own counts as a device failure
 abbrev pub fault_of : ErrorKind → Fault
 fault_of kind.NotFound = NotFound
 fault_of kind.AlreadyExists = AlreadyExists
@@ -17,7 +17,7 @@ fault_of kind.WriteZero = WriteZero
 fault_of kind.FilesystemLoop = TooDeep
 fault_of _ = Device
 
--- the fault of a step that failed: no other error has one
+-- the fault in an error, which only the error of a failed step has
 abbrev pub fault_in : Error → Option Fault
 fault_in (error.EntryNotFound cache key) = None
 fault_in (error.SizeMismatch wanted found) = None

@@ -1,4 +1,4 @@
--- What an algorithm computes of bytes.
+-- What an algorithm computes from bytes.
 use Rattle.std.specs.Prelude.{ℕ, List}
 use Rattle.hex.specs.Hex.{encode_lower}
 use Rattle.sha1.specs.Sha1.{sha1}

@@ -1,4 +1,4 @@
--- What a fault is called.
+-- How a fault is described in words.
 use Rattle.std.specs.Prelude.{ℕ, List, codes}
 use Rattle.cacache_core.specs.declared.errors.Fault.{Fault, TheVariants.{NotFound, AlreadyExists, NotADirectory, IsADirectory, NotEmpty, Unsupported, InvalidInput, WriteZero, ShortAppend, Closed, OtherBytes, Cancelled, TooDeep, Device}}
 

@@ -1,4 +1,4 @@
--- Hashers of the four algorithms: which message each was fed.
+-- Hashers for the four algorithms, and the message that each was fed.
 use Rattle.std.specs.Prelude.{ℕ, List}
 use Rattle.sha1.specs.Sha1.{Holds as HoldsSha1}
 use Rattle.sha2.specs.Hashers.{Holds256, Holds384, Holds512}
@@ -13,14 +13,14 @@ algorithm_of (Sha256 h) = algorithm.Sha256
 algorithm_of (Sha384 h) = algorithm.Sha384
 algorithm_of (Sha512 h) = algorithm.Sha512
 
--- the hasher was fed the bytes m, however cut
+-- the hasher was fed the bytes m, in pieces of any size
 abbrev pub Holds : Hasher → List ℕ → Type 0
 Holds (Sha1 h) m = HoldsSha1 h m
 Holds (Sha256 h) m = Holds256 h m
 Holds (Sha384 h) m = Holds384 h m
 Holds (Sha512 h) m = Holds512 h m
 
--- the bytes of a digest that is held without memory
+-- the bytes of a digest that is held without allocated memory
 abbrev pub finished_bytes : Finished → List ℕ
 finished_bytes (finished.Sha1 b) = b
 finished_bytes (finished.Sha256 b) = b

@@ -4,11 +4,11 @@ use Rattle.base64.specs.GeneralPurpose.{IsBytes}
 use Rattle.hex.specs.Hex.{encode_lower}
 use Rattle.cacache_core.specs.{declared.integrity.{algorithm.Algorithm.{Algorithm, TheVariants.{Sha1, Sha256, Sha384, Sha512}}, digest.Hash.{Hash}}, Digests.{digest}}
 
--- a hash, by its two parts
+-- a hash, made of its two parts
 abbrev pub hash_of : Algorithm → List ℕ → Hash
 hash_of a d = record { algorithm = a; «digest» = d }
 
--- the place of an algorithm, strongest first
+-- the rank of an algorithm; the strongest has rank 0
 abbrev pub rank : Algorithm → ℕ
 rank Sha512 = 0
 rank Sha384 = 1
@@ -19,18 +19,18 @@ rank Sha1 = 3
 abbrev pub is_of : Algorithm → Hash → Bool
 is_of a h = rank h.algorithm == rank a
 
--- the hashes, strongest algorithm first and each algorithm's in their order
+-- the hashes, strongest algorithm first; the hashes of one algorithm keep their order
 abbrev pub strongest_first : List Hash → List Hash
 strongest_first hs =
     filter (is_of Sha512) hs ++ filter (is_of Sha384) hs
     ++ filter (is_of Sha256) hs ++ filter (is_of Sha1) hs
 
--- a hash holds three bytes or more
+-- a hash has a digest of at least three bytes
 pub record IsHash (h : Hash) : Type 0 where
   pub bytes : IsBytes h.digest
   pub long_enough : 3 ≤ length h.digest
 
--- one hash or more, strongest algorithm first
+-- one or more hashes, strongest algorithm first
 pub record IsIntegrity (i : List Hash) : Type 0 where
   pub nonempty : 0 < length i
   pub ordered : strongest_first i ≡ i
@@ -41,7 +41,7 @@ abbrev pub address : List Hash → Option Hash
 address [] = None
 address (h ∷ hs) = Some h
 
--- a digest of the algorithm stands among the hashes
+-- one of the hashes has this algorithm and this digest
 abbrev pub HasDigest : List Hash → Algorithm → List ℕ → Type 0
 HasDigest i a d = Contains i (hash_of a d)
 
@@ -49,7 +49,7 @@ HasDigest i a d = Contains i (hash_of a d)
 abbrev pub IsHexOf : Hash → Algorithm → List ℕ → Type 0
 IsHexOf h a digits = (a ≡ h.algorithm) × (digits ≡ encode_lower h.digest)
 
--- the bytes' digest under the strongest algorithm stands beside it
+-- the bytes' digest under the strongest algorithm is listed with that algorithm
 abbrev pub Meets : List Hash → List ℕ → Type 0
 Meets [] b = ⊥
 Meets (h ∷ hs) b = Contains (h ∷ hs) (hash_of h.algorithm (digest h.algorithm b))
@@ -58,17 +58,17 @@ Meets (h ∷ hs) b = Contains (h ∷ hs) (hash_of h.algorithm (digest h.algorith
 abbrev pub integrity_under : Algorithm → List ℕ → List Hash
 integrity_under a b = hash_of a (digest a b) ∷ []
 
--- the strongest algorithm: the address's
+-- the strongest algorithm, which is that of the address
 abbrev pub strongest : List Hash → Option Algorithm
 strongest [] = None
 strongest (h ∷ hs) = Some h.algorithm
 
--- the integrity of bytes under the strongest algorithm of another
+-- the integrity of bytes under the strongest algorithm of another integrity
 abbrev pub actual : List Hash → List ℕ → List Hash
 actual [] b = []
 actual (h ∷ hs) b = integrity_under h.algorithm b
 
--- both list one digest of the algorithm
+-- both list the same digest of the algorithm
 abbrev pub ShareDigest : Algorithm → List Hash → List Hash → Type 0
 ShareDigest a i j =
     (d : List ℕ) × Contains i (hash_of a d) × Contains j (hash_of a d)

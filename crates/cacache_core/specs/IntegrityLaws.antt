@@ -1,12 +1,12 @@
--- What holds of integrities: the tests on them say what the relations do.
+-- Laws of integrities: the tests on them agree with the relations.
 use Rattle.std.specs.Prelude.{◌≡◌, ◌↔◌, ℕ, List, true, Some, Contains}
 use Rattle.cacache_core.specs.{declared.integrity.{algorithm.Algorithm.{Algorithm}, digest.Hash.{Hash}}, Integrity.{Meets, ShareDigest, strongest, integrity_under}, Meeting.{lists, meets, matching}}
 
--- the test of a list finds each of its hashes and no other
+-- the test on a list finds each of its hashes and no other
 abbrev pub ListsFindsHashes : Type 0
 ListsFindsHashes = (hashes : List Hash) (h : Hash) → (lists hashes h ≡ true) ↔ Contains hashes h
 
--- bytes pass the test of an integrity exactly where they meet it
+-- bytes pass the test of an integrity exactly if they meet it
 abbrev pub MeetsFindsBytes : Type 0
 MeetsFindsBytes = (i : List Hash) (b : List ℕ) → (meets i b ≡ true) ↔ Meets i b
 

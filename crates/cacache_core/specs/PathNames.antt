@@ -6,7 +6,7 @@ use Rattle.cacache_core.specs.declared.errors.Fault.{Fault, TheVariants.{NotFoun
 abbrev pub Names : Type 0
 Names = List (List ℕ)
 
--- what stands between the slashes
+-- the pieces of a path between its slashes
 unfoldable pub pieces : List ℕ → Names
 pieces path = slice_split (λ b. b == 47) path
 
@@ -22,18 +22,18 @@ is_name piece = not (length piece == 0 || pointwise nat_eq piece (46 ∷ []))
 abbrev pub is_bad : List ℕ → Bool
 is_bad path = list_any (λ b. b == 0) path || list_any is_above (pieces path)
 
--- the names of a path's text, or why it has none
+-- the names in a path's text, or the fault if it has none
 unfoldable pub names_of : List ℕ → Result Names Fault
 names_of path =
     if length path == 0 then Err NotFound
     else if is_bad path then Err InvalidInput
     else Ok (filter is_name (pieces path))
 
--- `/` and NUL, which no name holds
+-- `/` and NUL, which no name contains
 abbrev pub ends_name : ℕ → Bool
 ends_name b = b == 47 || b == 0
 
--- a name that stands for one thing in its folder: not empty, `.` or `..`, with no `/` and no NUL
+-- a name for one thing in its folder: not empty, `.` or `..`, with no `/` and no NUL
 abbrev pub IsProperName : List ℕ → Type 0
 IsProperName name =
     (is_name name ≡ true) × (is_above name ≡ false) × (list_any ends_name name ≡ false)
@@ -42,7 +42,7 @@ IsProperName name =
 unfoldable pub home_of : List ℕ → Option Names
 home_of cache = if is_bad cache then None else Some (filter is_name (pieces cache))
 
--- the names of what lies below a cache's folder, from the top folder down
+-- the full names of something below a cache's folder, from the top folder down
 abbrev pub names_below : Option Names → Names → Result Names Fault
 names_below None names = Err InvalidInput
 names_below (Some home) names = Ok (home ++ names)

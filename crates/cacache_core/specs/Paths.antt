@@ -1,4 +1,4 @@
--- Where contents, buckets and temporary files lie: names below the cache folder, and path texts.
+-- The paths of contents, buckets and temporary files, as names below the cache folder and as texts.
 use Rattle.std.specs.{Prelude.{◌≡◌, ℕ, ◌-◌, ◌==◌, List, [], ◌∷◌, ◌++◌, if◌then◌else◌, length, take, drop, slice_index, codes}, Int.{to_be_bytes, w64}}
 use Rattle.hex.specs.Hex.{encode_lower}
 use Rattle.sha1.specs.Sha1.{sha1}
@@ -16,15 +16,15 @@ index_area = codes "index-v5"
 abbrev pub temp_area : List ℕ
 temp_area = codes "tmp"
 
--- digits cut as two, two and the rest
+-- digits cut into the first two, the next two and the rest
 abbrev pub cut_digits : List ℕ → List (List ℕ)
 cut_digits h = take 2 h ∷ take 2 (drop 2 h) ∷ drop 4 h ∷ []
 
--- the names of a content's path: the folder of contents, the algorithm, the digest's hex digits
+-- the names of a content's path: the folder of contents, the algorithm, the cut hex digits of the digest
 abbrev pub content_names : Hash → List (List ℕ)
 content_names h = content_area ∷ name_of h.algorithm ∷ cut_digits (encode_lower h.digest)
 
--- the names of a bucket's path: the folder of buckets, the hex digits of the digest of its keys
+-- the names of a bucket's path: the folder of buckets, the cut hex digits of its keys' digest
 abbrev pub bucket_names_of : List ℕ → List (List ℕ)
 bucket_names_of digest = index_area ∷ cut_digits (encode_lower digest)
 
@@ -32,28 +32,28 @@ bucket_names_of digest = index_area ∷ cut_digits (encode_lower digest)
 abbrev pub bucket_names : List ℕ → List (List ℕ)
 bucket_names key = bucket_names_of (sha1 key)
 
--- the names of a temporary file's path: the folder of such files, its number in 16 hex digits
+-- the names of a temporary file's path: the folder of such files, then `.tmp` and its number in 16 hex digits
 abbrev pub temp_names : ℕ → List (List ℕ)
 temp_names number = temp_area ∷ (codes ".tmp" ++ encode_lower (to_be_bytes w64 number)) ∷ []
 
--- a path and a name below it
+-- a path with a name joined to it
 unfoldable pub join : List ℕ → List ℕ → List ℕ
 join path b =
     if length path == 0 then b
     else if slice_index path (length path - 1) == 47 then path ++ b
     else path ++ 47 ∷ b
 
--- a path and names below it, one after another
+-- a path with names joined to it, one after another
 abbrev pub joined : List ℕ → List (List ℕ) → List ℕ
 joined path [] = path
 joined path (n ∷ ns) = joined (join path n) ns
 
--- names, each behind a slash
+-- names, each after a slash
 abbrev pub slashed : List (List ℕ) → List ℕ
 slashed [] = []
 slashed (n ∷ ns) = 47 ∷ n ++ slashed ns
 
--- the names without the last: where a file's folder lies
+-- the names without the last: those of a file's folder
 abbrev pub folder_names : List (List ℕ) → List (List ℕ)
 folder_names [] = []
 folder_names (n ∷ []) = []
@@ -63,29 +63,29 @@ folder_names (n ∷ m ∷ ns) = n ∷ folder_names (m ∷ ns)
 abbrev pub folder_of_hash : List ℕ → Hash → List ℕ
 folder_of_hash cache h = joined cache (folder_names (content_names h))
 
--- the names of the folders of a digest's first byte and of its second
+-- the names of the folders for a digest's first and second byte
 abbrev pub digest_folders : List ℕ → List (List ℕ)
 digest_folders digest = folder_names (cut_digits (encode_lower digest))
 
--- the name of all other bytes of a digest
+-- the name made of a digest's other bytes
 abbrev pub digest_file : List ℕ → List ℕ
 digest_file digest = drop 4 (encode_lower digest)
 
--- a path, and the path of each name below it but the last
+-- a path, and the path of each name below it except the last
 abbrev pub folders_to : List ℕ → List (List ℕ) → List (List ℕ)
 folders_to path [] = []
 folders_to path (n ∷ ns) = path ∷ folders_to (join path n) ns
 
--- the first names are a beginning of the second
+-- the first names are a prefix of the second
 pub record Begins (ns ms : List (List ℕ)) : Type 0 where
   pub count : ℕ
   pub same : take count ms ≡ ns
 
--- neither is a beginning of the other
+-- neither is a prefix of the other
 abbrev pub AreApart : List (List ℕ) → List (List ℕ) → Type 0
 AreApart ns ms = (¬ Begins ns ms) × (¬ Begins ms ns)
 
--- the folders of a digest below a path: the path itself, those of its first byte and of its second
+-- the folders of a digest below a path: the path itself, and those for its first and its second byte
 abbrev pub folders_of_digest : List ℕ → List ℕ → List (List ℕ)
 folders_of_digest path digest = folders_to path (cut_digits (encode_lower digest))
 

@@ -8,10 +8,10 @@ use Rattle.cacache_core.specs.{declared.integrity.{algorithm.Algorithm.{Algorith
 abbrev pub last_algorithm : IntegrityOpts → Algorithm
 last_algorithm o = o.chosen
 
--- the builder was fed the bytes m, however cut
+-- the builder was fed the bytes m, in pieces of any size
 abbrev pub WasFed : IntegrityOpts → List ℕ → Type 0
 WasFed o m = Holds512 o.sha512 m × Holds384 o.sha384 m × Holds256 o.sha256 m × HoldsSha1 o.sha1 m
 
--- the checker was fed the bytes m, however cut, against the integrity i
+-- the checker for the integrity i was fed the bytes m, in pieces of any size
 abbrev pub Compares : IntegrityChecker → List Hash → List ℕ → Type 0
 Compares c i m = (c.wanted ≡ i) × (strongest i ≡ Some (algorithm_of c.hasher)) × Holds c.hasher m

@@ -1,4 +1,4 @@
--- Equality of hashes and of lists of them, as a test that computes.
+-- Equality of hashes, and of lists of hashes, as a computable test.
 use Rattle.std.specs.{Prelude.{◌≡◌, ℕ, ◌==◌, nat_eq, List, Bool, true, ◌&&◌}, Bool.{Decides}, Cmp.{IsEquivalence, decided, unsigned_Decides, Lexicographic.{pointwise, pointwise_decides, bytes_decides}}}
 use Rattle.std.proofs.Common.{refl, sym, ap, ap₂, ◌∙◌, cond, false}
 use Rattle.cacache_core.specs.{declared.integrity.{algorithm.Algorithm.{Algorithm, TheVariants.{Sha1, Sha256, Sha384, Sha512}}, digest.Hash.{Hash}}, Integrity.{rank}}
@@ -11,7 +11,7 @@ same_hash h g = rank h.algorithm == rank g.algorithm && pointwise nat_eq h.diges
 abbrev pub same_hashes : List Hash → List Hash → Bool
 same_hashes = pointwise same_hash
 
--- the algorithm of a rank
+-- the algorithm with a given rank
 abbrev of_rank : ℕ → Algorithm
 of_rank n = cond (n == 0) Sha512 (cond (n == 1) Sha384 (cond (n == 2) Sha256 Sha1))
 
@@ -21,7 +21,7 @@ of_rank-rank Sha384 = refl
 of_rank-rank Sha256 = refl
 of_rank-rank Sha1 = refl
 
--- algorithms of one rank are one
+-- algorithms of the same rank are equal
 pub same_rank : (a b : Algorithm) → rank a ≡ rank b → a ≡ b
 same_rank a b e = sym (of_rank-rank a) ∙ ap of_rank e ∙ of_rank-rank b
 

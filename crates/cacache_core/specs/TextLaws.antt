@@ -1,4 +1,4 @@
--- What holds of the texts of integrities.
+-- Laws of the texts of integrities.
 use Rattle.std.specs.Prelude.{◌≡◌, ◌↔◌, ℕ, List, Ok}
 use Rattle.base64.specs.GeneralPurpose.{IsBytes}
 use Rattle.cacache_core.specs.{declared.integrity.digest.Hash.{Hash}, Integrity.{IsIntegrity}, Texts.{integrity_text, read_integrity, IsIntegrityText}}
@@ -7,12 +7,12 @@ use Rattle.cacache_core.specs.{declared.integrity.digest.Hash.{Hash}, Integrity.
 abbrev pub PrintedTextsRead : Type 0
 PrintedTextsRead = (i : List Hash) → IsIntegrity i → read_integrity (integrity_text i) ≡ Ok i
 
--- a text reads as an integrity exactly where it is one of its texts
+-- a text reads as an integrity exactly if it is one of its texts
 abbrev pub IntegrityTextsRead : Type 0
 IntegrityTextsRead =
     (t : List ℕ) (i : List Hash) → IsBytes t → (read_integrity t ≡ Ok i) ↔ IsIntegrityText t i
 
--- what a text reads as is an integrity
+-- if a text can be read, the result is an integrity
 abbrev pub ReadTextsAreIntegrities : Type 0
 ReadTextsAreIntegrities =
     (t : List ℕ) (i : List Hash) → IsBytes t → read_integrity t ≡ Ok i → IsIntegrity i

@@ -16,7 +16,7 @@ name_of Sha512 = codes "sha512"
 abbrev pub hash_text : Hash → List ℕ
 hash_text h = name_of h.algorithm ++ 45 ∷ encode_of standard h.digest
 
--- the hashes' texts with one space between
+-- the hashes' texts, separated by single spaces
 abbrev pub integrity_text : List Hash → List ℕ
 integrity_text [] = []
 integrity_text (h ∷ []) = hash_text h
@@ -28,24 +28,24 @@ integrity_text (h ∷ g ∷ hs) = hash_text h ++ 32 ∷ integrity_text (g ∷ hs
 abbrev pub is_blank : ℕ → Bool
 is_blank b = b == 32 || b == 9 || b == 10 || b == 12 || b == 13
 
--- the text has a byte
+-- the text isn't empty
 abbrev pub is_some_text : List ℕ → Bool
 is_some_text s = not (length s == 0)
 
--- what stands between runs of blanks
+-- the parts of a text between runs of blanks
 abbrev pub words : List ℕ → List (List ℕ)
 words t = filter is_some_text (slice_split is_blank t)
 
--- the hash of this digest, unless it is too short
+-- the hash with this digest, or a fault if the digest is too short
 abbrev pub long_hash : Algorithm → List ℕ → Result Hash IntegrityFault
 long_hash a d = if nat_lt (length d) 3 then Err ShortDigest else Ok (hash_of a d)
 
--- the hash of what the base64 gave
+-- the hash whose digest was decoded from base64, or the fault
 abbrev pub decoded_hash : Algorithm → Result (List ℕ) DecodeError → Result Hash IntegrityFault
 decoded_hash a (Ok d) = long_hash a d
 decoded_hash a (Err e) = Err BadText
 
--- the hash that follows the name and the dash, n bytes
+-- the hash in a word, after the n bytes of the name and the dash
 abbrev pub hash_behind : Algorithm → ℕ → List ℕ → Result Hash IntegrityFault
 hash_behind a n word = decoded_hash a (decode_of standard (drop n word))
 
@@ -58,14 +58,14 @@ read_word w =
     else if starts_with nat_eq w (codes "sha512-") then hash_behind Sha512 7 w
     else Err BadText
 
--- the first word's hash before the others': the leftmost fault decides
+-- the first word's hash, then those of the others; the leftmost fault decides
 abbrev pub first_and : Result Hash IntegrityFault → Result (List Hash) IntegrityFault
     → Result (List Hash) IntegrityFault
 first_and (Ok h) (Ok hs) = Ok (h ∷ hs)
 first_and (Ok h) (Err e) = Err e
 first_and (Err e) others = Err e
 
--- the words' hashes, or the fault of the first word that is none
+-- the words' hashes, or the fault of the first word that isn't a hash
 abbrev pub read_words : List (List ℕ) → Result (List Hash) IntegrityFault
 read_words [] = Ok []
 read_words (w ∷ ws) = first_and (read_word w) (read_words ws)
@@ -76,7 +76,7 @@ kept_hashes (Ok []) = Err BadText
 kept_hashes (Ok (h ∷ hs)) = Ok (strongest_first (h ∷ hs))
 kept_hashes (Err e) = Err e
 
--- what a text reads as: its integrity, or the fault of the first wrong hash from the left
+-- what a text reads as: its integrity, or the fault of the leftmost wrong hash
 unfoldable pub read_integrity : List ℕ → Result (List Hash) IntegrityFault
 read_integrity t = kept_hashes (read_words (words t))
 
@@ -89,7 +89,7 @@ AreHashes [] (h ∷ hs) = ⊥
 AreHashes (w ∷ ws) [] = ⊥
 AreHashes (w ∷ ws) (h ∷ hs) = (w ≡ hash_text h) × IsHash h × AreHashes ws hs
 
--- the text is the integrity's: its words are one hash or more, which it has strongest first
+-- the text spells the integrity: its words are one or more hashes, which the integrity has strongest first
 pub record IsIntegrityText (t : List ℕ) (i : List Hash) : Type 0 where
   pub written : List Hash
   pub spelled : AreHashes (words t) written

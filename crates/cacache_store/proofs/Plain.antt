@@ -1,4 +1,4 @@
--- Steps and answers with plain files are seen as they are.
+-- Steps and answers that have plain files already are seen unchanged.
 use Rattle.std.proofs.Common.{◌≡◌, refl, ap}
 use Rattle.cacache_store.specs.declared.store.step.Step.TheVariants as steps
 use Rattle.cacache_store.specs.declared.store.answer.Answer.TheVariants as answers

@@ -3,11 +3,11 @@ use Rattle.std.specs.Prelude.{◌≡◌, ◌+◌, ◌^◌, ◌≤◌, ◌<◌, B
 use Rattle.cacache_core.specs.PathNames.{IsProperName}
 use Rattle.cacache_store.specs.{declared.store.{step.Step.TheVariants.{MakeDirs, CreateTemp, Write, Persist, Append, ReadAll, Open, Read, Exists, Size, Symlink, Copy, Reflink, HardLink, ReadDir, RemoveFile, RemoveDir, SyncTemp, SyncFile, SyncDir}, answer.{Answer.TheVariants.{Done, Temp, Wrote, Took, Bytes, File, Got, There, Length, Names, Synced, Failed, NoMemory}, Name.{Name}}, log.LogItem.{LogItem, TheVariants.{Made}}}, Plain.{PlainStep, PlainAnswer}}
 
--- a listing of proper names leads nowhere but into its own folder
+-- all names in a listing are proper, so each leads only to an entry of the listed folder
 abbrev pub AreProperNames : List Name → Type 0
 AreProperNames = All (λ entry. IsProperName entry.name)
 
--- the answer is one of the step's kind, and its count at most what was asked
+-- the answer is of the step's kind, and its count is at most the size that the step requested
 abbrev pub Fits : PlainStep → PlainAnswer → Type 0
 Fits a (Failed fault) = Unit {0}
 Fits a (NoMemory b) = b ≡ a
@@ -33,12 +33,12 @@ Fits (SyncFile p) Done = Unit {0}
 Fits (SyncDir p) Done = Unit {0}
 Fits _ _ = ⊥
 
--- memory was refused, and the step came back
+-- memory was refused, and the answer hands the step back
 abbrev pub is_no_memory : PlainAnswer → Bool
 is_no_memory (NoMemory b) = true
 is_no_memory _ = false
 
--- a log that is kept gains this step and its answer, and nothing where memory was refused
+-- a log that is kept gains this step and its answer, or nothing if memory was refused
 abbrev pub Logs : Option (List LogItem) → Option (List LogItem) → PlainStep → PlainAnswer → Type 0
 Logs old new a t =
     new ≡ (if is_no_memory t then old else option_map (λ log. log ++ Made a t ∷ []) old)

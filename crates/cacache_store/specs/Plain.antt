@@ -12,7 +12,7 @@ abbrev pub PlainAnswer : Type 0
 PlainAnswer = Answer PlainFile PlainTemp
 
 module _ {F T : Type 0} (file : F → PlainFile) (temp : T → PlainTemp) where
-  -- the step with its file as it is seen
+  -- the step with its file replaced by the plain file that contracts see
   abbrev pub plain_step : Step F T → PlainStep
   plain_step (steps.MakeDirs p) = steps.MakeDirs p
   plain_step (steps.CreateTemp p) = steps.CreateTemp p
@@ -35,7 +35,7 @@ module _ {F T : Type 0} (file : F → PlainFile) (temp : T → PlainTemp) where
   plain_step (steps.SyncFile p) = steps.SyncFile p
   plain_step (steps.SyncDir p) = steps.SyncDir p
 
-  -- the answer with its file as it is seen
+  -- the answer with its file replaced by the plain file that contracts see
   abbrev pub plain_answer : Answer F T → PlainAnswer
   plain_answer answers.Done = answers.Done
   plain_answer (answers.Temp t) = answers.Temp (temp t)
