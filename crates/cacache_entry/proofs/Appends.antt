@@ -1,7 +1,7 @@
--- What a growth of a vector says where it succeeds.
+-- What the growth of a vector implies if it succeeds.
 use Rattle.std.{proofs.Common.{◌≡◌, List, ◌++◌, Result, Ok, Err, ◌∙◌}, specs.{Prelude.{OnOk, if◌then◌else◌}, Result.{is_ok}}}
 
--- what holds anyway holds on success
+-- what always holds also holds on success
 pub if_ok : {T E : Type 0} (r : Result T E) (P : Type 0) → P → OnOk r P
 if_ok (Ok x) P p = p
 if_ok (Err e) P p = tt

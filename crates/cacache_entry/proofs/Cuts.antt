@@ -8,12 +8,12 @@ abbrev pub lacks : ℕ → List ℕ → Bool
 lacks at [] = true
 lacks at (b ∷ bs) = not (b == at) && lacks at bs
 
--- what two lists lack, both together lack
+-- a byte that two lists lack isn't in the two together
 pub lacks-append : (at : ℕ) (xs ys : List ℕ) → lacks at xs ≡ true → lacks at ys ≡ true → lacks at (xs ++ ys) ≡ true
 lacks-append at [] ys h k = k
 lacks-append at (x ∷ xs) ys h k = let p = and_parts _ _ h in and_from _ _ p.0 (lacks-append at xs ys p.1 k)
 
--- and a beginning lacks
+-- nor in a beginning of them
 pub lacks-take : (at n : ℕ) (xs : List ℕ) → lacks at xs ≡ true → lacks at (take n xs) ≡ true
 lacks-take at zero xs h = refl
 lacks-take at (suc n) [] h = refl
@@ -37,7 +37,7 @@ step : (t : Bool) (b : ℕ) (ps qs rs : List (List ℕ)) → ps ≢ [] → rs �
 step true b ps qs rs some e = ap (λ l. [] ∷ l) e
 step false b ps qs rs some e = ap (onto_first b) e ∙ onto_first-append b ps qs some
 
--- a cut between two lists gives the pieces of both
+-- a cut between two lists makes the pieces of both
 pub cut-append : (at : ℕ) (xs ys : List ℕ) → cut at (xs ++ at ∷ ys) ≡ cut at xs ++ cut at ys
 cut-append at [] ys = rw (eq-eqb at at refl) refl
 cut-append at (x ∷ xs) ys = step (x == at) x (cut at xs) (cut at ys) (cut at (xs ++ at ∷ ys)) (cut_some at xs) (cut-append at xs ys)

@@ -20,7 +20,7 @@ lacks-encode_with at t (x ∷ xs) h =
     lacks-append at (get_or t (x / 16) 0 ∷ []) (get_or t (x % 16) 0 ∷ encode_with t xs) (lacks-digit at t (x / 16) h)
     (lacks-append at (get_or t (x % 16) 0 ∷ []) (encode_with t xs) (lacks-digit at t (x % 16) h) (lacks-encode_with at t xs h))
 
--- what is neither 0 nor a digit isn't among the digits
+-- a byte that is neither 0 nor a digit isn't among the digits
 pub lacks-sha256_hex : (at : ℕ) (b : List ℕ) → lacks at (0 ∷ lower_digits) ≡ true → lacks at (sha256_hex b) ≡ true
 lacks-sha256_hex at b h = lacks-encode_with at lower_digits (sha256 b) h
 
@@ -42,7 +42,7 @@ IsAscii-tab : (i : ℕ) → get_or (9 ∷ []) i 0 < 128
 IsAscii-tab zero = omega arith
 IsAscii-tab (suc i) = omega arith
 
--- a digest, TAB and a text that is UTF-8 are UTF-8
+-- a digest, a TAB and a UTF-8 text together are UTF-8
 pub IsUtf8-piece : (b t : List ℕ) → IsUtf8 t → IsUtf8 (sha256_hex b ++ 9 ∷ t)
 IsUtf8-piece b t h =
     IsUtf8-append (sha256_hex b) (9 ∷ t) (IsUtf8-from_ascii _ (IsAscii-encode_with lower_digits (sha256 b) IsAscii-lower_digits))

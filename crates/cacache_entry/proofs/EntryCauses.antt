@@ -1,4 +1,4 @@
--- An entry has no cause against it exactly where it fits.
+-- No cause speaks against an entry if and only if the entry fits.
 use Rattle.std.proofs.{Common.{◌≡◌, ℕ, ◌^◌, ◌<◌, ◌≤◌, List, [], ◌∷◌, Bool, true, false, not, Option, Some, None, refl, sym, ap, ◌∙◌, arith}, lemmas.Bool.{leb-true, leb-false, ltb-false, le-ltb, lt-ltb, lt-leb, le-leb}}
 use Rattle.std.specs.Prelude.{nat_lt, nat_le, if◌then◌else◌}
 use Rattle.serde_json.specs.{Data.{depth, items_depth, object}, Read.{max_depth}, Written.{has_float}}
@@ -21,7 +21,7 @@ no_cause false true deep e = absurd cc
 no_cause false false true e = absurd cc
 no_cause false false false e = record { early = refl; whole = refl; flat = refl }
 
--- an entry that has no cause against it has an early time
+-- an entry with no cause against it has an early time
 pub is_early : (e : Entry) → cause_of e ≡ None → e.time < 2 ^ 64
 is_early e h = leb-false _ _ (no_cause _ _ _ h).early
 
@@ -33,7 +33,7 @@ has_no_float e h = (no_cause (nat_le (2 ^ 64) e.time) (has_float e.metadata) (na
 pub nests : (e : Entry) → cause_of e ≡ None → depth (object (members_of e)) ≤ max_depth
 nests e h = ltb-false _ _ (no_cause (nat_le (2 ^ 64) e.time) (has_float e.metadata) (nat_lt max_depth (depth (object (members_of e)))) h).flat
 
--- a well-formed entry that has no cause against it fits
+-- a well-formed entry with no cause against it fits
 pub Fits-no_cause : (e : Entry) → IsEntry e → cause_of e ≡ None → IsWritable e
 Fits-no_cause e h none = record { time = is_early e none; size = h.size; whole = h.metadata.in_range (has_no_float e none); nests = nests e none }
 
@@ -51,7 +51,7 @@ depth-bytes_or_null : (o : Option (List ℕ)) → depth (bytes_or_null o) ≤ 1
 depth-bytes_or_null None = omega arith
 depth-bytes_or_null (Some bs) = omega (arith, depth-byte_items bs)
 
--- the text nests too deep exactly where the metadata nests deeper than 126 levels
+-- the text nests too deep if and only if the metadata nests deeper than 126 levels
 pub is_deep : (e : Entry) → nat_lt max_depth (depth (object (members_of e))) ≡ not (nat_le (depth e.metadata) 126)
 is_deep e = by (nat_le (depth e.metadata) 126) refl
   where
@@ -59,7 +59,7 @@ is_deep e = by (nat_le (depth e.metadata) 126) refl
     by true h = le-ltb _ _ (omega (arith, leb-true _ _ h, depth-text_or_null e.integrity, depth-bytes_or_null e.raw_metadata))
     by false h = lt-ltb _ _ (omega (arith, leb-false _ _ h))
 
--- an early entry with no number that isn't whole, which nests flat enough, has no cause against it
+-- an early entry with only whole numbers, which nests flat enough, has no cause against it
 pub cause_of-none : (e : Entry) → e.time < 2 ^ 64 → has_float e.metadata ≡ false → depth e.metadata ≤ 126 → None ≡ cause_of e
 cause_of-none e early whole flat = by (nat_le (2 ^ 64) e.time) (has_float e.metadata) (nat_lt max_depth (depth (object (members_of e)))) (lt-leb _ _ early) whole (is_deep e ∙ ap not (le-leb _ _ flat))
   where

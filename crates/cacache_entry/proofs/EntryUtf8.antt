@@ -27,7 +27,7 @@ IsUtf8-bytes_or_null : (o : Option (List ℕ)) → AreBytes o → IsUtf8 (compac
 IsUtf8-bytes_or_null None h = IsUtf8-are_ascii _ refl
 IsUtf8-bytes_or_null (Some bs) h = IsUtf8-append (91 ∷ []) _ (IsUtf8-are_ascii (91 ∷ []) refl) (IsUtf8-byte_items false bs h)
 
--- an ASCII name, a UTF-8 value and UTF-8 behind them are UTF-8
+-- an ASCII name, a UTF-8 value and UTF-8 after them are UTF-8
 IsUtf8-member : (name value rest : List ℕ) → are_ascii name ≡ true → IsUtf8 value → IsUtf8 rest → IsUtf8 (name ++ (value ++ rest))
 IsUtf8-member name value rest ascii h after = IsUtf8-append name (value ++ rest) (IsUtf8-are_ascii name ascii) (IsUtf8-append value rest h after)
 

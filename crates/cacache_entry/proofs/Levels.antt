@@ -7,7 +7,7 @@ use Rattle.json.specs.Json as json
 
 -- ---- tokens and lexemes
 
--- how many brackets are open after a token, from k
+-- how many brackets are open after a token, if k are open before it
 abbrev pub after_token : ℕ → Token → ℕ
 after_token k Token.begin_object = suc k
 after_token k Token.end_object = k - 1
@@ -75,7 +75,7 @@ next in_string space = in_string
 next in_string other = in_string
 next in_escape c = in_string
 
--- how many brackets are open after a byte x of the class c, from k
+-- how many brackets are open after a byte x of the class c, if k are open before it
 abbrev pub after_byte : ℕ → Mode → Class → ℕ → ℕ
 after_byte k between quote x = k
 after_byte k between backslash x = k
@@ -151,7 +151,7 @@ unfolding lex
 level-lex k m [] = refl
 level-lex k m (x ∷ xs) = lexed m (class x) k x xs (λ n. lex n xs) ∙ level-lex (after_byte k m (class x) x) (next m (class x)) xs
 
--- ---- so do the tokens, where none is bad
+-- ---- so do the tokens, if none is bad
 
 abbrev Agrees : (Place → List Token) → (ℕ → ℕ) → Type 0
 Agrees more total = (q : Place) (k : ℕ) → are_fine (more q) ≡ true → after_tokens k (more q) ≡ total k
@@ -220,7 +220,7 @@ closed : (k : ℕ) (rest : List Token) → after_tokens (suc k - 1) rest ≡ aft
 closed k rest = let e : suc k - 1 ≡ k = omega arith in ap (λ i. after_tokens i rest) e
 
 mutual
-  -- a value's tokens leave open what was open
+  -- after a value's tokens, the same brackets are open as before
   balanced : (j : json.Json) (k : ℕ) (rest : List Token) → after_tokens k (json_tokens j ++ rest) ≡ after_tokens k rest
   balanced json.null k rest = refl
   balanced (json.boolean b) k rest = refl
@@ -237,7 +237,7 @@ mutual
   members_close json.no_members k rest = closed k rest
   members_close (json.member n j ms) k rest = ap (after_tokens (suc k)) (append_assoc (json_tokens j) (members_tokens ms) rest) ∙ balanced j (suc k) (members_tokens ms ++ rest) ∙ members_close ms k rest
 
--- a text whose tokens are those of a value closes what it opens
+-- a text made of the tokens of a value closes what it opens
 pub level-value : (text : List ℕ) (j : json.Json) → tokens text ≡ json_tokens j → level 0 between text ≡ 0
 level-value text j e =
     sym (level-lex 0 between text)

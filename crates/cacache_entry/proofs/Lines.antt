@@ -7,7 +7,7 @@ use Rattle.cacache_core.specs.Digests.{sha256_hex}
 use Rattle.cacache_entry.specs.{Entry.{Entry, members_of, text_of, piece_of, line_of}, EntryTexts.{entry_read, read_entry}, FittingEntries.{IsEntry, IsWritable}, Bucket.{cut, without_cr, entry_of_parts, entry_of_piece, pieces_of, entries_of}, EntryLaws.{EmptyHoldsNothing, LinesAppend, TornTextsReadAsNothing, TornLinesAddNothing, TornLinesHurtNoOther}}
 use Rattle.cacache_entry.proofs.{Cuts.{lacks, lacks-append, lacks-take, cut-append, cut-lacks, without_cr-lacks}, Pieces.{entries_split}, Digits.{lacks-sha256_hex, IsUtf8-piece}, PlainTexts.{lacks-plain, plain-compact_text}, ReadsBack.{MembersAreWhole-members_of, read_entry-text_of}, Torn.{read-torn}, EntryUtf8.{IsUtf8-text_of}}
 
--- behind bytes and a line feed, a piece with no LF and no CR adds the entry that it is
+-- after bytes and a line feed, a piece without LF and CR adds the entry that it is
 entries_piece : (x p : List ℕ) (o : Option Entry) → lacks 10 p ≡ true → lacks 13 p ≡ true → entry_of_piece p ≡ o → entries_of (x ++ 10 ∷ p) ≡ entries_of x ++ cons_option o []
 entries_piece x p o no_lf no_cr is =
     entries_split x p ∙ ap (λ ps. entries_of x ++ filter_map entry_of_piece (map without_cr ps)) (cut-lacks 10 p no_lf)
@@ -17,7 +17,7 @@ both_none : (b : Bool) → let none : Option Entry = None in cond b none none �
 both_none true = refl
 both_none false = refl
 
--- a list taken past a byte in its midst
+-- a list is taken past a byte in its middle
 take_past : (s t : List ℕ) (b m k : ℕ) → k ≡ length s + suc m → take k (s ++ b ∷ t) ≡ s ++ b ∷ take m t
 take_past [] t b m zero e = absurd (omega arith)
 take_past [] t b m (suc k) e = let same : k ≡ m = omega arith in ap (λ i. b ∷ take i t) same
@@ -36,7 +36,7 @@ module _ (e : Entry) (h : IsEntry e) (f : IsWritable e) where
   lacks-piece_of at low digits tab =
       lacks-append at (sha256_hex (text_of e)) (9 ∷ text_of e) (lacks-sha256_hex at (text_of e) digits) (lacks-append at (9 ∷ []) (text_of e) tab (lacks-text_of at low))
 
-  -- a TAB cuts what begins with the digest and holds no further TAB in two
+  -- a TAB cuts bytes in two that begin with the digest and hold no further TAB
   two_parts : (t : List ℕ) → lacks 9 t ≡ true → cut 9 (sha256_hex (text_of e) ++ 9 ∷ t) ≡ sha256_hex (text_of e) ∷ t ∷ []
   two_parts t alone =
       cut-append 9 (sha256_hex (text_of e)) t ∙ ap (λ ps. ps ++ cut 9 t) (cut-lacks 9 (sha256_hex (text_of e)) (lacks-sha256_hex 9 (text_of e) refl))
@@ -66,11 +66,11 @@ module _ (e : Entry) (h : IsEntry e) (f : IsWritable e) where
   entry_of_piece-torn k short =
       ap (λ o. cond (is_utf8 (take k (piece_of e))) o None) (torn_parts k short (cases_lt k (length (sha256_hex (text_of e)) + 1))) ∙ both_none (is_utf8 (take k (piece_of e)))
 
--- behind any bytes, a line adds its entry
+-- after any bytes, a line adds its entry
 pub lines_append : LinesAppend
 lines_append x e h f = entries_piece x (piece_of e) (Some e) (lacks-piece_of e h f 10 (omega arith) refl refl) (lacks-piece_of e h f 13 (omega arith) refl refl) (entry_of_piece-whole e h f)
 
--- the pieces of bytes and a line behind them
+-- the pieces of bytes followed by a line
 pub pieces_of-line : (x : List ℕ) (e : Entry) → IsEntry e → IsWritable e → pieces_of (x ++ line_of e) ≡ pieces_of x ++ piece_of e ∷ []
 pieces_of-line x e h f =
     let p = piece_of e in
@@ -80,7 +80,7 @@ pieces_of-line x e h f =
 pub empty_holds_nothing : EmptyHoldsNothing
 empty_holds_nothing = ap (λ o. cons_option o []) (both_none (is_utf8 []))
 
--- behind any bytes, a proper beginning of a line adds no entry
+-- after any bytes, a proper beginning of a line adds no entry
 pub torn_lines_add_nothing : TornLinesAddNothing
 torn_lines_add_nothing x e zero h f short = ap entries_of (append-nil x)
 torn_lines_add_nothing x e (suc k) h f short =
@@ -88,7 +88,7 @@ torn_lines_add_nothing x e (suc k) h f short =
     entries_piece x (take k piece) None (lacks-take 10 k piece (lacks-piece_of e h f 10 (omega arith) refl refl)) (lacks-take 13 k piece (lacks-piece_of e h f 13 (omega arith) refl refl)) (entry_of_piece-torn e h f k (omega arith))
     ∙ append-nil (entries_of x)
 
--- nor does it hurt the line that follows it
+-- nor does it harm the line that follows it
 pub torn_lines_hurt_no_other : TornLinesHurtNoOther
 torn_lines_hurt_no_other x e f n h fits short h' fits' =
     lines_append (x ++ take n (line_of e)) f h' fits' ∙ ap (λ es. es ++ f ∷ []) (torn_lines_add_nothing x e n h fits short)

@@ -10,18 +10,18 @@ differs : (t : Bool) → (t ≡ true → ⊥) → not t ≡ true
 differs true h = absurd (h refl)
 differs false h = refl
 
--- a list whose places all differ from the byte lacks it
+-- if every element of a list differs from the byte, the list lacks it
 pub lacks-from : (at : ℕ) (bs : List ℕ) → ((k : ℕ) → k < length bs → (get_or bs k 0 == at) ≡ true → ⊥) → lacks at bs ≡ true
 lacks-from at [] h = refl
 lacks-from at (b ∷ bs) h = and_from _ _ (differs (b == at) (h 0 (omega arith))) (lacks-from at bs (λ k l. h (suc k) (omega arith)))
 
--- and so does its beginning, where the places before i differ
+-- and its beginning lacks it, if the elements before i differ
 pub lacks-front : (at i : ℕ) (bs : List ℕ) → ((k : ℕ) → k < i → (get_or bs k 0 == at) ≡ true → ⊥) → lacks at (take i bs) ≡ true
 lacks-front at zero bs h = refl
 lacks-front at (suc i) [] h = refl
 lacks-front at (suc i) (b ∷ bs) h = and_from _ _ (differs (b == at) (h 0 (omega arith))) (lacks-front at i bs (λ k l. h (suc k) (omega arith)))
 
--- and so does its end, where the places from i on differ
+-- and its end lacks it, if the elements from i on differ
 lacks-back : (at i : ℕ) (bs : List ℕ) → ((k : ℕ) → i ≤ k → k < length bs → (get_or bs k 0 == at) ≡ true → ⊥) → lacks at (drop i bs) ≡ true
 lacks-back at i bs h = lacks-from at (drop i bs) (λ k l e. h (i + k) (omega arith) (omega (arith, length-drop i bs)) (ap (λ b. b == at) (sym (get_or-drop i bs k 0)) ∙ e))
 
@@ -29,7 +29,7 @@ lacks-back at i bs h = lacks-from at (drop i bs) (λ k l e. h (i + k) (omega ari
 around : (at : ℕ) (bs : List ℕ) (i : ℕ) → i < length bs → get_or bs i 0 ≡ at → bs ≡ take i bs ++ at ∷ drop (i + 1) bs
 around at bs i inside is = sym (take-append-drop i bs) ∙ ap (λ l. take i bs ++ l) (drop_more bs i 0 inside ∙ ap (λ b. b ∷ drop (i + 1) bs) is)
 
--- the first piece ends where the byte stands first
+-- the first piece ends at the first place of the byte
 pub cuts_at : (at : ℕ) (bs : List ℕ) (i : ℕ) → i < length bs → get_or bs i 0 ≡ at → lacks at (take i bs) ≡ true → CutsAt at bs i
 cuts_at at bs i inside is front =
     let alone = cut-lacks at (take i bs) front in
@@ -45,12 +45,12 @@ too_many a b c = more_parts a b (cut 9 c) (cut_some 9 c)
 
 -- ---- what `memchr` finds
 
--- what `memchr` finds is where the first piece ends
+-- `memchr` finds the place at which the first piece ends
 pub found : (at : ℕ) (bs : List ℕ) (r : Option ℕ) → IsFirstByte (is_byte at) bs r → MatchOption r (cut at bs ≡ bs ∷ []) (λ i. CutsAt at bs i)
 found at bs None h = cut-lacks at bs (lacks-from at bs (λ k l e. h k (omega arith) l e))
 found at bs (Some i) h = cuts_at at bs i h.0.high (eqb-true _ _ h.1) (lacks-front at i bs (λ k l e. h.0.before k (omega arith) l e))
 
--- ---- the entry of a piece, by what its parts are
+-- ---- the entry of a piece, from its parts
 
 unread : (b : Bool) (o : Option Entry) → o ≡ None → cond b o None ≡ None
 unread true o e = e
@@ -97,7 +97,7 @@ pub entry_of_piece-wrong : (p rest : List ℕ) (i : ℕ) → CutsAt 9 p i → re
 entry_of_piece-wrong p rest i h e r m s wrong =
     sym (unread (is_utf8 p) (entry_of_parts (cut 9 p)) (ap entry_of_parts (two p rest i h e r m s) ∙ ap (λ b. cond b (read_entry rest) None) (unequal (take i p) (sha256_hex rest) wrong)))
 
--- any other is what its text reads as
+-- any other piece is the entry that its text reads as
 pub entry_of_piece-read : (p rest : List ℕ) (i : ℕ) → IsUtf8 p → CutsAt 9 p i → rest ≡ drop (i + 1) p → (r : Option ℕ) → MatchOption r (cut 9 rest ≡ rest ∷ []) (λ k. CutsAt 9 rest k) → is_some r ≡ false
     → take i p ≡ sha256_hex rest → entry_of_piece p ≡ read_entry rest
 entry_of_piece-read p rest i utf8 h e r m s right =
@@ -128,13 +128,13 @@ entries_split x y =
     ap (λ ps. filter_map entry_of_piece (map without_cr ps)) (cut-append 10 x y)
     ∙ ap (filter_map entry_of_piece) (map-append without_cr (cut 10 x) (cut 10 y)) ∙ filter_map-append entry_of_piece (map without_cr (cut 10 x)) (map without_cr (cut 10 y))
 
--- the pieces before the last line feed, and what stands behind it
+-- the pieces before the last line feed, and the piece after it
 pub cut-last : (bs : List ℕ) (i : ℕ) → IsLastByte (is_byte 10) bs (Some i) → cut 10 bs ≡ cut 10 (take i bs) ++ drop (i + 1) bs ∷ []
 cut-last bs i h =
     ap (cut 10) (around 10 bs i h.0.high (eqb-true _ _ h.1)) ∙ cut-append 10 (take i bs) (drop (i + 1) bs)
     ∙ ap (λ ps. cut 10 (take i bs) ++ ps) (cut-lacks 10 (drop (i + 1) bs) (lacks-back 10 (i + 1) bs h.0.after))
 
--- the entries of what stands before the last line feed, and of the piece behind it
+-- the entries of the bytes before the last line feed, and of the piece after it
 pub entries-last : (bs : List ℕ) (i : ℕ) → IsLastByte (is_byte 10) bs (Some i) → entries_of bs ≡ entries_of (take i bs) ++ option_to_list (entry_of_piece (without_cr (drop (i + 1) bs)))
 entries-last bs i h =
     let behind = drop (i + 1) bs in

@@ -4,12 +4,12 @@ use Rattle.std.specs.{Prelude.{IsUtf8, String, string_bytes}, declared.alloc.Glo
 use Rattle.cacache_entry.specs.{Bucket.{entry_of_piece}, Entry.{piece_of}, EntryLaws.{bare_entry}, FittingEntries.{IsUtf8IfAny}, View.{entry_view}, declared.metadata.SerializableMetadata.{SerializableMetadata}}
 use Rattle.cacache_entry.proofs.{EntryCauses.{bare_entries_fit}, Lines.{entry_of_piece-whole}}
 
--- where there is a text of the program, it is UTF-8
+-- if an optional text of the program is there, it is UTF-8
 pub utf8_if_any : (o : Option (String Global)) → IsUtf8IfAny (option_map string_bytes o)
 utf8_if_any None = tt
 utf8_if_any (Some text) = IsUtf8-string_bytes text
 
--- the piece of an entry of the program that has no metadata is that entry
+-- if an entry of the program has no metadata, its piece reads as that entry
 pub piece-is_entry : (e : SerializableMetadata) (key : List ℕ) (integrity : Option (List ℕ)) (time size : ℕ) (piece : List ℕ)
     → entry_view e ≡ bare_entry key integrity time size → piece ≡ piece_of (bare_entry key integrity time size) → time < 2 ^ 64 → size < 2 ^ 64
     → entry_of_piece piece ≡ Some (entry_view e)

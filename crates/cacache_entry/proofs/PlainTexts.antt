@@ -1,4 +1,4 @@
--- An entry's text has no control character, and a text without those, quotes and backslashes needs no escapes.
+-- An entry's text has no control character; a text without those, quotes and backslashes needs no escapes.
 use Rattle.std.proofs.{Common.{◌≡◌, ℕ, suc, ◌/◌, ◌%◌, ◌<◌, ◌≤◌, pos, negsuc, List, [], ◌∷◌, ◌++◌, Bool, true, false, not, ◌&&◌, ◌||◌, ◌==◌, cond, decimal, refl, ap, ap₂, arith, inl, inr, ◌⊎◌}, lemmas.{Bool.{ne_eqb, and_parts, and_from, or_cases, le-leb, leb-true, eqb-true, ltb-true, ltb-false}, Fmt.{decimal_is_IsNumeral}}}
 use Rattle.std.specs.{Prelude.{nat_lt, nat_le}, Char.{digit_char, digit_value}, Str.Parse.{AllDigits}}
 use Rattle.json.{specs.{Token.{Token}, Print.{token_text, escape_letter, escape_byte, escape, quoted}}, proofs.Printed.Strings.{escape_byte_plain}}
@@ -10,7 +10,7 @@ abbrev pub plain : List ℕ → Bool
 plain [] = true
 plain (b ∷ bs) = nat_le 32 b && plain bs
 
--- two plain lists are one together
+-- two plain lists together are plain
 pub plain-append : (xs ys : List ℕ) → plain xs ≡ true → plain ys ≡ true → plain (xs ++ ys) ≡ true
 plain-append [] ys h k = k
 plain-append (x ∷ xs) ys h k = let p = and_parts _ _ h in and_from _ _ p.0 (plain-append xs ys p.1 k)

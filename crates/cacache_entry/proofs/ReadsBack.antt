@@ -9,7 +9,7 @@ use Rattle.serde_json.specs.{Data.{Num, unsigned, negative, float, Data, null, b
 use Rattle.serde_json.proofs.{Numbers.{number_of-decimal, number_of-negative}, Texts.{print-outline}}
 use Rattle.cacache_entry.specs.{Entry.{Entry, text_or_null, byte_items, bytes_or_null, members_of, text_of}, EntryTexts.{text_or_none, bytes_of, bytes_or_none, entry_read, read_entry}, FittingEntries.{EachIsByte, AreBytes, AreAbove, IsOrdered, ItemsAreOrdered, MembersAreOrdered, IsWholeNumber, IsWhole, ItemsAreWhole, MembersAreWhole, IsEntry, IsWritable}}
 
--- ---- the outline of a value nests as the value does
+-- ---- the outline of a value nests as deep as the value
 
 mutual
   depth-outline : (d : Data) → tree.depth (outline d) ≡ depth d
@@ -61,17 +61,17 @@ mutual
   MembersHaveNumbers-outline no_members h = tt
   MembersHaveNumbers-outline (member k d ms) h = (HasNumbers-outline d h.0, MembersHaveNumbers-outline ms h.1)
 
--- what a text reads as, by the grammar's answer for its tokens
+-- what a text reads as, from the grammar's answer for its tokens
 abbrev pub from_grammar : Option (json.Json × List Token) → Option Data
 from_grammar o = option_and_then of_json (option_and_then (λ p. json.if_last p.0 p.1) o)
 
--- a compact text reads as what its outline stands for, whatever the order of its names
+-- a compact text reads as the value that its outline stands for, whatever the order of its names
 pub read-compact_text : (d : Data) → IsWhole d → depth d ≤ max_depth → read (compact_text d) ≡ of_json (outline d)
 read-compact_text d numbers shallow =
     let same : tokens (compact_text d) ≡ tree.json_tokens (outline d) = ap tokens (sym (print-outline d)) ∙ tokens-print _ (ArePrintable-json_tokens (outline d) (HasNumbers-outline d numbers)) in
     ap from_grammar (ap (json.value max_depth) (same ∙ sym (append-nil _)) ∙ value-json_tokens (outline d) max_depth [] (omega (arith, depth-outline d)))
 
--- ---- a value whose names are in order is what its outline stands for
+-- ---- a value with its names in order is what its outline stands for
 
 number_of-text : (n : Num) → IsWholeNumber n → number_of (number_text n) ≡ Some n
 number_of-text (unsigned n) h = number_of-decimal n h
@@ -116,7 +116,7 @@ Precede-nil (member k d ms) = (tt, Precede-nil ms)
 above_from_below : (k l : List ℕ) → slice_cmp nat_cmp l k ≡ Less → slice_cmp nat_cmp k l ≡ Greater
 above_from_below k l h = nat_list_cmp_total.antisymm k l ∙ ap ordering_reverse h
 
--- a name above all others is put last
+-- a name above all others is inserted last
 put_last : (k : List ℕ) (d : Data) (done : Members) → AreBelow done k → put k d done ≡ join done (member k d no_members)
 put_last k d no_members h = refl
 put_last k d (member l e ms) h = rw (above_from_below k l h.0) (ap (member l e) (put_last k d ms h.1))
@@ -200,11 +200,11 @@ IsOrdered-text_or_null : (o : Option (List ℕ)) → IsOrdered (text_or_null o)
 IsOrdered-text_or_null None = tt
 IsOrdered-text_or_null (Some s) = tt
 
--- an entry's members have whole numbers alone
+-- the numbers of an entry's members are all whole
 pub MembersAreWhole-members_of : (e : Entry) → IsEntry e → IsWritable e → MembersAreWhole (members_of e)
 MembersAreWhole-members_of e h f = (tt, (IsWhole-text_or_null e.integrity, (f.time, (f.size, (f.whole, (IsWhole-bytes_or_null e.raw_metadata h.raw_metadata, tt))))))
 
--- what the members of an entry read as: they are put in the order of their names
+-- what the members of an entry read as: they are inserted in the order of their names
 of_members-members_of : (e : Entry) → IsEntry e → IsWritable e
     → of_members (members_outline (members_of e)) no_members
     ≡ Some (member (codes "integrity") (text_or_null e.integrity)

@@ -88,7 +88,7 @@ module _ (k : ℕ) (some : 1 ≤ k) where
   Leads-escape [] = record { stays = tt; level = refl; mode = refl }
   Leads-escape (x ∷ s) = then k k k in_string in_string in_string (escape_byte x) (escape s) (Leads-escape_byte x) (Leads-escape s)
 
-  -- a quoted text comes back to where it began
+  -- a quoted text returns to the mode and level at which it began
   Leads-quoted : (s : List ℕ) → Leads k between (quoted s) k between
   Leads-quoted s =
       let inside = then k k k in_string in_string between (escape s) (34 ∷ []) (Leads-escape s) (record { stays = (some, tt); level = refl; mode = refl }) in
@@ -100,7 +100,7 @@ module _ (k : ℕ) (some : 1 ≤ k) where
 abbrev Rests : Mode → Type 0
 Rests m = (m ≡ between) ⊎ (m ≡ in_word)
 
--- where a comma comes first, a value may have ended before it
+-- if a comma comes first, a value may have ended before it
 abbrev At : Bool → Mode → Type 0
 At true m = Rests m
 At false m = m ≡ between
@@ -109,7 +109,7 @@ At-Rests : (later : Bool) (m : Mode) → At later m → Rests m
 At-Rests true m h = h
 At-Rests false m h = inl h
 
--- a value, whichever of the two modes it ends in
+-- a value may end in either of the two modes
 abbrev Goes : ℕ → Mode → List ℕ → Type 0
 Goes k m xs = (o : Mode) × Rests o × Leads k m xs k o
 
@@ -172,7 +172,7 @@ closes_object k m (inl e) = rw e (record { stays = (omega arith, tt); level = om
 closes_object k m (inr e) = rw e (record { stays = (omega arith, tt); level = omega arith; mode = refl })
 
 mutual
-  -- the text of a value comes back to its level
+  -- the text of a value returns to its level
   Goes-value : (k : ℕ) (d : Data) → 1 ≤ k → IsWhole d → Goes k between (compact_text d)
   Goes-value k null some h = (in_word, inr refl, record { stays = (some, (some, (some, (some, tt)))); level = refl; mode = refl })
   Goes-value k (boolean b) some h = Goes-boolean k b some

@@ -1,4 +1,4 @@
--- What a text reads as has its names in order and its numbers in range.
+-- A value that a text reads as has its names in order and its numbers in range.
 use Rattle.std.proofs.{Common.{◌≡◌, ℕ, zero, suc, ◌^◌, ◌<◌, ◌≤◌, pos, negsuc, List, Bool, true, false, cond, Option, Some, None, option_map, option_and_then, Ordering, Less, Equal, Greater, nat_cmp, refl, ap, ◌∙◌, subst, arith}, lemmas.{Bool.{and_parts, or_parts, ltb-true, leb-true}, Cmp.{nat_list_cmp_total}}}
 use Rattle.std.specs.{Prelude.{⊤, nat_le, ◌==◌, slice_index, drop, IsUtf8}, Cmp.Lexicographic.{slice_cmp}, Ordering.{match_ordering, ordering_reverse}}
 use Rattle.fast_float.specs.Text.{minus, Parts, scan, digits_of, with_sign}
@@ -48,7 +48,7 @@ put_turn Greater k m d e ms is fine h later =
     let below : slice_cmp nat_cmp m k ≡ Less = nat_list_cmp_total.antisymm m k ∙ ap ordering_reverse is in
     (AreAbove-put m k d ms below h.0, h.1, later)
 
--- a member that is put keeps the order
+-- inserting a member keeps the order
 MembersAreOrdered-put : (k : List ℕ) (d : Data) (ms : Members) → IsOrdered d → MembersAreOrdered ms → MembersAreOrdered (put k d ms)
 MembersAreOrdered-put k d no_members fine h = (tt, fine, tt)
 MembersAreOrdered-put k d (member m e ms) fine h = put_turn (slice_cmp nat_cmp k m) k m d e ms refl fine h (MembersAreOrdered-put k d ms fine h.2)
@@ -79,7 +79,7 @@ from_json : (P : Data → Type 0) → ((j : json.Json) → Given P (of_json j)) 
 from_json P f None = tt
 from_json P f (Some j) = f j
 
--- what a text reads as has each name once, in order
+-- a value that a text reads as has each name once, in order
 pub IsOrdered-read : (text : List ℕ) (d : Data) → read text ≡ Some d → IsOrdered d
 IsOrdered-read text d e = subst (Given IsOrdered) e (from_json IsOrdered IsOrdered-of_json (parsed text))
 
@@ -192,7 +192,7 @@ mutual
   MembersAreWhole-InRange no_members h e = tt
   MembersAreWhole-InRange (member k d ms) h e = let p = or_parts (has_float d) _ e in (IsWhole-InRange d h.0 p.0, MembersAreWhole-InRange ms h.1 p.1)
 
--- and has its numbers in range, where none is a float
+-- and it has its numbers in range, if none is a float
 pub IsWhole-read : (text : List ℕ) (d : Data) → read text ≡ Some d → has_float d ≡ false → IsWhole d
 IsWhole-read text d e whole = IsWhole-InRange d (subst (Given InRange) e (from_json InRange InRange-of_json (parsed text))) whole
 
@@ -201,6 +201,6 @@ IsWhole-read text d e whole = IsWhole-InRange d (subst (Given InRange) e (from_j
 pub IsJson-null : IsJson null
 IsJson-null = record { utf8 = IsUtf8-are_ascii _ refl; ordered = tt; in_range = λ whole. tt }
 
--- what reads back from a UTF-8 text of its own is JSON
+-- a value that reads back from its own UTF-8 text is JSON
 pub IsJson-read : (d : Data) → IsUtf8 (compact_text d) → read (compact_text d) ≡ Some d → IsJson d
 IsJson-read d utf8 reads = record { utf8 = utf8; ordered = IsOrdered-read (compact_text d) d reads; in_range = IsWhole-read (compact_text d) d reads }

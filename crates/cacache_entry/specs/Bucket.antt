@@ -3,7 +3,7 @@ use Rattle.std.specs.{Prelude.{◌≡◌, ◌<◌, ◌+◌, drop, ℕ, ◌-◌, 
 use Rattle.cacache_core.specs.Digests.{sha256_hex}
 use Rattle.cacache_entry.specs.{Entry.{Entry}, EntryTexts.{read_entry}}
 
--- what stands between the bytes c
+-- the parts between the bytes c
 abbrev pub cut : ℕ → List ℕ → List (List ℕ)
 cut c = slice_split (λ b. b == c)
 
@@ -11,7 +11,7 @@ cut c = slice_split (λ b. b == c)
 abbrev pub without_cr : List ℕ → List ℕ
 without_cr bs = if (slice_index bs (length bs - 1) == 13) then take (length bs - 1) bs else bs
 
--- the entry of what a TAB cuts in two: a digest and a text
+-- the entry of a piece that a TAB cuts in two: a digest and a text
 abbrev pub entry_of_parts : List (List ℕ) → Option Entry
 entry_of_parts [] = None
 entry_of_parts (digest ∷ []) = None
@@ -23,15 +23,15 @@ entry_of_parts (digest ∷ text ∷ more ∷ others) = None
 abbrev pub entry_of_piece : List ℕ → Option Entry
 entry_of_piece p = if is_utf8 p then entry_of_parts (cut 9 p) else None
 
--- the pieces of a bucket's bytes: what its line feeds cut them into, without one CR at their ends
+-- the pieces of a bucket's bytes: its line feeds cut them apart, and each loses one CR at its end
 abbrev pub pieces_of : List ℕ → List (List ℕ)
 pieces_of x = map without_cr (cut 10 x)
 
--- the entries of a bucket's bytes, in order; every other piece is skipped alone
+-- the entries of a bucket's bytes, in order; each other piece is skipped, and nothing else
 abbrev pub entries_of : List ℕ → List Entry
 entries_of x = filter_map entry_of_piece (pieces_of x)
 
--- the first of what the bytes c cut out ends at place i, where c stands
+-- the first part that the bytes c cut out ends at place i, which holds a c
 abbrev pub CutsAt : ℕ → List ℕ → ℕ → Type 0
 CutsAt c bs i =
     (i < length bs)

@@ -4,7 +4,7 @@ use Rattle.json.specs.Print.{quoted}
 use Rattle.serde_json.specs.{Data.{unsigned, Data, null, number, string, array, object, Items, no_items, item, Members, no_members, member}, Written.{compact_text}}
 use Rattle.cacache_core.specs.Digests.{sha256_hex}
 
--- what a line of a bucket says; without an integrity it is a tombstone
+-- what a line of a bucket says; an entry without an integrity is a tombstone
 pub record Entry : Type 0 where
   pub key : List ℕ
   pub integrity : Option (List ℕ)
@@ -13,7 +13,7 @@ pub record Entry : Type 0 where
   pub metadata : Data
   pub raw_metadata : Option (List ℕ)
 
--- a text, or null where there is none
+-- a text, or null if there is none
 abbrev pub text_or_null : Option (List ℕ) → Data
 text_or_null None = null
 text_or_null (Some s) = string s
@@ -23,7 +23,7 @@ abbrev pub byte_items : List ℕ → Items
 byte_items [] = no_items
 byte_items (b ∷ bs) = item (number (unsigned b)) (byte_items bs)
 
--- bytes as an array, or null where there are none
+-- bytes as an array, or null if there are none
 abbrev pub bytes_or_null : Option (List ℕ) → Data
 bytes_or_null None = null
 bytes_or_null (Some bs) = array (byte_items bs)
@@ -51,18 +51,18 @@ front_of e =
     ++ (codes ",\"size\":" ++ (decimal e.size
     ++ codes ",\"metadata\":")))))))
 
--- the piece of an entry: the digest of its text, TAB, its text
+-- the piece of an entry: the digest of its text, a TAB, its text
 abbrev pub piece_of : Entry → List ℕ
 piece_of e = sha256_hex (text_of e) ++ 9 ∷ text_of e
 
--- the line of an entry: LF and its piece
+-- the line of an entry: an LF and its piece
 abbrev pub line_of : Entry → List ℕ
 line_of e = 10 ∷ piece_of e
 
--- what closes the line of a durable commit: LF
+-- what closes the line of a durable commit: an LF
 abbrev pub closing : Bool → List ℕ
 closing durable = if durable then 10 ∷ [] else []
 
--- the line of an entry as its commit appends it
+-- the line of an entry, as its commit appends it
 abbrev pub closed_line : Bool → Entry → List ℕ
 closed_line durable e = line_of e ++ closing durable

@@ -5,11 +5,11 @@ use Rattle.cacache_entry.specs.{Entry.{Entry, text_of, line_of}, FittingEntries.
 
 -- ---- entries
 
--- a well-formed entry has no cause against it exactly where it fits
+-- a well-formed entry has no cause against it if and only if it fits
 abbrev pub NoCauseIsFit : Type 0
 NoCauseIsFit = (e : Entry) → IsEntry e → (cause_of e ≡ None) ↔ IsWritable e
 
--- a well-formed entry fits where its time is early and its metadata whole and flat
+-- a well-formed entry fits if its time is early and its metadata whole and flat
 abbrev pub FlatEntriesFit : Type 0
 FlatEntriesFit =
     (e : Entry) → IsEntry e → e.time < 2 ^ 64
@@ -27,7 +27,7 @@ bare_entry key integrity time size = record {
   raw_metadata = None;
 }
 
--- with texts that are UTF-8 and numbers in range it is well-formed, and it fits
+-- if its texts are UTF-8 and its numbers in range, it is well-formed and fits
 abbrev pub BareEntriesFit : Type 0
 BareEntriesFit =
     (key : List ℕ) (integrity : Option (List ℕ)) (time size : ℕ)
@@ -36,7 +36,7 @@ BareEntriesFit =
 
 -- ---- buckets
 
--- no bytes hold no entry
+-- an empty bucket holds no entry
 abbrev pub EmptyHoldsNothing : Type 0
 EmptyHoldsNothing = entries_of [] ≡ []
 
@@ -44,7 +44,7 @@ EmptyHoldsNothing = entries_of [] ≡ []
 abbrev pub EntriesSplit : Type 0
 EntriesSplit = (x y : List ℕ) → entries_of (x ++ 10 ∷ y) ≡ entries_of x ++ entries_of y
 
--- behind any bytes, a line adds its entry
+-- after any bytes, a line adds its entry
 abbrev pub LinesAppend : Type 0
 LinesAppend =
     (x : List ℕ) (e : Entry) → IsEntry e → IsWritable e
@@ -56,13 +56,13 @@ TornTextsReadAsNothing =
     (e : Entry) (n : ℕ) → IsEntry e → IsWritable e → n < length (text_of e)
     → read (take n (text_of e)) ≡ None
 
--- behind any bytes, a proper beginning of a line adds no entry
+-- after any bytes, a proper beginning of a line adds no entry
 abbrev pub TornLinesAddNothing : Type 0
 TornLinesAddNothing =
     (x : List ℕ) (e : Entry) (n : ℕ) → IsEntry e → IsWritable e → n < length (line_of e)
     → entries_of (x ++ take n (line_of e)) ≡ entries_of x
 
--- nor does it hurt the line that follows it
+-- nor does it harm the line that follows it
 abbrev pub TornLinesHurtNoOther : Type 0
 TornLinesHurtNoOther =
     (x : List ℕ) (e f : Entry) (n : ℕ)
@@ -78,11 +78,11 @@ LastAnswerDecides =
     → answer_to key e ≡ Some found → NoneAnswers key after
     → latest key (before ++ e ∷ after) ≡ found
 
--- and nothing where no entry answers
+-- and it finds nothing if no entry answers
 abbrev pub NoAnswerIsNone : Type 0
 NoAnswerIsNone = (key : List ℕ) (es : List Entry) → NoneAnswers key es → latest key es ≡ None
 
--- behind any bytes, the line of an entry that answers is all that a lookup reads
+-- if an entry that answers is appended to any bytes, its line is all that a lookup reads
 abbrev pub LastLineIsEnough : Type 0
 LastLineIsEnough =
     (key x : List ℕ) (e : Entry) (found : Option Found)

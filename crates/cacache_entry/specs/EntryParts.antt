@@ -4,13 +4,13 @@ use Rattle.json.specs.Print.{quoted}
 use Rattle.serde_json.specs.Written.{compact_text}
 use Rattle.cacache_entry.specs.Entry.{text_or_null}
 
--- a key and an integrity as an entry's text begins with them, and what follows
+-- a key and an integrity, as an entry's text begins with them, and the rest
 abbrev pub texts_then : List ℕ → Option (List ℕ) → List ℕ → List ℕ
 texts_then key integrity rest =
     codes "{\"key\":" ++ (quoted key
     ++ (codes ",\"integrity\":" ++ (compact_text (text_or_null integrity) ++ rest)))
 
--- a time and a size as they stand behind those, each with its comma, and what follows
+-- a time and a size, as they follow the integrity, each with its comma, and the rest
 abbrev pub numbers_then : ℕ → ℕ → List ℕ → List ℕ
 numbers_then time size rest =
     codes ",\"time\":" ++ (decimal time

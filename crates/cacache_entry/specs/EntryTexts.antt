@@ -1,9 +1,9 @@
--- What entry a text reads as.
+-- Which entry a text reads as.
 use Rattle.std.specs.Prelude.{ℕ, List, [], ◌∷◌, nat_lt, if◌then◌else◌, codes, Option, Some, None, option_map, option_and_then}
 use Rattle.serde_json.specs.{Data.{Data, null, boolean, number, string, array, object, Items, no_items, item}, Find.{get, as_number, as_str, as_u64}, Read.{read}, Written.{has_float}}
 use Rattle.cacache_entry.specs.Entry.{Entry}
 
--- null is no text, and any other value than a text is refused
+-- null is no text; any value other than a text or null is refused
 abbrev pub text_or_none : Data → Option (Option (List ℕ))
 text_or_none null = Some None
 text_or_none (boolean b) = None
@@ -25,7 +25,7 @@ abbrev pub bytes_of : Items → Option (List ℕ)
 bytes_of no_items = Some []
 bytes_of (item d ds) = option_and_then (λ b. option_map (λ bs. b ∷ bs) (bytes_of ds)) (byte_of d)
 
--- null is no bytes, and any other value than an array of bytes is refused
+-- null is no bytes; any value other than null or an array of bytes is refused
 abbrev pub bytes_or_none : Data → Option (Option (List ℕ))
 bytes_or_none null = Some None
 bytes_or_none (boolean b) = None
@@ -38,12 +38,12 @@ bytes_or_none (object ms) = None
 abbrev pub whole_value : Data → Option Data
 whole_value d = if has_float d then None else Some d
 
--- what an absent member counts as
+-- what a missing member counts as
 abbrev pub or_null : Option Data → Data
 or_null None = null
 or_null (Some d) = d
 
--- the entry that a value is
+-- the entry that a value represents
 abbrev pub entry_read : Data → Option Entry
 entry_read d =
     option_and_then (λ time.
@@ -66,6 +66,6 @@ entry_read d =
     (option_and_then whole_of (get (codes "size") d)))
     (option_and_then whole_of (get (codes "time") d))
 
--- the entry that a text reads as, of any spelling
+-- the entry that a text reads as, in any spelling
 abbrev pub read_entry : List ℕ → Option Entry
 read_entry t = option_and_then entry_read (read t)

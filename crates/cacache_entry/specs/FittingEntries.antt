@@ -4,14 +4,14 @@ use Rattle.serde_json.specs.{Data.{Num, unsigned, negative, float, Data, null, b
 use Rattle.cacache_core.specs.declared.errors.SerdeCause.{SerdeCause, TheVariants.{TimeTooLarge, NotWhole, TooDeep}}
 use Rattle.cacache_entry.specs.Entry.{Entry, members_of}
 
--- ---- what every value of the program's type keeps
+-- ---- what holds of every value of the program's type
 
 -- each number is a byte
 abbrev pub EachIsByte : List ℕ → Type 0
 EachIsByte [] = Unit {0}
 EachIsByte (b ∷ bs) = (b < 256) × EachIsByte bs
 
--- where there are any, they are bytes
+-- if there are any, they are bytes
 abbrev pub AreBytes : Option (List ℕ) → Type 0
 AreBytes None = Unit {0}
 AreBytes (Some bs) = EachIsByte bs
@@ -64,18 +64,18 @@ abbrev mutual
   MembersAreWhole no_members = Unit {0}
   MembersAreWhole (member k d ms) = IsWhole d × MembersAreWhole ms
 
--- where there is a text, it is UTF-8
+-- if there is a text, it is UTF-8
 abbrev pub IsUtf8IfAny : Option (List ℕ) → Type 0
 IsUtf8IfAny None = Unit {0}
 IsUtf8IfAny (Some text) = IsUtf8 text
 
--- as each JSON value of the program: it prints as UTF-8, names are in order, numbers in range
+-- holds of each JSON value of the program: it prints as UTF-8, names are in order, numbers in range
 pub record IsJson (d : Data) : Type 0 where
   pub utf8 : IsUtf8 (compact_text d)
   pub ordered : IsOrdered d
   pub in_range : has_float d ≡ false → IsWhole d
 
--- as each entry of the program: its texts are UTF-8, its metadata is JSON, its numbers in range
+-- holds of each entry of the program: its texts are UTF-8, its metadata is JSON, its numbers are in range
 pub record IsEntry (e : Entry) : Type 0 where
   pub key : IsUtf8 e.key
   pub integrity : IsUtf8IfAny e.integrity

@@ -24,17 +24,17 @@ found_of e i = record {
   raw_metadata = e.raw_metadata;
 }
 
--- what a text that reads as an integrity answers; an unreadable one answers nothing
+-- what the text of an integrity answers; an unreadable text answers nothing
 abbrev pub answer_read : Result (List Hash) IntegrityFault → Option (Option (List Hash))
 answer_read (Ok i) = Some (Some i)
 answer_read (Err fault) = None
 
--- what an entry's integrity answers; without one it is a tombstone, which says that there is none
+-- what an entry's integrity answers; an entry without one is a tombstone, which answers that there is none
 abbrev pub answer_of_integrity : Option (List ℕ) → Option (Option (List Hash))
 answer_of_integrity None = Some None
 answer_of_integrity (Some text) = answer_read (read_integrity text)
 
--- what an entry of this integrity answers
+-- what an entry with this integrity answers
 abbrev pub answer_of : Entry → Option (List ℕ) → Option (Option Found)
 answer_of e o = option_map (option_map (found_of e)) (answer_of_integrity o)
 
@@ -46,7 +46,7 @@ answer_to key e = if bytes_eq e.key key then answer_of e e.integrity else None
 abbrev pub after_entry : List ℕ → Option Found → Entry → Option Found
 after_entry key found e = unwrap_or (answer_to key e) found
 
--- the lookup: each answer to the key takes the place of the one before it
+-- the lookup: each answer to the key replaces the one before it
 abbrev pub latest : List ℕ → List Entry → Option Found
 latest key es = fold (after_entry key) None es
 
@@ -61,7 +61,7 @@ NoneAnswers key (e ∷ es) = (answer_to key e ≡ None) × NoneAnswers key es
 abbrev pub decides : List ℕ → List ℕ → Bool
 decides key piece = is_some (option_and_then (answer_to key) (entry_of_piece piece))
 
--- how many pieces there are up to the first that decides, itself counted; all where none does
+-- how many pieces there are up to and including the first that decides; all, if none does
 abbrev pub count_to_deciding : List ℕ → List (List ℕ) → ℕ
 count_to_deciding key [] = 0
 count_to_deciding key (p ∷ ps) = if decides key p then 1 else suc (count_to_deciding key ps)

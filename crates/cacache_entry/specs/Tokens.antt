@@ -1,4 +1,4 @@
--- The tokens by which the bytes of an entry are written.
+-- The tokens that write the bytes of an entry.
 use Rattle.std.specs.Prelude.{ℕ, List, [], ◌∷◌, decimal}
 use Rattle.json.specs.Token.{Token, end_array, number}
 

@@ -1,4 +1,4 @@
--- What entries the program's values stand for, and what a refusal says.
+-- Which entries the program's values stand for, and what a refusal says.
 use Rattle.std.specs.Prelude.{◌≡◌, ℕ, List, ◌++◌, codes, Some, option_map, string_bytes}
 use Rattle.serde_json.specs.View.{view}
 use Rattle.cacache_core.specs.declared.errors.Error.{Error, TheVariants.{SerdeError, OutOfMemory}}
@@ -30,7 +30,7 @@ found_view m = record {
 abbrev pub refusal_text : List ℕ → List ℕ
 refusal_text key = codes "Failed to serialize entry with key `" ++ key ++ codes "`"
 
--- an entry is refused with the cause against it and the text, or since memory ran out
+-- the refusal has the cause against the entry and the text, or memory ran out
 abbrev pub IsRefusal : Entry → Error → Type 0
 IsRefusal e (SerdeError cause text) = (cause_of e ≡ Some cause) × (text ≡ refusal_text e.key)
 IsRefusal e error = error ≡ OutOfMemory

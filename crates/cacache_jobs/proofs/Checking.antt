@@ -1,4 +1,4 @@
--- Bytes are answered exactly where they meet their integrity.
+-- Bytes are answered if and only if they meet their integrity.
 use Rattle.std.proofs.Common.{◌≡◌, inl, inr, ℕ, List, Bool, true, false, refl}
 use Rattle.cacache_core.specs.{declared.errors.Error.{Error, TheVariants.{OutOfMemory, IntegrityError}}, Integrity.{Meets, actual}, Meeting.{meets}, Refusals.{IsCheckFailure}}
 use Rattle.cacache_core.proofs.Meeting.{meets_finds}
@@ -15,7 +15,7 @@ unmet_test k b unmet = by_test (meets k.integrity b) refl
     by_test true e = absurd (unmet ((meets_finds k.integrity b).0 e))
     by_test false e = refl
 
--- bytes that don't are refused, with what was wanted and what they are known by
+-- bytes that don't meet it are refused; the error has the expected integrity and the actual one
 pub checked_unmet : (k : Content) (b : List ℕ) (e : Error) → (Meets k.integrity b → ⊥) → IsCheckFailure k.integrity (actual k.integrity b) e → EndsAs e (checked k b)
 checked_unmet k b OutOfMemory unmet is = inr refl
 checked_unmet k b (IntegrityError fault) unmet is =

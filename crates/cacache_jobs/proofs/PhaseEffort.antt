@@ -1,4 +1,4 @@
--- A phase's bound on its steps is that of its state.
+-- The bound on the steps of a phase is the bound of its state.
 use Rattle.std.proofs.Common.{◌≡◌, ℕ, ◌+◌, List, Some, length, ap, sym, ◌∙◌}
 use Rattle.cacache_store.specs.{declared.store.plain.{PlainFile.{PlainFile}, PlainTemp.{PlainTemp}}, Plain.{PlainStep}}
 use Rattle.cacache_store.specs.declared.store.step.Step.TheVariants as steps
@@ -24,7 +24,7 @@ module _ {T : Type 0} (temp : T → PlainTemp) where
   then_effort_is (thens.Symlink c target path) s e = ap effort e.1
   then_effort_is (thens.Finish removal) s e = ap effort e
 
-  -- a read's step tells how many bytes are left
+  -- the step of a read shows how many bytes are left
   read_effort : (h : Hashing) (file : PlainFile) (bytes : List ℕ) (step : PlainStep) (s : State) → s ≡ hashing h file bytes → wants s ≡ Some step → effort s ≡ left_to_read step + 17
   read_effort h file bytes step s e w =
       let same : Some (steps.Read file piece) ≡ Some step = ap wants (sym e) ∙ w in
@@ -49,7 +49,7 @@ module _ {T : Type 0} (temp : T → PlainTemp) where
   stage_effort_is (stages.Linking c target) step s e w = ap effort e
   stage_effort_is (stages.Walking walk v) step s e w = ap effort e.1
 
--- a phase has the bound of its state
+-- a phase has the same bound as its state
 pub phase_effort_is : {F T : Type 0} (file : F → PlainFile) (temp : T → PlainTemp) (p : Phase F T) (s : State) → PhaseAt file temp p s → phase_effort file temp p ≡ effort s
 phase_effort_is file temp (phases.Wanting stage step) s e = sym (stage_effort_is temp stage _ s e.state e.wanted)
 phase_effort_is file temp (phases.Over reply) s e = sym (ap effort e)

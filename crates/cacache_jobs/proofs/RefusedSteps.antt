@@ -1,4 +1,4 @@
--- A step that was refused ends its call.
+-- A refused step ends its call.
 use Rattle.std.proofs.Common.{◌≡◌, Result, Ok, Err}
 use Rattle.cacache_core.specs.declared.errors.Error.{Error}
 use Rattle.cacache_table.specs.{declared.answers.Refusal.{Refusal}, Common.{go_on, fails, refuse}, Runs.{EndsAs}, State.{State}}

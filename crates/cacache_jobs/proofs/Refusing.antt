@@ -1,11 +1,11 @@
--- How an insertion ends before its first step, and the integrity that stands for none.
+-- How an insertion ends before its first step, and the integrity that stands for a missing one.
 use Rattle.std.{proofs.Common.{◌≡◌, List, Result, Ok, Err, refl, sym, ◌∙◌, codes, rules}, specs.Prelude.{IfOk, IfErr}}
 use Rattle.base64.specs.Decode.{groups_error, scan_steps, groups_bytes}
 use Rattle.cacache_core.specs.{declared.{errors.Error.{Error, TheVariants.{EntryNotFound, SizeMismatch, IoError, SerdeError, IntegrityError, OutOfMemory}}, integrity.digest.Hash.{Hash}}, Refusals.{IsReadFailure}, Texts.{read_integrity}}
 use Rattle.cacache_entry.specs.View.{IsRefusal}
 use Rattle.cacache_table.specs.{State.{Insertion}, Inserting.{insert, no_integrity, refused_cause}, Runs.{EndsAs}}
 
--- an entry that is refused ends the call so
+-- if an entry is refused with an error, the call ends with that error
 pub refusal_ends : (j : Insertion) (e : Error) → IsRefusal j.entry e → EndsAs e (insert j)
 unfolding refused_cause
 refusal_ends j (EntryNotFound cache key) h = absurd cc
@@ -15,17 +15,17 @@ refusal_ends j (SerdeError cause text) h = rw h.0 (search rules)
 refusal_ends j (IntegrityError fault) h = absurd cc
 refusal_ends j OutOfMemory h = search rules
 
--- the text of the integrity that stands for none
+-- the text of the integrity that stands for a missing one
 pub dead_beef : read_integrity (codes "sha1-deadbeef") ≡ Ok no_integrity
 unfolding read_integrity groups_error scan_steps groups_bytes
 dead_beef = refl
 
--- its reading gives just that
+-- reading that text returns exactly that integrity
 pub reading_gives : (r : Result (List Hash) Error) → IfOk r (λ i. read_integrity (codes "sha1-deadbeef") ≡ Ok i) → IfOk r (λ i. i ≡ no_integrity)
 reading_gives (Ok i) h = let same : Ok no_integrity ≡ Ok i = sym dead_beef ∙ h in cc
 reading_gives (Err e) h = search rules
 
--- its reading fails only as memory runs out
+-- reading that text fails only if memory runs out
 only_memory : (e : Error) → IsReadFailure (Ok no_integrity) e → e ≡ OutOfMemory
 only_memory (EntryNotFound cache key) h = absurd h
 only_memory (SizeMismatch wanted actual) h = absurd h

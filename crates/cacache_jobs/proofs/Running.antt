@@ -1,4 +1,4 @@
--- How a run grows by a step, and how a call follows it.
+-- How a run grows by one step, and how a call follows it.
 use Rattle.std.proofs.Common.{◌≡◌, ◌⊎◌, inl, inr, ◌<◌, List, [], ◌∷◌, ◌++◌, Option, Some, None, option_map, true, refl, sym, ap, arith, append_assoc, append-nil}
 use Rattle.cacache_core.specs.declared.errors.Error.TheVariants.{OutOfMemory}
 use Rattle.cacache_store.specs.{declared.store.{plain.{PlainFile.{PlainFile}, PlainTemp.{PlainTemp}}, log.LogItem.{LogItem, TheVariants.{Made}}}, Plain.{PlainStep, PlainAnswer}, Fits.{Fits, Logs}}
@@ -27,11 +27,11 @@ pub memory_lost : (s : State) (moves : Moves) (r : Reply) → Runs s moves r →
 memory_lost s [] r h = inr refl
 memory_lost s (move ∷ moves) r h = (h.0, h.1, memory_lost (after s move.1) moves r h.2)
 
--- a call that is over out of memory
+-- a call that ended out of memory
 stops : {s0 : State} {old new : Option (List LogItem)} {s : State} → Reached s0 old new s → Reached s0 old new (over (Refused OutOfMemory))
 stops {s = s} x = record { moves = x.moves; gains = x.gains; goes = λ more r h. x.goes more r (memory_runs s more r h) }
 
--- one step more
+-- one more step
 steps : {s0 : State} {old new next : Option (List LogItem)} {s : State} (a : PlainStep) (t : PlainAnswer) → Reached s0 old new s → wants s ≡ Some a → Fits a t → Logs new next a t → Reached s0 old next (after s t)
 steps {s0} {old} {new} {next} {s} a t x w fits logs =
     elim (answer_cases t) [
@@ -43,7 +43,7 @@ steps {s0} {old} {new} {next} {s} a t x w fits logs =
       }
     ]
 
--- a call that wants a step isn't over
+-- a call that has a next step isn't over
 wants_some : (s : State) (a : PlainStep) → wants s ≡ Some a → 0 < effort s
 wants_some s a w =
     let below : effort (after s (answers.NoMemory a)) < effort s = falls s a (answers.NoMemory a) w refl in
@@ -54,12 +54,12 @@ module _ {F T : Type 0} (file : F → PlainFile) (temp : T → PlainTemp) where
   memory_at (phases.Wanting stage step) e = absurd e
   memory_at (phases.Over reply) e = ap over (sym e)
 
-  -- where a call is after an answer, or at its beginning
+  -- after an answer, or at its beginning, a call is in the given state, or it is over out of memory
   pub phase_at : (p : Phase F T) (s : State) → PhaseGoesTo file temp p s → PhaseAt file temp p s ⊎ PhaseAt file temp p (over (Refused OutOfMemory))
   phase_at p s (inl e) = inl e
   phase_at p s (inr e) = inr (memory_at p e)
 
-  -- the same of a job
+  -- the same for a job
   pub turn_at : (p : Standing F T) (s : State) → GoesOnTo file temp p s → IdleAt file temp p s ⊎ IdleAt file temp p (over (Refused OutOfMemory))
   turn_at (standings.At phase) s e = phase_at phase s e
   turn_at (standings.Out stage) s e = absurd e
@@ -70,13 +70,13 @@ module _ {F T : Type 0} (file : F → PlainFile) (temp : T → PlainTemp) where
   out_wants (standings.Out stage) s a e = e.wanted
   out_wants standings.Told s a e = absurd e
 
-  -- a job that stands in a state can go on
+  -- a job that is idle in a state can go on
   pub stands_idle : (p : Standing F T) (s : State) → IdleAt file temp p s → is_idle p ≡ true
   stands_idle (standings.At phase) s e = refl
   stands_idle (standings.Out stage) s e = absurd e
   stands_idle standings.Told s e = absurd e
 
-  -- the state that a call is in after an answer, or at its beginning
+  -- there is a state that the call is in after an answer, or at its beginning
   pub phase_stands : (p : Phase F T) (s : State) → PhaseGoesTo file temp p s → (t : State) × PhaseAt file temp p t
   phase_stands p s e =
       elim (phase_at p s e) [
@@ -99,7 +99,7 @@ module _ {F T : Type 0} (file : F → PlainFile) (temp : T → PlainTemp) where
         | inr at ↦ rw (phase_effort_is file temp p (over (Refused OutOfMemory)) at) (rw (phase_effort_is file temp r s now) (wants_some s a w))
       ]
 
-  -- a run from the state that a call begins in is one from its first state
+  -- a run from the state in which a call begins is a run from its first state
   pub ran_from : (p : Phase F T) (s : State) (r : Reply) (old new : Option (List LogItem)) → PhaseGoesTo file temp p s → ((t : State) → PhaseAt file temp p t → Ran t r old new) → Ran s r old new
   ran_from p s r old new e run =
       elim (phase_at p s e) [

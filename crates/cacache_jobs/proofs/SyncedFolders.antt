@@ -8,7 +8,7 @@ pub last_first : (folders : List (List ℕ)) (folder : List ℕ) (next : State) 
 last_first [] folder next = refl
 last_first (p ∷ ps) folder next = last_first ps folder (doing (sync_dir p) next)
 
--- each takes a step
+-- each folder takes one step
 pub sync_effort : (folders : List (List ℕ)) (next : State) → effort (sync_up folders next) ≡ length folders + effort next
 sync_effort [] next = omega arith
 sync_effort (p ∷ ps) next = omega (arith, sync_effort ps (doing (sync_dir p) next))
@@ -17,6 +17,6 @@ of_either : (b : Bool) (s t : State) → effort (cond b s t) ≡ cond b (effort 
 of_either true s t = refl
 of_either false s t = refl
 
--- the bound before a temporary file becomes the content
+-- the bound on the steps before a temporary file becomes the content
 pub moved_effort : (c : Commit) (file : PlainTemp) → effort (move_in c file) ≡ cond c.options.durable 16 15
 moved_effort c file = of_either c.options.durable (syncing c file) (persisting c file)

@@ -1,4 +1,4 @@
--- A bound on the steps that a call still takes.
+-- A bound on the number of steps that a call still takes.
 use Rattle.std.specs.Prelude.{ℕ, ◌+◌, ◌*◌, ◌^◌, if◌then◌else◌, length}
 use Rattle.cacache_store.specs.{declared.store.plain.{PlainFile.{PlainFile}, PlainTemp.{PlainTemp}}, Plain.{PlainStep, plain_step}}
 use Rattle.cacache_store.specs.declared.store.step.Step.TheVariants as steps
@@ -10,12 +10,12 @@ use Rattle.cacache_jobs.specs.declared.stage.Then.TheVariants as thens
 use Rattle.cacache_jobs.specs.declared.stage.Stage.TheVariants as stages
 use Rattle.cacache_jobs.specs.declared.phase.Phase.TheVariants as phases
 
--- of what follows syncs
+-- the bound on what follows the syncs
 abbrev pub goal_effort : Goal → ℕ
 goal_effort (goals.Place c) = effort (placed c.value)
 goal_effort (goals.Answer i) = 0
 
--- of what follows an errand
+-- the bound on what follows an errand
 abbrev pub then_effort : {T : Type 0} → Then T → ℕ
 then_effort (thens.Create c rest path) = length rest + 19
 then_effort (thens.Persist c file path) = if c.value.options.durable then 16 else 15
@@ -25,12 +25,12 @@ then_effort (thens.RemoveBucket content bucket) = 1
 then_effort (thens.Symlink c target path) = 15
 then_effort (thens.Finish last) = 0
 
--- how many bytes the file of a read has left
+-- how many bytes are left in the file that a read reads
 abbrev pub left_to_read : PlainStep → ℕ
 left_to_read (steps.Read file n) = file.left
 left_to_read step = 0
 
--- of a stage that wants this step
+-- the bound of a stage whose next step is this one
 abbrev pub stage_effort : {T : Type 0} → Stage T → PlainStep → ℕ
 stage_effort (stages.Doing follows) step = then_effort follows + 1
 stage_effort (stages.Creating c rest) step = length rest + 19
@@ -50,7 +50,7 @@ stage_effort (stages.Linking c target) step = 15
 stage_effort (stages.Walking w v) step =
     2 * w.left + weight v + weights (pending w.todo.items)
 
--- of a phase; a call that is over takes no step
+-- the bound of a phase; a call that is over takes no more steps
 abbrev pub phase_effort : {F T : Type 0} → (F → PlainFile) → (T → PlainTemp) → Phase F T → ℕ
 phase_effort file temp (phases.Wanting stage step) = stage_effort stage (plain_step file temp step)
 phase_effort file temp (phases.Over reply) = 0

@@ -1,10 +1,10 @@
--- Entries by their parts, and how they go into their buckets.
+-- Entries by their parts, and how they are written into their buckets.
 use Rattle.std.specs.Prelude.{ℕ, List, Option}
 use Rattle.serde_json.specs.Data.{Data}
 use Rattle.cacache_entry.specs.Entry.{Entry}
 use Rattle.cacache_table.specs.{StepPaths.{bucket_folder}, State.{State, Insertion, doing, appending, make_folder}}
 
--- the entry of a key: its integrity's text, size, moment, metadata and raw metadata
+-- the entry of a key, from the text of its integrity, its size, time, metadata and raw metadata
 abbrev pub entry_with : List ℕ → Option (List ℕ) → ℕ → ℕ → Data → Option (List ℕ) → Entry
 entry_with key integrity size moment metadata raw_metadata = record {
   key = key;
@@ -15,6 +15,6 @@ entry_with key integrity size moment metadata raw_metadata = record {
   raw_metadata = raw_metadata;
 }
 
--- an entry that can be written: the bucket's folder is made, and then the line is appended
+-- an entry that can be written: the call makes the bucket's folder, then appends the line
 abbrev pub into_bucket : Insertion → State
 into_bucket i = doing (make_folder (bucket_folder i.cache i.entry.key)) (appending i)

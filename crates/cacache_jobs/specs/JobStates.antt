@@ -1,4 +1,4 @@
--- Which state of the table a job stands in.
+-- Which state of the table a job is in.
 use Rattle.std.specs.Prelude.{◌≡◌, ℕ, List, [], Option, Some, None, Result, Ok, Err, length, string_bytes}
 use Rattle.cacache_core.specs.{declared.{errors.Error.{Error}, integrity.digest.Hash.{Hash}}, Hashers.{Holds, algorithm_of}, Pieces.{Compares}}
 use Rattle.cacache_store.specs.{declared.store.plain.{PlainFile.{PlainFile}, PlainTemp.{PlainTemp}}, Plain.{PlainStep, plain_step}}
@@ -12,20 +12,20 @@ use Rattle.cacache_jobs.specs.declared.stage.Then.TheVariants as thens
 use Rattle.cacache_jobs.specs.declared.stage.Stage.TheVariants as stages
 use Rattle.cacache_jobs.specs.declared.phase.Phase.TheVariants as phases
 
--- ---- what a stage carries, as the table has it
+-- ---- what a stage carries, in the table's terms
 
--- what an insertion answers: this integrity, or a deletion nothing
+-- the reply of an insertion: this integrity, or for a deletion nothing
 abbrev pub insertion_reply : Option (List Hash) → Reply
 insertion_reply (Some i) = Stored i
 insertion_reply None = Done
 
--- this entry is on its way, and so is this reply
+-- the two insertions have the same cache, key, durability and reply
 abbrev pub IsInsertion : Insertion → states.Insertion → Type 0
 IsInsertion i j =
     (j.cache ≡ i.cache) × (j.entry.key ≡ string_bytes i.key) × (j.durable ≡ i.durable)
     × (j.reply ≡ insertion_reply i.integrity)
 
--- a file is read for this, and these bytes of it were hashed
+-- the file is read for this purpose, and these bytes of it have been hashed
 abbrev pub HashesFor : Hashing → states.Hashing → List ℕ → Type 0
 HashesFor (hashings.Verify checker from export) h bytes =
     (k : Content) × (h ≡ to_verify k export) × Compares checker k.integrity bytes
@@ -34,14 +34,14 @@ HashesFor (hashings.Link hasher target) h bytes =
     (h ≡ to_link target) × Holds hasher bytes
     × (algorithm_of hasher ≡ target.options.algorithm)
 
--- ---- of a stage
+-- ---- stages
 
--- what follows syncs
+-- the state after the syncs
 abbrev pub GoalAt : Goal → State → Type 0
 GoalAt (goals.Place c) s = s ≡ placed c.value
 GoalAt (goals.Answer i) s = s ≡ over (insertion_reply i.integrity)
 
--- what follows an errand; the path of the next step is kept
+-- the state after an errand; the path of the next step is kept
 abbrev pub ThenAt : {T : Type 0} → (T → PlainTemp) → Then T → State → Type 0
 ThenAt temp (thens.Create c rest path) s =
     (number : ℕ) × (path ≡ temp_path c.value.cache number)
@@ -62,7 +62,7 @@ ThenAt temp (thens.Symlink c target path) s =
     × (s ≡ linking c.value target)
 ThenAt temp (thens.Finish last) s = s ≡ over Done
 
--- the call is in this state while the stage's step is out
+-- while the stage's step is out, the call is in this state
 abbrev pub StageAt : {T : Type 0} → (T → PlainTemp) → Stage T → State → Type 0
 StageAt temp (stages.Doing then) s =
     (errand : Errand) × (next : State) × ThenAt temp then next × (s ≡ doing errand next)
@@ -88,9 +88,9 @@ StageAt temp (stages.Copying from to verified) s = s ≡ copying from to verifie
 StageAt temp (stages.Linking c target) s = s ≡ linking c.value target
 StageAt temp (stages.Walking w v) s = WalksAt [] w (Some v) s
 
--- ---- of a phase
+-- ---- phases
 
--- the call is at this stage, and wants this step
+-- the call is at this stage, and its next step is this one
 pub record IsAt {T : Type 0} (temp : T → PlainTemp) (stage : Stage T) (step : PlainStep)
     (s : State) : Type 0 where
   pub state : StageAt temp stage s
@@ -101,7 +101,7 @@ abbrev pub PhaseAt : {F T : Type 0} → (F → PlainFile) → (T → PlainTemp) 
 PhaseAt file temp (phases.Wanting stage step) s = IsAt temp stage (plain_step file temp step) s
 PhaseAt file temp (phases.Over reply) s = s ≡ over (plain_reply reply)
 
--- the call goes on to this state, or out of memory ended it
+-- the call goes on to this state, or it ended out of memory
 abbrev pub Leads :
     {F T : Type 0} → (F → PlainFile) → (T → PlainTemp) → Result (Phase F T) Error → State → Type 0
 Leads file temp (Ok phase) s = PhaseAt file temp phase s

@@ -1,4 +1,4 @@
--- Where a job stands between two calls of it.
+-- The standing of a job between two calls of its functions.
 use Rattle.std.specs.Prelude.{◌≡◌, ◌⊎◌, Bool, true, false, Option, Some, None}
 use Rattle.cacache_core.specs.declared.errors.Error.TheVariants.{OutOfMemory}
 use Rattle.cacache_store.specs.{declared.store.plain.{PlainFile.{PlainFile}, PlainTemp.{PlainTemp}}, Plain.{PlainStep, plain_step}}
@@ -8,7 +8,7 @@ use Rattle.cacache_jobs.specs.declared.phase.Phase.TheVariants as phases
 use Rattle.cacache_jobs.specs.declared.job.Next.TheVariants as next
 use Rattle.cacache_jobs.specs.declared.job.Standing.TheVariants as standings
 
--- ---- of a standing
+-- ---- standings
 
 -- no step is out, and the call is in this state
 abbrev pub IdleAt :
@@ -42,7 +42,7 @@ abbrev pub is_out : {F T : Type 0} → Standing F T → Bool
 is_out (standings.Out stage) = true
 is_out standing = false
 
--- no step is out, and the reply wasn't handed out
+-- no step is out, and the reply hasn't been handed out
 abbrev pub is_idle : {F T : Type 0} → Standing F T → Bool
 is_idle (standings.At phase) = true
 is_idle standing = false
@@ -57,13 +57,13 @@ abbrev pub reply_at : {F T : Type 0} → Standing F T → Option Reply
 reply_at (standings.At phase) = reply_over phase
 reply_at standing = None
 
--- ---- of a job
+-- ---- jobs
 
--- the job stands in this state, and no step is out
+-- the job is in this state, and no step is out
 abbrev pub Stands : {F T : Type 0} → (F → PlainFile) → (T → PlainTemp) → Job F T → State → Type 0
 Stands file temp job s = IdleAt file temp job.standing s
 
--- the job stands in this state, and this step is out
+-- the job is in this state, and this step is out
 abbrev pub HasOut : {F T : Type 0} → (T → PlainTemp) → Job F T → State → PlainStep → Type 0
 HasOut temp job s step = OutAt temp job.standing s step
 
@@ -75,27 +75,27 @@ GoesTo file temp job s = GoesOnTo file temp job.standing s
 abbrev pub has_out : {F T : Type 0} → Job F T → Bool
 has_out job = is_out job.standing
 
--- no step is out, and the reply wasn't handed out
+-- no step is out, and the reply hasn't been handed out
 abbrev pub can_go_on : {F T : Type 0} → Job F T → Bool
 can_go_on job = is_idle job.standing
 
--- the reply of a job that is over, and hasn't handed it out
+-- the reply of a job that is over and hasn't handed it out
 abbrev pub reply_in : {F T : Type 0} → Job F T → Option Reply
 reply_in job = reply_at job.standing
 
--- what is handed out is a step
+-- the job hands out a step
 abbrev pub is_step : {F T : Type 0} → Next F T → Bool
 is_step (next.Step step) = true
 is_step (next.Over reply) = false
 
--- what a job hands out in this state, and how it stands then
+-- what a job hands out in this state, and its standing after that
 abbrev pub HandsOut :
     {F T : Type 0} → (F → PlainFile) → (T → PlainTemp) → Next F T → Job F T → State → Type 0
 HandsOut file temp (next.Step step) job s = HasOut temp job s (plain_step file temp step)
 HandsOut file temp (next.Over reply) job s = s ≡ over (plain_reply reply)
 
--- what is told of a reply in this state: some reply is that of a call that is over, and where there is
--- none the call wants a step
+-- an optional reply that fits this state: a reply is that of a call that is over;
+-- if there is none, the call has a next step
 abbrev pub Tells : Option Reply → State → Type 0
 Tells (Some reply) s = s ≡ over (plain_reply reply)
 Tells None s = (step : PlainStep) × (wants s ≡ Some step)

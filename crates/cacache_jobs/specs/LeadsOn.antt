@@ -1,4 +1,4 @@
--- Where what was brought takes a call.
+-- The state to which an answer's value takes a call.
 use Rattle.std.specs.Prelude.{◌≡◌, ℕ, List, [], Bool, Option, Result, length}
 use Rattle.cacache_core.specs.{declared.{errors.Error.{Error}, integrity.{checker.IntegrityChecker.{IntegrityChecker}, digest.Hash.{Hash}}}, Integrity.{integrity_under}, Pieces.{Compares}}
 use Rattle.cacache_store.specs.{declared.store.{answer.Answer.{Answer}, log.LogItem.{LogItem}, plain.{PlainFile.{PlainFile}, PlainTemp.{PlainTemp}}, step.Step.{Step}}, Fits.{Logs}, Plain.{plain_step, plain_answer}}
@@ -9,7 +9,7 @@ use Rattle.cacache_walks.specs.{declared.walk.Walk.{Walk}, WalkStates.{Counts, p
 use Rattle.cacache_jobs.specs.{declared.{hashing.Hashing.{Hashing}, phase.Phase.{Phase}}, JobStates.{HashesFor, Leads, insertion_reply}, Sites.{site_of}}
 
 module _ {F T : Type 0} (file : F → PlainFile) (temp : T → PlainTemp) where
-  -- the log has this step and its answer, as they are seen
+  -- the log has this step and its answer, as they are viewed
   abbrev pub LogsSeen :
       Option (List LogItem) → Option (List LogItem) → Step F T → Answer F T → Type 0
   LogsSeen old new step answer =
@@ -17,14 +17,14 @@ module _ {F T : Type 0} (file : F → PlainFile) (temp : T → PlainTemp) where
 
   -- ---- commits and entries
 
-  -- a commit goes on from the sync of its file, which then goes to the content's path
+  -- a commit goes on from the sync of its file; the file then moves to the content's path
   abbrev pub LeadsSynced :
       Commit → List ℕ → Result T Refusal → Result (Phase F T) Error → Type 0
   LeadsSynced c path synced r =
       path ≡ content_path c.cache c.computed
       → Leads file temp r (go_on (seen_by temp synced) fails (persisting c))
 
-  -- an entry goes into its bucket, and the call answers by this integrity
+  -- an entry is written into its bucket, and the call answers this integrity
   abbrev pub LeadsInsert :
       List ℕ → SerializableMetadata → Bool → Option (List Hash)
       → Result (Phase F T) Error → Type 0
@@ -33,23 +33,23 @@ module _ {F T : Type 0} (file : F → PlainFile) (temp : T → PlainTemp) where
       → j.durable ≡ durable → j.reply ≡ insertion_reply integrity
       → Leads file temp r (insert j)
 
-  -- ---- files that are hashed
+  -- ---- files that are being hashed
 
-  -- the file goes on to be hashed from its opening, nothing of it being hashed yet
+  -- hashing begins after the file was opened; nothing of it has been hashed yet
   abbrev pub LeadsOpened : Hashing → Answer F T → Result (Phase F T) Error → Type 0
   LeadsOpened purpose answer r =
       (h : states.Hashing) → HashesFor purpose h []
       → Leads file temp r
       (go_on (file_in (plain_answer file temp answer)) fails (λ f. hashing h f []))
 
-  -- the file goes on to be hashed from a read, so many bytes having been hashed before
+  -- hashing goes on after a read; this many bytes were hashed before it
   abbrev pub LeadsRead : Hashing → ℕ → Result (Got F) Refusal → Result (Phase F T) Error → Type 0
   LeadsRead purpose size got r =
       (h : states.Hashing) (bytes : List ℕ) → HashesFor purpose h bytes → size ≡ length bytes
       → Leads file temp r
       (go_on (seen_by (got_as file) got) fails (after_read h bytes))
 
-  -- a content of this size, which was hashed to its end, goes on to be verified and exported
+  -- a content of this size was hashed to its end, and is verified and exported next
   abbrev pub LeadsVerified :
       IntegrityChecker → List ℕ → Export → ℕ → Result (Phase F T) Error → Type 0
   LeadsVerified checker from export size r =
@@ -59,14 +59,14 @@ module _ {F T : Type 0} (file : F → PlainFile) (temp : T → PlainTemp) where
 
   -- ---- links
 
-  -- whatever the number, a link begins with the size of its target
+  -- a link begins with the size of its target, whatever the number
   abbrev pub LeadsSizing : List ℕ → List ℕ → Link → Result (Phase F T) Error → Type 0
   LeadsSizing cache base l r =
       (number : ℕ)
       → Leads file temp r
       (sizing (link_target (site_of cache base number) l))
 
-  -- a target with this integrity and size, which was hashed to its end, goes on to be linked to
+  -- a target with this integrity and size was hashed to its end, and is linked to next
   abbrev pub LeadsHashed :
       Target ℕ → List Hash → ℕ → Result (Phase F T) Error → Type 0
   LeadsHashed target computed count r =
@@ -76,7 +76,7 @@ module _ {F T : Type 0} (file : F → PlainFile) (temp : T → PlainTemp) where
 
   -- ---- walks
 
-  -- a walk of which no items were taken goes on from a visit
+  -- a walk goes on from a visit; none of its items have been taken
   abbrev pub LeadsVisited : Walk → Visit → Answer F T → Result (Phase F T) Error → Type 0
   LeadsVisited walk visit answer r =
       Counts [] walk → Leads file temp r

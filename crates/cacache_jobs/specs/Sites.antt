@@ -1,4 +1,4 @@
--- Where a job begins.
+-- The site at which a job begins.
 use Rattle.std.specs.Prelude.{ℕ, List}
 use Rattle.cacache_table.specs.State.{Site}
 

@@ -1,4 +1,4 @@
--- How the items of a bucket come together, entry by entry.
+-- How the items of a bucket are collected, entry by entry.
 use Rattle.std.proofs.{Common.{◌≡◌, string_bytes, ℕ, List, [], ◌∷◌, ◌++◌, Bool, true, false, cond, Option, Some, None, bytes_eq, refl, sym, ap, ◌∙◌, map}, lemmas.Slice.Eq.{bytes_eq-Decides}}
 use Rattle.std.specs.List.{list_any}
 use Rattle.cacache_entry.specs.{Entry.{Entry}, Latest.{Found, answer_of, answer_to, latest, NoneAnswers}, View.{entry_view}, declared.metadata.SerializableMetadata.{SerializableMetadata}, Bucket.{entries_of}}
@@ -6,7 +6,7 @@ use Rattle.cacache_entry.proofs.Lookups.{last_answer_decides}
 use Rattle.cacache_table.specs.Walking.{once, items_of, items_in}
 use Rattle.cacache_walks.specs.Listed.{keys_in, lookups, added_at, EndsWith}
 
--- the keys of entries are those of what they stand for
+-- entries have the same keys as the values that stand for them
 pub keys_in_view : (es : List SerializableMetadata) → map (λ (e : Entry). e.key) (map entry_view es) ≡ keys_in es
 keys_in_view [] = refl
 keys_in_view (e ∷ es) = rw (keys_in_view es) refl
@@ -36,7 +36,7 @@ items_in-of bytes es e = ap items_of e
 
 -- ---- the last entry of a key
 
--- an entry of another key answers nothing
+-- an entry of another key doesn't answer
 other_silent : (key : List ℕ) (e : Entry) → bytes_eq key e.key ≡ false → answer_to key e ≡ None
 other_silent key e differs = by (bytes_eq e.key key) refl
   where
@@ -52,7 +52,7 @@ later_silent key (e ∷ later) none = by (bytes_eq key (string_bytes e.key)) ref
     by true is rest = let no : true ≡ false = rw is at none in absurd cc
     by false is rest = (other_silent key (entry_view e) is, rest (rw is at none))
 
--- what the last entry of its key answers is what the lookup finds
+-- the lookup of a key finds what the key's last entry answers
 pub last_answers : (es : List Entry) (e : SerializableMetadata) (later : List SerializableMetadata) (found : Option Found) → EndsWith es e later
     → list_any (bytes_eq (string_bytes e.key)) (keys_in later) ≡ false → answer_of (entry_view e) (entry_view e).integrity ≡ Some found → latest (string_bytes e.key) es ≡ found
 last_answers es e later found ends last is =

@@ -6,7 +6,7 @@ use Rattle.cacache_entry.specs.{Entry.{Entry}, Latest.{Found, answer_of, answer_
 use Rattle.cacache_table.specs.{State.{Item}, Walking.{once, items_of}, Runs.{plain_item}}
 use Rattle.cacache_walks.{specs.Listed.{keys_in, lookups, added_at, own_answer, decider, entry_in}, proofs.BucketItems.{keys_in_view, adds_first}}
 
--- a decider answers in the place of what was found before
+-- a decider's answer replaces what was found before
 abbrev Decides : List ℕ → List Entry → Option Found → Option Entry → Type 0
 Decides key es found None = fold (after_entry key) found es ≡ found
 Decides key es found (Some e) = answer_to key e ≡ Some (fold (after_entry key) found es)
@@ -23,7 +23,7 @@ decides key (e ∷ es) found = by (decider key es) (answer_to key e) refl (decid
 
 -- ---- the deciders from the end
 
--- an entry that answers decides its key, if none did
+-- an entry that answers decides its key, if no later entry did
 pub takes_place : (e : Entry) (old new : List ℕ → Option Entry) (key : List ℕ)
     → (bytes_eq e.key key ≡ true → old key ≡ None) → is_some (answer_of e e.integrity) ≡ true → new key ≡ cond (bytes_eq e.key key) (Some e) (old key)
     → new key ≡ option_or (old key) (if is_some (answer_to key e) then Some e else None)
@@ -37,7 +37,7 @@ takes_place e old new key free answers h = h ∙ by (bytes_eq e.key key) refl
     by true is = rw (free is, answers) refl
     by false is = keeps (old key)
 
--- the text that a key is looked up by is the key; a map that has nothing there has no entry
+-- a key is looked up by its own text; if a map has nothing at a text, it has no entry there
 pub has_none : (old : BTreeMap (Bor (List ℕ)) (Bor SerializableMetadata)) (own text key : List ℕ) → text ≡ own
     → is_some (get_by (λ k. slice_cmp nat_cmp text k.now) old) ≡ false → bytes_eq own key ≡ true → entry_in old key ≡ None
 has_none old own text key is free same =
@@ -47,7 +47,7 @@ has_none old own text key is free same =
     none None e = refl
     none (Some i) e = absurd cc
 
--- after a change at it, the map has there what was put, and elsewhere what it had
+-- after a change at a key, the map has the new value there, and elsewhere what it had before
 pub at_text : (old new : BTreeMap (Bor (List ℕ)) (Bor SerializableMetadata)) (w : Option (Bor SerializableMetadata)) (own text key : List ℕ) → text ≡ own
     → UpdatesBy (λ x y. slice_cmp nat_cmp x.now y.now) (λ k. slice_cmp nat_cmp text k.now) old new w
     → entry_in new key ≡ cond (bytes_eq own key) (option_map (λ e. entry_view e.now) w) (entry_in old key)
@@ -62,11 +62,11 @@ at_text old new w own text key is updates =
 
 -- ---- the items from the end
 
--- the decider that is left at a key, where the later entries have these keys
+-- the decider that is left at a key, if the later entries have these keys
 abbrev pub decider_left : List Entry → List (List ℕ) → List ℕ → Option Entry
 decider_left es later key = if list_any (bytes_eq key) later then None else decider key es
 
--- a key that was met has none
+-- a key that was already met has no decider left
 pub removed : (old new : BTreeMap (Bor (List ℕ)) (Bor SerializableMetadata)) (es : List Entry) (later : List (List ℕ)) (own text : List ℕ) → text ≡ own
     → UpdatesBy (λ x y. slice_cmp nat_cmp x.now y.now) (λ k. slice_cmp nat_cmp text k.now) old new None
     → ((key : List ℕ) → entry_in old key ≡ decider_left es later key) → (key : List ℕ) → entry_in new key ≡ decider_left es (own ∷ later) key
@@ -79,7 +79,7 @@ removed old new es later own text is updates left key =
     by true false h i = let no : true ≡ false = sym ((bytes_eq-Decides key own).1 (sym ((bytes_eq-Decides own key).0 h))) ∙ i in absurd cc
     by false true h i = let no : true ≡ false = sym ((bytes_eq-Decides own key).1 (sym ((bytes_eq-Decides key own).0 i))) ∙ h in absurd cc
 
--- what a removal gives is the decider that was left
+-- a removal returns the decider that was left
 pub found_left : (old : BTreeMap (Bor (List ℕ)) (Bor SerializableMetadata)) (es : List Entry) (later : List (List ℕ)) (own text : List ℕ) (d : Bor SerializableMetadata) → text ≡ own
     → Some d ≡ get_by (λ k. slice_cmp nat_cmp text k.now) old → ((key : List ℕ) → entry_in old key ≡ decider_left es later key) → decider_left es later own ≡ Some (entry_view d.now)
 found_left old es later own text d is found left = sym (left own) ∙ ap (entry_in old) (sym is) ∙ sym (ap (option_map (λ e. entry_view e.now)) found)
@@ -92,7 +92,7 @@ one : (o : Option Item) → reverse (option_to_list o) ≡ option_to_list o
 one None = refl
 one (Some i) = refl
 
--- an entry adds its item behind those of the later entries
+-- an entry adds its item after those of the later entries
 adds_last : (es : List Entry) (key : List ℕ) (later : List (List ℕ)) (o : Option Item) → added_at es key later ≡ option_to_list o
     → reverse (lookups es (once later)) ++ option_to_list o ≡ reverse (lookups es (once (key ∷ later)))
 adds_last es key later o is =
@@ -123,7 +123,7 @@ adds_found es key later e left = adds_last es key later (option_map Ok (own_answ
     by true is = absurd cc
     by false is = looked_up es key (own_answer e) (answers (decider key es) is (decides key es None))
 
--- where none is left, there is no item
+-- if no decider is left, there is no item
 pub adds_none : (es : List Entry) (key : List ℕ) (later : List (List ℕ)) → decider_left es later key ≡ None → reverse (lookups es (once later)) ≡ reverse (lookups es (once (key ∷ later)))
 adds_none es key later left = sym (append-nil (reverse (lookups es (once later)))) ∙ adds_last es key later None (by (list_any (bytes_eq key) later) left)
   where
@@ -140,7 +140,7 @@ map_reverse f [] = refl
 map_reverse f (x ∷ xs) =
     ap (map f) (reverse-append (x ∷ []) xs) ∙ map-append f (reverse xs) (x ∷ []) ∙ ap (λ l. l ++ f x ∷ []) (map_reverse f xs) ∙ sym (reverse-append (f x ∷ []) (map f xs))
 
--- at the end they are the items, reversed
+-- at the end, what was collected is the items, reversed
 pub items_reversed : (items : List Item) (es : List Entry) (later : List SerializableMetadata) → es ≡ map entry_view later
     → map plain_item items ≡ reverse (lookups es (once (keys_in later))) → map plain_item (reverse items) ≡ items_of es
 items_reversed items es later is h =

@@ -1,4 +1,4 @@
--- How a listing stands after a visit, and after an item was given.
+-- The state of a listing after a visit, and after it returned an item.
 use Rattle.std.proofs.{Common.{◌≡◌, inr, ℕ, ◌+◌, ◌<◌, ◌≤◌, List, [], ◌∷◌, ◌++◌, map, reverse, Option, Some, None, Ok, Err, refl, sym, ◌∙◌, ap, append_assoc, append-nil, length, length-append, arith}, lemmas.List.{length-map, reverse-append, reverse-reverse}}
 use Rattle.cacache_core.specs.declared.errors.Error.TheVariants.{OutOfMemory}
 use Rattle.cacache_store.specs.declared.{env.Env.{Env}, store.log.LogItem.{LogItem}}
@@ -29,12 +29,12 @@ module _ {S C N : Type 0} (log : S → Option (List LogItem)) (cache : List ℕ)
   pub stands_at : (after : Ls S C N) (v u : Option Visit) (items others : List Item) → v ≡ u → items ≡ others → StandsBy log u cache old after others → StandsBy log v cache old after items
   stands_at after v u items others e f h = rw (e, f) h
 
-  -- it stands as before where nothing but its ready items changed
+  -- the state stays the same if only the ready items changed
   pub stands_as : (before after : Ls S C N) (v : Option Visit) (items : List Item) → after.env.now.store ≡ before.env.now.store → after.walk ≡ before.walk → StandsBy log v cache old before items → StandsBy log v cache old after items
   stands_as before after None items store walk h = rw store h
   stands_as before after (Some v) items store walk h = rw (store, walk) h
 
-  -- a ready item is given
+  -- a ready item is returned
   pub given_one : (before after : Ls S C N) (given : List Item) (x : Item) → after.env.now.store ≡ before.env.now.store → after.walk ≡ before.walk → after.visit ≡ before.visit → before.ready.items ≡ after.ready.items ++ x ∷ [] → Gave log cache old before given → Gave log cache old after (given ++ plain_item x ∷ [])
   given_one before after given x store walk visit is h =
       let rest : ready log before ≡ plain_item x ∷ ready log after = ap (map plain_item) (ap reverse is ∙ reverse-append after.ready.items (x ∷ [])) in
@@ -47,7 +47,7 @@ module _ {S C N : Type 0} (log : S → Option (List LogItem)) (cache : List ℕ)
       let all : (given ++ Err OutOfMemory ∷ []) ++ ready log after ≡ given ++ Err OutOfMemory ∷ [] = rw none (append-nil (given ++ Err OutOfMemory ∷ [])) in
       stands_at after after.visit None ((given ++ Err OutOfMemory ∷ []) ++ ready log after) (given ++ Err OutOfMemory ∷ []) visit all (inr (given, refl, ran))
 
-  -- it gave the same items where the ready ones stay
+  -- if the ready items stay, the listing has returned the same items
   pub same_gave : (before after : Ls S C N) (given : List Item) → after.env.now.store ≡ before.env.now.store → after.walk ≡ before.walk → after.visit ≡ before.visit → after.ready.items ≡ before.ready.items → Gave log cache old before given → Gave log cache old after given
   same_gave before after given store walk visit items h =
       let all : given ++ ready log after ≡ given ++ ready log before = ap (λ xs. given ++ map plain_item (reverse xs)) items in
@@ -57,28 +57,28 @@ module _ {S C N : Type 0} (log : S → Option (List LogItem)) (cache : List ℕ)
   none_ready : (ls : Ls S C N) (given : List Item) → ls.ready.items ≡ [] → given ++ ready log ls ≡ given
   none_ready ls given none = ap (λ xs. given ++ map plain_item (reverse xs)) none ∙ append-nil given
 
-  -- all items are given
+  -- all items have been returned
   pub all_given : (ls : Ls S C N) (given : List Item) → ls.visit ≡ None → ls.ready.items ≡ [] → Gave log cache old ls given → Lists cache given old (log ls.env.now.store)
   all_given ls given over none h = stands_at ls None ls.visit given (given ++ ready log ls) (sym over) (sym (none_ready ls given none)) h
 
-  -- it wants the step of its visit
+  -- its next step is that of its visit
   pub wants_step : (ls : Ls S C N) (v : Visit) (items : List Item) → ls.visit ≡ Some v → StandsBy log ls.visit cache old ls items → StandsBy log (Some v) cache old ls items
   wants_step ls v items is h = stands_at ls (Some v) ls.visit items items (sym is) refl h
 
-  -- a visit without ready items leaves what was given
+  -- a visit without ready items leaves the returned items as they were
   pub gave_next : (before after : Ls S C N) (v : Visit) (given : List Item) → before.ready.items ≡ [] → before.visit ≡ Some v → ((items : List Item) → StandsBy log (Some v) cache old before items → StandsBy log after.visit cache old after (items ++ ready log after)) → Gave log cache old before given → Gave log cache old after given
   gave_next before after v given none is went h = went given (stands_at before (Some v) before.visit given (given ++ ready log before) (sym is) (sym (none_ready before given none)) h)
 
--- ---- its environment
+-- ---- the environment of a listing
 
--- one visit after another keeps it
+-- one visit after another keeps the environment
 pub keeps_on : {S C N : Type 0} (one two three : Ls S C N) → KeepsEnv one two → KeepsEnv two three → KeepsEnv one three
 keeps_on {S} {C} {N} one two three x y =
     (y.0 ∙ x.0, y.1 ∙ ap (λ (env : Env S C N). record env { store = three.env.now.store }) x.1)
 
 -- ---- how much is left
 
--- what is left is read off the walk's own counts
+-- what is left is computed from the walk's own counts
 pub fewer_steps_as : (next : Option Visit) (w u : Walk) (n : ℕ) → u.left ≡ w.left → u.todo ≡ w.todo → steps_left next w < n → steps_left next u < n
 fewer_steps_as None w u n left todo h = h
 fewer_steps_as (Some v) w u n left todo h = rw (left, todo) h
@@ -113,7 +113,7 @@ module _ {S C N : Type 0} where
       let b : items_left after.visit after.walk ≡ items_left before.visit before.walk = rw (visit, walk) refl in
       omega (arith, a, b, h)
 
--- nothing is in a list without length
+-- a list of length 0 has no elements
 pub nothing_in : {X : Type 0} (xs : List X) → length xs ≡ 0 → xs ≡ []
 nothing_in [] e = refl
 nothing_in (x ∷ xs) e = absurd cc

@@ -1,4 +1,4 @@
--- How a walk goes on with more items, and what it stumbles over.
+-- How a walk goes on with more items, and which names it stumbles over.
 use Rattle.std.proofs.{Common.{◌≡◌, ℕ, ◌+◌, ◌<◌, List, [], ◌∷◌, ◌++◌, Bool, Ok, true, false, nat_le, refl, sym, ◌∙◌, ap, length, take, map, length-append, arith}, Math.Seq.{take-append-add}, lemmas.{List.{take-map, length-map}, Bool.{lt-leb}}}
 use Rattle.cacache_table.specs.{State.{State, Item, Walk}, Walking.{most, give, miss, too_many, walk_on, walk_ends}, Runs.{plain_item}, declared.visit.Task.{Task, TheVariants.{Stumble}}}
 use Rattle.cacache_core.specs.declared.errors.Fault.{Fault}
@@ -36,7 +36,7 @@ pub gave_no : (taken : List Item) (w : walks.Walk) (next : Walk → State) (s : 
 gave_no taken w next s false e h = h
 gave_no taken w next s true e h = absurd cc
 
--- one that can knows how many items may still come
+-- a walk that can go on knows how many items may still come
 pub gave_yes : (taken : List Item) (w : walks.Walk) (next : Walk → State) (s : State) (b : Bool) → b ≡ true → WalkGives taken (Ok b) w next s → Counts taken w × (s ≡ next (walk_of taken w))
 gave_yes taken w next s true e h = h
 gave_yes taken w next s false e h = absurd cc

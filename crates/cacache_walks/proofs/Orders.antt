@@ -1,4 +1,4 @@
--- The order of what is listed: sorted, and each once.
+-- The order of listed contents: sorted, each one once.
 use Rattle.std.proofs.{Common.{◌≡◌, ◌+◌, List, [], ◌∷◌, Bool, true, false, cond, length, map, refl, sym, ap, ap₂, subst, ◌∙◌, arith}, lemmas.List.{get_or-map, length-map, Elements.{Contains-push, Contains-append_left, Contains-append_right}, Kept.{IsStrictlySortedBy-dedup, Contains-dedup, Contains-from_dedup}, Sorted.{Contains-permutation, IsPermutation-sym}}}
 use Rattle.std.specs.{Prelude.{Contains, ◌&&◌, ◌↔◌}, Option.{option_cmp}, declared.cmp.Ordering.{Ordering}, Ordering.{is_lt, eq_by_cmp}, Cmp.{IsTotalOrder, IsEquivalence, then_total, on_total, nat_cmp_total, unsigned_ties, both_tied, Lexicographic.{nat_list_cmp_total, texts_ties}}, List.{dedup, dedup_from, Sorted.{IsPermutation, IsSorted}}}
 use Rattle.cacache_core.specs.{declared.integrity.digest.Hash.{Hash}, Integrity.{address, rank}, Same.{same_hash, same_hashes}}
@@ -14,7 +14,7 @@ same_ties h g = both_tied _ _ _ _ (unsigned_ties (rank h.algorithm) (rank g.algo
 
 -- ---- integrities of one hash
 
--- each list of one hash is its hash's
+-- each list of one hash is the list of its hash
 singles : (xs : List (List Hash)) → ((i : List Hash) → Contains xs i → (h : Hash) × (i ≡ h ∷ [])) → (hs : List Hash) × (xs ≡ map (λ h. h ∷ []) hs)
 singles [] all = ([], refl)
 singles (x ∷ xs) all =
@@ -63,7 +63,7 @@ addresses_ordered old sorted new all moved up is =
       ascend = IsStrictlySortedBy-dedup hash_total same_ties parts.0 (sorted_singles parts.0 (subst (IsSorted by_address) parts.1 up));
     }
 
--- a list that is sorted, and then has each element once, has the same elements
+-- a list that is sorted, and then keeps each element once, has the same elements
 pub same_elements : {X : Type 0} {E : X → X → Bool} → IsEquivalence E → ((x y : X) → E x y ≡ true → x ≡ y) → (old sorted new : List X) → IsPermutation old sorted → new ≡ dedup E sorted → (x : X) → Contains new x ↔ Contains old x
 same_elements {E = E} e decides old sorted new moved is x = (
   (λ c. Contains-permutation sorted old x (IsPermutation-sym old sorted moved) (Contains-from_dedup E sorted x (subst (λ l. Contains l x) is c))),

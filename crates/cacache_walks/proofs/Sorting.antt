@@ -58,7 +58,7 @@ listed_are_shown cache files addresses strange s h hash = (
   (λ c. (s.contents (h ∷ [])).1 (joined cache (content_names h), c, (h, hash, refl, refl))),
 )
 
--- they are sorted so into all lists of the same elements
+-- files are sorted in the same way into all lists of the same elements
 pub sorts_same : {cache : List ℕ} {files strange paths : List (List ℕ)} {addresses integrities : List (List Hash)} → Sorts cache files addresses strange → ((i : List Hash) → Contains integrities i ↔ Contains addresses i) → ((p : List ℕ) → Contains paths p ↔ Contains strange p) → Sorts cache files integrities paths
 sorts_same s a b = record {
   contents = λ i. ((λ c. (s.contents i).0 ((a i).0 c)), (λ k. (a i).1 ((s.contents i).1 k)));

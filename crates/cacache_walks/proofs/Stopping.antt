@@ -37,7 +37,7 @@ unread_shows path (NoMemory step) fault names old new fits logs is missing none 
 unread_shows path (Names shown) fault names old new fits logs is missing none = absurd cc
 unread_shows path t fault names old new fits logs is missing none = absurd fits
 
--- after its names were shown there was no memory left
+-- after the names were shown there was no memory left
 stops_behind : (path : List ℕ) (t : PlainAnswer) (names : List Name) (old new : Option (List LogItem)) → AnswerShows t names path old new → StopsIn path OutOfMemory old new
 stops_behind path t names old new shows left level todo deep =
     ((ReadDir path, t) ∷ [], shows.gained, (refl, shows.fits, deep, inl (names, shows.shown, tt)))
@@ -51,7 +51,7 @@ stops_visit (ReadBucket path) e old new w fs stops s = absurd stops
 stops_visit (RemoveFile path) e old new w fs stops s = absurd stops
 stops_visit (RemoveFolder path) e old new w fs stops s = absurd stops
 
--- after it there was no memory left
+-- after the visit there was no memory left
 pub stops_after : (v : Visit) (t : PlainAnswer) (old new : Option (List LogItem)) (before after : List (List ℕ)) (w : walks.Walk) (fs : List Folder) → Answered v t old new before after → WalkStands (Some v) w fs → StopsAt w.left fs OutOfMemory old new
 stops_after (Enter path level) t old new before after w [] a s = absurd s.3
 stops_after (Enter path level) t old new before after w (f ∷ fs) a s = rw s.3.0 (stops_behind path a.2.0 a.0 old new a.2.1 w.left level fs s.3.1)
@@ -66,14 +66,14 @@ own_depth fs OutOfMemory says deeper = tt
 own_depth fs (IoError fault message) says deeper = (says, deeper)
 own_depth fs e says deeper = absurd says
 
--- a file was met, and a folder behind it lies too deep
+-- a file was found, and a later folder is too deep
 deep_behind : (tasks : List Task) (e : Error) (old new : Option (List LogItem)) (left : ℕ) (w : walks.Walk) (next : Option Visit) (fs : List Folder) → new ≡ old → Matches tasks fs → WalksAt [] w next (walk_on tasks (lists [] left)) → ¬ (w.items.items ≡ []) → IsErrorOf (Failed TooDeep) e → StopsAt left fs e old new
 deep_behind tasks e old new left w next fs same m h some says = elim (deeper_or_none tasks left w next fs m h) [
   | inl deeper ↦ stops_here left fs e old new same (own_depth fs e says deeper)
   | inr none ↦ absurd (some none)
 ]
 
--- a folder was read, and has too many names, or a folder there or behind it lies too deep
+-- a folder was read: it has too many names, or a folder in it or a later one is too deep
 deep_in : (b : Bool) (tasks : List Task) (path : List ℕ) (level : ℕ) (names : List Name) (u : PlainAnswer) (e : Error) (old new : Option (List LogItem)) (left : ℕ) (w : walks.Walk) (next : Option Visit) (fs : List Folder) → nat_le (length names) left ≡ b → AnswerShows u names path old new → level ≤ 16
     → Matches tasks (folders_in (record { path = path; level = level }) names ++ fs) → WalksAt [] w next (cond b (walk_on tasks (lists [] (left - length names))) (too_many (lists [] left))) → ¬ (w.items.items ≡ []) → IsErrorOf (Failed TooDeep) e → StopsAt left (record { path = path; level = level } ∷ fs) e old new
 deep_in true tasks path level names u e old new left w next fs is shows deep m h some says = elim (deeper_or_none tasks (left - length names) w next (folders_in (record { path = path; level = level }) names ++ fs) m h) [
@@ -115,7 +115,7 @@ stops_whole left fs files old new whole = (whole.0, whole.1, reads_stop left fs 
 
 -- ---- errors
 
--- what holds of a value or an error, where something else does
+-- what holds of a value or an error, if something else holds of it
 pub value_so : {X E : Type 0} {P Q : X → Type 0} (r : Result X E) → ((x : X) → P x → Q x) → IfOk r P → IfOk r Q
 value_so (Ok x) f h = f x h
 value_so (Err e) f h = h
@@ -124,7 +124,7 @@ pub error_so : {X E : Type 0} {P Q : E → Type 0} (r : Result X E) → ((e : E)
 error_so (Ok x) f h = h
 error_so (Err e) f h = f e h
 
--- the error that `?` hands on
+-- the error that `?` passes on
 pub error_as : {X E : Type 0} (P : E → Type 0) (r : Result X E) (e : E) → IsErrAnd r (λ x. x ≡ e) → P e → IfErr r P
 error_as P (Ok x) e same p = tt
 error_as P (Err x) e same p = subst P (sym same) p

@@ -1,4 +1,4 @@
--- A walk that met something too deep has items; one without leads on to its first task.
+-- A walk that met something too deep has items; a walk without items leads on to its first task.
 use Rattle.std.proofs.{Common.{◌≡◌, ◌+◌, ◌<◌, ℕ, List, [], ◌∷◌, ◌++◌, Bool, true, false, cond, nat_le, Option, None, Some, inl, inr, ◌⊎◌, refl, sym, ap, subst, ◌∙◌, length, map, take, arith, length-append}, lemmas.List.Elements.{Contains-push, Contains-append_left}}
 use Rattle.cacache_core.specs.declared.errors.{Error.{Error}, Fault.{Fault}}
 use Rattle.cacache_table.specs.{declared.{reply.Reply.TheVariants.{Listed, Done}, visit.{Task.{Task, TheVariants.{Make, Stumble}}, Visit.{Visit}}}, State.{State, Item, walking, over, Walk}, Walking.{failed, walk_on, too_many, most}, Runs.{Moves, plain_item}}
@@ -24,7 +24,7 @@ given : (b : Bool) (next : Walk → State) (items : List Item) (x : Item) (left 
 given true next items x left some = some
 given false next items x left some = more_items (take most (items ++ x ∷ [])) _
 
--- a walk with items never stands without
+-- a walk that goes on with items still has items afterwards
 stuck : (todo : List Task) (items : List Item) (left : ℕ) → 0 < length items → 0 < length (items_at (walk_on todo (lists items left)))
 stuck [] items left some = some
 stuck (Make v ∷ todo) items left some = some
@@ -32,7 +32,7 @@ stuck (Stumble fault path ∷ todo) items left some =
     given (nat_le (length items + length (failed fault ∷ [])) most) (walk_on todo) items (failed fault) left
     (stuck todo (items ++ failed fault ∷ []) left (more_items items (failed fault)))
 
--- nor does one that stumbles first
+-- a walk that stumbles first has items afterwards
 stumbles : (todo : List Task) (fault : Fault) (path : List ℕ) (left : ℕ) → 0 < length (items_at (walk_on (Stumble fault path ∷ todo) (lists [] left)))
 stumbles todo fault path left =
     given (nat_le (length (failed fault ∷ [])) most) (walk_on todo) [] (failed fault) left (stuck todo (failed fault ∷ []) left (more_items [] (failed fault)))
@@ -44,7 +44,7 @@ ends_empty : (clears : Bool) (items : List Item) → items ≡ [] → items_at (
 ends_empty true items e = refl
 ends_empty false items e = e
 
--- where a walk stands that gave nothing, no item is
+-- a walk that has collected nothing is in a state without items
 pub no_items : (w : walks.Walk) (next : Option Visit) (s : State) → w.items.items ≡ [] → WalksAt [] w next s → items_at s ≡ []
 no_items w (Some v) s none h = rw (h.1, none) refl
 no_items w None s none h = ap items_at h.1 ∙ ends_empty w.clears (map plain_item w.items.items) (rw none refl)
@@ -53,7 +53,7 @@ not_over : (clears : Bool) (w : Walk) (v : Visit) (todo : List Task) (items : Li
 not_over true w v todo items e = absurd cc
 not_over false w v todo items e = absurd cc
 
--- ---- from its tasks it goes on to the first
+-- ---- from its tasks the walk goes on to the first
 
 pub led : (tasks : List Task) (left : ℕ) (w : walks.Walk) (next : Option Visit) (fs : List Folder) → w.items.items ≡ [] → Matches tasks fs → WalksAt [] w next (walk_on tasks (lists [] left)) → WalkStands next w fs
 led [] left w None [] none m h = refl
@@ -81,7 +81,7 @@ none_left n k (m ∷ moves) e s = absurd s
 pub at_most : (x y : Visit) (todo more : List Task) (left : ℕ) (w : walks.Walk) (fs : List Folder) (moves : Moves) (e : Error) → walking (lists [] left) x todo ≡ walking (walk_of [] w) y more → StopsWalk w.left fs moves e → StopsWalk left fs moves e
 at_most x y todo more left w fs moves e is s = subst (λ (n : ℕ). StopsWalk n fs moves e) (sym (ap left_at is)) s
 
--- the walk goes on with them
+-- the walk goes on with these names
 pub same_left : (tasks : List Task) (left : ℕ) (w : walks.Walk) (next : Option Visit) (fs : List Folder) → w.items.items ≡ [] → Matches tasks fs → WalksAt [] w next (walk_on tasks (lists [] left)) → (moves : Moves) (e : Error) → StopsWalk w.left fs moves e → StopsWalk left fs moves e
 same_left [] left w next [] none m h moves e s = none_left w.left left moves e s
 same_left [] left w next (f ∷ fs) none m h moves e s = absurd m
@@ -89,7 +89,7 @@ same_left (Make x ∷ todo) left w (Some v) fs none m h moves e s = at_most x v 
 same_left (Make x ∷ todo) left w None fs none m h moves e s = absurd (not_over w.clears (lists [] left) x todo (map plain_item w.items.items) h.1)
 same_left (Stumble fault path ∷ todo) left w next fs none m h moves e s = absurd (none_at (items_at (walk_on (Stumble fault path ∷ todo) (lists [] left))) (no_items w next _ none h) (stumbles todo fault path left))
 
--- ---- it has items only where a folder lies too deep
+-- ---- the walk has items only if a folder is too deep
 
 none_mapped : (items : List Item) → [] ≡ map plain_item items → items ≡ []
 none_mapped [] e = refl
@@ -108,7 +108,7 @@ deeper_or_none (Make x ∷ todo) left w None fs m h = absurd (not_over w.clears 
 deeper_or_none (Stumble fault path ∷ todo) left w next [] m h = absurd m
 deeper_or_none (Stumble fault path ∷ todo) left w next (f ∷ fs) m h = inl (f, Contains-append_left (f ∷ []) fs f (Contains-push [] f), m.0)
 
--- nothing is in a list without length
+-- a list of length 0 has no elements
 pub nothing_in : {X : Type 0} (xs : List X) → length xs ≡ 0 → xs ≡ []
 nothing_in [] e = refl
 nothing_in (x ∷ xs) e = absurd cc

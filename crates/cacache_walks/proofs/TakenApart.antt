@@ -1,4 +1,4 @@
--- A path that is taken apart: what its text tells.
+-- What the text of a path shows after the path is taken apart.
 use Rattle.std.proofs.{Common.{◌≡◌, ℕ, ◌<◌, ◌≤◌, ◌+◌, ◌-◌, List, [], ◌∷◌, ◌++◌, Some, Ok, Err, length, slice_index, take, drop, refl, sym, ap, ap₂, ◌∙◌, subst, arith, append-nil, length-append}, lemmas.{Bool.{le-ltb}, List.{take_all, length-drop, Elements.{All-nil, All-cons}}}}
 use Rattle.std.specs.Prelude.{IfSome}
 use Rattle.base64.specs.GeneralPurpose.{IsBytes}
@@ -38,7 +38,7 @@ cut_length (a ∷ b ∷ []) long = absurd (omega arith)
 cut_length (a ∷ []) long = absurd (omega arith)
 cut_length [] long = absurd (omega arith)
 
--- what is known of a text that is a content's names
+-- what is known of a text that is made of a content's names
 pub record Taken (text : List ℕ) (h : Hash) : Type 0 where
   pub letter : by_letter (slice_index text 4) ≡ Some h.algorithm
   pub long : length (name_of h.algorithm) + 1 + 7 ≤ length text
@@ -59,7 +59,7 @@ taken text h hash is =
 
 -- ---- the path of a content
 
--- its names stand behind its folder
+-- its names come after its folder
 content_text : (cache : List ℕ) (h : Hash) → IsHash h → joined cache (content_names h) ≡ join cache content_area ++ names_text h
 unfolding names_text
 content_text cache h hash = joined_texts_spell cache content_area (name_of h.algorithm ∷ cut_digits (encode_lower h.digest)) proper_content_folder (proper_content h hash)
@@ -89,7 +89,7 @@ not_shorter cache top path h is hash e short =
     let l = ap length (e ∙ content_text cache h hash ∙ ap (λ (p : List ℕ). p ++ names_text h) (sym is)) ∙ length-append top (names_text h) in
     omega (arith, l, short)
 
--- the path that was made of what was taken is the one that was read
+-- the path that was built from the parts is the one that was read
 pub same_path_of : (cache lies path : List ℕ) (i : List Hash) (a : Algorithm) (d : List ℕ) (h : Hash) → i ≡ hash_of a d ∷ [] → IfSome (address i) (λ g. lies ≡ joined cache (content_names g)) → a ≡ h.algorithm → d ≡ h.digest → path ≡ joined cache (content_names h) → lies ≡ path
 same_path_of cache lies path i a d h is at x y e =
     let lie : lies ≡ joined cache (content_names (hash_of a d)) = subst (λ (j : List Hash). IfSome (address j) (λ g. lies ≡ joined cache (content_names g))) is at in
@@ -104,7 +104,7 @@ lie_of cache lies i a d is at = subst (λ (j : List Hash). IfSome (address j) (�
 long_is : (a : Algorithm) (d : List ℕ) → 3 ≤ length d → long_hash a d ≡ Ok (hash_of a d)
 long_is a d long = rw (le-ltb (length d) 3 long) refl
 
--- a digest that is long enough is refused for memory alone
+-- a digest that is long enough is refused only for lack of memory
 pub memory_alone : (a : Algorithm) (d : List ℕ) (e : Error) → 3 ≤ length d → IsReadFailure (long_hash a d) e → e ≡ OutOfMemory
 memory_alone a d OutOfMemory long fails = refl
 memory_alone a d (IntegrityError fault) long fails = absurd (let both : Ok (hash_of a d) ≡ Err fault = sym (long_is a d long) ∙ fails in cc)

@@ -1,4 +1,4 @@
--- Where the answer to a visit's step takes a listing.
+-- The state to which the answer to a visit's step takes a listing.
 use Rattle.std.proofs.Common.{◌≡◌, inl, inr, ℕ, ◌+◌, ◌<◌, ◌≤◌, List, [], ◌++◌, map, Option, Some, None, Bool, true, false, cond, Result, Ok, Err, refl, ap, length, arith}
 use Rattle.cacache_core.specs.declared.errors.Error.{Error, TheVariants.{OutOfMemory}}
 use Rattle.cacache_store.specs.{declared.store.log.LogItem.{LogItem}, Plain.{PlainStep, PlainAnswer}, Fits.{Fits, Logs}}
@@ -11,7 +11,7 @@ module _ (cache : List ℕ) (old new : Option (List LogItem)) where
   abbrev site : Site
   site = record { cache = cache; base = []; number = 0 }
 
-  -- where a listing is that went on so
+  -- the state of a listing that went on in this way
   abbrev pub Stepped : List Item → Result (Option Visit) Error → Walk → Type 0
   Stepped items (Ok (Some v)) w = (s : State) × Gone (listing_state cache) s old new × WalksAt items w (Some v) s
   Stepped items (Ok None) w = Lists cache (items ++ map plain_item w.items.items) old new × Bounds items w
@@ -22,7 +22,7 @@ module _ (cache : List ℕ) (old new : Option (List LogItem)) where
   whole true items left g = let r = gone_over (listing_state cache) old new Done g in absurd (calls_answer site commands.Ls r.0 Done r.1)
   whole false items left g = inl (gone_over (listing_state cache) old new (Listed items) g)
 
-  -- it is refused out of memory alone
+  -- it is refused only out of memory
   refused : (e : Error) (s : State) → Gone (listing_state cache) s old new → EndsAs e s → (e ≡ OutOfMemory) × Ran (listing_state cache) (Refused OutOfMemory) old new
   refused e s g (inr m) = (m, gone_lost (listing_state cache) s old new g)
   refused e s g (inl is) =
@@ -49,7 +49,7 @@ module _ (cache : List ℕ) (old mid new : Option (List LogItem)) (items : List 
   wanted : wants s ≡ Some a
   wanted = rw (stands.1, is) refl
 
-  -- the walk's answer takes the listing on
+  -- the answer of the walk takes the listing on
   pub visited : (result : Result (Option Visit) Error) → WalkLeads items result w1 (after s t) → Stepped cache old new items result w1
   visited result leads =
       elim (answer_cases t) [

@@ -72,7 +72,7 @@ goes_by (ReadBucket path) t old new before after w0 w1 next fs a m h none = not_
 goes_by (RemoveFile path) t old new before after w0 w1 next fs a m h none = absurd m
 goes_by (RemoveFolder path) t old new before after w0 w1 next fs a m h none = absurd m
 
--- a visit's answer takes it on
+-- the answer to a visit takes the walk on
 pub goes_after : (v : Visit) (t : PlainAnswer) (old new : Option (List LogItem)) (before after : List (List ℕ)) (w0 w1 : walks.Walk) (next : Option Visit) (fs : List Folder) → Answered v t old new before after → WalkStands (Some v) w0 fs → (Counts [] w0 → WalksAt [] w1 next (after_visit (walk_of [] w0) v (pending w0.todo.items) t)) → w1.items.items ≡ [] → GoesFrom w0.left fs next w1 old new before after
 goes_after v t old new before after w0 w1 next fs a s h none =
     goes_by v t old new before after w0 w1 next fs a s.3 (subst (λ u. WalksAt [] w1 next (after_visit u v (pending w0.todo.items) t)) (lists_nothing w0 s.0 s.1) (h s.2)) none

@@ -8,7 +8,7 @@ use Rattle.cacache_walks.proofs.{Stumbling.{at_most, clears_at, lists}, VisitSte
 
 -- ---- the whole walk
 
--- one walk behind another
+-- one walk after another
 pub gains_both : (old mid new : Option (List LogItem)) (ms ns : Moves) → Gains old mid ms → Gains mid new ns → Gains old new (ms ++ ns)
 gains_both None mid new ms ns a b = rw a at b
 gains_both (Some log) mid new ms ns a b =
@@ -26,7 +26,7 @@ goes_on {left = left} {fs = fs} {old = old} {mid = mid} {new = new} {before = be
   stops = λ more e s. subst (λ (ms : Moves). StopsWalk left fs ms e) (sym (append_assoc g.moves h.moves more)) (g.stops (h.moves ++ more) e (h.stops more e s));
 }
 
--- it begins before its folder
+-- a walk begins before its folder
 pub begins : (w : walks.Walk) (v : Visit) (top : List ℕ) (log : Option (List LogItem)) → w.items.items ≡ [] → WalksAt [] w (Some v) (walk false top) → GoesFrom most (top_folder top ∷ []) (Some v) w log log [] []
 begins w v top log none h =
     let e : walking (lists [] most) (Enter top 0) [] ≡ walking (walk_of [] w) v (pending w.todo.items) = h.1 in
@@ -43,7 +43,7 @@ begins w v top log none h =
       stops = λ more f s. at_most (Enter top 0) v [] (pending w.todo.items) most w (top_folder top ∷ []) more f e s;
     }
 
--- it is over when no folder is left
+-- a walk is over when no folder is left
 pub ended : (next : Option Visit) (w : walks.Walk) (top : List ℕ) (old new : Option (List LogItem)) (files : List (List ℕ)) → next ≡ None → GoesFrom most (top_folder top ∷ []) next w old new [] files → (moves : Moves) × Gains old new moves × ReadsFolders (top_folder top ∷ []) moves × (files ≡ files_shown moves)
 ended next w top old new files is g =
     let none : g.rest ≡ [] = rw is at g.stands in

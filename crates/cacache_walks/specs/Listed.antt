@@ -7,7 +7,7 @@ use Rattle.cacache_table.specs.State.{Item}
 abbrev pub keys_in : List SerializableMetadata → List (List ℕ)
 keys_in es = map (λ e. string_bytes e.key) es
 
--- the lookups of keys that find an entry
+-- the keys for which the lookup finds an entry, as what it finds
 abbrev pub lookups : List Entry → List (List ℕ) → List Item
 lookups es keys = filter_map (λ key. option_map Ok (latest key es)) keys
 
@@ -20,7 +20,7 @@ abbrev pub EndsWith :
     List Entry → SerializableMetadata → List SerializableMetadata → Type 0
 EndsWith es e later = (front : List Entry) × (es ≡ front ++ entry_view e ∷ map entry_view later)
 
--- what an entry answers to a lookup of its own key, if that is an entry
+-- what an entry answers to a lookup of its own key, if the answer is an entry
 abbrev pub own_answer : Entry → Option Found
 own_answer e = option_flatten (answer_of e e.integrity)
 

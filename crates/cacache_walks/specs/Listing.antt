@@ -7,7 +7,7 @@ use Rattle.cacache_walks.specs.{declared.contents.Contents.{Contents}, Addresses
 
 -- ---- what it holds
 
--- of these files, the contents' integrities and the strange paths
+-- the contents' integrities and the strange paths among these files
 pub record Sorts
     (cache : List ℕ) (files : List (List ℕ))
     (addresses : List (List Hash)) (strange : List (List ℕ)) : Type 0 where
@@ -20,7 +20,7 @@ pub record Sorts
 abbrev pub content_area_in : List ℕ → List ℕ
 content_area_in cache = join cache content_area
 
--- the log gained a walk through the folder of contents, and the files that it shows are sorted so
+-- the log gained a walk through the folder of contents, and the files that it shows are sorted in this way
 abbrev pub ListsContents : List ℕ → List (List Hash) → List (List ℕ)
     → Option (List LogItem) → Option (List LogItem) → Type 0
 ListsContents cache addresses strange old new =
@@ -28,7 +28,7 @@ ListsContents cache addresses strange old new =
     (top_folder (content_area_in cache) ∷ []) moves
     × Sorts cache (files_shown moves) addresses strange
 
--- so it did with the contents that were answered
+-- the same for the contents that were answered
 abbrev pub AnswersContents : List ℕ → Contents
     → Option (List LogItem) → Option (List LogItem) → Type 0
 AnswersContents cache c old new =
@@ -41,26 +41,26 @@ ShowsBelow path files old new =
     (moves : Moves) × Gains old new moves
     × ReadsFolders (top_folder path ∷ []) moves × (files ≡ files_shown moves)
 
--- ---- its order
+-- ---- the order of a listing
 
--- the stronger algorithm comes first, then the digests' bytes decide
+-- the stronger algorithm comes first; for the same one, the digests' bytes decide
 abbrev pub hash_cmp : Hash → Hash → Ordering
 hash_cmp =
     then_cmp (on (λ h. rank h.algorithm) nat_cmp) (on (λ h. h.digest) (slice_cmp nat_cmp))
 
--- the integrities have one hash each, and come by that order, none twice
+-- the integrities have one hash each and are in that order, none twice
 pub record IsByHash (addresses : List (List Hash)) : Type 0 where
   pub hashes : List Hash
   pub single : addresses ≡ map (λ h. h ∷ []) hashes
   pub ascend : IsStrictlySortedBy hash_cmp hashes
 
--- the paths come by their bytes, none twice
+-- the paths are ordered by their bytes, none twice
 abbrev pub IsByBytes : List (List ℕ) → Type 0
 IsByBytes paths = IsStrictlySortedBy (slice_cmp nat_cmp) paths
 
--- ---- its errors
+-- ---- the errors of a listing
 
--- the log gained moves through these folders, with at most so many names, which this error ended
+-- the log gained moves through these folders, with at most this many names, and this error ended them
 abbrev pub StopsAt : ℕ → List Folder → Error
     → Option (List LogItem) → Option (List LogItem) → Type 0
 StopsAt left todo e old new = (moves : Moves) × Gains old new moves × StopsWalk left todo moves e
@@ -77,7 +77,7 @@ StopsListing cache = StopsBelow (content_area_in cache)
 
 -- ---- a law
 
--- so an address is listed exactly if its content's path is among the files
+-- an address is listed if and only if its content's path is among the files
 abbrev pub ListedAreShown : Type 0
 ListedAreShown =
     (cache : List ℕ) (files : List (List ℕ)) (addresses : List (List Hash))

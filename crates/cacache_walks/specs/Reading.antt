@@ -5,34 +5,34 @@ use Rattle.cacache_store.specs.{declared.store.{answer.{Kind.{Kind}, Name.{Name}
 use Rattle.cacache_store.specs.declared.store.answer.Kind.TheVariants as kinds
 use Rattle.cacache_table.specs.Runs.{Moves}
 
--- a folder that is to be read, and its level below the first one
+-- a folder to read, and its level below the first one
 pub record Folder : Type 0 where
   pub path : List ℕ
   pub level : ℕ
 
--- the folder where the walk begins
+-- the folder at which the walk begins
 abbrev pub top_folder : List ℕ → Folder
 top_folder path = record { path = path; level = 0 }
 
--- ---- what stands in a folder
+-- ---- what is in a folder
 
--- a folder there, one level deeper
+-- a folder in it, one level deeper
 abbrev pub folder_as : Kind → List ℕ → ℕ → Option Folder
 folder_as kinds.Folder path level = Some (record { path = path; level = level + 1 })
 folder_as kinds.File path level = None
 folder_as kinds.Link path level = None
 
--- the path of a file or link there
+-- the path of a file or link in it
 abbrev pub file_as : Kind → List ℕ → Option (List ℕ)
 file_as kinds.Folder path = None
 file_as kinds.File path = Some path
 file_as kinds.Link path = Some path
 
--- the folders that a folder's names tell
+-- the folders among a folder's names
 abbrev pub folders_in : Folder → List Name → List Folder
 folders_in f names = filter_map (λ n. folder_as n.kind (join f.path n.name) f.level) names
 
--- the paths of the files and links that a folder's names tell
+-- the paths of the files and links among a folder's names
 abbrev pub file_paths : List ℕ → List Name → List (List ℕ)
 file_paths path names = filter_map (λ n. file_as n.kind (join path n.name)) names
 
@@ -65,11 +65,11 @@ files_shown moves = flat_map (λ m. shown_by m.0 m.1) moves
 
 -- ---- a walk that an error ends
 
--- one of the folders lies more than sixteen levels down
+-- one of the folders is more than sixteen levels down
 abbrev pub HasDeeper : List Folder → Type 0
 HasDeeper folders = (f : Folder) × Contains folders f × (16 < f.level)
 
--- with these folders still to read there was no memory left, or one of them lies too deep
+-- with these folders still to read, there was no memory left, or one of them is too deep
 abbrev pub IsOwnError : List Folder → Error → Type 0
 IsOwnError todo OutOfMemory = Unit {0}
 IsOwnError todo (IoError fault message) = (fault ≡ TooDeep) × HasDeeper todo
@@ -81,14 +81,14 @@ IsErrorOf answer OutOfMemory = Unit {0}
 IsErrorOf (Failed fault) (IoError f message) = f ≡ fault
 IsErrorOf answer e = ⊥
 
--- the last answer shows more names than so many, which is too deep, or none and says why
+-- the last answer shows more names than this, which is too deep; or it shows none and says why
 abbrev pub EndsBy : ℕ → PlainAnswer → Error → Type 0
 EndsBy left answer e =
     ((names : List Name) × (names_shown answer ≡ Some names)
     × (left < length names) × IsErrorOf (Failed TooDeep) e)
     ⊎ ((names_shown answer ≡ None) × IsErrorOf answer e)
 
--- the moves begin a walk that may take so many names, and this error ends it
+-- the moves begin a walk that may take this many names, and this error ends it
 abbrev pub StopsWalk : ℕ → List Folder → Moves → Error → Type 0
 StopsWalk left todo [] e = IsOwnError todo e
 StopsWalk left [] (m ∷ moves) e = ⊥

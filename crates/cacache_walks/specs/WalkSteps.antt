@@ -1,4 +1,4 @@
--- Where the walk stands between two visits, and what one visit adds.
+-- The state of the walk between two visits, and what one visit adds.
 use Rattle.std.specs.Prelude.{◌≡◌, ◌≤◌, ◌<◌, ◌+◌, ◌*◌, ℕ, List, [], ◌∷◌, ◌++◌, Option, None, Some, false}
 use Rattle.cacache_core.specs.declared.errors.{Error.{Error}, Fault.TheVariants.{NotFound}}
 use Rattle.cacache_store.specs.{declared.store.{log.LogItem.{LogItem}, answer.{Name.{Name}, Answer.TheVariants.{Names, Failed}}, step.Step.TheVariants.{ReadDir}}, Plain.{PlainAnswer, plain_answer}, Fits.{Fits}}
@@ -15,7 +15,7 @@ pub record AnswerShows
   pub shown : names_shown t ≡ Some names
   pub gained : Gains old new ((ReadDir path, t) ∷ [])
 
--- a visit is answered so: a folder is read, its files are found, and a file takes no step
+-- the answer to a visit: a folder is read, and its files are found; a file takes no step
 abbrev pub Answered : Visit → PlainAnswer → Option (List LogItem) → Option (List LogItem)
     → List (List ℕ) → List (List ℕ) → Type 0
 Answered (Enter path level) t old new before after =
@@ -24,7 +24,7 @@ Answered (Enter path level) t old new before after =
     × (after ≡ before ++ file_paths path names)
 Answered v t old new before after = (t ≡ Failed NotFound) × (new ≡ old) × (after ≡ before)
 
--- so is a visit answered, where the answer holds plain files
+-- the same for an answer that holds plain files
 abbrev pub AnsweredBy : Visit → PlainAnswer → Option (List LogItem) → Option (List LogItem)
     → List (List ℕ) → List (List ℕ) → Type 0
 AnsweredBy v answer old new before after =
@@ -44,7 +44,7 @@ StopsVisit v e old new = ⊥
 
 -- ---- the whole walk
 
--- the tasks of a walk are these folders, and files; it stumbles over a folder that lies too deep
+-- the tasks of a walk are these folders, and files; it stumbles over a folder that is too deep
 abbrev pub Matches : List Task → List Folder → Type 0
 Matches [] [] = Unit {0}
 Matches [] (f ∷ fs) = ⊥
@@ -57,14 +57,14 @@ Matches (Make (RemoveFolder path) ∷ todo) fs = ⊥
 Matches (Stumble fault path ∷ todo) [] = ⊥
 Matches (Stumble fault path ∷ todo) (f ∷ fs) = (16 < f.level) × Matches todo fs
 
--- it wants the step of this visit, before these folders; or it is over
+-- its next step is that of this visit, before these folders; or it is over
 abbrev pub WalkStands : Option Visit → Walk → List Folder → Type 0
 WalkStands (Some v) w fs =
     (w.clears ≡ false) × (w.items.items ≡ []) × Counts [] w
     × Matches (Make v ∷ pending w.todo.items) fs
 WalkStands None w fs = fs ≡ []
 
--- from these folders, with so many names, it went on so: by moves, to the files that they show
+-- from these folders, with this many names left, the walk made moves and found the files that they show
 pub record GoesFrom
     (left : ℕ) (fs : List Folder) (next : Option Visit) (w : Walk) (old new : Option (List LogItem))
     (before after : List (List ℕ)) : Type 0 where
@@ -77,7 +77,7 @@ pub record GoesFrom
   pub stops : (more : Moves) (e : Error)
       → StopsWalk w.left rest more e → StopsWalk left fs (moves ++ more) e
 
--- so it went on by this visit, from any folders before which it stood
+-- the walk went on by this visit in that way, from any folders that were still to read
 abbrev pub GoesOnBy : Visit → Walk → Option Visit → Walk
     → Option (List LogItem) → Option (List LogItem) → List (List ℕ) → List (List ℕ) → Type 0
 GoesOnBy v was next w old new before after =
