@@ -1,4 +1,4 @@
--- The steps of a commit do nothing; or put its content; or put its content and then send its entry.
+-- The steps of a commit do nothing; or store its content; or store its content and then append its entry.
 use Rattle.std.proofs.{Common.{◌≡◌, ◌⊎◌, inl, inr, ℕ, ◌+◌, ◌<◌, ◌^◌, ◌==◌, List, [], ◌∷◌, Option, Some, None, Bool, true, false, nat_le, Result, Ok, Err, refl, sym, subst, length, length-append, drop, arith}, lemmas.Bool.{leb-true}}
 use Rattle.cacache_core.specs.declared.{errors.{Fault.{Fault}, SerdeCause.{SerdeCause}, IntegrityFault.TheVariants.{Check}, Error.{Error, TheVariants.{SizeMismatch, IoError, SerdeError, IntegrityError, OutOfMemory}}}, integrity.digest.Hash.{Hash}}
 use Rattle.cacache_core.specs.declared.errors.Fault.TheVariants as faults
@@ -10,7 +10,7 @@ use Rattle.cacache_table.proofs.Branches.{cond_leads, go_on_leads}
 use Rattle.cacache_table.specs.declared.answers.Refusal.TheVariants as refusals
 use Rattle.cacache_table.specs.declared.command.Command.TheVariants as commands
 
--- what the effects of a run from a state are
+-- the effects of a run from a state
 abbrev Does : State → List Effect → Reply → Type 0
 Does (doing (make_folder path) s) effects r = (DoesNothing effects r) ⊎ Does s effects r
 Does (doing (sync_file path) s) effects r = (DoesNothing effects r) ⊎ Does s effects r
@@ -33,7 +33,7 @@ Does s effects r = Unit {0}
 refused : (e : Error) (effects : List Effect) (r : Reply) → Does (ends_with e) effects r → DoesNothing effects r
 refused e effects r h = (h.0, elim h.1 [ inl same ↦ rw same tt | inr same ↦ rw same tt ])
 
--- a sync that fails leaves no effect
+-- a sync that fails has no effect
 synced : (effects : List Effect) (r : Reply) (X : Type 0) (folders : List (List ℕ)) (s : State) → (DoesNothing effects r → X) → (Does s effects r → X) → Does (sync_up folders s) effects r → X
 synced effects r X [] s n k h = k h
 synced effects r X (p ∷ ps) s n k h = synced effects r X ps (doing (sync_dir p) s) n (λ d. elim d [ inl a ↦ n a | inr b ↦ k b ]) h
@@ -48,7 +48,7 @@ module _ (c : Commit) (effects : List Effect) (r : Reply) where
   unindexed None e h = h.0
   unindexed (Some key) e h = inl (refused e effects r h)
 
-  -- ---- once the content is there
+  -- ---- once the content is stored
 
   inserts : (key : List ℕ) (cause : Option SerdeCause) → refused_cause (insertion_of c key) ≡ cause → Does (unless_refused (insertion_of c key) cause) effects r → Indexes c (Some key) effects r
   inserts key None e (inl h) = inl h
@@ -83,7 +83,7 @@ module _ (c : Commit) (effects : List Effect) (r : Reply) where
       cond_leads (λ s. Does s effects r → Indexes c c.key effects r) c.options.durable (doing (sync_file (content_path c.cache c.computed)) (secured c)) (secured c)
       (λ _ d. elim d [ inl a ↦ ends_before c.key a | inr b ↦ secures b ]) (λ _. secures) h
 
-  -- ---- before
+  -- ---- before the content is stored
 
   fails_first : (fault : Fault) → Does (fails fault) effects r → Commits c effects r
   fails_first fault h = inl (refused (IoError fault []) effects r h)
@@ -116,7 +116,7 @@ module _ (c : Commit) (effects : List Effect) (r : Reply) where
 
 -- ---- the entry
 
--- the entry is there
+-- the entry is in its bucket
 records : (i : Insertion) (effects : List Effect) (r : Reply) (P : Type 0) → P → Does (recorded i) effects r → (effects ≡ []) × (IsRefused r ⊎ P)
 records i effects r P p h =
     cond_leads (λ s. Does s effects r → (effects ≡ []) × (IsRefused r ⊎ P)) i.durable (doing (sync_file (bucket_path i.cache i.entry.key)) (sync_up (bucket_folders i.cache i.entry.key) (over i.reply))) (over i.reply)
@@ -161,7 +161,7 @@ module _ (t : Target ℕ) (effects : List Effect) (r : Reply) where
 
 -- ---- all states
 
--- want of memory leaves no effect
+-- out of memory has no effect
 memory_does : (s : State) → Does s [] (Refused OutOfMemory)
 memory_does (doing (make_folder path) s) = inl (refl, tt)
 memory_does (doing (sync_file path) s) = inl (refl, tt)
@@ -190,12 +190,12 @@ commits_go_on c effects r a next k = go_on_leads (λ s. Does s effects r → Com
 sends : (i : Insertion) (t : PlainAnswer) (effects : List Effect) (r : Reply) → Does (go_on (taken_in t) fails (after_append i)) effects r → Sends (bucket_path i.cache i.entry.key) (bucket_line i) (sent (bucket_path i.cache i.entry.key) (bucket_line i) t ∷ effects) r
 sends i t effects r h = let k = appends i t effects r h in (t, rw k.0 refl, k.1)
 
--- the effect of the step that a state wants
+-- the effect of a state's next step
 abbrev with_effect : Option PlainStep → PlainAnswer → List Effect → List Effect
 with_effect None t effects = effects
 with_effect (Some step) t effects = effect step t effects
 
--- an answer that fits the step that a state wants
+-- an answer that fits a state's next step
 abbrev FitsWanted : Option PlainStep → PlainAnswer → Type 0
 FitsWanted None t = Unit {0}
 FitsWanted (Some step) t = Fits step t
@@ -217,7 +217,7 @@ effects_before (hashing (to_link target) file bytes) t effects r fits = links_re
 effects_before (over reply) t effects r fits = λ h. h
 effects_before s t effects r fits = λ h. tt
 
--- every run leaves the effects of its first state
+-- every run has the effects of its first state
 runs_do : (s : State) (moves : Moves) (r : Reply) → Runs s moves r → Does s (effects_of moves) r
 runs_do s [] r (inl e) = rw e (refl, inl refl)
 runs_do s [] r (inr e) = rw e (memory_does s)

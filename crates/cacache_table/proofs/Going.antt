@@ -25,7 +25,7 @@ answer_cases (answers.Names names) = inr refl
 answer_cases (answers.Synced t) = inr refl
 answer_cases (answers.Failed fault) = inr refl
 
--- a log gains one move more
+-- a log gains one more move
 pub gains_one : (old new : Option (List LogItem)) (moves : Moves) (move : PlainStep × PlainAnswer) → Gains old new moves → Gains old (option_map (λ log. log ++ made move ∷ []) new) (moves ++ move ∷ [])
 gains_one None new moves move e = rw e refl
 gains_one (Some log) new moves move e =

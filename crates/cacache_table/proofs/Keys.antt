@@ -1,4 +1,4 @@
--- Each key of a bucket is looked up once.
+-- A listing looks up each key of a bucket once.
 use Rattle.std.proofs.{Common.{◌≡◌, inl, inr, ℕ, List, [], ◌∷◌, Bool, true, false, cond, bytes_eq, refl}, lemmas.Slice.Eq.{bytes_eq-Decides}}
 use Rattle.std.specs.{Prelude.{◌↔◌}, List.{list_any}}
 use Rattle.cacache_entry.specs.Entry.{Entry}

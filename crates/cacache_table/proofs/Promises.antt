@@ -1,4 +1,4 @@
--- A call's replies keep what its state promises, whatever the answers are.
+-- A call's reply keeps what its state promises, whatever the answers are.
 use Rattle.std.proofs.{Common.{◌≡◌, inl, inr, ℕ, ◌==◌, List, [], ◌∷◌, ◌++◌, Option, Some, None, Bool, true, false, refl, subst, ◌∙◌, length, append_assoc, append-nil}, lemmas.Bool.{eqb-true}}
 use Rattle.cacache_core.specs.{declared.{errors.{Fault.{Fault}, SerdeCause.{SerdeCause}, IntegrityFault.TheVariants.{Check}, Error.{Error, TheVariants.{SizeMismatch, IoError, SerdeError, EntryNotFound, IntegrityError, OutOfMemory}}}, integrity.digest.Hash.{Hash}}, Integrity.{Meets, actual}, Meeting.{meets}}
 use Rattle.cacache_core.proofs.Meeting.{meets_finds}
@@ -42,7 +42,7 @@ refused_kept s e = tt
 -- ---- a promise that every refusal keeps
 
 module _ (P : Reply → Type 0) (refuses : (e : Error) → P (Refused e)) (r : Reply) where
-  -- what every reply of the state keeps, keeps the promise
+  -- every reply that keeps the state's promise satisfies P
   abbrev pub Keeps : State → Type 0
   Keeps s = Promises s r → P r
 
@@ -89,7 +89,7 @@ module _ (r : Reply) where
       by_reply (Listed items) h = absurd cc
       by_reply Done h = absurd cc
 
-  -- the integrity is compared before the size, so it suits here
+  -- the integrity is compared before the size, so `Suits` holds here
   abbrev IntegritySuits : Commit → Type 0
   IntegritySuits c = (expected : List Hash) → c.options.integrity ≡ Some expected → matches expected c.computed ≡ true
 
@@ -113,7 +113,7 @@ module _ (r : Reply) where
   places : (c : Commit) → Promises (placed c) r → Stores c r
   places c h = by_integrity c c.options.integrity refl h
 
-  -- ---- files that are read to their end
+  -- ---- files that a call reads to their end
 
   copies_only : (verified : Option ℕ) → Copies verified r → OnlyCopies r
   copies_only verified = by_reply r
@@ -268,7 +268,7 @@ module _ (r : Reply) where
 
   -- ---- all states
 
-  -- what follows from all that a state promises follows from all that is promised after its step
+  -- what follows from a state's promises also follows from the promises after its step
   module _ (G : Type 0) where
     abbrev Gives : State → Type 0
     Gives s = Promises s r → G
@@ -327,7 +327,7 @@ module _ (r : Reply) where
       walks = walks_give;
     }
 
-  -- what every reply after an answer keeps, every reply before it does
+  -- what holds of every reply after an answer holds of every reply before it
   pub kept_before : (s : State) (t : PlainAnswer) → Promises (after s t) r → Promises s r
   kept_before s t = kept_always (Gives (Promises s r)) (WalkGives (Promises s r)) AnyVisit (closed (Promises s r)) s t (λ p. p)
 
@@ -341,13 +341,13 @@ own_kept (Copied n) = refl
 own_kept (Listed items) = refl
 own_kept Done = refl
 
--- every run keeps what its first state promises
+-- the reply of every run keeps the promise of its first state
 pub runs_keep : (s : State) (moves : Moves) (r : Reply) → Runs s moves r → Promises s r
 runs_keep s [] r (inl e) = rw e (own_kept r)
 runs_keep s [] r (inr e) = rw e (refused_kept s OutOfMemory)
 runs_keep s (m ∷ moves) r run = kept_before r s m.1 (runs_keep (after s m.1) moves r run.2)
 
--- so does every call
+-- so does the reply of every call
 pub calls_answer : (site : Site) (command : Command) (moves : Moves) (r : Reply) → Runs (opening site command) moves r → Answers site command r
 calls_answer site command moves r run = opened command (runs_keep (opening site command) moves r run)
   where

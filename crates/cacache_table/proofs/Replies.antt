@@ -1,4 +1,4 @@
--- Lookups and reads answer by what their own steps were shown.
+-- The replies of lookups and reads follow from the answers to their own steps.
 use Rattle.std.proofs.{Common.{◌≡◌, ◌⊎◌, inl, inr, ℕ, List, [], ◌∷◌, Option, Some, None, Bool, true, false, cond, Result, Ok, Err, refl, sym, ◌∙◌}, lemmas.Option.{same_Some}}
 use Rattle.cacache_core.specs.declared.errors.Fault.TheVariants as faults
 use Rattle.cacache_core.specs.{declared.{errors.{IntegrityFault.TheVariants.{Check}, Error.TheVariants.{EntryNotFound, IntegrityError, OutOfMemory}}, integrity.digest.Hash.{Hash}}, Integrity.{Meets, actual}, Meeting.{meets}}
@@ -92,7 +92,7 @@ asked_after (Err refusals.Memory) = refl
 pub exists_shown : (site : Site) (i : List Hash) (moves : Moves) (r : Reply) → Runs (opening site (commands.Exists i)) moves r → OrMemory (AsksContentOnce site.cache i moves r) r
 exists_shown site i moves r run = one_step (asking (content site.cache i)) (steps.Exists (content_path site.cache i)) (λ t. there_reply (there_in t)) refl (λ t. asked_after (there_in t)) moves r run
 
--- ---- one after the other
+-- ---- a lookup and then a read
 
 abbrev look_to_read : List ℕ → List ℕ → Lookup
 look_to_read cache key = record { cache = cache; key = key; aim = aims.Read }

@@ -1,4 +1,4 @@
--- A value prints as UTF-8, in order and in range, since its parts do.
+-- A value prints as UTF-8, with names in order and numbers in range, because its parts do.
 use Rattle.std.proofs.{Common.{◌≡◌, ℕ, pos, negsuc, List, [], ◌∷◌, Bool, true, false, refl, arith, string_bytes, String, Global, BTreeMap, string_cmp, Less, Vec, subst, sym, rules}, lemmas.{Bool.{or_parts}, Fmt.{IsAscii-decimal, IsAscii-signed}, Str.{IsUtf8-append, IsUtf8-from_ascii, IsUtf8-nil, IsUtf8-string_bytes}}}
 use Rattle.std.specs.{Prelude.{IsUtf8, decimal}, Fmt.{signed_decimal}, List.{AllByRecursion, Sorted.{IsStrictlySortedBy}}, Map.{keys_of}}
 use Rattle.json.{specs.Print.{quoted}, proofs.Printed.Utf8.{IsUtf8-are_ascii, IsUtf8-quoted}}
@@ -66,7 +66,7 @@ whole_members : (ms : Members) → NamedJson ms → members_have_float ms ≡ fa
 whole_members no_members h e = tt
 whole_members (member k d ms) h e = let parts = or_parts (has_float d) _ e in (h.1.in_range parts.0, whole_members ms h.2 parts.1)
 
--- what a map holds, as the logic sees it
+-- the contents of a map, as the logic sees them
 abbrev Named : Type 0
 Named = String Global × Value
 
@@ -79,7 +79,7 @@ unfolding IsStrictlySortedBy
 ordered_members [] s h = tt
 ordered_members (e ∷ es) s h = (above e.0 es s.0, h.1.ordered, ordered_members es s.1 h.2)
 
--- an object of JSON under UTF-8 names that ascend is JSON
+-- an object of JSON with UTF-8 names in ascending order is JSON
 pub IsJson-object : (es : List Named) → IsStrictlySortedBy string_cmp (keys_of es) → NamedJson (members_view es) → IsJson (object (members_view es))
 IsJson-object es s h = record {
   utf8 = IsUtf8-append (123 ∷ []) _ (IsUtf8-are_ascii (123 ∷ []) refl) (IsUtf8-members false (members_view es) h);

@@ -14,7 +14,7 @@ use Rattle.cacache_table.specs.declared.command.Command.TheVariants as commands
 use Rattle.cacache_table.specs.declared.command.Source.TheVariants as sources
 use Rattle.cacache_table.specs.declared.carried.Aim.TheVariants as aims
 
--- what is so for every reply but a refusal
+-- what holds of every reply except a refusal
 unless : (P : Type 0) (r : Reply) → (((e : Error) → r ≡ Refused e → ⊥) → P) → UnlessRefused P r
 unless P (Refused e) k = tt
 unless P (Stored i) k = k (λ e is. absurd cc)
@@ -25,7 +25,7 @@ unless P (Copied n) k = k (λ e is. absurd cc)
 unless P (Listed items) k = k (λ e is. absurd cc)
 unless P Done k = k (λ e is. absurd cc)
 
--- a copy answers the count that was verified
+-- a copy returns the verified count
 counted : (bytes : List ℕ) (how : How) (from to : List ℕ) (r : Reply) → Promises (export_from how from to (Some (length bytes))) r → CountsAs bytes r
 counted bytes Copy from to (Copied n) h = h (length bytes) refl
 counted bytes Reflink from to (Copied n) h = absurd cc
@@ -39,7 +39,7 @@ counted bytes how from to (Listed items) h = tt
 counted bytes how from to Done h = tt
 
 module _ (r : Reply) (good : (e : Error) → r ≡ Refused e → ⊥) where
-  -- a call that is over with an error was refused
+  -- a call that ended with an error was refused
   over_refused : (e : Error) (moves : Moves) → Runs (over (Refused e)) moves r → ⊥
   over_refused e moves run =
       elim (over_run (Refused e) moves r run) [
@@ -56,9 +56,9 @@ module _ (r : Reply) (good : (e : Error) → r ≡ Refused e → ⊥) where
   no_moves s step w (inl e) = absurd (let none : None ≡ Some step = rw e at w in cc)
   no_moves s step w (inr e) = good OutOfMemory e
 
-  -- ---- a file is read to its end
+  -- ---- reading a file to its end
 
-  -- this is so of the bytes with which the call goes on
+  -- this holds of the bytes with which the call goes on
   module _ (h : Hashing) (P : List ℕ → Type 0) (so : (bytes : List ℕ) (moves : Moves) → Runs (hashed h bytes) moves r → P bytes) where
     abbrev Brings : PlainFile → List ℕ → Moves → Type 0
     Brings file bytes moves = (more : List ℕ) × Gives file more moves × P (bytes ++ more)

@@ -1,4 +1,4 @@
--- A call keeps to its licence.
+-- A call stays within its licence.
 use Rattle.std.proofs.Common.{◌≡◌, ℕ, Bool, true, false, cond, List, [], ◌∷◌, Option, None, Some, length, get_or, subst}
 use Rattle.cacache_core.specs.{declared.errors.{Error.TheVariants.{IntegrityError}, IntegrityFault.TheVariants.{Check}}, Integrity.{actual}, Meeting.{meets}}
 use Rattle.cacache_store.specs.{declared.store.{answer.Name.{Name}, plain.PlainFile.{PlainFile}}, Plain.{PlainStep, PlainAnswer}}
@@ -10,18 +10,18 @@ use Rattle.cacache_table.specs.declared.command.Command.TheVariants as commands
 use Rattle.cacache_table.specs.declared.command.Source.TheVariants as sources
 use Rattle.cacache_table.specs.declared.carried.Aim.TheVariants as aims
 
--- entries may be added
+-- the call may add entries
 pub record MayInsert (l : Licence) : Type 0 where
   pub prepared : May l.prepares
   pub inserted : May l.inserts
 
--- so may be contents, if this is allowed
+-- and contents, if that is allowed
 pub record MayAdd (l : Licence) (add : Bool) : Type 0 where
   pub added : May add
   pub insert : MayInsert l
 
 module _ (l : Licence) where
-  -- ---- states from which a call makes no step but such as are allowed
+  -- ---- states from which a call makes only steps that the licence allows
 
   abbrev Inserts : Type 0
   Inserts = MayInsert l

@@ -1,17 +1,17 @@
--- What an answer says to a step of one kind: its value, or why the step was refused.
+-- What an answer means for a step of one kind: its value, or why the step was refused.
 use Rattle.std.specs.Prelude.{ℕ, List, Result, Ok, Err, Bool}
 use Rattle.cacache_core.specs.declared.errors.Fault.TheVariants.{Device}
 use Rattle.cacache_store.specs.{declared.store.{plain.{PlainFile.{PlainFile}, PlainTemp.{PlainTemp}}, answer.Name.{Name}}, Plain.{PlainAnswer}}
 use Rattle.cacache_store.specs.declared.store.answer.Answer.TheVariants as answers
 use Rattle.cacache_table.specs.declared.answers.Refusal.{Refusal, TheVariants.{Fault, Memory}}
 
--- why an answer refuses a step; one of another kind counts as a failure of the device
+-- why an answer refuses a step; an answer of the wrong kind counts as a failure of the device
 abbrev pub refusal_in : PlainAnswer → Refusal
 refusal_in (answers.Failed fault) = Fault fault
 refusal_in (answers.NoMemory step) = Memory
 refusal_in answer = Fault Device
 
--- that the step is done, and no more
+-- that the step is done, without a value
 abbrev pub done_in : PlainAnswer → Result (Unit {0}) Refusal
 done_in answers.Done = Ok tt
 done_in answer = Err (refusal_in answer)
@@ -46,12 +46,12 @@ abbrev pub file_in : PlainAnswer → Result PlainFile Refusal
 file_in (answers.File file) = Ok file
 file_in answer = Err (refusal_in answer)
 
--- an open file after a read, and the bytes that it gave
+-- an open file after a read, and the bytes that the read returned
 abbrev pub got_in : PlainAnswer → Result (PlainFile × List ℕ) Refusal
 got_in (answers.Got file bytes) = Ok (file, bytes)
 got_in answer = Err (refusal_in answer)
 
--- whether a file or folder is there
+-- whether a file or folder exists
 abbrev pub there_in : PlainAnswer → Result Bool Refusal
 there_in (answers.There there) = Ok there
 there_in answer = Err (refusal_in answer)

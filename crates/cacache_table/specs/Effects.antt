@@ -1,5 +1,5 @@
--- What the steps of a call do to contents and buckets, and the cases of a commit: nothing; its
--- content; or its content and then its entry.
+-- What the steps of a call do to contents and buckets. A commit has three cases: it does nothing; it stores
+-- its content; or it stores its content and then appends its entry.
 use Rattle.std.specs.Prelude.{◌≡◌, ◌⊎◌, ◌≤◌, ◌<◌, ◌^◌, ℕ, List, [], ◌∷◌, Option, None, Some, Result, Ok, Err, Bool, true, false, length}
 use Rattle.cacache_store.specs.declared.store.answer.Answer.TheVariants as answers
 use Rattle.cacache_store.specs.declared.store.step.Step.TheVariants as steps
@@ -9,27 +9,27 @@ use Rattle.cacache_table.specs.declared.command.Command.TheVariants as commands
 
 -- ---- what steps do
 
--- what a step of a call did
+-- the effect of one step
 pub data Effect : Type 0 where
-  -- a content was put at this path, or found there
+  -- a content was stored at this path, or found there
   stored : List ℕ → Effect
   -- a line was sent to the bucket at this path, with this answer
   sent : List ℕ → List ℕ → PlainAnswer → Effect
   -- something was removed, or written elsewhere
   changed : PlainStep → Effect
 
--- the effect of a step that is done, before those of later steps
+-- the effect of a step that succeeded, followed by those of later steps
 abbrev pub if_done : Result (Unit {0}) Refusal → Effect → List Effect → List Effect
 if_done (Ok done) effect effects = effect ∷ effects
 if_done (Err refusal) effect effects = effects
 
--- the effect of a question that was answered yes, before those of later steps
+-- the effect of a check that was answered yes, followed by those of later steps
 abbrev pub if_there : Result Bool Refusal → Effect → List Effect → List Effect
 if_there (Ok true) effect effects = effect ∷ effects
 if_there (Ok false) effect effects = effects
 if_there (Err refusal) effect effects = effects
 
--- the effect of a step, before later ones; folders, temporary files, reads and syncs have none
+-- the effect of a step, followed by later ones; folders, temporary files, reads and syncs have none
 abbrev pub effect : PlainStep → PlainAnswer → List Effect → List Effect
 effect (steps.Persist file path) t later = if_done (done_in t) (stored path) later
 effect (steps.Symlink target path) t later = if_done (done_in t) (stored path) later
@@ -64,39 +64,39 @@ abbrev pub IsRefused : Reply → Type 0
 IsRefused (Refused e) = Unit {0}
 IsRefused r = ⊥
 
--- no effect, and a refusal
+-- the call has no effect and is refused
 abbrev pub DoesNothing : List Effect → Reply → Type 0
 DoesNothing effects r = (effects ≡ []) × IsRefused r
 
--- the answer says that the whole line was taken
+-- the answer reports that the append took the whole line
 abbrev pub TookAll : List ℕ → PlainAnswer → Type 0
 TookAll line (answers.Took n) = length line ≤ n
 TookAll line t = ⊥
 
--- an append that isn't known to have taken the whole line is refused
+-- the call is refused unless the append is known to have taken the whole line
 abbrev pub Sends : List ℕ → List ℕ → List Effect → Reply → Type 0
 Sends path line effects r =
     (t : PlainAnswer) × (effects ≡ sent path line t ∷ []) × (IsRefused r ⊎ TookAll line t)
 
--- an insertion whose entry can be written sends its line, or is refused before
+-- an insertion sends its line if its entry can be written, or is refused before that
 abbrev pub Inserts : Insertion → List Effect → Reply → Type 0
 Inserts i effects r =
     DoesNothing effects r
     ⊎ ((refused_cause i ≡ None) × Sends (bucket_path i.cache i.entry.key) (bucket_line i) effects r)
 
--- once the content is there: with a key the entry follows; where it doesn't, the commit is refused
+-- once the content is stored: with a key, the commit inserts its entry, and is refused if that fails
 abbrev pub Indexes : Commit → Option (List ℕ) → List Effect → Reply → Type 0
 Indexes c None effects r = effects ≡ []
 Indexes c (Some key) effects r = Inserts (insertion_of c key) effects r
 
--- nothing, and the commit is refused; or the content, and what follows it
+-- the commit is refused without effect; or it stores the content, and its entry follows
 abbrev pub Commits : Commit → List Effect → Reply → Type 0
 Commits c effects r =
     DoesNothing effects r
     ⊎ ((more : List Effect)
     × (effects ≡ stored (content_path c.cache c.computed) ∷ more) × Indexes c c.key more r)
 
--- a link's commit is that of the bytes that were read
+-- a link's commit is the commit of the bytes that it read
 abbrev pub Links : Target ℕ → List Effect → Reply → Type 0
 Links t effects r =
     DoesNothing effects r
@@ -104,14 +104,14 @@ Links t effects r =
 
 -- ---- laws
 
--- each put does one of the cases of its commit
+-- each put does what one of the cases of its commit says
 abbrev pub PutsCommit : Type 0
 PutsCommit =
     (site : Site) (p : Put) (moves : Moves) (r : Reply)
     → Runs (opening site (commands.Put p)) moves r
     → Commits (put_commit site.cache p) (effects_of moves) r
 
--- each link does one of the cases of a link's commit
+-- each link does what one of the cases of a link's commit says
 abbrev pub LinksCommit : Type 0
 LinksCommit =
     (site : Site) (l : Link) (moves : Moves) (r : Reply)
@@ -125,14 +125,14 @@ InsertsSend =
     → Runs (opening site (commands.Insert i)) moves r
     → Inserts (insertion site.cache i) (effects_of moves) r
 
--- so does each deletion, and its line is a tombstone
+-- the same for each deletion, whose line is a tombstone
 abbrev pub DeletesSend : Type 0
 DeletesSend =
     (site : Site) (d : Delete) (moves : Moves) (r : Reply)
     → Runs (opening site (commands.Delete d)) moves r
     → Inserts (deletion site.cache d) (effects_of moves) r
 
--- it stores no content and sends no line
+-- these effects store no content and send no line
 abbrev pub OnlyChanges : List Effect → Type 0
 OnlyChanges [] = Unit {0}
 OnlyChanges (stored path ∷ effects) = ⊥

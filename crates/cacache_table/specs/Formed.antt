@@ -4,7 +4,7 @@ use Rattle.cacache_entry.specs.{Entry.{Entry}, FittingEntries.{IsUtf8IfAny, IsEn
 use Rattle.cacache_table.specs.{declared.{carried.Commit.{Commit}, command.{Command.{Command}, Options.{Options}}}, State.{Site}, Inserting.{deletion, entry_of, insertion}, Linking.{commit_for, link_target}, Sound.{FormedIfWritten}, Storing.{insertion_of, put_commit}}
 use Rattle.cacache_table.specs.declared.command.Command.TheVariants as commands
 
--- an entry that is well-formed, if it can be written
+-- an entry that is well-formed if it can be written
 abbrev pub IsFormed : Entry → Type 0
 IsFormed e = cause_of e ≡ None → IsEntry e
 
@@ -14,11 +14,11 @@ FormsEntries key moment o =
     (integrity : Option (List ℕ)) (size : ℕ) → IsUtf8IfAny integrity → size < 2 ^ 64
     → IsFormed (entry_of key integrity size moment o)
 
--- the entry that follows a commit, if one does
+-- the entry that a commit adds, if any
 abbrev pub FormsCommit : Commit → Type 0
 FormsCommit c = (key : List ℕ) → c.key ≡ Some key → FormedIfWritten (insertion_of c key)
 
--- each entry that a call of the command may add at this site; a link's whatever is read from its target
+-- each entry that the command's call may add at this site; for a link, whatever it reads from its target
 abbrev pub FormsCommand : Site → Command → Type 0
 FormsCommand site (commands.Put p) = FormsCommit (put_commit site.cache p)
 FormsCommand site (commands.Link l) =

@@ -1,4 +1,4 @@
--- Insertions: the test of the entry, the bucket's folder, one append.
+-- Insertions: a check of the entry, the bucket's folder, one append.
 use Rattle.std.specs.Prelude.{ℕ, List, [], ◌∷◌, Option, None, Some, false, if◌then◌else◌, nat_le, length}
 use Rattle.serde_json.specs.Data.{null}
 use Rattle.cacache_core.specs.declared.errors.Fault.TheVariants as faults
@@ -6,36 +6,36 @@ use Rattle.cacache_core.specs.{declared.{errors.{SerdeCause.{SerdeCause}, Error.
 use Rattle.cacache_entry.specs.{Entry.{Entry, closed_line}, FittingEntries.{cause_of}}
 use Rattle.cacache_table.specs.{declared.{command.{Options.{Options}, Insert.{Insert}, Delete.{Delete}}, reply.Reply.TheVariants.{Stored, Done}}, StepPaths.{bucket_path, bucket_folder, bucket_folders}, State.{State, doing, appending, over, Insertion, make_folder, sync_file}, Common.{ends_with, fails, sync_up}}
 
--- the line that is appended; a durable one is closed
+-- the line that the call appends; a durable one is closed
 unfoldable pub bucket_line : Insertion → List ℕ
 bucket_line i = closed_line i.durable i.entry
 
--- why the entry can't be written, if so
+-- why the entry can't be written, if it can't
 unfoldable pub refused_cause : Insertion → Option SerdeCause
 refused_cause i = cause_of i.entry
 
--- an entry that can't be written is refused before any step
+-- the call refuses an entry that can't be written before any step
 abbrev pub unless_refused : Insertion → Option SerdeCause → State
 unless_refused i None = doing (make_folder (bucket_folder i.cache i.entry.key)) (appending i)
 unless_refused i (Some cause) = ends_with (SerdeError cause [])
 
--- where an insertion begins
+-- the first state of an insertion
 abbrev pub insert : Insertion → State
 insert i = unless_refused i (refused_cause i)
 
--- a durable insertion syncs its bucket, and the folders that lead to it
+-- a durable insertion syncs its bucket, and the folders on the path to it
 abbrev pub recorded : Insertion → State
 recorded i =
     if i.durable then doing (sync_file (bucket_path i.cache i.entry.key))
     (sync_up (bucket_folders i.cache i.entry.key) (over i.reply))
     else over i.reply
 
--- an append that took less than the line isn't continued
+-- the call doesn't continue an append that took less than the line
 abbrev pub after_append : Insertion → ℕ → State
 after_append i n =
     if nat_le (length (bucket_line i)) n then recorded i else fails faults.ShortAppend
 
--- ---- where the calls begin
+-- ---- first states
 
 -- the entry that these options describe
 abbrev pub entry_of : List ℕ → Option (List ℕ) → ℕ → ℕ → Options → Entry
@@ -48,11 +48,11 @@ entry_of key integrity size moment o = record {
   raw_metadata = o.raw_metadata;
 }
 
--- the integrity that an insertion without one answers: `sha1-deadbeef`
+-- the integrity that an insertion without one returns: `sha1-deadbeef`
 abbrev pub no_integrity : List Hash
 no_integrity = hash_of Sha1 (117 ∷ 230 ∷ 157 ∷ 109 ∷ 231 ∷ 159 ∷ []) ∷ []
 
--- an integrity, unless another one was given
+-- the integrity that was given, otherwise this one
 abbrev pub given_or : List Hash → Option (List Hash) → List Hash
 given_or i None = i
 given_or i (Some j) = j
@@ -62,7 +62,7 @@ abbrev pub given_text : Option (List Hash) → Option (List ℕ)
 given_text None = None
 given_text (Some i) = Some (integrity_text i)
 
--- the size that was given, and else 0
+-- the size that was given, otherwise 0
 abbrev pub given_size : Option ℕ → ℕ
 given_size None = 0
 given_size (Some n) = n

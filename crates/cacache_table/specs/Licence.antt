@@ -1,25 +1,25 @@
--- What a call may do, by its command: each kind of step that changes something, and listing folders.
+-- What each command's call may do: each kind of step that changes something, and listing folders.
 use Rattle.std.specs.Prelude.{[], ◌∷◌, Bool, true, false, if◌then◌else◌}
 use Rattle.cacache_store.specs.declared.store.step.Step.TheVariants as steps
 use Rattle.cacache_store.specs.Plain.{PlainStep}
 use Rattle.cacache_table.specs.{declared.{command.Command.{Command}, reply.Reply.{Reply}}, Runs.{Moves, Runs}, State.{Site}, Table.{opening}}
 use Rattle.cacache_table.specs.declared.command.Command.TheVariants as commands
 
--- ---- what may be done
+-- ---- permissions
 
--- the kinds of steps that a call may make; to read a file, or to ask for one, is always allowed
+-- the kinds of steps that a call may make; it may always read a file or check that one exists
 pub record Licence : Type 0 where
   -- makes folders, and syncs files and folders
   pub prepares : Bool
-  -- writes a temporary file, and moves it to a content's place
+  -- writes a temporary file, and moves it to a content's path
   pub commits : Bool
-  -- makes a symbolic link in a content's place
+  -- makes a symbolic link at a content's path
   pub links : Bool
   -- appends to a bucket
   pub inserts : Bool
   -- lists folders
   pub lists : Bool
-  -- gives a content a second place
+  -- copies a content to a second path, or links it there
   pub exports : Bool
   -- removes files and folders
   pub removes : Bool
@@ -29,7 +29,7 @@ abbrev pub May : Bool → Type 0
 May true = Unit {0}
 May false = ⊥
 
--- whether a step is of a kind that is allowed
+-- whether the licence allows a step of this kind
 abbrev pub allows : Licence → PlainStep → Bool
 allows l (steps.MakeDirs p) = l.prepares
 allows l (steps.CreateTemp p) = l.commits
@@ -54,7 +54,7 @@ allows l (steps.SyncDir p) = l.prepares
 
 -- ---- licences
 
--- nothing but to read files, and to ask for them
+-- only to read files and to check that they exist
 abbrev pub looking_up : Licence
 looking_up = record {
   prepares = false;
@@ -66,15 +66,15 @@ looking_up = record {
   removes = false;
 }
 
--- folders may be listed as well: nothing in the store changes
+-- it may also list folders: nothing in the store changes
 abbrev pub looking_on : Licence
 looking_on = record looking_up { lists = true }
 
--- contents may go out as well: nothing in the cache changes
+-- it may also export contents: nothing in the cache changes
 abbrev pub handing_out : Licence
 handing_out = record looking_on { exports = true }
 
--- bytes and entries may come in as well, but nothing goes out, is linked or removed
+-- it may also add bytes and entries, but it exports, links and removes nothing
 abbrev pub taking_in : Licence
 taking_in = record looking_on { prepares = true; commits = true; inserts = true }
 
@@ -94,7 +94,7 @@ licence (commands.RemoveHash i) = record looking_up { removes = true }
 licence (commands.RemoveFully key) = record looking_up { removes = true }
 licence commands.Clear = record looking_up { lists = true; removes = true }
 
--- what the first may, the second may, and the rest holds
+-- the second allows what the first does, and the rest holds
 abbrev pub as_far : Bool → Bool → Bool → Bool
 as_far a b rest = if a then (if b then rest else false) else rest
 
@@ -105,22 +105,22 @@ covers m l =
     (as_far l.inserts m.inserts (as_far l.lists m.lists (as_far l.exports m.exports
     (as_far l.removes m.removes true))))))
 
--- whether a command's call does no more than this
+-- whether a command's call stays within this licence
 abbrev pub keeps_to : Licence → Command → Bool
 keeps_to m command = covers m (licence command)
 
--- a command whose call does no more than this
+-- a command whose call stays within this licence
 abbrev pub KeepsTo : Licence → Command → Type 0
 KeepsTo m command = May (keeps_to m command)
 
 -- ---- law
 
--- each of these steps is allowed
+-- the licence allows each of these steps
 abbrev pub AllMay : Licence → Moves → Type 0
 AllMay l [] = Unit {0}
 AllMay l (m ∷ moves) = May (allows l m.0) × AllMay l moves
 
--- a call that does no more than this makes no other step, whatever it is answered
+-- a call that stays within a licence makes only steps that it allows, whatever the answers are
 abbrev pub CallsKeepTo : Type 0
 CallsKeepTo =
     (m : Licence) (site : Site) (command : Command) (moves : Moves) (r : Reply)

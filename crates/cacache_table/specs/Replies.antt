@@ -1,4 +1,4 @@
--- What lookups, reads and questions answer, by what their own steps were shown.
+-- What lookups, reads and existence checks return, from the answers to their own steps.
 use Rattle.std.specs.Prelude.{◌≡◌, ◌⊎◌, ℕ, List, [], ◌∷◌, Option, None, Some, option_map, Result, Ok, Err, Bool, false, if◌then◌else◌}
 use Rattle.cacache_core.specs.declared.errors.Fault.TheVariants as faults
 use Rattle.cacache_core.specs.{declared.{errors.{IntegrityFault.TheVariants.{Check}, Error.TheVariants.{EntryNotFound, IoError, IntegrityError, OutOfMemory}}, integrity.digest.Hash.{Hash}}, Integrity.{Meets, actual}, Meeting.{meets}}
@@ -9,43 +9,43 @@ use Rattle.cacache_table.specs.{declared.{answers.Refusal.{Refusal}, reply.Reply
 use Rattle.cacache_table.specs.declared.answers.Refusal.TheVariants as refusals
 use Rattle.cacache_table.specs.declared.command.Command.TheVariants as commands
 
--- ---- what a step shows at its place
+-- ---- what the answer to a step shows
 
--- a bucket that isn't there is an empty one
+-- a bucket that doesn't exist counts as an empty one
 abbrev pub entries_shown : Result (List ℕ) Refusal → Result (List Entry) Refusal
 entries_shown (Ok bytes) = Ok (entries_of bytes)
 entries_shown (Err (refusals.Fault faults.NotFound)) = Ok []
 entries_shown (Err refusal) = Err refusal
 
--- the entries that an answer shows of a bucket
+-- the entries of a bucket that an answer shows
 abbrev pub bucket_shown : PlainAnswer → Result (List Entry) Refusal
 bucket_shown t = entries_shown (bytes_in t)
 
--- ---- what is answered by it
+-- ---- the replies to it
 
 -- the reply to a refused step
 abbrev pub refusal_reply : Refusal → Reply
 refusal_reply (refusals.Fault fault) = Refused (IoError fault [])
 refusal_reply refusals.Memory = Refused OutOfMemory
 
--- what a lookup of the key answers, by the key's bucket
+-- the reply to a lookup of the key, from the key's bucket
 abbrev pub find_reply : List ℕ → Result (List Entry) Refusal → Reply
 find_reply key (Ok entries) = LookedUp (latest key entries)
 find_reply key (Err refusal) = refusal_reply refusal
 
--- bytes are answered where they meet the integrity
+-- a read returns bytes only if they match the integrity
 abbrev pub content_reply : List Hash → Result (List ℕ) Refusal → Reply
 content_reply i (Ok bytes) =
     if meets i bytes then Read bytes else Refused (IntegrityError (Check i (actual i bytes)))
 content_reply i (Err refusal) = refusal_reply refusal
 
--- after a failed step too, nothing is there
+-- a check that failed also counts as "doesn't exist"
 abbrev pub there_reply : Result Bool Refusal → Reply
 there_reply (Ok there) = Exists there
 there_reply (Err (refusals.Fault fault)) = Exists false
 there_reply (Err refusals.Memory) = Refused OutOfMemory
 
--- ---- values, as the replies that they are answered as
+-- ---- the replies that stand for values
 
 -- nothing
 abbrev pub done : Unit {0} → Reply
@@ -55,35 +55,35 @@ done u = Done
 abbrev pub looked_up : Option Metadata → Reply
 looked_up found = LookedUp (option_map found_view found)
 
--- ---- of runs
+-- ---- runs
 
--- the one step, with an answer that gives the reply
+-- the run is this one step, and its answer determines the reply
 abbrev pub OneStep : PlainStep → (PlainAnswer → Reply) → Moves → Reply → Type 0
 OneStep step reply moves r = (t : PlainAnswer) × (moves ≡ (step, t) ∷ []) × (r ≡ reply t)
 
--- the one step was made, and its answer or a refusal for memory gives the reply; or memory was refused before it
+-- the call made its one step, and returned the reply to the answer or was refused memory; or memory was refused before it
 abbrev pub OneRun : PlainStep → (PlainAnswer → Reply) → Moves → Reply → Type 0
 OneRun step reply moves r =
     ((moves ≡ []) × (r ≡ Refused OutOfMemory))
     ⊎ ((t : PlainAnswer) × (moves ≡ (step, t) ∷ []) × Fits step t
     × ((r ≡ reply t) ⊎ (r ≡ Refused OutOfMemory)))
 
--- the bucket of a key is read, and its entries decide
+-- the call reads the key's bucket, whose entries determine the reply
 abbrev pub ReadsBucketOnce : List ℕ → List ℕ → Moves → Reply → Type 0
 ReadsBucketOnce cache key =
     OneStep (steps.ReadAll (bucket_path cache key)) (λ t. find_reply key (bucket_shown t))
 
--- the content of an integrity is read, and its bytes decide
+-- the call reads the integrity's content, whose bytes determine the reply
 abbrev pub ReadsContentOnce : List ℕ → List Hash → Moves → Reply → Type 0
 ReadsContentOnce cache i =
     OneStep (steps.ReadAll (content_path cache i)) (λ t. content_reply i (bytes_in t))
 
--- the store is asked whether the content is there
+-- the call checks with the store that the content exists
 abbrev pub AsksContentOnce : List ℕ → List Hash → Moves → Reply → Type 0
 AsksContentOnce cache i =
     OneStep (steps.Exists (content_path cache i)) (λ t. there_reply (there_in t))
 
--- what follows a lookup: the content that it found, or nothing
+-- the steps after a lookup: a read of the content that it found, or none
 abbrev pub ReadsOn : List ℕ → List ℕ → Result (Option Found) Refusal → Moves → Reply → Type 0
 ReadsOn cache key (Ok (Some f)) moves r = ReadsContentOnce cache f.integrity moves r
 ReadsOn cache key (Ok None) moves r = (moves ≡ []) × (r ≡ Refused (EntryNotFound cache key))
@@ -94,56 +94,56 @@ abbrev pub lookup : List ℕ → Result (List Entry) Refusal → Result (Option 
 lookup key (Ok entries) = Ok (latest key entries)
 lookup key (Err refusal) = Err refusal
 
--- the first step reads the bucket of the key
+-- the first step reads the key's bucket
 abbrev pub BeginsWithBucket : List ℕ → List ℕ → PlainAnswer → Moves → Moves → Type 0
 BeginsWithBucket cache key t more moves = moves ≡ (steps.ReadAll (bucket_path cache key), t) ∷ more
 
--- a read by key: the lookup, and what follows it
+-- a read by key: the lookup, then the steps after it
 abbrev pub ReadsByKey : List ℕ → List ℕ → Moves → Reply → Type 0
 ReadsByKey cache key moves r =
     (t : PlainAnswer) × (more : Moves)
     × BeginsWithBucket cache key t more moves × ReadsOn cache key (lookup key (bucket_shown t)) more r
 
--- unless memory was refused
+-- X holds, unless memory was refused
 abbrev pub OrMemory : Type 0 → Reply → Type 0
 OrMemory X r = (r ≡ Refused OutOfMemory) ⊎ X
 
 -- ---- laws
 
--- unless memory was refused, a lookup answers by its read of the key's bucket
+-- unless memory was refused, a lookup's reply follows from its read of the key's bucket
 abbrev pub FindsShown : Type 0
 FindsShown =
     (site : Site) (key : List ℕ) (moves : Moves) (r : Reply)
     → Runs (opening site (commands.Find key)) moves r
     → OrMemory (ReadsBucketOnce site.cache key moves r) r
 
--- so does a read by key, by its lookup and its read of the content
+-- the same for a read by key, from its lookup and its read of the content
 abbrev pub GetsShown : Type 0
 GetsShown =
     (site : Site) (key : List ℕ) (moves : Moves) (r : Reply)
     → Runs (opening site (commands.Get key)) moves r
     → OrMemory (ReadsByKey site.cache key moves r) r
 
--- so does a read by integrity, by its read of the content
+-- the same for a read by integrity, from its read of the content
 abbrev pub ReadsShown : Type 0
 ReadsShown =
     (site : Site) (i : List Hash) (moves : Moves) (r : Reply)
     → Runs (opening site (commands.GetHash i)) moves r
     → OrMemory (ReadsContentOnce site.cache i moves r) r
 
--- so does a question, by what the store says of the content
+-- the same for an existence check, from what the store reports of the content
 abbrev pub ExistsShown : Type 0
 ExistsShown =
     (site : Site) (i : List Hash) (moves : Moves) (r : Reply)
     → Runs (opening site (commands.Exists i)) moves r
     → OrMemory (AsksContentOnce site.cache i moves r) r
 
--- the lookup in what was read of the bucket gives an integrity that the bytes meet
+-- the lookup in the bucket, as it was read, finds an integrity that the bytes match
 abbrev pub MeetsFound : List ℕ → PlainAnswer → List ℕ → Type 0
 MeetsFound key t bytes =
     (found : Found) × (lookup key (bucket_shown t) ≡ Ok (Some found)) × Meets found.integrity bytes
 
--- a read by key answers bytes that meet the integrity which its own read of the bucket gives
+-- a read by key returns bytes that match the integrity found by its own read of the bucket
 abbrev pub GetsMeet : Type 0
 GetsMeet =
     (site : Site) (key : List ℕ) (moves : Moves) (bytes : List ℕ)

@@ -1,4 +1,4 @@
--- How many steps calls take, on answers that a store would give.
+-- How many steps calls take, for answers that a store would return.
 use Rattle.std.specs.Prelude.{◌≡◌, ℕ, zero, suc, List, [], ◌∷◌, Option, None, Some, Ok, true, false, codes, length}
 use Rattle.serde_json.specs.Data.{null}
 use Rattle.cacache_core.specs.declared.errors.Fault.TheVariants as faults
@@ -10,23 +10,23 @@ use Rattle.cacache_table.specs.{declared.{command.{Options.{Options}, Put.{Put},
 use Rattle.cacache_table.specs.declared.command.Command.TheVariants as commands
 use Rattle.cacache_table.specs.declared.command.Source.TheVariants as sources
 
--- nothing where the call wanted no step
+-- nothing if the call has no next step
 abbrev pub played : Option PlainStep → Option State → Option State
 played None s = None
 played (Some step) s = s
 
--- the state after just so many steps
+-- the state after exactly this many steps
 abbrev pub plays : State → List PlainAnswer → Option State
 plays s [] = Some s
 plays s (t ∷ ts) = played (wants s) (plays (after s t) ts)
 
--- after just so many steps the call answers this
+-- after exactly this many steps the call returns this
 abbrev pub Replies : Site → Command → List PlainAnswer → Reply → Type 0
 Replies site command ts r = plays (opening site command) ts ≡ Some (over r)
 
 -- ---- the calls of the rows
 
--- the digest is a SHA-256, and nothing is said of the content
+-- the digest is a SHA-256, and nothing is expected of the content
 abbrev pub no_options : Options
 no_options = record {
   algorithm = Sha256;
@@ -37,15 +37,15 @@ no_options = record {
   durable = false;
 }
 
--- one byte under a key, or under none
+-- a put of one byte, with or without a key
 abbrev pub put_of : Option (List ℕ) → ℕ → Put
 put_of key b = record { key = key; «data» = b ∷ []; moment = 0; options = no_options }
 
--- the same in a durable way
+-- the same, durable
 abbrev pub durable_put_of : Option (List ℕ) → ℕ → Put
 durable_put_of key b = record (put_of key b) { options = record no_options { durable = true } }
 
--- a link to this target, under a key or under none
+-- a link to this target, with or without a key
 abbrev pub link_of : Option (List ℕ) → List ℕ → Link
 link_of key target = record { key = key; target = target; moment = 0; options = no_options }
 
@@ -67,11 +67,11 @@ one_name kind = answers.Names (name (codes "x") kind ∷ [])
 abbrev pub file : PlainFile
 file = record { left = 0; bytes = None }
 
--- a file with one byte is opened and read to its end
+-- the call opens a file with one byte, and reads it to its end
 abbrev pub one_byte : ℕ → List PlainAnswer → List PlainAnswer
 one_byte b later = answers.File file ∷ answers.Got file (b ∷ []) ∷ answers.Got file [] ∷ later
 
--- a folder is made, and the whole line is appended
+-- the call makes a folder, and appends the whole line
 abbrev pub appended : Insertion → List PlainAnswer
 appended i = answers.Done ∷ answers.Took (length (bucket_line i)) ∷ []
 
@@ -80,23 +80,23 @@ abbrev pub stored : PlainTemp → PlainTemp → List PlainAnswer → List PlainA
 stored t u later =
     answers.Done ∷ answers.Temp t ∷ answers.Wrote u 1 ∷ answers.Done ∷ answers.Done ∷ later
 
--- so many steps with this answer
+-- this many steps with this answer
 abbrev pub times : ℕ → PlainAnswer → List PlainAnswer → List PlainAnswer
 times zero t later = later
 times (suc n) t later = t ∷ times n t later
 
--- the same with the temporary file synced, and five folders after the persist
+-- the same, with a sync of the temporary file, and of five folders after the persist
 abbrev pub stored_durably : PlainTemp → PlainTemp → List PlainAnswer → List PlainAnswer
 stored_durably t u later =
     answers.Done ∷ answers.Temp t ∷ answers.Wrote u 1 ∷ answers.Done ∷ answers.Synced u
     ∷ answers.Done ∷ times 5 answers.Done later
 
--- a folder is made, the whole line is appended, the bucket and four folders are synced
+-- the call makes a folder, appends the whole line, and syncs the bucket and four folders
 abbrev pub appended_durably : Insertion → List PlainAnswer
 appended_durably i =
     answers.Done ∷ answers.Took (length (bucket_line i)) ∷ times 5 answers.Done []
 
--- the size, three steps that read the file, and its folder
+-- the size, three steps that read the file, and the content's folder
 abbrev pub read_target : ℕ → List PlainAnswer → List PlainAnswer
 read_target b later = answers.Length 1 ∷ one_byte b (answers.Done ∷ later)
 
@@ -109,7 +109,7 @@ PutRow =
     → Replies site (commands.Put (put_of None b)) (stored t u [])
     (Stored (integrity_under Sha256 (b ∷ [])))
 
--- with a key seven
+-- with a key, seven
 abbrev pub KeyedPutRow : Type 0
 KeyedPutRow =
     (site : Site) (key : List ℕ) (b : ℕ) (t u : PlainTemp)
@@ -125,7 +125,7 @@ DurablePutRow =
     → Replies site (commands.Put (durable_put_of None b)) (stored_durably t u [])
     (Stored (integrity_under Sha256 (b ∷ [])))
 
--- with a key eighteen
+-- with a key, eighteen
 abbrev pub DurableKeyedPutRow : Type 0
 DurableKeyedPutRow =
     (site : Site) (key : List ℕ) (b : ℕ) (t u : PlainTemp)
@@ -141,13 +141,13 @@ GetRow =
     → found_in key bucket ≡ Some f → meets f.integrity bytes ≡ true
     → Replies site (commands.Get key) (answers.Bytes bucket ∷ answers.Bytes bytes ∷ []) (Read bytes)
 
--- a question takes one, also where it fails
+-- an existence check takes one, even if it fails
 abbrev pub ExistsRow : Type 0
 ExistsRow =
     (site : Site) (i : List Hash)
     → Replies site (commands.Exists i) (answers.Failed faults.TooDeep ∷ []) (Exists false)
 
--- a checked copy by key takes five, and answers the count that was read
+-- a checked copy by key takes five, and returns the count that it read
 abbrev pub CopyRow : Type 0
 CopyRow =
     (site : Site) (key bucket to : List ℕ) (f : Found) (b n : ℕ)
@@ -170,7 +170,7 @@ link_entry site key target b =
     let t = with_size (link_target site (link_of (Some key) target)) 1 in
     insertion_of (commit_for t (b ∷ [])) key
 
--- with a key eight
+-- with a key, eight
 abbrev pub KeyedLinkRow : Type 0
 KeyedLinkRow =
     (site : Site) (key target : List ℕ) (b : ℕ)
@@ -179,7 +179,7 @@ KeyedLinkRow =
     → Replies site (commands.Link (link_of (Some key) target))
     (read_target b (answers.Done ∷ appended i)) (Stored (integrity_under Sha256 (b ∷ [])))
 
--- and where the link stands already, one more
+-- and one more if the link already exists
 abbrev pub SecondLinkRow : Type 0
 SecondLinkRow =
     (site : Site) (key target : List ℕ) (b : ℕ)
@@ -191,14 +191,14 @@ SecondLinkRow =
 
 -- ---- removals and walks
 
--- a key is removed with its content by three steps
+-- removing a key with its content takes three steps
 abbrev pub RemoveFullyRow : Type 0
 RemoveFullyRow =
     (site : Site) (key bucket : List ℕ) (f : Found) → found_in key bucket ≡ Some f
     → Replies site (commands.RemoveFully key)
     (answers.Bytes bucket ∷ answers.Done ∷ answers.Done ∷ []) Done
 
--- the bucket of a key, three folders down, is listed by four
+-- listing the bucket of a key, three folders down, takes four
 abbrev pub LsRow : Type 0
 LsRow =
     (site : Site) (bytes : List ℕ) (f : Found) → items_in bytes ≡ Ok f ∷ []
@@ -206,7 +206,7 @@ LsRow =
     (one_name Folder ∷ one_name Folder ∷ one_name File ∷ answers.Bytes bytes ∷ [])
     (Listed (Ok f ∷ []))
 
--- a listing of no index folder
+-- a listing without an index folder
 abbrev pub NoLsRow : Type 0
 NoLsRow =
     (site : Site)
@@ -218,7 +218,7 @@ abbrev pub cache_names : List Name
 cache_names =
     name temp_area Folder ∷ name content_area Folder ∷ name index_area Folder ∷ []
 
--- such a cache is cleared by 19 steps
+-- clearing such a cache takes 19 steps
 abbrev pub ClearRow : Type 0
 ClearRow =
     (site : Site)
@@ -233,16 +233,16 @@ PlainFileRow =
     (site : Site)
     → Replies site commands.Clear (one_name File ∷ []) (Refused (IoError faults.NotADirectory []))
 
--- a folder at level 16 is entered, and one below it isn't
+-- a walk enters a folder at level 16, but none below it
 abbrev pub DeepRow : Type 0
 DeepRow =
     (site : Site)
     → Replies site commands.Clear (times 17 (one_name Folder) [])
     (Refused (IoError faults.TooDeep []))
 
--- ---- all of them
+-- ---- all rows
 
--- each call of the rows takes so many steps
+-- each call of the rows takes this many steps
 pub record Rows : Type 0 where
   pub put : PutRow
   pub keyed_put : KeyedPutRow

@@ -1,4 +1,4 @@
--- Runs of a call: its steps with their answers, and its reply. They end.
+-- Runs of a call: its steps with their answers, and its reply. Every run ends.
 use Rattle.std.specs.Prelude.{◌≡◌, ◌⊎◌, ◌<◌, ◌+◌, ◌*◌, ◌^◌, ◌++◌, ℕ, List, [], ◌∷◌, Option, Some, None, Result, Ok, Err, option_map, map, length}
 use Rattle.cacache_core.specs.declared.errors.Error.{Error, TheVariants.{IoError, SerdeError, OutOfMemory}}
 use Rattle.cacache_store.specs.declared.store.answer.Answer.TheVariants as answers
@@ -9,8 +9,8 @@ use Rattle.cacache_table.specs.{declared.{reply.Reply.{Reply, TheVariants.{Liste
 abbrev pub Moves : Type 0
 Moves = List (PlainStep × PlainAnswer)
 
--- The moves are a run from this state with this reply: each step is the one that the call wants, and
--- any fitting answer takes it on. A run may end out of memory before its first step or after any.
+-- The moves are a run from this state with this reply. Each step is the one that the call takes next, and
+-- any fitting answer moves it on. A run may end out of memory, before its first step or after any step.
 abbrev pub Runs : State → Moves → Reply → Type 0
 Runs s [] r = (s ≡ over r) ⊎ (r ≡ Refused OutOfMemory)
 Runs s (m ∷ moves) r = (wants s ≡ Some m.0) × Fits m.0 m.1 × Runs (after s m.1) moves r
@@ -20,7 +20,7 @@ abbrev pub Goes : State → Moves → State → Type 0
 Goes s [] t = s ≡ t
 Goes s (m ∷ moves) t = (wants s ≡ Some m.0) × Fits m.0 m.1 × Goes (after s m.1) moves t
 
--- a log that is kept gains just these moves
+-- a log that is kept gains exactly these moves
 abbrev pub Gains : Option (List LogItem) → Option (List LogItem) → Moves → Type 0
 Gains old new moves = new ≡ option_map (λ log. log ++ map (λ m. Made m.0 m.1) moves) old
 
@@ -32,7 +32,7 @@ Ran s r old new = (moves : Moves) × Runs s moves r × Gains old new moves
 abbrev pub Gone : State → State → Option (List LogItem) → Option (List LogItem) → Type 0
 Gone s t old new = (moves : Moves) × Goes s moves t × Gains old new moves
 
--- ---- replies without messages, of which no contract speaks
+-- ---- replies without messages: no contract says anything about messages
 
 -- an error without its message, if it has one
 abbrev pub without_message : Error → Error
@@ -51,7 +51,7 @@ plain_reply (Listed items) = Listed (map plain_item items)
 plain_reply (Refused error) = Refused (without_message error)
 plain_reply reply = reply
 
--- a result as the reply that it stands for, by what its value is answered as
+-- the reply to a result, made from its value's reply
 abbrev pub reply_of : {X : Type 0} → (X → Reply) → Result X Error → Reply
 reply_of answer (Ok x) = answer x
 reply_of answer (Err error) = Refused (without_message error)
@@ -60,22 +60,22 @@ reply_of answer (Err error) = Refused (without_message error)
 abbrev pub EndsAs : Error → State → Type 0
 EndsAs e s = (s ≡ ends_with (without_message e)) ⊎ (e ≡ OutOfMemory)
 
--- ---- a bound on the steps that are still to come
+-- ---- a bound on the remaining steps
 
--- a folder is entered, and perhaps removed; each name in it is one task more
+-- a walk enters a folder, and perhaps removes it; each name in it adds one task
 abbrev pub weight : Visit → ℕ
 weight (Enter p level) = 2
 weight (ReadBucket p) = 1
 weight (RemoveFile p) = 1
 weight (RemoveFolder p) = 1
 
--- the weights of all tasks together; what a walk stumbles over has none
+-- the weights of all tasks together; a task that ends in a fault has no weight
 abbrev pub weights : List Task → ℕ
 weights [] = 0
 weights (Make v ∷ todo) = weight v + weights todo
 weights (Stumble fault path ∷ todo) = weights todo
 
--- how many steps a call takes at most from this state on
+-- the most steps that a call takes from this state on
 abbrev pub effort : State → ℕ
 effort (doing errand s) = effort s + 1
 effort (creating number c rest) = length rest + 19
@@ -97,11 +97,11 @@ effort (over reply) = 0
 
 -- ---- laws
 
--- a state that wants no step is over
+-- a state without a next step is over
 abbrev pub WantsUntilOver : Type 0
 WantsUntilOver = (s : State) → wants s ≡ None → (reply : Reply) × (s ≡ over reply)
 
--- each fitting answer lowers the effort
+-- each fitting answer lowers the bound
 abbrev pub EffortFalls : Type 0
 EffortFalls =
     (s : State) (step : PlainStep) (answer : PlainAnswer) → wants s ≡ Some step

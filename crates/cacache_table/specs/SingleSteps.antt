@@ -1,4 +1,4 @@
--- A single step of a call, and why it brought nothing.
+-- A single step of a call, and why it returned nothing.
 use Rattle.std.specs.Prelude.{◌≡◌, ◌⊎◌, List, [], ◌∷◌, Option}
 use Rattle.cacache_core.specs.declared.errors.{Error.{Error, TheVariants.{IoError, OutOfMemory}}, Fault.{Fault}}
 use Rattle.cacache_store.specs.declared.store.answer.Answer.TheVariants as answers
@@ -9,7 +9,7 @@ use Rattle.cacache_table.specs.Runs.{Gains}
 abbrev pub Does : PlainStep → PlainAnswer → Option (List LogItem) → Option (List LogItem) → Type 0
 Does step answer old new = Gains old new ((step, answer) ∷ [])
 
--- the step failed so, or memory was refused before it or after
+-- the step failed with this fault, or memory was refused before or after it
 abbrev pub FailsAt : PlainStep → Error → Option (List LogItem) → Option (List LogItem) → Type 0
 FailsAt step (IoError fault message) old new = Does step (answers.Failed fault) old new
 FailsAt step OutOfMemory old new =

@@ -1,4 +1,4 @@
--- Which states the calls at a site stand in, and which steps they may make there.
+-- Which states a call at a site can reach, and which steps it may make there.
 use Rattle.std.specs.Prelude.{All, ◌≡◌, ◌⊎◌, ◌<◌, ◌+◌, ◌^◌, ℕ, List, None, Some, Bool, true, length}
 use Rattle.cacache_core.specs.{declared.integrity.{algorithm.Algorithm.{Algorithm}, digest.Hash.{Hash}}, Integrity.{integrity_under}, Paths.{joined}, PathNames.{Names, IsProperName}}
 use Rattle.cacache_store.specs.{declared.store.plain.PlainTemp.{PlainTemp}, Plain.{PlainStep, PlainAnswer}, Fits.{Fits}}
@@ -14,7 +14,7 @@ use Rattle.cacache_table.specs.declared.carried.Aim.TheVariants as aims
 abbrev pub FormedIfWritten : Insertion → Type 0
 FormedIfWritten i = refused_cause i ≡ None → IsEntry i.entry
 
--- a commit at this site, of some bytes
+-- a commit of some bytes at this site
 pub record SoundCommit (site : Site) (c : Commit) : Type 0 where
   pub here : c.cache ≡ site.cache
   pub bytes : List ℕ
@@ -41,17 +41,17 @@ IsTemp site file = file.path ≡ temp_path site.cache site.number
 abbrev pub IsBelow : Site → List ℕ → Type 0
 IsBelow site p = (names : Names) × All IsProperName names × (p ≡ joined site.cache names)
 
--- the place of a content, or its folder
+-- the path of a content
 abbrev pub IsContent : Site → List ℕ → Type 0
 IsContent site p =
     (a : Algorithm) × (bytes : List ℕ) × (p ≡ content_path site.cache (integrity_under a bytes))
 
--- the folder that a content lies in
+-- the folder of a content
 abbrev pub IsContentFolder : Site → List ℕ → Type 0
 IsContentFolder site p =
     (a : Algorithm) × (bytes : List ℕ) × (p ≡ content_folder site.cache (integrity_under a bytes))
 
--- the folder that the bucket of a key lies in
+-- the folder of a key's bucket
 abbrev pub IsBucketFolder : Site → List ℕ → Type 0
 IsBucketFolder site p = (key : List ℕ) × (p ≡ bucket_folder site.cache key)
 
@@ -107,17 +107,17 @@ module _ (site : Site) (apart outside : List ℕ → Bool) where
   Allowed (steps.Size p) = Unit {0}
   Allowed (steps.ReadDir p) = Unit {0}
 
-  -- an export that a lookup is for goes apart
+  -- the lookup's export, if any, goes apart
   abbrev pub SoundAim : Aim → Type 0
   SoundAim (aims.Export e) = apart e.to ≡ true
   SoundAim aim = Unit {0}
 
-  -- a file is read for an export that goes apart, or for a link that leads outside
+  -- the call reads a file for an export that goes apart, or for a link that leads outside
   abbrev pub SoundHashing : Hashing → Type 0
   SoundHashing (to_verify k e) = apart e.to ≡ true
   SoundHashing (to_link t) = SoundTarget site t × (outside t.path ≡ true)
 
-  -- the state's step is allowed, and so are all that come after it
+  -- the next step of the state is allowed, and so are all later ones
   abbrev pub Sound : State → Type 0
   Sound (doing errand s) = Allowed (errand_step errand) × Sound s
   Sound (creating number c rest) = (number ≡ site.number) × SoundCommit site c
@@ -137,7 +137,7 @@ module _ (site : Site) (apart outside : List ℕ → Bool) where
   Sound (walking w v todo) = SoundVisit site v × SoundTasks site todo
   Sound (over reply) = Unit {0}
 
-  -- a command whose entry is well-formed or refused, whose export goes apart, whose link leads
+  -- a command whose entry is well-formed or refused, whose export goes apart, and whose link leads
   -- outside
   abbrev pub MayBegin : Command → Type 0
   MayBegin (commands.Put p) =
@@ -152,19 +152,19 @@ module _ (site : Site) (apart outside : List ℕ → Bool) where
 
 -- ---- laws
 
--- a call that may begin begins in a sound state
+-- the first state of a call that may begin is sound
 abbrev pub BeginsSound : Type 0
 BeginsSound =
     (site : Site) (apart outside : List ℕ → Bool) (command : Command)
     → MayBegin site apart outside command → Sound site apart outside (opening site command)
 
--- the step of a sound state is allowed
+-- the next step of a sound state is allowed
 abbrev pub StepsAllowed : Type 0
 StepsAllowed =
     (site : Site) (apart outside : List ℕ → Bool) (s : State) (step : PlainStep)
     → Sound site apart outside s → wants s ≡ Some step → Allowed site apart outside step
 
--- a sound state stays sound under any fitting answer
+-- a sound state stays sound after any fitting answer
 abbrev pub StaysSound : Type 0
 StaysSound =
     (site : Site) (apart outside : List ℕ → Bool)

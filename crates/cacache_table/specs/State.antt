@@ -1,31 +1,31 @@
--- How far a call is, and what it needs from there on.
+-- The states of a call, and what each needs for the rest of the call.
 use Rattle.std.specs.Prelude.{ℕ, List, Option, Bool, Result}
 use Rattle.cacache_core.specs.declared.errors.{Fault.{Fault}, Error.{Error}}
 use Rattle.cacache_store.specs.declared.store.plain.{PlainFile.{PlainFile}, PlainTemp.{PlainTemp}}
 use Rattle.cacache_entry.specs.{Entry.{Entry}, Latest.{Found}}
 use Rattle.cacache_table.specs.declared.{command.Export.{Export}, reply.Reply.{Reply}, carried.{Commit.{Commit}, Lookup.{Lookup}, Content.{Content}}, target.Target.{Target}, visit.{Visit.{Visit}, Task.{Task}}}
 
--- where a call works
+-- the folders and the number that a call works with
 pub record Site : Type 0 where
   pub cache : List ℕ
-  -- where a relative link target starts
+  -- the folder that a relative link target starts from
   pub base : List ℕ
   -- the number of the call's temporary file
   pub number : ℕ
 
--- an entry on its way into its bucket, and what the call answers once it is there
+-- an entry that goes into its bucket, and the call's reply once it is there
 pub record Insertion : Type 0 where
   pub cache : List ℕ
   pub entry : Entry
   pub durable : Bool
   pub reply : Reply
 
--- why a file is read to its end, piece by piece
+-- why a call reads a file to its end, piece by piece
 pub data Hashing : Type 0 where
   to_verify : Content → Export → Hashing
   to_link : Target ℕ → Hashing
 
--- a step whose plain answer is Done; none makes a content or an entry
+-- a step whose plain answer is `Done`; none of them makes a content or an entry
 pub data Errand : Type 0 where
   make_folder : List ℕ → Errand
   remove : List ℕ → Errand
@@ -34,11 +34,11 @@ pub data Errand : Type 0 where
   sync_file : List ℕ → Errand
   sync_dir : List ℕ → Errand
 
--- an item of a listing: an entry, or why one couldn't be read
+-- an item of a listing: an entry, or why the listing couldn't read it
 abbrev pub Item : Type 0
 Item = Result Found Error
 
--- a walk: a listing collects items, a clearing removes; it may still take so many names
+-- a walk: a listing collects items, a clearing removes; `left` is how many names it may still take
 pub record Walk : Type 0 where
   pub clears : Bool
   pub items : List Item
@@ -51,23 +51,23 @@ pub data State : Type 0 where
   -- a commit, by the number of its temporary file, with the bytes still to write
   creating : ℕ → Commit → List ℕ → State
   writing : Commit → PlainTemp → List ℕ → State
-  -- its temporary file is synced, where the commit is durable
+  -- its temporary file is synced, if the commit is durable
   syncing : Commit → PlainTemp → State
   -- its temporary file, or a link to this target, becomes the content
   persisting : Commit → PlainTemp → State
   linking : Commit → List ℕ → State
-  -- that failed so: is the content there all the same?
+  -- that failed with this fault: does the content exist all the same?
   confirming : Commit → Fault → State
   appending : Insertion → State
   looking : Lookup → State
   reading : Content → State
-  -- is the content there?
+  -- does the content exist?
   asking : Content → State
-  -- the target's size, and a file read to its end, with the bytes so far
+  -- the size of the target; then a file read to its end, with the bytes so far
   sizing : Target ℕ → State
   opening_file : Hashing → State
   hashing : Hashing → PlainFile → List ℕ → State
-  -- from, to, and the count that was verified
+  -- the source, the destination, and the verified count
   copying : List ℕ → List ℕ → Option ℕ → State
   walking : Walk → Visit → List Task → State
   over : Reply → State

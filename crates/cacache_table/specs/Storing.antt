@@ -1,13 +1,13 @@
--- Commits: bytes, or a link, become a content, and with a key its entry follows.
+-- Commits: bytes, or a link, become a content; a commit with a key then inserts its entry.
 use Rattle.std.specs.Prelude.{ℕ, ◌==◌, List, [], ◌∷◌, Option, None, Some, Bool, is_some, if◌then◌else◌, length, drop}
 use Rattle.cacache_core.specs.{declared.{errors.{Fault.{Fault}, IntegrityFault.TheVariants.{Check}, Error.TheVariants.{SizeMismatch, IntegrityError}}, integrity.digest.Hash.{Hash}}, Integrity.{integrity_under}, Texts.{integrity_text}, Meeting.{matching}}
 use Rattle.cacache_core.specs.declared.errors.Fault.TheVariants as faults
 use Rattle.cacache_store.specs.declared.store.plain.PlainTemp.{PlainTemp}
 use Rattle.cacache_table.specs.{declared.{command.Put.{Put}, reply.Reply.TheVariants.{Stored}, carried.Commit.{Commit}}, StepPaths.{temp_folder, content_path, content_folder, content_folders}, State.{State, doing, creating, writing, syncing, persisting, linking, over, Site, Insertion, make_folder, sync_file}, Common.{ends_with, fails, sync_up}, Inserting.{insert, entry_of, given_or}}
 
--- ---- once the content is there: the integrity, then the size, then the entry
+-- ---- once the content is stored: the integrity, then the size, then the entry
 
--- the entry has the expected integrity, where there is one, and the count of the bytes
+-- the entry has the expected integrity, or the computed one if none is expected, and the count of the bytes
 abbrev pub insertion_of : Commit → List ℕ → Insertion
 insertion_of c key =
     let i = given_or c.computed c.options.integrity in
@@ -18,12 +18,12 @@ insertion_of c key =
       reply = Stored i;
     }
 
--- a commit with a key inserts its entry, one without is over
+-- a commit with a key inserts its entry; one without a key is over
 abbrev pub indexed : Commit → Option (List ℕ) → State
 indexed c None = over (Stored c.computed)
 indexed c (Some key) = insert (insertion_of c key)
 
--- the count is to be the expected size
+-- the count must equal the expected size, if there is one
 abbrev pub sized : Commit → Option ℕ → State
 sized c None = indexed c c.key
 sized c (Some wanted) =
@@ -33,36 +33,36 @@ sized c (Some wanted) =
 abbrev pub matches : List Hash → List Hash → Bool
 matches expected computed = is_some (matching expected computed)
 
--- the expected integrity is to match the computed one
+-- the computed integrity must match the expected one, if there is one
 abbrev pub compared : Commit → Option (List Hash) → State
 compared c None = sized c c.options.size
 compared c (Some expected) =
     if matches expected c.computed then sized c c.options.size
     else ends_with (IntegrityError (Check expected c.computed))
 
--- the content is at its place
+-- the content is stored
 abbrev pub placed : Commit → State
 placed c = compared c c.options.integrity
 
--- where the commit is durable, the folders that lead to the content are synced first
+-- a durable commit first syncs the folders on the path to the content
 abbrev pub secured : Commit → State
 secured c =
     if c.options.durable then sync_up (content_folders c.cache c.computed) (placed c)
     else placed c
 
--- and before them the content itself, where it was found there
+-- if it found the content there, it syncs the content before them
 abbrev pub secured_found : Commit → State
 secured_found c =
     if c.options.durable then doing (sync_file (content_path c.cache c.computed)) (secured c)
     else secured c
 
--- ---- before
+-- ---- before the content is stored
 
 -- the content's folder is made first
 abbrev pub into_folder : Commit → State → State
 into_folder c s = doing (make_folder (content_folder c.cache c.computed)) s
 
--- a temporary file becomes the content; where the commit is durable, it is synced first
+-- a temporary file becomes the content; a durable commit syncs the file first
 abbrev pub move_in : Commit → PlainTemp → State
 move_in c file = if c.options.durable then syncing c file else persisting c file
 
@@ -74,7 +74,7 @@ persist c file = into_folder c (move_in c file)
 abbrev pub link : Commit → List ℕ → State
 link c target = into_folder c (linking c target)
 
--- what is left of the bytes is written next, if there is any
+-- the call writes the remaining bytes next, if there are any
 abbrev pub write_rest : Commit → PlainTemp → List ℕ → State
 write_rest c file [] = persist c file
 write_rest c file (b ∷ bs) = writing c file (b ∷ bs)
@@ -84,7 +84,7 @@ abbrev pub after_write : Commit → List ℕ → PlainTemp × ℕ → State
 after_write c rest (file, n) =
     if n == 0 then fails faults.WriteZero else write_rest c file (drop n rest)
 
--- without a yes, the first fault is answered
+-- unless the content is confirmed, the call returns the first fault
 abbrev pub after_confirm : Commit → Fault → Bool → State
 after_confirm c fault there = if there then secured_found c else fails fault
 
@@ -99,7 +99,7 @@ put_commit cache p = record {
   options = p.options;
 }
 
--- a put begins with the folder of temporary files
+-- a put first makes the folder of temporary files
 abbrev pub store : Site → Put → State
 store site p =
     doing (make_folder (temp_folder site.cache))
