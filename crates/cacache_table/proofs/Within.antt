@@ -15,7 +15,7 @@ pub record MayInsert (l : Licence) : Type 0 where
   pub prepared : May l.prepares
   pub inserted : May l.inserts
 
--- and contents, if the licence allows it
+-- and contents, if that is allowed
 pub record MayAdd (l : Licence) (add : Bool) : Type 0 where
   pub added : May add
   pub insert : MayInsert l

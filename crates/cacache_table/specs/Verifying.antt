@@ -42,7 +42,7 @@ Verifies cache (sources.Key key) moves r =
     × (found : Found) × (lookup key (bucket_shown t) ≡ Ok (Some found))
     × VerifiesContent cache found.integrity more r
 
--- P holds of a call that wasn't refused
+-- P holds unless the call was refused
 abbrev pub UnlessRefused : Type 0 → Reply → Type 0
 UnlessRefused P (Refused e) = Unit {0}
 UnlessRefused P r = P
