@@ -1,4 +1,4 @@
--- What holds wherever an answer leads.
+-- What holds wherever an answer takes a call.
 use Rattle.std.proofs.Common.{◌≡◌, Bool, true, false, cond, Result, Ok, Err, refl}
 use Rattle.cacache_core.specs.declared.errors.{Fault.{Fault}, Error.TheVariants.{OutOfMemory}}
 use Rattle.cacache_table.specs.{declared.answers.Refusal.{Refusal}, State.{State}, Common.{ends_with, go_on}, Walking.{failed}}

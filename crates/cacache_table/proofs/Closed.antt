@@ -1,4 +1,4 @@
--- Which state leads to which, gone through once: a property of states that a few moves keep is kept by every call.
+-- Which state leads to which, gone through once: if a few moves keep a property of states, every call keeps it.
 use Rattle.std.proofs.Common.{◌≡◌, ◌+◌, ◌-◌, ◌==◌, ℕ, Bool, true, false, cond, nat_le, List, [], ◌∷◌, ◌++◌, Option, None, Some, Result, Ok, length, take, drop, sym, subst}
 use Rattle.std.specs.Prelude.{All}
 use Rattle.cacache_core.specs.{declared.errors.{Fault.{Fault}, Error.TheVariants.{IntegrityError, OutOfMemory}, IntegrityFault.TheVariants.{Check}}, Integrity.{actual}, Meeting.{meets}}
@@ -9,17 +9,17 @@ use Rattle.cacache_entry.specs.Latest.{Found}
 use Rattle.cacache_table.specs.{declared.{answers.Refusal.{Refusal}, reply.Reply.TheVariants.{Copied, Done, Exists, Listed, Read}, carried.{Commit.{Commit}, Lookup.{Lookup}, Content.{Content}}, target.Target.{Target}, visit.{Visit.{Visit, TheVariants.{Enter, ReadBucket, RemoveFile, RemoveFolder}}, Task.{Task, TheVariants.{Make, Stumble}}}}, Answers.{done_in, temp_in, written_in, synced_in, there_in, taken_in, bytes_in, file_in, got_in, length_in, names_in}, Common.{ends_with, fails, go_on}, ContentReads.{checked, answer_there, answer_absent}, Exporting.{copied_count}, Inserting.{bucket_line, recorded, after_append}, Linking.{with_size, after_size, after_read, hashed_path}, Looking.{found_in, found_for, after_bucket, no_bucket}, State.{State, doing, creating, writing, syncing, persisting, linking, confirming, appending, looking, reading, asking, sizing, opening_file, hashing, copying, walking, over, Insertion, Hashing, to_link, Errand, make_folder, sync_file, sync_dir, Item, Walk}, StepPaths.{temp_path, content_folder}, Storing.{placed, secured, write_rest, after_write, after_confirm}, Table.{piece, wants, after}, Walking.{EachVisit, most, failed, give, miss, walk_on, tasks_of, leaving, too_many, entered, unread_bucket, listed, visit_step, after_visit, items_in}}
 use Rattle.cacache_table.proofs.{Branches.{cond_leads, go_on_leads}, Leading.{moves_on, secures, secures_found, records}, Visits.{each_append, MayMeet, each_name, each_leaving}}
 
--- nothing is asked of a walk
+-- a walk has no requirement
 abbrev pub AnyWalk : Bool → Type 0
 AnyWalk clears = Unit {0}
 
 -- ---- answers
 
--- a good answer to a step brings this
+-- what a good answer to a step brings
 abbrev pub Brings : {X : Type 0} → (PlainStep → PlainAnswer → Type 0) → PlainStep → (PlainAnswer → Result X Refusal) → X → Type 0
 Brings Good step part x = (a : PlainAnswer) × Good step a × (part a ≡ Ok x)
 
--- a good answer to the step that a state wants
+-- a good answer to a state's next step
 abbrev pub GoodFor : (PlainStep → PlainAnswer → Type 0) → Option PlainStep → PlainAnswer → Type 0
 GoodFor Good None a = Unit {0}
 GoodFor Good (Some step) a = Good step a
@@ -34,15 +34,15 @@ any_for (Some step) a = tt
 
 -- ---- the moves, block by block
 
--- a sync may stand before each state of which it holds
+-- a sync may come before each state for which the property holds
 abbrev pub Syncs : (State → Type 0) → Type 0
 Syncs P = (path : List ℕ) (s : State) → P s → P (doing (sync_file path) s) × P (doing (sync_dir path) s)
 
--- first the folder of a content is made
+-- the folder of a content is made first
 abbrev pub in_folder : Commit → State → State
 in_folder c s = doing (make_folder (content_folder c.cache c.computed)) s
 
--- for good answers to steps, and what holds of states
+-- for good answers to steps, and a property of states
 module _ (Good : PlainStep → PlainAnswer → Type 0) (P : State → Type 0) where
   -- a step that fails, out of memory, and an errand that is done
   pub record ClosedEnds : Type 0 where
@@ -74,7 +74,7 @@ module _ (Good : PlainStep → PlainAnswer → Type 0) (P : State → Type 0) wh
     pub got : (x : Hashing) (file : PlainFile) (bytes : List ℕ) (g : PlainFile × List ℕ) → Brings Good (steps.Read file piece) got_in g → P (hashing x file bytes) → P (after_read x bytes g)
     pub copied : (from to : List ℕ) (count : Option ℕ) (n : ℕ) → P (copying from to count) → P (over (Copied (copied_count count n)))
 
--- and for what holds of walks, by whether they clear, and of each of their visits
+-- and for properties of walks, by whether they clear, and of each of their visits
 module _ (Good : PlainStep → PlainAnswer → Type 0) (P : State → Type 0) (K : Bool → Type 0) (V : Visit → Type 0) where
   -- walks, which visit what a listed folder names
   pub record ClosedWalk : Type 0 where
@@ -96,7 +96,7 @@ module _ (Good : PlainStep → PlainAnswer → Type 0) (P : State → Type 0) (K
 
   -- ---- all states
 
-  -- of a state whose step may fail, and may find no memory
+  -- a state with a step that may fail or find no memory
   module _ (c : Closed) (memory : P (ends_with OutOfMemory)) (fails_so : (fault : Fault) → P (fails fault)) where
     leads : {X : Type 0} (a : Result X Refusal) (next : X → State) → ((x : X) → a ≡ Ok x → P (next x)) → P (go_on a fails next)
     leads a next k = go_on_leads P a fails next memory fails_so k
@@ -108,7 +108,7 @@ module _ (Good : PlainStep → PlainAnswer → Type 0) (P : State → Type 0) (K
     writes : (x : Commit) (file : PlainTemp) (rest : List ℕ) (w : PlainTemp × ℕ) → Brings Good (steps.Write file rest) written_in w → P (writing x file rest) → P (after_write x rest w)
     writes x file rest w b h = cond_leads P (w.1 == 0) (fails faults.WriteZero) (write_rest x w.0 (drop w.1 rest)) (λ _. fails_so faults.WriteZero) (λ _. rests x w.0 (drop w.1 rest) (c.commits.wrote x file rest w b h))
 
-    -- a content that was put goes on as one that is found there after a fault, whichever that is
+    -- a content that was put goes on like one that is found there after a fault, whichever fault that is
     stored : (x : Commit) (a : Result (Unit {0}) Refusal) → ((fault : Fault) → P (confirming x fault)) → P (go_on a (confirming x) (λ _. secured x))
     stored x a k = go_on_leads P a (confirming x) (λ _. secured x) memory k (λ _ _. let m = c.commits.there x faults.Device (k faults.Device) in secures P m.1 x m.0)
 
@@ -202,7 +202,7 @@ module _ (Good : PlainStep → PlainAnswer → Type 0) (P : State → Type 0) (K
     keeps (walking w v todo) a good h = let k = c.walks.visited w v todo h in visits w todo k.0 k.1.1 v a good k.1.0
     keeps (over reply) a good h = h
 
-  -- after a good answer to the step that the state wants
+  -- after a good answer to the state's next step
   pub kept : Closed → (s : State) (step : PlainStep) (a : PlainAnswer) → P s → wants s ≡ Some step → Good step a → P (after s a)
   kept c s step a h w good = keeps c (c.ends.memory s h) (λ fault. c.ends.failed s fault h) s a (subst (λ o. GoodFor Good o a) (sym w) good) h
 

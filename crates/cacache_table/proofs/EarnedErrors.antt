@@ -1,4 +1,4 @@
--- A call's `IoError` is earned.
+-- Each `IoError` of a call has a cause.
 use Rattle.std.proofs.{Common.{◌≡◌, ◌⊎◌, inl, inr, ℕ, ◌+◌, ◌-◌, ◌<◌, ◌==◌, List, [], ◌∷◌, ◌++◌, Option, Some, None, Bool, true, false, cond, nat_le, nat_lt, Result, Ok, Err, refl, ◌∙◌, length, drop, take}, lemmas.Bool.{leb-false, eqb-true}}
 use Rattle.cacache_core.specs.{declared.{errors.{Fault.{Fault}, SerdeCause.{SerdeCause}, IntegrityFault.TheVariants.{Check}, Error.TheVariants.{SizeMismatch, IoError, SerdeError, EntryNotFound, IntegrityError, OutOfMemory}}, integrity.digest.Hash.{Hash}}, Integrity.{actual}, Paths.{join}, Meeting.{meets}}
 use Rattle.cacache_core.specs.declared.errors.Fault.TheVariants as faults
@@ -14,7 +14,7 @@ use Rattle.cacache_table.specs.declared.command.Command.TheVariants as commands
 use Rattle.cacache_table.specs.declared.command.Source.TheVariants as sources
 use Rattle.cacache_table.specs.declared.carried.Aim.TheVariants as aims
 
--- ---- what a refusing answer says
+-- ---- what a refusing answer shows
 
 errand_faults : (e : Errand) (t : PlainAnswer) (f : Fault) → Fits (errand_step e) t → done_in t ≡ Err (refusals.Fault f) → Faults (errand_step e) t f
 errand_faults e (answers.Failed g) f fits k = cc
@@ -116,9 +116,9 @@ names_faults p (answers.NoMemory x) f fits e = absurd cc
 names_faults p (answers.Names ns) f fits e = absurd cc
 names_faults p t f fits e = absurd fits
 
--- ---- of a state
+-- ---- states
 
--- what follows is no `IoError`
+-- the next state answers no `IoError`
 abbrev Sound : State → Type 0
 Sound (doing errand s) = Sound s
 Sound (appending i) = HasCause (λ _. ⊥) [] i.reply
@@ -130,7 +130,7 @@ OwnTo [] f = OfWalk f
 OwnTo (Stumble g path ∷ todo) f = (f ≡ g) ⊎ OwnTo todo f
 OwnTo (Make v ∷ todo) f = OwnTo todo f
 
--- the faults that a state holds already
+-- the faults that a state already holds
 abbrev own : State → Fault → Type 0
 own (doing errand s) f = own s f
 own (confirming c fault) f = f ≡ fault
@@ -225,7 +225,7 @@ module _ (O : Fault → Type 0) (a : PlainStep) (t : PlainAnswer) (moves : Moves
   places : (c : Commit) → Causes (placed c) moves r → Now
   places c h = by_integrity c c.options.integrity h
 
-  -- what follows an errand before a clean state
+  -- the state after an errand that comes before a clean state
   clean_now : (s : State) → IsClean s → (Sound s → HasCause (own s) moves r) → Now
   clean_now s k h = later (own s) (λ f x. absurd (k.1 f x)) (h k.0)
 
@@ -338,7 +338,7 @@ leaving_ordinary clears level p = by_both clears (level == 0)
     by_both false c = tt
 
 module _ (O : Fault → Type 0) (a : PlainStep) (t : PlainAnswer) (moves : Moves) (r : Reply) where
-  -- a fault that is earned now
+  -- a fault that gets its cause now
   abbrev IsCaused : Fault → Type 0
   IsCaused f = O f ⊎ Faults a t f
 
@@ -406,7 +406,7 @@ no_fault O moves (Refused (IoError f message)) (inl k) = absurd k
 no_fault O moves (Refused (IoError f message)) (inr k) = absurd k
 no_fault O moves reply k = tt
 
--- what a sound state after a step earned
+-- each fault that a sound state holds after a step has a cause
 carries : (s : State) (a : PlainStep) (t : PlainAnswer) (moves : Moves) (r : Reply) → Sound s → Causes s moves r → HasCause (own s) ((a, t) ∷ moves) r
 carries (over reply) a t moves r k h = over_now (λ _. ⊥) a t moves r reply (no_fault (λ _. ⊥) ((a, t) ∷ moves) reply k) h
 carries s a t moves r k h = later (own s) a t moves r (own s) (λ f q. inl q) (h k)

@@ -161,7 +161,7 @@ module _ (t : Target ℕ) (effects : List Effect) (r : Reply) where
 
 -- ---- all states
 
--- want of memory leaves no effect
+-- lack of memory leaves no effect
 memory_does : (s : State) → Does s [] (Refused OutOfMemory)
 memory_does (doing (make_folder path) s) = inl (refl, tt)
 memory_does (doing (sync_file path) s) = inl (refl, tt)
@@ -190,12 +190,12 @@ commits_go_on c effects r a next k = go_on_leads (λ s. Does s effects r → Com
 sends : (i : Insertion) (t : PlainAnswer) (effects : List Effect) (r : Reply) → Does (go_on (taken_in t) fails (after_append i)) effects r → Sends (bucket_path i.cache i.entry.key) (bucket_line i) (sent (bucket_path i.cache i.entry.key) (bucket_line i) t ∷ effects) r
 sends i t effects r h = let k = appends i t effects r h in (t, rw k.0 refl, k.1)
 
--- the effect of the step that a state wants
+-- the effect of a state's next step
 abbrev with_effect : Option PlainStep → PlainAnswer → List Effect → List Effect
 with_effect None t effects = effects
 with_effect (Some step) t effects = effect step t effects
 
--- an answer that fits the step that a state wants
+-- an answer that fits a state's next step
 abbrev FitsWanted : Option PlainStep → PlainAnswer → Type 0
 FitsWanted None t = Unit {0}
 FitsWanted (Some step) t = Fits step t

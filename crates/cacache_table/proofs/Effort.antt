@@ -1,4 +1,4 @@
--- Runs end: each answer lowers the effort that is still to come.
+-- Runs end: each answer lowers the bound on the steps that are left.
 use Rattle.std.proofs.{Common.{◌≡◌, ℕ, zero, suc, ◌+◌, ◌*◌, ◌-◌, ◌^◌, ◌<◌, ◌≤◌, ◌==◌, List, [], ◌∷◌, ◌++◌, Option, Some, None, Bool, true, false, cond, nat_le, nat_lt, Ok, refl, ap, ◌∙◌, length, drop, take, arith, length-drop}, lemmas.Bool.{eqb-false, leb-true}}
 use Rattle.cacache_core.specs.{declared.{errors.{Fault.{Fault}, SerdeCause.{SerdeCause}, IntegrityFault.TheVariants.{Check}, Error.TheVariants.{SizeMismatch, IntegrityError}}, integrity.digest.Hash.{Hash}}, Integrity.{actual, address}, Paths.{join, folders_to, content_names}, Meeting.{meets}}
 use Rattle.cacache_core.specs.declared.errors.Fault.TheVariants as faults
@@ -21,7 +21,7 @@ synced_below : (folders : List (List ℕ)) (s : State) (n : ℕ) → effort s + 
 synced_below [] s n h = omega (arith, h)
 synced_below (p ∷ ps) s n h = synced_below ps (doing (sync_dir p) s) n (omega (arith, h))
 
--- five lead to a content
+-- five folders lead to a content
 content_count : (cache : List ℕ) (i : List Hash) → length (content_folders cache i) ≤ 5
 unfolding content_folders
 content_count cache i = by_address (address i)
@@ -73,7 +73,7 @@ rest_below : (c : Commit) (file : PlainTemp) (rest : List ℕ) → Below (length
 rest_below c file [] = omega (arith, moved_below c file)
 rest_below c file (b ∷ bs) = omega arith
 
--- a write that took something leaves less
+-- a write that took some bytes leaves fewer
 less_below : (c : Commit) (file : PlainTemp) (rest : List ℕ) (n : ℕ) → 0 < n → Below (length rest + 18) (write_rest c file (drop n rest))
 less_below c file rest zero h = absurd (omega arith)
 less_below c file [] (suc n) h = omega (arith, moved_below c file)
@@ -118,7 +118,7 @@ read_below : (h : Hashing) (bytes : List ℕ) (left : ℕ) (file : PlainFile) (m
 read_below h bytes left file [] e = omega (arith, heard_below h bytes)
 read_below h bytes left file (b ∷ bs) e = omega arith
 
--- what a fitting answer says of the open file
+-- what a fitting answer shows of the open file
 opened : (path : List ℕ) (t : PlainAnswer) (file : PlainFile) → Fits (steps.Open path) t → file_in t ≡ Ok file → file.left < 2 ^ 64
 opened path (answers.File g) file fits e = let same : g ≡ file = cc in rw (← same) fits
 opened path t file fits e = absurd cc
@@ -205,7 +205,7 @@ leaving_light clears level p = by_both clears (level == 0)
 weights_three : (a b c : List Task) → weights (a ++ b ++ c) ≡ weights a + weights b + weights c
 weights_three a b c = weights_append (a ++ b) c ∙ ap (λ n. n + weights c) (weights_append a b)
 
--- so many names, with the folder's removal and what was to do before, are less work than the folder was
+-- this many names, the folder's removal and the earlier tasks are less work than the folder was
 enters_below : (w : Walk) (n : ℕ) (tasks leave todo : List Task) → n ≤ w.left → weights tasks ≤ 2 * n → weights leave ≤ 1 → Below (2 * w.left + 2 + weights todo) (walk_on (tasks ++ leave ++ todo) (record w { left = w.left - n }))
 enters_below w n tasks leave todo h k l = omega (arith, on_below (tasks ++ leave ++ todo) (record w { left = w.left - n }), weights_three tasks leave todo)
 

@@ -1,4 +1,4 @@
--- The entries that a command or a commit may add are well-formed, since those of their key and options are.
+-- The entries that a command or a commit may add are well-formed, because those of their key and options are.
 use Rattle.std.{proofs.Common.{◌≡◌, ℕ, ◌<◌, ◌^◌, List, Option, None, Some, sym, subst, ◌∙◌, arith}, specs.Prelude.{IsUtf8}}
 use Rattle.cacache_core.specs.declared.integrity.digest.Hash.{Hash}
 use Rattle.cacache_entry.{specs.FittingEntries.{IsUtf8IfAny, AreBytes, IsJson}, proofs.WellRead.{IsJson-null}}
@@ -16,7 +16,7 @@ text_utf8 (Some i) = integrity_utf8 i
 some_key : (P : List ℕ → Type 0) (a b : List ℕ) → Some a ≡ Some b → P a → P b
 some_key P a b e h = let same : a ≡ b = cc in subst P same h
 
--- its parts are what each value of their types is
+-- its parts keep what holds of each value of their types
 pub forms : (key : List ℕ) (moment : ℕ) (o : Options) → IsUtf8 key → IsJson o.metadata → AreBytes o.raw_metadata → FormsEntries key moment o
 forms key moment o utf8 json raw = λ integrity size spelled small written.
     record { key = utf8; integrity = spelled; size = small; metadata = json; raw_metadata = raw }

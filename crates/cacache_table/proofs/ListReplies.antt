@@ -1,4 +1,4 @@
--- A listing answers what its own steps were shown.
+-- What a listing answers follows from what its own steps were shown.
 use Rattle.std.proofs.{Common.{◌≡◌, ◌⊎◌, inl, inr, ℕ, ◌+◌, ◌-◌, ◌<◌, List, [], ◌∷◌, ◌++◌, Option, Some, None, Bool, true, false, cond, nat_le, nat_lt, Result, Ok, Err, refl, ap, ◌∙◌, length, take, length-append, append_assoc, append-nil, arith}, lemmas.{Bool.{leb-false}, List.{length-take}}}
 use Rattle.cacache_core.specs.{declared.errors.{Fault.{Fault}, Error.TheVariants.{OutOfMemory}}, Paths.{join}}
 use Rattle.cacache_core.specs.declared.errors.Fault.TheVariants as faults
@@ -9,7 +9,7 @@ use Rattle.cacache_table.proofs.Branches.{cond_leads}
 use Rattle.cacache_table.specs.declared.answers.Refusal.TheVariants as refusals
 use Rattle.cacache_table.specs.declared.command.Command.TheVariants as commands
 
--- ---- what is still to do on a listing
+-- ---- what a listing still has to do
 
 abbrev Reads : Visit → Type 0
 Reads (Enter p level) = Unit {0}
@@ -45,14 +45,14 @@ leaving_lists : (clears : Bool) → clears ≡ false → (level : ℕ) (p : List
 leaving_lists true e level p = absurd cc
 leaving_lists false e level p = tt
 
--- ---- what a walk has given, and what its further steps give
+-- ---- what a walk has collected, and what its further steps add
 
 abbrev Gives : Walk → List Item → Reply → Type 0
 Gives w items (Listed list) = (most < length list) ⊎ ((tail : List Item) × (list ≡ w.items ++ tail) × AddsTooDeep tail items)
 Gives w items (Refused e) = e ≡ OutOfMemory
 Gives w items r = ⊥
 
--- what the further steps of a run from a state give
+-- what the further steps of a run from a state add
 abbrev Given : State → List Item → Reply → Type 0
 Given (walking w v todo) items r = w.clears ≡ false → Reads v → Lists todo → Gives w items r
 Given (over reply) items r = (items ≡ []) × ((r ≡ reply) ⊎ (r ≡ Refused OutOfMemory))

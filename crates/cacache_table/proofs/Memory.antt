@@ -1,4 +1,4 @@
--- Out of memory ends every call, and nothing else leaves a call without a step.
+-- Out of memory ends every call, and only the end of a call leaves it without a step.
 use Rattle.std.proofs.Common.{◌≡◌, Some, None, refl}
 use Rattle.cacache_core.specs.declared.errors.Error.{Error, TheVariants.{EntryNotFound, SizeMismatch, IoError, SerdeError, IntegrityError, OutOfMemory}}
 use Rattle.cacache_store.specs.declared.store.answer.Answer.TheVariants as answers
@@ -17,7 +17,7 @@ pub wants_until_over : (s : State) → wants s ≡ None → (reply : Reply) × (
 wants_until_over (over reply) e = (reply, refl)
 wants_until_over s e = absurd cc
 
--- an error without its message says out of memory only where the error does
+-- an error without its message says out of memory only if the error does
 pub memory_said : (e : Error) → Refused (without_message e) ≡ Refused OutOfMemory → e ≡ OutOfMemory
 memory_said (EntryNotFound cache key) said = absurd cc
 memory_said (SizeMismatch wanted actual) said = absurd cc

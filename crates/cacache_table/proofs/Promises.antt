@@ -42,7 +42,7 @@ refused_kept s e = tt
 -- ---- a promise that every refusal keeps
 
 module _ (P : Reply → Type 0) (refuses : (e : Error) → P (Refused e)) (r : Reply) where
-  -- what every reply of the state keeps, keeps the promise
+  -- a promise holds of each reply if every reply that the state allows keeps it
   abbrev pub Keeps : State → Type 0
   Keeps s = Promises s r → P r
 
@@ -89,7 +89,7 @@ module _ (r : Reply) where
       by_reply (Listed items) h = absurd cc
       by_reply Done h = absurd cc
 
-  -- the integrity is compared before the size, so it suits here
+  -- the integrity is compared before the size, so the reply fits here
   abbrev IntegritySuits : Commit → Type 0
   IntegritySuits c = (expected : List Hash) → c.options.integrity ≡ Some expected → matches expected c.computed ≡ true
 
@@ -268,7 +268,7 @@ module _ (r : Reply) where
 
   -- ---- all states
 
-  -- what follows from all that a state promises follows from all that is promised after its step
+  -- what follows from all promises of a state follows from all promises after its step
   module _ (G : Type 0) where
     abbrev Gives : State → Type 0
     Gives s = Promises s r → G
@@ -327,7 +327,7 @@ module _ (r : Reply) where
       walks = walks_give;
     }
 
-  -- what every reply after an answer keeps, every reply before it does
+  -- every reply before an answer keeps what every reply after it keeps
   pub kept_before : (s : State) (t : PlainAnswer) → Promises (after s t) r → Promises s r
   kept_before s t = kept_always (Gives (Promises s r)) (WalkGives (Promises s r)) AnyVisit (closed (Promises s r)) s t (λ p. p)
 

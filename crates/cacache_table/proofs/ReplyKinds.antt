@@ -1,4 +1,4 @@
--- Which kind of reply a call gives, by what it promises.
+-- Which kind of reply a call answers, from what it promises.
 use Rattle.std.{proofs.Common.{◌≡◌, ℕ, List, Result, Ok, Err}, specs.Prelude.{IfOk}}
 use Rattle.cacache_core.specs.declared.{errors.Error.{Error}, integrity.digest.Hash.{Hash}}
 use Rattle.cacache_table.specs.{declared.{reply.Reply.{Reply, TheVariants.{Stored, Read, LookedUp, Exists, Copied, Listed, Done, Refused}}, target.Target.{Target}}, Promises.{Only, OnlyStores, OnlyReads, ReadsMeeting, StoresIf, StoresSized}, Runs.{reply_of}}
@@ -14,7 +14,7 @@ stores_only i P (Listed items) h = absurd h
 stores_only i P Done h = absurd h
 stores_only i P (Refused e) h = tt
 
--- so does a link's
+-- the same for a link's reply
 pub sized_only : (t : Target ℕ) (r : Reply) → StoresSized t r → OnlyStores r
 sized_only t (Stored i) h = tt
 sized_only t (Read bytes) h = absurd h
@@ -25,7 +25,7 @@ sized_only t (Listed items) h = absurd h
 sized_only t Done h = absurd h
 sized_only t (Refused e) h = tt
 
--- so does one that is known
+-- the same for an integrity that is known
 pub known_only : (i : List Hash) (r : Reply) → Only (Stored i) r → OnlyStores r
 known_only i (Stored j) h = tt
 known_only i (Read bytes) h = absurd cc
@@ -52,7 +52,7 @@ pub stores_ok : (i : List Hash) (P : Type 0) (r : Result (List Hash) Error) → 
 stores_ok i P (Ok j) h = h.0
 stores_ok i P (Err e) h = tt
 
--- so it is where it is known
+-- the same if the integrity is known
 pub known_ok : (i : List Hash) (r : Result (List Hash) Error) → Only (Stored i) (reply_of Stored r) → IfOk r (λ j. j ≡ i)
 known_ok i (Ok j) h = cc
 known_ok i (Err e) h = tt

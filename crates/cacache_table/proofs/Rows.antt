@@ -1,4 +1,4 @@
--- The rows hold by computing.
+-- The rows hold by computation.
 use Rattle.std.proofs.{Common.{◌≡◌, ℕ, true, nat_le, refl}, lemmas.Bool.{le-leb}, Math.Nat.{le_refl}}
 use Rattle.cacache_table.specs.{StepPaths.{content_folders, bucket_folders}, Rows.{Rows}}
 

@@ -11,7 +11,7 @@ use Rattle.cacache_table.specs.declared.command.Command.TheVariants as commands
 use Rattle.cacache_table.specs.declared.command.Source.TheVariants as sources
 use Rattle.cacache_table.specs.declared.carried.Aim.TheVariants as aims
 
--- what follows from an equation of steps
+-- what follows from an equality of steps
 pub some_is : (P : PlainStep → Type 0) (a b : PlainStep) → Some a ≡ Some b → P a → P b
 some_is P a b e h = let same : a ≡ b = cc in subst P same h
 
@@ -48,7 +48,7 @@ module _ (site : Site) (apart outside : List ℕ → Bool) where
   places : (c : Commit) → SoundCommit site c → Is (placed c)
   places c h = by_integrity c c.options.integrity h
 
-  -- the temporary file that an answer gives
+  -- the temporary file that an answer returns
   made_temp : (p : List ℕ) (t : PlainAnswer) (file : PlainTemp) → Fits (steps.CreateTemp p) t → temp_in t ≡ Ok file → file.path ≡ p
   made_temp p (answers.Temp g) file fits e = let same : g ≡ file = cc in rw (← same) fits
   made_temp p t file fits e = absurd cc
@@ -84,7 +84,7 @@ module _ (site : Site) (apart outside : List ℕ → Bool) where
   reads_on h bytes left file [] s lt e = hashes h bytes s (omega arith)
   reads_on h bytes left file (b ∷ bs) s lt e = (s, omega (arith, length-append bytes (b ∷ bs)))
 
-  -- what a fitting answer says of the open file
+  -- what a fitting answer shows of the open file
   opened : (path : List ℕ) (t : PlainAnswer) (file : PlainFile) → Fits (steps.Open path) t → file_in t ≡ Ok file → file.left < 2 ^ 64
   opened path (answers.File g) file fits e = let same : g ≡ file = cc in rw (← same) fits
   opened path t file fits e = absurd cc
@@ -117,7 +117,7 @@ module _ (site : Site) (apart outside : List ℕ → Bool) where
   below_more p n proper h =
       (h.0 ++ n ∷ [], All-append IsProperName h.0 (n ∷ []) h.1 (All-cons IsProperName n [] proper (All-nil IsProperName)), ap (λ q. join q n) h.2 ∙ sym (joined_more site.cache h.0 n))
 
-  -- what a fitting answer says of the names
+  -- what a fitting answer shows of the names
   named : (p : List ℕ) (t : PlainAnswer) (names : List Name) → Fits (steps.ReadDir p) t → names_in t ≡ Ok names → AreProperNames names
   named p (answers.Names given) names fits e = let same : given ≡ names = cc in rw (← same) fits
   named p t names fits e = absurd cc

@@ -1,4 +1,4 @@
--- A value prints as UTF-8, in order and in range, since its parts do.
+-- A value prints as UTF-8, in order and in range, because its parts do.
 use Rattle.std.proofs.{Common.{◌≡◌, ℕ, pos, negsuc, List, [], ◌∷◌, Bool, true, false, refl, arith, string_bytes, String, Global, BTreeMap, string_cmp, Less, Vec, subst, sym, rules}, lemmas.{Bool.{or_parts}, Fmt.{IsAscii-decimal, IsAscii-signed}, Str.{IsUtf8-append, IsUtf8-from_ascii, IsUtf8-nil, IsUtf8-string_bytes}}}
 use Rattle.std.specs.{Prelude.{IsUtf8, decimal}, Fmt.{signed_decimal}, List.{AllByRecursion, Sorted.{IsStrictlySortedBy}}, Map.{keys_of}}
 use Rattle.json.{specs.Print.{quoted}, proofs.Printed.Utf8.{IsUtf8-are_ascii, IsUtf8-quoted}}

@@ -14,7 +14,7 @@ use Rattle.cacache_table.specs.declared.command.Command.TheVariants as commands
 use Rattle.cacache_table.specs.declared.command.Source.TheVariants as sources
 use Rattle.cacache_table.specs.declared.carried.Aim.TheVariants as aims
 
--- what is so for every reply but a refusal
+-- what holds for every reply except a refusal
 unless : (P : Type 0) (r : Reply) → (((e : Error) → r ≡ Refused e → ⊥) → P) → UnlessRefused P r
 unless P (Refused e) k = tt
 unless P (Stored i) k = k (λ e is. absurd cc)
@@ -58,7 +58,7 @@ module _ (r : Reply) (good : (e : Error) → r ≡ Refused e → ⊥) where
 
   -- ---- a file is read to its end
 
-  -- this is so of the bytes with which the call goes on
+  -- this holds of the bytes with which the call goes on
   module _ (h : Hashing) (P : List ℕ → Type 0) (so : (bytes : List ℕ) (moves : Moves) → Runs (hashed h bytes) moves r → P bytes) where
     abbrev Brings : PlainFile → List ℕ → Moves → Type 0
     Brings file bytes moves = (more : List ℕ) × Gives file more moves × P (bytes ++ more)

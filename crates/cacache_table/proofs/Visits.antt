@@ -11,7 +11,7 @@ each_append V [] ys h k = k
 each_append V (Make v ∷ xs) ys h k = (h.0, each_append V xs ys h.1 k)
 each_append V (Stumble fault path ∷ xs) ys h k = each_append V xs ys h k
 
--- nothing is asked of a visit
+-- a visit has no requirement
 abbrev pub AnyVisit : Visit → Type 0
 AnyVisit v = Unit {0}
 
@@ -23,7 +23,7 @@ any_visits (Stumble fault path ∷ todo) = any_visits todo
 -- ---- the tasks of a folder at this path and level
 
 module _ (V : Visit → Type 0) (level : ℕ) (p : List ℕ) where
-  -- what a walk may make of a name in the folder
+  -- the tasks that a walk may make of a name in the folder
   abbrev pub MayMeet : Bool → Name → Type 0
   MayMeet clears n = V (Enter (join p n.name) (level + 1)) × V (cond clears (RemoveFile (join p n.name)) (ReadBucket (join p n.name)))
 

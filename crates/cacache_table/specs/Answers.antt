@@ -1,4 +1,4 @@
--- What an answer says to a step of one kind: its value, or why the step was refused.
+-- What an answer to a step of one kind brings: its value, or why the step was refused.
 use Rattle.std.specs.Prelude.{ℕ, List, Result, Ok, Err, Bool}
 use Rattle.cacache_core.specs.declared.errors.Fault.TheVariants.{Device}
 use Rattle.cacache_store.specs.{declared.store.{plain.{PlainFile.{PlainFile}, PlainTemp.{PlainTemp}}, answer.Name.{Name}}, Plain.{PlainAnswer}}
@@ -11,7 +11,7 @@ refusal_in (answers.Failed fault) = Fault fault
 refusal_in (answers.NoMemory step) = Memory
 refusal_in answer = Fault Device
 
--- that the step is done, and no more
+-- only that the step is done
 abbrev pub done_in : PlainAnswer → Result (Unit {0}) Refusal
 done_in answers.Done = Ok tt
 done_in answer = Err (refusal_in answer)
@@ -46,7 +46,7 @@ abbrev pub file_in : PlainAnswer → Result PlainFile Refusal
 file_in (answers.File file) = Ok file
 file_in answer = Err (refusal_in answer)
 
--- an open file after a read, and the bytes that it gave
+-- an open file after a read, and the bytes that it returned
 abbrev pub got_in : PlainAnswer → Result (PlainFile × List ℕ) Refusal
 got_in (answers.Got file bytes) = Ok (file, bytes)
 got_in answer = Err (refusal_in answer)

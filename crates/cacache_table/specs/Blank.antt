@@ -1,10 +1,10 @@
--- Options of which nothing was said.
+-- Options that were left unset.
 use Rattle.std.specs.Prelude.{None, false}
 use Rattle.serde_json.specs.Data.{null}
 use Rattle.cacache_core.specs.declared.integrity.algorithm.Algorithm.{Algorithm}
 use Rattle.cacache_table.specs.declared.command.Options.{Options}
 
--- nothing but the algorithm
+-- only the algorithm is set
 abbrev pub blank : Algorithm → Options
 blank a = record {
   algorithm = a;

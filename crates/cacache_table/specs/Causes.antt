@@ -1,4 +1,4 @@
--- A call's `IoError` has a cause: one of its own steps failed so, was short or took nothing, or a
+-- A call's `IoError` has a cause: one of its own steps failed in that way, was short or took nothing, or a
 -- walk stumbled.
 use Rattle.std.specs.Prelude.{◌≡◌, ◌⊎◌, ◌<◌, [], ◌∷◌, Bool, true, false, length}
 use Rattle.cacache_core.specs.declared.errors.{Fault.{Fault}, Error.TheVariants.{IoError}}
@@ -8,7 +8,7 @@ use Rattle.cacache_store.specs.declared.store.step.Step.TheVariants as steps
 use Rattle.cacache_store.specs.Plain.{PlainStep, PlainAnswer}
 use Rattle.cacache_table.specs.{declared.{command.Command.{Command}, reply.Reply.{Reply, TheVariants.{Refused}}}, Licence.{licence}, State.{Site}, Table.{opening}, Runs.{Moves, Runs}}
 
--- the answer to the step says this fault
+-- the answer to the step has this fault
 abbrev pub Faults : PlainStep → PlainAnswer → Fault → Type 0
 Faults a (answers.Failed f) fault = fault ≡ f
 Faults (steps.Append path line) (answers.Took n) fault =
@@ -16,12 +16,12 @@ Faults (steps.Append path line) (answers.Took n) fault =
 Faults (steps.Write file bytes) (answers.Wrote g n) fault = (fault ≡ faults.WriteZero) × (n ≡ 0)
 Faults a t fault = ⊥
 
--- one of the moves says it
+-- one of the moves has it
 abbrev pub Faulted : Moves → Fault → Type 0
 Faulted [] fault = ⊥
 Faulted (m ∷ moves) fault = Faults m.0 m.1 fault ⊎ Faulted moves fault
 
--- an `IoError` has a fault of the call's own, or one of its steps'
+-- an `IoError` has a fault of the call's own, or one of its steps' faults
 abbrev pub HasCause : (Fault → Type 0) → Moves → Reply → Type 0
 HasCause own moves (Refused (IoError fault message)) = own fault ⊎ Faulted moves fault
 HasCause own moves r = Unit {0}
@@ -30,12 +30,12 @@ HasCause own moves r = Unit {0}
 abbrev pub OfWalk : Fault → Type 0
 OfWalk fault = (fault ≡ faults.TooDeep) ⊎ (fault ≡ faults.NotADirectory)
 
--- those of a call that lists folders; another one has none
+-- the faults of a call that lists folders; other calls have none
 abbrev pub OfListing : Bool → Fault → Type 0
 OfListing true fault = OfWalk fault
 OfListing false fault = ⊥
 
--- the faults that a command has beside those of its steps
+-- the faults that a command has besides those of its steps
 abbrev pub own_of : Command → Fault → Type 0
 own_of command fault = OfListing (licence command).lists fault
 

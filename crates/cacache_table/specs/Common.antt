@@ -1,4 +1,4 @@
--- Where an answer takes a call, in the words that all calls share. An error's message is left out.
+-- The state to which an answer takes a call, in the words that all calls share. An error's message is left out.
 use Rattle.std.specs.Prelude.{ℕ, List, [], ◌∷◌, Result, Ok, Err}
 use Rattle.cacache_core.specs.declared.errors.{Fault.{Fault}, Error.{Error, TheVariants.{IoError, OutOfMemory}}}
 use Rattle.cacache_store.specs.declared.store.step.Step.TheVariants as steps
@@ -19,7 +19,7 @@ abbrev pub refuse : Refusal → (Fault → State) → State
 refuse (refusals.Fault fault) failed = failed fault
 refuse refusals.Memory failed = ends_with OutOfMemory
 
--- what was answered goes to `next`
+-- the answer's value goes to `next`
 abbrev pub go_on : {X : Type 0} → Result X Refusal → (Fault → State) → (X → State) → State
 go_on (Ok x) failed next = next x
 go_on (Err refusal) failed next = refuse refusal failed
@@ -33,7 +33,7 @@ errand_step (hard_link from to) = steps.HardLink from to
 errand_step (sync_file path) = steps.SyncFile path
 errand_step (sync_dir path) = steps.SyncDir path
 
--- folders that lead down from the cache's own are synced from the last one up
+-- the folders that lead down from the cache's own are synced from the last one up
 abbrev pub sync_up : List (List ℕ) → State → State
 sync_up [] s = s
 sync_up (folder ∷ deeper) s = sync_up deeper (doing (sync_dir folder) s)

@@ -73,18 +73,18 @@ abbrev pub TookAll : List ℕ → PlainAnswer → Type 0
 TookAll line (answers.Took n) = length line ≤ n
 TookAll line t = ⊥
 
--- an append that isn't known to have taken the whole line is refused
+-- an append that may not have taken the whole line is refused
 abbrev pub Sends : List ℕ → List ℕ → List Effect → Reply → Type 0
 Sends path line effects r =
     (t : PlainAnswer) × (effects ≡ sent path line t ∷ []) × (IsRefused r ⊎ TookAll line t)
 
--- an insertion whose entry can be written sends its line, or is refused before
+-- an insertion with an entry that can be written sends its line, or is refused before that
 abbrev pub Inserts : Insertion → List Effect → Reply → Type 0
 Inserts i effects r =
     DoesNothing effects r
     ⊎ ((refused_cause i ≡ None) × Sends (bucket_path i.cache i.entry.key) (bucket_line i) effects r)
 
--- once the content is there: with a key the entry follows; where it doesn't, the commit is refused
+-- once the content is there: with a key the entry follows; if it doesn't, the commit is refused
 abbrev pub Indexes : Commit → Option (List ℕ) → List Effect → Reply → Type 0
 Indexes c None effects r = effects ≡ []
 Indexes c (Some key) effects r = Inserts (insertion_of c key) effects r
@@ -96,7 +96,7 @@ Commits c effects r =
     ⊎ ((more : List Effect)
     × (effects ≡ stored (content_path c.cache c.computed) ∷ more) × Indexes c c.key more r)
 
--- a link's commit is that of the bytes that were read
+-- a link's commit is the commit of the bytes that were read
 abbrev pub Links : Target ℕ → List Effect → Reply → Type 0
 Links t effects r =
     DoesNothing effects r

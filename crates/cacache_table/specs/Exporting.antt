@@ -23,7 +23,7 @@ verified k e bytes =
     if meets k.integrity bytes then export_content k e (Some (length bytes))
     else ends_with (IntegrityError (Check k.integrity (actual k.integrity bytes)))
 
--- a copy answers the count that was verified, and else its own
+-- a copy answers the count that was verified; without one, its own
 abbrev pub copied_count : Option ℕ → ℕ → ℕ
 copied_count None n = n
 copied_count (Some verified) n = verified

@@ -18,7 +18,7 @@ FormsEntries key moment o =
 abbrev pub FormsCommit : Commit → Type 0
 FormsCommit c = (key : List ℕ) → c.key ≡ Some key → FormedIfWritten (insertion_of c key)
 
--- each entry that a call of the command may add at this site; a link's whatever is read from its target
+-- each entry that a call of the command may add at this site; for a link, whatever is read from its target
 abbrev pub FormsCommand : Site → Command → Type 0
 FormsCommand site (commands.Put p) = FormsCommit (put_commit site.cache p)
 FormsCommand site (commands.Link l) =

@@ -6,11 +6,11 @@ use Rattle.cacache_core.specs.{declared.{errors.{SerdeCause.{SerdeCause}, Error.
 use Rattle.cacache_entry.specs.{Entry.{Entry, closed_line}, FittingEntries.{cause_of}}
 use Rattle.cacache_table.specs.{declared.{command.{Options.{Options}, Insert.{Insert}, Delete.{Delete}}, reply.Reply.TheVariants.{Stored, Done}}, StepPaths.{bucket_path, bucket_folder, bucket_folders}, State.{State, doing, appending, over, Insertion, make_folder, sync_file}, Common.{ends_with, fails, sync_up}}
 
--- the line that is appended; a durable one is closed
+-- the line that is appended; the line of a durable insertion is closed
 unfoldable pub bucket_line : Insertion → List ℕ
 bucket_line i = closed_line i.durable i.entry
 
--- why the entry can't be written, if so
+-- why the entry can't be written, if it can't
 unfoldable pub refused_cause : Insertion → Option SerdeCause
 refused_cause i = cause_of i.entry
 
@@ -19,7 +19,7 @@ abbrev pub unless_refused : Insertion → Option SerdeCause → State
 unless_refused i None = doing (make_folder (bucket_folder i.cache i.entry.key)) (appending i)
 unless_refused i (Some cause) = ends_with (SerdeError cause [])
 
--- where an insertion begins
+-- the first state of an insertion
 abbrev pub insert : Insertion → State
 insert i = unless_refused i (refused_cause i)
 
@@ -35,7 +35,7 @@ abbrev pub after_append : Insertion → ℕ → State
 after_append i n =
     if nat_le (length (bucket_line i)) n then recorded i else fails faults.ShortAppend
 
--- ---- where the calls begin
+-- ---- the first states of the calls
 
 -- the entry that these options describe
 abbrev pub entry_of : List ℕ → Option (List ℕ) → ℕ → ℕ → Options → Entry
@@ -62,12 +62,12 @@ abbrev pub given_text : Option (List Hash) → Option (List ℕ)
 given_text None = None
 given_text (Some i) = Some (integrity_text i)
 
--- the size that was given, and else 0
+-- the size that was given, or 0
 abbrev pub given_size : Option ℕ → ℕ
 given_size None = 0
 given_size (Some n) = n
 
--- an insertion by its options; without an integrity it is a tombstone
+-- an insertion from its options; without an integrity it is a tombstone
 abbrev pub insertion : List ℕ → Insert → Insertion
 insertion cache i =
     let o = i.options in

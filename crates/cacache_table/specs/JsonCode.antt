@@ -1,4 +1,4 @@
--- How the logic stores JSON data: as a tree of numbers that gives the data back.
+-- How the logic stores JSON data: as a tree of numbers from which the data can be restored.
 use Rattle.std.specs.{Prelude.{◌≡◌, ◌⊎◌, ℕ, ℤ, List, refl}, Float.{Float}, Coded.{Coded, code_by, coded⊎, coded_ℕ, coded_ℤ, coded_bool, coded_list}}
 use Rattle.std.proofs.Common.{inl, inr, ap, sym, subst}
 use base.Stored.{coded_float, Gv, gnil, gnum, gcons}

@@ -1,9 +1,9 @@
--- What each JSON value keeps, number by number, item by item and member by member.
+-- What holds of each JSON value, number by number, item by item and member by member.
 use Rattle.std.specs.Prelude.{◌<◌, ◌^◌, pos, negsuc, IsUtf8}
 use Rattle.serde_json.specs.Data.{Num, unsigned, negative, float, Items, no_items, item, Members, no_members, member}
 use Rattle.cacache_entry.specs.FittingEntries.{IsJson}
 
--- a number that isn't negative has 64 bits, one that is is below zero and has 64 bits
+-- a number that isn't negative has 64 bits; a negative one is below zero and has 64 bits
 abbrev pub IsRanged : Num → Type 0
 IsRanged (unsigned n) = n < 2 ^ 64
 IsRanged (negative (pos n)) = ⊥

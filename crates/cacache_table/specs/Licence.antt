@@ -7,7 +7,7 @@ use Rattle.cacache_table.specs.declared.command.Command.TheVariants as commands
 
 -- ---- what may be done
 
--- the kinds of steps that a call may make; to read a file, or to ask for one, is always allowed
+-- the kinds of steps that a call may make; reading a file, or asking for one, is always allowed
 pub record Licence : Type 0 where
   -- makes folders, and syncs files and folders
   pub prepares : Bool
@@ -19,7 +19,7 @@ pub record Licence : Type 0 where
   pub inserts : Bool
   -- lists folders
   pub lists : Bool
-  -- gives a content a second place
+  -- copies a content to a second place
   pub exports : Bool
   -- removes files and folders
   pub removes : Bool
@@ -54,7 +54,7 @@ allows l (steps.SyncDir p) = l.prepares
 
 -- ---- licences
 
--- nothing but to read files, and to ask for them
+-- only reading files, and asking for them
 abbrev pub looking_up : Licence
 looking_up = record {
   prepares = false;
@@ -94,7 +94,7 @@ licence (commands.RemoveHash i) = record looking_up { removes = true }
 licence (commands.RemoveFully key) = record looking_up { removes = true }
 licence commands.Clear = record looking_up { lists = true; removes = true }
 
--- what the first may, the second may, and the rest holds
+-- if the first allows it, the second does, and the rest holds
 abbrev pub as_far : Bool → Bool → Bool → Bool
 as_far a b rest = if a then (if b then rest else false) else rest
 

@@ -9,7 +9,7 @@ abbrev pub based : List ℕ → List ℕ → List ℕ
 based base [] = join base []
 based base (c ∷ cs) = if c == 47 then c ∷ cs else join base (c ∷ cs)
 
--- a file that is to be linked to, at this base folder
+-- a file to link to, at this base folder
 abbrev pub linked_to :
     {M : Type 0} → List ℕ → List ℕ → Option (List ℕ) → List ℕ → M → Options → Target M
 linked_to base cache key target moment options = record {
@@ -20,7 +20,7 @@ linked_to base cache key target moment options = record {
   options = options;
 }
 
--- the same target at this moment
+-- the same target at this time
 abbrev pub target_at : {M : Type 0} → Target M → ℕ → Target ℕ
 target_at t moment = record {
   cache = t.cache;
@@ -34,7 +34,7 @@ target_at t moment = record {
 abbrev pub link_target : Site → Link → Target ℕ
 link_target site l = linked_to site.base site.cache l.key l.target l.moment l.options
 
--- the size that a target has is the one that its link is to have
+-- the link is to have the size that the target has
 abbrev pub with_size : {M : Type 0} → Target M → ℕ → Target M
 with_size t n = record t { options = record t.options { size = Some n } }
 
@@ -42,7 +42,7 @@ with_size t n = record t { options = record t.options { size = Some n } }
 abbrev pub after_size : Target ℕ → ℕ → State
 after_size t n = opening_file (to_link (with_size t n))
 
--- of all bytes that have this integrity under the algorithm and are so many
+-- holds of all bytes that have this integrity under the algorithm and this length
 abbrev pub OnceRead : Algorithm → List Hash → ℕ → (List ℕ → Type 0) → Type 0
 OnceRead algorithm computed count Goal = (bytes : List ℕ)
     → computed ≡ integrity_under algorithm bytes → count ≡ length bytes → Goal bytes
@@ -58,7 +58,7 @@ commit_for t bytes = record {
   options = record t.options { durable = false };
 }
 
--- ---- a file that is read to its end, to be verified or to be linked to
+-- ---- a file that is read to its end, to verify it or to link to it
 
 -- the path of the file that is read
 abbrev pub hashed_path : Hashing → List ℕ

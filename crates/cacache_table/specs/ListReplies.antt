@@ -1,4 +1,4 @@
--- What a listing answers, by what its own steps were shown.
+-- What a listing answers, from what its own steps were shown.
 use Rattle.std.specs.Prelude.{◌≡◌, ◌⊎◌, ◌↔◌, ◌<◌, ℕ, List, [], ◌∷◌, ◌++◌, Result, Ok, Err, length, map}
 use Rattle.cacache_core.specs.declared.errors.Fault.TheVariants as faults
 use Rattle.cacache_core.specs.declared.errors.Error.TheVariants.{OutOfMemory}
@@ -9,52 +9,52 @@ use Rattle.cacache_table.specs.{declared.{answers.Refusal.{Refusal}, reply.Reply
 use Rattle.cacache_table.specs.declared.answers.Refusal.TheVariants as refusals
 use Rattle.cacache_table.specs.declared.command.Command.TheVariants as commands
 
--- ---- what the steps gave
+-- ---- what the steps returned
 
--- a bucket gives its lookups, and none where it isn't there
+-- a bucket adds its lookups; a bucket that isn't there adds none
 abbrev pub by_bucket : Result (List ℕ) Refusal → List Item
 by_bucket (Ok bytes) = items_in bytes
 by_bucket (Err (refusals.Fault faults.NotFound)) = []
 by_bucket (Err (refusals.Fault fault)) = failed fault ∷ []
 by_bucket (Err refusals.Memory) = []
 
--- a folder that can't be read gives why
+-- a folder that can't be read adds the reason
 abbrev pub by_folder : Result (List Name) Refusal → List Item
 by_folder (Ok names) = []
 by_folder (Err (refusals.Fault fault)) = failed fault ∷ []
 by_folder (Err refusals.Memory) = []
 
--- the items that one step gives
+-- the items that one step adds
 abbrev pub given_by : PlainStep → PlainAnswer → List Item
 given_by (steps.ReadAll path) t = by_bucket (bytes_in t)
 given_by (steps.ReadDir path) t = by_folder (names_in t)
 given_by step t = []
 
--- the items that all steps give, in order
+-- the items that all steps add, in order
 abbrev pub items_given : Moves → List Item
 items_given [] = []
 items_given (m ∷ moves) = given_by m.0 m.1 ++ items_given moves
 
 -- ---- what is listed
 
--- a folder that lies too deep, or too many names
+-- a folder that is too deep, or too many names
 abbrev pub too_deep : Item
 too_deep = failed faults.TooDeep
 
--- the first list is the second, with errors of what lies too deep among its items
+-- the first list is the second, with errors of what is too deep among its items
 abbrev pub AddsTooDeep : List Item → List Item → Type 0
 AddsTooDeep [] ys = ys ≡ []
 AddsTooDeep (x ∷ xs) ys =
     ((x ≡ too_deep) × AddsTooDeep xs ys)
     ⊎ ((rest : List Item) × (ys ≡ x ∷ rest) × AddsTooDeep xs rest)
 
--- a listing that isn't past the most items answers what its steps gave; out of memory alone refuses it
+-- a listing within the most items answers what its steps returned; only out of memory refuses it
 abbrev pub ListsGiven : List Item → Reply → Type 0
 ListsGiven items (Listed list) = (most < length list) ⊎ AddsTooDeep list items
 ListsGiven items (Refused e) = e ≡ OutOfMemory
 ListsGiven items r = ⊥
 
--- so it is of every listing, by its own steps
+-- this holds of every listing, from its own steps
 abbrev pub ListsShown : Type 0
 ListsShown =
     (site : Site) (moves : Moves) (r : Reply)

@@ -1,4 +1,4 @@
--- Lookups of keys: what the found entry is wanted for.
+-- Lookups of keys: what the found entry is needed for.
 use Rattle.std.specs.Prelude.{ℕ, List, Option, None, Some}
 use Rattle.cacache_core.specs.declared.errors.{Fault.{Fault}, Error.TheVariants.{EntryNotFound}}
 use Rattle.cacache_core.specs.declared.errors.Fault.TheVariants as faults
@@ -14,7 +14,7 @@ found_in key bytes = latest key (entries_of bytes)
 abbrev pub found_content : Lookup → Found → Content
 found_content l f = record { cache = l.cache; integrity = f.integrity }
 
--- what the lookup is for; only a report and a removal go on where nothing was found
+-- the purpose of the lookup; only a report and a removal go on if nothing was found
 abbrev pub found_for : Lookup → Aim → Option Found → State
 found_for l aims.Report found = over (LookedUp found)
 found_for l aims.Remove found = remove_found l.cache l.key found

@@ -6,76 +6,76 @@ use Rattle.cacache_table.specs.declared.command.Command.TheVariants as commands
 use Rattle.cacache_table.specs.declared.command.Source.TheVariants as sources
 use Rattle.cacache_table.specs.declared.carried.Aim.TheVariants as aims
 
--- ---- of a reply: which kind it may have
+-- ---- which kind a reply may have
 
--- nothing but this reply
+-- only this reply
 abbrev pub Only : Reply → Reply → Type 0
 Only reply (Refused e) = Unit {0}
 Only reply r = r ≡ reply
 
--- nothing but an integrity that is stored
+-- only an integrity that is stored
 abbrev pub OnlyStores : Reply → Type 0
 OnlyStores (Stored i) = Unit {0}
 OnlyStores (Refused e) = Unit {0}
 OnlyStores r = ⊥
 
--- nothing but bytes that were read
+-- only bytes that were read
 abbrev pub OnlyReads : Reply → Type 0
 OnlyReads (Read bytes) = Unit {0}
 OnlyReads (Refused e) = Unit {0}
 OnlyReads r = ⊥
 
--- nothing but what a lookup found
+-- only what a lookup found
 abbrev pub OnlyLooksUp : Reply → Type 0
 OnlyLooksUp (LookedUp found) = Unit {0}
 OnlyLooksUp (Refused e) = Unit {0}
 OnlyLooksUp r = ⊥
 
--- nothing but whether a content is there
+-- only whether a content is there
 abbrev pub OnlyExists : Reply → Type 0
 OnlyExists (Exists there) = Unit {0}
 OnlyExists (Refused e) = Unit {0}
 OnlyExists r = ⊥
 
--- nothing but how many bytes were copied
+-- only how many bytes were copied
 abbrev pub OnlyCopies : Reply → Type 0
 OnlyCopies (Copied n) = Unit {0}
 OnlyCopies (Refused e) = Unit {0}
 OnlyCopies r = ⊥
 
--- nothing but the items of a listing
+-- only the items of a listing
 abbrev pub OnlyLists : Reply → Type 0
 OnlyLists (Listed items) = Unit {0}
 OnlyLists (Refused e) = Unit {0}
 OnlyLists r = ⊥
 
--- ---- of a reply: what it may say
+-- ---- what a reply may say
 
--- no bytes but such as meet the integrity
+-- only bytes that meet the integrity
 abbrev pub ReadsMeeting : List Hash → Reply → Type 0
 ReadsMeeting i (Read bytes) = Meets i bytes
 ReadsMeeting i (Refused e) = Unit {0}
 ReadsMeeting i r = ⊥
 
--- what a commit answers: with a key the expected integrity, if there is one, and else the computed one
+-- what a commit answers: with a key the expected integrity, if there is one; otherwise the computed one
 abbrev pub answered : List Hash → Option (List Hash) → Option (List ℕ) → List Hash
 answered computed expected None = computed
 answered computed expected (Some key) = given_or computed expected
 
--- what was said of the content holds
+-- the expectations of the content hold
 pub record Suits (c : Commit) : Type 0 where
   pub integrity :
       (expected : List Hash) → c.options.integrity ≡ Some expected
       → matches expected c.computed ≡ true
   pub size : (wanted : ℕ) → c.options.size ≡ Some wanted → wanted ≡ c.count
 
--- no integrity but this one, and it only where P holds
+-- only this integrity, and only if P holds
 abbrev pub StoresIf : List Hash → Type 0 → Reply → Type 0
 StoresIf j P (Stored i) = (i ≡ j) × P
 StoresIf j P (Refused e) = Unit {0}
 StoresIf j P r = ⊥
 
--- the integrity that a commit answers, if what was said of its content holds
+-- the integrity that a commit answers, if the expectations of its content hold
 abbrev pub Stores : Commit → Reply → Type 0
 Stores c = StoresIf (answered c.computed c.options.integrity c.key) (Suits c)
 
@@ -85,13 +85,13 @@ StoresRead t bytes (Stored i) = (more : List ℕ) × Stores (commit_for t (bytes
 StoresRead t bytes (Refused e) = Unit {0}
 StoresRead t bytes r = ⊥
 
--- a link's size is the one that the target had
+-- a link's size is the size that the target had
 abbrev pub StoresSized : Target ℕ → Reply → Type 0
 StoresSized t (Stored i) = (n : ℕ) × StoresRead (with_size t n) [] (Stored i)
 StoresSized t (Refused e) = Unit {0}
 StoresSized t r = ⊥
 
--- a copy answers a count, any other export that it is done
+-- a copy answers a count; any other export answers that it is done
 abbrev pub Exports : How → Reply → Type 0
 Exports Copy r = OnlyCopies r
 Exports Reflink r = Only Done r
@@ -110,21 +110,21 @@ MadeOf i bytes (Copied n) =
 MadeOf i bytes Done = (more : List ℕ) × Meets i (bytes ++ more)
 MadeOf i bytes r = Unit {0}
 
--- ---- of a state
+-- ---- states
 
--- what a lookup promises of the reply, by what it is for
+-- what a lookup promises of the reply, by its purpose
 abbrev pub Aims : Aim → Reply → Type 0
 Aims aims.Report r = OnlyLooksUp r
 Aims aims.Read r = OnlyReads r
 Aims (aims.Export e) r = Exports e.how r
 Aims aims.Remove r = Only Done r
 
--- what a read to a file's end promises of the reply, by what it is for
+-- what a read to a file's end promises of the reply, by its purpose
 abbrev pub Hashes : Hashing → List ℕ → Reply → Type 0
 Hashes (to_verify k e) bytes r = Exports e.how r × MadeOf k.integrity bytes r
 Hashes (to_link t) bytes r = StoresRead t bytes r
 
--- a clearing answers that it is done, a listing its items
+-- a clearing answers that it is done; a listing answers its items
 abbrev pub Walks : Bool → Reply → Type 0
 Walks true r = Only Done r
 Walks false r = OnlyLists r
@@ -149,7 +149,7 @@ Promises (copying from to verified) r = Copies verified r
 Promises (walking w v todo) r = Walks w.clears r
 Promises (over reply) r = Only reply r
 
--- ---- of a call
+-- ---- calls
 
 -- what a command at this site promises of its reply
 abbrev pub Answers : Site → Command → Reply → Type 0

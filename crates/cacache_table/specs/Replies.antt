@@ -1,4 +1,4 @@
--- What lookups, reads and questions answer, by what their own steps were shown.
+-- What lookups, reads and questions answer, from what their own steps were shown.
 use Rattle.std.specs.Prelude.{◌≡◌, ◌⊎◌, ℕ, List, [], ◌∷◌, Option, None, Some, option_map, Result, Ok, Err, Bool, false, if◌then◌else◌}
 use Rattle.cacache_core.specs.declared.errors.Fault.TheVariants as faults
 use Rattle.cacache_core.specs.{declared.{errors.{IntegrityFault.TheVariants.{Check}, Error.TheVariants.{EntryNotFound, IoError, IntegrityError, OutOfMemory}}, integrity.digest.Hash.{Hash}}, Integrity.{Meets, actual}, Meeting.{meets}}
@@ -17,35 +17,35 @@ entries_shown (Ok bytes) = Ok (entries_of bytes)
 entries_shown (Err (refusals.Fault faults.NotFound)) = Ok []
 entries_shown (Err refusal) = Err refusal
 
--- the entries that an answer shows of a bucket
+-- the entries of a bucket that an answer shows
 abbrev pub bucket_shown : PlainAnswer → Result (List Entry) Refusal
 bucket_shown t = entries_shown (bytes_in t)
 
--- ---- what is answered by it
+-- ---- what is answered from it
 
 -- the reply to a refused step
 abbrev pub refusal_reply : Refusal → Reply
 refusal_reply (refusals.Fault fault) = Refused (IoError fault [])
 refusal_reply refusals.Memory = Refused OutOfMemory
 
--- what a lookup of the key answers, by the key's bucket
+-- what a lookup of the key answers, from the key's bucket
 abbrev pub find_reply : List ℕ → Result (List Entry) Refusal → Reply
 find_reply key (Ok entries) = LookedUp (latest key entries)
 find_reply key (Err refusal) = refusal_reply refusal
 
--- bytes are answered where they meet the integrity
+-- bytes are answered if they meet the integrity
 abbrev pub content_reply : List Hash → Result (List ℕ) Refusal → Reply
 content_reply i (Ok bytes) =
     if meets i bytes then Read bytes else Refused (IntegrityError (Check i (actual i bytes)))
 content_reply i (Err refusal) = refusal_reply refusal
 
--- after a failed step too, nothing is there
+-- after a failed step too, the content counts as missing
 abbrev pub there_reply : Result Bool Refusal → Reply
 there_reply (Ok there) = Exists there
 there_reply (Err (refusals.Fault fault)) = Exists false
 there_reply (Err refusals.Memory) = Refused OutOfMemory
 
--- ---- values, as the replies that they are answered as
+-- ---- values, as replies
 
 -- nothing
 abbrev pub done : Unit {0} → Reply
@@ -55,13 +55,13 @@ done u = Done
 abbrev pub looked_up : Option Metadata → Reply
 looked_up found = LookedUp (option_map found_view found)
 
--- ---- of runs
+-- ---- runs
 
--- the one step, with an answer that gives the reply
+-- the one step, with an answer that leads to the reply
 abbrev pub OneStep : PlainStep → (PlainAnswer → Reply) → Moves → Reply → Type 0
 OneStep step reply moves r = (t : PlainAnswer) × (moves ≡ (step, t) ∷ []) × (r ≡ reply t)
 
--- the one step was made, and its answer or a refusal for memory gives the reply; or memory was refused before it
+-- the one step was made, and its answer or a refusal for memory leads to the reply; or memory was refused before it
 abbrev pub OneRun : PlainStep → (PlainAnswer → Reply) → Moves → Reply → Type 0
 OneRun step reply moves r =
     ((moves ≡ []) × (r ≡ Refused OutOfMemory))
@@ -110,40 +110,40 @@ OrMemory X r = (r ≡ Refused OutOfMemory) ⊎ X
 
 -- ---- laws
 
--- unless memory was refused, a lookup answers by its read of the key's bucket
+-- unless memory was refused, a lookup answers from its read of the key's bucket
 abbrev pub FindsShown : Type 0
 FindsShown =
     (site : Site) (key : List ℕ) (moves : Moves) (r : Reply)
     → Runs (opening site (commands.Find key)) moves r
     → OrMemory (ReadsBucketOnce site.cache key moves r) r
 
--- so does a read by key, by its lookup and its read of the content
+-- so does a read by key, from its lookup and its read of the content
 abbrev pub GetsShown : Type 0
 GetsShown =
     (site : Site) (key : List ℕ) (moves : Moves) (r : Reply)
     → Runs (opening site (commands.Get key)) moves r
     → OrMemory (ReadsByKey site.cache key moves r) r
 
--- so does a read by integrity, by its read of the content
+-- so does a read by integrity, from its read of the content
 abbrev pub ReadsShown : Type 0
 ReadsShown =
     (site : Site) (i : List Hash) (moves : Moves) (r : Reply)
     → Runs (opening site (commands.GetHash i)) moves r
     → OrMemory (ReadsContentOnce site.cache i moves r) r
 
--- so does a question, by what the store says of the content
+-- so does a question, from what the store says of the content
 abbrev pub ExistsShown : Type 0
 ExistsShown =
     (site : Site) (i : List Hash) (moves : Moves) (r : Reply)
     → Runs (opening site (commands.Exists i)) moves r
     → OrMemory (AsksContentOnce site.cache i moves r) r
 
--- the lookup in what was read of the bucket gives an integrity that the bytes meet
+-- the lookup in the bucket as it was read finds an integrity that the bytes meet
 abbrev pub MeetsFound : List ℕ → PlainAnswer → List ℕ → Type 0
 MeetsFound key t bytes =
     (found : Found) × (lookup key (bucket_shown t) ≡ Ok (Some found)) × Meets found.integrity bytes
 
--- a read by key answers bytes that meet the integrity which its own read of the bucket gives
+-- a read by key answers bytes that meet the integrity that its own read of the bucket found
 abbrev pub GetsMeet : Type 0
 GetsMeet =
     (site : Site) (key : List ℕ) (moves : Moves) (bytes : List ℕ)

@@ -1,4 +1,4 @@
--- How many steps calls take, on answers that a store would give.
+-- How many steps calls take, on answers that a store would return.
 use Rattle.std.specs.Prelude.{◌≡◌, ℕ, zero, suc, List, [], ◌∷◌, Option, None, Some, Ok, true, false, codes, length}
 use Rattle.serde_json.specs.Data.{null}
 use Rattle.cacache_core.specs.declared.errors.Fault.TheVariants as faults
@@ -10,23 +10,23 @@ use Rattle.cacache_table.specs.{declared.{command.{Options.{Options}, Put.{Put},
 use Rattle.cacache_table.specs.declared.command.Command.TheVariants as commands
 use Rattle.cacache_table.specs.declared.command.Source.TheVariants as sources
 
--- nothing where the call wanted no step
+-- nothing, if the call had no next step
 abbrev pub played : Option PlainStep → Option State → Option State
 played None s = None
 played (Some step) s = s
 
--- the state after just so many steps
+-- the state after exactly this many steps
 abbrev pub plays : State → List PlainAnswer → Option State
 plays s [] = Some s
 plays s (t ∷ ts) = played (wants s) (plays (after s t) ts)
 
--- after just so many steps the call answers this
+-- after exactly this many steps the call answers this
 abbrev pub Replies : Site → Command → List PlainAnswer → Reply → Type 0
 Replies site command ts r = plays (opening site command) ts ≡ Some (over r)
 
 -- ---- the calls of the rows
 
--- the digest is a SHA-256, and nothing is said of the content
+-- the digest is a SHA-256, and nothing is expected of the content
 abbrev pub no_options : Options
 no_options = record {
   algorithm = Sha256;
@@ -41,7 +41,7 @@ no_options = record {
 abbrev pub put_of : Option (List ℕ) → ℕ → Put
 put_of key b = record { key = key; «data» = b ∷ []; moment = 0; options = no_options }
 
--- the same in a durable way
+-- the same, durably
 abbrev pub durable_put_of : Option (List ℕ) → ℕ → Put
 durable_put_of key b = record (put_of key b) { options = record no_options { durable = true } }
 
@@ -80,7 +80,7 @@ abbrev pub stored : PlainTemp → PlainTemp → List PlainAnswer → List PlainA
 stored t u later =
     answers.Done ∷ answers.Temp t ∷ answers.Wrote u 1 ∷ answers.Done ∷ answers.Done ∷ later
 
--- so many steps with this answer
+-- this many steps with this answer
 abbrev pub times : ℕ → PlainAnswer → List PlainAnswer → List PlainAnswer
 times zero t later = later
 times (suc n) t later = t ∷ times n t later
@@ -141,7 +141,7 @@ GetRow =
     → found_in key bucket ≡ Some f → meets f.integrity bytes ≡ true
     → Replies site (commands.Get key) (answers.Bytes bucket ∷ answers.Bytes bytes ∷ []) (Read bytes)
 
--- a question takes one, also where it fails
+-- a question takes one, even if it fails
 abbrev pub ExistsRow : Type 0
 ExistsRow =
     (site : Site) (i : List Hash)
@@ -179,7 +179,7 @@ KeyedLinkRow =
     → Replies site (commands.Link (link_of (Some key) target))
     (read_target b (answers.Done ∷ appended i)) (Stored (integrity_under Sha256 (b ∷ [])))
 
--- and where the link stands already, one more
+-- and if the link is there already, one more
 abbrev pub SecondLinkRow : Type 0
 SecondLinkRow =
     (site : Site) (key target : List ℕ) (b : ℕ)
@@ -242,7 +242,7 @@ DeepRow =
 
 -- ---- all of them
 
--- each call of the rows takes so many steps
+-- each call of the rows takes this many steps
 pub record Rows : Type 0 where
   pub put : PutRow
   pub keyed_put : KeyedPutRow

@@ -9,7 +9,7 @@ use Rattle.cacache_table.specs.{declared.{reply.Reply.{Reply, TheVariants.{Liste
 abbrev pub Moves : Type 0
 Moves = List (PlainStep × PlainAnswer)
 
--- The moves are a run from this state with this reply: each step is the one that the call wants, and
+-- The moves are a run from this state with this reply: each step is the next one of the call, and
 -- any fitting answer takes it on. A run may end out of memory before its first step or after any.
 abbrev pub Runs : State → Moves → Reply → Type 0
 Runs s [] r = (s ≡ over r) ⊎ (r ≡ Refused OutOfMemory)
@@ -20,7 +20,7 @@ abbrev pub Goes : State → Moves → State → Type 0
 Goes s [] t = s ≡ t
 Goes s (m ∷ moves) t = (wants s ≡ Some m.0) × Fits m.0 m.1 × Goes (after s m.1) moves t
 
--- a log that is kept gains just these moves
+-- if a log is kept, it gains exactly these moves
 abbrev pub Gains : Option (List LogItem) → Option (List LogItem) → Moves → Type 0
 Gains old new moves = new ≡ option_map (λ log. log ++ map (λ m. Made m.0 m.1) moves) old
 
@@ -32,7 +32,7 @@ Ran s r old new = (moves : Moves) × Runs s moves r × Gains old new moves
 abbrev pub Gone : State → State → Option (List LogItem) → Option (List LogItem) → Type 0
 Gone s t old new = (moves : Moves) × Goes s moves t × Gains old new moves
 
--- ---- replies without messages, of which no contract speaks
+-- ---- replies without messages; no contract says anything about messages
 
 -- an error without its message, if it has one
 abbrev pub without_message : Error → Error
@@ -51,25 +51,25 @@ plain_reply (Listed items) = Listed (map plain_item items)
 plain_reply (Refused error) = Refused (without_message error)
 plain_reply reply = reply
 
--- a result as the reply that it stands for, by what its value is answered as
+-- a result as the reply that it stands for, from the reply to its value
 abbrev pub reply_of : {X : Type 0} → (X → Reply) → Result X Error → Reply
 reply_of answer (Ok x) = answer x
 reply_of answer (Err error) = Refused (without_message error)
 
--- the call is over with this error, or out of memory ended it
+-- the call is over with this error, or it ended out of memory
 abbrev pub EndsAs : Error → State → Type 0
 EndsAs e s = (s ≡ ends_with (without_message e)) ⊎ (e ≡ OutOfMemory)
 
--- ---- a bound on the steps that are still to come
+-- ---- a bound on the steps that are left
 
--- a folder is entered, and perhaps removed; each name in it is one task more
+-- a folder is entered, and perhaps removed; each name in it is one more task
 abbrev pub weight : Visit → ℕ
 weight (Enter p level) = 2
 weight (ReadBucket p) = 1
 weight (RemoveFile p) = 1
 weight (RemoveFolder p) = 1
 
--- the weights of all tasks together; what a walk stumbles over has none
+-- the weights of all tasks together; a task that the walk stumbles over has none
 abbrev pub weights : List Task → ℕ
 weights [] = 0
 weights (Make v ∷ todo) = weight v + weights todo
@@ -97,7 +97,7 @@ effort (over reply) = 0
 
 -- ---- laws
 
--- a state that wants no step is over
+-- a state without a next step is over
 abbrev pub WantsUntilOver : Type 0
 WantsUntilOver = (s : State) → wants s ≡ None → (reply : Reply) × (s ≡ over reply)
 

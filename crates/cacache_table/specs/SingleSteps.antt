@@ -9,7 +9,7 @@ use Rattle.cacache_table.specs.Runs.{Gains}
 abbrev pub Does : PlainStep → PlainAnswer → Option (List LogItem) → Option (List LogItem) → Type 0
 Does step answer old new = Gains old new ((step, answer) ∷ [])
 
--- the step failed so, or memory was refused before it or after
+-- the step failed with this fault, or memory was refused before it or after it
 abbrev pub FailsAt : PlainStep → Error → Option (List LogItem) → Option (List LogItem) → Type 0
 FailsAt step (IoError fault message) old new = Does step (answers.Failed fault) old new
 FailsAt step OutOfMemory old new =

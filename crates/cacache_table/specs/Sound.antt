@@ -1,4 +1,4 @@
--- Which states the calls at a site stand in, and which steps they may make there.
+-- Which states the calls at a site are in, and which steps they may make there.
 use Rattle.std.specs.Prelude.{All, ◌≡◌, ◌⊎◌, ◌<◌, ◌+◌, ◌^◌, ℕ, List, None, Some, Bool, true, length}
 use Rattle.cacache_core.specs.{declared.integrity.{algorithm.Algorithm.{Algorithm}, digest.Hash.{Hash}}, Integrity.{integrity_under}, Paths.{joined}, PathNames.{Names, IsProperName}}
 use Rattle.cacache_store.specs.{declared.store.plain.PlainTemp.{PlainTemp}, Plain.{PlainStep, PlainAnswer}, Fits.{Fits}}
@@ -46,12 +46,12 @@ abbrev pub IsContent : Site → List ℕ → Type 0
 IsContent site p =
     (a : Algorithm) × (bytes : List ℕ) × (p ≡ content_path site.cache (integrity_under a bytes))
 
--- the folder that a content lies in
+-- the folder of a content
 abbrev pub IsContentFolder : Site → List ℕ → Type 0
 IsContentFolder site p =
     (a : Algorithm) × (bytes : List ℕ) × (p ≡ content_folder site.cache (integrity_under a bytes))
 
--- the folder that the bucket of a key lies in
+-- the folder of the bucket of a key
 abbrev pub IsBucketFolder : Site → List ℕ → Type 0
 IsBucketFolder site p = (key : List ℕ) × (p ≡ bucket_folder site.cache key)
 
@@ -107,7 +107,7 @@ module _ (site : Site) (apart outside : List ℕ → Bool) where
   Allowed (steps.Size p) = Unit {0}
   Allowed (steps.ReadDir p) = Unit {0}
 
-  -- an export that a lookup is for goes apart
+  -- the export at the end of a lookup goes apart
   abbrev pub SoundAim : Aim → Type 0
   SoundAim (aims.Export e) = apart e.to ≡ true
   SoundAim aim = Unit {0}

@@ -5,10 +5,10 @@ use Rattle.cacache_store.specs.declared.store.plain.{PlainFile.{PlainFile}, Plai
 use Rattle.cacache_entry.specs.{Entry.{Entry}, Latest.{Found}}
 use Rattle.cacache_table.specs.declared.{command.Export.{Export}, reply.Reply.{Reply}, carried.{Commit.{Commit}, Lookup.{Lookup}, Content.{Content}}, target.Target.{Target}, visit.{Visit.{Visit}, Task.{Task}}}
 
--- where a call works
+-- the site at which a call works
 pub record Site : Type 0 where
   pub cache : List ℕ
-  -- where a relative link target starts
+  -- the folder at which a relative link target starts
   pub base : List ℕ
   -- the number of the call's temporary file
   pub number : ℕ
@@ -38,7 +38,7 @@ pub data Errand : Type 0 where
 abbrev pub Item : Type 0
 Item = Result Found Error
 
--- a walk: a listing collects items, a clearing removes; it may still take so many names
+-- a walk: a listing collects items, a clearing removes; it may still take this many names
 pub record Walk : Type 0 where
   pub clears : Bool
   pub items : List Item
@@ -51,12 +51,12 @@ pub data State : Type 0 where
   -- a commit, by the number of its temporary file, with the bytes still to write
   creating : ℕ → Commit → List ℕ → State
   writing : Commit → PlainTemp → List ℕ → State
-  -- its temporary file is synced, where the commit is durable
+  -- its temporary file is synced, if the commit is durable
   syncing : Commit → PlainTemp → State
   -- its temporary file, or a link to this target, becomes the content
   persisting : Commit → PlainTemp → State
   linking : Commit → List ℕ → State
-  -- that failed so: is the content there all the same?
+  -- the last step failed with this fault: is the content there all the same?
   confirming : Commit → Fault → State
   appending : Insertion → State
   looking : Lookup → State

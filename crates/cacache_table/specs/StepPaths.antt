@@ -1,8 +1,8 @@
--- The paths that a call's steps name, as texts.
+-- The paths in a call's steps, as texts.
 use Rattle.std.specs.Prelude.{ℕ, List, [], Option, None, Some}
 use Rattle.cacache_core.specs.{declared.integrity.digest.Hash.{Hash}, Integrity.{address}, Paths.{joined, content_names, bucket_names, temp_names, folder_names, folders_to}}
 
--- where a temporary file lies, and its folder
+-- the path of a temporary file, and its folder
 unfoldable pub temp_path : List ℕ → ℕ → List ℕ
 temp_path cache number = joined cache (temp_names number)
 
@@ -10,16 +10,16 @@ temp_path cache number = joined cache (temp_names number)
 unfoldable pub temp_folder : List ℕ → List ℕ
 temp_folder cache = joined cache (folder_names (temp_names 0))
 
--- what an address gives, nothing where there is none
+-- what is at an address, or nothing if there is none
 abbrev pub addressed : {A : Type 0} → (Hash → List A) → Option Hash → List A
 addressed given None = []
 addressed given (Some h) = given h
 
--- where the content of an integrity lies, by its address, and its folder
+-- the path of the content of an integrity, by its address, and its folder
 unfoldable pub content_path : List ℕ → List Hash → List ℕ
 content_path cache i = addressed (λ h. joined cache (content_names h)) (address i)
 
--- the folder that the content of an integrity lies in
+-- the folder of the content of an integrity
 unfoldable pub content_folder : List ℕ → List Hash → List ℕ
 content_folder cache i = addressed (λ h. joined cache (folder_names (content_names h))) (address i)
 
@@ -27,11 +27,11 @@ content_folder cache i = addressed (λ h. joined cache (folder_names (content_na
 unfoldable pub content_folders : List ℕ → List Hash → List (List ℕ)
 content_folders cache i = addressed (λ h. folders_to cache (content_names h)) (address i)
 
--- where the bucket of a key lies, and its folder
+-- the path of the bucket of a key, and its folder
 unfoldable pub bucket_path : List ℕ → List ℕ → List ℕ
 bucket_path cache key = joined cache (bucket_names key)
 
--- the folder that the bucket of a key lies in
+-- the folder of the bucket of a key
 unfoldable pub bucket_folder : List ℕ → List ℕ → List ℕ
 bucket_folder cache key = joined cache (folder_names (bucket_names key))
 

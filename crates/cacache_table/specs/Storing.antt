@@ -7,7 +7,7 @@ use Rattle.cacache_table.specs.{declared.{command.Put.{Put}, reply.Reply.TheVari
 
 -- ---- once the content is there: the integrity, then the size, then the entry
 
--- the entry has the expected integrity, where there is one, and the count of the bytes
+-- the entry has the expected integrity, if there is one, and the count of the bytes
 abbrev pub insertion_of : Commit → List ℕ → Insertion
 insertion_of c key =
     let i = given_or c.computed c.options.integrity in
@@ -18,12 +18,12 @@ insertion_of c key =
       reply = Stored i;
     }
 
--- a commit with a key inserts its entry, one without is over
+-- a commit with a key inserts its entry; one without a key is over
 abbrev pub indexed : Commit → Option (List ℕ) → State
 indexed c None = over (Stored c.computed)
 indexed c (Some key) = insert (insertion_of c key)
 
--- the count is to be the expected size
+-- the count must be the expected size
 abbrev pub sized : Commit → Option ℕ → State
 sized c None = indexed c c.key
 sized c (Some wanted) =
@@ -33,7 +33,7 @@ sized c (Some wanted) =
 abbrev pub matches : List Hash → List Hash → Bool
 matches expected computed = is_some (matching expected computed)
 
--- the expected integrity is to match the computed one
+-- the expected integrity must match the computed one
 abbrev pub compared : Commit → Option (List Hash) → State
 compared c None = sized c c.options.size
 compared c (Some expected) =
@@ -44,29 +44,29 @@ compared c (Some expected) =
 abbrev pub placed : Commit → State
 placed c = compared c c.options.integrity
 
--- where the commit is durable, the folders that lead to the content are synced first
+-- if the commit is durable, the folders that lead to the content are synced first
 abbrev pub secured : Commit → State
 secured c =
     if c.options.durable then sync_up (content_folders c.cache c.computed) (placed c)
     else placed c
 
--- and before them the content itself, where it was found there
+-- and before them the content itself, if it was found there
 abbrev pub secured_found : Commit → State
 secured_found c =
     if c.options.durable then doing (sync_file (content_path c.cache c.computed)) (secured c)
     else secured c
 
--- ---- before
+-- ---- before that
 
 -- the content's folder is made first
 abbrev pub into_folder : Commit → State → State
 into_folder c s = doing (make_folder (content_folder c.cache c.computed)) s
 
--- a temporary file becomes the content; where the commit is durable, it is synced first
+-- a temporary file becomes the content; if the commit is durable, it is synced first
 abbrev pub move_in : Commit → PlainTemp → State
 move_in c file = if c.options.durable then syncing c file else persisting c file
 
--- the same once the content's folder is made
+-- the same, once the content's folder is made
 abbrev pub persist : Commit → PlainTemp → State
 persist c file = into_folder c (move_in c file)
 
@@ -74,7 +74,7 @@ persist c file = into_folder c (move_in c file)
 abbrev pub link : Commit → List ℕ → State
 link c target = into_folder c (linking c target)
 
--- what is left of the bytes is written next, if there is any
+-- the rest of the bytes is written next, if there is any
 abbrev pub write_rest : Commit → PlainTemp → List ℕ → State
 write_rest c file [] = persist c file
 write_rest c file (b ∷ bs) = writing c file (b ∷ bs)
@@ -84,7 +84,7 @@ abbrev pub after_write : Commit → List ℕ → PlainTemp × ℕ → State
 after_write c rest (file, n) =
     if n == 0 then fails faults.WriteZero else write_rest c file (drop n rest)
 
--- without a yes, the first fault is answered
+-- unless the store says yes, the first fault is answered
 abbrev pub after_confirm : Commit → Fault → Bool → State
 after_confirm c fault there = if there then secured_found c else fails fault
 

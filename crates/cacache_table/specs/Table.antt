@@ -1,4 +1,4 @@
--- All calls as one table: the one step that each state wants, where an answer takes it, and where each call begins.
+-- All calls as one table: the next step of each state, the state after each answer, and the first state of each call.
 use Rattle.std.specs.Prelude.{ℕ, Option, None, Some, true, false, []}
 use Rattle.cacache_core.specs.Paths.{index_area, join}
 use Rattle.cacache_store.specs.declared.store.step.Step.TheVariants as steps
@@ -8,11 +8,11 @@ use Rattle.cacache_table.specs.declared.command.Command.TheVariants as commands
 use Rattle.cacache_table.specs.declared.command.Source.TheVariants as sources
 use Rattle.cacache_table.specs.declared.carried.Aim.TheVariants as aims
 
--- a read asks for at most so many bytes
+-- a read reads at most this many bytes
 abbrev pub piece : ℕ
 piece = 8192
 
--- the step that a state wants, and none where the call is over
+-- the next step of a state; none if the call is over
 abbrev pub wants : State → Option PlainStep
 wants (doing errand s) = Some (errand_step errand)
 wants (creating number c rest) = Some (steps.CreateTemp (temp_path c.cache number))
@@ -32,7 +32,7 @@ wants (copying from to verified) = Some (steps.Copy from to)
 wants (walking w v todo) = Some (visit_step v)
 wants (over reply) = None
 
--- A fault ends the call as `IoError`, but for a content's last step, its confirmation, a lookup,
+-- A fault ends the call as `IoError`, except at a content's last step, its confirmation, a lookup,
 -- a question and walks.
 abbrev pub after : State → PlainAnswer → State
 after (doing errand s) t = go_on (done_in t) fails (λ _. s)
@@ -54,7 +54,7 @@ after (copying from to verified) t =
 after (walking w v todo) t = after_visit w v todo t
 after (over reply) t = over reply
 
--- where a call begins
+-- the first state of a call
 abbrev pub opening : Site → Command → State
 opening site (commands.Put p) = store site p
 opening site (commands.Link l) = sizing (link_target site l)

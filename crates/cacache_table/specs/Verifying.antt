@@ -9,14 +9,14 @@ use Rattle.cacache_table.specs.declared.command.Command.TheVariants as commands
 use Rattle.cacache_table.specs.{declared.{command.{Source.{Source}, Export.{Export}, Link.{Link}}, reply.Reply.{Reply, TheVariants.{Copied, Refused}}, target.Target.{Target}}, Linking.{link_target, with_size, commit_for}, StepPaths.{content_path}, Promises.{Stores}, Replies.{BeginsWithBucket, bucket_shown, lookup}, Runs.{Moves, Runs}, State.{Site}, Table.{opening}}
 use Rattle.cacache_table.specs.declared.command.Source.TheVariants as sources
 
--- the moves begin with reads of the file to its end, which gave these bytes
+-- the moves begin with reads of the file to its end, which returned these bytes
 abbrev pub Gives : PlainFile → List ℕ → Moves → Type 0
 Gives file bytes ((steps.Read f max, answers.Got g []) ∷ moves) = (f ≡ file) × (bytes ≡ [])
 Gives file bytes ((steps.Read f max, answers.Got g (b ∷ bs)) ∷ moves) =
     (f ≡ file) × (more : List ℕ) × (bytes ≡ (b ∷ bs) ++ more) × Gives g more moves
 Gives file bytes moves = ⊥
 
--- the moves begin with the opening of the file, and reads of it to its end; this is so of its bytes
+-- the moves begin with the opening of the file, and reads of it to its end; this holds of its bytes
 abbrev pub ReadsWhole : List ℕ → (List ℕ → Type 0) → Moves → Type 0
 ReadsWhole path P moves =
     (file : PlainFile) × (bytes : List ℕ) × (more : Moves)
@@ -42,14 +42,14 @@ Verifies cache (sources.Key key) moves r =
     × (found : Found) × (lookup key (bucket_shown t) ≡ Ok (Some found))
     × VerifiesContent cache found.integrity more r
 
--- of a call that wasn't refused
+-- holds of a call that wasn't refused
 abbrev pub UnlessRefused : Type 0 → Reply → Type 0
 UnlessRefused P (Refused e) = Unit {0}
 UnlessRefused P r = P
 
 -- ---- links
 
--- the target's size was asked, then it was read whole: the link stores what it gave, of that size
+-- the target's size was read, then its bytes: the link stores the bytes that were read, of that size
 abbrev pub LinksWhole : Target ℕ → Moves → Reply → Type 0
 LinksWhole t moves r =
     (n : ℕ) × (more : Moves) × (moves ≡ (steps.Size t.path, answers.Length n) ∷ more)

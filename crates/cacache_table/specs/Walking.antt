@@ -8,13 +8,13 @@ use Rattle.cacache_store.specs.declared.store.step.Step.TheVariants as steps
 use Rattle.cacache_entry.specs.{Entry.{Entry}, Bucket.{entries_of}, Latest.{latest}}
 use Rattle.cacache_table.specs.{declared.{reply.Reply.TheVariants.{Listed, Done}, visit.{Visit.{Visit, TheVariants.{Enter, ReadBucket, RemoveFile, RemoveFolder}}, Task.{Task, TheVariants.{Make, Stumble}}}}, Answers.{done_in, bytes_in, names_in}, State.{State, walking, over, Item, Walk}, Common.{fails, go_on}}
 
--- a walk takes at most so many names, and gives at most so many items
+-- a walk takes at most this many names, and lists at most this many items
 abbrev pub most : ℕ
 most = 2 ^ 63
 
 -- ---- what a bucket lists
 
--- each key once: where it comes last
+-- each key once, at its last place
 abbrev pub once : List (List ℕ) → List (List ℕ)
 once [] = []
 once (k ∷ ks) = if list_any (bytes_eq k) ks then once ks else k ∷ once ks
@@ -37,7 +37,7 @@ failed fault = Err (IoError fault [])
 abbrev pub walk_ends : Walk → State
 walk_ends w = if w.clears then over Done else over (Listed w.items)
 
--- past the most a walk ends; the last item of a listing says so
+-- a walk past the most items ends; the last item of a listing says so
 abbrev pub too_many : Walk → State
 too_many w =
     if w.clears then fails faults.TooDeep else over (Listed (w.items ++ failed faults.TooDeep ∷ []))
@@ -51,18 +51,18 @@ visit_step (ReadBucket p) = steps.ReadAll p
 visit_step (RemoveFile p) = steps.RemoveFile p
 visit_step (RemoveFolder p) = steps.RemoveDir p
 
--- the walk goes on with more items, unless that are too many
+-- the walk goes on with more items, unless there are too many
 abbrev pub give : Walk → List Item → (Walk → State) → State
 give w items next =
     if nat_le (length w.items + length items) most
     then next (record w { items = w.items ++ items })
     else too_many (record w { items = take most (w.items ++ items) })
 
--- a fault ends a clearing; a listing gives it as an item and goes on
+-- a fault ends a clearing; a listing adds it as an item and goes on
 abbrev pub miss : Walk → (Walk → State) → Fault → State
 miss w next fault = if w.clears then fails fault else give w (failed fault ∷ []) next
 
--- the next task that wants a step
+-- the next task that has a step
 abbrev pub walk_on : List Task → Walk → State
 walk_on [] w = walk_ends w
 walk_on (Stumble fault path ∷ todo) w = miss w (walk_on todo) fault
@@ -103,7 +103,7 @@ EachVisit V (Stumble fault path ∷ todo) = EachVisit V todo
 
 -- ---- after a step
 
--- the tasks of a folder come before those that were to do
+-- the tasks of a folder come before the earlier ones
 abbrev pub entered : Walk → List ℕ → ℕ → List Task → List Name → State
 entered w p level todo names =
     let tasks = tasks_of w.clears level p names ++ leaving w.clears level p ++ todo in
@@ -116,11 +116,11 @@ abbrev pub unread_bucket : Walk → List Task → Fault → State
 unread_bucket w todo faults.NotFound = walk_on todo w
 unread_bucket w todo fault = miss w (walk_on todo) fault
 
--- a bucket gives what it lists, and the walk goes on
+-- a bucket adds what it lists, and the walk goes on
 abbrev pub listed : Walk → List Task → List ℕ → State
 listed w todo bytes = give w (items_in bytes) (walk_on todo)
 
--- where the answer to a visit takes the walk
+-- the state to which the answer to a visit takes the walk
 abbrev pub after_visit : Walk → Visit → List Task → PlainAnswer → State
 after_visit w (Enter p level) todo t =
     go_on (names_in t) (miss w (walk_on todo)) (entered w p level todo)
