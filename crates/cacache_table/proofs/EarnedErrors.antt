@@ -118,7 +118,7 @@ names_faults p t f fits e = absurd fits
 
 -- ---- states
 
--- the next state answers no `IoError`
+-- the reply that follows is no `IoError`
 abbrev Sound : State → Type 0
 Sound (doing errand s) = Sound s
 Sound (appending i) = HasCause (λ _. ⊥) [] i.reply
@@ -225,7 +225,7 @@ module _ (O : Fault → Type 0) (a : PlainStep) (t : PlainAnswer) (moves : Moves
   places : (c : Commit) → Causes (placed c) moves r → Now
   places c h = by_integrity c c.options.integrity h
 
-  -- the state after an errand that comes before a clean state
+  -- a clean state, as it follows an errand
   clean_now : (s : State) → IsClean s → (Sound s → HasCause (own s) moves r) → Now
   clean_now s k h = later (own s) (λ f x. absurd (k.1 f x)) (h k.0)
 

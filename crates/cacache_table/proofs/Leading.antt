@@ -9,7 +9,7 @@ module _ (P : State → Type 0) where
   pub moves_on : (c : Commit) (file : PlainTemp) → P (syncing c file) → P (persisting c file) → P (move_in c file)
   moves_on c file h k = cond_leads P c.options.durable (syncing c file) (persisting c file) (λ _. h) (λ _. k)
 
-  -- if what holds after each sync holds of the state to which it leads
+  -- if P holds after a sync, it holds before it
   module _ (before : (path : List ℕ) (s : State) → P s → P (doing (sync_file path) s) × P (doing (sync_dir path) s)) where
     syncs : (folders : List (List ℕ)) (s : State) → P s → P (sync_up folders s)
     syncs [] s h = h

@@ -42,7 +42,7 @@ refused_kept s e = tt
 -- ---- a promise that every refusal keeps
 
 module _ (P : Reply → Type 0) (refuses : (e : Error) → P (Refused e)) (r : Reply) where
-  -- a promise holds of each reply if every reply that the state allows keeps it
+  -- if the reply keeps the state's promise, P holds of the reply
   abbrev pub Keeps : State → Type 0
   Keeps s = Promises s r → P r
 
@@ -327,7 +327,7 @@ module _ (r : Reply) where
       walks = walks_give;
     }
 
-  -- every reply before an answer keeps what every reply after it keeps
+  -- a reply that keeps the promise of the state after an answer keeps that of the state before it
   pub kept_before : (s : State) (t : PlainAnswer) → Promises (after s t) r → Promises s r
   kept_before s t = kept_always (Gives (Promises s r)) (WalkGives (Promises s r)) AnyVisit (closed (Promises s r)) s t (λ p. p)
 

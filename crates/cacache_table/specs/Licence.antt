@@ -19,7 +19,7 @@ pub record Licence : Type 0 where
   pub inserts : Bool
   -- lists folders
   pub lists : Bool
-  -- copies a content to a second place
+  -- gives a content a second place
   pub exports : Bool
   -- removes files and folders
   pub removes : Bool

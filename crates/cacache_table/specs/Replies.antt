@@ -39,7 +39,7 @@ content_reply i (Ok bytes) =
     if meets i bytes then Read bytes else Refused (IntegrityError (Check i (actual i bytes)))
 content_reply i (Err refusal) = refusal_reply refusal
 
--- after a failed step too, the content counts as missing
+-- if the step fails, the content counts as missing
 abbrev pub there_reply : Result Bool Refusal → Reply
 there_reply (Ok there) = Exists there
 there_reply (Err (refusals.Fault fault)) = Exists false

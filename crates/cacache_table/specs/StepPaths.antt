@@ -10,7 +10,7 @@ temp_path cache number = joined cache (temp_names number)
 unfoldable pub temp_folder : List ℕ → List ℕ
 temp_folder cache = joined cache (folder_names (temp_names 0))
 
--- what is at an address, or nothing if there is none
+-- what a function returns for an address, or nothing if there is no address
 abbrev pub addressed : {A : Type 0} → (Hash → List A) → Option Hash → List A
 addressed given None = []
 addressed given (Some h) = given h
