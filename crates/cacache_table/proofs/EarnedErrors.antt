@@ -116,7 +116,7 @@ names_faults p (answers.NoMemory x) f fits e = absurd cc
 names_faults p (answers.Names ns) f fits e = absurd cc
 names_faults p t f fits e = absurd fits
 
--- ---- of a state
+-- ---- states
 
 -- a reply that the state already holds isn't an `IoError`
 abbrev Sound : State → Type 0

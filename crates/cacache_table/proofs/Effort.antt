@@ -21,7 +21,7 @@ synced_below : (folders : List (List ℕ)) (s : State) (n : ℕ) → effort s + 
 synced_below [] s n h = omega (arith, h)
 synced_below (p ∷ ps) s n h = synced_below ps (doing (sync_dir p) s) n (omega (arith, h))
 
--- five lead to a content
+-- five folders lead to a content
 content_count : (cache : List ℕ) (i : List Hash) → length (content_folders cache i) ≤ 5
 unfolding content_folders
 content_count cache i = by_address (address i)

@@ -52,7 +52,7 @@ goes_lost s (m ∷ moves) u g = (g.0, g.1, goes_lost (after s m.1) moves u g.2)
 pub gone_nowhere : (s : State) (log : Option (List LogItem)) → Gone s s log log
 gone_nowhere s log = ([], refl, no_gain log)
 
--- one step more
+-- one more step
 pub gone_on : (s u : State) (old new next : Option (List LogItem)) (a : PlainStep) (t : PlainAnswer) → Gone s u old new → wants u ≡ Some a → Fits a t → Logs new next a t → is_no_memory t ≡ false → Gone s (after u t) old next
 gone_on s u old new next a t g w fits logs n =
     let e : next ≡ option_map (λ log. log ++ made (a, t) ∷ []) new = rw n at logs in

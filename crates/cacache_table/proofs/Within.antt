@@ -68,7 +68,7 @@ module _ (l : Licence) where
   Within (walking w v todo) = Walks w.clears × (MayVisit v × EachVisit MayVisit todo)
   Within (over reply) = Unit {0}
 
-  -- ---- their steps
+  -- ---- the steps of such states
 
   abbrev IsAllowed : PlainStep → Type 0
   IsAllowed step = May (allows l step)
@@ -164,7 +164,7 @@ module _ (l : Licence) where
   pub stays_within : (s : State) (a : PlainAnswer) → Within s → Within (after s a)
   stays_within s a h = kept_always Within Walks MayVisit closed s a h
 
-  -- ---- of a command
+  -- ---- commands
 
   got : (b rest : Bool) → May (cond b rest false) → May b × May rest
   got true rest e = (tt, e)
@@ -203,7 +203,7 @@ module _ (l : Licence) where
   goes_within s end [] h goes = subst Within goes h
   goes_within s end (m ∷ moves) h goes = goes_within (after s m.1) end moves (stays_within s m.1 h) goes.2
 
-  -- ---- of moves
+  -- ---- moves
 
   pub run_allowed : (s : State) (moves : Moves) (r : Reply) → Within s → Runs s moves r → AllMay l moves
   run_allowed s [] r h run = tt

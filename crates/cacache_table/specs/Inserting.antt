@@ -67,7 +67,7 @@ abbrev pub given_size : Option ℕ → ℕ
 given_size None = 0
 given_size (Some n) = n
 
--- an insertion by its options; without an integrity it is a tombstone
+-- an insertion from its options; without an integrity it is a tombstone
 abbrev pub insertion : List ℕ → Insert → Insertion
 insertion cache i =
     let o = i.options in

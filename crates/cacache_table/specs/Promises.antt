@@ -110,7 +110,7 @@ MadeOf i bytes (Copied n) =
 MadeOf i bytes Done = (more : List ℕ) × Meets i (bytes ++ more)
 MadeOf i bytes r = Unit {0}
 
--- ---- of a state
+-- ---- states
 
 -- what a lookup promises of the reply, depending on its purpose
 abbrev pub Aims : Aim → Reply → Type 0
@@ -149,7 +149,7 @@ Promises (copying from to verified) r = Copies verified r
 Promises (walking w v todo) r = Walks w.clears r
 Promises (over reply) r = Only reply r
 
--- ---- of a call
+-- ---- calls
 
 -- what a command at this site promises of its reply
 abbrev pub Answers : Site → Command → Reply → Type 0

@@ -56,7 +56,7 @@ abbrev pub reply_of : {X : Type 0} → (X → Reply) → Result X Error → Repl
 reply_of answer (Ok x) = answer x
 reply_of answer (Err error) = Refused (without_message error)
 
--- the call is over with this error, or out of memory ended it
+-- the call is over with this error, or it ended out of memory
 abbrev pub EndsAs : Error → State → Type 0
 EndsAs e s = (s ≡ ends_with (without_message e)) ⊎ (e ≡ OutOfMemory)
 

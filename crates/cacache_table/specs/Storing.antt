@@ -66,7 +66,7 @@ into_folder c s = doing (make_folder (content_folder c.cache c.computed)) s
 abbrev pub move_in : Commit → PlainTemp → State
 move_in c file = if c.options.durable then syncing c file else persisting c file
 
--- the same once the content's folder is made
+-- the same, once the content's folder is made
 abbrev pub persist : Commit → PlainTemp → State
 persist c file = into_folder c (move_in c file)
 
