@@ -125,7 +125,7 @@ def stated():
     play = told("crates/cacache_world/src/playing.rt", r"(?s)pub fn play\((.*?)\n    \{")
     shown = told("README.md", r"(?s)pub fn play\((.*?)```")
     steps = variants("crates/cacache_store/src/store/step.rt", "enum Step", r"(?m)^    [A-Z]")
-    states = variants("crates/cacache_table/specs/State.antt", "data State", r"(?m)^  \w+ :")
+    states = variants("crates/cacache_calls/specs/State.antt", "data State", r"(?m)^  \w+ :")
     for name, form, there in [
             ("docs/GATE.md", r"names: (\w+) in \w+ crates", len(edits)),
             ("docs/GATE.md", r"names: \w+ in (\w+) crates", len({it.parent for it in edits})),

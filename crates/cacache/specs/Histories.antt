@@ -4,11 +4,11 @@ pub use Rattle.cacache_core.specs.Digests.{digest}
 pub use Rattle.cacache_core.specs.PathNames.{Names, names_of}
 pub use Rattle.cacache_disk.specs.Tree.{Tree}
 pub use Rattle.cacache_entry.specs.Latest.{NoneAnswers}
-pub use Rattle.cacache_table.specs.declared.command.Command.{Command}
-pub use Rattle.cacache_table.specs.declared.command.Put.{Put}
-pub use Rattle.cacache_table.specs.Promises.{Answers}
-pub use Rattle.cacache_table.specs.StepPaths.{content_path}
-pub use Rattle.cacache_table.specs.Storing.{put_commit}
+pub use Rattle.cacache_calls.specs.declared.command.Command.{Command}
+pub use Rattle.cacache_calls.specs.declared.command.Put.{Put}
+pub use Rattle.cacache_calls.specs.Promises.{Answers}
+pub use Rattle.cacache_calls.specs.StepPaths.{content_path}
+pub use Rattle.cacache_calls.specs.Storing.{put_commit}
 pub use Rattle.cacache_value.specs.Acts.{PutBytes}
 pub use Rattle.cacache_loss.specs.declared.loss.Loss.{Loss}
 pub use Rattle.cacache_loss.specs.Chosen.{chosen}

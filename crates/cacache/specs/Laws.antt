@@ -9,10 +9,10 @@ pub use Rattle.cacache_core.specs.declared.errors.IntegrityFault.{IntegrityFault
 pub use Rattle.cacache_core.specs.Integrity.{IsIntegrity}
 pub use Rattle.cacache_disk.specs.memory.Replay.{IsLog, shown, tree_of}
 pub use Rattle.cacache_entry.specs.FittingEntries.{AreBytes, IsJson}
-pub use Rattle.cacache_table.specs.declared.command.Source.TheVariants.{Key, Hash as OfHash}
-pub use Rattle.cacache_table.specs.declared.command.How.TheVariants.{Copy, Reflink, HardLink}
-pub use Rattle.cacache_table.specs.Linking.{based}
-pub use Rattle.cacache_table.specs.Promises.{answered}
+pub use Rattle.cacache_calls.specs.declared.command.Source.TheVariants.{Key, Hash as OfHash}
+pub use Rattle.cacache_calls.specs.declared.command.How.TheVariants.{Copy, Reflink, HardLink}
+pub use Rattle.cacache_calls.specs.Linking.{based}
+pub use Rattle.cacache_calls.specs.Promises.{answered}
 pub use Rattle.cacache_value.specs.Value.{InFile, AtLink}
 pub use Rattle.cacache_history.specs.Values.{IsThere}
 pub use Rattle.cacache_laws.specs.Caches.{IsCache, IsEmptyCache, HasContent, HasKey, LacksKey, Grows, AStepFailed, IsExcused, Called, lies_under}
@@ -35,6 +35,6 @@ pub use Rattle.cacache_laws.specs.results.Exports.{NamesHeld, LiesUnread, TellsS
 pub use Rattle.cacache_laws.specs.LinkAnswers.{OpensAs, target_bytes}
 pub use Rattle.cacache_laws.specs.results.Links.{LeadsOn, LiesLinked, LinksBytes, LinkedFile}
 pub use Rattle.cacache_laws.specs.results.Linkers.{MemLinker, IsLinking, OpenedLinker, LinkedBytes}
-pub use Rattle.cacache_table.specs.ListReplies.{In}
+pub use Rattle.cacache_calls.specs.ListReplies.{In}
 pub use Rattle.cacache_laws.specs.results.Lists.{AreAllEntries, ListedEntries}
 pub use Rattle.cacache_laws.specs.results.Handles.{MemWriter, IsWriting, OpenedWriter, SaysFit, IsEntryFor, LeadsToEntry, MayLeadToEntry, LiesOrStayed, CommittedBytes, said_integrity}

@@ -2,6 +2,9 @@
 //! calls, entries and histories. Those named `after_..` are called after a call on a store in memory, with its
 //! arguments and its answer: they say what it left. The words of their contracts are those of `specs/Laws`, and for
 //! worlds and losses those of `specs/Histories`.
+pub use cacache_calls::{
+    effect_laws, licence_laws, promise_laws, reply_laws, row_laws, run_laws, sound_laws,
+};
 pub use cacache_core::laws::{integrity_laws, path_laws, text_laws};
 pub use cacache_entry::{bucket_laws, entry_laws, lookup_laws};
 pub use cacache_history::durable::durable_laws;
@@ -17,8 +20,5 @@ pub use cacache_laws::{
 };
 pub use cacache_polled::laws::event_laws;
 pub use cacache_shared::seat_laws;
-pub use cacache_table::{
-    effect_laws, licence_laws, promise_laws, reply_laws, row_laws, run_laws, sound_laws,
-};
 pub use cacache_value::{append_laws, step_laws, trace_laws};
 pub use cacache_walks::contents_laws;

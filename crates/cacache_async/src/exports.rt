@@ -1,18 +1,18 @@
 //! Futures of the exports: of the content that a key names, and of that of an integrity.
 ghost use Rattle.std.specs.Prelude.{◌≡◌, true, false, IfOk};
-ghost use Rattle.cacache_table.specs.{declared.{command.How.TheVariants.{Copy, Reflink, HardLink}, reply.Reply.TheVariants.{Copied, Done}}, Replies.{done}, Runs.{reply_of}};
+ghost use Rattle.cacache_calls.specs.{declared.{command.How.TheVariants.{Copy, Reflink, HardLink}, reply.Reply.TheVariants.{Copied, Done}}, Replies.{done}, Runs.{reply_of}};
 ghost use Rattle.cacache_jobs.specs.{ReadFirst.{Verified}, Environment.{Calls}};
 ghost use Rattle.cacache_sync.specs.{declared.exporting.Named.TheVariants.{Key, Hash}, Exports.{exporting, named_source, IsFormed}};
 ghost use Rattle.cacache_async.specs.Waiting.{Waits};
 
 use crate::call::Call;
 use crate::future::CallFuture;
+use cacache_calls::How;
 use cacache_core::errors::Result;
 use cacache_core::integrity::Integrity;
 use cacache_store::env::{Clock, Env, Names};
 use cacache_store::store::Store;
 use cacache_sync::{Named, copy_content, link_content};
-use cacache_table::How;
 
 /// What a copy is called with: a cache, what names the content, whether it is verified first, and a path.
 #[derive(Clone, Copy)]

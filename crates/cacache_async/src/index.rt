@@ -1,7 +1,7 @@
 //! Futures of the calls on the index.
 ghost use Rattle.std.specs.Prelude.{◌≡◌, None, IfOk};
-ghost use Rattle.cacache_table.specs.declared.command.Command.TheVariants as commands;
-ghost use Rattle.cacache_table.specs.{declared.reply.Reply.TheVariants.{Stored}, Inserting.{given_or, no_integrity}, Replies.{done, looked_up}, Runs.{reply_of}};
+ghost use Rattle.cacache_calls.specs.declared.command.Command.TheVariants as commands;
+ghost use Rattle.cacache_calls.specs.{declared.reply.Reply.TheVariants.{Stored}, Inserting.{given_or, no_integrity}, Replies.{done, looked_up}, Runs.{reply_of}};
 ghost use Rattle.cacache_jobs.specs.Environment.{Calls, RunsTimed};
 ghost use Rattle.cacache_sync.specs.{Lookups.{LooksUp, delete_of}, put.Puts.{insert_of}};
 ghost use Rattle.cacache_async.specs.Waiting.{Waits};

@@ -2,7 +2,7 @@
 ghost use Rattle.std.specs.{Prelude.{◌≡◌, ◌++◌, ℕ, List, None, Some, IfOk, IfErr, OnOk, OnErr, length}, Io.{ReadsAtMost, KnownBytes.{Consumes, ReadConsumes}}};
 ghost use Rattle.futures.specs.{Poll.{IfReady, OnPending}, Task.{Keeps}};
 ghost use Rattle.cacache_store.specs.Handles.{LeftFalls};
-ghost use Rattle.cacache_table.specs.{declared.reply.Reply.TheVariants.{Stored}, Runs.{reply_of}};
+ghost use Rattle.cacache_calls.specs.{declared.reply.Reply.TheVariants.{Stored}, Runs.{reply_of}};
 ghost use Rattle.cacache_sync.specs.{content.{OpenWrites.{IsRetried}, Passed.{passed}}, put.{OpenLinkers.{CommitsLink, HasHashed, HashesMore, HashesPart, StoresWhole}, Options.{saying}}};
 ghost use Rattle.cacache_async.specs.{Waiting.{Waits}, Polling.{TellsRead}};
 

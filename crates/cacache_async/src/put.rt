@@ -1,8 +1,8 @@
 //! Futures of the calls that store bytes.
 ghost use Rattle.std.specs.Prelude.{◌≡◌, IfOk};
 ghost use Rattle.cacache_core.specs.{declared.integrity.algorithm.Algorithm.TheVariants.{Sha256}, Integrity.{integrity_under}};
-ghost use Rattle.cacache_table.specs.declared.command.Command.TheVariants as commands;
-ghost use Rattle.cacache_table.specs.{declared.reply.Reply.TheVariants.{Stored}, Runs.{reply_of}};
+ghost use Rattle.cacache_calls.specs.declared.command.Command.TheVariants as commands;
+ghost use Rattle.cacache_calls.specs.{declared.reply.Reply.TheVariants.{Stored}, Runs.{reply_of}};
 ghost use Rattle.cacache_jobs.specs.Environment.{RunsNumbered, RunsPut};
 ghost use Rattle.cacache_sync.specs.put.Puts.{keyed_put, unkeyed_put};
 ghost use Rattle.cacache_async.specs.Waiting.{Waits};

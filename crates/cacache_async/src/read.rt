@@ -1,8 +1,8 @@
 //! Futures of the calls that read contents at once, and of the question whether one is there.
 ghost use Rattle.std.specs.Prelude.{◌≡◌, IfOk, IfErr, IfSome};
 ghost use Rattle.cacache_core.specs.{declared.errors.Error.TheVariants.{OutOfMemory}, Integrity.{IsIntegrity, Meets}};
-ghost use Rattle.cacache_table.specs.declared.command.Command.TheVariants as commands;
-ghost use Rattle.cacache_table.specs.{declared.reply.Reply.TheVariants.{Exists}, Runs.{reply_of}};
+ghost use Rattle.cacache_calls.specs.declared.command.Command.TheVariants as commands;
+ghost use Rattle.cacache_calls.specs.{declared.reply.Reply.TheVariants.{Exists}, Runs.{reply_of}};
 ghost use Rattle.cacache_jobs.specs.{ReadFirst.{ReadsFound}, Environment.{Calls}};
 ghost use Rattle.cacache_sync.specs.Reads.{AsksContent, bytes_read, has};
 ghost use Rattle.cacache_async.specs.Waiting.{Waits};

@@ -1,8 +1,8 @@
 //! Futures of the calls that remove.
 ghost use Rattle.std.specs.Prelude.{◌≡◌, None, true, false};
 ghost use Rattle.cacache_core.specs.Integrity.{IsIntegrity};
-ghost use Rattle.cacache_table.specs.declared.command.Command.TheVariants as commands;
-ghost use Rattle.cacache_table.specs.{Replies.{done}, Runs.{reply_of}};
+ghost use Rattle.cacache_calls.specs.declared.command.Command.TheVariants as commands;
+ghost use Rattle.cacache_calls.specs.{Replies.{done}, Runs.{reply_of}};
 ghost use Rattle.cacache_jobs.specs.Environment.{Calls, RunsTimed};
 ghost use Rattle.cacache_sync.specs.Lookups.{delete_of};
 ghost use Rattle.cacache_async.specs.Waiting.{Waits};

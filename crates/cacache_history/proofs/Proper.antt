@@ -7,9 +7,9 @@ use Rattle.cacache_store.specs.declared.store.step.Step.TheVariants as steps
 use Rattle.cacache_store.specs.Plain.{PlainStep}
 use Rattle.cacache_disk.proofs.Maps.{same_path-true}
 use Rattle.cacache_entry.proofs.EntryCauses.{Fits-no_cause}
-use Rattle.cacache_table.specs.{StepPaths.{temp_path, temp_folder, content_path, content_folder, bucket_path, bucket_folder}, State.{State}, Table.{wants}}
-use Rattle.cacache_table.proofs.Sound.{steps_allowed}
-use Rattle.cacache_table.specs.Sound as calls
+use Rattle.cacache_calls.specs.{StepPaths.{temp_path, temp_folder, content_path, content_folder, bucket_path, bucket_folder}, State.{State}, Table.{wants}}
+use Rattle.cacache_calls.proofs.Sound.{steps_allowed}
+use Rattle.cacache_calls.specs.Sound as calls
 use Rattle.cacache_value.specs.{Kinds.{Content, Bucket, Temporary, Way, Elsewhere, kind_beside, path_kind, IsFor}, Placed.{IsEntryLine, Proper}, OpeningTrees.{LieApart}}
 use Rattle.cacache_value.proofs.PathKinds.{paths_are_for, folders_are_ways}
 use Rattle.cacache_history.specs.Setup.{Setup, call_site, home, are_apart, apart_from_home, apart_from_files, may_take, may_export, same_place, has_file, is_outside}

@@ -3,7 +3,7 @@ use Rattle.std.proofs.Common.{◌≡◌, Ok}
 use Rattle.cacache_store.specs.declared.store.plain.PlainTemp.{PlainTemp}
 use Rattle.cacache_store.specs.declared.store.step.Step.TheVariants as steps
 use Rattle.cacache_disk.specs.{declared.luck.Luck.{Luck}, Tree.{Tree}, Apply.{apply}}
-use Rattle.cacache_table.specs.Answers.{synced_in}
+use Rattle.cacache_calls.specs.Answers.{synced_in}
 use Rattle.cacache_value.proofs.Shows.{apply_answer}
 
 -- a synced temporary file is the one that was given

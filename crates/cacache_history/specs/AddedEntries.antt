@@ -2,8 +2,8 @@
 use Rattle.std.specs.Prelude.{◌≡◌, ◌⊎◌, List, [], ◌∷◌, Option, None, Some}
 use Rattle.cacache_core.specs.{declared.integrity.digest.Hash.{Hash}, Digests.{digest}, Integrity.{address, hash_of}, PathNames.{Names}, Texts.{integrity_text}}
 use Rattle.cacache_entry.specs.Entry.{Entry}
-use Rattle.cacache_table.specs.declared.{command.{Command.{Command}, Put.{Put}}, reply.Reply.{Reply, TheVariants.{Stored}}}
-use Rattle.cacache_table.specs.declared.command.Command.TheVariants as commands
+use Rattle.cacache_calls.specs.declared.{command.{Command.{Command}, Put.{Put}}, reply.Reply.{Reply, TheVariants.{Stored}}}
+use Rattle.cacache_calls.specs.declared.command.Command.TheVariants as commands
 use Rattle.cacache_value.specs.{Value.{Blob, InFile, AtLink}, Acts.{AddEntries}}
 use Rattle.cacache_history.specs.{Setup.{home}, History.{History, Call, Reaches}, Values.{steps_of, value_at, KeepContent, HasDigest}, Commits.{Deed, does, deeds}}
 

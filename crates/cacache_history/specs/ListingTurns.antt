@@ -5,8 +5,8 @@ use Rattle.cacache_core.specs.{declared.errors.Error.TheVariants.{OutOfMemory}, 
 use Rattle.cacache_store.specs.{declared.store.answer.Name.{Name}, Plain.{PlainStep}}
 use Rattle.cacache_store.specs.declared.store.step.Step.TheVariants as steps
 use Rattle.cacache_entry.specs.{Entry.{Entry}, Latest.{latest}}
-use Rattle.cacache_table.specs.{declared.{answers.Refusal.{Refusal}, reply.Reply.{Reply, TheVariants.{Listed, Refused}}}, Answers.{names_in}, ListReplies.{by_folder, too_deep}, StepPaths.{bucket_path}, Runs.{plain_reply}, State.{Item}, Walking.{most}}
-use Rattle.cacache_table.specs.declared.command.Command.TheVariants as commands
+use Rattle.cacache_calls.specs.{declared.{answers.Refusal.{Refusal}, reply.Reply.{Reply, TheVariants.{Listed, Refused}}}, Answers.{names_in}, ListReplies.{by_folder, too_deep}, StepPaths.{bucket_path}, Runs.{plain_reply}, State.{Item}, Walking.{most}}
+use Rattle.cacache_calls.specs.declared.command.Command.TheVariants as commands
 use Rattle.cacache_history.specs.{Setup.{Setup}, History.{History, Turn, Call, Reaches}, ShownTurns.{held, entries_at, bucket_read, by_entries}, Turns.{EachTurn}}
 
 -- ---- what is read

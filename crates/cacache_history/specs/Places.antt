@@ -1,7 +1,7 @@
 -- Places of a history, by how many records come before them, and what was done between two of them.
 use Rattle.std.specs.Prelude.{◌≡◌, ◌≤◌, ◌<◌, ℕ, Option, None, Some, slice_get, take}
 use Rattle.cacache_disk.specs.declared.luck.Luck.{Luck}
-use Rattle.cacache_table.specs.declared.{command.Command.{Command}, reply.Reply.{Reply}}
+use Rattle.cacache_calls.specs.declared.{command.Command.{Command}, reply.Reply.{Reply}}
 use Rattle.cacache_history.specs.{declared.record.Record.TheVariants.{Moved}, History.{History, Turn, Call, Made, Now, turn_of, call_after, moved_call, now_at, Reaches}, Turns.{EachTurn}}
 
 -- the tree and the calls at a place

@@ -5,8 +5,8 @@ use Rattle.cacache_core.specs.declared.errors.Fault.TheVariants as faults
 use Rattle.cacache_store.specs.declared.store.answer.Answer.TheVariants as answers
 use Rattle.cacache_store.specs.Plain.{PlainAnswer}
 use Rattle.cacache_entry.specs.Entry.{Entry}
-use Rattle.cacache_table.specs.{declared.answers.Refusal.{Refusal}, Answers.{there_in}, State.{Item}, Walking.{items_of, failed}}
-use Rattle.cacache_table.specs.declared.answers.Refusal.TheVariants as refusals
+use Rattle.cacache_calls.specs.{declared.answers.Refusal.{Refusal}, Answers.{there_in}, State.{Item}, Walking.{items_of, failed}}
+use Rattle.cacache_calls.specs.declared.answers.Refusal.TheVariants as refusals
 use Rattle.cacache_value.specs.{Value.{Value, Blob, value_of_tree}, Acts.{list_of}, Shows.{blob_bytes, blob_there}}
 use Rattle.cacache_history.specs.{Setup.{Setup, home}, History.{Turn}}
 

@@ -2,7 +2,7 @@
 use Rattle.std.specs.Prelude.{◌≡◌, ◌⊎◌, ℕ, List, ◌∷◌, ◌++◌, Option, Some}
 use Rattle.cacache_core.specs.declared.errors.Error.TheVariants.{OutOfMemory}
 use Rattle.cacache_disk.specs.declared.luck.Luck.{Luck}
-use Rattle.cacache_table.specs.{declared.reply.Reply.{Reply, TheVariants.{Refused}}, Runs.{Runs, plain_reply}, Table.{opening}}
+use Rattle.cacache_calls.specs.{declared.reply.Reply.{Reply, TheVariants.{Refused}}, Runs.{Runs, plain_reply}, Table.{opening}}
 use Rattle.cacache_history.specs.{declared.record.Record.{Record, TheVariants.{Moved}}, Setup.{call_site}, History.{History, Turn, Call, Made, turn_of, now_at, Reaches}, Turns.{made_in, EachTurn}}
 
 -- a turn is the move after these records

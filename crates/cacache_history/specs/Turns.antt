@@ -1,6 +1,6 @@
 -- What a call's turns made.
 use Rattle.std.specs.Prelude.{List, [], ◌∷◌}
-use Rattle.cacache_table.specs.Runs.{Moves}
+use Rattle.cacache_calls.specs.Runs.{Moves}
 use Rattle.cacache_history.specs.History.{Turn}
 
 -- the steps of these turns with their answers

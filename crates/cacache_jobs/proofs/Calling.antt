@@ -1,9 +1,9 @@
 -- A call by key answers only bytes that meet what its own read of the bucket found; exports and links read first.
 use Rattle.std.proofs.Common.{List, Option}
 use Rattle.cacache_store.specs.declared.store.log.LogItem.{LogItem}
-use Rattle.cacache_table.specs.{declared.{command.Command.{Command}, reply.Reply.{Reply, TheVariants.{Stored, Read, LookedUp, Exists, Copied, Listed, Done, Refused}}}, State.{Site}, Table.{opening}, Runs.{Ran}, Verifying.{UnlessRefused}}
-use Rattle.cacache_table.proofs.{Replies.{gets_meet}, Verifying.{exports_verify, links_read_whole}}
-use Rattle.cacache_table.specs.declared.command.Command.TheVariants as commands
+use Rattle.cacache_calls.specs.{declared.{command.Command.{Command}, reply.Reply.{Reply, TheVariants.{Stored, Read, LookedUp, Exists, Copied, Listed, Done, Refused}}}, State.{Site}, Table.{opening}, Runs.{Ran}, Verifying.{UnlessRefused}}
+use Rattle.cacache_calls.proofs.{Replies.{gets_meet}, Verifying.{exports_verify, links_read_whole}}
+use Rattle.cacache_calls.specs.declared.command.Command.TheVariants as commands
 use Rattle.cacache_jobs.specs.ReadFirst.{FindsBytes, ReadsFirst}
 
 -- a call by key that answers bytes began with a read of its bucket

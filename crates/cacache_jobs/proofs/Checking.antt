@@ -2,7 +2,7 @@
 use Rattle.std.proofs.Common.{◌≡◌, inl, inr, ℕ, List, Bool, true, false, refl}
 use Rattle.cacache_core.specs.{declared.errors.Error.{Error, TheVariants.{OutOfMemory, IntegrityError}}, Integrity.{Meets, actual}, Meeting.{meets}, Refusals.{IsCheckFailure}}
 use Rattle.cacache_core.proofs.Meeting.{meets_finds}
-use Rattle.cacache_table.specs.{declared.{reply.Reply.TheVariants.{Read}, carried.Content.{Content}}, ContentReads.{checked}, State.{over}, Runs.{EndsAs}}
+use Rattle.cacache_calls.specs.{declared.{reply.Reply.TheVariants.{Read}, carried.Content.{Content}}, ContentReads.{checked}, State.{over}, Runs.{EndsAs}}
 
 -- bytes that meet the integrity are answered
 pub checked_met : (k : Content) (b : List ℕ) → Meets k.integrity b → checked k b ≡ over (Read b)

@@ -2,7 +2,7 @@
 use Rattle.std.proofs.Common.{◌≡◌, ℕ, ◌+◌, List, Some, length, ap, sym, ◌∙◌}
 use Rattle.cacache_store.specs.{declared.store.plain.{PlainFile.{PlainFile}, PlainTemp.{PlainTemp}}, Plain.{PlainStep}}
 use Rattle.cacache_store.specs.declared.store.step.Step.TheVariants as steps
-use Rattle.cacache_table.specs.{State.{State, Hashing, hashing}, Runs.{effort}, Table.{wants, piece}}
+use Rattle.cacache_calls.specs.{State.{State, Hashing, hashing}, Runs.{effort}, Table.{wants, piece}}
 use Rattle.cacache_jobs.specs.{declared.{stage.{Then.{Then}, Stage.{Stage}}, phase.Phase.{Phase}, syncing.Goal.{Goal}}, JobStates.{GoalAt, ThenAt, StageAt, PhaseAt}, Effort.{goal_effort, then_effort, left_to_read, stage_effort, phase_effort}}
 use Rattle.cacache_jobs.proofs.SyncedFolders.{moved_effort, sync_effort}
 use Rattle.cacache_jobs.specs.declared.stage.Then.TheVariants as thens

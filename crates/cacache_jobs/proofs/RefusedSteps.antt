@@ -1,7 +1,7 @@
 -- A refused step ends its call.
 use Rattle.std.proofs.Common.{◌≡◌, Result, Ok, Err}
 use Rattle.cacache_core.specs.declared.errors.Error.{Error}
-use Rattle.cacache_table.specs.{declared.answers.Refusal.{Refusal}, Common.{go_on, fails, refuse}, Runs.{EndsAs}, State.{State}}
+use Rattle.cacache_calls.specs.{declared.answers.Refusal.{Refusal}, Common.{go_on, fails, refuse}, Runs.{EndsAs}, State.{State}}
 use Rattle.cacache_jobs.specs.Brought.{EndsRefused}
 
 pub refused_ends : {Y : Type 0} (a : Result Y Refusal) (refusal : Refusal) (e : Error) → Err refusal ≡ a → EndsAs e (refuse refusal fails) → EndsRefused a e

@@ -3,7 +3,7 @@ use Rattle.std.{proofs.Common.{◌≡◌, List, Result, Ok, Err, refl, sym, ◌�
 use Rattle.base64.specs.Decode.{groups_error, scan_steps, groups_bytes}
 use Rattle.cacache_core.specs.{declared.{errors.Error.{Error, TheVariants.{EntryNotFound, SizeMismatch, IoError, SerdeError, IntegrityError, OutOfMemory}}, integrity.digest.Hash.{Hash}}, Refusals.{IsReadFailure}, Texts.{read_integrity}}
 use Rattle.cacache_entry.specs.View.{IsRefusal}
-use Rattle.cacache_table.specs.{State.{Insertion}, Inserting.{insert, no_integrity, refused_cause}, Runs.{EndsAs}}
+use Rattle.cacache_calls.specs.{State.{Insertion}, Inserting.{insert, no_integrity, refused_cause}, Runs.{EndsAs}}
 
 -- if an entry is refused with an error, the call ends with that error
 pub refusal_ends : (j : Insertion) (e : Error) → IsRefusal j.entry e → EndsAs e (insert j)

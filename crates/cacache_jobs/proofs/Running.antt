@@ -3,8 +3,8 @@ use Rattle.std.proofs.Common.{◌≡◌, ◌⊎◌, inl, inr, ◌<◌, List, [],
 use Rattle.cacache_core.specs.declared.errors.Error.TheVariants.{OutOfMemory}
 use Rattle.cacache_store.specs.{declared.store.{plain.{PlainFile.{PlainFile}, PlainTemp.{PlainTemp}}, log.LogItem.{LogItem, TheVariants.{Made}}}, Plain.{PlainStep, PlainAnswer}, Fits.{Fits, Logs}}
 use Rattle.cacache_store.specs.declared.store.answer.Answer.TheVariants as answers
-use Rattle.cacache_table.specs.{declared.reply.Reply.{Reply, TheVariants.{Refused}}, State.{State, over}, Table.{wants, after}, Runs.{Moves, Runs, Gains, Ran, effort}}
-use Rattle.cacache_table.proofs.{Effort.{falls}, Memory.{no_memory_after}, Going.{answer_cases, gains_one, no_gain}}
+use Rattle.cacache_calls.specs.{declared.reply.Reply.{Reply, TheVariants.{Refused}}, State.{State, over}, Table.{wants, after}, Runs.{Moves, Runs, Gains, Ran, effort}}
+use Rattle.cacache_calls.proofs.{Effort.{falls}, Memory.{no_memory_after}, Going.{answer_cases, gains_one, no_gain}}
 use Rattle.cacache_jobs.specs.{declared.{phase.Phase.{Phase}, job.Standing.{Standing}}, JobStates.{PhaseAt}, Jobs.{IdleAt, OutAt, LostMemory, PhaseGoesTo, GoesOnTo, is_idle}, Effort.{phase_effort}}
 use Rattle.cacache_jobs.proofs.PhaseEffort.{phase_effort_is}
 use Rattle.cacache_jobs.specs.declared.phase.Phase.TheVariants as phases

@@ -1,7 +1,7 @@
 -- Syncs of folders, one after another.
 use Rattle.std.proofs.Common.{◌≡◌, ℕ, ◌+◌, List, [], ◌∷◌, ◌++◌, Bool, true, false, cond, length, refl, ap, ◌∙◌, arith}
 use Rattle.cacache_store.specs.declared.store.plain.PlainTemp.{PlainTemp}
-use Rattle.cacache_table.specs.{State.{State, doing, syncing, persisting, sync_dir}, declared.carried.Commit.{Commit}, Common.{sync_up}, Storing.{move_in}, Runs.{effort}}
+use Rattle.cacache_calls.specs.{State.{State, doing, syncing, persisting, sync_dir}, declared.carried.Commit.{Commit}, Common.{sync_up}, Storing.{move_in}, Runs.{effort}}
 
 -- the last folder comes first
 pub last_first : (folders : List (List ℕ)) (folder : List ℕ) (next : State) → sync_up (folders ++ folder ∷ []) next ≡ doing (sync_dir folder) (sync_up folders next)

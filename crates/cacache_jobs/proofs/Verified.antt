@@ -2,7 +2,7 @@
 use Rattle.std.proofs.Common.{◌≡◌, inl, inr, ℕ, List, Some, length, refl}
 use Rattle.cacache_core.specs.{declared.errors.Error.{Error, TheVariants.{OutOfMemory, IntegrityError}}, Integrity.{Meets, actual}, Refusals.{IsCheckFailure}}
 use Rattle.cacache_core.proofs.Meeting.{meets_finds}
-use Rattle.cacache_table.specs.{declared.{command.Export.{Export}, carried.Content.{Content}}, Exporting.{verified, export_content}, Runs.{EndsAs}}
+use Rattle.cacache_calls.specs.{declared.{command.Export.{Export}, carried.Content.{Content}}, Exporting.{verified, export_content}, Runs.{EndsAs}}
 use Rattle.cacache_jobs.proofs.Checking.{unmet_test}
 
 -- bytes that meet the integrity are exported

@@ -1,7 +1,7 @@
 -- The state of a commit after a write, and what it promises from then on.
 use Rattle.std.proofs.{Common.{◌≡◌, ◌==◌, ℕ, List, [], ◌∷◌, Bool, true, false, cond, length, refl, arith}, lemmas.Bool.{eqb-true}}
 use Rattle.cacache_store.specs.declared.store.plain.PlainTemp.{PlainTemp}
-use Rattle.cacache_table.specs.{declared.{reply.Reply.{Reply}, carried.Commit.{Commit}}, State.{writing, syncing, persisting}, Storing.{write_rest, persist, move_in}, Promises.{Stores, Promises}}
+use Rattle.cacache_calls.specs.{declared.{reply.Reply.{Reply}, carried.Commit.{Commit}}, State.{writing, syncing, persisting}, Storing.{write_rest, persist, move_in}, Promises.{Stores, Promises}}
 
 -- no bytes are left to write
 pub nothing_left : (c : Commit) (file : PlainTemp) (rest : List ℕ) → (length rest == 0) ≡ true → write_rest c file rest ≡ persist c file

@@ -1,7 +1,7 @@
 -- What the answer to a step brought, or the error with which it ends a call.
 use Rattle.std.specs.Prelude.{◌≡◌, Result, Ok, Err}
 use Rattle.cacache_core.specs.declared.errors.Error.{Error}
-use Rattle.cacache_table.specs.{declared.answers.Refusal.{Refusal}, Common.{fails, refuse}, Runs.{EndsAs}}
+use Rattle.cacache_calls.specs.{declared.answers.Refusal.{Refusal}, Common.{fails, refuse}, Runs.{EndsAs}}
 
 -- the step was refused, and the refusal ends a call with this error
 abbrev pub EndsRefused : {Y : Type 0} → Result Y Refusal → Error → Type 0

@@ -2,7 +2,7 @@
 use Rattle.std.specs.Prelude.{ℕ, ◌+◌, ◌*◌, ◌^◌, if◌then◌else◌, length}
 use Rattle.cacache_store.specs.{declared.store.plain.{PlainFile.{PlainFile}, PlainTemp.{PlainTemp}}, Plain.{PlainStep, plain_step}}
 use Rattle.cacache_store.specs.declared.store.step.Step.TheVariants as steps
-use Rattle.cacache_table.specs.{Runs.{weight, weights, effort}, Storing.{placed}}
+use Rattle.cacache_calls.specs.{Runs.{weight, weights, effort}, Storing.{placed}}
 use Rattle.cacache_jobs.specs.declared.{syncing.Goal.{Goal}, stage.{Then.{Then}, Stage.{Stage}}, phase.Phase.{Phase}}
 use Rattle.cacache_jobs.specs.declared.syncing.Goal.TheVariants as goals
 use Rattle.cacache_walks.specs.WalkStates.{pending}

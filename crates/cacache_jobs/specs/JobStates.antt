@@ -2,8 +2,8 @@
 use Rattle.std.specs.Prelude.{◌≡◌, ℕ, List, [], Option, Some, None, Result, Ok, Err, length, string_bytes}
 use Rattle.cacache_core.specs.{declared.{errors.Error.{Error}, integrity.digest.Hash.{Hash}}, Hashers.{Holds, algorithm_of}, Pieces.{Compares}}
 use Rattle.cacache_store.specs.{declared.store.plain.{PlainFile.{PlainFile}, PlainTemp.{PlainTemp}}, Plain.{PlainStep, plain_step}}
-use Rattle.cacache_table.specs.{StepPaths.{content_path, bucket_path, temp_path}, State.{State, doing, creating, writing, syncing, persisting, confirming, appending, looking, reading, asking, sizing, opening_file, hashing, copying, linking, over, Errand, to_verify, to_link}, declared.{carried.Content.{Content}, reply.Reply.{Reply, TheVariants.{Stored, Done}}}, Inserting.{bucket_line}, Common.{sync_up}, Storing.{placed, move_in}, Removing.{remove_bucket}, Runs.{plain_reply, EndsAs}, Table.{wants}}
-use Rattle.cacache_table.specs.State as states
+use Rattle.cacache_calls.specs.{StepPaths.{content_path, bucket_path, temp_path}, State.{State, doing, creating, writing, syncing, persisting, confirming, appending, looking, reading, asking, sizing, opening_file, hashing, copying, linking, over, Errand, to_verify, to_link}, declared.{carried.Content.{Content}, reply.Reply.{Reply, TheVariants.{Stored, Done}}}, Inserting.{bucket_line}, Common.{sync_up}, Storing.{placed, move_in}, Removing.{remove_bucket}, Runs.{plain_reply, EndsAs}, Table.{wants}}
+use Rattle.cacache_calls.specs.State as states
 use Rattle.cacache_walks.specs.WalkStates.{WalksAt}
 use Rattle.cacache_jobs.specs.declared.{inserting.Insertion.{Insertion}, hashing.Hashing.{Hashing}, syncing.Goal.{Goal}, stage.{Then.{Then}, Stage.{Stage}}, phase.Phase.{Phase}}
 use Rattle.cacache_jobs.specs.declared.hashing.Hashing.TheVariants as hashings

@@ -2,7 +2,7 @@
 use Rattle.std.specs.Prelude.{◌≡◌, ◌⊎◌, Bool, true, false, Option, Some, None}
 use Rattle.cacache_core.specs.declared.errors.Error.TheVariants.{OutOfMemory}
 use Rattle.cacache_store.specs.{declared.store.plain.{PlainFile.{PlainFile}, PlainTemp.{PlainTemp}}, Plain.{PlainStep, plain_step}}
-use Rattle.cacache_table.specs.{State.{State, over}, Runs.{plain_reply}, Table.{wants}, declared.reply.Reply.{Reply, TheVariants.{Refused}}}
+use Rattle.cacache_calls.specs.{State.{State, over}, Runs.{plain_reply}, Table.{wants}, declared.reply.Reply.{Reply, TheVariants.{Refused}}}
 use Rattle.cacache_jobs.specs.{declared.{phase.Phase.{Phase}, job.{Next.{Next}, Standing.{Standing}, Job.{Job}}}, JobStates.{IsAt, PhaseAt}}
 use Rattle.cacache_jobs.specs.declared.phase.Phase.TheVariants as phases
 use Rattle.cacache_jobs.specs.declared.job.Next.TheVariants as next

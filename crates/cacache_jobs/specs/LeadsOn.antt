@@ -3,8 +3,8 @@ use Rattle.std.specs.Prelude.{◌≡◌, ℕ, List, [], Bool, Option, Result, le
 use Rattle.cacache_core.specs.{declared.{errors.Error.{Error}, integrity.{checker.IntegrityChecker.{IntegrityChecker}, digest.Hash.{Hash}}}, Integrity.{integrity_under}, Pieces.{Compares}}
 use Rattle.cacache_store.specs.{declared.store.{answer.Answer.{Answer}, log.LogItem.{LogItem}, plain.{PlainFile.{PlainFile}, PlainTemp.{PlainTemp}}, step.Step.{Step}}, Fits.{Logs}, Plain.{plain_step, plain_answer}}
 use Rattle.cacache_entry.specs.{View.{entry_view}, declared.metadata.SerializableMetadata.{SerializableMetadata}}
-use Rattle.cacache_table.specs.{declared.{answers.{Got.{Got}, Refusal.{Refusal}}, carried.{Commit.{Commit}, Content.{Content}}, command.{Export.{Export}, Link.{Link}}, target.Target.{Target}, visit.Visit.{Visit}}, State.{persisting, sizing, hashing}, Answers.{file_in}, Common.{go_on, fails}, Exporting.{verified}, Inserting.{insert}, Linking.{after_read, commit_for, link_target}, Seen.{seen_by, got_as}, StepPaths.{content_path}, Storing.{link}, Walking.{after_visit}}
-use Rattle.cacache_table.specs.State as states
+use Rattle.cacache_calls.specs.{declared.{answers.{Got.{Got}, Refusal.{Refusal}}, carried.{Commit.{Commit}, Content.{Content}}, command.{Export.{Export}, Link.{Link}}, target.Target.{Target}, visit.Visit.{Visit}}, State.{persisting, sizing, hashing}, Answers.{file_in}, Common.{go_on, fails}, Exporting.{verified}, Inserting.{insert}, Linking.{after_read, commit_for, link_target}, Seen.{seen_by, got_as}, StepPaths.{content_path}, Storing.{link}, Walking.{after_visit}}
+use Rattle.cacache_calls.specs.State as states
 use Rattle.cacache_walks.specs.{declared.walk.Walk.{Walk}, WalkStates.{Counts, pending, walk_of}}
 use Rattle.cacache_jobs.specs.{declared.{hashing.Hashing.{Hashing}, phase.Phase.{Phase}}, JobStates.{HashesFor, Leads, insertion_reply}, Sites.{site_of}}
 

@@ -1,7 +1,7 @@
 -- What the bytes of a read by key are verified against, and what exports and links read first.
 use Rattle.std.specs.Prelude.{◌≡◌, List, Option, ℕ, true}
 use Rattle.cacache_store.specs.{declared.store.log.LogItem.{LogItem}, Plain.{PlainAnswer}}
-use Rattle.cacache_table.specs.{declared.{command.{Command.{Command, TheVariants.{Get, Link, Export}}, Source.{Source}}, reply.Reply.{Reply, TheVariants.{Read}}, target.Target.{Target}}, Replies.{BeginsWithBucket, MeetsFound}, Runs.{Moves, Gains}, Linking.{link_target}, State.{Site}, Verifying.{Verifies, LinksWhole, UnlessRefused}}
+use Rattle.cacache_calls.specs.{declared.{command.{Command.{Command, TheVariants.{Get, Link, Export}}, Source.{Source}}, reply.Reply.{Reply, TheVariants.{Read}}, target.Target.{Target}}, Replies.{BeginsWithBucket, MeetsFound}, Runs.{Moves, Gains}, Linking.{link_target}, State.{Site}, Verifying.{Verifies, LinksWhole, UnlessRefused}}
 
 -- the moves begin with a read of the key's bucket; the bytes meet the integrity that the lookup finds in it
 abbrev pub BeginsFound : List ℕ → List ℕ → List ℕ → Moves → Type 0

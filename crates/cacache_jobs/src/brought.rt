@@ -1,14 +1,14 @@
 //! Reads what an answer to a step brought: for the stages of a job, and for callers that make the step themselves.
 ghost use Rattle.cacache_store.specs.Plain.{plain_answer};
-ghost use Rattle.cacache_table.specs.Answers.{file_in, length_in, temp_in};
+ghost use Rattle.cacache_calls.specs.Answers.{file_in, length_in, temp_in};
 ghost use Rattle.cacache_jobs.specs.Brought.{Brings};
 
 use crate::messages;
 use crate::phase::refused;
+use cacache_calls::answers::{file_of, length_of, temp_of};
 use cacache_core::errors::Result;
 use cacache_core::text::Text;
 use cacache_store::store::{Answer, FileHandle, TempHandle};
-use cacache_table::answers::{file_of, length_of, temp_of};
 use std::alloc::Global;
 
 /// The temporary file that the step was to make in the cache.

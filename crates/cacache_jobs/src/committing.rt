@@ -1,13 +1,13 @@
 //! Commits contents from a temporary file that already has their bytes.
 ghost use Rattle.std.specs.Prelude.{◌≡◌};
 ghost use Rattle.cacache_core.specs.declared.errors.Error.TheVariants.{OutOfMemory};
-ghost use Rattle.cacache_table.specs.{Formed.{FormsCommit}, Promises.{OnlyStores, Stores}, Runs.{Ran, plain_reply}, Storing.{persist}, declared.reply.Reply.TheVariants.{Refused}};
+ghost use Rattle.cacache_calls.specs.{Formed.{FormsCommit}, Promises.{OnlyStores, Stores}, Runs.{Ran, plain_reply}, Storing.{persist}, declared.reply.Reply.TheVariants.{Refused}};
 
 use crate::run::finish;
 use crate::storing::begin_commit;
+use cacache_calls::{Commit, Reply, form_commit};
 use cacache_store::env::Env;
 use cacache_store::store::Store;
-use cacache_table::{Commit, Reply, form_commit};
 
 /// Makes the temporary file the content that the commit describes, and finishes the commit. The reply is that of a run of
 /// the call from there on. If the store keeps its log, the log gained exactly that run. The commit's entry is well-formed,

@@ -1,11 +1,11 @@
 //! Compares a content with the integrity and the size that the caller expects.
 ghost use Rattle.std.specs.Prelude.{◌≡◌, IfOk, IfErr};
-ghost use Rattle.cacache_table.specs.{Storing.{placed, sized, indexed, matches}, Runs.{EndsAs}};
+ghost use Rattle.cacache_calls.specs.{Storing.{placed, sized, indexed, matches}, Runs.{EndsAs}};
 
+use cacache_calls::Commit;
 use cacache_core::errors::{self, Error, IntegrityFault};
 use cacache_core::integrity::Integrity;
 use cacache_core::laws::integrity_laws;
-use cacache_table::Commit;
 
 /// Whether the expected integrity matches the computed one.
 #[tactic(auto, using(crate::proofs::Matching::same_answer))]

@@ -1,16 +1,16 @@
 //! Exports of contents. An unchecked export is one step; a checked export first reads the content to its end.
-ghost use Rattle.cacache_table.specs.{Common.{go_on, fails}, Exporting.{export as export_of, export_from as export_from_of, copied_count}, State.{over}, declared.reply.Reply.TheVariants.{Copied}};
+ghost use Rattle.cacache_calls.specs.{Common.{go_on, fails}, Exporting.{export as export_of, export_from as export_from_of, copied_count}, State.{over}, declared.reply.Reply.TheVariants.{Copied}};
 ghost use Rattle.cacache_jobs.specs.JobStates.{Leads};
 
 use crate::phase::{Phase, refused};
 use crate::places::content_path;
 use crate::stage::{Last, Stage, Then};
 use crate::{hashing, messages};
+use cacache_calls::{Content, Export, How, Refusal, Reply};
 use cacache_core::errors;
 use cacache_core::keeping::{beside, let_go};
 use cacache_core::text::Text;
 use cacache_store::store::{FileHandle, Step, TempHandle};
-use cacache_table::{Content, Export, How, Refusal, Reply};
 use std::alloc::Global;
 
 /// Exports a content; a checked export opens it first.

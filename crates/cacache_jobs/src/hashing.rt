@@ -1,20 +1,20 @@
 //! Reads files to their end, hashes each byte once and keeps none: contents to verify, and targets of links.
 ghost use Rattle.std.specs.Prelude.{◌≡◌, ℕ, List, ◌++◌, length};
-ghost use Rattle.cacache_table.specs.{Linking.{after_read as after_read_of, hashed as hashed_of}, StepPaths.{content_path as content_path_of}, State.{Hashing as Purpose, opening_file, to_verify}, Seen.{got_as}};
+ghost use Rattle.cacache_calls.specs.{Linking.{after_read as after_read_of, hashed as hashed_of}, StepPaths.{content_path as content_path_of}, State.{Hashing as Purpose, opening_file, to_verify}, Seen.{got_as}};
 ghost use Rattle.cacache_jobs.specs.{JobStates.{Leads, HashesFor}, LeadsOn.{LeadsOpened, LeadsRead, LeadsVerified}};
 
 use crate::brought::opened_file;
 use crate::phase::{Phase, refused};
 use crate::stage::Stage;
 use crate::{exporting, linking, messages};
+use cacache_calls::answers::Got;
+use cacache_calls::{Content, Export, Refusal, Target};
 use cacache_core::errors::{self, Error};
 use cacache_core::hasher::Hasher;
 use cacache_core::integrity::IntegrityChecker;
 use cacache_core::keeping::{beside, let_go};
 use cacache_core::text::Text;
 use cacache_store::store::{Answer, FileHandle, Step, TempHandle};
-use cacache_table::answers::Got;
-use cacache_table::{Content, Export, Refusal, Target};
 use std::alloc::Global;
 
 /// The most bytes that one read may ask for.

@@ -1,7 +1,7 @@
 //! Puts an entry into its bucket: tests the entry, makes the bucket's folder and appends once.
 ghost use Rattle.std.specs.Prelude.{◌≡◌, None, IfOk, IfErr, OnOk, option_map, string_bytes, length};
 ghost use Rattle.cacache_core.specs.declared.errors.Error.TheVariants.{OutOfMemory};
-ghost use Rattle.cacache_table.specs.{Common.{go_on, fails}, Inserting.{insert as insert_of, insertion as insertion_of, deletion as deletion_of, after_append as after_append_of, recorded, bucket_line, refused_cause, given_or, given_text, no_integrity as without_integrity}, StepPaths.{bucket_path as bucket_path_of}, State.{Insertion as Inserted, appending}, Runs.{EndsAs}};
+ghost use Rattle.cacache_calls.specs.{Common.{go_on, fails}, Inserting.{insert as insert_of, insertion as insertion_of, deletion as deletion_of, after_append as after_append_of, recorded, bucket_line, refused_cause, given_or, given_text, no_integrity as without_integrity}, StepPaths.{bucket_path as bucket_path_of}, State.{Insertion as Inserted, appending}, Runs.{EndsAs}};
 ghost use Rattle.cacache_entry.specs.View.{entry_view};
 ghost use Rattle.cacache_jobs.specs.{IntoBuckets.{entry_with, into_bucket}, JobStates.{Leads, PhaseAt, IsInsertion, insertion_reply}, LeadsOn.{LeadsInsert}};
 
@@ -10,6 +10,7 @@ use crate::phase::{Phase, refused};
 use crate::places::{bucket_folders, bucket_path, bucket_place};
 use crate::stage::{Stage, Then};
 use crate::syncing::{Goal, sync_file};
+use cacache_calls::{Delete, Insert, Json, Options, Refusal, Reply};
 use cacache_core::bytes::Bytes;
 use cacache_core::errors::{self, Fault};
 use cacache_core::integrity::Integrity;
@@ -18,7 +19,6 @@ use cacache_core::paths::Place;
 use cacache_core::text::Text;
 use cacache_entry::{SerializableMetadata, line};
 use cacache_store::store::{FileHandle, Step, TempHandle};
-use cacache_table::{Delete, Insert, Json, Options, Refusal, Reply};
 use serde_json::Value;
 use std::alloc::{AllocError, Global};
 
@@ -99,7 +99,7 @@ pub(crate) fn entry_of(
 /// The line that the bucket holds for an entry that can be written. The line of a durable commit ends with a line feed.
 ///
 /// `SerdeError` if the entry can't be written.
-#[tactic(auto, using(crate::proofs::Refusing::refusal_ends), unfolding(cacache_table::specs::Inserting::bucket_line, cacache_table::specs::Inserting::refused_cause))]
+#[tactic(auto, using(crate::proofs::Refusing::refusal_ends), unfolding(cacache_calls::specs::Inserting::bucket_line, cacache_calls::specs::Inserting::refused_cause))]
 fn line_of(alloc: Global, entry: &SerializableMetadata, durable: bool) -> errors::Result<Bytes>
     ensures line { IfOk result (λ line. (j : Inserted) → j.entry ≡ entry_view entry.now
         → j.durable ≡ durable → line ≡ bucket_line j) }

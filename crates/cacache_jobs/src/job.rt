@@ -1,16 +1,16 @@
 //! One call as a job, which hands out its steps one by one.
 ghost use Rattle.std.specs.Prelude.{◌≡◌, IfOk, IsTrue, option_map};
 ghost use Rattle.cacache_store.specs.Plain.{PlainStep, plain_step, plain_answer};
-ghost use Rattle.cacache_table.specs.{State.{State}, Table.{opening, after}};
+ghost use Rattle.cacache_calls.specs.{State.{State}, Table.{opening, after}};
 ghost use Rattle.cacache_jobs.specs.{Sites.{site_of}, Jobs.{Stands, HasOut, GoesTo, PhaseGoesTo, HandsOut, Tells, is_step, has_out, can_go_on, reply_in}, JobStates.{Leads, PhaseAt}};
 
 use crate::opening::open;
 use crate::phase::Phase;
 use crate::stage::Stage;
+use cacache_calls::{Command, Reply};
 use cacache_core::errors::{self, Error};
 use cacache_core::keeping::{let_go, set};
 use cacache_store::store::{Answer, FileHandle, Step, TempHandle};
-use cacache_table::{Command, Reply};
 use std::alloc::{AllocError, Global};
 use std::mem::replace;
 

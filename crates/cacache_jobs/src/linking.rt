@@ -1,7 +1,7 @@
 //! Links: reads the target to its end, and makes a link to it the content.
 ghost use Rattle.std.specs.Prelude.{◌≡◌};
 ghost use Rattle.cacache_store.specs.Plain.{plain_answer};
-ghost use Rattle.cacache_table.specs.{Answers.{length_in}, Common.{go_on, fails}, Linking.{after_size as after_size_of}, StepPaths.{content_path as content_path_of}, State.{opening_file, to_link, linking as linking_state}, Storing.{link as link_of}};
+ghost use Rattle.cacache_calls.specs.{Answers.{length_in}, Common.{go_on, fails}, Linking.{after_size as after_size_of}, StepPaths.{content_path as content_path_of}, State.{opening_file, to_link, linking as linking_state}, Storing.{link as link_of}};
 ghost use Rattle.cacache_jobs.specs.{JobStates.{Leads}, LeadsOn.{LeadsHashed, LeadsSizing}};
 
 use crate::brought::told_size;
@@ -9,6 +9,7 @@ use crate::hashing::Hashing;
 use crate::phase::Phase;
 use crate::places::content_place;
 use crate::stage::{Stage, Then};
+use cacache_calls::{Commit, Link, Target};
 use cacache_core::errors;
 use cacache_core::hasher::Hasher;
 use cacache_core::integrity::Integrity;
@@ -16,7 +17,6 @@ use cacache_core::keeping::beside;
 use cacache_core::paths::Place;
 use cacache_core::text::Text;
 use cacache_store::store::{Answer, FileHandle, Step, TempHandle};
-use cacache_table::{Commit, Link, Target};
 use std::alloc::Global;
 
 /// Makes the content's folder, once the target was read to its end and has this integrity and size.

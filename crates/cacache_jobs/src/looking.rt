@@ -1,13 +1,14 @@
 //! Looks up keys, and goes on with what each lookup is for.
 ghost use Rattle.std.specs.Prelude.{◌≡◌, IfOk, IfErr};
 ghost use Rattle.cacache_core.specs.declared.errors.Error.TheVariants.{OutOfMemory};
-ghost use Rattle.cacache_table.specs.{Common.{go_on}, Looking.{found_for, found_in, after_bucket, no_bucket}, State.{looking as looking_state}};
+ghost use Rattle.cacache_calls.specs.{Common.{go_on}, Looking.{found_for, found_in, after_bucket, no_bucket}, State.{looking as looking_state}};
 ghost use Rattle.cacache_jobs.specs.JobStates.{Leads};
 
 use crate::phase::{Phase, refused};
 use crate::places::bucket_path;
 use crate::stage::Stage;
 use crate::{exporting, messages, reading, removing};
+use cacache_calls::{Aim, Content, Found, Lookup, Refusal, Reply};
 use cacache_core::bytes::Bytes;
 use cacache_core::errors::{self, Error, Fault};
 use cacache_core::integrity::Integrity;
@@ -15,7 +16,6 @@ use cacache_core::keeping::{beside, let_go};
 use cacache_core::text::Text;
 use cacache_entry::{Metadata, latest};
 use cacache_store::store::{FileHandle, Step, TempHandle};
-use cacache_table::{Aim, Content, Found, Lookup, Refusal, Reply};
 use std::alloc::Global;
 
 /// Reads the bucket of the key.
@@ -90,7 +90,7 @@ fn go_on_without_entry<F: FileHandle, T: TempHandle>(
 }
 
 /// The entry that the lookup finds in the bucket's bytes, if any.
-#[tactic(auto, unfolding(cacache_table::specs::Looking::found_in))]
+#[tactic(auto, unfolding(cacache_calls::specs::Looking::found_in))]
 fn entry_in(alloc: Global, lookup: &Lookup, bytes: &[u8]) -> errors::Result<Option<Found>>
     ensures found { IfOk result (λ found. found ≡ found_in lookup.now.key bytes.now) }
     ensures refused { IfErr result (λ e. e ≡ OutOfMemory) }

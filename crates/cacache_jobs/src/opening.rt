@@ -1,19 +1,19 @@
 //! Begins calls.
 ghost use Rattle.std.specs.Prelude.{ℕ, List, true, false};
 ghost use Rattle.cacache_core.specs.Paths.{index_area, join as join_of};
-ghost use Rattle.cacache_table.specs.{State.{looking as looking_state, reading as reading_state, asking as asking_state}, Table.{opening}, Walking.{walk}};
-ghost use Rattle.cacache_table.specs.declared.command.Command.TheVariants as commands;
+ghost use Rattle.cacache_calls.specs.{State.{looking as looking_state, reading as reading_state, asking as asking_state}, Table.{opening}, Walking.{walk}};
+ghost use Rattle.cacache_calls.specs.declared.command.Command.TheVariants as commands;
 ghost use Rattle.cacache_jobs.specs.{Sites.{site_of}, JobStates.{Leads}};
 
 use crate::phase::Phase;
 use crate::{exporting, inserting, linking, looking, reading, removing, storing, walking};
+use cacache_calls::{Aim, Command, Content, Export, Lookup, Source};
 use cacache_core::errors;
 use cacache_core::integrity::Integrity;
 use cacache_core::keeping::beside;
 use cacache_core::paths::{INDEX_AREA, join};
 use cacache_core::text::Text;
 use cacache_store::store::{FileHandle, TempHandle};
-use cacache_table::{Aim, Command, Content, Export, Lookup, Source};
 use std::alloc::Global;
 
 /// Begins a lookup of a key.

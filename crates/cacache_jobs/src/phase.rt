@@ -1,11 +1,11 @@
 //! How far a call is while none of its steps is outstanding.
-ghost use Rattle.cacache_table.specs.{Common.{refuse, fails}, Runs.{EndsAs}};
+ghost use Rattle.cacache_calls.specs.{Common.{refuse, fails}, Runs.{EndsAs}};
 
 use crate::stage::Stage;
+use cacache_calls::{Refusal, Reply};
 use cacache_core::errors::Error;
 use cacache_core::text::Text;
 use cacache_store::store::{Step, failed};
-use cacache_table::{Refusal, Reply};
 use std::alloc::AllocError;
 
 /// How far a call is while none of its steps is outstanding.

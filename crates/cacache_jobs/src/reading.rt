@@ -1,5 +1,5 @@
 //! Reads contents, and asks whether one is there.
-ghost use Rattle.cacache_table.specs.{Common.{go_on, fails}, ContentReads.{checked as checked_of, answer_there, answer_absent}, declared.reply.Reply.TheVariants.{Exists}, Replies.{there_reply}, Runs.{reply_of}, State.{reading as reading_state, asking as asking_state}};
+ghost use Rattle.cacache_calls.specs.{Common.{go_on, fails}, ContentReads.{checked as checked_of, answer_there, answer_absent}, declared.reply.Reply.TheVariants.{Exists}, Replies.{there_reply}, Runs.{reply_of}, State.{reading as reading_state, asking as asking_state}};
 ghost use Rattle.std.specs.Prelude.{◌≡◌};
 ghost use Rattle.cacache_jobs.specs.JobStates.{Leads};
 
@@ -7,10 +7,10 @@ use crate::messages;
 use crate::phase::{Phase, refused};
 use crate::places::content_path;
 use crate::stage::Stage;
+use cacache_calls::{Content, Refusal, Reply};
 use cacache_core::bytes::Bytes;
 use cacache_core::errors::{self, Error};
 use cacache_store::store::{FileHandle, Step, TempHandle};
-use cacache_table::{Content, Refusal, Reply};
 use std::alloc::Global;
 
 /// Reads the content.

@@ -1,14 +1,14 @@
 //! Links to targets that the caller has already read to their end.
 ghost use Rattle.std.specs.Prelude.{◌≡◌};
 ghost use Rattle.cacache_core.specs.declared.errors.Error.TheVariants.{OutOfMemory};
-ghost use Rattle.cacache_table.specs.{Formed.{FormsCommit}, Promises.{OnlyStores, Stores}, Runs.{Ran, plain_reply}, Storing.{link as link_of}, declared.reply.Reply.TheVariants.{Refused}};
+ghost use Rattle.cacache_calls.specs.{Formed.{FormsCommit}, Promises.{OnlyStores, Stores}, Runs.{Ran, plain_reply}, Storing.{link as link_of}, declared.reply.Reply.TheVariants.{Refused}};
 
 use crate::linking::link;
 use crate::run::finish;
+use cacache_calls::{Commit, Reply, form_commit};
 use cacache_core::text::Text;
 use cacache_store::env::Env;
 use cacache_store::store::Store;
-use cacache_table::{Commit, Reply, form_commit};
 
 /// Makes a link to the target the content that the commit describes, and finishes the commit. The reply is that of a run of
 /// the call from there on. If the store keeps its log, the log gained exactly that run. The commit's entry is well-formed,

@@ -2,16 +2,16 @@
 ghost use Rattle.std.specs.Prelude.{◌≡◌};
 ghost use Rattle.cacache_core.specs.declared.errors.Error.TheVariants.{OutOfMemory};
 ghost use Rattle.cacache_store.specs.{Fits.{Fits}, Plain.{plain_step, plain_answer}};
-ghost use Rattle.cacache_table.specs.{Formed.{FormsCommand}, Promises.{Answers}, Runs.{Ran, plain_reply}, State.{State}, Table.{opening}, declared.reply.Reply.TheVariants.{Refused}};
+ghost use Rattle.cacache_calls.specs.{Formed.{FormsCommand}, Promises.{Answers}, Runs.{Ran, plain_reply}, State.{State}, Table.{opening}, declared.reply.Reply.TheVariants.{Refused}};
 ghost use Rattle.cacache_jobs.specs.{ReadFirst.{FindsBytes, ReadsFirst}, Jobs.{Stands}, Sites.{site_of}, JobStates.{Leads, PhaseAt}, LeadsOn.{LogsSeen}};
 
 use crate::job::{Job, over_on_error};
 use crate::opening::open;
 use crate::phase::Phase;
+use cacache_calls::{Command, Reply, form_command};
 use cacache_core::errors;
 use cacache_store::env::Env;
 use cacache_store::store::{Answer, Step, Store};
-use cacache_table::{Command, Reply, form_command};
 use std::alloc::Global;
 
 /// Makes a step. It is a separate function, so that the store's stack space is freed before the call goes on.

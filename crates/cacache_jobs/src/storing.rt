@@ -3,7 +3,7 @@
 ghost use Rattle.std.specs.Prelude.{◌≡◌, ℕ, IfOk, IfErr, drop};
 ghost use Rattle.cacache_core.specs.{Integrity.{integrity_under}, declared.errors.Error.TheVariants.{OutOfMemory}};
 ghost use Rattle.cacache_store.specs.Plain.{plain_answer};
-ghost use Rattle.cacache_table.specs.{Answers.{temp_in}, Common.{go_on, fails}, StepPaths.{content_path as content_path_of, temp_path as temp_path_of}, State.{Site, creating, syncing, persisting, confirming}, Storing.{persist as persist_of, write_rest as write_rest_of, placed as placed_of, secured as secured_of, secured_found as secured_found_of, move_in as move_in_of, indexed, after_write as after_write_of, after_confirm as after_confirm_of, put_commit, store as store_of}, Seen.{seen_by, written_as}};
+ghost use Rattle.cacache_calls.specs.{Answers.{temp_in}, Common.{go_on, fails}, StepPaths.{content_path as content_path_of, temp_path as temp_path_of}, State.{Site, creating, syncing, persisting, confirming}, Storing.{persist as persist_of, write_rest as write_rest_of, placed as placed_of, secured as secured_of, secured_found as secured_found_of, move_in as move_in_of, indexed, after_write as after_write_of, after_confirm as after_confirm_of, put_commit, store as store_of}, Seen.{seen_by, written_as}};
 ghost use Rattle.cacache_jobs.specs.{JobStates.{Leads, PhaseAt}, LeadsOn.{LeadsSynced}};
 
 use crate::brought::made_temp;
@@ -14,6 +14,8 @@ use crate::phase::{Phase, refused};
 use crate::places::{content_folders, content_path, content_place, temp_place};
 use crate::stage::{Stage, Then};
 use crate::syncing::{Goal, sync_file, sync_up};
+use cacache_calls::answers::Written;
+use cacache_calls::{Commit, Options, Put, Refusal, Reply};
 use cacache_core::bytes::Bytes;
 use cacache_core::errors::{self, Error, Fault};
 use cacache_core::hasher::Hasher;
@@ -22,8 +24,6 @@ use cacache_core::keeping::{beside, let_go};
 use cacache_core::paths::Place;
 use cacache_core::text::Text;
 use cacache_store::store::{Answer, FileHandle, Step, TempHandle};
-use cacache_table::answers::Written;
-use cacache_table::{Commit, Options, Put, Refusal, Reply};
 use std::alloc::Global;
 
 /// The integrity of a put's bytes.

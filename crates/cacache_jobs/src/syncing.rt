@@ -1,5 +1,5 @@
 //! How a durable call waits for the device: it syncs a file, and then the folders that lead to it, from the deepest up.
-ghost use Rattle.cacache_table.specs.{Common.{sync_up as sync_up_of}, State.{State, doing, sync_file as sync_file_errand, sync_dir as sync_dir_errand}};
+ghost use Rattle.cacache_calls.specs.{Common.{sync_up as sync_up_of}, State.{State, doing, sync_file as sync_file_errand, sync_dir as sync_dir_errand}};
 ghost use Rattle.cacache_jobs.specs.JobStates.{Leads, GoalAt};
 
 use crate::inserting::Insertion;
@@ -7,11 +7,11 @@ use crate::messages;
 use crate::phase::Phase;
 use crate::stage::{Stage, Then};
 use crate::storing::compare_and_index;
+use cacache_calls::Commit;
 use cacache_core::errors;
 use cacache_core::keeping::beside;
 use cacache_core::text::Text;
 use cacache_store::store::{FileHandle, Step, TempHandle};
-use cacache_table::Commit;
 use std::alloc::{AllocError, Global};
 
 /// What a durable call does once everything is synced.

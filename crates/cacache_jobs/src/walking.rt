@@ -1,16 +1,16 @@
 //! Calls that walk through folders: a clearing removes everything, a listing reads each bucket.
 ghost use Rattle.std.specs.Prelude.{[]};
-ghost use Rattle.cacache_table.specs.{State.{State}, Walking.{walk as walk_from}};
+ghost use Rattle.cacache_calls.specs.{State.{State}, Walking.{walk as walk_from}};
 ghost use Rattle.cacache_walks.specs.WalkStates.{WalksAt};
 ghost use Rattle.cacache_jobs.specs.{JobStates.{Leads}, LeadsOn.{LeadsVisited}};
 
 use crate::phase::Phase;
 use crate::stage::Stage;
+use cacache_calls::Visit;
 use cacache_core::errors;
 use cacache_core::keeping::beside;
 use cacache_core::text::Text;
 use cacache_store::store::{Answer, FileHandle, TempHandle};
-use cacache_table::Visit;
 use cacache_walks::Walk;
 use std::alloc::Global;
 

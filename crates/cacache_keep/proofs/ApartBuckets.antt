@@ -6,7 +6,7 @@ use Rattle.cacache_store.specs.declared.store.answer.Answer.TheVariants as answe
 use Rattle.cacache_store.specs.{declared.store.{log.LogItem.{LogItem}, plain.PlainTemp.{PlainTemp}}, Plain.{PlainStep}}
 use Rattle.cacache_store.specs.declared.store.step.Step.TheVariants as steps
 use Rattle.cacache_disk.specs.Tree.{Tree}
-use Rattle.cacache_table.specs.{Runs.{Moves}, SingleSteps.{Does, FailsAt}, StepPaths.{temp_folder, temp_path}}
+use Rattle.cacache_calls.specs.{Runs.{Moves}, SingleSteps.{Does, FailsAt}, StepPaths.{temp_folder, temp_path}}
 use Rattle.cacache_value.{specs.Kinds.{PathKind, Temporary, path_kind}, proofs.KindsApart.{kind-below}}
 use Rattle.cacache_laws.specs.{Sequence.{AreAnswered}, trees.Compacting.{compact_text}}
 use Rattle.cacache_loss.{specs.{Fixing.{is_at}, Moments.{Moment}}, proofs.UnchangedPaths.{at_false}}

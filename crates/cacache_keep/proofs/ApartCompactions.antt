@@ -3,7 +3,7 @@ use Rattle.std.{proofs.Common.{◌≡◌, inl, inr, ℕ, List, [], ◌∷◌, �
 use Rattle.cacache_core.specs.{declared.errors.Error.{Error}, PathNames.{Names, home_of, names_of}}
 use Rattle.cacache_store.specs.declared.store.answer.Answer.TheVariants as answers
 use Rattle.cacache_store.specs.{declared.store.log.LogItem.{LogItem}, Plain.{PlainStep}}
-use Rattle.cacache_table.specs.SingleSteps.{FailsAt}
+use Rattle.cacache_calls.specs.SingleSteps.{FailsAt}
 use Rattle.cacache_store.specs.declared.store.step.Step.TheVariants as steps
 use Rattle.cacache_value.specs.Kinds.{Bucket as IsBucket, Way, path_kind}
 use Rattle.cacache_loss.proofs.UnchangedPaths.{at_false}

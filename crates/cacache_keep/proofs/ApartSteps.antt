@@ -5,7 +5,7 @@ use Rattle.cacache_core.specs.{declared.errors.Fault.{Fault, TheVariants.{IsADir
 use Rattle.cacache_store.specs.{declared.store.{plain.PlainTemp.{PlainTemp}, step.Step.TheVariants.{MakeDirs, CreateTemp, Write, Persist, ReadAll, ReadDir, SyncTemp, SyncFile, SyncDir}}, Plain.{PlainStep, PlainAnswer}}
 use Rattle.cacache_disk.proofs.Maps.{same_path-true}
 use Rattle.cacache_disk.specs.{declared.{luck.Luck.TheVariants.{Plain}, node.Node.{Node, TheVariants.{File}}}, LedTo.{file_at, folder, leads}, Tree.{Tree, bytes_of, cut, look}, Apply.{apply}}
-use Rattle.cacache_table.specs.Runs.{Moves}
+use Rattle.cacache_calls.specs.Runs.{Moves}
 use Rattle.cacache_loss.specs.{declared.fixing.Fixing.{Fixing}, CalmMoves.{is_calm}, Fixing.{Fixed, changed, file_synced, fixed_after, folder_synced, is_at, is_child_of, is_sync, is_synced, synced, temp_synced}, Moments.{Moment, next}}
 use Rattle.cacache_loss.proofs.{KeptPaths.{sync_tree}, StepCases.{PersistCase, asked_keeps, cut_misses, dirs_keep, make_keeps, moved, persist_case, put_misses, refused, step_keeps, temp_keeps}, UnchangedPaths.{Misses, at_names, file_kept, moved_false, name_kept, rewrites_false, writes_false}}
 use Rattle.cacache_keep.proofs.MomentRuns.{later}

@@ -4,9 +4,9 @@ use Rattle.std.specs.{List.{filter}, Prelude.{OnOk, not}}
 use Rattle.cacache_core.specs.declared.errors.{Error.TheVariants.{IoError}, Fault.TheVariants.{NotFound}}
 use Rattle.cacache_store.specs.declared.{env.Env.{Env}, store.log.LogItem.{LogItem}}
 use Rattle.cacache_entry.specs.Latest.{Found}
-use Rattle.cacache_table.specs.{declared.{command.Command.{Command}, reply.Reply.{Reply}}, State.{Site, Item}, Table.{opening}, Runs.{Ran, plain_item}}
-use Rattle.cacache_table.specs.declared.command.Command.TheVariants as commands
-use Rattle.cacache_table.specs.declared.reply.Reply.TheVariants as replies
+use Rattle.cacache_calls.specs.{declared.{command.Command.{Command}, reply.Reply.{Reply}}, State.{Site, Item}, Table.{opening}, Runs.{Ran, plain_item}}
+use Rattle.cacache_calls.specs.declared.command.Command.TheVariants as commands
+use Rattle.cacache_calls.specs.declared.reply.Reply.TheVariants as replies
 use Rattle.cacache_jobs.specs.{Environment.{KeepsRest}, Sites.{site_of}}
 use Rattle.cacache_keep.specs.{Calls.{AsksEach, HasNoIndex, MadeCalls, question_of}, Checking.{ReadsIndex}, Walking.{MeetsIndex}}
 

@@ -7,7 +7,7 @@ use Rattle.cacache_core.proofs.PathLemmas.{keys_have_digests}
 use Rattle.cacache_store.specs.declared.store.log.LogItem.{LogItem}
 use Rattle.cacache_disk.specs.memory.Replay.{tree_of, IsLog}
 use Rattle.cacache_entry.specs.Latest.{Found, latest}
-use Rattle.cacache_table.specs.State.{Site}
+use Rattle.cacache_calls.specs.State.{Site}
 use Rattle.cacache_value.specs.{Acts.{list_of}, Value.{value_of_tree}}
 use Rattle.cacache_history.specs.ShownTurns.{blob_at}
 use Rattle.cacache_laws.specs.{Beside.{IsOther, KeepsBeside, own_integrity}, Caches.{IsCache, HasKey, lies_under}, Keeping.{found_under, KeepsOthers, StaysKnown}, ReadAnswers.{entries_on}, Sequence.{IsSound}, trees.{Collecting.{is_live}, Contents.{bucket_in, content_in}, Index.{IndexLists}, Mending.{found_in}}}

@@ -5,10 +5,10 @@ use Rattle.cacache_core.specs.PathNames.{Names, home_of}
 use Rattle.cacache_store.specs.declared.store.log.LogItem.{LogItem}
 use Rattle.cacache_disk.specs.{Rooted.{Rooted}, Tree.{Tree, look}}
 use Rattle.cacache_entry.specs.Latest.{Found}
-use Rattle.cacache_table.specs.{declared.{command.{Command.{Command}, Delete.{Delete}}, reply.Reply.{Reply}}, Inserting.{deletion, refused_cause}, Licence.{looking_on}, Runs.{Moves, Gains}, Sound.{FormedIfWritten}, State.{Site}}
-use Rattle.cacache_table.proofs.Within.{calls_keep_to}
-use Rattle.cacache_table.specs.declared.command.Command.TheVariants as commands
-use Rattle.cacache_table.specs.declared.reply.Reply.TheVariants as replies
+use Rattle.cacache_calls.specs.{declared.{command.{Command.{Command}, Delete.{Delete}}, reply.Reply.{Reply}}, Inserting.{deletion, refused_cause}, Licence.{looking_on}, Runs.{Moves, Gains}, Sound.{FormedIfWritten}, State.{Site}}
+use Rattle.cacache_calls.proofs.Within.{calls_keep_to}
+use Rattle.cacache_calls.specs.declared.command.Command.TheVariants as commands
+use Rattle.cacache_calls.specs.declared.reply.Reply.TheVariants as replies
 use Rattle.cacache_value.specs.Placed.{Placed}
 use Rattle.cacache_laws.specs.{Sequence.{tree_on, AreAnswered}, trees.{Contents.{content_in}, Housed.{Housed, Still}, Mending.{KeepsContents, found_in}, Verifying.{has_content}}}
 use Rattle.cacache_laws.proofs.{Putting.Forms.{bare_written}, Readings.Looks.{moves_keep}, trees.{HiddenKeys.{tombstones_hide}, Housed.{moves_rooted, tombstones_house}, Led.{finds_led, found_integrity}, Logged.{answered_rest, answered_split, gains_join, looked, tree_rest, tree_split}, Members.{Member}, StillThere.{has_still}, Tombstones.{tombstones_keep_contents}}}

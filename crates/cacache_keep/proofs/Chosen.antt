@@ -6,10 +6,10 @@ use Rattle.cacache_store.specs.declared.store.log.LogItem.{LogItem}
 use Rattle.cacache_store.specs.declared.store.step.Step.TheVariants as steps
 use Rattle.cacache_disk.specs.{Tree.{Tree}, memory.Replay.{tree_of, IsLog}}
 use Rattle.cacache_entry.specs.Latest.{Found}
-use Rattle.cacache_table.specs.{declared.{command.Command.{Command}, reply.Reply.{Reply}}, State.{Site}, Runs.{Moves, Gains}, StepPaths.{content_path}, Licence.{looking_on}}
-use Rattle.cacache_table.proofs.Within.{calls_keep_to}
-use Rattle.cacache_table.specs.declared.command.Command.TheVariants as commands
-use Rattle.cacache_table.specs.declared.reply.Reply.TheVariants as replies
+use Rattle.cacache_calls.specs.{declared.{command.Command.{Command}, reply.Reply.{Reply}}, State.{Site}, Runs.{Moves, Gains}, StepPaths.{content_path}, Licence.{looking_on}}
+use Rattle.cacache_calls.proofs.Within.{calls_keep_to}
+use Rattle.cacache_calls.specs.declared.command.Command.TheVariants as commands
+use Rattle.cacache_calls.specs.declared.reply.Reply.TheVariants as replies
 use Rattle.cacache_laws.specs.{Sequence.{tree_on, AreAnswered}, trees.{Contents.{HoldsJust}, Index.{IndexLists}}}
 use Rattle.cacache_laws.proofs.{Calls.InParts.{logs_lead}, Readings.{Looks.{moves_keep}, ReadsStay.{sizing_keeps}}, trees.{Agreed.{holdings_agree, indexes_agree}, Held.{holds_just}, Logged.{answered_rest, answered_split, gains_join, log_rooted, looked, tree_rest, walked}}}
 use Rattle.cacache_walks.specs.{Listing.{content_area_in}, Reading.{top_folder}}

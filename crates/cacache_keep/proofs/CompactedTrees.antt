@@ -7,7 +7,7 @@ use Rattle.cacache_store.specs.declared.store.{log.LogItem.{LogItem}, plain.Plai
 use Rattle.cacache_store.specs.declared.store.step.Step.TheVariants as steps
 use Rattle.cacache_disk.specs.{declared.{luck.Luck.TheVariants.{Plain}, node.Node.TheVariants.{Folder, File}}, Tree.{Tree, look, same_path}, Apply.{apply}, Rooted.{Rooted}}
 use Rattle.cacache_disk.proofs.{Maps.{same_path-true}, Roots.{same_self}, Standing.{upper_folder}}
-use Rattle.cacache_table.specs.{SingleSteps.{Does}, StepPaths.{temp_folder, temp_path}}
+use Rattle.cacache_calls.specs.{SingleSteps.{Does}, StepPaths.{temp_folder, temp_path}}
 use Rattle.cacache_value.specs.Kinds.{path_kind}
 use Rattle.cacache_laws.proofs.{Readings.ReadsStay.{reading_keeps}, trees.{CompactTwice.{compact_again}, LeanTrees.{Becomes, compacted_more, compacted_none, cut_later, cut_short}, Led.{file_shown}}}
 use Rattle.cacache_laws.specs.trees.{Compacted.{Compacted, CutShort}, Compacting.{compact_text}}

@@ -5,7 +5,7 @@ use Rattle.cacache_core.specs.declared.errors.Error.{Error, TheVariants.{OutOfMe
 use Rattle.cacache_store.specs.declared.store.answer.Answer.TheVariants as answers
 use Rattle.cacache_store.specs.declared.store.log.LogItem.{LogItem}
 use Rattle.cacache_store.specs.declared.store.step.Step.TheVariants as steps
-use Rattle.cacache_table.specs.SingleSteps.{Does}
+use Rattle.cacache_calls.specs.SingleSteps.{Does}
 use Rattle.cacache_laws.specs.trees.{Compacting.{compact_text}, Temporary.{total}}
 use Rattle.cacache_keep.specs.{Compacting.{Bucket, Changes, CompactsAll, CompactsBucket, CompactsEach, RewritesIf, Saves, Settles, StopsBucket, StopsCompactingEach, StopsSettling, is_loose, same_bytes, saved}, declared.settling.Lean.{Lean}, Rewriting.{Rewrites, StopsRewriting, SyncsBucket}}
 use Rattle.cacache_keep.proofs.{Asked.{kept, passed}, Sweeps.{total_more}}

@@ -6,7 +6,7 @@ use Rattle.cacache_store.specs.declared.store.log.LogItem.{LogItem}
 use Rattle.cacache_store.specs.declared.store.step.Step.TheVariants as steps
 use Rattle.cacache_disk.specs.{declared.{luck.Luck.TheVariants.{Plain}, node.Node.{Node, TheVariants.{File}}}, LedTo.{folder, place, where_folder}, Rooted.{Rooted, is_folder}, Tree.{Tree, look}, Apply.{apply, unless}}
 use Rattle.cacache_disk.proofs.{FoundNodes.{and_then_ok, place_ok}, Standing.{upper_folder}}
-use Rattle.cacache_table.specs.Runs.{Moves}
+use Rattle.cacache_calls.specs.Runs.{Moves}
 use Rattle.cacache_loss.specs.{declared.fixing.Place.{Place}, Fixing.{is_child_of}, Loss.{Loss, begins, lead_folders, left_at, node_left}, Moments.{Moment, lost_then}}
 use Rattle.cacache_loss.proofs.{KeptPaths.{cond_none, sync_fixes}, SyncedFolders.{IsFirm, left_firm}, UnchangedPaths.{bytes_same}}
 use Rattle.cacache_laws.proofs.trees.Members.{Member}

@@ -6,9 +6,9 @@ use Rattle.cacache_core.proofs.Meeting.{meets_finds}
 use Rattle.cacache_store.specs.declared.store.answer.Answer.TheVariants as answers
 use Rattle.cacache_store.specs.{declared.store.{log.LogItem.{LogItem}, plain.PlainFile.{PlainFile}}, Fits.{Fits, Logs}, Plain.{PlainStep, PlainAnswer}}
 use Rattle.cacache_store.specs.declared.store.step.Step.TheVariants as steps
-use Rattle.cacache_table.specs.{declared.answers.Refusal.{Refusal}, Answers.{file_in, got_in}, Common.{ends_with, fails, refuse}, Runs.{EndsAs, Moves}, SingleSteps.{FailsAt}, StepPaths.{content_path}, Table.{piece}}
-use Rattle.cacache_table.proofs.Going.{no_gain}
-use Rattle.cacache_table.specs.declared.answers.Refusal.TheVariants as refusals
+use Rattle.cacache_calls.specs.{declared.answers.Refusal.{Refusal}, Answers.{file_in, got_in}, Common.{ends_with, fails, refuse}, Runs.{EndsAs, Moves}, SingleSteps.{FailsAt}, StepPaths.{content_path}, Table.{piece}}
+use Rattle.cacache_calls.proofs.Going.{no_gain}
+use Rattle.cacache_calls.specs.declared.answers.Refusal.TheVariants as refusals
 use Rattle.cacache_laws.proofs.trees.Logged.{gains_join}
 use Rattle.cacache_keep.specs.Reading.{FindsNone, Gave, GaveAll, Opens, Pieces, StopsContent, StopsGiving, finds_none, is_gone}
 

@@ -4,7 +4,7 @@ use Rattle.std.specs.List.{filter, flat_map}
 use Rattle.cacache_core.specs.{declared.errors.Error.{Error, TheVariants.{OutOfMemory}}, Paths.{join}}
 use Rattle.cacache_store.specs.declared.store.{answer.Name.{Name}, log.LogItem.{LogItem}}
 use Rattle.cacache_store.specs.declared.store.step.Step.TheVariants as steps
-use Rattle.cacache_table.specs.SingleSteps.{FailsAt}
+use Rattle.cacache_calls.specs.SingleSteps.{FailsAt}
 use Rattle.cacache_keep.specs.{Reading.{is_gone}, Sweeping.{ListsFolder}, Buckets.{Listed, ListsInTurn, ListsParts, StopsNextPart, StopsParts, belongs, parts_in}}
 
 turn_on : (listings : List Listed) (l : Listed) (old mid new : Option (List LogItem)) → ListsInTurn listings old mid → ListsFolder l.0 l.1 mid new → ListsInTurn (listings ++ l ∷ []) old new

@@ -3,9 +3,9 @@ use Rattle.std.proofs.{Common.{◌≡◌, inl, inr, ◌<◌, List, [], ◌∷◌
 use Rattle.std.specs.{List.{cons_option}, Option.{option_to_list}}
 use Rattle.cacache_core.specs.declared.errors.Error.{Error, TheVariants.{OutOfMemory}}
 use Rattle.cacache_store.specs.{declared.store.log.LogItem.{LogItem, TheVariants.{Made}}, Fits.{Fits, Logs}, Plain.{PlainStep, PlainAnswer}}
-use Rattle.cacache_table.specs.{declared.{reply.Reply.TheVariants.{Done, Listed, Refused}, visit.Visit.{Visit}}, Runs.{EndsAs, Gone, Moves, effort, plain_item, without_message}, State.{State, Site, over}, Table.{after, wants}, Walking.{after_visit, visit_step}}
-use Rattle.cacache_table.proofs.{Effort.{falls}, Going.{answer_cases, gains_one, goes_on, goes_over, gone_lost, gone_on, gone_over, no_gain, unmoved}, ListReplies.{lists_shown}, Memory.{memory_said, no_memory_after}, Promises.{calls_answer}}
-use Rattle.cacache_table.specs.declared.command.Command.TheVariants as commands
+use Rattle.cacache_calls.specs.{declared.{reply.Reply.TheVariants.{Done, Listed, Refused}, visit.Visit.{Visit}}, Runs.{EndsAs, Gone, Moves, effort, plain_item, without_message}, State.{State, Site, over}, Table.{after, wants}, Walking.{after_visit, visit_step}}
+use Rattle.cacache_calls.proofs.{Effort.{falls}, Going.{answer_cases, gains_one, goes_on, goes_over, gone_lost, gone_on, gone_over, no_gain, unmoved}, ListReplies.{lists_shown}, Memory.{memory_said, no_memory_after}, Promises.{calls_answer}}
+use Rattle.cacache_calls.specs.declared.command.Command.TheVariants as commands
 use Rattle.cacache_walks.specs.{declared.walk.Walk.{Walk}, Iterating.{listing_state, steps_left}, WalkStates.{GoesOn, WalkLeads, WalksAt, walk_of}}
 use Rattle.cacache_keep.specs.{Checking.{odd_in, odd_read}, Walking.{LosesIndex, MeetsIndex, VisitGoes, VisitStops, WalksIndex}}
 

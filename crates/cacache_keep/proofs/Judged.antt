@@ -8,10 +8,10 @@ use Rattle.cacache_store.specs.{declared.store.{log.LogItem.{LogItem}, plain.Pla
 use Rattle.cacache_store.specs.declared.store.step.Step.TheVariants as steps
 use Rattle.cacache_disk.specs.{declared.luck.Luck.TheVariants.{Plain}, Apply.{apply, given, opened, rest_of, unless}, LedTo.{file_at}, Tree.{Tree}, Rooted.{Rooted}}
 use Rattle.cacache_entry.specs.Latest.{Found}
-use Rattle.cacache_table.specs.declared.command.Command.TheVariants as commands
-use Rattle.cacache_table.specs.declared.reply.Reply.TheVariants as replies
-use Rattle.cacache_table.specs.{Answers.{there_in}, Replies.{there_reply}, Runs.{Moves, Gains}, State.{Site, Item}, StepPaths.{content_path}, Table.{piece}}
-use Rattle.cacache_table.proofs.Replies.{exists_shown}
+use Rattle.cacache_calls.specs.declared.command.Command.TheVariants as commands
+use Rattle.cacache_calls.specs.declared.reply.Reply.TheVariants as replies
+use Rattle.cacache_calls.specs.{Answers.{there_in}, Replies.{there_reply}, Runs.{Moves, Gains}, State.{Site, Item}, StepPaths.{content_path}, Table.{piece}}
+use Rattle.cacache_calls.proofs.Replies.{exists_shown}
 use Rattle.cacache_laws.specs.{Sequence.{AreAnswered, tree_on}, trees.{Contents.{IsHeld, content_in}, Answers.{AnsweredBy, AnswersOn}, Index.{IndexLists, entries_in, is_failure}, Verifying.{is_good, is_met, says_yes, has_content}}}
 use Rattle.cacache_laws.proofs.trees.{Logged.{answered_rest, answered_split, gains_join, tree_rest}, Members.{Member, member_contains}, Verified.{content_file}}
 use Rattle.cacache_value.specs.Shows.{blob_bytes}

@@ -6,7 +6,7 @@ use Rattle.cacache_store.specs.declared.store.{log.LogItem.{LogItem}, step.Step.
 use Rattle.cacache_store.specs.declared.store.answer.Answer.TheVariants as answers
 use Rattle.cacache_disk.specs.{declared.luck.Luck.TheVariants.{Plain}, Tree.{Tree}, Apply.{apply}, memory.Replay.{tree_of, IsLog}}
 use Rattle.cacache_entry.specs.Latest.{Found}
-use Rattle.cacache_table.specs.{State.{Site}, Runs.{Moves, Gains}}
+use Rattle.cacache_calls.specs.{State.{Site}, Runs.{Moves, Gains}}
 use Rattle.cacache_laws.specs.{Sequence.{tree_on, AreAnswered}, trees.{Contents.{HoldsJust}, Index.{IndexLists}, Collecting.{LeavesLive, LinksLeadOut, Removes, is_live}, Idle.{LacksIdle}}}
 use Rattle.cacache_laws.proofs.trees.{Collected.{lacks, leaves, others_gone, picked_left, rest_stays}, Logged.{gains_join, log_rooted}, Removed.{removals_run}}
 use Rattle.cacache_keep.specs.{Calls.{MadeCalls, has_entry, removal}, Keeping.{CollectsFrom}, Kept.{CollectionsLackIdle, CollectionsLeave}}

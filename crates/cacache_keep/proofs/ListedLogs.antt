@@ -4,9 +4,9 @@ use Rattle.cacache_core.specs.{declared.integrity.digest.Hash.{Hash}, PathNames.
 use Rattle.cacache_store.specs.declared.store.log.LogItem.{LogItem, TheVariants.{Made}}
 use Rattle.cacache_disk.specs.memory.Replay.{tree_of, IsLog}
 use Rattle.cacache_entry.specs.Latest.{Found}
-use Rattle.cacache_table.specs.declared.command.Command.TheVariants as commands
-use Rattle.cacache_table.specs.declared.reply.Reply.TheVariants as replies
-use Rattle.cacache_table.specs.{Runs.{Gains, Moves}, State.{Site}}
+use Rattle.cacache_calls.specs.declared.command.Command.TheVariants as commands
+use Rattle.cacache_calls.specs.declared.reply.Reply.TheVariants as replies
+use Rattle.cacache_calls.specs.{Runs.{Gains, Moves}, State.{Site}}
 use Rattle.cacache_laws.{proofs.{Calls.InParts.{logs_lead}, Readings.OpenReaders.{log_front}, trees.Logged.{gains_join, log_rooted, looked}}, specs.trees.Index.{IndexLists}}
 use Rattle.cacache_keep.specs.{Calls.{question_of, removal}, Kept.{LeavesTree}, Repairing.{Fate, RepairsCache, RepairsFrom, calls_for}}
 use Rattle.cacache_keep.proofs.{Judged.{index_lists, reads_judged}, Parts.{calls_gain}, Shown.{burial_of}}

@@ -5,7 +5,7 @@ use Rattle.cacache_core.{specs.{declared.integrity.digest.Hash.{Hash}, PathNames
 use Rattle.cacache_store.specs.declared.store.{log.LogItem.{LogItem}, step.Step.TheVariants.{RemoveFile}}
 use Rattle.cacache_disk.specs.{declared.luck.Luck.TheVariants.{Plain}, Tree.{Tree}, Apply.{apply}, memory.Replay.{tree_of, IsLog}}
 use Rattle.cacache_entry.specs.Latest.{Found, latest}
-use Rattle.cacache_table.specs.State.{Site}
+use Rattle.cacache_calls.specs.State.{Site}
 use Rattle.cacache_value.{specs.{Placed.{Placed}, Acts.{list_of}}, proofs.Traces.{steps_keep_placed}}
 use Rattle.cacache_laws.specs.{Sequence.{tree_on}, trees.{Collecting.{Removes}, Contents.{HoldsJust}, Mending.{found_in}, Verifying.{has_content, is_good}}}
 use Rattle.cacache_laws.proofs.{Calls.InParts.{logs_lead}, trees.{Collected.{from_kept, kept_in, leaves}, Held.{holds_just}, Logged.{answered_rest, answered_split, gains_join, log_rooted, tree_rest, tree_split, walked}, Members.{Member, contains_member, member_contains}, Mended.{repairs_leave}}}

@@ -4,7 +4,7 @@ use Rattle.cacache_core.specs.declared.errors.{Error.{Error, TheVariants.{IoErro
 use Rattle.cacache_store.specs.declared.store.answer.Answer.TheVariants as answers
 use Rattle.cacache_store.specs.{declared.store.log.LogItem.{LogItem, TheVariants.{Made}}, Plain.{PlainStep, PlainAnswer}}
 use Rattle.cacache_disk.specs.{declared.luck.Luck.TheVariants.{Plain}, Tree.{Tree}, Apply.{apply}, Rooted.{Rooted}, memory.Replay.{tree_of, IsLog}}
-use Rattle.cacache_table.specs.{Runs.{Gains, Moves}, SingleSteps.{Does, FailsAt}}
+use Rattle.cacache_calls.specs.{Runs.{Gains, Moves}, SingleSteps.{Does, FailsAt}}
 use Rattle.cacache_laws.{specs.Sequence.{tree_on, plain_moves, AreAnswered}, proofs.{Calls.InParts.{logs_lead}, trees.Logged.{answered_split, gains_join, log_rooted}}}
 use Rattle.cacache_loss.specs.Moments.{Moment, after, next}
 use Rattle.cacache_keep.proofs.{Parts.{gains_none}, TreeRuns.{Leads, moves_rooted}}

@@ -2,7 +2,7 @@
 use Rattle.std.proofs.Common.{◌≡◌, List, [], ◌∷◌, ◌++◌, Option, None, Some, refl, sym, ap, ◌∙◌, append-nil}
 use Rattle.cacache_store.specs.declared.store.log.LogItem.{LogItem}
 use Rattle.cacache_disk.specs.Tree.{Tree}
-use Rattle.cacache_table.specs.{declared.{command.Command.{Command}, reply.Reply.{Reply}}, State.{Site}, Runs.{Moves, Gains}}
+use Rattle.cacache_calls.specs.{declared.{command.Command.{Command}, reply.Reply.{Reply}}, State.{Site}, Runs.{Moves, Gains}}
 use Rattle.cacache_laws.specs.{Looks.{OnlyLooks}, Sequence.{tree_on, AreAnswered}, trees.Answers.{AnswersOn}}
 use Rattle.cacache_laws.proofs.trees.Logged.{gains_join, tree_rest, answered_split, answered_rest, looked}
 use Rattle.cacache_keep.specs.Calls.{MadeCalls}

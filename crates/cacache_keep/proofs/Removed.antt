@@ -2,9 +2,9 @@
 use Rattle.std.proofs.{Common.{◌≡◌, ◌+◌, ◌<◌, ℕ, List, [], ◌∷◌, ◌++◌, Option, sym, ap, subst, ◌∙◌, map, length, get_or, take, drop}, lemmas.List.{drop_more, take-append-drop, take_more}}
 use Rattle.cacache_core.specs.declared.{errors.Error.{Error}, integrity.digest.Hash.{Hash}}
 use Rattle.cacache_store.specs.declared.store.log.LogItem.{LogItem}
-use Rattle.cacache_table.specs.declared.command.Command.TheVariants as commands
-use Rattle.cacache_table.specs.declared.reply.Reply.TheVariants as replies
-use Rattle.cacache_table.specs.{State.{Site}, Table.{opening}, Runs.{Ran, without_message}}
+use Rattle.cacache_calls.specs.declared.command.Command.TheVariants as commands
+use Rattle.cacache_calls.specs.declared.reply.Reply.TheVariants as replies
+use Rattle.cacache_calls.specs.{State.{Site}, Table.{opening}, Runs.{Ran, without_message}}
 use Rattle.cacache_keep.{specs.Calls.{MadeCalls, StopsRemoving, removal}, proofs.Asked.{mapped_on}}
 
 pub one_removed : (site : Site) (addresses : List (List Hash)) (k : ℕ) (i : List Hash) (old mid new : Option (List LogItem)) → k < length addresses → i ≡ get_or addresses k i → MadeCalls site (map removal (take k addresses)) old mid → Ran (opening site (removal i).0) (removal i).1 mid new → MadeCalls site (map removal (take (k + 1) addresses)) old new

@@ -5,8 +5,8 @@ use Rattle.cacache_core.specs.declared.errors.Fault.TheVariants as faults
 use Rattle.cacache_store.specs.declared.store.answer.Answer.TheVariants as answers
 use Rattle.cacache_store.specs.{declared.store.{log.LogItem.{LogItem}, plain.PlainTemp.{PlainTemp}}, Fits.{Fits, Logs}, Plain.{PlainStep, PlainAnswer}}
 use Rattle.cacache_store.specs.declared.store.step.Step.TheVariants as steps
-use Rattle.cacache_table.specs.{declared.answers.Refusal.{Refusal}, Answers.{bytes_in, done_in, synced_in, temp_in, written_in}, Common.{fails, refuse}, Runs.{EndsAs, Moves}, SingleSteps.{Does, FailsAt}}
-use Rattle.cacache_table.proofs.Going.{no_gain}
+use Rattle.cacache_calls.specs.{declared.answers.Refusal.{Refusal}, Answers.{bytes_in, done_in, synced_in, temp_in, written_in}, Common.{fails, refuse}, Runs.{EndsAs, Moves}, SingleSteps.{Does, FailsAt}}
+use Rattle.cacache_calls.proofs.Going.{no_gain}
 use Rattle.cacache_laws.proofs.trees.Logged.{gains_join}
 use Rattle.cacache_jobs.specs.Brought.{Brings, EndsRefused}
 use Rattle.cacache_keep.specs.Rewriting.{MakesTemp, Rewrites, StopsMoving, StopsRewriting, StopsSecuring, StopsSyncing, StopsWriting, SyncsFolder, SyncsTemp, Takes, Took}

@@ -7,7 +7,7 @@ use Rattle.cacache_store.specs.declared.store.plain.PlainTemp.{PlainTemp}
 use Rattle.cacache_store.specs.declared.store.step.Step.TheVariants as steps
 use Rattle.cacache_disk.specs.{declared.{luck.Luck.TheVariants.{Plain}, node.Node.{Node, TheVariants.{Folder, File}}}, Tree.{Tree, cut, look, put, same_path}, LedTo.{dirs, dirs_fault, free, or_fault, place, where_free}, Apply.{apply, grown, made_temp, make_some, making, taken, unless}, Rooted.{Rooted}}
 use Rattle.cacache_disk.proofs.{FoundNodes.{and_then_ok, place_ok}, Maps.{same_path-true}, PutNodes.{look-cut, look-put}, Roots.{same_self}, Standing.{upper_folder}}
-use Rattle.cacache_table.specs.{Runs.{Moves}, StepPaths.{temp_folder, temp_path}}
+use Rattle.cacache_calls.specs.{Runs.{Moves}, StepPaths.{temp_folder, temp_path}}
 use Rattle.cacache_laws.specs.{Sequence.{tree_on, AreAnswered}, trees.{Compacted.{Compacted}, Temporary.{is_temp_name, temp_at}}}
 use Rattle.cacache_laws.proofs.trees.LeanTrees.{Becomes, EndsUp, compacted_none, ends}
 use Rattle.cacache_keep.{specs.Rewriting.{Takes}, proofs.MovedFiles.{MovedTo}}

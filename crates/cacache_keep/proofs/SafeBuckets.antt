@@ -6,7 +6,7 @@ use Rattle.cacache_store.specs.declared.store.{log.LogItem.{LogItem}, plain.Plai
 use Rattle.cacache_store.specs.declared.store.step.Step.TheVariants as steps
 use Rattle.cacache_disk.specs.{declared.{luck.Luck.TheVariants.{Plain}, node.Node.TheVariants.{File}}, Rooted.{Rooted}, Tree.{Tree, cut, look, put}, Apply.{apply}}
 use Rattle.cacache_disk.proofs.{PutNodes.{look-put}, Roots.{same_self}}
-use Rattle.cacache_table.specs.{Runs.{Moves}, SingleSteps.{Does, FailsAt}}
+use Rattle.cacache_calls.specs.{Runs.{Moves}, SingleSteps.{Does, FailsAt}}
 use Rattle.cacache_value.specs.Kinds.{Bucket as IsBucket, path_kind}
 use Rattle.cacache_loss.{specs.{declared.fixing.Place.{Place}, Fixing.{is_at, place_now}, Moments.{Moment, next}}, proofs.UnchangedPaths.{file_kept, name_kept}}
 use Rattle.cacache_laws.{specs.trees.Compacting.{compact_text}, proofs.trees.{CompactTwice.{compact_again}, Led.{file_shown}}}

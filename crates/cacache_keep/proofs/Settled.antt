@@ -4,7 +4,7 @@ use Rattle.std.specs.{Prelude.{Contains, not}, List.{AllByRecursion, Sorted.{IsS
 use Rattle.cacache_core.specs.{declared.integrity.digest.Hash.{Hash}, PathNames.{Names}}
 use Rattle.cacache_disk.specs.{Tree.{Tree}, memory.Replay.{tree_of}}
 use Rattle.cacache_entry.specs.Latest.{Found}
-use Rattle.cacache_table.specs.{declared.reply.Reply.TheVariants.{Listed}, State.{Site}}
+use Rattle.cacache_calls.specs.{declared.reply.Reply.TheVariants.{Listed}, State.{Site}}
 use Rattle.cacache_walks.specs.Listing.{hash_cmp}
 use Rattle.cacache_laws.specs.trees.{Collecting.{LeavesLive, ReadsAsBefore, is_live}, Contents.{IsHeld}, Index.{IndexLists}}
 use Rattle.cacache_laws.proofs.trees.{Agreed.{indexes_agree, same_sorted}, Collected.{from_kept, kept_in}, Members.{Member, contains_member, member_contains}, Unseen.{idle_is_unseen}}

@@ -6,7 +6,7 @@ use Rattle.cacache_store.specs.declared.store.answer.Answer.TheVariants as answe
 use Rattle.cacache_store.specs.declared.store.{log.LogItem.{LogItem}, plain.PlainTemp.{PlainTemp}}
 use Rattle.cacache_store.specs.declared.store.step.Step.TheVariants as steps
 use Rattle.cacache_disk.{specs.{declared.node.Node.TheVariants.{File}, Tree.{Tree, bytes_of, cut, look, put}}, proofs.{PutNodes.{look-put}, Roots.{same_self}}}
-use Rattle.cacache_table.specs.{Runs.{Moves}, SingleSteps.{Does}}
+use Rattle.cacache_calls.specs.{Runs.{Moves}, SingleSteps.{Does}}
 use Rattle.cacache_value.specs.Kinds.{Bucket as IsBucket, path_kind}
 use Rattle.cacache_loss.{specs.{Fixing.{is_at, synced}, Moments.{Moment}}, proofs.{Buckets.{leads_file}, KeptPaths.{sync_fixes}}}
 use Rattle.cacache_laws.{specs.trees.Compacting.{compact_text}, proofs.trees.Members.{Member}}

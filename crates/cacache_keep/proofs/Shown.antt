@@ -5,7 +5,7 @@ use Rattle.cacache_core.specs.{declared.integrity.digest.Hash.{Hash}, Integrity.
 use Rattle.cacache_store.specs.declared.store.log.LogItem.{LogItem}
 use Rattle.cacache_disk.specs.Tree.{Tree}
 use Rattle.cacache_entry.specs.Latest.{Found}
-use Rattle.cacache_table.specs.{Runs.{Gains, Moves}, State.{Site}}
+use Rattle.cacache_calls.specs.{Runs.{Gains, Moves}, State.{Site}}
 use Rattle.cacache_laws.{specs.Sequence.{tree_on, AreAnswered}, proofs.trees.Logged.{walked}}
 use Rattle.cacache_walks.specs.{Listing.{IsByHash, content_area_in, hash_cmp}, Reading.{top_folder}}
 use Rattle.cacache_keep.{specs.{Missing.{Look}, Repairing.{BuriesAll, BuriesEach, RepairsFrom}}, proofs.{Parts.{gains_none}, Searching.{hash_total}, Tombs.{none_buried}}}

@@ -4,8 +4,8 @@ use Rattle.cacache_core.specs.declared.{errors.{Error.{Error, TheVariants.{OutOf
 use Rattle.cacache_store.specs.declared.store.answer.Answer.TheVariants as answers
 use Rattle.cacache_store.specs.{declared.store.log.LogItem.{LogItem}, Fits.{Fits, Logs}, Plain.{PlainAnswer}}
 use Rattle.cacache_store.specs.declared.store.step.Step.TheVariants as steps
-use Rattle.cacache_table.specs.{declared.answers.Refusal.{Refusal}, Answers.{length_in}, Common.{fails, refuse}, Runs.{EndsAs}, SingleSteps.{Does, FailsAt}, StepPaths.{content_path}}
-use Rattle.cacache_table.specs.declared.answers.Refusal.TheVariants as refusals
+use Rattle.cacache_calls.specs.{declared.answers.Refusal.{Refusal}, Answers.{length_in}, Common.{fails, refuse}, Runs.{EndsAs}, SingleSteps.{Does, FailsAt}, StepPaths.{content_path}}
+use Rattle.cacache_calls.specs.declared.answers.Refusal.TheVariants as refusals
 use Rattle.cacache_keep.specs.{declared.planning.Unused.{Unused}, Planning.{HidesFirst, HidesSize, Sized, StopsTelling, TellsSize, TellsSizes, sized_of}, Reading.{finds_none}}
 use Rattle.cacache_keep.proofs.{Gives.{none_found}, Sweeps.{Refuses, sizing_refused, step_fails, still_there, told_size}}
 

@@ -4,7 +4,7 @@ use Rattle.sha1.specs.Sha1.{sha1}
 use Rattle.cacache_core.{specs.{PathLaws.{IsKeyDigest}, PathNames.{Names, home_of}, Paths.{bucket_names_of, index_area}}, proofs.PathLemmas.{keys_have_digests}}
 use Rattle.cacache_store.specs.declared.store.log.LogItem.{LogItem}
 use Rattle.cacache_disk.{specs.{declared.node.Node.{Node, TheVariants.{Folder, File}}, Tree.{Tree, look}, memory.Replay.{tree_of, IsLog}}, proofs.Standing.{upper_folder}}
-use Rattle.cacache_table.specs.Runs.{Gains, Moves}
+use Rattle.cacache_calls.specs.Runs.{Gains, Moves}
 use Rattle.cacache_value.{specs.Kinds.{Bucket as IsBucket, Way, path_kind}, proofs.KindsApart.{kind-below}}
 use Rattle.cacache_loss.specs.{declared.fixing.Place.{Place}, Fixing.{Fixed}, Loss.{Loss, left_at, node_left}, LostValues.{LeftOf}, Moments.{Moment}}
 use Rattle.cacache_loss.proofs.SyncedFolders.{left_was}

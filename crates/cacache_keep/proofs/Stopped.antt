@@ -4,9 +4,9 @@ use Rattle.std.specs.Prelude.{All, IsErrAnd}
 use Rattle.cacache_core.specs.declared.{errors.{Error.{Error, TheVariants.{EntryNotFound, SizeMismatch, IoError, SerdeError, IntegrityError, OutOfMemory}}, Fault.{Fault, TheVariants.{NotFound}}}, integrity.digest.Hash.{Hash}}
 use Rattle.cacache_store.specs.declared.store.log.LogItem.{LogItem}
 use Rattle.cacache_entry.specs.Latest.{Found}
-use Rattle.cacache_table.specs.{declared.{command.Command.{Command}, reply.Reply.{Reply}}, State.{Site, Item}, Table.{opening}, Runs.{Ran, plain_item, without_message}}
-use Rattle.cacache_table.specs.declared.command.Command.TheVariants as commands
-use Rattle.cacache_table.specs.declared.reply.Reply.TheVariants as replies
+use Rattle.cacache_calls.specs.{declared.{command.Command.{Command}, reply.Reply.{Reply}}, State.{Site, Item}, Table.{opening}, Runs.{Ran, plain_item, without_message}}
+use Rattle.cacache_calls.specs.declared.command.Command.TheVariants as commands
+use Rattle.cacache_calls.specs.declared.reply.Reply.TheVariants as replies
 use Rattle.cacache_jobs.specs.Sites.{site_of}
 use Rattle.cacache_walks.specs.Listing.{ListsContents}
 use Rattle.cacache_keep.specs.{Calls.{AsksEach, IsFirstError, HasNoIndex, ListsOrAsks, ListsEntries, MadeCalls, SaysWhy, StopsReading, question_of, removal}, Reading.{ReadsEach}, Repairing.{DropsDamaged}, Walking.{LosesIndex}}

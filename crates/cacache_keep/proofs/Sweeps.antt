@@ -5,9 +5,9 @@ use Rattle.cacache_core.specs.{declared.errors.{Error.{Error, TheVariants.{OutOf
 use Rattle.cacache_store.specs.declared.store.answer.Answer.TheVariants as answers
 use Rattle.cacache_store.specs.{declared.store.{answer.Name.{Name}, log.LogItem.{LogItem}}, Fits.{Fits, Logs}, Plain.{PlainStep, PlainAnswer}}
 use Rattle.cacache_store.specs.declared.store.step.Step.TheVariants as steps
-use Rattle.cacache_table.specs.{declared.answers.Refusal.{Refusal}, Answers.{done_in, length_in, names_in}, Common.{fails, refuse}, Runs.{EndsAs, Gains, Moves}, SingleSteps.{Does, FailsAt}}
-use Rattle.cacache_table.proofs.Going.{no_gain}
-use Rattle.cacache_table.specs.declared.answers.Refusal.TheVariants as refusals
+use Rattle.cacache_calls.specs.{declared.answers.Refusal.{Refusal}, Answers.{done_in, length_in, names_in}, Common.{fails, refuse}, Runs.{EndsAs, Gains, Moves}, SingleSteps.{Does, FailsAt}}
+use Rattle.cacache_calls.proofs.Going.{no_gain}
+use Rattle.cacache_calls.specs.declared.answers.Refusal.TheVariants as refusals
 use Rattle.cacache_laws.{proofs.trees.Logged.{gains_join}, specs.trees.Temporary.{sized_removals, total}}
 use Rattle.cacache_keep.{specs.{Reading.{finds_none, is_gone}, Sweeping.{ListsFolder, RemovesSized, StopsRemoval, StopsSized}}, proofs.Gives.{failed, lost, none_found, not_gone}}
 

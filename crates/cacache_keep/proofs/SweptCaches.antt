@@ -4,7 +4,7 @@ use Rattle.cacache_core.specs.{PathNames.{Names, home_of, names_of}, Paths.{temp
 use Rattle.cacache_store.specs.declared.store.answer.Kind.TheVariants as kinds
 use Rattle.cacache_store.specs.{declared.store.{answer.{Kind.{Kind}, Name.{Name}}, log.LogItem.{LogItem}, step.Step.TheVariants.{ReadDir}}, Plain.{PlainAnswer}}
 use Rattle.cacache_disk.specs.{declared.luck.Luck.TheVariants.{Plain}, Tree.{Tree, listing}, Apply.{apply}, memory.Replay.{tree_of, IsLog}}
-use Rattle.cacache_table.specs.Runs.{Gains, Moves}
+use Rattle.cacache_calls.specs.Runs.{Gains, Moves}
 use Rattle.cacache_laws.specs.{Sequence.{tree_on, AreAnswered}, trees.Temporary.{LeavesUntemporary, area_of, cache_folder, is_temporary, sized_removals}}
 use Rattle.cacache_laws.proofs.{Calls.InParts.{logs_lead}, Readings.ReadsStay.{listing_keeps}, trees.{Children.{NoFolder}, Logged.{gains_join, log_rooted}, Temporary.{AreaStands, area_empty, area_stands, cache_named, names_listed, sweeps_leave, temp_area_named}}}
 use Rattle.cacache_walks.specs.{Reading.{names_shown}, WalkSteps.{AnswerShows}}

@@ -4,7 +4,7 @@ use Rattle.cacache_core.specs.declared.errors.Error.{Error}
 use Rattle.cacache_store.specs.declared.store.answer.Answer.TheVariants as answers
 use Rattle.cacache_store.specs.declared.store.log.LogItem.{LogItem}
 use Rattle.cacache_store.specs.declared.store.step.Step.TheVariants as steps
-use Rattle.cacache_table.specs.SingleSteps.{Does, FailsAt}
+use Rattle.cacache_calls.specs.SingleSteps.{Does, FailsAt}
 use Rattle.cacache_keep.specs.Syncing.{StopsInTurn, SyncsInTurn}
 
 synced_on : (folders : List (List ℕ)) (f : List ℕ) (old mid new : Option (List LogItem)) → SyncsInTurn folders old mid → Does (steps.SyncDir f) answers.Done mid new → SyncsInTurn (folders ++ f ∷ []) old new

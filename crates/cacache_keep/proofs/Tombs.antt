@@ -4,9 +4,9 @@ use Rattle.std.specs.{Prelude.{All, if◌then◌else◌, not}, List.{filter, fla
 use Rattle.cacache_core.specs.declared.errors.Error.{Error, TheVariants.{OutOfMemory}}
 use Rattle.cacache_store.specs.declared.store.log.LogItem.{LogItem}
 use Rattle.cacache_entry.specs.Latest.{Found}
-use Rattle.cacache_table.specs.{declared.{command.Command.{Command}, reply.Reply.{Reply}}, State.{Site}, Table.{opening}, Runs.{Ran, without_message}}
-use Rattle.cacache_table.specs.declared.command.Command.TheVariants as commands
-use Rattle.cacache_table.specs.declared.reply.Reply.TheVariants as replies
+use Rattle.cacache_calls.specs.{declared.{command.Command.{Command}, reply.Reply.{Reply}}, State.{Site}, Table.{opening}, Runs.{Ran, without_message}}
+use Rattle.cacache_calls.specs.declared.command.Command.TheVariants as commands
+use Rattle.cacache_calls.specs.declared.reply.Reply.TheVariants as replies
 use Rattle.cacache_keep.specs.{Calls.{MadeCalls}, Missing.{Doubts, Look, is_missing}, Repairing.{AsksFor, BuriesEach, Fate, IsFateOf, IsSure, Led, LooksOrAsks, LooksUp, StopsAsking, StopsBurying, StopsFate, StopsLooking, calls_for, is_buried, leads_nowhere, looks_of, tombstone}}
 use Rattle.cacache_keep.proofs.{Asked.{kept, passed}, Stopped.{made_both}}
 

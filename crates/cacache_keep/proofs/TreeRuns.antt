@@ -5,7 +5,7 @@ use Rattle.cacache_store.specs.declared.store.answer.Answer.TheVariants as answe
 use Rattle.cacache_store.specs.{declared.store.log.LogItem.{LogItem}, Plain.{PlainStep, PlainAnswer}}
 use Rattle.cacache_disk.specs.{declared.luck.Luck.TheVariants.{Plain}, Tree.{Tree}, Apply.{apply}, Rooted.{Rooted}, memory.Replay.{tree_of, IsLog}}
 use Rattle.cacache_disk.proofs.KeptFolders.{steps_keep_rooted}
-use Rattle.cacache_table.specs.{Runs.{Gains, Moves}, SingleSteps.{Does, FailsAt}}
+use Rattle.cacache_calls.specs.{Runs.{Gains, Moves}, SingleSteps.{Does, FailsAt}}
 use Rattle.cacache_laws.{specs.Sequence.{tree_on, AreAnswered}, proofs.{Calls.InParts.{logs_lead}, trees.Logged.{answered_split, gains_join, log_rooted, tree_split}}}
 use Rattle.cacache_keep.proofs.Parts.{gains_none}
 

@@ -4,9 +4,9 @@ use Rattle.cacache_core.specs.{declared.integrity.digest.Hash.{Hash}, PathNames.
 use Rattle.cacache_store.specs.declared.store.log.LogItem.{LogItem}
 use Rattle.cacache_disk.specs.{Tree.{Tree}, memory.Replay.{tree_of, IsLog}}
 use Rattle.cacache_entry.specs.Latest.{Found}
-use Rattle.cacache_table.specs.declared.command.Command.TheVariants as commands
-use Rattle.cacache_table.specs.declared.reply.Reply.TheVariants as replies
-use Rattle.cacache_table.specs.State.{Site}
+use Rattle.cacache_calls.specs.declared.command.Command.TheVariants as commands
+use Rattle.cacache_calls.specs.declared.reply.Reply.TheVariants as replies
+use Rattle.cacache_calls.specs.State.{Site}
 use Rattle.cacache_laws.proofs.{Calls.InParts.{logs_lead}, trees.{Members.{contains_member}, Held.{holds_just}, Logged.{answered_rest, answered_split, gains_join, log_rooted, looked, tree_rest, walked}}}
 use Rattle.cacache_laws.specs.trees.{Contents.{HoldsJust}, Verifying.{Judges, has_content}}
 use Rattle.cacache_walks.specs.{Listing.{content_area_in}, Reading.{top_folder}}

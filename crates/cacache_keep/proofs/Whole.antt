@@ -7,7 +7,7 @@ use Rattle.cacache_core.proofs.PathLemmas.{keys_have_digests}
 use Rattle.cacache_store.specs.declared.store.{log.LogItem.{LogItem}, step.Step.TheVariants.{Exists}}
 use Rattle.cacache_disk.specs.{declared.luck.Luck.TheVariants.{Plain}, Apply.{apply}, Rooted.{Rooted}, Tree.{Tree}, memory.Replay.{tree_of, IsLog}}
 use Rattle.cacache_entry.specs.Latest.{Found, latest}
-use Rattle.cacache_table.specs.{State.{Site}, StepPaths.{content_path}}
+use Rattle.cacache_calls.specs.{State.{Site}, StepPaths.{content_path}}
 use Rattle.cacache_value.specs.Acts.{list_of}
 use Rattle.cacache_laws.specs.trees.{Contents.{content_in}, Housed.{Housed, Still}, Index.{IndexLists}, Mending.{LeavesGood, found_in}, Verifying.{Judges, has_content, is_good, says_yes}}
 use Rattle.cacache_laws.proofs.trees.{Collected.{dropped_hash, kept_in, leaves, picked_left}, Housed.{removes_house, removes_root, removes_still}, Led.{found_integrity, found_listed, indexes_lead}, Logged.{log_rooted}, Members.{Member, contains_member, member_contains}, StillThere.{good_still, good_there, has_still}}

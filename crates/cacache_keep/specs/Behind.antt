@@ -3,8 +3,8 @@ use Rattle.std.specs.Prelude.{◌≡◌, ◌⊎◌, ◌<◌, ◌^◌, ℕ, List,
 use Rattle.cacache_core.specs.{declared.{errors.Error.{Error}, integrity.digest.Hash.{Hash}}, Integrity.{IsIntegrity}, PathNames.{Names, home_of}}
 use Rattle.cacache_store.specs.declared.store.{log.LogItem.{LogItem}, plain.PlainTemp.{PlainTemp}}
 use Rattle.cacache_disk.specs.memory.Replay.{IsLog}
-use Rattle.cacache_table.specs.declared.command.Command.TheVariants as commands
-use Rattle.cacache_table.specs.{declared.{command.{Delete.{Delete}, Export.{Export}, Insert.{Insert}, Put.{Put}, Source.{Source}}, reply.Reply.{Reply}}, Inserting.{insertion}, Sound.{FormedIfWritten}, State.{Site}}
+use Rattle.cacache_calls.specs.declared.command.Command.TheVariants as commands
+use Rattle.cacache_calls.specs.{declared.{command.{Delete.{Delete}, Export.{Export}, Insert.{Insert}, Put.{Put}, Source.{Source}}, reply.Reply.{Reply}}, Inserting.{insertion}, Sound.{FormedIfWritten}, State.{Site}}
 use Rattle.cacache_history.specs.History.{NamesIntegrity}
 use Rattle.cacache_laws.specs.{Beside.{FitsEntry, IsOther}, Caches.{IsCache, HasKey, Called}, ExportEffects.{IsApart}, GivenUp.{GivesUpTemp}, Keeping.{found_under}, OpenWriters.{CommitsBytes, IsOpened, OpensWriter}, Puts.{ExpectsIntegrity}}
 use Rattle.cacache_keep.specs.{Keeping.{Collects}, Kept.{LeavesTree}}

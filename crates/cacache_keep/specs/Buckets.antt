@@ -4,7 +4,7 @@ use Rattle.cacache_core.specs.{declared.errors.Error.{Error, TheVariants.{OutOfM
 use Rattle.cacache_store.specs.declared.store.{answer.{Kind.{Kind}, Name.{Name}}, log.LogItem.{LogItem}}
 use Rattle.cacache_store.specs.declared.store.answer.Kind.TheVariants as kinds
 use Rattle.cacache_store.specs.declared.store.step.Step.TheVariants as steps
-use Rattle.cacache_table.specs.SingleSteps.{FailsAt}
+use Rattle.cacache_calls.specs.SingleSteps.{FailsAt}
 use Rattle.cacache_laws.specs.trees.Temporary.{is_file}
 use Rattle.cacache_keep.specs.{Reading.{is_gone}, Sweeping.{ListsFolder}}
 

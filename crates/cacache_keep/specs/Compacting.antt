@@ -4,7 +4,7 @@ use Rattle.cacache_core.specs.declared.errors.Error.{Error}
 use Rattle.cacache_store.specs.declared.store.answer.Answer.TheVariants as answers
 use Rattle.cacache_store.specs.declared.store.log.LogItem.{LogItem}
 use Rattle.cacache_store.specs.declared.store.step.Step.TheVariants as steps
-use Rattle.cacache_table.specs.SingleSteps.{Does, FailsAt}
+use Rattle.cacache_calls.specs.SingleSteps.{Does, FailsAt}
 use Rattle.cacache_laws.specs.trees.{Compacting.{compact_text}, Temporary.{total}}
 use Rattle.cacache_keep.specs.{declared.settling.Lean.{Lean}, Buckets.{FindsBuckets, StopsFinding}, Rewriting.{Rewrites, StopsRewriting, StopsSyncingBucket, SyncsBucket}, Syncing.{StopsAbove, SyncsAbove}}
 

@@ -4,7 +4,7 @@ use Rattle.cacache_core.specs.{declared.integrity.digest.Hash.{Hash}, PathNames.
 use Rattle.cacache_store.specs.declared.store.log.LogItem.{LogItem}
 use Rattle.cacache_disk.specs.memory.Replay.{tree_of, IsLog}
 use Rattle.cacache_entry.specs.Latest.{Found}
-use Rattle.cacache_table.specs.State.{Site}
+use Rattle.cacache_calls.specs.State.{Site}
 use Rattle.cacache_laws.specs.trees.{Contents.{content_in}, Housed.{Housed}}
 use Rattle.cacache_keep.specs.{Kept.{LeadsToGood}, Repairing.{RepairsCache}, Sweeping.{SweepsCache}}
 

@@ -4,7 +4,7 @@ use Rattle.cacache_core.specs.{declared.{errors.Error.{Error}, integrity.digest.
 use Rattle.cacache_store.specs.declared.store.log.LogItem.{LogItem}
 use Rattle.cacache_disk.specs.{declared.node.Node.TheVariants.{File}, Tree.{Tree, look}, memory.Replay.{tree_of, IsLog}}
 use Rattle.cacache_entry.specs.Latest.{Found}
-use Rattle.cacache_table.specs.{declared.{command.Command.{Command}, reply.Reply.{Reply}}, State.{Site}}
+use Rattle.cacache_calls.specs.{declared.{command.Command.{Command}, reply.Reply.{Reply}}, State.{Site}}
 use Rattle.cacache_value.specs.Placed.{Placed}
 use Rattle.cacache_laws.specs.{Caches.{Called}, Looks.{OnlyLooks}, trees.{Compacted.{Compacted, CutShort, KeepsFound}, Compacting.{compact_text}, Contents.{HoldsJust, content_in}, Housed.{Housed}, Verifying.{Judges, is_good}, Collecting.{LeavesLive, LinksLeadOut, ReadsAsBefore}, Idle.{LacksIdle, Removed}, Mending.{LeavesGood, found_in}, Temporary.{LeavesUntemporary}}}
 use Rattle.cacache_walks.specs.Listing.{IsByHash, ListsContents}

@@ -3,7 +3,7 @@ use Rattle.std.specs.Prelude.{◌≡◌, ℕ, List, Some, filter_map}
 use Rattle.cacache_core.specs.{declared.integrity.digest.Hash.{Hash}, PathNames.{Names, home_of}}
 use Rattle.cacache_store.specs.declared.store.log.LogItem.{LogItem}
 use Rattle.cacache_disk.specs.memory.Replay.{IsLog}
-use Rattle.cacache_table.specs.State.{Site}
+use Rattle.cacache_calls.specs.State.{Site}
 use Rattle.cacache_laws.specs.{Caches.{HasKey}, Keeping.{found_under}, Standing.{IsStanding}, trees.Later.{AllSpare, Later, StaysRead, written}}
 use Rattle.cacache_keep.specs.Keeping.{Collects}
 

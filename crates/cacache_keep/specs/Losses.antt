@@ -5,7 +5,7 @@ use Rattle.cacache_core.specs.{declared.errors.Error.{Error}, PathLaws.{IsKeyDig
 use Rattle.cacache_store.specs.declared.store.log.LogItem.{LogItem}
 use Rattle.cacache_disk.specs.{declared.node.Node.TheVariants.{File}, Tree.{Tree, look}, memory.Replay.{tree_of, IsLog}}
 use Rattle.cacache_entry.specs.{Bucket.{entries_of}, Latest.{Found, latest}}
-use Rattle.cacache_table.specs.Runs.{Gains, Moves}
+use Rattle.cacache_calls.specs.Runs.{Gains, Moves}
 use Rattle.cacache_laws.specs.{Sequence.{plain_moves}, trees.{Compacting.{compact_text}, Mending.{found_in}}}
 use Rattle.cacache_value.specs.{Placed.{Placed}, Traces.{Move}}
 use Rattle.cacache_loss.specs.{CalmMoves.{AreCalm}, Fixing.{Fixed}, Loss.{Loss}, LossLaws.{BeginsWith, FindsOrLater}, LostValues.{LeftOf}, Moments.{EachMove, Moment, after}, Syncs.{Leaves}}

@@ -4,8 +4,8 @@ use Rattle.cacache_core.specs.{declared.{errors.{Error.{Error, TheVariants.{IoEr
 use Rattle.cacache_store.specs.declared.store.answer.Answer.TheVariants as answers
 use Rattle.cacache_store.specs.declared.store.{log.LogItem.{LogItem}, plain.PlainFile.{PlainFile}}
 use Rattle.cacache_store.specs.declared.store.step.Step.TheVariants as steps
-use Rattle.cacache_table.specs.{declared.answers.Refusal.{Refusal}, Runs.{Moves, Gains}, SingleSteps.{Does, FailsAt}, StepPaths.{content_path}, Table.{piece}}
-use Rattle.cacache_table.specs.declared.answers.Refusal.TheVariants as refusals
+use Rattle.cacache_calls.specs.{declared.answers.Refusal.{Refusal}, Runs.{Moves, Gains}, SingleSteps.{Does, FailsAt}, StepPaths.{content_path}, Table.{piece}}
+use Rattle.cacache_calls.specs.declared.answers.Refusal.TheVariants as refusals
 use Rattle.cacache_laws.specs.trees.Temporary.{total}
 
 -- ---- an open file

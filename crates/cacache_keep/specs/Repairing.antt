@@ -3,9 +3,9 @@ use Rattle.std.specs.{Prelude.{if◌then◌else◌, ◌≡◌, ◌⊎◌, ◌++�
 use Rattle.cacache_core.specs.declared.{errors.Error.{Error}, integrity.digest.Hash.{Hash}}
 use Rattle.cacache_store.specs.declared.store.log.LogItem.{LogItem}
 use Rattle.cacache_entry.specs.Latest.{Found}
-use Rattle.cacache_table.specs.{declared.{command.Command.{Command}, reply.Reply.{Reply}}, State.{Site}, Table.{opening}, Runs.{Ran, without_message}}
-use Rattle.cacache_table.specs.declared.command.Command.TheVariants as commands
-use Rattle.cacache_table.specs.declared.reply.Reply.TheVariants as replies
+use Rattle.cacache_calls.specs.{declared.{command.Command.{Command}, reply.Reply.{Reply}}, State.{Site}, Table.{opening}, Runs.{Ran, without_message}}
+use Rattle.cacache_calls.specs.declared.command.Command.TheVariants as commands
+use Rattle.cacache_calls.specs.declared.reply.Reply.TheVariants as replies
 use Rattle.cacache_sync.specs.Lookups.{delete_of}
 use Rattle.cacache_walks.specs.Listing.{IsByHash, ListsContents, StopsListing}
 use Rattle.cacache_keep.specs.{declared.checking.OddLines.{OddLines}, Checking.{Allows, ReadsIndex, RefusesOdd}, Calls.{AsksEach, MadeCalls, SaysWhy, StopsReading, StopsRemoving, removal}, Missing.{Doubts, Look, ShowsContents, StopsShowing, is_missing}, Reading.{ReadsEach, StopsEach}}

@@ -4,7 +4,7 @@ use Rattle.cacache_core.specs.declared.errors.Error.{Error, TheVariants.{OutOfMe
 use Rattle.cacache_store.specs.declared.store.answer.Answer.TheVariants as answers
 use Rattle.cacache_store.specs.declared.store.log.LogItem.{LogItem}
 use Rattle.cacache_store.specs.declared.store.step.Step.TheVariants as steps
-use Rattle.cacache_table.specs.SingleSteps.{Does, FailsAt}
+use Rattle.cacache_calls.specs.SingleSteps.{Does, FailsAt}
 use Rattle.cacache_keep.specs.Buckets.{index_area_in}
 
 -- the folders above those of buckets: these, which the index has, the index, and the cache; none

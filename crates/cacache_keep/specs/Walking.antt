@@ -2,7 +2,7 @@
 use Rattle.std.specs.Prelude.{◌≡◌, ◌<◌, ℕ, List, [], Option, Some}
 use Rattle.cacache_core.specs.declared.errors.Error.{Error, TheVariants.{OutOfMemory}}
 use Rattle.cacache_store.specs.declared.store.log.LogItem.{LogItem}
-use Rattle.cacache_table.specs.{declared.{reply.Reply.TheVariants.{Listed, Refused}, visit.Visit.{Visit}}, Runs.{Gone, Ran}, State.{Item, State}}
+use Rattle.cacache_calls.specs.{declared.{reply.Reply.TheVariants.{Listed, Refused}, visit.Visit.{Visit}}, Runs.{Gone, Ran}, State.{Item, State}}
 use Rattle.cacache_walks.specs.{declared.walk.Walk.{Walk}, Iterating.{listing_state, steps_left}, WalkStates.{WalksAt}}
 use Rattle.cacache_keep.specs.Checking.{odd_in}
 

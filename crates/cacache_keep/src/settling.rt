@@ -3,18 +3,18 @@ ghost use Rattle.std.specs.Prelude.{◌≡◌, ◌-◌, IfOk, IfErr, IfSome, OnO
 ghost use Rattle.cacache_core.specs.declared.errors.Error.TheVariants.{OutOfMemory};
 ghost use Rattle.cacache_store.specs.declared.store.answer.Answer.TheVariants as answers;
 ghost use Rattle.cacache_store.specs.declared.store.step.Step.TheVariants as steps;
-ghost use Rattle.cacache_table.specs.SingleSteps.{Does, FailsAt};
+ghost use Rattle.cacache_calls.specs.SingleSteps.{Does, FailsAt};
 ghost use Rattle.cacache_keep.specs.{Compacting.{Changes, CompactsAt, Settles, StopsBucket, StopsSettling, lean_view, same_bytes}, Rewriting.{Rewrites, StopsRewriting}};
 
 use crate::lines::compact_text;
 use crate::rewriting::{rewrite, sync_bucket};
+use cacache_calls::answers::bytes_of;
 use cacache_core::bytes::Bytes;
 use cacache_core::errors::Result;
 use cacache_core::text::Text;
 use cacache_jobs::refused;
 use cacache_store::env::{Clock, Env, Names};
 use cacache_store::store::{Step, Store};
-use cacache_table::answers::bytes_of;
 use std::alloc::{AllocError, Global};
 
 /// The bucket wasn't read.

@@ -2,8 +2,8 @@
 use Rattle.std.specs.Prelude.{◌≡◌, ◌⊎◌, ◌<◌, ◌^◌, ℕ, List, Option, None, Some, IsUtf8, length}
 use Rattle.cacache_core.specs.{declared.integrity.{algorithm.Algorithm.{Algorithm}, digest.Hash.{Hash}}, Integrity.{IsIntegrity, address, integrity_under}}
 use Rattle.cacache_store.specs.declared.store.log.LogItem.{LogItem}
-use Rattle.cacache_table.specs.declared.command.Command.TheVariants as commands
-use Rattle.cacache_table.specs.{declared.{command.Put.{Put}, reply.Reply.{Reply}}, Sound.{FormedIfWritten}, Storing.{insertion_of, put_commit}}
+use Rattle.cacache_calls.specs.declared.command.Command.TheVariants as commands
+use Rattle.cacache_calls.specs.{declared.{command.Put.{Put}, reply.Reply.{Reply}}, Sound.{FormedIfWritten}, Storing.{insertion_of, put_commit}}
 use Rattle.cacache_value.specs.Value.{InFile}
 use Rattle.cacache_laws.specs.{Caches.{IsCache, HasContent, HasKey, Called, lies_under, plain_put}, Keeping.{found_under, KeepsOthers}}
 

@@ -5,8 +5,8 @@ use Rattle.cacache_core.specs.{declared.{errors.{Error.{Error, TheVariants.{Entr
 use Rattle.cacache_store.specs.declared.store.log.LogItem.{LogItem, TheVariants.{Made, Foreign}}
 use Rattle.cacache_disk.specs.memory.Replay.{tree_of, IsLog}
 use Rattle.cacache_entry.specs.Latest.{Found, latest}
-use Rattle.cacache_table.specs.{declared.{command.{Command.{Command}, Put.{Put}}, reply.Reply.{Reply, TheVariants.{Stored, Read, LookedUp, Exists, Done, Refused}}}, Causes.{Faulted, OfWalk}, Runs.{Moves, Ran, plain_reply}, Sound.{MayBegin}, Table.{opening}}
-use Rattle.cacache_table.specs.declared.command.Command.TheVariants as commands
+use Rattle.cacache_calls.specs.{declared.{command.{Command.{Command}, Put.{Put}}, reply.Reply.{Reply, TheVariants.{Stored, Read, LookedUp, Exists, Done, Refused}}}, Causes.{Faulted, OfWalk}, Runs.{Moves, Ran, plain_reply}, Sound.{MayBegin}, Table.{opening}}
+use Rattle.cacache_calls.specs.declared.command.Command.TheVariants as commands
 use Rattle.cacache_value.specs.{Kinds.{Elsewhere, IsFor}, Value.{Blob, InFile, empty_value, value_of_tree}}
 use Rattle.cacache_history.specs.{History.{NamesIntegrity}, Setup.{Setup, call_site, may_export, is_outside}, ShownTurns.{blob_at}}
 use Rattle.cacache_laws.specs.{Sequence.{IsSound}, ReadAnswers.{entries_on}}

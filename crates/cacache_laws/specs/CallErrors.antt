@@ -1,8 +1,8 @@
 -- Which errors calls that store, remove or clear may give.
 use Rattle.std.specs.Prelude.{◌≡◌, ℕ, List, None, Some}
 use Rattle.cacache_core.specs.declared.errors.Error.TheVariants.{IoError, OutOfMemory}
-use Rattle.cacache_table.specs.{declared.{command.{Put.{Put}, Delete.{Delete}}, reply.Reply.{Reply, TheVariants.{Refused}}}, Inserting.{deletion, refused_cause}, Runs.{Moves, Runs}, State.{Site}, Storing.{insertion_of, put_commit}, Table.{opening}}
-use Rattle.cacache_table.specs.declared.command.Command.TheVariants as commands
+use Rattle.cacache_calls.specs.{declared.{command.{Put.{Put}, Delete.{Delete}}, reply.Reply.{Reply, TheVariants.{Refused}}}, Inserting.{deletion, refused_cause}, Runs.{Moves, Runs}, State.{Site}, Storing.{insertion_of, put_commit}, Table.{opening}}
+use Rattle.cacache_calls.specs.declared.command.Command.TheVariants as commands
 
 -- no error except that of a step, or out of memory
 abbrev pub FailsOnly : Reply → Type 0

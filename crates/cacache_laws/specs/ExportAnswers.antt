@@ -5,8 +5,8 @@ use Rattle.cacache_core.specs.{declared.{errors.{Error.TheVariants.{EntryNotFoun
 use Rattle.cacache_store.specs.declared.store.log.LogItem.{LogItem}
 use Rattle.cacache_disk.specs.{LedTo.{and_then, bytes_there, free, writable}, Tree.{Tree, look}, memory.Replay.{tree_of}}
 use Rattle.cacache_entry.specs.Latest.{Found}
-use Rattle.cacache_table.specs.declared.command.Command.TheVariants as commands
-use Rattle.cacache_table.specs.{declared.{command.{Export.{Export}, How.{How, TheVariants.{Copy, HardLink, Reflink}}, Source.{Source, TheVariants.{Hash as OfHash, Key as OfKey}}}, reply.Reply.{Reply, TheVariants.{Copied, Done, Refused}}}, Replies.{OrMemory}}
+use Rattle.cacache_calls.specs.declared.command.Command.TheVariants as commands
+use Rattle.cacache_calls.specs.{declared.{command.{Export.{Export}, How.{How, TheVariants.{Copy, HardLink, Reflink}}, Source.{Source, TheVariants.{Hash as OfHash, Key as OfKey}}}, reply.Reply.{Reply, TheVariants.{Copied, Done, Refused}}}, Replies.{OrMemory}}
 use Rattle.cacache_value.specs.{Shows.{blob_bytes, link_end}, Value.{AtLink, Blob, InFile}}
 use Rattle.cacache_history.specs.History.{NamesSource}
 use Rattle.cacache_laws.specs.{Caches.{Called, IsCache, lies_under}, Keeping.{found_under}, Succeeds.{NamesFolder}}

@@ -3,8 +3,8 @@ use Rattle.std.specs.Prelude.{◌≡◌, ℕ, Bool, true, List, Some, length}
 use Rattle.cacache_core.specs.{declared.integrity.digest.Hash.{Hash}, PathNames.{home_of}}
 use Rattle.cacache_store.specs.declared.store.log.LogItem.{LogItem}
 use Rattle.cacache_disk.specs.memory.Replay.{shown, tree_of}
-use Rattle.cacache_table.specs.{declared.{command.{Command.{Command}, Export.{Export}, How.TheVariants.{Copy}, Source.{Source, TheVariants.{Hash as OfHash, Key as OfKey}}}, reply.Reply.{Reply, TheVariants.{Copied}}}, Verifying.{CountsAs}}
-use Rattle.cacache_table.specs.declared.command.Command.TheVariants as commands
+use Rattle.cacache_calls.specs.{declared.{command.{Command.{Command}, Export.{Export}, How.TheVariants.{Copy}, Source.{Source, TheVariants.{Hash as OfHash, Key as OfKey}}}, reply.Reply.{Reply, TheVariants.{Copied}}}, Verifying.{CountsAs}}
+use Rattle.cacache_calls.specs.declared.command.Command.TheVariants as commands
 use Rattle.cacache_value.specs.Kinds.{Elsewhere, IsFor}
 use Rattle.cacache_history.specs.History.{NamesIntegrity}
 use Rattle.cacache_laws.specs.{Caches.{IsCache, HasContent, HasKey, Called}, Keeping.{StaysKnown}}

@@ -2,8 +2,8 @@
 use Rattle.std.specs.Prelude.{◌≡◌, ℕ, Bool, List, Some, length}
 use Rattle.cacache_store.specs.declared.store.log.LogItem.{LogItem}
 use Rattle.cacache_disk.specs.memory.Replay.{shown, tree_of}
-use Rattle.cacache_table.specs.declared.{command.{Command.{Command}, How.{How}, Source.{Source}}, reply.Reply.{Reply, TheVariants.{Copied, Done, Refused}}}
-use Rattle.cacache_table.specs.declared.command.Command.TheVariants as commands
+use Rattle.cacache_calls.specs.declared.{command.{Command.{Command}, How.{How}, Source.{Source}}, reply.Reply.{Reply, TheVariants.{Copied, Done, Refused}}}
+use Rattle.cacache_calls.specs.declared.command.Command.TheVariants as commands
 use Rattle.cacache_laws.specs.{Caches.{IsCache, IsExcused, Called}, ExportEffects.{IsApart, NamesBytes}}
 
 -- what the source names goes to the path: as a copy, by shared storage or as one more name, verified first or

@@ -3,7 +3,7 @@ use Rattle.std.specs.Prelude.{◌≡◌, ◌⊎◌, ℕ, List, Option, Some}
 use Rattle.cacache_store.specs.{declared.store.log.LogItem.{LogItem}, Plain.{PlainStep, PlainAnswer}}
 use Rattle.cacache_store.specs.declared.store.step.Step.TheVariants as steps
 use Rattle.cacache_disk.specs.memory.Replay.{IsLog}
-use Rattle.cacache_table.specs.{SingleSteps.{Does}, StepPaths.{temp_path}}
+use Rattle.cacache_calls.specs.{SingleSteps.{Does}, StepPaths.{temp_path}}
 use Rattle.cacache_laws.specs.{Caches.{IsCache}, OpenWriters.{LeavesKnownCache}}
 
 -- the step that removes the temporary file of this number

@@ -4,8 +4,8 @@ use Rattle.serde_json.specs.Data.{null}
 use Rattle.cacache_core.specs.{declared.{errors.Error.TheVariants.{SerdeError}, integrity.{algorithm.Algorithm.{Algorithm}, digest.Hash.{Hash}}}, Integrity.{IsIntegrity}}
 use Rattle.cacache_store.specs.declared.store.log.LogItem.{LogItem}
 use Rattle.cacache_entry.specs.Latest.{Found}
-use Rattle.cacache_table.specs.declared.command.Command.TheVariants as commands
-use Rattle.cacache_table.specs.{declared.{command.Insert.{Insert}, reply.Reply.{Reply, TheVariants.{Stored, Refused}}}, Inserting.{insertion, refused_cause}, Sound.{FormedIfWritten}}
+use Rattle.cacache_calls.specs.declared.command.Command.TheVariants as commands
+use Rattle.cacache_calls.specs.{declared.{command.Insert.{Insert}, reply.Reply.{Reply, TheVariants.{Stored, Refused}}}, Inserting.{insertion, refused_cause}, Sound.{FormedIfWritten}}
 use Rattle.cacache_laws.specs.{Caches.{IsCache, IsExcused, HasContent, HasKey, LacksKey, Called}, Keeping.{found_under, KeepsOthers}}
 
 -- the integrity that the key leads to, whatever lies under it; none if no entry answers

@@ -3,8 +3,8 @@ use Rattle.std.specs.Prelude.{◌≡◌, ◌⊎◌, ◌<◌, ◌^◌, ℕ, false
 use Rattle.cacache_core.specs.{declared.integrity.digest.Hash.{Hash}, Integrity.{IsIntegrity}}
 use Rattle.cacache_store.specs.declared.store.log.LogItem.{LogItem}
 use Rattle.cacache_disk.specs.memory.Replay.{shown, tree_of}
-use Rattle.cacache_table.specs.declared.command.Command.TheVariants as commands
-use Rattle.cacache_table.specs.{declared.{command.{Link.{Link}, Put.{Put}}, reply.Reply.{Reply, TheVariants.{Stored}}}, Linking.{based}}
+use Rattle.cacache_calls.specs.declared.command.Command.TheVariants as commands
+use Rattle.cacache_calls.specs.{declared.{command.{Link.{Link}, Put.{Put}}, reply.Reply.{Reply, TheVariants.{Stored}}}, Linking.{based}}
 use Rattle.cacache_value.specs.Value.{AtLink}
 use Rattle.cacache_history.specs.Values.{IsThere}
 use Rattle.cacache_laws.specs.{Beside.{FitsEntry, IsOther, ShareAddress, own_integrity}, Caches.{IsCache, HasContent, HasKey, Called, lies_under}, ExportEffects.{IsApart}, Keeping.{found_under}, Puts.{ExpectsIntegrity, LeadsToPut, MayLeadToPut, stored_as}}

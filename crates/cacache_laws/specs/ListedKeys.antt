@@ -3,8 +3,8 @@ use Rattle.std.specs.Prelude.{◌≡◌, ◌⊎◌, ℕ, All, List, [], ◌∷�
 use Rattle.cacache_core.specs.declared.errors.{Error.TheVariants.{IoError, OutOfMemory}, Fault.TheVariants.{TooDeep}}
 use Rattle.cacache_store.specs.declared.store.log.LogItem.{LogItem}
 use Rattle.cacache_entry.specs.Latest.{Found}
-use Rattle.cacache_table.specs.declared.command.Command.TheVariants as commands
-use Rattle.cacache_table.specs.{declared.reply.Reply.{Reply, TheVariants.{Listed, Refused}}, ListReplies.{In}, State.{Item}}
+use Rattle.cacache_calls.specs.declared.command.Command.TheVariants as commands
+use Rattle.cacache_calls.specs.{declared.reply.Reply.{Reply, TheVariants.{Listed, Refused}}, ListReplies.{In}, State.{Item}}
 use Rattle.cacache_history.specs.ListingTurns.{NoKeyTwice}
 use Rattle.cacache_laws.specs.{Caches.{IsCache, Called, AStepFailed}, Keeping.{found_under}}
 

@@ -4,8 +4,8 @@ use Rattle.cacache_core.specs.{declared.{errors.{Error.TheVariants.{EntryNotFoun
 use Rattle.cacache_store.specs.declared.store.log.LogItem.{LogItem}
 use Rattle.cacache_disk.specs.memory.Replay.{shown, tree_of}
 use Rattle.cacache_entry.specs.Latest.{Found}
-use Rattle.cacache_table.specs.{declared.{command.Command.{Command}, reply.Reply.{Reply, TheVariants.{LookedUp, Read, Exists, Refused}}}, Licence.{looking_on, KeepsTo}}
-use Rattle.cacache_table.specs.declared.command.Command.TheVariants as commands
+use Rattle.cacache_calls.specs.{declared.{command.Command.{Command}, reply.Reply.{Reply, TheVariants.{LookedUp, Read, Exists, Refused}}}, Licence.{looking_on, KeepsTo}}
+use Rattle.cacache_calls.specs.declared.command.Command.TheVariants as commands
 use Rattle.cacache_value.specs.{Shows.{blob_bytes}, Value.{AtLink, value_of_tree}}
 use Rattle.cacache_laws.specs.{Caches.{IsCache, LacksKey, lies_under, Called, IsExcused}, Keeping.{found_under, StaysKnown}}
 

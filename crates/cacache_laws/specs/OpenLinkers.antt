@@ -7,7 +7,7 @@ use Rattle.cacache_store.specs.declared.store.answer.Answer.TheVariants as answe
 use Rattle.cacache_store.specs.declared.store.{log.LogItem.{LogItem}, plain.PlainFile.{PlainFile}}
 use Rattle.cacache_store.specs.declared.store.step.Step.TheVariants as steps
 use Rattle.cacache_disk.specs.{Apply.{opened}, memory.Replay.{IsLog, shown, tree_of}}
-use Rattle.cacache_table.specs.{declared.{command.Link.{Link}, reply.Reply.{Reply, TheVariants.{Refused}}}, Inserting.{refused_cause}, Linking.{based, link_target}, Runs.{Ran, plain_reply}, SingleSteps.{Does, FailsAt}, State.{hashing, to_link}, Storing.{insertion_of, put_commit}, Effects.{IsRefused}}
+use Rattle.cacache_calls.specs.{declared.{command.Link.{Link}, reply.Reply.{Reply, TheVariants.{Refused}}}, Inserting.{refused_cause}, Linking.{based, link_target}, Runs.{Ran, plain_reply}, SingleSteps.{Does, FailsAt}, State.{hashing, to_link}, Storing.{insertion_of, put_commit}, Effects.{IsRefused}}
 use Rattle.cacache_laws.specs.{Beside.{own_integrity}, Caches.{IsCache, IsExcused, Grows}, ExportEffects.{IsApart}, Links.{FitsLink, KeepsBesideLink, LeavesLink, put_like}, OpenWriters.{LeavesKnownCache}, Puts.{ExpectsIntegrity}}
 
 -- ---- an opening

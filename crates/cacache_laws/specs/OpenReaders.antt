@@ -6,8 +6,8 @@ use Rattle.cacache_store.specs.declared.store.{log.LogItem.{LogItem}, plain.Plai
 use Rattle.cacache_store.specs.declared.store.step.Step.TheVariants as steps
 use Rattle.cacache_disk.specs.memory.Replay.{IsLog}
 use Rattle.cacache_entry.specs.Latest.{Found}
-use Rattle.cacache_table.specs.declared.command.Command.TheVariants as commands
-use Rattle.cacache_table.specs.{declared.reply.Reply.{Reply, TheVariants.{LookedUp, Refused}}, StepPaths.{content_path}, Runs.{Ran, without_message}, Table.{opening}, SingleSteps.{Does, FailsAt}}
+use Rattle.cacache_calls.specs.declared.command.Command.TheVariants as commands
+use Rattle.cacache_calls.specs.{declared.reply.Reply.{Reply, TheVariants.{LookedUp, Refused}}, StepPaths.{content_path}, Runs.{Ran, without_message}, Table.{opening}, SingleSteps.{Does, FailsAt}}
 use Rattle.cacache_laws.specs.{Caches.{IsCache, HasContent, HasKey, LacksKey, IsExcused}, OpenWriters.{LeavesKnownCache}}
 
 -- ---- an opening

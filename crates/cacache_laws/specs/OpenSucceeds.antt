@@ -3,8 +3,8 @@ use Rattle.std.specs.Prelude.{◌≡◌, ◌<◌, ◌^◌, ℕ, Bool, true, fals
 use Rattle.cacache_core.specs.{declared.errors.Error.{Error, TheVariants.{OutOfMemory}}, PathNames.{Names, names_of}}
 use Rattle.cacache_store.specs.declared.store.{log.LogItem.{LogItem}, plain.PlainTemp.{PlainTemp}}
 use Rattle.cacache_disk.specs.{declared.node.Node.TheVariants.{File}, LedTo.{free, writable}, Tree.{look}, memory.Replay.{tree_of, IsLog}}
-use Rattle.cacache_table.specs.{declared.{command.{Command.{Command}, How.{How, TheVariants.{Copy, Reflink, HardLink}}, Put.{Put}, Source.{Source}}, reply.Reply.{Reply, TheVariants.{Copied, Done}}}, Licence.{KeepsTo, Licence}, Replies.{OrMemory}, Sound.{MayBegin}, StepPaths.{temp_path}}
-use Rattle.cacache_table.specs.declared.command.Command.TheVariants as commands
+use Rattle.cacache_calls.specs.{declared.{command.{Command.{Command}, How.{How, TheVariants.{Copy, Reflink, HardLink}}, Put.{Put}, Source.{Source}}, reply.Reply.{Reply, TheVariants.{Copied, Done}}}, Licence.{KeepsTo, Licence}, Replies.{OrMemory}, Sound.{MayBegin}, StepPaths.{temp_path}}
+use Rattle.cacache_calls.specs.declared.command.Command.TheVariants as commands
 use Rattle.cacache_history.specs.{History.{NamesIntegrity}, Setup.{call_site, is_outside, may_export}}
 use Rattle.cacache_laws.specs.{Caches.{Called, IsCache, setup_at}, ExportEffects.{NamesBytes}, Exported.{export_by}, OpenWriters.{CommitsBytes, OpensWriter}, Standing.{IsStanding}, Succeeds.{NamesFolder, IsUnused, put_reply}}
 

@@ -6,7 +6,7 @@ use Rattle.cacache_store.specs.declared.store.answer.Answer.TheVariants as answe
 use Rattle.cacache_store.specs.{declared.store.{log.LogItem.{LogItem}, plain.PlainTemp.{PlainTemp}}, Plain.{PlainStep}}
 use Rattle.cacache_store.specs.declared.store.step.Step.TheVariants as steps
 use Rattle.cacache_disk.specs.{Apply.{made_temp}, memory.Replay.{IsLog}}
-use Rattle.cacache_table.specs.{declared.{command.Put.{Put}, reply.Reply.{Reply}}, StepPaths.{temp_folder, temp_path}, Runs.{Ran, plain_reply}, SingleSteps.{Does, FailsAt}, Sound.{FormedIfWritten}, Storing.{insertion_of, put_commit, persist}}
+use Rattle.cacache_calls.specs.{declared.{command.Put.{Put}, reply.Reply.{Reply}}, StepPaths.{temp_folder, temp_path}, Runs.{Ran, plain_reply}, SingleSteps.{Does, FailsAt}, Sound.{FormedIfWritten}, Storing.{insertion_of, put_commit, persist}}
 use Rattle.cacache_value.specs.Value.{InFile}
 use Rattle.cacache_laws.specs.{Caches.{IsCache, lies_under, Grows, IsExcused, plain_put, WritesKey}, Keeping.{StaysKnown}}
 

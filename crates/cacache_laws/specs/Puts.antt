@@ -3,8 +3,8 @@ use Rattle.std.specs.Prelude.{◌≡◌, ◌⊎◌, ℕ, List, Some, IfSome}
 use Rattle.cacache_core.specs.{declared.integrity.digest.Hash.{Hash}, Integrity.{IsIntegrity}}
 use Rattle.cacache_store.specs.declared.store.log.LogItem.{LogItem}
 use Rattle.cacache_entry.specs.Latest.{Found, found_of}
-use Rattle.cacache_table.specs.declared.command.Command.TheVariants as commands
-use Rattle.cacache_table.specs.{declared.{command.Put.{Put}, reply.Reply.{Reply, TheVariants.{Stored}}}, Inserting.{given_or}, Promises.{answered}, Storing.{insertion_of, put_commit}}
+use Rattle.cacache_calls.specs.declared.command.Command.TheVariants as commands
+use Rattle.cacache_calls.specs.{declared.{command.Put.{Put}, reply.Reply.{Reply, TheVariants.{Stored}}}, Inserting.{given_or}, Promises.{answered}, Storing.{insertion_of, put_commit}}
 use Rattle.cacache_history.specs.Values.{IsThere}
 use Rattle.cacache_laws.specs.{Caches.{IsCache, HasContent, Called, lies_under}, Keeping.{found_under}, Beside.{FitsEntry, KeepsBeside, own_integrity}, OpenWriters.{CommitsBytes, IsOpened}}
 

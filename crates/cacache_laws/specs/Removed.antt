@@ -3,8 +3,8 @@ use Rattle.std.specs.Prelude.{◌≡◌, ◌⊎◌, ℕ, List, None, Some}
 use Rattle.sha1.specs.Sha1.{sha1}
 use Rattle.cacache_core.specs.{declared.integrity.digest.Hash.{Hash}, Integrity.{IsIntegrity}}
 use Rattle.cacache_store.specs.declared.store.log.LogItem.{LogItem}
-use Rattle.cacache_table.specs.declared.command.Command.TheVariants as commands
-use Rattle.cacache_table.specs.declared.reply.Reply.{Reply, TheVariants.{Done, Refused}}
+use Rattle.cacache_calls.specs.declared.command.Command.TheVariants as commands
+use Rattle.cacache_calls.specs.declared.reply.Reply.{Reply, TheVariants.{Done, Refused}}
 use Rattle.cacache_laws.specs.{Caches.{IsCache, HasContent, HasKey, IsExcused, Called, RemovesKey, lies_under}, Keeping.{found_under}, Inserts.{leads_to}, Beside.{ShareAddress}}
 
 -- ---- of a content

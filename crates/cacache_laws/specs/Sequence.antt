@@ -4,8 +4,8 @@ use Rattle.cacache_core.specs.{declared.{errors.Error.TheVariants.{OutOfMemory},
 use Rattle.cacache_store.specs.declared.store.log.LogItem.{LogItem, TheVariants.{Made, Foreign}}
 use Rattle.cacache_disk.specs.{declared.luck.Luck.TheVariants.{Plain}, Tree.{Tree}, Apply.{apply}, Rooted.{Rooted}, memory.Replay.{tree_of, IsLog}}
 use Rattle.cacache_entry.specs.FittingEntries.{IsEntry}
-use Rattle.cacache_table.specs.{declared.{command.{Command.{Command}, Put.{Put}}, reply.Reply.{Reply, TheVariants.{Refused}}}, Causes.{HasCause, own_of}, StepPaths.{content_path}, Runs.{Moves, Runs, Ran, plain_reply}, Sound.{MayBegin}, Table.{opening}}
-use Rattle.cacache_table.specs.declared.command.Command.TheVariants as commands
+use Rattle.cacache_calls.specs.{declared.{command.{Command.{Command}, Put.{Put}}, reply.Reply.{Reply, TheVariants.{Refused}}}, Causes.{HasCause, own_of}, StepPaths.{content_path}, Runs.{Moves, Runs, Ran, plain_reply}, Sound.{MayBegin}, Table.{opening}}
+use Rattle.cacache_calls.specs.declared.command.Command.TheVariants as commands
 use Rattle.cacache_value.specs.{Acts.{list_of, change}, OpeningTrees.{LieApart, IsOpening}, Placed.{Placed}, Traces.{Move, acts}, Value.{Value, wide_value, cache_part, value_of_tree}}
 use Rattle.cacache_history.specs.{Setup.{Setup, call_site, home, may_export, is_outside}, History.{Turn, turn_of, NamesIntegrity}, Buckets.{BucketsHaveKeys, HoldOwn}, Commits.{Deed, does, finds, deeds, IsCase}, TurnReplies.{ReadsValue}, Values.{AreRight, IsThere}}
 

@@ -4,8 +4,8 @@ use Rattle.std.specs.Prelude.{◌≡◌, ℕ, List}
 use Rattle.cacache_core.specs.{declared.{errors.Error.{Error}, integrity.digest.Hash.{Hash}}, PathNames.{home_of}}
 use Rattle.cacache_store.specs.declared.store.log.LogItem.{LogItem}
 use Rattle.cacache_disk.specs.{Rooted.{Rooted}, memory.Replay.{tree_of}}
-use Rattle.cacache_table.specs.declared.{command.{Command.{Command}, Put.{Put}}, reply.Reply.{Reply, TheVariants.{Refused, Stored}}}
-use Rattle.cacache_table.specs.declared.command.Command.TheVariants as commands
+use Rattle.cacache_calls.specs.declared.{command.{Command.{Command}, Put.{Put}}, reply.Reply.{Reply, TheVariants.{Refused, Stored}}}
+use Rattle.cacache_calls.specs.declared.command.Command.TheVariants as commands
 use Rattle.cacache_value.specs.Placed.{Placed}
 use Rattle.cacache_laws.specs.{Beside.{FitsEntry, KeepsBeside, own_integrity}, CallErrors.{IsPlainPut}, Caches.{IsCache, HasKey, IsExcused, Called, GivesBytes}, Keeping.{found_under}, Looks.{OnlyLooks, GivesFound}, Puts.{ExpectsIntegrity, HasPut, MayLeadToPut}}
 

@@ -2,8 +2,8 @@
 use Rattle.std.specs.Prelude.{◌≡◌, ℕ, List, [], ◌∷◌, ◌++◌, Some}
 use Rattle.cacache_core.specs.{declared.integrity.digest.Hash.{Hash}, Digests.{digest}, Integrity.{hash_of}}
 use Rattle.cacache_disk.specs.Tree.{Tree}
-use Rattle.cacache_table.specs.{declared.{command.{Put.{Put}, Delete.{Delete}, Insert.{Insert}}, reply.Reply.TheVariants.{Stored, Done}}, Inserting.{insertion, deletion}, Storing.{insertion_of, put_commit}}
-use Rattle.cacache_table.specs.declared.command.Command.TheVariants as commands
+use Rattle.cacache_calls.specs.{declared.{command.{Put.{Put}, Delete.{Delete}, Insert.{Insert}}, reply.Reply.TheVariants.{Stored, Done}}, Inserting.{insertion, deletion}, Storing.{insertion_of, put_commit}}
+use Rattle.cacache_calls.specs.declared.command.Command.TheVariants as commands
 use Rattle.cacache_value.specs.Value.{InFile, value_of_tree}
 use Rattle.cacache_history.specs.Setup.{Setup, home}
 use Rattle.cacache_laws.specs.{Sequence.{SequenceCall, tree_on, CallIsAnswered}, ReadAnswers.{entries_on}}

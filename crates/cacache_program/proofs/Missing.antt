@@ -3,7 +3,7 @@ use Rattle.std.proofs.Common.{◌≡◌, ◌⊎◌, inl, inr, ℕ, List, Option,
 use Rattle.cacache_store.specs.declared.store.answer.Answer.TheVariants as answers
 use Rattle.cacache_store.specs.declared.store.step.Step.TheVariants as steps
 use Rattle.cacache_store.specs.{declared.store.log.LogItem.{LogItem}, Fits.{Fits, Logs}, Plain.{PlainAnswer}}
-use Rattle.cacache_table.specs.{declared.answers.Refusal.{Refusal}, Answers.{there_in}, SingleSteps.{Does}}
+use Rattle.cacache_calls.specs.{declared.answers.Refusal.{Refusal}, Answers.{there_in}, SingleSteps.{Does}}
 use Rattle.cacache_program.specs.KeepMissing.{says_missing}
 
 -- one step asked, or none was made, and nothing is there

@@ -5,7 +5,7 @@ use Rattle.cacache_core.specs.{declared.{errors.Error.{Error}, integrity.{algori
 use Rattle.cacache_store.specs.{declared.{env.Env.{Env}, store.{log.LogItem.{LogItem}, plain.{PlainFile.{PlainFile}, PlainTemp.{PlainTemp}}}}, Fits.{Fits, Logs}, Given.{AddsAnswer}, Plain.{PlainAnswer}}
 use Rattle.cacache_store.specs.declared.store.answer.Answer.TheVariants as answers
 use Rattle.cacache_store.specs.declared.store.step.Step.TheVariants as steps
-use Rattle.cacache_table.specs.{declared.{command.Options.{Options}, reply.Reply.TheVariants.{Stored}}, Answers.{file_in}, Promises.{Stores, answered}, Runs.{reply_of}, SingleSteps.{Does, FailsAt}}
+use Rattle.cacache_calls.specs.{declared.{command.Options.{Options}, reply.Reply.TheVariants.{Stored}}, Answers.{file_in}, Promises.{Stores, answered}, Runs.{reply_of}, SingleSteps.{Does, FailsAt}}
 use Rattle.cacache_jobs.specs.{Brought.{Brings}, Environment.{KeepsRest, MomentOf}}
 use Rattle.cacache_sync.specs.{content.{OpenReads.{FailsToOpen, OpensFile}, OpenWrites.{EndsWriter, HasTaken, TriesToRemove}}, declared.put.writer.SyncWriter.{SyncWriter}, put.{KeyedWriters.{CommitsWriter, OpensKeyed, writer_commit}, Options.{nothing_said, options_of}}}
 use Rattle.cacache_sync.proofs.content.StepAnswers.{file_refused, refusal_of, refused_fails}

@@ -2,7 +2,7 @@
 use Rattle.std.specs.{Prelude.{◌≡◌, ◌⊎◌, ◌++◌, ℕ, List, Option, Bool, true, false, codes}, Io.KnownBytes.{Appends}}
 use Rattle.cacache_store.specs.declared.store.answer.Answer.TheVariants as answers
 use Rattle.cacache_store.specs.declared.store.step.Step.TheVariants as steps
-use Rattle.cacache_table.specs.SingleSteps.{Does}
+use Rattle.cacache_calls.specs.SingleSteps.{Does}
 use Rattle.cacache.specs.{Stores.{LogItem, PlainAnswer}, Calls.{Env, KeepsRest}}
 use Rattle.cacache_program.specs.Output.{AppendsPart}
 

@@ -1,7 +1,7 @@
 -- The word `copy`.
 use Rattle.std.specs.{Prelude.{◌++◌, ℕ, List, [], ◌∷◌, Option, Some, None}, Fmt.{decimal}}
 use Rattle.cacache.specs.{Stores.{LogItem}, Calls.{Env, Reply, Copied, Calls, checked_export}}
-use Rattle.cacache_table.specs.declared.command.{How.TheVariants.{Copy}, Source.TheVariants.{Key}}
+use Rattle.cacache_calls.specs.declared.command.{How.TheVariants.{Copy}, Source.TheVariants.{Key}}
 use Rattle.cacache_program.specs.Output.{PutsOutOrFails}
 
 -- what is put out for a reply: how many bytes were copied

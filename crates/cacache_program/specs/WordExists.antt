@@ -1,8 +1,8 @@
 -- The word `exists`.
 use Rattle.std.specs.Prelude.{ℕ, List, Bool, true, false, Option, Some, None, codes}
 use Rattle.cacache.specs.{Stores.{LogItem}, Calls.{Env, Reply, Calls}, Integrities.{Hash}}
-use Rattle.cacache_table.specs.declared.command.Command.TheVariants as commands
-use Rattle.cacache_table.specs.declared.reply.Reply.TheVariants as replies
+use Rattle.cacache_calls.specs.declared.command.Command.TheVariants as commands
+use Rattle.cacache_calls.specs.declared.reply.Reply.TheVariants as replies
 use Rattle.cacache_program.specs.{Output.{PutsOutOrFails}, WithIntegrity.{WithIntegrity}}
 
 -- the answer to a question, as a line

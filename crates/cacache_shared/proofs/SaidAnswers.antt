@@ -2,9 +2,9 @@
 use Rattle.std.proofs.Common.{◌≡◌, List, Option, Result}
 use Rattle.cacache_core.specs.declared.errors.Error.{Error}
 use Rattle.cacache_entry.specs.Latest.{Found}
-use Rattle.cacache_table.specs.{declared.{command.{Command.{Command}, How.{How, TheVariants.{Copy, Reflink, HardLink}}}, reply.Reply.{Reply, TheVariants.{Stored, Read, LookedUp, Exists, Copied, Listed, Done, Refused}}}, State.{Site}, Promises.{Answers, Exports}, Runs.{plain_reply}}
-use Rattle.cacache_table.specs.declared.command.Command.TheVariants as commands
-use Rattle.cacache_table.specs.declared.command.Source.TheVariants as sources
+use Rattle.cacache_calls.specs.{declared.{command.{Command.{Command}, How.{How, TheVariants.{Copy, Reflink, HardLink}}}, reply.Reply.{Reply, TheVariants.{Stored, Read, LookedUp, Exists, Copied, Listed, Done, Refused}}}, State.{Site}, Promises.{Answers, Exports}, Runs.{plain_reply}}
+use Rattle.cacache_calls.specs.declared.command.Command.TheVariants as commands
+use Rattle.cacache_calls.specs.declared.command.Source.TheVariants as sources
 use Rattle.cacache_threads.specs.Said.{said_command, said_reply}
 
 -- ---- another found entry, or another listing

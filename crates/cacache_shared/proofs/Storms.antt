@@ -1,7 +1,7 @@
 -- A listing of a world's first caller, event by event.
 use Rattle.std.proofs.Common.{◌≡◌, List, [], ◌∷◌, ◌++◌, Some, None, option_map, refl, sym, ap, subst, ◌∙◌, append_assoc}
 use Rattle.cacache_disk.specs.declared.luck.Luck.{Luck}
-use Rattle.cacache_table.specs.declared.{command.Command.TheVariants.{Ls}, reply.Reply.{Reply}}
+use Rattle.cacache_calls.specs.declared.{command.Command.TheVariants.{Ls}, reply.Reply.{Reply}}
 use Rattle.cacache_history.specs.{declared.record.Record.{Record, TheVariants.{Began, Moved}}, History.{History, call_after, initial, new_call, now_after}}
 use Rattle.cacache_history.proofs.Histories.Holding.{replay_more}
 use Rattle.cacache_world.specs.declared.event.Move.TheVariants as told

@@ -1,7 +1,7 @@
 -- What each command of a seat was answered.
 use Rattle.std.specs.Prelude.{◌≡◌, ◌⊎◌, ℕ, ◌==◌, List, [], ◌∷◌, Option, None, Some, filter_map, map, option_map, take, if◌then◌else◌}
 use Rattle.cacache_core.specs.declared.errors.Error.TheVariants.{OutOfMemory}
-use Rattle.cacache_table.specs.{declared.{command.Command.{Command}, reply.Reply.{Reply, TheVariants.{Refused}}}, Promises.{Answers}, Runs.{plain_reply}}
+use Rattle.cacache_calls.specs.{declared.{command.Command.{Command}, reply.Reply.{Reply, TheVariants.{Refused}}}, Promises.{Answers}, Runs.{plain_reply}}
 use Rattle.cacache_history.specs.{declared.record.Record.{Record, TheVariants.{Began, Moved, Stopped}}, Setup.{call_site}, History.{History, Call, IsLegal, Reaches, now_at}}
 pub use Rattle.cacache_threads.specs.Said.{said_command, said_reply}
 use Rattle.cacache_shared.specs.Seats.{Taken, SeatAgrees}

@@ -1,6 +1,6 @@
 -- What the records of a history say about one caller.
 use Rattle.std.specs.Prelude.{ℕ, ◌==◌, Bool, true, false, List, Option, Some, None, count_by, filter_map, if◌then◌else◌}
-use Rattle.cacache_table.specs.declared.{command.Command.{Command}, reply.Reply.{Reply}}
+use Rattle.cacache_calls.specs.declared.{command.Command.{Command}, reply.Reply.{Reply}}
 use Rattle.cacache_history.specs.declared.record.Record.{Record, TheVariants.{Began, Moved, Stopped}}
 
 -- ---- records

@@ -1,7 +1,7 @@
 -- Seats as contracts see them.
 use Rattle.std.specs.Prelude.{◌≡◌, ℕ, zero, suc, ◌+◌, List, [], ◌∷◌, ◌++◌, drop, map}
 use Rattle.cacache_disk.specs.declared.luck.Luck.{Luck}
-use Rattle.cacache_table.specs.declared.{command.Command.{Command}, reply.Reply.{Reply}}
+use Rattle.cacache_calls.specs.declared.{command.Command.{Command}, reply.Reply.{Reply}}
 use Rattle.cacache_history.specs.{declared.record.Record.{Record, TheVariants.{Began}}, History.{History}}
 use Rattle.cacache_world.specs.{declared.event.Move.{Move}, WorldKept.{AddsRecord, MovesOn}}
 use Rattle.cacache_world.specs.declared.event.Move.TheVariants as told

@@ -1,6 +1,6 @@
 -- Which storms there are, and what their numbers count.
 use Rattle.std.specs.Prelude.{◌≡◌, ◌<◌, ◌⊎◌, ℕ, List, ◌++◌, Some, length}
-use Rattle.cacache_table.specs.{declared.{command.Command.TheVariants.{Ls}, reply.Reply.{Reply, TheVariants.{Listed}}}, State.{Item}}
+use Rattle.cacache_calls.specs.{declared.{command.Command.TheVariants.{Ls}, reply.Reply.{Reply, TheVariants.{Listed}}}, State.{Item}}
 use Rattle.cacache_history.specs.{declared.record.Record.{Record}, History.{History, Call, IsLegal, Reaches}}
 use Rattle.cacache_world.specs.WorldKept.{history_of, last}
 use Rattle.cacache_shared.specs.{declared.outcome.Storm.{Storm}, Lines.{moves}}

@@ -2,7 +2,7 @@
 ghost use Rattle.std.specs.Prelude.{◌≡◌, ◌+◌, ◌<◌, ◌≤◌, ◌^◌, ◌++◌, ◌∷◌, [], IfOk, OnOk, vec_len, vec_capacity};
 ghost use Rattle.cacache_shared.specs.Seats.{blank_seat, replies_after, went_of};
 
-use cacache_table::{Command, Reply};
+use cacache_calls::{Command, Reply};
 use cacache_world::Move;
 use std::alloc::{AllocError, Global};
 use std::marker::Model;
@@ -32,7 +32,7 @@ pub struct Seat<L: Ledger> {
 impl<L: Ledger> Model for Seat<L> {
     ghost use Rattle.std.specs.Prelude.{◌≡◌, ◌≤◌};
     ghost use Rattle.std.specs.Coded.{codes};
-    ghost use Rattle.cacache_table.specs.JsonCode.{data_code};
+    ghost use Rattle.cacache_calls.specs.JsonCode.{data_code};
     ghost use Rattle.cacache_shared.specs.Seats.{Taken};
 
     ghost Value = { Taken };

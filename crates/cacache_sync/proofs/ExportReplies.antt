@@ -1,8 +1,8 @@
 -- What exports answer, and what the checked ones read first.
 use Rattle.std.{proofs.Common.{◌≡◌, ◌≢◌, Bool, true, Result, Ok, Err, refl}, specs.Prelude.{IfOk}}
 use Rattle.cacache_core.specs.declared.errors.Error.{Error}
-use Rattle.cacache_table.specs.{declared.{command.{How.{How, TheVariants.{Copy, Reflink, HardLink}}, Source.{Source, TheVariants.{Key, Hash}}, Export.{Export}}, reply.Reply.{Reply, TheVariants.{Done}}}, Promises.{Answers, Exports, OnlyCopies, Only}, State.{Site}}
-use Rattle.cacache_table.specs.declared.command.Command.TheVariants as commands
+use Rattle.cacache_calls.specs.{declared.{command.{How.{How, TheVariants.{Copy, Reflink, HardLink}}, Source.{Source, TheVariants.{Key, Hash}}, Export.{Export}}, reply.Reply.{Reply, TheVariants.{Done}}}, Promises.{Answers, Exports, OnlyCopies, Only}, State.{Site}}
+use Rattle.cacache_calls.specs.declared.command.Command.TheVariants as commands
 
 -- every export answers by how it is made
 exports : (site : Site) (source : Source) (e : Export) (r : Reply) → Answers site (commands.Export source e) r → Exports e.how r

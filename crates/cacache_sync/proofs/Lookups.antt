@@ -6,10 +6,10 @@ use Rattle.cacache_store.specs.declared.store.step.Step.TheVariants as steps
 use Rattle.cacache_store.specs.declared.store.answer.Answer.TheVariants as answers
 use Rattle.cacache_store.specs.{declared.store.log.LogItem.{LogItem}, Plain.{PlainAnswer}, Fits.{Fits}}
 use Rattle.cacache_entry.specs.declared.metadata.Metadata.{Metadata}
-use Rattle.cacache_table.specs.declared.answers.Refusal.TheVariants as refusals
-use Rattle.cacache_table.specs.declared.command.Command.TheVariants as commands
-use Rattle.cacache_table.specs.{declared.reply.Reply.TheVariants.{Refused}, StepPaths.{bucket_path}, Replies.{bucket_shown, entries_shown, find_reply, looked_up}, Runs.{Gains, Ran, reply_of, without_message}, State.{Site}, Table.{opening}}
-use Rattle.cacache_table.proofs.{Going.{no_gain}, Replies.{find_run}}
+use Rattle.cacache_calls.specs.declared.answers.Refusal.TheVariants as refusals
+use Rattle.cacache_calls.specs.declared.command.Command.TheVariants as commands
+use Rattle.cacache_calls.specs.{declared.reply.Reply.TheVariants.{Refused}, StepPaths.{bucket_path}, Replies.{bucket_shown, entries_shown, find_reply, looked_up}, Runs.{Gains, Ran, reply_of, without_message}, State.{Site}, Table.{opening}}
+use Rattle.cacache_calls.proofs.{Going.{no_gain}, Replies.{find_run}}
 use Rattle.cacache_sync.specs.Lookups.{LooksUp, ReadsBucket}
 
 lost_after : (cache key : List ℕ) (t : PlainAnswer) (e : Error) (old new : Option (List LogItem)) → ReadsBucket cache key old new t ⊎ (new ≡ old) → Refused (without_message e) ≡ Refused OutOfMemory → LooksUp cache key old new (Err e)

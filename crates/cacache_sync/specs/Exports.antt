@@ -1,8 +1,8 @@
 -- What exports are asked to do, and what the checked ones read first.
 use Rattle.std.specs.Prelude.{ℕ, List, Bool, true, false, ⊤}
 use Rattle.cacache_core.specs.Integrity.{IsIntegrity}
-use Rattle.cacache_table.specs.{declared.{command.{Command.{Command}, Source.{Source, TheVariants.{Key, Hash}}, How.{How}}, reply.Reply.{Reply, TheVariants.{Done}}}, Promises.{Answers, Only, OnlyCopies}, State.{Site}}
-use Rattle.cacache_table.specs.declared.command.Command.TheVariants as commands
+use Rattle.cacache_calls.specs.{declared.{command.{Command.{Command}, Source.{Source, TheVariants.{Key, Hash}}, How.{How}}, reply.Reply.{Reply, TheVariants.{Done}}}, Promises.{Answers, Only, OnlyCopies}, State.{Site}}
+use Rattle.cacache_calls.specs.declared.command.Command.TheVariants as commands
 use Rattle.cacache_sync.specs.declared.exporting.Named.{Named}
 use Rattle.cacache_sync.specs.declared.exporting.Named.TheVariants as named
 

@@ -5,8 +5,8 @@ use Rattle.cacache_store.specs.{declared.{env.Env.{Env}, store.log.LogItem.{LogI
 use Rattle.cacache_store.specs.declared.store.answer.Answer.TheVariants as answers
 use Rattle.cacache_store.specs.declared.store.step.Step.TheVariants as steps
 use Rattle.cacache_entry.specs.{declared.metadata.Metadata.{Metadata}, Bucket.{entries_of}, Latest.{Found, latest}, View.{found_view}}
-use Rattle.cacache_table.specs.declared.command.Command.TheVariants as commands
-use Rattle.cacache_table.specs.{declared.{command.Delete.{Delete}, reply.Reply.{Reply}}, StepPaths.{bucket_path}, SingleSteps.{Does}}
+use Rattle.cacache_calls.specs.declared.command.Command.TheVariants as commands
+use Rattle.cacache_calls.specs.{declared.{command.Delete.{Delete}, reply.Reply.{Reply}}, StepPaths.{bucket_path}, SingleSteps.{Does}}
 use Rattle.cacache_jobs.specs.Environment.{RunsTimed}
 
 -- a tombstone of the key

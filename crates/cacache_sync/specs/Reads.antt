@@ -4,7 +4,7 @@ use Rattle.cacache_core.specs.declared.{errors.{Error.{Error}, Fault.{Fault}}, i
 use Rattle.cacache_store.specs.declared.store.answer.Answer.TheVariants as answers
 use Rattle.cacache_store.specs.declared.store.log.LogItem.{LogItem}
 use Rattle.cacache_store.specs.declared.store.step.Step.TheVariants as steps
-use Rattle.cacache_table.specs.{declared.{command.Command.{Command}, reply.Reply.{Reply, TheVariants.{Read, Exists}}}, StepPaths.{content_path}, State.{Site}, Promises.{Answers, OnlyReads}, SingleSteps.{Does}}
+use Rattle.cacache_calls.specs.{declared.{command.Command.{Command}, reply.Reply.{Reply, TheVariants.{Read, Exists}}}, StepPaths.{content_path}, State.{Site}, Promises.{Answers, OnlyReads}, SingleSteps.{Does}}
 
 -- wherever the command is called, it answers bytes
 abbrev pub ReadsBytes : Command → Type 0

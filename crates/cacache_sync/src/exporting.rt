@@ -1,16 +1,16 @@
 //! Exports: a content is copied, shares its storage, or has one more name. A checked one verifies the content first.
 ghost use Rattle.std.specs.Prelude.{◌≡◌, ◌≢◌, true, IfOk};
-ghost use Rattle.cacache_table.specs.{declared.{command.How.TheVariants.{Copy}, reply.Reply.TheVariants.{Copied, Done}}, Runs.{reply_of}, Replies.{done as says_done}};
+ghost use Rattle.cacache_calls.specs.{declared.{command.How.TheVariants.{Copy}, reply.Reply.TheVariants.{Copied, Done}}, Runs.{reply_of}, Replies.{done as says_done}};
 ghost use Rattle.cacache_sync.specs.Exports.{exporting, named_source, IsFormed, SaysCount, SaysNothing};
 ghost use Rattle.cacache_jobs.specs.{ReadFirst.{ReadsFirst, Verified}, Sites.{site_of}, Environment.{Calls}};
 
+use cacache_calls::{Command, Export, How, Source};
 use cacache_core::errors::Result;
 use cacache_core::integrity::Integrity;
 use cacache_core::text::Text;
 use cacache_jobs::call;
 use cacache_store::env::Env;
 use cacache_store::store::Store;
-use cacache_table::{Command, Export, How, Source};
 use std::alloc::{AllocError, Global};
 
 /// Makes a call that says how many bytes were copied.

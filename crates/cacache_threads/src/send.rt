@@ -3,8 +3,8 @@
 
 ghost use denote.Param.Send.{IsSend, IsSync};
 ghost use Rattle.serde_json.specs.contracts.value.Value as value;
-ghost use Rattle.cacache_table.specs.contracts.command.Command as command;
-ghost use Rattle.cacache_table.specs.contracts.reply.Reply as reply;
+ghost use Rattle.cacache_calls.specs.contracts.command.Command as command;
+ghost use Rattle.cacache_calls.specs.contracts.reply.Reply as reply;
 
 /// JSON values, commands and replies may be handed to other threads, and shared. Nothing is done.
 pub fn send_laws()

@@ -3,7 +3,7 @@ use Rattle.std.proofs.{Common.{◌≡◌, string_bytes, ℕ, List, [], ◌∷◌
 use Rattle.std.specs.List.{list_any}
 use Rattle.cacache_entry.specs.{Entry.{Entry}, Latest.{Found, answer_of, answer_to, latest, NoneAnswers}, View.{entry_view}, declared.metadata.SerializableMetadata.{SerializableMetadata}, Bucket.{entries_of}}
 use Rattle.cacache_entry.proofs.Lookups.{last_answer_decides}
-use Rattle.cacache_table.specs.Walking.{once, items_of, items_in}
+use Rattle.cacache_calls.specs.Walking.{once, items_of, items_in}
 use Rattle.cacache_walks.specs.Listed.{keys_in, lookups, added_at, EndsWith}
 
 -- entries have the same keys as the values that stand for them

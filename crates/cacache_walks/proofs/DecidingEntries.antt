@@ -3,7 +3,7 @@ use Rattle.std.proofs.{Common.{◌≡◌, ℕ, List, [], ◌∷◌, ◌++◌, Bo
 use Rattle.std.specs.{Prelude.{Ok, Result, unwrap_or, is_some, if◌then◌else◌, reverse}, List.{list_any}, Option.{option_or, option_flatten, option_to_list}, BTreeMap.{BTreeMap, get_by, UpdatesBy}, Borrow.{Bor}, Cmp.Lexicographic.{slice_cmp}, Ordering.{nat_cmp}}
 use Rattle.cacache_core.specs.declared.errors.Error.{Error}
 use Rattle.cacache_entry.specs.{Entry.{Entry}, Latest.{Found, answer_of, answer_to, after_entry, latest}, View.{entry_view}, declared.metadata.SerializableMetadata.{SerializableMetadata}}
-use Rattle.cacache_table.specs.{State.{Item}, Walking.{once, items_of}, Runs.{plain_item}}
+use Rattle.cacache_calls.specs.{State.{Item}, Walking.{once, items_of}, Runs.{plain_item}}
 use Rattle.cacache_walks.{specs.Listed.{keys_in, lookups, added_at, own_answer, decider, entry_in}, proofs.BucketItems.{keys_in_view, adds_first}}
 
 -- a decider's answer replaces what was found before

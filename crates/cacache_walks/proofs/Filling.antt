@@ -2,7 +2,7 @@
 use Rattle.std.proofs.{Common.{◌≡◌, inr, ℕ, ◌+◌, ◌<◌, ◌≤◌, List, [], ◌∷◌, ◌++◌, map, reverse, Option, Some, None, Ok, Err, refl, sym, ◌∙◌, ap, append_assoc, append-nil, length, length-append, arith}, lemmas.List.{length-map, reverse-append, reverse-reverse}}
 use Rattle.cacache_core.specs.declared.errors.Error.TheVariants.{OutOfMemory}
 use Rattle.cacache_store.specs.declared.{env.Env.{Env}, store.log.LogItem.{LogItem}}
-use Rattle.cacache_table.specs.{declared.{reply.Reply.TheVariants.{Refused}, visit.Visit.{Visit}}, State.{Item}, Runs.{Ran, plain_item}}
+use Rattle.cacache_calls.specs.{declared.{reply.Reply.TheVariants.{Refused}, visit.Visit.{Visit}}, State.{Item}, Runs.{Ran, plain_item}}
 use Rattle.cacache_walks.specs.{declared.{walk.Walk.{Walk}, iterator.Ls.{Ls}}, WalkStates.{walk_of}, Iterating.{KeepsEnv, Lists, listing_state, ready, StandsBy, Gave, steps_left, items_left, left}}
 use Rattle.cacache_walks.proofs.VisitAnswers.{Stepped}
 

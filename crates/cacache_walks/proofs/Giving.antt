@@ -1,6 +1,6 @@
 -- How a walk goes on with more items, and which names it stumbles over.
 use Rattle.std.proofs.{Common.{◌≡◌, ℕ, ◌+◌, ◌<◌, List, [], ◌∷◌, ◌++◌, Bool, Ok, true, false, nat_le, refl, sym, ◌∙◌, ap, length, take, map, length-append, arith}, Math.Seq.{take-append-add}, lemmas.{List.{take-map, length-map}, Bool.{lt-leb}}}
-use Rattle.cacache_table.specs.{State.{State, Item, Walk}, Walking.{most, give, miss, too_many, walk_on, walk_ends}, Runs.{plain_item}, declared.visit.Task.{Task, TheVariants.{Stumble}}}
+use Rattle.cacache_calls.specs.{State.{State, Item, Walk}, Walking.{most, give, miss, too_many, walk_on, walk_ends}, Runs.{plain_item}, declared.visit.Task.{Task, TheVariants.{Stumble}}}
 use Rattle.cacache_core.specs.declared.errors.Fault.{Fault}
 use Rattle.cacache_walks.specs.declared.walk.Walk as walks
 use Rattle.cacache_walks.{specs.WalkStates.{Counts, Bounds, WalkGives, pending, walk_of}, proofs.Walks.{taken_more, pending_push}}

@@ -3,8 +3,8 @@ use Rattle.std.proofs.{Common.{◌≡◌, ◌≤◌, ◌≢◌, ℕ, List, [], �
 use Rattle.std.specs.Prelude.{IsErrAnd}
 use Rattle.cacache_core.specs.declared.errors.{Error.{Error, TheVariants.{IoError, OutOfMemory}}, Fault.{Fault, TheVariants.{NotFound, TooDeep}}}
 use Rattle.cacache_store.specs.{declared.store.{log.LogItem.{LogItem}, answer.{Name.{Name}, Answer.TheVariants.{Names, Failed, NoMemory}}, step.Step.TheVariants.{ReadDir}}, Plain.{PlainAnswer}, Fits.{Fits, Logs}}
-use Rattle.cacache_table.specs.{Answers.{names_in}, Runs.{Moves, Gains}, declared.visit.{Task.{Task, TheVariants.{Make}}, Visit.{Visit, TheVariants.{Enter, ReadBucket, RemoveFile, RemoveFolder}}}, Walking.{after_visit, entered, tasks_of, too_many, walk_on}}
-use Rattle.cacache_table.specs.declared.answers.Refusal.TheVariants as refusals
+use Rattle.cacache_calls.specs.{Answers.{names_in}, Runs.{Moves, Gains}, declared.visit.{Task.{Task, TheVariants.{Make}}, Visit.{Visit, TheVariants.{Enter, ReadBucket, RemoveFile, RemoveFolder}}}, Walking.{after_visit, entered, tasks_of, too_many, walk_on}}
+use Rattle.cacache_calls.specs.declared.answers.Refusal.TheVariants as refusals
 use Rattle.cacache_walks.specs.declared.walk.Walk as walks
 use Rattle.cacache_walks.specs.{WalkStates.{Counts, WalksAt, pending, walk_of}, Reading.{Folder, HasDeeper, IsErrorOf, IsOwnError, ReadsFolders, StopsWalk, files_shown, folders_in, names_shown}, Listing.{StopsAt}, WalkSteps.{AnswerShows, Answered, GoesFrom, Matches, WalkStands, StopsIn, StopsVisit}}
 use Rattle.cacache_walks.proofs.{Stumbling.{deeper_or_none, lists}, VisitSteps.{lists_nothing, tasks_match, unmoved}, WholeWalk.{gains_both}}

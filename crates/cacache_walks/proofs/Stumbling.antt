@@ -1,7 +1,7 @@
 -- A walk that met something too deep has items; a walk without items leads on to its first task.
 use Rattle.std.proofs.{Common.{◌≡◌, ◌+◌, ◌<◌, ℕ, List, [], ◌∷◌, ◌++◌, Bool, true, false, cond, nat_le, Option, None, Some, inl, inr, ◌⊎◌, refl, sym, ap, subst, ◌∙◌, length, map, take, arith, length-append}, lemmas.List.Elements.{Contains-push, Contains-append_left}}
 use Rattle.cacache_core.specs.declared.errors.{Error.{Error}, Fault.{Fault}}
-use Rattle.cacache_table.specs.{declared.{reply.Reply.TheVariants.{Listed, Done}, visit.{Task.{Task, TheVariants.{Make, Stumble}}, Visit.{Visit}}}, State.{State, Item, walking, over, Walk}, Walking.{failed, walk_on, too_many, most}, Runs.{Moves, plain_item}}
+use Rattle.cacache_calls.specs.{declared.{reply.Reply.TheVariants.{Listed, Done}, visit.{Task.{Task, TheVariants.{Make, Stumble}}, Visit.{Visit}}}, State.{State, Item, walking, over, Walk}, Walking.{failed, walk_on, too_many, most}, Runs.{Moves, plain_item}}
 use Rattle.cacache_walks.specs.declared.walk.Walk as walks
 use Rattle.cacache_walks.specs.{WalkStates.{WalksAt, pending, walk_of}, Reading.{Folder, HasDeeper, StopsWalk}, WalkSteps.{Matches, WalkStands}}
 

@@ -1,6 +1,6 @@
 -- How the stack of a walk represents the table's list of tasks, and how the walk's items grow.
 use Rattle.std.proofs.{Common.{◌≡◌, List, [], ◌∷◌, ◌++◌, map, sym, ◌∙◌, ap, append_assoc}, lemmas.List.{map-append, reverse-append}}
-use Rattle.cacache_table.specs.{State.{Item}, Runs.{plain_item}, declared.visit.Task.{Task}}
+use Rattle.cacache_calls.specs.{State.{Item}, Runs.{plain_item}, declared.visit.Task.{Task}}
 use Rattle.cacache_walks.specs.WalkStates.{pending}
 
 -- a task that is put on the stack comes first

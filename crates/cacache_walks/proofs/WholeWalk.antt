@@ -1,7 +1,7 @@
 -- A whole walk, visit by visit.
 use Rattle.std.proofs.{Common.{◌≡◌, ℕ, List, [], ◌∷◌, ◌++◌, false, Option, None, Some, refl, sym, ap, subst, ◌∙◌, map, arith, append_assoc, append-nil}, lemmas.{List.{map-append}, Grind.{flat_map-append}}}
 use Rattle.cacache_store.specs.{declared.store.log.LogItem.{LogItem, TheVariants.{Made}}, Plain.{PlainStep, PlainAnswer}}
-use Rattle.cacache_table.specs.{State.{walking}, declared.visit.{Task.TheVariants.{Make}, Visit.{Visit, TheVariants.{Enter}}}, Walking.{walk, most}, Runs.{Moves, Gains}}
+use Rattle.cacache_calls.specs.{State.{walking}, declared.visit.{Task.TheVariants.{Make}, Visit.{Visit, TheVariants.{Enter}}}, Walking.{walk, most}, Runs.{Moves, Gains}}
 use Rattle.cacache_walks.specs.declared.walk.Walk as walks
 use Rattle.cacache_walks.specs.{WalkStates.{WalksAt, pending, walk_of}, Reading.{Folder, ReadsFolders, files_shown, shown_by, top_folder, StopsWalk}, WalkSteps.{Matches, GoesFrom}}
 use Rattle.cacache_walks.proofs.{Stumbling.{at_most, clears_at, lists}, VisitSteps.{unmoved}}

@@ -1,7 +1,7 @@
 -- What one entry of a bucket adds to a listing.
 use Rattle.std.specs.{Prelude.{◌≡◌, List, [], ◌∷◌, ◌++◌, ℕ, Ok, Option, Some, None, if◌then◌else◌, is_some, map, filter_map, option_map, bytes_eq, string_bytes}, List.{list_any}, Option.{option_flatten, option_or}, BTreeMap.{BTreeMap, get_by}, Borrow.{Bor}, Cmp.Lexicographic.{slice_cmp}, Ordering.{nat_cmp}}
 use Rattle.cacache_entry.specs.{Entry.{Entry}, Latest.{Found, answer_of, answer_to, latest}, View.{entry_view}, declared.metadata.SerializableMetadata.{SerializableMetadata}}
-use Rattle.cacache_table.specs.State.{Item}
+use Rattle.cacache_calls.specs.State.{Item}
 
 -- the keys of entries
 abbrev pub keys_in : List SerializableMetadata → List (List ℕ)

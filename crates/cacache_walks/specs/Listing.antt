@@ -2,7 +2,7 @@
 use Rattle.std.specs.{Prelude.{◌≡◌, ◌↔◌, ℕ, List, [], ◌∷◌, Option, Contains, map, string_bytes}, declared.cmp.Ordering.{Ordering}, Ordering.{nat_cmp, on, then_cmp}, Cmp.Lexicographic.{slice_cmp}, List.Sorted.{IsStrictlySortedBy}}
 use Rattle.cacache_core.specs.{declared.{errors.Error.{Error}, integrity.digest.Hash.{Hash}}, Integrity.{IsHash, rank}, Paths.{join, joined, content_area, content_names}}
 use Rattle.cacache_store.specs.declared.store.log.LogItem.{LogItem}
-use Rattle.cacache_table.specs.{Runs.{Moves, Gains}, Walking.{most}}
+use Rattle.cacache_calls.specs.{Runs.{Moves, Gains}, Walking.{most}}
 use Rattle.cacache_walks.specs.{declared.contents.Contents.{Contents}, Addresses.{IsContentPath, IsStrange}, Reading.{Folder, ReadsFolders, StopsWalk, top_folder, files_shown}}
 
 -- ---- what it holds

@@ -1,8 +1,8 @@
 -- The state of a walk in the table of calls.
 use Rattle.std.specs.Prelude.{◌≡◌, ◌+◌, ◌≤◌, List, ◌++◌, Option, Some, None, Bool, true, false, Result, Ok, Err, length, map, reverse}
 use Rattle.cacache_core.specs.declared.errors.Error.{Error}
-use Rattle.cacache_table.specs.State as states
-use Rattle.cacache_table.specs.{State.{State, Item, walking}, declared.visit.{Visit.{Visit}, Task.{Task}}, Walking.{most, walk_ends}, Runs.{plain_item, EndsAs}}
+use Rattle.cacache_calls.specs.State as states
+use Rattle.cacache_calls.specs.{State.{State, Item, walking}, declared.visit.{Visit.{Visit}, Task.{Task}}, Walking.{most, walk_ends}, Runs.{plain_item, EndsAs}}
 use Rattle.cacache_walks.specs.declared.walk.Walk.{Walk}
 
 -- ---- what a walk carries, in the table's terms

@@ -2,7 +2,7 @@
 use Rattle.std.specs.Prelude.{◌≡◌, ◌≤◌, ◌<◌, ◌+◌, ◌*◌, ℕ, List, [], ◌∷◌, ◌++◌, Option, None, Some, false}
 use Rattle.cacache_core.specs.declared.errors.{Error.{Error}, Fault.TheVariants.{NotFound}}
 use Rattle.cacache_store.specs.{declared.store.{log.LogItem.{LogItem}, answer.{Name.{Name}, Answer.TheVariants.{Names, Failed}}, step.Step.TheVariants.{ReadDir}}, Plain.{PlainAnswer, plain_answer}, Fits.{Fits}}
-use Rattle.cacache_table.specs.{declared.visit.{Task.{Task, TheVariants.{Make, Stumble}}, Visit.{Visit, TheVariants.{Enter, ReadBucket, RemoveFile, RemoveFolder}}}, Runs.{Moves, Gains, weight, weights}}
+use Rattle.cacache_calls.specs.{declared.visit.{Task.{Task, TheVariants.{Make, Stumble}}, Visit.{Visit, TheVariants.{Enter, ReadBucket, RemoveFile, RemoveFolder}}}, Runs.{Moves, Gains, weight, weights}}
 use Rattle.cacache_walks.specs.{declared.walk.Walk.{Walk}, WalkStates.{Counts, pending}, Reading.{Folder, ReadsFolders, StopsWalk, names_shown, file_paths, files_shown}, Listing.{StopsAt}}
 
 -- ---- one visit

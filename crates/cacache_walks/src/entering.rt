@@ -1,15 +1,15 @@
 //! The names in a folder that a walk enters, and the tasks that they add.
 ghost use Rattle.std.specs.Prelude.{◌≡◌, ◌++◌, OnOk};
-ghost use Rattle.cacache_table.specs.{Common.{go_on}, Walking.{walk_on as walk_on_of, miss as miss_of, entered as entered_of, task_for_name, tasks_of, leaving}};
+ghost use Rattle.cacache_calls.specs.{Common.{go_on}, Walking.{walk_on as walk_on_of, miss as miss_of, entered as entered_of, task_for_name, tasks_of, leaving}};
 ghost use Rattle.cacache_walks.specs.WalkStates.{GoesOn, pending};
 
 use crate::messages;
 use crate::walk::Walk;
+use cacache_calls::{Refusal, Task, Visit};
 use cacache_core::errors::{self, Fault};
 use cacache_core::paths::join;
 use cacache_core::text::Text;
 use cacache_store::store::{Kind, Listing, Name};
-use cacache_table::{Refusal, Task, Visit};
 use std::alloc::{AllocError, Global};
 
 /// Folders below this level aren't entered.

@@ -2,16 +2,16 @@
 ghost use Rattle.std.specs.{Prelude.{◌≡◌, ◌<◌, ◌≤◌, ℕ, List, [], Option, Some, None, IfOk, OnOk, IfErr}, Borrow.{sem}, Iterator.{at_most}};
 ghost use Rattle.cacache_core.specs.declared.errors.Error.TheVariants.{OutOfMemory};
 ghost use Rattle.cacache_store.specs.declared.store.log.LogItem.{LogItem};
-ghost use Rattle.cacache_table.specs.{Runs.{plain_item}, State.{Item}};
+ghost use Rattle.cacache_calls.specs.{Runs.{plain_item}, State.{Item}};
 ghost use Rattle.cacache_walks.specs.{Lending.{EnvRests}, Iterating.{Filled, Gave, IsListing, KeepsEnv, NextGives, Shortens, VisitGives, item_view, left}};
 
 use crate::walk::Walk;
+use cacache_calls::{Found, Visit};
 use cacache_core::errors::{self, Error};
 use cacache_core::paths::{INDEX_AREA, join};
 use cacache_entry::Metadata;
 use cacache_store::env::Env;
 use cacache_store::store::Store;
-use cacache_table::{Found, Visit};
 use std::mem::swap;
 
 /// The entries of a cache, one after another: each key once, if its lookup finds an entry. The

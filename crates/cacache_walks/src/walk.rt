@@ -1,16 +1,16 @@
 //! A walk, which makes one visit after another.
 ghost use Rattle.std.specs.Prelude.{◌≡◌, ◌+◌, List, [], OnOk, IfOk, IfErr, length, map, Some};
 ghost use Rattle.cacache_store.specs.Plain.{plain_answer};
-ghost use Rattle.cacache_table.specs.{Common.{go_on, refuse}, Runs.{plain_item, plain_reply, EndsAs}, State.{Item, over}, Walking.{walk as walk_from, give as give_of, walk_on as walk_on_of, walk_ends, too_many as too_many_of, miss as miss_of, unread_bucket, listed as listed_of, after_visit}};
+ghost use Rattle.cacache_calls.specs.{Common.{go_on, refuse}, Runs.{plain_item, plain_reply, EndsAs}, State.{Item, over}, Walking.{walk as walk_from, give as give_of, walk_on as walk_on_of, walk_ends, too_many as too_many_of, miss as miss_of, unread_bucket, listed as listed_of, after_visit}};
 ghost use Rattle.cacache_walks.specs.WalkStates.{WalksAt, GoesOn, GivesOn, walk_of};
 
 use crate::{bucket, messages};
+use cacache_calls::answers::{bytes_of, done_of, names_of};
+use cacache_calls::{Found, Items, Refusal, Reply, Task, Visit};
 use cacache_core::bytes::Bytes;
 use cacache_core::errors::{self, Error, Fault};
 use cacache_core::text::Text;
 use cacache_store::store::{Answer, FileHandle, TempHandle};
-use cacache_table::answers::{bytes_of, done_of, names_of};
-use cacache_table::{Found, Items, Refusal, Reply, Task, Visit};
 use std::alloc::{AllocError, Global};
 
 /// A walk through all folders below one.

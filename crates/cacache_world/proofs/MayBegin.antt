@@ -1,9 +1,9 @@
 -- Which commands a call may begin with.
 use Rattle.std.proofs.Common.{◌≡◌, ℕ, Bool, true, false, refl, sym}
-use Rattle.cacache_table.specs.declared.command.Link as links
-use Rattle.cacache_table.specs.declared.command.Export as exports
-use Rattle.cacache_table.specs.{declared.command.Source.{Source}, Formed.{FormsCommand}, Linking.{based}}
-use Rattle.cacache_table.specs.declared.command.Command.TheVariants as commands
+use Rattle.cacache_calls.specs.declared.command.Link as links
+use Rattle.cacache_calls.specs.declared.command.Export as exports
+use Rattle.cacache_calls.specs.{declared.command.Source.{Source}, Formed.{FormsCommand}, Linking.{based}}
+use Rattle.cacache_calls.specs.declared.command.Command.TheVariants as commands
 use Rattle.cacache_history.specs.{History.{NamesSource}, Setup.{Setup, call_site, may_export, is_outside}}
 use Rattle.cacache_world.specs.Admitted.{Judges}
 

@@ -1,7 +1,7 @@
 -- Which commands a call may begin with.
 use Rattle.std.specs.Prelude.{◌≡◌, ℕ, Bool, true, false, List}
-use Rattle.cacache_table.specs.{declared.command.Command.{Command}, Linking.{based}, Sound.{MayBegin}}
-use Rattle.cacache_table.specs.declared.command.Command.TheVariants as commands
+use Rattle.cacache_calls.specs.{declared.command.Command.{Command}, Linking.{based}, Sound.{MayBegin}}
+use Rattle.cacache_calls.specs.declared.command.Command.TheVariants as commands
 use Rattle.cacache_history.specs.{Setup.{Setup, call_site, may_export, is_outside}, History.{NamesIntegrity}}
 use Rattle.cacache_world.specs.{declared.event.WorldFault.{WorldFault}, WorldKept.{setup_of}}
 use Rattle.cacache_world.specs.declared.event.WorldFault.TheVariants as faults

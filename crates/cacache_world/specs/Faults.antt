@@ -4,7 +4,7 @@ use Rattle.cacache_core.specs.declared.errors.Fault.{Fault}
 use Rattle.cacache_disk.specs.{Tree.{Tree, bare}, Apply.{planted}}
 use Rattle.cacache_value.specs.OpeningTrees.{with_files}
 use Rattle.cacache_history.specs.{History.{History, Call}, Setup.{Setup, may_export}}
-use Rattle.cacache_table.specs.declared.command.Command.{Command}
+use Rattle.cacache_calls.specs.declared.command.Command.{Command}
 use Rattle.cacache_world.specs.{declared.event.WorldFault.{WorldFault}, Turned.{DiskJob}, WorldKept.{setup_of, last}, Admitted.{IsBad}}
 use Rattle.cacache_world.specs.declared.event.WorldFault.TheVariants as faults
 

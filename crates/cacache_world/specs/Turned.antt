@@ -3,7 +3,7 @@ use Rattle.std.specs.Prelude.{◌≡◌, ◌⊎◌, Option, Some, None, IsTrue}
 use Rattle.cacache_core.specs.declared.errors.Error.TheVariants.{OutOfMemory}
 use Rattle.cacache_store.specs.declared.store.plain.{PlainFile.{PlainFile}, PlainTemp.{PlainTemp}}
 use Rattle.cacache_disk.specs.{declared.luck.Luck.{Luck}, Tree.{Tree}, Apply.{apply}}
-use Rattle.cacache_table.specs.{declared.reply.Reply.{Reply, TheVariants.{Refused}}, State.{State}, Table.{after}}
+use Rattle.cacache_calls.specs.{declared.reply.Reply.{Reply, TheVariants.{Refused}}, State.{State}, Table.{after}}
 use Rattle.cacache_jobs.specs.{declared.job.Job.{Job}, Jobs.{Stands, GoesTo, Tells, can_go_on}}
 use Rattle.cacache_history.specs.History.{Made, Ends, MayMove}
 use Rattle.cacache_world.specs.declared.{event.Move.{Move}, turn.{After.{After}, Turn.{Turn}}}

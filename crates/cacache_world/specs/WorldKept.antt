@@ -1,7 +1,7 @@
 -- What each world keeps, and what its events add.
 use Rattle.std.specs.Prelude.{◌≡◌, ℕ, List, [], ◌++◌, ◌∷◌, Option, None, Some, codes, slice_get, slice_set, take, true, vec_len, IsTrue}
 use Rattle.cacache_disk.specs.{declared.luck.Luck.{Luck}, Tree.{Tree}}
-use Rattle.cacache_table.specs.{State.{over}, Runs.{plain_reply}}
+use Rattle.cacache_calls.specs.{State.{over}, Runs.{plain_reply}}
 use Rattle.cacache_jobs.specs.Jobs.{can_go_on}
 use Rattle.cacache_history.specs.{declared.record.Record.{Record, TheVariants.{Moved}}, Setup.{Setup, may_export}, History.{History, Call, Made, IsLegal, MayCome, Now, now_at}}
 use Rattle.cacache_world.specs.{declared.{event.Move.{Move}, world.World.TheInside.{Inside}}, Turned.{DiskJob, JobStands, told_by}}

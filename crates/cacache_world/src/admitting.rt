@@ -1,19 +1,19 @@
 //! Which commands a call may begin with.
 ghost use Rattle.std.specs.Prelude.{◌≡◌, IfOk, IfErr, OnOk, ℕ, List, codes};
-ghost use Rattle.cacache_table.specs.Linking.{based as based_of};
+ghost use Rattle.cacache_calls.specs.Linking.{based as based_of};
 ghost use Rattle.cacache_core.specs.Integrity.{IsIntegrity};
-ghost use Rattle.cacache_table.specs.declared.command.Command.TheVariants as commands;
+ghost use Rattle.cacache_calls.specs.declared.command.Command.TheVariants as commands;
 ghost use Rattle.cacache_history.specs.{History.{NamesSource}, Setup.{Setup, is_outside as is_outside_of}};
 ghost use Rattle.cacache_world.specs.{WorldKept.{setup_of}, Admitted.{MayAsk, Judges, JudgesIn, IsTurnedAway}};
 
 use crate::event::WorldFault;
 use crate::names::{is_outside, may_take};
+use cacache_calls::{
+    Command, Export, Link, Source, based, form_delete, form_insert, form_link, form_put,
+};
 use cacache_core::bytes::Bytes;
 use cacache_core::integrity::Integrity;
 use cacache_core::text::Text;
-use cacache_table::{
-    Command, Export, Link, Source, based, form_delete, form_insert, form_link, form_put,
-};
 use std::alloc::{AllocError, Global};
 
 /// Shows that an integrity is one, as each is.

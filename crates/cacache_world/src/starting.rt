@@ -1,6 +1,6 @@
 //! How a call begins.
 ghost use Rattle.std.specs.Prelude.{◌≡◌, ◌<◌, ◌+◌, ◌^◌, ℕ, IfOk, IfErr, OnOk, IsTrue, Some, None, codes, slice_get, vec_len, vec_capacity};
-ghost use Rattle.cacache_table.specs.Table.{opening};
+ghost use Rattle.cacache_calls.specs.Table.{opening};
 ghost use Rattle.cacache_jobs.specs.{Jobs.{can_go_on}, Sites.{site_of}};
 ghost use Rattle.cacache_world.specs.{Turned.{JobStands}, WorldKept.{setup_of}, Admitted.{MayAsk}, Faults.{IsUnready}};
 
@@ -8,11 +8,11 @@ use crate::admitting::admit;
 use crate::callers::{check_has_none, make_room};
 use crate::event::WorldFault;
 use crate::turn::Call;
+use cacache_calls::Command;
 use cacache_core::bytes::Bytes;
 use cacache_core::text::Text;
 use cacache_history::Record;
 use cacache_jobs::Job;
-use cacache_table::Command;
 use std::alloc::{AllocError, Global};
 
 /// The job of a command.

@@ -9,13 +9,13 @@ use crate::losing::nodes_left;
 use crate::outside::plant_all;
 use crate::starting::prepare;
 use crate::turn::{Call, Turn, advance, turn_parts};
+use cacache_calls::Command;
 use cacache_core::bytes::Bytes;
 use cacache_core::keeping::let_go;
 use cacache_core::text::Text;
 use cacache_disk::{Disk, Luck};
 use cacache_history::Record;
 use cacache_loss::Loss;
-use cacache_table::Command;
 use std::alloc::Global;
 use std::marker::Model;
 
@@ -35,7 +35,7 @@ pub struct World {
 impl Model for World {
     ghost use Rattle.cacache_history.specs.History.{History};
     ghost use Rattle.cacache_world.specs.WorldKept.{history_told, WorldIsKept};
-    ghost use Rattle.cacache_table.specs.JsonCode.{data_code};
+    ghost use Rattle.cacache_calls.specs.JsonCode.{data_code};
     ghost use Rattle.std.specs.Coded.{codes};
 
     ghost Value = { History };

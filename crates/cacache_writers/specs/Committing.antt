@@ -3,7 +3,7 @@ use Rattle.std.specs.Prelude.{◌≡◌, ◌≢◌, ◌⊎◌, ℕ, List, Option
 use Rattle.cacache_core.specs.{declared.{errors.{Error.{Error, TheVariants.{OutOfMemory}}, Fault.{Fault}}, integrity.digest.Hash.{Hash}}, Integrity.{strongest}}
 use Rattle.cacache_core.specs.declared.errors.Fault.TheVariants as fault
 use Rattle.cacache_store.specs.declared.{env.Env.{Env}, store.{log.LogItem.{LogItem}, plain.PlainTemp.{PlainTemp}}}
-use Rattle.cacache_table.specs.{declared.{reply.Reply.{Reply, TheVariants.{Stored}}, carried.Commit.{Commit}}, Runs.{Ran, reply_of}, Storing.{persist}}
+use Rattle.cacache_calls.specs.{declared.{reply.Reply.{Reply, TheVariants.{Stored}}, carried.Commit.{Commit}}, Runs.{Ran, reply_of}, Storing.{persist}}
 use Rattle.cacache_jobs.specs.Environment.{MomentOf}
 use Rattle.cacache_polled.specs.{declared.{writer_core.WriterCore.{WriterCore}, kinds.Finish.{Finish, TheVariants.{Busy, Closed, Cancelled, Failed, Held}}}, Events.{CommitFinds}}
 use Rattle.cacache_async.specs.Waiting.{TellsFault}

@@ -1,6 +1,6 @@
 //! What the commit of a polled writer does with the core and the temporary file, which are lent to it.
 ghost use Rattle.std.specs.Prelude.{◌≡◌, ℕ, List, None, IfSome};
-ghost use Rattle.cacache_table.specs.{declared.reply.Reply.TheVariants.{Stored}, Runs.{reply_of}};
+ghost use Rattle.cacache_calls.specs.{declared.reply.Reply.TheVariants.{Stored}, Runs.{reply_of}};
 ghost use Rattle.cacache_polled.specs.{Table.{closed}, Events.{HasHeld, busy}};
 ghost use Rattle.cacache_async.specs.Waiting.{TellsFault};
 ghost use Rattle.cacache_writers.specs.Committing.{EndsAsSaid, EndsHeld, Gives, GivesSome};

@@ -4,9 +4,9 @@ use Rattle.std.specs.Prelude.{IfOk, IfErr}
 use Rattle.cacache_core.specs.{declared.{errors.{Error.{Error}, Fault.{Fault}}, integrity.digest.Hash.{Hash}}, Integrity.{IsIntegrity}}
 use Rattle.cacache_store.specs.declared.store.log.LogItem.{LogItem, TheVariants.{Made}}
 use Rattle.cacache_entry.specs.{declared.metadata.Metadata.{Metadata}, Latest.{Found}, View.{found_view}}
-use Rattle.cacache_table.specs.declared.command.Command.TheVariants as commands
-use Rattle.cacache_table.specs.declared.reply.Reply.TheVariants as replies
-use Rattle.cacache_table.specs.{Causes.{Faulted}, Runs.{Moves, reply_of}, Replies.{looked_up}}
+use Rattle.cacache_calls.specs.declared.command.Command.TheVariants as commands
+use Rattle.cacache_calls.specs.declared.reply.Reply.TheVariants as replies
+use Rattle.cacache_calls.specs.{Causes.{Faulted}, Runs.{Moves, reply_of}, Replies.{looked_up}}
 use Rattle.cacache_laws.specs.{Caches.{IsCache, HasKey, HasContent, LacksKey, AStepFailed, IsExcused, Called, Grows, ExcusesLast, lies_under, SaysThere, AsksWhetherHeld}, Keeping.{found_under}, Inserts.{leads_to}, Looks.{GivesFound, FindsFound, SaysAbsent, AsksAbsent}}
 use Rattle.uses.{specs.Asked.{IsEntryOf}, proofs.Told.{excused}}
 

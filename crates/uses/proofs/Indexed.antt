@@ -2,9 +2,9 @@
 use Rattle.std.{proofs.Common.{◌≡◌, ◌<◌, ◌^◌, ℕ, List, Option, Some, Result, Ok, Err, subst}, specs.Prelude.{IsUtf8, IfErr, OnOk}}
 use Rattle.cacache_core.specs.{declared.{errors.Error.{Error, TheVariants.{EntryNotFound, SizeMismatch, IoError, SerdeError, IntegrityError, OutOfMemory}}, integrity.{algorithm.Algorithm.TheVariants.{Sha256}, digest.Hash.{Hash}}}, Integrity.{IsIntegrity}}
 use Rattle.cacache_store.specs.declared.{store.log.LogItem.{LogItem}, env.Env.{Env}}
-use Rattle.cacache_table.specs.declared.command.Command.TheVariants as commands
-use Rattle.cacache_table.specs.declared.reply.Reply.TheVariants as replies
-use Rattle.cacache_table.specs.{Runs.{Ran, reply_of, without_message}, declared.reply.Reply.{Reply}, Table.{opening}}
+use Rattle.cacache_calls.specs.declared.command.Command.TheVariants as commands
+use Rattle.cacache_calls.specs.declared.reply.Reply.TheVariants as replies
+use Rattle.cacache_calls.specs.{Runs.{Ran, reply_of, without_message}, declared.reply.Reply.{Reply}, Table.{opening}}
 use Rattle.cacache_jobs.specs.{Sites.{site_of}, Environment.{RunsTimed}}
 use Rattle.cacache_sync.specs.put.{Options.{Said, nothing_said}, Puts.{insert_of}}
 use Rattle.cacache_laws.specs.{Caches.{IsCache, IsExcused, Called}, Keeping.{KeepsOthers}, Inserts.{leads_to, InsertsKey, InsertsLast, plain_insert, PlainInsertsFit}}

@@ -5,9 +5,9 @@ use Rattle.cacache_core.specs.{declared.{errors.{Error.{Error, TheVariants.{IoEr
 use Rattle.cacache_store.specs.declared.store.log.LogItem.{LogItem}
 use Rattle.cacache_disk.specs.memory.Replay.{IsLog}
 use Rattle.cacache_entry.specs.Latest.{Found}
-use Rattle.cacache_table.specs.declared.command.Command.TheVariants as commands
-use Rattle.cacache_table.specs.{declared.reply.Reply.{Reply}, ListReplies.{In}, Runs.{Ran, plain_item, plain_reply, without_message}, State.{Item}, Table.{opening}}
-use Rattle.cacache_table.specs.declared.reply.Reply.TheVariants as replies
+use Rattle.cacache_calls.specs.declared.command.Command.TheVariants as commands
+use Rattle.cacache_calls.specs.{declared.reply.Reply.{Reply}, ListReplies.{In}, Runs.{Ran, plain_item, plain_reply, without_message}, State.{Item}, Table.{opening}}
+use Rattle.cacache_calls.specs.declared.reply.Reply.TheVariants as replies
 use Rattle.cacache_jobs.specs.Sites.{site_of}
 use Rattle.cacache_laws.specs.{Caches.{HasKey, Grows, IsExcused, Called, ExcusesLast}, Keeping.{found_under}, ListedKeys.{IsShown, AreAllFound, ListsKeys, GivesKeys}}
 use Rattle.uses.proofs.Told.{plain_error, memory_error}

@@ -3,9 +3,9 @@ use Rattle.std.{proofs.Common.{◌≡◌, inl, inr, ◌<◌, ◌^◌, ℕ, List,
 use Rattle.cacache_core.specs.declared.{errors.Error.{Error, TheVariants.{EntryNotFound, SizeMismatch, IoError, SerdeError, IntegrityError, OutOfMemory}}, integrity.{algorithm.Algorithm.TheVariants.{Sha256}, digest.Hash.{Hash}}}
 use Rattle.cacache_store.specs.declared.store.log.LogItem.{LogItem}
 use Rattle.cacache_disk.specs.memory.Replay.{IsLog}
-use Rattle.cacache_table.specs.{declared.{command.Command.{Command}, reply.Reply.{Reply}}, Runs.{Ran, plain_reply, reply_of, without_message}, Table.{opening}, Verifying.{CountsAs}, Replies.{done}}
-use Rattle.cacache_table.specs.declared.command.Command.TheVariants as commands
-use Rattle.cacache_table.specs.declared.reply.Reply.TheVariants as replies
+use Rattle.cacache_calls.specs.{declared.{command.Command.{Command}, reply.Reply.{Reply}}, Runs.{Ran, plain_reply, reply_of, without_message}, Table.{opening}, Verifying.{CountsAs}, Replies.{done}}
+use Rattle.cacache_calls.specs.declared.command.Command.TheVariants as commands
+use Rattle.cacache_calls.specs.declared.reply.Reply.TheVariants as replies
 use Rattle.cacache_jobs.specs.Sites.{site_of}
 use Rattle.cacache_laws.specs.Caches.{IsCache, IsEmptyCache, HasKey, HasContent, LacksKey, Grows, IsExcused, Called, plain_put, GivesBytes, FindsNone, WritesLast, ReadsKey, ReadsContent, ReadsNone, RemovalsLast, ClearingsEmpty, ExcusesLast}
 use Rattle.cacache.specs.Calls.{bytes_read}

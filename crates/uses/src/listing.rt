@@ -2,7 +2,7 @@
 ghost use Rattle.std.specs.Prelude.{◌≡◌, ◌⊎◌, ℕ, List, [], All, Some, Ok, Err, map, IfOk, IfErr};
 ghost use Rattle.cacache_core.specs.{declared.errors.{Error.TheVariants.{IoError, OutOfMemory}, Fault.TheVariants.{TooDeep}}, Integrity.{Meets}};
 ghost use Rattle.cacache_entry.specs.Latest.{Found as Entry};
-ghost use Rattle.cacache_table.specs.{ListReplies.{In}, Runs.{plain_item, without_message}};
+ghost use Rattle.cacache_calls.specs.{ListReplies.{In}, Runs.{plain_item, without_message}};
 ghost use Rattle.cacache_laws.specs.{Caches.{IsCache, Grows, IsExcused}, Keeping.{found_under, StaysKnown}, ListedKeys.{ListsKeys}};
 
 use crate::calls::write;

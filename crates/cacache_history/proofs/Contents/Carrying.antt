@@ -5,12 +5,12 @@ use Rattle.cacache_store.specs.{declared.store.plain.{PlainTemp.{PlainTemp}, Pla
 use Rattle.cacache_store.specs.declared.store.step.Step.TheVariants as steps
 use Rattle.cacache_store.specs.declared.store.answer.Answer.TheVariants as answers
 use Rattle.cacache_disk.specs.{declared.{luck.Luck.{Luck}, node.Node.TheVariants.{File}}, Tree.{Tree, put}, LedTo.{free}, Apply.{apply, grown, taken, unless, made_temp}}
-use Rattle.cacache_table.specs.{declared.{command.{Command.{Command}, Export.{Export}, How.{How, TheVariants.{Copy, Reflink, HardLink}}}, carried.{Commit.{Commit}, Aim.{Aim}, Lookup.{Lookup}, Content.{Content}}, visit.Visit.{Visit, TheVariants.{Enter, ReadBucket, RemoveFile, RemoveFolder}}}, StepPaths.{temp_path, content_path}, Exporting.{export_from, export_content, export, verified}, Looking.{found_content, found_for}, Walking.{visit_step}, State.{State, doing, creating, writing, syncing, persisting, linking, confirming, appending, looking, reading, asking, sizing, opening_file, hashing, copying, walking, over, Site, Insertion, Hashing, to_verify, to_link, Errand, make_folder, remove, reflink, hard_link, sync_file, sync_dir}, Answers.{temp_in, written_in, synced_in}, Common.{ends_with, errand_step}, Inserting.{insertion, deletion, unless_refused, refused_cause}, Linking.{link_target, after_read}, Table.{wants, after, opening}}
-use Rattle.cacache_table.proofs.{Branches.{cond_leads}, Closed.{AnyWalk, ClosedCommit, ClosedWalk, Closed, kept}, Leading.{inserts as adds, places}, Visits.{AnyVisit, any_visits}, Sound.{some_is}}
-use Rattle.cacache_table.specs.declared.command.Command.TheVariants as commands
-use Rattle.cacache_table.specs.declared.command.Source.TheVariants as sources
+use Rattle.cacache_calls.specs.{declared.{command.{Command.{Command}, Export.{Export}, How.{How, TheVariants.{Copy, Reflink, HardLink}}}, carried.{Commit.{Commit}, Aim.{Aim}, Lookup.{Lookup}, Content.{Content}}, visit.Visit.{Visit, TheVariants.{Enter, ReadBucket, RemoveFile, RemoveFolder}}}, StepPaths.{temp_path, content_path}, Exporting.{export_from, export_content, export, verified}, Looking.{found_content, found_for}, Walking.{visit_step}, State.{State, doing, creating, writing, syncing, persisting, linking, confirming, appending, looking, reading, asking, sizing, opening_file, hashing, copying, walking, over, Site, Insertion, Hashing, to_verify, to_link, Errand, make_folder, remove, reflink, hard_link, sync_file, sync_dir}, Answers.{temp_in, written_in, synced_in}, Common.{ends_with, errand_step}, Inserting.{insertion, deletion, unless_refused, refused_cause}, Linking.{link_target, after_read}, Table.{wants, after, opening}}
+use Rattle.cacache_calls.proofs.{Branches.{cond_leads}, Closed.{AnyWalk, ClosedCommit, ClosedWalk, Closed, kept}, Leading.{inserts as adds, places}, Visits.{AnyVisit, any_visits}, Sound.{some_is}}
+use Rattle.cacache_calls.specs.declared.command.Command.TheVariants as commands
+use Rattle.cacache_calls.specs.declared.command.Source.TheVariants as sources
 use Rattle.cacache_entry.specs.Latest.{Found}
-use Rattle.cacache_table.specs.declared.carried.Aim.TheVariants as aims
+use Rattle.cacache_calls.specs.declared.carried.Aim.TheVariants as aims
 use Rattle.cacache_value.{specs.Acts.{Act, PutBytes, PutLink}, proofs.Shows.{apply_answer}}
 use Rattle.cacache_history.proofs.Syncing.{temp_synced}
 

@@ -3,10 +3,10 @@ use Rattle.std.proofs.Common.{◌≡◌, ◌⊎◌, inl, inr, ℕ, List, [], ◌
 use Rattle.cacache_core.specs.{declared.errors.Error.TheVariants.{OutOfMemory}, Integrity.{integrity_under}}
 use Rattle.cacache_store.specs.Plain.{PlainAnswer}
 use Rattle.cacache_entry.proofs.EntryCauses.{Fits-no_cause}
-use Rattle.cacache_table.specs.{declared.{command.Command.{Command}, reply.Reply.{Reply}, carried.Commit.{Commit}, target.Target.{Target}}, Effects.{Effect, stored, sent, effects_of, IsRefused, DoesNothing, TookAll, Inserts, Indexes, Commits}, Inserting.{insertion, deletion, bucket_line, refused_cause}, Linking.{link_target, commit_for}, StepPaths.{content_path, bucket_path}, Runs.{Runs, plain_reply}, Sound.{FormedIfWritten, SoundTarget, MayBegin}, State.{Insertion}, Storing.{insertion_of, put_commit}, Table.{opening}}
-use Rattle.cacache_table.proofs.Effects.{puts_commit, inserts_send, deletes_send}
-use Rattle.cacache_table.specs.declared.command.Command.TheVariants as commands
-use Rattle.cacache_table.specs.declared.reply.Reply.TheVariants as replies
+use Rattle.cacache_calls.specs.{declared.{command.Command.{Command}, reply.Reply.{Reply}, carried.Commit.{Commit}, target.Target.{Target}}, Effects.{Effect, stored, sent, effects_of, IsRefused, DoesNothing, TookAll, Inserts, Indexes, Commits}, Inserting.{insertion, deletion, bucket_line, refused_cause}, Linking.{link_target, commit_for}, StepPaths.{content_path, bucket_path}, Runs.{Runs, plain_reply}, Sound.{FormedIfWritten, SoundTarget, MayBegin}, State.{Insertion}, Storing.{insertion_of, put_commit}, Table.{opening}}
+use Rattle.cacache_calls.proofs.Effects.{puts_commit, inserts_send, deletes_send}
+use Rattle.cacache_calls.specs.declared.command.Command.TheVariants as commands
+use Rattle.cacache_calls.specs.declared.reply.Reply.TheVariants as replies
 use Rattle.cacache_value.specs.Acts.{AddEntries}
 use Rattle.cacache_history.specs.{Setup.{Setup, call_site, may_export, is_outside}, History.{History, Turn, IsLegal}, Turns.{made_in, EachTurn}, Commits.{Deed, does, finds, deeds, PutsContent, IsNotOk, InsertionAdds, AddsAfter, CommitsAs, ReadsTarget, LinksAs, IsCase, CommitsAreCases}}
 use Rattle.cacache_history.proofs.{Contents.{Carrying.{Own, own_bytes, own_link, put_own, own_of, Makes}, Deeds.{PutsAt, SendsEntry, Realizes, took_entry, turns_realize}, Linked.{CommitsOf, links_read}, Removals.{hash_removed, key_removed, all_cleared}}, Histories.{Holding.{TurnsHold}, Runs.{reached, reply_run, lost_run}}}

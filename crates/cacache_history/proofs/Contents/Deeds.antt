@@ -6,7 +6,7 @@ use Rattle.cacache_store.specs.declared.store.step.Step.TheVariants as steps
 use Rattle.cacache_store.specs.declared.store.answer.Answer.TheVariants as answers
 use Rattle.cacache_disk.specs.{declared.luck.Luck.{Luck}, Tree.{Tree}, LedTo.{place, free, replaceable, known, kept}, Apply.{apply, unless}}
 use Rattle.cacache_entry.specs.{Entry.{Entry, line_of, closing, closed_line}, Bucket.{entries_of}, FittingEntries.{IsEntry, IsWritable}}
-use Rattle.cacache_table.specs.Effects.{Effect, stored, sent, changed, effect, effects_of, TookAll}
+use Rattle.cacache_calls.specs.Effects.{Effect, stored, sent, changed, effect, effects_of, TookAll}
 use Rattle.cacache_value.specs.Acts.{PutBytes, PutLink, AddEntries, MakeFolders, act_at, act_with, folders_left, amount_left, act_of}
 use Rattle.cacache_value.proofs.{AppendedLines.{whole_closed, torn_closed}, Shows.{apply_answer}, FoundPaths.{unreachable}}
 use Rattle.cacache_history.specs.{Setup.{Setup}, History.{Turn}, Turns.{made_in, EachTurn}, Commits.{Deed, does, finds, deeds_of_act, finds_in, deeds}}

@@ -7,11 +7,11 @@ use Rattle.cacache_store.specs.declared.store.answer.Answer.TheVariants as answe
 use Rattle.cacache_store.specs.{Plain.{PlainAnswer}, declared.store.plain.PlainFile.{PlainFile}}
 use Rattle.cacache_disk.specs.Apply.{apply}
 use Rattle.cacache_entry.specs.Latest.{Found}
-use Rattle.cacache_table.specs.{declared.{answers.Refusal.{Refusal}, reply.Reply.{Reply}, command.Source.{Source}}, StepPaths.{bucket_path, content_path}, Replies.{bucket_shown, lookup}, Verifying.{Verifies, VerifiesContent}}
+use Rattle.cacache_calls.specs.{declared.{answers.Refusal.{Refusal}, reply.Reply.{Reply}, command.Source.{Source}}, StepPaths.{bucket_path, content_path}, Replies.{bucket_shown, lookup}, Verifying.{Verifies, VerifiesContent}}
 use Rattle.cacache_value.specs.Shows.{ShowsContent, blob_bytes}
 use Rattle.cacache_history.specs.{Setup.{Setup}, History.{Turn, NamesSource}, Turns.{made_in}, ShownTurns.{entries_at, bucket_read, content_at}, TurnReplies.{VerifiesHeld, ExportsHeld}}
 use Rattle.cacache_history.proofs.{Histories.{Holding.{TurnHolds, TurnsHold}, ShownTurns.{bucket_below, content_below, shows, bucket_at_turn, first_turn, FoundHas, bucket_has}}, Contents.OpenedContents.{EachAsks, OnDisks, gives_all}}
-use Rattle.cacache_table.specs.declared.command.Source.TheVariants as sources
+use Rattle.cacache_calls.specs.declared.command.Source.TheVariants as sources
 
 found_integrity : (s : Setup) (found : Found) (r : Result (Option Found) Refusal) → r ≡ Ok (Some found) → FoundHas s r → IsIntegrity found.integrity
 found_integrity s found r e h = let same : FoundHas s (Ok (Some found)) = subst (FoundHas s) e h in same

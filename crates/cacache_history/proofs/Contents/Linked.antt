@@ -5,10 +5,10 @@ use Rattle.cacache_core.specs.declared.errors.Error.{Error}
 use Rattle.cacache_store.specs.{declared.store.plain.{PlainFile.{PlainFile}, PlainTemp.{PlainTemp}}, Fits.{Fits}, Plain.{PlainAnswer}}
 use Rattle.cacache_store.specs.declared.store.step.Step.TheVariants as steps
 use Rattle.cacache_store.specs.declared.store.answer.Answer.TheVariants as answers
-use Rattle.cacache_table.specs.{declared.{answers.Refusal.{Refusal}, command.{Link.{Link}, Put.{Put}}, reply.Reply.{Reply, TheVariants.{Refused}}, carried.Commit.{Commit}, target.Target.{Target}}, Answers.{done_in, file_in, got_in, length_in}, Common.{fails, refuse, go_on}, Effects.{effect, effects_of, IsRefused, DoesNothing, Commits}, Linking.{link_target, with_size, after_size, commit_for, after_read}, StepPaths.{temp_path, temp_folder, content_path}, Runs.{Moves, Runs}, State.{State, persisting, linking, confirming, sizing, opening_file, hashing, over, Site, to_link}, Storing.{persist, link, write_rest, secured, move_in}, Table.{piece, opening}, Verifying.{Gives, ReadsWhole}}
-use Rattle.cacache_table.proofs.{Effects.{puts_commit}, Leading.{moves_on}}
-use Rattle.cacache_table.specs.declared.answers.Refusal.TheVariants as refusals
-use Rattle.cacache_table.specs.declared.command.Command.TheVariants as commands
+use Rattle.cacache_calls.specs.{declared.{answers.Refusal.{Refusal}, command.{Link.{Link}, Put.{Put}}, reply.Reply.{Reply, TheVariants.{Refused}}, carried.Commit.{Commit}, target.Target.{Target}}, Answers.{done_in, file_in, got_in, length_in}, Common.{fails, refuse, go_on}, Effects.{effect, effects_of, IsRefused, DoesNothing, Commits}, Linking.{link_target, with_size, after_size, commit_for, after_read}, StepPaths.{temp_path, temp_folder, content_path}, Runs.{Moves, Runs}, State.{State, persisting, linking, confirming, sizing, opening_file, hashing, over, Site, to_link}, Storing.{persist, link, write_rest, secured, move_in}, Table.{piece, opening}, Verifying.{Gives, ReadsWhole}}
+use Rattle.cacache_calls.proofs.{Effects.{puts_commit}, Leading.{moves_on}}
+use Rattle.cacache_calls.specs.declared.answers.Refusal.TheVariants as refusals
+use Rattle.cacache_calls.specs.declared.command.Command.TheVariants as commands
 use Rattle.cacache_history.specs.Commits.{ReadsTarget}
 
 -- ---- from the link on, a call goes as a put

@@ -6,8 +6,8 @@ use Rattle.cacache_store.specs.{declared.store.plain.PlainFile.{PlainFile}, Plai
 use Rattle.cacache_store.specs.declared.store.step.Step.TheVariants as steps
 use Rattle.cacache_store.specs.declared.store.answer.Answer.TheVariants as answers
 use Rattle.cacache_disk.specs.{declared.luck.Luck.{Luck}, Tree.{Tree}, LedTo.{file_at}, Apply.{apply, unless, opened, made_up}}
-use Rattle.cacache_table.specs.{declared.{command.Command.{Command}, reply.Reply.{Reply, TheVariants.{Refused}}}, Linking.{link_target, commit_for}, Table.{opening}}
-use Rattle.cacache_table.specs.declared.command.Command.TheVariants as commands
+use Rattle.cacache_calls.specs.{declared.{command.Command.{Command}, reply.Reply.{Reply, TheVariants.{Refused}}}, Linking.{link_target, commit_for}, Table.{opening}}
+use Rattle.cacache_calls.specs.declared.command.Command.TheVariants as commands
 use Rattle.cacache_value.specs.{Acts.{PutLink, act_of, change}, Kinds.{is_path_of}, Shows.{ShowsContent}, Value.{AtLink, Value, value_of_tree, wide_value}}
 use Rattle.cacache_value.proofs.{Shows.{apply_answer}, Traces.{steps_act}}
 use Rattle.cacache_history.specs.{declared.record.Record.{Record, TheVariants.{Began, Moved, Stopped}}, Setup.{call_site, home}, History.{History, Turn, Call, Made, initial, turn_of, call_after, now_at, IsLegal, Reaches}, Turns.{made_in, EachTurn}, TurnPlaces.{TurnAt}, Values.{value_at, HasDigest}, Commits.{does, deeds, ReadsTarget, LinksTo, IsCase}, AddedEntries.{IsAmong}, LinkedContents.{HeldOnce, OnceHeld, LinksWereRight, LinksAreRight}}

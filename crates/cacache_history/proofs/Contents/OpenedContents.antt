@@ -6,8 +6,8 @@ use Rattle.cacache_store.specs.{declared.store.plain.PlainFile.{PlainFile}, Plai
 use Rattle.cacache_store.specs.declared.store.step.Step.TheVariants as steps
 use Rattle.cacache_store.specs.declared.store.answer.Answer.TheVariants as answers
 use Rattle.cacache_disk.specs.{declared.luck.Luck.{Luck}, Tree.{Tree}, Apply.{apply, given, readable, rest_of}}
-use Rattle.cacache_table.specs.{State.{State, doing, creating, writing, syncing, persisting, linking, confirming, appending, looking, reading, asking, sizing, opening_file, hashing, copying, walking, over, Errand, make_folder, remove, reflink, hard_link, sync_file, sync_dir}, declared.visit.Visit.{Visit, TheVariants.{Enter, ReadBucket, RemoveFile, RemoveFolder}}, Common.{errand_step}, Runs.{Moves, Runs}, Table.{piece, wants, after}, Verifying.{Gives}, Walking.{visit_step}}
-use Rattle.cacache_table.proofs.Sound.{some_is}
+use Rattle.cacache_calls.specs.{State.{State, doing, creating, writing, syncing, persisting, linking, confirming, appending, looking, reading, asking, sizing, opening_file, hashing, copying, walking, over, Errand, make_folder, remove, reflink, hard_link, sync_file, sync_dir}, declared.visit.Visit.{Visit, TheVariants.{Enter, ReadBucket, RemoveFile, RemoveFolder}}, Common.{errand_step}, Runs.{Moves, Runs}, Table.{piece, wants, after}, Verifying.{Gives}, Walking.{visit_step}}
+use Rattle.cacache_calls.proofs.Sound.{some_is}
 use Rattle.cacache_value.proofs.Shows.{apply_answer}
 
 -- ---- each read asks for a whole piece

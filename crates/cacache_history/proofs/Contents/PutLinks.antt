@@ -6,7 +6,7 @@ use Rattle.cacache_store.specs.declared.store.answer.Answer.TheVariants as answe
 use Rattle.cacache_store.specs.Plain.{PlainStep, PlainAnswer}
 use Rattle.cacache_disk.specs.declared.luck.Luck.{Luck}
 use Rattle.cacache_entry.specs.Bucket.{entries_of}
-use Rattle.cacache_table.specs.{declared.{reply.Reply.{Reply}, carried.Commit.{Commit}}, StepPaths.{content_path}, State.{Insertion}, Storing.{insertion_of}}
+use Rattle.cacache_calls.specs.{declared.{reply.Reply.{Reply}, carried.Commit.{Commit}}, StepPaths.{content_path}, State.{Insertion}, Storing.{insertion_of}}
 use Rattle.cacache_value.specs.{Acts.{Act, Nothing, PutBytes, PutLink, AddEntries, Drop, MakeFolders, DropFolder, act_at, act_with, act_if_done, folders_left, amount_left, act_of, change}, Kinds.{is_path_of}, Traces.{Move}, Value.{Blob, InFile, AtLink, Value}}
 use Rattle.cacache_history.specs.{History.{Turn}, Commits.{Deed, does, finds, deeds_of_act, finds_in, deeds_of, deeds, PutsContent, IsAdded, InsertionAdds, AddsAfter, CommitsAs}, AddedEntries.{IsAmong}}
 use Rattle.cacache_history.proofs.Entries.Lookups.{among_left, among_right}

@@ -7,9 +7,9 @@ use Rattle.cacache_store.specs.declared.store.step.Step.TheVariants as steps
 use Rattle.cacache_store.specs.Plain.{PlainStep, PlainAnswer}
 use Rattle.cacache_disk.specs.{declared.luck.Luck.{Luck}, Tree.{Tree}}
 use Rattle.cacache_entry.specs.Latest.{Found}
-use Rattle.cacache_table.specs.declared.command.Command.TheVariants as commands
-use Rattle.cacache_table.specs.{declared.reply.Reply.{Reply, TheVariants.{Done}}, Licence.{May, allows, licence, AllMay}, Looking.{found_in}, Removing.{remove_bucket, remove_found}, Runs.{Runs}, State.{Site, State, doing, over, remove}, StepPaths.{bucket_path, content_path}, Table.{after, opening}}
-use Rattle.cacache_table.proofs.Within.{calls_keep_to}
+use Rattle.cacache_calls.specs.declared.command.Command.TheVariants as commands
+use Rattle.cacache_calls.specs.{declared.reply.Reply.{Reply, TheVariants.{Done}}, Licence.{May, allows, licence, AllMay}, Looking.{found_in}, Removing.{remove_bucket, remove_found}, Runs.{Runs}, State.{Site, State, doing, over, remove}, StepPaths.{bucket_path, content_path}, Table.{after, opening}}
+use Rattle.cacache_calls.proofs.Within.{calls_keep_to}
 use Rattle.cacache_value.specs.Acts.{Drop, DropFolder, act_at}
 use Rattle.cacache_history.specs.{Commits.{Deed, deeds_of_act, deeds_of, deeds, DropsAmong, RemovesFound, AreRemovals}, History.{Turn}, Turns.{made_in}}
 

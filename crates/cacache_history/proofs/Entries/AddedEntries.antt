@@ -6,8 +6,8 @@ use Rattle.cacache_store.specs.declared.store.answer.Answer.TheVariants as answe
 use Rattle.cacache_store.specs.Plain.{PlainStep, PlainAnswer}
 use Rattle.cacache_disk.{specs.{declared.luck.Luck.{Luck}, Tree.{Tree}}, proofs.Roots.{same_self}}
 use Rattle.cacache_entry.specs.Entry.{Entry}
-use Rattle.cacache_table.specs.{declared.{command.{Command.{Command}, Link.{Link}}, reply.Reply.{Reply, TheVariants.{Stored}}, carried.Commit.{Commit}}, StepPaths.{content_path}, Storing.{insertion_of, put_commit}, Inserting.{given_or}, Linking.{link_target, commit_for}, Answers.{there_in}}
-use Rattle.cacache_table.specs.declared.command.Command.TheVariants as commands
+use Rattle.cacache_calls.specs.{declared.{command.{Command.{Command}, Link.{Link}}, reply.Reply.{Reply, TheVariants.{Stored}}, carried.Commit.{Commit}}, StepPaths.{content_path}, Storing.{insertion_of, put_commit}, Inserting.{given_or}, Linking.{link_target, commit_for}, Answers.{there_in}}
+use Rattle.cacache_calls.specs.declared.command.Command.TheVariants as commands
 use Rattle.cacache_value.specs.{Kinds.{is_path_of}, Value.{Blob, InFile, AtLink, Value, value_of_tree}, Shows.{blob_there}, Acts.{Act, Nothing, PutBytes, PutLink, AddEntries, Drop, MakeFolders, DropFolder, act_of, change}, Traces.{acts}}
 use Rattle.cacache_history.specs.{declared.record.Record.{Record, TheVariants.{Began, Moved, Stopped}}, Setup.{call_site, home}, History.{History, Turn, Call, Made, IsLegal, Reaches}, Turns.{EachTurn}, Values.{steps_of, value_at, opening_value, KeepContent, IsThere, HasDigest}, ShownTurns.{content_at, unless_failed}, Commits.{Deed, does, finds, deeds_of_act, finds_in, deeds_of, deeds, PutsContent, IsAdded, InsertionAdds, AddsAfter, CommitsAs, LinksAs, IsCase}, AddedEntries.{NamesOwn, IsAmong, Added, IsContentOf, NamesContent, EntriesNameContents, address_of_put, PutsLeaveContents}, TurnPlaces.{TurnAt}}
 use Rattle.cacache_history.proofs.{Contents.{Carrying.{Own, own_bytes, own_link, put_own}, Digests.{digest_hash}, Commits.{commits_are_cases}}, Histories.{Holding.{TurnHolds, TurnsHold}, Values.{value_follows_acts, contents_stay, contents_are_right}, Runs.{reached}, ShownTurns.{content_below, there_at}, Turned.{reached_turns}}}

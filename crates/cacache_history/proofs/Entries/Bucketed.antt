@@ -4,8 +4,8 @@ use Rattle.cacache_core.specs.{Paths.{bucket_names}, PathNames.{names_of, names_
 use Rattle.cacache_store.specs.declared.store.step.Step.TheVariants as steps
 use Rattle.cacache_store.specs.Plain.{PlainStep}
 use Rattle.cacache_disk.specs.{declared.luck.Luck.{Luck}, Tree.{Tree}}
-use Rattle.cacache_table.{specs.declared.reply.Reply.{Reply}, proofs.Sound.{steps_allowed}}
-use Rattle.cacache_table.specs.Sound as calls
+use Rattle.cacache_calls.{specs.declared.reply.Reply.{Reply}, proofs.Sound.{steps_allowed}}
+use Rattle.cacache_calls.specs.Sound as calls
 use Rattle.cacache_value.specs.OpeningTrees.{LieApart}
 use Rattle.cacache_history.specs.{declared.record.Record.{Record, TheVariants.{Began, Moved, Stopped}}, Setup.{Setup, call_site, home, may_export, is_outside}, History.{Call, Now, History, Turn, Made, initial, moved_tree, now_after, replayed, now_at, MayMove, MayCome, Legal, IsLegal, Reaches}, Turns.{EachTurn}, TurnPlaces.{TurnAt}, Buckets.{BucketsHaveKeys, BucketsAreOfKeys, BucketsHoldOwn}}
 use Rattle.cacache_history.proofs.{Histories.{Holding.{AllHold, CallHolds, of_caller, made_proper, next_holds, first_opens, first_holds, legal_before}, ShownTurns.{bucket_below}, Turned.{reached_turns}, Places.{each_turn}}, Entries.{Owned.{AppendsOwn, TreeOwn, step_own, opening_own}, Keyed.{ToKeys, step_keyed, opening_keyed}}}

@@ -10,8 +10,8 @@ use Rattle.cacache_store.specs.declared.store.answer.Answer.TheVariants as answe
 use Rattle.cacache_store.specs.Plain.{PlainStep, PlainAnswer}
 use Rattle.cacache_disk.{specs.{declared.luck.Luck.{Luck}, Tree.{Tree}, Apply.{apply}}, proofs.Maps.{same_path-true}}
 use Rattle.cacache_entry.specs.{Entry.{Entry, line_of, closed_line}, Bucket.{entries_of}, FittingEntries.{IsEntry, IsWritable}, Latest.{Found, found_of, answer_of_integrity, answer_of, after_entry, latest}}
-use Rattle.cacache_table.specs.{declared.answers.Refusal.{Refusal}, State.{Item}, Walking.{once, items_of, failed}}
-use Rattle.cacache_table.specs.declared.answers.Refusal.TheVariants as refusals
+use Rattle.cacache_calls.specs.{declared.answers.Refusal.{Refusal}, State.{Item}, Walking.{once, items_of, failed}}
+use Rattle.cacache_calls.specs.declared.answers.Refusal.TheVariants as refusals
 use Rattle.cacache_value.specs.{Kinds.{is_path_of}, Value.{Value, wide_value}, Acts.{Act, Nothing, PutBytes, PutLink, AddEntries, Drop, MakeFolders, DropFolder, act_at, act_with, act_if_done, folders_left, amount_left, act_of, change, list_of}, Placed.{Placed, Proper}, OpeningTrees.{IsOpening}}
 use Rattle.cacache_value.proofs.{AppendedLines.{whole_closed, torn_closed}, Traces.{steps_act}}
 use Rattle.cacache_history.specs.{Setup.{Setup}, History.{Turn}, ShownTurns.{entries_at, shown_result, by_entries}, Buckets.{HoldOwn}, ListingTurns.{IsFound}}

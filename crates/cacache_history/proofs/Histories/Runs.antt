@@ -2,8 +2,8 @@
 use Rattle.std.proofs.Common.{◌≡◌, ◌⊎◌, inl, inr, ◌∷◌, Option, None, Some, option_map, refl, sym, ap, subst, ◌∙◌}
 use Rattle.cacache_core.specs.declared.errors.Error.TheVariants.{EntryNotFound, SizeMismatch, IoError, SerdeError, IntegrityError, OutOfMemory}
 use Rattle.cacache_disk.specs.declared.luck.Luck.{Luck}
-use Rattle.cacache_table.{specs.{declared.reply.Reply.{Reply}, Table.{opening}, Runs.{Runs, Goes, plain_reply}}, proofs.Going.{goes_over, goes_lost}}
-use Rattle.cacache_table.specs.declared.reply.Reply.TheVariants as replies
+use Rattle.cacache_calls.{specs.{declared.reply.Reply.{Reply}, Table.{opening}, Runs.{Runs, Goes, plain_reply}}, proofs.Going.{goes_over, goes_lost}}
+use Rattle.cacache_calls.specs.declared.reply.Reply.TheVariants as replies
 use Rattle.cacache_history.specs.{declared.record.Record.TheVariants.{Moved}, Setup.{call_site}, History.{Call, Now, History, Made, call_after, now_at, Ends, MayMove, IsLegal, Reaches}, Turns.{made_in}, TurnPlaces.{CallsAreRuns}}
 use Rattle.cacache_history.proofs.Histories.Holding.{CallHolds, of_caller, moved_holds, held_at, legal_after}
 

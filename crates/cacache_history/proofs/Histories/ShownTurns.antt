@@ -10,8 +10,8 @@ use Rattle.cacache_store.specs.declared.store.answer.Answer.TheVariants as answe
 use Rattle.cacache_store.specs.{Plain.{PlainStep, PlainAnswer}, Fits.{Fits}}
 use Rattle.cacache_disk.specs.Apply.{apply}
 use Rattle.cacache_entry.specs.{Entry.{Entry}, FittingEntries.{IsEntry}, Latest.{Found}}
-use Rattle.cacache_table.specs.{declared.{answers.Refusal.{Refusal}, reply.Reply.{Reply}}, Answers.{bytes_in, there_in}, ListReplies.{given_by, by_bucket}, StepPaths.{bucket_path, content_path}, Replies.{entries_shown, OneStep, ReadsContentOnce, ReadsOn, BeginsWithBucket, bucket_shown, find_reply, content_reply, there_reply, lookup}, Runs.{Moves}, Walking.{items_in}}
-use Rattle.cacache_table.specs.declared.answers.Refusal.TheVariants as refusals
+use Rattle.cacache_calls.specs.{declared.{answers.Refusal.{Refusal}, reply.Reply.{Reply}}, Answers.{bytes_in, there_in}, ListReplies.{given_by, by_bucket}, StepPaths.{bucket_path, content_path}, Replies.{entries_shown, OneStep, ReadsContentOnce, ReadsOn, BeginsWithBucket, bucket_shown, find_reply, content_reply, there_reply, lookup}, Runs.{Moves}, Walking.{items_in}}
+use Rattle.cacache_calls.specs.declared.answers.Refusal.TheVariants as refusals
 use Rattle.cacache_value.{specs.{Kinds.{NamesBelow}, Acts.{list_of}, Shows.{ReadsShow, ShowsBucket, ShowsContent, ShowsThere}}, proofs.Shows.{trees_show}}
 use Rattle.cacache_history.specs.{Setup.{Setup, home}, History.{Turn}, Turns.{made_in}, ShownTurns.{entries_at, unless_failed, shown_result, as_refusal, bucket_read, content_read, there_read, by_entries}, TurnReplies.{OneTurn, FindsHeld, ReadsHeld, AsksHeld, ReadsNext, GetsHeld}}
 use Rattle.cacache_history.proofs.{Entries.Spelled.{HasIntegrity, latest_has}, Histories.Holding.{TurnHolds, TurnsHold}}

@@ -1,7 +1,7 @@
 -- Each turn of a call is a move of the history.
 use Rattle.std.proofs.Common.{◌≡◌, ◌==◌, ℕ, List, [], ◌∷◌, ◌++◌, Option, None, Some, option_map, refl, sym, subst, ◌∙◌, append_assoc, append-nil}
 use Rattle.cacache_disk.specs.declared.luck.Luck.{Luck}
-use Rattle.cacache_table.specs.declared.reply.Reply.{Reply}
+use Rattle.cacache_calls.specs.declared.reply.Reply.{Reply}
 use Rattle.cacache_history.specs.{declared.record.Record.{Record, TheVariants.{Began, Moved, Stopped}}, History.{History, Call, Made, initial, new_call, turn_of, call_after, unless_over, moved_call, now_after, now_at, Reaches}, Turns.{EachTurn}, TurnPlaces.{TurnAt, TurnsAreMoves}}
 use Rattle.cacache_history.proofs.Histories.Holding.{each_more, set_at, ended_at, replay_more}
 

@@ -1,6 +1,6 @@
 -- What a walk answers after it gave some items, if it may still take so many names.
 use Rattle.std.proofs.{Common.{◌≡◌, ◌≤◌, ◌<◌, ◌+◌, ◌-◌, ℕ, Bool, true, false, cond, ◌||◌, List, [], ◌∷◌, ◌++◌, length, take, nat_lt, refl, sym, ap, ◌∙◌, arith, append_assoc, append-nil}, lemmas.Bool.{ltb-true, ltb-false}}
-use Rattle.cacache_table.specs.{Answers.{names_in}, ListReplies.{too_deep}, State.{State, Item}, Walking.{most}}
+use Rattle.cacache_calls.specs.{Answers.{names_in}, ListReplies.{too_deep}, State.{State, Item}, Walking.{most}}
 use Rattle.cacache_history.specs.{History.{Turn}, ListingTurns.{count_in, names_given}}
 
 -- ---- tests on numbers

@@ -8,9 +8,9 @@ use Rattle.cacache_store.specs.{declared.store.answer.Name.{Name}, Plain.{PlainS
 use Rattle.cacache_store.specs.declared.store.answer.Answer.TheVariants as answers
 use Rattle.cacache_store.specs.declared.store.step.Step.TheVariants as steps
 use Rattle.cacache_entry.specs.{Entry.{Entry}, Latest.{Found, latest}}
-use Rattle.cacache_table.specs.{declared.answers.Refusal.{Refusal}, Answers.{names_in}, ListReplies.{by_folder, In, Distinct, keys_of}, StepPaths.{bucket_path}, State.{Item}, Walking.{once, items_of, failed}}
-use Rattle.cacache_table.proofs.Keys.{each_key_once}
-use Rattle.cacache_table.specs.declared.answers.Refusal.TheVariants as refusals
+use Rattle.cacache_calls.specs.{declared.answers.Refusal.{Refusal}, Answers.{names_in}, ListReplies.{by_folder, In, Distinct, keys_of}, StepPaths.{bucket_path}, State.{Item}, Walking.{once, items_of, failed}}
+use Rattle.cacache_calls.proofs.Keys.{each_key_once}
+use Rattle.cacache_calls.specs.declared.answers.Refusal.TheVariants as refusals
 use Rattle.cacache_history.specs.{Setup.{Setup}, History.{Turn}, Turns.{EachTurn}, ShownTurns.{entries_at, shown_result, bucket_read, by_entries}, ListingTurns.{TurnGives, TurnsGive, NoneTwice, OtherKey, NoKeyTwice}}
 use Rattle.cacache_history.proofs.Entries.{Owned.{OfBucket, latest_key, once_all, all_keys}, Bucketed.{KeyedTurn}}
 

@@ -12,7 +12,7 @@ use Rattle.cacache_store.specs.declared.store.step.Step.TheVariants as steps
 use Rattle.cacache_disk.specs.{declared.node.Node.{Node, TheVariants.{Folder, File, Link}}, Tree.{Tree, look, kind_of, listing}, Rooted.{Rooted}, Apply.{apply}}
 use Rattle.cacache_disk.proofs.Standing.{upper_folder}
 use Rattle.cacache_entry.specs.Entry.{Entry}
-use Rattle.cacache_table.specs.{Answers.{names_in}, StepPaths.{bucket_path}, declared.visit.{Visit.{Visit, TheVariants.{Enter, ReadBucket}}, Task.{Task, TheVariants.{Make, Stumble}}}, Walking.{task_for_name, tasks_of, leaving}}
+use Rattle.cacache_calls.specs.{Answers.{names_in}, StepPaths.{bucket_path}, declared.visit.{Visit.{Visit, TheVariants.{Enter, ReadBucket}}, Task.{Task, TheVariants.{Make, Stumble}}}, Walking.{task_for_name, tasks_of, leaving}}
 use Rattle.cacache_value.{specs.{Kinds.{Bucket, kind_in_area, kind_beside, path_kind, node_below}, Value.{bucket_in}, Placed.{MayStand, Placed}}, proofs.KindsApart.{kind-below}}
 use Rattle.cacache_history.specs.{Setup.{Setup, home}, History.{Turn, History, now_at, IsLegal}, Buckets.{BucketsHaveKeys, IndexIsShallow}, ListingTurns.{IsIndexFolder, HasBucket}}
 use Rattle.cacache_history.proofs.{Histories.Holding.{TurnHolds, held_at}, Listings.ToldFolders.{Each, Told, IsAmong, names_told, child_listed}, Entries.Bucketed.{KeyedTurn}}

@@ -8,10 +8,10 @@ use Rattle.cacache_store.specs.{declared.store.answer.{Kind.{Kind}, Name.{Name}}
 use Rattle.cacache_store.specs.declared.store.answer.Kind.TheVariants as kinds
 use Rattle.cacache_store.specs.declared.store.step.Step.TheVariants as steps
 use Rattle.cacache_disk.specs.Apply.{apply}
-use Rattle.cacache_table.specs.{declared.{answers.Refusal.{Refusal}, reply.Reply.{Reply, TheVariants.{Listed, Done}}, visit.{Visit.{Visit, TheVariants.{Enter, ReadBucket, RemoveFile, RemoveFolder}}, Task.{Task, TheVariants.{Make, Stumble}}}}, Answers.{bytes_in, names_in}, Common.{fails, go_on}, ListReplies.{too_deep}, Runs.{Runs}, State.{State, walking, over, Item, Walk}, Table.{wants, after, opening}, Walking.{most, failed, give, miss, walk_on, task_for_name, tasks_of, leaving, too_many, entered, unread_bucket, listed, items_in, visit_step, after_visit}}
-use Rattle.cacache_table.proofs.Branches.{cond_leads}
-use Rattle.cacache_table.specs.declared.answers.Refusal.TheVariants as refusals
-use Rattle.cacache_table.specs.declared.command.Command.TheVariants as commands
+use Rattle.cacache_calls.specs.{declared.{answers.Refusal.{Refusal}, reply.Reply.{Reply, TheVariants.{Listed, Done}}, visit.{Visit.{Visit, TheVariants.{Enter, ReadBucket, RemoveFile, RemoveFolder}}, Task.{Task, TheVariants.{Make, Stumble}}}}, Answers.{bytes_in, names_in}, Common.{fails, go_on}, ListReplies.{too_deep}, Runs.{Runs}, State.{State, walking, over, Item, Walk}, Table.{wants, after, opening}, Walking.{most, failed, give, miss, walk_on, task_for_name, tasks_of, leaving, too_many, entered, unread_bucket, listed, items_in, visit_step, after_visit}}
+use Rattle.cacache_calls.proofs.Branches.{cond_leads}
+use Rattle.cacache_calls.specs.declared.answers.Refusal.TheVariants as refusals
+use Rattle.cacache_calls.specs.declared.command.Command.TheVariants as commands
 use Rattle.cacache_history.specs.{Setup.{Setup, call_site, home}, History.{Turn}, Turns.{made_in, EachTurn}, ListingTurns.{IsIndexFolder, NoneTwice}}
 use Rattle.cacache_history.proofs.{Histories.{Holding.{TurnHolds, TurnsHold}, Places.{each_turn}}, Listings.{ToldFolders.{AreDistinct, names_told, listing_distinct}, ListingWalks.{Visits, Tasks, tasks_append, no_leaving, folder_tasks, proper_names, below_is, child_named}, Ended.{pick}}, Entries.Bucketed.{KeyedTurn}, ApartPaths.{ApartAll, AllApart, children, children_apart, BelowSome, below_child, never_below, never_deeper}}
 

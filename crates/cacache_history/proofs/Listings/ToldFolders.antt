@@ -8,7 +8,7 @@ use Rattle.cacache_disk.specs.{declared.{node.Node.{Node}, luck.Luck.{Luck}}, Tr
 use Rattle.cacache_disk.proofs.{Maps.{total, same_path-true}, PutNodes.{eq-true}, PathFolders.{front_next}, FoundNodes.{and_then_ok, or_fault_none, place_ok}}
 use Rattle.cacache_store.specs.declared.store.step.Step.TheVariants as steps
 use Rattle.cacache_store.specs.declared.store.answer.Answer.TheVariants as answers
-use Rattle.cacache_table.specs.Answers.{names_in}
+use Rattle.cacache_calls.specs.Answers.{names_in}
 use Rattle.cacache_value.proofs.Shows.{apply_answer}
 use Rattle.cacache_loss.proofs.KeptPaths.{child_of_self}
 

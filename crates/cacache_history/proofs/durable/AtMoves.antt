@@ -3,7 +3,7 @@ use Rattle.std.proofs.Common.{◌≡◌, ℕ, List, [], ◌∷◌, ◌++◌, Som
 use Rattle.cacache_core.specs.PathNames.{Names, names_of}
 use Rattle.cacache_store.specs.declared.store.step.Step.TheVariants as steps
 use Rattle.cacache_store.specs.declared.store.answer.Answer.TheVariants as answers
-use Rattle.cacache_table.specs.{declared.reply.Reply.{Reply}, Runs.{Moves}}
+use Rattle.cacache_calls.specs.{declared.reply.Reply.{Reply}, Runs.{Moves}}
 use Rattle.cacache_value.specs.Traces.{Move}
 use Rattle.cacache_history.specs.{declared.record.Record.{Record, TheVariants.{Moved}}, Setup.{Setup, home}, History.{Call, History, IsLegal, Made, Now, initial, now_after, now_at, replayed}, Values.{steps_of}, durable.{Outlasting.{moment_at}, QuietMoves.{AreQuiet}}}
 use Rattle.cacache_history.proofs.{Histories.Holding.{replay_more}, durable.{CommitMoves.{HasDirs}, DoneSyncs.{cache_named, syncs_texts}, Ending.{Has, PlaceOf}, QuietSteps.{calm_at}, Traces.{moment_more, of_cache_at}}}

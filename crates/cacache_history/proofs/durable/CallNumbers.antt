@@ -3,7 +3,7 @@ use Rattle.std.proofs.{Common.{◌≡◌, ◌<◌, ◌≤◌, ◌^◌, ◌+◌, 
 use Rattle.cacache_core.specs.{PathNames.{Names, home_of, names_below, names_of}, Paths.{joined, temp_names}}
 use Rattle.cacache_core.proofs.{JoinedNames.{joined_texts_name}, PathTexts.{paths_differ}, ProperNames.{names_are_proper}}
 use Rattle.cacache_disk.{specs.{declared.luck.Luck.{Luck}, Tree.{Tree, same_path}}, proofs.Maps.{same_path-true}}
-use Rattle.cacache_table.specs.{declared.reply.Reply.{Reply}, StepPaths.{temp_path}}
+use Rattle.cacache_calls.specs.{declared.reply.Reply.{Reply}, StepPaths.{temp_path}}
 use Rattle.cacache_value.proofs.KindsApart.{not_true}
 use Rattle.cacache_history.specs.{declared.record.Record.{Record, TheVariants.{Began, Moved, Stopped}}, Setup.{Setup}, History.{Call, Made, Now, new_call, initial, call_after, now_after, replayed, unless_over}}
 use Rattle.cacache_loss.specs.Fixing.{is_at}

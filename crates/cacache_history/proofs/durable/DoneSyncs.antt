@@ -6,7 +6,7 @@ use Rattle.cacache_store.specs.declared.store.answer.Answer.TheVariants as answe
 use Rattle.cacache_disk.specs.{declared.luck.Luck.{Luck}, Tree.{Tree, look}, LedTo.{and_then, bytes_there, file_at, folder, followed, leads, or_fault, place, way_fault}, Apply.{apply, unless}}
 use Rattle.cacache_value.{specs.Traces.{IsTrace, Move}, proofs.Shows.{apply_answer}}
 use Rattle.cacache_loss.{specs.{CommitFolders.{SyncsText, SyncsTexts}, Syncs.{IsFileSync, SyncsFile}}, proofs.CommitFolders.{named_home}}
-use Rattle.cacache_table.specs.Runs.{Moves}
+use Rattle.cacache_calls.specs.Runs.{Moves}
 use Rattle.cacache_history.{proofs.durable.{Ending.{Has, HasStep}, CommitMoves.{HasDirs}}, specs.History.{Made}}
 
 -- ---- in the words of losses

@@ -6,7 +6,7 @@ use Rattle.cacache_store.specs.{declared.store.plain.PlainTemp.{PlainTemp}, Plai
 use Rattle.cacache_store.specs.declared.store.step.Step.TheVariants as steps
 use Rattle.cacache_store.specs.declared.store.answer.Answer.TheVariants as answers
 use Rattle.cacache_disk.specs.{declared.node.Node.{Node, TheVariants.{Folder, File, Link}}, Tree.{Tree, look}, Apply.{apply}}
-use Rattle.cacache_table.specs.Runs.{Moves}
+use Rattle.cacache_calls.specs.Runs.{Moves}
 use Rattle.cacache_value.specs.{Kinds.{Content, node_below, path_kind}, Placed.{MayStand}, Traces.{Move}, Value.{AtLink, blob_in}}
 use Rattle.cacache_value.proofs.{FoundPaths.{suits}, KindsApart.{kind-below}}
 use Rattle.cacache_history.specs.{declared.record.Record.{Record}, Setup.{home}, History.{History, Made, now_at}, Values.{steps_of, value_at}, durable.Outlasting.{moment_at}}

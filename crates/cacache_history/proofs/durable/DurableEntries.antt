@@ -9,7 +9,7 @@ use Rattle.cacache_store.specs.declared.store.answer.Answer.TheVariants as answe
 use Rattle.cacache_disk.specs.{declared.node.Node.{Node, TheVariants.{Folder, File, Link}}, Tree.{Tree, bytes_of, look}}
 use Rattle.cacache_entry.specs.{Entry.{Entry, closed_line}, Bucket.{entries_of}, FittingEntries.{IsEntry, IsWritable}, Latest.{after_entry, latest}}
 use Rattle.cacache_entry.proofs.Lines.{empty_holds_nothing}
-use Rattle.cacache_table.specs.{Runs.{Moves}, StepPaths.{bucket_folders, bucket_path}}
+use Rattle.cacache_calls.specs.{Runs.{Moves}, StepPaths.{bucket_folders, bucket_path}}
 use Rattle.cacache_value.{specs.{Acts.{list_of}, Kinds.{node_below}, Value.{bucket_in, value_of_tree}}, proofs.KindsApart.{kind-below}}
 use Rattle.cacache_history.specs.{declared.record.Record.{Record}, Setup.{home}, History.{History, Made, now_at}, Values.{bucket_at, steps_of}, durable.Outlasting.{EntryOutlasts, Outlasts, moment_at}}
 use Rattle.cacache_history.proofs.durable.{AtMoves.{QuietPlace, cache_here, cache_text, calm_later, calm_move, here, leads_to_end, own_move, own_record, texts_here}, CommitMoves.{HasDirs}, DoneSyncs.{syncs_file}, Ending.{Has}, Traces.{tree_at}}

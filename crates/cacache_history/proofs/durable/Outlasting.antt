@@ -5,8 +5,8 @@ use Rattle.cacache_core.specs.{declared.integrity.digest.Hash.{Hash}, Integrity.
 use Rattle.cacache_store.specs.declared.store.step.Step.TheVariants as steps
 use Rattle.cacache_store.specs.declared.store.answer.Answer.TheVariants as answers
 use Rattle.cacache_disk.specs.Tree.{Tree}
-use Rattle.cacache_table.specs.{declared.{command.{Command.{Command}, Insert.{Insert}, Put.{Put}}, reply.Reply.{Reply, TheVariants.{Stored}}, carried.Commit.{Commit}}, Inserting.{insertion}, Runs.{Moves}, StepPaths.{bucket_path, content_folders, content_path}, Storing.{insertion_of, put_commit}}
-use Rattle.cacache_table.specs.declared.command.Command.TheVariants as commands
+use Rattle.cacache_calls.specs.{declared.{command.{Command.{Command}, Insert.{Insert}, Put.{Put}}, reply.Reply.{Reply, TheVariants.{Stored}}, carried.Commit.{Commit}}, Inserting.{insertion}, Runs.{Moves}, StepPaths.{bucket_path, content_folders, content_path}, Storing.{insertion_of, put_commit}}
+use Rattle.cacache_calls.specs.declared.command.Command.TheVariants as commands
 use Rattle.cacache_value.specs.Value.{blob_in, value_of_tree}
 use Rattle.cacache_history.specs.{declared.record.Record.{Record}, AddedEntries.{address_of_put}, History.{History, IsLegal, Made, now_at}, Setup.{home}, durable.{Ending.{EndsFrom, CallEndsWith}, FewCalls.{FewCalls}, Outlasting.{AnsweredPut, DurableInsert, DurablePut, EntriesHaveBehind, FindsThere, FoundLink, HistoriesOutlive, InsertsHaveBehind, InsertsOutlast, KeyOutlasts, PutsHaveBehind, PutsOrLinksOutlast, PutsOutlast, moment_at}, QuietMoves.{AreQuiet}}}
 use Rattle.cacache_history.proofs.{Contents.Digests.{digest_hash}, durable.{AtMoves.{QuietPlace, here, own_record, quiet_here, split}, BehindEntries.{entry_behind}, CommitMoves.{HasDirs}, PutMoves.{Adds, secures}, CommitPlaces.{Secures, insert_appends, insert_formed, line_is, own, place_in, put_formed, put_secures, written_fits}, DurableContents.{content_named, found_left, put_outlasts}, DurableEntries.{WholeEntry, bucket_named, entry_outlasts, whole_append}, SyncedTemps.{put_well_at}, Traces.{losses_leave_caches}}}

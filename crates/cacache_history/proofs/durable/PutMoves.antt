@@ -5,9 +5,9 @@ use Rattle.cacache_core.specs.declared.errors.Fault.TheVariants as faults
 use Rattle.cacache_store.specs.{declared.store.plain.PlainTemp.{PlainTemp}, Plain.{PlainAnswer}}
 use Rattle.cacache_store.specs.declared.store.answer.Answer.TheVariants as answers
 use Rattle.cacache_store.specs.declared.store.step.Step.TheVariants as steps
-use Rattle.cacache_table.specs.{declared.{answers.Refusal.{Refusal}, command.Put.{Put}, carried.Commit.{Commit}}, Answers.{done_in, temp_in, written_in, synced_in, there_in}, StepPaths.{content_path, content_folders}, State.{State, doing, creating, writing, syncing, persisting, confirming, Site, make_folder, sync_file}, Common.{ends_with, fails, go_on, sync_up}, Storing.{insertion_of, indexed, sized, matches, compared, placed, secured, secured_found, move_in, write_rest, after_write, after_confirm, put_commit}, Table.{opening}, Runs.{Moves}}
-use Rattle.cacache_table.specs.declared.answers.Refusal.TheVariants as refusals
-use Rattle.cacache_table.specs.declared.command.Command.TheVariants as commands
+use Rattle.cacache_calls.specs.{declared.{answers.Refusal.{Refusal}, command.Put.{Put}, carried.Commit.{Commit}}, Answers.{done_in, temp_in, written_in, synced_in, there_in}, StepPaths.{content_path, content_folders}, State.{State, doing, creating, writing, syncing, persisting, confirming, Site, make_folder, sync_file}, Common.{ends_with, fails, go_on, sync_up}, Storing.{insertion_of, indexed, sized, matches, compared, placed, secured, secured_found, move_in, write_rest, after_write, after_confirm, put_commit}, Table.{opening}, Runs.{Moves}}
+use Rattle.cacache_calls.specs.declared.answers.Refusal.TheVariants as refusals
+use Rattle.cacache_calls.specs.declared.command.Command.TheVariants as commands
 use Rattle.cacache_history.specs.History.{Made}
 use Rattle.cacache_history.proofs.durable.CommitMoves.{Appends, HasDirs, Stores, all_dirs, does, done_is, goes_on, inserted, later_appends, made_is, makes, refused, synced, there_is}
 

@@ -3,8 +3,8 @@ use Rattle.std.proofs.Common.{◌≡◌, ℕ, Bool, true, false, List, [], ◌�
 use Rattle.cacache_core.specs.PathNames.{Names}
 use Rattle.cacache_store.specs.declared.store.step.Step.TheVariants as steps
 use Rattle.cacache_store.specs.Plain.{PlainStep}
-use Rattle.cacache_table.specs.{StepPaths.{temp_path}, Sound.{Allowed}, Licence.{May, allows, taking_in}, Table.{opening, wants}}
-use Rattle.cacache_table.proofs.{Within.{step_allowed, begins_within, goes_within}, Sound.{steps_allowed}}
+use Rattle.cacache_calls.specs.{StepPaths.{temp_path}, Sound.{Allowed}, Licence.{May, allows, taking_in}, Table.{opening, wants}}
+use Rattle.cacache_calls.proofs.{Within.{step_allowed, begins_within, goes_within}, Sound.{steps_allowed}}
 use Rattle.cacache_value.{specs.{Kinds.{Temporary, IsFor}, OpeningTrees.{LieApart}}, proofs.PathKinds.{paths_are_for}}
 use Rattle.cacache_history.specs.{declared.record.Record.{Record, TheVariants.{Began, Moved, Stopped}}, Setup.{Setup, call_site, home, is_outside, may_export}, History.{Call, History, IsLegal, Legal, Now, now_after, now_at}, Turns.{made_in}, Values.{steps_of}, durable.{Outlasting.{moment_at}, QuietMoves.{AreQuiet, IsQuietMove, is_quiet}}}
 use Rattle.cacache_history.proofs.{Histories.Holding.{AllHold, CallHolds, held_at, legal_after, next_holds, of_caller}, durable.Traces.{trace_at}}

@@ -7,8 +7,8 @@ use Rattle.cacache_store.specs.{declared.store.plain.PlainTemp.{PlainTemp}, Plai
 use Rattle.cacache_store.specs.declared.store.step.Step.TheVariants as steps
 use Rattle.cacache_store.specs.declared.store.answer.Answer.TheVariants as answers
 use Rattle.cacache_disk.specs.{declared.luck.Luck.{Luck}, Tree.{Tree, look}, LedTo.{kept, known}, Apply.{apply, unless}}
-use Rattle.cacache_table.specs.{declared.{command.{Command.{Command}, Put.{Put}}, reply.Reply.{Reply}}, StepPaths.{content_path}, Table.{wants}}
-use Rattle.cacache_table.specs.declared.command.Command.TheVariants as commands
+use Rattle.cacache_calls.specs.{declared.{command.{Command.{Command}, Put.{Put}}, reply.Reply.{Reply}}, StepPaths.{content_path}, Table.{wants}}
+use Rattle.cacache_calls.specs.declared.command.Command.TheVariants as commands
 use Rattle.cacache_value.proofs.Shows.{apply_answer}
 use Rattle.cacache_history.specs.{declared.record.Record.{Record, TheVariants.{Began, Moved, Stopped}}, AddedEntries.{address_of_put}, Setup.{call_site, home}, History.{Call, History, IsLegal, Made, initial, now_after, now_at}, Values.{steps_of}, durable.{FewCalls.{FewCalls}, Outlasting.{moment_at}, QuietMoves.{AreQuiet, IsQuiet, IsQuietMove, PutsDurably}}}
 use Rattle.cacache_history.proofs.{Contents.{Carrying.{Makes, carries_makes, own_of}, Digests.{digest_hash}}, Histories.Holding.{CallHolds, held_at, legal_after, of_caller, replay_more}, durable.{DurableStates.{ready_file}, HeldTemps.{IsSynced, TempAt, temps_at}, Traces.{moment_more}}}

@@ -1,6 +1,6 @@
 -- A call that goes on through records, and ends with a reply.
 use Rattle.std.specs.Prelude.{◌≡◌, ℕ, List, [], ◌∷◌, Option, None, Some, Bool, true, false, ◌==◌}
-use Rattle.cacache_table.specs.declared.{command.Command.{Command}, reply.Reply.{Reply}}
+use Rattle.cacache_calls.specs.declared.{command.Command.{Command}, reply.Reply.{Reply}}
 use Rattle.cacache_history.specs.{declared.record.Record.{Record, TheVariants.{Began, Moved, Stopped}}, History.{History, Call, now_at}, Commits.{deeds}}
 
 -- a move of the caller ends its call with this reply, or leaves the rest to what follows

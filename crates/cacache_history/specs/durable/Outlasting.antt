@@ -6,8 +6,8 @@ use Rattle.cacache_store.specs.declared.store.step.Step.TheVariants as steps
 use Rattle.cacache_store.specs.declared.store.answer.Answer.TheVariants as answers
 use Rattle.cacache_disk.specs.Tree.{Tree}
 use Rattle.cacache_entry.specs.{Entry.{Entry, closed_line}, Latest.{Found, answer_to, after_entry, latest}}
-use Rattle.cacache_table.specs.declared.command.Command.TheVariants as commands
-use Rattle.cacache_table.specs.{declared.{command.{Insert.{Insert}, Put.{Put}}, reply.Reply.{Reply, TheVariants.{Stored}}}, Inserting.{insertion}, StepPaths.{bucket_path}, Storing.{insertion_of, put_commit}}
+use Rattle.cacache_calls.specs.declared.command.Command.TheVariants as commands
+use Rattle.cacache_calls.specs.{declared.{command.{Insert.{Insert}, Put.{Put}}, reply.Reply.{Reply, TheVariants.{Stored}}}, Inserting.{insertion}, StepPaths.{bucket_path}, Storing.{insertion_of, put_commit}}
 use Rattle.cacache_value.specs.Value.{AtLink, Value, value_of_tree}
 use Rattle.cacache_history.specs.{declared.record.Record.{Record, TheVariants.{Moved}}, AddedEntries.{address_of_put}, History.{History, IsLegal, initial, now_at}, Setup.{home}, Values.{bucket_at, steps_of, value_at}, durable.{Behind.{Behind}, Ending.{EndsFrom}, FewCalls.{FewCalls}, QuietMoves.{AreQuiet}}}
 use Rattle.cacache_loss.specs.{ChangedNames.{LeavesCache, opening}, Loss.{Loss}, LostValues.{HoldsContent, LeftOf}, Moments.{Moment, after}}

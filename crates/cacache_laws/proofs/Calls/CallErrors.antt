@@ -2,9 +2,9 @@
 use Rattle.std.proofs.Common.{◌≡◌, ◌⊎◌, inl, inr, ℕ, Bool, true, List, [], ◌∷◌, Option, None, Some, get_or, refl, sym, subst, ◌∙◌}
 use Rattle.cacache_core.specs.declared.{errors.{SerdeCause.{SerdeCause}, Error.TheVariants.{SerdeError}}, integrity.digest.Hash.{Hash}}
 use Rattle.cacache_store.specs.Plain.{PlainAnswer}
-use Rattle.cacache_table.specs.declared.command.Command.TheVariants as commands
-use Rattle.cacache_table.specs.{declared.{command.{Insert.{Insert}, Put.{Put}}, reply.Reply.{Reply, TheVariants.{Refused}}, carried.Commit.{Commit}}, Inserting.{unless_refused, insertion, deletion, refused_cause}, State.{State, Site, doing, creating, writing, syncing, persisting, linking, confirming, appending, walking, over, Insertion}, Storing.{insertion_of, indexed, sized, compared, placed, put_commit}, Table.{after, opening}, Runs.{Moves, Runs}}
-use Rattle.cacache_table.proofs.{Closed.{AnyAnswer, ClosedCommit, ClosedWalk, Closed, kept_always}, Visits.{MayMeet}}
+use Rattle.cacache_calls.specs.declared.command.Command.TheVariants as commands
+use Rattle.cacache_calls.specs.{declared.{command.{Insert.{Insert}, Put.{Put}}, reply.Reply.{Reply, TheVariants.{Refused}}, carried.Commit.{Commit}}, Inserting.{unless_refused, insertion, deletion, refused_cause}, State.{State, Site, doing, creating, writing, syncing, persisting, linking, confirming, appending, walking, over, Insertion}, Storing.{insertion_of, indexed, sized, compared, placed, put_commit}, Table.{after, opening}, Runs.{Moves, Runs}}
+use Rattle.cacache_calls.proofs.{Closed.{AnyAnswer, ClosedCommit, ClosedWalk, Closed, kept_always}, Visits.{MayMeet}}
 use Rattle.cacache_laws.{specs.CallErrors.{FailsOnly, CallsFailOnly}, proofs.Removing.Tasks.{Clears, ClearsAt}}
 
 -- a commit that expects no integrity and no size, and has an entry that can be written

@@ -7,8 +7,8 @@ use Rattle.cacache_store.specs.{declared.store.plain.{PlainFile.{PlainFile}, Pla
 use Rattle.cacache_store.specs.declared.store.step.Step.TheVariants as steps
 use Rattle.cacache_store.specs.declared.store.answer.Answer.TheVariants as answers
 use Rattle.cacache_disk.specs.{declared.luck.Luck.TheVariants.{Plain}, Tree.{Tree}, Apply.{apply, given, grown, rest_of, opened}}
-use Rattle.cacache_table.specs.{Causes.{Faulted, Faults}, Common.{fails}, Runs.{Moves, Goes}, State.{Hashing, hashing}, Storing.{persist, write_rest}, Table.{piece, after}}
-use Rattle.cacache_table.proofs.Branches.{cond_leads}
+use Rattle.cacache_calls.specs.{Causes.{Faulted, Faults}, Common.{fails}, Runs.{Moves, Goes}, State.{Hashing, hashing}, Storing.{persist, write_rest}, Table.{piece, after}}
+use Rattle.cacache_calls.proofs.Branches.{cond_leads}
 use Rattle.cacache_laws.specs.{Sequence.{IsSound}, InParts.{Begun, IsOnItsWay, Part, took, moves_in, turns_in, AreParts, ReadsAreParts, WritesAreParts}}
 use Rattle.cacache_laws.proofs.Calls.InParts.{with_parts, with_part_goes}
 

@@ -4,8 +4,8 @@ use Rattle.cacache_core.specs.declared.errors.Error.TheVariants.{OutOfMemory}
 use Rattle.cacache_store.specs.declared.store.{log.LogItem.TheVariants.{Made}, plain.PlainFile.{PlainFile}}
 use Rattle.cacache_store.specs.declared.store.step.Step.TheVariants as steps
 use Rattle.cacache_disk.specs.{declared.luck.Luck.TheVariants.{Plain, Take}, Tree.{Tree, bare}, Apply.{apply, given}, memory.Replay.{replay, IsReplayable, tree_of, IsLog}}
-use Rattle.cacache_table.specs.{declared.{command.Command.{Command}, reply.Reply.{Reply, TheVariants.{Refused}}}, Runs.{Moves, Runs, Goes, plain_reply}, State.{State}, Table.{piece, after, opening}}
-use Rattle.cacache_table.proofs.{EarnedErrors.{io_errors_have_causes}, Going.{goes_lost}}
+use Rattle.cacache_calls.specs.{declared.{command.Command.{Command}, reply.Reply.{Reply, TheVariants.{Refused}}}, Runs.{Moves, Runs, Goes, plain_reply}, State.{State}, Table.{piece, after, opening}}
+use Rattle.cacache_calls.proofs.{EarnedErrors.{io_errors_have_causes}, Going.{goes_lost}}
 use Rattle.cacache_value.{specs.{OpeningTrees.{LieApart}, Value.{value_of_tree}}, proofs.Traces.{traces_act}}
 use Rattle.cacache_history.specs.{Setup.{Setup, call_site, home}, History.{Turn, turn_of}, Turns.{made_in, EachTurn}}
 use Rattle.cacache_history.proofs.{Entries.Bucketed.{KeyedTurn}, Histories.{Holding.{CallHolds, TurnsHold, begins_hold, moved_holds}, Runs.{memory_plain}, TurnReplies.{reads_value}}, Contents.Commits.{cases, plain_refused}, durable.CommitPlaces.{goes_runs}}

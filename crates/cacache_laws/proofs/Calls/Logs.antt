@@ -2,7 +2,7 @@
 use Rattle.std.proofs.{Common.{◌≡◌, inl, inr, List, [], ◌∷◌, ◌++◌, Some, map, sym, ap, ◌∙◌, append_assoc}, lemmas.List.{map-append}}
 use Rattle.cacache_core.specs.declared.errors.Fault.{Fault}
 use Rattle.cacache_store.specs.declared.store.log.LogItem.{LogItem, TheVariants.{Made}}
-use Rattle.cacache_table.specs.{Causes.{Faulted}, Runs.{Moves}}
+use Rattle.cacache_calls.specs.{Causes.{Faulted}, Runs.{Moves}}
 use Rattle.cacache_laws.specs.Caches.{CallsGrow, GrowthsJoin, ExcusesLast}
 
 pub some_same : (a b : List LogItem) → Some a ≡ Some b → a ≡ b

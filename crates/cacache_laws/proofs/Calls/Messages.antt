@@ -2,7 +2,7 @@
 use Rattle.std.proofs.Common.{◌≡◌, inl, inr, ℕ, List, refl}
 use Rattle.cacache_core.specs.declared.errors.Error.{Error, TheVariants.{EntryNotFound, SizeMismatch, IoError, SerdeError, IntegrityError, OutOfMemory}}
 use Rattle.cacache_store.specs.declared.store.log.LogItem.{LogItem}
-use Rattle.cacache_table.specs.Runs.{without_message}
+use Rattle.cacache_calls.specs.Runs.{without_message}
 use Rattle.cacache_laws.specs.Caches.{IsExcused}
 
 pub plain_error : (e : Error) → without_message (without_message e) ≡ without_message e

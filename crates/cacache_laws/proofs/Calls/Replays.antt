@@ -3,7 +3,7 @@ use Rattle.std.{proofs.Common.{◌≡◌, ℕ, List, [], ◌∷◌, ◌++◌, No
 use Rattle.cacache_core.specs.declared.errors.Fault.{Fault}
 use Rattle.cacache_store.specs.declared.store.log.LogItem.{LogItem, TheVariants.{Made}}
 use Rattle.cacache_disk.specs.{declared.luck.Luck.TheVariants.{Plain}, Tree.{Tree}, Apply.{apply, planted}, LedTo.{and_then}, memory.Replay.{changed, after, replay, IsReplayable}}
-use Rattle.cacache_table.specs.Runs.{Moves}
+use Rattle.cacache_calls.specs.Runs.{Moves}
 use Rattle.cacache_value.specs.OpeningTrees.{with_files}
 use Rattle.cacache_history.specs.Setup.{Setup}
 use Rattle.cacache_laws.specs.Sequence.{SequenceCall, AreMade, planted_log, tree_on, AreAnswered}

@@ -2,8 +2,8 @@
 use Rattle.std.{proofs.Common.{◌≡◌, inl, inr, List, [], ◌∷◌, ◌++◌, Option, None, Some, refl, sym, ap, subst, ◌∙◌, append-nil, append_assoc}, specs.Prelude.{map}}
 use Rattle.cacache_store.specs.declared.store.log.LogItem.{LogItem, TheVariants.{Made}}
 use Rattle.cacache_disk.specs.{declared.luck.Luck.TheVariants.{Plain}, Tree.{Tree, bare}, Apply.{apply}, memory.Replay.{replay, IsReplayable, tree_of, IsLog}}
-use Rattle.cacache_table.specs.{declared.reply.Reply.{Reply}, Runs.{Moves, Runs, plain_reply}, Sound.{MayBegin}, State.{State}, Table.{after, opening}}
-use Rattle.cacache_table.proofs.EarnedErrors.{io_errors_have_causes}
+use Rattle.cacache_calls.specs.{declared.reply.Reply.{Reply}, Runs.{Moves, Runs, plain_reply}, Sound.{MayBegin}, State.{State}, Table.{after, opening}}
+use Rattle.cacache_calls.proofs.EarnedErrors.{io_errors_have_causes}
 use Rattle.cacache_value.specs.{OpeningTrees.{LieApart}, Traces.{IsTrace, tree_after, acts}, Value.{wide_value, cache_part, value_of_tree}}
 use Rattle.cacache_value.proofs.{OpeningTrees.{files_open}, Traces.{traces_act}}
 use Rattle.cacache_history.specs.{Setup.{Setup, call_site, home, may_export, is_outside}, History.{Now, Ends, MayMove, NamesIntegrity, new_call, call_after, turn_of}, Turns.{made_in, EachTurn}, Commits.{deeds}}

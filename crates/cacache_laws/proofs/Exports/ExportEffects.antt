@@ -6,8 +6,8 @@ use Rattle.cacache_store.specs.declared.store.answer.Answer.TheVariants as answe
 use Rattle.cacache_store.specs.declared.store.step.Step.TheVariants as steps
 use Rattle.cacache_store.specs.Plain.{PlainStep, PlainAnswer}
 use Rattle.cacache_disk.specs.memory.Replay.{tree_of}
-use Rattle.cacache_table.specs.declared.command.Command.TheVariants as commands
-use Rattle.cacache_table.specs.{Runs.{Goes}, Table.{opening}}
+use Rattle.cacache_calls.specs.declared.command.Command.TheVariants as commands
+use Rattle.cacache_calls.specs.{Runs.{Goes}, Table.{opening}}
 use Rattle.cacache_value.specs.{Kinds.{PathKind, Content as OfContent, Bucket, Temporary, Stray, Elsewhere, IsFor, kind_in_area, kind_beside, path_kind}, Value.{Value, value_of_tree}}
 use Rattle.cacache_history.specs.{Setup.{may_export, call_site, apart_from_home, are_apart, may_take}, History.{Turn}, Turns.{EachTurn, made_in}, Commits.{Deed, deeds, deeds_of_act, finds_in}, ReadingCalls.{TurnDoesNothing}}
 use Rattle.cacache_history.proofs.Histories.ReadingCalls.{readings_do_nothing}

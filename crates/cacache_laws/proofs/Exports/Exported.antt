@@ -9,11 +9,11 @@ use Rattle.cacache_store.specs.{declared.store.{log.LogItem.{LogItem}, plain.Pla
 use Rattle.cacache_store.specs.declared.store.step.Step.TheVariants as steps
 use Rattle.cacache_disk.specs.{declared.{luck.Luck.TheVariants.{Plain}, node.Node.TheVariants.{File}}, Apply.{apply, given, rest_of, unless}, LedTo.{file_at}, Tree.{Tree, look}, memory.Replay.{shown, tree_of}}
 use Rattle.cacache_entry.specs.Latest.{Found, latest}
-use Rattle.cacache_table.specs.declared.carried.Aim.TheVariants as aims
-use Rattle.cacache_table.specs.{declared.{carried.Content.{Content}, command.{Export.{Export}, How.{How, TheVariants.{Copy, Reflink, HardLink}}, Source.{Source}}, reply.Reply.{Reply}}, Common.{ends_with, errand_step}, Exporting.{copied_count, export, export_content, export_from, verified}, Linking.{after_read, hashed_path}, Looking.{found_for, found_in}, Runs.{Moves, Runs}, State.{Errand, State, copying, doing, hard_link, hashing, opening_file, over, reflink, to_verify}, StepPaths.{bucket_path, content_path}, Table.{after, opening, piece}}
-use Rattle.cacache_table.proofs.Branches.{cond_leads}
-use Rattle.cacache_table.specs.declared.command.Source.TheVariants as sources
-use Rattle.cacache_table.specs.declared.reply.Reply.TheVariants as replies
+use Rattle.cacache_calls.specs.declared.carried.Aim.TheVariants as aims
+use Rattle.cacache_calls.specs.{declared.{carried.Content.{Content}, command.{Export.{Export}, How.{How, TheVariants.{Copy, Reflink, HardLink}}, Source.{Source}}, reply.Reply.{Reply}}, Common.{ends_with, errand_step}, Exporting.{copied_count, export, export_content, export_from, verified}, Linking.{after_read, hashed_path}, Looking.{found_for, found_in}, Runs.{Moves, Runs}, State.{Errand, State, copying, doing, hard_link, hashing, opening_file, over, reflink, to_verify}, StepPaths.{bucket_path, content_path}, Table.{after, opening, piece}}
+use Rattle.cacache_calls.proofs.Branches.{cond_leads}
+use Rattle.cacache_calls.specs.declared.command.Source.TheVariants as sources
+use Rattle.cacache_calls.specs.declared.reply.Reply.TheVariants as replies
 use Rattle.cacache_value.{specs.{Acts.{list_of}, Shows.{ShowsBucket, ShowsContent, blob_bytes}, Value.{value_of_tree}}, proofs.Shows.{trees_show}}
 use Rattle.cacache_history.specs.{History.{turn_of}, Setup.{call_site}}
 use Rattle.cacache_history.proofs.{Histories.{Holding.{TurnHolds}, ShownTurns.{bucket_below, content_below}}, Contents.OpenedContents.{no_first}}

@@ -6,7 +6,7 @@ use Rattle.cacache_store.specs.declared.store.answer.Answer.TheVariants as answe
 use Rattle.cacache_store.specs.declared.store.step.Step.TheVariants as steps
 use Rattle.cacache_disk.specs.{declared.{luck.Luck.TheVariants.{Plain}, node.Node.{Node, TheVariants.{Folder, File, Link}}}, Apply.{apply, unless}, LedTo.{and_then, file_at, followed, free, leads, linked, linked_in, on_link, place, standing, where_free, where_no_folder, writable}, Tree.{Tree, look, put}, memory.Replay.{shown}}
 use Rattle.cacache_disk.proofs.FoundNodes.{place_ok}
-use Rattle.cacache_table.specs.StepPaths.{content_path}
+use Rattle.cacache_calls.specs.StepPaths.{content_path}
 use Rattle.cacache_value.specs.{Kinds.{node_below}, Value.{InFile, blob_in}}
 use Rattle.cacache_history.proofs.Histories.ShownTurns.{content_below}
 use Rattle.cacache_laws.{specs.Caches.{setup_at}, proofs.Putting.WrittenFiles.{written_shown}}

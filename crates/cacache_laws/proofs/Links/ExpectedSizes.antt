@@ -6,8 +6,8 @@ use Rattle.cacache_store.specs.declared.store.answer.Answer.TheVariants as answe
 use Rattle.cacache_store.specs.{declared.store.plain.PlainFile.{PlainFile}, Plain.{PlainStep, PlainAnswer}}
 use Rattle.cacache_store.specs.declared.store.step.Step.TheVariants as steps
 use Rattle.cacache_disk.specs.Apply.{opened}
-use Rattle.cacache_table.specs.{declared.{reply.Reply.{Reply}, carried.Commit.{Commit}, target.Target.{Target}}, Common.{ends_with}, Linking.{commit_for, with_size}, Runs.{Moves, Runs}, State.{State, confirming, hashing, linking, over, to_link}, Storing.{compared, indexed, link, matches, placed, sized}, Table.{after, piece, wants}, Verifying.{Gives}}
-use Rattle.cacache_table.specs.declared.reply.Reply.TheVariants as replies
+use Rattle.cacache_calls.specs.{declared.{reply.Reply.{Reply}, carried.Commit.{Commit}, target.Target.{Target}}, Common.{ends_with}, Linking.{commit_for, with_size}, Runs.{Moves, Runs}, State.{State, confirming, hashing, linking, over, to_link}, Storing.{compared, indexed, link, matches, placed, sized}, Table.{after, piece, wants}, Verifying.{Gives}}
+use Rattle.cacache_calls.specs.declared.reply.Reply.TheVariants as replies
 use Rattle.cacache_history.proofs.Contents.OpenedContents.{OnDisks, gives_all, run_asks}
 use Rattle.cacache_laws.{specs.{CallErrors.{FailsOnly}, OpenLinkers.{SuitsSize}}, proofs.{Calls.CallErrors.{Plain as PlainCommit, calm_run}, Removing.Removed.{over_run}}}
 

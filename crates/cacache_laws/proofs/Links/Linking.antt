@@ -9,10 +9,10 @@ use Rattle.cacache_store.specs.declared.store.step.Step.TheVariants as steps
 use Rattle.cacache_disk.specs.{declared.luck.Luck.TheVariants.{Plain}, Tree.{Tree}, Apply.{apply, opened, unless}, LedTo.{file_at, leads, place}, memory.Replay.{bytes_told, shown, tree_of}}
 use Rattle.cacache_disk.proofs.Roots.{same_self}
 use Rattle.cacache_entry.specs.Latest.{latest}
-use Rattle.cacache_table.specs.declared.command.Command.TheVariants as commands
-use Rattle.cacache_table.specs.{declared.{command.{Link.{Link}, Put.{Put}}, reply.Reply.{Reply}, target.Target.{Target}}, Linking.{based, commit_for, link_target, with_size}, Promises.{Stores}, Runs.{Moves, Runs}, Sound.{SoundTarget}, StepPaths.{content_path}, Storing.{insertion_of, put_commit}, State.{sizing}, Table.{after, opening}}
-use Rattle.cacache_table.proofs.Verifying.{links_read_whole}
-use Rattle.cacache_table.specs.declared.reply.Reply.TheVariants as replies
+use Rattle.cacache_calls.specs.declared.command.Command.TheVariants as commands
+use Rattle.cacache_calls.specs.{declared.{command.{Link.{Link}, Put.{Put}}, reply.Reply.{Reply}, target.Target.{Target}}, Linking.{based, commit_for, link_target, with_size}, Promises.{Stores}, Runs.{Moves, Runs}, Sound.{SoundTarget}, StepPaths.{content_path}, Storing.{insertion_of, put_commit}, State.{sizing}, Table.{after, opening}}
+use Rattle.cacache_calls.proofs.Verifying.{links_read_whole}
+use Rattle.cacache_calls.specs.declared.reply.Reply.TheVariants as replies
 use Rattle.cacache_value.specs.{Acts.{PutLink, change, list_of}, Kinds.{is_path_of}, Value.{AtLink, Blob, Value, value_of_tree}}
 use Rattle.cacache_history.specs.{Commits.{AddsAfter, CommitsAs, Deed, IsNotOk, InsertionAdds, LinksTo, PutsContent, ReadsTarget, deeds, does, finds}, Setup.{Setup, call_site, same_place}, Values.{IsThere}}
 use Rattle.cacache_history.proofs.{Contents.{Digests.{digest_hash}, OpenedContents.{EachAsks, OnDisks, gives_all, run_asks}, Righted.{one_address}}, Histories.ShownTurns.{content_below}}

@@ -5,10 +5,10 @@ use Rattle.cacache_store.specs.declared.store.answer.Answer.TheVariants as answe
 use Rattle.cacache_store.specs.declared.store.{log.LogItem.{LogItem}, plain.PlainFile.{PlainFile}}
 use Rattle.cacache_store.specs.declared.store.step.Step.TheVariants as steps
 use Rattle.cacache_disk.specs.{declared.luck.Luck.TheVariants.{Plain}, Apply.{apply, opened}, memory.Replay.{tree_of}}
-use Rattle.cacache_table.specs.declared.command.Command.TheVariants as commands
-use Rattle.cacache_table.specs.{declared.{command.Link.{Link}, reply.Reply.{Reply}, target.Target.{Target}}, Causes.{Faulted, HasCause, own_of}, Linking.{based, commit_for, link_target, with_size}, Promises.{Stores}, Runs.{Goes, Moves, Runs, plain_reply}, Sound.{SoundTarget}, State.{Site, hashing, to_link}, Storing.{put_commit}, Table.{opening}}
-use Rattle.cacache_table.proofs.Verifying.{links_read_whole}
-use Rattle.cacache_table.specs.declared.reply.Reply.TheVariants as replies
+use Rattle.cacache_calls.specs.declared.command.Command.TheVariants as commands
+use Rattle.cacache_calls.specs.{declared.{command.Link.{Link}, reply.Reply.{Reply}, target.Target.{Target}}, Causes.{Faulted, HasCause, own_of}, Linking.{based, commit_for, link_target, with_size}, Promises.{Stores}, Runs.{Goes, Moves, Runs, plain_reply}, Sound.{SoundTarget}, State.{Site, hashing, to_link}, Storing.{put_commit}, Table.{opening}}
+use Rattle.cacache_calls.proofs.Verifying.{links_read_whole}
+use Rattle.cacache_calls.specs.declared.reply.Reply.TheVariants as replies
 use Rattle.cacache_value.specs.{Acts.{PutLink}, OpeningTrees.{LieApart}, Value.{value_of_tree}}
 use Rattle.cacache_history.specs.{Commits.{CommitsAs, DidNothing, LinksTo, ReadsTarget, deeds}, Setup.{Setup, home}}
 use Rattle.cacache_history.proofs.{Contents.{Digests.{digest_hash}, OpenedContents.{run_asks}}, durable.CommitPlaces.{goes_runs}}

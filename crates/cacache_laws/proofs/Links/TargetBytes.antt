@@ -6,7 +6,7 @@ use Rattle.cacache_store.specs.declared.store.answer.Answer.TheVariants as answe
 use Rattle.cacache_store.specs.declared.store.{log.LogItem.{LogItem, TheVariants.{Made}}, plain.PlainFile.{PlainFile}}
 use Rattle.cacache_store.specs.declared.store.step.Step.TheVariants as steps
 use Rattle.cacache_disk.specs.{declared.luck.Luck.TheVariants.{Plain, Take}, Tree.{Tree}, Apply.{apply, opened, unless}, LedTo.{file_at}, memory.Replay.{IsLog, bytes_told, shown, tree_of}}
-use Rattle.cacache_table.specs.{Runs.{Gains, Moves}, SingleSteps.{FailsAt}}
+use Rattle.cacache_calls.specs.{Runs.{Gains, Moves}, SingleSteps.{FailsAt}}
 use Rattle.cacache_history.{specs.{Commits.{ReadsTarget}, History.{turn_of}, Setup.{Setup}}, proofs.Contents.OpenedContents.{EachAsks, OnDisks, gives_all}}
 use Rattle.cacache_laws.specs.{Caches.{IsCache, Grows}, InParts.{AreParts, Part, byte_read, made, took, moves_in, turns_in}, OpenLinkers.{GivesSized, GivesTarget, LinkersOpen, LinkersOpenSized, OpensSized, OpensTarget}, OpenWriters.{LeavesKnownCache}, Sequence.{AreAnswered, IsSound, tree_on, turns_on}}
 use Rattle.cacache_laws.proofs.{Calls.{InParts.{byte_answered, logs_lead}, Logs.{excuses_last, growths_join, some_same}}, Links.Linking.{on_disks, opened_held}, Spares.GivenUp.{unchanged}, Readings.{OpenReaders.{Opened, errs, leaves as known_left, log_front, opened_keeps}, ReadsStay.{opened_so, sizing_keeps}}, Putting.OpenWriters.{excused_step, gains_grow}}

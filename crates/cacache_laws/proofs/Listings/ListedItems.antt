@@ -2,7 +2,7 @@
 use Rattle.std.proofs.{Common.{◌≡◌, ◌⊎◌, inl, inr, ℕ, zero, suc, Bool, true, false, cond, List, [], ◌∷◌, ◌++◌, Option, None, Some, Ok, Err, option_map, map, take, fold, refl, sym, ap, subst, ◌∙◌}, lemmas.{List.Elements.{All-nil, All-cons, All-head, All-tail, All-append, All-take}, Slice.Eq.{bytes_eq-Decides}}}
 use Rattle.std.specs.{Prelude.{All, bytes_eq, unwrap_or}, List.{filter_map, cons_option}}
 use Rattle.cacache_entry.specs.{Entry.{Entry}, Latest.{Found, answer_of, after_entry, latest}}
-use Rattle.cacache_table.{specs.{ListReplies.{In, keys_of, too_deep}, State.{Item}, Walking.{once, items_of}}, proofs.Keys.{each_key_once}}
+use Rattle.cacache_calls.{specs.{ListReplies.{In, keys_of, too_deep}, State.{Item}, Walking.{once, items_of}}, proofs.Keys.{each_key_once}}
 use Rattle.cacache_history.specs.ListingTurns.{OtherKey, NoKeyTwice}
 use Rattle.cacache_laws.specs.ListedKeys.{AreAllFound}
 

@@ -4,10 +4,10 @@ use Rattle.std.specs.Prelude.{All}
 use Rattle.cacache_core.specs.declared.errors.{Error.TheVariants.{OutOfMemory}, Fault.{Fault}}
 use Rattle.cacache_store.specs.declared.store.log.LogItem.{LogItem}
 use Rattle.cacache_disk.specs.memory.Replay.{tree_of}
-use Rattle.cacache_table.specs.{declared.{command.Command.{Command}, reply.Reply.{Reply}}, Causes.{Faulted}, ListReplies.{items_given, too_deep, ListsGiven}, Runs.{plain_reply}, State.{Site, Item}, Table.{opening}, Walking.{most}, Licence.{looking_on, AllMay}}
-use Rattle.cacache_table.proofs.{ListReplies.{lists_shown}, Within.{calls_keep_to}}
-use Rattle.cacache_table.specs.declared.command.Command.TheVariants as commands
-use Rattle.cacache_table.specs.declared.reply.Reply.TheVariants as replies
+use Rattle.cacache_calls.specs.{declared.{command.Command.{Command}, reply.Reply.{Reply}}, Causes.{Faulted}, ListReplies.{items_given, too_deep, ListsGiven}, Runs.{plain_reply}, State.{Site, Item}, Table.{opening}, Walking.{most}, Licence.{looking_on, AllMay}}
+use Rattle.cacache_calls.proofs.{ListReplies.{lists_shown}, Within.{calls_keep_to}}
+use Rattle.cacache_calls.specs.declared.command.Command.TheVariants as commands
+use Rattle.cacache_calls.specs.declared.reply.Reply.TheVariants as replies
 use Rattle.cacache_history.specs.{History.{Turn}, ListingTurns.{NoKeyTwice, is_past, listing_of, ListsHeld}, TurnReplies.{ReadsValue}, Turns.{made_in, EachTurn}}
 use Rattle.cacache_history.proofs.Histories.Holding.{TurnsHold}
 use Rattle.cacache_laws.specs.{Sequence.{turns_on}, Caches.{AStepFailed, IsCache, setup_at}, ListedKeys.{IsShown, AreAllFound, AllListed, ListsKeys, GivesKeys, ListingsGive}}

@@ -8,11 +8,11 @@ use Rattle.cacache_store.specs.{declared.store.{log.LogItem.{LogItem}, plain.Pla
 use Rattle.cacache_store.specs.declared.store.step.Step.TheVariants as steps
 use Rattle.cacache_disk.specs.{declared.{luck.Luck.TheVariants.{Plain}, node.Node.{Node, TheVariants.{Folder, File, Link}}}, Apply.{apply, unless}, LedTo.{and_then, bytes_there, file_at, leads}, Tree.{Tree, look}, memory.Replay.{shown, tree_of}}
 use Rattle.cacache_entry.specs.Latest.{Found}
-use Rattle.cacache_table.specs.{declared.{command.{Export.{Export}, How.TheVariants.{Copy}, Source.{Source}, Command.{Command}}, answers.Refusal.{Refusal}, carried.Content.{Content}}, Answers.{file_in, got_in}, Common.{ends_with, fails}, Exporting.{copied_count, export, export_content, verified}, Linking.{after_read, hashed, hashed_path}, Looking.{found_for, found_in}, Replies.{lookup}, Runs.{Moves, Runs, plain_reply}, State.{Hashing, State, copying, hashing, opening_file, over, to_verify}, StepPaths.{bucket_path, content_path}, Table.{after, opening, piece}}
-use Rattle.cacache_table.proofs.Branches.{cond_leads, go_on_leads}
-use Rattle.cacache_table.specs.declared.command.Source.TheVariants as sources
-use Rattle.cacache_table.specs.declared.reply.Reply.TheVariants as replies
-use Rattle.cacache_table.specs.declared.carried.Aim.TheVariants as aims
+use Rattle.cacache_calls.specs.{declared.{command.{Export.{Export}, How.TheVariants.{Copy}, Source.{Source}, Command.{Command}}, answers.Refusal.{Refusal}, carried.Content.{Content}}, Answers.{file_in, got_in}, Common.{ends_with, fails}, Exporting.{copied_count, export, export_content, verified}, Linking.{after_read, hashed, hashed_path}, Looking.{found_for, found_in}, Replies.{lookup}, Runs.{Moves, Runs, plain_reply}, State.{Hashing, State, copying, hashing, opening_file, over, to_verify}, StepPaths.{bucket_path, content_path}, Table.{after, opening, piece}}
+use Rattle.cacache_calls.proofs.Branches.{cond_leads, go_on_leads}
+use Rattle.cacache_calls.specs.declared.command.Source.TheVariants as sources
+use Rattle.cacache_calls.specs.declared.reply.Reply.TheVariants as replies
+use Rattle.cacache_calls.specs.declared.carried.Aim.TheVariants as aims
 use Rattle.cacache_value.{specs.Shows.{ShowsContent, blob_bytes}, proofs.Shows.{trees_show}}
 use Rattle.cacache_history.specs.{History.{Turn, turn_of}, Setup.{call_site}, ShownTurns.{bucket_read, shown_result as shown_in}, TurnReplies.{ExportsHeld, ReadsValue, VerifiesHeld}}
 use Rattle.cacache_history.proofs.Histories.{Holding.{TurnHolds}, ShownTurns.{content_below}}

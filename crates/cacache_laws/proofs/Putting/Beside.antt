@@ -5,9 +5,9 @@ use Rattle.cacache_core.specs.{declared.integrity.digest.Hash.{Hash}, Integrity.
 use Rattle.cacache_store.specs.declared.store.log.LogItem.{LogItem}
 use Rattle.cacache_disk.specs.memory.Replay.{tree_of}
 use Rattle.cacache_entry.specs.{Latest.{latest}, FittingEntries.{IsEntry}}
-use Rattle.cacache_table.specs.{declared.{command.{Command.{Command}, Delete.{Delete}, Put.{Put}}, reply.Reply.{Reply}}, Inserting.{deletion, refused_cause}, Storing.{insertion_of, put_commit}}
-use Rattle.cacache_table.proofs.IntegrityUtf8.{integrity_utf8}
-use Rattle.cacache_table.specs.declared.command.Command.TheVariants as commands
+use Rattle.cacache_calls.specs.{declared.{command.{Command.{Command}, Delete.{Delete}, Put.{Put}}, reply.Reply.{Reply}}, Inserting.{deletion, refused_cause}, Storing.{insertion_of, put_commit}}
+use Rattle.cacache_calls.proofs.IntegrityUtf8.{integrity_utf8}
+use Rattle.cacache_calls.specs.declared.command.Command.TheVariants as commands
 use Rattle.cacache_value.specs.{Acts.{PutBytes, change, list_of}, Kinds.{is_path_of}, Value.{Value, Blob, InFile, value_of_tree}}
 use Rattle.cacache_history.specs.{Commits.{Deed, does, finds, deeds, PutsContent, AddsAfter, CommitsAs, IsCase}, Setup.{call_site}}
 use Rattle.cacache_history.proofs.{Contents.{Digests.{digest_hash}, Righted.{one_address}}, Histories.ShownTurns.{content_below}}

@@ -4,10 +4,10 @@ use Rattle.cacache_core.specs.{declared.{errors.{Error.TheVariants.{IoError}, Fa
 use Rattle.cacache_store.specs.declared.store.answer.Answer.TheVariants as answers
 use Rattle.cacache_store.specs.declared.store.log.LogItem.{LogItem, TheVariants.{Made}}
 use Rattle.cacache_disk.specs.{Apply.{made_temp}, memory.Replay.{tree_of}}
-use Rattle.cacache_table.specs.declared.command.Command.TheVariants as commands
-use Rattle.cacache_table.specs.{declared.{command.Put.{Put}, reply.Reply.{Reply}}, Causes.{Faulted, HasCause, own_of}, StepPaths.{content_path, temp_folder, temp_path}, Runs.{Moves, Runs, plain_reply}, Sound.{FormedIfWritten}, Storing.{insertion_of, put_commit, persist, write_rest}, Table.{opening}, Inserting.{refused_cause}, Promises.{Stores}}
-use Rattle.cacache_table.proofs.{Promises.{calls_answer}, IntegrityUtf8.{integrity_utf8}}
-use Rattle.cacache_table.specs.declared.reply.Reply.TheVariants as replies
+use Rattle.cacache_calls.specs.declared.command.Command.TheVariants as commands
+use Rattle.cacache_calls.specs.{declared.{command.Put.{Put}, reply.Reply.{Reply}}, Causes.{Faulted, HasCause, own_of}, StepPaths.{content_path, temp_folder, temp_path}, Runs.{Moves, Runs, plain_reply}, Sound.{FormedIfWritten}, Storing.{insertion_of, put_commit, persist, write_rest}, Table.{opening}, Inserting.{refused_cause}, Promises.{Stores}}
+use Rattle.cacache_calls.proofs.{Promises.{calls_answer}, IntegrityUtf8.{integrity_utf8}}
+use Rattle.cacache_calls.specs.declared.reply.Reply.TheVariants as replies
 use Rattle.cacache_value.specs.{Acts.{PutBytes}, Value.{Blob, InFile, value_of_tree}}
 use Rattle.cacache_history.specs.{Setup.{call_site}, History.{Turn}, Commits.{Deed, finds, deeds_of, deeds, CommitsAs}, Values.{IsThere}}
 use Rattle.cacache_history.proofs.{Contents.Digests.{digest_hash}, durable.CommitPlaces.{goes_runs}}

@@ -5,10 +5,10 @@ use Rattle.cacache_core.proofs.Printed.{printed}
 use Rattle.cacache_store.specs.declared.store.log.LogItem.{LogItem}
 use Rattle.cacache_disk.specs.memory.Replay.{tree_of}
 use Rattle.cacache_entry.specs.{FittingEntries.{IsUtf8IfAny}, Latest.{Found, found_of, answer_read, answer_of}}
-use Rattle.cacache_table.specs.declared.command.Command.TheVariants as commands
-use Rattle.cacache_table.specs.{declared.{command.Insert.{Insert}, reply.Reply.{Reply}}, Inserting.{insertion, given_or, given_text, no_integrity, refused_cause}, Promises.{Only}}
-use Rattle.cacache_table.proofs.{Promises.{calls_answer}, IntegrityUtf8.{integrity_utf8}}
-use Rattle.cacache_table.specs.declared.reply.Reply.TheVariants as replies
+use Rattle.cacache_calls.specs.declared.command.Command.TheVariants as commands
+use Rattle.cacache_calls.specs.{declared.{command.Insert.{Insert}, reply.Reply.{Reply}}, Inserting.{insertion, given_or, given_text, no_integrity, refused_cause}, Promises.{Only}}
+use Rattle.cacache_calls.proofs.{Promises.{calls_answer}, IntegrityUtf8.{integrity_utf8}}
+use Rattle.cacache_calls.specs.declared.reply.Reply.TheVariants as replies
 use Rattle.cacache_value.specs.Value.{value_of_tree}
 use Rattle.cacache_history.specs.{Setup.{call_site}, Commits.{deeds, InsertionAdds, IsCase}}
 use Rattle.cacache_laws.specs.{Sequence.{turns_on, Alike, after_deeds}, ReadAnswers.{entries_on}, CallErrors.{FailsOnly}, Caches.{HasContent, HasKey, setup_at}, Keeping.{found_under}, Inserts.{leads_to, InsertsKey, InsertsLast, PlainInsertsFit, KeysJoin, NoneLacks}}

@@ -6,7 +6,7 @@ use Rattle.cacache_core.specs.{declared.integrity.digest.Hash.{Hash}, Integrity.
 use Rattle.cacache_store.specs.declared.store.log.LogItem.{LogItem}
 use Rattle.cacache_disk.{proofs.Roots.{not_true}, specs.memory.Replay.{tree_of}}
 use Rattle.cacache_entry.specs.{Entry.{Entry}, Latest.{answer_of, answer_to, after_entry, latest}}
-use Rattle.cacache_table.specs.{declared.reply.Reply.{Reply}, State.{Insertion}}
+use Rattle.cacache_calls.specs.{declared.reply.Reply.{Reply}, State.{Insertion}}
 use Rattle.cacache_value.specs.{Kinds.{is_path_of}, Value.{Value, value_of_tree}, Acts.{change, list_of}}
 use Rattle.cacache_history.specs.{ShownTurns.{blob_at}, Commits.{Deed, does, finds, IsAdded, InsertionAdds}}
 use Rattle.cacache_laws.specs.{Sequence.{Alike, after_deeds}, Caches.{HasContent, HasKey, lies_under}, Keeping.{found_under, StaysKnown, KeepsOthers}}

@@ -6,8 +6,8 @@ use Rattle.cacache_store.specs.declared.store.answer.Answer.TheVariants as answe
 use Rattle.cacache_store.specs.{declared.store.{log.LogItem.{LogItem, TheVariants.{Made}}, plain.PlainTemp.{PlainTemp}}, Plain.{PlainAnswer}}
 use Rattle.cacache_store.specs.declared.store.step.Step.TheVariants as steps
 use Rattle.cacache_disk.specs.{declared.{luck.Luck.TheVariants.{Plain}, node.Node.TheVariants.{File}}, Tree.{Tree, put}, LedTo.{free}, Apply.{apply, unless, made_temp}, memory.Replay.{tree_of, IsLog}}
-use Rattle.cacache_table.specs.declared.command.Command.TheVariants as commands
-use Rattle.cacache_table.specs.{declared.command.Put.{Put}, Causes.{Faulted}, Common.{fails}, StepPaths.{temp_folder, temp_path}, Runs.{Moves, Goes, Gains}, State.{State}, Storing.{put_commit, persist}, Table.{opening}, SingleSteps.{Does, FailsAt}}
+use Rattle.cacache_calls.specs.declared.command.Command.TheVariants as commands
+use Rattle.cacache_calls.specs.{declared.command.Put.{Put}, Causes.{Faulted}, Common.{fails}, StepPaths.{temp_folder, temp_path}, Runs.{Moves, Goes, Gains}, State.{State}, Storing.{put_commit, persist}, Table.{opening}, SingleSteps.{Does, FailsAt}}
 use Rattle.cacache_value.specs.{Acts.{MakeFolders, act_at, act_with, folders_left}, Value.{value_of_tree}}
 use Rattle.cacache_history.specs.{Setup.{call_site}, Commits.{deeds_of_act, deeds}}
 use Rattle.cacache_laws.specs.{Sequence.{tree_on, turns_on, Alike, after_deeds, IsSound}, InParts.{Begun}, Caches.{IsCache, Grows, IsExcused, setup_at}, OpenWriters.{LeavesKnownCache, make_folder, make_file, OpensWriter, HasOpened, WritersOpen}}

@@ -5,10 +5,10 @@ use Rattle.cacache_core.{specs.{declared.integrity.digest.Hash.{Hash}, Integrity
 use Rattle.cacache_store.specs.declared.store.log.LogItem.{LogItem}
 use Rattle.cacache_disk.specs.memory.Replay.{tree_of}
 use Rattle.cacache_entry.specs.Latest.{answer_of, answer_read, found_of, latest}
-use Rattle.cacache_table.specs.declared.command.Command.TheVariants as commands
-use Rattle.cacache_table.specs.{declared.{command.Put.{Put}, reply.Reply.{Reply}}, Inserting.{given_or}, StepPaths.{content_path}, Storing.{insertion_of, put_commit}}
-use Rattle.cacache_table.proofs.Promises.{calls_answer}
-use Rattle.cacache_table.specs.declared.reply.Reply.TheVariants as replies
+use Rattle.cacache_calls.specs.declared.command.Command.TheVariants as commands
+use Rattle.cacache_calls.specs.{declared.{command.Put.{Put}, reply.Reply.{Reply}}, Inserting.{given_or}, StepPaths.{content_path}, Storing.{insertion_of, put_commit}}
+use Rattle.cacache_calls.proofs.Promises.{calls_answer}
+use Rattle.cacache_calls.specs.declared.reply.Reply.TheVariants as replies
 use Rattle.cacache_value.specs.{Acts.{PutBytes, list_of}, Value.{Value, InFile, value_of_tree}}
 use Rattle.cacache_history.specs.{Commits.{Deed, does, finds, deeds, AddsAfter, CommitsAs, InsertionAdds, IsNotOk, PutsContent}, Setup.{call_site}}
 use Rattle.cacache_history.proofs.Contents.Digests.{digest_hash, own_integrity as own_formed}

@@ -6,10 +6,10 @@ use Rattle.cacache_store.specs.{Fits.{Fits}, Plain.{PlainStep, PlainAnswer}, dec
 use Rattle.cacache_disk.specs.{declared.{luck.Luck.TheVariants.{Plain}, node.Node.{Node, TheVariants.{Folder, File, Link}}}, Apply.{apply}, Rooted.{Rooted}, Tree.{Tree, look}, memory.Replay.{tree_of}}
 use Rattle.cacache_disk.proofs.KeptFolders.{steps_keep_rooted}
 use Rattle.cacache_entry.{specs.FittingEntries.{IsEntry}, proofs.EntryCauses.{Fits-no_cause}}
-use Rattle.cacache_table.specs.{declared.{command.{Command.{Command}, Put.{Put}}, reply.Reply.{Reply}}, Causes.{HasCause, own_of as faults_of}, Effects.{Commits, Effect, Indexes, Inserts, IsRefused, TookAll, effects_of, sent, stored}, Inserting.{bucket_line, refused_cause}, Runs.{Moves, Runs, plain_reply}, Sound.{FormedIfWritten, Sound}, State.{Insertion, Site, State}, StepPaths.{bucket_path, content_path}, Storing.{insertion_of, put_commit}, Table.{after, opening}}
-use Rattle.cacache_table.proofs.{EarnedErrors.{io_errors_have_causes}, Effects.{puts_commit}, Promises.{calls_answer}, Sound.{begins_sound, stays_sound}}
-use Rattle.cacache_table.specs.declared.command.Command.TheVariants as commands
-use Rattle.cacache_table.specs.declared.reply.Reply.TheVariants as replies
+use Rattle.cacache_calls.specs.{declared.{command.{Command.{Command}, Put.{Put}}, reply.Reply.{Reply}}, Causes.{HasCause, own_of as faults_of}, Effects.{Commits, Effect, Indexes, Inserts, IsRefused, TookAll, effects_of, sent, stored}, Inserting.{bucket_line, refused_cause}, Runs.{Moves, Runs, plain_reply}, Sound.{FormedIfWritten, Sound}, State.{Insertion, Site, State}, StepPaths.{bucket_path, content_path}, Storing.{insertion_of, put_commit}, Table.{after, opening}}
+use Rattle.cacache_calls.proofs.{EarnedErrors.{io_errors_have_causes}, Effects.{puts_commit}, Promises.{calls_answer}, Sound.{begins_sound, stays_sound}}
+use Rattle.cacache_calls.specs.declared.command.Command.TheVariants as commands
+use Rattle.cacache_calls.specs.declared.reply.Reply.TheVariants as replies
 use Rattle.cacache_value.specs.{Acts.{AddEntries, PutBytes}, Kinds.{Elsewhere, path_kind}, OpeningTrees.{LieApart}, Placed.{MayStand, Placed}, Traces.{IsTrace}, Value.{value_of_tree}}
 use Rattle.cacache_value.proofs.Traces.{steps_keep_placed, traces_act}
 use Rattle.cacache_history.specs.{Commits.{AddsAfter, CommitsAs, Deed, InsertionAdds, IsNotOk, PutsContent, deeds, does, finds}, History.{Turn, turn_of}, Setup.{Setup, call_site, home, is_outside, may_export}, Turns.{EachTurn, made_in}}

@@ -4,9 +4,9 @@ use Rattle.sha1.specs.Sha1.{sha1}
 use Rattle.cacache_core.specs.{declared.{errors.Fault.{Fault}, integrity.digest.Hash.{Hash}}, Integrity.{IsHash}, PathNames.{Names, names_of, names_below}, Paths.{content_names, bucket_names_of}}
 use Rattle.cacache_disk.{specs.Tree.{Tree}, proofs.Roots.{same_self}}
 use Rattle.cacache_entry.specs.Entry.{Entry}
-use Rattle.cacache_table.specs.{declared.{command.Put.{Put}, reply.Reply.{Reply}, carried.Commit.{Commit}}, Inserting.{insertion, deletion}, StepPaths.{content_path, bucket_path}, State.{Insertion}, Storing.{insertion_of, put_commit}}
-use Rattle.cacache_table.specs.declared.command.Command.TheVariants as commands
-use Rattle.cacache_table.specs.declared.reply.Reply.TheVariants as replies
+use Rattle.cacache_calls.specs.{declared.{command.Put.{Put}, reply.Reply.{Reply}, carried.Commit.{Commit}}, Inserting.{insertion, deletion}, StepPaths.{content_path, bucket_path}, State.{Insertion}, Storing.{insertion_of, put_commit}}
+use Rattle.cacache_calls.specs.declared.command.Command.TheVariants as commands
+use Rattle.cacache_calls.specs.declared.reply.Reply.TheVariants as replies
 use Rattle.cacache_value.specs.{Kinds.{is_path_of}, Value.{Blob, InFile, Value, value_of_tree}, Acts.{PutBytes, change, list_of}}
 use Rattle.cacache_history.specs.{Setup.{Setup, call_site, home}, Commits.{Deed, does, finds, deeds, PutsContent, IsAdded, IsNotOk, InsertionAdds, AddsAfter, CommitsAs, IsCase}}
 use Rattle.cacache_history.proofs.{Contents.Digests.{digest_hash}, Histories.ShownTurns.{bucket_below, content_below}}

@@ -5,10 +5,10 @@ use Rattle.cacache_core.proofs.{Meeting.{own_is_met}, Printed.{printed}}
 use Rattle.cacache_store.specs.declared.store.log.LogItem.{LogItem}
 use Rattle.cacache_disk.specs.{Tree.{Tree}, memory.Replay.{tree_of}}
 use Rattle.cacache_entry.specs.{FittingEntries.{IsEntry}, Latest.{found_of, answer_read, answer_of}}
-use Rattle.cacache_table.specs.declared.command.Command.TheVariants as commands
-use Rattle.cacache_table.specs.{declared.reply.Reply.{Reply}, Inserting.{refused_cause}, Promises.{Stores}, Storing.{insertion_of, put_commit}}
-use Rattle.cacache_table.proofs.{Promises.{calls_answer}, IntegrityUtf8.{integrity_utf8}}
-use Rattle.cacache_table.specs.declared.reply.Reply.TheVariants as replies
+use Rattle.cacache_calls.specs.declared.command.Command.TheVariants as commands
+use Rattle.cacache_calls.specs.{declared.reply.Reply.{Reply}, Inserting.{refused_cause}, Promises.{Stores}, Storing.{insertion_of, put_commit}}
+use Rattle.cacache_calls.proofs.{Promises.{calls_answer}, IntegrityUtf8.{integrity_utf8}}
+use Rattle.cacache_calls.specs.declared.reply.Reply.TheVariants as replies
 use Rattle.cacache_value.specs.Value.{value_of_tree}
 use Rattle.cacache_history.{specs.{Setup.{call_site}, ShownTurns.{blob_at}}, proofs.Contents.Digests.{own_integrity}}
 use Rattle.cacache_laws.specs.{Sequence.{tree_on}, ReadAnswers.{entries_on}, Stored.{HasStored}, Caches.{HasKey, plain_put, setup_at, WritesKey, WritesLast}}

@@ -4,9 +4,9 @@ use Rattle.cacache_core.specs.declared.{errors.{Error.{Error, TheVariants.{Entry
 use Rattle.cacache_store.specs.{declared.store.log.LogItem.{LogItem}, Plain.{PlainStep, PlainAnswer}}
 use Rattle.cacache_store.specs.declared.store.answer.Answer.TheVariants as answers
 use Rattle.cacache_disk.specs.{declared.luck.Luck.TheVariants.{Plain}, Tree.{Tree}, Apply.{apply}, memory.Replay.{tree_of}}
-use Rattle.cacache_table.specs.{declared.{command.Command.{Command}, reply.Reply.{Reply}}, Answers.{there_in}, Causes.{Faults, Faulted}, Replies.{there_reply}, Runs.{Moves, plain_reply}}
-use Rattle.cacache_table.specs.declared.command.Command.TheVariants as commands
-use Rattle.cacache_table.specs.declared.reply.Reply.TheVariants as replies
+use Rattle.cacache_calls.specs.{declared.{command.Command.{Command}, reply.Reply.{Reply}}, Answers.{there_in}, Causes.{Faults, Faulted}, Replies.{there_reply}, Runs.{Moves, plain_reply}}
+use Rattle.cacache_calls.specs.declared.command.Command.TheVariants as commands
+use Rattle.cacache_calls.specs.declared.reply.Reply.TheVariants as replies
 use Rattle.cacache_value.specs.{Shows.{blob_there}, Value.{Blob, InFile}}
 use Rattle.cacache_history.specs.{History.{Turn, turn_of}, ShownTurns.{unless_failed, there_read}, TurnReplies.{AsksHeld, ReadsValue}}
 use Rattle.cacache_laws.specs.{Sequence.{turns_on}, Caches.{HasContent, lies_under, setup_at, SaysThere, AsksWhetherHeld}, Looks.{SaysAbsent, AsksAbsent}}

@@ -3,8 +3,8 @@ use Rattle.std.proofs.Common.{◌≡◌, ◌⊎◌, inl, inr, ℕ, List, [], ◌
 use Rattle.cacache_core.specs.declared.{integrity.digest.Hash.{Hash}, errors.Error.TheVariants.{OutOfMemory}}
 use Rattle.cacache_store.specs.declared.store.log.LogItem.{LogItem}
 use Rattle.cacache_disk.specs.{declared.luck.Luck.TheVariants.{Plain}, memory.Replay.{tree_of}}
-use Rattle.cacache_table.specs.{declared.{command.Command.{Command}, reply.Reply.{Reply}}, Runs.{Moves, plain_reply}, Verifying.{CountsAs}}
-use Rattle.cacache_table.specs.declared.reply.Reply.TheVariants as replies
+use Rattle.cacache_calls.specs.{declared.{command.Command.{Command}, reply.Reply.{Reply}}, Runs.{Moves, plain_reply}, Verifying.{CountsAs}}
+use Rattle.cacache_calls.specs.declared.reply.Reply.TheVariants as replies
 use Rattle.cacache_value.specs.Shows.{blob_bytes}
 use Rattle.cacache_history.specs.{History.{Turn, turn_of}, ShownTurns.{content_at}, TurnReplies.{VerifiesHeld, ReadsValue}}
 use Rattle.cacache_laws.specs.{Sequence.{turns_on}, Caches.{HasContent, setup_at}, ExportEffects.{copy_of, CopiesCount}}

@@ -5,7 +5,7 @@ use Rattle.cacache_store.specs.declared.store.step.Step.TheVariants as steps
 use Rattle.cacache_store.specs.declared.store.answer.Answer.TheVariants as answers
 use Rattle.cacache_store.specs.Plain.{PlainStep, PlainAnswer}
 use Rattle.cacache_disk.specs.{declared.luck.Luck.TheVariants.{Plain}, Tree.{Tree}, Apply.{apply}}
-use Rattle.cacache_table.specs.{StepPaths.{content_path}, Runs.{Moves}}
+use Rattle.cacache_calls.specs.{StepPaths.{content_path}, Runs.{Moves}}
 use Rattle.cacache_value.specs.{Value.{Value, wide_value, value_of_tree}, Acts.{Act, Nothing, PutBytes, PutLink, AddEntries, Drop, MakeFolders, DropFolder, act_of, change}, Placed.{Placed}, Traces.{IsTrace}}
 use Rattle.cacache_value.proofs.Traces.{steps_act, steps_keep_placed}
 use Rattle.cacache_history.specs.{Setup.{Setup, home}, History.{turn_of}, Commits.{Deed, finds, deeds_of_act, finds_in, deeds}, Values.{IsThere}}

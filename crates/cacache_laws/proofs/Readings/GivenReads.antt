@@ -5,9 +5,9 @@ use Rattle.cacache_core.proofs.Meeting.{meets_finds}
 use Rattle.cacache_store.specs.declared.store.log.LogItem.{LogItem}
 use Rattle.cacache_disk.specs.memory.Replay.{tree_of}
 use Rattle.cacache_entry.specs.Latest.{Found}
-use Rattle.cacache_table.specs.{declared.{command.Command.{Command}, reply.Reply.{Reply}}, Causes.{own_of}, Replies.{content_reply}, Runs.{plain_reply}}
-use Rattle.cacache_table.specs.declared.command.Command.TheVariants as commands
-use Rattle.cacache_table.specs.declared.reply.Reply.TheVariants as replies
+use Rattle.cacache_calls.specs.{declared.{command.Command.{Command}, reply.Reply.{Reply}}, Causes.{own_of}, Replies.{content_reply}, Runs.{plain_reply}}
+use Rattle.cacache_calls.specs.declared.command.Command.TheVariants as commands
+use Rattle.cacache_calls.specs.declared.reply.Reply.TheVariants as replies
 use Rattle.cacache_history.specs.ShownTurns.{as_refusal}
 use Rattle.cacache_laws.specs.{Caches.{IsExcused, setup_at}, Keeping.{found_under}, Looks.{bytes_under, GivesHeld, ContentReadsGive, GivesOfKey, KeyReadsGive}, ReadAnswers.{UnlessFailed, read_on, get_on}}
 use Rattle.cacache_laws.proofs.Readings.{Known.{Known, known, excuse}, ReadsKeep.{answered}}

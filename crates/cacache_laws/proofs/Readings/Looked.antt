@@ -3,9 +3,9 @@ use Rattle.std.proofs.Common.{◌≡◌, ℕ, List, Option, None, Some, refl, ap
 use Rattle.cacache_core.specs.declared.{errors.Error.{Error, TheVariants.{EntryNotFound, SizeMismatch, IoError, SerdeError, IntegrityError, OutOfMemory}}, integrity.digest.Hash.{Hash}}
 use Rattle.cacache_store.specs.declared.store.log.LogItem.{LogItem}
 use Rattle.cacache_entry.specs.Latest.{Found}
-use Rattle.cacache_table.specs.declared.command.Command.TheVariants as commands
-use Rattle.cacache_table.specs.{declared.reply.Reply.{Reply}, Runs.{plain_reply}}
-use Rattle.cacache_table.specs.declared.reply.Reply.TheVariants as replies
+use Rattle.cacache_calls.specs.declared.command.Command.TheVariants as commands
+use Rattle.cacache_calls.specs.{declared.reply.Reply.{Reply}, Runs.{plain_reply}}
+use Rattle.cacache_calls.specs.declared.reply.Reply.TheVariants as replies
 use Rattle.cacache_value.specs.Acts.{list_of}
 use Rattle.cacache_laws.specs.{ReadAnswers.{UnlessFailed}, CallErrors.{FailsOnly}, Caches.{HasKey, GivesEntry, FindsKey}, Keeping.{found_under}, Looks.{SameStaysKnown, GivesFound, FindsFound}}
 use Rattle.cacache_laws.proofs.{Readings.{Known.{Known, known, excuse}, Looks.{looks_keep}, ReadsKeep.{key_stays, answered}}, Putting.KeptKeys.{stays_known}}

@@ -4,8 +4,8 @@ use Rattle.cacache_core.specs.PathNames.{home_of}
 use Rattle.cacache_store.specs.{declared.store.log.LogItem.TheVariants.{Made}, Plain.{PlainStep}}
 use Rattle.cacache_store.specs.declared.store.step.Step.TheVariants as steps
 use Rattle.cacache_disk.specs.{declared.luck.Luck.TheVariants.{Plain}, Tree.{Tree, bare}, Apply.{apply}, memory.Replay.{replay, tree_of}}
-use Rattle.cacache_table.specs.{declared.reply.Reply.{Reply}, Runs.{Moves, Runs}, State.{State, Site}, Table.{after}, Licence.{May, allows, looking_on, AllMay}}
-use Rattle.cacache_table.proofs.Within.{calls_keep_to}
+use Rattle.cacache_calls.specs.{declared.reply.Reply.{Reply}, Runs.{Moves, Runs}, State.{State, Site}, Table.{after}, Licence.{May, allows, looking_on, AllMay}}
+use Rattle.cacache_calls.proofs.Within.{calls_keep_to}
 use Rattle.cacache_value.specs.Value.{value_of_tree}
 use Rattle.cacache_history.{specs.{Setup.{Setup, home}, Turns.{EachTurn}}, proofs.Histories.Holding.{TurnsHold}}
 use Rattle.cacache_laws.specs.{Sequence.{tree_on, turns_on, AreAnswered, IsSound}, Looks.{LooksKeep, LooksLeave}}

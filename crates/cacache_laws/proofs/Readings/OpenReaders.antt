@@ -7,12 +7,12 @@ use Rattle.cacache_store.specs.{declared.store.{log.LogItem.{LogItem, TheVariant
 use Rattle.cacache_store.specs.declared.store.step.Step.TheVariants as steps
 use Rattle.cacache_disk.specs.{declared.luck.Luck.TheVariants.{Plain}, Tree.{Tree, bare}, Apply.{apply, opened}, memory.Replay.{after, IsReplayable, tree_of, IsLog}}
 use Rattle.cacache_entry.specs.Latest.{Found, latest}
-use Rattle.cacache_table.specs.declared.command.Command.TheVariants as commands
-use Rattle.cacache_table.specs.{declared.{reply.Reply.{Reply}, carried.Lookup.{Lookup}}, Answers.{bytes_in}, Looking.{found_in, found_for, no_bucket, after_bucket}, StepPaths.{bucket_path, content_path}, Runs.{Moves, Runs, Gains, plain_reply, without_message}, State.{State, looking, over}, SingleSteps.{FailsAt}}
-use Rattle.cacache_table.proofs.Branches.{go_on_leads}
-use Rattle.cacache_table.specs.declared.reply.Reply.TheVariants as replies
-use Rattle.cacache_table.specs.declared.carried.Aim.TheVariants as aims
-use Rattle.cacache_table.specs.Table as table
+use Rattle.cacache_calls.specs.declared.command.Command.TheVariants as commands
+use Rattle.cacache_calls.specs.{declared.{reply.Reply.{Reply}, carried.Lookup.{Lookup}}, Answers.{bytes_in}, Looking.{found_in, found_for, no_bucket, after_bucket}, StepPaths.{bucket_path, content_path}, Runs.{Moves, Runs, Gains, plain_reply, without_message}, State.{State, looking, over}, SingleSteps.{FailsAt}}
+use Rattle.cacache_calls.proofs.Branches.{go_on_leads}
+use Rattle.cacache_calls.specs.declared.reply.Reply.TheVariants as replies
+use Rattle.cacache_calls.specs.declared.carried.Aim.TheVariants as aims
+use Rattle.cacache_calls.specs.Table as table
 use Rattle.cacache_value.{specs.{Shows.{blob_bytes, ShowsContent}, Value.{value_of_tree}}, proofs.Shows.{trees_show}}
 use Rattle.cacache_history.proofs.Histories.ShownTurns.{content_below}
 use Rattle.cacache_laws.specs.{Sequence.{tree_on, IsSound}, ReadAnswers.{entries_on, UnlessFailed}, CallErrors.{FailsOnly}, Caches.{IsCache, HasContent, HasKey, LacksKey, Grows, IsExcused, Called, setup_at}, OpenWriters.{LeavesKnownCache}, OpenReaders.{OpensContent, LookupRan, OpensWhatWasFound, OpensByKey, GivesFile, ReadersOpen, GivesNone, ReadersOpenKey}}

@@ -8,10 +8,10 @@ use Rattle.cacache_store.specs.declared.store.answer.Answer.TheVariants as answe
 use Rattle.cacache_store.specs.Plain.{PlainStep, PlainAnswer}
 use Rattle.cacache_disk.specs.{declared.luck.Luck.TheVariants.{Plain}, Tree.{Tree}, Apply.{apply}}
 use Rattle.cacache_entry.specs.Latest.{Found, latest}
-use Rattle.cacache_table.specs.{declared.{answers.Refusal.{Refusal}, command.Command.{Command}, reply.Reply.{Reply}}, StepPaths.{bucket_path, content_path}, Replies.{find_reply, content_reply, refusal_reply, lookup}, Runs.{Moves, plain_reply}}
-use Rattle.cacache_table.specs.declared.answers.Refusal.TheVariants as refusals
-use Rattle.cacache_table.specs.declared.command.Command.TheVariants as commands
-use Rattle.cacache_table.specs.declared.reply.Reply.TheVariants as replies
+use Rattle.cacache_calls.specs.{declared.{answers.Refusal.{Refusal}, command.Command.{Command}, reply.Reply.{Reply}}, StepPaths.{bucket_path, content_path}, Replies.{find_reply, content_reply, refusal_reply, lookup}, Runs.{Moves, plain_reply}}
+use Rattle.cacache_calls.specs.declared.answers.Refusal.TheVariants as refusals
+use Rattle.cacache_calls.specs.declared.command.Command.TheVariants as commands
+use Rattle.cacache_calls.specs.declared.reply.Reply.TheVariants as replies
 use Rattle.cacache_value.specs.Shows.{blob_bytes}
 use Rattle.cacache_history.specs.{Setup.{Setup, home}, History.{Turn, turn_of}, ShownTurns.{shown_result, as_refusal, content_at, bucket_read, content_read}, TurnReplies.{FindsHeld, ReadsHeld, ReadsNext, GetsHeld, ReadsValue}}
 use Rattle.cacache_laws.specs.{Sequence.{turns_on, tree_on}, ReadAnswers.{entries_on, read_on, get_on, reply_on, UnlessFailed, RepliesFollow, ReadsKeep}}

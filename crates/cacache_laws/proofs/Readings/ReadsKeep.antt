@@ -6,9 +6,9 @@ use Rattle.cacache_core.proofs.Meeting.{meets_finds}
 use Rattle.cacache_store.specs.declared.store.log.LogItem.{LogItem}
 use Rattle.cacache_disk.specs.memory.Replay.{tree_of}
 use Rattle.cacache_entry.specs.Latest.{latest}
-use Rattle.cacache_table.specs.{declared.{command.Command.{Command}, reply.Reply.{Reply}}, Causes.{own_of}, Replies.{content_reply}, Runs.{plain_reply}}
-use Rattle.cacache_table.specs.declared.command.Command.TheVariants as commands
-use Rattle.cacache_table.specs.declared.reply.Reply.TheVariants as replies
+use Rattle.cacache_calls.specs.{declared.{command.Command.{Command}, reply.Reply.{Reply}}, Causes.{own_of}, Replies.{content_reply}, Runs.{plain_reply}}
+use Rattle.cacache_calls.specs.declared.command.Command.TheVariants as commands
+use Rattle.cacache_calls.specs.declared.reply.Reply.TheVariants as replies
 use Rattle.cacache_value.specs.{Acts.{list_of}, Shows.{blob_bytes}}
 use Rattle.cacache_history.specs.{Setup.{Setup, home}, ShownTurns.{blob_at, as_refusal}}
 use Rattle.cacache_laws.specs.{ReadAnswers.{entries_on, read_on, get_on, reply_on, UnlessFailed}, CallErrors.{FailsOnly}, Caches.{HasContent, HasKey, setup_at, GivesBytes, ReadsKey, ReadsContent, FindsNone, ReadsNone}, Looks.{HoldsSame}}

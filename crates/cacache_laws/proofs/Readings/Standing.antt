@@ -9,11 +9,11 @@ use Rattle.cacache_store.specs.{declared.store.log.LogItem.{LogItem, TheVariants
 use Rattle.cacache_store.specs.declared.store.step.Step.TheVariants as steps
 use Rattle.cacache_disk.specs.{declared.luck.Luck.TheVariants.{Plain}, Apply.{apply}, Rooted.{Rooted}, Tree.{Tree}, memory.Replay.{tree_of}}
 use Rattle.cacache_entry.specs.{Entry.{Entry}, Latest.{Found, latest}}
-use Rattle.cacache_table.specs.{declared.{answers.Refusal.{Refusal}, command.Command.{Command}, reply.Reply.{Reply}}, Answers.{bytes_in, refusal_in}, Causes.{HasCause, own_of}, Replies.{ReadsOn, bucket_shown, content_reply, find_reply, lookup, refusal_reply}, Runs.{Moves}, State.{Site}, StepPaths.{bucket_path, content_path}}
-use Rattle.cacache_table.proofs.{EarnedErrors.{io_errors_have_causes}, Replies.{finds_shown, gets_shown}}
-use Rattle.cacache_table.specs.declared.answers.Refusal.TheVariants as refusals
-use Rattle.cacache_table.specs.declared.command.Command.TheVariants as commands
-use Rattle.cacache_table.specs.declared.reply.Reply.TheVariants as replies
+use Rattle.cacache_calls.specs.{declared.{answers.Refusal.{Refusal}, command.Command.{Command}, reply.Reply.{Reply}}, Answers.{bytes_in, refusal_in}, Causes.{HasCause, own_of}, Replies.{ReadsOn, bucket_shown, content_reply, find_reply, lookup, refusal_reply}, Runs.{Moves}, State.{Site}, StepPaths.{bucket_path, content_path}}
+use Rattle.cacache_calls.proofs.{EarnedErrors.{io_errors_have_causes}, Replies.{finds_shown, gets_shown}}
+use Rattle.cacache_calls.specs.declared.answers.Refusal.TheVariants as refusals
+use Rattle.cacache_calls.specs.declared.command.Command.TheVariants as commands
+use Rattle.cacache_calls.specs.declared.reply.Reply.TheVariants as replies
 use Rattle.cacache_value.specs.{Acts.{list_of}, Placed.{Placed}, Shows.{ReadsShow, ShowsBucket, ShowsContent, blob_bytes}, Value.{Value, value_of_tree}}
 use Rattle.cacache_value.proofs.Shows.{trees_show}
 use Rattle.cacache_history.{specs.ShownTurns.{blob_at}, proofs.Histories.ShownTurns.{bucket_below, content_below}}

@@ -6,8 +6,8 @@ use Rattle.cacache_store.specs.declared.store.step.Step.TheVariants as steps
 use Rattle.cacache_store.specs.declared.store.answer.Answer.TheVariants as answers
 use Rattle.cacache_store.specs.{declared.store.answer.Name.{Name}, Plain.{PlainAnswer}}
 use Rattle.cacache_disk.specs.{declared.luck.Luck.TheVariants.{Plain}, Tree.{Tree}, Apply.{apply}}
-use Rattle.cacache_table.specs.{declared.{reply.Reply.{Reply, TheVariants.{Listed, Done, Refused}}, answers.Refusal.{Refusal}, visit.{Visit.{Visit, TheVariants.{Enter, ReadBucket, RemoveFile, RemoveFolder}}, Task.{Task, TheVariants.{Make, Stumble}}}}, Answers.{done_in, names_in}, Common.{fails, ends_with, go_on, refuse}, State.{State, walking, over, Walk}, Walking.{failed, give, miss, walk_on, tasks_of, leaving, too_many, entered}, Runs.{Moves, Runs}}
-use Rattle.cacache_table.specs.declared.answers.Refusal.TheVariants as refusals
+use Rattle.cacache_calls.specs.{declared.{reply.Reply.{Reply, TheVariants.{Listed, Done, Refused}}, answers.Refusal.{Refusal}, visit.{Visit.{Visit, TheVariants.{Enter, ReadBucket, RemoveFile, RemoveFolder}}, Task.{Task, TheVariants.{Make, Stumble}}}}, Answers.{done_in, names_in}, Common.{fails, ends_with, go_on, refuse}, State.{State, walking, over, Walk}, Walking.{failed, give, miss, walk_on, tasks_of, leaving, too_many, entered}, Runs.{Moves, Runs}}
+use Rattle.cacache_calls.specs.declared.answers.Refusal.TheVariants as refusals
 use Rattle.cacache_laws.specs.Sequence.{tree_on, AreAnswered}
 use Rattle.cacache_laws.proofs.{Removing.{Tasks.{Clears, ClearsAt, clears_more, names_clear, leaves_clear}, Cutting.{Shrinks, Gone, Removes, file_removed, folder_removed}}, Readings.ReadsStay.{listing_keeps}}
 

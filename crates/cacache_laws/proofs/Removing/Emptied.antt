@@ -10,7 +10,7 @@ use Rattle.cacache_store.specs.declared.store.answer.{Kind.{Kind}, Name.{Name}}
 use Rattle.cacache_store.specs.declared.store.answer.Kind.TheVariants as kinds
 use Rattle.cacache_disk.specs.{declared.{luck.Luck.TheVariants.{Plain}, node.Node.{Node, TheVariants.{Folder}}}, Rooted.{is_folder, StandsIn, Rooted}, Tree.{Tree, look, same_path, names_cmp, listing, child_of, is_child, kind_of}, LedTo.{folder}, Apply.{apply, unless}}
 use Rattle.cacache_disk.proofs.Maps.{same_path-true}
-use Rattle.cacache_table.specs.{declared.{reply.Reply.TheVariants.{Done}, visit.Visit.TheVariants.{Enter}}, State.{walking, Walk}, Walking.{task_for_name, tasks_of, leaving, most, walk}, Runs.{Moves, Runs}}
+use Rattle.cacache_calls.specs.{declared.{reply.Reply.TheVariants.{Done}, visit.Visit.TheVariants.{Enter}}, State.{walking, Walk}, Walking.{task_for_name, tasks_of, leaving, most, walk}, Runs.{Moves, Runs}}
 use Rattle.cacache_value.{specs.Value.{blob_in, bucket_in, folders_below, empty_value, value_of_tree}, proofs.PutValues.{same_value}}
 use Rattle.cacache_laws.specs.Sequence.{tree_on, AreAnswered}
 use Rattle.cacache_laws.proofs.{Removing.{Tasks.{clears_more, names_clear, leaves_clear}, Cutting.{Shrinks, Gone}, Clearing.{TaskGone, TasksGone, Ends, goes_on, tasks_front, entered_so, cleared}}, Readings.ReadsStay.{listing_keeps}, trees.{Children.{proper_child}, Covering.{home_named}}}

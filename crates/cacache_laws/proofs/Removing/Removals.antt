@@ -3,10 +3,10 @@ use Rattle.std.proofs.Common.{◌≡◌, ◌⊎◌, inl, inr, ℕ, List, [], Non
 use Rattle.cacache_core.specs.{declared.errors.Error.{Error, TheVariants.{EntryNotFound, SizeMismatch, IoError, SerdeError, IntegrityError, OutOfMemory}}, PathNames.{home_of}}
 use Rattle.cacache_store.specs.declared.store.log.LogItem.{LogItem}
 use Rattle.cacache_disk.specs.{Rooted.{Rooted}, memory.Replay.{tree_of}}
-use Rattle.cacache_table.specs.declared.command.Command.TheVariants as commands
-use Rattle.cacache_table.specs.{declared.{command.Delete.{Delete}, reply.Reply.{Reply}}, Causes.{HasCause, own_of, OfWalk, Faulted}, Inserting.{deletion, refused_cause}, Promises.{Only}, Runs.{plain_reply}}
-use Rattle.cacache_table.proofs.Promises.{calls_answer}
-use Rattle.cacache_table.specs.declared.reply.Reply.TheVariants as replies
+use Rattle.cacache_calls.specs.declared.command.Command.TheVariants as commands
+use Rattle.cacache_calls.specs.{declared.{command.Delete.{Delete}, reply.Reply.{Reply}}, Causes.{HasCause, own_of, OfWalk, Faulted}, Inserting.{deletion, refused_cause}, Promises.{Only}, Runs.{plain_reply}}
+use Rattle.cacache_calls.proofs.Promises.{calls_answer}
+use Rattle.cacache_calls.specs.declared.reply.Reply.TheVariants as replies
 use Rattle.cacache_value.specs.Value.{value_of_tree}
 use Rattle.cacache_history.specs.Setup.{call_site}
 use Rattle.cacache_laws.specs.{ReadAnswers.{entries_on}, Caches.{IsCache, setup_at, RemovesKey, RemovalsLast, Empties, ClearingsEmpty}}

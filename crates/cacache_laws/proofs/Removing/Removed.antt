@@ -9,9 +9,9 @@ use Rattle.cacache_store.specs.{declared.store.log.LogItem.{LogItem}, Plain.{Pla
 use Rattle.cacache_store.specs.declared.store.step.Step.TheVariants as steps
 use Rattle.cacache_disk.{specs.{declared.luck.Luck.TheVariants.{Plain}, Apply.{apply}, Tree.{Tree}, memory.Replay.{tree_of}}, proofs.Roots.{same_self}}
 use Rattle.cacache_entry.specs.{Entry.{Entry}, Latest.{latest}}
-use Rattle.cacache_table.specs.{declared.{command.Command.{Command}, reply.Reply.{Reply}}, Causes.{own_of}, Runs.{Moves, Runs}, State.{State, doing, over, remove}, StepPaths.{content_path}}
-use Rattle.cacache_table.specs.declared.command.Command.TheVariants as commands
-use Rattle.cacache_table.specs.declared.reply.Reply.TheVariants as replies
+use Rattle.cacache_calls.specs.{declared.{command.Command.{Command}, reply.Reply.{Reply}}, Causes.{own_of}, Runs.{Moves, Runs}, State.{State, doing, over, remove}, StepPaths.{content_path}}
+use Rattle.cacache_calls.specs.declared.command.Command.TheVariants as commands
+use Rattle.cacache_calls.specs.declared.reply.Reply.TheVariants as replies
 use Rattle.cacache_value.specs.{Acts.{Drop, act_at, act_if_done, act_of, list_of}, Kinds.{is_path_of}, Value.{Value, Blob, value_of_tree}}
 use Rattle.cacache_history.specs.Commits.{Deed, deeds, deeds_of_act, finds_in}
 use Rattle.cacache_history.proofs.{Contents.Righted.{one_address}, Histories.ShownTurns.{content_below}, Entries.Writes.{one_path}}

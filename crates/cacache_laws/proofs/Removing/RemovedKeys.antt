@@ -9,9 +9,9 @@ use Rattle.cacache_store.specs.{declared.store.log.LogItem.{LogItem}, Plain.{Pla
 use Rattle.cacache_store.specs.declared.store.step.Step.TheVariants as steps
 use Rattle.cacache_disk.specs.{declared.luck.Luck.TheVariants.{Plain}, Apply.{apply}, Tree.{Tree}, memory.Replay.{tree_of}}
 use Rattle.cacache_entry.specs.{Bucket.{entries_of}, Latest.{Found, latest}}
-use Rattle.cacache_table.specs.declared.command.Command.TheVariants as commands
-use Rattle.cacache_table.specs.{declared.reply.Reply.{Reply}, Looking.{found_in}, Removing.{remove_bucket, remove_found}, Replies.{bucket_shown}, Runs.{Moves, Runs}, State.{over}, StepPaths.{bucket_path, content_path}, Table.{opening}}
-use Rattle.cacache_table.specs.declared.reply.Reply.TheVariants as replies
+use Rattle.cacache_calls.specs.declared.command.Command.TheVariants as commands
+use Rattle.cacache_calls.specs.{declared.reply.Reply.{Reply}, Looking.{found_in}, Removing.{remove_bucket, remove_found}, Replies.{bucket_shown}, Runs.{Moves, Runs}, State.{over}, StepPaths.{bucket_path, content_path}, Table.{opening}}
+use Rattle.cacache_calls.specs.declared.reply.Reply.TheVariants as replies
 use Rattle.cacache_value.specs.{Acts.{act_of, list_of}, Value.{Value, value_of_tree}}
 use Rattle.cacache_history.specs.{Commits.{deeds, deeds_of_act, finds_in}, History.{turn_of}, Setup.{call_site}, ShownTurns.{bucket_read}}
 use Rattle.cacache_history.proofs.{Histories.{Holding.{TurnHolds}, ShownTurns.{bucket_at_turn, bucket_below, content_below}}, Entries.Spelled.{latest_has}}

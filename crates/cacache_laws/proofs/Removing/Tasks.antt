@@ -1,8 +1,8 @@
 -- The tasks of a clearing.
 use Rattle.std.proofs.Common.{ℕ, true, List, ◌++◌}
 use Rattle.cacache_store.specs.declared.store.answer.Name.{Name}
-use Rattle.cacache_table.specs.{declared.visit.{Visit.{Visit, TheVariants.{ReadBucket}}, Task.{Task}}, Walking.{EachVisit, tasks_of, leaving}}
-use Rattle.cacache_table.proofs.Visits.{each_append, each_name, each_leaving}
+use Rattle.cacache_calls.specs.{declared.visit.{Visit.{Visit, TheVariants.{ReadBucket}}, Task.{Task}}, Walking.{EachVisit, tasks_of, leaving}}
+use Rattle.cacache_calls.proofs.Visits.{each_append, each_name, each_leaving}
 
 -- what a clearing may visit: it reads no bucket
 abbrev pub ClearsAt : Visit → Type 0

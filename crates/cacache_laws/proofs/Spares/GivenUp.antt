@@ -6,8 +6,8 @@ use Rattle.cacache_store.specs.declared.store.answer.Answer.TheVariants as answe
 use Rattle.cacache_store.specs.{declared.store.log.LogItem.{LogItem}, Plain.{PlainAnswer}}
 use Rattle.cacache_store.specs.declared.store.step.Step.TheVariants as steps
 use Rattle.cacache_disk.{specs.{declared.luck.Luck.TheVariants.{Plain}, Tree.{Tree}, Apply.{apply}, memory.Replay.{tree_of}}, proofs.KeptFolders.{steps_keep_rooted}}
-use Rattle.cacache_table.specs.declared.command.Command.TheVariants as commands
-use Rattle.cacache_table.specs.{Runs.{Moves}, StepPaths.{temp_path}}
+use Rattle.cacache_calls.specs.declared.command.Command.TheVariants as commands
+use Rattle.cacache_calls.specs.{Runs.{Moves}, StepPaths.{temp_path}}
 use Rattle.cacache_value.specs.{Acts.{Act, Drop, act_at, act_if_done, list_of}, Kinds.{Content, Bucket, Temporary, IsFor, is_path_of, path_kind}, Placed.{Placed}, Value.{Value, value_of_tree}}
 use Rattle.cacache_value.proofs.{KindsApart.{unseen}, PathKinds.{paths_are_for}, Traces.{steps_keep_placed, traces_act}}
 use Rattle.cacache_history.{specs.Commits.{deeds, deeds_of_act}, proofs.{Entries.{Formed.{step_formed}, Keyed.{step_keyed}, Owned.{step_own}}, Contents.Righted.{stays_right}}}

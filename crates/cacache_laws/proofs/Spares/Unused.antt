@@ -4,9 +4,9 @@ use Rattle.cacache_core.specs.{declared.errors.Fault.{Fault}, PathNames.{Names, 
 use Rattle.cacache_store.specs.{declared.store.log.LogItem.{LogItem}, Plain.{PlainStep}}
 use Rattle.cacache_store.specs.declared.store.step.Step.TheVariants as steps
 use Rattle.cacache_disk.{specs.{Tree.{Tree, bare, same_path}, memory.Replay.{tree_of}}, proofs.{Maps.{same_path-true}, Roots.{bare_below, same_self}}}
-use Rattle.cacache_table.specs.{declared.{command.{Command.{Command}, Put.{Put}}, reply.Reply.{Reply}}, Licence.{May, allows, AllMay}, Runs.{Moves, Runs}, Sound.{MayBegin, Sound, Allowed}, State.{State, Site}, StepPaths.{temp_path}, Table.{opening, after}}
-use Rattle.cacache_table.proofs.{Sound.{begins_sound, steps_allowed, stays_sound}, Within.{calls_keep_to}}
-use Rattle.cacache_table.specs.declared.command.Command.TheVariants as commands
+use Rattle.cacache_calls.specs.{declared.{command.{Command.{Command}, Put.{Put}}, reply.Reply.{Reply}}, Licence.{May, allows, AllMay}, Runs.{Moves, Runs}, Sound.{MayBegin, Sound, Allowed}, State.{State, Site}, StepPaths.{temp_path}, Table.{opening, after}}
+use Rattle.cacache_calls.proofs.{Sound.{begins_sound, steps_allowed, stays_sound}, Within.{calls_keep_to}}
+use Rattle.cacache_calls.specs.declared.command.Command.TheVariants as commands
 use Rattle.cacache_value.{specs.{Kinds.{node_below}, Placed.{Placed}, Traces.{IsTrace}}, proofs.KindsApart.{kind-below}}
 use Rattle.cacache_history.specs.{Setup.{call_site, may_export, is_outside}, History.{NamesIntegrity, new_call}}
 use Rattle.cacache_history.proofs.{Histories.Holding.{begins_hold}, durable.CallNumbers.{temps_named, same_number}}

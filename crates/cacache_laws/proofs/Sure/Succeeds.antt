@@ -5,9 +5,9 @@ use Rattle.cacache_core.specs.{declared.{errors.Error.TheVariants.{EntryNotFound
 use Rattle.cacache_store.specs.declared.store.log.LogItem.{LogItem}
 use Rattle.cacache_disk.specs.{Tree.{Tree}, memory.Replay.{tree_of}}
 use Rattle.cacache_entry.specs.Latest.{Found, latest}
-use Rattle.cacache_table.specs.declared.carried.Aim.TheVariants as aims
-use Rattle.cacache_table.specs.{declared.{carried.Lookup.{Lookup}, command.Command.{Command}, reply.Reply.{Reply, TheVariants.{LookedUp, Exists, Done, Refused}}}, Inserting.{insert, insertion, deletion}, Removing.{remove_content}, Looking.{found_for}, Replies.{OrMemory}, State.{Insertion, reading, asking, over}, Table.{opening}}
-use Rattle.cacache_table.specs.declared.command.Command.TheVariants as commands
+use Rattle.cacache_calls.specs.declared.carried.Aim.TheVariants as aims
+use Rattle.cacache_calls.specs.{declared.{carried.Lookup.{Lookup}, command.Command.{Command}, reply.Reply.{Reply, TheVariants.{LookedUp, Exists, Done, Refused}}}, Inserting.{insert, insertion, deletion}, Removing.{remove_content}, Looking.{found_for}, Replies.{OrMemory}, State.{Insertion, reading, asking, over}, Table.{opening}}
+use Rattle.cacache_calls.specs.declared.command.Command.TheVariants as commands
 use Rattle.cacache_value.specs.{Kinds.{node_below}, Placed.{Placed}, Shows.{blob_there}, Value.{Blob, value_of_tree}}
 use Rattle.cacache_history.{specs.ShownTurns.{blob_at}, proofs.Entries.Spelled.{HasIntegrity, latest_has}}
 use Rattle.cacache_laws.specs.{Caches.{Called, setup_at}, Keeping.{found_under}, ReadAnswers.{entries_on, get_on, read_on}, Standing.{IsStanding}, Succeeds.{NamesFolder, insertion_reply, put_reply, is_yes, removal_reply, PutsAnswer, InsertionsAnswer, DeletionsAnswer, LookupsAnswer, ContentReadsAnswer, KeyReadsAnswer, QuestionsAnswer, RemovalsAnswer}}

@@ -9,8 +9,8 @@ use Rattle.cacache_store.specs.declared.store.answer.Kind.TheVariants as kinds
 use Rattle.cacache_store.specs.declared.store.step.Step.TheVariants as steps
 use Rattle.cacache_disk.specs.{declared.{luck.Luck.TheVariants.{Plain}, node.Node.{Node, TheVariants.{Folder, File, Link}}}, Tree.{Tree, look, cut, listing, kind_of}, LedTo.{folder, removable}, Rooted.{Rooted}, Apply.{apply}, memory.Replay.{tree_of}}
 use Rattle.cacache_disk.proofs.{KeptFolders.{outcome_rooted}, Standing.{upper_folder}}
-use Rattle.cacache_table.specs.declared.command.Command.TheVariants as commands
-use Rattle.cacache_table.specs.{declared.{reply.Reply.{Reply, TheVariants.{Done, Refused}}, visit.{Task.{Task, TheVariants.{Make, Stumble}}, Visit.TheVariants.{Enter, RemoveFile, RemoveFolder}}}, Replies.{OrMemory}, State.{walking, over, Walk}, Table.{opening}, Walking.{most, task_for_name, tasks_of, too_many, walk, walk_on}}
+use Rattle.cacache_calls.specs.declared.command.Command.TheVariants as commands
+use Rattle.cacache_calls.specs.{declared.{reply.Reply.{Reply, TheVariants.{Done, Refused}}, visit.{Task.{Task, TheVariants.{Make, Stumble}}, Visit.TheVariants.{Enter, RemoveFile, RemoveFolder}}}, Replies.{OrMemory}, State.{walking, over, Walk}, Table.{opening}, Walking.{most, task_for_name, tasks_of, too_many, walk, walk_on}}
 use Rattle.cacache_value.{specs.{Kinds.{Way, Stray, kind_below, node_below, path_kind, is_used}, Placed.{MayStand}}, proofs.{FoundPaths.{suits}, KindsApart.{kind-below}}}
 use Rattle.cacache_history.proofs.Listings.ToldFolders.{AreDistinct, Each, Told, listing_distinct, listing_told}
 use Rattle.cacache_laws.specs.Succeeds.{Clears, ClearingsAnswer}

@@ -9,10 +9,10 @@ use Rattle.cacache_store.specs.declared.store.log.LogItem.{LogItem}
 use Rattle.cacache_store.specs.declared.store.step.Step.TheVariants as steps
 use Rattle.cacache_disk.specs.{declared.{luck.Luck.TheVariants.{Plain}, node.Node.{Node, TheVariants.{Folder, File, Link}}}, Tree.{Tree, look, put}, LedTo.{and_then, bytes_there, file_at, free, linked, writable}, Apply.{apply, opened, unless}, memory.Replay.{tree_of}}
 use Rattle.cacache_entry.specs.Latest.{Found, latest}
-use Rattle.cacache_table.specs.declared.carried.Aim.TheVariants as aims
-use Rattle.cacache_table.specs.{declared.{carried.{Content.{Content}, Lookup.{Lookup}}, command.{Export.{Export}, How.{How, TheVariants.{Copy, HardLink, Reflink}}}, reply.Reply.{Reply, TheVariants.{Copied, Done, Refused}}}, Common.{ends_with}, Exporting.{copied_count, export, export_content, export_from, verified}, Looking.{found_for}, Replies.{OrMemory}, State.{State, copying, doing, hard_link, opening_file, over, reflink, to_verify}, StepPaths.{content_path}, Table.{opening}}
-use Rattle.cacache_table.specs.declared.command.Command.TheVariants as commands
-use Rattle.cacache_table.specs.declared.command.Source.TheVariants as sources
+use Rattle.cacache_calls.specs.declared.carried.Aim.TheVariants as aims
+use Rattle.cacache_calls.specs.{declared.{carried.{Content.{Content}, Lookup.{Lookup}}, command.{Export.{Export}, How.{How, TheVariants.{Copy, HardLink, Reflink}}}, reply.Reply.{Reply, TheVariants.{Copied, Done, Refused}}}, Common.{ends_with}, Exporting.{copied_count, export, export_content, export_from, verified}, Looking.{found_for}, Replies.{OrMemory}, State.{State, copying, doing, hard_link, opening_file, over, reflink, to_verify}, StepPaths.{content_path}, Table.{opening}}
+use Rattle.cacache_calls.specs.declared.command.Command.TheVariants as commands
+use Rattle.cacache_calls.specs.declared.command.Source.TheVariants as sources
 use Rattle.cacache_value.specs.{Kinds.{Content as AtContent}, Placed.{MayStand}, Shows.{blob_bytes, link_end}, Value.{AtLink, Blob, InFile, blob_in, value_of_tree}}
 use Rattle.cacache_history.{specs.ShownTurns.{blob_at}, proofs.Entries.Spelled.{HasIntegrity, latest_has}}
 use Rattle.cacache_laws.specs.{Caches.{HasContent}, ExportAnswers.{ExportsAnswer, StaysIfRefused, blob_named, blob_read, exported_reply, led_reply, made_reply, or_told, verified_reply}, Exported.{export_by}, OpenSucceeds.{ExportsSucceed, MayTake, exported}, ReadAnswers.{entries_on}}

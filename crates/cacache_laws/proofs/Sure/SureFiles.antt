@@ -5,7 +5,7 @@ use Rattle.cacache_core.specs.declared.errors.Fault.TheVariants as faults
 use Rattle.cacache_store.specs.declared.store.answer.Answer.TheVariants as answers
 use Rattle.cacache_store.specs.declared.store.step.Step.TheVariants as steps
 use Rattle.cacache_disk.specs.{declared.luck.Luck.TheVariants.{Plain}, Tree.{Tree}, Apply.{apply, opened, rest_of, unless}, LedTo.{file_at}}
-use Rattle.cacache_table.specs.{declared.reply.Reply.{Reply}, Linking.{after_read, hashed}, State.{Hashing, hashing}, Table.{piece}}
+use Rattle.cacache_calls.specs.{declared.reply.Reply.{Reply}, Linking.{after_read, hashed}, State.{Hashing, hashing}, Table.{piece}}
 use Rattle.cacache_laws.proofs.{Sure.SureRuns.{EndsSo, goes}, Calls.Handed.{if_so, file_of}}
 
 -- ---- by its path

@@ -11,8 +11,8 @@ use Rattle.cacache_store.specs.declared.store.answer.Answer.TheVariants as answe
 use Rattle.cacache_store.specs.Plain.{PlainAnswer}
 use Rattle.cacache_disk.specs.{declared.{luck.Luck.TheVariants.{Plain}, node.Node.{Node, TheVariants.{File}}}, Tree.{Tree, look, put, bytes_of}, LedTo.{place}, Rooted.{Rooted}, Apply.{apply, make_some}}
 use Rattle.cacache_disk.proofs.KeptFolders.{outcome_rooted}
-use Rattle.cacache_table.specs.{declared.reply.Reply.{Reply, TheVariants.{Refused}}, Common.{fails, sync_up}, Inserting.{bucket_line, insert, recorded, refused_cause, unless_refused}, State.{doing, appending, over, Insertion, make_folder, sync_file}, StepPaths.{bucket_path, bucket_folder, bucket_folders}}
-use Rattle.cacache_table.proofs.Branches.{cond_leads}
+use Rattle.cacache_calls.specs.{declared.reply.Reply.{Reply, TheVariants.{Refused}}, Common.{fails, sync_up}, Inserting.{bucket_line, insert, recorded, refused_cause, unless_refused}, State.{doing, appending, over, Insertion, make_folder, sync_file}, StepPaths.{bucket_path, bucket_folder, bucket_folders}}
+use Rattle.cacache_calls.proofs.Branches.{cond_leads}
 use Rattle.cacache_value.{specs.Kinds.{Bucket, Temporary, Way, path_kind}, proofs.FoundPaths.{suits}}
 use Rattle.cacache_laws.specs.Succeeds.{insertion_reply, unless_unwritable}
 use Rattle.cacache_laws.proofs.{Sure.{SureRuns.{EndsSo, ends, goes, syncs}, SureSpares.{dirs_spare, put_other}, SureSteps.{Ground, Lies, SyncsAll, joined_lies, is_for, place_at, place_in, makes_dirs, dirs_ground, dirs_stand, syncs_folders, look_own, appends, syncs_file}}, trees.Covering.{home_named}}

@@ -7,8 +7,8 @@ use Rattle.cacache_store.specs.{declared.store.log.LogItem.{LogItem}, Plain.{Pla
 use Rattle.cacache_store.specs.declared.store.step.Step.TheVariants as steps
 use Rattle.cacache_disk.specs.{declared.{luck.Luck.TheVariants.{Plain}, node.Node.{Node, TheVariants.{Folder, File, Link}}}, Tree.{Tree, look, put}, LedTo.{file_at, free, place}, Apply.{apply, make_some, opened}, Rooted.{Rooted}, memory.Replay.{tree_of}}
 use Rattle.cacache_disk.proofs.{PlantedNodes.{deeper}, Standing.{upper_folder}}
-use Rattle.cacache_table.specs.{declared.{carried.Commit.{Commit}, reply.Reply.{Reply, TheVariants.{Refused}}, target.Target.{Target}}, Common.{fails}, Linking.{commit_for, link_target, with_size}, State.{confirming, hashing, linking, opening_file, sizing, to_link}, StepPaths.{content_path, content_folder}, Storing.{link, placed, secured_found}, Table.{opening}}
-use Rattle.cacache_table.specs.declared.command.Command.TheVariants as commands
+use Rattle.cacache_calls.specs.{declared.{carried.Commit.{Commit}, reply.Reply.{Reply, TheVariants.{Refused}}, target.Target.{Target}}, Common.{fails}, Linking.{commit_for, link_target, with_size}, State.{confirming, hashing, linking, opening_file, sizing, to_link}, StepPaths.{content_path, content_folder}, Storing.{link, placed, secured_found}, Table.{opening}}
+use Rattle.cacache_calls.specs.declared.command.Command.TheVariants as commands
 use Rattle.cacache_value.specs.{Kinds.{Content, Elsewhere, IsFor}, Placed.{MayStand, Proper}, Shows.{blob_there}, Value.{AtLink, Blob, InFile, blob_in, value_of_tree}}
 use Rattle.cacache_history.{specs.ShownTurns.{blob_at}, proofs.Contents.Digests.{digest_hash}}
 use Rattle.cacache_laws.specs.{LinkAnswers.{LinkersAnswer, LinksAnswer, link_reply, linked_reply, unless_dangling}, Succeeds.{compared_reply, is_yes}}

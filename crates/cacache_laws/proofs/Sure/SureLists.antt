@@ -12,8 +12,8 @@ use Rattle.cacache_store.specs.declared.store.answer.Kind.TheVariants as kinds
 use Rattle.cacache_store.specs.declared.store.step.Step.TheVariants as steps
 use Rattle.cacache_disk.specs.{declared.{luck.Luck.TheVariants.{Plain}, node.Node.{Node, TheVariants.{Folder, File, Link}}}, Tree.{Tree, look, listing, kind_of}, LedTo.{folder}, Rooted.{Rooted}, Apply.{apply}, memory.Replay.{tree_of}}
 use Rattle.cacache_entry.specs.{Bucket.{entries_of}, Entry.{Entry}, Latest.{Found, latest}}
-use Rattle.cacache_table.specs.declared.command.Command.TheVariants as commands
-use Rattle.cacache_table.specs.{declared.{reply.Reply.{Reply, TheVariants.{Listed}}, visit.{Task.{Task, TheVariants.{Make, Stumble}}, Visit.{Visit, TheVariants.{Enter, ReadBucket, RemoveFile, RemoveFolder}}}}, Replies.{OrMemory}, Runs.{Moves, Runs}, State.{State, walking, over, Item, Walk}, Table.{opening}, Walking.{after_visit, failed, items_in, listed, most, once, task_for_name, tasks_of, too_many, walk, walk_on}}
+use Rattle.cacache_calls.specs.declared.command.Command.TheVariants as commands
+use Rattle.cacache_calls.specs.{declared.{reply.Reply.{Reply, TheVariants.{Listed}}, visit.{Task.{Task, TheVariants.{Make, Stumble}}, Visit.{Visit, TheVariants.{Enter, ReadBucket, RemoveFile, RemoveFolder}}}}, Replies.{OrMemory}, Runs.{Moves, Runs}, State.{State, walking, over, Item, Walk}, Table.{opening}, Walking.{after_visit, failed, items_in, listed, most, once, task_for_name, tasks_of, too_many, walk, walk_on}}
 use Rattle.cacache_value.{specs.{Kinds.{Bucket, Way, kind_in_area, node_below, path_kind, is_used}, Placed.{MayStand}}, proofs.{FoundPaths.{suits}, KindsApart.{kind-below}}}
 use Rattle.cacache_history.proofs.Listings.ToldFolders.{Each, Told, listing_told}
 use Rattle.cacache_laws.specs.{Sequence.{AreAnswered}, Succeeds.{IsItemOrTooDeep, ListsAll, ListingsAnswer}}

@@ -7,9 +7,9 @@ use Rattle.cacache_store.specs.declared.store.step.Step.TheVariants as steps
 use Rattle.cacache_store.specs.declared.store.answer.Answer.TheVariants as answers
 use Rattle.cacache_disk.specs.{declared.{luck.Luck.TheVariants.{Plain}, node.Node.TheVariants.{File}}, Tree.{Tree, look, put, cut}, LedTo.{place}, Apply.{apply}}
 use Rattle.cacache_disk.proofs.{PutNodes.{look-cut}, Roots.{same_self}}
-use Rattle.cacache_table.specs.declared.command.Command.TheVariants as commands
-use Rattle.cacache_table.specs.{declared.{command.Put.{Put}, reply.Reply.{Reply}}, Common.{fails}, State.{doing, creating, writing, syncing, persisting, make_folder}, StepPaths.{temp_path, temp_folder, content_path, content_folder, content_folders}, Table.{opening}, Storing.{placed, secured, move_in, persist, write_rest, put_commit}}
-use Rattle.cacache_table.proofs.Branches.{cond_leads}
+use Rattle.cacache_calls.specs.declared.command.Command.TheVariants as commands
+use Rattle.cacache_calls.specs.{declared.{command.Put.{Put}, reply.Reply.{Reply}}, Common.{fails}, State.{doing, creating, writing, syncing, persisting, make_folder}, StepPaths.{temp_path, temp_folder, content_path, content_folder, content_folders}, Table.{opening}, Storing.{placed, secured, move_in, persist, write_rest, put_commit}}
+use Rattle.cacache_calls.proofs.Branches.{cond_leads}
 use Rattle.cacache_value.{specs.{Kinds.{Content, Temporary, Way, path_kind, IsFor}, Placed.{Proper}}, proofs.FoundPaths.{suits}}
 use Rattle.cacache_history.proofs.Contents.Digests.{digest_hash}
 use Rattle.cacache_laws.specs.Succeeds.{put_reply}

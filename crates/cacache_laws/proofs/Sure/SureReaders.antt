@@ -8,8 +8,8 @@ use Rattle.cacache_store.specs.{declared.store.{log.LogItem.{LogItem, TheVariant
 use Rattle.cacache_store.specs.declared.store.step.Step.TheVariants as steps
 use Rattle.cacache_disk.specs.{Tree.{Tree}, LedTo.{file_at}, Apply.{opened, unless}, memory.Replay.{tree_of, IsLog}}
 use Rattle.cacache_entry.specs.Latest.{Found}
-use Rattle.cacache_table.specs.declared.command.Command.TheVariants as commands
-use Rattle.cacache_table.specs.{declared.reply.Reply.{Reply, TheVariants.{LookedUp, Refused}}, Replies.{OrMemory}, Runs.{Moves, plain_reply, without_message}, SingleSteps.{Does, FailsAt}, StepPaths.{content_path}}
+use Rattle.cacache_calls.specs.declared.command.Command.TheVariants as commands
+use Rattle.cacache_calls.specs.{declared.reply.Reply.{Reply, TheVariants.{LookedUp, Refused}}, Replies.{OrMemory}, Runs.{Moves, plain_reply, without_message}, SingleSteps.{Does, FailsAt}, StepPaths.{content_path}}
 use Rattle.cacache_value.specs.{Shows.{blob_bytes}, Value.{value_of_tree}}
 use Rattle.cacache_history.{specs.ShownTurns.{blob_at}, proofs.Entries.Spelled.{HasIntegrity, latest_has}}
 use Rattle.cacache_laws.specs.{Caches.{Called, IsCache}, Keeping.{found_under}, LinkAnswers.{KeyReadersAnswer, LinkerOpeningsAnswer, OpensAs, OpensLed, ReadersAnswer, SizedOpeningsAnswer, target_bytes}, Looks.{bytes_under}, OpenLinkers.{OpensTarget, TellsSize}, OpenReaders.{LookupRan, OpensByKey, OpensContent, OpensWhatWasFound}, ReadAnswers.{entries_on}, Sequence.{IsSound}, Succeeds.{NamesFolder}}

@@ -8,9 +8,9 @@ use Rattle.cacache_store.specs.declared.store.answer.Answer.TheVariants as answe
 use Rattle.cacache_disk.specs.{declared.{luck.Luck.TheVariants.{Plain}, node.Node.{Node, TheVariants.{Folder, File, Link}}}, Tree.{Tree, look, cut, same_path}, LedTo.{removable}, Rooted.{Rooted}, Apply.{apply}, memory.Replay.{tree_of}}
 use Rattle.cacache_disk.proofs.{Maps.{same_path-true}, PutNodes.{look-cut}, Roots.{not_true}}
 use Rattle.cacache_entry.specs.Latest.{Found, latest}
-use Rattle.cacache_table.specs.declared.carried.Aim.TheVariants as aims
-use Rattle.cacache_table.specs.{declared.{carried.Lookup.{Lookup}, reply.Reply.{Reply, TheVariants.{Done, Refused}}}, Looking.{found_for}, Removing.{remove_bucket, remove_content}, Replies.{OrMemory}, State.{doing, over, remove}, StepPaths.{bucket_path}, Table.{opening}}
-use Rattle.cacache_table.specs.declared.command.Command.TheVariants as commands
+use Rattle.cacache_calls.specs.declared.carried.Aim.TheVariants as aims
+use Rattle.cacache_calls.specs.{declared.{carried.Lookup.{Lookup}, reply.Reply.{Reply, TheVariants.{Done, Refused}}}, Looking.{found_for}, Removing.{remove_bucket, remove_content}, Replies.{OrMemory}, State.{doing, over, remove}, StepPaths.{bucket_path}, Table.{opening}}
+use Rattle.cacache_calls.specs.declared.command.Command.TheVariants as commands
 use Rattle.cacache_value.{specs.{Acts.{list_of}, Kinds.{Bucket, Content, path_kind, is_used}, Placed.{MayStand}, Value.{bucket_in, value_of_tree}}, proofs.FoundPaths.{suits}}
 use Rattle.cacache_history.{specs.ShownTurns.{blob_at}, proofs.Entries.Spelled.{HasIntegrity, latest_has}}
 use Rattle.cacache_laws.specs.{ReadAnswers.{entries_on}, Succeeds.{removal_reply, fully_reply, FullRemovalsAnswer}}

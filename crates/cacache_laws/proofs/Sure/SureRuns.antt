@@ -4,7 +4,7 @@ use Rattle.cacache_store.specs.{declared.store.log.LogItem.{LogItem}, Plain.{Pla
 use Rattle.cacache_store.specs.declared.store.step.Step.TheVariants as steps
 use Rattle.cacache_store.specs.declared.store.answer.Answer.TheVariants as answers
 use Rattle.cacache_disk.specs.{declared.luck.Luck.TheVariants.{Plain}, Tree.{Tree}, Apply.{apply}, memory.Replay.{tree_of, IsLog}}
-use Rattle.cacache_table.specs.{declared.reply.Reply.{Reply}, Common.{sync_up}, Replies.{OrMemory}, Runs.{Moves, Runs, Ran}, State.{State, doing, over, sync_dir}, Table.{wants, after}}
+use Rattle.cacache_calls.specs.{declared.reply.Reply.{Reply}, Common.{sync_up}, Replies.{OrMemory}, Runs.{Moves, Runs, Ran}, State.{State, doing, over, sync_dir}, Table.{wants, after}}
 use Rattle.cacache_laws.{specs.Sequence.{tree_on, AreAnswered}, proofs.{Calls.InParts.{logs_lead}, Sure.SureSteps.{SyncsAll}}}
 
 -- from this state on this tree a call ends so, or memory is refused

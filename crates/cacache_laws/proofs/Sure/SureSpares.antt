@@ -8,7 +8,7 @@ use Rattle.cacache_disk.specs.{declared.{luck.Luck.TheVariants.{Plain}, node.Nod
 use Rattle.cacache_disk.proofs.{FoundNodes.{free_ok, replaceable_ok}, KeptFolders.{apply_tree, unless_tree}, Maps.{same_path-true}, PutNodes.{look-put, look-cut}, Roots.{not_true}}
 use Rattle.cacache_value.specs.{Kinds.{PathKind, Content, Bucket, Temporary, Way, Elsewhere, path_kind, IsFor}, Placed.{MayStand, Placed, Proper}, Traces.{IsTrace}}
 use Rattle.cacache_value.proofs.{FoundPaths.{of_names, writable_out, bucket_reached, unreachable, Reaches, found, missing}, Traces.{steps_keep_placed}}
-use Rattle.cacache_table.specs.Runs.{Moves}
+use Rattle.cacache_calls.specs.Runs.{Moves}
 use Rattle.cacache_laws.specs.Sequence.{tree_on, plain_moves}
 
 -- ---- nodes

@@ -6,9 +6,9 @@ use Rattle.cacache_store.specs.{declared.store.log.LogItem.{LogItem}, Plain.{Pla
 use Rattle.cacache_store.specs.declared.store.step.Step.TheVariants as steps
 use Rattle.cacache_disk.specs.{declared.{luck.Luck.TheVariants.{Plain}, node.Node.{Node, TheVariants.{File, Link}}}, Tree.{Tree, look, put, cut, same_path}, LedTo.{dirs, file_at, folder, free, kept, known, linked, place, replaceable, where_free, writable}, Apply.{apply, lengthened, making, taken}, memory.Replay.{tree_of}}
 use Rattle.cacache_disk.proofs.{FoundNodes.{and_then_ok, free_ok, kept_ok, replaceable_ok}, KeptFolders.{apply_tree, unless_tree}, Maps.{same_path-true}, PutNodes.{look-cut, look-put}, Roots.{not_true}}
-use Rattle.cacache_table.specs.{declared.{command.Command.{Command}, reply.Reply.{Reply}}, Licence.{AllMay, Licence, May, allows}, Runs.{Moves, Runs}, Sound.{Allowed, MayBegin, Sound}, State.{Site, State}, StepPaths.{temp_path}, Table.{after, opening}}
-use Rattle.cacache_table.proofs.{Sound.{begins_sound, stays_sound, steps_allowed}, Within.{calls_keep_to}}
-use Rattle.cacache_table.specs.declared.command.Command.TheVariants as commands
+use Rattle.cacache_calls.specs.{declared.{command.Command.{Command}, reply.Reply.{Reply}}, Licence.{AllMay, Licence, May, allows}, Runs.{Moves, Runs}, Sound.{Allowed, MayBegin, Sound}, State.{Site, State}, StepPaths.{temp_path}, Table.{after, opening}}
+use Rattle.cacache_calls.proofs.{Sound.{begins_sound, stays_sound, steps_allowed}, Within.{calls_keep_to}}
+use Rattle.cacache_calls.specs.declared.command.Command.TheVariants as commands
 use Rattle.cacache_value.specs.{Kinds.{Bucket, Content, Elsewhere, IsFor, PathKind, Temporary, path_kind}, Placed.{Placed, Proper}, Traces.{IsTrace}}
 use Rattle.cacache_value.proofs.{FoundPaths.{Reaches, bucket_reached, found, missing, of_names, unreachable, writable_out}, KindsApart.{kind-below}, Traces.{steps_keep_placed}}
 use Rattle.cacache_history.{specs.{History.{NamesIntegrity}, Setup.{call_site, is_outside, may_export}}, proofs.durable.CallNumbers.{temps_named, same_number}}

@@ -4,7 +4,7 @@ use Rattle.cacache_core.specs.{declared.errors.{Error.TheVariants.{IoError, OutO
 use Rattle.cacache_store.specs.declared.store.answer.Answer.TheVariants as answers
 use Rattle.cacache_store.specs.{declared.store.{log.LogItem.{LogItem}, plain.PlainTemp.{PlainTemp}}, Plain.{PlainAnswer}}
 use Rattle.cacache_disk.specs.{declared.luck.Luck.TheVariants.{Plain}, Tree.{Tree, look}, Apply.{apply, made_temp}, memory.Replay.{tree_of, IsLog}}
-use Rattle.cacache_table.specs.{Replies.{OrMemory}, Runs.{Gains, Moves}, StepPaths.{temp_folder, temp_path}, Storing.{persist, put_commit}}
+use Rattle.cacache_calls.specs.{Replies.{OrMemory}, Runs.{Gains, Moves}, StepPaths.{temp_folder, temp_path}, Storing.{persist, put_commit}}
 use Rattle.cacache_value.specs.Kinds.{node_below}
 use Rattle.cacache_laws.specs.{OpenSucceeds.{FileAt, OpeningsSucceed, CommitsAnswer}, OpenWriters.{make_file, make_folder}, Succeeds.{NamesFolder, IsUnused, put_reply}, Standing.{IsStanding}}
 use Rattle.cacache_laws.proofs.{Calls.InParts.{logs_lead}, Putting.{MadeNodes.{Stands, created_so}, OpenWriters.{gains_join}}, Sure.{Succeeds.{back, ground}, SurePuts.{PutSo, persist_ends}, SureTemps.{made_file, own_temporary_at, temp_folder_lies, with_folder}, SureRuns.{of_log}, SureSteps.{Ground, makes_dirs}}, trees.Covering.{home_named}}

@@ -3,7 +3,7 @@ use Rattle.std.{proofs.Common.{◌≡◌, ℕ, Bool, List, Some, Result, Ok, Err
 use Rattle.cacache_core.specs.declared.errors.Error.{Error}
 use Rattle.cacache_store.specs.declared.{env.Env.{Env}, store.log.LogItem.{LogItem}}
 use Rattle.cacache_disk.specs.memory.Replay.{IsLog, shown, tree_of}
-use Rattle.cacache_table.specs.{declared.{command.{How.{How, TheVariants.{Copy, Reflink, HardLink}}, Source.{Source}}, reply.Reply.{Reply, TheVariants.{Copied}}}, Replies.{done}, Runs.{reply_of}}
+use Rattle.cacache_calls.specs.{declared.{command.{How.{How, TheVariants.{Copy, Reflink, HardLink}}, Source.{Source}}, reply.Reply.{Reply, TheVariants.{Copied}}}, Replies.{done}, Runs.{reply_of}}
 use Rattle.cacache_sync.specs.Exports.{exporting}
 use Rattle.cacache_history.specs.History.{NamesSource}
 use Rattle.cacache_laws.specs.{Caches.{Called, IsCache, IsExcused}, Exported.{Arrives, export_by}, ExportEffects.{IsApart}, OpenWriters.{LeavesKnownCache}, OpenSucceeds.{MayTake, exported}, Succeeds.{NamesFolder}, results.Exports.{CopyMeans, SharingMeans}}

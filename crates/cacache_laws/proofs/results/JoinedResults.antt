@@ -1,7 +1,7 @@
 -- What calls left after one another.
 use Rattle.std.proofs.Common.{inl, inr, [], ◌∷◌, ◌++◌, ◌∙◌}
 use Rattle.cacache_core.specs.declared.errors.Fault.{Fault}
-use Rattle.cacache_table.specs.{Causes.{Faulted}, Runs.{Moves}}
+use Rattle.cacache_calls.specs.{Causes.{Faulted}, Runs.{Moves}}
 use Rattle.cacache_laws.{proofs.Calls.Logs.{growths_join, joined}, specs.results.Joins.{ExcusesStay, KnownStays, LeavingsJoin, UntouchedJoin}}
 
 pub leavings_join : LeavingsJoin

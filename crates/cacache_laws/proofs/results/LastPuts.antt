@@ -6,8 +6,8 @@ use Rattle.cacache_store.specs.{Plain.{PlainStep, PlainAnswer}, declared.store.p
 use Rattle.cacache_store.specs.declared.store.step.Step.TheVariants as steps
 use Rattle.cacache_disk.specs.declared.luck.Luck.TheVariants.{Plain}
 use Rattle.cacache_entry.specs.Entry.{Entry}
-use Rattle.cacache_table.specs.{Answers.{done_in, synced_in, taken_in, temp_in, there_in, written_in}, Common.{fails}, Inserting.{after_append, bucket_line, recorded}, Runs.{Moves}, State.{State, appending, confirming, creating, doing, over, persisting, syncing, writing, Errand, Insertion, hard_link, make_folder, reflink, remove, sync_dir, sync_file}, Storing.{after_confirm, after_write, secured, secured_found, write_rest}, Table.{after, wants}, declared.{carried.Commit.{Commit}, reply.Reply.{Reply}}}
-use Rattle.cacache_table.proofs.{Branches.{cond_leads, go_on_leads}, Leading.{moves_on, places, records, secures, secures_found}}
+use Rattle.cacache_calls.specs.{Answers.{done_in, synced_in, taken_in, temp_in, there_in, written_in}, Common.{fails}, Inserting.{after_append, bucket_line, recorded}, Runs.{Moves}, State.{State, appending, confirming, creating, doing, over, persisting, syncing, writing, Errand, Insertion, hard_link, make_folder, reflink, remove, sync_dir, sync_file}, Storing.{after_confirm, after_write, secured, secured_found, write_rest}, Table.{after, wants}, declared.{carried.Commit.{Commit}, reply.Reply.{Reply}}}
+use Rattle.cacache_calls.proofs.{Branches.{cond_leads, go_on_leads}, Leading.{moves_on, places, records, secures, secures_found}}
 use Rattle.cacache_history.specs.{History.{Made}, Values.{steps_of}, declared.record.Record.{Record, TheVariants.{Began, Moved, Stopped}}, durable.{Behind.{NoneAppends, appends_at}, Outlasting.{IsAppendOf}}}
 use Rattle.cacache_laws.proofs.results.{PlainRuns.{Reaches}, PlainRecords.{records_of}}
 

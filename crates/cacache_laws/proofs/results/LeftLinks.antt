@@ -5,7 +5,7 @@ use Rattle.cacache_core.specs.{declared.integrity.digest.Hash.{Hash}, Digests.{d
 use Rattle.cacache_store.specs.declared.store.log.LogItem.{LogItem}
 use Rattle.cacache_disk.specs.{Tree.{Tree}, memory.Replay.{tree_of}}
 use Rattle.cacache_entry.{specs.{Entry.{Entry}, Latest.{Found, NoneAnswers, latest}}, proofs.Lookups.{last_answer_decides}}
-use Rattle.cacache_table.specs.declared.command.Put.{Put}
+use Rattle.cacache_calls.specs.declared.command.Put.{Put}
 use Rattle.cacache_value.specs.{Acts.{list_of}, Shows.{blob_bytes}, Value.{value_of_tree}}
 use Rattle.cacache_loss.specs.Loss.{Lost}
 use Rattle.cacache_history.specs.{AddedEntries.{address_of_put}, Lookups.{found_of_put}, durable.Outlasting.{EntryOutlasts, KeyOutlasts, moment_at}}

@@ -3,8 +3,8 @@ use Rattle.std.{proofs.Common.{◌≡◌, ◌<◌, ◌^◌, ℕ, List, Option, S
 use Rattle.cacache_core.specs.{declared.{errors.Error.{Error}, integrity.{algorithm.Algorithm.{Algorithm}, digest.Hash.{Hash}}}, Integrity.{integrity_under}, Texts.{integrity_text}}
 use Rattle.cacache_store.specs.declared.{env.Env.{Env}, store.log.LogItem.{LogItem}}
 use Rattle.cacache_disk.specs.memory.Replay.{IsLog}
-use Rattle.cacache_table.specs.declared.command.Command.TheVariants as commands
-use Rattle.cacache_table.{specs.{declared.reply.Reply.TheVariants.{Stored}, Inserting.{refused_cause}, Runs.{reply_of, without_message}}, proofs.IntegrityUtf8.{integrity_utf8}}
+use Rattle.cacache_calls.specs.declared.command.Command.TheVariants as commands
+use Rattle.cacache_calls.{specs.{declared.reply.Reply.TheVariants.{Stored}, Inserting.{refused_cause}, Runs.{reply_of, without_message}}, proofs.IntegrityUtf8.{integrity_utf8}}
 use Rattle.cacache_laws.specs.{CallErrors.{IsPlainPut}, Caches.{HasKey, IsExcused, plain_put}, Puts.{entry_of_put}, Standing.{PutStands}, results.Losses.{LeftWriteMeans}}
 use Rattle.cacache_laws.proofs.{Putting.{Beside.{plain_writes_fit}, Forms.{bare_written}, StandingPuts.{standing_writes}}, results.{Told.{called}, WriteResults.{keyed_succeeds, leads_so}}, Calls.Messages.{excused_error}}
 

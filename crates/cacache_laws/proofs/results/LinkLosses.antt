@@ -3,7 +3,7 @@ use Rattle.std.proofs.Common.{◌≡◌, ◌⊎◌, inl, inr, ℕ, List, [], ◌
 use Rattle.cacache_core.specs.{declared.errors.Fault.TheVariants.{IsADirectory}, PathNames.{Names}}
 use Rattle.cacache_disk.specs.{declared.node.Node.TheVariants.{File}, Apply.{apply}, LedTo.{file_at, followed, leads, place, standing}, Rooted.{Rooted}, Tree.{Tree, look}}
 use Rattle.cacache_disk.proofs.Standing.{way_clear}
-use Rattle.cacache_table.specs.declared.command.Put.{Put}
+use Rattle.cacache_calls.specs.declared.command.Put.{Put}
 use Rattle.cacache_value.specs.{Shows.{blob_bytes, link_end}, Traces.{IsTrace}, Value.{AtLink, value_of_tree}}
 use Rattle.cacache_history.specs.{declared.record.Record.{Record, TheVariants.{Began, Moved, Stopped}}, AddedEntries.{address_of_put}, History.{History, IsLegal, initial}, LinkedContents.{StaysHeld}, Setup.{home}, Values.{steps_of}, durable.{FewCalls.{FewCalls}, Outlasting.{AnsweredPut, FoundLink, moment_at}}}
 use Rattle.cacache_history.proofs.{Contents.{Digests.{digest_hash}, LinkedContents.{links_are_right}}, durable.{Outlasting.{entries_have_behind, puts_or_links_outlast}, Traces.{made_move, of_cache_at, trace_at, tree_at}}}

@@ -5,9 +5,9 @@ use Rattle.cacache_core.specs.{declared.{errors.Error.{Error, TheVariants.{IoErr
 use Rattle.cacache_store.specs.declared.{env.Env.{Env}, store.log.LogItem.{LogItem}}
 use Rattle.cacache_disk.specs.memory.Replay.{IsLog, tree_of}
 use Rattle.cacache_entry.specs.Latest.{Found}
-use Rattle.cacache_table.specs.{declared.{carried.Commit.{Commit}, reply.Reply.TheVariants.{Stored}}, Inserting.{refused_cause}, Linking.{based, commit_for, link_target, with_size}, Replies.{OrMemory}, Runs.{Ran, reply_of}, Table.{opening}}
-use Rattle.cacache_table.proofs.IntegrityUtf8.{integrity_utf8}
-use Rattle.cacache_table.specs.declared.command.Command.TheVariants as commands
+use Rattle.cacache_calls.specs.{declared.{carried.Commit.{Commit}, reply.Reply.TheVariants.{Stored}}, Inserting.{refused_cause}, Linking.{based, commit_for, link_target, with_size}, Replies.{OrMemory}, Runs.{Ran, reply_of}, Table.{opening}}
+use Rattle.cacache_calls.proofs.IntegrityUtf8.{integrity_utf8}
+use Rattle.cacache_calls.specs.declared.command.Command.TheVariants as commands
 use Rattle.cacache_value.specs.Value.{AtLink}
 use Rattle.cacache_history.specs.Values.{IsThere}
 use Rattle.cacache_jobs.specs.Sites.{site_of}

@@ -9,8 +9,8 @@ use Rattle.cacache_store.specs.{declared.{env.Env.{Env}, store.{log.LogItem.{Log
 use Rattle.cacache_store.specs.declared.store.answer.Answer.TheVariants as answers
 use Rattle.cacache_store.specs.declared.store.step.Step.TheVariants as steps
 use Rattle.cacache_disk.specs.{Apply.{opened}, memory.Replay.{IsLog, shown, tree_of}}
-use Rattle.cacache_table.specs.{declared.{command.Link.{Link}, reply.Reply.TheVariants.{Stored}}, Inserting.{entry_of, given_or, refused_cause}, Promises.{answered}, Linking.{based, commit_for, link_target, linked_to, target_at}, Runs.{Gains, Goes, Gone, Moves, Ran, reply_of, without_message}, State.{hashing, to_link}}
-use Rattle.cacache_table.proofs.IntegrityUtf8.{integrity_utf8}
+use Rattle.cacache_calls.specs.{declared.{command.Link.{Link}, reply.Reply.TheVariants.{Stored}}, Inserting.{entry_of, given_or, refused_cause}, Promises.{answered}, Linking.{based, commit_for, link_target, linked_to, target_at}, Runs.{Gains, Goes, Gone, Moves, Ran, reply_of, without_message}, State.{hashing, to_link}}
+use Rattle.cacache_calls.proofs.IntegrityUtf8.{integrity_utf8}
 use Rattle.cacache_sync.specs.{content.Passed.{passed}, put.{OpenLinkers.{HasHashed, LinkTarget, OpensLinker, OpensSized, OpensTarget, asks_file, asks_size, stands_at}, Options.{Said, options_of}}}
 use Rattle.cacache_laws.specs.{Caches.{Grows, IsCache, IsExcused}, ExportEffects.{IsApart}, LinkAnswers.{OpensAs, target_bytes}, Links.{FitsLink, HasLinked, LeavesLink, put_like}, OpenLinkers.{CanWrite, CommitsRest, SuitsSize, TargetOpened}, OpenWriters.{LeavesKnownCache}, Puts.{entry_of_put}, Succeeds.{NamesFolder}, results.{Handles.{IsText, LeadsToEntry, SaysFit, said_integrity}, Writes.{SaysPlain}, Linkers.{IsLinking, PlainSaysFit, LinkCommitsMean, LinkOpeningsMean, LinkedBytes, LinkersGoOn, MemLinker, OpenedLinker, SizedOpeningsMean}, Links.{LeadsOn}, Success.{FailsForMemory}}}
 use Rattle.cacache_laws.proofs.{Putting.{Forms.{bare_written}, OpenWriters.{gains_join}}, Calls.{Logs.{some_same}, Messages.{excused_error}}, Links.{OpenLinkers.{linkers_commit, linkers_fail}, TargetBytes.{linkers_open, linkers_open_sized}}, Readings.Standing.{caches_stand}, Sure.{SureLinks.{linkers_answer}, SureReaders.{linker_openings_answer, sized_openings_answer}}, results.{LinkResults.{lies_so}, SureLinkResults.{commit_succeeds, shown_read}, Told.{plain_result}, WriteResults.{early_of}, WriterResults.{fits}}}

@@ -4,9 +4,9 @@ use Rattle.std.specs.Prelude.{All}
 use Rattle.cacache_store.specs.declared.{env.Env.{Env}, store.log.LogItem.{LogItem}}
 use Rattle.cacache_disk.specs.memory.Replay.{IsLog}
 use Rattle.cacache_entry.specs.Latest.{Found}
-use Rattle.cacache_table.specs.declared.command.Command.TheVariants as commands
-use Rattle.cacache_table.specs.{declared.reply.Reply.{Reply}, ListReplies.{In}, Runs.{plain_item, plain_reply}, State.{Item}}
-use Rattle.cacache_table.specs.declared.reply.Reply.TheVariants as replies
+use Rattle.cacache_calls.specs.declared.command.Command.TheVariants as commands
+use Rattle.cacache_calls.specs.{declared.reply.Reply.{Reply}, ListReplies.{In}, Runs.{plain_item, plain_reply}, State.{Item}}
+use Rattle.cacache_calls.specs.declared.reply.Reply.TheVariants as replies
 use Rattle.cacache_laws.specs.{Caches.{Called}, Keeping.{found_under}, ListedKeys.{AreAllFound, GivesKeys, IsShown, ListsKeys}, results.Lists.{AreAllEntries, ListingMeans}}
 use Rattle.cacache_laws.proofs.{Readings.{Known.{caches_last}, Standing.{caches_stand}, Looks.{tree_stays}}, Listings.ListedKeys.{listings_give}, Sure.SureLists.{listings_answer}, results.Told.{looks_leave}, Calls.Messages.{plain_error}}
 

@@ -6,8 +6,8 @@ use Rattle.cacache_core.proofs.Printed.{printed}
 use Rattle.cacache_store.specs.declared.{env.Env.{Env}, store.log.LogItem.{LogItem}}
 use Rattle.cacache_disk.specs.{Rooted.{Rooted}, Tree.{Tree}, memory.Replay.{IsLog, tree_of}}
 use Rattle.cacache_entry.{specs.{Entry.{Entry}, Latest.{Found, NoneAnswers, answer_to, latest}}, proofs.Lookups.{last_answer_decides}}
-use Rattle.cacache_table.specs.declared.command.Command.TheVariants as commands
-use Rattle.cacache_table.specs.{declared.{command.Put.{Put}, reply.Reply.TheVariants.{Read}}, Inserting.{given_or}, Runs.{reply_of}}
+use Rattle.cacache_calls.specs.declared.command.Command.TheVariants as commands
+use Rattle.cacache_calls.specs.{declared.{command.Put.{Put}, reply.Reply.TheVariants.{Read}}, Inserting.{given_or}, Runs.{reply_of}}
 use Rattle.cacache_value.specs.{Acts.{list_of}, Placed.{Placed}, Value.{value_of_tree}}
 use Rattle.cacache_loss.specs.{Loss.{Lost}, LostValues.{HoldsContent}}
 use Rattle.cacache_history.specs.{AddedEntries.{address_of_put}, Lookups.{found_of_put}, Setup.{home}, durable.Outlasting.{EntryOutlasts, KeyOutlasts, moment_at}}

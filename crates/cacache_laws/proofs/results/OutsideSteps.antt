@@ -5,8 +5,8 @@ use Rattle.cacache_store.specs.declared.store.step.Step.TheVariants as steps
 use Rattle.cacache_store.specs.Plain.{PlainStep, PlainAnswer}
 use Rattle.cacache_disk.specs.{declared.{luck.Luck.{Luck}, node.Node.TheVariants.{Link}}, Tree.{Tree, look}, LedTo.{free}, Apply.{apply}}
 use Rattle.cacache_disk.proofs.{FoundNodes.{free_ok}, KeptFolders.{apply_tree, unless_tree}}
-use Rattle.cacache_table.specs.{declared.reply.Reply.{Reply}, Licence.{KeepsTo, May, allows}, Sound.{Allowed}, Table.{opening, wants}}
-use Rattle.cacache_table.proofs.{Within.{begins_within, goes_within, step_allowed}, Sound.{steps_allowed}}
+use Rattle.cacache_calls.specs.{declared.reply.Reply.{Reply}, Licence.{KeepsTo, May, allows}, Sound.{Allowed}, Table.{opening, wants}}
+use Rattle.cacache_calls.proofs.{Within.{begins_within, goes_within, step_allowed}, Sound.{steps_allowed}}
 use Rattle.cacache_value.specs.{Kinds.{Bucket, Content, Elsewhere, Temporary, IsFor, path_kind}, OpeningTrees.{LieApart}, Placed.{Placed, Proper}}
 use Rattle.cacache_history.specs.{declared.record.Record.{Record, TheVariants.{Began, Moved, Stopped}}, Setup.{Setup, call_site, home, is_outside, may_export}, History.{Call, History, IsLegal, Legal, Made, Now, call_after, initial, now_after, unless_over}, Turns.{made_in}, Values.{steps_of}, durable.Outlasting.{moment_at}}
 use Rattle.cacache_history.proofs.{Histories.Holding.{AllHold, CallHolds, first_holds, made_proper, next_holds, of_caller}, durable.{QuietSteps.{temp_for}, Traces.{made_move}}}

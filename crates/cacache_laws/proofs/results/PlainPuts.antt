@@ -7,7 +7,7 @@ use Rattle.cacache_store.specs.declared.store.plain.PlainTemp.{PlainTemp}
 use Rattle.cacache_store.specs.declared.store.step.Step.TheVariants as steps
 use Rattle.cacache_store.specs.declared.store.answer.Answer.TheVariants as answers
 use Rattle.cacache_disk.specs.{declared.{luck.Luck.TheVariants.{Plain}, node.Node.TheVariants.{File}}, Apply.{apply, make_some, made_temp}, LedTo.{place}, Tree.{Tree, cut, look, put}}
-use Rattle.cacache_table.specs.{Common.{fails, sync_up}, State.{State, creating, doing, persisting, syncing, writing, make_folder}, StepPaths.{content_folder, content_folders, content_path, temp_folder, temp_path}, Storing.{compared, indexed, insertion_of, move_in, persist, placed, put_commit, secured, sized, write_rest}, declared.{carried.Commit.{Commit}, command.Put.{Put}, reply.Reply.{Reply, TheVariants.{Stored}}}}
+use Rattle.cacache_calls.specs.{Common.{fails, sync_up}, State.{State, creating, doing, persisting, syncing, writing, make_folder}, StepPaths.{content_folder, content_folders, content_path, temp_folder, temp_path}, Storing.{compared, indexed, insertion_of, move_in, persist, placed, put_commit, secured, sized, write_rest}, declared.{carried.Commit.{Commit}, command.Put.{Put}, reply.Reply.{Reply, TheVariants.{Stored}}}}
 use Rattle.cacache_value.{specs.{Kinds.{Content, Temporary, Way, IsFor}, Placed.{Proper}}, proofs.FoundPaths.{suits}}
 use Rattle.cacache_history.proofs.Contents.Digests.{digest_hash}
 use Rattle.cacache_laws.proofs.{Putting.MadeNodes.{Stands}, Sure.{SureInserts.{one_behind}, SureSteps.{Ground, Lies, dirs_ground, dirs_keep, dirs_stand, goes_to, is_for, look_own, makes_dirs, persists, place_in}, SureTemps.{content_folder_lies, content_lies, content_synced, file_ground, made_file, stands, temp_folder_lies, temp_lies, with_file, with_folder}}, results.PlainRuns.{Plays, goes, inserts_play, syncs}, trees.Covering.{home_named}}

@@ -2,7 +2,7 @@
 use Rattle.std.proofs.Common.{◌≡◌, inl, List, [], ◌∷◌, ◌++◌, Some, None, option_map, refl, sym, ap, subst}
 use Rattle.cacache_core.specs.{PathNames.{Names}, declared.integrity.digest.Hash.{Hash}}
 use Rattle.cacache_disk.specs.declared.luck.Luck.TheVariants.{Plain}
-use Rattle.cacache_table.specs.{Runs.{Moves}, declared.{command.Command.{Command}, reply.Reply.{Reply, TheVariants.{Stored}}}}
+use Rattle.cacache_calls.specs.{Runs.{Moves}, declared.{command.Command.{Command}, reply.Reply.{Reply, TheVariants.{Stored}}}}
 use Rattle.cacache_history.specs.{declared.record.Record.{Record, TheVariants.{Moved}}, History.{Call, Legal, Made, Now, call_after, now_after, replayed}, Setup.{Setup}, durable.{Ending.{CallEndsWith}, QuietMoves.{AreQuiet, IsQuietMove}}}
 use Rattle.cacache_laws.{specs.Sequence.{AreAnswered}, proofs.results.PlainRuns.{Reaches}}
 

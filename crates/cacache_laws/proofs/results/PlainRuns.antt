@@ -10,7 +10,7 @@ use Rattle.cacache_store.specs.declared.store.answer.Answer.TheVariants as answe
 use Rattle.cacache_disk.specs.{declared.{luck.Luck.TheVariants.{Plain}, node.Node.TheVariants.{File}}, Apply.{apply, make_some}, LedTo.{place}, Rooted.{Rooted}, Tree.{Tree, bytes_of, look, put}}
 use Rattle.cacache_disk.proofs.KeptFolders.{outcome_rooted}
 use Rattle.cacache_entry.proofs.EntryCauses.{no_cause_is_fit}
-use Rattle.cacache_table.specs.{Common.{fails, sync_up}, Inserting.{bucket_line, insert, recorded, refused_cause, unless_refused}, Runs.{Moves}, State.{State, appending, doing, over, Insertion, make_folder, sync_dir, sync_file}, StepPaths.{bucket_folder, bucket_folders, bucket_path}, Table.{after, wants}, declared.reply.Reply.{Reply}}
+use Rattle.cacache_calls.specs.{Common.{fails, sync_up}, Inserting.{bucket_line, insert, recorded, refused_cause, unless_refused}, Runs.{Moves}, State.{State, appending, doing, over, Insertion, make_folder, sync_dir, sync_file}, StepPaths.{bucket_folder, bucket_folders, bucket_path}, Table.{after, wants}, declared.reply.Reply.{Reply}}
 use Rattle.cacache_value.{specs.Kinds.{Bucket, Way}, proofs.FoundPaths.{suits}}
 use Rattle.cacache_laws.specs.{Sequence.{AreAnswered}, results.DurableCases.{CanBeWritten}}
 use Rattle.cacache_laws.proofs.{Sure.{SureInserts.{bucket_folder_lies, bucket_lies, one_behind}, SureSteps.{Ground, Lies, SyncsAll, appends, dirs_ground, dirs_stand, look_own, makes_dirs, place_at, place_in, syncs_file, syncs_folders}}, trees.Covering.{home_named}}

@@ -4,8 +4,8 @@ use Rattle.cacache_core.specs.{declared.{errors.{Error.{Error, TheVariants.{IoEr
 use Rattle.cacache_disk.specs.{declared.node.Node.{Node}, memory.Replay.{IsLog, tree_of}}
 use Rattle.cacache_value.specs.{Kinds.{node_below}, Value.{Blob}}
 use Rattle.cacache_store.specs.declared.{env.Env.{Env}, store.log.LogItem.{LogItem}}
-use Rattle.cacache_table.specs.declared.command.Command.TheVariants as commands
-use Rattle.cacache_table.specs.{Inserting.{refused_cause}, Replies.{OrMemory, done}, Runs.{reply_of, without_message}, declared.reply.Reply.TheVariants.{Done, Refused}}
+use Rattle.cacache_calls.specs.declared.command.Command.TheVariants as commands
+use Rattle.cacache_calls.specs.{Inserting.{refused_cause}, Replies.{OrMemory, done}, Runs.{reply_of, without_message}, declared.reply.Reply.TheVariants.{Done, Refused}}
 use Rattle.cacache_sync.specs.Lookups.{delete_of}
 use Rattle.cacache_laws.specs.{Caches.{HasKey, IsEmptyCache, IsExcused, LacksKey, Empties, RemovesKey, lies_under}, Removed.{RemovesContent}, Keeping.{found_under}, Succeeds.{Clears, fully_reply, removal_reply, unless_unwritable}, results.Removals.{FailsClearing, ClearingMeans, ContentRemovalMeans, FullRemovalMeans, RemovalMeans}}
 use Rattle.cacache_laws.proofs.{Putting.{Beside.{removals_keep}, Forms.{bare_written}}, Calls.{Logs.{calls_grow}, Messages.{memory_error, excused_error}}, Readings.Standing.{caches_stand}, Sure.{Succeeds.{deletions_answer, removals_answer}, SureClears.{clearings_answer}, SureRemovals.{full_removals_answer}}, Spares.Unused.{others_leave_none, stays_ready}, Removing.{Removals.{clearings_empty, removals_last}, Removed.{contents_go}, RemovedKeys.{keys_go}}, results.{SureResults.{for_memory, or_as}, Told.{called}}}

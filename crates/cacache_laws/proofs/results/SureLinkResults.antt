@@ -5,7 +5,7 @@ use Rattle.cacache_core.specs.declared.errors.Fault.TheVariants as faults
 use Rattle.cacache_store.specs.declared.store.answer.Answer.TheVariants as answers
 use Rattle.cacache_store.specs.declared.store.log.LogItem.{LogItem}
 use Rattle.cacache_disk.specs.{Apply.{apply, unless}, LedTo.{file_at}, Tree.{Tree}, memory.Replay.{bytes_told, shown, tree_of}}
-use Rattle.cacache_table.specs.{declared.{carried.Commit.{Commit}, reply.Reply.{Reply, TheVariants.{Refused, Stored}}}, Inserting.{given_or, refused_cause}, Replies.{OrMemory}, Runs.{reply_of}, Storing.{insertion_of}}
+use Rattle.cacache_calls.specs.{declared.{carried.Commit.{Commit}, reply.Reply.{Reply, TheVariants.{Refused, Stored}}}, Inserting.{given_or, refused_cause}, Replies.{OrMemory}, Runs.{reply_of}, Storing.{insertion_of}}
 use Rattle.cacache_value.specs.{Shows.{blob_there}, Value.{Blob}}
 use Rattle.cacache_laws.specs.{Caches.{lies_under}, LinkAnswers.{linked_reply, unless_dangling}, Succeeds.{compared_reply, is_yes, keyed_reply, sized_reply, unless_unwritable}, results.{Links.{LeadsOn}, Success.{FailsForMemory}}}
 use Rattle.cacache_laws.proofs.results.SureResults.{for_memory, or_as}

@@ -2,8 +2,8 @@
 use Rattle.std.{proofs.Common.{◌≡◌, ◌⊎◌, inl, inr, ℕ, List, Result, Ok, Err, sym, subst, ◌∙◌}, specs.Prelude.{IfOk, IfErr}}
 use Rattle.cacache_core.specs.declared.errors.Error.{Error, TheVariants.{EntryNotFound, OutOfMemory}}
 use Rattle.cacache_store.specs.declared.store.log.LogItem.{LogItem}
-use Rattle.cacache_table.specs.{declared.reply.Reply.{Reply}, Replies.{OrMemory}, Runs.{reply_of, without_message}}
-use Rattle.cacache_table.specs.declared.reply.Reply.TheVariants as replies
+use Rattle.cacache_calls.specs.{declared.reply.Reply.{Reply}, Replies.{OrMemory}, Runs.{reply_of, without_message}}
+use Rattle.cacache_calls.specs.declared.reply.Reply.TheVariants as replies
 use Rattle.cacache_laws.{specs.{Succeeds.{IsReady, IsTidy}, results.Success.{FailsAs, FailsFor, FailsForMemory}}, proofs.Calls.Messages.{memory_error, missing_error}}
 
 -- a reply that refuses nothing

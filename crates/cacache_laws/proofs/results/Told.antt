@@ -3,7 +3,7 @@ use Rattle.std.proofs.Common.{◌≡◌, ℕ, List, Some, Result, Ok, Err, ap}
 use Rattle.cacache_core.specs.declared.errors.Error.{Error}
 use Rattle.cacache_store.specs.declared.store.log.LogItem.{LogItem}
 use Rattle.cacache_disk.specs.memory.Replay.{IsLog}
-use Rattle.cacache_table.specs.{declared.{command.Command.{Command}, reply.Reply.{Reply, TheVariants.{Refused}}}, Runs.{Ran, plain_reply, reply_of}, Table.{opening}}
+use Rattle.cacache_calls.specs.{declared.{command.Command.{Command}, reply.Reply.{Reply, TheVariants.{Refused}}}, Runs.{Ran, plain_reply, reply_of}, Table.{opening}}
 use Rattle.cacache_jobs.specs.Sites.{site_of}
 use Rattle.cacache_laws.specs.{Caches.{Called, IsCache}, Looks.{OnlyLooks}, OpenWriters.{LeavesKnownCache}}
 use Rattle.cacache_laws.proofs.{Calls.{Logs.{calls_grow}, Messages.{plain_error}}, Readings.{Looked.{same_stays_known}, Looks.{looks_keep}}}

@@ -6,9 +6,9 @@ use Rattle.cacache_core.specs.{declared.{errors.Error.{Error, TheVariants.{Entry
 use Rattle.cacache_store.specs.declared.{env.Env.{Env}, store.log.LogItem.{LogItem}}
 use Rattle.cacache_disk.specs.memory.Replay.{IsLog}
 use Rattle.cacache_entry.specs.{Entry.{Entry}, Latest.{Found}}
-use Rattle.cacache_table.specs.declared.command.Command.TheVariants as commands
-use Rattle.cacache_table.specs.{declared.{command.Insert.{Insert}, reply.Reply.TheVariants.{Refused, Stored}}, Inserting.{entry_of, given_size, given_text, insertion, refused_cause}, Runs.{reply_of, without_message}, Storing.{insertion_of, put_commit}}
-use Rattle.cacache_table.proofs.IntegrityUtf8.{integrity_utf8}
+use Rattle.cacache_calls.specs.declared.command.Command.TheVariants as commands
+use Rattle.cacache_calls.specs.{declared.{command.Insert.{Insert}, reply.Reply.TheVariants.{Refused, Stored}}, Inserting.{entry_of, given_size, given_text, insertion, refused_cause}, Runs.{reply_of, without_message}, Storing.{insertion_of, put_commit}}
+use Rattle.cacache_calls.proofs.IntegrityUtf8.{integrity_utf8}
 use Rattle.cacache_jobs.specs.{Environment.{HasMoment}, Sites.{site_of}}
 use Rattle.cacache_sync.specs.put.{Options.{Said, options_of}, Puts.{insert_of, unkeyed_put}}
 use Rattle.cacache_laws.specs.{Beside.{FitsEntry, KeepsBeside}, Caches.{Called, IsCache, HasContent, HasKey, IsExcused, WritesKey, plain_put}, Inserts.{InsertsKey, leads_to}, Keeping.{found_under}, Puts.{MayLeadToPut}, Standing.{IsStanding}, Succeeds.{NamesFolder, IsReady, put_reply, unless_unwritable}, results.{Success.{FailsForMemory}, Writes.{ContentWriteMeans, InsertionMeans, KeepsUntouched, SaysPlain, WriteMeans}}}

@@ -7,8 +7,8 @@ use Rattle.cacache_store.specs.{declared.{env.Env.{Env}, store.{log.LogItem.{Log
 use Rattle.cacache_store.specs.declared.store.answer.Answer.TheVariants as answers
 use Rattle.cacache_store.specs.declared.store.step.Step.TheVariants as steps
 use Rattle.cacache_disk.specs.memory.Replay.{IsLog}
-use Rattle.cacache_table.specs.{declared.{command.Put.{Put}, reply.Reply.{Reply, TheVariants.{Stored}}}, Inserting.{given_or, refused_cause}, Promises.{answered}, Runs.{reply_of}, SingleSteps.{Does}, StepPaths.{temp_path}}
-use Rattle.cacache_table.proofs.IntegrityUtf8.{integrity_utf8}
+use Rattle.cacache_calls.specs.{declared.{command.Put.{Put}, reply.Reply.{Reply, TheVariants.{Stored}}}, Inserting.{given_or, refused_cause}, Promises.{answered}, Runs.{reply_of}, SingleSteps.{Does}, StepPaths.{temp_path}}
+use Rattle.cacache_calls.proofs.IntegrityUtf8.{integrity_utf8}
 use Rattle.cacache_sync.specs.{content.OpenWrites.{RemovesTemp, TriesToRemove, counted_bytes}, put.{KeyedWriters.{CommitsWriter, OpensAt}, Options.{Said, options_of}}}
 use Rattle.cacache_jobs.specs.Environment.{MomentOf}
 use Rattle.cacache_laws.specs.{Beside.{FitsEntry}, Caches.{IsCache}, GivenUp.{GivesUpTemp}, OpenWriters.{CommitsBytes}, Puts.{HasCommitted, MayLeadToPut, entry_of_put}, OpenSucceeds.{FileAt}, Succeeds.{put_reply, unless_unwritable}, results.{Handles.{CommitsMean, CommitsSucceed, FailedWritesMean, GivingUpMeans, IsText, IsWriting, LeadsToEntry, MayLeadToEntry, MemWriter, OpenedWriter, OpeningsMean, SaysFit, WritersGoOn, said_integrity}, Writes.{SaysPlain}}}

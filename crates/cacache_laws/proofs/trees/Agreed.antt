@@ -2,8 +2,8 @@
 use Rattle.std.proofs.Common.{◌≡◌, ◌⊎◌, inl, inr, List, [], ◌∷◌, ap, ap₂, refl, sym, ◌∙◌}
 use Rattle.std.specs.{List.{AllByRecursion, Sorted.{IsStrictlySortedBy}}, declared.cmp.Ordering.{Ordering, TheVariants.{Less, Greater}}, Ordering.{ordering_reverse}, Cmp.{IsTotalOrder, nat_cmp_total, on_total, then_total, Lexicographic.{nat_list_cmp_total}}}
 use Rattle.cacache_core.specs.{declared.integrity.digest.Hash.{Hash}, Integrity.{rank}}
-use Rattle.cacache_table.specs.declared.command.Command.TheVariants as commands
-use Rattle.cacache_table.specs.{declared.reply.Reply.TheVariants.{Listed}, State.{Item}}
+use Rattle.cacache_calls.specs.declared.command.Command.TheVariants as commands
+use Rattle.cacache_calls.specs.{declared.reply.Reply.TheVariants.{Listed}, State.{Item}}
 use Rattle.cacache_walks.specs.Listing.{hash_cmp}
 use Rattle.cacache_laws.specs.trees.{Answers.{IsMemory}, Contents.{HoldingsAgree}, Index.{IndexesAgree, entries_in}}
 use Rattle.cacache_laws.proofs.trees.{Looks.{answers_agree}, Members.{Member, contains_member, member_contains}}

@@ -3,8 +3,8 @@ use Rattle.std.proofs.Common.{◌≡◌, ℕ, List, Some, true, false}
 use Rattle.cacache_core.specs.PathNames.{Names, home_of}
 use Rattle.cacache_store.specs.declared.store.log.LogItem.{LogItem}
 use Rattle.cacache_disk.specs.memory.Replay.{tree_of}
-use Rattle.cacache_table.specs.{declared.command.Command.{Command}, State.{Site}, StepPaths.{content_path}, Table.{opening}}
-use Rattle.cacache_table.specs.declared.command.Command.TheVariants as commands
+use Rattle.cacache_calls.specs.{declared.command.Command.{Command}, State.{Site}, StepPaths.{content_path}, Table.{opening}}
+use Rattle.cacache_calls.specs.declared.command.Command.TheVariants as commands
 use Rattle.cacache_laws.specs.{Sequence.{tree_on}, trees.Idle.{LacksIdle, Removed, StillLacksIdle}}
 use Rattle.cacache_laws.proofs.{Calls.InParts.{logs_lead}, trees.{Cleared.{both_cleared, cleared}, Fully.{Both, key_goes, lacks_at, last_removed}, Logged.{log_rooted}, Stepping.{MadeOn, Whole}}}
 

@@ -4,7 +4,7 @@ use Rattle.std.specs.Prelude.{All, Contains, not, ◌||◌}
 use Rattle.cacache_core.specs.{declared.integrity.digest.Hash.{Hash}, Integrity.{IsHash, IsIntegrity, address}, PathNames.{Names, home_of}, Same.{same_hash-Decides}, Paths.{content_names}}
 use Rattle.cacache_disk.specs.{Tree.{Tree, look}, Rooted.{Rooted}}
 use Rattle.cacache_entry.specs.Latest.{Found}
-use Rattle.cacache_table.specs.State.{Site, Item}
+use Rattle.cacache_calls.specs.State.{Site, Item}
 use Rattle.cacache_value.specs.Value.{Blob, value_of_tree}
 use Rattle.cacache_laws.specs.trees.{Contents.{HoldsJust}, Idle.{LacksIdle}, Index.{IndexLists, IndexesFind, entries_in}, Collecting.{LinksLeadOut, IsLive, Removes, IsCollected, is_address, is_live}}
 use Rattle.cacache_laws.proofs.trees.{Indexed.{lists_each_key}, Keeping.{lacks_idle, removals_leave, stays}, Members.{Member, contains_member, member_contains}}

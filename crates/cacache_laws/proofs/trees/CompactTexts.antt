@@ -2,7 +2,7 @@
 use Rattle.std.proofs.{Common.{◌≡◌, ℕ, suc, List, [], ◌∷◌, Bool, true, false, cond, not, ◌&&◌, ◌||◌, Option, Some, None, option_map, map, filter_map, length, refl, sym, ap, ◌∙◌, bytes_eq}, lemmas.Slice.Eq.{bytes_eq-Decides}}
 use Rattle.std.specs.{Prelude.{Ok, filter, is_some, option_and_then}, List.{cons_option, list_any}, Option.{option_flatten}}
 use Rattle.cacache_entry.specs.{Entry.{Entry}, Bucket.{without_cr, entry_of_piece, entries_of}, Latest.{Found, answer_of, latest}}
-use Rattle.cacache_table.specs.{State.{Item}, Walking.{once, items_of, items_in}}
+use Rattle.cacache_calls.specs.{State.{Item}, Walking.{once, items_of, items_in}}
 use Rattle.cacache_laws.specs.trees.Compacting.{CompactTextsAnswer, Decision, Line, compact_text, decided, decision, decision_of, found_at, found_by, is_odd, kept, lines_of, odd_lines}
 use Rattle.cacache_laws.proofs.trees.{CompactLines.{ArePieces, pieces_are, texts}, KeptLines.{kept_decided, kept_odd, kept_once}, CompactTwice.{compact_lines, kept_are}, CompactFound.{after, in_bytes, next}, CompactAnswers.{finds_same, found_as, found_in, hidden, keys, keys_of, latest_is, ours, own_key, same_items, undecided}}
 

@@ -5,7 +5,7 @@ use Rattle.cacache_core.{specs.{PathNames.{Names, names_of, home_of, names_below
 use Rattle.cacache_store.specs.{declared.store.{answer.{Kind.{Kind}, Name.{Name}}, step.Step.TheVariants.{ReadDir}}, Plain.{PlainStep, PlainAnswer}}
 use Rattle.cacache_store.specs.declared.store.answer.Kind.TheVariants as kinds
 use Rattle.cacache_disk.specs.{declared.{luck.Luck.{Luck}, node.Node.{Node, TheVariants.{Folder, File, Link}}}, Tree.{Tree, look, listing, kind_of}, Rooted.{Rooted}, Apply.{apply}}
-use Rattle.cacache_table.specs.Runs.{Moves}
+use Rattle.cacache_calls.specs.Runs.{Moves}
 use Rattle.cacache_walks.specs.Reading.{Folder as Spot, ReadsFolders, top_folder, folder_as, file_as, folders_in, file_paths, files_shown, names_shown, shown_by}
 use Rattle.cacache_laws.specs.trees.Walks.{ReadAt, is_leaf, WalksFind, WalksStayBelow}
 use Rattle.cacache_laws.proofs.trees.{Members.{Member, contains_member, member_contains, in_left, in_right, in_either, mapped, source}, Children.{child_listed, Stands, listed_child, none_below, proper_child, FolderShows, listed, missing, folder_shown}}

@@ -9,10 +9,10 @@ use Rattle.cacache_store.specs.{declared.store.{answer.{Kind.{Kind}, Name.{Name}
 use Rattle.cacache_store.specs.declared.store.answer.Kind.TheVariants as kinds
 use Rattle.cacache_disk.specs.{declared.luck.Luck.TheVariants.{Plain}, Tree.{Tree}, LedTo.{file_at}, Apply.{apply}}
 use Rattle.cacache_entry.specs.Latest.{Found}
-use Rattle.cacache_table.specs.{declared.{carried.{Aim.{Aim}, Lookup.{Lookup}}, reply.Reply.{Reply}, visit.{Task.{Task, TheVariants.{Make, Stumble}}, Visit.{Visit, TheVariants.{Enter, ReadBucket, RemoveFile, RemoveFolder}}}}, Looking.{found_in, found_for, found_content}, Runs.{Moves, Runs}, State.{Item, Site, State, Walk, looking, over, reading, walking}, StepPaths.{bucket_path, content_path}, Table.{after, opening, wants}, Walking.{EachVisit, after_visit, failed, give, items_in, most, task_for_name, tasks_of, too_many, visit_step, walk_on}}
-use Rattle.cacache_table.specs.declared.carried.Aim.TheVariants as aims
-use Rattle.cacache_table.specs.declared.carried.Content as carried
-use Rattle.cacache_table.specs.declared.command.Command.TheVariants as commands
+use Rattle.cacache_calls.specs.{declared.{carried.{Aim.{Aim}, Lookup.{Lookup}}, reply.Reply.{Reply}, visit.{Task.{Task, TheVariants.{Make, Stumble}}, Visit.{Visit, TheVariants.{Enter, ReadBucket, RemoveFile, RemoveFolder}}}}, Looking.{found_in, found_for, found_content}, Runs.{Moves, Runs}, State.{Item, Site, State, Walk, looking, over, reading, walking}, StepPaths.{bucket_path, content_path}, Table.{after, opening, wants}, Walking.{EachVisit, after_visit, failed, give, items_in, most, task_for_name, tasks_of, too_many, visit_step, walk_on}}
+use Rattle.cacache_calls.specs.declared.carried.Aim.TheVariants as aims
+use Rattle.cacache_calls.specs.declared.carried.Content as carried
+use Rattle.cacache_calls.specs.declared.command.Command.TheVariants as commands
 use Rattle.cacache_laws.specs.trees.{Answers.{AnsweredBy}, Collecting.{ReadsAsBefore}, Compacting.{compact_text}, Idle.{Finds}}
 use Rattle.cacache_laws.proofs.trees.{Agreeing.{said}, CompactTexts.{compact_texts_answer}, Covering.{named_on}, Within.{read_answer}, Listing.{lists}}
 

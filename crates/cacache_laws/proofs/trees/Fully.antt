@@ -5,8 +5,8 @@ use Rattle.cacache_store.specs.{declared.store.{step.Step.TheVariants.{ReadAll, 
 use Rattle.cacache_store.specs.declared.store.answer.Answer.TheVariants as answers
 use Rattle.cacache_disk.{specs.{declared.luck.Luck.TheVariants.{Plain}, Tree.{Tree}, Rooted.{Rooted}, Apply.{apply}}, proofs.KeptFolders.{steps_keep_rooted}}
 use Rattle.cacache_entry.specs.Latest.{Found}
-use Rattle.cacache_table.specs.{declared.{reply.Reply.{Reply, TheVariants.{Done}}, carried.Lookup.{Lookup}}, State.{State, doing, looking, over, remove}, StepPaths.{bucket_path, content_path}, Looking.{found_in}, Removing.{remove_bucket, remove_content, remove_found}, Table.{wants, after}}
-use Rattle.cacache_table.specs.declared.carried.Aim.TheVariants as aims
+use Rattle.cacache_calls.specs.{declared.{reply.Reply.{Reply, TheVariants.{Done}}, carried.Lookup.{Lookup}}, State.{State, doing, looking, over, remove}, StepPaths.{bucket_path, content_path}, Looking.{found_in}, Removing.{remove_bucket, remove_content, remove_found}, Table.{wants, after}}
+use Rattle.cacache_calls.specs.declared.carried.Aim.TheVariants as aims
 use Rattle.cacache_laws.specs.{Sequence.{tree_on}, trees.Idle.{Finds, LacksIdle}}
 use Rattle.cacache_laws.proofs.{Readings.ReadsStay.{reading_keeps}, trees.{Idle.{bucket_read}, Stepping.{MadeOn, Whole, goes, stays, leaves}, Twice.{from_both, from_full, from_none, removed_twice}}}
 

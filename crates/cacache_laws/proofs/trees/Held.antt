@@ -5,7 +5,7 @@ use Rattle.hex.specs.Hex.{encode_lower}
 use Rattle.cacache_core.specs.{declared.integrity.digest.Hash.{Hash}, Integrity.{IsHash}, PathNames.{Names, names_of, home_of, IsProperName}, Paths.{join, joined, cut_digits, content_names, content_area}, Texts.{name_of}}
 use Rattle.cacache_core.proofs.{JoinedNames.{joined_texts_name}, ProperNames.{proper_content_folder, proper_content}}
 use Rattle.cacache_disk.specs.{Rooted.{Rooted}, declared.node.Node.{Node, TheVariants.{Folder, File, Link}}, Tree.{Tree, look}}
-use Rattle.cacache_table.specs.Runs.{Moves}
+use Rattle.cacache_calls.specs.Runs.{Moves}
 use Rattle.cacache_value.specs.Value.{Blob, InFile, AtLink, blob_in}
 use Rattle.cacache_laws.specs.trees.{Walks.{is_leaf}, Answers.{AnsweredBy}, Contents.{ContentsShown, AreThoseOf, IsHeld, LiesBelow, HoldsJust, ListingsHold}}
 use Rattle.cacache_laws.proofs.trees.{Covering.{walks_find, walks_stay}, Logged.{copies, read_at, is_copy}, Members.{Member, contains_member, member_contains}}

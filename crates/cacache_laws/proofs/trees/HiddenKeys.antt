@@ -8,10 +8,10 @@ use Rattle.cacache_store.specs.declared.store.step.Step.TheVariants as steps
 use Rattle.cacache_store.specs.Plain.{PlainAnswer, PlainStep}
 use Rattle.cacache_disk.{specs.{declared.luck.Luck.TheVariants.{Plain}, Tree.{Tree}, Apply.{apply}}, proofs.Roots.{same_self}}
 use Rattle.cacache_entry.{specs.{Entry.{Entry, line_of}, Latest.{after_entry, latest}}, proofs.EntryCauses.{Fits-no_cause}}
-use Rattle.cacache_table.specs.declared.command.Command.TheVariants as commands
-use Rattle.cacache_table.specs.{declared.{command.Delete.{Delete}, reply.Reply.{Reply, TheVariants.{Done}}}, Common.{fails}, Inserting.{bucket_line, deletion, recorded, refused_cause, unless_refused}, Runs.{Moves, Runs}, State.{Insertion, Site, State, appending, doing, make_folder, over}, StepPaths.{bucket_folder, bucket_path}, Table.{after, opening}}
-use Rattle.cacache_table.proofs.Sound.{begins_sound, stays_sound}
-use Rattle.cacache_table.specs.Sound as calls
+use Rattle.cacache_calls.specs.declared.command.Command.TheVariants as commands
+use Rattle.cacache_calls.specs.{declared.{command.Delete.{Delete}, reply.Reply.{Reply, TheVariants.{Done}}}, Common.{fails}, Inserting.{bucket_line, deletion, recorded, refused_cause, unless_refused}, Runs.{Moves, Runs}, State.{Insertion, Site, State, appending, doing, make_folder, over}, StepPaths.{bucket_folder, bucket_path}, Table.{after, opening}}
+use Rattle.cacache_calls.proofs.Sound.{begins_sound, stays_sound}
+use Rattle.cacache_calls.specs.Sound as calls
 use Rattle.cacache_value.specs.{Acts.{MakeFolders, act_at, act_of, act_with, change, folders_left, list_of}, Kinds.{is_path_of}, Placed.{Placed, Proper}, Value.{Value, wide_value}}
 use Rattle.cacache_value.proofs.{AppendedLines.{whole_lines_add}, Traces.{steps_act, steps_keep_placed}}
 use Rattle.cacache_history.{specs.Setup.{Setup, is_outside, may_export}, proofs.{Proper.{sound_proper}, Histories.ShownTurns.{bucket_below}}}

@@ -7,10 +7,10 @@ use Rattle.cacache_store.specs.Plain.{PlainStep}
 use Rattle.cacache_disk.specs.{declared.{luck.Luck.TheVariants.{Plain}, node.Node.{Node, TheVariants.{Folder, File}}}, Tree.{Tree, look, put, same_path, bytes_of}, LedTo.{dirs, writable}, Apply.{apply, if_missing, make_some, making, taken}, Rooted.{Rooted}}
 use Rattle.cacache_disk.proofs.{KeptFolders.{apply_tree, steps_keep_rooted, unless_tree}, Maps.{same_path-true}, PutNodes.{look-put}}
 use Rattle.cacache_entry.proofs.EntryCauses.{Fits-no_cause}
-use Rattle.cacache_table.specs.declared.command.Command.TheVariants as commands
-use Rattle.cacache_table.specs.{declared.{command.Delete.{Delete}, reply.Reply.TheVariants.{Done}}, Inserting.{bucket_line, deletion, refused_cause}, Runs.{Moves, Runs}, State.{Site}, StepPaths.{bucket_folder, bucket_path}, Table.{opening}}
-use Rattle.cacache_table.proofs.Sound.{begins_sound}
-use Rattle.cacache_table.specs.Sound as calls
+use Rattle.cacache_calls.specs.declared.command.Command.TheVariants as commands
+use Rattle.cacache_calls.specs.{declared.{command.Delete.{Delete}, reply.Reply.TheVariants.{Done}}, Inserting.{bucket_line, deletion, refused_cause}, Runs.{Moves, Runs}, State.{Site}, StepPaths.{bucket_folder, bucket_path}, Table.{opening}}
+use Rattle.cacache_calls.proofs.Sound.{begins_sound}
+use Rattle.cacache_calls.specs.Sound as calls
 use Rattle.cacache_value.specs.{Kinds.{Bucket, Content, Elsewhere, Way, path_kind}, Placed.{Placed, Proper}}
 use Rattle.cacache_value.proofs.{FoundPaths.{Reaches, found, missing, bucket_reached, unreachable}, KindsApart.{kind-below}, Traces.{steps_keep_placed}}
 use Rattle.cacache_history.specs.Setup.{is_outside, may_export}

@@ -7,9 +7,9 @@ use Rattle.cacache_store.specs.{declared.store.{step.Step.TheVariants.{ReadAll},
 use Rattle.cacache_store.specs.declared.store.answer.Answer.TheVariants as answers
 use Rattle.cacache_disk.specs.{declared.luck.Luck.TheVariants.{Plain}, Tree.{Tree, look}, Apply.{apply}}
 use Rattle.cacache_entry.specs.Latest.{Found}
-use Rattle.cacache_table.specs.{declared.{reply.Reply.{Reply}, carried.Lookup.{Lookup}}, State.{looking, reading, over}, StepPaths.{bucket_path, content_path}, Looking.{found_in, found_for, found_content}, Table.{after}, Runs.{Moves, Runs}}
-use Rattle.cacache_table.specs.declared.carried.Aim.TheVariants as aims
-use Rattle.cacache_table.specs.declared.carried.Content as carried
+use Rattle.cacache_calls.specs.{declared.{reply.Reply.{Reply}, carried.Lookup.{Lookup}}, State.{looking, reading, over}, StepPaths.{bucket_path, content_path}, Looking.{found_in, found_for, found_content}, Table.{after}, Runs.{Moves, Runs}}
+use Rattle.cacache_calls.specs.declared.carried.Aim.TheVariants as aims
+use Rattle.cacache_calls.specs.declared.carried.Content as carried
 use Rattle.cacache_value.{specs.Kinds.{Content, Bucket, path_kind, is_used}, proofs.KindsApart.{kind-below}}
 use Rattle.cacache_laws.specs.trees.{Walks.{is_leaf}, Answers.{AnsweredBy}, Idle.{Finds, IsNeeded, IsIdle, LacksIdle}}
 use Rattle.cacache_laws.proofs.trees.{Agreeing.{read_same}, Within.{Within, finds_within}}

@@ -9,8 +9,8 @@ use Rattle.cacache_store.specs.{declared.store.{answer.{Kind.{Kind}, Name.{Name}
 use Rattle.cacache_store.specs.declared.store.answer.Kind.TheVariants as kinds
 use Rattle.cacache_disk.specs.{declared.{luck.Luck.TheVariants.{Plain}, node.Node.{Node, TheVariants.{Folder, File, Link}}}, Tree.{Tree, look, listing}, LedTo.{and_then, or_fault, on_link, bytes_there, standing, way_fault, place, followed, leads, file_at}, Rooted.{Rooted}, Apply.{apply, unless}}
 use Rattle.cacache_entry.specs.{Entry.{Entry}, Bucket.{entries_of}, Latest.{Found, latest}}
-use Rattle.cacache_table.specs.{State.{Item, Site}, declared.visit.{Task.{Task, TheVariants.{Make, Stumble}}, Visit.TheVariants.{Enter, ReadBucket, RemoveFile, RemoveFolder}}, Walking.{task_for_name, tasks_of, items_in, items_of, once}, Runs.{Moves}, ListReplies.{items_given, given_by, keys_of}, StepPaths.{bucket_path}}
-use Rattle.cacache_table.proofs.Keys.{each_key_once}
+use Rattle.cacache_calls.specs.{State.{Item, Site}, declared.visit.{Task.{Task, TheVariants.{Make, Stumble}}, Visit.TheVariants.{Enter, ReadBucket, RemoveFile, RemoveFolder}}, Walking.{task_for_name, tasks_of, items_in, items_of, once}, Runs.{Moves}, ListReplies.{items_given, given_by, keys_of}, StepPaths.{bucket_path}}
+use Rattle.cacache_calls.proofs.Keys.{each_key_once}
 use Rattle.cacache_walks.specs.Reading.{names_shown}
 use Rattle.cacache_laws.specs.trees.{Walks.{is_leaf}, Answers.{AnsweredBy}, Index.{ListsEachKey}}
 use Rattle.cacache_laws.proofs.{trees.{Members.{Member, contains_member, in_left, in_right, mapped}, Children.{child_listed, none_below, proper_child, FolderShows, listed, missing, folder_shown}, Covering.{named_on}, Listing.{ReadsAll, Good, listing_runs}}, Listings.ListedItems.{found_in}}

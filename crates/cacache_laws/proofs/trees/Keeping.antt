@@ -9,9 +9,9 @@ use Rattle.cacache_store.specs.declared.store.answer.Answer.TheVariants as answe
 use Rattle.cacache_disk.specs.{declared.luck.Luck.TheVariants.{Plain}, Tree.{Tree, look, cut, same_path}, LedTo.{removable}, Apply.{apply, unless}, Rooted.{Rooted}}
 use Rattle.cacache_disk.proofs.{Maps.{same_path-true}, Roots.{same_self}, FoundNodes.{removable_ok}, PutNodes.{look-cut}}
 use Rattle.cacache_entry.specs.Latest.{Found}
-use Rattle.cacache_table.specs.declared.command.Command.TheVariants as commands
-use Rattle.cacache_table.specs.{declared.reply.Reply.{Reply, TheVariants.{Listed}}, State.{looking, Site, Item}, StepPaths.{addressed, bucket_path, content_path}, Table.{opening, after}, Runs.{Moves, Runs}}
-use Rattle.cacache_table.specs.declared.carried.Aim.TheVariants as aims
+use Rattle.cacache_calls.specs.declared.command.Command.TheVariants as commands
+use Rattle.cacache_calls.specs.{declared.reply.Reply.{Reply, TheVariants.{Listed}}, State.{looking, Site, Item}, StepPaths.{addressed, bucket_path, content_path}, Table.{opening, after}, Runs.{Moves, Runs}}
+use Rattle.cacache_calls.specs.declared.carried.Aim.TheVariants as aims
 use Rattle.cacache_value.{specs.{Kinds.{Content, Bucket, path_kind, is_used}, Value.{blob_in, bucket_in}}, proofs.KindsApart.{kind-below}}
 use Rattle.cacache_laws.proofs.{trees.{Members.{Member, contains_member, member_contains}, Indexed.{lists_each_key}, Agreeing.{read_same}, Idle.{address_is, get_moves, moved_same, over_done}, Twice.{leaf_done}}, Sure.SureSpares.{cut_none}}
 use Rattle.cacache_laws.specs.trees.{Answers.{AnsweredBy}, Index.{is_failure}, Walks.{is_leaf}, Idle.{Finds, IsNeeded, LacksIdle}, Collecting.{LinksLeadOut, IsLive, Removes, RemovalsLeave, CollectionsKeepReads, CollectionsKeepLookups}}

@@ -1,6 +1,6 @@
 -- The lines that stay, and what deciding lines they are.
 use Rattle.std.{proofs.Common.{◌≡◌, ℕ, List, [], ◌∷◌, Bool, true, false, cond, not, ◌&&◌, ◌||◌, Some, None, refl, ap, ◌∙◌, bytes_eq}, specs.{Prelude.{filter}, List.{list_any}}}
-use Rattle.cacache_table.specs.Walking.{once}
+use Rattle.cacache_calls.specs.Walking.{once}
 use Rattle.cacache_laws.{specs.trees.Compacting.{Line, decided, is_odd, kept, lasts}, proofs.trees.CompactLines.{ArePieces}}
 
 pub neither : (a b : Bool) → (a || b) ≡ false → (a ≡ false) × (b ≡ false)

@@ -4,7 +4,7 @@ use Rattle.cacache_core.specs.{declared.integrity.digest.Hash.{Hash}, Integrity.
 use Rattle.cacache_core.proofs.{JoinedNames.{joined_texts_name}, ProperNames.{names_are_proper}}
 use Rattle.cacache_store.specs.declared.store.step.Step.TheVariants.{ReadAll, ReadDir}
 use Rattle.cacache_disk.specs.{declared.{luck.Luck.TheVariants.{Plain}, node.Node.{Node, TheVariants.{File}}}, Tree.{Tree, look}, Apply.{apply}}
-use Rattle.cacache_table.specs.StepPaths.{content_path}
+use Rattle.cacache_calls.specs.StepPaths.{content_path}
 use Rattle.cacache_value.{specs.Kinds.{Bucket, Content, path_kind}, proofs.KindsApart.{kind-below}}
 use Rattle.cacache_laws.specs.trees.{Collecting.{LinksLeadOut}, Compacted.{CompactionsAnswer, CutShort, FindsFormed}, Compacting.{compact_text}}
 use Rattle.cacache_laws.proofs.trees.{Agreeing.{said}, Follows.{Alike, ReadsAlike, reads_as_before}, Idle.{address_is}, LeanReads.{Clear, SameOrLean, clear_area, dir_alike, file_alike}, LeanTrees.{EndsUp}, Within.{read_answer}}

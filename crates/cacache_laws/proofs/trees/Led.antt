@@ -8,9 +8,9 @@ use Rattle.cacache_store.specs.{declared.store.step.Step.TheVariants.{ReadAll}, 
 use Rattle.cacache_disk.specs.{declared.{luck.Luck.TheVariants.{Plain}, node.Node.{Node, TheVariants.{Folder, File, Link}}}, Tree.{Tree, look}, LedTo.{place, followed, leads, file_at}, Apply.{apply}, Rooted.{Rooted}, memory.Replay.{tree_of}}
 use Rattle.cacache_disk.proofs.Standing.{way_clear}
 use Rattle.cacache_entry.specs.{Bucket.{entries_of}, Entry.{Entry}, Latest.{Found, latest}}
-use Rattle.cacache_table.specs.declared.command.Command.TheVariants as commands
-use Rattle.cacache_table.specs.{declared.reply.Reply.{Reply, TheVariants.{Listed, LookedUp, Refused}}, Licence.{looking_on, AllMay}, ListReplies.{too_deep}, Replies.{bucket_shown, find_reply}, Runs.{Moves, Runs}, State.{State, Site, Item}, StepPaths.{bucket_path}, Table.{after, opening}, Walking.{most}}
-use Rattle.cacache_table.proofs.{Replies.{finds_shown}, Within.{calls_keep_to}}
+use Rattle.cacache_calls.specs.declared.command.Command.TheVariants as commands
+use Rattle.cacache_calls.specs.{declared.reply.Reply.{Reply, TheVariants.{Listed, LookedUp, Refused}}, Licence.{looking_on, AllMay}, ListReplies.{too_deep}, Replies.{bucket_shown, find_reply}, Runs.{Moves, Runs}, State.{State, Site, Item}, StepPaths.{bucket_path}, Table.{after, opening}, Walking.{most}}
+use Rattle.cacache_calls.proofs.{Replies.{finds_shown}, Within.{calls_keep_to}}
 use Rattle.cacache_value.{specs.{Acts.{list_of}, Kinds.{NamesBelow}, Placed.{Placed}, Shows.{ShowsBucket}, Value.{bucket_in, value_of_tree}}, proofs.Shows.{trees_show}}
 use Rattle.cacache_history.specs.{Buckets.{BucketsHaveKeys}, ListingTurns.{is_past, listing_of}, Setup.{Setup}, Turns.{made_in, EachTurn}}
 use Rattle.cacache_history.proofs.{Entries.{Bucketed.{KeyedTurn}, Formed.{TreeFormed}, Owned.{TreeOwn}, Spelled.{HasIntegrity, latest_has}}, Histories.{Holding.{TurnsHold}, ShownTurns.{bucket_below}}, Listings.ListingTurns.{lists}}

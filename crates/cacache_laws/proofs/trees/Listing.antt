@@ -4,8 +4,8 @@ use Rattle.cacache_core.specs.{declared.errors.{Fault.{Fault, TheVariants.{NotFo
 use Rattle.cacache_store.specs.{declared.store.{answer.{Kind.{Kind}, Name.{Name}}, step.Step.TheVariants.{ReadDir, ReadAll}}, Plain.{PlainStep, PlainAnswer}}
 use Rattle.cacache_store.specs.declared.store.answer.Kind.TheVariants as kinds
 use Rattle.cacache_store.specs.declared.store.answer.Answer.TheVariants as answers
-use Rattle.cacache_table.specs.{declared.{answers.Refusal.{Refusal}, reply.Reply.{Reply, TheVariants.{Listed, Refused}}, visit.{Visit.{Visit, TheVariants.{Enter, ReadBucket, RemoveFile, RemoveFolder}}, Task.{Task, TheVariants.{Make, Stumble}}}}, Answers.{bytes_in, names_in}, State.{walking, over, Item, Walk}, Common.{go_on}, Walking.{most, failed, miss, walk_on, task_for_name, tasks_of, too_many, entered, unread_bucket, listed, items_in}, Runs.{Moves, Runs}, ListReplies.{by_bucket, by_folder, given_by, items_given}}
-use Rattle.cacache_table.specs.declared.answers.Refusal.TheVariants as refusals
+use Rattle.cacache_calls.specs.{declared.{answers.Refusal.{Refusal}, reply.Reply.{Reply, TheVariants.{Listed, Refused}}, visit.{Visit.{Visit, TheVariants.{Enter, ReadBucket, RemoveFile, RemoveFolder}}, Task.{Task, TheVariants.{Make, Stumble}}}}, Answers.{bytes_in, names_in}, State.{walking, over, Item, Walk}, Common.{go_on}, Walking.{most, failed, miss, walk_on, task_for_name, tasks_of, too_many, entered, unread_bucket, listed, items_in}, Runs.{Moves, Runs}, ListReplies.{by_bucket, by_folder, given_by, items_given}}
+use Rattle.cacache_calls.specs.declared.answers.Refusal.TheVariants as refusals
 use Rattle.cacache_walks.specs.Reading.{names_shown}
 use Rattle.cacache_laws.{proofs.trees.Members.{Member, in_left, in_right, in_either}, specs.trees.Index.{is_failure}}
 

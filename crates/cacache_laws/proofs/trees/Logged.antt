@@ -5,8 +5,8 @@ use Rattle.cacache_core.specs.declared.errors.Fault.{Fault}
 use Rattle.cacache_store.specs.declared.store.{log.LogItem.{LogItem, TheVariants.{Made, Foreign, ForeignFolder}}, step.Step.TheVariants.{MakeDirs}}
 use Rattle.cacache_disk.specs.{declared.luck.Luck.TheVariants.{Plain}, Tree.{Tree, bare}, Apply.{apply, planted}, Rooted.{Rooted}, memory.Replay.{changed, after, replay, tree_of}}
 use Rattle.cacache_disk.proofs.{KeptFolders.{steps_keep_rooted}, PlantedNodes.{planted_rooted}, Roots.{bare_rooted}}
-use Rattle.cacache_table.specs.{declared.{command.Command.{Command}, reply.Reply.{Reply}}, State.{Site}, Table.{opening}, Runs.{Moves, Runs, Gains}, Licence.{looking_on}}
-use Rattle.cacache_table.proofs.Within.{calls_keep_to}
+use Rattle.cacache_calls.specs.{declared.{command.Command.{Command}, reply.Reply.{Reply}}, State.{Site}, Table.{opening}, Runs.{Moves, Runs, Gains}, Licence.{looking_on}}
+use Rattle.cacache_calls.proofs.Within.{calls_keep_to}
 use Rattle.cacache_laws.specs.{Looks.{OnlyLooks}, Sequence.{tree_on, turns_on, AreAnswered}, trees.{Answers.{AnsweredBy, AnswersOn}, Walks.{ReadAt}}}
 use Rattle.cacache_laws.proofs.{Readings.{Looks.{moves_keep, moves_place}, ReadsStay.{listing_keeps}}, trees.Members.{Member, member_contains}}
 use Rattle.cacache_history.specs.Turns.{EachTurn}

@@ -3,7 +3,7 @@ use Rattle.std.proofs.Common.{◌≡◌, inl, inr, ℕ, List, [], ◌∷◌, Som
 use Rattle.cacache_core.specs.Paths.{joined, content_names}
 use Rattle.cacache_store.specs.{declared.store.step.Step.TheVariants.{RemoveFile}, Plain.{PlainStep, PlainAnswer}}
 use Rattle.cacache_store.specs.declared.store.answer.Answer.TheVariants as answers
-use Rattle.cacache_table.specs.{declared.reply.Reply.TheVariants.{Done}, State.{doing, remove, over}, StepPaths.{content_path}, Table.{after}, Runs.{Moves, Runs}}
+use Rattle.cacache_calls.specs.{declared.reply.Reply.TheVariants.{Done}, State.{doing, remove, over}, StepPaths.{content_path}, Table.{after}, Runs.{Moves, Runs}}
 use Rattle.cacache_laws.{specs.trees.Removing.{RemovalsRun}, proofs.trees.HiddenKeys.{ended}}
 
 -- the step was answered Done, and nothing follows

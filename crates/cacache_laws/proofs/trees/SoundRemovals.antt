@@ -3,7 +3,7 @@ use Rattle.std.proofs.Common.{ℕ, List, [], ◌∷◌, sym, subst}
 use Rattle.cacache_core.specs.{PathNames.{home_of}, Paths.{joined, content_names}}
 use Rattle.cacache_store.specs.declared.store.step.Step.TheVariants.{RemoveFile}
 use Rattle.cacache_disk.{specs.{declared.luck.Luck.TheVariants.{Plain}, Tree.{Tree}, Apply.{apply}}, proofs.KeptFolders.{steps_keep_rooted}}
-use Rattle.cacache_table.specs.declared.command.Command.TheVariants as commands
+use Rattle.cacache_calls.specs.declared.command.Command.TheVariants as commands
 use Rattle.cacache_history.proofs.Contents.Righted.{stays_right}
 use Rattle.cacache_laws.{specs.{Caches.{setup_at}, Sequence.{IsSound}, trees.{Collecting.{RemovalsLeaveSound}, Housed.{Housed}}}, proofs.trees.Housed.{step_housed}}
 

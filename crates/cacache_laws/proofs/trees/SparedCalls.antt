@@ -7,9 +7,9 @@ use Rattle.cacache_store.specs.declared.store.log.LogItem.{LogItem}
 use Rattle.cacache_store.specs.declared.store.step.Step.TheVariants as steps
 use Rattle.cacache_disk.specs.{declared.luck.Luck.TheVariants.{Plain}, Apply.{apply}, Rooted.{Rooted}, Tree.{Tree}, memory.Replay.{tree_of}}
 use Rattle.cacache_entry.specs.Latest.{Found, latest}
-use Rattle.cacache_table.specs.{declared.{command.{Command.{Command}, Delete.{Delete}, Insert.{Insert}, Put.{Put}}, reply.Reply.{Reply}}, Effects.{effects_of}, Inserting.{deletion, insertion}, Replies.{bucket_shown, lookup}, Runs.{Goes, Moves, Runs}, Sound.{MayBegin}, State.{Insertion, Site}, StepPaths.{bucket_path, content_path}, Storing.{put_commit}, Table.{opening}}
-use Rattle.cacache_table.proofs.{Effects.{deletes_send, inserts_send, puts_commit}, Sound.{begins_sound}}
-use Rattle.cacache_table.specs.declared.command.Command.TheVariants as commands
+use Rattle.cacache_calls.specs.{declared.{command.{Command.{Command}, Delete.{Delete}, Insert.{Insert}, Put.{Put}}, reply.Reply.{Reply}}, Effects.{effects_of}, Inserting.{deletion, insertion}, Replies.{bucket_shown, lookup}, Runs.{Goes, Moves, Runs}, Sound.{MayBegin}, State.{Insertion, Site}, StepPaths.{bucket_path, content_path}, Storing.{put_commit}, Table.{opening}}
+use Rattle.cacache_calls.proofs.{Effects.{deletes_send, inserts_send, puts_commit}, Sound.{begins_sound}}
+use Rattle.cacache_calls.specs.declared.command.Command.TheVariants as commands
 use Rattle.cacache_value.specs.{Acts.{Drop, act_at, list_of}, Placed.{Placed}, Shows.{ShowsBucket}, Value.{Value, value_of_tree}}
 use Rattle.cacache_value.proofs.{Shows.{trees_show}, Traces.{traces_act}}
 use Rattle.cacache_history.specs.{Commits.{CommitsAs, Deed, DropsAmong, FoundFirst, InsertionAdds, deeds, deeds_of_act, does}, History.{Turn, turn_of}, Lookups.{SparesKey}, ReadingCalls.{IsReading}, Setup.{Setup, call_site, is_outside, may_export}, Turns.{made_in}}

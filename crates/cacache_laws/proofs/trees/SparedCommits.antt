@@ -4,9 +4,9 @@ use Rattle.cacache_core.specs.{declared.integrity.digest.Hash.{Hash}, PathNames.
 use Rattle.cacache_store.specs.declared.store.answer.Answer.TheVariants as answers
 use Rattle.cacache_store.specs.declared.store.log.LogItem.{LogItem}
 use Rattle.cacache_disk.specs.{Apply.{made_temp}, Rooted.{Rooted}, Tree.{Tree}, memory.Replay.{tree_of}}
-use Rattle.cacache_table.specs.declared.command.Command.TheVariants as commands
-use Rattle.cacache_table.specs.{declared.{command.Put.{Put}, reply.Reply.{Reply}}, Effects.{effects_of}, Runs.{Moves, Runs}, State.{Site, State}, StepPaths.{temp_folder, temp_path}, Storing.{persist, put_commit}, Table.{opening}}
-use Rattle.cacache_table.proofs.Effects.{puts_commit}
+use Rattle.cacache_calls.specs.declared.command.Command.TheVariants as commands
+use Rattle.cacache_calls.specs.{declared.{command.Put.{Put}, reply.Reply.{Reply}}, Effects.{effects_of}, Runs.{Moves, Runs}, State.{Site, State}, StepPaths.{temp_folder, temp_path}, Storing.{persist, put_commit}, Table.{opening}}
+use Rattle.cacache_calls.proofs.Effects.{puts_commit}
 use Rattle.cacache_value.{specs.{Acts.{PutBytes}, Placed.{Placed}, Value.{value_of_tree}}, proofs.Traces.{traces_act}}
 use Rattle.cacache_history.specs.{Commits.{CommitsAs, Deed, deeds}, History.{Turn}, Setup.{Setup, call_site}, Turns.{made_in}}
 use Rattle.cacache_history.proofs.{Contents.{Carrying.{Makes, own_of}, Deeds.{turns_realize}}, Histories.Holding.{CallHolds, TurnsHold}, durable.CommitPlaces.{goes_runs}}

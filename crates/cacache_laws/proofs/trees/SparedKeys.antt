@@ -6,10 +6,10 @@ use Rattle.cacache_store.specs.declared.store.answer.Answer.TheVariants as answe
 use Rattle.cacache_store.specs.declared.store.{log.LogItem.{LogItem}, plain.PlainTemp.{PlainTemp}}
 use Rattle.cacache_store.specs.declared.store.step.Step.TheVariants as steps
 use Rattle.cacache_disk.{specs.{declared.luck.Luck.TheVariants.{Plain}, Apply.{apply}, Rooted.{Rooted}, memory.Replay.{IsLog, tree_of}}, proofs.KeptFolders.{steps_keep_rooted}}
-use Rattle.cacache_table.specs.{Common.{fails}, Inserting.{refused_cause}, Runs.{Gains, Goes, Moves}, SingleSteps.{Does, FailsAt}, State.{State}, StepPaths.{temp_folder, temp_path}, Storing.{persist, put_commit}, Table.{opening}}
-use Rattle.cacache_table.proofs.Going.{goes_lost}
-use Rattle.cacache_table.specs.declared.command.Command.TheVariants as commands
-use Rattle.cacache_table.specs.declared.reply.Reply.TheVariants as replies
+use Rattle.cacache_calls.specs.{Common.{fails}, Inserting.{refused_cause}, Runs.{Gains, Goes, Moves}, SingleSteps.{Does, FailsAt}, State.{State}, StepPaths.{temp_folder, temp_path}, Storing.{persist, put_commit}, Table.{opening}}
+use Rattle.cacache_calls.proofs.Going.{goes_lost}
+use Rattle.cacache_calls.specs.declared.command.Command.TheVariants as commands
+use Rattle.cacache_calls.specs.declared.reply.Reply.TheVariants as replies
 use Rattle.cacache_value.{specs.{Placed.{Placed}, Value.{value_of_tree}}, proofs.Traces.{steps_keep_placed}}
 use Rattle.cacache_history.specs.{Commits.{deeds}, Setup.{call_site}}
 use Rattle.cacache_laws.specs.{Caches.{Called, HasKey, setup_at}, GivenUp.{GivesUpTemp, drop_temp}, Keeping.{found_under}, OpenWriters.{OpensWriter, make_file, make_folder}, Sequence.{Alike, after_deeds, turns_on}, Standing.{IsStanding}, trees.Later.{AllSpare, Later, ReadsOf, Spares, SparedKeysStay, StaysRead, TombstonesFit, calls, commits, gives_up, looks, opens, written}}

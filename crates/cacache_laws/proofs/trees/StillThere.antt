@@ -4,7 +4,7 @@ use Rattle.cacache_core.specs.{declared.{errors.Fault.{Fault, TheVariants.{IsADi
 use Rattle.cacache_store.specs.{declared.store.{step.Step.TheVariants.{Exists}, answer.Answer.TheVariants.{There}}, Plain.{PlainAnswer}}
 use Rattle.cacache_disk.specs.{declared.{luck.Luck.TheVariants.{Plain}, node.Node.{Node, TheVariants.{Folder, File, Link}}}, Tree.{Tree, look}, LedTo.{and_then, or_fault, way_fault, place, standing, where_there, on_link, followed, leads, found, bytes_there}, Apply.{apply, is_there}, Rooted.{Rooted}}
 use Rattle.cacache_disk.proofs.{FoundNodes.{and_then_ok, or_fault_none, there_at}, Standing.{way_clear}}
-use Rattle.cacache_table.specs.StepPaths.{content_path}
+use Rattle.cacache_calls.specs.StepPaths.{content_path}
 use Rattle.cacache_value.specs.{Kinds.{PathKind, Content, Elsewhere, Way, NamesBelow, kind_beside, path_kind, IsFor}, Placed.{MayStand, Placed}, Shows.{ShowsThere, link_end, blob_bytes, blob_there}, Value.{Blob, InFile, AtLink, blob_in}}
 use Rattle.cacache_value.proofs.{FoundPaths.{of_names}, KindsApart.{inner_used, kind-below}, Shows.{trees_show}}
 use Rattle.cacache_history.proofs.Histories.ShownTurns.{content_below}

@@ -5,10 +5,10 @@ use Rattle.cacache_store.specs.declared.store.step.Step.TheVariants as steps
 use Rattle.cacache_store.specs.Plain.{PlainStep, PlainAnswer}
 use Rattle.cacache_disk.specs.{declared.luck.Luck.TheVariants.{Plain}, Tree.{Tree}, Apply.{apply}}
 use Rattle.cacache_entry.specs.Bucket.{entries_of}
-use Rattle.cacache_table.specs.declared.command.Command.TheVariants as commands
-use Rattle.cacache_table.specs.{declared.reply.Reply.{Reply}, Licence.{Licence, AllMay, May, allows, looking_up}, Runs.{Moves, Runs}, State.{Site, State}, Table.{after, opening}}
-use Rattle.cacache_table.proofs.{Sound.{begins_sound, stays_sound}, Within.{calls_keep_to}}
-use Rattle.cacache_table.specs.Sound as calls
+use Rattle.cacache_calls.specs.declared.command.Command.TheVariants as commands
+use Rattle.cacache_calls.specs.{declared.reply.Reply.{Reply}, Licence.{Licence, AllMay, May, allows, looking_up}, Runs.{Moves, Runs}, State.{Site, State}, Table.{after, opening}}
+use Rattle.cacache_calls.proofs.{Sound.{begins_sound, stays_sound}, Within.{calls_keep_to}}
+use Rattle.cacache_calls.specs.Sound as calls
 use Rattle.cacache_value.specs.{Acts.{Act, AddEntries, MakeFolders, act_at, act_of, act_with, amount_left, change, folders_left}, Placed.{Placed}, Value.{Value, wide_value}}
 use Rattle.cacache_value.proofs.Traces.{steps_act, steps_keep_placed}
 use Rattle.cacache_history.{specs.Setup.{Setup, is_outside, may_export}, proofs.Proper.{sound_proper}}

@@ -5,8 +5,8 @@ use Rattle.cacache_core.specs.{declared.{errors.{Fault.{Fault, TheVariants.{IsAD
 use Rattle.cacache_store.specs.{declared.store.step.Step.TheVariants.{ReadAll}, Plain.{PlainAnswer}}
 use Rattle.cacache_disk.specs.{declared.{luck.Luck.TheVariants.{Plain}, node.Node.{Node, TheVariants.{Folder, File, Link}}}, Tree.{Tree, look}, LedTo.{place, followed, leads, file_at}, Apply.{apply}, Rooted.{Rooted}}
 use Rattle.cacache_disk.proofs.Standing.{way_clear}
-use Rattle.cacache_table.specs.{declared.reply.Reply.{Reply, TheVariants.{Read, Refused}}, Answers.{bytes_in}, StepPaths.{content_path}, Replies.{content_reply}, State.{Site}, Runs.{Moves}}
-use Rattle.cacache_table.proofs.Replies.{reads_shown}
+use Rattle.cacache_calls.specs.{declared.reply.Reply.{Reply, TheVariants.{Read, Refused}}, Answers.{bytes_in}, StepPaths.{content_path}, Replies.{content_reply}, State.{Site}, Runs.{Moves}}
+use Rattle.cacache_calls.proofs.Replies.{reads_shown}
 use Rattle.cacache_value.specs.{Value.{Blob, blob_in, value_of_tree}, Shows.{link_end, blob_bytes}}
 use Rattle.cacache_laws.specs.trees.{Answers.{AnsweredBy}, Verifying.{is_met, is_good, ReadsTellGood}}
 use Rattle.cacache_laws.proofs.trees.{Agreeing.{said}, Keeping.{content_named}, Within.{read_answer}}

@@ -3,7 +3,7 @@ use Rattle.std.specs.Prelude.{◌≡◌, ◌⊎◌, ℕ, Bool, true, List, [], N
 use Rattle.cacache_core.specs.{declared.{errors.{Error.{Error, TheVariants.{EntryNotFound, IoError, IntegrityError, OutOfMemory}}, Fault.{Fault, TheVariants.{NotFound, IsADirectory, InvalidInput}}, IntegrityFault.{IntegrityFault}}, integrity.digest.Hash.{Hash}}, PathNames.{Names}}
 use Rattle.cacache_store.specs.declared.{env.Env.{Env}, store.log.LogItem.{LogItem}}
 use Rattle.cacache_disk.specs.{LedTo.{free, writable}, Tree.{Tree}, memory.Replay.{shown, tree_of}}
-use Rattle.cacache_table.specs.{declared.{command.{How.{How, TheVariants.{Copy, HardLink, Reflink}}, Source.{Source, TheVariants.{Hash as OfHash, Key as OfKey}}}, reply.Reply.TheVariants.{Copied}}, Replies.{done}, Runs.{reply_of, without_message}}
+use Rattle.cacache_calls.specs.{declared.{command.{How.{How, TheVariants.{Copy, HardLink, Reflink}}, Source.{Source, TheVariants.{Hash as OfHash, Key as OfKey}}}, reply.Reply.TheVariants.{Copied}}, Replies.{done}, Runs.{reply_of, without_message}}
 use Rattle.cacache_jobs.specs.Environment.{Calls}
 use Rattle.cacache_sync.specs.Exports.{exporting}
 use Rattle.cacache_history.specs.History.{NamesSource}

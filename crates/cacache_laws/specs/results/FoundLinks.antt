@@ -2,7 +2,7 @@
 use Rattle.std.specs.Prelude.{◌≡◌, ℕ, List, [], ◌∷◌, ◌++◌, Some, true, Ok}
 use Rattle.cacache_core.specs.{declared.integrity.digest.Hash.{Hash}, PathNames.{Names, names_of}}
 use Rattle.cacache_disk.specs.{declared.node.Node.TheVariants.{File}, Tree.{Tree, look}}
-use Rattle.cacache_table.specs.{declared.command.Put.{Put}, Licence.{KeepsTo, Licence, taking_in}}
+use Rattle.cacache_calls.specs.{declared.command.Put.{Put}, Licence.{KeepsTo, Licence, taking_in}}
 use Rattle.cacache_value.specs.{Shows.{blob_bytes}, Value.{AtLink, value_of_tree}}
 use Rattle.cacache_loss.specs.{Loss.{Loss}, LossLaws.{HasDigest}, LostValues.{LeftOf}, Moments.{EachMove}, Syncs.{Leaves}}
 use Rattle.cacache_history.specs.{declared.record.Record.{Record, TheVariants.{Began, Moved, Stopped}}, AddedEntries.{address_of_put}, History.{History, IsLegal, initial}, Setup.{home}, Values.{steps_of, value_at}, durable.{FewCalls.{FewCalls}, Outlasting.{AnsweredPut, EntriesHaveBehind, PutsOrLinksOutlast, moment_at}}}

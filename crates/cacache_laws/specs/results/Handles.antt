@@ -3,7 +3,7 @@ use Rattle.std.specs.{Prelude.{◌≡◌, ◌⊎◌, ◌<◌, ◌^◌, ◌++◌,
 use Rattle.cacache_core.specs.{declared.{errors.Error.{Error}, integrity.digest.Hash.{Hash}}, Hashers.{algorithm_of}, Integrity.{IsIntegrity, integrity_under}}
 use Rattle.cacache_store.specs.declared.{env.Env.{Env}, store.{log.LogItem.{LogItem}, plain.PlainTemp.{PlainTemp}}}
 use Rattle.cacache_entry.specs.{FittingEntries.{AreBytes, IsJson}, Latest.{Found}}
-use Rattle.cacache_table.specs.{declared.reply.Reply.TheVariants.{Stored}, Promises.{answered}, Runs.{reply_of}, StepPaths.{temp_path}}
+use Rattle.cacache_calls.specs.{declared.reply.Reply.TheVariants.{Stored}, Promises.{answered}, Runs.{reply_of}, StepPaths.{temp_path}}
 use Rattle.cacache_history.specs.Values.{IsThere}
 use Rattle.cacache_sync.specs.{content.OpenWrites.{HasTaken, IsSameWriter, RemovesTemp, Takes, TriesToRemove}, declared.put.writer.SyncWriter.{SyncWriter}, put.{KeyedWriters.{CommitsWriter, OpensKeyed}, Options.{Said, options_of}}}
 use Rattle.cacache_laws.specs.{Caches.{IsCache, HasContent, IsExcused, Grows, lies_under}, Keeping.{found_under}, OpenWriters.{IsOpened, LeavesKnownCache}, OpenSucceeds.{FileAt}, Succeeds.{NamesFolder, IsReady}, results.{Success.{FailsForMemory}, Writes.{KeepsUntouched, SaysPlain}}}

@@ -4,7 +4,7 @@ use Rattle.cacache_core.specs.{Digests.{digest}, Integrity.{IsIntegrity}, PathNa
 use Rattle.cacache_store.specs.declared.store.log.LogItem.{LogItem}
 use Rattle.cacache_disk.specs.{Tree.{Tree}, memory.Replay.{tree_of}}
 use Rattle.cacache_entry.specs.{Entry.{Entry}, Latest.{NoneAnswers}}
-use Rattle.cacache_table.specs.declared.command.Put.{Put}
+use Rattle.cacache_calls.specs.declared.command.Put.{Put}
 use Rattle.cacache_loss.specs.Loss.{Loss}
 use Rattle.cacache_history.specs.{AddedEntries.{address_of_put}, History.{History}, Setup.{home}, durable.{FewCalls.{FewCalls}, Outlasting.{AnsweredPut}}}
 use Rattle.cacache_laws.specs.{Inserts.{leads_to}, results.{FoundLinks.{LeadsUnchanged, LinksOutlast}, Losses.{IsLast, IsLeft, StandsBefore}, Reads.{LiesWhole}}, Beside.{own_integrity}}

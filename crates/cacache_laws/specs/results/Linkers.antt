@@ -4,7 +4,7 @@ use Rattle.cacache_store.specs.Failures as io
 use Rattle.cacache_core.specs.declared.{errors.{Error.{Error, TheVariants.{IoError}}, Fault.{Fault}}, integrity.digest.Hash.{Hash}}
 use Rattle.cacache_store.specs.{declared.{env.Env.{Env}, store.{log.LogItem.{LogItem}, plain.PlainFile.{PlainFile}}}, Handles.{LeftFalls}}
 use Rattle.cacache_disk.specs.{Apply.{opened}, memory.Replay.{shown, tree_of}}
-use Rattle.cacache_table.specs.{declared.reply.Reply.TheVariants.{Stored}, Linking.{based, linked_to}, Promises.{answered}, Runs.{reply_of}}
+use Rattle.cacache_calls.specs.{declared.reply.Reply.TheVariants.{Stored}, Linking.{based, linked_to}, Promises.{answered}, Runs.{reply_of}}
 use Rattle.cacache_sync.specs.{content.Passed.{passed}, declared.put.linker.SyncToLinker.{SyncToLinker}, put.{OpenLinkers.{BeginsLink, CommitsLink, HasHashed, OpensLink, OpensWithSize, asks_file, asks_size, linked_by}, Options.{Said, options_of}}}
 use Rattle.cacache_laws.specs.{Caches.{IsCache, IsExcused, Grows}, ExportEffects.{IsApart}, LinkAnswers.{target_bytes}, Links.{KeepsBesideLink}, OpenLinkers.{SuitsSize, TargetOpened}, OpenWriters.{LeavesKnownCache}, Succeeds.{NamesFolder}, results.{Handles.{IsText, LeadsToEntry, SaysFit, said_integrity}, Links.{LeadsOn, LiesLinked}, Success.{FailsFor, FailsForMemory}, Writes.{SaysPlain}}}
 

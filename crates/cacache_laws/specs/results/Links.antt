@@ -3,8 +3,8 @@ use Rattle.std.specs.Prelude.{◌≡◌, ◌<◌, ◌^◌, ℕ, true, List, [], 
 use Rattle.cacache_core.specs.{declared.{errors.{Error.{Error, TheVariants.{IoError}}, Fault.{Fault}}, integrity.{algorithm.Algorithm.TheVariants.{Sha256}, digest.Hash.{Hash}}}, Integrity.{integrity_under}}
 use Rattle.cacache_store.specs.declared.{env.Env.{Env}, store.log.LogItem.{LogItem}}
 use Rattle.cacache_disk.specs.memory.Replay.{shown, tree_of}
-use Rattle.cacache_table.specs.declared.command.Command.TheVariants as commands
-use Rattle.cacache_table.specs.{declared.reply.Reply.TheVariants.{Stored}, Linking.{based}, Runs.{reply_of}}
+use Rattle.cacache_calls.specs.declared.command.Command.TheVariants as commands
+use Rattle.cacache_calls.specs.{declared.reply.Reply.TheVariants.{Stored}, Linking.{based}, Runs.{reply_of}}
 use Rattle.cacache_value.specs.{Shows.{blob_there}, Value.{AtLink, Blob}}
 use Rattle.cacache_jobs.specs.Environment.{Calls, RunsTimed}
 use Rattle.cacache_sync.specs.put.LinkCalls.{link_to}

@@ -4,8 +4,8 @@ use Rattle.cacache_store.specs.declared.{env.Env.{Env}, store.log.LogItem.{LogIt
 use Rattle.cacache_core.specs.{PathNames.{home_of}, Paths.{index_area}}
 use Rattle.cacache_disk.specs.{declared.node.Node.{Node}, memory.Replay.{tree_of}}
 use Rattle.cacache_entry.specs.Latest.{Found}
-use Rattle.cacache_table.specs.declared.command.Command.TheVariants as commands
-use Rattle.cacache_table.specs.{declared.reply.Reply.{Reply, TheVariants.{Listed}}, ListReplies.{In}, Replies.{OrMemory}, Runs.{Ran, plain_reply}, Table.{opening}}
+use Rattle.cacache_calls.specs.declared.command.Command.TheVariants as commands
+use Rattle.cacache_calls.specs.{declared.reply.Reply.{Reply, TheVariants.{Listed}}, ListReplies.{In}, Replies.{OrMemory}, Runs.{Ran, plain_reply}, Table.{opening}}
 use Rattle.cacache_value.specs.Kinds.{node_below}
 use Rattle.cacache_jobs.specs.Sites.{site_of}
 use Rattle.cacache_laws.specs.{Caches.{IsCache}, Keeping.{found_under}, ListedKeys.{GivesKeys}, OpenWriters.{LeavesKnownCache}, Succeeds.{NamesFolder, ListsAll}}

@@ -4,8 +4,8 @@ use Rattle.cacache_core.specs.{declared.{errors.Error.{Error}, integrity.{algori
 use Rattle.cacache_store.specs.declared.{env.Env.{Env}, store.log.LogItem.{LogItem}}
 use Rattle.cacache_disk.specs.{Tree.{Tree}, memory.Replay.{tree_of}}
 use Rattle.cacache_entry.specs.{Entry.{Entry}, Latest.{NoneAnswers}}
-use Rattle.cacache_table.specs.declared.command.Command.TheVariants as commands
-use Rattle.cacache_table.specs.{declared.{command.Put.{Put}, reply.Reply.TheVariants.{Stored}}, Runs.{reply_of}, Storing.{insertion_of, put_commit}}
+use Rattle.cacache_calls.specs.declared.command.Command.TheVariants as commands
+use Rattle.cacache_calls.specs.{declared.{command.Put.{Put}, reply.Reply.TheVariants.{Stored}}, Runs.{reply_of}, Storing.{insertion_of, put_commit}}
 use Rattle.cacache_loss.specs.Loss.{Loss, Lost}
 use Rattle.cacache_history.specs.{declared.record.Record.{Record}, History.{History}, Setup.{home}, Values.{steps_of}, durable.{FewCalls.{FewCalls}, Behind.{NoneAppends}, Outlasting.{DurablePut, IsAppendOf, Outlives, moment_at}}}
 use Rattle.cacache_jobs.specs.Environment.{Calls, RunsPut}

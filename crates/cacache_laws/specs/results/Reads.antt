@@ -4,9 +4,9 @@ use Rattle.cacache_core.specs.{declared.{errors.Error.{Error, TheVariants.{Entry
 use Rattle.cacache_store.specs.declared.{env.Env.{Env}, store.log.LogItem.{LogItem}}
 use Rattle.cacache_disk.specs.memory.Replay.{shown, tree_of}
 use Rattle.cacache_entry.specs.{declared.metadata.Metadata.{Metadata}, Latest.{Found}, View.{found_view}}
-use Rattle.cacache_table.specs.declared.command.Command.TheVariants as commands
-use Rattle.cacache_table.specs.declared.reply.Reply.TheVariants as replies
-use Rattle.cacache_table.specs.{Replies.{looked_up}, Runs.{reply_of}}
+use Rattle.cacache_calls.specs.declared.command.Command.TheVariants as commands
+use Rattle.cacache_calls.specs.declared.reply.Reply.TheVariants as replies
+use Rattle.cacache_calls.specs.{Replies.{looked_up}, Runs.{reply_of}}
 use Rattle.cacache_value.specs.Value.{AtLink}
 use Rattle.cacache_jobs.specs.Environment.{Calls}
 use Rattle.cacache_sync.specs.Reads.{bytes_read}

@@ -2,8 +2,8 @@
 use Rattle.std.specs.Prelude.{◌≡◌, ◌⊎◌, ℕ, List, [], Option, None, Some, Result, OnOk, IfErr}
 use Rattle.cacache_core.specs.{declared.{errors.{Error.{Error, TheVariants.{IoError, OutOfMemory}}, Fault.TheVariants.{NotFound, TooDeep}}, integrity.digest.Hash.{Hash}}, PathNames.{home_of}}
 use Rattle.cacache_store.specs.declared.{env.Env.{Env}, store.log.LogItem.{LogItem}}
-use Rattle.cacache_table.specs.declared.command.Command.TheVariants as commands
-use Rattle.cacache_table.specs.{Replies.{done}, Runs.{reply_of, without_message}}
+use Rattle.cacache_calls.specs.declared.command.Command.TheVariants as commands
+use Rattle.cacache_calls.specs.{Replies.{done}, Runs.{reply_of, without_message}}
 use Rattle.cacache_value.specs.Kinds.{node_below}
 use Rattle.cacache_disk.specs.memory.Replay.{tree_of}
 use Rattle.cacache_jobs.specs.Environment.{Calls, RunsTimed}

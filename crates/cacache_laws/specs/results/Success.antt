@@ -1,7 +1,7 @@
 -- Results of calls whose steps all succeed.
 use Rattle.std.specs.Prelude.{◌≡◌, ◌⊎◌, Result, IfErr, MatchResult}
 use Rattle.cacache_core.specs.declared.errors.Error.{Error, TheVariants.{OutOfMemory}}
-use Rattle.cacache_table.specs.Runs.{without_message}
+use Rattle.cacache_calls.specs.Runs.{without_message}
 
 -- an error says that memory was refused
 abbrev pub FailsForMemory : {X : Type 0} → Result X Error → Type 0

@@ -3,8 +3,8 @@ use Rattle.std.specs.Prelude.{◌≡◌, ◌⊎◌, ◌<◌, ◌^◌, ℕ, List,
 use Rattle.serde_json.specs.Data.{null}
 use Rattle.cacache_core.specs.{declared.{errors.Error.{Error}, integrity.{algorithm.Algorithm.{Algorithm}, digest.Hash.{Hash}}}, Integrity.{IsIntegrity, integrity_under}}
 use Rattle.cacache_store.specs.declared.{env.Env.{Env}, store.log.LogItem.{LogItem}}
-use Rattle.cacache_table.specs.declared.command.Command.TheVariants as commands
-use Rattle.cacache_table.specs.{declared.reply.Reply.TheVariants.{Stored}, Runs.{reply_of}}
+use Rattle.cacache_calls.specs.declared.command.Command.TheVariants as commands
+use Rattle.cacache_calls.specs.{declared.reply.Reply.TheVariants.{Stored}, Runs.{reply_of}}
 use Rattle.cacache_jobs.specs.Environment.{RunsNumbered, RunsPut, RunsTimed}
 use Rattle.cacache_sync.specs.put.{Options.{Said}, Puts.{keyed_put, unkeyed_put, insert_of}}
 use Rattle.cacache_laws.specs.{Beside.{IsOther, ShareAddress}, Caches.{IsCache, HasContent, HasKey, IsExcused, Grows}, Inserts.{leads_to}, Keeping.{found_under, KeepsOthers}, Succeeds.{NamesFolder, IsReady}, results.Success.{FailsForMemory}}

@@ -4,8 +4,8 @@ use Rattle.cacache_core.specs.{declared.integrity.digest.Hash.{Hash}, Integrity.
 use Rattle.cacache_store.specs.declared.store.{log.LogItem.{LogItem}, step.Step.TheVariants.{RemoveFile}, answer.Answer.TheVariants.{Done}}
 use Rattle.cacache_disk.specs.{declared.{luck.Luck.TheVariants.{Plain}, node.Node.TheVariants.{Link}}, Tree.{Tree, look}, Rooted.{Rooted}, Apply.{apply}, memory.Replay.{tree_of}}
 use Rattle.cacache_entry.specs.Latest.{Found}
-use Rattle.cacache_table.specs.declared.command.Command.TheVariants as commands
-use Rattle.cacache_table.specs.{declared.reply.Reply.{Reply, TheVariants.{Listed}}, State.{Site, Item}, Table.{opening}, Runs.{Moves, Runs}}
+use Rattle.cacache_calls.specs.declared.command.Command.TheVariants as commands
+use Rattle.cacache_calls.specs.{declared.reply.Reply.{Reply, TheVariants.{Listed}}, State.{Site, Item}, Table.{opening}, Runs.{Moves, Runs}}
 use Rattle.cacache_value.specs.Kinds.{Elsewhere, IsFor}
 use Rattle.cacache_laws.specs.{Caches.{IsCache}, Sequence.{IsSound}, trees.{Contents.{HoldsJust, bucket_in, content_in}, Answers.{AnsweredBy, AnswersOn}, Index.{IndexLists, is_failure}}}
 

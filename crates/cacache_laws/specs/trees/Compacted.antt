@@ -3,7 +3,7 @@ use Rattle.std.specs.Prelude.{◌≡◌, ◌⊎◌, ◌++◌, ℕ, List, [], ◌
 use Rattle.cacache_core.specs.{declared.integrity.digest.Hash.{Hash}, Integrity.{IsIntegrity}, PathNames.{Names, home_of}, Paths.{temp_area}}
 use Rattle.cacache_disk.specs.{declared.node.Node.{Node, TheVariants.{Folder, File}}, Rooted.{Rooted}, Tree.{Tree, look}}
 use Rattle.cacache_entry.specs.Latest.{Found}
-use Rattle.cacache_table.specs.State.{Site}
+use Rattle.cacache_calls.specs.State.{Site}
 use Rattle.cacache_value.specs.Kinds.{Bucket, path_kind}
 use Rattle.cacache_laws.specs.trees.{Collecting.{LinksLeadOut, ReadsAsBefore}, Compacting.{compact_text}, Contents.{content_in}, Housed.{Housed}, Idle.{Finds}, Mending.{found_in}, Temporary.{is_temp_name, temp_at}}
 

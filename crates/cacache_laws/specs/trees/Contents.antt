@@ -2,7 +2,7 @@
 use Rattle.std.specs.{Prelude.{◌≡◌, ◌↔◌, ◌<◌, ◌++◌, ℕ, List, [], ◌∷◌, Option, Some, IsTrue, All, Contains, length}, List.Sorted.{IsStrictlySortedBy}}
 use Rattle.cacache_core.specs.{declared.integrity.digest.Hash.{Hash}, Integrity.{IsHash}, PathNames.{Names, IsProperName, home_of}, Paths.{join, joined, content_names, content_area}}
 use Rattle.cacache_disk.specs.{Rooted.{Rooted}, Tree.{Tree, look}}
-use Rattle.cacache_table.specs.Runs.{Moves}
+use Rattle.cacache_calls.specs.Runs.{Moves}
 use Rattle.cacache_entry.specs.Entry.{Entry}
 use Rattle.cacache_value.specs.Value.{Blob, value_of_tree}
 use Rattle.cacache_walks.specs.{Addresses.{IsStrange}, Listing.{IsByHash, Sorts, content_area_in, hash_cmp}, Reading.{ReadsFolders, top_folder, files_shown}}

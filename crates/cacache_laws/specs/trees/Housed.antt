@@ -4,8 +4,8 @@ use Rattle.cacache_core.specs.PathNames.{Names, home_of}
 use Rattle.cacache_store.specs.declared.store.log.LogItem.{LogItem}
 use Rattle.cacache_disk.specs.{declared.node.Node.{Node}, Tree.{Tree, look}, Rooted.{Rooted}, memory.Replay.{tree_of}}
 use Rattle.cacache_entry.specs.{FittingEntries.{IsEntry}, Latest.{Found}}
-use Rattle.cacache_table.specs.declared.command.Command.TheVariants as commands
-use Rattle.cacache_table.specs.{declared.{command.Delete.{Delete}, reply.Reply.TheVariants.{Done}}, Inserting.{deletion}, Runs.{Moves, Runs}, Sound.{FormedIfWritten}, State.{Site}, Table.{opening}}
+use Rattle.cacache_calls.specs.declared.command.Command.TheVariants as commands
+use Rattle.cacache_calls.specs.{declared.{command.Delete.{Delete}, reply.Reply.TheVariants.{Done}}, Inserting.{deletion}, Runs.{Moves, Runs}, Sound.{FormedIfWritten}, State.{Site}, Table.{opening}}
 use Rattle.cacache_value.specs.{Acts.{list_of}, Kinds.{Elsewhere, Way, path_kind}, Placed.{Placed}, Value.{wide_value}}
 use Rattle.cacache_history.specs.Buckets.{BucketsHaveKeys, HoldOwn}
 use Rattle.cacache_laws.specs.{Caches.{IsCache}, Sequence.{tree_on, AreAnswered}, trees.{Index.{IndexLists}, Mending.{found_in}}}

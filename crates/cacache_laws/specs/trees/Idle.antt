@@ -4,8 +4,8 @@ use Rattle.cacache_core.specs.{declared.errors.{Error.TheVariants.{IoError, OutO
 use Rattle.cacache_store.specs.declared.store.{log.LogItem.{LogItem}, step.Step.TheVariants.{ReadAll}, answer.Answer.TheVariants.{Bytes}}
 use Rattle.cacache_disk.specs.{declared.luck.Luck.TheVariants.{Plain}, Tree.{Tree, look}, Apply.{apply}, memory.Replay.{tree_of}}
 use Rattle.cacache_entry.specs.{Bucket.{entries_of}, Latest.{Found, latest}}
-use Rattle.cacache_table.specs.{declared.{command.Command.{Command}, reply.Reply.{Reply, TheVariants.{Refused}}}, Licence.{licence}, State.{Site}, StepPaths.{bucket_path, content_path}}
-use Rattle.cacache_table.specs.declared.command.Command.TheVariants as commands
+use Rattle.cacache_calls.specs.{declared.{command.Command.{Command}, reply.Reply.{Reply, TheVariants.{Refused}}}, Licence.{licence}, State.{Site}, StepPaths.{bucket_path, content_path}}
+use Rattle.cacache_calls.specs.declared.command.Command.TheVariants as commands
 use Rattle.cacache_value.specs.Kinds.{Content, path_kind}
 use Rattle.cacache_laws.specs.{Caches.{Called}, trees.{Walks.{is_leaf}, Collecting.{LinksLeadOut, ReadsAsBefore}}}
 

@@ -4,8 +4,8 @@ use Rattle.cacache_core.specs.{declared.errors.{Error.TheVariants.{IoError}, Fau
 use Rattle.cacache_disk.specs.{declared.luck.Luck.TheVariants.{Plain}, Tree.{Tree}, Rooted.{Rooted}, Apply.{apply}}
 use Rattle.cacache_store.specs.declared.store.{step.Step.TheVariants.{ReadAll}, answer.Answer.TheVariants.{Bytes}}
 use Rattle.cacache_entry.specs.{Bucket.{entries_of}, Latest.{Found, latest}}
-use Rattle.cacache_table.specs.{StepPaths.{bucket_path}, declared.reply.Reply.TheVariants.{Listed}, State.{Site, Item}, Table.{opening}, Runs.{Moves, Runs}}
-use Rattle.cacache_table.specs.declared.command.Command.TheVariants as commands
+use Rattle.cacache_calls.specs.{StepPaths.{bucket_path}, declared.reply.Reply.TheVariants.{Listed}, State.{Site, Item}, Table.{opening}, Runs.{Moves, Runs}}
+use Rattle.cacache_calls.specs.declared.command.Command.TheVariants as commands
 use Rattle.cacache_laws.specs.trees.Answers.{AnsweredBy, AnswersOn}
 
 -- an error other than that a file or a folder is missing

@@ -4,8 +4,8 @@ use Rattle.cacache_core.specs.{declared.{errors.Error.{Error}, integrity.digest.
 use Rattle.cacache_store.specs.declared.store.{log.LogItem.{LogItem}, plain.PlainTemp.{PlainTemp}}
 use Rattle.cacache_disk.specs.memory.Replay.{IsLog, tree_of}
 use Rattle.cacache_entry.specs.Latest.{Found}
-use Rattle.cacache_table.specs.declared.command.Command.TheVariants as commands
-use Rattle.cacache_table.specs.{declared.{command.{Command.{Command}, Delete.{Delete}, Put.{Put}}, reply.Reply.{Reply}}, Inserting.{deletion}, Sound.{FormedIfWritten, MayBegin}}
+use Rattle.cacache_calls.specs.declared.command.Command.TheVariants as commands
+use Rattle.cacache_calls.specs.{declared.{command.{Command.{Command}, Delete.{Delete}, Put.{Put}}, reply.Reply.{Reply}}, Inserting.{deletion}, Sound.{FormedIfWritten, MayBegin}}
 use Rattle.cacache_history.specs.{Lookups.{SparesKey}, Setup.{call_site, is_outside, may_export}}
 use Rattle.cacache_laws.specs.{Beside.{FitsEntry, ShareAddress}, Caches.{Called, GivesBytes, HasKey, setup_at}, GivenUp.{GivesUpTemp}, Keeping.{found_under}, OpenWriters.{CommitsBytes, IsOpened, OpensWriter}, Standing.{IsStanding}}
 

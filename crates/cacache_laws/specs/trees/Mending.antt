@@ -3,8 +3,8 @@ use Rattle.std.specs.Prelude.{◌≡◌, ℕ, List, [], ◌∷◌, true, false, 
 use Rattle.cacache_core.specs.{declared.integrity.digest.Hash.{Hash}, Integrity.{IsHash}, Meeting.{meets}, PathNames.{Names, home_of}}
 use Rattle.cacache_disk.specs.Tree.{Tree}
 use Rattle.cacache_entry.specs.Latest.{Found, latest}
-use Rattle.cacache_table.specs.declared.command.Command.TheVariants as commands
-use Rattle.cacache_table.specs.{declared.{command.Delete.{Delete}, reply.Reply.{Reply, TheVariants.{Done}}}, Inserting.{deletion}, Runs.{Moves, Runs}, Sound.{FormedIfWritten}, State.{Site}, Table.{opening}}
+use Rattle.cacache_calls.specs.declared.command.Command.TheVariants as commands
+use Rattle.cacache_calls.specs.{declared.{command.Delete.{Delete}, reply.Reply.{Reply, TheVariants.{Done}}}, Inserting.{deletion}, Runs.{Moves, Runs}, Sound.{FormedIfWritten}, State.{Site}, Table.{opening}}
 use Rattle.cacache_value.specs.{Placed.{Placed}, Value.{InFile}}
 use Rattle.cacache_laws.specs.{ReadAnswers.{entries_on}, Sequence.{tree_on, AreAnswered}, trees.{Contents.{HoldsJust, content_in}, Collecting.{Removes}, Verifying.{is_good}}}
 

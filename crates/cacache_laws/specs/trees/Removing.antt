@@ -3,8 +3,8 @@ use Rattle.std.specs.Prelude.{◌≡◌, [], ◌∷◌}
 use Rattle.cacache_core.specs.{declared.integrity.digest.Hash.{Hash}, Paths.{joined, content_names}}
 use Rattle.cacache_store.specs.declared.store.step.Step.TheVariants.{RemoveFile}
 use Rattle.cacache_store.specs.declared.store.answer.Answer.TheVariants as answers
-use Rattle.cacache_table.specs.declared.command.Command.TheVariants as commands
-use Rattle.cacache_table.specs.{declared.reply.Reply.TheVariants.{Done}, State.{Site}, Table.{opening}, Runs.{Moves, Runs}}
+use Rattle.cacache_calls.specs.declared.command.Command.TheVariants as commands
+use Rattle.cacache_calls.specs.{declared.reply.Reply.TheVariants.{Done}, State.{Site}, Table.{opening}, Runs.{Moves, Runs}}
 
 -- a removal that answers Done made one step, which removed the content's file
 abbrev pub RemovalsRun : Type 0

@@ -6,7 +6,7 @@ use Rattle.cacache_store.specs.declared.store.answer.Kind.TheVariants as kinds
 use Rattle.cacache_store.specs.declared.store.answer.Answer.TheVariants as answers
 use Rattle.cacache_store.specs.declared.store.step.Step.TheVariants as steps
 use Rattle.cacache_disk.specs.{declared.node.Node.TheVariants.{File}, Tree.{Tree, listing, look}, Rooted.{Rooted}}
-use Rattle.cacache_table.specs.Runs.{Moves}
+use Rattle.cacache_calls.specs.Runs.{Moves}
 use Rattle.cacache_laws.specs.{Sequence.{tree_on, AreAnswered}, trees.Contents.{bucket_in, content_in}}
 
 -- ---- temporary files

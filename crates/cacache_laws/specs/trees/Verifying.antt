@@ -4,8 +4,8 @@ use Rattle.cacache_core.specs.{declared.{errors.{Error.TheVariants.{OutOfMemory}
 use Rattle.cacache_store.specs.{declared.store.{step.Step.TheVariants.{Exists}, answer.Answer.TheVariants.{There}}, Plain.{PlainAnswer}}
 use Rattle.cacache_disk.specs.{declared.luck.Luck.TheVariants.{Plain}, Tree.{Tree}, Rooted.{Rooted}, Apply.{apply}}
 use Rattle.cacache_entry.specs.Latest.{Found}
-use Rattle.cacache_table.specs.declared.command.Command.TheVariants as commands
-use Rattle.cacache_table.specs.{declared.reply.Reply.{Reply, TheVariants.{Read, Refused}}, State.{Site}, StepPaths.{content_path}, Table.{opening}, Runs.{Moves, Runs}}
+use Rattle.cacache_calls.specs.declared.command.Command.TheVariants as commands
+use Rattle.cacache_calls.specs.{declared.reply.Reply.{Reply, TheVariants.{Read, Refused}}, State.{Site}, StepPaths.{content_path}, Table.{opening}, Runs.{Moves, Runs}}
 use Rattle.cacache_value.specs.{Value.{Blob}, Shows.{blob_bytes}}
 use Rattle.cacache_laws.specs.trees.{Contents.{HoldsJust, content_in}, Answers.{AnsweredBy}, Index.{IndexLists}}
 

@@ -2,7 +2,7 @@
 use Rattle.std.specs.Prelude.{◌≡◌, ◌<◌, ◌++◌, ◌∷◌, ◌↔◌, ℕ, List, [], Bool, true, false, Option, None, Some, Ok, IsTrue, All, Contains, length}
 use Rattle.cacache_core.specs.{PathNames.{Names, IsProperName, names_of}, Paths.{joined}}
 use Rattle.cacache_disk.specs.{declared.{luck.Luck.{Luck}, node.Node.{Node, TheVariants.{Folder, File, Link}}}, Tree.{Tree, look}, Rooted.{Rooted}, Apply.{apply}}
-use Rattle.cacache_table.specs.Runs.{Moves}
+use Rattle.cacache_calls.specs.Runs.{Moves}
 use Rattle.cacache_walks.specs.Reading.{ReadsFolders, top_folder, files_shown}
 
 -- each move was answered by the tree at its place, under any luck

@@ -1,6 +1,6 @@
 //! After calls that copy a content out of the cache, or link a file into it.
 ghost use Rattle.std.specs.Prelude.{Bool};
-ghost use Rattle.cacache_table.specs.declared.command.{How.{How}, Source.{Source}};
+ghost use Rattle.cacache_calls.specs.declared.command.{How.{How}, Source.{Source}};
 ghost use Rattle.cacache_laws.specs.results.{Exports.{CopyMeans, SharingMeans}, Links.{LinkMeans, ContentLinkMeans}};
 
 use cacache_core::errors::Result;

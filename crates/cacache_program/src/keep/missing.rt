@@ -8,7 +8,7 @@ use crate::words::parse_words;
 use cacache::env::Env;
 use cacache::store::{Step, Store};
 use cacache::text::Text;
-use cacache_table::answers::there_of;
+use cacache_calls::answers::there_of;
 use std::alloc::Global;
 use std::io::Write;
 

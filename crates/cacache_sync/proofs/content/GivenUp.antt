@@ -4,7 +4,7 @@ use Rattle.cacache_core.specs.{declared.errors.{Error.{Error, TheVariants.{Entry
 use Rattle.cacache_store.specs.Failures as io
 use Rattle.cacache_store.specs.declared.store.answer.Answer.TheVariants as answers
 use Rattle.cacache_store.specs.declared.store.log.LogItem.{LogItem}
-use Rattle.cacache_table.specs.{Common.{fails}, Runs.{EndsAs}}
+use Rattle.cacache_calls.specs.{Common.{fails}, Runs.{EndsAs}}
 use Rattle.cacache_sync.specs.content.OpenWrites.{AsksToRemove, IsRetried, IsWriteError, RemovesTemp, TriesToRemove, WholeFails, given_up}
 
 asks_tries : (path : List ℕ) (e : Error) (old new : Option (List LogItem)) → AsksToRemove path old new → TriesToRemove path e old new

@@ -4,7 +4,7 @@ use Rattle.cacache_core.specs.declared.errors.Error.{Error}
 use Rattle.cacache_store.specs.declared.store.answer.Answer.TheVariants as answers
 use Rattle.cacache_store.specs.{declared.store.{log.LogItem.{LogItem}, plain.PlainTemp.{PlainTemp}}, Fits.{Fits, Logs}, Plain.{PlainAnswer}}
 use Rattle.cacache_store.specs.declared.store.step.Step.TheVariants as steps
-use Rattle.cacache_table.specs.{Answers.{temp_in}, SingleSteps.{Does}, StepPaths.{temp_path}}
+use Rattle.cacache_calls.specs.{Answers.{temp_in}, SingleSteps.{Does}, StepPaths.{temp_path}}
 use Rattle.cacache_jobs.specs.Brought.{Brings}
 use Rattle.cacache_sync.{specs.content.OpenWrites.{MakesTemp, make_folder}, proofs.content.StepAnswers.{refusal_of, refused_fails, temp_refused}}
 

@@ -2,9 +2,9 @@
 use Rattle.std.proofs.Common.{◌≡◌, inl, inr, ℕ, List, Option, Result, Ok, Err}
 use Rattle.cacache_core.specs.declared.errors.Error.{Error, TheVariants.{EntryNotFound}}
 use Rattle.cacache_store.specs.declared.store.{log.LogItem.{LogItem}, plain.PlainFile.{PlainFile}}
-use Rattle.cacache_table.specs.{declared.{answers.Refusal.{Refusal}, reply.Reply.TheVariants.{Refused}}, Replies.{find_reply, bucket_shown}, Runs.{without_message}}
-use Rattle.cacache_table.proofs.Replies.{finds_shown}
-use Rattle.cacache_table.specs.declared.answers.Refusal.TheVariants as refusals
+use Rattle.cacache_calls.specs.{declared.{answers.Refusal.{Refusal}, reply.Reply.TheVariants.{Refused}}, Replies.{find_reply, bucket_shown}, Runs.{without_message}}
+use Rattle.cacache_calls.proofs.Replies.{finds_shown}
+use Rattle.cacache_calls.specs.declared.answers.Refusal.TheVariants as refusals
 use Rattle.cacache_entry.specs.Entry.{Entry}
 use Rattle.cacache_jobs.specs.Sites.{site_of}
 use Rattle.cacache_sync.specs.content.OpenReads.{FindsKey, OpensKey}

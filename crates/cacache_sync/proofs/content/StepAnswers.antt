@@ -4,8 +4,8 @@ use Rattle.cacache_core.specs.declared.errors.{Error.{Error, TheVariants.{IoErro
 use Rattle.cacache_store.specs.declared.store.answer.Answer.TheVariants as answers
 use Rattle.cacache_store.specs.{declared.store.log.LogItem.{LogItem}, Fits.{Fits, Logs}, Plain.{PlainStep, PlainAnswer}}
 use Rattle.cacache_store.specs.declared.store.step.Step.TheVariants as steps
-use Rattle.cacache_table.specs.{declared.answers.Refusal.{Refusal}, Answers.{done_in, temp_in, file_in}, Common.{ends_with, fails, refuse}, Runs.{EndsAs}, SingleSteps.{FailsAt}}
-use Rattle.cacache_table.specs.declared.answers.Refusal.TheVariants as refusals
+use Rattle.cacache_calls.specs.{declared.answers.Refusal.{Refusal}, Answers.{done_in, temp_in, file_in}, Common.{ends_with, fails, refuse}, Runs.{EndsAs}, SingleSteps.{FailsAt}}
+use Rattle.cacache_calls.specs.declared.answers.Refusal.TheVariants as refusals
 use Rattle.cacache_jobs.specs.Brought.{EndsRefused}
 
 -- ---- an answer that refuses a step

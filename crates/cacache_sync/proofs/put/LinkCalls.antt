@@ -2,8 +2,8 @@
 use Rattle.std.{proofs.Common.{◌≡◌, ℕ, List, Option, Some, None, Result, Ok, Err, subst}, specs.Prelude.{IfOk}}
 use Rattle.cacache_core.specs.declared.{errors.Error.{Error}, integrity.{digest.Hash.{Hash}, algorithm.Algorithm.TheVariants.{Sha256}}}
 use Rattle.cacache_store.specs.declared.store.log.LogItem.{LogItem}
-use Rattle.cacache_table.specs.declared.command.Command.TheVariants as commands
-use Rattle.cacache_table.specs.{declared.{command.Options.{Options}, reply.Reply.TheVariants.{Stored}}, Runs.{reply_of}, Linking.{based, link_target}, Blank.{blank}}
+use Rattle.cacache_calls.specs.declared.command.Command.TheVariants as commands
+use Rattle.cacache_calls.specs.{declared.{command.Options.{Options}, reply.Reply.TheVariants.{Stored}}, Runs.{reply_of}, Linking.{based, link_target}, Blank.{blank}}
 use Rattle.cacache_jobs.specs.{ReadFirst.{Linked, ReadsFirst}, Sites.{site_of}}
 use Rattle.cacache_sync.specs.put.LinkCalls.{link_to, HoldsTarget}
 

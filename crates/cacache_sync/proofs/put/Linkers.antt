@@ -4,8 +4,8 @@ use Rattle.cacache_core.specs.declared.errors.Error.{Error, TheVariants.{OutOfMe
 use Rattle.cacache_store.specs.declared.store.answer.Answer.TheVariants as answers
 use Rattle.cacache_store.specs.{declared.store.{log.LogItem.{LogItem, TheVariants.{Made}}, plain.PlainFile.{PlainFile}}, Fits.{Fits, Logs, is_no_memory}, Plain.{PlainStep, PlainAnswer}}
 use Rattle.cacache_store.specs.declared.store.step.Step.TheVariants as steps
-use Rattle.cacache_table.specs.{declared.{answers.Refusal.{Refusal}, reply.Reply.{Reply, TheVariants.{Refused}}, target.Target.{Target}}, Answers.{file_in, got_in, length_in}, Common.{fails, go_on, refuse}, Linking.{after_size, after_read, target_at}, Runs.{Moves, Runs, Goes, Gone, Gains, Ran, EndsAs, without_message}, State.{State, hashing, over, Hashing, to_link}, Table.{wants, after, piece}, SingleSteps.{Does, FailsAt}}
-use Rattle.cacache_table.proofs.{Going.{answer_cases, no_gain, gone_nowhere, gone_on, gone_over, gone_lost, unmoved}, Memory.{no_memory_after}}
+use Rattle.cacache_calls.specs.{declared.{answers.Refusal.{Refusal}, reply.Reply.{Reply, TheVariants.{Refused}}, target.Target.{Target}}, Answers.{file_in, got_in, length_in}, Common.{fails, go_on, refuse}, Linking.{after_size, after_read, target_at}, Runs.{Moves, Runs, Goes, Gone, Gains, Ran, EndsAs, without_message}, State.{State, hashing, over, Hashing, to_link}, Table.{wants, after, piece}, SingleSteps.{Does, FailsAt}}
+use Rattle.cacache_calls.proofs.{Going.{answer_cases, no_gain, gone_nowhere, gone_on, gone_over, gone_lost, unmoved}, Memory.{no_memory_after}}
 use Rattle.cacache_jobs.proofs.Hashed.{more_read}
 use Rattle.cacache_sync.specs.{declared.put.linker.SyncToLinker.{SyncToLinker}, put.{OpenLinkers.{AsksSize, HasSize, FailsToSize, OpensLinker, OpensSized, OpensTarget, LinkTarget, asks_size, asks_file}, Rest.{links}}, content.OpenReads.{FailsToOpen}}
 use Rattle.cacache_sync.proofs.content.StepAnswers.{Refuses, file_refused, refused_fails}

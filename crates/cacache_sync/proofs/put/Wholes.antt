@@ -5,9 +5,9 @@ use Rattle.cacache_core.specs.declared.{errors.Error.{Error, TheVariants.{IoErro
 use Rattle.cacache_store.specs.declared.store.answer.Answer.TheVariants as answers
 use Rattle.cacache_store.specs.{declared.store.{log.LogItem.{LogItem}, plain.PlainFile.{PlainFile}}, Plain.{PlainAnswer}}
 use Rattle.cacache_store.specs.declared.store.step.Step.TheVariants as steps
-use Rattle.cacache_table.specs.{declared.{answers.Refusal.{Refusal}, reply.Reply.TheVariants.{Stored, Refused}, target.Target.{Target}}, Answers.{got_in, refusal_in}, Common.{ends_with, fails, go_on, refuse}, Linking.{after_read, commit_for, target_at}, Promises.{Stores}, Runs.{Moves, Runs, Ran, reply_of}, State.{hashing, to_link}, Table.{piece}, Verifying.{Gives}}
-use Rattle.cacache_table.proofs.Promises.{runs_keep}
-use Rattle.cacache_table.specs.declared.answers.Refusal.TheVariants as refusals
+use Rattle.cacache_calls.specs.{declared.{answers.Refusal.{Refusal}, reply.Reply.TheVariants.{Stored, Refused}, target.Target.{Target}}, Answers.{got_in, refusal_in}, Common.{ends_with, fails, go_on, refuse}, Linking.{after_read, commit_for, target_at}, Promises.{Stores}, Runs.{Moves, Runs, Ran, reply_of}, State.{hashing, to_link}, Table.{piece}, Verifying.{Gives}}
+use Rattle.cacache_calls.proofs.Promises.{runs_keep}
+use Rattle.cacache_calls.specs.declared.answers.Refusal.TheVariants as refusals
 use Rattle.cacache_sync.specs.{declared.put.linker.SyncToLinker.{SyncToLinker}, put.{OpenLinkers.{StoresWhole, stands_at}, Rest.{links}}}
 
 module _ (t : Target ℕ) (i : List Hash) where

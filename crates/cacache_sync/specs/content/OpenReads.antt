@@ -4,8 +4,8 @@ use Rattle.cacache_core.specs.{declared.{errors.Error.{Error, TheVariants.{Entry
 use Rattle.cacache_store.specs.declared.store.answer.Answer.TheVariants as answers
 use Rattle.cacache_store.specs.declared.store.{log.LogItem.{LogItem}, plain.PlainFile.{PlainFile}}
 use Rattle.cacache_store.specs.declared.store.step.Step.TheVariants as steps
-use Rattle.cacache_table.specs.declared.command.Command.TheVariants as commands
-use Rattle.cacache_table.specs.{declared.reply.Reply.{Reply, TheVariants.{LookedUp, Refused}}, StepPaths.{content_path}, Runs.{Ran, without_message}, Table.{opening}, SingleSteps.{Does, FailsAt}}
+use Rattle.cacache_calls.specs.declared.command.Command.TheVariants as commands
+use Rattle.cacache_calls.specs.{declared.reply.Reply.{Reply, TheVariants.{LookedUp, Refused}}, StepPaths.{content_path}, Runs.{Ran, without_message}, Table.{opening}, SingleSteps.{Does, FailsAt}}
 use Rattle.cacache_sync.specs.declared.content.reader.SyncReader.{SyncReader}
 use Rattle.cacache_entry.specs.Latest.{Found}
 use Rattle.cacache_jobs.specs.Sites.{site_of}

@@ -2,7 +2,7 @@
 use Rattle.std.specs.{Prelude.{◌≡◌, ◌≢◌, ◌⊎◌, ◌<◌, ◌^◌, ◌-◌, ◌++◌, ℕ, List, [], Option, None, Result, Ok, Err, min, length}, Io.KnownBytes.{Appends}, IoError.{error_kind}}
 use Rattle.cacache_core.specs.{declared.{errors.Error.{Error, TheVariants.{IoError, OutOfMemory}}, integrity.algorithm.Algorithm.{Algorithm}}, Contexts.{fault_of}, Hashers.{Holds, algorithm_of}, Integrity.{integrity_under}}
 use Rattle.cacache_store.specs.Failures as io
-use Rattle.cacache_table.specs.{Blank.{blank}, declared.{command.Options.{Options}, reply.Reply.{Reply}, carried.Commit.{Commit}}, StepPaths.{temp_folder, temp_path}, Runs.{Ran}, Storing.{persist}, SingleSteps.{Does, FailsAt}}
+use Rattle.cacache_calls.specs.{Blank.{blank}, declared.{command.Options.{Options}, reply.Reply.{Reply}, carried.Commit.{Commit}}, StepPaths.{temp_folder, temp_path}, Runs.{Ran}, Storing.{persist}, SingleSteps.{Does, FailsAt}}
 use Rattle.cacache_store.specs.declared.store.answer.Answer.TheVariants as answers
 use Rattle.cacache_store.specs.{declared.{env.Env.{Env}, store.{log.LogItem.{LogItem}, plain.PlainTemp.{PlainTemp}}}, Given.{AddsAnswer}, Plain.{PlainStep, PlainAnswer}}
 use Rattle.cacache_store.specs.declared.store.step.Step.TheVariants as steps

@@ -2,7 +2,7 @@
 use Rattle.std.specs.Prelude.{◌≡◌, ℕ, List, Option, Result, Ok, Err}
 use Rattle.cacache_core.specs.declared.errors.Error.{Error}
 use Rattle.cacache_store.specs.{declared.{env.Env.{Env}, store.{log.LogItem.{LogItem}, plain.PlainTemp.{PlainTemp}}}, Given.{AddsAnswer}}
-use Rattle.cacache_table.specs.declared.{reply.Reply.{Reply}, carried.Commit.{Commit}}
+use Rattle.cacache_calls.specs.declared.{reply.Reply.{Reply}, carried.Commit.{Commit}}
 use Rattle.cacache_sync.specs.{content.OpenWrites.{IsFresh, Makes, FailsToMake, EndsWriter, content_commit}, declared.put.writer.SyncWriter.{SyncWriter}, put.Options.{Said, options_of}}
 use Rattle.cacache_jobs.specs.Environment.{MomentOf}
 

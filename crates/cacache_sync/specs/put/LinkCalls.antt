@@ -4,8 +4,8 @@ use Rattle.cacache_core.specs.{declared.integrity.{algorithm.Algorithm.TheVarian
 use Rattle.cacache_store.specs.declared.{env.Env.{Env}, store.log.LogItem.{LogItem}}
 use Rattle.cacache_store.specs.declared.store.step.Step.TheVariants as steps
 use Rattle.cacache_store.specs.declared.store.answer.Answer.TheVariants as answers
-use Rattle.cacache_table.specs.declared.command.Command.TheVariants as commands
-use Rattle.cacache_table.specs.{declared.{command.Link.{Link}, reply.Reply.{Reply, TheVariants.{Stored}}}, Linking.{link_target}, Runs.{Moves, Gains}, Verifying.{ReadsWhole}, Blank.{blank}}
+use Rattle.cacache_calls.specs.declared.command.Command.TheVariants as commands
+use Rattle.cacache_calls.specs.{declared.{command.Link.{Link}, reply.Reply.{Reply, TheVariants.{Stored}}}, Linking.{link_target}, Runs.{Moves, Gains}, Verifying.{ReadsWhole}, Blank.{blank}}
 use Rattle.cacache_jobs.specs.{Environment.{RunsTimed}, ReadFirst.{Linked}, Sites.{site_of}}
 
 -- a link to a file; without a key the moment has no effect

@@ -4,7 +4,7 @@ use Rattle.cacache_core.specs.{declared.{errors.Error.{Error}, integrity.digest.
 use Rattle.cacache_store.specs.declared.{env.Env.{Env}, store.{log.LogItem.{LogItem}, plain.PlainFile.{PlainFile}}}
 use Rattle.cacache_store.specs.declared.store.answer.Answer.TheVariants as answers
 use Rattle.cacache_store.specs.declared.store.step.Step.TheVariants as steps
-use Rattle.cacache_table.specs.{declared.{reply.Reply.{Reply, TheVariants.{Stored, Refused}}, target.Target.{Target}}, Linking.{commit_for, linked_to, with_size, target_at}, Promises.{Stores}, Runs.{Moves, Gains, Gone, Ran, without_message}, State.{State, sizing, opening_file, hashing, to_link}, Verifying.{Gives}, SingleSteps.{Does, FailsAt}}
+use Rattle.cacache_calls.specs.{declared.{reply.Reply.{Reply, TheVariants.{Stored, Refused}}, target.Target.{Target}}, Linking.{commit_for, linked_to, with_size, target_at}, Promises.{Stores}, Runs.{Moves, Gains, Gone, Ran, without_message}, State.{State, sizing, opening_file, hashing, to_link}, Verifying.{Gives}, SingleSteps.{Does, FailsAt}}
 use Rattle.cacache_sync.specs.{declared.put.linker.SyncToLinker.{SyncToLinker}, put.Options.{Said, options_of}, content.OpenReads.{OpensFile, FailsToOpen}}
 use Rattle.cacache_jobs.specs.Environment.{HasMoment, KeepsRest}
 

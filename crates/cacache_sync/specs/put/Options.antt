@@ -2,7 +2,7 @@
 use Rattle.std.specs.Prelude.{ℕ, Bool, false, List, Option, None}
 use Rattle.serde_json.specs.Data.{Data, null}
 use Rattle.cacache_core.specs.declared.integrity.{algorithm.Algorithm.{Algorithm, TheVariants.{Sha256}}, digest.Hash.{Hash}}
-use Rattle.cacache_table.specs.declared.command.Options.{Options}
+use Rattle.cacache_calls.specs.declared.command.Options.{Options}
 
 -- what was said of a content and of its entry
 pub record Said : Type 0 where

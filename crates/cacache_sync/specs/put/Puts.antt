@@ -1,7 +1,7 @@
 -- What a writing call puts, and what an insertion inserts.
 use Rattle.std.specs.Prelude.{ℕ, List, None, Some}
 use Rattle.cacache_core.specs.declared.integrity.algorithm.Algorithm.{Algorithm}
-use Rattle.cacache_table.specs.{declared.command.{Put.{Put}, Insert.{Insert}}, Blank.{blank}}
+use Rattle.cacache_calls.specs.{declared.command.{Put.{Put}, Insert.{Insert}}, Blank.{blank}}
 use Rattle.cacache_sync.specs.put.Options.{Said, options_of}
 
 -- bytes that are put under a key

@@ -2,7 +2,7 @@
 use Rattle.std.specs.Prelude.{◌≡◌, ℕ, List, Option, Result, Ok, Err, length}
 use Rattle.cacache_core.specs.{declared.{errors.Error.{Error}, integrity.{digest.Hash.{Hash}, hasher.Hasher.{Hasher}}}, Hashers.{Holds, algorithm_of}, Integrity.{integrity_under}}
 use Rattle.cacache_store.specs.declared.store.{log.LogItem.{LogItem}, plain.PlainFile.{PlainFile}}
-use Rattle.cacache_table.specs.{declared.{reply.Reply.{Reply, TheVariants.{Refused}}, target.Target.{Target}}, Linking.{commit_for}, Runs.{Gone, Ran, without_message}, State.{State, hashing, to_link}, Storing.{link}}
+use Rattle.cacache_calls.specs.{declared.{reply.Reply.{Reply, TheVariants.{Refused}}, target.Target.{Target}}, Linking.{commit_for}, Runs.{Gone, Ran, without_message}, State.{State, hashing, to_link}, Storing.{link}}
 
 -- a link is made of its target once these bytes were read of it, and no more
 abbrev pub links : Target ℕ → List ℕ → State

@@ -1,11 +1,12 @@
 //! Calls that store bytes.
 ghost use Rattle.std.specs.Prelude.{◌≡◌, IfOk};
 ghost use Rattle.cacache_core.specs.{declared.integrity.algorithm.Algorithm.TheVariants.{Sha256}, Integrity.{integrity_under}};
-ghost use Rattle.cacache_table.specs.declared.command.Command.TheVariants as commands;
-ghost use Rattle.cacache_table.specs.{declared.reply.Reply.TheVariants.{Stored}, Runs.{reply_of}};
+ghost use Rattle.cacache_calls.specs.declared.command.Command.TheVariants as commands;
+ghost use Rattle.cacache_calls.specs.{declared.reply.Reply.TheVariants.{Stored}, Runs.{reply_of}};
 ghost use Rattle.cacache_jobs.specs.Environment.{Steps, RunsNumbered, RunsPut};
 ghost use Rattle.cacache_sync.specs.put.Puts.{keyed_put as keyed_put_of, unkeyed_put as unkeyed_put_of};
 
+use cacache_calls::{Command, Options, Put};
 use cacache_core::bytes::Bytes;
 use cacache_core::errors::Result;
 use cacache_core::integrity::{Algorithm, Integrity};
@@ -13,7 +14,6 @@ use cacache_core::text::Text;
 use cacache_jobs::call;
 use cacache_store::env::{Clock, Env, Names};
 use cacache_store::store::Store;
-use cacache_table::{Command, Options, Put};
 use std::alloc::{AllocError, Global};
 
 /// What to store: the bytes, under a key.

@@ -1,7 +1,7 @@
 //! Links that are opened with options.
 ghost use Rattle.std.specs.Prelude.{None, Some};
 ghost use Rattle.cacache_sync.specs.put.{OpenLinkers.{BeginsLink, OpensLink, asks_file, linked_by}, Options.{options_of}};
-ghost use Rattle.cacache_table.specs.Linking.{linked_to};
+ghost use Rattle.cacache_calls.specs.Linking.{linked_to};
 
 use crate::put::linker::{SyncToLinker, new_target, open_target};
 use crate::put::opts::WriteOpts;

@@ -1,13 +1,14 @@
 //! Links whose target is read in pieces before they are made.
 ghost use Rattle.std.specs.Prelude.{◌≡◌, ℕ, List, None, Some, IfOk};
 ghost use Rattle.cacache_core.specs.declared.integrity.algorithm.Algorithm.TheVariants.{Sha256};
-ghost use Rattle.cacache_table.specs.{declared.reply.Reply.TheVariants.{Stored}, Runs.{reply_of}, Linking.{linked_to}, Blank.{blank}};
+ghost use Rattle.cacache_calls.specs.{declared.reply.Reply.TheVariants.{Stored}, Runs.{reply_of}, Linking.{linked_to}, Blank.{blank}};
 ghost use Rattle.cacache_sync.specs.put.{OpenLinkers.{AsksSize, BeginsLink, CommitsLink, HasHashed, OpensLink, OpensLinker, OpensSized, OpensTarget, OpensWithSize, Sizes, StoresWhole, asks_file, asks_size, linked_by}, Options.{nothing_said, saying}, Rest.{LinksRest, LinksHashed}};
 
 mod reading;
 
 use crate::put::opts::WriteOpts;
 use crate::put::rest::read_rest;
+use cacache_calls::{Options, Target};
 use cacache_core::errors::{Error, Result};
 use cacache_core::hasher::Hasher;
 use cacache_core::integrity::{Algorithm, Integrity};
@@ -16,7 +17,6 @@ use cacache_core::text::Text;
 use cacache_jobs::{link_from, moment, opened_file, told_size};
 use cacache_store::env::{Clock, Env, Names};
 use cacache_store::store::{OpenedFile, Step, Store};
-use cacache_table::{Options, Target};
 use std::alloc::{AllocError, Global};
 
 /// A file that is to be linked to; if the entry's time isn't set, the commit asks the clock for it.

@@ -1,18 +1,18 @@
 //! Calls that make a content of a link to a file.
 ghost use Rattle.std.specs.Prelude.{None, Some, IfOk};
 ghost use Rattle.cacache_core.specs.declared.integrity.algorithm.Algorithm.TheVariants.{Sha256};
-ghost use Rattle.cacache_table.specs.declared.command.Command.TheVariants as commands;
-ghost use Rattle.cacache_table.specs.{declared.reply.Reply.TheVariants.{Stored}, Linking.{based}, Runs.{reply_of}};
+ghost use Rattle.cacache_calls.specs.declared.command.Command.TheVariants as commands;
+ghost use Rattle.cacache_calls.specs.{declared.reply.Reply.TheVariants.{Stored}, Linking.{based}, Runs.{reply_of}};
 ghost use Rattle.cacache_sync.specs.put.LinkCalls.{link_to, HoldsTarget, LinkedTo, RunsLink};
 ghost use Rattle.cacache_jobs.specs.Environment.{Calls};
 
+use cacache_calls::{Command, Link, Options};
 use cacache_core::errors::Result;
 use cacache_core::integrity::{Algorithm, Integrity};
 use cacache_core::text::Text;
 use cacache_jobs::{call, moment};
 use cacache_store::env::{Clock, Env, Names};
 use cacache_store::store::Store;
-use cacache_table::{Command, Link, Options};
 
 /// Makes the call of a link to the target.
 fn make_link<S: Store, C, N>(

@@ -1,10 +1,11 @@
 //! Contents that are written in pieces, with all options at their commit.
 ghost use Rattle.std.specs.{Prelude.{◌≡◌, ℕ, List, Some, IfOk, IfErr, IsOk, OnOk, OnErr, length}, Io.{WritesAtMost, KnownBytes.{Appends, WriteAppends}}};
-ghost use Rattle.cacache_table.specs.{declared.reply.Reply.TheVariants.{Stored}, Promises.{Stores}, Runs.{reply_of}};
+ghost use Rattle.cacache_calls.specs.{declared.reply.Reply.TheVariants.{Stored}, Promises.{Stores}, Runs.{reply_of}};
 ghost use Rattle.cacache_sync.specs.{content.{Passed.{passed}, OpenWrites.{HasTaken, IsSameWriter, RemovesTemp, TriesToRemove, Takes, TakesPart, WholeFails, IsWriteError, IsRetried}}, put.{Options.{nothing_said}, KeyedWriters.{OpensAt, OpensKeyed, CommitsWriter, writer_commit}}};
 
 use crate::content::writer::{Writer, abandon, commit, open, write_or_abandon};
 use crate::put::opts::WriteOpts;
+use cacache_calls::Options;
 use cacache_core::errors::Result;
 use cacache_core::integrity::{Algorithm, Integrity};
 use cacache_core::keeping::{beside, let_go};
@@ -12,7 +13,6 @@ use cacache_core::text::Text;
 use cacache_jobs::moment_of;
 use cacache_store::env::{Clock, Env, Names};
 use cacache_store::store::{Store, TempFile};
-use cacache_table::Options;
 use std::alloc::Global;
 use std::io;
 use std::io::Write;

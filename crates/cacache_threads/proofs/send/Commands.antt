@@ -1,18 +1,18 @@
 -- Commands and replies may cross threads.
 use denote.Param.Send.{IsSend, IsSync, sendable}
 use Rattle.std.proofs.Crossing.{crosses}
-use Rattle.cacache_table.specs.contracts.command.Command as Command
-use Rattle.cacache_table.specs.contracts.command.Delete as Delete
-use Rattle.cacache_table.specs.contracts.command.Export as Export
-use Rattle.cacache_table.specs.contracts.command.Insert as Insert
-use Rattle.cacache_table.specs.contracts.command.Link as Link
-use Rattle.cacache_table.specs.contracts.command.Options as Options
-use Rattle.cacache_table.specs.contracts.command.Put as Put
-use Rattle.cacache_table.specs.contracts.command.Source as Source
-use Rattle.cacache_table.specs.contracts.data.Json as Json
-use Rattle.cacache_table.specs.contracts.reply.Found as Found
-use Rattle.cacache_table.specs.contracts.reply.Items as Items
-use Rattle.cacache_table.specs.contracts.reply.Reply as Reply
+use Rattle.cacache_calls.specs.contracts.command.Command as Command
+use Rattle.cacache_calls.specs.contracts.command.Delete as Delete
+use Rattle.cacache_calls.specs.contracts.command.Export as Export
+use Rattle.cacache_calls.specs.contracts.command.Insert as Insert
+use Rattle.cacache_calls.specs.contracts.command.Link as Link
+use Rattle.cacache_calls.specs.contracts.command.Options as Options
+use Rattle.cacache_calls.specs.contracts.command.Put as Put
+use Rattle.cacache_calls.specs.contracts.command.Source as Source
+use Rattle.cacache_calls.specs.contracts.data.Json as Json
+use Rattle.cacache_calls.specs.contracts.reply.Found as Found
+use Rattle.cacache_calls.specs.contracts.reply.Items as Items
+use Rattle.cacache_calls.specs.contracts.reply.Reply as Reply
 use Rattle.cacache_threads.proofs.send.{Core.{crosses_core}, Entry.{Metadata-send, Metadata-sync}, Json.{Value-send, Value-sync}}
 
 pub Json-send : IsSend (Json.the_field).row

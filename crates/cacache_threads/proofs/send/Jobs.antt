@@ -8,16 +8,16 @@ use Rattle.cacache_jobs.specs.contracts.hashing.Hashing as Hashing
 use Rattle.cacache_jobs.specs.contracts.inserting.Insertion as Insertion
 use Rattle.cacache_jobs.specs.contracts.job.Job as Job
 use Rattle.cacache_jobs.specs.contracts.job.Standing as Standing
-use Rattle.cacache_table.specs.contracts.carried.Lookup as Lookup
+use Rattle.cacache_calls.specs.contracts.carried.Lookup as Lookup
 use Rattle.cacache_jobs.specs.contracts.phase.Phase as Phase
-use Rattle.cacache_table.specs.contracts.carried.Content as Content
+use Rattle.cacache_calls.specs.contracts.carried.Content as Content
 use Rattle.cacache_jobs.specs.contracts.stage.Last as Last
 use Rattle.cacache_jobs.specs.contracts.stage.Stage as Stage
 use Rattle.cacache_jobs.specs.contracts.stage.Then as Then
-use Rattle.cacache_table.specs.contracts.carried.Commit as Commit
+use Rattle.cacache_calls.specs.contracts.carried.Commit as Commit
 use Rattle.cacache_jobs.specs.contracts.syncing.Goal as Goal
 use Rattle.cacache_jobs.specs.contracts.syncing.Syncing as Syncing
-use Rattle.cacache_table.specs.contracts.target.Target as Target
+use Rattle.cacache_calls.specs.contracts.target.Target as Target
 use Rattle.cacache_threads.proofs.send.{Steps.{Step-send}, Commands.{Export-send, Options-send, Reply-send}, Core.{crosses_core}, Walks.{Visit-send, Walk-send}}
 
 Hasher-send : IsSend (Hasher.the_field).row

@@ -1,8 +1,8 @@
 -- A walk may cross threads.
 use denote.Param.Send.{IsSend, IsSync, sendable}
 use Rattle.std.proofs.Crossing.{crosses}
-use Rattle.cacache_table.specs.contracts.visit.Visit as Visit
-use Rattle.cacache_table.specs.contracts.visit.Task as Task
+use Rattle.cacache_calls.specs.contracts.visit.Visit as Visit
+use Rattle.cacache_calls.specs.contracts.visit.Task as Task
 use Rattle.cacache_walks.specs.contracts.walk.Walk as Walk
 use Rattle.cacache_threads.proofs.send.{Commands.{Found-send, Found-sync}, Core.{crosses_core}}
 

@@ -1,9 +1,9 @@
 -- The law of a key after a collection, an export and a write, and that of the read.
 use Rattle.std.proofs.Common.{◌≡◌, ◌⊎◌, inl, inr, ◌<◌, ◌^◌, true, [], ◌∷◌, length, refl, sym, subst, ◌∙◌, arith}
 use Rattle.cacache_core.specs.{Integrity.{Meets}, declared.integrity.algorithm.Algorithm.TheVariants.{Sha256}}
-use Rattle.cacache_table.specs.declared.command.Command.TheVariants as commands
-use Rattle.cacache_table.specs.declared.command.{How.TheVariants.{Copy}, Source.TheVariants.{Key}}
-use Rattle.cacache_table.specs.declared.reply.Reply.TheVariants as replies
+use Rattle.cacache_calls.specs.declared.command.Command.TheVariants as commands
+use Rattle.cacache_calls.specs.declared.command.{How.TheVariants.{Copy}, Source.TheVariants.{Key}}
+use Rattle.cacache_calls.specs.declared.reply.Reply.TheVariants as replies
 use Rattle.cacache_jobs.specs.Sites.{site_of}
 use Rattle.cacache_laws.specs.{Caches.{Called, plain_put}, ExportEffects.{copy_from}}
 use Rattle.cacache_keep.specs.{declared.checking.OddLines.TheVariants.{Refuse}, Behind.{collects, exports, puts}}

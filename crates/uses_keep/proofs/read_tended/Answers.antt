@@ -3,8 +3,8 @@ use Rattle.std.proofs.Common.{◌≡◌, Some, [], ◌∷◌, ap, false, inl, ma
 use Rattle.cacache_core.specs.declared.integrity.digest.Hash.{Hash}
 use Rattle.cacache_disk.specs.memory.Replay.{tree_of}
 use Rattle.cacache_entry.specs.View.{found_view}
-use Rattle.cacache_table.specs.declared.command.Command.TheVariants as commands
-use Rattle.cacache_table.specs.declared.reply.Reply.TheVariants as replies
+use Rattle.cacache_calls.specs.declared.command.Command.TheVariants as commands
+use Rattle.cacache_calls.specs.declared.reply.Reply.TheVariants as replies
 use Rattle.cacache_laws.specs.{Caches.{Called}, trees.{Contents.{content_in}, Mending.{found_in}}}
 use Rattle.cacache_jobs.specs.Sites.{site_of}
 use Rattle.cacache_keep.specs.{declared.checking.OddLines.TheVariants.{Refuse}, Repairing.{RepairsCache}}

@@ -1,5 +1,5 @@
 use Rattle.std.proofs.Common.{◌≡◌}
-use Rattle.cacache_table.{specs.{State.{Site}, Table.{opening}}, proofs.Promises.{calls_answer}}
+use Rattle.cacache_calls.{specs.{State.{Site}, Table.{opening}}, proofs.Promises.{calls_answer}}
 use Rattle.cacache_jobs.{specs.Sites.{site_of}, proofs.{Running.{memory_lost}, Calling.{finds_bytes, reads_first}}}
 use Rattle.cacache_jobs.proofs.run.call.Goals as goal
 

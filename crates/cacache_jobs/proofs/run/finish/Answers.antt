@@ -1,4 +1,4 @@
-use Rattle.cacache_table.specs.Runs.{plain_reply}
+use Rattle.cacache_calls.specs.Runs.{plain_reply}
 use Rattle.cacache_jobs.proofs.Running.{phase_stands, ran_from}
 use Rattle.cacache_jobs.proofs.run.finish.Goals as goal
 

@@ -1,6 +1,6 @@
 use Rattle.std.proofs.Common.{subst}
 use Rattle.cacache_store.specs.Plain.{PlainStep, PlainAnswer, plain_step, plain_answer}
-use Rattle.cacache_table.specs.{State.{State}, Table.{after}, Runs.{plain_reply}}
+use Rattle.cacache_calls.specs.{State.{State}, Table.{after}, Runs.{plain_reply}}
 use Rattle.cacache_jobs.{specs.JobStates.{IsAt, PhaseAt}, proofs.Running.{phase_stands, phase_reached, phase_shrinks, ended, start}}
 use Rattle.cacache_jobs.proofs.run.go_on.Goals as goal
 

@@ -1,4 +1,4 @@
-use Rattle.cacache_table.specs.State.{State}
+use Rattle.cacache_calls.specs.State.{State}
 use Rattle.cacache_jobs.{specs.{JobStates.{PhaseAt}, Effort.{phase_effort}}, proofs.Running.{Reached}}
 use Rattle.cacache_jobs.proofs.run.go_on.Given as goal
 

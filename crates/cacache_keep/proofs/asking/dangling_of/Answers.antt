@@ -1,9 +1,9 @@
 use Rattle.std.proofs.{Common.{◌++◌, ◌∷◌, [], true, false, List, refl, sym, ap, subst, ◌∙◌, map}, lemmas.List.{map-append}}
 use Rattle.cacache_core.specs.declared.errors.Error.TheVariants.{OutOfMemory}
 use Rattle.cacache_entry.specs.{Latest.{Found}, View.{found_view}}
-use Rattle.cacache_table.specs.declared.command.Command.TheVariants as commands
-use Rattle.cacache_table.specs.declared.reply.Reply.TheVariants as replies
-use Rattle.cacache_table.specs.Runs.{without_message}
+use Rattle.cacache_calls.specs.declared.command.Command.TheVariants as commands
+use Rattle.cacache_calls.specs.declared.reply.Reply.TheVariants as replies
+use Rattle.cacache_calls.specs.Runs.{without_message}
 use Rattle.cacache_jobs.specs.Sites.{site_of}
 use Rattle.cacache_keep.specs.Calls.{AsksEach, StopsReading}
 use Rattle.cacache_keep.proofs.{Stopped.{asks_stop, error_as, lost_here, stops_at}, Asked.{absent_asked, keeps_on, none_asked, ran_at, there_asked}}

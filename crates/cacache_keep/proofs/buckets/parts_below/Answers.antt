@@ -1,7 +1,7 @@
 use Rattle.std.{proofs.Common.{◌≡◌, ◌++◌, ℕ, List, false, map, subst}, specs.List.{filter}}
 use Rattle.cacache_core.specs.{declared.errors.Error.TheVariants.{OutOfMemory}, Paths.{join}}
 use Rattle.cacache_store.specs.declared.store.step.Step.TheVariants as steps
-use Rattle.cacache_table.specs.SingleSteps.{FailsAt}
+use Rattle.cacache_calls.specs.SingleSteps.{FailsAt}
 use Rattle.cacache_keep.specs.{Reading.{is_gone}, Sweeping.{ListsFolder}, Buckets.{StopsParts, belongs}}
 use Rattle.cacache_keep.proofs.{IndexParts.{lost_listed, next_unlisted, one_listed}, Stopped.{error_as}}
 use Rattle.cacache_keep.proofs.buckets.parts_below.Goals as goal

@@ -1,5 +1,5 @@
 use Rattle.std.proofs.{Common.{◌≡◌, ◌∙◌, Err, Ok, get_or, length, map, rules, sym, subst}, lemmas.{List.{map-id}, Iterator.{Adapters.{YieldsList-from_vec}, Consumers.{YieldsList-so_far, YieldsList-turn}}}}
-use Rattle.cacache_table.specs.State.{Item}
+use Rattle.cacache_calls.specs.State.{Item}
 use Rattle.cacache_keep.{specs.Calls.{IsFirstError}, proofs.Stopped.{first_error}}
 use Rattle.cacache_keep.proofs.index.entries_of.Goals as goal
 

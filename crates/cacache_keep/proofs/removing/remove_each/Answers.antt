@@ -1,8 +1,8 @@
 use Rattle.std.proofs.Common.{refl}
-use Rattle.cacache_table.specs.declared.command.Command.TheVariants as commands
-use Rattle.cacache_table.specs.declared.reply.Reply.TheVariants as replies
+use Rattle.cacache_calls.specs.declared.command.Command.TheVariants as commands
+use Rattle.cacache_calls.specs.declared.reply.Reply.TheVariants as replies
 use Rattle.cacache_jobs.specs.Sites.{site_of}
-use Rattle.cacache_table.specs.Runs.{without_message}
+use Rattle.cacache_calls.specs.Runs.{without_message}
 use Rattle.cacache_keep.{specs.Calls.{StopsRemoving}, proofs.{Stopped.{error_as}, Asked.{keeps_on, ran_at}, Removed.{one_refused, one_removed}}}
 use Rattle.cacache_keep.proofs.removing.remove_each.Goals as goal
 

@@ -1,6 +1,6 @@
 use Rattle.std.proofs.Common.{ℕ, List, subst}
 use Rattle.cacache_store.specs.declared.store.step.Step.TheVariants as steps
-use Rattle.cacache_table.specs.SingleSteps.{FailsAt}
+use Rattle.cacache_calls.specs.SingleSteps.{FailsAt}
 use Rattle.cacache_keep.proofs.{Rewrites.{securing_refused}, Sweeps.{step_fails}}
 use Rattle.cacache_keep.proofs.rewriting.sync_folder.Goals as goal
 

@@ -1,6 +1,6 @@
 use Rattle.std.proofs.Common.{◌≡◌, ℕ, List, false, subst, sym, ◌∙◌}
 use Rattle.cacache_store.specs.declared.store.step.Step.TheVariants as steps
-use Rattle.cacache_table.specs.SingleSteps.{FailsAt}
+use Rattle.cacache_calls.specs.SingleSteps.{FailsAt}
 use Rattle.cacache_keep.{specs.Reading.{is_gone}, proofs.Sweeps.{unlisted_so}}
 use Rattle.cacache_keep.proofs.sweeping.names_in.Goals as goal
 

@@ -2,7 +2,7 @@ use Rattle.std.proofs.Common.{◌+◌, ℕ, List, [], ◌∷◌, ap, subst, sym,
 use Rattle.cacache_core.specs.{declared.errors.Error.TheVariants.{OutOfMemory}, Paths.{join}}
 use Rattle.cacache_store.specs.declared.store.answer.Answer.TheVariants as answers
 use Rattle.cacache_store.specs.declared.store.step.Step.TheVariants as steps
-use Rattle.cacache_table.specs.Runs.{Gains}
+use Rattle.cacache_calls.specs.Runs.{Gains}
 use Rattle.cacache_keep.{specs.Sweeping.{StopsRemoval, StopsSized}, proofs.{Stopped.{error_as}, Sweeps.{RemovedTo, lost_before, next_kept, one_sized}}}
 use Rattle.cacache_keep.proofs.sweeping.remove_files.Goals as goal
 

@@ -1,7 +1,7 @@
 use Rattle.std.proofs.Common.{ℕ, List, inl, inr, subst}
 use Rattle.cacache_store.specs.declared.store.answer.Answer.TheVariants as answers
 use Rattle.cacache_store.specs.declared.store.step.Step.TheVariants as steps
-use Rattle.cacache_table.specs.SingleSteps.{Does, FailsAt}
+use Rattle.cacache_calls.specs.SingleSteps.{Does, FailsAt}
 use Rattle.cacache_keep.proofs.Sweeps.{removal_refused, sizing_refused, step_fails, told_size}
 use Rattle.cacache_keep.proofs.sweeping.remove_sized.Goals as goal
 

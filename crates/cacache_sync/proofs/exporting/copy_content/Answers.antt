@@ -1,5 +1,5 @@
 use Rattle.std.{proofs.Common.{refl, subst}, specs.Prelude.{IfOk}}
-use Rattle.cacache_table.specs.declared.{command.How.TheVariants.{Copy}, reply.Reply.TheVariants.{Copied}}
+use Rattle.cacache_calls.specs.declared.{command.How.TheVariants.{Copy}, reply.Reply.TheVariants.{Copied}}
 use Rattle.cacache_jobs.specs.ReadFirst.{Verified}
 use Rattle.cacache_sync.proofs.ExportReplies.{says_count, if_checked}
 use Rattle.cacache_sync.proofs.exporting.copy_content.Goals as goal

@@ -1,5 +1,5 @@
 use Rattle.std.{proofs.Common.{subst}, specs.Prelude.{IfOk}}
-use Rattle.cacache_table.specs.declared.reply.Reply.TheVariants.{Done}
+use Rattle.cacache_calls.specs.declared.reply.Reply.TheVariants.{Done}
 use Rattle.cacache_jobs.specs.ReadFirst.{Verified}
 use Rattle.cacache_sync.proofs.ExportReplies.{says_nothing, if_checked}
 use Rattle.cacache_sync.proofs.exporting.link_content.Goals as goal

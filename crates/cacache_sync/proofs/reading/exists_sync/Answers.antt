@@ -1,6 +1,6 @@
 use Rattle.std.proofs.Common.{refl, ap, ◌∙◌}
 use Rattle.cacache_store.specs.Plain.{plain_answer}
-use Rattle.cacache_table.specs.{declared.reply.Reply.TheVariants.{Exists}, Replies.{there_reply}, Runs.{reply_of}}
+use Rattle.cacache_calls.specs.{declared.reply.Reply.TheVariants.{Exists}, Replies.{there_reply}, Runs.{reply_of}}
 use Rattle.cacache_sync.proofs.Asking.{asks_at, told_at}
 use Rattle.cacache_sync.proofs.reading.exists_sync.Goals as goal
 

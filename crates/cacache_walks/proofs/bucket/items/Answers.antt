@@ -1,6 +1,6 @@
 use Rattle.std.{proofs.Common.{◌≡◌, subst, map, ap, ◌∙◌}, specs.Prelude.{IfOk}}
 use Rattle.cacache_entry.specs.View.{entry_view}
-use Rattle.cacache_table.specs.Runs.{plain_item}
+use Rattle.cacache_calls.specs.Runs.{plain_item}
 use Rattle.cacache_walks.proofs.BucketItems.{items_in-of}
 use Rattle.cacache_walks.proofs.bucket.items.Goals as goal
 

@@ -1,5 +1,5 @@
 use Rattle.std.proofs.Common.{◌≡◌, ◌++◌, ◌≤◌, length, drop}
-use Rattle.cacache_table.specs.Walking.{tasks_of}
+use Rattle.cacache_calls.specs.Walking.{tasks_of}
 use Rattle.cacache_walks.specs.WalkStates.{pending}
 use Rattle.cacache_walks.proofs.entering.push_tasks.Given as goal
 

@@ -1,6 +1,6 @@
 use Rattle.std.proofs.Common.{Some, sym, ap, subst, ◌∙◌, refl}
 use Rattle.cacache_store.{specs.Plain.{plain_step}, proofs.Plain.{plain_step_same, plain_answer_same}}
-use Rattle.cacache_table.specs.{Table.{after}, Runs.{plain_reply}}
+use Rattle.cacache_calls.specs.{Table.{after}, Runs.{plain_reply}}
 use Rattle.cacache_world.{specs.Turned.{GoesInto, AreOwn}, proofs.Turning.{wanted_out, not_over}}
 use Rattle.cacache_world.proofs.turn.advance.Goals as goal
 

@@ -1,6 +1,6 @@
 use Rattle.std.proofs.Common.{refl}
-use Rattle.cacache_table.specs.declared.command.Command.TheVariants as commands
-use Rattle.cacache_table.specs.Replies.{done}
+use Rattle.cacache_calls.specs.declared.command.Command.TheVariants as commands
+use Rattle.cacache_calls.specs.Replies.{done}
 use Rattle.uses.proofs.Told.{called, emptied}
 use Rattle.uses.proofs.calls.clear.Goals as goal
 

@@ -1,5 +1,5 @@
 use Rattle.std.proofs.Common.{refl}
-use Rattle.cacache_table.specs.declared.command.Command.TheVariants as commands
+use Rattle.cacache_calls.specs.declared.command.Command.TheVariants as commands
 use Rattle.cacache.specs.Calls.{bytes_read}
 use Rattle.uses.proofs.Told.{called, read_hash_told}
 use Rattle.uses.proofs.calls.read_hash.Goals as goal

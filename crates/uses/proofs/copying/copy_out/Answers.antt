@@ -1,5 +1,5 @@
 use Rattle.std.proofs.Common.{refl}
-use Rattle.cacache_table.specs.declared.reply.Reply.TheVariants.{Copied}
+use Rattle.cacache_calls.specs.declared.reply.Reply.TheVariants.{Copied}
 use Rattle.cacache_laws.specs.ExportEffects.{copy_of}
 use Rattle.uses.proofs.Told.{called, counted}
 use Rattle.uses.proofs.copying.copy_out.Goals as goal

@@ -1,6 +1,6 @@
 -- The error is an item.
 use Rattle.std.proofs.{Common.{◌≡◌, Err, length, rules, subst}, lemmas.Iterator.{Adapters.{YieldsList-from_vec}, Consumers.{YieldsList-turn}}}
-use Rattle.cacache_table.specs.ListReplies.{In}
+use Rattle.cacache_calls.specs.ListReplies.{In}
 use Rattle.uses.proofs.Listed.{in_at}
 use Rattle.uses.proofs.listing.entries.Goals as goal
 

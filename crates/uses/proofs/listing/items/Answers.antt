@@ -1,4 +1,4 @@
-use Rattle.cacache_table.specs.Runs.{plain_reply}
+use Rattle.cacache_calls.specs.Runs.{plain_reply}
 use Rattle.uses.proofs.Listed.{listing_called, lists_told, refused_told}
 use Rattle.uses.proofs.listing.items.Goals as goal
 

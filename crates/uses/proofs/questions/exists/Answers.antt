@@ -1,6 +1,6 @@
 use Rattle.std.proofs.Common.{refl}
-use Rattle.cacache_table.specs.declared.command.Command.TheVariants as commands
-use Rattle.cacache_table.specs.declared.reply.Reply.TheVariants.{Exists}
+use Rattle.cacache_calls.specs.declared.command.Command.TheVariants as commands
+use Rattle.cacache_calls.specs.declared.reply.Reply.TheVariants.{Exists}
 use Rattle.uses.proofs.{Asked.{there_told, absent_told}, Told.{called}}
 use Rattle.uses.proofs.questions.exists.Goals as goal
 

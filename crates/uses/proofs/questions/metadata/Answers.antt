@@ -1,6 +1,6 @@
 use Rattle.std.proofs.Common.{refl}
-use Rattle.cacache_table.specs.declared.command.Command.TheVariants as commands
-use Rattle.cacache_table.specs.Replies.{looked_up}
+use Rattle.cacache_calls.specs.declared.command.Command.TheVariants as commands
+use Rattle.cacache_calls.specs.Replies.{looked_up}
 use Rattle.uses.proofs.{Asked.{lookup_told, entry_told, led_told, nothing_told}, Told.{called}}
 use Rattle.uses.proofs.questions.metadata.Goals as goal
 

@@ -1,5 +1,5 @@
 use Rattle.std.proofs.Common.{◌≡◌, ◌+◌, ◌∙◌, List, ap, rules, subst}
-use Rattle.cacache_table.specs.declared.reply.Reply.{Reply}
+use Rattle.cacache_calls.specs.declared.reply.Reply.{Reply}
 use Rattle.cacache_world.specs.WorldKept.{MovesOn}
 use Rattle.cacache_shared.specs.Seats.{Taken, after_move, replies_after}
 use Rattle.cacache_shared.proofs.inside.Inside.go.Goals as goal

@@ -1,6 +1,6 @@
 use Rattle.std.proofs.Common.{◌≤◌, ℕ, List, Option}
 use Rattle.cacache_store.specs.declared.store.log.LogItem.{LogItem}
-use Rattle.cacache_table.specs.State.{Item}
+use Rattle.cacache_calls.specs.State.{Item}
 use Rattle.cacache_walks.specs.Iterating.{Gave, IsListing, KeepsEnv, left, steps_left}
 use Rattle.cacache_walks.proofs.iterator.Ls.fill.Given as goal
 

@@ -1,6 +1,6 @@
 use Rattle.std.proofs.{Common.{◌∙◌, Ok, Err, length, refl, ap}, lemmas.List.{length-reverse}}
 use Rattle.cacache_store.specs.Plain.{PlainStep, PlainAnswer, plain_step, plain_answer}
-use Rattle.cacache_table.proofs.Going.{gone_lost}
+use Rattle.cacache_calls.proofs.Going.{gone_lost}
 use Rattle.cacache_walks.{specs.Iterating.{listing_state}, proofs.{VisitAnswers.{visited, fewer_steps, no_more_items}, Filling.{readied, fewer_steps_as, fewer_items_as}}}
 use Rattle.cacache_walks.proofs.iterator.Ls.go_on.Goals as goal
 

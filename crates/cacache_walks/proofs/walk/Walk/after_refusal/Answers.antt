@@ -1,4 +1,4 @@
-use Rattle.cacache_table.specs.Walking.{walk_on}
+use Rattle.cacache_calls.specs.Walking.{walk_on}
 use Rattle.cacache_walks.{specs.WalkStates.{pending}, proofs.Giving.{gave_no}}
 use Rattle.cacache_walks.proofs.walk.Walk.after_refusal.Goals as goal
 

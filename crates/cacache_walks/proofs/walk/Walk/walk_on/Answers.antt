@@ -1,5 +1,5 @@
 use Rattle.std.proofs.Common.{sym, ◌∙◌}
-use Rattle.cacache_table.specs.Walking.{walk_on}
+use Rattle.cacache_calls.specs.Walking.{walk_on}
 use Rattle.cacache_walks.{specs.WalkStates.{pending}, proofs.Giving.{stumbled, gave_yes, gave_no}}
 use Rattle.cacache_walks.proofs.walk.Walk.walk_on.Goals as goal
 

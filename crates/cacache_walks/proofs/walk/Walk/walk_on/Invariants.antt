@@ -1,5 +1,5 @@
 use Rattle.std.proofs.Common.{◌≡◌, List, length}
-use Rattle.cacache_table.specs.{State.{Item}, Walking.{walk_on}}
+use Rattle.cacache_calls.specs.{State.{Item}, Walking.{walk_on}}
 use Rattle.cacache_walks.specs.WalkStates.{Counts, pending, walk_of}
 use Rattle.cacache_walks.proofs.walk.Walk.walk_on.Given as goal
 

@@ -1,0 +1,212 @@
+-- Which state leads to which, in one place: every call keeps a property of states that a few moves keep.
+use Rattle.std.proofs.Common.{◌≡◌, ◌+◌, ◌-◌, ◌==◌, ℕ, Bool, true, false, cond, nat_le, List, [], ◌∷◌, ◌++◌, Option, None, Some, Result, Ok, length, take, drop, sym, subst}
+use Rattle.std.specs.Prelude.{All}
+use Rattle.cacache_core.specs.{declared.errors.{Fault.{Fault}, Error.TheVariants.{IntegrityError, OutOfMemory}, IntegrityFault.TheVariants.{Check}}, Integrity.{actual}, Meeting.{meets}}
+use Rattle.cacache_core.specs.declared.errors.Fault.TheVariants as faults
+use Rattle.cacache_store.specs.{declared.store.{answer.Name.{Name}, plain.{PlainFile.{PlainFile}, PlainTemp.{PlainTemp}}}, Plain.{PlainStep, PlainAnswer}}
+use Rattle.cacache_store.specs.declared.store.step.Step.TheVariants as steps
+use Rattle.cacache_entry.specs.Latest.{Found}
+use Rattle.cacache_calls.specs.{declared.{answers.Refusal.{Refusal}, reply.Reply.TheVariants.{Copied, Done, Exists, Listed, Read}, carried.{Commit.{Commit}, Lookup.{Lookup}, Content.{Content}}, target.Target.{Target}, visit.{Visit.{Visit, TheVariants.{Enter, ReadBucket, RemoveFile, RemoveFolder}}, Task.{Task, TheVariants.{Make, Stumble}}}}, Answers.{done_in, temp_in, written_in, synced_in, there_in, taken_in, bytes_in, file_in, got_in, length_in, names_in}, Common.{ends_with, fails, go_on}, ContentReads.{checked, answer_there, answer_absent}, Exporting.{copied_count}, Inserting.{bucket_line, recorded, after_append}, Linking.{with_size, after_size, after_read, hashed_path}, Looking.{found_in, found_for, after_bucket, no_bucket}, State.{State, doing, creating, writing, syncing, persisting, linking, confirming, appending, looking, reading, asking, sizing, opening_file, hashing, copying, walking, over, Insertion, Hashing, to_link, Errand, make_folder, sync_file, sync_dir, Item, Walk}, StepPaths.{temp_path, content_folder}, Storing.{placed, secured, write_rest, after_write, after_confirm}, Table.{piece, wants, after}, Walking.{EachVisit, most, failed, give, miss, walk_on, tasks_of, leaving, too_many, entered, unread_bucket, listed, visit_step, after_visit, items_in}}
+use Rattle.cacache_calls.proofs.{Branches.{cond_leads, go_on_leads}, Leading.{moves_on, secures, secures_found, records}, Visits.{each_append, MayMeet, each_name, each_leaving}}
+
+-- every walk satisfies this
+abbrev pub AnyWalk : Bool → Type 0
+AnyWalk clears = Unit {0}
+
+-- ---- answers
+
+-- a good answer to a step returns this
+abbrev pub Brings : {X : Type 0} → (PlainStep → PlainAnswer → Type 0) → PlainStep → (PlainAnswer → Result X Refusal) → X → Type 0
+Brings Good step part x = (a : PlainAnswer) × Good step a × (part a ≡ Ok x)
+
+-- a good answer to a state's next step
+abbrev pub GoodFor : (PlainStep → PlainAnswer → Type 0) → Option PlainStep → PlainAnswer → Type 0
+GoodFor Good None a = Unit {0}
+GoodFor Good (Some step) a = Good step a
+
+-- every answer is good
+abbrev pub AnyAnswer : PlainStep → PlainAnswer → Type 0
+AnyAnswer step a = Unit {0}
+
+any_for : (o : Option PlainStep) (a : PlainAnswer) → GoodFor AnyAnswer o a
+any_for None a = tt
+any_for (Some step) a = tt
+
+-- ---- the moves, block by block
+
+-- a sync may come before each state that satisfies P
+abbrev pub Syncs : (State → Type 0) → Type 0
+Syncs P = (path : List ℕ) (s : State) → P s → P (doing (sync_file path) s) × P (doing (sync_dir path) s)
+
+-- the call first makes the folder of a content
+abbrev pub in_folder : Commit → State → State
+in_folder c s = doing (make_folder (content_folder c.cache c.computed)) s
+
+-- for the good answers to steps, and a property of states
+module _ (Good : PlainStep → PlainAnswer → Type 0) (P : State → Type 0) where
+  -- a step that fails, out of memory, and an errand that is done
+  pub record ClosedEnds : Type 0 where
+    pub failed : (s : State) (fault : Fault) → P s → P (fails fault)
+    pub memory : (s : State) → P s → P (ends_with OutOfMemory)
+    pub errand : (e : Errand) (s : State) → P (doing e s) → P s
+
+  -- a commit: it makes, writes, syncs and moves its file, or makes its link, until the content is stored
+  pub record ClosedCommit : Type 0 where
+    pub created : (number : ℕ) (c : Commit) (rest : List ℕ) (file : PlainTemp) → Brings Good (steps.CreateTemp (temp_path c.cache number)) temp_in file → P (creating number c rest) → P (writing c file rest)
+    pub wrote : (c : Commit) (file : PlainTemp) (rest : List ℕ) (w : PlainTemp × ℕ) → Brings Good (steps.Write file rest) written_in w → P (writing c file rest) → P (writing c w.0 (drop w.1 rest))
+    pub moved : (c : Commit) (file : PlainTemp) → P (writing c file []) → P (in_folder c (syncing c file)) × P (in_folder c (persisting c file))
+    pub synced : (c : Commit) (file new : PlainTemp) → Brings Good (steps.SyncTemp file) synced_in new → P (syncing c file) → P (persisting c new)
+    pub persisted : (c : Commit) (file : PlainTemp) (fault : Fault) → P (persisting c file) → P (confirming c fault)
+    pub linked : (c : Commit) (target : List ℕ) (fault : Fault) → P (linking c target) → P (confirming c fault)
+    pub there : (c : Commit) (fault : Fault) → P (confirming c fault) → P (placed c) × Syncs P
+
+  -- lookups, reads and existence checks
+  pub record ClosedReads : Type 0 where
+    pub found : (l : Lookup) (found : Option Found) → P (looking l) → P (found_for l l.aim found)
+    pub met : (k : Content) (bytes : List ℕ) → meets k.integrity bytes ≡ true → P (reading k) → P (over (Read bytes))
+    pub unmet : (k : Content) (bytes : List ℕ) → P (reading k) → P (ends_with (IntegrityError (Check k.integrity (actual k.integrity bytes))))
+    pub asked : (k : Content) (there : Bool) → P (asking k) → P (over (Exists there))
+
+  -- files that a call reads to their end, and copies
+  pub record ClosedFiles : Type 0 where
+    pub sized : (t : Target ℕ) (n : ℕ) → P (sizing t) → P (opening_file (to_link (with_size t n)))
+    pub opened : (x : Hashing) (file : PlainFile) → Brings Good (steps.Open (hashed_path x)) file_in file → P (opening_file x) → P (hashing x file [])
+    pub got : (x : Hashing) (file : PlainFile) (bytes : List ℕ) (g : PlainFile × List ℕ) → Brings Good (steps.Read file piece) got_in g → P (hashing x file bytes) → P (after_read x bytes g)
+    pub copied : (from to : List ℕ) (count : Option ℕ) (n : ℕ) → P (copying from to count) → P (over (Copied (copied_count count n)))
+
+-- and for a property of walks, which depends on whether they clear, and one of each of their visits
+module _ (Good : PlainStep → PlainAnswer → Type 0) (P : State → Type 0) (K : Bool → Type 0) (V : Visit → Type 0) where
+  -- walks, which visit what the names of a folder lead to
+  pub record ClosedWalk : Type 0 where
+    pub visited : (w : Walk) (v : Visit) (todo : List Task) → P (walking w v todo) → K w.clears × (V v × EachVisit V todo)
+    pub visiting : (w : Walk) (v : Visit) (todo : List Task) → K w.clears → V v → EachVisit V todo → P (walking w v todo)
+    pub names : (b : Bool) (level : ℕ) (p : List ℕ) (names : List Name) → Brings Good (steps.ReadDir p) names_in names → K b → V (Enter p level) → All (MayMeet V level p b) names
+    pub left : (level : ℕ) (p : List ℕ) → K true → V (Enter p level) → V (RemoveFolder p)
+    pub cleared : K true → P (over Done)
+    pub listed : (items : List Item) → K false → P (over (Listed items))
+
+  -- all moves; once an insertion's line is in its bucket, syncs lead to its reply
+  pub record Closed : Type 0 where
+    pub ends : ClosedEnds Good P
+    pub commits : ClosedCommit Good P
+    pub inserts : (i : Insertion) → P (appending i) → P (over i.reply) × Syncs P
+    pub reads : ClosedReads Good P
+    pub files : ClosedFiles Good P
+    pub walks : ClosedWalk
+
+  -- ---- all states
+
+  -- of a state whose step may fail, or may get no memory
+  module _ (c : Closed) (memory : P (ends_with OutOfMemory)) (fails_so : (fault : Fault) → P (fails fault)) where
+    leads : {X : Type 0} (a : Result X Refusal) (next : X → State) → ((x : X) → a ≡ Ok x → P (next x)) → P (go_on a fails next)
+    leads a next k = go_on_leads P a fails next memory fails_so k
+
+    rests : (x : Commit) (file : PlainTemp) (rest : List ℕ) → P (writing x file rest) → P (write_rest x file rest)
+    rests x file [] h = let m = c.commits.moved x file h in moves_on (λ s. P (in_folder x s)) x file m.0 m.1
+    rests x file (b ∷ bs) h = h
+
+    writes : (x : Commit) (file : PlainTemp) (rest : List ℕ) (w : PlainTemp × ℕ) → Brings Good (steps.Write file rest) written_in w → P (writing x file rest) → P (after_write x rest w)
+    writes x file rest w b h = cond_leads P (w.1 == 0) (fails faults.WriteZero) (write_rest x w.0 (drop w.1 rest)) (λ _. fails_so faults.WriteZero) (λ _. rests x w.0 (drop w.1 rest) (c.commits.wrote x file rest w b h))
+
+    -- a stored content goes on like one that is found after a fault, for any fault
+    stored : (x : Commit) (a : Result (Unit {0}) Refusal) → ((fault : Fault) → P (confirming x fault)) → P (go_on a (confirming x) (λ _. secured x))
+    stored x a k = go_on_leads P a (confirming x) (λ _. secured x) memory k (λ _ _. let m = c.commits.there x faults.Device (k faults.Device) in secures P m.1 x m.0)
+
+    confirms : (x : Commit) (fault : Fault) (there : Bool) → P (confirming x fault) → P (after_confirm x fault there)
+    confirms x fault true h = let m = c.commits.there x fault h in secures_found P m.1 x m.0
+    confirms x fault false h = fails_so fault
+
+    appends : (i : Insertion) (n : ℕ) → P (appending i) → P (after_append i n)
+    appends i n h = let m = c.inserts i h in cond_leads P (nat_le (length (bucket_line i)) n) (recorded i) (fails faults.ShortAppend) (λ _. records P m.1 i m.0) (λ _. fails_so faults.ShortAppend)
+
+    unread : (l : Lookup) (fault : Fault) → P (looking l) → P (no_bucket l fault)
+    unread l faults.NotFound h = c.reads.found l None h
+    unread l fault h = fails_so fault
+
+    checks : (k : Content) (bytes : List ℕ) → P (reading k) → P (checked k bytes)
+    checks k bytes h = cond_leads P (meets k.integrity bytes) (over (Read bytes)) (ends_with (IntegrityError (Check k.integrity (actual k.integrity bytes)))) (λ e. c.reads.met k bytes e h) (λ _. c.reads.unmet k bytes h)
+
+    -- ---- walks
+
+    finishes : (b : Bool) (items : List Item) → K b → P (cond b (over Done) (over (Listed items)))
+    finishes true items h = c.walks.cleared h
+    finishes false items h = c.walks.listed items h
+
+    stops : (b : Bool) (items : List Item) → K b → P (cond b (fails faults.TooDeep) (over (Listed items)))
+    stops true items h = fails_so faults.TooDeep
+    stops false items h = c.walks.listed items h
+
+    leaves : (b : Bool) (level : ℕ) (p : List ℕ) → K b → V (Enter p level) → EachVisit V (leaving b level p)
+    leaves true level p h is = each_leaving V level p (c.walks.left level p h is)
+    leaves false level p h is = tt
+
+    gives : (w : Walk) (items : List Item) (next : Walk → State) → K w.clears → ((v : Walk) → K v.clears → P (next v)) → P (give w items next)
+    gives w items next h k =
+        let more : Walk = record w { items = w.items ++ items } in
+        let full : Walk = record w { items = take most (w.items ++ items) } in
+        cond_leads P (nat_le (length w.items + length items) most) (next more) (too_many full) (λ _. k more h) (λ _. stops w.clears (full.items ++ failed faults.TooDeep ∷ []) h)
+
+    misses : (w : Walk) (next : Walk → State) (fault : Fault) → K w.clears → ((v : Walk) → K v.clears → P (next v)) → P (miss w next fault)
+    misses w next fault h k = cond_leads P w.clears (fails fault) (give w (failed fault ∷ []) next) (λ _. fails_so fault) (λ _. gives w (failed fault ∷ []) next h k)
+
+    goes_on : (todo : List Task) → EachVisit V todo → (w : Walk) → K w.clears → P (walk_on todo w)
+    goes_on [] k w h = finishes w.clears w.items h
+    goes_on (Stumble fault path ∷ todo) k w h = misses w (walk_on todo) fault h (goes_on todo k)
+    goes_on (Make v ∷ todo) k w h = c.walks.visiting w v todo h k.0 k.1
+
+    module _ (w : Walk) (todo : List Task) (h : K w.clears) (k : EachVisit V todo) where
+      missed : (fault : Fault) → P (miss w (walk_on todo) fault)
+      missed fault = misses w (walk_on todo) fault h (goes_on todo k)
+
+      unlisted : (fault : Fault) → P (unread_bucket w todo fault)
+      unlisted faults.NotFound = goes_on todo k w h
+      unlisted fault = missed fault
+
+      enters : (p : List ℕ) (level : ℕ) (names : List Name) → Brings Good (steps.ReadDir p) names_in names → V (Enter p level) → P (entered w p level todo names)
+      enters p level names b is =
+          let first : List Task = tasks_of w.clears level p names in
+          let leave : List Task = leaving w.clears level p in
+          let next : Walk = record w { left = w.left - length names } in
+          let own : EachVisit V first = each_name V level p w.clears names (c.walks.names w.clears level p names b h is) in
+          cond_leads P (nat_le (length names) w.left) (walk_on (first ++ leave ++ todo) next) (too_many w)
+          (λ _. goes_on (first ++ leave ++ todo) (each_append V (first ++ leave) todo (each_append V first leave own (leaves w.clears level p h is)) k) next h) (λ _. stops w.clears (w.items ++ failed faults.TooDeep ∷ []) h)
+
+      removed : (a : PlainAnswer) → P (go_on (done_in a) (miss w (walk_on todo)) (λ _. walk_on todo w))
+      removed a = go_on_leads P (done_in a) (miss w (walk_on todo)) (λ _. walk_on todo w) memory missed (λ _ _. goes_on todo k w h)
+
+      visits : (v : Visit) (a : PlainAnswer) → Good (visit_step v) a → V v → P (after_visit w v todo a)
+      visits (Enter p level) a good is =
+          go_on_leads P (names_in a) (miss w (walk_on todo)) (entered w p level todo) memory missed (λ names e. enters p level names (a, good, e) is)
+      visits (ReadBucket p) a good is = go_on_leads P (bytes_in a) (unread_bucket w todo) (listed w todo) memory unlisted (λ bytes _. gives w (items_in bytes) (walk_on todo) h (goes_on todo k))
+      visits (RemoveFile p) a good is = removed a
+      visits (RemoveFolder p) a good is = removed a
+
+    -- ---- each state
+
+    keeps : (s : State) (a : PlainAnswer) → GoodFor Good (wants s) a → P s → P (after s a)
+    keeps (doing e s) a good h = leads (done_in a) (λ _. s) (λ _ _. c.ends.errand e s h)
+    keeps (creating number x rest) a good h = leads (temp_in a) (λ file. write_rest x file rest) (λ file e. rests x file rest (c.commits.created number x rest file (a, good, e) h))
+    keeps (writing x file rest) a good h = leads (written_in a) (after_write x rest) (λ w e. writes x file rest w (a, good, e) h)
+    keeps (syncing x file) a good h = leads (synced_in a) (persisting x) (λ new e. c.commits.synced x file new (a, good, e) h)
+    keeps (persisting x file) a good h = stored x (done_in a) (λ fault. c.commits.persisted x file fault h)
+    keeps (linking x target) a good h = stored x (done_in a) (λ fault. c.commits.linked x target fault h)
+    keeps (confirming x fault) a good h = go_on_leads P (there_in a) (λ _. fails fault) (after_confirm x fault) memory (λ _. fails_so fault) (λ there _. confirms x fault there h)
+    keeps (appending i) a good h = leads (taken_in a) (after_append i) (λ n _. appends i n h)
+    keeps (looking l) a good h = go_on_leads P (bytes_in a) (no_bucket l) (after_bucket l) memory (λ fault. unread l fault h) (λ bytes _. c.reads.found l (found_in l.key bytes) h)
+    keeps (reading k) a good h = leads (bytes_in a) (checked k) (λ bytes _. checks k bytes h)
+    keeps (asking k) a good h = go_on_leads P (there_in a) answer_absent answer_there memory (λ _. c.reads.asked k false h) (λ there _. c.reads.asked k there h)
+    keeps (sizing t) a good h = leads (length_in a) (after_size t) (λ n _. c.files.sized t n h)
+    keeps (opening_file x) a good h = leads (file_in a) (λ file. hashing x file []) (λ file e. c.files.opened x file (a, good, e) h)
+    keeps (hashing x file bytes) a good h = leads (got_in a) (after_read x bytes) (λ g e. c.files.got x file bytes g (a, good, e) h)
+    keeps (copying from to count) a good h = leads (taken_in a) (λ n. over (Copied (copied_count count n))) (λ n _. c.files.copied from to count n h)
+    keeps (walking w v todo) a good h = let k = c.walks.visited w v todo h in visits w todo k.0 k.1.1 v a good k.1.0
+    keeps (over reply) a good h = h
+
+  -- after a good answer to the state's next step
+  pub kept : Closed → (s : State) (step : PlainStep) (a : PlainAnswer) → P s → wants s ≡ Some step → Good step a → P (after s a)
+  kept c s step a h w good = keeps c (c.ends.memory s h) (λ fault. c.ends.failed s fault h) s a (subst (λ o. GoodFor Good o a) (sym w) good) h
+
+module _ (P : State → Type 0) (K : Bool → Type 0) (V : Visit → Type 0) where
+  -- after any answer
+  pub kept_always : Closed AnyAnswer P K V → (s : State) (a : PlainAnswer) → P s → P (after s a)
+  kept_always c s a h = keeps AnyAnswer P K V c (c.ends.memory s h) (λ fault. c.ends.failed s fault h) s a (any_for (wants s) a) h

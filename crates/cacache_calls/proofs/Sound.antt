@@ -1,0 +1,220 @@
+-- Sound states make allowed steps, and stay sound.
+use Rattle.std.proofs.{Common.{◌≡◌, inl, inr, ℕ, ◌+◌, ◌<◌, ◌^◌, ◌==◌, List, [], ◌∷◌, ◌++◌, Option, Some, None, Bool, true, false, Ok, refl, ap, ap₂, sym, subst, ◌∙◌, length, length-append, arith}, lemmas.List.Elements.{All-append, All-nil, All-cons, All-weaker}}
+use Rattle.cacache_core.specs.{declared.{errors.{SerdeCause.{SerdeCause}, IntegrityFault.TheVariants.{Check}, Error.TheVariants.{SizeMismatch, IntegrityError}}, integrity.digest.Hash.{Hash}}, Integrity.{actual}, Paths.{index_area, join, joined}, PathNames.{IsProperName}, Meeting.{meets}}
+use Rattle.cacache_store.specs.{declared.store.{plain.{PlainTemp.{PlainTemp}, PlainFile.{PlainFile}}, answer.Name.{Name}}, Plain.{PlainStep, PlainAnswer}, Fits.{Fits, AreProperNames}}
+use Rattle.cacache_store.specs.declared.store.answer.Answer.TheVariants as answers
+use Rattle.cacache_store.specs.declared.store.step.Step.TheVariants as steps
+use Rattle.cacache_entry.specs.Latest.{Found}
+use Rattle.cacache_calls.specs.{declared.{command.{Command.{Command}, Export.{Export}, How.{How, TheVariants.{Copy, Reflink, HardLink}}}, carried.{Commit.{Commit}, Aim.{Aim}, Lookup.{Lookup}, Content.{Content}}, target.Target.{Target}, visit.Visit.{Visit, TheVariants.{Enter, ReadBucket, RemoveFile, RemoveFolder}}}, Answers.{temp_in, written_in, synced_in, file_in, got_in, names_in}, StepPaths.{temp_path, content_path, content_folder, bucket_path, bucket_folder}, State.{State, doing, creating, writing, syncing, persisting, linking, confirming, appending, looking, reading, asking, sizing, opening_file, hashing, copying, walking, over, Site, Insertion, Hashing, to_verify, to_link}, Common.{ends_with}, Inserting.{insertion, deletion, unless_refused, refused_cause, bucket_line}, Storing.{insertion_of, indexed, sized, matches, compared, placed}, Removing.{remove_found}, Exporting.{export_from, export_content, export}, Linking.{commit_for, hashed_path, hashed, after_read}, Looking.{found_content, found_for}, Walking.{visit_step}, Table.{piece, wants, after, opening}, Sound.{SoundCommit, SoundInsertion, SoundTarget, IsBelow, IsContent, IsFolder, IsLine, SoundVisit, Allowed, SoundAim, SoundHashing, Sound, MayBegin}}
+use Rattle.cacache_calls.proofs.{Closed.{AnyWalk, ClosedCommit, ClosedFiles, ClosedWalk, Closed, kept}, Branches.{cond_leads}, Visits.{MayMeet}}
+use Rattle.cacache_calls.specs.declared.command.Command.TheVariants as commands
+use Rattle.cacache_calls.specs.declared.command.Source.TheVariants as sources
+use Rattle.cacache_calls.specs.declared.carried.Aim.TheVariants as aims
+
+-- a consequence of an equation of steps
+pub some_is : (P : PlainStep → Type 0) (a b : PlainStep) → Some a ≡ Some b → P a → P b
+some_is P a b e h = let same : a ≡ b = cc in subst P same h
+
+module _ (site : Site) (apart outside : List ℕ → Bool) where
+  abbrev Is : State → Type 0
+  Is s = Sound site apart outside s
+
+  -- ---- paths
+
+  content_at : (c : Commit) → SoundCommit site c → IsContent site (content_path c.cache c.computed)
+  content_at c h = (c.options.algorithm, h.bytes, ap₂ content_path h.here h.computed_of)
+
+  folder_at : (c : Commit) → SoundCommit site c → IsFolder site (content_folder c.cache c.computed)
+  folder_at c h = inr (inl (c.options.algorithm, h.bytes, ap₂ content_folder h.here h.computed_of))
+
+  -- ---- commits
+
+  inserts : (i : Insertion) (cause : Option SerdeCause) → refused_cause i ≡ cause → SoundInsertion site i → Is (unless_refused i cause)
+  inserts i None e h = (inr (inr (i.entry.key, ap (λ c. bucket_folder c i.entry.key) h.here)), (h, e))
+  inserts i (Some cause) e h = tt
+
+  by_key : (c : Commit) (key : Option (List ℕ)) → c.key ≡ key → SoundCommit site c → Is (indexed c key)
+  by_key c None e h = tt
+  by_key c (Some key) e h = inserts (insertion_of c key) (refused_cause (insertion_of c key)) refl (record { here = h.here; formed = h.formed key e })
+
+  by_size : (c : Commit) (size : Option ℕ) → SoundCommit site c → Is (sized c size)
+  by_size c None h = by_key c c.key refl h
+  by_size c (Some wanted) h = cond_leads Is (wanted == c.count) (indexed c c.key) (ends_with (SizeMismatch wanted c.count)) (λ _. by_key c c.key refl h) (λ _. tt)
+
+  by_integrity : (c : Commit) (expected : Option (List Hash)) → SoundCommit site c → Is (compared c expected)
+  by_integrity c None h = by_size c c.options.size h
+  by_integrity c (Some expected) h = cond_leads Is (matches expected c.computed) (sized c c.options.size) (ends_with (IntegrityError (Check expected c.computed))) (λ _. by_size c c.options.size h) (λ _. tt)
+
+  places : (c : Commit) → SoundCommit site c → Is (placed c)
+  places c h = by_integrity c c.options.integrity h
+
+  -- the temporary file that an answer returns
+  made_temp : (p : List ℕ) (t : PlainAnswer) (file : PlainTemp) → Fits (steps.CreateTemp p) t → temp_in t ≡ Ok file → file.path ≡ p
+  made_temp p (answers.Temp g) file fits e = let same : g ≡ file = cc in rw (← same) fits
+  made_temp p t file fits e = absurd cc
+
+  written_temp : (old : PlainTemp) (bytes : List ℕ) (t : PlainAnswer) (w : PlainTemp × ℕ) → Fits (steps.Write old bytes) t → written_in t ≡ Ok w → w.0.path ≡ old.path
+  written_temp old bytes (answers.Wrote g n) w fits e = let same : (g, n) ≡ w = cc in rw (← same) fits.1
+  written_temp old bytes t w fits e = absurd cc
+
+  synced_temp : (old : PlainTemp) (t : PlainAnswer) (file : PlainTemp) → Fits (steps.SyncTemp old) t → synced_in t ≡ Ok file → file.path ≡ old.path
+  synced_temp old (answers.Synced g) file fits e = let same : g ≡ file = cc in ap (λ (f : PlainTemp). f.path) (sym same ∙ fits)
+  synced_temp old t file fits e = absurd cc
+
+  -- ---- exports and links
+
+  exports_from : (how : How) (from to : List ℕ) (count : Option ℕ) → apart to ≡ true → Is (export_from how from to count)
+  exports_from Copy from to count h = h
+  exports_from Reflink from to count h = (h, tt)
+  exports_from HardLink from to count h = (h, tt)
+
+  exports : (k : Content) (e : Export) → apart e.to ≡ true → Is (export k e)
+  exports k e h = cond_leads Is e.checked (opening_file (to_verify k e)) (export_content k e None) (λ _. h) (λ _. exports_from e.how (content_path k.cache k.integrity) e.to None h)
+
+  links : (t : Target ℕ) (bytes : List ℕ) → SoundTarget site t → length bytes < 2 ^ 64 → SoundCommit site (commit_for t bytes)
+  links t bytes h lt = record { here = h.here; bytes = bytes; computed_of = refl; formed = h.formed bytes lt }
+
+  hashes : (h : Hashing) (bytes : List ℕ) → SoundHashing site apart outside h → length bytes < 2 ^ 64 → Is (hashed h bytes)
+  hashes (to_verify k e) bytes s lt =
+      cond_leads Is (meets k.integrity bytes) (export_content k e (Some (length bytes))) (ends_with (IntegrityError (Check k.integrity (actual k.integrity bytes))))
+      (λ _. exports_from e.how (content_path k.cache k.integrity) e.to (Some (length bytes)) s) (λ _. tt)
+  hashes (to_link t) bytes s lt = let c = links t bytes s.0 lt in (folder_at (commit_for t bytes) c, (c, s.1))
+
+  reads_on : (h : Hashing) (bytes : List ℕ) (left : ℕ) (file : PlainFile) (more : List ℕ) → SoundHashing site apart outside h → left + length bytes < 2 ^ 64 → file.left + length more ≡ left → Is (after_read h bytes (file, more))
+  reads_on h bytes left file [] s lt e = hashes h bytes s (omega arith)
+  reads_on h bytes left file (b ∷ bs) s lt e = (s, omega (arith, length-append bytes (b ∷ bs)))
+
+  -- what a fitting answer says about the open file
+  opened : (path : List ℕ) (t : PlainAnswer) (file : PlainFile) → Fits (steps.Open path) t → file_in t ≡ Ok file → file.left < 2 ^ 64
+  opened path (answers.File g) file fits e = let same : g ≡ file = cc in rw (← same) fits
+  opened path t file fits e = absurd cc
+
+  left_after : (old : PlainFile) (t : PlainAnswer) (x : PlainFile × List ℕ) → Fits (steps.Read old piece) t → got_in t ≡ Ok x → x.0.left + length x.1 ≡ old.left
+  left_after old (answers.Got g b) x fits e = let same : (g, b) ≡ x = cc in rw (← same) fits.1
+  left_after old t x fits e = absurd cc
+
+  -- ---- lookups
+
+  removes : (cache key : List ℕ) (found : Option Found) → cache ≡ site.cache → Is (remove_found cache key found)
+  removes cache key (Some f) e = (inl (f.integrity, ap (λ c. content_path c f.integrity) e), (inr (inl (key, ap (λ c. bucket_path c key) e)), tt))
+  removes cache key None e = (inr (inl (key, ap (λ c. bucket_path c key) e)), tt)
+
+  founds : (l : Lookup) (aim : Aim) (found : Option Found) → l.cache ≡ site.cache → SoundAim site apart outside aim → Is (found_for l aim found)
+  founds l aims.Report found e h = tt
+  founds l aims.Remove found e h = removes l.cache l.key found e
+  founds l aims.Read (Some f) e h = e
+  founds l aims.Read None e h = tt
+  founds l (aims.Export x) (Some f) e h = exports (found_content l f) x h
+  founds l (aims.Export x) None e h = tt
+
+  -- ---- walks
+
+  joined_more : (path : List ℕ) (names : List (List ℕ)) (n : List ℕ) → joined path (names ++ n ∷ []) ≡ join (joined path names) n
+  joined_more path [] n = refl
+  joined_more path (m ∷ names) n = joined_more (join path m) names n
+
+  below_more : (p n : List ℕ) → IsProperName n → IsBelow site p → IsBelow site (join p n)
+  below_more p n proper h =
+      (h.0 ++ n ∷ [], All-append IsProperName h.0 (n ∷ []) h.1 (All-cons IsProperName n [] proper (All-nil IsProperName)), ap (λ q. join q n) h.2 ∙ sym (joined_more site.cache h.0 n))
+
+  -- what a fitting answer says about the names
+  named : (p : List ℕ) (t : PlainAnswer) (names : List Name) → Fits (steps.ReadDir p) t → names_in t ≡ Ok names → AreProperNames names
+  named p (answers.Names given) names fits e = let same : given ≡ names = cc in rw (← same) fits
+  named p t names fits e = absurd cc
+
+  may_meet : (clears : Bool) (level : ℕ) (p : List ℕ) → IsBelow site p → (n : Name) → IsProperName n.name → MayMeet (SoundVisit site) level p clears n
+  may_meet true level p h n proper = let k = below_more p n.name proper h in (k, k)
+  may_meet false level p h n proper = let k = below_more p n.name proper h in (k, k)
+
+  -- ---- a command may begin
+
+  pub begins_sound : (command : Command) → MayBegin site apart outside command → Is (opening site command)
+  begins_sound (commands.Put p) h = (inl refl, (refl, record { here = refl; bytes = p.data; computed_of = refl; formed = h }))
+  begins_sound (commands.Link l) h = h
+  begins_sound (commands.Insert i) h = inserts (insertion site.cache i) (refused_cause (insertion site.cache i)) refl (record { here = refl; formed = h })
+  begins_sound (commands.Delete d) h = inserts (deletion site.cache d) (refused_cause (deletion site.cache d)) refl (record { here = refl; formed = h })
+  begins_sound (commands.Find key) h = (refl, tt)
+  begins_sound (commands.Get key) h = (refl, tt)
+  begins_sound (commands.GetHash i) h = refl
+  begins_sound (commands.Exists i) h = refl
+  begins_sound commands.Ls h = ((index_area ∷ [], All-cons IsProperName index_area [] (refl, refl, refl) (All-nil IsProperName), refl), tt)
+  begins_sound (commands.Export (sources.Key key) e) h = (refl, h)
+  begins_sound (commands.Export (sources.Hash i) e) h = exports (record { cache = site.cache; integrity = i }) e h
+  begins_sound (commands.RemoveHash i) h = (inl (i, refl), tt)
+  begins_sound (commands.RemoveFully key) h = (refl, tt)
+  begins_sound commands.Clear h = (([], All-nil IsProperName, refl), tt)
+
+  -- ---- its steps
+
+  visit_allowed : (v : Visit) → SoundVisit site v → Allowed site apart outside (visit_step v)
+  visit_allowed (Enter p level) h = tt
+  visit_allowed (ReadBucket p) h = tt
+  visit_allowed (RemoveFile p) h = inr (inr h)
+  visit_allowed (RemoveFolder p) h = h
+
+  line_at : (i : Insertion) → SoundInsertion site i → refused_cause i ≡ None → IsLine site (bucket_path i.cache i.entry.key) (bucket_line i)
+  unfolding bucket_line refused_cause
+  line_at i h none = (i.entry, i.durable, h.formed none, none, ap (λ c. bucket_path c i.entry.key) h.here, refl)
+
+  pub steps_allowed : (s : State) (step : PlainStep) → Is s → wants s ≡ Some step → Allowed site apart outside step
+  steps_allowed (doing errand s) step h e = some_is (Allowed site apart outside) _ step e h.0
+  steps_allowed (creating number c rest) step h e = some_is (Allowed site apart outside) _ step e (ap₂ temp_path h.1.here h.0)
+  steps_allowed (writing c file rest) step h e = some_is (Allowed site apart outside) _ step e h.1
+  steps_allowed (syncing c file) step h e = some_is (Allowed site apart outside) _ step e h.1
+  steps_allowed (persisting c file) step h e = some_is (Allowed site apart outside) _ step e (h.1, content_at c h.0)
+  steps_allowed (linking c target) step h e = some_is (Allowed site apart outside) _ step e (h.1, content_at c h.0)
+  steps_allowed (confirming c fault) step h e = some_is (Allowed site apart outside) _ step e tt
+  steps_allowed (appending i) step h e = some_is (Allowed site apart outside) _ step e (line_at i h.0 h.1)
+  steps_allowed (looking l) step h e = some_is (Allowed site apart outside) _ step e tt
+  steps_allowed (reading k) step h e = some_is (Allowed site apart outside) _ step e tt
+  steps_allowed (asking k) step h e = some_is (Allowed site apart outside) _ step e tt
+  steps_allowed (sizing t) step h e = some_is (Allowed site apart outside) _ step e tt
+  steps_allowed (opening_file x) step h e = some_is (Allowed site apart outside) _ step e tt
+  steps_allowed (hashing x file bytes) step h e = some_is (Allowed site apart outside) _ step e tt
+  steps_allowed (copying from to count) step h e = some_is (Allowed site apart outside) _ step e h
+  steps_allowed (walking w v todo) step h e = some_is (Allowed site apart outside) _ step e (visit_allowed v h.0)
+  steps_allowed (over reply) step h e = absurd cc
+
+  -- ---- the states after them
+
+  commits_sound : ClosedCommit Fits Is
+  commits_sound = record {
+    created = λ number c rest file b h. (h.1, made_temp (temp_path c.cache number) b.0 file b.1 b.2 ∙ ap₂ temp_path h.1.here h.0);
+    wrote = λ c file rest w b h. (h.0, written_temp file rest b.0 w b.1 b.2 ∙ h.1);
+    moved = λ c file h. ((folder_at c h.0, h), (folder_at c h.0, h));
+    synced = λ c file new b h. (h.0, synced_temp file b.0 new b.1 b.2 ∙ h.1);
+    persisted = λ c file fault h. h.0;
+    linked = λ c target fault h. h.0;
+    there = λ c fault h. (places c h, λ p s k. ((tt, k), (tt, k)));
+  }
+
+  files_sound : ClosedFiles Fits Is
+  files_sound = record {
+    sized = λ t n h. (record { here = h.0.here; formed = h.0.formed }, h.1);
+    opened = λ x file b h. (h, omega (arith, opened (hashed_path x) b.0 file b.1 b.2));
+    got = λ x file bytes g b h. reads_on x bytes file.left g.0 g.1 h.0 h.1 (left_after file b.0 g b.1 b.2);
+    copied = λ from to count n h. tt;
+  }
+
+  walks_sound : ClosedWalk Fits Is AnyWalk (SoundVisit site)
+  walks_sound = record {
+    visited = λ w v todo h. (tt, h);
+    visiting = λ w v todo h k t. (k, t);
+    names = λ clears level p names b h k. All-weaker (λ n. IsProperName n.name) (MayMeet (SoundVisit site) level p clears) (may_meet clears level p k) names (named p b.0 names b.1 b.2);
+    left = λ level p h k. k;
+    cleared = λ h. tt;
+    listed = λ items h. tt;
+  }
+
+  closed : Closed Fits Is AnyWalk (SoundVisit site)
+  closed = record {
+    ends = record { failed = λ s fault h. tt; memory = λ s h. tt; errand = λ e s h. h.1 };
+    commits = commits_sound;
+    inserts = λ i h. (tt, λ p s k. ((tt, k), (tt, k)));
+    reads = record { found = λ l found h. founds l l.aim found h.0 h.1; met = λ k bytes e h. tt; unmet = λ k bytes h. tt; asked = λ k there h. tt };
+    files = files_sound;
+    walks = walks_sound;
+  }
+
+  pub stays_sound : (s : State) (step : PlainStep) (t : PlainAnswer) → Is s → wants s ≡ Some step → Fits step t → Is (after s t)
+  stays_sound s step t h e f = kept Fits Is AnyWalk (SoundVisit site) closed s step t h e f

@@ -1,5 +1,0 @@
-use Rattle.cacache_table.proofs.Formed.{of_delete}
-use Rattle.cacache_table.proofs.forming.form_delete.Goals as goal
-
-pub returns : goal.returns
-returns c = λ site. of_delete site c.args.delete.now c.as_str-key.ensures.utf8

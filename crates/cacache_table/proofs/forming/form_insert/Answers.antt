@@ -1,5 +1,0 @@
-use Rattle.cacache_table.proofs.Formed.{of_insert}
-use Rattle.cacache_table.proofs.forming.form_insert.Goals as goal
-
-pub returns : goal.returns
-returns c = λ site. of_insert site c.args.insert.now c.measure.ensures c.form.ensures

@@ -1,5 +1,0 @@
-use Rattle.cacache_table.proofs.Within as lemmas
-use Rattle.cacache_table.proofs.laws.licence_laws.Goals as goal
-
-pub returns : goal.returns
-returns c = record { keeps = lemmas.calls_keep_to }
