@@ -37,7 +37,7 @@ where
         "folder" => rows_folder::all_hold(host, rows),
         "steps" => rows_steps::all_hold(host, rows),
         "world" => rows_world::all_hold(host, rows),
-        "loss" => rows_loss::all_hold(host, rows),
+        "loss" => rows_world::losses::all_hold(host, rows),
         "hostile" => rows_hostile::all_hold(host, rows),
         "polled" => rows_polled::all_hold(rt, rows),
         "public" => rows_public::all_hold(rt, host, rows),

@@ -18,6 +18,7 @@ mod commands;
 mod exports;
 mod files;
 mod links;
+pub mod losses;
 mod outcomes;
 mod outside;
 mod pieces;

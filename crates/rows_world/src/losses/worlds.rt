@@ -1,7 +1,7 @@
 //! What a world's own loss leaves, against the model's.
-use crate::history::{HOME, bytes_of};
-use crate::loss::Loss;
-use crate::places::Places;
+use crate::losses::history::{HOME, bytes_of};
+use crate::losses::loss::Loss;
+use crate::losses::places::Places;
 use cacache_core::bytes::Bytes;
 use cacache_core::keeping::{beside, let_go};
 use cacache_core::text::Text;

@@ -1,11 +1,11 @@
 //! What a row asks for, and what came.
-use crate::acting::{counted, make};
-use crate::getting::got_from;
-use crate::history::{HOME, play, world_of};
-use crate::loss::Loss;
-use crate::places::Places;
-use crate::promised::{Story, looked_up, path_of_content};
-use crate::worlds::{differs, disk_after};
+use crate::losses::acting::{counted, make};
+use crate::losses::getting::got_from;
+use crate::losses::history::{HOME, play, world_of};
+use crate::losses::loss::Loss;
+use crate::losses::places::Places;
+use crate::losses::promised::{Story, looked_up, path_of_content};
+use crate::losses::worlds::{differs, disk_after};
 use cacache_core::keeping::let_go;
 use cacache_jobs::bucket_path;
 use cacache_world::World;

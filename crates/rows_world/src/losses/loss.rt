@@ -1,5 +1,5 @@
 //! A loss of power: which names are as they were before, and what the files that weren't synced end in.
-use crate::places::{Node, Places};
+use crate::losses::places::{Node, Places};
 use cacache_core::text::Text;
 use rows::random::Random;
 use std::alloc::{AllocError, Global};

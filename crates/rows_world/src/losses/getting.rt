@@ -1,5 +1,5 @@
 //! What a `Get` answers on the disk that a loss left.
-use crate::history::HOME;
+use crate::losses::history::HOME;
 use cacache_calls::{Command, Reply};
 use cacache_core::keeping::let_go;
 use cacache_core::text::Text;

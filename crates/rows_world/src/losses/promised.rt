@@ -1,7 +1,7 @@
 //! What a loss of power must leave: the contents of durable commits that answered, and the lookups of their keys.
-use crate::history::{DURABLE, HOME, KEYS};
-use crate::loss::Loss;
-use crate::places::Places;
+use crate::losses::history::{DURABLE, HOME, KEYS};
+use crate::losses::loss::Loss;
+use crate::losses::places::Places;
 use cacache_calls::{Command, Reply};
 use cacache_core::integrity::{Algorithm, Integrity, IntegrityOpts};
 use cacache_core::keeping::{beside, let_go};

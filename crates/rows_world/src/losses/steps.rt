@@ -1,5 +1,5 @@
 //! What a step of a history does to the places.
-use crate::places::Places;
+use crate::losses::places::Places;
 use cacache_disk::Luck;
 use cacache_store::store::{Answer, PlainAnswer, PlainStep, Step};
 use std::alloc::AllocError;

@@ -1,5 +1,5 @@
 //! The calls that a row writes out, of one caller.
-use crate::history::put_of;
+use crate::losses::history::put_of;
 use cacache_calls::Command;
 use cacache_core::errors::Fault;
 use cacache_core::keeping::let_go;
