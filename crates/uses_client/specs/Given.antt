@@ -12,6 +12,12 @@ GivesKey cache key result old new =
     → HasKey cache key i bytes old
     → GivesJust bytes result old new
 
+-- the bytes under the integrity are given
+abbrev pub GivesContent :
+    List ℕ → List Hash → Result (Vec ℕ Global) Error → List LogItem → List LogItem → Type 0
+GivesContent cache i result old new =
+    (bytes : List ℕ) → HasContent cache i bytes old → GivesJust bytes result old new
+
 -- the bytes that the file showed and shows are given, if nothing lay under their integrity
 abbrev pub MirrorsFile :
     {A : Type 0} → List ℕ → List ℕ → Result (Vec ℕ A) Error

@@ -1,10 +1,10 @@
 //! Packages that are read.
 ghost use Rattle.std.specs.Prelude.{IfOk};
 ghost use Rattle.cacache.specs.Laws.{IsCache, LacksKey, LeavesKnownCache, NamesFolder, GivesNoEntry, KeyLiesWhole};
-ghost use Rattle.uses_client.specs.Given.{GivesKey, TellsWhetherOpen};
+ghost use Rattle.uses_client.specs.Given.{GivesContent, GivesKey, TellsWhetherOpen};
 
 use cacache::env::{Clock, Env, Names};
-use cacache::laws::{after_read, cache_laws, standing_laws, success_laws};
+use cacache::laws::{after_read, after_read_hash, cache_laws, standing_laws, success_laws};
 use cacache::store::MemStore;
 use cacache::{Integrity, Result, SyncReader};
 
@@ -23,6 +23,21 @@ pub fn fetch<C: Clock, N: Names>(
 {
     let read = cacache::read_sync(env, cache, key);
     after_read(env, cache, key, &read);
+    read
+}
+
+/// The bytes under an integrity.
+pub(crate) fn fetch_hash<C: Clock, N: Names>(
+    env: &mut Env<MemStore, C, N>,
+    cache: &str,
+    sri: &Integrity,
+) -> Result<Vec<u8>>
+    requires { IsCache cache.now env.old.store }
+    ensures leaves { LeavesKnownCache cache.now env.old.store env.new.store }
+    ensures gives { GivesContent cache.now sri.now result env.old.store env.new.store }
+{
+    let read = cacache::read_hash_sync(env, cache, sri);
+    after_read_hash(env, cache, sri, &read);
     read
 }
 

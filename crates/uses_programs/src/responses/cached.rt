@@ -122,7 +122,7 @@ impl<S: Store, N: Names> Responses<S, N> {
     pub(crate) fn count(&mut self) -> Result<()>
         ensures { OnOk result (self.new.env.clock ≡ self.old.env.clock) }
     {
-        let count = uses::count(&mut self.env, CACHE)?;
+        let count = uses_client::count(&mut self.env, CACHE)?;
         writeln!(self.report, "{count} responses")?;
         Ok(())
     }

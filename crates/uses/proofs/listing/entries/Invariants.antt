@@ -1,5 +1,0 @@
-use Rattle.std.proofs.Common.{◌≡◌, Ok, map}
-use Rattle.uses.proofs.listing.entries.Given as goal
-
-abbrev pub invariant-loop-item : goal.invariant-loop-item
-invariant-loop-item l = l.yielded ≡ map (λ f. Ok f) l.entries.items
