@@ -2,8 +2,8 @@
 use Rattle.std.proofs.{Common.{◌≡◌, ◌⊎◌, inl, inr, ℕ, Bool, true, false, cond, List, [], ◌∷◌, ◌++◌, length, bytes_eq, refl, sym, ap, ◌∙◌, arith, append_assoc, length-append}, lemmas.Slice.Eq.{bytes_eq-Decides}}
 use Rattle.cacache_core.specs.PathNames.{Names}
 use Rattle.cacache_store.specs.declared.store.answer.Name.{Name}
-use Rattle.cacache_history.{specs.Setup.{are_apart}, proofs.Listings.ToldFolders.{Each, AreDistinct}}
-use Rattle.cacache_loss.proofs.UnchangedPaths.{bytes_same}
+use Rattle.cacache_history.{specs.Setup.{are_apart}, proofs.{Listings.ToldFolders.{AreDistinct}, Each.{each_join, each_weaker, Each}}}
+use Rattle.cacache_value.proofs.KindsApart.{bytes_same}
 
 -- ---- paths that are apart
 
@@ -47,14 +47,6 @@ abbrev pub AllApart : List Names → Type 0
 AllApart [] = Unit {0}
 AllApart (q ∷ qs) = ApartAll q qs × AllApart qs
 
-apart_deeper : (q more : Names) (cs : List Names) → ApartAll q cs → ApartAll (q ++ more) cs
-apart_deeper q more [] h = tt
-apart_deeper q more (c ∷ cs) h = (apart_left q c more h.0, apart_deeper q more cs h.1)
-
-apart_append : (q : Names) (a b : List Names) → ApartAll q a → ApartAll q b → ApartAll q (a ++ b)
-apart_append q [] b h k = k
-apart_append q (c ∷ a) b h k = (h.0, apart_append q a b h.1 k)
-
 -- ---- the paths of a folder's names
 
 abbrev pub children : Names → List Name → List Names
@@ -67,8 +59,11 @@ apart_children q name (n ∷ ns) h = (siblings q name n.name h.0, apart_children
 
 pub children_apart : (q : Names) (ns : List Name) (cs : List Names) → AreDistinct ns → ApartAll q cs → AllApart cs → AllApart (children q ns ++ cs)
 children_apart q [] cs distinct h k = k
-children_apart q (n ∷ ns) cs distinct h k =
-    (apart_append (q ++ n.name ∷ []) (children q ns) cs (apart_children q n.name ns distinct.0) (apart_deeper q (n.name ∷ []) cs h), children_apart q ns cs distinct.1 h k)
+children_apart q (n ∷ ns) cs distinct h k = (
+  each_join (λ (c : Names). are_apart (q ++ n.name ∷ []) c ≡ true) (children q ns) cs (apart_children q n.name ns distinct.0)
+      (each_weaker (λ (c : Names). are_apart q c ≡ true) (λ (c : Names). are_apart (q ++ n.name ∷ []) c ≡ true) (λ c. apart_left q c (n.name ∷ [])) cs h),
+  children_apart q ns cs distinct.1 h k,
+)
 
 -- ---- what lies below one of some paths
 

@@ -1,3 +1,5 @@
+pub mod Each
+pub mod StepActs
 pub mod Contents
 pub mod Proper
 pub mod Entries

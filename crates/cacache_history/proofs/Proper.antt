@@ -1,5 +1,5 @@
 -- Each step that a sound call may make is proper.
-use Rattle.std.proofs.Common.{◌≡◌, inl, inr, ℕ, Bool, true, false, ◌&&◌, ◌||◌, cond, List, ◌∷◌, Option, None, Some, Result, Ok, Err, bytes_eq, refl, sym, subst}
+use Rattle.std.proofs.{Common.{◌≡◌, inl, inr, ℕ, Bool, true, false, ◌||◌, cond, List, ◌∷◌, Option, None, Some, Result, Ok, Err, bytes_eq, refl, sym, subst}, lemmas.Bool.{and_parts}}
 use Rattle.std.specs.Prelude.{IfOk, []}
 use Rattle.cacache_core.specs.{declared.{errors.Fault.{Fault}, integrity.algorithm.Algorithm.{Algorithm}}, Digests.{digest}, Integrity.{hash_of, integrity_under}, PathNames.{Names, names_of, home_of}}
 use Rattle.cacache_core.proofs.PathLemmas.{keys_have_digests}
@@ -17,10 +17,6 @@ use Rattle.cacache_history.proofs.Contents.Digests.{digest_hash}
 
 -- ---- exports and links
 
-and_first : (a b : Bool) → (a && b) ≡ true → a ≡ true
-and_first true b e = refl
-and_first false b e = absurd cc
-
 beside_apart : (folder path : Names) → are_apart folder path ≡ true → kind_beside folder path ≡ Elsewhere
 beside_apart [] path e = absurd cc
 beside_apart (n ∷ ns) [] e = absurd cc
@@ -35,7 +31,7 @@ home_apart None path e = refl
 home_apart (Some folder) path e = beside_apart folder path e
 
 taken_elsewhere : (s : Setup) (r : Result Names Fault) → may_take s r ≡ true → IfOk r (λ path. path_kind (home s) path ≡ Elsewhere)
-taken_elsewhere s (Ok path) e = home_apart (home s) path (and_first (apart_from_home (home s) path) (apart_from_files s.outside path) e)
+taken_elsewhere s (Ok path) e = home_apart (home s) path (and_parts (apart_from_home (home s) path) (apart_from_files s.outside path) e).0
 taken_elsewhere s (Err fault) e = tt
 
 -- a path that an export may take lies elsewhere

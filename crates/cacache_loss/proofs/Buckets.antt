@@ -9,7 +9,7 @@ use Rattle.cacache_entry.specs.{Entry.{Entry, line_of, closed_line}, FittingEntr
 use Rattle.cacache_entry.proofs.{Pieces.{entries_split}, Lines.{lines_append}}
 use Rattle.cacache_value.specs.{Kinds.{Content, Bucket, Temporary, path_kind, is_used, Way}, Placed.{Placed, Proper}, Traces.{Move}}
 use Rattle.cacache_loss.specs.{Fixing.{Fixed, Fixing, Place, changed, file_synced, fixed_after, folder_synced, is_at, is_child_of, is_sync, is_synced, refixed, synced, temp_synced}, Loss.{Loss, node_left}, Moments.{EachMove, Moment, after, lost_then, next}, LostTrees.{OfCache}, CalmMoves.{CalmStep, IsCalm, is_calm}, Syncs.{IsAppend, IsFileSync, SyncsFile, SyncsFolders}, LossLaws.{BeginsWith, BucketsSurvive, EntriesSurvive}}
-use Rattle.cacache_loss.proofs.{StepCases.{AppendCase, unsent, took, torn, append_case, grown, make_apart}, UnchangedPaths.{at_false, Misses}, KeptPaths.{cond_none, keeps, files_keep, names_kept, sync_tree, cache_next, each_calm}, SyncedFolders.{IsLeft, survives}}
+use Rattle.cacache_loss.proofs.{StepCases.{AppendCase, unsent, took, torn, append_case, grown, make_apart}, UnchangedPaths.{at_false, Misses}, KeptPaths.{cond_none, keeps, files_keep, names_kept, sync_tree, cache_next, each_calm}, SyncedFolders.{IsLeft, survives, Any, any, not_top}}
 
 -- a path at which there is a file leads to it
 pub leads_file : (t : Tree) (p bytes : List ℕ) (c : Names) → Rooted t → names_of p ≡ Ok c → look t c ≡ Some (File bytes) → leads t p ≡ Ok c
@@ -129,14 +129,6 @@ module _ (home : Option Names) (c : Names) (at : path_kind home c ≡ Bucket) (z
     sync_fixes rooted new (SyncFile p) answer is = rw (is.1, leads_file t p (z ++ more) c rooted is.0 there, same_self c) longer
     sync_fixes rooted new step answer is = absurd is
 
-  -- a move need only be calm
-  abbrev Any : Moment → Move → Type 0
-  Any w m = Unit {0}
-
-  any : (w : Moment) (moves : List Move) → EachMove Any w moves
-  any w [] = tt
-  any w (m ∷ moves) = (tt, any (next w m) moves)
-
   kept_in : (w : Moment) (m : Move) → Holds w → IsCalm home w m → Keeps w.tree w.fixed (next w m).tree (next w m).fixed
   kept_in w m h calm = each_keeps w.tree w.fixed h.0.0 h.1.0 h.1.1 m.step m.luck m.answer calm.0 calm.1
 
@@ -170,11 +162,6 @@ module _ (home : Option Names) (c : Names) (at : path_kind home c ≡ Bucket) (z
   left_kept place tail k =
       let l = left_begins place.fixing.whole place.fixing.kept k.0.0 tail k.1 in
       rw k.0.1 (l.0, ap (λ b. Some (File b)) l.1)
-
-  not_top : (h : Option Names) → path_kind h [] ≡ Bucket → ⊥
-  not_top None e = cc
-  not_top (Some []) e = cc
-  not_top (Some (n ∷ rest)) e = cc
 
   left_bucket : (here : Option Node) (tail : List ℕ) → IsLeft IsKept tail here → BeginsWith z here
   left_bucket here tail left = subst (BeginsWith z) (sym left.2) (left_kept left.0 tail left.1)

@@ -1,5 +1,5 @@
 -- Finitely many names change, so a loss leaves a tree.
-use Rattle.std.proofs.{Common.{◌≡◌, Bool, true, false, cond, List, [], ◌∷◌, ◌++◌, Option, None, Some, refl, sym, ap, ◌∙◌}, lemmas.List.Folds.{list_any-append}}
+use Rattle.std.proofs.{Common.{◌≡◌, Bool, true, false, cond, List, [], ◌∷◌, ◌++◌, Option, None, Some, refl, sym, ap, ◌∙◌}, lemmas.{List.Folds.{list_any-append}, Bool.{or_parts}}}
 use Rattle.std.specs.{Prelude.{not, ◌&&◌, ◌||◌, is_some, unwrap_or}, List.{list_any}}
 use Rattle.std.specs.FinMap as map
 use Rattle.cacache_core.specs.PathNames.{Names, names_of}
@@ -7,19 +7,15 @@ use Rattle.cacache_store.specs.{declared.store.step.Step.TheVariants.{SyncTemp, 
 use Rattle.cacache_disk.{specs.{declared.node.Node.{Node}, Tree.{Tree, look, names_cmp, put, same_path}}, proofs.{Maps.{total, only, same_path-true}, PutNodes.{look-put}}}
 use Rattle.cacache_value.proofs.Shows.{trees_show}
 use Rattle.cacache_loss.specs.{ChangedNames.{FewChanged, HistoriesLeaveCaches, LeavesOneTree, LossesLeaveOneTree, MovesChangeFew, OpeningsChangedNone, opening}, Fixing.{Fixed, Place, changed, file_synced, fixed_after, folder_synced, is_child_of, is_synced, moved_to, moves_file, place_now, temp_synced}, Loss.{Loss, Lost, lead_folders, left_at, stays}, Moments.{Moment, after, lost_then, next}}
-use Rattle.cacache_loss.proofs.{LossCases.{gone}, LostTrees.{losses_leave_trees, moves_keep_moments, openings_stand_well}}
+use Rattle.cacache_loss.proofs.{LossCases.{gone}, LostTrees.{losses_leave_trees, moves_keep_moments, openings_stand_well}, KeptPaths.{none_cond, cond_none}}
 
 -- ---- paths that aren't among some
 
 abbrev is_among : Names → List Names → Bool
 is_among q paths = list_any (same_path q) paths
 
-neither : (b c : Bool) → (b || c) ≡ false → (b ≡ false) × (c ≡ false)
-neither true c e = absurd cc
-neither false c e = (refl, e)
-
 pub not_among : (q : Names) (paths more : List Names) → is_among q (paths ++ more) ≡ false → (is_among q paths ≡ false) × (is_among q more ≡ false)
-not_among q paths more e = neither (is_among q paths) (is_among q more) (sym (list_any-append (same_path q) paths more) ∙ e)
+not_among q paths more e = or_parts (is_among q paths) (is_among q more) (sym (list_any-append (same_path q) paths more) ∙ e)
 
 nothing : (here : Option Node) → is_some here ≡ false → here ≡ None
 nothing None e = refl
@@ -40,7 +36,7 @@ moved_paths (Some (from, to)) = to ∷ []
 
 not_moved : (o : Option (Names × Names)) (q : Names) → is_among q (moved_paths o) ≡ false → moved_to o q ≡ false
 not_moved None q e = refl
-not_moved (Some (from, to)) q e = (neither (same_path q to) false e).0
+not_moved (Some (from, to)) q e = (or_parts (same_path q to) false e).0
 
 changed_few : (fixed : Fixed) (old new : Tree) (step : PlainStep) (answer : PlainAnswer) → FewChanged fixed → FewChanged (changed fixed old new step answer)
 changed_few fixed old new step answer few = record {
@@ -56,16 +52,12 @@ synced_few : (b : Bool) (later fixed : Fixed) → FewChanged later → FewChange
 synced_few true later fixed new old = new
 synced_few false later fixed new old = old
 
-still_none : {A : Type 0} (b : Bool) (o : Option A) → o ≡ None → cond b None o ≡ None
-still_none true o e = refl
-still_none false o e = e
-
 step_few : (fixed : Fixed) (old new : Tree) (step : PlainStep) (answer : PlainAnswer) → FewChanged fixed → FewChanged (fixed_after fixed old new step answer)
 step_few fixed old new (SyncTemp f) answer few = synced_few (is_synced answer) (temp_synced fixed f) fixed (record { paths = few.paths; only = few.only }) few
 step_few fixed old new (SyncFile p) answer few = synced_few (is_synced answer) (file_synced fixed old p) fixed (record { paths = few.paths; only = few.only }) few
 step_few fixed old new (SyncDir p) answer few =
     synced_few (is_synced answer) (folder_synced fixed p) fixed
-    (record { paths = few.paths; only = λ q apart. still_none (is_child_of (names_of p) q) (fixed.names q) (few.only q apart) }) few
+    (record { paths = few.paths; only = λ q apart. cond_none (is_child_of (names_of p) q) (fixed.names q) (few.only q apart) }) few
 step_few fixed old new step answer few = changed_few fixed old new step answer few
 
 pub moves_change_few : MovesChangeFew
@@ -82,10 +74,6 @@ abbrev gathered : (Names → Option Node) → List Names → Tree
 gathered here [] = map.empty
 gathered here (p ∷ paths) = with_node (gathered here paths) p (here p)
 
-none_either : (b : Bool) (o : Option Node) → o ≡ None → cond b o None ≡ None
-none_either true o e = e
-none_either false o e = refl
-
 here_twice : (here : Names → Option Node) (p q : Names) (there : Option Node) (a b : Bool) → here p ≡ there → same_path q p ≡ a
     → cond a there (cond b (here q) None) ≡ cond (a || b) (here q) None
 here_twice here p q there true b is e = sym is ∙ ap here (sym (same_path-true q p e))
@@ -101,7 +89,7 @@ look_gathered : (here : Names → Option Node) (q : Names) (paths : List Names) 
 look_gathered here q [] = map.get-empty names_cmp q
 look_gathered here q (p ∷ paths) =
     look_with (gathered here paths) p q (here p) (same_path q p) (cond (is_among q paths) (here q) None) refl (look_gathered here q paths)
-    (λ is none. none_either (is_among q paths) (here q) (ap here (same_path-true q p is) ∙ none))
+    (λ is none. none_cond (is_among q paths) (here q) (ap here (same_path-true q p is) ∙ none))
     ∙ here_twice here p q (here p) (same_path q p) (is_among q paths) refl refl
 
 -- ---- the tree that a loss leaves

@@ -5,11 +5,7 @@ use Rattle.std.specs.BTreeMap as btree
 use Rattle.std.specs.BTreeSet as btree_set
 use Rattle.cacache_core.specs.{declared.errors.Fault.{Fault}, PathNames.{Names, names_of}}
 use Rattle.cacache_disk.{specs.Tree.{names_cmp, same_path}, proofs.Maps.{same_path-true}}
-use Rattle.cacache_loss.{specs.{Fixing.{is_at}, Chosen.{tail_at}}, proofs.PathMaps.{symmetric}}
-
-or_false : (b : Bool) → (b || false) ≡ b
-or_false true = refl
-or_false false = refl
+use Rattle.cacache_loss.{specs.{Fixing.{is_at}, Chosen.{tail_at}}, proofs.PathMaps.{symmetric, or_false}}
 
 -- ---- names that are undone
 

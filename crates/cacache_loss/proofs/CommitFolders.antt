@@ -3,9 +3,8 @@ use Rattle.std.proofs.{Common.{◌≡◌, inl, inr, ◌==◌, ℕ, Bool, true, f
 use Rattle.std.specs.Prelude.{All}
 use Rattle.cacache_core.specs.{PathNames.{Names, names_of, home_of, names_below, is_bad, IsProperName}, Paths.{join, folders_to, content_names, bucket_names_of}}
 use Rattle.cacache_core.proofs.{JoinedNames.{joined_texts_name}, ProperNames.{names_are_proper}}
-use Rattle.cacache_value.specs.Traces.{Move}
+use Rattle.cacache_value.{specs.Traces.{Move}, proofs.KindsApart.{bytes_same}}
 use Rattle.cacache_loss.specs.{Loss.{begins}, Syncs.{IsFolderSync, SyncsFolder, SyncsFolders}, CommitFolders.{FiveForContents, FourForBuckets, OwnFoldersAreEnough, SyncsText, SyncsTexts}}
-use Rattle.cacache_loss.proofs.UnchangedPaths.{bytes_same}
 
 begins_front : (p q : Names) → begins p (p ++ q) ≡ true
 begins_front [] q = refl

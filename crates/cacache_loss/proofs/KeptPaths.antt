@@ -86,6 +86,10 @@ pub cond_none : {A : Type 0} (b : Bool) (o : Option A) → o ≡ None → cond b
 cond_none true o e = refl
 cond_none false o e = e
 
+pub none_cond : {A : Type 0} (b : Bool) (o : Option A) → o ≡ None → cond b o None ≡ None
+none_cond true o e = e
+none_cond false o e = refl
+
 -- what a sync fixes, or what was fixed
 cond_names : (b : Bool) (later fixed : Fixed) (q : Names) → later.names q ≡ None → fixed.names q ≡ None → (cond b later fixed).names q ≡ None
 cond_names true later fixed q new old = new

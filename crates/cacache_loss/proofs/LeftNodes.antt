@@ -1,12 +1,12 @@
 -- What the code leaves is what a loss leaves.
-use Rattle.std.proofs.Common.{◌≡◌, ◌<◌, ◌==◌, ◌+◌, ℕ, Bool, true, false, cond, List, [], ◌∷◌, ◌++◌, Option, None, Some, length, get_or, take, drop, refl, sym, ap, ◌∙◌, arith, eqb-true}
+use Rattle.std.proofs.{Common.{◌≡◌, ◌<◌, ◌==◌, ◌+◌, ℕ, Bool, true, false, cond, List, [], ◌∷◌, ◌++◌, Option, None, Some, length, get_or, take, drop, refl, sym, ap, ◌∙◌, arith, eqb-true}, lemmas.Bool.{and_right}}
 use Rattle.std.specs.{Prelude.{◌&&◌, filter, is_some, IfOk, Result, Ok, Err}, Bool.{nat_eq}, BTreeMap.{get, keys}, Cmp.Lexicographic.{pointwise}, Result.{result_ok}}
 use Rattle.std.specs.FinMap as map
 use Rattle.cacache_core.specs.{declared.errors.Fault.TheVariants.{InvalidInput}, PathNames.{Names, home_of, is_bad, is_name, names_of, pieces}}
 use Rattle.cacache_disk.specs.{declared.node.Node.{Node}, Rooted.{is_folder}, Tree.{Tree, look, names_cmp, put, same_path}}
 use Rattle.cacache_disk.proofs.{Maps.{same_path-true}, PathFolders.{drop_here, front_next}, PutNodes.{look-put}}
 use Rattle.cacache_loss.specs.{declared.left.Losing.{Losing}, Fixing.{Place}, Loss.{Lost, begins, lead_folders}, Losing.{loss_of, lost_of}, Reached.{is_among}, Running.{moment_of}}
-use Rattle.cacache_loss.proofs.{ChangedNames.{none_left_at, not_among, not_there}, PathMaps.{keys_among, settled_more}}
+use Rattle.cacache_loss.proofs.{ChangedNames.{none_left_at, not_among, not_there}, PathMaps.{keys_among, settled_more}, KeptPaths.{none_cond}}
 
 -- ---- the cache's folder
 
@@ -31,11 +31,7 @@ begins_front (name ∷ path) (first ∷ home) = ap (λ b. pointwise nat_eq name 
 pub begins_short : (path home : Names) → length home < length path → false ≡ begins path home
 begins_short [] home short = absurd (omega (arith, short))
 begins_short (name ∷ path) [] short = refl
-begins_short (name ∷ path) (first ∷ home) short = sym (and_false (pointwise nat_eq name first) (begins path home) (sym (begins_short path home (omega (arith, short)))))
-  where
-    and_false : (b c : Bool) → c ≡ false → (b && c) ≡ false
-    and_false true c e = e
-    and_false false c e = refl
+begins_short (name ∷ path) (first ∷ home) short = sym (and_right (pointwise nat_eq name first) (begins path home) (sym (begins_short path home (omega (arith, short)))))
 
 -- ---- the folders above a path
 
@@ -46,12 +42,8 @@ leads_next left path i above below is =
 
 -- ---- the nodes that are left
 
-none_kept : (b : Bool) (here : Option Node) → here ≡ None → cond b here None ≡ None
-none_kept true here e = e
-none_kept false here e = refl
-
 none_again : (lost : Names → Option Node) (p q : Names) (a b : Bool) → same_path q p ≡ b → lost p ≡ None → cond a (lost q) None ≡ cond b (lost p) (cond a (lost q) None)
-none_again lost p q a true is none = none_kept a (lost q) (ap lost (same_path-true q p is) ∙ none) ∙ sym none
+none_again lost p q a true is none = none_cond a (lost q) (ap lost (same_path-true q p is) ∙ none) ∙ sym none
 none_again lost p q a false is none = refl
 
 pub left_none : (lost : Names → Option Node) (t : Tree) (paths : List Names) (i : ℕ) (p : Names) → i < length paths → p ≡ get_or paths i p → lost p ≡ None

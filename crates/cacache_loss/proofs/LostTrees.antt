@@ -1,5 +1,5 @@
 -- What a loss leaves of a cache's tree is a cache's tree again.
-use Rattle.std.proofs.Common.{◌≡◌, inl, inr, Bool, true, false, cond, List, [], ◌∷◌, ◌++◌, Option, None, Some, refl, sym, ap, subst, ◌∙◌, append_assoc, append-nil}
+use Rattle.std.proofs.{Common.{◌≡◌, inl, inr, Bool, true, false, cond, List, [], ◌∷◌, ◌++◌, Option, None, Some, refl, sym, ap, subst, ◌∙◌, append_assoc, append-nil}, lemmas.Bool.{and_parts}}
 use Rattle.std.specs.Prelude.{ℕ, IfSome, not, ◌&&◌, unwrap_or}
 use Rattle.cacache_core.specs.PathNames.{Names, names_of}
 use Rattle.cacache_store.specs.{declared.store.step.Step.TheVariants.{SyncTemp, SyncFile, SyncDir}, Plain.{PlainStep, PlainAnswer}}
@@ -7,7 +7,7 @@ use Rattle.cacache_disk.specs.{declared.node.Node.{Node, TheVariants.{Folder, Fi
 use Rattle.cacache_disk.proofs.Standing.{upper_folder}
 use Rattle.cacache_value.specs.{Kinds.{PathKind, Content, Bucket, Temporary, Way, Stray, Elsewhere, path_kind}, Placed.{MayStand}}
 use Rattle.cacache_loss.specs.{Fixing.{Fixed, Fixing, Place, all_fixed, file_synced, fixed_after, folder_synced, is_child_of, is_synced, place_now, renamed, synced, temp_synced}, Loss.{Loss, bytes_left, lead_folders, left_at, lost_at, node_left, stays}, Moments.{Moment, lost_then, next}, LostTrees.{FixedTreesStay, LossesLeaveTrees, MomentsFollowTrees, MovesKeepMoments, OfCache, OpeningsStandWell, StoodWell, Suits}}
-use Rattle.cacache_loss.proofs.{KeptPaths.{cache_next}, SyncedFolders.{left_firm, top_stays}}
+use Rattle.cacache_loss.proofs.{KeptPaths.{cache_next, none_cond}, SyncedFolders.{left_firm, top_stays}}
 
 pub moments_follow_trees : MomentsFollowTrees
 moments_follow_trees w [] = refl
@@ -76,15 +76,11 @@ cond_suits home q false here s = (tt, tt)
 
 -- ---- and in a folder
 
-and_true : (b c : Bool) → (b && c) ≡ true → (b ≡ true) × (c ≡ true)
-and_true true c e = (refl, e)
-and_true false c e = absurd cc
-
 leads_above : (left : Names → Place) (above path : Names) (name : List ℕ) → lead_folders left above (path ++ name ∷ []) ≡ true
     → (lead_folders left above path ≡ true) × (is_folder (left (above ++ path)).node ≡ true)
-leads_above left above [] name e = (refl, ap (λ q. is_folder (left q).node) (append-nil above) ∙ (and_true (is_folder (left above).node) true e).0)
+leads_above left above [] name e = (refl, ap (λ q. is_folder (left q).node) (append-nil above) ∙ (and_parts (is_folder (left above).node) true e).0)
 leads_above left above (n ∷ path) name e =
-    let both = and_true (is_folder (left above).node) (lead_folders left (above ++ n ∷ []) (path ++ name ∷ [])) e in
+    let both = and_parts (is_folder (left above).node) (lead_folders left (above ++ n ∷ []) (path ++ name ∷ [])) e in
     let further = leads_above left (above ++ n ∷ []) path name both.1 in
     (rw (both.0, further.0) refl, ap (λ q. is_folder (left q).node) (sym (append_assoc above (n ∷ []) path)) ∙ further.1)
 
@@ -143,10 +139,6 @@ same_left t q tail (Some Folder) = refl
 same_left t q tail (Some (File bytes)) = refl
 same_left t q tail (Some (Link target)) = refl
 
-none_left : (b : Bool) (here : Option Node) → here ≡ None → cond b here None ≡ None
-none_left true here e = e
-none_left false here e = refl
-
 module _ (home : Option Names) (t : Tree) (loss : Loss) (rooted : Rooted t) where
   abbrev fixed_left : Names → Place
   fixed_left = left_at home t (all_fixed t) loss
@@ -164,7 +156,7 @@ module _ (home : Option Names) (t : Tree) (loss : Loss) (rooted : Rooted t) wher
   left_same q = ap (λ (place : Place). node_left place.fixing (loss.tail q) place.node) (place_left q) ∙ same_left t q (loss.tail q) (look t q)
 
   stays_at : (q : Names) (here : Option Node) → look t q ≡ here → lost_at home t (all_fixed t) loss q ≡ here
-  stays_at q None none = none_left (lead_folders fixed_left [] q) (node_left (fixed_left q).fixing (loss.tail q) (fixed_left q).node) (left_same q ∙ none)
+  stays_at q None none = none_cond (lead_folders fixed_left [] q) (node_left (fixed_left q).fixing (loss.tail q) (fixed_left q).node) (left_same q ∙ none)
   stays_at q (Some node) there = ap (λ b. cond b (node_left (fixed_left q).fixing (loss.tail q) (fixed_left q).node) None) (folders_lead [] q node there) ∙ left_same q ∙ there
 
 pub fixed_trees_stay : FixedTreesStay

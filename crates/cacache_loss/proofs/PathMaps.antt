@@ -60,7 +60,7 @@ once_more f old p q false true e = ap f (sym (same_path-true q p e))
 once_more f old p q true false e = refl
 once_more f old p q false false e = refl
 
-or_false : (b : Bool) → (b || false) ≡ b
+pub or_false : (b : Bool) → (b || false) ≡ b
 or_false true = refl
 or_false false = refl
 

@@ -1,45 +1,36 @@
 -- Where steps change something: nothing changes at a path that a step doesn't reach.
-use Rattle.std.proofs.Common.{◌≡◌, ◌-◌, ◌==◌, ℕ, Bool, true, false, cond, List, [], ◌∷◌, ◌++◌, Option, None, Some, Ok, Err, refl, sym, ap, ◌∙◌}
+use Rattle.std.proofs.{Common.{◌≡◌, ◌-◌, ◌==◌, ℕ, false, cond, List, [], ◌∷◌, ◌++◌, Option, None, Ok, Err, refl, sym, ap, ◌∙◌}, lemmas.Bool.{or_parts}}
 use Rattle.std.specs.{Prelude.{Result, ◌||◌}, Result.{result_ok}}
 use Rattle.cacache_core.specs.{declared.errors.Fault.{Fault, TheVariants.{IsADirectory, InvalidInput}}, PathNames.{Names, names_of}}
 use Rattle.cacache_store.specs.{declared.store.{plain.PlainTemp.{PlainTemp}, step.Step.TheVariants.{MakeDirs, CreateTemp, Write, Persist, Append, ReadAll, Open, Size, Symlink, Copy, Reflink, HardLink, ReadDir, RemoveFile, RemoveDir, SyncFile, SyncDir}, answer.Answer.TheVariants.{Done}}, Plain.{PlainStep, PlainAnswer}}
-use Rattle.cacache_disk.specs.{declared.{luck.Luck.{Luck}, node.Node.{Node, TheVariants.{Folder}}}, Apply.{apply, plain, if_missing, make_some, making}, LedTo.{dirs, free, known, kept, replaceable, writable, removable, emptied, file_at, linked, folder}, Tree.{Tree, look, put, same_path}}
+use Rattle.cacache_disk.specs.{declared.{luck.Luck.{Luck}, node.Node.TheVariants.{Folder}}, Apply.{apply, plain, if_missing, make_some, making}, LedTo.{dirs, free, known, kept, replaceable, writable, removable, emptied, file_at, linked, folder}, Tree.{Tree, look, put, same_path}}
 use Rattle.cacache_disk.proofs.{FoundNodes.{free_ok, kept_ok, replaceable_ok, removable_ok, emptied_ok}, KeptFolders.{apply_tree, unless_tree}}
 use Rattle.cacache_loss.specs.{Fixing.{between, is_at, moved_to, moves_file, rewrites_at, writes_at}, Reached.{fronts, fronts_of, is_among, listed, reached}}
-use Rattle.cacache_loss.proofs.StepCases.{cut_misses, dirs_ok, put_misses}
-
-neither : (b c : Bool) → (b || c) ≡ false → (b ≡ false) × (c ≡ false)
-neither true c e = absurd cc
-neither false c e = (refl, e)
+use Rattle.cacache_loss.proofs.{StepCases.{cut_misses, dirs_ok, put_misses, made_or_there}, PathMaps.{or_false}}
 
 -- a path that isn't the one that was found
 apart_one : (q : Names) (r : Result Names Fault) → is_among q (listed (result_ok r) None) ≡ false → (names : Names) → r ≡ Ok names → same_path q names ≡ false
-apart_one q (Ok n) apart names is = let same : n ≡ names = cc in ap (same_path q) (sym same) ∙ (neither (same_path q n) false apart).0
+apart_one q (Ok n) apart names is = let same : n ≡ names = cc in ap (same_path q) (sym same) ∙ (or_parts (same_path q n) false apart).0
 apart_one q (Err fault) apart names is = absurd cc
 
 apart_first : (q : Names) (r s : Result Names Fault) → is_among q (listed (result_ok r) (result_ok s)) ≡ false → (names : Names) → r ≡ Ok names → same_path q names ≡ false
-apart_first q (Ok n) (Ok m) apart names is = let same : n ≡ names = cc in ap (same_path q) (sym same) ∙ (neither (same_path q n) (same_path q m || false) apart).0
-apart_first q (Ok n) (Err f) apart names is = let same : n ≡ names = cc in ap (same_path q) (sym same) ∙ (neither (same_path q n) false apart).0
+apart_first q (Ok n) (Ok m) apart names is = let same : n ≡ names = cc in ap (same_path q) (sym same) ∙ (or_parts (same_path q n) (same_path q m || false) apart).0
+apart_first q (Ok n) (Err f) apart names is = let same : n ≡ names = cc in ap (same_path q) (sym same) ∙ (or_parts (same_path q n) false apart).0
 apart_first q (Err fault) s apart names is = absurd cc
 
 apart_second : (q : Names) (r s : Result Names Fault) → is_among q (listed (result_ok r) (result_ok s)) ≡ false → (names : Names) → s ≡ Ok names → same_path q names ≡ false
 apart_second q (Ok n) (Ok m) apart names is =
     let same : m ≡ names = cc in
-    ap (same_path q) (sym same) ∙ (neither (same_path q m) false (neither (same_path q n) (same_path q m || false) apart).1).0
-apart_second q (Err f) (Ok m) apart names is = let same : m ≡ names = cc in ap (same_path q) (sym same) ∙ (neither (same_path q m) false apart).0
+    ap (same_path q) (sym same) ∙ (or_parts (same_path q m) false (or_parts (same_path q n) (same_path q m || false) apart).1).0
+apart_second q (Err f) (Ok m) apart names is = let same : m ≡ names = cc in ap (same_path q) (sym same) ∙ (or_parts (same_path q m) false apart).0
 apart_second q r (Err fault) apart names is = absurd cc
 
 -- ---- folders that are made
 
-made_or_there : (t : Tree) (p q : Names) (here : Option Node) (b : Bool) → same_path q p ≡ false → look (if_missing here (cond b t (put t p Folder)) t) q ≡ look t q
-made_or_there t p q None true misses = refl
-made_or_there t p q None false misses = put_misses t p q Folder misses
-made_or_there t p q (Some node) b misses = refl
-
 make_misses : (t : Tree) (above rest q : Names) (count : ℕ) → is_among q (fronts above rest) ≡ false → look (make_some t above rest count) q ≡ look t q
 make_misses t above [] q count apart = refl
 make_misses t above (name ∷ rest) q count apart =
-    let each = neither (same_path q (above ++ name ∷ [])) (is_among q (fronts (above ++ name ∷ []) rest)) apart in
+    let each = or_parts (same_path q (above ++ name ∷ [])) (is_among q (fronts (above ++ name ∷ []) rest)) apart in
     make_misses (if_missing (look t (above ++ name ∷ [])) (cond (count == 0) t (put t (above ++ name ∷ []) Folder)) t) (above ++ name ∷ []) rest q
     (if_missing (look t (above ++ name ∷ [])) (count - 1) count) each.1
     ∙ made_or_there t (above ++ name ∷ []) q (look t (above ++ name ∷ [])) (count == 0) each.0
@@ -93,10 +84,6 @@ module _ (t : Tree) (q : Names) where
 
 -- ---- what a step does at the paths that it reaches
 
-or_false : (b : Bool) → (b || false) ≡ b
-or_false true = refl
-or_false false = refl
-
 among_found : (q : Names) (r : Result Names Fault) → is_among q (listed (result_ok r) None) ≡ is_at r q
 among_found q (Ok n) = or_false (same_path q n)
 among_found q (Err fault) = refl
@@ -114,7 +101,7 @@ pub moves_reached : (t : Tree) (step : PlainStep) (answer : PlainAnswer) (q : Na
 moves_reached t (Persist f p) Done q apart = arrives (names_of f.path) (names_of p) apart
   where
     arrives : (r s : Result Names Fault) → is_among q (listed (result_ok r) (result_ok s)) ≡ false → moved_to (between r s) q ≡ false
-    arrives (Ok n) (Ok m) apart = (neither (same_path q m) false (neither (same_path q n) (same_path q m || false) apart).1).0
+    arrives (Ok n) (Ok m) apart = (or_parts (same_path q m) false (or_parts (same_path q n) (same_path q m || false) apart).1).0
     arrives (Ok n) (Err f) apart = refl
     arrives (Err f) s apart = refl
 moves_reached t (Persist f p) answer q apart = refl

@@ -1,12 +1,12 @@
 -- What a calm step does to a path of the cache.
-use Rattle.std.proofs.Common.{◌≡◌, ◌-◌, ◌==◌, ℕ, Bool, true, false, cond, List, [], ◌∷◌, ◌++◌, Option, None, Some, Ok, Err, take, refl, sym, ap, ◌∙◌}
+use Rattle.std.proofs.{Common.{◌≡◌, ◌-◌, ◌==◌, ℕ, Bool, true, false, cond, List, [], ◌∷◌, ◌++◌, Option, None, Some, Ok, Err, take, refl, sym, ap, ◌∙◌}, lemmas.Bool.{false_from_ne_true}}
 use Rattle.std.specs.Prelude.{Result, IfOk}
 use Rattle.cacache_core.specs.{declared.errors.Fault.{Fault}, PathNames.{Names, names_of}}
 use Rattle.cacache_store.specs.{declared.store.{plain.PlainTemp.{PlainTemp}, step.Step.TheVariants.{MakeDirs, CreateTemp, Persist, Append}, answer.Answer.TheVariants.{Done, Took, Failed}}, Plain.{PlainStep, PlainAnswer}}
 use Rattle.cacache_disk.specs.{declared.{luck.Luck.{Luck, TheVariants.{Plain, Fail, Take}}, node.Node.{Node, TheVariants.{Folder, File}}}, Tree.{Tree, look, put, cut, same_path, bytes_of}, LedTo.{dirs, free, known, kept, replaceable, writable, or_fault, dirs_fault}, Apply.{apply, plain, unless, making, make_some, if_missing, fails, fault_told}}
 use Rattle.cacache_disk.proofs.{Maps.{same_path-true}, PutNodes.{look-put, look-cut}, FoundNodes.{free_ok, kept_ok, replaceable_ok, and_then_ok, or_fault_none}, KeptFolders.{apply_tree, unless_tree}}
 use Rattle.cacache_value.specs.{Kinds.{Bucket, path_kind, IsFor, PathKind, Way}, Placed.{Placed}}
-use Rattle.cacache_value.proofs.{KindsApart.{not_true, further, way_here}, FoundPaths.{Reaches, found, missing, bucket_reached, unreachable}}
+use Rattle.cacache_value.proofs.{KindsApart.{further, way_here}, FoundPaths.{Reaches, found, missing, bucket_reached, unreachable}, Steps.{known_ok}}
 
 -- what is at another path stays
 pub put_misses : (t : Tree) (p q : Names) (node : Node) → same_path q p ≡ false → look (put t p node) q ≡ look t q
@@ -31,10 +31,10 @@ make_keeps t above (name ∷ rest) q node count e =
     (above ++ name ∷ []) rest q node (if_missing (look t (above ++ name ∷ [])) (count - 1) count) (make_one t (above ++ name ∷ []) q (look t (above ++ name ∷ [])) node (count == 0) (same_path q (above ++ name ∷ [])) refl e refl)
 
 -- no folder is made at a path that isn't on the way
-apart_one : (t : Tree) (p q : Names) (here : Option Node) (b : Bool) → same_path q p ≡ false → look (if_missing here (cond b t (put t p Folder)) t) q ≡ look t q
-apart_one t p q None true misses = refl
-apart_one t p q None false misses = put_misses t p q Folder misses
-apart_one t p q (Some node) b misses = refl
+pub made_or_there : (t : Tree) (p q : Names) (here : Option Node) (b : Bool) → same_path q p ≡ false → look (if_missing here (cond b t (put t p Folder)) t) q ≡ look t q
+made_or_there t p q None true misses = refl
+made_or_there t p q None false misses = put_misses t p q Folder misses
+made_or_there t p q (Some node) b misses = refl
 
 pub make_apart : (home : Option Names) (l : PathKind) (t : Tree) (above rest q : Names) (count : ℕ) → path_kind home q ≡ l → (l ≡ Way → ⊥) → path_kind home (above ++ rest) ≡ Way
     → look (make_some t above rest count) q ≡ look t q
@@ -43,8 +43,8 @@ make_apart home l t above (name ∷ rest) q count at apart way =
     let here = way_here home above rest name way in
     make_apart home l (if_missing (look t (above ++ name ∷ [])) (cond (count == 0) t (put t (above ++ name ∷ []) Folder)) t)
     (above ++ name ∷ []) rest q (if_missing (look t (above ++ name ∷ [])) (count - 1) count) at apart (further home Way above rest name way)
-    ∙ apart_one t (above ++ name ∷ []) q (look t (above ++ name ∷ [])) (count == 0)
-    (not_true (same_path q (above ++ name ∷ [])) (λ e. apart (sym at ∙ ap (path_kind home) (same_path-true q (above ++ name ∷ []) e) ∙ here)))
+    ∙ made_or_there t (above ++ name ∷ []) q (look t (above ++ name ∷ [])) (count == 0)
+    (false_from_ne_true (same_path q (above ++ name ∷ [])) (λ e. apart (sym at ∙ ap (path_kind home) (same_path-true q (above ++ name ∷ []) e) ∙ here)))
 
 pub dirs_ok : (t : Tree) (p : List ℕ) (names : Names) → dirs t p ≡ Ok names → names_of p ≡ Ok names
 unfolding dirs
@@ -63,10 +63,6 @@ fails_case : (P : PlainAnswer × Tree → Type 0) (t left : Tree) (own : Option 
     → ((fault : Fault) → P (Failed fault, t)) → ((fault : Fault) → P (Failed fault, left)) → P (fails own fault t left)
 fails_case P t left None fault h k = k _
 fails_case P t left (Some own) fault h k = h own
-
-known_ok : (o : Option (List ℕ)) (bytes : List ℕ) → known o ≡ Ok bytes → o ≡ Some bytes
-known_ok None bytes e = absurd cc
-known_ok (Some old) bytes e = cc
 
 pub data PersistCase (t : Tree) (f : PlainTemp) (p : List ℕ) (o : PlainAnswer × Tree) : Type 0 where
   refused : (fault : Fault) → o ≡ (Failed fault, t) → PersistCase t f p o

@@ -1,9 +1,9 @@
 -- What is at a path after a loss, if the folders above it are synced.
-use Rattle.std.proofs.Common.{◌≡◌, ◌⊎◌, inl, inr, ℕ, Bool, true, false, cond, List, [], ◌∷◌, ◌++◌, Option, None, Some, refl, sym, ap, subst, ◌∙◌, append_assoc}
+use Rattle.std.proofs.{Common.{◌≡◌, ◌⊎◌, inl, inr, ℕ, Bool, true, false, cond, List, [], ◌∷◌, ◌++◌, Option, None, Some, refl, sym, ap, subst, ◌∙◌, append_assoc}, lemmas.Bool.{and_right}}
 use Rattle.std.specs.Prelude.{not, ◌&&◌, unwrap_or}
 use Rattle.cacache_core.specs.PathNames.{Names}
 use Rattle.cacache_disk.{specs.{declared.node.Node.{Node, TheVariants.{Folder}}, Tree.{Tree, look}, Apply.{apply}, Rooted.{Rooted, is_folder}}, proofs.Standing.{upper_folder}}
-use Rattle.cacache_value.specs.{Kinds.{Way, path_kind, is_used}, Placed.{Placed}, Traces.{Move}}
+use Rattle.cacache_value.specs.{Kinds.{Way, path_kind, is_used, Bucket}, Placed.{Placed}, Traces.{Move}}
 use Rattle.cacache_value.proofs.KindsApart as apart
 use Rattle.cacache_loss.specs.{Fixing.{Fixed, Place, place_now}, Loss.{Loss, lead_folders, left_at, node_left, stays}, Moments.{EachMove, Moment, after, lost_then, next}, CalmMoves.{IsCalm}, Syncs.{SyncsFolder, SyncsFolders}}
 use Rattle.cacache_loss.proofs.KeptPaths.{fixed_next, sync_fixes}
@@ -14,16 +14,12 @@ cond_same : {A : Type 0} (b : Bool) (x : A) → cond b x x ≡ x
 cond_same true x = refl
 cond_same false x = refl
 
-and_not : (b : Bool) → (b && not true) ≡ false
-and_not true = refl
-and_not false = refl
-
 -- a place that stays, or has a fixed name
 abbrev pub IsFirm : Option Names → Fixed → Names → Type 0
 IsFirm home fixed q = (stays home q ≡ true) ⊎ (fixed.names q ≡ None)
 
 pub left_firm : (home : Option Names) (t : Tree) (fixed : Fixed) (loss : Loss) (q : Names) → IsFirm home fixed q → left_at home t fixed loss q ≡ place_now t fixed q
-left_firm home t fixed loss q (inl e) = rw (e, and_not (loss.undone q)) refl
+left_firm home t fixed loss q (inl e) = rw (e, and_right (loss.undone q) false refl) refl
 left_firm home t fixed loss q (inr e) = rw e (cond_same (loss.undone q && not (stays home q)) (place_now t fixed q))
 
 left_or : (P : Place → Type 0) (b : Bool) (o : Option Place) (now : Place) → P now → ((was : Place) → o ≡ Some was → P was) → P (cond b (unwrap_or o now) now)
@@ -42,6 +38,19 @@ left_was home t fixed loss q W P (inr w) now was =
 pub top_stays : (home : Option Names) → stays home [] ≡ true
 top_stays None = refl
 top_stays (Some home) = refl
+
+pub not_top : (h : Option Names) → path_kind h [] ≡ Bucket → ⊥
+not_top None e = cc
+not_top (Some []) e = cc
+not_top (Some (n ∷ rest)) e = cc
+
+-- a move need only be calm
+abbrev pub Any : Moment → Move → Type 0
+Any w m = Unit {0}
+
+pub any : (w : Moment) (moves : List Move) → EachMove Any w moves
+any w [] = tt
+any w (m ∷ moves) = (tt, any (next w m) moves)
 
 -- what is left is the node of such a place, with this tail
 abbrev pub IsLeft : (Place → Type 0) → List ℕ → Option Node → Type 0

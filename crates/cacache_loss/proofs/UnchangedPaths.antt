@@ -1,14 +1,11 @@
 -- What a step leaves fixed at a path at which nothing changed.
-use Rattle.std.{proofs.Common.{◌≡◌, ℕ, true, false, cond, List, [], ◌∷◌, Option, None, Some, Ok, Err, refl, sym, ap, ◌∙◌, bytes_eq, eq-eqb}, specs.Prelude.{Result, IfOk}}
+use Rattle.std.{proofs.{Common.{◌≡◌, ℕ, true, false, cond, List, Option, None, Some, Ok, Err, refl, sym, ap, ◌∙◌}, lemmas.Bool.{false_from_ne_true}}, specs.Prelude.{Result, IfOk}}
 use Rattle.cacache_core.specs.{declared.errors.Fault.{Fault}, PathNames.{Names, names_of}}
 use Rattle.cacache_store.specs.{declared.store.{step.Step.TheVariants.{CreateTemp, Write, Persist, Append, Copy}, answer.Answer.TheVariants.{Done}}, Plain.{PlainStep, PlainAnswer}}
 use Rattle.cacache_disk.{specs.{declared.node.Node.{Node, TheVariants.{Folder, File, Link}}, Tree.{Tree, look, same_path}}, proofs.Maps.{same_path-true}}
-use Rattle.cacache_value.{specs.Kinds.{PathKind, path_kind}, proofs.KindsApart.{not_true}}
+use Rattle.cacache_value.specs.Kinds.{PathKind, path_kind}
+pub use Rattle.cacache_value.proofs.KindsApart.{bytes_same}
 use Rattle.cacache_loss.specs.{Fixing.{Fixed, Fixing, between, file_after, is_at, moved_fixing, moved_to, moves_file, name_after, rewrites_at, same_node, same_thing, writes_at}, Loss.{stays}, CalmMoves.{is_calm}}
-
-pub bytes_same : (xs : List ℕ) → bytes_eq xs xs ≡ true
-bytes_same [] = refl
-bytes_same (x ∷ xs) = rw (eq-eqb x x refl) (bytes_same xs)
 
 node_same : (here : Option Node) → same_node here here ≡ true
 node_same None = refl
@@ -42,7 +39,7 @@ module _ (fixed : Fixed) (old new : Tree) (step : PlainStep) (answer : PlainAnsw
 
 pub at_false : (home : Option Names) (k l : PathKind) (q : Names) (r : Result Names Fault) → IfOk r (λ n. path_kind home n ≡ k) → path_kind home q ≡ l → (l ≡ k → ⊥)
     → is_at r q ≡ false
-at_false home k l q (Ok n) is at apart = not_true (same_path q n) (λ e. apart (sym at ∙ ap (path_kind home) (same_path-true q n e) ∙ is))
+at_false home k l q (Ok n) is at apart = false_from_ne_true (same_path q n) (λ e. apart (sym at ∙ ap (path_kind home) (same_path-true q n e) ∙ is))
 at_false home k l q (Err fault) is at apart = refl
 
 pub rewrites_false : (old : Tree) (step : PlainStep) (q : Names) → is_calm step ≡ true → rewrites_at old step q ≡ false
@@ -61,7 +58,7 @@ pub writes_false : (step : PlainStep) (q : Names) → Misses q step → writes_a
 writes_false (Write f bytes) q misses = misses
 writes_false step q misses = refl
 
-between_false : (from to : Result Names Fault) (q : Names) → is_at to q ≡ false → moved_to (between from to) q ≡ false
+pub between_false : (from to : Result Names Fault) (q : Names) → is_at to q ≡ false → moved_to (between from to) q ≡ false
 between_false (Ok from) (Ok to) q e = e
 between_false (Ok from) (Err fault) q e = refl
 between_false (Err fault) to q e = refl

@@ -1,27 +1,23 @@
 -- Paths of two kinds are apart, and above a path of the cache there are only ways.
-use Rattle.std.proofs.Common.{◌≡◌, ℕ, zero, suc, Bool, true, false, cond, List, [], ◌∷◌, ◌++◌, Option, None, Some, bytes_eq, refl, sym, ap, ◌∙◌, eq-eqb, append_assoc}
+use Rattle.std.proofs.{Common.{◌≡◌, ℕ, zero, suc, Bool, true, false, cond, List, [], ◌∷◌, ◌++◌, Option, None, Some, bytes_eq, refl, sym, ap, ◌∙◌, eq-eqb, append_assoc}, lemmas.Bool.{false_from_ne_true}}
 use Rattle.cacache_core.specs.Paths.{content_area, index_area, temp_area}
 use Rattle.cacache_disk.{specs.Tree.{Names, same_path}, proofs.Maps.{same_path-true}}
 use Rattle.cacache_value.specs.Kinds.{PathKind, Content, Bucket, Temporary, Way, Stray, Elsewhere, kind_in_area, kind_below, kind_beside, path_kind, is_used, is_path_of}
 
-bytes_eq_same : (xs : List ℕ) → bytes_eq xs xs ≡ true
-bytes_eq_same [] = refl
-bytes_eq_same (x ∷ xs) = rw (eq-eqb x x refl) (bytes_eq_same xs)
+pub bytes_same : (xs : List ℕ) → bytes_eq xs xs ≡ true
+bytes_same [] = refl
+bytes_same (x ∷ xs) = rw (eq-eqb x x refl) (bytes_same xs)
 
 -- a path below the cache's folder is of the kind that its inner names give
 pub kind-below : (home path : Names) → kind_beside home (home ++ path) ≡ kind_below path
 kind-below [] path = refl
-kind-below (name ∷ home) path = rw (bytes_eq_same name) (kind-below home path)
-
-pub not_true : (b : Bool) → (b ≡ true → ⊥) → b ≡ false
-not_true true h = absurd (h refl)
-not_true false h = refl
+kind-below (name ∷ home) path = rw (bytes_same name) (kind-below home path)
 
 -- a path of another kind is another path
 pub unseen : (home : Option Names) (names p : Names) → (kind_below names ≡ path_kind home p → ⊥) → is_path_of home names p ≡ false
 unseen None names p apart = refl
 unseen (Some home) names p apart =
-    not_true (same_path (home ++ names) p) (λ e. apart (sym (kind-below home names) ∙ ap (kind_beside home) (same_path-true (home ++ names) p e)))
+    false_from_ne_true (same_path (home ++ names) p) (λ e. apart (sym (kind-below home names) ∙ ap (kind_beside home) (same_path-true (home ++ names) p e)))
 
 -- ---- above a path
 
@@ -72,7 +68,7 @@ way_here home path (next ∷ rest) name is = above home (path ++ name ∷ []) re
 
 -- ---- apart from the cache
 
-kind_in_used : (file : PathKind) (n : ℕ) (rest : Names) → (file ≡ Elsewhere → ⊥) → kind_in_area file n rest ≡ Elsewhere → ⊥
+pub kind_in_used : (file : PathKind) (n : ℕ) (rest : Names) → (file ≡ Elsewhere → ⊥) → kind_in_area file n rest ≡ Elsewhere → ⊥
 kind_in_used file zero [] used e = used e
 kind_in_used file zero (name ∷ rest) used e = cc
 kind_in_used file (suc n) [] used e = cc

@@ -7,7 +7,7 @@ use Rattle.cacache_value.specs.{Kinds.{PathKind, Content, Bucket, Temporary, Way
 use Rattle.cacache_value.proofs.KindsApart.{kind-below}
 
 -- without the last name, proper names are proper too
-proper_folder : (ns : Names) → All IsProperName ns → All IsProperName (folder_names ns)
+pub proper_folder : (ns : Names) → All IsProperName ns → All IsProperName (folder_names ns)
 proper_folder [] all = All-nil IsProperName
 proper_folder (n ∷ []) all = All-nil IsProperName
 proper_folder (n ∷ m ∷ ns) all =

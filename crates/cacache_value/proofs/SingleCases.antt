@@ -1,12 +1,12 @@
 -- The single cases.
-use Rattle.std.proofs.{Common.{◌≡◌, ◌≢◌, ◌≤◌, ◌<◌, ℕ, false, cond, List, [], ◌∷◌, ◌++◌, Option, None, Some, Ok, length, take, refl, ap, ◌∙◌, arith, append-nil}, lemmas.List.{append_cancel_left}}
+use Rattle.std.proofs.{Common.{◌≡◌, ◌≢◌, ◌≤◌, ◌<◌, ℕ, false, cond, List, [], ◌∷◌, ◌++◌, Option, None, Some, Ok, length, take, refl, ap, ◌∙◌, arith, append-nil}, lemmas.{List.{append_cancel_left}, Bool.{false_from_ne_true}}}
 use Rattle.cacache_core.specs.{declared.{integrity.digest.Hash.{Hash}, errors.Fault.TheVariants.{NotFound, IsADirectory, Device}}, Integrity.{IsHash}, Paths.{joined, content_names, bucket_names_of}, PathLaws.{IsKeyDigest}, PathNames.{Names, names_of}}
 use Rattle.cacache_core.proofs.PathTexts.{paths_differ}
 use Rattle.cacache_entry.{proofs.Lines.{empty_holds_nothing}, specs.{Entry.{Entry, line_of}, FittingEntries.{IsEntry, IsWritable}, Bucket.{entries_of}}}
 use Rattle.cacache_disk.{specs.{Tree.{Tree, same_path}, LedTo.{bytes_there}, declared.luck.Luck.{Luck, TheVariants.{Fail}}}, proofs.{Maps.{same_path-true}, Roots.{same_self}}}
 use Rattle.cacache_store.specs.{declared.store.answer.Answer.TheVariants.{Done, Took, Failed}, Plain.{PlainAnswer}}
 use Rattle.cacache_value.specs.{Value.{Value, blob_in, bucket_in, empty_value}, Acts.{list_of, amount_left, folders_left, make_folders, PutBytes, AddEntries, MakeFolders, act_at, act_with, change}, SingleCases.{bucket_after, AppendCases, ContentCases, RemovedBucketsGo, OtherBucketsKeep, FolderCases, KindCases, TreeCases, LinkCases, row_home, row_folder, folders_after}}
-use Rattle.cacache_value.proofs.{KindsApart.{not_true}, AppendedLines.{whole_line, torn_line, append_act, nothing_left_is_nothing}}
+use Rattle.cacache_value.proofs.AppendedLines.{whole_line, torn_line, append_act, nothing_left_is_nothing}
 
 here : {A : Type 0} (p : Names) (x y : A) → cond (same_path p p) x y ≡ x
 here p x y = ap (λ b. cond b x y) (same_self p)
@@ -42,7 +42,7 @@ append_cases home v path digest e formed fits is =
 -- two addresses have two paths
 contents_apart : (home : Names) (a b : Hash) → IsHash a → IsHash b → b ≢ a → same_path (home ++ content_names b) (home ++ content_names a) ≡ false
 contents_apart home a b p q differ =
-    not_true (same_path (home ++ content_names b) (home ++ content_names a)) (λ s.
+    false_from_ne_true (same_path (home ++ content_names b) (home ++ content_names a)) (λ s.
     let same : content_names b ≡ content_names a = append_cancel_left home (content_names b) (content_names a) (same_path-true _ _ s) in
     differ ((paths_differ.contents [] b a q p).0 (ap (joined []) same)))
 
@@ -54,7 +54,7 @@ unput (Some bytes) home v a b e = rw e refl
 -- so have two digests
 buckets_apart : (home : Names) (d b : List ℕ) → IsKeyDigest d → IsKeyDigest b → b ≢ d → same_path (home ++ bucket_names_of b) (home ++ bucket_names_of d) ≡ false
 buckets_apart home d b p q differ =
-    not_true (same_path (home ++ bucket_names_of b) (home ++ bucket_names_of d)) (λ s.
+    false_from_ne_true (same_path (home ++ bucket_names_of b) (home ++ bucket_names_of d)) (λ s.
     let same : bucket_names_of b ≡ bucket_names_of d = append_cancel_left home (bucket_names_of b) (bucket_names_of d) (same_path-true _ _ s) in
     differ ((paths_differ.buckets [] b d q p).0 (ap (joined []) same)))
 

@@ -9,7 +9,7 @@ use Rattle.cacache_entry.specs.{Entry.{piece_of, closing}, Bucket.{entries_of}}
 use Rattle.cacache_value.specs.{Kinds.{PathKind, Content, Bucket, Temporary, Way, Elsewhere, path_kind, IsFor}, Value.{InFile, wide_value}, Acts.{Act, Nothing, PutBytes, PutLink, AddEntries, Drop, MakeFolders, DropFolder, put_blob, act_at, act_with, amount_left, folders_left, act_of, change}, Placed.{MayStand, Placed, Proper}}
 use Rattle.cacache_value.proofs.{PutValues.{placed_put, placed_cut, put_hidden, cut_hidden, put_content, put_bucket, cut_file, cut_folder}, FoundPaths.{suits, Reaches, found, missing, bucket_reached, unreachable, unmakeable, of_names, linked_ok, writable_out}, Applying.{Acted, unless_acted, apply_acted, apply_refused, refused, amount_left-made_up}, MadeFolders.{made, no_dirs_fault}, AppendedLines.{bucket_left}}
 
-known_ok : (o : Option (List ℕ)) (bytes : List ℕ) → known o ≡ Ok bytes → o ≡ Some bytes
+pub known_ok : (o : Option (List ℕ)) (bytes : List ℕ) → known o ≡ Ok bytes → o ≡ Some bytes
 known_ok None bytes e = absurd cc
 known_ok (Some old) bytes e = cc
 

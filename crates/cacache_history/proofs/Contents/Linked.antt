@@ -1,5 +1,5 @@
 -- A link's commit is that of the bytes that its call read from the target.
-use Rattle.std.proofs.{Common.{◌≡◌, ◌⊎◌, inl, inr, ℕ, ◌+◌, ◌==◌, ◌<◌, ◌^◌, Bool, true, false, cond, List, [], ◌∷◌, ◌++◌, Some, None, Result, Ok, Err, length, drop, refl, sym, ap, subst, ◌∙◌, append_assoc, append-nil, length-append, arith}, lemmas.{Bool.{eqb-true}, Option.{same_Some}}}
+use Rattle.std.proofs.{Common.{◌≡◌, ◌⊎◌, inl, inr, ℕ, ◌+◌, ◌==◌, ◌<◌, ◌^◌, false, cond, List, [], ◌∷◌, ◌++◌, Some, None, Result, Ok, Err, length, drop, refl, sym, ap, subst, ◌∙◌, append_assoc, append-nil, length-append, arith}, lemmas.{Option.{same_Some}, Bool.{ne_eqb}, List.{drop_all}}}
 use Rattle.cacache_core.specs.declared.errors.Fault.TheVariants as faults
 use Rattle.cacache_core.specs.declared.errors.Error.{Error}
 use Rattle.cacache_store.specs.{declared.store.plain.{PlainFile.{PlainFile}, PlainTemp.{PlainTemp}}, Fits.{Fits}, Plain.{PlainAnswer}}
@@ -55,16 +55,8 @@ module _ (r : Reply) (c : Commit) (target : List ℕ) (file : PlainTemp) where
 
 -- ---- a put of the same bytes
 
-drop_all : (xs : List ℕ) → drop (length xs) xs ≡ []
-drop_all [] = refl
-drop_all (x ∷ xs) = drop_all xs
-
 not_none : (b : ℕ) (bs : List ℕ) → (length (b ∷ bs) == 0) ≡ false
-not_none b bs = by (length (b ∷ bs) == 0) refl
-  where
-    by : (x : Bool) → (length (b ∷ bs) == 0) ≡ x → x ≡ false
-    by true e = absurd (let none : length (b ∷ bs) ≡ 0 = eqb-true _ _ e in omega (arith, none))
-    by false e = refl
+not_none b bs = ne_eqb (length (b ∷ bs)) 0 (λ none. omega (arith, none))
 
 -- one write takes all bytes
 written : (r : Reply) (c : Commit) (file : PlainTemp) (bytes : List ℕ) (moves : Moves) → Runs (persist c file) moves r → Twin (write_rest c file bytes) moves r
@@ -75,7 +67,7 @@ written r c file (b ∷ bs) moves run = record {
     refl,
     (omega arith, refl),
     subst (λ x. Runs (cond x (fails faults.WriteZero) (write_rest c file (drop (length (b ∷ bs)) (b ∷ bs)))) moves r) (sym (not_none b bs))
-        (subst (λ rest. Runs (write_rest c file rest) moves r) (sym (drop_all (b ∷ bs))) run),
+        (subst (λ rest. Runs (write_rest c file rest) moves r) (sym (drop_all (length (b ∷ bs)) (b ∷ bs) (omega arith))) run),
   );
   same = refl;
 }

@@ -1,52 +1,25 @@
 -- The step that puts a link, and its deed among those of its call.
-use Rattle.std.proofs.Common.{◌≡◌, ◌⊎◌, inl, inr, ℕ, Bool, true, false, cond, List, [], ◌∷◌, ◌++◌, Option, None, Some, Result, Ok, Err, take, refl, sym, ap, subst, ◌∙◌}
-use Rattle.cacache_core.specs.{declared.{errors.Fault.{Fault}, integrity.digest.Hash.{Hash}}, PathNames.{Names, names_of}, Paths.{content_names}}
+use Rattle.std.proofs.Common.{◌≡◌, ◌⊎◌, inl, inr, ℕ, Bool, true, false, cond, List, [], ◌∷◌, ◌++◌, Option, None, Some, Ok, refl, sym, ap, subst, ◌∙◌}
+use Rattle.cacache_core.specs.{declared.integrity.digest.Hash.{Hash}, PathNames.{Names, names_of}, Paths.{content_names}}
 use Rattle.cacache_store.specs.declared.store.step.Step.TheVariants as steps
-use Rattle.cacache_store.specs.declared.store.answer.Answer.TheVariants as answers
 use Rattle.cacache_store.specs.Plain.{PlainStep, PlainAnswer}
 use Rattle.cacache_disk.specs.declared.luck.Luck.{Luck}
-use Rattle.cacache_entry.specs.Bucket.{entries_of}
 use Rattle.cacache_calls.specs.{declared.{reply.Reply.{Reply}, carried.Commit.{Commit}}, StepPaths.{content_path}, State.{Insertion}, Storing.{insertion_of}}
-use Rattle.cacache_value.specs.{Acts.{Act, Nothing, PutBytes, PutLink, AddEntries, Drop, MakeFolders, DropFolder, act_at, act_with, act_if_done, folders_left, amount_left, act_of, change}, Kinds.{is_path_of}, Traces.{Move}, Value.{Blob, InFile, AtLink, Value}}
+use Rattle.cacache_value.specs.{Acts.{Act, Nothing, PutBytes, PutLink, AddEntries, Drop, MakeFolders, DropFolder, act_of, change}, Kinds.{is_path_of}, Traces.{Move}, Value.{Blob, InFile, AtLink, Value}}
 use Rattle.cacache_history.specs.{History.{Turn}, Commits.{Deed, does, finds, deeds_of_act, finds_in, deeds_of, deeds, PutsContent, IsAdded, InsertionAdds, AddsAfter, CommitsAs}, AddedEntries.{IsAmong}}
-use Rattle.cacache_history.proofs.Entries.Lookups.{among_left, among_right}
+use Rattle.cacache_history.proofs.{Each.{any_left, any_right}, StepActs.{MayAct, acts_so}}
 
 -- ---- the step that puts a link
-
-module _ {X : Type 0} (names : Names) (target : List ℕ) where
-  done_link : (a : PlainAnswer) (act : Act) → (act ≡ PutLink names target → X) → act_if_done a act ≡ PutLink names target → X
-  done_link answers.Done act h e = h e
-  done_link other act h e = absurd cc
-
-  at_link : (r : Result Names Fault) (act : Names → Act) → ((n : Names) → act n ≡ PutLink names target → X) → act_at r act ≡ PutLink names target → X
-  at_link (Ok n) act h e = h n e
-  at_link (Err fault) act h e = absurd cc
-
-  with_link : {A : Type 0} (o : Option A) (act : A → Act) → ((x : A) → act x ≡ PutLink names target → X) → act_with o act ≡ PutLink names target → X
-  with_link None act h e = absurd cc
-  with_link (Some x) act h e = h x e
 
 abbrev pub IsLinkTo : List ℕ → PlainStep → Type 0
 IsLinkTo target step = (path : List ℕ) × (step ≡ steps.Symlink target path)
 
+act_link : (step : PlainStep) (names : Names) (target : List ℕ) → MayAct (PutLink names target) step → IsLinkTo target step
+act_link (steps.Symlink to p) names target is = (p, ap (λ t. steps.Symlink t p) is.1)
+act_link step names target is = absurd is
+
 pub link_step : (step : PlainStep) (luck : Luck) (a : PlainAnswer) (names : Names) (target : List ℕ) → act_of step luck a ≡ PutLink names target → IsLinkTo target step
-link_step (steps.Symlink to p) luck a names target e =
-    done_link names target a (act_at (names_of p) (λ n. PutLink n to))
-    (at_link names target (names_of p) (λ n. PutLink n to) (λ n same. (p, (let t : to ≡ target = cc in ap (λ x. steps.Symlink x p) t)))) e
-link_step (steps.Persist f p) luck a names target e =
-    done_link names target a (act_at (names_of p) (λ n. act_with f.bytes (PutBytes n)))
-    (at_link names target (names_of p) (λ n. act_with f.bytes (PutBytes n)) (λ n. with_link names target f.bytes (PutBytes n) (λ bytes no. absurd cc))) e
-link_step (steps.MakeDirs p) luck a names target e =
-    at_link names target (names_of p) (λ n. act_with (folders_left n luck a) (MakeFolders n))
-    (λ n. with_link names target (folders_left n luck a) (MakeFolders n) (λ count no. absurd cc)) e
-link_step (steps.Append p bytes) luck a names target e =
-    at_link names target (names_of p) (λ n. act_with (amount_left luck a) (λ count. AddEntries n (entries_of (take count bytes))))
-    (λ n. with_link names target (amount_left luck a) (λ count. AddEntries n (entries_of (take count bytes))) (λ count no. absurd cc)) e
-link_step (steps.RemoveFile p) luck a names target e =
-    done_link names target a (act_at (names_of p) Drop) (at_link names target (names_of p) Drop (λ n no. absurd cc)) e
-link_step (steps.RemoveDir p) luck a names target e =
-    done_link names target a (act_at (names_of p) DropFolder) (at_link names target (names_of p) DropFolder (λ n no. absurd cc)) e
-link_step step luck a names target e = absurd cc
+link_step step luck a names target e = act_link step names target (subst (λ act. MayAct act step) e (acts_so step luck a))
 
 -- ---- where the link at an address comes from
 
@@ -80,8 +53,8 @@ from_act folder v (DropFolder path) a target e = inl e
 -- ---- the deed among those of its call
 
 pub among_last : (d : Deed) (turns : List Turn) (turn : Turn) → IsAmong d (deeds_of turn.move) → IsAmong d (deeds (turns ++ turn ∷ []))
-among_last d [] turn h = among_left d (deeds_of turn.move) [] h
-among_last d (t ∷ turns) turn h = among_right d (deeds_of t.move) (deeds (turns ++ turn ∷ [])) (among_last d turns turn h)
+among_last d [] turn h = any_left (λ (x : Deed). d ≡ x) (deeds_of turn.move) [] h
+among_last d (t ∷ turns) turn h = any_right (λ (x : Deed). d ≡ x) (deeds_of t.move) (deeds (turns ++ turn ∷ [])) (among_last d turns turn h)
 
 module _ (names : Names) (target : List ℕ) where
   abbrev pub the_link : Deed
@@ -89,7 +62,7 @@ module _ (names : Names) (target : List ℕ) where
 
   pub link_deed : (m : Move) → act_of m.step m.luck m.answer ≡ PutLink names target → IsAmong the_link (deeds_of m)
   link_deed m e =
-      among_left the_link (deeds_of_act (act_of m.step m.luck m.answer)) (finds_in m.step m.answer)
+      any_left (λ (x : Deed). the_link ≡ x) (deeds_of_act (act_of m.step m.luck m.answer)) (finds_in m.step m.answer)
       (subst (λ act. IsAmong the_link (deeds_of_act act)) (sym e) (inl refl))
 
   pub not_among : (ds : List Deed) → ds ≡ [] → IsAmong the_link ds → ⊥

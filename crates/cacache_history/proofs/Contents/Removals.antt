@@ -11,7 +11,8 @@ use Rattle.cacache_calls.specs.declared.command.Command.TheVariants as commands
 use Rattle.cacache_calls.specs.{declared.reply.Reply.{Reply, TheVariants.{Done}}, Licence.{May, allows, licence, AllMay}, Looking.{found_in}, Removing.{remove_bucket, remove_found}, Runs.{Runs}, State.{Site, State, doing, over, remove}, StepPaths.{bucket_path, content_path}, Table.{after, opening}}
 use Rattle.cacache_calls.proofs.Within.{calls_keep_to}
 use Rattle.cacache_value.specs.Acts.{Drop, DropFolder, act_at}
-use Rattle.cacache_history.specs.{Commits.{Deed, deeds_of_act, deeds_of, deeds, DropsAmong, RemovesFound, AreRemovals}, History.{Turn}, Turns.{made_in}}
+use Rattle.cacache_history.specs.{Commits.{Deed, deeds_of_act, deeds_of, deeds, DropsAmong, RemovesFound, AreRemovals, IsRemoval}, History.{Turn}, Turns.{made_in}}
+use Rattle.cacache_history.proofs.Each.{each_join}
 
 -- ---- runs that are over
 
@@ -113,14 +114,10 @@ removal_only (steps.RemoveDir p) luck answers.Done may = by (names_of p)
 removal_only (steps.RemoveDir p) luck a may = tt
 removal_only step luck a may = absurd may
 
-both_removals : (a b : List Deed) → AreRemovals a → AreRemovals b → AreRemovals (a ++ b)
-both_removals [] b h k = k
-both_removals (d ∷ a) b h k = (h.0, both_removals a b h.1 k)
-
 all_removals : (turns : List Turn) → AllMay (licence commands.Clear) (made_in turns) → AreRemovals (deeds turns)
 all_removals [] may = tt
 all_removals (turn ∷ turns) may =
-    both_removals (deeds_of turn.move) (deeds turns) (removal_only turn.move.step turn.move.luck turn.move.answer may.0) (all_removals turns may.1)
+    each_join IsRemoval (deeds_of turn.move) (deeds turns) (removal_only turn.move.step turn.move.luck turn.move.answer may.0) (all_removals turns may.1)
 
 -- ---- the cases
 

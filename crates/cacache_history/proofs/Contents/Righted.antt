@@ -1,17 +1,16 @@
 -- Each content that is bytes has the digest of its address.
-use Rattle.std.proofs.{Common.{◌≡◌, ℕ, Bool, true, false, cond, List, [], ◌++◌, Option, None, Some, Result, Ok, Err, refl, sym, ap, subst, ◌∙◌, append-nil, arith}, lemmas.List.{append_cancel_left}}
-use Rattle.cacache_core.specs.{declared.{errors.Fault.{Fault}, integrity.{algorithm.Algorithm.{Algorithm}, digest.Hash.{Hash}}}, Digests.{digest}, Integrity.{IsHash, hash_of, integrity_under}, PathNames.{Names, names_of, home_of, names_below}, Paths.{joined, content_names}}
+use Rattle.std.proofs.{Common.{◌≡◌, ℕ, Bool, true, false, cond, List, [], ◌++◌, Option, None, Some, Ok, refl, sym, ap, subst, ◌∙◌, append-nil, arith}, lemmas.{List.{append_cancel_left}, Option.{same_Some}}}
+use Rattle.cacache_core.specs.{declared.integrity.{algorithm.Algorithm.{Algorithm}, digest.Hash.{Hash}}, Digests.{digest}, Integrity.{IsHash, hash_of, integrity_under}, PathNames.{Names, names_of, home_of, names_below}, Paths.{joined, content_names}}
 use Rattle.cacache_core.proofs.{JoinedNames.{joined_texts_name}, PathTexts.{paths_differ}, ProperNames.{names_are_proper}}
-use Rattle.cacache_store.specs.{declared.store.plain.PlainTemp.{PlainTemp}, Plain.{PlainStep, PlainAnswer}}
+use Rattle.cacache_store.specs.{declared.store.plain.PlainTemp.{PlainTemp}, Plain.{PlainStep}}
 use Rattle.cacache_store.specs.declared.store.step.Step.TheVariants as steps
-use Rattle.cacache_store.specs.declared.store.answer.Answer.TheVariants as answers
 use Rattle.cacache_disk.{specs.{declared.luck.Luck.{Luck}, Tree.{Tree}, Apply.{apply}}, proofs.Maps.{same_path-true}}
 use Rattle.cacache_calls.specs.{declared.command.Command.{Command}, StepPaths.{content_path}}
 use Rattle.cacache_calls.specs.declared.command.Command.TheVariants as commands
-use Rattle.cacache_value.specs.{Kinds.{is_path_of}, Value.{Blob, InFile, AtLink, Value, wide_value}, Acts.{Act, Nothing, PutBytes, PutLink, AddEntries, Drop, MakeFolders, DropFolder, act_at, act_with, act_if_done, folders_left, amount_left, act_of, change}, Placed.{Placed, Proper}, OpeningTrees.{IsOpening}}
+use Rattle.cacache_value.specs.{Kinds.{is_path_of}, Value.{Blob, InFile, AtLink, Value, wide_value}, Acts.{Act, Nothing, PutBytes, PutLink, AddEntries, Drop, MakeFolders, DropFolder, act_of, change}, Placed.{Placed, Proper}, OpeningTrees.{IsOpening}}
 use Rattle.cacache_value.proofs.Traces.{steps_act}
 use Rattle.cacache_history.specs.{Setup.{Setup, call_site, home}, Values.{HasDigest, AreRight}}
-use Rattle.cacache_history.proofs.Contents.{Carrying.{Own, own_bytes, own_link, own_of, Holds, IsAt, Makes}, Digests.{digest_hash}}
+use Rattle.cacache_history.proofs.{Contents.{Carrying.{Own, own_bytes, own_link, own_of, Makes}, Digests.{digest_hash}}, StepActs.{MayAct, acts_so}}
 
 -- ---- acts
 
@@ -85,56 +84,17 @@ own_right s n other = nowhere (home s)
 
 -- ---- the acts of steps
 
-at_right : (folder : Option Names) (r : Result Names Fault) (act : Names → Act) → ((names : Names) → PutsRight folder (act names)) → PutsRight folder (act_at r act)
-at_right folder (Ok names) act h = h names
-at_right folder (Err fault) act h = tt
+put_right_at : (folder : Option Names) (own : Own) (file : PlainTemp) (path : List ℕ) (names : Names) (put : List ℕ) → OwnRight folder own → Makes own (steps.Persist file path)
+    → names_of path ≡ Ok names → file.bytes ≡ Some put → RightAt folder put names
+put_right_at folder (own_bytes bytes place) file path names put right makes is has =
+    let all : makes.0.0 ≡ bytes = sym (append-nil makes.0.0) ∙ makes.0.2 in
+    subst (λ b. RightAt folder b names) (sym all ∙ same_Some makes.0.0 put (sym makes.0.1 ∙ has)) (right names (ap names_of (sym makes.1) ∙ is))
+put_right_at folder (own_link target) file path names put right makes is has = absurd makes.1
 
-with_right : {A : Type 0} (folder : Option Names) (o : Option A) (act : A → Act) → ((x : A) → PutsRight folder (act x)) → PutsRight folder (act_with o act)
-with_right folder None act h = tt
-with_right folder (Some x) act h = h x
-
-done_right : (folder : Option Names) (a : PlainAnswer) (act : Act) → PutsRight folder act → PutsRight folder (act_if_done a act)
-done_right folder answers.Done act h = h
-done_right folder other act h = tt
-
-named_right : (folder : Option Names) (r : Result Names Fault) (old : List ℕ) → ((names : Names) → r ≡ Ok names → RightAt folder old names) → PutsRight folder (act_at r (λ names. PutBytes names old))
-named_right folder (Ok names) old h = h names refl
-named_right folder (Err fault) old h = tt
-
-known_right : (folder : Option Names) (r : Result Names Fault) (o : Option (List ℕ)) (old : List ℕ) → o ≡ Some old → ((names : Names) → r ≡ Ok names → RightAt folder old names)
-    → PutsRight folder (act_at r (λ names. act_with o (PutBytes names)))
-known_right folder r o old e h = subst (λ known. PutsRight folder (act_at r (λ names. act_with known (PutBytes names)))) (sym e) (named_right folder r old h)
-
-persist_right : (folder : Option Names) (own : Own) (file : PlainTemp) (path : List ℕ) → OwnRight folder own → Holds own file [] → IsAt own path
-    → PutsRight folder (act_at (names_of path) (λ names. act_with file.bytes (PutBytes names)))
-persist_right folder (own_bytes bytes place) file path right holds at =
-    let all : holds.0 ≡ bytes = sym (append-nil holds.0) ∙ holds.2 in
-    known_right folder (names_of path) file.bytes holds.0 holds.1
-    (λ names e. subst (λ b. RightAt folder b names) (sym all) (right names (ap names_of (sym at) ∙ e)))
-persist_right folder (own_link target) file path right holds at = absurd at
-
-step_right : (folder : Option Names) (own : Own) (step : PlainStep) (luck : Luck) (a : PlainAnswer) → OwnRight folder own → Makes own step → PutsRight folder (act_of step luck a)
-step_right folder own (steps.Persist f p) luck a right makes = done_right folder a _ (persist_right folder own f p right makes.0 makes.1)
-step_right folder own (steps.MakeDirs p) luck a right makes =
-    at_right folder (names_of p) _ (λ names. with_right folder (folders_left names luck a) (MakeFolders names) (λ count. tt))
-step_right folder own (steps.Append p bytes) luck a right makes = at_right folder (names_of p) _ (λ names. with_right folder (amount_left luck a) _ (λ count. tt))
-step_right folder own (steps.Symlink target p) luck a right makes = done_right folder a _ (at_right folder (names_of p) _ (λ names. tt))
-step_right folder own (steps.RemoveFile p) luck a right makes = done_right folder a _ (at_right folder (names_of p) _ (λ names. tt))
-step_right folder own (steps.RemoveDir p) luck a right makes = done_right folder a _ (at_right folder (names_of p) _ (λ names. tt))
-step_right folder own (steps.CreateTemp p) luck a right makes = tt
-step_right folder own (steps.Write f bytes) luck a right makes = tt
-step_right folder own (steps.ReadAll p) luck a right makes = tt
-step_right folder own (steps.Open p) luck a right makes = tt
-step_right folder own (steps.Read f max) luck a right makes = tt
-step_right folder own (steps.Exists p) luck a right makes = tt
-step_right folder own (steps.Size p) luck a right makes = tt
-step_right folder own (steps.Copy p q) luck a right makes = tt
-step_right folder own (steps.Reflink p q) luck a right makes = tt
-step_right folder own (steps.HardLink p q) luck a right makes = tt
-step_right folder own (steps.ReadDir p) luck a right makes = tt
-step_right folder own (steps.SyncTemp f) luck a right makes = tt
-step_right folder own (steps.SyncFile p) luck a right makes = tt
-step_right folder own (steps.SyncDir p) luck a right makes = tt
+act_right : (folder : Option Names) (own : Own) (act : Act) (step : PlainStep) → MayAct act step → OwnRight folder own → Makes own step → PutsRight folder act
+act_right folder own (PutBytes names bytes) (steps.Persist f p) is right makes = put_right_at folder own f p names bytes right makes is.0 is.1
+act_right folder own (PutBytes names bytes) step is right makes = absurd is
+act_right folder own act step is right makes = tt
 
 -- ---- trees
 
@@ -146,7 +106,7 @@ pub stays_right : (s : Setup) (n : ℕ) (command : Command) (t : Tree) (step : P
 stays_right s n command t step luck placed proper makes right =
     subst (λ v. AreRight v.contents) (sym (steps_act (home s) t step luck placed proper))
     (change_right (home s) (wide_value (home s) t) (act_of step luck (apply t step luck).0)
-    (step_right (home s) (own_of (call_site s n) command) step luck (apply t step luck).0 (own_right s n command) makes) right)
+    (act_right (home s) (own_of (call_site s n) command) (act_of step luck (apply t step luck).0) step (acts_so step luck (apply t step luck).0) (own_right s n command) makes) right)
 
 pub opening_right : (folder : Option Names) (t : Tree) → IsOpening folder t → TreeRight folder t
 opening_right folder t o h is bytes e = let none : None ≡ Some (InFile bytes) = ap (λ v. v.contents h) (sym o.nothing) ∙ e in absurd cc

@@ -8,7 +8,7 @@ use Rattle.cacache_calls.{specs.declared.reply.Reply.{Reply}, proofs.Sound.{step
 use Rattle.cacache_calls.specs.Sound as calls
 use Rattle.cacache_value.specs.OpeningTrees.{LieApart}
 use Rattle.cacache_history.specs.{declared.record.Record.{Record, TheVariants.{Began, Moved, Stopped}}, Setup.{Setup, call_site, home, may_export, is_outside}, History.{Call, Now, History, Turn, Made, initial, moved_tree, now_after, replayed, now_at, MayMove, MayCome, Legal, IsLegal, Reaches}, Turns.{EachTurn}, TurnPlaces.{TurnAt}, Buckets.{BucketsHaveKeys, BucketsAreOfKeys, BucketsHoldOwn}}
-use Rattle.cacache_history.proofs.{Histories.{Holding.{AllHold, CallHolds, of_caller, made_proper, next_holds, first_opens, first_holds, legal_before}, ShownTurns.{bucket_below}, Turned.{reached_turns}, Places.{each_turn}}, Entries.{Owned.{AppendsOwn, TreeOwn, step_own, opening_own}, Keyed.{ToKeys, step_keyed, opening_keyed}}}
+use Rattle.cacache_history.proofs.{Histories.{Holding.{AllHold, CallHolds, of_caller, made_proper, next_holds, first_opens, first_holds, legal_before}, ShownTurns.{bucket_below}, Turned.{reached_turns}}, Entries.{Owned.{AppendsOwn, TreeOwn, step_own, opening_own}, Keyed.{ToKeys, step_keyed, opening_keyed}}, Each.{each_weaker}}
 use Rattle.cacache_entry.proofs.EntryCauses.{Fits-no_cause}
 
 -- a step that a call may make appends to the bucket of a key
@@ -76,4 +76,4 @@ turn_keyed h legal turn at =
     subst (KeyedTurn h.setup) (sym at.turn_is) (kept_at h legal at.before (Moved at.caller at.luck (Some at.made) at.reply ∷ at.later) at.is)
 
 pub turns_keyed : (h : History) → IsLegal h → (call : Call) (reply : Option Reply) → Reaches h call reply → EachTurn (KeyedTurn h.setup) call.turns
-turns_keyed h legal call reply reaches = each_turn (TurnAt h) (KeyedTurn h.setup) (turn_keyed h legal) call.turns (reached_turns h call reply reaches)
+turns_keyed h legal call reply reaches = each_weaker (TurnAt h) (KeyedTurn h.setup) (turn_keyed h legal) call.turns (reached_turns h call reply reaches)

@@ -9,22 +9,13 @@ use Rattle.cacache_calls.specs.{declared.{command.Command.{Command}, reply.Reply
 use Rattle.cacache_calls.specs.declared.command.Command.TheVariants as commands
 use Rattle.cacache_value.specs.{Acts.{Act, Nothing, PutBytes, PutLink, AddEntries, Drop, MakeFolders, DropFolder, act_of, change, list_of}, Kinds.{is_path_of}, Traces.{acts}}
 use Rattle.cacache_history.specs.{declared.record.Record.{Record, TheVariants.{Began, Moved, Stopped}}, AddedEntries.{IsAmong}, Commits.{Deed, does, finds_in, deeds_of_act, deeds_of, deeds}, History.{History, Call, Turn, Made, IsLegal, turn_of, call_after}, Lookups.{lookup_at, WritesEntry, LeavesBucket, SparesKey, WrittenIn, WasWritten, EntriesAreWritten, FoundWasWritten, LookupsFollowWrites, LookupsStay}, Places.{now_before, MoveAt, MoveOfCall, MovesAre}, Setup.{call_site, home}, Values.{steps_of, bucket_at, opening_value, acted}}
-use Rattle.cacache_history.proofs.{Entries.{AddedEntries.{acts_last}, Writes.{adds_own, drops_others}}, Histories.{Places.{split_at, at_place, moves_are_of_calls}, Values.{value_follows_acts}}}
+use Rattle.cacache_history.proofs.{Entries.{AddedEntries.{acts_last}, Writes.{adds_own, drops_others}}, Histories.{Places.{split_at, at_place, moves_are_of_calls}, Values.{value_follows_acts}}, Each.{any_left, any_right}}
 
 -- ---- deeds of a last move
 
-pub among_left : (d : Deed) (xs ys : List Deed) → IsAmong d xs → IsAmong d (xs ++ ys)
-among_left d [] ys among = absurd among
-among_left d (x ∷ xs) ys (inl here) = inl here
-among_left d (x ∷ xs) ys (inr more) = inr (among_left d xs ys more)
-
-pub among_right : (d : Deed) (xs ys : List Deed) → IsAmong d ys → IsAmong d (xs ++ ys)
-among_right d [] ys among = among
-among_right d (x ∷ xs) ys among = inr (among_right d xs ys among)
-
 last_among : (act : Act) (turns : List Turn) (turn : Turn) → IsAmong (does act) (deeds_of_act (act_of turn.move.step turn.move.luck turn.move.answer)) → IsAmong (does act) (deeds (turns ++ turn ∷ []))
-last_among act [] turn among = among_left (does act) (deeds_of turn.move) [] (among_left (does act) _ (finds_in turn.move.step turn.move.answer) among)
-last_among act (t ∷ turns) turn among = among_right (does act) (deeds_of t.move) (deeds (turns ++ turn ∷ [])) (last_among act turns turn among)
+last_among act [] turn among = any_left (λ (d : Deed). does act ≡ d) (deeds_of turn.move) [] (any_left (λ (d : Deed). does act ≡ d) _ (finds_in turn.move.step turn.move.answer) among)
+last_among act (t ∷ turns) turn among = any_right (λ (d : Deed). does act ≡ d) (deeds_of t.move) (deeds (turns ++ turn ∷ [])) (last_among act turns turn among)
 
 -- ---- a record and the bucket
 

@@ -1,8 +1,8 @@
 -- The entries of a bucket are those of its own keys.
-use Rattle.std.proofs.{Common.{◌≡◌, ℕ, Bool, true, false, cond, nat_le, List, ◌∷◌, ◌++◌, Option, None, Some, option_map, fold, filter_map, map, Result, Ok, Err, bytes_eq, length, take, refl, sym, ap, subst, ◌∙◌}, lemmas.{Bool.{leb-true, leb-false}, List.{append_cancel_left, Elements.{All-nil, All-cons, All-head, All-tail, All-append}}, Slice.Eq.{bytes_eq-Decides}}}
+use Rattle.std.proofs.{Common.{◌≡◌, ℕ, Bool, true, false, cond, nat_le, List, ◌∷◌, ◌++◌, Option, None, Some, option_map, fold, filter_map, map, Ok, Err, bytes_eq, length, take, refl, sym, ap, subst, ◌∙◌}, lemmas.{Bool.{leb-true, leb-false}, List.{append_cancel_left, Elements.{All-nil, All-cons, All-head, All-tail, All-append}}, Slice.Eq.{bytes_eq-Decides}}}
 use Rattle.std.specs.{Prelude.{All, IfSome, unwrap_or, []}, List.{cons_option, list_any}}
 use Rattle.sha1.specs.Sha1.{sha1}
-use Rattle.cacache_core.specs.{declared.{errors.Fault.{Fault}, integrity.digest.Hash.{Hash}}, PathNames.{Names, names_of, names_below}, Paths.{joined, bucket_names}}
+use Rattle.cacache_core.specs.{declared.{errors.Fault.{Fault}, integrity.digest.Hash.{Hash}}, PathNames.{Names, names_of, names_below}, Paths.{joined, bucket_names, bucket_names_of}}
 use Rattle.cacache_core.proofs.{PathLemmas.{keys_have_digests}, PathTexts.{paths_differ}}
 use Rattle.cacache_core.specs.declared.errors.Fault.TheVariants as faults
 use Rattle.cacache_store.specs.declared.store.step.Step.TheVariants as steps
@@ -12,9 +12,10 @@ use Rattle.cacache_disk.{specs.{declared.luck.Luck.{Luck}, Tree.{Tree}, Apply.{a
 use Rattle.cacache_entry.specs.{Entry.{Entry, line_of, closed_line}, Bucket.{entries_of}, FittingEntries.{IsEntry, IsWritable}, Latest.{Found, found_of, answer_of_integrity, answer_of, after_entry, latest}}
 use Rattle.cacache_calls.specs.{declared.answers.Refusal.{Refusal}, State.{Item}, Walking.{once, items_of, failed}}
 use Rattle.cacache_calls.specs.declared.answers.Refusal.TheVariants as refusals
-use Rattle.cacache_value.specs.{Kinds.{is_path_of}, Value.{Value, wide_value}, Acts.{Act, Nothing, PutBytes, PutLink, AddEntries, Drop, MakeFolders, DropFolder, act_at, act_with, act_if_done, folders_left, amount_left, act_of, change, list_of}, Placed.{Placed, Proper}, OpeningTrees.{IsOpening}}
+use Rattle.cacache_value.specs.{Kinds.{is_path_of}, Value.{Value, wide_value}, Acts.{Act, AddEntries, Drop, act_of, change, list_of}, Placed.{Placed, Proper}, OpeningTrees.{IsOpening}}
 use Rattle.cacache_value.proofs.{AppendedLines.{whole_closed, torn_closed}, Traces.{steps_act}}
 use Rattle.cacache_history.specs.{Setup.{Setup}, History.{Turn}, ShownTurns.{entries_at, shown_result, by_entries}, Buckets.{HoldOwn}, ListingTurns.{IsFound}}
+use Rattle.cacache_history.proofs.StepActs.{MayAct, acts_so}
 
 -- an entry of this bucket
 abbrev pub OfBucket : List ℕ → Entry → Type 0
@@ -22,10 +23,10 @@ OfBucket key e = sha1 e.key ≡ sha1 key
 
 -- ---- acts
 
--- an act that adds entries to their own buckets alone
-abbrev AddsOwn : Option Names → Act → Type 0
-AddsOwn home (AddEntries path new) = (key : List ℕ) → is_path_of home (bucket_names key) path ≡ true → All (OfBucket key) new
-AddsOwn home act = Unit {0}
+-- an act that adds only such entries to this bucket
+abbrev pub Adds : (Entry → Type 0) → Option Names → List ℕ → Act → Type 0
+Adds P home digest (AddEntries path new) = is_path_of home (bucket_names_of digest) path ≡ true → All P new
+Adds P home digest act = Unit {0}
 
 added_own : (P : Entry → Type 0) (b : Bool) (o : Option (List Entry)) (new : List Entry) → (b ≡ true → All P new) → All P (list_of o) → All P (list_of (cond b (Some (list_of o ++ new)) o))
 added_own P true o new n h = All-append P (list_of o) new h (n refl)
@@ -35,14 +36,11 @@ dropped_own : (P : Entry → Type 0) (b : Bool) (o : Option (List Entry)) → Al
 dropped_own P true o h = All-nil P
 dropped_own P false o h = h
 
-change_own : (home : Option Names) (v : Value) (act : Act) → AddsOwn home act → HoldOwn v.buckets → HoldOwn (change home act v).buckets
-change_own home v (AddEntries path new) a h key = added_own (OfBucket key) (is_path_of home (bucket_names key) path) (v.buckets (sha1 key)) new (a key) (h key)
-change_own home v (Drop path) a h key = dropped_own (OfBucket key) (is_path_of home (bucket_names key) path) (v.buckets (sha1 key)) (h key)
-change_own home v Nothing a h key = h key
-change_own home v (PutBytes path bytes) a h key = h key
-change_own home v (PutLink path target) a h key = h key
-change_own home v (MakeFolders path count) a h key = h key
-change_own home v (DropFolder path) a h key = h key
+pub change_all : (P : Entry → Type 0) (home : Option Names) (v : Value) (act : Act) (digest : List ℕ) → Adds P home digest act → All P (list_of (v.buckets digest))
+    → All P (list_of ((change home act v).buckets digest))
+change_all P home v (AddEntries path new) digest a h = added_own P (is_path_of home (bucket_names_of digest) path) (v.buckets digest) new a h
+change_all P home v (Drop path) digest a h = dropped_own P (is_path_of home (bucket_names_of digest) path) (v.buckets digest) h
+change_all P home v act digest a h = h
 
 -- ---- the acts of steps
 
@@ -67,49 +65,17 @@ one_bucket cache (Some folder) a key names e is =
     let same = append_cancel_left folder (bucket_names key) (bucket_names a) (same_path-true (folder ++ bucket_names key) names is ∙ sym there) in
     (paths_differ.buckets cache (sha1 a) (sha1 key) (keys_have_digests a) (keys_have_digests key)).0 (ap (joined cache) (sym same))
 
-left_own : (P : Entry → Type 0) (durable : Bool) (e : Entry) (count : ℕ) (b : Bool) → IsEntry e → IsWritable e → P e → nat_le (length (line_of e)) count ≡ b → All P (entries_of (take count (closed_line durable e)))
+pub left_own : (P : Entry → Type 0) (durable : Bool) (e : Entry) (count : ℕ) (b : Bool) → IsEntry e → IsWritable e → P e → nat_le (length (line_of e)) count ≡ b → All P (entries_of (take count (closed_line durable e)))
 left_own P durable e count true formed fits own is = subst (All P) (sym (whole_closed durable e count formed fits (leb-true _ _ is))) (All-cons P e [] own (All-nil P))
 left_own P durable e count false formed fits own is = subst (All P) (sym (torn_closed durable e count formed fits (leb-false _ _ is))) (All-nil P)
 
-at_own : (home : Option Names) (r : Result Names Fault) (act : Names → Act) → ((names : Names) → r ≡ Ok names → AddsOwn home (act names)) → AddsOwn home (act_at r act)
-at_own home (Ok names) act h = h names refl
-at_own home (Err fault) act h = tt
-
-with_own : {A : Type 0} (home : Option Names) (o : Option A) (act : A → Act) → ((x : A) → AddsOwn home (act x)) → AddsOwn home (act_with o act)
-with_own home None act h = tt
-with_own home (Some x) act h = h x
-
-done_own : (home : Option Names) (a : PlainAnswer) (act : Act) → AddsOwn home act → AddsOwn home (act_if_done a act)
-done_own home answers.Done act h = h
-done_own home other act h = tt
-
-line_own : (home : Option Names) (p bytes : List ℕ) → OwnLine home p bytes → (names : Names) → names_of p ≡ Ok names → (count : ℕ) → AddsOwn home (AddEntries names (entries_of (take count bytes)))
-line_own home p bytes line names is count key here =
-    subst (λ b. All (OfBucket key) (entries_of (take count b))) (sym line.same)
-    (left_own (OfBucket key) line.durable line.entry count (nat_le (length (line_of line.entry)) count) line.formed line.fits
-    (one_bucket [] home line.entry.key key names (sym line.here ∙ is) here) refl)
-
-step_adds_own : (home : Option Names) (step : PlainStep) (luck : Luck) (a : PlainAnswer) → AppendsOwn home step → AddsOwn home (act_of step luck a)
-step_adds_own home (steps.Append p bytes) luck a own = at_own home (names_of p) _ (λ names is. with_own home (amount_left luck a) _ (λ count. line_own home p bytes own names is count))
-step_adds_own home (steps.MakeDirs p) luck a own = at_own home (names_of p) _ (λ names is. with_own home (folders_left names luck a) (MakeFolders names) (λ count. tt))
-step_adds_own home (steps.Persist f p) luck a own = done_own home a _ (at_own home (names_of p) _ (λ names is. with_own home f.bytes (PutBytes names) (λ bytes. tt)))
-step_adds_own home (steps.Symlink target p) luck a own = done_own home a _ (at_own home (names_of p) _ (λ names is. tt))
-step_adds_own home (steps.RemoveFile p) luck a own = done_own home a _ (at_own home (names_of p) _ (λ names is. tt))
-step_adds_own home (steps.RemoveDir p) luck a own = done_own home a _ (at_own home (names_of p) _ (λ names is. tt))
-step_adds_own home (steps.CreateTemp p) luck a own = tt
-step_adds_own home (steps.Write f bytes) luck a own = tt
-step_adds_own home (steps.ReadAll p) luck a own = tt
-step_adds_own home (steps.Open p) luck a own = tt
-step_adds_own home (steps.Read f max) luck a own = tt
-step_adds_own home (steps.Exists p) luck a own = tt
-step_adds_own home (steps.Size p) luck a own = tt
-step_adds_own home (steps.Copy p q) luck a own = tt
-step_adds_own home (steps.Reflink p q) luck a own = tt
-step_adds_own home (steps.HardLink p q) luck a own = tt
-step_adds_own home (steps.ReadDir p) luck a own = tt
-step_adds_own home (steps.SyncTemp f) luck a own = tt
-step_adds_own home (steps.SyncFile p) luck a own = tt
-step_adds_own home (steps.SyncDir p) luck a own = tt
+own_act : (home : Option Names) (key : List ℕ) (act : Act) (step : PlainStep) → MayAct act step → AppendsOwn home step → Adds (OfBucket key) home (sha1 key) act
+own_act home key (AddEntries names new) (steps.Append p bytes) is line = λ here.
+    subst (All (OfBucket key)) (ap (λ b. entries_of (take is.1.0 b)) (sym line.same) ∙ sym is.1.1)
+    (left_own (OfBucket key) line.durable line.entry is.1.0 (nat_le (length (line_of line.entry)) is.1.0) line.formed line.fits
+    (one_bucket [] home line.entry.key key names (sym line.here ∙ is.0) here) refl)
+own_act home key (AddEntries names new) step is own = absurd is
+own_act home key act step is own = tt
 
 -- ---- trees
 
@@ -119,7 +85,8 @@ TreeOwn home t = HoldOwn (wide_value home t).buckets
 pub step_own : (home : Option Names) (t : Tree) (step : PlainStep) (luck : Luck) → Placed home t → Proper home step → AppendsOwn home step → TreeOwn home t → TreeOwn home (apply t step luck).1
 step_own home t step luck placed proper own h =
     subst (λ v. HoldOwn v.buckets) (sym (steps_act home t step luck placed proper))
-    (change_own home (wide_value home t) (act_of step luck (apply t step luck).0) (step_adds_own home step luck (apply t step luck).0 own) h)
+    (λ key. change_all (OfBucket key) home (wide_value home t) (act_of step luck (apply t step luck).0) (sha1 key)
+    (own_act home key (act_of step luck (apply t step luck).0) step (acts_so step luck (apply t step luck).0) own) (h key))
 
 pub opening_own : (home : Option Names) (t : Tree) → IsOpening home t → TreeOwn home t
 opening_own home t o key = subst (λ v. All (OfBucket key) (list_of (v.buckets (sha1 key)))) (sym o.nothing) (All-nil (OfBucket key))

@@ -6,7 +6,7 @@ use Rattle.cacache_calls.specs.{declared.{command.Command.{Command}, reply.Reply
 use Rattle.cacache_calls.proofs.{Going.{goes_on}, Sound.{begins_sound, stays_sound}}
 use Rattle.cacache_value.{specs.{Placed.{Placed, Proper}, OpeningTrees.{LieApart, IsOpening}}, proofs.{OpeningTrees.{files_open}, Traces.{steps_keep_placed}}}
 use Rattle.cacache_history.specs.{declared.record.Record.{Record, TheVariants.{Began, Moved, Stopped}}, Setup.{Setup, call_site, home, may_export, is_outside}, History.{Turn, Call, Now, History, Made, initial, new_call, turn_of, call_after, unless_over, moved_tree, now_after, replayed, now_at, NamesIntegrity, MayMove, MayCome, Legal, IsLegal}, Turns.{made_in, EachTurn}}
-use Rattle.cacache_history.proofs.{Contents.{Carrying.{own_of, Carries, Makes, opening_carries, carries_makes, carries_on}, Righted.{TreeRight, stays_right, opening_right}}, Proper.{sound_proper}, Entries.Formed.{TreeFormed, step_formed, opening_formed}}
+use Rattle.cacache_history.proofs.{Contents.{Carrying.{own_of, Carries, Makes, opening_carries, carries_makes, carries_on}, Righted.{TreeRight, stays_right, opening_right}}, Proper.{sound_proper}, Entries.Formed.{TreeFormed, step_formed, opening_formed}, Each.{each_join}}
 
 -- the tree that a turn found was one of the cache's, and the turn's answer is the disk's there
 pub record TurnHolds (s : Setup) (turn : Turn) : Type 0 where
@@ -58,14 +58,6 @@ made_more : (turns : List Turn) (turn : Turn) → made_in (turns ++ turn ∷ [])
 made_more [] turn = refl
 made_more (t ∷ turns) turn = ap (λ moves. (t.move.step, t.move.answer) ∷ moves) (made_more turns turn)
 
-turns_more : (s : Setup) (turns : List Turn) (turn : Turn) → TurnsHold s turns → TurnHolds s turn → TurnsHold s (turns ++ turn ∷ [])
-turns_more s [] turn h one = (one, tt)
-turns_more s (t ∷ turns) turn h one = (h.0, turns_more s turns turn h.1 one)
-
-pub each_more : (P : Turn → Type 0) (turns : List Turn) (turn : Turn) → EachTurn P turns → P turn → EachTurn P (turns ++ turn ∷ [])
-each_more P [] turn h one = (one, tt)
-each_more P (t ∷ turns) turn h one = (h.0, each_more P turns turn h.1 one)
-
 module _ (s : Setup) (w : Now) (h : AllHold s w) (luck : Luck) where
   -- a call that moved
   pub moved_holds : (made : Option Made) (reply : Option Reply) (call : Call) → CallHolds s call → MayMove w.tree call.state luck made reply
@@ -77,10 +69,10 @@ module _ (s : Setup) (w : Now) (h : AllHold s w) (luck : Luck) where
     goes = subst (λ moves. Goes (opening (call_site s call.number) call.command) moves (after call.state made.1)) (sym (made_more call.turns (turn_of w.tree luck made)))
         (goes_on (opening (call_site s call.number) call.command) (made_in call.turns) call.state made.0 made.1 mine.goes may.0 may.2);
     sound = stays_sound (call_site s call.number) (may_export s) (is_outside s) call.state made.0 made.1 mine.sound may.0 may.2;
-    turns = turns_more s call.turns (turn_of w.tree luck made) mine.turns (record { placed = h.placed; rooted = h.rooted; formed = h.formed; answered = may.1; fits = may.2 });
+    turns = each_join (TurnHolds s) call.turns (turn_of w.tree luck made ∷ []) mine.turns (record { placed = h.placed; rooted = h.rooted; formed = h.formed; answered = may.1; fits = may.2 }, tt);
     carries = carries_on (own_of (call_site s call.number) call.command) w.tree luck made.1 call.state made.0 mine.carries may.0 may.1;
-    makes = each_more (λ turn. Makes (own_of (call_site s call.number) call.command) turn.move.step) call.turns (turn_of w.tree luck made) mine.makes
-        (carries_makes (own_of (call_site s call.number) call.command) call.state made.0 mine.carries may.0);
+    makes = each_join (λ (turn : Turn). Makes (own_of (call_site s call.number) call.command) turn.move.step) call.turns (turn_of w.tree luck made ∷ []) mine.makes
+        (carries_makes (own_of (call_site s call.number) call.command) call.state made.0 mine.carries may.0, tt);
   }
 
 -- ---- any record

@@ -2,7 +2,7 @@
 use Rattle.std.proofs.Common.{◌≡◌, ◌⊎◌, inl, inr, ◌≤◌, ◌+◌, ◌-◌, ◌==◌, ℕ, zero, suc, Bool, true, false, cond, eqb-true, List, [], ◌∷◌, ◌++◌, Option, None, Some, option_map, take, drop, refl, sym, ap, subst, ◌∙◌, arith}
 use Rattle.std.specs.Prelude.{slice_get}
 use Rattle.cacache_history.specs.{declared.record.Record.{Record, TheVariants.{Began, Moved, Stopped}}, History.{History, Call, Turn, Made, new_call, turn_of, call_after, unless_over, moved_call, now_after, now_at, replayed, initial, IsLegal}, Turns.{EachTurn}, Places.{now_before, MoveAt, TurnIn, TurnsAreOwn, MovesAreOfCalls}}
-use Rattle.cacache_history.proofs.Histories.Holding.{each_more, set_at, ended_at, replay_more, legal_after}
+use Rattle.cacache_history.proofs.{Histories.Holding.{set_at, ended_at, replay_more, legal_after}, Each.{each_join, each_weaker}}
 
 -- ---- lists of records
 
@@ -57,10 +57,6 @@ moves_are_of_calls h legal place caller move =
 
 -- ---- turns are a caller's own
 
-pub each_turn : (P Q : Turn → Type 0) → ((turn : Turn) → P turn → Q turn) → (turns : List Turn) → EachTurn P turns → EachTurn Q turns
-each_turn P Q f [] h = tt
-each_turn P Q f (turn ∷ turns) h = (f turn h.0, each_turn P Q f turns h.1)
-
 module _ (h : History) (m caller : ℕ) where
   -- the turns of a call, up to a place
   abbrev OwnUpTo : ℕ → Option Call → Type 0
@@ -72,7 +68,7 @@ module _ (h : History) (m caller : ℕ) where
 
   later : (n l : ℕ) → n ≤ l → (o : Option Call) → OwnUpTo n o → OwnUpTo l o
   later n l le None own = tt
-  later n l le (Some call) own = each_turn (TurnIn h m n caller) (TurnIn h m l caller) (turn_later n l le) call.turns own
+  later n l le (Some call) own = each_weaker (TurnIn h m n caller) (TurnIn h m l caller) (turn_later n l le) call.turns own
 
   -- after a move of the caller
   moved_own : (n : ℕ) → m ≤ n → (move : MoveAt h n caller) (made : Option Made) → move.made ≡ made → (o : Option Call) → OwnUpTo n o
@@ -80,8 +76,8 @@ module _ (h : History) (m caller : ℕ) where
   moved_own n from move made is None own = tt
   moved_own n from move None is (Some call) own = later n (suc n) (omega arith) (Some call) own
   moved_own n from move (Some made) is (Some call) own =
-      each_more (TurnIn h m (suc n) caller) call.turns (turn_of (now_before h n).tree move.luck made) (later n (suc n) (omega arith) (Some call) own)
-      (record { place = n; from = from; to = omega arith; move = move; made = made; made_is = is; turn_is = refl })
+      each_join (TurnIn h m (suc n) caller) call.turns (turn_of (now_before h n).tree move.luck made ∷ []) (later n (suc n) (omega arith) (Some call) own)
+      (record { place = n; from = from; to = omega arith; move = move; made = made; made_is = is; turn_is = refl }, tt)
 
   -- after any record
   next_own : (n : ℕ) → m ≤ n → (r : Record) → slice_get h.records n ≡ Some r → OwnUpTo n ((now_before h n).calls caller)

@@ -3,7 +3,7 @@ use Rattle.std.proofs.Common.{◌≡◌, ◌==◌, ℕ, List, [], ◌∷◌, ◌
 use Rattle.cacache_disk.specs.declared.luck.Luck.{Luck}
 use Rattle.cacache_calls.specs.declared.reply.Reply.{Reply}
 use Rattle.cacache_history.specs.{declared.record.Record.{Record, TheVariants.{Began, Moved, Stopped}}, History.{History, Call, Made, initial, new_call, turn_of, call_after, unless_over, moved_call, now_after, now_at, Reaches}, Turns.{EachTurn}, TurnPlaces.{TurnAt, TurnsAreMoves}}
-use Rattle.cacache_history.proofs.Histories.Holding.{each_more, set_at, ended_at, replay_more}
+use Rattle.cacache_history.proofs.{Histories.Holding.{set_at, ended_at, replay_more}, Each.{each_join}}
 
 abbrev TurnsAt : History → Option Call → Type 0
 TurnsAt h None = Unit {0}
@@ -15,8 +15,8 @@ module _ (h : History) where
   moved_stands past later caller luck made reply None is a = tt
   moved_stands past later caller luck None reply (Some call) is a = a
   moved_stands past later caller luck (Some made) reply (Some call) is a =
-      each_more (TurnAt h) call.turns (turn_of (now_at h past).tree luck made) a
-      (record { before = past; later = later; caller = caller; luck = luck; made = made; reply = reply; is = is; turn_is = refl })
+      each_join (TurnAt h) call.turns (turn_of (now_at h past).tree luck made ∷ []) a
+      (record { before = past; later = later; caller = caller; luck = luck; made = made; reply = reply; is = is; turn_is = refl }, tt)
 
   next_stands : (past later : List Record) (r : Record) → h.records ≡ past ++ r ∷ later → ((k : ℕ) → TurnsAt h ((now_at h past).calls k))
       → (k : ℕ) → TurnsAt h ((now_after h.setup (now_at h past) r).calls k)

@@ -26,10 +26,6 @@ less_left left n m le = by (nat_lt (left - n) m) refl
     by true e = sym (is_lt left (n + m) (omega (arith, ltb-true (left - n) m e, le)))
     by false e = sym (not_lt left (n + m) (omega (arith, ltb-false (left - n) m e, le)))
 
-pub or_true : (a : Bool) → (a || true) ≡ true
-or_true true = refl
-or_true false = refl
-
 -- ---- what a walk answers after it gave these items, if it may still take so many names
 
 abbrev pub far : List Item → ℕ → List Turn → List Item → Bool

@@ -1,5 +1,5 @@
 -- A listing answers what its turns gave.
-use Rattle.std.proofs.{Common.{◌≡◌, ◌⊎◌, inl, inr, ◌≤◌, ◌<◌, ◌+◌, ◌-◌, ℕ, true, false, cond, ◌||◌, List, [], ◌∷◌, ◌++◌, Option, None, Some, Result, Ok, Err, length, take, drop, nat_le, nat_lt, refl, sym, ap, subst, ◌∙◌, arith, append-nil, length-append}, lemmas.{Bool.{leb-true, leb-false}, List.{take_all, take_at, Elements.{All-nil}}}}
+use Rattle.std.proofs.{Common.{◌≡◌, ◌⊎◌, inl, inr, ◌≤◌, ◌<◌, ◌+◌, ◌-◌, ℕ, true, false, cond, ◌||◌, List, [], ◌∷◌, ◌++◌, Option, None, Some, Result, Ok, Err, length, take, drop, nat_le, nat_lt, refl, sym, ap, subst, ◌∙◌, arith, append-nil, length-append}, lemmas.{Bool.{leb-true, leb-false, or_right}, List.{take_all, take_at, Elements.{All-nil}}, Option.{same_Some}}}
 use Rattle.std.specs.Prelude.{All}
 use Rattle.sha1.specs.Sha1.{sha1}
 use Rattle.cacache_core.specs.{declared.errors.{Fault.{Fault}, Error.TheVariants.{OutOfMemory}}, PathNames.{IsProperName}, Paths.{join, joined, bucket_names, index_area}}
@@ -13,7 +13,7 @@ use Rattle.cacache_calls.proofs.Branches.{cond_leads}
 use Rattle.cacache_calls.specs.declared.answers.Refusal.TheVariants as refusals
 use Rattle.cacache_calls.specs.declared.command.Command.TheVariants as commands
 use Rattle.cacache_history.specs.{Setup.{Setup, call_site}, History.{Turn, History, IsLegal, Reaches}, Turns.{made_in, EachTurn}, ShownTurns.{bucket_read, by_entries}, ListingTurns.{IsIndexFolder, IsFound, TurnGives, TurnsGive, count_in, is_past, listing_of, AnyTurn, HasBucket, TurnReadsBucket, FailsAbove, FindsBuckets, ListsHeld, ListsValue, ListingsReadValue}}
-use Rattle.cacache_history.proofs.{Histories.{Holding.{TurnHolds, TurnsHold}, ShownTurns.{bucket_below, lists_bucket}, Runs.{reached, reply_run, lost_run, memory_plain}}, Entries.{Owned.{bucket_found}, Bucketed.{KeyedTurn, turns_keyed}}, Listings.{Once.{none_twice}, ListedOnce.{no_key_twice}, ListingWalks.{Visits, Tasks, tasks_append, no_leaving, folder_tasks, CoversAny, covers_left, covers_right, folder_covers}, Ended.{is_lt, or_true, far, ended, ended_now, far_more, ended_more, pick}}}
+use Rattle.cacache_history.proofs.{Histories.{Holding.{TurnHolds, TurnsHold}, ShownTurns.{bucket_below, lists_bucket}, Runs.{reached, reply_run, lost_run, memory_plain}}, Entries.{Owned.{bucket_found}, Bucketed.{KeyedTurn, turns_keyed}}, Listings.{Once.{none_twice}, ListedOnce.{no_key_twice}, ListingWalks.{Visits, Tasks, tasks_append, no_leaving, folder_tasks, CoversAny, covers_left, covers_right, folder_covers}, Ended.{is_lt, far, ended, ended_now, far_more, ended_more, pick}}}
 
 module _ (s : Setup) (r : Reply) where
   abbrev Sees : List ℕ → Turn → Type 0
@@ -96,7 +96,7 @@ module _ (s : Setup) (r : Reply) where
         (λ long g.
         let far : most < length (w.items ++ new) = omega (arith, leb-false (length w.items + length new) most long, length-append w.items new) in
         let end : Rest (over (Listed (take most (w.items ++ new) ++ too_deep ∷ []))) turns = pick (λ st. Rest st turns) w.clears (fails faults.TooDeep) (over (Listed (take most (w.items ++ new) ++ too_deep ∷ []))) e g in
-        past w (Make v ∷ todo) new (take most (w.items ++ new) ++ too_deep ∷ []) turn turns own (ap (λ b. nat_lt w.left (count_in (names_in turn.move.answer) + 0) || b) (is_lt most (length (w.items ++ new)) far) ∙ or_true _) refl end.0 end.1)
+        past w (Make v ∷ todo) new (take most (w.items ++ new) ++ too_deep ∷ []) turn turns own (ap (λ b. nat_lt w.left (count_in (names_in turn.move.answer) + 0) || b) (is_lt most (length (w.items ++ new)) far) ∙ or_right _ true refl) refl end.0 end.1)
         h
 
     misses : (fault : Fault) → count_in (names_in turn.move.answer) ≡ 0 → TurnGives s turn turn.move.step (failed fault ∷ []) → Follows turn (Make v ∷ todo) todo → Rest (miss w (walk_on todo) fault) turns → Gives w (Make v ∷ todo) (turn ∷ turns)
@@ -187,11 +187,8 @@ module _ (s : Setup) (r : Reply) where
 
   -- ---- runs
 
-  some_same : (a b : PlainStep) → Some a ≡ Some b → a ≡ b
-  some_same a b e = cc
-
   before : (st : State) (turn : Turn) (turns : List Turn) → TurnHolds s turn → KeyedTurn s turn → wants st ≡ Some turn.move.step → Rest (after st turn.move.answer) turns → Rest st (turn ∷ turns)
-  before (walking w v todo) turn turns holds keyed is h = λ e le visits tasks. visit_gives w v todo turn turns holds keyed (some_same (visit_step v) turn.move.step is) e le visits tasks h
+  before (walking w v todo) turn turns holds keyed is h = λ e le visits tasks. visit_gives w v todo turn turns holds keyed (same_Some (visit_step v) turn.move.step is) e le visits tasks h
   before (over reply) turn turns holds keyed is h = absurd cc
   before st turn turns holds keyed is h = tt
 

@@ -15,7 +15,7 @@ use Rattle.cacache_entry.specs.Entry.{Entry}
 use Rattle.cacache_calls.specs.{Answers.{names_in}, StepPaths.{bucket_path}, declared.visit.{Visit.{Visit, TheVariants.{Enter, ReadBucket}}, Task.{Task, TheVariants.{Make, Stumble}}}, Walking.{task_for_name, tasks_of, leaving}}
 use Rattle.cacache_value.{specs.{Kinds.{Bucket, kind_in_area, kind_beside, path_kind, node_below}, Value.{bucket_in}, Placed.{MayStand, Placed}}, proofs.KindsApart.{kind-below}}
 use Rattle.cacache_history.specs.{Setup.{Setup, home}, History.{Turn, History, now_at, IsLegal}, Buckets.{BucketsHaveKeys, IndexIsShallow}, ListingTurns.{IsIndexFolder, HasBucket}}
-use Rattle.cacache_history.proofs.{Histories.Holding.{TurnHolds, held_at}, Listings.ToldFolders.{Each, Told, IsAmong, names_told, child_listed}, Entries.Bucketed.{KeyedTurn}}
+use Rattle.cacache_history.proofs.{Histories.Holding.{TurnHolds, held_at}, Listings.ToldFolders.{Told, IsAmong, names_told, child_listed}, Entries.Bucketed.{KeyedTurn}, Each.{Each}}
 
 -- ---- what a walk has to do
 

@@ -1,5 +1,5 @@
 -- A listing reads nothing twice.
-use Rattle.std.proofs.{Common.{◌≡◌, inl, inr, ◌+◌, ◌-◌, ℕ, Bool, true, false, cond, List, [], ◌∷◌, ◌++◌, Some, Result, Ok, Err, length, take, nat_le, nat_lt, refl, sym, ap, subst, ◌∙◌, arith, append-nil}, lemmas.List.Elements.{All-nil, All-cons, All-head, All-tail}}
+use Rattle.std.proofs.{Common.{◌≡◌, inl, inr, ◌+◌, ◌-◌, ℕ, Bool, true, false, cond, List, [], ◌∷◌, ◌++◌, Some, Result, Ok, Err, length, take, nat_le, nat_lt, refl, sym, ap, subst, ◌∙◌, arith, append-nil}, lemmas.{List.Elements.{All-nil, All-cons, All-head, All-tail}, Option.{same_Some}}}
 use Rattle.std.specs.Prelude.{All}
 use Rattle.cacache_core.specs.{declared.errors.Fault.{Fault}, PathNames.{Names, names_of, names_below, IsProperName}, Paths.{join, joined, index_area}}
 use Rattle.cacache_core.proofs.JoinedNames.{joined_texts_name}
@@ -13,7 +13,7 @@ use Rattle.cacache_calls.proofs.Branches.{cond_leads}
 use Rattle.cacache_calls.specs.declared.answers.Refusal.TheVariants as refusals
 use Rattle.cacache_calls.specs.declared.command.Command.TheVariants as commands
 use Rattle.cacache_history.specs.{Setup.{Setup, call_site, home}, History.{Turn}, Turns.{made_in, EachTurn}, ListingTurns.{IsIndexFolder, NoneTwice}}
-use Rattle.cacache_history.proofs.{Histories.{Holding.{TurnHolds, TurnsHold}, Places.{each_turn}}, Listings.{ToldFolders.{AreDistinct, names_told, listing_distinct}, ListingWalks.{Visits, Tasks, tasks_append, no_leaving, folder_tasks, proper_names, below_is, child_named}, Ended.{pick}}, Entries.Bucketed.{KeyedTurn}, ApartPaths.{ApartAll, AllApart, children, children_apart, BelowSome, below_child, never_below, never_deeper}}
+use Rattle.cacache_history.proofs.{Histories.Holding.{TurnHolds, TurnsHold}, Listings.{ToldFolders.{AreDistinct, names_told, listing_distinct}, ListingWalks.{Visits, Tasks, tasks_append, no_leaving, folder_tasks, proper_names, below_is, child_named}, Ended.{pick}}, Entries.Bucketed.{KeyedTurn}, ApartPaths.{ApartAll, AllApart, children, children_apart, BelowSome, below_child, never_below, never_deeper}, Each.{each_weaker}}
 
 -- ---- tasks and turns
 
@@ -50,8 +50,8 @@ once_more : (q : Names) (qs : List Names) (ns : List Name) (turn : Turn) (turns 
     → Once (q ∷ qs) (turn ∷ turns)
 unfolding Under
 once_more q qs ns turn turns at apart h = (
-  ((q, at, inl ([], append-nil q)), each_turn (Under (children q ns ++ qs)) (Under (q ∷ qs)) wider turns h.0),
-  (each_turn (Under (children q ns ++ qs)) (λ later. later.move.step ≡ turn.move.step → ⊥) differs turns h.0, h.1),
+  ((q, at, inl ([], append-nil q)), each_weaker (Under (children q ns ++ qs)) (Under (q ∷ qs)) wider turns h.0),
+  (each_weaker (Under (children q ns ++ qs)) (λ later. later.move.step ≡ turn.move.step → ⊥) differs turns h.0, h.1),
 )
   where
     wider : (later : Turn) → Under (children q ns ++ qs) later → Under (q ∷ qs) later
@@ -198,12 +198,9 @@ module _ (s : Setup) where
   visit_once w (RemoveFile p) todo turn turns holds keyed is e v tasks q qs named at apart h = absurd v
   visit_once w (RemoveFolder p) todo turn turns holds keyed is e v tasks q qs named at apart h = absurd v
 
-  some_same : (a b : PlainStep) → Some a ≡ Some b → a ≡ b
-  some_same a b e = cc
-
   before : (st : State) (turn : Turn) (turns : List Turn) → TurnHolds s turn → KeyedTurn s turn → wants st ≡ Some turn.move.step → Rest (after st turn.move.answer) turns → Rest st (turn ∷ turns)
   before (walking w v todo) turn turns holds keyed is h =
-      λ e visits tasks q qs named at apart. visit_once w v todo turn turns holds keyed (some_same (visit_step v) turn.move.step is) e visits tasks q qs named at apart h
+      λ e visits tasks q qs named at apart. visit_once w v todo turn turns holds keyed (same_Some (visit_step v) turn.move.step is) e visits tasks q qs named at apart h
   before (over reply) turn turns holds keyed is h = absurd cc
   before st turn turns holds keyed is h = tt
 
@@ -220,7 +217,7 @@ module _ (s : Setup) where
     -- the top has no names: it can't be read
     first_alone : (turn : Turn) (turns : List Turn) → Once [] turns → NoneTwice (turn ∷ turns)
     unfolding Under
-    first_alone turn turns h = (each_turn (Under []) (λ later. later.move.step ≡ turn.move.step → ⊥) (λ later u same. u.2) turns h.0, h.1)
+    first_alone turn turns h = (each_weaker (Under []) (λ later. later.move.step ≡ turn.move.step → ⊥) (λ later u same. u.2) turns h.0, h.1)
 
     unread : (turn : Turn) (turns : List Turn) (top : List ℕ) (w : Walk) (fault : Fault) → names_of top ≡ Err fault → TurnHolds s turn → steps.ReadDir top ≡ turn.move.step → w.clears ≡ false
         → (a : Result (List Name) Refusal) → names_in turn.move.answer ≡ a → Rest (go_on a (miss w (walk_on [])) (entered w top 0 [])) turns → Once [] turns
@@ -237,7 +234,7 @@ module _ (s : Setup) where
     unnamed n fault [] none hold keyed run = tt
     unnamed n fault (turn ∷ turns) none hold keyed run =
         first_alone turn turns
-        (unread turn turns (join s.cache index_area) (record { clears = false; items = []; left = most }) fault none hold.0 (some_same (steps.ReadDir (join s.cache index_area)) turn.move.step run.0) refl
+        (unread turn turns (join s.cache index_area) (record { clears = false; items = []; left = most }) fault none hold.0 (same_Some (steps.ReadDir (join s.cache index_area)) turn.move.step run.0) refl
         (names_in turn.move.answer) refl (runs_rest (after (opening (call_site s n) commands.Ls) turn.move.answer) turns hold.1 keyed.1 run.2))
 
     pub none_twice : (n : ℕ) (turns : List Turn) → TurnsHold s turns → EachTurn (KeyedTurn s) turns → Runs (opening (call_site s n) commands.Ls) (made_in turns) r → NoneTwice turns

@@ -11,16 +11,9 @@ use Rattle.cacache_store.specs.declared.store.answer.Answer.TheVariants as answe
 use Rattle.cacache_calls.specs.Answers.{names_in}
 use Rattle.cacache_value.proofs.Shows.{apply_answer}
 use Rattle.cacache_loss.proofs.KeptPaths.{child_of_self}
+use Rattle.cacache_history.proofs.Each.{Each, each_weaker}
 
 -- ---- the entries of a map
-
-abbrev pub Each : {X : Type 0} → (X → Type 0) → List X → Type 0
-Each P [] = Unit {0}
-Each P (x ∷ xs) = P x × Each P xs
-
-each_weaker : {X : Type 0} (P Q : X → Type 0) → ((x : X) → P x → Q x) → (xs : List X) → Each P xs → Each Q xs
-each_weaker P Q f [] h = tt
-each_weaker P Q f (x ∷ xs) h = (f x h.0, each_weaker P Q f xs h.1)
 
 pub both_parts : (a b : Bool) → T (a && b) → T a × T b
 both_parts true b h = (tt, h)

@@ -1,5 +1,5 @@
 -- What a loss leaves after an entry that a durable commit appended as a whole line.
-use Rattle.std.proofs.{Common.{◌≡◌, ◌+◌, ◌-◌, ◌≤◌, inl, inr, ℕ, Bool, true, false, List, [], ◌∷◌, ◌++◌, Some, length, take, refl, sym, ap, subst, ◌∙◌, arith, append_assoc, append-nil}, Math.Seq.{take-append-add}, lemmas.List.{append_cancel_left}}
+use Rattle.std.proofs.{Common.{◌≡◌, ◌+◌, ◌-◌, ◌≤◌, inl, inr, ℕ, Bool, true, false, List, [], ◌∷◌, ◌++◌, Some, length, take, refl, sym, ap, subst, ◌∙◌, arith, append_assoc, append-nil}, Math.Seq.{take-append-add}, lemmas.{List.{append_cancel_left}, Option.{same_Some}}}
 use Rattle.sha1.specs.Sha1.{sha1}
 use Rattle.cacache_core.specs.{PathNames.{Names}, Paths.{bucket_names_of}}
 use Rattle.cacache_disk.specs.{declared.node.Node.TheVariants.{File}, Tree.{Tree, bytes_of, look}}
@@ -31,9 +31,6 @@ none_stays : (path : Names) (moves : List Move) → SyncsFile path moves → Non
 none_stays path [] syncs none = absurd syncs
 none_stays path (m ∷ moves) (inl is) none = inl (is, none.1)
 none_stays path (m ∷ moves) (inr syncs) none = inr (none_stays path moves syncs none.1)
-
-same_some : (a b : List Entry) → Some a ≡ Some b → a ≡ b
-same_some a b e = cc
 
 same_rest : (e : Entry) (a b : List Entry) → e ∷ a ≡ e ∷ b → a ≡ b
 same_rest e a b same = cc
@@ -121,7 +118,7 @@ module _ {h : History} {folder path : Names} {before rest : List Record} {caller
     more_left : (other : List ℕ) → bytes_left fixing (front ++ grown.0) (loss.tail bucket) ≡ front ++ other → more ≡ entries_of other
     more_left other same =
         let there = ap bucket_in (stands_left ∙ ap (λ b. Some (File b)) same) ∙ ap Some (more_is other) in
-        let lists = same_some (bucket_at h (here e.at) digest ++ entry ∷ more) (bucket_at h (here e.at) digest ++ entry ∷ entries_of other) (sym outlasts.bucket ∙ there) in
+        let lists = same_Some (bucket_at h (here e.at) digest ++ entry ∷ more) (bucket_at h (here e.at) digest ++ entry ∷ entries_of other) (sym outlasts.bucket ∙ there) in
         same_rest entry more (entries_of other) (append_cancel_left (bucket_at h (here e.at) digest) (entry ∷ more) (entry ∷ entries_of other) lists)
 
     all_left : fixing.whole ≡ true → more ≡ entries_of grown.0

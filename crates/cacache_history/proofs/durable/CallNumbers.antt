@@ -1,10 +1,9 @@
 -- Calls that are on their way have numbers that differ, and so have their temporary files.
-use Rattle.std.proofs.{Common.{◌≡◌, ◌<◌, ◌≤◌, ◌^◌, ◌+◌, ◌==◌, ℕ, Bool, true, false, cond, List, [], ◌∷◌, ◌++◌, Option, None, Some, Ok, option_map, refl, sym, ap, subst, ◌∙◌, arith, eqb-true}, lemmas.List.{append_cancel_left}}
+use Rattle.std.proofs.{Common.{◌≡◌, ◌<◌, ◌≤◌, ◌^◌, ◌+◌, ◌==◌, ℕ, Bool, true, false, cond, List, [], ◌∷◌, ◌++◌, Option, None, Some, Ok, option_map, refl, sym, ap, subst, ◌∙◌, arith, eqb-true}, lemmas.{List.{append_cancel_left}, Bool.{false_from_ne_true}}}
 use Rattle.cacache_core.specs.{PathNames.{Names, home_of, names_below, names_of}, Paths.{joined, temp_names}}
 use Rattle.cacache_core.proofs.{JoinedNames.{joined_texts_name}, PathTexts.{paths_differ}, ProperNames.{names_are_proper}}
 use Rattle.cacache_disk.{specs.{declared.luck.Luck.{Luck}, Tree.{Tree, same_path}}, proofs.Maps.{same_path-true}}
 use Rattle.cacache_calls.specs.{declared.reply.Reply.{Reply}, StepPaths.{temp_path}}
-use Rattle.cacache_value.proofs.KindsApart.{not_true}
 use Rattle.cacache_history.specs.{declared.record.Record.{Record, TheVariants.{Began, Moved, Stopped}}, Setup.{Setup}, History.{Call, Made, Now, new_call, initial, call_after, now_after, replayed, unless_over}}
 use Rattle.cacache_loss.specs.Fixing.{is_at}
 
@@ -23,7 +22,7 @@ apart_below : (cache : List ℕ) (home : Option Names) (n m : ℕ) (q : Names) �
 apart_below cache None n m q few less apart e = absurd cc
 apart_below cache (Some folder) n m q few less apart e =
     let here : folder ++ temp_names n ≡ q = cc in
-    not_true (same_path q (folder ++ temp_names m)) (λ s. apart (same_number cache folder n m few less (here ∙ same_path-true q (folder ++ temp_names m) s)))
+    false_from_ne_true (same_path q (folder ++ temp_names m)) (λ s. apart (same_number cache folder n m few less (here ∙ same_path-true q (folder ++ temp_names m) s)))
 
 -- those of two numbers name two paths
 pub temps_apart : (cache : List ℕ) (n m : ℕ) (p r : List ℕ) (q : Names) → n < 2 ^ 64 → m < 2 ^ 64 → (n ≡ m → ⊥) → p ≡ temp_path cache n → r ≡ temp_path cache m

@@ -7,18 +7,9 @@ use Rattle.cacache_store.specs.declared.store.step.Step.TheVariants as steps
 use Rattle.cacache_store.specs.{Fits.{Fits}, Plain.{PlainStep, PlainAnswer}}
 use Rattle.cacache_calls.specs.{declared.{answers.Refusal.{Refusal}, reply.Reply.TheVariants.{Stored}}, Answers.{done_in, there_in, taken_in}, StepPaths.{bucket_path, bucket_folders}, State.{State, doing, appending, over, Insertion, Errand, make_folder, sync_file, sync_dir}, Common.{ends_with, fails, go_on, errand_step, sync_up}, Inserting.{insert, unless_refused, refused_cause, bucket_line, recorded, after_append}, Table.{wants, after}, Runs.{Moves, Runs}}
 use Rattle.cacache_calls.specs.declared.answers.Refusal.TheVariants as refusals
-use Rattle.cacache_history.{specs.History.{Made}, proofs.durable.Ending.{Has}}
+use Rattle.cacache_history.{specs.History.{Made}, proofs.{durable.Ending.{Has}, Each.{any_left, any_right}}}
 
 -- ---- moves
-
-has_left : (m : Made) (front more : Moves) → Has m front → Has m (front ++ more)
-has_left m [] more h = absurd h
-has_left m (x ∷ front) more (inl e) = inl e
-has_left m (x ∷ front) more (inr h) = inr (has_left m front more h)
-
-has_right : (m : Made) (front more : Moves) → Has m more → Has m (front ++ more)
-has_right m [] more h = h
-has_right m (x ∷ front) more h = inr (has_right m front more h)
 
 -- each of these folders is synced
 abbrev pub HasDirs : List (List ℕ) → Moves → Type 0
@@ -27,11 +18,11 @@ HasDirs (p ∷ folders) moves = Has (steps.SyncDir p, answers.Done) moves × Has
 
 dirs_left : (folders : List (List ℕ)) (front more : Moves) → HasDirs folders front → HasDirs folders (front ++ more)
 dirs_left [] front more h = tt
-dirs_left (p ∷ folders) front more h = (has_left (steps.SyncDir p, answers.Done) front more h.0, dirs_left folders front more h.1)
+dirs_left (p ∷ folders) front more h = (any_left (λ (m : Made). m ≡ (steps.SyncDir p, answers.Done)) front more h.0, dirs_left folders front more h.1)
 
 dirs_right : (folders : List (List ℕ)) (front more : Moves) → HasDirs folders more → HasDirs folders (front ++ more)
 dirs_right [] front more h = tt
-dirs_right (p ∷ folders) front more h = (has_right (steps.SyncDir p, answers.Done) front more h.0, dirs_right folders front more h.1)
+dirs_right (p ∷ folders) front more h = (any_right (λ (m : Made). m ≡ (steps.SyncDir p, answers.Done)) front more h.0, dirs_right folders front more h.1)
 
 -- ---- answers
 
@@ -101,7 +92,7 @@ module _ (i : List Hash) where
         front = d.front ++ (steps.SyncDir p, answers.Done) ∷ [];
         more = one.0;
         is = d.is ∙ ap (λ m. d.front ++ m) one.1 ∙ sym (append_assoc d.front ((steps.SyncDir p, answers.Done) ∷ []) one.0);
-        dirs = (has_right (steps.SyncDir p, answers.Done) d.front _ (inl refl), dirs_left deeper d.front _ d.dirs);
+        dirs = (any_right (λ (m : Made). m ≡ (steps.SyncDir p, answers.Done)) d.front _ (inl refl), dirs_left deeper d.front _ d.dirs);
         runs = one.2;
       }
 

@@ -7,7 +7,7 @@ use Rattle.cacache_disk.specs.{declared.{luck.Luck.{Luck}, node.Node.{Node, TheV
 use Rattle.cacache_disk.proofs.{Maps.{same_path-true}, PutNodes.{look-put}, Roots.{same_self}}
 use Rattle.cacache_value.specs.{Kinds.{Content, Bucket, Temporary, path_kind, is_used, Way}, Placed.{IsEntryLine, Placed, Proper}, Traces.{Move}}
 use Rattle.cacache_loss.specs.{declared.fixing.{Fixing.{Fixing}, Place.{Place}}, Fixing.{Fixed, changed, file_synced, fixed_after, folder_synced, is_at, is_child_of, is_sync, is_synced, place_now, refixed, synced, temp_synced}, Loss.{Loss, node_left}, Moments.{EachMove, Moment, after, lost_then, next}, LostTrees.{OfCache}, CalmMoves.{CalmStep, IsCalm, is_calm}, Syncs.{IsFileSync, SyncsFile, SyncsFolders}}
-use Rattle.cacache_loss.proofs.{Buckets.{leads_file}, StepCases.{AppendCase, unsent, took, torn, append_case, grown, make_apart}, UnchangedPaths.{at_false, Misses, file_kept, name_kept}, KeptPaths.{cond_none, cond_whole, keeps, files_keep, names_kept, sync_tree, cache_next}, SyncedFolders.{IsLeft, survives}}
+use Rattle.cacache_loss.proofs.{Buckets.{leads_file}, StepCases.{AppendCase, unsent, took, torn, append_case, grown, make_apart}, UnchangedPaths.{at_false, Misses, file_kept, name_kept}, KeptPaths.{cond_none, cond_whole, keeps, files_keep, names_kept, sync_tree, cache_next}, SyncedFolders.{IsLeft, survives, Any, any, not_top}}
 use Rattle.cacache_history.{specs.durable.Behind.{NoneAppends, StaysSynced, appends_at}, proofs.durable.LineParts.{HoldsFirst, IsPart, more_first}}
 
 module _ (home : Option Names) (c : Names) (at : path_kind home c ≡ Bucket) where
@@ -221,13 +221,6 @@ module _ (home : Option Names) (c : Names) (at : path_kind home c ≡ Bucket) wh
 
   -- ---- after a loss
 
-  abbrev Any : Moment → Move → Type 0
-  Any w m = Unit {0}
-
-  any : (w : Moment) (moves : List Move) → EachMove Any w moves
-  any w [] = tt
-  any w (m ∷ moves) = (tt, any (next w m) moves)
-
   abbrev StandsSome : Moment → Type 0
   StandsSome w = (b : List ℕ) × Stands b w
 
@@ -236,11 +229,6 @@ module _ (home : Option Names) (c : Names) (at : path_kind home c ≡ Bucket) wh
 
   some_next : (w : Moment) (m : Move) → StandsSome w → IsCalm home w m → StandsSome (next w m)
   some_next w m s calm = (_, stands_next s.0 w m s.1 calm)
-
-  not_top : (h : Option Names) → path_kind h [] ≡ Bucket → ⊥
-  not_top None e = cc
-  not_top (Some []) e = cc
-  not_top (Some (n ∷ rest)) e = cc
 
   left_is : (now : Place) (tail : List ℕ) (here : Option Node) → IsLeft (λ place. place ≡ now) tail here → here ≡ node_left now.fixing tail now.node
   left_is now tail here l = l.2 ∙ ap (λ (place : Place). node_left place.fixing tail place.node) l.1
