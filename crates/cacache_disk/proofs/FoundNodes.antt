@@ -1,7 +1,7 @@
 -- What is known of a path at which a step found what it wanted.
 use Rattle.std.{proofs.Common.{◌≡◌, ◌==◌, length, ℕ, Bool, true, false, cond, List, [], Option, None, Some, Ok, Err, refl, ap, subst, ◌∙◌}, specs.Prelude.{Result}}
 use Rattle.cacache_core.specs.{declared.errors.Fault.{Fault, TheVariants.{NotEmpty}}, PathNames.{names_of}}
-use Rattle.cacache_disk.specs.{declared.node.Node.{Node, TheVariants.{Folder, File, Link}}, Tree.{Tree, Names, look, listing}, LedTo.{and_then, or_fault, way_fault, place, standing, where_there, where_free, where_no_folder, where_removable, where_folder, where_file, where_empty, free, replaceable, kept, removable, folder, emptied}, Rooted.{is_folder}}
+use Rattle.cacache_disk.specs.{declared.node.Node.{Node, TheVariants.{Folder, File, Link}}, Tree.{Tree, Names, look, listing}, LedTo.{and_then, or_fault, way_fault, dirs, dirs_fault, place, standing, where_there, where_free, where_no_folder, where_removable, where_folder, where_file, where_empty, free, replaceable, kept, removable, folder, emptied}, Rooted.{is_folder}}
 
 pub and_then_ok : {A B : Type 0} (r : Result A Fault) (next : A → Result B Fault) (b : B) → and_then r next ≡ Ok b
     → (a : A) × (r ≡ Ok a) × (next a ≡ Ok b)
@@ -17,6 +17,12 @@ unfolding place
 place_ok t path names e =
     let f = and_then_ok (names_of path) (λ names. or_fault (way_fault t [] names) names) names e in
     f.1 ∙ ap Ok (or_fault_none (way_fault t [] f.0) f.0 names f.2).1
+
+pub dirs_ok : (t : Tree) (path : List ℕ) (names : Names) → dirs t path ≡ Ok names → names_of path ≡ Ok names
+unfolding dirs
+dirs_ok t path names e =
+    let f = and_then_ok (names_of path) (λ names. or_fault (dirs_fault t [] names) names) names e in
+    f.1 ∙ ap Ok (or_fault_none (dirs_fault t [] f.0) f.0 names f.2).1
 
 -- a path's names, judged by what is there
 judged : (judge : Option Node → Names → Result Names Fault) (P : Option Node → Type 0)
@@ -67,6 +73,14 @@ folder_at (Some (Link target)) old new e = absurd cc
 pub free_ok : (t : Tree) (path : List ℕ) (names : Names) → free t path ≡ Ok names → HasNoFolder t path names
 unfolding free
 free_ok = judged where_free NoFolder free_at
+
+missing_at : (here : Option Node) (old new : Names) → where_free here old ≡ Ok new → (here ≡ None) × (old ≡ new)
+missing_at None old new e = (refl, cc)
+missing_at (Some node) old new e = absurd cc
+
+pub free_none : (t : Tree) (path : List ℕ) (names : Names) → free t path ≡ Ok names → look t names ≡ None
+unfolding free
+free_none t path names e = (judged where_free (λ here. here ≡ None) missing_at t path names e).1
 
 pub replaceable_ok : (t : Tree) (path : List ℕ) (names : Names) → replaceable t path ≡ Ok names → HasNoFolder t path names
 unfolding replaceable

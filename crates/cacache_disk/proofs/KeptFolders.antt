@@ -2,36 +2,10 @@
 use Rattle.std.proofs.{Common.{◌≡◌, ◌==◌, ◌+◌, ℕ, zero, suc, Bool, true, false, cond, List, ◌∷◌, ◌++◌, Option, None, Some, Ok, length, take, refl, sym, ap, subst, ◌∙◌, arith, eqb-true, length-append, append_assoc, append-nil}, Math.Seq.{take-append_seam}, lemmas.Bool.{eq-eqb}}
 use Rattle.std.specs.{Prelude.{Result, Err, IfOk, OnOk, OnErr, filter_map, slice_index_or, []}, List.{cons_option}, Ordering.{nat_cmp}, Bool.{nat_eq}, Cmp.Lexicographic.{pointwise, slice_cmp, lists_ties, texts_ties}}
 use Rattle.std.specs.FinMap as map
-use Rattle.cacache_core.specs.{declared.errors.Fault.{Fault, TheVariants.{IsADirectory, InvalidInput}}, PathNames.{names_of}}
-use Rattle.cacache_store.specs.{declared.store.step.Step.TheVariants.{MakeDirs, CreateTemp, Write, Persist, Append, ReadAll, Open, Read, Size, Exists, Symlink, Copy, Reflink, HardLink, ReadDir, RemoveFile, RemoveDir, SyncTemp, SyncFile, SyncDir}, Plain.{PlainStep, PlainAnswer}}
-use Rattle.cacache_disk.specs.{declared.{luck.Luck.{Luck, TheVariants.{Plain, Fail, Take}}, node.Node.{Node, TheVariants.{Folder, File, Link}}}, Tree.{Tree, Names, look, put, names_cmp, same_path, listing, child_of, is_child, kind_of}, LedTo.{and_then, or_fault, through, way_fault, place, standing, followed, leads, on_link, where_no_folder, where_there, writable, free, known, kept, replaceable, file_at, linked, removable, emptied, folder, dirs, dirs_fault}, Apply.{apply, plain, unless, making, is_taking, is_parted, fails, fault_told, left_by}, Rooted.{is_folder, Rooted}}
-use Rattle.cacache_disk.proofs.{Maps.{same_path-true}, NameLemmas.{names_proper}, FoundNodes.{and_then_ok, or_fault_none, place_ok, no_folder_at, there_at, free_ok, kept_ok, replaceable_ok, removable_ok, emptied_ok}, Roots.{CanStand, put_rooted, cut_rooted, file_cut, persist_rooted, make_rooted, same_self, IsBare}}
-
--- ---- what holds of the tree before, and after as much of the step as you like, holds after it
-
-module _ (P : Tree → Type 0) where
-  cond_tree : (b : Bool) (x y : Tree) → P x → P y → P (cond b x y)
-  cond_tree true x y h k = h
-  cond_tree false x y h k = k
-
-  fails_tree : (own : Option Fault) (fault : Fault) (t left : Tree) → P t → P left → P (fails own fault t left).1
-  fails_tree None fault t left h k = k
-  fails_tree (Some own) fault t left h k = h
-
-  left_tree : (t : Tree) (step : PlainStep) (part : Option ℕ) → P t → ((most : Option ℕ) → P (plain t step most).1) → P (left_by t step part)
-  left_tree t step None h k = h
-  left_tree t step (Some part) h k = cond_tree (is_parted step) _ _ (k (Some part)) h
-
-  pub apply_tree : (t : Tree) (step : PlainStep) (luck : Luck) → P t → ((most : Option ℕ) → P (plain t step most).1) → P (apply t step luck).1
-  unfolding apply
-  apply_tree t step Plain h k = k None
-  apply_tree t step (Take most) h k = k (cond (is_taking step) (Some most) None)
-  apply_tree t step (Fail fault part) h k = fails_tree (fault_told (plain t step None).0) fault t (left_by t step part) h (left_tree t step part h k)
-
-  pub unless_tree : {A : Type 0} (r : Result A Fault) (t : Tree) (go : A → PlainAnswer × Tree) → P t → ((a : A) → r ≡ Ok a → P (go a).1)
-      → P (unless r t go).1
-  unless_tree (Ok a) t go h k = k a refl
-  unless_tree (Err fault) t go h k = h
+use Rattle.cacache_core.specs.{declared.errors.Fault.{Fault}, PathNames.{names_of}}
+use Rattle.cacache_store.specs.{declared.store.step.Step.TheVariants.{MakeDirs, CreateTemp, Persist, Append, Symlink, Copy, Reflink, HardLink, RemoveFile, RemoveDir}, Plain.{PlainStep, PlainAnswer}}
+use Rattle.cacache_disk.specs.{declared.{luck.Luck.{Luck}, node.Node.{Node, TheVariants.{Folder, File, Link}}}, Tree.{Tree, Names, look, put, names_cmp, same_path, listing, child_of, is_child, kind_of}, LedTo.{and_then, or_fault, through, way_fault, place, standing, followed, leads, on_link, where_no_folder, where_there, writable, free, dirs, dirs_fault}, Apply.{apply}, Rooted.{is_folder, Rooted}}
+use Rattle.cacache_disk.proofs.{Changes.{TreeChange, NoChange, PutNode, MoveFile, MakeFolders, CutNode, Makes, by_changes, made_by}, Maps.{same_path-true}, NameLemmas.{names_proper}, FoundNodes.{and_then_ok, or_fault_none, place_ok, no_folder_at, there_at, free_ok, kept_ok, replaceable_ok, removable_ok, emptied_ok}, Roots.{CanStand, put_rooted, cut_rooted, file_cut, persist_rooted, make_rooted, same_self, IsBare}}
 
 -- ---- the folder of a path
 
@@ -125,53 +99,34 @@ not_top p e is = let differ : true ≡ false = ap (λ (n : Names). length n == 0
 -- ---- every step
 
 module _ (t : Tree) (rooted : Rooted t) where
-  asked : {A : Type 0} (r : Result A Fault) (answer : A → PlainAnswer) → Rooted (unless r t (λ a. (answer a, t))).1
-  asked r answer = unless_tree Rooted r t (λ a. (answer a, t)) rooted (λ a is. rooted)
-
   put_free : (p : List ℕ) (names : Names) (node : Node) → free t p ≡ Ok names → Rooted (put t names node)
   put_free p names node e = let f = free_ok t p names e in put_rooted t names node rooted (place_folder t rooted p names f.2) f.1
 
   put_writable : (p : List ℕ) (names : Names) (node : Node) → writable t p ≡ Ok names → Rooted (put t names node)
   put_writable p names node e = let f = writable_folder t rooted p names e in put_rooted t names node rooted f.0 f.1
 
-  plain_rooted : (step : PlainStep) (most : Option ℕ) → Rooted (plain t step most).1
+  change_rooted : (step : PlainStep) (c : TreeChange) → Makes t step c → Rooted (made_by t c)
   unfolding dirs
-  plain_rooted (MakeDirs p) most =
-      unless_tree Rooted (dirs t p) t _ rooted (λ names found.
-      let f = and_then_ok (names_of p) (λ names. or_fault (dirs_fault t [] names) names) names found in
+  change_rooted (MakeDirs p) (MakeFolders names most) m =
+      let f = and_then_ok (names_of p) (λ names. or_fault (dirs_fault t [] names) names) names m in
       let g = or_fault_none (dirs_fault t [] f.0) f.0 names f.2 in
-      make_rooted t [] names (making most names) rooted (names_proper p names (f.1 ∙ ap Ok g.1)) rooted.top (subst (λ n. dirs_fault t [] n ≡ None) g.1 g.0))
-  plain_rooted (CreateTemp p) most = unless_tree Rooted (free t p) t _ rooted (λ names found. put_free p names (File []) found)
-  plain_rooted (Write f bytes) most = rooted
-  plain_rooted (Persist f p) most =
-      unless_tree Rooted (known f.bytes) t _ rooted (λ bytes has.
-      unless_tree Rooted (kept t f.path) t _ rooted (λ old there.
-      unless_tree Rooted (replaceable t p) t _ rooted (λ new found.
-      let g = kept_ok t f.path old there in
-      let h = replaceable_ok t p new found in
-      persist_rooted t old new bytes rooted g.1 (place_folder t rooted p new h.2) h.1)))
-  plain_rooted (Append p bytes) most = unless_tree Rooted (writable t p) t _ rooted (λ names found. put_writable p names _ found)
-  plain_rooted (ReadAll p) most = asked (file_at t p IsADirectory) _
-  plain_rooted (Open p) most = asked (file_at t p IsADirectory) _
-  plain_rooted (Read f size) most = rooted
-  plain_rooted (Size p) most = asked (file_at t p IsADirectory) _
-  plain_rooted (Exists p) most = rooted
-  plain_rooted (Symlink target p) most = unless_tree Rooted (free t p) t _ rooted (λ names found. put_free p names (Link target) found)
-  plain_rooted (Copy p q) most = unless_tree Rooted (file_at t p InvalidInput) t _ rooted (λ bytes read. unless_tree Rooted (writable t q) t _ rooted (λ names found. put_writable q names _ found))
-  plain_rooted (Reflink p q) most = unless_tree Rooted (free t q) t _ rooted (λ names found. unless_tree Rooted (file_at t p IsADirectory) t _ rooted (λ bytes read. put_free q names (File bytes) found))
-  plain_rooted (HardLink p q) most = unless_tree Rooted (free t q) t _ rooted (λ names found. unless_tree Rooted (linked t p) t _ rooted (λ node there. put_free q names node found))
-  plain_rooted (ReadDir p) most = asked (folder t p) _
-  plain_rooted (RemoveFile p) most = unless_tree Rooted (removable t p) t _ rooted (λ names found. file_cut t names rooted (removable_ok t p names found).1)
-  plain_rooted (RemoveDir p) most =
-      unless_tree Rooted (emptied t p) t _ rooted (λ names found.
-      let f = emptied_ok t p names found in
-      cut_rooted t names rooted (not_top names f.2) (empty_bare t names f.3))
-  plain_rooted (SyncTemp f) most = rooted
-  plain_rooted (SyncFile p) most = asked (file_at t p IsADirectory) _
-  plain_rooted (SyncDir p) most = asked (folder t p) _
+      make_rooted t [] names most rooted (names_proper p names (f.1 ∙ ap Ok g.1)) rooted.top (subst (λ n. dirs_fault t [] n ≡ None) g.1 g.0)
+  change_rooted (CreateTemp p) (PutNode names node) m = put_free p names node m.0
+  change_rooted (Persist f p) (MoveFile old new bytes) m =
+      let h = replaceable_ok t p new m.2 in
+      persist_rooted t old new bytes rooted (kept_ok t f.path old m.1).1 (place_folder t rooted p new h.2) h.1
+  change_rooted (Append p line) (PutNode names node) m = put_writable p names node m
+  change_rooted (Symlink target p) (PutNode names node) m = put_free p names node m.0
+  change_rooted (Copy p q) (PutNode names node) m = put_writable q names node m
+  change_rooted (Reflink p q) (PutNode names node) m = put_free q names node m
+  change_rooted (HardLink p q) (PutNode names node) m = put_free q names node m.0
+  change_rooted (RemoveFile p) (CutNode names) m = file_cut t names rooted (removable_ok t p names m).1
+  change_rooted (RemoveDir p) (CutNode names) m = let f = emptied_ok t p names m in cut_rooted t names rooted (not_top names f.2) (empty_bare t names f.3)
+  change_rooted step NoChange m = rooted
+  change_rooted step c m = absurd m
 
 pub steps_keep_rooted : (t : Tree) (step : PlainStep) (luck : Luck) → Rooted t → Rooted (apply t step luck).1
-steps_keep_rooted t step luck rooted = apply_tree Rooted t step luck rooted (plain_rooted t rooted step)
+steps_keep_rooted t step luck rooted = by_changes Rooted t step luck (change_rooted t rooted step)
 
 -- a change that is made or not
 pub made_or_not : {X E : Type 0} (t new made : Tree) (r : Result X E) → Rooted t → Rooted made → OnOk r (new ≡ made) → OnErr r (new ≡ t) → Rooted new

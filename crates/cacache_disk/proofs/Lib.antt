@@ -1,4 +1,5 @@
 pub mod Below
+pub mod Changes
 pub mod FoundNodes
 pub mod Follow
 pub mod KeptFolders

@@ -1,5 +1,5 @@
 -- A disk's tree: the node at each path. The top folder is at the empty list of names.
-use Rattle.std.specs.{Prelude.{ℕ, Bool, if◌then◌else◌, List, [], Option, None, Some, length, ◌==◌, ◌+◌, ◌&&◌, take, slice_index_or}, declared.cmp.Ordering.{Ordering}, Ordering.{nat_cmp, eq_by_cmp}, Bool.{nat_eq}, Cmp.Lexicographic.{pointwise, slice_cmp}, List.{filter_map}}
+use Rattle.std.specs.{Prelude.{ℕ, Bool, if◌then◌else◌, List, [], ◌∷◌, ◌++◌, Option, None, Some, length, ◌==◌, ◌+◌, ◌&&◌, take, slice_index_or}, declared.cmp.Ordering.{Ordering}, Ordering.{nat_cmp, eq_by_cmp}, Bool.{nat_eq}, Cmp.Lexicographic.{pointwise, slice_cmp}, List.{filter_map, list_any}}
 use Rattle.std.specs.FinMap as map
 use Rattle.cacache_store.specs.declared.store.answer.{Kind.{Kind}, Name.{Name}}
 use Rattle.cacache_store.specs.declared.store.answer.Kind.TheVariants as kinds
@@ -13,6 +13,15 @@ names_cmp = slice_cmp (slice_cmp nat_cmp)
 -- whether two paths are the same
 abbrev pub same_path : Names → Names → Bool
 same_path p q = eq_by_cmp names_cmp p q
+
+-- whether a path is one of these
+abbrev pub is_among : Names → List Names → Bool
+is_among path paths = list_any (same_path path) paths
+
+-- the paths on the way through these names, each one name longer
+abbrev pub fronts : Names → Names → List Names
+fronts above [] = []
+fronts above (name ∷ rest) = (above ++ name ∷ []) ∷ fronts (above ++ name ∷ []) rest
 
 -- the node at each path
 abbrev pub Tree : Type 0

@@ -1,43 +1,35 @@
 -- What a calm step keeps at a path that it doesn't reach.
 use Rattle.std.proofs.{Common.{◌≡◌, ◌+◌, ℕ, Bool, true, false, cond, List, [], ◌∷◌, ◌++◌, Option, None, Some, length, take, refl, ◌∙◌, arith, length-append}, Math.Seq.{take-append_seam}, lemmas.Bool.{eq-eqb}}
 use Rattle.std.specs.{Ordering.{nat_cmp}, Bool.{nat_eq}, Cmp.Lexicographic.{pointwise, slice_cmp, lists_ties, texts_ties}}
-use Rattle.cacache_core.specs.{declared.errors.Fault.TheVariants.{IsADirectory}, PathNames.{Names, names_of}}
-use Rattle.cacache_store.specs.{declared.store.{plain.PlainTemp.{PlainTemp}, step.Step.TheVariants.{MakeDirs, CreateTemp, Write, Persist, Append, ReadAll, Open, Read, Size, Exists, ReadDir, SyncTemp, SyncFile, SyncDir}}, Plain.{PlainStep, PlainAnswer}}
-use Rattle.cacache_disk.specs.{declared.{luck.Luck.{Luck}, node.Node.{Node, TheVariants.{Folder, File}}}, Tree.{Tree, look, cut, bytes_of, is_child}, LedTo.{file_at, folder}, Apply.{apply, make_some}}
-use Rattle.cacache_disk.proofs.{Roots.{same_self}, KeptFolders.{apply_tree, unless_tree, steps_keep_rooted}}
+use Rattle.cacache_core.specs.PathNames.{Names, names_of}
+use Rattle.cacache_store.specs.{declared.store.step.Step.TheVariants.{MakeDirs, CreateTemp, Write, Persist, Append, Symlink, Copy, Reflink, HardLink, RemoveFile, RemoveDir, SyncTemp, SyncFile, SyncDir}, Plain.{PlainStep, PlainAnswer}}
+use Rattle.cacache_disk.specs.{declared.{luck.Luck.{Luck}, node.Node.{Node, TheVariants.{Folder, File}}}, Tree.{Tree, look, cut, is_child}, Apply.{apply, make_some}}
+use Rattle.cacache_disk.proofs.{Changes.{MakeFolders, Makes, MoveFile, NoChange, PutNode, TreeChange, by_changes, made_by}, FoundNodes.{dirs_ok, free_ok, kept_ok, replaceable_ok}, Roots.{same_self}, KeptFolders.{steps_keep_rooted}}
 use Rattle.cacache_value.specs.{Kinds.{Content, Bucket, Temporary, Way, path_kind}, Placed.{Placed, Proper}, Traces.{Move}}
-use Rattle.cacache_value.proofs.{FoundPaths.{of_names}, Traces.{steps_keep_placed}}
+use Rattle.cacache_value.proofs.{FoundPaths.{of_names}, Temps.{written}, Traces.{steps_keep_placed}}
 use Rattle.cacache_loss.specs.{Fixing.{Fixed, Fixing, file_after, file_synced, fixed_after, folder_synced, is_child_of, is_sync, is_synced, name_after, synced, temp_synced}, Moments.{EachMove, Moment, next}, LostTrees.{OfCache}, CalmMoves.{AreCalm, CalmStep, HandlesTemp, IsCalm, is_calm}, Syncs.{IsFolderSync}}
-use Rattle.cacache_loss.proofs.{StepCases.{PersistCase, refused, moved, persist_case, AppendCase, unsent, took, torn, append_case, put_misses, cut_misses, make_keeps, dirs_keep, temp_keeps, step_keeps, asked_keeps}, UnchangedPaths.{at_false, Misses, rewrites_false, writes_false, moved_false, at_names, file_kept, name_kept}}
+use Rattle.cacache_loss.proofs.{StepCases.{cut_misses, make_keeps, put_misses}, UnchangedPaths.{at_false, Misses, rewrites_false, writes_false, moved_false, at_names, file_kept, name_kept}}
 
 module _ (home : Option Names) (t : Tree) (placed : Placed home t) (q : Names) (here : Option Node) (there : look t q ≡ here)
     (made : (names : Names) (count : ℕ) → path_kind home names ≡ Way → look (make_some t [] names count) q ≡ here) where
-  persist_keeps : (f : PlainTemp) (p : List ℕ) (o : PlainAnswer × Tree) → Misses q (Persist f p) → PersistCase t f p o → look o.1 q ≡ here
-  persist_keeps f p o misses (refused fault e) = rw e there
-  persist_keeps f p o misses (moved bytes old new has is to e) =
-      rw e (put_misses (cut t old) new q (File bytes) (at_names p new q misses.1 to) ∙ cut_misses t old q (at_names f.path old q misses.0 is) ∙ there)
-
-  append_keeps : (p bytes : List ℕ) (o : PlainAnswer × Tree) → Misses q (Append p bytes) → AppendCase t p bytes o → look o.1 q ≡ here
-  append_keeps p bytes o misses (unsent fault e) = rw e there
-  append_keeps p bytes o misses (took names n is e) = rw e (put_misses t names q (File (bytes_of (look t names) ++ take n bytes)) (at_names p names q misses is) ∙ there)
-  append_keeps p bytes o misses (torn names fault n is e) = rw e (put_misses t names q (File (bytes_of (look t names) ++ take n bytes)) (at_names p names q misses is) ∙ there)
+  change_keeps : (step : PlainStep) (c : TreeChange) → is_calm step ≡ true → Proper home step → Misses q step → Makes t step c → look (made_by t c) q ≡ here
+  change_keeps (MakeDirs p) (MakeFolders names most) calm is misses m = made names most (of_names (λ n. path_kind home n ≡ Way) p names is (dirs_ok t p names m))
+  change_keeps (CreateTemp p) (PutNode names node) calm is misses m = put_misses t names q node (at_names p names q misses (free_ok t p names m.0).0) ∙ there
+  change_keeps (Persist f p) (MoveFile from to bytes) calm is misses m =
+      put_misses (cut t from) to q (File bytes) (at_names p to q misses.1 (replaceable_ok t p to m.2).0)
+      ∙ cut_misses t from q (at_names f.path from q misses.0 (kept_ok t f.path from m.1).0) ∙ there
+  change_keeps (Append p bytes) (PutNode names node) calm is misses m = put_misses t names q node (at_names p names q misses (written home t placed p names (names_of p) is.0 refl m)) ∙ there
+  change_keeps (Symlink target p) c calm is misses m = absurd cc
+  change_keeps (Copy p r) c calm is misses m = absurd cc
+  change_keeps (Reflink p r) c calm is misses m = absurd cc
+  change_keeps (HardLink p r) c calm is misses m = absurd cc
+  change_keeps (RemoveFile p) c calm is misses m = absurd cc
+  change_keeps (RemoveDir p) c calm is misses m = absurd cc
+  change_keeps step NoChange calm is misses m = there
+  change_keeps step c calm is misses m = absurd m
 
   pub keeps : (step : PlainStep) (luck : Luck) → is_calm step ≡ true → Proper home step → Misses q step → look (apply t step luck).1 q ≡ here
-  keeps (MakeDirs p) luck calm is misses = dirs_keep t q here there p luck (λ names count named. made names count (of_names (λ n. path_kind home n ≡ Way) p names is named))
-  keeps (CreateTemp p) luck calm is misses = temp_keeps t q here there p luck (λ names is. at_names p names q misses is)
-  keeps (Write f bytes) luck calm is misses = step_keeps t q here there (Write f bytes) luck (λ most. there)
-  keeps (Persist f p) luck calm is misses = persist_keeps f p (apply t (Persist f p) luck) misses (persist_case t f p luck)
-  keeps (Append p bytes) luck calm is misses = append_keeps p bytes (apply t (Append p bytes) luck) misses (append_case home t p bytes luck placed is.0)
-  keeps (ReadAll p) luck calm is misses = step_keeps t q here there (ReadAll p) luck (λ most. asked_keeps t q here there (file_at t p IsADirectory) _)
-  keeps (Open p) luck calm is misses = step_keeps t q here there (Open p) luck (λ most. asked_keeps t q here there (file_at t p IsADirectory) _)
-  keeps (Read f size) luck calm is misses = step_keeps t q here there (Read f size) luck (λ most. there)
-  keeps (Size p) luck calm is misses = step_keeps t q here there (Size p) luck (λ most. asked_keeps t q here there (file_at t p IsADirectory) _)
-  keeps (Exists p) luck calm is misses = step_keeps t q here there (Exists p) luck (λ most. there)
-  keeps (ReadDir p) luck calm is misses = step_keeps t q here there (ReadDir p) luck (λ most. asked_keeps t q here there (folder t p) _)
-  keeps (SyncTemp f) luck calm is misses = step_keeps t q here there (SyncTemp f) luck (λ most. there)
-  keeps (SyncFile p) luck calm is misses = step_keeps t q here there (SyncFile p) luck (λ most. asked_keeps t q here there (file_at t p IsADirectory) _)
-  keeps (SyncDir p) luck calm is misses = step_keeps t q here there (SyncDir p) luck (λ most. asked_keeps t q here there (folder t p) _)
-  keeps step luck calm is misses = absurd cc
+  keeps step luck calm is misses = by_changes (λ new. look new q ≡ here) t step luck (λ c m. change_keeps step c calm is misses m)
 
   -- what is fixed there stays as well
   pub files_keep : (fixed : Fixed) (step : PlainStep) (luck : Luck) (answer : PlainAnswer) → is_calm step ≡ true → Proper home step → Misses q step
@@ -54,10 +46,14 @@ module _ (home : Option Names) (t : Tree) (placed : Placed home t) (q : Names) (
 
 -- no sync changes the tree
 pub sync_tree : (t : Tree) (step : PlainStep) (luck : Luck) → is_sync step ≡ true → (apply t step luck).1 ≡ t
-sync_tree t (SyncTemp f) luck e = apply_tree (λ new. new ≡ t) t (SyncTemp f) luck refl (λ most. refl)
-sync_tree t (SyncFile p) luck e = apply_tree (λ new. new ≡ t) t (SyncFile p) luck refl (λ most. unless_tree (λ new. new ≡ t) (file_at t p IsADirectory) t _ refl (λ bytes is. refl))
-sync_tree t (SyncDir p) luck e = apply_tree (λ new. new ≡ t) t (SyncDir p) luck refl (λ most. unless_tree (λ new. new ≡ t) (folder t p) t _ refl (λ names is. refl))
-sync_tree t step luck e = absurd cc
+sync_tree t step luck e = by_changes (λ new. new ≡ t) t step luck (by step e)
+  where
+    by : (step : PlainStep) → is_sync step ≡ true → (c : TreeChange) → Makes t step c → made_by t c ≡ t
+    by step e NoChange m = refl
+    by (SyncTemp f) e c m = absurd m
+    by (SyncFile p) e c m = absurd m
+    by (SyncDir p) e c m = absurd m
+    by step e c m = absurd cc
 
 -- calm moves one by one
 pub each_calm : (home : Option Names) (w : Moment) (moves : List Move) → AreCalm home w moves → EachMove (IsCalm home) w moves

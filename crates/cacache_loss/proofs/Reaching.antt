@@ -1,12 +1,12 @@
 -- Where steps change something: nothing changes at a path that a step doesn't reach.
-use Rattle.std.proofs.{Common.{◌≡◌, ◌-◌, ◌==◌, ℕ, false, cond, List, [], ◌∷◌, ◌++◌, Option, None, Ok, Err, refl, sym, ap, ◌∙◌}, lemmas.Bool.{or_parts}}
-use Rattle.std.specs.{Prelude.{Result, ◌||◌}, Result.{result_ok}}
-use Rattle.cacache_core.specs.{declared.errors.Fault.{Fault, TheVariants.{IsADirectory, InvalidInput}}, PathNames.{Names, names_of}}
-use Rattle.cacache_store.specs.{declared.store.{plain.PlainTemp.{PlainTemp}, step.Step.TheVariants.{MakeDirs, CreateTemp, Write, Persist, Append, ReadAll, Open, Size, Symlink, Copy, Reflink, HardLink, ReadDir, RemoveFile, RemoveDir, SyncFile, SyncDir}, answer.Answer.TheVariants.{Done}}, Plain.{PlainStep, PlainAnswer}}
-use Rattle.cacache_disk.specs.{declared.{luck.Luck.{Luck}, node.Node.TheVariants.{Folder}}, Apply.{apply, plain, if_missing, make_some, making}, LedTo.{dirs, free, known, kept, replaceable, writable, removable, emptied, file_at, linked, folder}, Tree.{Tree, look, put, same_path}}
-use Rattle.cacache_disk.proofs.{FoundNodes.{free_ok, kept_ok, replaceable_ok, removable_ok, emptied_ok}, KeptFolders.{apply_tree, unless_tree}}
+use Rattle.std.{proofs.{Common.{◌≡◌, true, false, List, [], None, Ok, Err, refl, sym, ap, ◌∙◌}, lemmas.Bool.{or_parts}}, specs.{Prelude.{Result, ◌||◌}, Result.{result_ok}}}
+use Rattle.cacache_core.specs.{declared.errors.Fault.{Fault}, PathNames.{Names, names_of}}
+use Rattle.cacache_store.specs.{declared.store.{plain.PlainTemp.{PlainTemp}, step.Step.TheVariants.{MakeDirs, CreateTemp, Write, Persist, Append, Symlink, Copy, Reflink, HardLink, RemoveFile, RemoveDir}, answer.Answer.TheVariants.{Done}}, Plain.{PlainStep, PlainAnswer}}
+use Rattle.cacache_disk.specs.{declared.{luck.Luck.{Luck}, node.Node.{Node}}, Apply.{apply}, LedTo.{writable}, Tree.{Tree, look, same_path}}
+use Rattle.cacache_disk.proofs.{Changes.{CutNode, MakeFolders, Makes, MoveFile, NoChange, PutNode, Puts, TreeChange, at_cut, at_put, at_rest, step_at}, FoundNodes.{dirs_ok, free_ok, replaceable_ok}, Roots.{same_self}}
+use Rattle.cacache_value.proofs.Temps.{Takes, takes}
 use Rattle.cacache_loss.specs.{Fixing.{between, is_at, moved_to, moves_file, rewrites_at, writes_at}, Reached.{fronts, fronts_of, is_among, listed, reached}}
-use Rattle.cacache_loss.proofs.{StepCases.{cut_misses, dirs_ok, put_misses, made_or_there}, PathMaps.{or_false}}
+use Rattle.cacache_loss.proofs.PathMaps.{or_false}
 
 -- a path that isn't the one that was found
 apart_one : (q : Names) (r : Result Names Fault) → is_among q (listed (result_ok r) None) ≡ false → (names : Names) → r ≡ Ok names → same_path q names ≡ false
@@ -25,16 +25,6 @@ apart_second q (Ok n) (Ok m) apart names is =
 apart_second q (Err f) (Ok m) apart names is = let same : m ≡ names = cc in ap (same_path q) (sym same) ∙ (or_parts (same_path q m) false apart).0
 apart_second q r (Err fault) apart names is = absurd cc
 
--- ---- folders that are made
-
-make_misses : (t : Tree) (above rest q : Names) (count : ℕ) → is_among q (fronts above rest) ≡ false → look (make_some t above rest count) q ≡ look t q
-make_misses t above [] q count apart = refl
-make_misses t above (name ∷ rest) q count apart =
-    let each = or_parts (same_path q (above ++ name ∷ [])) (is_among q (fronts (above ++ name ∷ []) rest)) apart in
-    make_misses (if_missing (look t (above ++ name ∷ [])) (cond (count == 0) t (put t (above ++ name ∷ []) Folder)) t) (above ++ name ∷ []) rest q
-    (if_missing (look t (above ++ name ∷ [])) (count - 1) count) each.1
-    ∙ made_or_there t (above ++ name ∷ []) q (look t (above ++ name ∷ [])) (count == 0) each.0
-
 fronts_apart : (q : Names) (r : Result Names Fault) → is_among q (fronts_of (result_ok r)) ≡ false → (names : Names) → r ≡ Ok names → is_among q (fronts [] names) ≡ false
 fronts_apart q (Ok n) apart names is = let same : n ≡ names = cc in ap (λ p. is_among q (fronts [] p)) (sym same) ∙ apart
 fronts_apart q (Err fault) apart names is = absurd cc
@@ -42,45 +32,38 @@ fronts_apart q (Err fault) apart names is = absurd cc
 -- ---- steps
 
 module _ (t : Tree) (q : Names) where
-  plain_misses : (step : PlainStep) → is_among q (reached t step) ≡ false → (most : Option ℕ) → look (plain t step most).1 q ≡ look t q
-  plain_misses (MakeDirs p) apart most =
-      unless_tree (λ new. look new q ≡ look t q) (dirs t p) t _ refl (λ names is. make_misses t [] names q (making most names) (fronts_apart q (names_of p) apart names (dirs_ok t p names is)))
-  plain_misses (CreateTemp p) apart most =
-      unless_tree (λ new. look new q ≡ look t q) (free t p) t _ refl (λ names is. put_misses t names q _ (apart_one q (names_of p) apart names (free_ok t p names is).0))
-  plain_misses (Persist f p) apart most =
-      unless_tree (λ new. look new q ≡ look t q) (known f.bytes) t _ refl (λ bytes has.
-      unless_tree (λ new. look new q ≡ look t q) (kept t f.path) t _ refl (λ old there.
-      unless_tree (λ new. look new q ≡ look t q) (replaceable t p) t _ refl (λ new found.
-      put_misses _ new q _ (apart_second q (names_of f.path) (names_of p) apart new (replaceable_ok t p new found).0)
-      ∙ cut_misses t old q (apart_first q (names_of f.path) (names_of p) apart old (kept_ok t f.path old there).0))))
-  plain_misses (Append p bytes) apart most =
-      unless_tree (λ new. look new q ≡ look t q) (writable t p) t _ refl (λ names is. put_misses t names q _ (apart_one q (writable t p) apart names is))
-  plain_misses (ReadAll p) apart most = unless_tree (λ new. look new q ≡ look t q) (file_at t p IsADirectory) t _ refl (λ bytes is. refl)
-  plain_misses (Open p) apart most = unless_tree (λ new. look new q ≡ look t q) (file_at t p IsADirectory) t _ refl (λ bytes is. refl)
-  plain_misses (Size p) apart most = unless_tree (λ new. look new q ≡ look t q) (file_at t p IsADirectory) t _ refl (λ bytes is. refl)
-  plain_misses (Symlink target p) apart most =
-      unless_tree (λ new. look new q ≡ look t q) (free t p) t _ refl (λ names is. put_misses t names q _ (apart_one q (names_of p) apart names (free_ok t p names is).0))
-  plain_misses (Copy p to) apart most =
-      unless_tree (λ new. look new q ≡ look t q) (file_at t p InvalidInput) t _ refl (λ bytes has.
-      unless_tree (λ new. look new q ≡ look t q) (writable t to) t _ refl (λ names is. put_misses t names q _ (apart_one q (writable t to) apart names is)))
-  plain_misses (Reflink p to) apart most =
-      unless_tree (λ new. look new q ≡ look t q) (free t to) t _ refl (λ names is.
-      unless_tree (λ new. look new q ≡ look t q) (file_at t p IsADirectory) t _ refl (λ bytes has. put_misses t names q _ (apart_one q (names_of to) apart names (free_ok t to names is).0)))
-  plain_misses (HardLink p to) apart most =
-      unless_tree (λ new. look new q ≡ look t q) (free t to) t _ refl (λ names is.
-      unless_tree (λ new. look new q ≡ look t q) (linked t p) t _ refl (λ node has. put_misses t names q _ (apart_one q (names_of to) apart names (free_ok t to names is).0)))
-  plain_misses (ReadDir p) apart most = unless_tree (λ new. look new q ≡ look t q) (folder t p) t _ refl (λ names is. refl)
-  plain_misses (RemoveFile p) apart most =
-      unless_tree (λ new. look new q ≡ look t q) (removable t p) t _ refl (λ names is. cut_misses t names q (apart_one q (names_of p) apart names (removable_ok t p names is).0))
-  plain_misses (RemoveDir p) apart most =
-      unless_tree (λ new. look new q ≡ look t q) (emptied t p) t _ refl (λ names is. cut_misses t names q (apart_one q (names_of p) apart names (emptied_ok t p names is).0))
-  plain_misses (SyncFile p) apart most = unless_tree (λ new. look new q ≡ look t q) (file_at t p IsADirectory) t _ refl (λ bytes is. refl)
-  plain_misses (SyncDir p) apart most = unless_tree (λ new. look new q ≡ look t q) (folder t p) t _ refl (λ names is. refl)
-  plain_misses step apart most = refl
+  differs : (names : Names) → q ≡ names → same_path q names ≡ false → ⊥
+  differs names is apart = let no : true ≡ false = sym (same_self q) ∙ ap (same_path q) is ∙ apart in absurd cc
+
+  -- a step puts nothing at a path that it doesn't reach
+  not_put : (step : PlainStep) (c : TreeChange) (node : Node) → is_among q (reached t step) ≡ false → Makes t step c → Puts t c q node → ⊥
+  not_put (MakeDirs p) (MakeFolders names most) node apart m put = let no : true ≡ false = sym put.2 ∙ fronts_apart q (names_of p) apart names (dirs_ok t p names m) in absurd cc
+  not_put (CreateTemp p) (PutNode names new) node apart m put = differs names put.0 (apart_one q (names_of p) apart names (free_ok t p names m.0).0)
+  not_put (Persist f p) (MoveFile from to bytes) node apart m put = differs to put.0 (apart_second q (names_of f.path) (names_of p) apart to (replaceable_ok t p to m.2).0)
+  not_put (Append p bytes) (PutNode names new) node apart m put = differs names put.0 (apart_one q (writable t p) apart names m)
+  not_put (Symlink target p) (PutNode names new) node apart m put = differs names put.0 (apart_one q (names_of p) apart names (free_ok t p names m.0).0)
+  not_put (Copy p to) (PutNode names new) node apart m put = differs names put.0 (apart_one q (writable t to) apart names m)
+  not_put (Reflink p to) (PutNode names new) node apart m put = differs names put.0 (apart_one q (names_of to) apart names (free_ok t to names m).0)
+  not_put (HardLink p to) (PutNode names new) node apart m put = differs names put.0 (apart_one q (names_of to) apart names (free_ok t to names m.0).0)
+  not_put step NoChange node apart m put = absurd put
+  not_put step (CutNode names) node apart m put = absurd put
+  not_put step c node apart m put = absurd m
+
+  not_taken : (step : PlainStep) → is_among q (reached t step) ≡ false → Takes q step → ⊥
+  not_taken (Persist f p) apart is = differs q refl (apart_first q (names_of f.path) (names_of p) apart q is)
+  not_taken (RemoveFile p) apart is = differs q refl (apart_one q (names_of p) apart q is)
+  not_taken (RemoveDir p) apart is = differs q refl (apart_one q (names_of p) apart q is)
+  not_taken step apart is = is
 
   -- the node at a path that a step doesn't reach stays
   pub apply_misses : (step : PlainStep) (luck : Luck) → is_among q (reached t step) ≡ false → look (apply t step luck).1 q ≡ look t q
-  apply_misses step luck apart = apply_tree (λ new. look new q ≡ look t q) t step luck refl (plain_misses step apart)
+  apply_misses step luck apart =
+      let at = step_at t step luck q in
+      elim at.2 [
+        | at_rest e ↦ e
+        | at_put node put e ↦ absurd (not_put step at.0 node apart at.1 put)
+        | at_cut cut e ↦ absurd (not_taken step apart (takes t step at.0 q at.1 cut))
+      ]
 
 -- ---- what a step does at the paths that it reaches
 

@@ -3,8 +3,8 @@ use Rattle.std.proofs.{Common.{◌≡◌, ◌-◌, ◌==◌, ℕ, Bool, true, fa
 use Rattle.std.specs.Prelude.{Result, IfOk}
 use Rattle.cacache_core.specs.{declared.errors.Fault.{Fault}, PathNames.{Names, names_of}}
 use Rattle.cacache_store.specs.{declared.store.{plain.PlainTemp.{PlainTemp}, step.Step.TheVariants.{MakeDirs, CreateTemp, Persist, Append}, answer.Answer.TheVariants.{Done, Took, Failed}}, Plain.{PlainStep, PlainAnswer}}
-use Rattle.cacache_disk.specs.{declared.{luck.Luck.{Luck, TheVariants.{Plain, Fail, Take}}, node.Node.{Node, TheVariants.{Folder, File}}}, Tree.{Tree, look, put, cut, same_path, bytes_of}, LedTo.{dirs, free, known, kept, replaceable, writable, or_fault, dirs_fault}, Apply.{apply, plain, unless, making, make_some, if_missing, fails, fault_told}}
-use Rattle.cacache_disk.proofs.{Maps.{same_path-true}, PutNodes.{look-put, look-cut}, FoundNodes.{free_ok, kept_ok, replaceable_ok, and_then_ok, or_fault_none}, KeptFolders.{apply_tree, unless_tree}}
+use Rattle.cacache_disk.specs.{declared.{luck.Luck.{Luck, TheVariants.{Plain, Fail, Take}}, node.Node.{Node, TheVariants.{Folder, File}}}, Tree.{Tree, look, put, cut, same_path, bytes_of}, LedTo.{dirs, free, known, kept, replaceable, writable}, Apply.{apply, plain, unless, making, make_some, if_missing, fails, fault_told}}
+use Rattle.cacache_disk.proofs.{Maps.{same_path-true}, PutNodes.{look-put, look-cut}, Changes.{apply_tree, unless_tree}, FoundNodes.{dirs_ok, free_ok, kept_ok, replaceable_ok}}
 use Rattle.cacache_value.specs.{Kinds.{Bucket, path_kind, IsFor, PathKind, Way}, Placed.{Placed}}
 use Rattle.cacache_value.proofs.{KindsApart.{further, way_here}, FoundPaths.{Reaches, found, missing, bucket_reached, unreachable}, Steps.{known_ok}}
 
@@ -45,12 +45,6 @@ make_apart home l t above (name ∷ rest) q count at apart way =
     (above ++ name ∷ []) rest q (if_missing (look t (above ++ name ∷ [])) (count - 1) count) at apart (further home Way above rest name way)
     ∙ made_or_there t (above ++ name ∷ []) q (look t (above ++ name ∷ [])) (count == 0)
     (false_from_ne_true (same_path q (above ++ name ∷ [])) (λ e. apart (sym at ∙ ap (path_kind home) (same_path-true q (above ++ name ∷ []) e) ∙ here)))
-
-pub dirs_ok : (t : Tree) (p : List ℕ) (names : Names) → dirs t p ≡ Ok names → names_of p ≡ Ok names
-unfolding dirs
-dirs_ok t p names e =
-    let f = and_then_ok (names_of p) (λ names. or_fault (dirs_fault t [] names) names) names e in
-    f.1 ∙ ap Ok (or_fault_none (dirs_fault t [] f.0) f.0 names f.2).1
 
 -- ---- what becomes of a file that moves
 

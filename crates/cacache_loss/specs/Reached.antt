@@ -1,12 +1,9 @@
 -- Where a step may change something: the paths that it names, or that these lead to.
-use Rattle.std.specs.{Prelude.{Bool, List, [], ◌∷◌, ◌++◌, Option, None, Some}, List.{list_any}, Result.{result_ok}}
+use Rattle.std.specs.{Prelude.{List, [], ◌∷◌, Option, None, Some}, Result.{result_ok}}
 use Rattle.cacache_core.specs.PathNames.{Names, names_of}
 use Rattle.cacache_store.specs.{declared.store.step.Step.TheVariants.{MakeDirs, CreateTemp, Write, Persist, Append, Symlink, Copy, Reflink, HardLink, RemoveFile, RemoveDir}, Plain.{PlainStep}}
-use Rattle.cacache_disk.specs.{LedTo.{writable}, Tree.{Tree, same_path}}
-
--- whether a path is one of these
-abbrev pub is_among : Names → List Names → Bool
-is_among path paths = list_any (same_path path) paths
+use Rattle.cacache_disk.specs.{LedTo.{writable}, Tree.{Tree}}
+pub use Rattle.cacache_disk.specs.Tree.{fronts, is_among}
 
 -- at most two paths
 abbrev pub listed : Option Names → Option Names → List Names
@@ -14,11 +11,6 @@ listed None None = []
 listed (Some first) None = first ∷ []
 listed None (Some second) = second ∷ []
 listed (Some first) (Some second) = first ∷ second ∷ []
-
--- the paths on the way through these names, each one name longer
-abbrev pub fronts : Names → Names → List Names
-fronts above [] = []
-fronts above (name ∷ rest) = (above ++ name ∷ []) ∷ fronts (above ++ name ∷ []) rest
 
 -- those of a path, if there is one
 abbrev pub fronts_of : Option Names → List Names

@@ -5,6 +5,7 @@ pub mod MadeFolders
 pub mod AppendedLines
 pub mod Applying
 pub mod Steps
+pub mod Temps
 pub mod Shows
 pub mod Traces
 pub mod PathKinds

@@ -9,7 +9,7 @@ use Rattle.cacache_store.specs.{declared.store.plain.PlainTemp.{PlainTemp}, Plai
 use Rattle.cacache_store.specs.declared.store.step.Step.TheVariants as steps
 use Rattle.cacache_store.specs.declared.store.answer.Answer.TheVariants as answers
 use Rattle.cacache_disk.specs.{declared.luck.Luck.TheVariants.{Plain}, Tree.{Tree}, LedTo.{place, file_at, folder}, Rooted.{Rooted}, Apply.{apply, plain}}
-use Rattle.cacache_disk.proofs.{FoundNodes.{place_ok}, KeptFolders.{steps_keep_rooted, apply_tree, unless_tree}}
+use Rattle.cacache_disk.proofs.{Changes.{apply_tree, unless_tree}, FoundNodes.{place_ok}, KeptFolders.{steps_keep_rooted}}
 use Rattle.cacache_calls.specs.{declared.{command.Put.{Put}, reply.Reply.{Reply}, carried.Commit.{Commit}}, Answers.{done_in, temp_in, written_in, synced_in, taken_in}, Common.{fails, errand_step}, Inserting.{unless_refused, bucket_line, recorded, after_append, refused_cause}, StepPaths.{content_path, content_folder, temp_path, bucket_path}, Runs.{Moves, Runs}, State.{State, doing, creating, writing, syncing, persisting, appending, over, Site, Insertion, make_folder, sync_file, sync_dir, Errand}, Storing.{insertion_of, indexed, sized, compared, matches, write_rest, after_write, put_commit}, Table.{wants, after, opening}}
 use Rattle.cacache_calls.proofs.{Branches.{cond_leads, go_on_leads}, Leading.{moves_on, secures, records}}
 use Rattle.cacache_calls.specs.declared.command.Command.TheVariants as commands

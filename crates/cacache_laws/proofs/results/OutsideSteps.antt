@@ -4,7 +4,7 @@ use Rattle.cacache_core.specs.PathNames.{Names, names_of}
 use Rattle.cacache_store.specs.declared.store.step.Step.TheVariants as steps
 use Rattle.cacache_store.specs.Plain.{PlainStep, PlainAnswer}
 use Rattle.cacache_disk.specs.{declared.{luck.Luck.{Luck}, node.Node.TheVariants.{Link}}, Tree.{Tree, look}, LedTo.{free}, Apply.{apply}}
-use Rattle.cacache_disk.proofs.{FoundNodes.{free_ok}, KeptFolders.{apply_tree, unless_tree}}
+use Rattle.cacache_disk.proofs.{Changes.{apply_tree, unless_tree}, FoundNodes.{free_ok}}
 use Rattle.cacache_calls.specs.{declared.reply.Reply.{Reply}, Licence.{KeepsTo, May, allows}, Sound.{Allowed}, Table.{opening, wants}}
 use Rattle.cacache_calls.proofs.{Within.{begins_within, goes_within, step_allowed}, Sound.{steps_allowed}}
 use Rattle.cacache_value.specs.{Kinds.{Bucket, Content, Elsewhere, Temporary, IsFor, path_kind}, OpeningTrees.{LieApart}, Placed.{Placed, Proper}}

@@ -1,18 +1,18 @@
 -- Removals of contents and tombstones leave each thing in its place.
-use Rattle.std.proofs.Common.{◌≡◌, ◌-◌, ◌==◌, inl, inr, ℕ, Bool, true, false, cond, List, [], ◌∷◌, ◌++◌, Option, None, Some, Result, Ok, Err, take, refl, sym, ap, subst, ◌∙◌}
-use Rattle.std.specs.Prelude.{IfOk}
-use Rattle.cacache_core.specs.{declared.{errors.Fault.{Fault, TheVariants.{NotFound}}, integrity.digest.Hash.{Hash}}, Integrity.{IsHash}, PathNames.{Names, names_of, home_of}, Paths.{joined, content_names}}
+use Rattle.std.proofs.Common.{◌≡◌, inl, inr, ℕ, List, [], ◌∷◌, ◌++◌, Option, None, Some, refl, sym, ap, subst, ◌∙◌}
+use Rattle.cacache_core.specs.{declared.integrity.digest.Hash.{Hash}, Integrity.{IsHash}, PathNames.{Names, home_of}, Paths.{joined, content_names}}
 use Rattle.cacache_store.specs.declared.store.step.Step.TheVariants as steps
 use Rattle.cacache_store.specs.Plain.{PlainStep}
-use Rattle.cacache_disk.specs.{declared.{luck.Luck.TheVariants.{Plain}, node.Node.{Node, TheVariants.{Folder, File}}}, Tree.{Tree, look, put, same_path, bytes_of}, LedTo.{dirs, writable}, Apply.{apply, if_missing, make_some, making, taken}, Rooted.{Rooted}}
-use Rattle.cacache_disk.proofs.{KeptFolders.{apply_tree, steps_keep_rooted, unless_tree}, Maps.{same_path-true}, PutNodes.{look-put}}
+use Rattle.cacache_disk.specs.{declared.luck.Luck.TheVariants.{Plain}, Tree.{Tree}, Apply.{apply}, Rooted.{Rooted}}
+use Rattle.cacache_disk.proofs.{Changes.{at_cut, at_put, at_rest, step_at}, KeptFolders.{steps_keep_rooted}}
 use Rattle.cacache_entry.proofs.EntryCauses.{Fits-no_cause}
 use Rattle.cacache_calls.specs.declared.command.Command.TheVariants as commands
 use Rattle.cacache_calls.specs.{declared.{command.Delete.{Delete}, reply.Reply.TheVariants.{Done}}, Inserting.{bucket_line, deletion, refused_cause}, Runs.{Moves, Runs}, State.{Site}, StepPaths.{bucket_folder, bucket_path}, Table.{opening}}
 use Rattle.cacache_calls.proofs.Sound.{begins_sound}
 use Rattle.cacache_calls.specs.Sound as calls
 use Rattle.cacache_value.specs.{Kinds.{Bucket, Content, Elsewhere, Way, path_kind}, Placed.{Placed, Proper}}
-use Rattle.cacache_value.proofs.{FoundPaths.{Reaches, found, missing, bucket_reached, unreachable}, KindsApart.{kind-below}, Traces.{steps_keep_placed}}
+use Rattle.cacache_value.proofs.{KindsApart.{kind-below}, Temps.{put_for, takes}, Traces.{steps_keep_placed}}
+use Rattle.cacache_loss.proofs.StepCases.{dirs_keep, make_keeps}
 use Rattle.cacache_history.specs.Setup.{is_outside, may_export}
 use Rattle.cacache_history.proofs.{Entries.{Formed.{step_formed}, Keyed.{ToKeys, step_keyed}, Owned.{AppendsOwn, step_own}}, Histories.ShownTurns.{bucket_below}}
 use Rattle.cacache_laws.specs.{Caches.{setup_at}, Sequence.{tree_on}, trees.{Collecting.{Removes}, Housed.{Beside, Housed, Still, TombstonesHouse}}}
@@ -31,57 +31,24 @@ module _ (folder : Option Names) where
 
   -- ---- what is next to the cache
 
-  missing_put : (above q : Names) (old : Option Node) (node made : Node) (b : Bool) → same_path q above ≡ b → (q ≡ above → old ≡ None) → old ≡ Some node → cond b (Some made) old ≡ Some node
-  missing_put above q old node made true is none there = let wrong : None ≡ Some node = sym (none (same_path-true q above is)) ∙ there in absurd cc
-  missing_put above q old node made false is none there = there
+  folders_still : (base t : Tree) (p : List ℕ) → Still folder base t → Still folder base (apply t (steps.MakeDirs p) Plain).1
+  folders_still base t p h q node k there =
+      let is = h q node k there in
+      dirs_keep t q (Some node) is p Plain (λ names count named. make_keeps t [] names q node count is)
 
-  module _ (base : Tree) where
-    still_put : (t : Tree) (above : Names) (made : Node) → look t above ≡ None → Still folder base t → Still folder base (put t above made)
-    still_put t above made none h q node k there =
-        look-put t above made q ∙ missing_put above q (look t q) node made (same_path q above) refl (λ same. ap (look t) same ∙ none) (h q node k there)
-
-    make_at : (above rest : Names) (t : Tree) (here : Option Node) (count : ℕ) (b : Bool) → look t above ≡ here → Still folder base t
-        → ((new : Tree) (count : ℕ) → Still folder base new → Still folder base (make_some new above rest count))
-        → Still folder base (make_some (if_missing here (cond b t (put t above Folder)) t) above rest (if_missing here (count - 1) count))
-    make_at above rest t None count true is h more = more t (count - 1) h
-    make_at above rest t None count false is h more = more (put t above Folder) (count - 1) (still_put t above Folder is h)
-    make_at above rest t (Some node) count b is h more = more t count h
-
-    still_made : (t : Tree) (above rest : Names) (count : ℕ) → Still folder base t → Still folder base (make_some t above rest count)
-    still_made t above [] count h = h
-    still_made t above (name ∷ rest) count h =
-        make_at (above ++ name ∷ []) rest t (look t (above ++ name ∷ [])) count (count == 0) refl h
-        (λ new count g. still_made new (above ++ name ∷ []) rest count g)
-
-    folders_still : (t : Tree) (p : List ℕ) → Still folder base t → Still folder base (apply t (steps.MakeDirs p) Plain).1
-    folders_still t p h =
-        apply_tree (Still folder base) t (steps.MakeDirs p) Plain h (λ most. unless_tree (Still folder base) (dirs t p) t _ h (λ names found. still_made t [] names (making most names) h))
+  no_bucket : (q : Names) → Beside folder q → path_kind folder q ≡ Bucket → ⊥
+  no_bucket q (inl out) is = let wrong : Elsewhere ≡ Bucket = sym out ∙ is in absurd cc
+  no_bucket q (inr way) is = let wrong : Way ≡ Bucket = sym way ∙ is in absurd cc
 
   -- an append writes to a bucket
-  named_at : (n names : Names) (r : Result Names Fault) → Reaches n r → r ≡ Ok names → n ≡ names
-  named_at n names r (found w) e = let same : ◌≡◌ {A = Result Names Fault} (Ok n) (Ok names) = sym w ∙ e in cc
-  named_at n names r (missing w) e = let wrong : ◌≡◌ {A = Result Names Fault} (Err NotFound) (Ok names) = sym w ∙ e in absurd cc
-
-  goes_to : (t : Tree) (p : List ℕ) (names : Names) (r : Result Names Fault) → Placed folder t → names_of p ≡ r → IfOk r (λ n. path_kind folder n ≡ Bucket) → writable t p ≡ Ok names → path_kind folder names ≡ Bucket
-  goes_to t p names (Ok n) placed is k e = subst (λ m. path_kind folder m ≡ Bucket) (named_at n names (writable t p) (bucket_reached folder t p n placed is k) e) k
-  goes_to t p names (Err fault) placed is k e = let wrong : ◌≡◌ {A = Result Names Fault} (Err fault) (Ok names) = sym (unreachable t p fault is) ∙ e in absurd cc
-
-  apart_put : (p q : Names) (old : Option Node) (node made : Node) (b : Bool) → same_path q p ≡ b → path_kind folder p ≡ Bucket → Beside folder q → old ≡ Some node → cond b (Some made) old ≡ Some node
-  apart_put p q old node made true is bucket k there =
-      let kind : path_kind folder q ≡ Bucket = ap (path_kind folder) (same_path-true q p is) ∙ bucket in
-      elim k [
-        | inl out ↦ (let wrong : Elsewhere ≡ Bucket = sym out ∙ kind in absurd cc)
-        | inr way ↦ (let wrong : Way ≡ Bucket = sym way ∙ kind in absurd cc)
-      ]
-  apart_put p q old node made false is bucket k there = there
-
-  bucket_still : (base t : Tree) (p : Names) (made : Node) → path_kind folder p ≡ Bucket → Still folder base t → Still folder base (put t p made)
-  bucket_still base t p made bucket h q node k there = look-put t p made q ∙ apart_put p q (look t q) node made (same_path q p) refl bucket k (h q node k there)
-
   append_still : (base t : Tree) (p bytes : List ℕ) → Placed folder t → Proper folder (steps.Append p bytes) → Still folder base t → Still folder base (apply t (steps.Append p bytes) Plain).1
-  append_still base t p bytes placed proper h =
-      apply_tree (Still folder base) t (steps.Append p bytes) Plain h (λ most. unless_tree (Still folder base) (writable t p) t _ h
-      (λ names goes. bucket_still base t names (File (bytes_of (look t names) ++ take (taken most bytes) bytes)) (goes_to t p names (names_of p) placed refl proper.0 goes) h))
+  append_still base t p bytes placed proper h q node k there =
+      let at = step_at t (steps.Append p bytes) Plain q in
+      elim at.2 [
+        | at_rest e ↦ e ∙ h q node k there
+        | at_put new put e ↦ absurd (no_bucket q k (put_for folder t placed (steps.Append p bytes) at.0 q new proper at.1 put))
+        | at_cut cut e ↦ absurd (takes t (steps.Append p bytes) at.0 q at.1 cut)
+      ]
 
 -- ---- moves
 
