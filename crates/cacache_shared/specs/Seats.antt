@@ -1,8 +1,8 @@
 -- Seats as contracts see them.
-use Rattle.std.specs.Prelude.{◌≡◌, ℕ, zero, suc, ◌+◌, List, [], ◌∷◌, ◌++◌, drop, map}
+use Rattle.std.specs.Prelude.{◌≡◌, ℕ, zero, suc, ◌+◌, ◌≤◌, List, [], ◌∷◌, ◌++◌, drop, length, map}
 use Rattle.cacache_disk.specs.declared.luck.Luck.{Luck}
 use Rattle.cacache_calls.specs.declared.{command.Command.{Command}, reply.Reply.{Reply}}
-use Rattle.cacache_history.specs.{declared.record.Record.{Record, TheVariants.{Began}}, History.{History}}
+use Rattle.cacache_history.specs.{declared.record.Record.{Record, TheVariants.{Began}}, History.{History, IsLegal}}
 use Rattle.cacache_world.specs.{declared.event.Move.{Move}, WorldKept.{AddsRecord, MovesOn}}
 use Rattle.cacache_world.specs.declared.event.Move.TheVariants as told
 use Rattle.cacache_threads.specs.Said.{said_command, said_reply}
@@ -80,6 +80,19 @@ pub record SeatMoves (luck : Luck) (went : Went) (h h' : History) (old new : Tak
   pub moves : MovesOn h old.caller luck move h'
   pub told : went ≡ went_of move
   pub noted : new ≡ after_move move old
+
+-- one hold of the lock: the seat makes one move, in a world with at least as many records as it counts
+pub record HoldsTurn (luck : Luck) (went : Went) (h h' : History) (old new : Taken) : Type 0 where
+  pub known : old.records ≤ length h.records
+  pub legal : IsLegal h
+  pub moves : SeatMoves luck went h h' old new
+  pub legal_after : IsLegal h'
+
+-- there are a world before such a hold and one after it
+pub record SeatTurns (luck : Luck) (went : Went) (old new : Taken) : Type 0 where
+  pub before : History
+  pub after : History
+  pub turn : HoldsTurn luck went before after old new
 
 -- one move more, and with Done one reply more
 abbrev pub SeatGoes : Went → Taken → Taken → Type 0

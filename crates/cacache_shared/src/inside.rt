@@ -1,6 +1,6 @@
 //! What lies under the lock: each method is one hold of it.
 ghost use Rattle.std.specs.Prelude.{◌≡◌, ◌+◌, ◌<◌, ◌^◌, IfOk, OnOk, OnErr, length};
-ghost use Rattle.cacache_shared.specs.Seats.{SeatBegins, SeatMoves};
+ghost use Rattle.cacache_shared.specs.Seats.{HoldsTurn, SeatBegins};
 
 use crate::seat::{Seat, Went, note, note_reply, room_for};
 use cacache_calls::Command;
@@ -61,14 +61,16 @@ impl<L: Ledger> Inside<L> {
     #[tactic(auto, using(crate::proofs::Moves::one_more, crate::proofs::Moves::moved_adds))]
     pub(crate) fn go(&mut self, seat: &mut Seat<L>, luck: Luck) -> Result<Went, WorldFault>
         ensures moves { IfOk result (λ went.
-            SeatMoves luck went self.old.world self.new.world seat.old seat.new) }
+            HoldsTurn luck went self.old.world self.new.world seat.old seat.new) }
         ensures world { OnErr result (self.new.world ≡ self.old.world) }
         ensures seat { OnErr result (seat.new ≡ seat.old) }
     {
         if seat.replies.reserve(1).is_err() {
             return Err(WorldFault::OutOfMemory);
         }
+        self.world.stands();
         let moved = self.world.move_one(seat.caller, luck)?;
+        self.world.stands();
         // A list has fewer than 2^64 items, so that the counts fit.
         let _records = self.world.history().len();
         let went = note_reply(&mut seat.replies, moved);

@@ -113,6 +113,7 @@ impl<L: Ledger> Seat<L> {
     /// One record more is the caller's, which the book counts too.
     pub(crate) fn count_record(&mut self, book: &mut Book<L>)
         requires fits { book.old.total + 1 < 2 ^ 64 }
+        ensures known { self.old.records ≤ book.old.total }
         ensures total { book.new.total ≡ book.old.total + 1 }
         ensures seat { self.new ≡ record self.old { records = self.old.records + 1 } }
     {

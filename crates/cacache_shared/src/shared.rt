@@ -1,6 +1,6 @@
 //! One world for several threads. Each caller has a seat, which holds one part of the ledger.
 ghost use Rattle.std.specs.Prelude.{◌≡◌, ◌<◌, ◌≤◌, [], All, sum_by, length, vec_capacity, IfOk, IfErr, OnOk, OnErr};
-ghost use Rattle.cacache_shared.specs.{Lines.{moves}, Seats.{SeatAgrees, SeatGoes, fresh_seats, with_command}};
+ghost use Rattle.cacache_shared.specs.{Lines.{moves}, Seats.{SeatAgrees, SeatGoes, SeatTurns, fresh_seats, with_command}};
 
 use crate::blank::Blank;
 use crate::closing::{all_agree, merge_seats};
@@ -87,15 +87,16 @@ impl<L: Ledger> SharedWorld<L> {
         self.inside.lock(rt).begin(seat, command)
     }
 
-    /// The seat's caller makes one move, which turns out as the luck says. It waits until no other
-    /// thread is inside the world.
+    /// The seat's caller makes one move, the next step of its own call, which turns out as the luck says. The reply that
+    /// the seat gets if the call is over is that of this move. It waits until no other thread is inside the world.
     ///
     /// # Errors
     ///
     /// The seat stays as it was, and so does the world: for `World::move_one`'s faults, and
     /// `OutOfMemory` if memory is refused.
-    #[tactic(auto, using(crate::proofs::Moves::moves_goes))]
+    #[tactic(auto, using(crate::proofs::Moves::turn_goes, crate::proofs::Moves::holds_turn))]
     pub fn go<R: Wait>(&self, rt: &R, seat: &mut Seat<L>, luck: Luck) -> Result<Went, WorldFault>
+        ensures turn { IfOk result (λ went. SeatTurns luck went seat.old seat.new) }
         ensures goes { IfOk result (λ went. SeatGoes went seat.old seat.new) }
         ensures same { OnErr result (seat.new ≡ seat.old) }
     {
