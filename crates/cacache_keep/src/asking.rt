@@ -3,12 +3,12 @@ ghost use Rattle.std.specs.Prelude.{IfOk, IfErr};
 ghost use Rattle.cacache_jobs.specs.{Environment.{KeepsRest}, Sites.{site_of}};
 ghost use Rattle.cacache_keep.specs.{Calls.{StopsReading}, Told.{AsksAs}};
 
-use cacache_calls::Found;
 use cacache_core::errors::Result;
 use cacache_entry::Metadata;
 use cacache_store::env::{Clock, Env, Names};
 use cacache_store::store::Store;
 use cacache_sync::exists_sync;
+use cacache_calls::Found;
 
 /// The entries among these whose content isn't there.
 pub(crate) fn dangling_of<S: Store, C: Clock, N: Names>(

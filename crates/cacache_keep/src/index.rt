@@ -5,11 +5,11 @@ ghost use Rattle.cacache_jobs.specs.Sites.{site_of};
 ghost use Rattle.cacache_keep.specs.{Calls.{IsFirstError, HasNoIndex, StopsReading}, Checking.{ReadsIndex}};
 
 use crate::walking::{Met, walk_index};
-use cacache_calls::Found;
 use cacache_core::errors::{Error, Fault, Result};
 use cacache_core::keeping::let_go;
 use cacache_core::text::Text;
 use cacache_store::store::Store;
+use cacache_calls::Found;
 use std::alloc::Global;
 
 /// The entries of all keys, and the paths of the buckets with odd lines, in the order of their reading.

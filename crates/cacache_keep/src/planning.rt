@@ -5,13 +5,13 @@ ghost use Rattle.cacache_keep.specs.{Planning.{HidesSize, StopsPlanning, StopsTe
 
 use crate::choosing::{Chosen, choose};
 use crate::reading::says_gone;
-use cacache_calls::answers::length_of;
 use cacache_core::errors::Result;
 use cacache_core::integrity::Integrity;
 use cacache_core::text::Text;
 use cacache_jobs::{content_path, refused};
 use cacache_store::env::{Clock, Env, Names};
 use cacache_store::store::{Step, Store};
+use cacache_calls::answers::length_of;
 use std::alloc::{AllocError, Global};
 
 /// A content that no entry has.

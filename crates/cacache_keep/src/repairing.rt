@@ -9,13 +9,13 @@ use crate::checking::{OddLines, check};
 use crate::index::{Index, read_index};
 use crate::reading::{Read, read_each};
 use crate::removing::remove_each;
-use cacache_calls::Found;
 use cacache_core::errors::Result;
 use cacache_core::integrity::Integrity;
 use cacache_core::keeping::let_go;
 use cacache_entry::Metadata;
 use cacache_store::env::{Clock, Env, Names};
 use cacache_store::store::Store;
+use cacache_calls::Found;
 use cacache_walks::{Contents, list};
 
 /// What a repair did.

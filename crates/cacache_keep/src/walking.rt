@@ -6,11 +6,11 @@ ghost use Rattle.cacache_calls.specs.{Runs.{plain_item}, Walking.{visit_step}};
 ghost use Rattle.cacache_keep.specs.{Checking.{odd_read}, Walking.{LosesIndex, MeetsIndex, VisitGoes, VisitStops}};
 
 use crate::lines::has_odd;
-use cacache_calls::{Found, Visit};
 use cacache_core::errors::{Error, Result};
 use cacache_core::paths::{INDEX_AREA, join};
 use cacache_core::text::Text;
 use cacache_store::store::{Answer, FileHandle, Store, TempHandle};
+use cacache_calls::{Found, Visit};
 use cacache_walks::Walk;
 use std::alloc::Global;
 use std::mem::swap;

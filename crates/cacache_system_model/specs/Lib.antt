@@ -19,3 +19,4 @@ pub mod Chains
 pub mod Meeting
 pub mod Logged
 pub mod memory
+pub mod bucket

@@ -3,9 +3,13 @@
 //! The module `memory` has a system in memory that keeps a log of its calls.
 #![tactic(auto)]
 
+mod bucket;
 mod laws;
 pub mod memory;
 
+pub use bucket::{
+    bucket_event_laws, bucket_file_cases, bucket_file_laws, bucket_name_laws, bucket_step_laws,
+};
 pub use laws::{
     change_laws, covered_laws, fixing_laws, folder_laws, list_laws, logged_laws, look_laws,
     mirror_laws, model_laws, read_laws, refusal_laws, removal_laws, sync_laws, write_laws,

@@ -5,13 +5,16 @@
 //!   says that there are histories they are about. [`link_survives`] says what is read if a put found a link.
 //! - [`put_then_get`], [`one_of_two`], [`crash_safe`], [`removals_are_safe`] and [`readers_never_lie`] say what many callers see of one
 //!   cache, of each world.
+//! - [`processes_share_a_bucket`] says what several processes on one folder see of a bucket.
 //! - [`close_after_reads`] says what threads that shared a world were answered.
 #![tactic(auto)]
 
 mod losing;
+mod processes;
 mod sharing;
 mod worlds;
 
 pub use losing::{Reads, goes_on, link_survives, some_survive, survives};
+pub use processes::processes_share_a_bucket;
 pub use sharing::close_after_reads;
 pub use worlds::{crash_safe, one_of_two, put_then_get, readers_never_lie, removals_are_safe};

@@ -1,0 +1,10 @@
+mod Parts
+mod Places
+mod Moments
+mod Started
+mod Runs
+mod Lookups
+mod Names
+mod Writes
+mod DiskSteps
+mod Cases

@@ -1,0 +1,205 @@
+-- The calls of an append and of a read of a whole file, taken apart.
+use Rattle.std.proofs.Common.{◌≡◌, inl, inr, min, ℕ, Bool, true, false, if◌then◌else◌, List, [], ◌∷◌, ◌++◌, refl, sym, ap, subst, ◌∙◌, append_assoc}
+use Rattle.std.specs.{Prelude.{None, Some, ◌==◌}, List.{AllByRecursion}}
+use Rattle.std_io.specs.declared.io.kind.ErrorKind.{ErrorKind}
+use Rattle.std_io.specs.declared.io.kind.ErrorKind.TheVariants as kind
+use Rattle.cacache_store.specs.declared.store.answer.Kind.{Kind}
+use Rattle.cacache_store.specs.declared.store.answer.Kind.TheVariants as kinds
+use Rattle.cacache_system.specs.{declared.call.{FileInfo.{FileInfo}, SystemCall.{SystemCall}, CallItem.{CallItem}, CallResult.{CallResult, TheVariants.{Opened, Count, Bytes, Info, Failed}}}, CallLog.{item}, CallsOf.{Stage, Runs, over, trying, taking_memory, opening, checking, to_read, reading_front, reading_rest, read_whole, appending, comparing, descending, descend, compared, if_folder, is_same_node, interrupts, was_interrupted, after}, AnswersOf.{in_walk}}
+use Rattle.cacache_system.specs.declared.call.SystemCall.TheVariants as asks
+use Rattle.cacache_system_model.specs.bucket.Calls.{FitsCall, AllFit, IsBeforeWrite, WritesOnce, AppendsWriteOnce, said_by, all_said, IsBeforeRest, ReadsGoToEnd}
+
+-- no call comes after a step is over, and it ends with its result
+over_ends : (said end : CallResult) (items : List CallItem) → Runs (over said) items end → (items ≡ []) × (said ≡ end)
+over_ends said end [] runs = (refl, runs)
+over_ends said end (i ∷ items) runs = let none : None ≡ Some i.call = runs.0 in absurd cc
+
+-- a stage that takes memory goes on as the one after it, if the calls end with bytes
+taken_runs : (s : Stage) (items : List CallItem) (bytes : List ℕ) → Runs (taking_memory s) items (Bytes bytes) → Runs s items (Bytes bytes)
+taken_runs s [] bytes (inl refused) = absurd cc
+taken_runs s [] bytes (inr ends) = ends
+taken_runs s (i ∷ items) bytes runs = runs
+
+-- ---- appends
+
+-- calls with one before them
+writes_before : (bytes : List ℕ) (count : ℕ) (i : CallItem) (items : List CallItem) → IsBeforeWrite i.call i.result → WritesOnce bytes count items → WritesOnce bytes count (i ∷ items)
+writes_before bytes count i items is once =
+    record { file = once.file; calls = i ∷ once.calls; parts = ap (λ l. i ∷ l) once.parts; before = (is, once.before) }
+
+-- the write is tried until no signal interrupts it
+trying_once : (again : Bool) (file count : ℕ) (bytes : List ℕ) (items : List CallItem) → Runs (trying again (asks.Write file bytes)) items (Count count) → WritesOnce bytes count items
+trying_once true file count bytes [] runs = absurd cc
+trying_once false file count bytes [] runs = absurd runs
+trying_once again file count bytes (i ∷ items) runs =
+    let asked : Some (asks.Write file bytes) ≡ Some i.call = runs.0 in
+    let call : asks.Write file bytes ≡ i.call = cc in
+    by (was_interrupted i.result) refl call runs.1 (λ more. trying_once true file count bytes items more)
+  where
+    by : (b : Bool) → was_interrupted i.result ≡ b → asks.Write file bytes ≡ i.call
+        → Runs (if b then trying true (asks.Write file bytes) else over i.result) items (Count count)
+        → (Runs (trying true (asks.Write file bytes)) items (Count count) → WritesOnce bytes count items) → WritesOnce bytes count (i ∷ items)
+    by true is call runs more = writes_before bytes count i items (subst (λ c. IsBeforeWrite c i.result) call is) (more runs)
+    by false is call runs more =
+        let ends = over_ends i.result (Count count) items runs in
+        record {
+          file = file;
+          calls = [];
+          parts = ap (λ l. i ∷ l) ends.0 ∙ ap (λ c. item c i.result ∷ []) (sym call) ∙ ap (λ r. item (asks.Write file bytes) r ∷ []) ends.1;
+          before = tt;
+        }
+
+opened_once : (path bytes : List ℕ) (count : ℕ) (call : SystemCall) (said : CallResult) (items : List CallItem) → asks.OpenToAppend path ≡ call → FitsCall call said
+    → Runs (after (appending path bytes) said) items (Count count) → WritesOnce bytes count items
+opened_once path bytes count call (Opened file) items is fits runs = trying_once false file count bytes items runs
+opened_once path bytes count call (Count n) items is fits runs = absurd (subst (λ c. FitsCall c (Count n)) (sym is) fits)
+opened_once path bytes count call said items is fits runs = let wrong : said ≡ Count count = (over_ends said (Count count) items runs).1 in absurd cc
+
+appending_once : (path bytes : List ℕ) (count : ℕ) (items : List CallItem) → Runs (appending path bytes) items (Count count) → AllFit items → WritesOnce bytes count items
+appending_once path bytes count [] runs fit = absurd runs
+appending_once path bytes count (i ∷ items) runs fit =
+    let asked : Some (asks.OpenToAppend path) ≡ Some i.call = runs.0 in
+    let call : asks.OpenToAppend path ≡ i.call = cc in
+    writes_before bytes count i items (subst (λ c. IsBeforeWrite c i.result) call tt) (opened_once path bytes count i.call i.result items call fit.0 runs.1)
+
+-- ---- looks at the folders of a walk
+
+folder_runs : (k : Kind) (why : ErrorKind) (s : Stage) (items : List CallItem) (count : ℕ) → Runs (if_folder k why s) items (Count count) → Runs s items (Count count)
+folder_runs kinds.Folder why s items count runs = runs
+folder_runs k why s items count runs = let wrong : Failed why ≡ Count count = (over_ends (Failed why) (Count count) items runs).1 in absurd cc
+
+-- a look that found what it should leads on
+looked_runs : (path : List ℕ) (call : SystemCall) (said : CallResult) (entered : List (List ℕ)) (s : Stage) (items : List CallItem) (count : ℕ) → asks.StatLink path ≡ call → FitsCall call said
+    → Runs (after (descending path entered s) said) items (Count count) → Runs (descend entered s) items (Count count)
+looked_runs path call (Info info) entered s items count is fits runs = folder_runs info.kind kind.NotADirectory (descend entered s) items count runs
+looked_runs path call (Count n) entered s items count is fits runs = absurd (subst (λ c. FitsCall c (Count n)) (sym is) fits)
+looked_runs path call said entered s items count is fits runs = let wrong : said ≡ Count count = (over_ends said (Count count) items runs).1 in absurd cc
+
+descend_once : (entered : List (List ℕ)) (path bytes : List ℕ) (count : ℕ) (items : List CallItem) → Runs (descend entered (appending path bytes)) items (Count count) → AllFit items → WritesOnce bytes count items
+descend_once [] path bytes count items runs fit = appending_once path bytes count items runs fit
+descend_once (above ∷ entered) path bytes count [] runs fit = absurd runs
+descend_once (above ∷ entered) path bytes count (i ∷ items) runs fit =
+    let asked : Some (asks.StatLink above) ≡ Some i.call = runs.0 in
+    let call : asks.StatLink above ≡ i.call = cc in
+    writes_before bytes count i items (subst (λ c. IsBeforeWrite c i.result) call tt)
+    (descend_once entered path bytes count items (looked_runs above i.call i.result entered (appending path bytes) items count call fit.0 runs.1) fit.1)
+
+compared_once : (same : Bool) (k : Kind) (entered : List (List ℕ)) (path bytes : List ℕ) (count : ℕ) (items : List CallItem)
+    → Runs (compared same k entered (appending path bytes)) items (Count count) → AllFit items → WritesOnce bytes count items
+compared_once true kinds.Folder entered path bytes count items runs fit = appending_once path bytes count items runs fit
+compared_once same k entered path bytes count items runs fit = descend_once entered path bytes count items runs fit
+
+comparing_once : (node : FileInfo) (last : List ℕ) (entered : List (List ℕ)) (path bytes : List ℕ) (count : ℕ) (call : SystemCall) (said : CallResult) (items : List CallItem) → asks.StatLink last ≡ call → FitsCall call said
+    → Runs (after (comparing node last entered (appending path bytes)) said) items (Count count) → AllFit items → WritesOnce bytes count items
+comparing_once node last entered path bytes count call (Info info) items is fits runs fit = compared_once (is_same_node info node) info.kind (entered ++ last ∷ []) path bytes count items runs fit
+comparing_once node last entered path bytes count call (Count n) items is fits runs fit = absurd (subst (λ c. FitsCall c (Count n)) (sym is) fits)
+comparing_once node last entered path bytes count call said items is fits runs fit = let wrong : said ≡ Count count = (over_ends said (Count count) items runs).1 in absurd cc
+
+pub appends_write_once : AppendsWriteOnce
+appends_write_once (in_walk node last entered) path bytes count [] runs fit = absurd runs
+appends_write_once (in_walk node last entered) path bytes count (i ∷ items) runs fit =
+    let asked : Some (asks.StatLink last) ≡ Some i.call = runs.0 in
+    let call : asks.StatLink last ≡ i.call = cc in
+    writes_before bytes count i items (subst (λ c. IsBeforeWrite c i.result) call tt) (comparing_once node last entered path bytes count i.call i.result items call fit.0 runs.1 fit.1)
+appends_write_once hint path bytes count items runs fit = appending_once path bytes count items runs fit
+
+-- ---- reads
+
+-- calls that read the rest of a file, of which the front is known
+record ReadsOn (front bytes : List ℕ) (file : ℕ) (items : List CallItem) : Type 0 where
+  calls : List CallItem
+  rest : List ℕ
+  parts : items ≡ calls ++ item (asks.ReadRest file) (Bytes rest) ∷ []
+  before : AllByRecursion (λ (i : CallItem). IsBeforeRest i.call) calls
+  whole : bytes ≡ front ++ (all_said calls ++ rest)
+
+-- the same with a call before them
+reads_before : (front bytes : List ℕ) (file : ℕ) (i : CallItem) (items : List CallItem) → IsBeforeRest i.call → ReadsOn (front ++ said_by i.result) bytes file items → ReadsOn front bytes file (i ∷ items)
+reads_before front bytes file i items is on =
+    let said = said_by i.result in
+    record {
+      calls = i ∷ on.calls;
+      rest = on.rest;
+      parts = ap (λ l. i ∷ l) on.parts;
+      before = (is, on.before);
+      whole = on.whole ∙ append_assoc front said (all_said on.calls ++ on.rest) ∙ ap (λ l. front ++ l) (sym (append_assoc said (all_said on.calls) on.rest));
+    }
+
+rest_said : (front bytes : List ℕ) (file : ℕ) (said : CallResult) (items : List CallItem) → Runs (after (reading_rest front file) said) items (Bytes bytes)
+    → (rest : List ℕ) × (said ≡ Bytes rest) × (items ≡ []) × (bytes ≡ front ++ rest)
+rest_said front bytes file (Bytes rest) items runs =
+    let ends = over_ends (Bytes (front ++ rest)) (Bytes bytes) items (taken_runs (over (Bytes (front ++ rest))) items bytes runs) in
+    let same : Bytes (front ++ rest) ≡ Bytes bytes = ends.1 in
+    (rest, refl, ends.0, cc)
+rest_said front bytes file said items runs = let wrong : said ≡ Bytes bytes = (over_ends said (Bytes bytes) items runs).1 in absurd cc
+
+rest_on : (front bytes : List ℕ) (file : ℕ) (items : List CallItem) → Runs (reading_rest front file) items (Bytes bytes) → ReadsOn front bytes file items
+rest_on front bytes file [] runs = absurd runs
+rest_on front bytes file (i ∷ items) runs =
+    let asked : Some (asks.ReadRest file) ≡ Some i.call = runs.0 in
+    let call : asks.ReadRest file ≡ i.call = cc in
+    let ends = rest_said front bytes file i.result items runs.1 in
+    record {
+      calls = [];
+      rest = ends.0;
+      parts = ap (λ l. i ∷ l) ends.2 ∙ ap (λ c. item c i.result ∷ []) (sym call) ∙ ap (λ r. item (asks.ReadRest file) r ∷ []) ends.1;
+      before = tt;
+      whole = ends.3;
+    }
+
+front_on : (bytes : List ℕ) (again : Bool) (size file : ℕ) (items : List CallItem) → Runs (reading_front again size file) items (Bytes bytes) → ReadsOn [] bytes file items
+front_on bytes true size file [] runs = absurd cc
+front_on bytes false size file [] runs = absurd runs
+front_on bytes again size file (i ∷ items) runs =
+    let asked : Some (asks.Read file size) ≡ Some i.call = runs.0 in
+    let call : asks.Read file size ≡ i.call = cc in
+    reads_before [] bytes file i items (subst IsBeforeRest call tt) (said i.result runs.1 (λ more. front_on bytes true size file items more))
+  where
+    failed : (b : Bool) (why : ErrorKind) → Runs (if b then reading_front true size file else over (Failed why)) items (Bytes bytes)
+        → (Runs (reading_front true size file) items (Bytes bytes) → ReadsOn [] bytes file items) → ReadsOn [] bytes file items
+    failed true why runs more = more runs
+    failed false why runs more = let wrong : Failed why ≡ Bytes bytes = (over_ends (Failed why) (Bytes bytes) items runs).1 in absurd cc
+
+    said : (r : CallResult) → Runs (after (reading_front again size file) r) items (Bytes bytes)
+        → (Runs (reading_front true size file) items (Bytes bytes) → ReadsOn [] bytes file items) → ReadsOn (said_by r) bytes file items
+    said (Bytes front) runs more = rest_on front bytes file items runs
+    said (Failed why) runs more = failed (interrupts why) why runs more
+    said r runs more = let wrong : r ≡ Bytes bytes = (over_ends r (Bytes bytes) items runs).1 in absurd cc
+
+whole_on : (b : Bool) (size file : ℕ) (bytes : List ℕ) (items : List CallItem) → Runs (if b then reading_rest [] file else reading_front false (min size 131072) file) items (Bytes bytes) → ReadsOn [] bytes file items
+whole_on true size file bytes items runs = rest_on [] bytes file items runs
+whole_on false size file bytes items runs = front_on bytes false (min size 131072) file items runs
+
+checked_on : (file : ℕ) (bytes : List ℕ) (call : SystemCall) (said : CallResult) (items : List CallItem) → asks.StatFile file ≡ call → FitsCall call said
+    → Runs (after (checking to_read file) said) items (Bytes bytes) → ReadsOn (said_by said) bytes file items
+checked_on file bytes call (Info info) items is fits runs = whole_on (info.size == 0) info.size file bytes items (taken_runs (read_whole info.size file) items bytes runs)
+checked_on file bytes call (Bytes other) items is fits runs = absurd (subst (λ c. FitsCall c (Bytes other)) (sym is) fits)
+checked_on file bytes call said items is fits runs = let wrong : said ≡ Bytes bytes = (over_ends said (Bytes bytes) items runs).1 in absurd cc
+
+checking_on : (file : ℕ) (bytes : List ℕ) (items : List CallItem) → Runs (checking to_read file) items (Bytes bytes) → AllFit items → ReadsOn [] bytes file items
+checking_on file bytes [] runs fit = absurd runs
+checking_on file bytes (i ∷ items) runs fit =
+    let asked : Some (asks.StatFile file) ≡ Some i.call = runs.0 in
+    let call : asks.StatFile file ≡ i.call = cc in
+    reads_before [] bytes file i items (subst IsBeforeRest call tt) (checked_on file bytes i.call i.result items call fit.0 runs.1)
+
+opened_on : (path bytes : List ℕ) (call : SystemCall) (said : CallResult) (items : List CallItem) → asks.OpenToRead path ≡ call → FitsCall call said
+    → Runs (after (opening to_read path) said) items (Bytes bytes) → AllFit items → (file : ℕ) × (said ≡ Opened file) × ReadsOn [] bytes file items
+opened_on path bytes call (Opened file) items is fits runs fit = (file, refl, checking_on file bytes items runs fit)
+opened_on path bytes call (Bytes other) items is fits runs fit = absurd (subst (λ c. FitsCall c (Bytes other)) (sym is) fits)
+opened_on path bytes call said items is fits runs fit = let wrong : said ≡ Bytes bytes = (over_ends said (Bytes bytes) items runs).1 in absurd cc
+
+pub reads_go_to_end : ReadsGoToEnd
+reads_go_to_end hint path bytes [] runs fit = absurd runs
+reads_go_to_end hint path bytes (i ∷ items) runs fit =
+    let asked : Some (asks.OpenToRead path) ≡ Some i.call = runs.0 in
+    let call : asks.OpenToRead path ≡ i.call = cc in
+    let on = opened_on path bytes i.call i.result items call fit.0 runs.1 fit.1 in
+    record {
+      file = on.0;
+      calls = on.2.calls;
+      rest = on.2.rest;
+      parts = ap (λ c. item c i.result ∷ items) (sym call) ∙ ap (λ r. item (asks.OpenToRead path) r ∷ items) on.1 ∙ ap (λ l. item (asks.OpenToRead path) (Opened on.0) ∷ l) on.2.parts;
+      before = on.2.before;
+      whole = on.2.whole;
+    }
