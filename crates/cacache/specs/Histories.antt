@@ -1,5 +1,5 @@
--- The words of histories, for the crates above: what many callers did in a world, what a lookup found at each place, and
--- what a loss of power left.
+-- The words of histories, for the crates above: what many callers did in a world or on one machine, what a lookup found at
+-- each place, and what a loss of power left.
 pub use Rattle.cacache_core.specs.Digests.{digest}
 pub use Rattle.cacache_core.specs.PathNames.{Names, names_of}
 pub use Rattle.cacache_disk.specs.Tree.{Tree}
@@ -25,6 +25,8 @@ pub use Rattle.cacache_history.specs.Values.{MetDigestsAreSame}
 pub use Rattle.cacache_history.specs.durable.FewCalls.{FewCalls}
 pub use Rattle.cacache_history.specs.durable.Behind.{Behind, NoneAppends, StaysSynced}
 pub use Rattle.cacache_history.specs.durable.Outlasting.{AnsweredPut, DurableInsert, DurablePut, EntriesHaveBehind, FoundLink, HistoriesOutlive, KeepsLink, Outlives, OutlastsWith, PutsOrLinksOutlast}
+pub use Rattle.cacache_systems.specs.Made.{MakesHistory, history_of}
+pub use Rattle.cacache_systems.specs.Seen.{SeenActsAre, SeenMakeHistories}
 pub use Rattle.cacache_world.specs.Losses.{LeftBy}
 pub use Rattle.cacache_laws.specs.Standing.{IsStanding}
 pub use Rattle.cacache_laws.specs.results.DurableCases.{CanBeWritten, GoElsewhere, InsertsStandInOne, IsLastPut, PutsStandInOne, PutsStandLast, StandsIn, StoresDurably, followed_by}

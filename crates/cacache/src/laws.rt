@@ -2,6 +2,9 @@
 //! calls, entries and histories. Those named `after_..` are called after a call on a store in memory, with its
 //! arguments and its answer: they say what it left. The words of their contracts are those of `specs/Laws`, for worlds
 //! and losses those of `specs/Histories`, and for the file of a bucket that many processes use those of `specs/Buckets`.
+pub use cacache_calls::{
+    effect_laws, licence_laws, promise_laws, reply_laws, row_laws, run_laws, sound_laws,
+};
 pub use cacache_core::laws::{integrity_laws, path_laws, text_laws};
 pub use cacache_entry::{bucket_laws, entry_laws, lookup_laws};
 pub use cacache_history::durable::durable_laws;
@@ -18,8 +21,6 @@ pub use cacache_laws::{
 pub use cacache_polled::laws::event_laws;
 pub use cacache_shared::seat_laws;
 pub use cacache_system_model::{bucket_event_laws, bucket_file_laws, bucket_name_laws};
-pub use cacache_calls::{
-    effect_laws, licence_laws, promise_laws, reply_laws, row_laws, run_laws, sound_laws,
-};
+pub use cacache_systems::system_history_laws;
 pub use cacache_value::{append_laws, step_laws, trace_laws};
 pub use cacache_walks::contents_laws;

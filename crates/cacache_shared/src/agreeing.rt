@@ -4,8 +4,8 @@ ghost use Rattle.cacache_threads.specs.Said.{said_command, said_reply};
 ghost use Rattle.cacache_shared.specs.Lines.{commands_of, replies_of};
 
 use crate::lines::{command_in, reply_in};
-use cacache_history::Record;
 use cacache_calls::{Command, Reply};
+use cacache_history::Record;
 use cacache_threads::{same_command, same_reply};
 use std::alloc::{AllocError, Global};
 

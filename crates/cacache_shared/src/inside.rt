@@ -3,9 +3,9 @@ ghost use Rattle.std.specs.Prelude.{◌≡◌, ◌+◌, ◌<◌, ◌^◌, IfOk, 
 ghost use Rattle.cacache_shared.specs.Seats.{HoldsTurn, SeatBegins};
 
 use crate::seat::{Seat, Went, note, note_reply, room_for};
+use cacache_calls::Command;
 use cacache_core::keeping::let_go;
 use cacache_disk::Luck;
-use cacache_calls::Command;
 use cacache_world::{World, WorldFault};
 use std::sync::ledger::{Book, Ledger};
 

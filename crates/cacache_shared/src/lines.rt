@@ -2,8 +2,8 @@
 ghost use Rattle.std.specs.Prelude.{◌≡◌, drop, option_copied};
 ghost use Rattle.cacache_shared.specs.Lines.{is_record_of, records_of, is_move_of, moves_of, command_in, reply_given};
 
-use cacache_history::Record;
 use cacache_calls::{Command, Reply};
+use cacache_history::Record;
 use cacache_world::World;
 
 /// Whether a record is the caller's.

@@ -3,9 +3,9 @@ ghost use Rattle.std.specs.Prelude.{◌≡◌, IfOk, length};
 ghost use Rattle.cacache_shared.specs.Storms.{HasItems, IsListed, ListsEntries};
 
 use crate::outcome::StormFault;
+use cacache_calls::{Command, Items, Reply};
 use cacache_core::keeping::let_go;
 use cacache_disk::Luck;
-use cacache_calls::{Command, Items, Reply};
 use cacache_world::{Move, World};
 
 /// How many entries the world lists, asked by its first caller.

@@ -2,13 +2,13 @@
 use crate::outcome::StormFault;
 use crate::seat::{Seat, Went};
 use crate::shared::SharedWorld;
+use cacache_calls::{Command, Options, Put, Reply};
 use cacache_core::bytes::Bytes;
 use cacache_core::integrity::Algorithm;
 use cacache_core::keeping::let_go;
 use cacache_core::text::Text;
 use cacache_disk::Luck;
 use cacache_jobs::{Gate, Pass};
-use cacache_calls::{Command, Options, Put, Reply};
 use std::alloc::{AllocError, Global};
 use std::sync::Wait;
 use std::sync::ledger::Ledger;

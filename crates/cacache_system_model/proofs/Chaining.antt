@@ -8,8 +8,8 @@ use Rattle.cacache_store.specs.declared.store.answer.Answer.TheVariants as answe
 use Rattle.cacache_disk.specs.{declared.{luck.Luck.{Luck, TheVariants.{Plain, Fail, Take}}, node.Node.{Node, TheVariants.{File}}}, Tree.{Tree, look, put, same_path, bytes_of}, Apply.{apply, plain, fails, fault_told, lengthened}}
 use Rattle.cacache_disk.proofs.{Maps.{same_path-true}, PutNodes.{look-put}}
 use Rattle.cacache_system.specs.{declared.call.{CallItem.{CallItem}, CallResult.{CallResult}}, Seen.{NumberedTemp, NumberedStep}, CallsOf.{Runs}, AnswersOf.{Hint, first, answer_of}}
-use Rattle.cacache_system_model.specs.{Machine.{Machine}, Calls.{OccursSomehow, EachCall}, Laws.{temp_on, step_on, answer_on, outcome, LeavesFresh, IsLucky}, Writing.{WritesSome}, Mirrors.{hollow, Mirrors, temps_after, SparesOpen}, Chains.{StepMade, temps_left, HasLaw, WritesTemp, DiskDoes, RunsMirror}}
-use Rattle.cacache_system_model.proofs.{Refused.{same_outcome}, Writing.{write_agrees}, Covered.{each_may_break}, Keeping.{steps_mirror}}
+use Rattle.cacache_system_model.specs.{Machine.{Machine}, Calls.{OccursSomehow, EachCall}, Laws.{temp_on, step_on, answer_on, outcome, LeavesFresh, IsLucky}, Writing.{WritesSome}, Mirrors.{hollow, Mirrors, temps_after, SparesOpen}, Chains.{StepMade, temps_left, HasLaw, WritesTemp, MadePlainly, IsCovered, OnDisk, StepsOnDisk, DiskDoes, RunsMirror}}
+use Rattle.cacache_system_model.proofs.{Refused.{same_outcome}, Writing.{write_agrees}, Covered.{each_may_break, each_goes_plainly}, Keeping.{steps_mirror}}
 
 -- ---- steps that came back
 
@@ -20,8 +20,8 @@ memory_stay temps (steps.RemoveFile p) other = refl
 memory_stay temps _ other = refl
 
 -- a step that is as under some luck on the machine's tree, or came back, on a disk that mirrors it
-abbrev OnDisk : (Names → Bool) → Tree → Machine → NumberedStep → CallResult → Machine → Type 0
-OnDisk temps d m step end n =
+abbrev DoneOn : (Names → Bool) → Tree → Machine → NumberedStep → CallResult → Machine → Type 0
+DoneOn temps d m step end n =
     ((luck : Luck) × (new : Tree) × (apply d (step_on m step) luck ≡ outcome (answer_on n (answer_of step end)) new)
     × Mirrors (temps_after temps (step_on m step) (answer_on n (answer_of step end))) n.tree new)
     ⊎ ((answer_of step end ≡ answers.NoMemory step) × Mirrors (temps_after temps (step_on m step) (answer_on n (answer_of step end))) n.tree d)
@@ -34,7 +34,7 @@ came_back temps d m n step end mirrors is tree =
     = ap (λ a. temps_after temps (step_on m step) (answer_on n a)) is ∙ memory_stay temps (step_on m step) (step_on n step) in
     subst (λ (x : Names → Bool). Mirrors x n.tree d) (sym same) (subst (λ (t : Tree). Mirrors temps t d) (sym tree) mirrors)
 
-lucky_on : (temps : Names → Bool) (d : Tree) (m n : Machine) (step : NumberedStep) (end : CallResult) → Mirrors temps m.tree d → SparesOpen temps m.tree (step_on m step) → IsLucky m step end n → OnDisk temps d m step end n
+lucky_on : (temps : Names → Bool) (d : Tree) (m n : Machine) (step : NumberedStep) (end : CallResult) → Mirrors temps m.tree d → SparesOpen temps m.tree (step_on m step) → IsLucky m step end n → DoneOn temps d m step end n
 lucky_on temps d m n step end mirrors spares (inl (luck, is)) =
     let s = steps_mirror temps m.tree d (step_on m step) luck mirrors spares in
     let answer : (apply m.tree (step_on m step) luck).0 ≡ answer_on n (answer_of step end) = ap (λ (r : PlainAnswer × Tree). r.0) is in
@@ -87,7 +87,7 @@ written_mirrors temps t d names bytes m open_file = record {
 }
 
 write_on : (temps : Names → Bool) (d : Tree) (m n : Machine) (temp : NumberedTemp) (more : List ℕ) (names : Names) (end : CallResult) → Mirrors temps m.tree d → temps names ≡ true → WritesSome m temp names more end n
-    → OnDisk temps d m (steps.Write temp more) end n
+    → DoneOn temps d m (steps.Write temp more) end n
 write_on temps d m n temp more names end mirrors is_open (inl (luck, part, is)) =
     let s = steps_mirror temps m.tree d (step_on m (steps.Write temp more)) luck mirrors tt in
     let answer : (apply m.tree (step_on m (steps.Write temp more)) luck).0 ≡ answer_on n (answer_of (steps.Write temp more) end) = ap (λ (r : PlainAnswer × Tree). r.0) is in
@@ -103,29 +103,33 @@ write_on temps d m n temp more names end mirrors is_open (inr (is, tree)) = inr 
 
 -- ---- many steps
 
-one_on : (temps : Names → Bool) (d : Tree) (s : StepMade) → Mirrors temps s.before.tree d → (HasLaw temps s.before s.hint s.step ⊎ WritesTemp temps s.before s.step)
-    → (HasLaw temps s.before s.hint s.step → IsLucky s.before s.step s.end s.after) → (WritesTemp temps s.before s.step → OnDisk temps d s.before s.step s.end s.after)
-    → OnDisk temps d s.before s.step s.end s.after
-one_on temps d s mirrors (inl law) runs writes = lucky_on temps d s.before s.after s.step s.end mirrors law.spares (runs law)
-one_on temps d s mirrors (inr writing) runs writes = writes writing
+one_on : (temps : Names → Bool) (d : Tree) (s : StepMade) → Mirrors temps s.before.tree d → IsCovered temps s
+    → (HasLaw temps s.before s.hint s.step → IsLucky s.before s.step s.end s.after) → (WritesTemp temps s.before s.step → DoneOn temps d s.before s.step s.end s.after)
+    → (MadePlainly temps s → IsLucky s.before s.step s.end s.after) → DoneOn temps d s.before s.step s.end s.after
+one_on temps d s mirrors (inl law) runs writes plainly = lucky_on temps d s.before s.after s.step s.end mirrors law.spares (runs law)
+one_on temps d s mirrors (inr (inl writing)) runs writes plainly = writes writing
+one_on temps d s mirrors (inr (inr plain)) runs writes plainly = lucky_on temps d s.before s.after s.step s.end mirrors plain.spares (plainly plain)
 
 step_written : (temps : Names → Bool) (d : Tree) (m n : Machine) (hint : Hint) (step : NumberedStep) (items : List CallItem) (end : CallResult) → Mirrors temps m.tree d
-    → Runs (first hint step) items end → EachCall OccursSomehow m items n → WritesTemp temps m step → OnDisk temps d m step end n
+    → Runs (first hint step) items end → EachCall OccursSomehow m items n → WritesTemp temps m step → DoneOn temps d m step end n
 step_written temps d m n hint (steps.Write temp more) items end mirrors runs each (names, bytes, ready, is_open) =
     write_on temps d m n temp more names end mirrors is_open ((write_agrees m hint temp names bytes more ready).breaking items end n runs each)
 step_written temps d m n hint _ items end mirrors runs each writing = absurd writing
 
-goes_on : (temps : Names → Bool) (d : Tree) (s : StepMade) (made : List StepMade) → OnDisk temps d s.before s.step s.end s.after
-    → ((new : Tree) → Mirrors (temps_left temps s) s.after.tree new → DiskDoes new made) → DiskDoes d (s ∷ made)
-goes_on temps d s made (inl (luck, new, is, mirrors)) next = inl (luck, new, is, next new mirrors)
-goes_on temps d s made (inr (inl (is, mirrors))) next = inr (inl (is, next d mirrors))
-goes_on temps d s made (inr (inr left)) next = inr (inr left)
+pub steps_on_disk : StepsOnDisk
+steps_on_disk temps d s mirrors (runs, each, covered) =
+    one_on temps d s mirrors covered (λ law. each_may_break s.before s.hint s.step law.premise law.done s.items s.end s.after runs each)
+    (λ writing. step_written temps d s.before s.after s.hint s.step s.items s.end mirrors runs each writing)
+    (λ plain. inl (Plain, each_goes_plainly s.before s.hint s.step plain.premise plain.plain s.items s.end s.after runs plain.well plain.memory))
+
+goes_on : (temps : Names → Bool) (d : Tree) (s : StepMade) (made : List StepMade) → OnDisk temps d s
+    → ((new : Tree) → Mirrors (temps_left temps s) s.after.tree new → DiskDoes (temps_left temps s) s.after new made) → (m : Machine) → DiskDoes temps m d (s ∷ made)
+goes_on temps d s made (inl (luck, new, is, mirrors)) next m = inl (luck, new, is, next new mirrors)
+goes_on temps d s made (inr (inl (is, mirrors))) next m = inr (inl (is, next d mirrors))
+goes_on temps d s made (inr (inr left)) next m = inr (inr left)
 
 pub runs_mirror : RunsMirror
-runs_mirror temps d m [] mirrors chain = tt
-runs_mirror temps d m (s ∷ made) mirrors (begins, runs, each, covered, rest) =
+runs_mirror temps d m [] mirrors chain = mirrors
+runs_mirror temps d m (s ∷ made) mirrors (begins, is_made, rest) =
     let here : Mirrors temps s.before.tree d = subst (λ (x : Machine). Mirrors temps x.tree d) (sym begins) mirrors in
-    goes_on temps d s made
-    (one_on temps d s here covered (λ law. each_may_break s.before s.hint s.step law.premise law.done s.items s.end s.after runs each)
-    (λ writing. step_written temps d s.before s.after s.hint s.step s.items s.end here runs each writing))
-    (λ new later. runs_mirror (temps_left temps s) new s.after made later rest)
+    goes_on temps d s made (steps_on_disk temps d s here is_made) (λ new later. runs_mirror (temps_left temps s) new s.after made later rest) m

@@ -2,7 +2,7 @@ mod Refused
 mod Leading
 mod OneCalls
 mod Changing
-mod Views
+pub mod Views
 mod Claims
 mod Opening
 mod Looking
@@ -23,10 +23,10 @@ mod Making
 mod Dirs
 mod Refusing
 mod Fixing
-mod Mirroring
+pub mod Mirroring
 mod Keeping
-mod Covered
-mod Chaining
+pub mod Covered
+pub mod Chaining
 mod Logging
 pub mod Saying
 mod Meetings

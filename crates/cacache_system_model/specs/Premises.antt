@@ -1,10 +1,10 @@
 -- What each step asks of the machine for its law.
 use Rattle.std.specs.Prelude.{◌≡◌, ℕ, false, List, Ok}
 use Rattle.cacache_core.specs.PathNames.{Names}
-use Rattle.cacache_store.specs.declared.store.step.Step.TheVariants.{MakeDirs, Write, Persist, Append, Read, Copy, HardLink, ReadDir, RemoveFile, RemoveDir, SyncTemp, SyncDir}
+use Rattle.cacache_store.specs.declared.store.step.Step.TheVariants.{MakeDirs, Write, Persist, Append, Read, Copy, Reflink, HardLink, ReadDir, RemoveFile, RemoveDir, SyncTemp, SyncDir}
 use Rattle.cacache_disk.specs.{declared.node.Node.{Node}, LedTo.{linked}, Rooted.{Rooted}}
 use Rattle.cacache_system.specs.{Seen.{NumberedFile, NumberedTemp, NumberedStep}, AnswersOf.{Hint, is_named}}
-use Rattle.cacache_system_model.specs.{Machine.{OpenFile, Machine}, Laws.{MayBreak}, OneCall.{StillStands}, Reading.{StaysOpen}, Writing.{CanCopy}, Making.{HasNoLink}, Listing.{ListsPlainly}, Removing.{WalkStands}, Moving.{MayReplace}, Syncing.{EndsInNoLink}}
+use Rattle.cacache_system_model.specs.{Machine.{OpenFile, Machine}, Laws.{GoesPlainly, MayBreak}, OneCall.{StillStands}, Reading.{StaysOpen}, Writing.{CanCopy}, Making.{HasNoLink}, Listing.{ListsPlainly}, Removing.{WalkStands}, Moving.{MayReplace}, Syncing.{EndsInNoLink}}
 
 -- a temporary file is still at its path
 abbrev pub IsStill : Machine → NumberedTemp → Type 0
@@ -38,3 +38,17 @@ Premise m hint step = Unit {0}
 abbrev pub EachMayBreak : Type 0
 EachMayBreak =
     (m : Machine) (hint : Hint) (step : NumberedStep) → Premise m hint step → MayBreak m hint step
+
+-- a step's law also says what it answers if no call fails without cause, whether or not the table refuses it
+abbrev pub HasPlainLaw : NumberedStep → Type 0
+HasPlainLaw (Read f max) = ⊥
+HasPlainLaw (Copy p q) = ⊥
+HasPlainLaw (Reflink p q) = ⊥
+HasPlainLaw (ReadDir p) = ⊥
+HasPlainLaw step = Unit {0}
+
+-- each such step is as under plain luck, if none of its calls fails without cause
+abbrev pub EachGoesPlainly : Type 0
+EachGoesPlainly =
+    (m : Machine) (hint : Hint) (step : NumberedStep) → Premise m hint step
+    → HasPlainLaw step → GoesPlainly m hint step

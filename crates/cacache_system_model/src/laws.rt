@@ -1,5 +1,5 @@
 //! Laws, on functions that do nothing.
-ghost use Rattle.cacache_system_model.specs.{Chains.{RunsMirror}, Fixing.{SyncDirFixes, SyncFileFixes, SyncTempFixes}, Listing.{ReadDirBreaks, ReadDirGoesPlainly}, Logged.{LogsAgree}, Making.{MakeDirsAgrees}, Moving.{PersistAgrees}, Meeting.{CallsCanGoWell}, Mirrors.{StepsMirror}, OneCall.{CreateAgrees, ExistsAgrees, HardLinkAgrees, ReflinkBreaks, SymlinkAgrees}, Opening.{OpenAgrees, SizeAgrees}, Premises.{EachMayBreak}, Reading.{PiecesReadPlainly, ReadAllAgrees, ReadBreaks}, Refusals.{NoAppendThroughLink, NoCallWithoutOwner, NoCopyInPlace, NoFileForFolder, NoMoveWithoutMode, NoOtherMode, NoOtherSync, NoRemovalBeforePut, NoRemovalThroughLink, NoSecondWrite}, Removing.{AppendAgrees, RemoveDirAgrees, RemoveFileAgrees}, Syncing.{SyncDirAgrees, SyncFileAgrees, SyncTempAgrees}, Writing.{CopyAgrees, WriteAgrees}};
+ghost use Rattle.cacache_system_model.specs.{Chains.{RunsMirror, StepsOnDisk}, Fixing.{SyncDirFixes, SyncFileFixes, SyncTempFixes}, Listing.{ReadDirBreaks, ReadDirGoesPlainly}, Logged.{LogsAgree}, Making.{MakeDirsAgrees}, Moving.{PersistAgrees}, Meeting.{CallsCanGoWell}, Mirrors.{StepsMirror}, OneCall.{CreateAgrees, ExistsAgrees, HardLinkAgrees, ReflinkBreaks, SymlinkAgrees}, Opening.{OpenAgrees, SizeAgrees}, Premises.{EachGoesPlainly, EachMayBreak}, Reading.{PiecesReadPlainly, ReadAllAgrees, ReadBreaks}, Refusals.{NoAppendThroughLink, NoCallWithoutOwner, NoCopyInPlace, NoFileForFolder, NoMoveWithoutMode, NoOtherMode, NoOtherSync, NoRemovalBeforePut, NoRemovalThroughLink, NoSecondWrite}, Removing.{AppendAgrees, RemoveDirAgrees, RemoveFileAgrees}, Syncing.{SyncDirAgrees, SyncFileAgrees, SyncTempAgrees}, Writing.{CopyAgrees, WriteAgrees}};
 
 /// A step that makes or moves something answers and leaves what the disk's table says of it.
 ///
@@ -67,8 +67,12 @@ pub fn fixing_laws()
 
 /// Each kind of step except writes, at once: if it has what its law asks, and the disk's table does it, it is as
 /// under some luck.
+///
+/// `plainly`: if none of its calls fails without cause, it is as under plain luck, even if the table refuses it. That
+/// leaves out reads of a piece, copies, reflinks and listings.
 pub fn covered_laws()
     ensures breaking { EachMayBreak }
+    ensures plainly { EachGoesPlainly }
 {}
 
 /// So is a step with a run that a store's log gained, which is what the contract of a store of real folders says.
@@ -79,6 +83,7 @@ pub fn logged_laws()
 /// A disk in memory that has the bytes of open temporary files in their handles does what many steps do on a system.
 pub fn mirror_laws()
     ensures step { StepsMirror }
+    ensures one { StepsOnDisk }
     ensures run { RunsMirror }
 {}
 

@@ -7,13 +7,16 @@
 //!   cache, of each world.
 //! - [`processes_share_a_bucket`] says what several processes on one folder see of a bucket.
 //! - [`close_after_reads`] says what threads that shared a world were answered.
+//! - [`folders_are_safe`] says that callers over real folders on one machine, as a model has it, see what callers of a world see.
 #![tactic(auto)]
 
+mod folders;
 mod losing;
 mod processes;
 mod sharing;
 mod worlds;
 
+pub use folders::folders_are_safe;
 pub use losing::{Reads, goes_on, link_survives, some_survive, survives};
 pub use processes::processes_share_a_bucket;
 pub use sharing::close_after_reads;

@@ -1,0 +1,17 @@
+pub mod Fitting
+pub mod Files
+pub mod Failing
+pub mod TreeKept
+pub mod OpenTemps
+pub mod Following
+pub mod Covering
+pub mod OpenCalls
+pub mod StayingOpen
+pub mod PathsOf
+pub mod OtherTemps
+pub mod Handles
+pub mod NextSteps
+pub mod Numbering
+pub mod WithoutBytes
+pub mod Seeing
+pub mod Example

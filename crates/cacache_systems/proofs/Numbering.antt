@@ -1,0 +1,103 @@
+-- Callers as a store of real folders has them, on one machine: their temporary files hold there what their states say.
+use Rattle.std.proofs.Common.{◌≡◌, ◌≤◌, ◌^◌, ◌+◌, ℕ, false, List, [], ◌∷◌, Option, None, Some, Ok, refl, sym, ap, subst, ◌∙◌, arith}
+use Rattle.cacache_disk.specs.Tree.{bare}
+use Rattle.cacache_value.specs.OpeningTrees.{with_files, LieApart}
+use Rattle.cacache_calls.specs.{declared.{command.Command.{Command}, reply.Reply.{Reply}}, Table.{opening}}
+use Rattle.cacache_history.specs.{declared.record.Record.{Record}, Setup.{Setup, call_site, home}, History.{Now, now_after, replayed, Legal, NamesIntegrity, initial}}
+use Rattle.cacache_history.proofs.{Headline.{headline}, durable.CallNumbers.{next_numbered, first_numbered}}
+use Rattle.cacache_system.specs.Seen.{NumberedTemp}
+use Rattle.cacache_system_model.specs.Machine.{Machine}
+use Rattle.cacache_systems.specs.{Acts.{Act, begins, steps as makes, ends, stops, SystemState, AreRecordsOf}, Made.{history_of}, Numbered.{NumberedState, numbered_after, StoresOrLooks, MayNext, EachNext, numbered_after_all, numbered_at, FoldersMakeHistories}}
+use Rattle.cacache_systems.proofs.{Covering.{may_act}, Following.{Follows, act_follows, first_agree, legal_of}, Files.{file_in, IsState, opens_free}, PathsOf.{HasPaths, opens_paths}, NextSteps.{HasHandle, PathsAt, Holds, at_state, no_paths, no_state, makes_storing_step, step_holds}}
+
+module _ (s : Setup) (apart : LieApart (home s) s.outside) (f : NumberedState) (now : Now) (all : Holds s f now) where
+  abbrev w : SystemState
+  w = f.system
+
+  begin_holds : (caller : ℕ) (command : Command) → StoresOrLooks command → NamesIntegrity command → w.begun + 1 ≤ 2 ^ 64 → (g : Follows s w now (begins caller command)) → Holds s (numbered_after s f (begins caller command)) (now_after s now g.r)
+  begin_holds caller command stores named few g = record {
+    agree = g.agree;
+    numbered = next_numbered s now g.r all.numbered;
+    few = subst (λ (n : ℕ). n ≤ 2 ^ 64) g.agree.begun few;
+    handles = λ k.
+        at_state (HasHandle w.temps w.machine (f.held k)) k caller (Some (opening (call_site s w.begun) command)) (w.states k)
+        (λ same. begun_handle (f.held k)) (λ differ. all.handles k);
+    paths = λ k.
+        at_state (PathsAt (home s)) k caller (Some (opening (call_site s w.begun) command)) (w.states k)
+        (λ same state e. let begun : opening (call_site s w.begun) command ≡ state = cc in
+        subst (HasPaths (home s)) begun (opens_paths (home s) (call_site s w.begun) command stores named)) (λ differ. all.paths k);
+  }
+    where
+      begun_handle : (o : Option NumberedTemp) → HasHandle w.temps w.machine o (Some (opening (call_site s w.begun) command))
+      begun_handle o state e =
+          let same : opening (call_site s w.begun) command ≡ state = cc in
+          let free = opens_free (call_site s w.begun) command stores in
+          (subst IsState same free.0, λ file is. let no : None ≡ Some file = sym free.1 ∙ ap file_in same ∙ is in absurd cc)
+
+  few_now : w.begun ≤ 2 ^ 64
+  few_now = subst (λ (n : ℕ). n ≤ 2 ^ 64) (sym all.agree.begun) all.few
+
+  over_holds : (caller : ℕ) (reply : Reply) → (g : Follows s w now (ends caller reply)) → Holds s (numbered_after s f (ends caller reply)) (now_after s now g.r)
+  over_holds caller reply g = record {
+    agree = g.agree;
+    numbered = next_numbered s now g.r all.numbered;
+    few = subst (λ (n : ℕ). n ≤ 2 ^ 64) g.agree.begun few_now;
+    handles = λ k. at_state (HasHandle w.temps w.machine (f.held k)) k caller None (w.states k) (λ same. no_state w.temps w.machine (f.held k)) (λ differ. all.handles k);
+    paths = λ k. at_state (PathsAt (home s)) k caller None (w.states k) (λ same. no_paths (home s)) (λ differ. all.paths k);
+  }
+
+  stop_holds : (caller : ℕ) → (g : Follows s w now (stops caller)) → Holds s (numbered_after s f (stops caller)) (now_after s now g.r)
+  stop_holds caller g = record {
+    agree = g.agree;
+    numbered = next_numbered s now g.r all.numbered;
+    few = subst (λ (n : ℕ). n ≤ 2 ^ 64) g.agree.begun few_now;
+    handles = λ k. at_state (HasHandle w.temps w.machine (f.held k)) k caller None (w.states k) (λ same. no_state w.temps w.machine (f.held k)) (λ differ. all.handles k);
+    paths = λ k. at_state (PathsAt (home s)) k caller None (w.states k) (λ same. no_paths (home s)) (λ differ. all.paths k);
+  }
+
+  pub next_act : (act : Act) → MayNext s f act → (g : Follows s w now act) × Holds s (numbered_after s f act) (now_after s now g.r)
+  next_act (begins caller command) (may, stores, few) =
+      let g = act_follows s apart w now all.agree (begins caller command) may in (g, begin_holds caller command stores may.3 few g)
+  next_act (makes caller made reply) m =
+      let g = act_follows s apart w now all.agree (makes caller made reply) (may_act s apart w now all.agree (makes caller made reply) (makes_storing_step s apart f now all caller made reply m)) in
+      (g, step_holds s apart f now all caller made reply m g)
+  next_act (ends caller reply) may = let g = act_follows s apart w now all.agree (ends caller reply) may in (g, over_holds caller reply g)
+  next_act (stops caller) may = let g = act_follows s apart w now all.agree (stops caller) may in (g, stop_holds caller g)
+
+-- a history that follows many acts
+pub record NumberedFollow (s : Setup) (f : NumberedState) (now : Now) (acts : List Act) : Type 0 where
+  pub records : List Record
+  pub of_acts : AreRecordsOf acts records
+  pub legal : Legal s now records
+  pub holds : Holds s (numbered_after_all s f acts) (replayed s now records)
+
+numbered_follow : (s : Setup) (apart : LieApart (home s) s.outside) (acts : List Act) (f : NumberedState) (now : Now) → Holds s f now → EachNext s f acts → NumberedFollow s f now acts
+numbered_follow s apart [] f now all each = record { records = []; of_acts = refl; legal = tt; holds = all }
+numbered_follow s apart (act ∷ acts) f now all (may, later) =
+    let g = next_act s apart f now all act may in
+    let rest = numbered_follow s apart acts (numbered_after s f act) (now_after s now g.0.r) g.1 later in
+    record {
+      records = g.0.r ∷ rest.records;
+      of_acts = (g.0.r, rest.records, refl, g.0.of_act, rest.of_acts);
+      legal = (g.0.may, rest.legal);
+      holds = rest.holds;
+    }
+
+pub first_holds : (s : Setup) (m : Machine) → LieApart (home s) s.outside → with_files bare s.outside ≡ Ok m.tree → Holds s (numbered_at m) (initial s)
+first_holds s m apart is = record {
+  agree = first_agree s m apart is;
+  numbered = first_numbered s;
+  few = (let none : 0 ≤ 2 ^ 64 = omega arith in none);
+  handles = λ k. no_state (λ names. false) m None;
+  paths = λ k. no_paths (home s);
+}
+
+pub folders_make_histories : FoldersMakeHistories
+folders_make_histories s m acts apart is each =
+    let g = numbered_follow s apart acts (numbered_at m) (initial s) (first_holds s m apart is) each in
+    record {
+      records = g.records;
+      of_acts = g.of_acts;
+      headline = headline (history_of s g.records) (legal_of s m g.records apart is g.legal);
+      mirrors = g.holds.agree.mirrors;
+    }

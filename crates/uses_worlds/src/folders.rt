@@ -1,0 +1,12 @@
+//! What many callers over real folders see, in a user's words, as a model of the system has it. Nothing is done.
+ghost use Rattle.uses_worlds.specs.Machines.{FoldersAreSafe};
+
+use cacache::laws::system_history_laws;
+
+/// Callers over real folders of one machine store and look. They did what callers of a world might have done: bytes that
+/// are read by a key meet the integrity of an entry of that key, and a put that was cut short is safe.
+pub fn folders_are_safe()
+    ensures { FoldersAreSafe }
+{
+    system_history_laws();
+}
