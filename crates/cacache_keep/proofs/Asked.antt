@@ -8,7 +8,7 @@ use Rattle.cacache_calls.specs.{declared.{command.Command.{Command}, reply.Reply
 use Rattle.cacache_calls.specs.declared.command.Command.TheVariants as commands
 use Rattle.cacache_calls.specs.declared.reply.Reply.TheVariants as replies
 use Rattle.cacache_jobs.specs.{Environment.{KeepsRest}, Sites.{site_of}}
-use Rattle.cacache_keep.specs.{Calls.{AsksEach, HasNoIndex, MadeCalls, question_of}, Checking.{ReadsIndex}, Walking.{MeetsIndex}}
+use Rattle.cacache_keep.specs.Calls.{AreEntries, AsksEach, MadeCalls, question_of}
 
 -- ---- the environment
 
@@ -70,23 +70,13 @@ absent_asked site entries dangling f old mid new r ran =
 
 -- ---- the index
 
-plain_entries : (entries : List Found) → map plain_item (map Ok entries) ≡ map Ok entries
+pub plain_entries : (entries : List Found) → map plain_item (map Ok entries) ≡ map Ok entries
 plain_entries [] = refl
 plain_entries (f ∷ fs) = ap (λ (l : List Item). Ok f ∷ l) (plain_entries fs)
 
--- a listing whose items are entries
-pub index_read : (site : Site) (items : List Item) (entries : List Found) (odd : List (List ℕ)) (old new : Option (List LogItem)) → MeetsIndex site.cache (map plain_item items) odd old new → items ≡ map Ok entries → ReadsIndex site entries odd old new
-index_read site items entries odd old new met is =
-    let plain : map plain_item items ≡ map Ok entries = ap (map plain_item) is ∙ plain_entries entries in
-    let m = subst (λ (l : List Item). MeetsIndex site.cache l odd old new) plain met in
-    ((map Ok entries, inl refl, m.0), m.1)
-
--- a listing that finds no folder of the index
-pub no_index_read : (site : Site) (items : List Item) (entries : List Found) (odd : List (List ℕ)) (old new : Option (List LogItem)) → MeetsIndex site.cache (map plain_item items) odd old new → HasNoIndex items → entries ≡ [] → ReadsIndex site entries odd old new
-no_index_read site items entries odd old new met (message, is) none =
-    let missing : List Item = Err (IoError NotFound []) ∷ [] in
-    let m = subst (λ (l : List Item). MeetsIndex site.cache l odd old new) (ap (map plain_item) is) met in
-    ((missing, inr (([], refl), none), m.0), m.1)
+pub plain_are : (items : List Item) (entries : List Found) → AreEntries items entries → AreEntries (map plain_item items) entries
+plain_are items entries (inl is) = inl (ap (map plain_item) is ∙ plain_entries entries)
+plain_are items entries (inr ((message, is), none)) = inr (([], ap (map plain_item) is), none)
 
 -- what holds of a value if something else does
 pub value_so : {X E : Type 0} {P Q : X → Type 0} (r : Result X E) → ((x : X) → P x → Q x) → IfOk r P → IfOk r Q

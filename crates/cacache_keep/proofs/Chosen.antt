@@ -8,13 +8,11 @@ use Rattle.cacache_disk.specs.{Tree.{Tree}, memory.Replay.{tree_of, IsLog}}
 use Rattle.cacache_entry.specs.Latest.{Found}
 use Rattle.cacache_calls.specs.{declared.{command.Command.{Command}, reply.Reply.{Reply}}, State.{Site}, Runs.{Moves, Gains}, StepPaths.{content_path}, Licence.{looking_on}}
 use Rattle.cacache_calls.proofs.Within.{calls_keep_to}
-use Rattle.cacache_calls.specs.declared.command.Command.TheVariants as commands
-use Rattle.cacache_calls.specs.declared.reply.Reply.TheVariants as replies
 use Rattle.cacache_laws.specs.{Sequence.{tree_on, AreAnswered}, trees.{Contents.{HoldsJust}, Index.{IndexLists}}}
-use Rattle.cacache_laws.proofs.{Calls.InParts.{logs_lead}, Readings.{Looks.{moves_keep}, ReadsStay.{sizing_keeps}}, trees.{Agreed.{holdings_agree, indexes_agree}, Held.{holds_just}, Logged.{answered_rest, answered_split, gains_join, log_rooted, looked, tree_rest, walked}}}
+use Rattle.cacache_laws.proofs.{Calls.InParts.{logs_lead}, Readings.{Looks.{moves_keep}, ReadsStay.{sizing_keeps}}, trees.{Agreed.{holdings_agree, indexes_agree}, Held.{holds_just}, Logged.{answered_rest, answered_split, gains_join, log_rooted, tree_rest, walked}}}
 use Rattle.cacache_walks.specs.{Listing.{content_area_in}, Reading.{top_folder}}
 use Rattle.cacache_keep.specs.{Calls.{MadeCalls, has_entry, removal}, Keeping.{Chooses}, Kept.{PlansForetell, PlansLeave}, Planning.{Sized, TellsSizes}}
-use Rattle.cacache_keep.proofs.{Judged.{index_lists}, Parts.{AllLook, calls_gain, gains_none}}
+use Rattle.cacache_keep.proofs.{Parts.{AllLook, calls_gain, gains_none}, StandingIndexes.{index_looked}}
 
 -- ---- a choice
 
@@ -36,10 +34,10 @@ module _ (site : Site) (home : Names) (kept : ℕ) (dropped : List (List Hash)) 
       let lead = logs_lead old new (list.0 ++ (l.0 ++ more)) gains logged in
       let walk = walked t list.0 (top_folder (content_area_in site.cache) ∷ []) list.2 (answered_split t list.0 (l.0 ++ more) lead.0).0 in
       let after_walk = answered_rest t list.0 (l.0 ++ more) walk.1 lead.0 in
-      let index = looked site t commands.Ls (replies.Listed c.listing.0) l.0 tt l.1 (answered_split t l.0 more after_walk).0 in
+      let index = index_looked site home t c.listing.0 c.listing.1 c.entries l.0 is (log_rooted old) l.1 (answered_split t l.0 more after_walk).0 in
       record {
         holds = holds_just site.cache home t list.0 is (log_rooted old) list.2 walk.0 c.addresses c.strange list.3 c.order;
-        index = index_lists site t c.listing.0 c.entries c.listing.1 index.0;
+        index = index.0;
         answered = answered_rest t l.0 more index.1 after_walk;
         leads = lead.1 ∙ tree_rest t list.0 (l.0 ++ more) walk.1 ∙ tree_rest t l.0 more index.1;
       }

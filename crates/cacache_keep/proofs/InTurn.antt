@@ -67,11 +67,11 @@ damaged_read cache addresses good_bytes damaged damaged_bytes more i size old mi
 -- ---- an error that ends it
 
 -- what is still to come after the first so many
-pub split_at : (addresses seen : List (List Hash)) (i : List Hash) (k : ℕ) → k < length addresses → seen ≡ take k addresses → i ≡ get_or addresses k i → addresses ≡ seen ++ i ∷ drop (k + 1) addresses
-split_at addresses seen i k below before is =
+pub split_at : {X : Type 0} (addresses seen : List X) (i : X) (k : ℕ) → k < length addresses → seen ≡ take k addresses → i ≡ get_or addresses k i → addresses ≡ seen ++ i ∷ drop (k + 1) addresses
+split_at {X} addresses seen i k below before is =
     sym (take-append-drop k addresses)
-    ∙ ap (λ (l : List (List Hash)). take k addresses ++ l) (drop_more addresses k i below ∙ ap (λ (x : List Hash). x ∷ drop (k + 1) addresses) (sym is))
-    ∙ ap (λ (l : List (List Hash)). l ++ i ∷ drop (k + 1) addresses) (sym before)
+    ∙ ap (λ (l : List X). take k addresses ++ l) (drop_more addresses k i below ∙ ap (λ (x : X). x ∷ drop (k + 1) addresses) (sym is))
+    ∙ ap (λ (l : List X). l ++ i ∷ drop (k + 1) addresses) (sym before)
 
 -- the next one couldn't be read
 pub next_stops : (cache : List ℕ) (addresses seen damaged : List (List Hash)) (good_bytes damaged_bytes : ℕ) (i : List Hash) (rest : List (List Hash)) (e : Error) (old mid new : Option (List LogItem)) → addresses ≡ seen ++ i ∷ rest → WeighsOthers cache seen good_bytes damaged damaged_bytes old mid → StopsContent cache i e mid new

@@ -257,16 +257,19 @@ clean_one : (item given : Item) → is_failure given ≡ false → Member item (
 clean_one item given e (inl same) = ap is_failure same ∙ e
 clean_one item given e (inr m) = absurd m
 
+-- its items have no error but that its folder is missing
+pub index_clean : (items : List Item) (entries : List Found) → AreEntries items entries → (item : Item) → Member item items → is_failure item ≡ false
+index_clean items entries (inl e) item m = clean_ok entries item (subst (Member item) e m)
+index_clean items entries (inr e) item m = clean_one item (Err (errors.IoError NotFound e.0.0)) refl (subst (Member item) e.0.1 m)
+
 pub index_lists : (site : Site) (t : Tree) (items : List Item) (entries : List Found) → AreEntries items entries → AnswersOn site t commands.Ls (replies.Listed items) → IndexLists site t entries
-index_lists site t items entries (inl e) on = record {
+index_lists site t items entries are on = record {
   items = items;
   answers = on;
-  clean = λ item c. clean_ok entries item (subst (Member item) e (member_contains item items c));
-  those = entries_back entries ∙ ap entries_in (sym e);
+  clean = λ item c. index_clean items entries are item (member_contains item items c);
+  those = entries_told items entries are;
 }
-index_lists site t items entries (inr e) on = record {
-  items = items;
-  answers = on;
-  clean = λ item c. clean_one item (Err (errors.IoError NotFound e.0.0)) refl (subst (Member item) e.0.1 (member_contains item items c));
-  those = e.1 ∙ ap entries_in (sym e.0.1);
-}
+  where
+    entries_told : (items : List Item) (entries : List Found) → AreEntries items entries → entries ≡ entries_in items
+    entries_told items entries (inl e) = entries_back entries ∙ ap entries_in (sym e)
+    entries_told items entries (inr e) = e.1 ∙ ap entries_in (sym e.0.1)

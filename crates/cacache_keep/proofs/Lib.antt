@@ -27,7 +27,11 @@ mod Tidying
 mod Settled
 mod TreeRuns
 mod FoundBuckets
+mod Listings
 mod IndexWalks
+mod LinkedFolders
+mod ReadIndexes
+mod StandingIndexes
 mod ListedLogs
 mod HexNames
 mod MovedFiles

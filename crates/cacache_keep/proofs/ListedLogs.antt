@@ -4,12 +4,10 @@ use Rattle.cacache_core.specs.{declared.integrity.digest.Hash.{Hash}, PathNames.
 use Rattle.cacache_store.specs.declared.store.log.LogItem.{LogItem, TheVariants.{Made}}
 use Rattle.cacache_disk.specs.memory.Replay.{tree_of, IsLog}
 use Rattle.cacache_entry.specs.Latest.{Found}
-use Rattle.cacache_calls.specs.declared.command.Command.TheVariants as commands
-use Rattle.cacache_calls.specs.declared.reply.Reply.TheVariants as replies
 use Rattle.cacache_calls.specs.{Runs.{Gains, Moves}, State.{Site}}
-use Rattle.cacache_laws.{proofs.{Calls.InParts.{logs_lead}, Readings.OpenReaders.{log_front}, trees.Logged.{gains_join, log_rooted, looked}}, specs.trees.Index.{IndexLists}}
+use Rattle.cacache_laws.{proofs.{Calls.InParts.{logs_lead}, Readings.OpenReaders.{log_front}, trees.Logged.{gains_join, log_rooted}}, specs.trees.Index.{IndexLists}}
 use Rattle.cacache_keep.specs.{Calls.{question_of, removal}, Kept.{LeavesTree}, Repairing.{Fate, RepairsCache, RepairsFrom, calls_for}}
-use Rattle.cacache_keep.proofs.{Judged.{index_lists, reads_judged}, Parts.{calls_gain}, Shown.{burial_of}}
+use Rattle.cacache_keep.proofs.{Judged.{reads_judged}, Parts.{calls_gain}, Shown.{burial_of}, StandingIndexes.{index_looked}}
 
 -- the index has these entries, and the repair goes on from a log that leads to the same tree
 pub record OnListed (site : Site) (damaged : List (List Hash)) (buried : List Found) (old new : List LogItem) : Type 0 where
@@ -49,12 +47,12 @@ repaired_on site home damaged buried old new is logged (choice, (entries, odd, l
     let more = repair_gains site home entries old damaged buried (Some log) (Some new) is so in
     let is_log = log_front log new (map (λ m. Made m.0 m.1) more.0) (front_is log new more.0 more.1) logged in
     let lead = logs_lead old log moves refl is_log in
-    let index = looked site (tree_of old) commands.Ls (replies.Listed l.0) moves tt l.2.1 lead.0 in
+    let index = index_looked site home (tree_of old) l.0 l.1 entries moves is (log_rooted old) l.2.1 lead.0 in
     let stays : tree_of log ≡ tree_of old = lead.1 ∙ index.1 in
     record {
       entries = entries;
       log = log;
       stays = stays;
-      index = subst (λ t. IndexLists site t entries) (sym stays) (index_lists site (tree_of old) l.0 entries l.1 index.0);
+      index = subst (λ t. IndexLists site t entries) (sym stays) index.0;
       so = so;
     }

@@ -4,14 +4,12 @@ use Rattle.cacache_core.specs.{declared.integrity.digest.Hash.{Hash}, PathNames.
 use Rattle.cacache_store.specs.declared.store.log.LogItem.{LogItem}
 use Rattle.cacache_disk.specs.{Tree.{Tree}, memory.Replay.{tree_of, IsLog}}
 use Rattle.cacache_entry.specs.Latest.{Found}
-use Rattle.cacache_calls.specs.declared.command.Command.TheVariants as commands
-use Rattle.cacache_calls.specs.declared.reply.Reply.TheVariants as replies
 use Rattle.cacache_calls.specs.State.{Site}
-use Rattle.cacache_laws.proofs.{Calls.InParts.{logs_lead}, trees.{Members.{contains_member}, Held.{holds_just}, Logged.{answered_rest, answered_split, gains_join, log_rooted, looked, tree_rest, walked}}}
+use Rattle.cacache_laws.proofs.{Calls.InParts.{logs_lead}, trees.{Members.{contains_member}, Held.{holds_just}, Logged.{answered_rest, answered_split, gains_join, log_rooted, tree_rest, walked}}}
 use Rattle.cacache_laws.specs.trees.{Contents.{HoldsJust}, Verifying.{Judges, has_content}}
 use Rattle.cacache_walks.specs.{Listing.{content_area_in}, Reading.{top_folder}}
 use Rattle.cacache_keep.specs.{Calls.{question_of}, Keeping.{VerifiesCache}, Kept.{LeavesTree, ListsHold, VerdictsJudge}, Reading.{Judged}}
-use Rattle.cacache_keep.proofs.{Judged.{asks_told, good_counted, index_lists, others_named, reads_judged}, Parts.{AllLook, made_looks}}
+use Rattle.cacache_keep.proofs.{Judged.{asks_told, good_counted, others_named, reads_judged}, Parts.{AllLook, made_looks}, StandingIndexes.{index_looked}}
 
 pub lists_hold : ListsHold
 lists_hold cache home addresses strange old new is logged lists order =
@@ -49,7 +47,7 @@ module _ (site : Site) (home : Names) (good : ℕ) (damaged : List (List Hash)) 
       (λ h m. let k = contains_member h hashes m in (holds.formed h k, (holds.held h (holds.formed h k)).0 k))
       (answered_split t r.moves (l.0 ++ a.moves) after_walk).0 in
       let after_reads = answered_rest t r.moves (l.0 ++ a.moves) reads.1 after_walk in
-      let index = looked site t commands.Ls (replies.Listed v.listing.0) l.0 tt l.1 (answered_split t l.0 a.moves after_reads).0 in
+      let index = index_looked site home t v.listing.0 v.listing.1 v.entries l.0 is (log_rooted old) l.1 (answered_split t l.0 a.moves after_reads).0 in
       let asks = a.tells (answered_rest t l.0 a.moves index.1 after_reads) in (
         record {
           hashes = hashes;
@@ -57,7 +55,7 @@ module _ (site : Site) (home : Names) (good : ℕ) (damaged : List (List Hash)) 
           counted = v.reading.whole ∙ ap (λ (l : List Judged). length (filter (λ (x : Judged). x.1) l)) reads.0 ∙ good_counted site home t is (log_rooted old) hashes;
           broken = v.reading.broken ∙ ap (λ (l : List Judged). map (λ (x : Judged). x.0) (filter (λ (x : Judged). not x.1) l)) reads.0 ∙ others_named site home t is (log_rooted old) hashes;
           entries = v.entries;
-          index = index_lists site t v.listing.0 v.entries v.listing.1 index.0;
+          index = index.0;
           absent = v.asking.absent ∙ asks_told site t v.asking.asks asks.0 ∙ ap (λ l. filter (λ f. not (has_content site.cache t f)) l) v.asking.each;
         },
         lead.1 ∙ tree_rest t c.0 behind walk.1 ∙ tree_rest t r.moves (l.0 ++ a.moves) reads.1 ∙ tree_rest t l.0 a.moves index.1 ∙ asks.1,

@@ -1,4 +1,5 @@
 pub mod Calls
+pub mod Linked
 pub mod Keeping
 pub mod Kept
 pub mod Behind

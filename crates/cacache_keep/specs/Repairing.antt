@@ -8,7 +8,7 @@ use Rattle.cacache_calls.specs.declared.command.Command.TheVariants as commands
 use Rattle.cacache_calls.specs.declared.reply.Reply.TheVariants as replies
 use Rattle.cacache_sync.specs.Lookups.{delete_of}
 use Rattle.cacache_walks.specs.Listing.{IsByHash, ListsContents, StopsListing}
-use Rattle.cacache_keep.specs.{declared.checking.OddLines.{OddLines}, Checking.{Allows, ReadsIndex, RefusesOdd}, Calls.{AsksEach, MadeCalls, SaysWhy, StopsReading, StopsRemoving, removal}, Missing.{Doubts, Look, ShowsContents, StopsShowing, is_missing}, Reading.{ReadsEach, StopsEach}}
+use Rattle.cacache_keep.specs.{declared.checking.OddLines.{OddLines}, Checking.{Allows, ReadsIndex, RefusesOdd}, Calls.{AsksEach, MadeCalls, SaysWhy, StopsQuestions, StopsIndex, StopsRemoving, removal}, Missing.{Doubts, Look, ShowsContents, StopsShowing, is_missing}, Reading.{ReadsEach, StopsEach}}
 
 -- ---- a key that may lead to no content
 
@@ -228,7 +228,7 @@ abbrev pub StopsRepairingFrom :
 StopsRepairingFrom site entries e old new =
     StopsDropping site e old new
     ⊎ ((clean : Option (List LogItem)) × DropsDamaged site old clean
-    × (StopsReading site e clean new
+    × (StopsQuestions site e clean new
     ⊎ ((dangling : List Found) × (asked : Option (List LogItem))
     × AsksEach site entries dangling clean asked
     × StopsBuryingAll site dangling e asked new)))
@@ -244,7 +244,7 @@ StopsMending choice site entries odd e old new =
 abbrev pub StopsRepairing :
     OddLines → Site → Error → Option (List LogItem) → Option (List LogItem) → Type 0
 StopsRepairing choice site e old new =
-    StopsReading site e old new
+    StopsIndex site e old new
     ⊎ ((entries : List Found) × (odd : List (List ℕ)) × (listed : Option (List LogItem))
     × ReadsIndex site entries odd old listed
     × StopsMending choice site entries odd e listed new)

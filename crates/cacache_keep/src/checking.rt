@@ -2,10 +2,10 @@
 ghost use Rattle.std.specs.Prelude.{IfErr, OnOk};
 ghost use Rattle.cacache_keep.specs.Checking.{Allows, RefusesOdd};
 
+use cacache_calls::Refusal;
 use cacache_core::errors::{Fault, Result};
 use cacache_core::text::Text;
 use cacache_jobs::refused;
-use cacache_calls::Refusal;
 use std::alloc::{AllocError, Global};
 
 /// What a collection or a repair does about odd lines in a cache's index. A line is odd if it has the right digest of its

@@ -52,7 +52,8 @@ pub fn collect_with<S: Store, C: Clock, N: Names>(
 /// target stays. Whatever else lies among the contents stays.
 ///
 /// A folder of the index that isn't there has no items, so every content is removed then; a link in its place that
-/// leads to nothing is an `IoError`. Collect a cache while nobody writes to it: a content is stored before its entry.
+/// leads to nothing is an `IoError`. A link in the index to a folder is followed, as `verify` does, so the contents of the keys
+/// below it stay. Collect a cache while nobody writes to it: a content is stored before its entry.
 /// It asks no content for its size: `plan`, called before it, gives the bytes of each that it will remove.
 ///
 /// A line of the index with a right digest that this crate can't read is odd: another reader may read it, and the content

@@ -4,9 +4,9 @@ ghost use Rattle.cacache_core.specs.{declared.integrity.digest.Hash.{Hash}, Inte
 ghost use Rattle.cacache_walks.specs.Listing.{hash_cmp};
 ghost use Rattle.cacache_keep.specs.Calls.{AreOthers, AreUnused};
 
+use cacache_calls::Found;
 use cacache_core::digest::Hash;
 use cacache_core::integrity::Integrity;
-use cacache_calls::Found;
 use std::alloc::{AllocError, Global};
 use std::cmp::Ordering;
 

@@ -5,6 +5,7 @@ ghost use Rattle.cacache_jobs.specs.Environment.{KeepsRest};
 ghost use Rattle.cacache_keep.specs.Missing.{Doubts, ShowsContents, StopsShowing, is_below as is_below_of, is_hidden as is_hidden_of, is_missing};
 
 use crate::live::is_live;
+use cacache_calls::Refusal;
 use cacache_core::digest::Hash;
 use cacache_core::errors::{Fault, Result};
 use cacache_core::integrity::Integrity;
@@ -12,7 +13,6 @@ use cacache_core::text::Text;
 use cacache_jobs::{content_path, refused};
 use cacache_store::env::{Clock, Env, Names};
 use cacache_store::store::Store;
-use cacache_calls::Refusal;
 use cacache_walks::{Contents, list};
 use std::alloc::{AllocError, Global};
 use std::marker::Model;

@@ -5,13 +5,13 @@ ghost use Rattle.cacache_keep.specs.{Planning.{HidesSize, StopsPlanning, StopsTe
 
 use crate::choosing::{Chosen, choose};
 use crate::reading::says_gone;
+use cacache_calls::answers::length_of;
 use cacache_core::errors::Result;
 use cacache_core::integrity::Integrity;
 use cacache_core::text::Text;
 use cacache_jobs::{content_path, refused};
 use cacache_store::env::{Clock, Env, Names};
 use cacache_store::store::{Step, Store};
-use cacache_calls::answers::length_of;
 use std::alloc::{AllocError, Global};
 
 /// A content that no entry has.
@@ -90,7 +90,8 @@ fn sizes_of<S: Store>(
 /// bucket has a line that this crate can't read and another reader may: the plan names these buckets.
 ///
 /// Errors are those of `content::read::list`, the first error among the items of the index, and an `IoError` if a
-/// content didn't give its size, such as a link to a folder. `OutOfMemory` may come at any time.
+/// content didn't give its size, such as a link to a folder. `OutOfMemory` may come at any time. A link in the index to a
+/// folder is followed, as `verify` does.
 pub fn plan<S: Store, C: Clock, N: Names>(env: &mut Env<S, C, N>, cache: &str) -> Result<Planned>
     ensures plans { IfOk result (λ p. PlansAs (site_of cache.now env.old.base 0) p
         (S.log env.old.store) (S.log env.new.store)) }

@@ -3,14 +3,14 @@ ghost use Rattle.std.specs.Prelude.{◌≡◌, ℕ, List, [], ◌++◌, IfOk, If
 ghost use Rattle.cacache_core.specs.{declared.{errors.Error.TheVariants.{OutOfMemory}, integrity.digest.Hash.{Hash}}, Meeting.{meets}, Pieces.{Compares}};
 ghost use Rattle.cacache_keep.specs.Reading.{JudgesBytes, SaysGood, StopsContent, StopsEach, StopsGiving, WeighsEach, WeighsOthers, finds_none};
 
+use cacache_calls::Refusal;
+use cacache_calls::answers::{Got, file_of, got_of};
 use cacache_core::errors::{Error, Fault, Result};
 use cacache_core::integrity::{Integrity, IntegrityChecker};
 use cacache_core::keeping::let_go;
 use cacache_core::text::Text;
 use cacache_jobs::{PIECE, content_path, refused};
 use cacache_store::store::{Step, Store};
-use cacache_calls::Refusal;
-use cacache_calls::answers::{Got, file_of, got_of};
 use std::alloc::{AllocError, Global};
 
 /// How many of the contents are good, the addresses of the others, and how many bytes both gave.

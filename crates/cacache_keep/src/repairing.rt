@@ -9,13 +9,13 @@ use crate::checking::{OddLines, check};
 use crate::index::{Index, read_index};
 use crate::reading::{Read, read_each};
 use crate::removing::remove_each;
+use cacache_calls::Found;
 use cacache_core::errors::Result;
 use cacache_core::integrity::Integrity;
 use cacache_core::keeping::let_go;
 use cacache_entry::Metadata;
 use cacache_store::env::{Clock, Env, Names};
 use cacache_store::store::Store;
-use cacache_calls::Found;
 use cacache_walks::{Contents, list};
 
 /// What a repair did.
@@ -94,7 +94,8 @@ pub fn repair_with<S: Store, C: Clock, N: Names>(
 ///
 /// Errors are the first among the items of the index, then that one, those of `verify` about contents, of a removal, of
 /// the second walk and of a tombstone, and the one about a content that may be there. Contents before the error are
-/// removed then, and keys before it have tombstones. `OutOfMemory` may come at any time.
+/// removed then, and keys before it have tombstones. `OutOfMemory` may come at any time. A link in the index to a folder
+/// is followed, as `verify` does. The tombstone of a key below it goes to the bucket that a lookup of the key reads.
 pub fn repair<S: Store, C: Clock, N: Names>(env: &mut Env<S, C, N>, cache: &str) -> Result<Repaired>
     ensures repairs { IfOk result (λ r. RepairsAs Refuse (site_of cache.now env.old.base 0) r
         (S.log env.old.store) (S.log env.new.store)) }

@@ -6,13 +6,13 @@ ghost use Rattle.cacache_store.specs.declared.store.step.Step.TheVariants as ste
 ghost use Rattle.cacache_calls.specs.{SingleSteps.{Does, FailsAt}, StepPaths.{temp_folder as temp_folder_of, temp_path as temp_path_of}};
 ghost use Rattle.cacache_keep.specs.Rewriting.{MakesTemp, Rewrites, StopsMaking, StopsRewriting, StopsSecuring, StopsSyncing, StopsSyncingBucket, StopsWriting, SyncsBucket, SyncsFolder, SyncsTemp, Took, folder_of as folder_of_path};
 
+use cacache_calls::Refusal;
+use cacache_calls::answers::{Written, done_of, synced_of, written_of};
 use cacache_core::bytes::Bytes;
 use cacache_core::errors::{Fault, Result};
 use cacache_core::text::Text;
 use cacache_jobs::{made_temp, messages, refused, temp_folder, temp_path};
 use cacache_store::store::{Step, Store};
-use cacache_calls::Refusal;
-use cacache_calls::answers::{Written, done_of, synced_of, written_of};
 use std::alloc::{AllocError, Global};
 use std::path::Path;
 

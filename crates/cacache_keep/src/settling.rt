@@ -8,13 +8,13 @@ ghost use Rattle.cacache_keep.specs.{Compacting.{Changes, CompactsAt, Settles, S
 
 use crate::lines::compact_text;
 use crate::rewriting::{rewrite, sync_bucket};
+use cacache_calls::answers::bytes_of;
 use cacache_core::bytes::Bytes;
 use cacache_core::errors::Result;
 use cacache_core::text::Text;
 use cacache_jobs::refused;
 use cacache_store::env::{Clock, Env, Names};
 use cacache_store::store::{Step, Store};
-use cacache_calls::answers::bytes_of;
 use std::alloc::{AllocError, Global};
 
 /// The bucket wasn't read.

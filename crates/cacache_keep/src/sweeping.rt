@@ -4,13 +4,13 @@ ghost use Rattle.cacache_laws.specs.trees.Temporary.{area_of, cache_folder as ca
 ghost use Rattle.cacache_keep.specs.{Sweeping.{FindsFiles, ListsFolder, RemovesFile, RemovesFiles, StopsFinding, StopsFolder, StopsRemoval, StopsSized, StopsSweeping, others_in, swept_folder}, Told.{SweepsAs}};
 
 use crate::reading::says_gone;
+use cacache_calls::answers::{done_of, length_of, names_of};
 use cacache_core::errors::Result;
 use cacache_core::paths::{TEMP_AREA, join};
 use cacache_core::text::Text;
 use cacache_jobs::refused;
 use cacache_store::env::{Clock, Env, Names};
 use cacache_store::store::{Kind, Name, Step, Store};
-use cacache_calls::answers::{done_of, length_of, names_of};
 use std::alloc::{AllocError, Global};
 
 /// What a sweep did.

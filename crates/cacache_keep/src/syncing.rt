@@ -5,12 +5,12 @@ ghost use Rattle.cacache_store.specs.declared.store.step.Step.TheVariants as ste
 ghost use Rattle.cacache_calls.specs.SingleSteps.{Does, FailsAt};
 ghost use Rattle.cacache_keep.specs.Syncing.{StopsAbove, StopsInTurn, SyncsAbove, SyncsInTurn, folders_above as folders_above_of};
 
+use cacache_calls::answers::done_of;
 use cacache_core::errors::Result;
 use cacache_core::paths::{INDEX_AREA, join};
 use cacache_core::text::Text;
 use cacache_jobs::refused;
 use cacache_store::store::{Step, Store};
-use cacache_calls::answers::done_of;
 use std::alloc::{AllocError, Global};
 
 /// The folder wasn't synced.

@@ -5,7 +5,7 @@ use Rattle.cacache_calls.specs.declared.command.Command.TheVariants as commands
 use Rattle.cacache_calls.specs.declared.reply.Reply.TheVariants as replies
 use Rattle.cacache_calls.specs.Runs.{without_message}
 use Rattle.cacache_jobs.specs.Sites.{site_of}
-use Rattle.cacache_keep.specs.Calls.{AsksEach, StopsReading}
+use Rattle.cacache_keep.specs.Calls.{AsksEach, StopsQuestions}
 use Rattle.cacache_keep.proofs.{Stopped.{asks_stop, error_as, lost_here, stops_at}, Asked.{absent_asked, keeps_on, none_asked, ran_at, there_asked}}
 use Rattle.cacache_keep.proofs.asking.dangling_of.Goals as goal
 
@@ -52,7 +52,7 @@ returns-in_err-exists_sync-clause-stops g c =
     let found = c.in-Some.found in
     let e = c.in_err-exists_sync.field-0.0 in
     let ran = ran_at c.args.cache.now c.args.env.now.base c.loop-found.env.base (commands.Exists found.integrity) _ (replies.Refused (without_message e)) _ mid new i.0.2 (ap (λ (f : Found). commands.Exists f.integrity) c.as_metadata.ensures) refl c.in_err-exists_sync.ensures.ran.0.0 in
-    error_as (λ x. StopsReading site x old new) c.from_residual.result e c.from_residual.ensures.1 (asks_stop site c.loop-found.yielded (map found_view c.loop-found.dangling.items) e old mid new i.1 (stops_at site (commands.Exists found.integrity) e mid new tt ran))
+    error_as (λ x. StopsQuestions site x old new) c.from_residual.result e c.from_residual.ensures.1 (asks_stop site c.loop-found.yielded (map found_view c.loop-found.dangling.items) e old mid new i.1 (stops_at site (commands.Exists found.integrity) e mid new tt ran))
 
 pub returns-in_err-push-clause-stops : goal.returns-in_err-push-clause-stops
 returns-in_err-push-clause-stops g c =
@@ -64,4 +64,4 @@ returns-in_err-push-clause-stops g c =
     let found = c.in-Some.found in
     let ran = ran_at c.args.cache.now c.args.env.now.base c.loop-found.env.base (commands.Exists found.integrity) _ (replies.Exists false) _ mid new i.0.2 (ap (λ (f : Found). commands.Exists f.integrity) c.as_metadata.ensures) (ap replies.Exists c.if-not-branch.true) c.in_ok-exists_sync.ensures.ran.0.0 in
     let more = absent_asked site c.loop-found.yielded (map found_view c.loop-found.dangling.items) found old mid new i.1 ran in
-    error_as (λ x. StopsReading site x old new) c.from_residual-in_err-push.result OutOfMemory c.from_residual-in_err-push.ensures.1 (asks_stop site _ _ OutOfMemory old new new more (lost_here site new))
+    error_as (λ x. StopsQuestions site x old new) c.from_residual-in_err-push.result OutOfMemory c.from_residual-in_err-push.ensures.1 (asks_stop site _ _ OutOfMemory old new new more (lost_here site new))

@@ -15,7 +15,7 @@ returns-in_err-entries-clause-stops g c =
     let log = g.S.Store.log in
     let e = c.in_err-entries.field-0.0 in
     error_as (λ x. StopsEarly site x (log c.args.env.now.store) (log c.read_index.new.store)) c.from_residual-in_err-entries.result e c.from_residual-in_err-entries.ensures.1
-    (inr (c.in_ok-addresses.field-0.addresses.items, map string_bytes c.in_ok-addresses.field-0.strange.items, log c.list.new.env.store, c.in_ok-addresses.ensures.lists, c.in_err-entries.ensures.stops base))
+    (inr (c.in_ok-addresses.field-0.addresses.items, map string_bytes c.in_ok-addresses.field-0.strange.items, log c.list.new.env.store, c.in_ok-addresses.ensures.lists, inl (c.in_err-entries.ensures.stops base)))
 
 pub returns-in_err-dropped-clause-stops : goal.returns-in_err-dropped-clause-stops
 returns-in_err-dropped-clause-stops g c =

@@ -1,7 +1,7 @@
 use Rattle.std.proofs.Common.{inl, inr, map, rules, string_bytes, ◌∙◌}
 use Rattle.cacache_entry.specs.View.{found_view}
 use Rattle.cacache_jobs.specs.Sites.{site_of}
-use Rattle.cacache_keep.specs.{Calls.{AsksEach, MadeCalls, StopsReading, StopsRemoving, removal}, Repairing.{StopsBuryingAll, StopsRepairingFrom}}
+use Rattle.cacache_keep.specs.{Calls.{AsksEach, MadeCalls, StopsQuestions, StopsRemoving, removal}, Repairing.{StopsBuryingAll, StopsRepairingFrom}}
 use Rattle.cacache_keep.proofs.Stopped.{at_base, drops, error_as}
 use Rattle.cacache_keep.proofs.repairing.repair_from.Goals as goal
 
@@ -44,7 +44,7 @@ returns-in_err-dangling-clause-stops g c =
     let behind = c.remove_each.ensures.rest.2 ∙ c.list.ensures.base in
     let removals : MadeCalls (site_of cache c.list.new.env.base 0) (map removal damaged) read clean = search (rules, c.in_ok-remove_each.ensures.removes) in
     let dropped = drops cache base c.list.new.env.base _ damaged _ _ _ _ read clean c.list.ensures.base c.in_ok-addresses.ensures.lists c.in_ok-damaged.ensures.reads.0 removals in
-    let stop = at_base (λ s. StopsReading s e clean new) cache base c.remove_each.new.env.base behind c.in_err-dangling.ensures.stops in
+    let stop = at_base (λ s. StopsQuestions s e clean new) cache base c.remove_each.new.env.base behind c.in_err-dangling.ensures.stops in
     error_as (λ x. StopsRepairingFrom (site_of cache base 0) c.args.entries.items x (log c.args.env.now.store) new) c.from_residual-in_err-dangling.result e c.from_residual-in_err-dangling.ensures.1
     (inr (clean, dropped, inl stop))
 

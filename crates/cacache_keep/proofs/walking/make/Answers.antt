@@ -1,4 +1,3 @@
-use Rattle.std.proofs.Common.{List, ℕ}
 use Rattle.cacache_core.specs.declared.errors.Error.TheVariants.{OutOfMemory}
 use Rattle.cacache_store.specs.Plain.{plain_answer, plain_step}
 use Rattle.cacache_keep.{specs.Walking.{VisitStops}, proofs.{IndexWalks.{lost_before, resumed_goes, resumed_stops, stops_after}, Stopped.{error_as}}}
@@ -7,7 +6,7 @@ use Rattle.cacache_keep.proofs.walking.make.Goals as goal
 pub returns-in_err-step-clause-stops : goal.returns-in_err-step-clause-stops
 returns-in_err-step-clause-stops g c =
     let log = g.S.Store.log c.args.store.now in
-    error_as (λ x. VisitStops c.args.visit c.args.walk.now c.args.odd.now.items x log log) c.from_residual.result OutOfMemory c.from_residual.ensures.1 (λ cache old i. lost_before i)
+    error_as (λ x. VisitStops c.args.visit c.args.walk.now c.args.odd.now.items c.args.linked.now.items x log log) c.from_residual.result OutOfMemory c.from_residual.ensures.1 (λ top old i. lost_before i)
 
 pub returns-in_err-note-clause-stops : goal.returns-in_err-note-clause-stops
 returns-in_err-note-clause-stops g c =
@@ -16,20 +15,33 @@ returns-in_err-note-clause-stops g c =
     let mid = g.S.Store.log c.args.store.now in
     let new = g.S.Store.log c.step-answer.new.self in
     let odd = c.args.odd.now.items in
+    let linked = c.args.linked.now.items in
     let e = c.in_err-note.field-0.0 in
-    error_as (λ x. VisitStops c.args.visit c.args.walk.now odd x mid new) c.from_residual-in_err-note.result e c.from_residual-in_err-note.ensures.1
-    (stops_after mid new c.args.visit c.args.walk.now c.args.walk.now odd odd (plain_step file temp c.in_ok-step.step) (plain_answer file temp c.step-answer.result) c.in_ok-step.ensures c.step-answer.ensures.fits c.step-answer.ensures.logged e c.in_err-note.ensures.memory)
+    error_as (λ x. VisitStops c.args.visit c.args.walk.now odd linked x mid new) c.from_residual-in_err-note.result e c.from_residual-in_err-note.ensures.1
+    (stops_after mid new c.args.visit c.args.walk.now c.args.walk.now odd linked odd linked (plain_step file temp c.in_ok-step.step) (plain_answer file temp c.step-answer.result) c.in_ok-step.ensures c.step-answer.ensures.fits c.step-answer.ensures.logged e c.in_err-note.ensures.memory)
+
+pub returns-in_err-answer-clause-stops : goal.returns-in_err-answer-clause-stops
+returns-in_err-answer-clause-stops g c =
+    let file = g.S.File.FileHandle.seen in
+    let temp = g.S.Temp.TempHandle.seen in
+    let mid = g.S.Store.log c.args.store.now in
+    let new = g.S.Store.log c.step-answer.new.self in
+    let odd = c.args.odd.now.items in
+    let linked = c.args.linked.now.items in
+    let e = c.in_err-answer.field-0.0 in
+    error_as (λ x. VisitStops c.args.visit c.args.walk.now odd linked x mid new) c.from_residual-in_err-answer.result e c.from_residual-in_err-answer.ensures.1
+    (stops_after mid new c.args.visit c.args.walk.now c.args.walk.now odd linked odd linked (plain_step file temp c.in_ok-step.step) (plain_answer file temp c.step-answer.result) c.in_ok-step.ensures c.step-answer.ensures.fits c.step-answer.ensures.logged e c.in_err-answer.ensures.memory)
 
 pub returns-clause-goes : goal.returns-clause-goes
 returns-clause-goes g c =
     let file = g.S.File.FileHandle.seen in
     let temp = g.S.Temp.TempHandle.seen in
-    resumed_goes (g.S.Store.log c.args.store.now) (g.S.Store.log c.step-answer.new.self) c.args.visit c.args.walk.now c.resume.new.self c.args.odd.now.items c.note.new.odd.items (plain_step file temp c.in_ok-step.step) (plain_answer file temp c.step-answer.result) c.in_ok-step.ensures c.step-answer.ensures.fits c.step-answer.ensures.logged
-    c.resume.result c.resume.ensures c.in_ok-note.ensures.notes
+    resumed_goes (g.S.Store.log c.args.store.now) (g.S.Store.log c.step-answer.new.self) c.args.visit c.args.walk.now c.resume.new.self c.args.odd.now.items c.args.linked.now.items c.note.new.odd.items c.pass.new.linked.items (plain_step file temp c.in_ok-step.step) (plain_answer file temp c.step-answer.result) c.in_ok-step.ensures c.step-answer.ensures.fits c.step-answer.ensures.logged
+    (plain_answer file temp c.in_ok-answer.answer) c.in_ok-answer.ensures.passes c.resume.result c.resume.ensures c.in_ok-note.ensures.notes c.in_ok-answer.ensures.notes
 
 pub returns-clause-stops : goal.returns-clause-stops
 returns-clause-stops g c =
     let file = g.S.File.FileHandle.seen in
     let temp = g.S.Temp.TempHandle.seen in
-    resumed_stops (g.S.Store.log c.args.store.now) (g.S.Store.log c.step-answer.new.self) c.args.visit c.args.walk.now c.resume.new.self c.args.odd.now.items c.note.new.odd.items (plain_step file temp c.in_ok-step.step) (plain_answer file temp c.step-answer.result) c.in_ok-step.ensures c.step-answer.ensures.fits c.step-answer.ensures.logged
-    c.resume.result c.resume.ensures
+    resumed_stops (g.S.Store.log c.args.store.now) (g.S.Store.log c.step-answer.new.self) c.args.visit c.args.walk.now c.resume.new.self c.args.odd.now.items c.args.linked.now.items c.note.new.odd.items c.pass.new.linked.items (plain_step file temp c.in_ok-step.step) (plain_answer file temp c.step-answer.result) c.in_ok-step.ensures c.step-answer.ensures.fits c.step-answer.ensures.logged
+    (plain_answer file temp c.in_ok-answer.answer) c.in_ok-answer.ensures.passes c.resume.result c.resume.ensures

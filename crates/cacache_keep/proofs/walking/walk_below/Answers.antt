@@ -1,0 +1,41 @@
+use Rattle.std.proofs.Common.{◌≡◌, ◌<◌, None, Some, List, map, rules, subst, sym}
+use Rattle.cacache_calls.specs.Runs.{plain_item}
+use Rattle.cacache_walks.specs.Iterating.{steps_left}
+use Rattle.cacache_keep.{specs.Walking.{LosesIndex, MeetsIndex, WalksIndex}, proofs.{IndexWalks.{begins, ended}, Stopped.{error_as}}}
+use Rattle.cacache_keep.proofs.walking.walk_below.Goals as goal
+
+pub visits-init : goal.visits-init
+visits-init g c = begins c.args.top c.in_ok-walk.visit c.in_ok-walk.walk _ _ (g.S.Store.log c.args.store.now) c.new-odd.ensures.items c.new-linked.ensures.items c.in_ok-walk.ensures.stands
+
+pub visits-smaller : goal.visits-smaller
+visits-smaller g c =
+    let top = c.args.top in
+    let old = g.S.Store.log c.args.store.now in
+    let at = subst (λ n. WalksIndex top n c.visits.walk c.visits.odd.items c.visits.linked.items old (g.S.Store.log c.visits.store)) c.in-Some.is c.visits.invariant in
+    subst (λ n. steps_left c.in_ok-next.next c.make.new.walk < steps_left n c.visits.walk) (sym c.in-Some.is) (c.in_ok-next.ensures.goes top old at).1
+
+pub visits-preserved : goal.visits-preserved
+visits-preserved g c =
+    let top = c.args.top in
+    let old = g.S.Store.log c.args.store.now in
+    let at = subst (λ n. WalksIndex top n c.visits.walk c.visits.odd.items c.visits.linked.items old (g.S.Store.log c.visits.store)) c.in-Some.is c.visits.invariant in
+    (c.in_ok-next.ensures.goes top old at).0
+
+pub returns-in_err-next-clause-stops : goal.returns-in_err-next-clause-stops
+returns-in_err-next-clause-stops g c =
+    let top = c.args.top in
+    let old = g.S.Store.log c.args.store.now in
+    let new = g.S.Store.log c.make.new.store in
+    let e = c.in_err-next.field-0.0 in
+    let at = subst (λ n. WalksIndex top n c.visits.walk c.visits.odd.items c.visits.linked.items old (g.S.Store.log c.visits.store)) c.in-Some.is c.visits.invariant in
+    let stops : LosesIndex top e old new = c.in_err-next.ensures.stops top old at in
+    search (rules, stops)
+
+pub returns-clause-meets : goal.returns-clause-meets
+returns-clause-meets g c =
+    let top = c.args.top in
+    let old = g.S.Store.log c.args.store.now in
+    let new = g.S.Store.log c.visits.store in
+    let at = subst (λ n. WalksIndex top n c.visits.walk c.visits.odd.items c.visits.linked.items old new) c.in_default.is c.visits.invariant in
+    let met : MeetsIndex top (map plain_item c.visits.walk.items.items) c.visits.odd.items c.visits.linked.items old new = ended top c.visits.walk c.visits.odd.items c.visits.linked.items old new at in
+    rw c.swap.ensures.x_after met
