@@ -1,5 +1,5 @@
 -- Where steps change something: nothing changes at a path that a step doesn't reach.
-use Rattle.std.{proofs.{Common.{◌≡◌, true, false, List, [], None, Ok, Err, refl, sym, ap, ◌∙◌}, lemmas.Bool.{or_parts}}, specs.{Prelude.{Result, ◌||◌}, Result.{result_ok}}}
+use Rattle.std.{proofs.{Common.{◌≡◌, ℕ, true, false, List, [], None, Ok, Err, refl, sym, ap, ◌∙◌}, lemmas.Bool.{or_parts}}, specs.{Prelude.{Result, ◌||◌}, Result.{result_ok}}}
 use Rattle.cacache_core.specs.{declared.errors.Fault.{Fault}, PathNames.{Names, names_of}}
 use Rattle.cacache_store.specs.{declared.store.{plain.PlainTemp.{PlainTemp}, step.Step.TheVariants.{MakeDirs, CreateTemp, Write, Persist, Append, Symlink, Copy, Reflink, HardLink, RemoveFile, RemoveDir}, answer.Answer.TheVariants.{Done}}, Plain.{PlainStep, PlainAnswer}}
 use Rattle.cacache_disk.specs.{declared.{luck.Luck.{Luck}, node.Node.{Node}}, Apply.{apply}, LedTo.{writable}, Tree.{Tree, look, same_path}}
