@@ -7,12 +7,12 @@ ghost use Rattle.cacache_async.specs.Waiting.{Waits};
 
 use crate::call::Call;
 use crate::future::CallFuture;
+use cacache_calls::How;
 use cacache_core::errors::Result;
 use cacache_core::integrity::Integrity;
 use cacache_store::env::{Clock, Env, Names};
 use cacache_store::store::Store;
 use cacache_sync::{Named, copy_content, link_content};
-use cacache_calls::How;
 
 /// What a copy is called with: a cache, what names the content, whether it is verified first, and a path.
 #[derive(Clone, Copy)]

@@ -1,7 +1,7 @@
 //! What happens when callers take turns.
+use cacache_calls::{Command, Reply};
 use cacache_disk::Luck;
 use cacache_store::store::{PlainAnswer, PlainStep};
-use cacache_calls::{Command, Reply};
 
 /// One thing that happened. A caller is known by its number, from 0.
 #[derive(Debug, Drop)]

@@ -5,10 +5,10 @@ ghost use Rattle.cacache_jobs.specs.Brought.{Brings};
 
 use crate::messages;
 use crate::phase::refused;
+use cacache_calls::answers::{file_of, length_of, temp_of};
 use cacache_core::errors::Result;
 use cacache_core::text::Text;
 use cacache_store::store::{Answer, FileHandle, TempHandle};
-use cacache_calls::answers::{file_of, length_of, temp_of};
 use std::alloc::Global;
 
 /// The temporary file that the step was to make in the cache.

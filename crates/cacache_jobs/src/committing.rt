@@ -5,9 +5,9 @@ ghost use Rattle.cacache_calls.specs.{Formed.{FormsCommit}, Promises.{OnlyStores
 
 use crate::run::finish;
 use crate::storing::begin_commit;
+use cacache_calls::{Commit, Reply, form_commit};
 use cacache_store::env::Env;
 use cacache_store::store::Store;
-use cacache_calls::{Commit, Reply, form_commit};
 
 /// Makes the temporary file the content that the commit describes, and finishes the commit. The reply is that of a run of
 /// the call from there on. If the store keeps its log, the log gained exactly that run. The commit's entry is well-formed,

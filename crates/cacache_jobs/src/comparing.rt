@@ -2,10 +2,10 @@
 ghost use Rattle.std.specs.Prelude.{◌≡◌, IfOk, IfErr};
 ghost use Rattle.cacache_calls.specs.{Storing.{placed, sized, indexed, matches}, Runs.{EndsAs}};
 
+use cacache_calls::Commit;
 use cacache_core::errors::{self, Error, IntegrityFault};
 use cacache_core::integrity::Integrity;
 use cacache_core::laws::integrity_laws;
-use cacache_calls::Commit;
 
 /// Whether the expected integrity matches the computed one.
 #[tactic(auto, using(crate::proofs::Matching::same_answer))]

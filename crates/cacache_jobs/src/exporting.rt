@@ -6,11 +6,11 @@ use crate::phase::{Phase, refused};
 use crate::places::content_path;
 use crate::stage::{Last, Stage, Then};
 use crate::{hashing, messages};
+use cacache_calls::{Content, Export, How, Refusal, Reply};
 use cacache_core::errors;
 use cacache_core::keeping::{beside, let_go};
 use cacache_core::text::Text;
 use cacache_store::store::{FileHandle, Step, TempHandle};
-use cacache_calls::{Content, Export, How, Refusal, Reply};
 use std::alloc::Global;
 
 /// Exports a content; a checked export opens it first.

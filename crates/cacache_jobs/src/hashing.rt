@@ -7,14 +7,14 @@ use crate::brought::opened_file;
 use crate::phase::{Phase, refused};
 use crate::stage::Stage;
 use crate::{exporting, linking, messages};
+use cacache_calls::answers::Got;
+use cacache_calls::{Content, Export, Refusal, Target};
 use cacache_core::errors::{self, Error};
 use cacache_core::hasher::Hasher;
 use cacache_core::integrity::IntegrityChecker;
 use cacache_core::keeping::{beside, let_go};
 use cacache_core::text::Text;
 use cacache_store::store::{Answer, FileHandle, Step, TempHandle};
-use cacache_calls::answers::Got;
-use cacache_calls::{Content, Export, Refusal, Target};
 use std::alloc::Global;
 
 /// The most bytes that one read may ask for.

@@ -10,6 +10,7 @@ use crate::phase::{Phase, refused};
 use crate::places::{bucket_folders, bucket_path, bucket_place};
 use crate::stage::{Stage, Then};
 use crate::syncing::{Goal, sync_file};
+use cacache_calls::{Delete, Insert, Json, Options, Refusal, Reply};
 use cacache_core::bytes::Bytes;
 use cacache_core::errors::{self, Fault};
 use cacache_core::integrity::Integrity;
@@ -18,7 +19,6 @@ use cacache_core::paths::Place;
 use cacache_core::text::Text;
 use cacache_entry::{SerializableMetadata, line};
 use cacache_store::store::{FileHandle, Step, TempHandle};
-use cacache_calls::{Delete, Insert, Json, Options, Refusal, Reply};
 use serde_json::Value;
 use std::alloc::{AllocError, Global};
 

@@ -7,10 +7,10 @@ ghost use Rattle.cacache_jobs.specs.{Sites.{site_of}, Jobs.{Stands, HasOut, Goes
 use crate::opening::open;
 use crate::phase::Phase;
 use crate::stage::Stage;
+use cacache_calls::{Command, Reply};
 use cacache_core::errors::{self, Error};
 use cacache_core::keeping::{let_go, set};
 use cacache_store::store::{Answer, FileHandle, Step, TempHandle};
-use cacache_calls::{Command, Reply};
 use std::alloc::{AllocError, Global};
 use std::mem::replace;
 

@@ -9,6 +9,7 @@ use crate::hashing::Hashing;
 use crate::phase::Phase;
 use crate::places::content_place;
 use crate::stage::{Stage, Then};
+use cacache_calls::{Commit, Link, Target};
 use cacache_core::errors;
 use cacache_core::hasher::Hasher;
 use cacache_core::integrity::Integrity;
@@ -16,7 +17,6 @@ use cacache_core::keeping::beside;
 use cacache_core::paths::Place;
 use cacache_core::text::Text;
 use cacache_store::store::{Answer, FileHandle, Step, TempHandle};
-use cacache_calls::{Commit, Link, Target};
 use std::alloc::Global;
 
 /// Makes the content's folder, once the target was read to its end and has this integrity and size.

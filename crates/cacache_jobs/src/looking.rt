@@ -8,6 +8,7 @@ use crate::phase::{Phase, refused};
 use crate::places::bucket_path;
 use crate::stage::Stage;
 use crate::{exporting, messages, reading, removing};
+use cacache_calls::{Aim, Content, Found, Lookup, Refusal, Reply};
 use cacache_core::bytes::Bytes;
 use cacache_core::errors::{self, Error, Fault};
 use cacache_core::integrity::Integrity;
@@ -15,7 +16,6 @@ use cacache_core::keeping::{beside, let_go};
 use cacache_core::text::Text;
 use cacache_entry::{Metadata, latest};
 use cacache_store::store::{FileHandle, Step, TempHandle};
-use cacache_calls::{Aim, Content, Found, Lookup, Refusal, Reply};
 use std::alloc::Global;
 
 /// Reads the bucket of the key.

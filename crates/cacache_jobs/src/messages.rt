@@ -2,8 +2,8 @@
 use crate::hashing::Hashing;
 use crate::places::{bucket_path, bucket_place, content_path, content_place, temp_folder};
 use crate::stage::Last;
-use cacache_core::text::Text;
 use cacache_calls::{Commit, Content};
+use cacache_core::text::Text;
 use std::alloc::{AllocError, Global};
 
 /// Some words, and the path that they are about.

@@ -7,13 +7,13 @@ ghost use Rattle.cacache_jobs.specs.{Sites.{site_of}, JobStates.{Leads}};
 
 use crate::phase::Phase;
 use crate::{exporting, inserting, linking, looking, reading, removing, storing, walking};
+use cacache_calls::{Aim, Command, Content, Export, Lookup, Source};
 use cacache_core::errors;
 use cacache_core::integrity::Integrity;
 use cacache_core::keeping::beside;
 use cacache_core::paths::{INDEX_AREA, join};
 use cacache_core::text::Text;
 use cacache_store::store::{FileHandle, TempHandle};
-use cacache_calls::{Aim, Command, Content, Export, Lookup, Source};
 use std::alloc::Global;
 
 /// Begins a lookup of a key.

@@ -2,10 +2,10 @@
 ghost use Rattle.cacache_calls.specs.{Common.{refuse, fails}, Runs.{EndsAs}};
 
 use crate::stage::Stage;
+use cacache_calls::{Refusal, Reply};
 use cacache_core::errors::Error;
 use cacache_core::text::Text;
 use cacache_store::store::{Step, failed};
-use cacache_calls::{Refusal, Reply};
 use std::alloc::AllocError;
 
 /// How far a call is while none of its steps is outstanding.

@@ -7,10 +7,10 @@ use crate::messages;
 use crate::phase::{Phase, refused};
 use crate::places::content_path;
 use crate::stage::Stage;
+use cacache_calls::{Content, Refusal, Reply};
 use cacache_core::bytes::Bytes;
 use cacache_core::errors::{self, Error};
 use cacache_store::store::{FileHandle, Step, TempHandle};
-use cacache_calls::{Content, Refusal, Reply};
 use std::alloc::Global;
 
 /// Reads the content.

@@ -5,10 +5,10 @@ ghost use Rattle.cacache_calls.specs.{Formed.{FormsCommit}, Promises.{OnlyStores
 
 use crate::linking::link;
 use crate::run::finish;
+use cacache_calls::{Commit, Reply, form_commit};
 use cacache_core::text::Text;
 use cacache_store::env::Env;
 use cacache_store::store::Store;
-use cacache_calls::{Commit, Reply, form_commit};
 
 /// Makes a link to the target the content that the commit describes, and finishes the commit. The reply is that of a run of
 /// the call from there on. If the store keeps its log, the log gained exactly that run. The commit's entry is well-formed,

@@ -8,10 +8,10 @@ ghost use Rattle.cacache_jobs.specs.{ReadFirst.{FindsBytes, ReadsFirst}, Jobs.{S
 use crate::job::{Job, over_on_error};
 use crate::opening::open;
 use crate::phase::Phase;
+use cacache_calls::{Command, Reply, form_command};
 use cacache_core::errors;
 use cacache_store::env::Env;
 use cacache_store::store::{Answer, Step, Store};
-use cacache_calls::{Command, Reply, form_command};
 use std::alloc::Global;
 
 /// Makes a step. It is a separate function, so that the store's stack space is freed before the call goes on.

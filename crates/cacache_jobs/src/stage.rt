@@ -10,15 +10,15 @@ use crate::syncing::Syncing;
 use crate::{
     exporting, hashing, inserting, linking, looking, messages, reading, removing, storing, walking,
 };
+use cacache_calls::answers::{
+    bytes_of, done_of, got_of, synced_of, taken_of, there_of, written_of,
+};
+use cacache_calls::{Commit, Content, Lookup, Refusal, Reply, Target, Visit};
 use cacache_core::bytes::Bytes;
 use cacache_core::errors::{self, Fault};
 use cacache_core::keeping::let_go;
 use cacache_core::text::Text;
 use cacache_store::store::{Answer, FileHandle, TempHandle};
-use cacache_calls::answers::{
-    bytes_of, done_of, got_of, synced_of, taken_of, there_of, written_of,
-};
-use cacache_calls::{Commit, Content, Lookup, Refusal, Reply, Target, Visit};
 use cacache_walks::Walk;
 use std::alloc::{AllocError, Global};
 

@@ -14,6 +14,8 @@ use crate::phase::{Phase, refused};
 use crate::places::{content_folders, content_path, content_place, temp_place};
 use crate::stage::{Stage, Then};
 use crate::syncing::{Goal, sync_file, sync_up};
+use cacache_calls::answers::Written;
+use cacache_calls::{Commit, Options, Put, Refusal, Reply};
 use cacache_core::bytes::Bytes;
 use cacache_core::errors::{self, Error, Fault};
 use cacache_core::hasher::Hasher;
@@ -22,8 +24,6 @@ use cacache_core::keeping::{beside, let_go};
 use cacache_core::paths::Place;
 use cacache_core::text::Text;
 use cacache_store::store::{Answer, FileHandle, Step, TempHandle};
-use cacache_calls::answers::Written;
-use cacache_calls::{Commit, Options, Put, Refusal, Reply};
 use std::alloc::Global;
 
 /// The integrity of a put's bytes.

@@ -7,11 +7,11 @@ use crate::messages;
 use crate::phase::Phase;
 use crate::stage::{Stage, Then};
 use crate::storing::compare_and_index;
+use cacache_calls::Commit;
 use cacache_core::errors;
 use cacache_core::keeping::beside;
 use cacache_core::text::Text;
 use cacache_store::store::{FileHandle, Step, TempHandle};
-use cacache_calls::Commit;
 use std::alloc::{AllocError, Global};
 
 /// What a durable call does once everything is synced.

@@ -6,11 +6,11 @@ ghost use Rattle.cacache_jobs.specs.{JobStates.{Leads}, LeadsOn.{LeadsVisited}};
 
 use crate::phase::Phase;
 use crate::stage::Stage;
+use cacache_calls::Visit;
 use cacache_core::errors;
 use cacache_core::keeping::beside;
 use cacache_core::text::Text;
 use cacache_store::store::{Answer, FileHandle, TempHandle};
-use cacache_calls::Visit;
 use cacache_walks::Walk;
 use std::alloc::Global;
 

@@ -11,9 +11,9 @@ use cacache::errors::{Error, Fault};
 use cacache::store::{OpenedFile, Step, Store};
 use cacache::text::Text;
 use cacache::{Integrity, Result, SyncWriter};
+use cacache_calls::answers::Refusal;
 use cacache_core::keeping::{beside, let_go};
 use cacache_jobs::{opened_file, refused};
-use cacache_calls::answers::Refusal;
 use std::alloc::{AllocError, Global};
 use std::io::{ErrorKind, Write};
 

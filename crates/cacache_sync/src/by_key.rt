@@ -5,10 +5,10 @@ ghost use Rattle.cacache_sync.specs.Exports.{checked_export, unchecked_export};
 ghost use Rattle.cacache_jobs.specs.{ReadFirst.{Verified}, Environment.{Calls}};
 
 use crate::exporting::{Named, copy_content, link_content};
+use cacache_calls::How;
 use cacache_core::errors::Result;
 use cacache_store::env::{Clock, Env, Names};
 use cacache_store::store::Store;
-use cacache_calls::How;
 
 /// Copies the content that a lookup of the key finds to this path, and answers how many bytes it has. A file there is
 /// overwritten. The content is read to its end first, and goes there only if it meets the integrity that the lookup

@@ -4,13 +4,13 @@ ghost use Rattle.cacache_calls.specs.{declared.{command.How.TheVariants.{Copy}, 
 ghost use Rattle.cacache_sync.specs.Exports.{exporting, named_source, IsFormed, SaysCount, SaysNothing};
 ghost use Rattle.cacache_jobs.specs.{ReadFirst.{ReadsFirst, Verified}, Sites.{site_of}, Environment.{Calls}};
 
+use cacache_calls::{Command, Export, How, Source};
 use cacache_core::errors::Result;
 use cacache_core::integrity::Integrity;
 use cacache_core::text::Text;
 use cacache_jobs::call;
 use cacache_store::env::Env;
 use cacache_store::store::Store;
-use cacache_calls::{Command, Export, How, Source};
 use std::alloc::{AllocError, Global};
 
 /// Makes a call that says how many bytes were copied.

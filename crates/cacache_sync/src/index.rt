@@ -5,13 +5,13 @@ ghost use Rattle.cacache_calls.specs.{Replies.{done, looked_up}, Runs.{reply_of}
 ghost use Rattle.cacache_jobs.specs.Environment.{Calls, RunsTimed};
 ghost use Rattle.cacache_sync.specs.Lookups.{LooksUp, delete_of};
 
+use cacache_calls::{Command, Delete};
 use cacache_core::errors::Result;
 use cacache_core::text::Text;
 use cacache_entry::Metadata;
 use cacache_jobs::{call, moment};
 use cacache_store::env::{Clock, Env, Names};
 use cacache_store::store::Store;
-use cacache_calls::{Command, Delete};
 
 /// What the index has of the key: the entry that counts, if there is one. A key without a bucket has none, nor has
 /// any if the cache's folder isn't there. An entry doesn't mean that its content is there, which `exists_sync`

@@ -6,14 +6,14 @@ ghost use Rattle.cacache_calls.specs.{declared.reply.Reply.TheVariants.{Read, Ex
 ghost use Rattle.cacache_jobs.specs.{Environment.{Calls}, ReadFirst.{FindsBytes, ReadsFound}, Sites.{site_of}};
 ghost use Rattle.cacache_sync.specs.Reads.{ReadsBytes, AsksContent, bytes_read, has};
 
+use cacache_calls::Command;
+use cacache_calls::answers::there_of;
 use cacache_core::errors::Result;
 use cacache_core::integrity::Integrity;
 use cacache_core::text::Text;
 use cacache_jobs::{call, content_path, is_there};
 use cacache_store::env::{Clock, Env, Names};
 use cacache_store::store::{Step, Store};
-use cacache_calls::Command;
-use cacache_calls::answers::there_of;
 
 /// Makes a call that reads bytes.
 fn read<S: Store, C, N>(env: &mut Env<S, C, N>, cache: &str, command: Command) -> Result<Vec<u8>>

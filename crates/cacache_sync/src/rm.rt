@@ -7,13 +7,13 @@ ghost use Rattle.cacache_jobs.specs.Environment.{Calls};
 ghost use Rattle.cacache_sync.specs.Lookups.{RunsDelete};
 
 use crate::index::delete;
+use cacache_calls::Command;
 use cacache_core::errors::Result;
 use cacache_core::integrity::Integrity;
 use cacache_core::text::Text;
 use cacache_jobs::call;
 use cacache_store::env::{Clock, Env, Names};
 use cacache_store::store::Store;
-use cacache_calls::Command;
 
 /// Removes the content of the integrity. Entries that name it stay: their keys are still found, but reads of them
 /// fail with `NotFound`. If the content is a link, the link is removed and its target stays.

@@ -3,8 +3,8 @@ ghost use Rattle.std.specs.Prelude.{◌≡◌, ◌↔◌, IfOk, IsTrue};
 ghost use Rattle.cacache_threads.specs.Said.{said_options, said_put, said_link, said_insert, said_command};
 
 use crate::json::same_json;
-use cacache_core::integrity::Integrity;
 use cacache_calls::{Command, Delete, Export, Insert, Link, Options, Put, Source};
+use cacache_core::integrity::Integrity;
 use std::alloc::{AllocError, Global};
 
 /// Whether two integrities are equal.

@@ -5,9 +5,9 @@ ghost use Rattle.cacache_threads.specs.Said.{said_found, said_item, said_reply};
 
 use crate::commands::same_integrity;
 use crate::json::same_json;
+use cacache_calls::{Found, Items, Reply};
 use cacache_core::errors::{Error, IntegrityFault};
 use cacache_entry::Metadata;
-use cacache_calls::{Found, Items, Reply};
 use std::alloc::{AllocError, Global};
 
 /// Whether two refusals of an integrity are equal.

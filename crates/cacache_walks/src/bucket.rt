@@ -6,9 +6,9 @@ ghost use Rattle.cacache_calls.specs.{Runs.{plain_item}, Walking.{items_in, item
 ghost use Rattle.cacache_walks.specs.Listed.{keys_in, added_at, own_answer, EndsWith};
 
 use crate::deciding::deciders;
+use cacache_calls::Found;
 use cacache_core::errors::{self, Error};
 use cacache_entry::{Metadata, SerializableMetadata, answer_of_entry, entries, latest};
-use cacache_calls::Found;
 use std::alloc::Global;
 
 /// Up to this many entries are compared with each other. For more, a map is made.

@@ -5,11 +5,11 @@ ghost use Rattle.cacache_walks.specs.WalkStates.{GoesOn, pending};
 
 use crate::messages;
 use crate::walk::Walk;
+use cacache_calls::{Refusal, Task, Visit};
 use cacache_core::errors::{self, Fault};
 use cacache_core::paths::join;
 use cacache_core::text::Text;
 use cacache_store::store::{Kind, Listing, Name};
-use cacache_calls::{Refusal, Task, Visit};
 use std::alloc::{AllocError, Global};
 
 /// Folders below this level aren't entered.

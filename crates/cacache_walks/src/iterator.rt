@@ -6,12 +6,12 @@ ghost use Rattle.cacache_calls.specs.{Runs.{plain_item}, State.{Item}};
 ghost use Rattle.cacache_walks.specs.{Lending.{EnvRests}, Iterating.{Filled, Gave, IsListing, KeepsEnv, NextGives, Shortens, VisitGives, item_view, left}};
 
 use crate::walk::Walk;
+use cacache_calls::{Found, Visit};
 use cacache_core::errors::{self, Error};
 use cacache_core::paths::{INDEX_AREA, join};
 use cacache_entry::Metadata;
 use cacache_store::env::Env;
 use cacache_store::store::Store;
-use cacache_calls::{Found, Visit};
 use std::mem::swap;
 
 /// The entries of a cache, one after another: each key once, if its lookup finds an entry. The

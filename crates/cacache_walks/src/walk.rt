@@ -5,12 +5,12 @@ ghost use Rattle.cacache_calls.specs.{Common.{go_on, refuse}, Runs.{plain_item, 
 ghost use Rattle.cacache_walks.specs.WalkStates.{WalksAt, GoesOn, GivesOn, walk_of};
 
 use crate::{bucket, messages};
+use cacache_calls::answers::{bytes_of, done_of, names_of};
+use cacache_calls::{Found, Items, Refusal, Reply, Task, Visit};
 use cacache_core::bytes::Bytes;
 use cacache_core::errors::{self, Error, Fault};
 use cacache_core::text::Text;
 use cacache_store::store::{Answer, FileHandle, TempHandle};
-use cacache_calls::answers::{bytes_of, done_of, names_of};
-use cacache_calls::{Found, Items, Refusal, Reply, Task, Visit};
 use std::alloc::{AllocError, Global};
 
 /// A walk through all folders below one.

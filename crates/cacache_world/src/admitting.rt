@@ -8,12 +8,12 @@ ghost use Rattle.cacache_world.specs.{WorldKept.{setup_of}, Admitted.{MayAsk, Ju
 
 use crate::event::WorldFault;
 use crate::names::{is_outside, may_take};
-use cacache_core::bytes::Bytes;
-use cacache_core::integrity::Integrity;
-use cacache_core::text::Text;
 use cacache_calls::{
     Command, Export, Link, Source, based, form_delete, form_insert, form_link, form_put,
 };
+use cacache_core::bytes::Bytes;
+use cacache_core::integrity::Integrity;
+use cacache_core::text::Text;
 use std::alloc::{AllocError, Global};
 
 /// Shows that an integrity is one, as each is.

@@ -1,6 +1,6 @@
 //! What is to happen in a world, and what came of it.
-use cacache_disk::Luck;
 use cacache_calls::{Command, Reply};
+use cacache_disk::Luck;
 
 /// What is to happen. A caller is known by its number, from 0.
 #[derive(Debug, Drop)]

@@ -8,11 +8,11 @@ use crate::admitting::admit;
 use crate::callers::{check_has_none, make_room};
 use crate::event::WorldFault;
 use crate::turn::Call;
+use cacache_calls::Command;
 use cacache_core::bytes::Bytes;
 use cacache_core::text::Text;
 use cacache_history::Record;
 use cacache_jobs::Job;
-use cacache_calls::Command;
 use std::alloc::{AllocError, Global};
 
 /// The job of a command.

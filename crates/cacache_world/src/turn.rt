@@ -4,12 +4,12 @@ ghost use Rattle.cacache_jobs.specs.Jobs.{can_go_on};
 ghost use Rattle.cacache_world.specs.Turned.{TurnGoesOn, IsTurn, IsSaid, AreOwn, AreTurnParts};
 
 use crate::event::Move;
+use cacache_calls::Reply;
 use cacache_core::errors::Error;
 use cacache_core::keeping::let_go;
 use cacache_disk::{Disk, Luck};
 use cacache_jobs::{Job, Next};
 use cacache_store::store::{PlainAnswer, PlainFile, PlainStep, PlainTemp};
-use cacache_calls::Reply;
 use std::alloc::{AllocError, Global};
 
 /// A call on a disk in memory.

@@ -9,13 +9,13 @@ use crate::losing::nodes_left;
 use crate::outside::plant_all;
 use crate::starting::prepare;
 use crate::turn::{Call, Turn, advance, turn_parts};
+use cacache_calls::Command;
 use cacache_core::bytes::Bytes;
 use cacache_core::keeping::let_go;
 use cacache_core::text::Text;
 use cacache_disk::{Disk, Luck};
 use cacache_history::Record;
 use cacache_loss::Loss;
-use cacache_calls::Command;
 use std::alloc::Global;
 use std::marker::Model;
 

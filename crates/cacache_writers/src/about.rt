@@ -2,11 +2,11 @@
 ghost use Rattle.std.specs.Prelude.{◌≡◌, IfOk};
 ghost use Rattle.cacache_writers.specs.{Committing.{commit_about}, Opening.{IsAbout}};
 
+use cacache_calls::{Commit, Options};
 use cacache_core::integrity::Integrity;
 use cacache_core::keeping::beside;
 use cacache_core::text::Text;
 use cacache_sync::put::opts::WriteOpts;
-use cacache_calls::{Commit, Options};
 use std::alloc::{AllocError, Global};
 
 /// What the caller said about a content that is being written.

@@ -1,7 +1,7 @@
 //! Replies of a world in words.
+use cacache_calls::{Found, Items, Reply};
 use cacache_core::errors::Error;
 use cacache_core::keeping::{beside, let_go};
-use cacache_calls::{Found, Items, Reply};
 use cacache_world::Move;
 use rows::words::word_of;
 use std::alloc::{AllocError, Global};

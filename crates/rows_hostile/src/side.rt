@@ -3,12 +3,12 @@ use crate::disk::places_of;
 use crate::facts::{CACHE, Content, KEY};
 use crate::model::{Call, Model};
 use crate::replies::{NO_MEMORY, told};
+use cacache_calls::{Command, Options, Put};
 use cacache_core::bytes::Bytes;
 use cacache_core::integrity::Algorithm;
 use cacache_core::keeping::{beside, let_go};
 use cacache_core::text::Text;
 use cacache_disk::Luck;
-use cacache_calls::{Command, Options, Put};
 use cacache_world::{Move, Record, World, WorldFault};
 use std::alloc::{AllocError, Global};
 

@@ -1,12 +1,12 @@
 //! Random calls and lucks, on few keys and contents, so that calls meet.
 use crate::outside::{random_export, random_target};
+use cacache_calls::{Command, Delete, Insert, Json, Link, Options, Put, Source};
 use cacache_core::bytes::Bytes;
 use cacache_core::errors::Fault;
 use cacache_core::integrity::{Algorithm, Integrity, IntegrityOpts};
 use cacache_core::keeping::{beside, let_go};
 use cacache_core::text::Text;
 use cacache_disk::Luck;
-use cacache_calls::{Command, Delete, Insert, Json, Link, Options, Put, Source};
 use rows::random::Random;
 use serde_json::Value;
 use std::alloc::{AllocError, Global};

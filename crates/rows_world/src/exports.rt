@@ -2,12 +2,12 @@
 use crate::replies::shown_error;
 use crate::story::Story;
 use crate::value::Value;
+use cacache_calls::{Export, How};
 use cacache_core::bytes::Bytes;
 use cacache_core::integrity::Integrity;
 use cacache_core::keeping::{let_go, set};
 use cacache_disk::Luck;
 use cacache_store::store::{Answer, PlainAnswer, PlainStep, Step};
-use cacache_calls::{Export, How};
 use std::alloc::AllocError;
 
 impl<'h> Story<'h> {

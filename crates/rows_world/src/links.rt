@@ -4,6 +4,7 @@ use crate::outside::path_of;
 use crate::replies::shown_error;
 use crate::story::Story;
 use crate::value::Value;
+use cacache_calls::Link;
 use cacache_core::bytes::Bytes;
 use cacache_core::errors::Error;
 use cacache_core::integrity::Integrity;
@@ -11,7 +12,6 @@ use cacache_core::keeping::{let_go, set};
 use cacache_core::text::Text;
 use cacache_disk::Luck;
 use cacache_store::store::{Answer, PlainAnswer, PlainStep, Step};
-use cacache_calls::Link;
 use std::alloc::{AllocError, Global};
 
 /// A target with a size other than the one that was asked for, as a reply says it.

@@ -4,6 +4,7 @@ use crate::outcomes::fault_in;
 use crate::pieces::Pieces;
 use crate::replies::{shown_bytes, shown_entry, shown_error, shown_fault};
 use crate::value::Value;
+use cacache_calls::{Command, Source};
 use cacache_core::bytes::Bytes;
 use cacache_core::errors::Fault;
 use cacache_core::integrity::Integrity;
@@ -12,7 +13,6 @@ use cacache_core::text::Text;
 use cacache_disk::Luck;
 use cacache_entry::SerializableMetadata;
 use cacache_store::store::{Answer, PlainAnswer, PlainStep, Step};
-use cacache_calls::{Command, Source};
 use std::alloc::{AllocError, Global};
 
 /// A call, and the reply that it is to give if it is over now.

@@ -1,9 +1,9 @@
 //! The worlds and the calls that tests begin with.
+use cacache_calls::{Command, Link, Options, Put};
 use cacache_core::bytes::Bytes;
 use cacache_core::integrity::{Algorithm, Integrity};
 use cacache_core::keeping::{beside, let_go};
 use cacache_core::text::Text;
-use cacache_calls::{Command, Link, Options, Put};
 use cacache_world::World;
 use std::alloc::{AllocError, Global};
 

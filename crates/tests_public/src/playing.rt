@@ -1,10 +1,10 @@
 //! What callers do, as rows, and what comes of it in words.
 use crate::making::{durable_put, integrity, link, put};
+use cacache_calls::{Command, Found, Reply};
 use cacache_core::errors::Error;
 use cacache_core::keeping::let_go;
 use cacache_core::text::Text;
 use cacache_disk::Luck;
-use cacache_calls::{Command, Found, Reply};
 use cacache_world::{Move, World, WorldFault};
 use std::alloc::{AllocError, Global};
 

@@ -1,9 +1,9 @@
 //! What a world refuses, and where it stops.
 use crate::making::{put, world_of};
+use cacache_calls::{Command, Export, How, Source};
 use cacache_core::keeping::{beside, let_go};
 use cacache_core::text::Text;
 use cacache_disk::Luck;
-use cacache_calls::{Command, Export, How, Source};
 use cacache_world::{Event, World, WorldFault};
 use std::alloc::{AllocError, Global};
 use std::test::Fail;

@@ -1,9 +1,9 @@
 //! After listings.
 ghost use Rattle.cacache_laws.specs.results.Lists.{ListingMeans};
 
+use cacache_calls::Reply;
 use cacache_disk::memory::MemStore;
 use cacache_store::env::{Clock, Env, Names};
-use cacache_calls::Reply;
 
 /// After `call` of a listing: if no item is an error, its items are the entries that keys lead to, all of them. All
 /// that was known stays.

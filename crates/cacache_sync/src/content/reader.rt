@@ -4,6 +4,8 @@ ghost use Rattle.cacache_core.specs.{declared.integrity.digest.Hash.{Hash}, Inte
 ghost use Rattle.cacache_store.specs.Handles.{LeftFalls};
 ghost use Rattle.cacache_sync.specs.content.{OpenReads.{HasRead, OpensHash, OpensKey, ReadsMore, ReadsPart}, OpenWrites.{IsRetried}, Passed.{passed}};
 
+use cacache_calls::Command;
+use cacache_calls::answers::file_of;
 use cacache_core::errors::{Error, Result};
 use cacache_core::integrity::{Algorithm, Integrity, IntegrityChecker};
 use cacache_core::text::Text;
@@ -11,8 +13,6 @@ use cacache_entry::Metadata;
 use cacache_jobs::{call, content_path, messages, refused};
 use cacache_store::env::{Clock, Env, Names};
 use cacache_store::store::{OpenedFile, Step, Store};
-use cacache_calls::Command;
-use cacache_calls::answers::file_of;
 use std::alloc::{AllocError, Global};
 use std::io;
 use std::io::{ErrorKind, Read};

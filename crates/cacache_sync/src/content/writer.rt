@@ -5,6 +5,8 @@ ghost use Rattle.cacache_store.specs.declared.store.answer.Answer.TheVariants.{D
 ghost use Rattle.cacache_calls.specs.{declared.reply.Reply.TheVariants.{Stored}, Promises.{Stores}, Runs.{reply_of}, SingleSteps.{Does, FailsAt}, StepPaths.{temp_path as temp_path_of}};
 ghost use Rattle.cacache_sync.specs.content.{Passed.{passed}, OpenWrites.{HasTaken, IsSameWriter, MakesTemp, OpensTemp, OpensNumbered, EndsByCommit, EndsUnkeyed, RemovesTemp, TriesToRemove, given_up, Takes, TakesPart, WholeFails, IsWriteError, IsRetried, make_folder as making_folder, content_commit}};
 
+use cacache_calls::answers::done_of;
+use cacache_calls::{Commit, Options, Refusal};
 use cacache_core::errors::{Error, Fault, Result};
 use cacache_core::hasher::Hasher;
 use cacache_core::integrity::{Algorithm, Integrity};
@@ -13,8 +15,6 @@ use cacache_core::text::Text;
 use cacache_jobs::{commit_from, made_temp, messages, refused, temp_folder, temp_path};
 use cacache_store::env::{Clock, Env, Names};
 use cacache_store::store::{Step, Store, TempFile};
-use cacache_calls::answers::done_of;
-use cacache_calls::{Commit, Options, Refusal};
 use std::alloc::{AllocError, Global};
 use std::io;
 use std::io::{ErrorKind, Write};

@@ -6,6 +6,7 @@ ghost use Rattle.cacache_calls.specs.{declared.reply.Reply.TheVariants.{Stored},
 ghost use Rattle.cacache_jobs.specs.Environment.{Steps, RunsNumbered, RunsPut};
 ghost use Rattle.cacache_sync.specs.put.Puts.{keyed_put as keyed_put_of, unkeyed_put as unkeyed_put_of};
 
+use cacache_calls::{Command, Options, Put};
 use cacache_core::bytes::Bytes;
 use cacache_core::errors::Result;
 use cacache_core::integrity::{Algorithm, Integrity};
@@ -13,7 +14,6 @@ use cacache_core::text::Text;
 use cacache_jobs::call;
 use cacache_store::env::{Clock, Env, Names};
 use cacache_store::store::Store;
-use cacache_calls::{Command, Options, Put};
 use std::alloc::{AllocError, Global};
 
 /// What to store: the bytes, under a key.

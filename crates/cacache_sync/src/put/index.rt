@@ -6,6 +6,7 @@ ghost use Rattle.cacache_jobs.specs.Environment.{RunsTimed};
 ghost use Rattle.cacache_sync.specs.put.Puts.{insert_of};
 
 use crate::put::opts::WriteOpts;
+use cacache_calls::{Command, Insert};
 use cacache_core::errors::Result;
 use cacache_core::integrity::Integrity;
 use cacache_core::keeping::beside;
@@ -13,7 +14,6 @@ use cacache_core::text::Text;
 use cacache_jobs::{call, moment};
 use cacache_store::env::{Clock, Env, Names};
 use cacache_store::store::Store;
-use cacache_calls::{Command, Insert};
 
 /// Adds an entry to the index, and answers its integrity. Without an integrity it adds a tombstone, which says that
 /// the key was deleted, and answers `sha1-deadbeef`. The entry's size is the one that was set, and otherwise 0. If no

@@ -8,6 +8,7 @@ mod reading;
 
 use crate::put::opts::WriteOpts;
 use crate::put::rest::read_rest;
+use cacache_calls::{Options, Target};
 use cacache_core::errors::{Error, Result};
 use cacache_core::hasher::Hasher;
 use cacache_core::integrity::{Algorithm, Integrity};
@@ -16,7 +17,6 @@ use cacache_core::text::Text;
 use cacache_jobs::{link_from, moment, opened_file, told_size};
 use cacache_store::env::{Clock, Env, Names};
 use cacache_store::store::{OpenedFile, Step, Store};
-use cacache_calls::{Options, Target};
 use std::alloc::{AllocError, Global};
 
 /// A file that is to be linked to; if the entry's time isn't set, the commit asks the clock for it.

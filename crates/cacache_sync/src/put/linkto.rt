@@ -6,13 +6,13 @@ ghost use Rattle.cacache_calls.specs.{declared.reply.Reply.TheVariants.{Stored},
 ghost use Rattle.cacache_sync.specs.put.LinkCalls.{link_to, HoldsTarget, LinkedTo, RunsLink};
 ghost use Rattle.cacache_jobs.specs.Environment.{Calls};
 
+use cacache_calls::{Command, Link, Options};
 use cacache_core::errors::Result;
 use cacache_core::integrity::{Algorithm, Integrity};
 use cacache_core::text::Text;
 use cacache_jobs::{call, moment};
 use cacache_store::env::{Clock, Env, Names};
 use cacache_store::store::Store;
-use cacache_calls::{Command, Link, Options};
 
 /// Makes the call of a link to the target.
 fn make_link<S: Store, C, N>(

@@ -6,6 +6,7 @@ ghost use Rattle.cacache_entry.specs.FittingEntries.{EachIsByte, IsJson};
 ghost use Rattle.cacache_sync.specs.put.{Options.{nothing_said, options_of}, KeyedWriters.{OpensKeyed}};
 
 use crate::put::writer::{SyncWriter, open_writer};
+use cacache_calls::{Json, Options, look_through, look_through_bytes};
 use cacache_core::bytes::Bytes;
 use cacache_core::errors;
 use cacache_core::integrity::{Algorithm, Integrity};
@@ -13,7 +14,6 @@ use cacache_core::keeping::beside;
 use cacache_core::text::Text;
 use cacache_store::env::{Clock, Env, Names};
 use cacache_store::store::Store;
-use cacache_calls::{Json, Options, look_through, look_through_bytes};
 use serde_json::Value;
 use std::alloc::{AllocError, Global};
 use std::marker::Model;

@@ -1,11 +1,11 @@
 //! The rest of a target, which a commit reads.
 ghost use Rattle.cacache_sync.specs.put.Rest.{ReadsOn};
 
+use cacache_calls::answers::{Got, got_of};
 use cacache_core::errors::{Error, Result};
 use cacache_core::hasher::Hasher;
 use cacache_jobs::{PIECE, messages, refused};
 use cacache_store::store::{Step, Store};
-use cacache_calls::answers::{Got, got_of};
 use std::alloc::Global;
 
 /// Reads the target to its end after so many bytes that were read before, hashes it, and answers how many it has.

@@ -5,6 +5,7 @@ ghost use Rattle.cacache_sync.specs.{content.{Passed.{passed}, OpenWrites.{HasTa
 
 use crate::content::writer::{Writer, abandon, commit, open, write_or_abandon};
 use crate::put::opts::WriteOpts;
+use cacache_calls::Options;
 use cacache_core::errors::Result;
 use cacache_core::integrity::{Algorithm, Integrity};
 use cacache_core::keeping::{beside, let_go};
@@ -12,7 +13,6 @@ use cacache_core::text::Text;
 use cacache_jobs::moment_of;
 use cacache_store::env::{Clock, Env, Names};
 use cacache_store::store::{Store, TempFile};
-use cacache_calls::Options;
 use std::alloc::Global;
 use std::io;
 use std::io::Write;

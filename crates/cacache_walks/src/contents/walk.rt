@@ -5,14 +5,14 @@ ghost use Rattle.cacache_store.specs.{declared.store.answer.Answer.TheVariants.{
 ghost use Rattle.cacache_walks.specs.{Reading.{Folder, IsErrorOf, file_paths}, Listing.{ShowsBelow, StopsAt, StopsBelow}, WalkSteps.{AnswerShows, AnsweredBy, GoesOnBy, WalkStands, StopsIn, StopsVisit, steps_left}};
 
 use crate::walk::Walk;
+use cacache_calls::answers::names_of;
+use cacache_calls::{Refusal, Visit};
 use cacache_core::errors::{Error, Fault, Result};
 use cacache_core::paths::join;
 use cacache_core::text::Text;
 use cacache_store::store::{
     Answer, Kind, Listing, Name, PlainFile, PlainTemp, Step, Store, failed,
 };
-use cacache_calls::answers::names_of;
-use cacache_calls::{Refusal, Visit};
 use std::alloc::{AllocError, Global};
 
 /// The error for a fault of the walk.

@@ -1,9 +1,9 @@
 //! Calls as words, as `put k hello 5 -`: the kind, the key, and what it needs.
 use crate::calls::words::bytes_of;
+use cacache_calls::{Command, Delete, Export, How, Insert, Json, Link, Options, Put, Source};
 use cacache_core::integrity::Algorithm;
 use cacache_core::keeping::beside;
 use cacache_core::text::Text;
-use cacache_calls::{Command, Delete, Export, How, Insert, Json, Link, Options, Put, Source};
 use rows::Flaw;
 use rows::parts::{expected_of, integrity_of, size_of};
 use rows::words::{cut, is_nothing};

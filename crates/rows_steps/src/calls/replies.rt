@@ -1,7 +1,7 @@
 //! Replies as texts, in the words of rows.
+use cacache_calls::{Found, Items, Reply};
 use cacache_core::errors::Error;
 use cacache_core::keeping::beside;
-use cacache_calls::{Found, Items, Reply};
 use rows::answers::shown_error;
 use rows::words::word_of;
 use std::alloc::{AllocError, Global};

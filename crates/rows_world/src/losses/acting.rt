@@ -1,9 +1,9 @@
 //! The calls that a row writes out, of one caller.
 use crate::losses::history::put_of;
+use cacache_calls::Command;
 use cacache_core::errors::Fault;
 use cacache_core::keeping::let_go;
 use cacache_disk::Luck;
-use cacache_calls::Command;
 use cacache_world::{Move, World};
 use rows::Flaw;
 use rows::words::{cut, number_of};

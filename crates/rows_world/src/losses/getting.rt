@@ -1,11 +1,11 @@
 //! What a `Get` answers on the disk that a loss left.
 use crate::losses::history::HOME;
+use cacache_calls::{Command, Reply};
 use cacache_core::keeping::let_go;
 use cacache_core::text::Text;
 use cacache_disk::Disk;
 use cacache_disk::memory::MemStore;
 use cacache_jobs::{Job, drive};
-use cacache_calls::{Command, Reply};
 use rows::Flaw;
 use rows::answers::{given, shown_error};
 use rows::words::{word_of, written_out};

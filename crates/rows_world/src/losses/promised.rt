@@ -2,6 +2,7 @@
 use crate::losses::history::{DURABLE, HOME, KEYS};
 use crate::losses::loss::Loss;
 use crate::losses::places::Places;
+use cacache_calls::{Command, Reply};
 use cacache_core::integrity::{Algorithm, Integrity, IntegrityOpts};
 use cacache_core::keeping::{beside, let_go};
 use cacache_core::text::Text;
@@ -9,7 +10,6 @@ use cacache_disk::Luck;
 use cacache_entry::latest;
 use cacache_jobs::{bucket_path, content_path};
 use cacache_store::store::{Answer, PlainAnswer, PlainStep, Step};
-use cacache_calls::{Command, Reply};
 use cacache_world::{Record, World};
 use std::alloc::{AllocError, Global};
 
