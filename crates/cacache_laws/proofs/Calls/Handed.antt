@@ -1,9 +1,9 @@
 -- What goes through a handle itself counts as steps of its call.
-use Rattle.std.proofs.{Common.{◌≡◌, inl, inr, ◌==◌, ℕ, Bool, true, false, cond, List, [], ◌∷◌, ◌++◌, Option, Some, length, take, drop, refl, sym, ap, subst, ◌∙◌, append-nil, append_assoc, arith, eqb-true}, lemmas.{Bool.{eq-eqb}, List.{take_all}}, Math.Seq.{drop-length}}
+use Rattle.std.proofs.{Common.{◌≡◌, inl, inr, ◌==◌, ℕ, List, [], ◌∷◌, ◌++◌, Option, Some, length, take, drop, refl, sym, ap, subst, ◌∙◌, append-nil, append_assoc, arith, eqb-true}, lemmas.{Bool.{eq-eqb, cond-true}, List.{take_all}}, Math.Seq.{drop-length}}
 use Rattle.cacache_history.specs.{Commits.{deeds}, Setup.{Setup, home}}
 use Rattle.cacache_core.specs.declared.errors.Fault.{Fault}
 use Rattle.cacache_core.specs.declared.errors.Fault.TheVariants as faults
-use Rattle.cacache_store.specs.{declared.store.plain.{PlainFile.{PlainFile}, PlainTemp.{PlainTemp}}, Fits.{Fits}, Plain.{PlainAnswer}}
+use Rattle.cacache_store.specs.{declared.store.plain.{PlainFile.{PlainFile}, PlainTemp.{PlainTemp}}, Fits.{Fits}}
 use Rattle.cacache_store.specs.declared.store.step.Step.TheVariants as steps
 use Rattle.cacache_store.specs.declared.store.answer.Answer.TheVariants as answers
 use Rattle.cacache_disk.specs.{declared.luck.Luck.TheVariants.{Plain}, Tree.{Tree}, Apply.{apply, given, grown, rest_of, opened}}
@@ -66,13 +66,9 @@ file_of left bytes = record { left = left; bytes = Some bytes }
 byte_rest : (b : ℕ) (all : List ℕ) → rest_of (b ∷ all) 1 ≡ opened all
 byte_rest b all = ap (λ n. file_of n all) (omega arith)
 
-pub if_so : (x y : PlainAnswer) (b : Bool) → b ≡ true → cond b x y ≡ x
-if_so x y true e = refl
-if_so x y false e = absurd cc
-
 byte_given : (b : ℕ) (all : List ℕ) → given (opened (b ∷ all)) 1 (Some (b ∷ all)) ≡ answers.Got (opened all) (b ∷ [])
 byte_given b all =
-    if_so (answers.Got (rest_of (b ∷ all) 1) (b ∷ [])) (answers.Failed faults.Closed) (length (b ∷ all) == length (b ∷ all)) (eq-eqb (length (b ∷ all)) (length (b ∷ all)) refl)
+    cond-true (length (b ∷ all) == length (b ∷ all)) (answers.Got (rest_of (b ∷ all) 1) (b ∷ [])) (answers.Failed faults.Closed) (eq-eqb (length (b ∷ all)) (length (b ∷ all)) refl)
     ∙ ap (λ f. answers.Got f (b ∷ [])) (byte_rest b all)
 
 -- reads of these bytes, one by one

@@ -8,7 +8,7 @@ use Rattle.cacache_calls.specs.{declared.{command.Command.{Command}, reply.Reply
 use Rattle.cacache_calls.proofs.{EarnedErrors.{io_errors_have_causes}, Going.{goes_lost}}
 use Rattle.cacache_value.{specs.{OpeningTrees.{LieApart}, Value.{value_of_tree}}, proofs.Traces.{traces_act}}
 use Rattle.cacache_history.specs.{Setup.{Setup, call_site, home}, History.{Turn, turn_of}, Turns.{made_in, EachTurn}}
-use Rattle.cacache_history.proofs.{Entries.Bucketed.{KeyedTurn}, Histories.{Holding.{CallHolds, TurnsHold, begins_hold, moved_holds}, Runs.{memory_plain}, TurnReplies.{reads_value}}, Contents.Commits.{cases, plain_refused}, durable.CommitPlaces.{goes_runs}}
+use Rattle.cacache_history.proofs.{Entries.Bucketed.{KeyedTurn}, Histories.{Holding.{CallHolds, TurnsHold, begins_hold, moved_holds}, Runs.{memory_plain}, TurnReplies.{reads_value}}, Contents.Commits.{cases, plain_refused}, durable.CommitPlaces.{goes_runs}, Each.{each_join}}
 use Rattle.cacache_history.specs.History as histories
 use Rattle.cacache_laws.specs.{Sequence.{tree_on, turns_on, AreAnswered, plain_moves, IsSound}, InParts.{Part, made, took, byte_read, moves_in, turns_in, AreParts, Begun, with_part, IsOnItsWay, Changes, AnswersInParts, LogsLead, CallsBegin, PartsGoOn, LeftAreCases, PartsAnswer}}
 use Rattle.cacache_laws.proofs.{Readings.Found.{found_before}, Calls.{Replays.{replay_more, replayable_rest, moves_lead, moves_answered}, Sequence.{alone, on_its_way, run_ends, turns_made, moves_after, RunHolds, run_holds, moves_follow, holds_alone, keeps_alone, sound_alone}}}
@@ -67,10 +67,6 @@ all_made [] = refl
 all_made (made t moves ∷ parts) = made_more (turns_on t moves) (turns_in parts) ∙ ap (λ l. l ++ made_in (turns_in parts)) (turns_made t moves) ∙ ap (λ l. moves ++ l) (all_made parts)
 all_made (took t file ∷ parts) = ap (λ l. byte_read file ∷ l) (all_made parts)
 
-pub each_through : (P : Turn → Type 0) (xs ys : List Turn) → EachTurn P xs → EachTurn P ys → EachTurn P (xs ++ ys)
-each_through P [] ys h k = k
-each_through P (turn ∷ xs) ys h k = (h.0, each_through P xs ys h.1 k)
-
 turns_hold_rest : (s : Setup) (xs ys : List Turn) → TurnsHold s (xs ++ ys) → TurnsHold s ys
 turns_hold_rest s [] ys h = h
 turns_hold_rest s (turn ∷ xs) ys h = turns_hold_rest s xs ys h.1
@@ -108,7 +104,7 @@ module _ (s : Setup) (apart : LieApart (home s) s.outside) (command : Command) (
       let one = part_holds t moves turns state a.0 h.0 h.1 mine a.1 in
       let more = parts_hold parts (turns ++ turns_on t moves) a.0 next h.2 one.1 a.2 in (
         subst (λ l. CallHolds s (stands l next)) (append_assoc turns (turns_on t moves) (turns_in parts)) more.0,
-        each_through (KeyedTurn s) (turns_on t moves) (turns_in parts) one.0.keyed more.1,
+        each_join (KeyedTurn s) (turns_on t moves) (turns_in parts) one.0.keyed more.1,
       )
   parts_hold (took t file ∷ parts) turns state next h mine g =
       let m = byte_read file in

@@ -1,5 +1,5 @@
 -- An export to a path apart from the cache leaves what the cache holds.
-use Rattle.std.proofs.Common.{◌≡◌, ◌&&◌, ℕ, zero, suc, Bool, true, false, cond, List, [], ◌∷◌, ◌++◌, Option, None, Some, Result, Ok, Err, refl, sym, ap, subst, ◌∙◌}
+use Rattle.std.proofs.{Common.{◌≡◌, ℕ, Bool, true, false, cond, List, [], ◌∷◌, ◌++◌, Option, None, Some, Result, Ok, Err, refl, sym, ap, subst, ◌∙◌}, lemmas.Bool.{and_from}}
 use Rattle.std.specs.Prelude.{IfOk, bytes_eq}
 use Rattle.cacache_core.specs.{Paths.{content_area, index_area, temp_area}, declared.errors.Fault.{Fault}, PathNames.{Names, names_of, home_of}}
 use Rattle.cacache_store.specs.declared.store.answer.Answer.TheVariants as answers
@@ -9,6 +9,7 @@ use Rattle.cacache_disk.specs.memory.Replay.{tree_of}
 use Rattle.cacache_calls.specs.declared.command.Command.TheVariants as commands
 use Rattle.cacache_calls.specs.{Runs.{Goes}, Table.{opening}}
 use Rattle.cacache_value.specs.{Kinds.{PathKind, Content as OfContent, Bucket, Temporary, Stray, Elsewhere, IsFor, kind_in_area, kind_beside, path_kind}, Value.{Value, value_of_tree}}
+use Rattle.cacache_value.proofs.KindsApart.{kind_in_used}
 use Rattle.cacache_history.specs.{Setup.{may_export, call_site, apart_from_home, are_apart, may_take}, History.{Turn}, Turns.{EachTurn, made_in}, Commits.{Deed, deeds, deeds_of_act, finds_in}, ReadingCalls.{TurnDoesNothing}}
 use Rattle.cacache_history.proofs.Histories.ReadingCalls.{readings_do_nothing}
 use Rattle.cacache_laws.specs.{Sequence.{Alike, turns_on, after_deeds}, Caches.{setup_at}, ExportEffects.{ExportsKeep}}
@@ -29,16 +30,10 @@ module _ (home : Option Names) where
 
 -- ---- paths apart
 
-area_kind : (file : PathKind) (depth : ℕ) (rest : Names) → (file ≡ Elsewhere → ⊥) → kind_in_area file depth rest ≡ Elsewhere → ⊥
-area_kind file zero [] h e = h e
-area_kind file zero (name ∷ rest) h e = absurd cc
-area_kind file (suc depth) [] h e = absurd cc
-area_kind file (suc depth) (name ∷ rest) h e = area_kind file depth rest h e
-
 below_kind : (a b c : Bool) (rest : Names) → cond a (kind_in_area OfContent 4 rest) (cond b (kind_in_area Bucket 3 rest) (cond c (kind_in_area Temporary 1 rest) Stray)) ≡ Elsewhere → ⊥
-below_kind true b c rest e = area_kind OfContent 4 rest (λ k. absurd cc) e
-below_kind false true c rest e = area_kind Bucket 3 rest (λ k. absurd cc) e
-below_kind false false true rest e = area_kind Temporary 1 rest (λ k. absurd cc) e
+below_kind true b c rest e = kind_in_used OfContent 4 rest (λ k. absurd cc) e
+below_kind false true c rest e = kind_in_used Bucket 3 rest (λ k. absurd cc) e
+below_kind false false true rest e = kind_in_used Temporary 1 rest (λ k. absurd cc) e
 below_kind false false false rest e = absurd cc
 
 beside_by : (b : Bool) (kind : PathKind) (apart : Bool) → (kind ≡ Elsewhere → apart ≡ true) → cond b kind Elsewhere ≡ Elsewhere → cond b apart true ≡ true
@@ -55,15 +50,11 @@ home_apart : (folder : Option Names) (path : Names) → path_kind folder path �
 home_apart None path e = refl
 home_apart (Some folder) path e = beside folder path e
 
-and_true : (b : Bool) → b ≡ true → (b && true) ≡ true
-and_true true e = refl
-and_true false e = absurd cc
-
 pub exports_apart : (cache base to : List ℕ) → IsFor (home_of cache) Elsewhere to → may_export (setup_at cache base) to ≡ true
 exports_apart cache base to for = by (names_of to) for
   where
     by : (r : Result Names Fault) → IfOk r (λ names. path_kind (home_of cache) names ≡ Elsewhere) → may_take (setup_at cache base) r ≡ true
-    by (Ok names) is = and_true (apart_from_home (home_of cache) names) (home_apart (home_of cache) names is)
+    by (Ok names) is = and_from (apart_from_home (home_of cache) names) true (home_apart (home_of cache) names is) refl
     by (Err fault) is = refl
 
 pub exports_keep : ExportsKeep

@@ -1,5 +1,5 @@
 -- A link's commit that expects no size goes on as one that expects the size of its bytes; and how it fails.
-use Rattle.std.proofs.{Common.{◌≡◌, ◌⊎◌, inl, inr, ◌==◌, ℕ, Bool, true, false, cond, List, [], ◌∷◌, ◌++◌, Option, None, Some, length, refl, sym, ap, subst, ◌∙◌, append-nil, append_assoc}, lemmas.Bool.{eq-eqb}}
+use Rattle.std.proofs.{Common.{◌≡◌, ◌⊎◌, inl, inr, ◌==◌, ℕ, true, false, cond, List, [], ◌∷◌, ◌++◌, Option, None, Some, length, refl, sym, ap, subst, ◌∙◌, append-nil, append_assoc}, lemmas.Bool.{eq-eqb, cond-true}}
 use Rattle.cacache_core.specs.declared.{errors.{Error.{Error, TheVariants.{IntegrityError, IoError, OutOfMemory, SizeMismatch}}, Fault.{Fault}, IntegrityFault.TheVariants.{Check}}, integrity.digest.Hash.{Hash}}
 use Rattle.cacache_core.specs.declared.errors.Fault.TheVariants as faults
 use Rattle.cacache_store.specs.declared.store.answer.Answer.TheVariants as answers
@@ -12,10 +12,6 @@ use Rattle.cacache_history.proofs.Contents.OpenedContents.{OnDisks, gives_all, r
 use Rattle.cacache_laws.{specs.{CallErrors.{FailsOnly}, OpenLinkers.{SuitsSize}}, proofs.{Calls.CallErrors.{Plain as PlainCommit, calm_run}, Removing.Removed.{over_run}}}
 
 -- ---- a size that a commit expects
-
-chosen : (b : Bool) (x y : State) → b ≡ true → cond b x y ≡ x
-chosen true x y e = refl
-chosen false x y e = absurd cc
 
 -- the target with this size expected, or with none
 abbrev pub of_size : Target ℕ → Option ℕ → Target ℕ
@@ -72,7 +68,7 @@ module _ (t : Target ℕ) (n : ℕ) (bytes : List ℕ) (is : n ≡ length bytes)
   indexed_same (Some key) = refl
 
   sized_same : sized free None ≡ sized sure (Some n)
-  sized_same = indexed_same t.key ∙ sym (chosen (n == length bytes) (indexed sure t.key) (ends_with (SizeMismatch n (length bytes))) (eq-eqb n (length bytes) is))
+  sized_same = indexed_same t.key ∙ sym (cond-true (n == length bytes) (indexed sure t.key) (ends_with (SizeMismatch n (length bytes))) (eq-eqb n (length bytes) is))
 
   compared_same : (expected : Option (List Hash)) → compared free expected ≡ compared sure expected
   compared_same None = sized_same

@@ -1,5 +1,5 @@
 -- What a link leaves: its bytes are those that the target shows, and its deeds are those of its commit.
-use Rattle.std.proofs.{Common.{◌≡◌, ◌⊎◌, inl, inr, ℕ, Bool, true, false, cond, List, [], ◌∷◌, ◌++◌, ◌||◌, Option, None, Some, Result, Ok, Err, length, map, refl, sym, ap, subst, ◌∙◌}, lemmas.List.Elements.{All-head}}
+use Rattle.std.proofs.{Common.{◌≡◌, ◌⊎◌, inl, inr, ℕ, Bool, true, false, cond, List, [], ◌∷◌, ◌++◌, ◌||◌, Option, None, Some, Result, Ok, Err, length, map, refl, sym, ap, subst, ◌∙◌}, lemmas.{List.Elements.{All-head}, Bool.{cond-true}}}
 use Rattle.sha1.specs.Sha1.{sha1}
 use Rattle.cacache_core.specs.{declared.{errors.{Error.TheVariants.{IoError}, Fault.{Fault}}, integrity.digest.Hash.{Hash}}, Integrity.{IsHash, IsIntegrity}, PathNames.{Names, home_of, names_of}, Paths.{content_names}}
 use Rattle.cacache_core.specs.declared.errors.Fault.TheVariants as faults
@@ -17,7 +17,7 @@ use Rattle.cacache_value.specs.{Acts.{PutLink, change, list_of}, Kinds.{is_path_
 use Rattle.cacache_history.specs.{Commits.{AddsAfter, CommitsAs, Deed, IsNotOk, InsertionAdds, LinksTo, PutsContent, ReadsTarget, deeds, does, finds}, Setup.{Setup, call_site, same_place}, Values.{IsThere}}
 use Rattle.cacache_history.proofs.{Contents.{Digests.{digest_hash}, OpenedContents.{EachAsks, OnDisks, gives_all, run_asks}, Righted.{one_address}}, Histories.ShownTurns.{content_below}}
 use Rattle.cacache_laws.specs.{Beside.{IsOther, ShareAddress, own_integrity}, Caches.{Called, HasContent, IsCache, lies_under, setup_at}, Keeping.{found_under}, ExportEffects.{IsApart}, Links.{FitsLink, KeepsBesideLink, LeavesLink, LinksLast, put_like}, Puts.{ExpectsIntegrity, LeadsToPut, MayLeadToPut, stored_as}, Sequence.{Alike, AreAnswered, CallIsAnswered, IsMadeOn, IsSound, SequenceCall, after_deeds, tree_on, turns_on}, Stored.{own_hash}}
-use Rattle.cacache_laws.proofs.{Putting.{Beside.{later_contents, later_lookups}, KeptKeys.{alike_lookup}, Puts.{led_by}, Stored.{adds_entry, below_is, first_deed, new_blob}}, Calls.{Logs.{some_same}, InParts.{logs_lead}, Sequence.{calls_answer_alone, turns_made}}, Readings.ReadsStay.{sizing_keeps}, Removing.Removed.{over_run}}
+use Rattle.cacache_laws.proofs.{Putting.{Beside.{later_contents, later_lookups}, KeptKeys.{alike_lookup}, Puts.{led_by}, Stored.{adds_entry, below_is, first_deed}}, Calls.{Logs.{some_same}, InParts.{logs_lead}, Sequence.{calls_answer_alone, turns_made}}, Readings.ReadsStay.{sizing_keeps}, Removing.Removed.{over_run}}
 
 -- ---- the bytes that the target shows
 
@@ -130,7 +130,7 @@ module _ (cache : List ℕ) (p : Put) (path : List ℕ) where
         (content_below (setup_at cache []) (own_hash p) [] (digest_hash p.options.algorithm p.data)) puts.1 in
         inl
         (same ∙ ap (λ x. (change (home_of cache) x v).contents (own_hash p)) puts.2
-        ∙ new_blob (is_path_of (home_of cache) (content_names (own_hash p)) puts.0) (Some (AtLink path)) (v.contents (own_hash p)) at)
+        ∙ cond-true (is_path_of (home_of cache) (content_names (own_hash p)) puts.0) (Some (AtLink path)) (v.contents (own_hash p)) at)
 
     linked_or_found : (IsNotOk reply → ⊥) → CommitsAs (put_commit cache p) (λ names. PutLink names path) ds reply → LinkedOrFound
     linked_or_found ok (inl h) = absurd (ok h.1)

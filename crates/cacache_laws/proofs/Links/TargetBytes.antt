@@ -3,11 +3,11 @@ use Rattle.std.proofs.Common.{◌≡◌, ◌⊎◌, inl, inr, ℕ, List, [], ◌
 use Rattle.cacache_core.specs.{declared.errors.{Error.{Error, TheVariants.{EntryNotFound, IntegrityError, IoError, OutOfMemory, SerdeError, SizeMismatch}}, Fault.{Fault}}, PathNames.{home_of}}
 use Rattle.cacache_core.specs.declared.errors.Fault.TheVariants as faults
 use Rattle.cacache_store.specs.declared.store.answer.Answer.TheVariants as answers
-use Rattle.cacache_store.specs.declared.store.{log.LogItem.{LogItem, TheVariants.{Made}}, plain.PlainFile.{PlainFile}}
+use Rattle.cacache_store.specs.{declared.store.{log.LogItem.{LogItem, TheVariants.{Made}}, plain.PlainFile.{PlainFile}}, Plain.{PlainStep, PlainAnswer}}
 use Rattle.cacache_store.specs.declared.store.step.Step.TheVariants as steps
-use Rattle.cacache_disk.specs.{declared.luck.Luck.TheVariants.{Plain, Take}, Tree.{Tree}, Apply.{apply, opened, unless}, LedTo.{file_at}, memory.Replay.{IsLog, bytes_told, shown, tree_of}}
+use Rattle.cacache_disk.specs.{declared.luck.Luck.{TheVariants.{Plain, Take}, Luck}, Tree.{Tree}, Apply.{apply, opened, unless}, LedTo.{file_at}, memory.Replay.{IsLog, bytes_told, shown, tree_of}}
 use Rattle.cacache_calls.specs.{Runs.{Gains, Moves}, SingleSteps.{FailsAt}}
-use Rattle.cacache_history.{specs.{Commits.{ReadsTarget}, History.{turn_of}, Setup.{Setup}}, proofs.Contents.OpenedContents.{EachAsks, OnDisks, gives_all}}
+use Rattle.cacache_history.{specs.{Commits.{ReadsTarget}, History.{turn_of}, Setup.{Setup}}, proofs.{Contents.OpenedContents.{EachAsks, OnDisks, gives_all}, Each.{each_join}}}
 use Rattle.cacache_laws.specs.{Caches.{IsCache, Grows}, InParts.{AreParts, Part, byte_read, made, took, moves_in, turns_in}, OpenLinkers.{GivesSized, GivesTarget, LinkersOpen, LinkersOpenSized, OpensSized, OpensTarget}, OpenWriters.{LeavesKnownCache}, Sequence.{AreAnswered, IsSound, tree_on, turns_on}}
 use Rattle.cacache_laws.proofs.{Calls.{InParts.{byte_answered, logs_lead}, Logs.{excuses_last, growths_join, some_same}}, Links.Linking.{on_disks, opened_held}, Spares.GivenUp.{unchanged}, Readings.{OpenReaders.{Opened, errs, leaves as known_left, log_front, opened_keeps}, ReadsStay.{opened_so, sizing_keeps}}, Putting.OpenWriters.{excused_step, gains_grow}}
 
@@ -41,10 +41,6 @@ file_held t path held file shows told =
     let same : b.0 ≡ held = cc in
     b.1 ∙ ap opened same
 
-disks_join : (xs ys : Moves) → OnDisks xs → OnDisks ys → OnDisks (xs ++ ys)
-disks_join [] ys h k = k
-disks_join (m ∷ xs) ys h k = (h.0, disks_join xs ys h.1 k)
-
 -- the moves of parts have a disk's answers
 -- a file that can be opened shows its bytes
 opened_shows : (t : Tree) (path bytes : List ℕ) → answers.File (opened bytes) ≡ (apply t (steps.Open path) Plain).0 → shown t path ≡ Some bytes
@@ -57,7 +53,7 @@ opened_shows t path bytes = by (file_at t path faults.IsADirectory)
 
 pub parts_on_disks : (s : Setup) (parts : List Part) → AreParts s parts → OnDisks (moves_in parts)
 parts_on_disks s [] h = tt
-parts_on_disks s (made t moves ∷ parts) h = disks_join moves (moves_in parts) (on_disks t moves h.1) (parts_on_disks s parts h.2)
+parts_on_disks s (made t moves ∷ parts) h = each_join (λ (m : PlainStep × PlainAnswer). (x : Tree) × (luck : Luck) × (m.1 ≡ (apply x m.0 luck).0)) moves (moves_in parts) (on_disks t moves h.1) (parts_on_disks s parts h.2)
 parts_on_disks s (took t file ∷ parts) h = ((t, Take 1, byte_answered t file), parts_on_disks s parts h.1)
 
 pub turns_more : (parts more : List Part) → turns_in (parts ++ more) ≡ turns_in parts ++ turns_in more

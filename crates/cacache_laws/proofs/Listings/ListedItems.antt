@@ -1,25 +1,16 @@
 -- Items of a listing, and the entries of a bucket among them.
-use Rattle.std.proofs.{Common.{◌≡◌, ◌⊎◌, inl, inr, ℕ, zero, suc, Bool, true, false, cond, List, [], ◌∷◌, ◌++◌, Option, None, Some, Ok, Err, option_map, map, take, fold, refl, sym, ap, subst, ◌∙◌}, lemmas.{List.Elements.{All-nil, All-cons, All-head, All-tail, All-append, All-take}, Slice.Eq.{bytes_eq-Decides}}}
+use Rattle.std.proofs.{Common.{◌≡◌, ◌⊎◌, inl, inr, ℕ, zero, suc, Bool, true, false, cond, List, [], ◌∷◌, ◌++◌, Option, None, Some, Ok, Err, option_map, map, take, fold, refl, sym, ap}, lemmas.{List.Elements.{All-nil, All-cons, All-head, All-tail, All-append, All-take}, Slice.Eq.{bytes_eq-Decides}}}
 use Rattle.std.specs.{Prelude.{All, bytes_eq, unwrap_or}, List.{filter_map, cons_option}}
 use Rattle.cacache_entry.specs.{Entry.{Entry}, Latest.{Found, answer_of, after_entry, latest}}
 use Rattle.cacache_calls.{specs.{ListReplies.{In, keys_of, too_deep}, State.{Item}, Walking.{once, items_of}}, proofs.Keys.{each_key_once}}
 use Rattle.cacache_history.specs.ListingTurns.{OtherKey, NoKeyTwice}
-use Rattle.cacache_laws.specs.ListedKeys.{AreAllFound}
+use Rattle.cacache_laws.{specs.ListedKeys.{AreAllFound}, proofs.trees.Members.{mapped}}
 
 -- ---- lists
 
 pub both_all : {X : Type 0} (P Q R : X → Type 0) → ((x : X) → P x → Q x → R x) → (xs : List X) → All P xs → All Q xs → All R xs
 both_all P Q R f [] p q = All-nil R
 both_all P Q R f (x ∷ xs) p q = All-cons R x xs (f x (All-head P x xs p) (All-head Q x xs q)) (both_all P Q R f xs (All-tail P x xs p) (All-tail Q x xs q))
-
-pub in_left : {X : Type 0} (x : X) (xs ys : List X) → In x xs → In x (xs ++ ys)
-in_left x [] ys i = absurd i
-in_left x (y ∷ xs) ys (inl e) = inl e
-in_left x (y ∷ xs) ys (inr i) = inr (in_left x xs ys i)
-
-pub in_right : {X : Type 0} (x : X) (xs ys : List X) → In x ys → In x (xs ++ ys)
-in_right x [] ys i = i
-in_right x (y ∷ xs) ys i = inr (in_right x xs ys i)
 
 -- ---- lists without errors
 
@@ -72,15 +63,6 @@ fold_in key found (e ∷ es) f is =
 pub found_in : (key : List ℕ) (es : List Entry) (f : Found) → latest key es ≡ Some f → In key (keys_of es)
 found_in key es f is = elim (fold_in key None es f is) [ inl e ↦ absurd cc | inr i ↦ i ]
 
-cons_in : {Y : Type 0} (y : Y) (o : Option Y) (rest : List Y) → In y rest → In y (cons_option o rest)
-cons_in y None rest i = i
-cons_in y (Some z) rest i = inr i
-
-map_in : {X Y : Type 0} (h : X → Option Y) (x : X) (y : Y) → h x ≡ Some y → (xs : List X) → In x xs → In y (filter_map h xs)
-map_in h x y is [] i = absurd i
-map_in h x y is (z ∷ zs) (inl same) = subst (λ o. In y (cons_option o (filter_map h zs))) (sym is ∙ ap h same) (inl refl)
-map_in h x y is (z ∷ zs) (inr i) = cons_in y (h z) (filter_map h zs) (map_in h x y is zs i)
-
 -- and it is listed
 pub lists_found : (key : List ℕ) (es : List Entry) (f : Found) → latest key es ≡ Some f → In (Ok f) (items_of es)
-lists_found key es f is = map_in (λ k. option_map Ok (latest k es)) key (Ok f) (ap (option_map Ok) is) (once (keys_of es)) (((each_key_once es).1 key).1 (found_in key es f is))
+lists_found key es f is = mapped (λ k. option_map Ok (latest k es)) key (Ok f) (once (keys_of es)) (((each_key_once es).1 key).1 (found_in key es f is)) (ap (option_map Ok) is)

@@ -15,7 +15,7 @@ use Rattle.cacache_value.{specs.{Acts.{list_of}, Kinds.{NamesBelow}, Value.{valu
 use Rattle.cacache_history.specs.{Setup.{Setup, home}, History.{Turn}, ShownTurns.{entries_at, shown_result, bucket_read, by_entries}, Turns.{made_in, EachTurn}, ListingTurns.{IsFound, TurnGives, TurnsGive, AnyTurn, HasBucket, TurnReadsBucket, FailsAbove}}
 use Rattle.cacache_history.proofs.Histories.{Holding.{TurnHolds, TurnsHold}, ShownTurns.{bucket_below, bucket_at_turn}}
 use Rattle.cacache_laws.specs.{ReadAnswers.{entries_on}, ListedKeys.{AreAllFound}}
-use Rattle.cacache_laws.proofs.{Readings.ReadAnswers.{is_shown}, Listings.ListedItems.{in_left, in_right, entries_left, entries_right, lists_entries, lists_found}}
+use Rattle.cacache_laws.proofs.{Readings.ReadAnswers.{is_shown}, Listings.ListedItems.{entries_left, entries_right, lists_entries, lists_found}, trees.Members.{in_left, in_right}}
 
 -- ---- errors come from steps
 

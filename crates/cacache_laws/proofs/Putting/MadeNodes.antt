@@ -1,29 +1,15 @@
 -- What steps that are done make: new folders keep what is there, and a file can be put into them.
-use Rattle.std.proofs.Common.{◌≡◌, ◌==◌, ◌-◌, ℕ, Bool, true, false, cond, List, [], ◌∷◌, ◌++◌, Option, None, Some, Result, Ok, Err, length, take, refl, sym, ap, subst, ◌∙◌, arith, append_assoc}
+use Rattle.std.proofs.Common.{◌≡◌, ◌-◌, ℕ, cond, List, [], ◌∷◌, ◌++◌, Option, None, Some, Result, Ok, Err, length, take, refl, sym, ap, subst, ◌∙◌, arith, append_assoc}
 use Rattle.cacache_core.specs.{declared.errors.Fault.{Fault}, PathNames.{Names, names_of}}
 use Rattle.cacache_store.specs.declared.store.plain.PlainTemp.{PlainTemp}
 use Rattle.cacache_store.specs.declared.store.step.Step.TheVariants as steps
 use Rattle.cacache_store.specs.declared.store.answer.Answer.TheVariants as answers
-use Rattle.cacache_disk.specs.{declared.{luck.Luck.TheVariants.{Plain}, node.Node.{Node, TheVariants.{Folder, File, Link}}}, Tree.{Tree, look, put, same_path}, LedTo.{or_fault, way_fault, place, where_no_folder, free, known, kept, replaceable, dirs, dirs_fault}, Rooted.{Rooted}, Apply.{apply, unless, make_some, if_missing, grown, taken, made_temp}}
-use Rattle.cacache_disk.proofs.{FoundNodes.{and_then_ok, or_fault_none, free_ok}, Maps.{same_path-true}, PlantedNodes.{full}, PutNodes.{look-put}, Roots.{not_true, same_self}, Standing.{upper_folder}}
+use Rattle.cacache_disk.specs.{declared.{luck.Luck.TheVariants.{Plain}, node.Node.{Node, TheVariants.{Folder, File, Link}}}, Tree.{Tree, look, put}, LedTo.{or_fault, way_fault, place, where_no_folder, free, known, kept, replaceable, dirs, dirs_fault}, Rooted.{Rooted}, Apply.{apply, unless, make_some, grown, taken, made_temp}}
+use Rattle.cacache_disk.proofs.{FoundNodes.{and_then_ok, or_fault_none, free_ok}, PlantedNodes.{full}, PutNodes.{look-put}, Roots.{same_self}, Standing.{upper_folder}}
 use Rattle.cacache_value.specs.{Kinds.{Content}, Placed.{MayStand}}
+use Rattle.cacache_loss.proofs.StepCases.{make_keeps}
 
 -- ---- folders that are made
-
-stays_at : (t : Tree) (p q rest : Names) (here : Option Node) (count : ℕ) (b : Bool) (node : Node) → look t p ≡ here → look t q ≡ Some node
-    → ((new : Tree) (count : ℕ) → look new q ≡ Some node → look (make_some new p rest count) q ≡ Some node)
-    → look (make_some (if_missing here (cond b t (put t p Folder)) t) p rest (if_missing here (count - 1) count)) q ≡ Some node
-stays_at t p q rest None count true node is e h = h t (count - 1) e
-stays_at t p q rest None count false node is e h =
-    let apart : same_path q p ≡ false = not_true (same_path q p) (λ s. let no : None ≡ Some node = sym is ∙ ap (look t) (sym (same_path-true q p s)) ∙ e in absurd cc) in
-    h (put t p Folder) (count - 1) (look-put t p Folder q ∙ ap (λ b. cond b (Some Folder) (look t q)) apart ∙ e)
-stays_at t p q rest (Some other) count b node is e h = h t count e
-
--- what is there stays
-pub stays : (t : Tree) (above rest q : Names) (count : ℕ) (node : Node) → look t q ≡ Some node → look (make_some t above rest count) q ≡ Some node
-stays t above [] q count node e = e
-stays t above (name ∷ rest) q count node e =
-    stays_at t (above ++ name ∷ []) q rest (look t (above ++ name ∷ [])) count (count == 0) node refl e (λ new count e. stays new (above ++ name ∷ []) rest q count node e)
 
 -- a path leads into a folder that is there
 pub way_into : (t : Tree) (p rest : Names) (name : List ℕ) → Rooted t → look t (p ++ rest) ≡ Some Folder → way_fault t p (rest ++ name ∷ []) ≡ None
@@ -115,7 +101,7 @@ still_stands t new p file made s = record {
   was = s.was;
   known_to_be = s.known_to_be;
   named = s.named;
-  there = ap (λ x. look x s.names) made.is ∙ stays t [] made.names s.names (length made.names) (File s.was) s.there;
+  there = ap (λ x. look x s.names) made.is ∙ make_keeps t [] made.names s.names (File s.was) (length made.names) s.there;
 }
 
 -- ---- it becomes a content

@@ -1,5 +1,5 @@
 -- What a put, an insertion and a removal that are done leave in the cache.
-use Rattle.std.proofs.Common.{◌≡◌, inl, inr, ℕ, Bool, true, false, cond, List, [], ◌∷◌, ◌++◌, Option, None, Some, Result, Ok, Err, refl, sym, ap, subst, ◌∙◌}
+use Rattle.std.proofs.{Common.{◌≡◌, inl, inr, ℕ, Bool, true, false, cond, List, [], ◌∷◌, ◌++◌, Option, None, Some, Result, Ok, Err, refl, sym, ap, subst, ◌∙◌}, lemmas.Bool.{cond-true}}
 use Rattle.sha1.specs.Sha1.{sha1}
 use Rattle.cacache_core.specs.{declared.{errors.Fault.{Fault}, integrity.digest.Hash.{Hash}}, Integrity.{IsHash}, PathNames.{Names, names_of, names_below}, Paths.{content_names, bucket_names_of}}
 use Rattle.cacache_disk.{specs.Tree.{Tree}, proofs.Roots.{same_self}}
@@ -7,7 +7,7 @@ use Rattle.cacache_entry.specs.Entry.{Entry}
 use Rattle.cacache_calls.specs.{declared.{command.Put.{Put}, reply.Reply.{Reply}, carried.Commit.{Commit}}, Inserting.{insertion, deletion}, StepPaths.{content_path, bucket_path}, State.{Insertion}, Storing.{insertion_of, put_commit}}
 use Rattle.cacache_calls.specs.declared.command.Command.TheVariants as commands
 use Rattle.cacache_calls.specs.declared.reply.Reply.TheVariants as replies
-use Rattle.cacache_value.specs.{Kinds.{is_path_of}, Value.{Blob, InFile, Value, value_of_tree}, Acts.{PutBytes, change, list_of}}
+use Rattle.cacache_value.specs.{Kinds.{is_path_of}, Value.{InFile, Value, value_of_tree}, Acts.{PutBytes, change, list_of}}
 use Rattle.cacache_history.specs.{Setup.{Setup, call_site, home}, Commits.{Deed, does, finds, deeds, PutsContent, IsAdded, IsNotOk, InsertionAdds, AddsAfter, CommitsAs, IsCase}}
 use Rattle.cacache_history.proofs.{Contents.Digests.{digest_hash}, Histories.ShownTurns.{bucket_below, content_below}}
 use Rattle.cacache_laws.specs.{Sequence.{turns_on, tree_on, Alike, after_deeds}, ReadAnswers.{entries_on}, Stored.{own_hash, HasStored, PutsStore, InsertsAdd, DeletesAdd}}
@@ -23,10 +23,6 @@ below_is (Some folder) names all r e f =
 more_entries : (b : Bool) (o : Option (List Entry)) (new : List Entry) → b ≡ true → list_of (cond b (Some (list_of o ++ new)) o) ≡ list_of o ++ new
 more_entries true o new e = refl
 more_entries false o new e = absurd cc
-
-pub new_blob : (b : Bool) (blob old : Option Blob) → b ≡ true → cond b blob old ≡ blob
-new_blob true blob old e = refl
-new_blob false blob old e = absurd cc
 
 -- deeds are done one after another
 pub first_deed : (folder : Option Names) (d : Deed) (more : List Deed) (w : Value) → after_deeds folder (d ∷ more) w ≡ after_deeds folder more (after_deeds folder (d ∷ []) w)
@@ -61,7 +57,7 @@ module _ (s : Setup) where
   puts_blob c bytes a (does act) more ds v here of hash found e is =
       let at = below_is (home s) (content_names a) is.0 (names_of (content_path c.cache c.computed))
       (ap (λ k. names_of (content_path k c.computed)) here ∙ ap (λ j. names_of (content_path s.cache j)) of ∙ content_below s a [] hash) is.1 in
-      ap (λ x. (change (home s) x v).contents a) is.2 ∙ new_blob (is_path_of (home s) (content_names a) is.0) (Some (InFile bytes)) (v.contents a) at
+      ap (λ x. (change (home s) x v).contents a) is.2 ∙ cond-true (is_path_of (home s) (content_names a) is.0) (Some (InFile bytes)) (v.contents a) at
 
   -- a commit's entry, once its content is there
   entry_after : (i : Insertion) (more : List Deed) (r : Reply) → InsertionAdds i more (Some r) → (IsNotOk (Some r) → ⊥) → (d : Deed) × IsAdded i d × (more ≡ d ∷ [])

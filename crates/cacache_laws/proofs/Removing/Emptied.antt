@@ -1,5 +1,5 @@
 -- A clearing that ends as done leaves an empty cache.
-use Rattle.std.proofs.{Common.{◌≡◌, inl, inr, ◌-◌, ℕ, Bool, true, false, cond, List, [], ◌∷◌, ◌++◌, Option, None, Some, Result, Ok, Err, length, refl, sym, ap, subst, ◌∙◌, arith, append_assoc, append-nil}, lemmas.List.Elements.{All-cons, All-nil}}
+use Rattle.std.proofs.{Common.{◌≡◌, inl, inr, ◌-◌, ℕ, Bool, true, false, cond, List, [], ◌∷◌, ◌++◌, Option, None, Some, Result, Ok, Err, length, refl, sym, ap, subst, ◌∙◌, arith, append_assoc}, lemmas.List.Elements.{All-cons, All-nil}}
 use Rattle.std.specs.{Prelude.{slice_index_or}, List.{filter_map, cons_option}}
 use Rattle.std.specs.FinMap as map
 use Rattle.cacache_core.specs.{declared.errors.Fault.{Fault}, Paths.{join}, PathNames.{Names, names_of, home_of, names_below, IsProperName}}
@@ -8,8 +8,8 @@ use Rattle.cacache_store.specs.declared.store.step.Step.TheVariants as steps
 use Rattle.cacache_store.specs.declared.store.answer.Answer.TheVariants as answers
 use Rattle.cacache_store.specs.declared.store.answer.{Kind.{Kind}, Name.{Name}}
 use Rattle.cacache_store.specs.declared.store.answer.Kind.TheVariants as kinds
-use Rattle.cacache_disk.specs.{declared.{luck.Luck.TheVariants.{Plain}, node.Node.{Node, TheVariants.{Folder}}}, Rooted.{is_folder, StandsIn, Rooted}, Tree.{Tree, look, same_path, names_cmp, listing, child_of, is_child, kind_of}, LedTo.{folder}, Apply.{apply, unless}}
-use Rattle.cacache_disk.proofs.Maps.{same_path-true}
+use Rattle.cacache_disk.specs.{declared.{luck.Luck.TheVariants.{Plain}, node.Node.{Node, TheVariants.{Folder}}}, Rooted.{is_folder, Rooted}, Tree.{Tree, look, same_path, names_cmp, listing, child_of, is_child, kind_of}, LedTo.{folder}, Apply.{apply, unless}}
+use Rattle.cacache_disk.proofs.{Maps.{same_path-true}, Standing.{above_missing}}
 use Rattle.cacache_calls.specs.{declared.{reply.Reply.TheVariants.{Done}, visit.Visit.TheVariants.{Enter}}, State.{walking, Walk}, Walking.{task_for_name, tasks_of, leaving, most, walk}, Runs.{Moves, Runs}}
 use Rattle.cacache_value.{specs.Value.{blob_in, bucket_in, folders_below, empty_value, value_of_tree}, proofs.PutValues.{same_value}}
 use Rattle.cacache_laws.specs.Sequence.{tree_on, AreAnswered}
@@ -48,19 +48,9 @@ last_name (first ∷ above) name = last_name above name
 
 -- ---- an empty folder
 
-none_stands : (upper child : Option Node) → StandsIn upper child → upper ≡ None → child ≡ None
-none_stands upper None s e = refl
-none_stands upper (Some node) s e = let no : Some Folder ≡ None = sym s ∙ e in absurd cc
-
-none_below : (t : Tree) → Rooted t → (above rest : Names) → look t above ≡ None → look t (above ++ rest) ≡ None
-none_below t rooted above [] e = ap (look t) (append-nil above) ∙ e
-none_below t rooted above (name ∷ rest) e =
-    ap (look t) (sym (append_assoc above (name ∷ []) rest))
-    ∙ none_below t rooted (above ++ name ∷ []) rest (none_stands (look t above) (look t (above ++ name ∷ [])) (rooted.folders above name) e)
-
 module _ (t : Tree) (home : Names) (rooted : Rooted t) (none : (name : List ℕ) → look t (home ++ name ∷ []) ≡ None) where
   inner_none : (name : List ℕ) (rest : Names) → look t (home ++ name ∷ rest) ≡ None
-  inner_none name rest = ap (look t) (sym (append_assoc home (name ∷ []) rest)) ∙ none_below t rooted (home ++ name ∷ []) rest (none name)
+  inner_none name rest = ap (look t) (sym (append_assoc home (name ∷ []) rest)) ∙ above_missing t (home ++ name ∷ []) rest rooted (none name)
 
   inner_folders : (q : Names) → folders_below (Some home) (λ n. is_folder (look t n)) q ≡ false
   inner_folders [] = refl

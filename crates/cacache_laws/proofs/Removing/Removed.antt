@@ -8,11 +8,11 @@ use Rattle.cacache_store.specs.declared.store.answer.Answer.TheVariants as answe
 use Rattle.cacache_store.specs.{declared.store.log.LogItem.{LogItem}, Plain.{PlainStep, PlainAnswer}}
 use Rattle.cacache_store.specs.declared.store.step.Step.TheVariants as steps
 use Rattle.cacache_disk.{specs.{declared.luck.Luck.TheVariants.{Plain}, Apply.{apply}, Tree.{Tree}, memory.Replay.{tree_of}}, proofs.Roots.{same_self}}
-use Rattle.cacache_entry.specs.{Entry.{Entry}, Latest.{latest}}
+use Rattle.cacache_entry.specs.Latest.{latest}
 use Rattle.cacache_calls.specs.{declared.{command.Command.{Command}, reply.Reply.{Reply}}, Causes.{own_of}, Runs.{Moves, Runs}, State.{State, doing, over, remove}, StepPaths.{content_path}}
 use Rattle.cacache_calls.specs.declared.command.Command.TheVariants as commands
 use Rattle.cacache_calls.specs.declared.reply.Reply.TheVariants as replies
-use Rattle.cacache_value.specs.{Acts.{Drop, act_at, act_if_done, act_of, list_of}, Kinds.{is_path_of}, Value.{Value, Blob, value_of_tree}}
+use Rattle.cacache_value.specs.{Acts.{Drop, act_at, act_if_done, act_of, list_of}, Kinds.{is_path_of}, Value.{Value, value_of_tree}}
 use Rattle.cacache_history.specs.Commits.{Deed, deeds, deeds_of_act, finds_in}
 use Rattle.cacache_history.proofs.{Contents.Righted.{one_address}, Histories.ShownTurns.{content_below}, Entries.Writes.{one_path}}
 use Rattle.cacache_laws.specs.{Beside.{ShareAddress}, CallErrors.{FailsOnly}, Caches.{HasContent, IsExcused, lies_under, setup_at}, Keeping.{found_under}, Removed.{KeepsApart, RemovesContent, ContentsGo}, Sequence.{after_deeds, turns_on}}
@@ -85,13 +85,9 @@ pub then_deeds : (folder : Option Names) (r : Result Names Fault) (more : List D
 then_deeds folder (Ok names) more v = refl
 then_deeds folder (Err fault) more v = refl
 
-cut_blob : (a b : Hash) (old : Option Blob) (here : Bool) → (here ≡ true → a ≡ b) → (cond here None old ≡ old) ⊎ ((a ≡ b) × (cond here None old ≡ None))
-cut_blob a b old true is = inr (is refl, refl)
-cut_blob a b old false is = inl refl
-
-cut_bucket : (d e : List ℕ) (old : Option (List Entry)) (here : Bool) → (here ≡ true → d ≡ e) → (cond here None old ≡ old) ⊎ ((d ≡ e) × (cond here None old ≡ None))
-cut_bucket d e old true is = inr (is refl, refl)
-cut_bucket d e old false is = inl refl
+cut_once : {A B : Type 0} (a b : A) (old : Option B) (here : Bool) → (here ≡ true → a ≡ b) → (cond here None old ≡ old) ⊎ ((a ≡ b) × (cond here None old ≡ None))
+cut_once a b old true is = inr (is refl, refl)
+cut_once a b old false is = inl refl
 
 uncut : {A : Type 0} (old : Option A) (here : Bool) → (here ≡ true → ⊥) → cond here None old ≡ old
 uncut old true never = absurd (never refl)
@@ -112,7 +108,7 @@ module _ (cache path : List ℕ) (v : Value) where
         by : (r : Result Names Fault) → names_of path ≡ r
             → ((after_deeds (home_of cache) (deeds_of_act (act_at r Drop)) v).contents a ≡ v.contents a) ⊎ ((a ≡ b) × ((after_deeds (home_of cache) (deeds_of_act (act_at r Drop)) v).contents a ≡ None))
         by (Err fault) e = inl refl
-        by (Ok names) e = cut_blob a b (v.contents a) (is_path_of (home_of cache) (content_names a) names) (λ here. one_address cache (home_of cache) b a names hash is (sym below ∙ e) here)
+        by (Ok names) e = cut_once a b (v.contents a) (is_path_of (home_of cache) (content_names a) names) (λ here. one_address cache (home_of cache) b a names hash is (sym below ∙ e) here)
 
     pub uncut_buckets : (d : List ℕ) → cut_value.buckets d ≡ v.buckets d
     uncut_buckets d = by (names_of path) refl
@@ -133,7 +129,7 @@ module _ (cache path : List ℕ) (v : Value) where
             ⊎ ((sha1 other ≡ sha1 key) × ((after_deeds (home_of cache) (deeds_of_act (act_at r Drop)) v).buckets (sha1 other) ≡ None))
         by (Err fault) e = inl refl
         by (Ok names) e =
-            cut_bucket (sha1 other) (sha1 key) (v.buckets (sha1 other)) (is_path_of (home_of cache) (bucket_names_of (sha1 other)) names)
+            cut_once (sha1 other) (sha1 key) (v.buckets (sha1 other)) (is_path_of (home_of cache) (bucket_names_of (sha1 other)) names)
             (λ here. (paths_differ.buckets [] (sha1 other) (sha1 key) (keys_have_digests other) (keys_have_digests key)).0
             (ap (joined []) (one_path (home_of cache) (bucket_names_of (sha1 key)) (bucket_names_of (sha1 other)) names (sym below ∙ e) here)))
 

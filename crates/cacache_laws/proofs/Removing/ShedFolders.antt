@@ -5,7 +5,7 @@ use Rattle.cacache_store.specs.declared.store.step.Step.TheVariants as steps
 use Rattle.cacache_store.specs.declared.store.answer.Answer.TheVariants as answers
 use Rattle.cacache_store.specs.declared.store.answer.Name.{Name}
 use Rattle.cacache_disk.specs.{declared.{luck.Luck.TheVariants.{Plain}, node.Node.{Node, TheVariants.{Folder}}}, Tree.{Tree, look, cut, listing, kind_of}, LedTo.{emptied}, Rooted.{Rooted}, Apply.{apply}}
-use Rattle.cacache_history.proofs.Listings.ToldFolders.{Each, Told, child_listed}
+use Rattle.cacache_history.proofs.{Listings.ToldFolders.{Told, child_listed}, Each.{Each}}
 use Rattle.cacache_laws.proofs.{Removing.Sheds.{Shed, ShedAll, among, among_below, listed_among, under, under_other, under_self}, trees.Children.{folder_there}}
 
 -- ---- steps

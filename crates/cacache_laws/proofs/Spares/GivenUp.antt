@@ -1,5 +1,5 @@
 -- The removal of a temporary file leaves what the cache holds.
-use Rattle.std.proofs.Common.{◌≡◌, inl, inr, ℕ, Bool, true, false, cond, List, [], ◌∷◌, ◌++◌, Option, None, Result, Ok, Err, refl, sym, ap, subst, ◌∙◌, append-nil}
+use Rattle.std.proofs.{Common.{◌≡◌, inl, inr, ℕ, List, [], ◌∷◌, ◌++◌, Option, None, Result, Ok, Err, refl, sym, ap, subst, ◌∙◌, append-nil}, lemmas.Bool.{cond-false}}
 use Rattle.std.specs.Prelude.{IfOk}
 use Rattle.cacache_core.specs.{declared.errors.Fault.{Fault}, Paths.{content_names, bucket_names_of}, PathNames.{Names, home_of, names_of}}
 use Rattle.cacache_store.specs.declared.store.answer.Answer.TheVariants as answers
@@ -17,16 +17,12 @@ use Rattle.cacache_laws.proofs.{Calls.{InParts.{logs_lead}, Logs.{some_same}, Se
 -- ---- what a removal does
 
 module _ (home : Option Names) where
-  not_there : {A : Type 0} (b : Bool) (here there : A) → b ≡ false → cond b here there ≡ there
-  not_there true here there e = absurd cc
-  not_there false here there e = refl
-
   -- at the path of a temporary file there is neither a content nor a bucket
   drop_alike : (r : Result Names Fault) (v : Value) → IfOk r (λ names. path_kind home names ≡ Temporary) → Alike (after_deeds home (deeds_of_act (act_at r Drop) ++ []) v) v
   drop_alike (Err fault) v is = record { contents = λ a. refl; lists = λ d. refl }
   drop_alike (Ok names) v is = record {
-    contents = λ a. not_there (is_path_of home (content_names a) names) None (v.contents a) (unseen home (content_names a) names (λ e. let no : Content ≡ Temporary = e ∙ is in absurd cc));
-    lists = λ d. ap list_of (not_there (is_path_of home (bucket_names_of d) names) None (v.buckets d) (unseen home (bucket_names_of d) names (λ e. let no : Bucket ≡ Temporary = e ∙ is in absurd cc)));
+    contents = λ a. cond-false (is_path_of home (content_names a) names) None (v.contents a) (unseen home (content_names a) names (λ e. let no : Content ≡ Temporary = e ∙ is in absurd cc));
+    lists = λ d. ap list_of (cond-false (is_path_of home (bucket_names_of d) names) None (v.buckets d) (unseen home (bucket_names_of d) names (λ e. let no : Bucket ≡ Temporary = e ∙ is in absurd cc)));
   }
 
   done_alike : (a : PlainAnswer) (act : Act) (v : Value) → Alike (after_deeds home (deeds_of_act act ++ []) v) v → Alike (after_deeds home (deeds_of_act (act_if_done a act) ++ []) v) v

@@ -12,9 +12,9 @@ use Rattle.cacache_disk.proofs.{KeptFolders.{outcome_rooted}, Standing.{upper_fo
 use Rattle.cacache_calls.specs.declared.command.Command.TheVariants as commands
 use Rattle.cacache_calls.specs.{declared.{reply.Reply.{Reply, TheVariants.{Done, Refused}}, visit.{Task.{Task, TheVariants.{Make, Stumble}}, Visit.TheVariants.{Enter, RemoveFile, RemoveFolder}}}, Replies.{OrMemory}, State.{walking, over, Walk}, Table.{opening}, Walking.{most, task_for_name, tasks_of, too_many, walk, walk_on}}
 use Rattle.cacache_value.{specs.{Kinds.{Way, Stray, kind_below, node_below, path_kind, is_used}, Placed.{MayStand}}, proofs.{FoundPaths.{suits}, KindsApart.{kind-below}}}
-use Rattle.cacache_history.proofs.Listings.ToldFolders.{AreDistinct, Each, Told, listing_distinct, listing_told}
+use Rattle.cacache_history.proofs.{Listings.ToldFolders.{AreDistinct, Told, listing_distinct, listing_told}, Each.{Each}}
 use Rattle.cacache_laws.specs.Succeeds.{Clears, ClearingsAnswer}
-use Rattle.cacache_laws.proofs.{Removing.{Sheds.{Shed, ShedAll, among, cut_sheds, folder_apart, sheds_more, under}, ShedFolders.{empties, none_listed, told_still, long_names, child_gone, folder_shed, lists_folder}}, Sure.{Succeeds.{back, ground}, SureLists.{no_folder}, SureRuns.{EndsSo, ends, goes, of_log}, SureSteps.{Ground, one_deeper, place_at, reached}}, trees.Children.{proper_child}}
+use Rattle.cacache_laws.proofs.{Removing.{Sheds.{Shed, ShedAll, among, cut_sheds, folder_apart, sheds_more, under}, ShedFolders.{empties, none_listed, told_still, long_names, child_gone, folder_shed, lists_folder}}, Sure.{Succeeds.{back, ground}, SureLists.{no_folder}, SureRuns.{EndsSo, ends, goes, of_log}, SureSteps.{Ground, place_at, reached}}, trees.{Children.{proper_child}, Covering.{named_on}}}
 
 -- ---- steps
 
@@ -84,7 +84,7 @@ module _ (level : ℕ) (inner : (level == 0) ≡ false) (deeper : nat_lt level 1
       → GoesOn (λ new. ShedAll t new names ns) rest → EndsSo Ended t (walk_on (tasks_of true level p ns ++ rest) (clears left))
   names_end [] t p names left rest rooted is told apart next = next t left rooted (λ q. refl)
   names_end (n ∷ ns) t p names left rest rooted is told apart next =
-      let own = one_deeper p n.name names is (proper_child t names n.name told.0.node rooted told.0.stands) in
+      let own = named_on p names n.name is (proper_child t names n.name told.0.node rooted told.0.stands) in
       name_ends n.kind told.0.node told.0.kind t (join p n.name) (names ++ n.name ∷ []) left (tasks_of true level p ns ++ rest) rooted own told.0.stands (long_names names n.name)
       (λ mid fewer still shed.
       names_end ns mid p names fewer rest still is (told_still t mid names n.name ns shed apart.0 told.1) apart.1
@@ -140,7 +140,7 @@ top_names : (ns : List Name) (t : Tree) (p : List ℕ) (names : Names) (left : �
     → EndsSo Ended t (walk_on (tasks_of true 0 p ns ++ []) (clears left))
 top_names [] t p names left rooted is told apart folders = ends Ended t Done (inl refl)
 top_names (n ∷ ns) t p names left rooted is told apart folders =
-    let own = one_deeper p n.name names is (proper_child t names n.name told.0.node rooted told.0.stands) in
+    let own = named_on p names n.name is (proper_child t names n.name told.0.node rooted told.0.stands) in
     top_name n.kind told.0.node folders.0 told.0.kind t (join p n.name) (names ++ n.name ∷ []) left (tasks_of true 0 p ns ++ []) rooted own told.0.stands (long_names names n.name)
     (λ mid fewer still shed. top_names ns mid p names fewer still is (told_still t mid names n.name ns shed apart.0 told.1) apart.1 folders.1)
 

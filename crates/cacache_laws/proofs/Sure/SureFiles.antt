@@ -1,12 +1,12 @@
 -- A file is opened and read to its end, if no step fails without cause.
-use Rattle.std.proofs.{Common.{◌≡◌, ◌==◌, ◌<◌, ℕ, zero, suc, List, [], ◌∷◌, ◌++◌, Result, length, take, drop, refl, sym, ap, subst, ◌∙◌, arith, append_assoc, append-nil, take-append-drop, length-drop}, lemmas.{Bool.{eq-eqb}, List.{length-take, nil_from_length}}}
+use Rattle.std.proofs.{Common.{◌≡◌, ◌==◌, ◌<◌, ℕ, zero, suc, List, [], ◌∷◌, ◌++◌, Result, length, take, drop, refl, sym, ap, subst, ◌∙◌, arith, append_assoc, append-nil, take-append-drop, length-drop}, lemmas.{Bool.{eq-eqb, cond-true}, List.{length-take, nil_from_length}}}
 use Rattle.cacache_core.specs.declared.errors.Fault.{Fault}
 use Rattle.cacache_core.specs.declared.errors.Fault.TheVariants as faults
 use Rattle.cacache_store.specs.declared.store.answer.Answer.TheVariants as answers
 use Rattle.cacache_store.specs.declared.store.step.Step.TheVariants as steps
 use Rattle.cacache_disk.specs.{declared.luck.Luck.TheVariants.{Plain}, Tree.{Tree}, Apply.{apply, opened, rest_of, unless}, LedTo.{file_at}}
 use Rattle.cacache_calls.specs.{declared.reply.Reply.{Reply}, Linking.{after_read, hashed}, State.{Hashing, hashing}, Table.{piece}}
-use Rattle.cacache_laws.proofs.{Sure.SureRuns.{EndsSo, goes}, Calls.Handed.{if_so, file_of}}
+use Rattle.cacache_laws.proofs.{Sure.SureRuns.{EndsSo, goes}, Calls.Handed.{file_of}}
 
 -- ---- by its path
 
@@ -26,7 +26,7 @@ rest_opened rest size = ap (λ n. file_of n (drop size rest)) (omega (arith, len
 pub reads : (t : Tree) (rest : List ℕ) → apply t (steps.Read (opened rest) piece) Plain ≡ (answers.Got (opened (drop piece rest)) (take piece rest), t)
 unfolding apply
 reads t rest =
-    ap (λ a. (a, t)) (if_so (answers.Got (rest_of rest piece) (take piece rest)) (answers.Failed faults.Closed) (length rest == length rest) (eq-eqb (length rest) (length rest) refl) ∙ ap (λ f. answers.Got f (take piece rest)) (rest_opened rest piece))
+    ap (λ a. (a, t)) (cond-true (length rest == length rest) (answers.Got (rest_of rest piece) (take piece rest)) (answers.Failed faults.Closed) (eq-eqb (length rest) (length rest) refl) ∙ ap (λ f. answers.Got f (take piece rest)) (rest_opened rest piece))
 
 -- ---- all of them
 

@@ -1,5 +1,5 @@
 -- An insertion in which all steps succeed.
-use Rattle.std.proofs.{Common.{◌≡◌, ℕ, true, false, nat_le, List, [], ◌∷◌, ◌++◌, Option, None, Some, Ok, length, take, drop, refl, sym, ap, ◌∙◌, arith, append_assoc}, lemmas.{Bool.{le-leb}, List.Elements.{All-nil, All-cons, All-head, All-tail}}}
+use Rattle.std.proofs.{Common.{◌≡◌, ℕ, true, false, nat_le, List, [], ◌∷◌, ◌++◌, Option, None, Some, Ok, length, take, drop, refl, sym, ap, ◌∙◌, arith, append_assoc}, lemmas.Bool.{le-leb}}
 use Rattle.std.specs.Prelude.{All}
 use Rattle.hex.specs.Hex.{encode_lower}
 use Rattle.sha1.specs.Sha1.{sha1}
@@ -13,16 +13,9 @@ use Rattle.cacache_disk.specs.{declared.{luck.Luck.TheVariants.{Plain}, node.Nod
 use Rattle.cacache_disk.proofs.KeptFolders.{outcome_rooted}
 use Rattle.cacache_calls.specs.{declared.reply.Reply.{Reply, TheVariants.{Refused}}, Common.{fails, sync_up}, Inserting.{bucket_line, insert, recorded, refused_cause, unless_refused}, State.{doing, appending, over, Insertion, make_folder, sync_file}, StepPaths.{bucket_path, bucket_folder, bucket_folders}}
 use Rattle.cacache_calls.proofs.Branches.{cond_leads}
-use Rattle.cacache_value.{specs.Kinds.{Bucket, Temporary, Way, path_kind}, proofs.FoundPaths.{suits}}
+use Rattle.cacache_value.{specs.Kinds.{Bucket, Temporary, Way, path_kind}, proofs.{FoundPaths.{suits}, PathKinds.{proper_folder}}}
 use Rattle.cacache_laws.specs.Succeeds.{insertion_reply, unless_unwritable}
 use Rattle.cacache_laws.proofs.{Sure.{SureRuns.{EndsSo, ends, goes, syncs}, SureSpares.{dirs_spare, put_other}, SureSteps.{Ground, Lies, SyncsAll, joined_lies, is_for, place_at, place_in, makes_dirs, dirs_ground, dirs_stand, syncs_folders, look_own, appends, syncs_file}}, trees.Covering.{home_named}}
-
--- without the last name, proper names are proper too
-pub proper_folder : (ns : Names) → All IsProperName ns → All IsProperName (folder_names ns)
-proper_folder [] all = All-nil IsProperName
-proper_folder (n ∷ []) all = All-nil IsProperName
-proper_folder (n ∷ m ∷ ns) all =
-    All-cons IsProperName n (folder_names (m ∷ ns)) (All-head IsProperName n (m ∷ ns) all) (proper_folder (m ∷ ns) (All-tail IsProperName n (m ∷ ns) all))
 
 -- no temporary file is at a place that had none
 abbrev pub Spares : Names → Tree → Tree → Type 0

@@ -15,9 +15,9 @@ use Rattle.cacache_entry.specs.{Bucket.{entries_of}, Entry.{Entry}, Latest.{Foun
 use Rattle.cacache_calls.specs.declared.command.Command.TheVariants as commands
 use Rattle.cacache_calls.specs.{declared.{reply.Reply.{Reply, TheVariants.{Listed}}, visit.{Task.{Task, TheVariants.{Make, Stumble}}, Visit.{Visit, TheVariants.{Enter, ReadBucket, RemoveFile, RemoveFolder}}}}, Replies.{OrMemory}, Runs.{Moves, Runs}, State.{State, walking, over, Item, Walk}, Table.{opening}, Walking.{after_visit, failed, items_in, listed, most, once, task_for_name, tasks_of, too_many, walk, walk_on}}
 use Rattle.cacache_value.{specs.{Kinds.{Bucket, Way, kind_in_area, node_below, path_kind, is_used}, Placed.{MayStand}}, proofs.{FoundPaths.{suits}, KindsApart.{kind-below}}}
-use Rattle.cacache_history.proofs.Listings.ToldFolders.{Each, Told, listing_told}
+use Rattle.cacache_history.proofs.{Listings.ToldFolders.{Told, listing_told}, Each.{Each}}
 use Rattle.cacache_laws.specs.{Sequence.{AreAnswered}, Succeeds.{IsItemOrTooDeep, ListsAll, ListingsAnswer}}
-use Rattle.cacache_laws.proofs.{trees.{Children.{proper_child}, Listing.{lists}}, Sure.{Succeeds.{back, ground}, SureRuns.{EndsSo, ends, goes, of_log}, SureSteps.{Ground, Reached, arrives, missing, file_so, one_deeper, place_at, reached}}, Removing.ShedFolders.{lists_folder}}
+use Rattle.cacache_laws.proofs.{trees.{Children.{proper_child}, Listing.{lists}, Covering.{named_on}}, Sure.{Succeeds.{back, ground}, SureRuns.{EndsSo, ends, goes, of_log}, SureSteps.{Ground, Reached, arrives, missing, file_so, place_at, reached}}, Removing.ShedFolders.{lists_folder}}
 
 -- ---- items
 
@@ -120,7 +120,7 @@ module _ (home : Names) (t : Tree) (g : Ground home t) where
       let stands = told.0.stands in
       let proper = proper_child t (home ++ index_area ∷ rest) n.name told.0.node g.rooted stands in
       let same = append_assoc home (index_area ∷ rest) (n.name ∷ []) in (
-        one_good n.kind told.0.node level (join p n.name) (rest ++ n.name ∷ []) told.0.kind (one_deeper p n.name (home ++ index_area ∷ rest) is proper ∙ ap Ok same) (ap (look t) (sym same) ∙ stands),
+        one_good n.kind told.0.node level (join p n.name) (rest ++ n.name ∷ []) told.0.kind (named_on p (home ++ index_area ∷ rest) n.name is proper ∙ ap Ok same) (ap (look t) (sym same) ∙ stands),
         names_good level p rest is ns told.1,
       )
 
@@ -185,7 +185,7 @@ index_proper = All-head IsProperName index_area (cut_digits (encode_lower (sha1 
 
 module _ (cache : List ℕ) (home : Names) (is : names_of cache ≡ Ok home) (t : Tree) (g : Ground home t) where
   index_named : names_of (join cache index_area) ≡ Ok (home ++ index_area ∷ [])
-  index_named = one_deeper cache index_area home is index_proper
+  index_named = named_on cache home index_area is index_proper
 
   index_way : path_kind (Some home) (home ++ index_area ∷ []) ≡ Way
   index_way = kind-below home (index_area ∷ [])

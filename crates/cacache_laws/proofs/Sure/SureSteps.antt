@@ -1,5 +1,5 @@
 -- What a step does on a tree that lets it succeed.
-use Rattle.std.proofs.{Common.{◌≡◌, ◌<◌, ℕ, true, cond, List, [], ◌∷◌, ◌++◌, Option, None, Some, Ok, Err, length, take, refl, sym, ap, subst, ◌∙◌, arith, append_assoc}, lemmas.List.Elements.{All-cons, All-nil, All-head, All-tail}}
+use Rattle.std.proofs.{Common.{◌≡◌, ◌<◌, ℕ, true, cond, List, [], ◌∷◌, ◌++◌, Option, None, Some, Ok, Err, length, take, refl, sym, ap, subst, ◌∙◌, arith, append_assoc}, lemmas.List.Elements.{All-head, All-tail}}
 use Rattle.std.specs.Prelude.{All, IfOk}
 use Rattle.cacache_core.specs.{declared.errors.Fault.{Fault}, PathNames.{Names, names_of, names_below, IsProperName, home_of}, Paths.{join, joined, folders_to}}
 use Rattle.cacache_core.proofs.JoinedNames.{joined_texts_name}
@@ -11,7 +11,8 @@ use Rattle.cacache_disk.specs.{declared.{luck.Luck.TheVariants.{Plain}, node.Nod
 use Rattle.cacache_disk.proofs.{KeptFolders.{outcome_rooted}, PlantedNodes.{full}, PutNodes.{look-put}, Roots.{same_self}, Standing.{upper_folder, way_clear}}
 use Rattle.cacache_value.specs.{Kinds.{PathKind, Content, Bucket, Way, path_kind, is_used, kind_below, IsFor}, Placed.{MayStand, Placed, Proper}}
 use Rattle.cacache_value.proofs.{FoundPaths.{OnlyMissing, way_missing}, KindsApart.{kind-below}, MadeFolders.{no_dirs_fault}, Traces.{steps_keep_placed}}
-use Rattle.cacache_laws.proofs.{Putting.MadeNodes.{Stands, way_into, stays, kept_so, replaceable_so}, trees.Covering.{home_named}}
+use Rattle.cacache_laws.proofs.{Putting.MadeNodes.{Stands, way_into, kept_so, replaceable_so}, trees.Covering.{named_on}}
+use Rattle.cacache_loss.proofs.StepCases.{make_keeps}
 
 -- each thing is where it may be
 pub record Ground (home : Names) (t : Tree) : Type 0 where
@@ -82,7 +83,7 @@ module _ (home : Names) (t : Tree) (g : Ground home t) (p : List ℕ) (ns : Name
   dirs_stand = full t [] (home ++ ns) (length (home ++ ns)) g.rooted.top (no_dirs_fault (Some home) t [] (home ++ ns) lies.kind g.placed) (omega arith)
 
   pub dirs_keep : (q : Names) (node : Node) → look t q ≡ Some node → look (make_some t [] (home ++ ns) (length (home ++ ns))) q ≡ Some node
-  dirs_keep q node e = stays t [] (home ++ ns) q (length (home ++ ns)) node e
+  dirs_keep q node e = make_keeps t [] (home ++ ns) q node (length (home ++ ns)) e
 
 -- a folder that is there is synced
 pub syncs_dir : (t : Tree) (p : List ℕ) (names : Names) → Rooted t → names_of p ≡ Ok names → look t names ≡ Some Folder → apply t (steps.SyncDir p) Plain ≡ (answers.Done, t)
@@ -94,16 +95,12 @@ abbrev pub SyncsAll : Tree → List (List ℕ) → Type 0
 SyncsAll t [] = Unit {0}
 SyncsAll t (p ∷ ps) = (apply t (steps.SyncDir p) Plain ≡ (answers.Done, t)) × SyncsAll t ps
 
-pub one_deeper : (p n : List ℕ) (above : Names) → names_of p ≡ Ok above → IsProperName n → names_of (join p n) ≡ Ok (above ++ n ∷ [])
-one_deeper p n above is proper =
-    joined_texts_name p (n ∷ []) (All-cons IsProperName n [] proper (All-nil IsProperName)) (omega arith) ∙ ap (λ home. names_below home (n ∷ [])) (home_named p above is)
-
 -- the folders that lead to what is there are synced too
 pub syncs_folders : (t : Tree) (p : List ℕ) (above ns : Names) (node : Node) → Rooted t → names_of p ≡ Ok above → All IsProperName ns → look t (above ++ ns) ≡ Some node → SyncsAll t (folders_to p ns)
 syncs_folders t p above [] node rooted is all there = tt
 syncs_folders t p above (n ∷ ns) node rooted is all there = (
   syncs_dir t p above rooted is (upper_folder t above ns n node rooted there),
-  syncs_folders t (join p n) (above ++ n ∷ []) ns node rooted (one_deeper p n above is (All-head IsProperName n ns all)) (All-tail IsProperName n ns all)
+  syncs_folders t (join p n) (above ++ n ∷ []) ns node rooted (named_on p above n is (All-head IsProperName n ns all)) (All-tail IsProperName n ns all)
       (ap (look t) (append_assoc above (n ∷ []) ns) ∙ there),
 )
 

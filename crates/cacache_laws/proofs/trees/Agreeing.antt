@@ -62,7 +62,7 @@ module _ (home : Names) (t new : Tree) (same : (names : Names) → (path_kind (S
   standing_out : (target : List ℕ) (names : Names) → IsFor (Some home) Elsewhere target → standing t target ≡ Ok names → path_kind (Some home) names ≡ Elsewhere
   standing_out target names leads_out e = of_names (λ n. path_kind (Some home) n ≡ Elsewhere) target names leads_out (standing_ok t target names e)
 
-  next_same : (r : Result Names Fault) (f g : Names → Result Names Fault) → ((m : Names) → r ≡ Ok m → f m ≡ g m) → and_then r f ≡ and_then r g
+  next_same : {A : Type 0} (r : Result Names Fault) (f g : Names → Result A Fault) → ((m : Names) → r ≡ Ok m → f m ≡ g m) → and_then r f ≡ and_then r g
   next_same (Ok m) f g h = h m refl
   next_same (Err fault) f g h = refl
 
@@ -105,16 +105,12 @@ module _ (home : Names) (t new : Tree) (same : (names : Names) → (path_kind (S
     | inr k ↦ same m (out_not home m k)
   ]
 
-  bytes_same : (r : Result Names Fault) (f g : Names → Result (List ℕ) Fault) → ((m : Names) → r ≡ Ok m → f m ≡ g m) → and_then r f ≡ and_then r g
-  bytes_same (Ok m) f g h = h m refl
-  bytes_same (Err fault) f g h = refl
-
   placed_same : (o1 o : Option Fault) (names : Names) → o1 ≡ o → look new names ≡ look t names → and_then (and_then (or_fault o1 names) (followed 16 new)) (λ n. bytes_there IsADirectory (look new n)) ≡ and_then (and_then (or_fault o names) (followed 16 t)) (λ n. bytes_there IsADirectory (look t n))
   placed_same o1 (Some fault) names e is = rw e refl
   placed_same o1 None names e is =
       ap (λ x. and_then (and_then (or_fault x names) (followed 16 new)) (λ n. bytes_there IsADirectory (look new n))) e
       ∙ ap (λ r. and_then r (λ n. bytes_there IsADirectory (look new n))) (followed_same 16 names is)
-      ∙ bytes_same (followed 16 t names) (λ n. bytes_there IsADirectory (look new n)) (λ n. bytes_there IsADirectory (look t n)) (λ m k. ap (bytes_there IsADirectory) (end_same names m is k))
+      ∙ next_same (followed 16 t names) (λ n. bytes_there IsADirectory (look new n)) (λ n. bytes_there IsADirectory (look t n)) (λ m k. ap (bytes_there IsADirectory) (end_same names m is k))
 
   file_same : (path : List ℕ) (names : Names) → names_of path ≡ Ok names → Safe (path_kind (Some home) names) → look new names ≡ look t names → file_at new path IsADirectory ≡ file_at t path IsADirectory
   unfolding file_at leads place

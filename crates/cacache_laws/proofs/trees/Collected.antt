@@ -1,6 +1,6 @@
 -- What is left once the contents that no entry has are removed.
-use Rattle.std.proofs.Common.{◌≡◌, ◌++◌, inl, inr, ℕ, List, [], ◌∷◌, Bool, true, false, cond, Option, None, Some, Ok, Err, refl, sym, ap, subst, ◌∙◌, filter}
-use Rattle.std.specs.Prelude.{All, Contains, not, ◌||◌}
+use Rattle.std.proofs.{Common.{◌≡◌, ◌++◌, inl, inr, ℕ, List, [], ◌∷◌, Bool, true, false, cond, Option, None, Some, Ok, Err, refl, sym, ap, subst, ◌∙◌, filter}, lemmas.Bool.{or_left, or_right, not-true}}
+use Rattle.std.specs.Prelude.{All, Contains, not}
 use Rattle.cacache_core.specs.{declared.integrity.digest.Hash.{Hash}, Integrity.{IsHash, IsIntegrity, address}, PathNames.{Names, home_of}, Same.{same_hash-Decides}, Paths.{content_names}}
 use Rattle.cacache_disk.specs.{Tree.{Tree, look}, Rooted.{Rooted}}
 use Rattle.cacache_entry.specs.Latest.{Found}
@@ -35,20 +35,13 @@ from_kept p x (y ∷ ys) m = out_cond p (p y) x y (filter p ys) ys refl (from_ke
 
 -- ---- live addresses
 
-any_first : (a b : Bool) → a ≡ true → (a || b) ≡ true
-any_first a b e = rw e refl
-
-any_later : (a b : Bool) → b ≡ true → (a || b) ≡ true
-any_later true b e = refl
-any_later false b e = e
-
 at_some : (o : Option Hash) (h : Hash) → o ≡ Some h → is_address o h ≡ true
 at_some o h e = ap (λ x. is_address x h) e ∙ (same_hash-Decides h h).1 refl
 
 pub live_so : (entries : List Found) (f : Found) (h : Hash) → Member f entries → address f.integrity ≡ Some h → is_live entries h ≡ true
 live_so [] f h m e = absurd m
-live_so (g ∷ entries) f h (inl same) e = any_first (is_address (address g.integrity) h) (is_live entries h) (ap (λ (x : Found). is_address (address x.integrity) h) (sym same) ∙ at_some (address f.integrity) h e)
-live_so (g ∷ entries) f h (inr m) e = any_later (is_address (address g.integrity) h) (is_live entries h) (live_so entries f h m e)
+live_so (g ∷ entries) f h (inl same) e = or_left (is_address (address g.integrity) h) (is_live entries h) (ap (λ (x : Found). is_address (address x.integrity) h) (sym same) ∙ at_some (address f.integrity) h e)
+live_so (g ∷ entries) f h (inr m) e = or_right (is_address (address g.integrity) h) (is_live entries h) (live_so entries f h m e)
 
 ok_same : (f g : Found) (x : Item) → Ok f ≡ x → x ≡ Ok g → f ≡ g
 ok_same f g x a b = let both : Ok f ≡ Ok g = a ∙ b in cc
@@ -105,14 +98,10 @@ module _ (site : Site) (home : Names) (t new : Tree) (hashes : List Hash) (stran
   pub others_gone : (h : Hash) → IsHash h → picked h ≡ false → (value_of_tree (Some home) new).contents h ≡ None
   others_gone h hash dead = gone_at ((value_of_tree (Some home) t).contents h) h hash dead refl
 
-  not_so : (b : Bool) → not b ≡ true → b ≡ false
-  not_so true e = let wrong : false ≡ true = e in cc
-  not_so false e = refl
-
   pub rest_stays : (names : Names) → ((h : Hash) → IsHash h → picked h ≡ false → names ≡ home ++ content_names h → ⊥) → look new names ≡ look t names
   rest_stays names apart =
       stays site.cache home is dropped t new names (λ g m. dropped_hash g (contains_member g dropped m)) removed
-      (λ g m e. apart g (dropped_hash g (contains_member g dropped m)) (not_so (picked g) (of_dropped g (contains_member g dropped m)).1) e)
+      (λ g m e. apart g (dropped_hash g (contains_member g dropped m)) (not-true (picked g) (of_dropped g (contains_member g dropped m)).1) e)
 
 module _ (site : Site) (home : Names) (t new : Tree) (hashes : List Hash) (strange : List (List ℕ)) (entries : List Found)
     (is : home_of site.cache ≡ Some home) (holds : HoldsJust site.cache home t hashes strange) (index : IndexLists site t entries)

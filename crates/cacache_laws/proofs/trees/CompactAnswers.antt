@@ -1,10 +1,10 @@
 -- What our own lookups find in lines, and which keys a listing looks up.
-use Rattle.std.proofs.{Common.{◌≡◌, ◌⊎◌, inl, inr, ℕ, List, [], ◌∷◌, Bool, true, false, cond, not, ◌&&◌, ◌||◌, Option, Some, None, option_map, fold, map, filter_map, refl, sym, ap, subst, ◌∙◌, bytes_eq}, lemmas.Slice.Eq.{bytes_eq-Decides}}
+use Rattle.std.proofs.{Common.{◌≡◌, ◌⊎◌, inl, inr, ℕ, List, [], ◌∷◌, Bool, true, false, cond, not, ◌&&◌, ◌||◌, Option, Some, None, option_map, fold, map, filter_map, refl, sym, ap, subst, ◌∙◌, bytes_eq}, lemmas.{Slice.Eq.{bytes_eq-Decides}, Bool.{or_parts}}}
 use Rattle.std.specs.{Prelude.{is_some, option_and_then, unwrap_or}, List.{cons_option, list_any}, Option.{option_flatten}, Str.{is_utf8}}
 use Rattle.cacache_entry.specs.{Entry.{Entry}, EntryTexts.{read_entry}, Bucket.{cut, without_cr, entry_of_parts, entry_of_piece, entries_of}, Latest.{Found, answer_of, after_entry, latest}}
 use Rattle.cacache_calls.specs.{State.{Item}, Walking.{once}}
 use Rattle.cacache_laws.specs.trees.Compacting.{Decision, Line, ReadsLines, compact_text, decided, decision, decision_of, found_at, found_by, is_line, kept, line_of_piece, lines_of, signed_parts}
-use Rattle.cacache_laws.proofs.trees.{CompactLines.{ArePieces, texts}, KeptLines.{neither}, CompactFound.{after, compact_texts_keep_found, next}}
+use Rattle.cacache_laws.proofs.trees.{CompactLines.{ArePieces, texts}, CompactFound.{after, compact_texts_keep_found, next}}
 
 -- ---- we are such a reader
 
@@ -203,7 +203,7 @@ module _ (item : List ℕ → Option Item) where
       by false e true f c g (inl same) =
           inl (ap (λ (o : Option (List ℕ)). list_any (bytes_eq k) (cons_option o (keys (kept odd ls)))) named ∙ ap (λ (x : Bool). bytes_eq k d.0 || x) same)
       by false e false f false g (inl same) = inl (same ∙ sym (ap (λ (x : Bool). x || list_any (bytes_eq k) (keys ls)) g))
-      by false e false f true g (inl same) = inr (ap item ((bytes_eq-Decides k d.0).0 g) ∙ hides.0 e (neither d.1 odd f).0)
+      by false e false f true g (inl same) = inr (ap item ((bytes_eq-Decides k d.0).0 g) ∙ hides.0 e (or_parts d.1 odd f).0)
 
   -- so they have the same items
   pub same_items : (odd : Bool) (ls : List Line) → ArePieces ls → Hides ls → items (keys (kept odd ls)) ≡ items (keys ls)
@@ -225,7 +225,7 @@ module _ (item : List ℕ → Option Item) where
       by true e b f there rest = rest ∙ sym (comes_again d.0 (keys ls) (decided_keys d.0 ls are.1 e))
       by false e true f there rest =
           ap (λ (o : Option (List ℕ)). items (cons_option o (keys (kept odd ls)))) named ∙ adds_alike d.0 (keys (kept odd ls)) (keys ls) there rest
-      by false e false f there rest = rest ∙ sym (adds_none d.0 (keys ls) (hides.0 e (neither d.1 odd f).0))
+      by false e false f there rest = rest ∙ sym (adds_none d.0 (keys ls) (hides.0 e (or_parts d.1 odd f).0))
 
 -- ---- tombstones that decide their keys
 
@@ -234,7 +234,7 @@ pub undecided : (key : List ℕ) (ls : List Line) (o : Option (List ℕ)) → Ar
 undecided key [] o are none = refl
 undecided key ((t, None) ∷ ls) o are none = ap (λ (f : Option (List ℕ)). after decision ours key f (texts ls)) (ap (found_at key o t) are.0.2) ∙ undecided key ls o are.1 none
 undecided key ((t, Some d) ∷ ls) o are none =
-    let parts = neither (bytes_eq key d.0) (list_any (bytes_eq key) (decided ls)) none in
+    let parts = or_parts (bytes_eq key d.0) (list_any (bytes_eq key) (decided ls)) none in
     ap (λ (f : Option (List ℕ)). after decision ours key f (texts ls)) (ap (found_at key o t) are.0.2 ∙ ap (λ (c : Bool). cond c (cond d.1 (Some t) None) o) parts.0) ∙ undecided key ls o are.1 parts.1
 
 pub hidden : (item : List ℕ → Option Item) (last start : List ℕ → Option (List ℕ)) (ls : List Line) → ArePieces ls → ((key : List ℕ) → last key ≡ None → item key ≡ None)

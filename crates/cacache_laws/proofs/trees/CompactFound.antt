@@ -1,9 +1,9 @@
 -- What readers find in compacted bytes.
-use Rattle.std.proofs.{Common.{◌≡◌, ℕ, List, [], ◌∷◌, ◌++◌, Bool, true, false, cond, not, ◌&&◌, ◌||◌, Option, Some, None, fold, filter_map, refl, sym, ap, ◌∙◌, bytes_eq}, lemmas.Slice.Eq.{bytes_eq-Decides}}
+use Rattle.std.proofs.{Common.{◌≡◌, ℕ, List, [], ◌∷◌, ◌++◌, Bool, true, false, cond, not, ◌&&◌, ◌||◌, Option, Some, None, fold, filter_map, refl, sym, ap, ◌∙◌, bytes_eq}, lemmas.{Slice.Eq.{bytes_eq-Decides}, Bool.{or_parts}}}
 use Rattle.std.specs.List.{cons_option, list_any}
 use Rattle.cacache_entry.specs.{Bucket.{cut}, Entry.{closing}}
 use Rattle.cacache_laws.specs.trees.Compacting.{CompactTextsKeepFound, Decision, Line, Reader, ReadsLines, compact_text, decided, decision, found_at, found_by, is_closed, is_line, kept, line_of_piece, lines_of, text_of}
-use Rattle.cacache_laws.proofs.trees.{CompactLines.{ArePieces, after_closing, nothing_is_none, pieces_are, pieces_of_text, texts}, KeptLines.{neither}, CompactTwice.{kept_are}}
+use Rattle.cacache_laws.proofs.trees.{CompactLines.{ArePieces, after_closing, nothing_is_none, pieces_are, pieces_of_text, texts}, CompactTwice.{kept_are}}
 
 module _ (read : Reader) (h : ReadsLines read) (key : List ℕ) where
   -- what is found after one more piece, and after many
@@ -84,7 +84,7 @@ module _ (read : Reader) (h : ReadsLines read) (key : List ℕ) where
       by true is false e true f same none rest =
           rest (next left t) (next found t) (λ no. decides left is ∙ sym (decides found is)) (λ yes wrong. absurd (let no : true ≡ false = sym yes ∙ later is e in cc))
       by true is false e false f same none rest =
-          let parts = neither d.1 odd f in
+          let parts = or_parts d.1 odd f in
           rest left (next found t) (λ no. none refl parts.1 ∙ sym (decides found is ∙ ap (λ (v : Bool). cond v (Some t) None) parts.0))
           (λ yes wrong. absurd (let no : true ≡ false = sym yes ∙ later is e in cc))
 

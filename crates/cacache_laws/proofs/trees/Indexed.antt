@@ -1,6 +1,5 @@
 -- On a tree that nobody changes, a listing reads each bucket and lists the entry of each key.
 use Rattle.std.proofs.{Common.{◌≡◌, inl, inr, ℕ, ◌+◌, List, [], ◌∷◌, ◌++◌, Option, Some, None, Bool, true, false, cond, nat_lt, Result, Ok, Err, refl, sym, ap, ap₂, subst, ◌∙◌, append_assoc, arith}, lemmas.List.Elements.{All-cons, All-nil}}
-use Rattle.std.specs.Prelude.{option_map}
 use Rattle.sha1.specs.Sha1.{sha1}
 use Rattle.cacache_core.specs.{declared.errors.Fault.{Fault, TheVariants.{NotFound, TooDeep, IsADirectory}}, PathNames.{Names, names_of, home_of, IsProperName}, Paths.{join, joined, cut_digits, bucket_names, index_area}}
 use Rattle.cacache_core.proofs.{JoinedNames.{joined_texts_name}, ProperNames.{names_are_proper, proper_bucket_folder}, PathLemmas.{keys_have_digests}}
@@ -8,12 +7,11 @@ use Rattle.hex.specs.Hex.{encode_lower}
 use Rattle.cacache_store.specs.{declared.store.{answer.{Kind.{Kind}, Name.{Name}, Answer.TheVariants.{Bytes}}, step.Step.TheVariants.{ReadAll}}, Plain.{PlainStep, PlainAnswer}}
 use Rattle.cacache_store.specs.declared.store.answer.Kind.TheVariants as kinds
 use Rattle.cacache_disk.specs.{declared.{luck.Luck.TheVariants.{Plain}, node.Node.{Node, TheVariants.{Folder, File, Link}}}, Tree.{Tree, look, listing}, LedTo.{and_then, or_fault, on_link, bytes_there, standing, way_fault, place, followed, leads, file_at}, Rooted.{Rooted}, Apply.{apply, unless}}
-use Rattle.cacache_entry.specs.{Entry.{Entry}, Bucket.{entries_of}, Latest.{Found, latest}}
-use Rattle.cacache_calls.specs.{State.{Item, Site}, declared.visit.{Task.{Task, TheVariants.{Make, Stumble}}, Visit.TheVariants.{Enter, ReadBucket, RemoveFile, RemoveFolder}}, Walking.{task_for_name, tasks_of, items_in, items_of, once}, Runs.{Moves}, ListReplies.{items_given, given_by, keys_of}, StepPaths.{bucket_path}}
-use Rattle.cacache_calls.proofs.Keys.{each_key_once}
+use Rattle.cacache_entry.specs.{Bucket.{entries_of}, Latest.{Found, latest}}
+use Rattle.cacache_calls.specs.{State.{Item, Site}, declared.visit.{Task.{Task, TheVariants.{Make, Stumble}}, Visit.TheVariants.{Enter, ReadBucket, RemoveFile, RemoveFolder}}, Walking.{task_for_name, tasks_of, items_in}, Runs.{Moves}, ListReplies.{items_given, given_by}, StepPaths.{bucket_path}}
 use Rattle.cacache_walks.specs.Reading.{names_shown}
 use Rattle.cacache_laws.specs.trees.{Walks.{is_leaf}, Answers.{AnsweredBy}, Index.{ListsEachKey}}
-use Rattle.cacache_laws.proofs.{trees.{Members.{Member, contains_member, in_left, in_right, mapped}, Children.{child_listed, none_below, proper_child, FolderShows, listed, missing, folder_shown}, Covering.{named_on}, Listing.{ReadsAll, Good, listing_runs}}, Listings.ListedItems.{found_in}}
+use Rattle.cacache_laws.proofs.{trees.{Members.{Member, contains_member, in_left, in_right}, Children.{child_listed, none_below, proper_child, FolderShows, listed, missing, folder_shown}, Covering.{named_on}, Listing.{ReadsAll, Good, listing_runs}}, Listings.ListedItems.{lists_found}}
 
 -- ---- tasks
 
@@ -140,11 +138,6 @@ module _ (t : Tree) (rooted : Rooted t) where
 
 -- ---- lookups
 
-looked_up : (key : List ℕ) (es : List Entry) (found : Found) → latest key es ≡ Some found → Member (Ok found) (items_of es)
-looked_up key es found e =
-    let there = (each_key_once es).1 key in
-    mapped (λ (k : List ℕ). option_map Ok (latest k es)) key (Ok found) (once (keys_of es)) (there.1 (found_in key es found e)) (ap (option_map Ok) e)
-
 given_member : (m : PlainStep × PlainAnswer) (moves : Moves) (x : Item) → Member m moves → Member x (given_by m.0 m.1) → Member x (items_given moves)
 given_member m [] x k h = absurd k
 given_member m (n ∷ moves) x (inl same) h = in_left x (given_by n.0 n.1) (items_given moves) (subst (λ (k : PlainStep × PlainAnswer). Member x (given_by k.0 k.1)) same h)
@@ -166,7 +159,7 @@ module _ (site : Site) (home : Names) (t : Tree) (rooted : Rooted t) (is : home_
       let path = joined site.cache (bucket_names key) in
       let leaf : is_leaf (look t ((home ++ index_area ∷ []) ++ rest)) ≡ true = ap (λ n. is_leaf (look t n)) (append_assoc home (index_area ∷ []) rest) ∙ read_leaf t rooted path (home ++ bucket_names key) bytes (bucket_named key) answer in
       let read = reaches t rooted moves (Make (Enter (join site.cache index_area) 0) ∷ []) g.reads answered (join site.cache index_area) 0 (home ++ index_area ∷ []) _ _ (inl refl) (index_named key) leaf in
-      g.gives (Ok found) (given_member (reads t rooted path) moves (Ok found) read (rw answer (looked_up key (entries_of bytes) found e)))
+      g.gives (Ok found) (given_member (reads t rooted path) moves (Ok found) read (rw answer (lists_found key (entries_of bytes) found e)))
 
 pub lists_each_key : ListsEachKey
 lists_each_key site home t moves items key bytes found is rooted run answered fine answer e =

@@ -1,5 +1,5 @@
 -- What removals of contents leave, and that lookups and reads by key don't see them.
-use Rattle.std.proofs.Common.{◌≡◌, ◌⊎◌, inl, inr, ℕ, List, [], ◌∷◌, ◌++◌, Some, None, Bool, true, false, cond, Result, Ok, Err, refl, sym, ap, subst, ◌∙◌, arith}
+use Rattle.std.proofs.{Common.{◌≡◌, ◌⊎◌, inl, inr, ℕ, List, [], ◌∷◌, ◌++◌, Some, None, Bool, true, false, cond, Result, Ok, Err, refl, sym, ap, subst, ◌∙◌, arith}, lemmas.{List.{append_cancel_left}, Bool.{false_from_ne_true}}}
 use Rattle.std.specs.Prelude.{Contains}
 use Rattle.sha1.specs.Sha1.{sha1}
 use Rattle.cacache_core.specs.{declared.{errors.Fault.{Fault, TheVariants.{NotFound}}, integrity.digest.Hash.{Hash}}, Integrity.{IsHash, IsIntegrity}, PathNames.{Names, names_of, home_of}, Paths.{joined, content_names, bucket_names, bucket_names_of}}
@@ -13,8 +13,9 @@ use Rattle.cacache_calls.specs.declared.command.Command.TheVariants as commands
 use Rattle.cacache_calls.specs.{declared.reply.Reply.{Reply, TheVariants.{Listed}}, State.{looking, Site, Item}, StepPaths.{addressed, bucket_path, content_path}, Table.{opening, after}, Runs.{Moves, Runs}}
 use Rattle.cacache_calls.specs.declared.carried.Aim.TheVariants as aims
 use Rattle.cacache_value.{specs.{Kinds.{Content, Bucket, path_kind, is_used}, Value.{blob_in, bucket_in}}, proofs.KindsApart.{kind-below}}
-use Rattle.cacache_laws.proofs.{trees.{Members.{Member, contains_member, member_contains}, Indexed.{lists_each_key}, Agreeing.{read_same}, Idle.{address_is, get_moves, moved_same, over_done}, Twice.{leaf_done}}, Sure.SureSpares.{cut_none}}
+use Rattle.cacache_laws.proofs.trees.{Members.{Member, contains_member, member_contains}, Indexed.{lists_each_key}, Agreeing.{read_same}, Idle.{address_is, get_moves, moved_same, over_done}, Twice.{leaf_done}}
 use Rattle.cacache_laws.specs.trees.{Answers.{AnsweredBy}, Index.{is_failure}, Walks.{is_leaf}, Idle.{Finds, IsNeeded, LacksIdle}, Collecting.{LinksLeadOut, IsLive, Removes, RemovalsLeave, CollectionsKeepReads, CollectionsKeepLookups}}
+use Rattle.cacache_loss.proofs.KeptPaths.{cond_none}
 
 -- ---- removals
 
@@ -33,14 +34,6 @@ unfolding apply
 removed t path names is e =
     done_at t (removable t path) names (λ n found. let both : Ok n ≡ Ok names = sym (removable_ok t path n found).0 ∙ is in cc) e
 
-apart_at : (q names : Names) (b : Bool) → same_path q names ≡ b → (q ≡ names → ⊥) → b ≡ false
-apart_at q names true is apart = absurd (apart (same_path-true q names is))
-apart_at q names false is apart = refl
-
-pub same_rest : (base xs ys : Names) → base ++ xs ≡ base ++ ys → xs ≡ ys
-same_rest [] xs ys e = e
-same_rest (b ∷ base) xs ys e = same_rest base xs ys cc
-
 module _ (cache : List ℕ) (home : Names) (is : home_of cache ≡ Some home) where
   -- one removal
   look_after : (t : Tree) (h : Hash) (q : Names) → IsHash h → (apply t (RemoveFile (joined cache (content_names h))) Plain).0 ≡ Done → look (apply t (RemoveFile (joined cache (content_names h))) Plain).1 q ≡ cond (same_path q (home ++ content_names h)) None (look t q)
@@ -50,7 +43,7 @@ module _ (cache : List ℕ) (home : Names) (is : home_of cache ≡ Some home) wh
   none_stays [] t new q hashes r none = ap (λ (x : Tree). look x q) r ∙ none
   none_stays (h ∷ hs) t new q hashes r none =
       none_stays hs (apply t (RemoveFile (joined cache (content_names h))) Plain).1 new q (λ g m. hashes g (inr m)) r.1
-      (look_after t h q (hashes h (inl refl)) r.0 ∙ cut_none (same_path q (home ++ content_names h)) (look t q) none)
+      (look_after t h q (hashes h (inl refl)) r.0 ∙ cond_none (same_path q (home ++ content_names h)) (look t q) none)
 
   gone : (hs : List Hash) (t new : Tree) (h : Hash) → ((g : Hash) → Member g hs → IsHash g) → Removes cache hs t new → Member h hs → look new (home ++ content_names h) ≡ None
   gone [] t new h hashes r m = absurd m
@@ -78,7 +71,7 @@ module _ (cache : List ℕ) (home : Names) (is : home_of cache ≡ Some home) wh
   pub stays : (hs : List Hash) (t new : Tree) (q : Names) → ((g : Hash) → Member g hs → IsHash g) → Removes cache hs t new → ((g : Hash) → Member g hs → q ≡ home ++ content_names g → ⊥) → look new q ≡ look t q
   stays [] t new q hashes r apart = ap (λ (x : Tree). look x q) r
   stays (h ∷ hs) t new q hashes r apart =
-      let off : same_path q (home ++ content_names h) ≡ false = apart_at q (home ++ content_names h) (same_path q (home ++ content_names h)) refl (apart h (inl refl)) in
+      let off : same_path q (home ++ content_names h) ≡ false = false_from_ne_true (same_path q (home ++ content_names h)) (λ s. apart h (inl refl) (same_path-true q (home ++ content_names h) s)) in
       stays hs (apply t (RemoveFile (joined cache (content_names h))) Plain).1 new q (λ g m. hashes g (inr m)) r.1 (λ g m. apart g (inr m))
       ∙ look_after t h q (hashes h (inl refl)) r.0 ∙ rw off refl
 
@@ -87,7 +80,7 @@ module _ (cache : List ℕ) (home : Names) (is : home_of cache ≡ Some home) wh
 
   other_content : (h g : Hash) → IsHash h → IsHash g → (h ≡ g → ⊥) → home ++ content_names h ≡ home ++ content_names g → ⊥
   other_content h g p q apart e =
-      let names : content_names h ≡ content_names g = same_rest home (content_names h) (content_names g) e in
+      let names : content_names h ≡ content_names g = append_cancel_left home (content_names h) (content_names g) e in
       apart ((paths_differ.contents cache h g p q).0 (ap (joined cache) names))
 
   kept_at : (hs : List Hash) (t new : Tree) (h : Hash) → ((g : Hash) → Member g hs → IsHash g) → Removes cache hs t new → IsHash h → (Member h hs → ⊥) → look new (home ++ content_names h) ≡ look t (home ++ content_names h)
@@ -145,7 +138,7 @@ module _ (site : Site) (home : Names) (t new : Tree) (listing : Moves) (items : 
       let a = address_is n.1.integrity (integrities n.1 item) in
       let path = ap (addressed (λ (x : Hash). joined site.cache (content_names x))) a.2 in
       let both : Ok (home ++ content_names a.0) ≡ Ok (home ++ content_names g) = sym (content_named site.cache home a.0 is a.1) ∙ ap names_of (sym path) ∙ n.3 ∙ ap Ok e in
-      let names : content_names a.0 ≡ content_names g = same_rest home (content_names a.0) (content_names g) cc in
+      let names : content_names a.0 ≡ content_names g = append_cancel_left home (content_names a.0) (content_names g) cc in
       let same : a.0 ≡ g = (paths_differ.contents site.cache a.0 g a.1 (hashes g m)).0 (ap (joined site.cache) names) in
       (apart g (contains_member g dropped m)).1 (n.1, item, a.2 ∙ ap Some same)
 

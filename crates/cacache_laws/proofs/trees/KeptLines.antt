@@ -1,11 +1,8 @@
 -- The lines that stay, and what deciding lines they are.
-use Rattle.std.{proofs.Common.{◌≡◌, ℕ, List, [], ◌∷◌, Bool, true, false, cond, not, ◌&&◌, ◌||◌, Some, None, refl, ap, ◌∙◌, bytes_eq}, specs.{Prelude.{filter}, List.{list_any}}}
+use Rattle.std.proofs.{Common.{◌≡◌, ℕ, List, [], ◌∷◌, Bool, true, false, cond, not, ◌&&◌, ◌||◌, Some, None, refl, ap, ◌∙◌, bytes_eq}, lemmas.Bool.{or_parts}}
+use Rattle.std.specs.{Prelude.{filter}, List.{list_any}}
 use Rattle.cacache_calls.specs.Walking.{once}
 use Rattle.cacache_laws.{specs.trees.Compacting.{Line, decided, is_odd, kept, lasts}, proofs.trees.CompactLines.{ArePieces}}
-
-pub neither : (a b : Bool) → (a || b) ≡ false → (a ≡ false) × (b ≡ false)
-neither true b e = absurd cc
-neither false b e = (refl, e)
 
 -- what stays are some of the lines
 pub kept_pieces : (odd : Bool) (ls : List Line) → ArePieces ls → ArePieces (kept odd ls)
@@ -22,7 +19,7 @@ pub kept_decided : (key : List ℕ) (odd : Bool) (ls : List Line) → list_any (
 kept_decided key odd [] none = refl
 kept_decided key odd ((t, None) ∷ ls) none = kept_decided key true ls none
 kept_decided key odd ((t, Some d) ∷ ls) none =
-    let parts = neither (bytes_eq key d.0) (list_any (bytes_eq key) (decided ls)) none in by (lasts odd d ls) parts.0 (kept_decided key odd ls parts.1)
+    let parts = or_parts (bytes_eq key d.0) (list_any (bytes_eq key) (decided ls)) none in by (lasts odd d ls) parts.0 (kept_decided key odd ls parts.1)
   where
     by : (c : Bool) → bytes_eq key d.0 ≡ false → list_any (bytes_eq key) (decided (kept odd ls)) ≡ false → list_any (bytes_eq key) (decided (cond c ((t, Some d) ∷ kept odd ls) (kept odd ls))) ≡ false
     by true differs rest = ap (λ (b : Bool). b || list_any (bytes_eq key) (decided (kept odd ls))) differs ∙ rest

@@ -1,14 +1,13 @@
 -- Reads and listings of folders on two trees that differ in compacted buckets alone, except for an area of
 -- the cache's folder.
-use Rattle.std.proofs.Common.{◌≡◌, ◌⊎◌, inl, inr, ℕ, zero, suc, List, [], ◌∷◌, ◌++◌, Bool, true, false, Option, Some, None, Result, Ok, Err, length, get_or, refl, sym, ap, subst, ◌∙◌, append_assoc, bytes_eq}
+use Rattle.std.proofs.{Common.{◌≡◌, ◌⊎◌, inl, inr, ℕ, zero, suc, List, [], ◌∷◌, ◌++◌, Bool, true, false, Option, Some, None, Result, Ok, Err, length, get_or, refl, sym, ap, subst, ◌∙◌, append_assoc, bytes_eq}, lemmas.List.{append_cancel_left}}
 use Rattle.cacache_core.specs.{declared.errors.Fault.{Fault, TheVariants.{IsADirectory, TooDeep}}, PathNames.{Names, names_of}}
 use Rattle.cacache_store.specs.declared.store.answer.Answer.TheVariants as answers
 use Rattle.cacache_store.specs.declared.store.step.Step.TheVariants.{ReadDir}
 use Rattle.cacache_disk.specs.{declared.{luck.Luck.TheVariants.{Plain}, node.Node.{Node, TheVariants.{Folder, File, Link}}}, Tree.{Tree, look, listing}, LedTo.{and_then, or_fault, through, way_fault, place, standing, where_there, where_folder, on_link, followed, leads, bytes_there, file_at, folder}, Apply.{apply, unless}}
 use Rattle.cacache_disk.proofs.FoundNodes.{and_then_ok, place_ok, standing_ok}
 use Rattle.cacache_value.{specs.Kinds.{Bucket, Elsewhere, path_kind, IsFor}, proofs.{KindsApart.{inner_used, kind-below}, FoundPaths.{of_names}}}
-use Rattle.cacache_laws.specs.trees.{Collecting.{LinksLeadOut}, Compacting.{compact_text}}
-use Rattle.cacache_laws.proofs.trees.{Children.{child_path, folder_found}, Shapes.{shape, shaped_listing}, Keeping.{same_rest}}
+use Rattle.cacache_laws.{specs.trees.{Collecting.{LinksLeadOut}, Compacting.{compact_text}}, proofs.trees.{Children.{child_path, folder_found}, Shapes.{shape, shaped_listing}}}
 
 -- ---- what one shape shows
 
@@ -71,7 +70,7 @@ clear_out home area q k (r, e) = inner_used (area ∷ r) (sym (kind-below home (
 -- what lies below another name of the cache's folder
 pub clear_area : (home : Names) (area : List ℕ) (rest : Names) (other : List ℕ) → bytes_eq other area ≡ false → bytes_eq other other ≡ true → Clear home area (home ++ other ∷ rest)
 clear_area home area rest other apart self (r, e) =
-    let below : other ∷ rest ≡ area ∷ r = same_rest home (other ∷ rest) (area ∷ r) e in
+    let below : other ∷ rest ≡ area ∷ r = append_cancel_left home (other ∷ rest) (area ∷ r) e in
     let same : other ≡ area = cc in
     let wrong : true ≡ false = sym self ∙ ap (bytes_eq other) same ∙ apart in
     cc

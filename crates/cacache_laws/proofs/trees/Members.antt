@@ -2,6 +2,7 @@
 use Rattle.std.proofs.Common.{◌≡◌, ◌⊎◌, inl, inr, ◌<◌, ℕ, zero, suc, List, [], ◌∷◌, ◌++◌, Option, None, Some, refl, sym, ap, subst, ◌∙◌, length, get_or, arith}
 use Rattle.std.specs.{Prelude.{Contains, filter_map}, List.{cons_option}}
 pub use Rattle.cacache_calls.specs.ListReplies.{In as Member}
+use Rattle.cacache_history.proofs.Each.{any_left, any_right}
 
 pub contains_member : {X : Type 0} (x : X) (xs : List X) → Member x xs → Contains xs x
 contains_member x [] m = absurd m
@@ -19,13 +20,10 @@ pub member_contains : {X : Type 0} (x : X) (xs : List X) → Contains xs x → M
 member_contains x xs c = member_at x xs c.0 c.1 c.2
 
 pub in_left : {X : Type 0} (x : X) (xs ys : List X) → Member x xs → Member x (xs ++ ys)
-in_left x [] ys m = absurd m
-in_left x (z ∷ xs) ys (inl e) = inl e
-in_left x (z ∷ xs) ys (inr m) = inr (in_left x xs ys m)
+in_left {X} x = any_left (λ (y : X). x ≡ y)
 
 pub in_right : {X : Type 0} (x : X) (xs ys : List X) → Member x ys → Member x (xs ++ ys)
-in_right x [] ys m = m
-in_right x (z ∷ xs) ys m = inr (in_right x xs ys m)
+in_right {X} x = any_right (λ (y : X). x ≡ y)
 
 pub in_either : {X : Type 0} (x : X) (xs ys : List X) → Member x (xs ++ ys) → Member x xs ⊎ Member x ys
 in_either x [] ys m = inr m

@@ -9,13 +9,9 @@ use Rattle.cacache_calls.specs.{declared.{command.Put.{Put}, reply.Reply.{Reply}
 use Rattle.cacache_calls.proofs.Effects.{puts_commit}
 use Rattle.cacache_value.{specs.{Acts.{PutBytes}, Placed.{Placed}, Value.{value_of_tree}}, proofs.Traces.{traces_act}}
 use Rattle.cacache_history.specs.{Commits.{CommitsAs, Deed, deeds}, History.{Turn}, Setup.{Setup, call_site}, Turns.{made_in}}
-use Rattle.cacache_history.proofs.{Contents.{Carrying.{Makes, own_of}, Deeds.{turns_realize}}, Histories.Holding.{CallHolds, TurnsHold}, durable.CommitPlaces.{goes_runs}}
+use Rattle.cacache_history.proofs.{Contents.{Carrying.{Makes, own_of}, Deeds.{turns_realize}}, Histories.Holding.{CallHolds, TurnHolds}, durable.CommitPlaces.{goes_runs}, Each.{each_join}}
 use Rattle.cacache_laws.specs.{Beside.{FitsEntry, own_integrity}, Caches.{setup_at}, InParts.{AreSilent, Begun, IsOnItsWay, turns_in, with_part}, OpenWriters.{CommitsBytes, IsOpened, make_file}, Sequence.{Alike, AreAnswered, after_deeds, plain_moves, tree_on, turns_on}, Standing.{IsStanding}}
-use Rattle.cacache_laws.proofs.{Calls.{Handed.{writes_are_parts}, InParts.{each_through, logs_lead, made_more, way_holds}, Sequence.{moves_after, moves_follow, turns_made}}, Putting.{Beside.{put_keeps}, Committing.{deeds_later, is_opened, opened, opened_by}, OpenWriters.{folder_first}, StandingPuts.{Went, nowhere, put_commits, turns_there, went}}, trees.SparedCalls.{Left, beside_left, other_of}}
-
-hold_through : (xs ys : List Turn) → TurnsHold nowhere xs → TurnsHold nowhere ys → TurnsHold nowhere (xs ++ ys)
-hold_through [] ys h k = k
-hold_through (turn ∷ xs) ys h k = (h.0, hold_through xs ys h.1 k)
+use Rattle.cacache_laws.proofs.{Calls.{Handed.{writes_are_parts}, InParts.{logs_lead, made_more, way_holds}, Sequence.{moves_after, moves_follow, turns_made}}, Putting.{Beside.{put_keeps}, Committing.{deeds_later, is_opened, opened, opened_by}, OpenWriters.{folder_first}, StandingPuts.{Went, nowhere, put_commits, turns_there, went}}, trees.SparedCalls.{Left, beside_left, other_of}}
 
 module _ (cache : List ℕ) (p : Put) (number : ℕ) (fits : FitsEntry cache p) (o : IsOpened cache number) (r : Reply) (old new : List LogItem) (standing : IsStanding cache old) (c : CommitsBytes cache p number r old new) where
   abbrev s : Setup
@@ -71,8 +67,8 @@ module _ (cache : List ℕ) (p : Put) (number : ℕ) (fits : FitsEntry cache p) 
   commits : CommitsAs (put_commit cache p) (λ names. PutBytes names p.data) (deeds turns) (Some r)
   commits =
       let own = own_of site (commands.Put p) in
-      let hold = hold_through before turns (turns_there s before holds.turns) goes.hold in
-      let makes = each_through (λ turn. Makes (own_of site (commands.Put p)) turn.move.step) before turns holds.makes goes.makes in
+      let hold = each_join (TurnHolds nowhere) before turns (turns_there s before holds.turns) goes.hold in
+      let makes = each_join (λ (turn : Turn). Makes (own_of site (commands.Put p)) turn.move.step) before turns holds.makes goes.makes in
       subst (λ (ds : List Deed). CommitsAs (put_commit cache p) (λ names. PutBytes names p.data) ds (Some r)) silent
       (put_commits cache p r fits (effects_of (made_in (before ++ turns))) (deeds (before ++ turns)) (turns_realize nowhere own (before ++ turns) hold makes) (puts_commit site p (made_in (before ++ turns)) r run))
 

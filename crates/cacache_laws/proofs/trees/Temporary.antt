@@ -1,5 +1,5 @@
 -- A sweep takes the temporary files out of a tree, and nothing else.
-use Rattle.std.proofs.{Common.{◌≡◌, ◌==◌, if◌then◌else◌, inl, inr, ℕ, Bool, true, false, cond, Option, List, [], ◌∷◌, ◌++◌, None, Some, Ok, map, filter, length, refl, sym, ap, subst, ◌∙◌, append_assoc, arith}, lemmas.{Bool.{and_parts, eqb-true}, List.{length-map, nil_from_length, Elements.{All-cons, All-nil}}, Slice.Eq.{bytes_eq-Decides}}}
+use Rattle.std.proofs.{Common.{◌≡◌, ◌==◌, if◌then◌else◌, inl, inr, ℕ, Bool, true, false, cond, Option, List, [], ◌∷◌, ◌++◌, None, Some, Ok, map, filter, length, refl, sym, ap, subst, ◌∙◌, append_assoc, arith}, lemmas.{Bool.{and_parts, eqb-true, false_from_ne_true}, List.{length-map, nil_from_length, Elements.{All-cons, All-nil}}, Slice.Eq.{bytes_eq-Decides}}}
 use Rattle.std.specs.Prelude.{bytes_eq, codes}
 use Rattle.cacache_core.specs.{PathNames.{Names, names_of, home_of, is_bad, is_name, pieces, IsProperName}, Paths.{join, temp_area, content_names, bucket_names_of}}
 use Rattle.cacache_core.proofs.{JoinedNames.{joined_texts_name}, ProperNames.{proper_temp_folder}}
@@ -100,10 +100,6 @@ area_empty t home rooted none = sym (none_listed t (home ++ temp_area ∷ []) ro
 abbrev names_in : List (Name × ℕ) → List Name
 names_in removed = map (λ r. r.0) removed
 
-apart_at : (b : Bool) (q p : Names) → same_path q p ≡ b → (q ≡ p → ⊥) → b ≡ false
-apart_at true q p is apart = absurd (apart (same_path-true q p is))
-apart_at false q p is apart = refl
-
 module _ (folder : List ℕ) (p : Names) (named : names_of folder ≡ Ok p) where
   -- a file that answers its size, and then goes
   one_goes : (t : Tree) (r : Name × ℕ) (more : List (Name × ℕ)) → IsProperName r.0.name → AreAnswered t (sized_removals folder (r ∷ more))
@@ -122,7 +118,7 @@ module _ (folder : List ℕ) (p : Names) (named : names_of folder ≡ Ok p) wher
   others_stay [] t q proper a apart = refl
   others_stay (r ∷ rs) t q proper a apart =
       let one = one_goes t r rs (proper r.0 (inl refl)) a in
-      let off : same_path q (p ++ r.0.name ∷ []) ≡ false = apart_at (same_path q (p ++ r.0.name ∷ [])) q (p ++ r.0.name ∷ []) refl (apart r.0 (inl refl)) in
+      let off : same_path q (p ++ r.0.name ∷ []) ≡ false = false_from_ne_true (same_path q (p ++ r.0.name ∷ [])) (λ s. apart r.0 (inl refl) (same_path-true q (p ++ r.0.name ∷ []) s)) in
       ap (λ x. look x q) one.1 ∙ others_stay rs (cut t (p ++ r.0.name ∷ [])) q (λ n m. proper n (inr m)) one.0 (λ n m. apart n (inr m))
       ∙ look-cut t (p ++ r.0.name ∷ []) q ∙ rw off refl
 

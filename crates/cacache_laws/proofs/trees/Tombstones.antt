@@ -1,17 +1,15 @@
 -- A call that adds a tombstone leaves the contents.
-use Rattle.std.proofs.Common.{◌≡◌, true, [], ◌∷◌, Option, None, Some, Result, Ok, Err, refl, sym, ap, subst, take, ◌∙◌}
-use Rattle.cacache_core.specs.{declared.{errors.Fault.{Fault}, integrity.digest.Hash.{Hash}}, PathNames.{Names, names_of, home_of}}
+use Rattle.std.proofs.Common.{◌≡◌, true, [], ◌∷◌, Option, refl, sym, ap, subst, ◌∙◌}
+use Rattle.cacache_core.specs.{declared.integrity.digest.Hash.{Hash}, PathNames.{Names, home_of}}
 use Rattle.cacache_store.specs.declared.store.step.Step.TheVariants as steps
-use Rattle.cacache_store.specs.Plain.{PlainStep, PlainAnswer}
+use Rattle.cacache_store.specs.Plain.{PlainStep}
 use Rattle.cacache_disk.specs.{declared.luck.Luck.TheVariants.{Plain}, Tree.{Tree}, Apply.{apply}}
-use Rattle.cacache_entry.specs.Bucket.{entries_of}
 use Rattle.cacache_calls.specs.declared.command.Command.TheVariants as commands
 use Rattle.cacache_calls.specs.{declared.reply.Reply.{Reply}, Licence.{Licence, AllMay, May, allows, looking_up}, Runs.{Moves, Runs}, State.{Site, State}, Table.{after, opening}}
 use Rattle.cacache_calls.proofs.{Sound.{begins_sound, stays_sound}, Within.{calls_keep_to}}
 use Rattle.cacache_calls.specs.Sound as calls
-use Rattle.cacache_value.specs.{Acts.{Act, AddEntries, MakeFolders, act_at, act_of, act_with, amount_left, change, folders_left}, Placed.{Placed}, Value.{Value, wide_value}}
-use Rattle.cacache_value.proofs.Traces.{steps_act, steps_keep_placed}
-use Rattle.cacache_history.{specs.Setup.{Setup, is_outside, may_export}, proofs.Proper.{sound_proper}}
+use Rattle.cacache_value.{specs.{Acts.{Act, act_of, change, PutBytes, PutLink, Drop}, Placed.{Placed}, Value.{Value, wide_value}}, proofs.Traces.{steps_act, steps_keep_placed}}
+use Rattle.cacache_history.{specs.Setup.{Setup, is_outside, may_export}, proofs.{Proper.{sound_proper}, StepActs.{MayAct, acts_so}}}
 use Rattle.cacache_laws.specs.{Caches.{setup_at}, Sequence.{tree_on, AreAnswered}, trees.Mending.{TombstonesKeepContents}}
 
 -- ---- acts
@@ -24,27 +22,14 @@ module _ (folder : Option Names) (v : Value) (h : Hash) where
   abbrev Keeps : Act → Type 0
   Keeps act = (change folder act v).contents h ≡ v.contents h
 
-  at_keeps : (r : Result Names Fault) (act : Names → Act) → ((names : Names) → Keeps (act names)) → Keeps (act_at r act)
-  at_keeps (Ok names) act all = all names
-  at_keeps (Err fault) act all = refl
-
-  with_keeps : {A : Type 0} (known : Option A) (act : A → Act) → ((x : A) → Keeps (act x)) → Keeps (act_with known act)
-  with_keeps None act all = refl
-  with_keeps (Some x) act all = all x
-
-  step_keeps : (step : PlainStep) (a : PlainAnswer) → May (allows adding step) → Keeps (act_of step Plain a)
-  step_keeps (steps.MakeDirs p) a may = at_keeps (names_of p) (λ names. act_with (folders_left names Plain a) (MakeFolders names)) (λ names. with_keeps (folders_left names Plain a) (MakeFolders names) (λ count. refl))
-  step_keeps (steps.Append p bytes) a may =
-      at_keeps (names_of p) (λ names. act_with (amount_left Plain a) (λ count. AddEntries names (entries_of (take count bytes))))
-      (λ names. with_keeps (amount_left Plain a) (λ count. AddEntries names (entries_of (take count bytes))) (λ count. refl))
-  step_keeps (steps.ReadAll p) a may = refl
-  step_keeps (steps.Open p) a may = refl
-  step_keeps (steps.Read f max) a may = refl
-  step_keeps (steps.Exists p) a may = refl
-  step_keeps (steps.Size p) a may = refl
-  step_keeps (steps.SyncFile p) a may = refl
-  step_keeps (steps.SyncDir p) a may = refl
-  step_keeps step a may = absurd may
+  act_keeps : (act : Act) (step : PlainStep) → MayAct act step → May (allows adding step) → Keeps act
+  act_keeps (PutBytes names bytes) (steps.Persist f p) is may = absurd may
+  act_keeps (PutBytes names bytes) step is may = absurd is
+  act_keeps (PutLink names target) (steps.Symlink to p) is may = absurd may
+  act_keeps (PutLink names target) step is may = absurd is
+  act_keeps (Drop names) (steps.RemoveFile p) is may = absurd may
+  act_keeps (Drop names) step is may = absurd is
+  act_keeps act step is may = refl
 
 -- ---- a run
 
@@ -67,7 +52,7 @@ module _ (site : Site) where
       let rest = run_keeps (after s m.1) moves r (apply t m.0 Plain).1 (stays_sound site (may_export x) (is_outside x) s m.0 m.1 sound run.0 run.1) run.2 may.1 answered.1 (steps_keep_placed (home_of site.cache) t m.0 Plain placed proper) in
       record {
         placed = rest.placed;
-        contents = λ h. rest.contents h ∙ ap (λ (v : Value). v.contents h) acts ∙ step_keeps (home_of site.cache) (wide_value (home_of site.cache) t) h m.0 (apply t m.0 Plain).0 may.0;
+        contents = λ h. rest.contents h ∙ ap (λ (v : Value). v.contents h) acts ∙ act_keeps (home_of site.cache) (wide_value (home_of site.cache) t) h (act_of m.0 Plain (apply t m.0 Plain).0) m.0 (acts_so m.0 Plain (apply t m.0 Plain).0) may.0;
       }
 
 pub tombstones_keep_contents : TombstonesKeepContents
