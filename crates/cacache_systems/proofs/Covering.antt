@@ -1,5 +1,5 @@
 -- Where a machine and a history agree, each step of a call that stores or looks has what its law asks.
-use Rattle.std.proofs.Common.{◌≡◌, ◌⊎◌, inl, inr, ℕ, zero, suc, Bool, false, List, [], ◌∷◌, ◌++◌, Option, None, Some, Ok, refl, sym, ap, subst, ◌∙◌, append-nil}
+use Rattle.std.proofs.{lemmas.Bool.{false_from_ne_true}, Common.{◌≡◌, ◌⊎◌, inl, inr, ℕ, zero, suc, Bool, false, List, [], ◌∷◌, ◌++◌, Option, None, Some, Ok, refl, sym, ap, subst, ◌∙◌, append-nil}}
 use Rattle.std.specs.Prelude.{Result, Err, IfOk, IfSome}
 use Rattle.cacache_core.specs.{declared.errors.Fault.{Fault}, PathNames.{Names, names_of}}
 use Rattle.cacache_store.specs.declared.store.step.Step.TheVariants as steps
@@ -10,7 +10,7 @@ use Rattle.cacache_system.specs.{Seen.{NumberedTemp, NumberedStep, NumberedAnswe
 use Rattle.cacache_system_model.specs.{Machine.{Machine}, Calls.{OccursSomehow, EachCall}, Laws.{step_on, LeavesFresh}, Making.{HasNoLink}, Syncing.{EndsInNoLink}, OneCall.{StillStands}, Premises.{IsStill, Premise, HasPlainLaw}, Mirrors.{hollow, Mirrors, IsNoTemp, SparesOpen}, Chains.{StepMade, WritesTemp, IsMade}}
 use Rattle.cacache_system_model.proofs.Mirroring.{SameShape, shapes, leads_same, writable_same}
 use Rattle.cacache_value.specs.{Kinds.{PathKind, Content, Bucket, Temporary, Way, Stray, Elsewhere, path_kind, is_used, IsFor}, OpeningTrees.{LieApart}, Placed.{MayStand, Placed, Proper}}
-use Rattle.cacache_value.proofs.{KindsApart.{above, not_true}, FoundPaths.{of_names, suits, Reaches, found, missing, bucket_reached, unreachable}}
+use Rattle.cacache_value.proofs.{KindsApart.{above}, FoundPaths.{of_names, suits, Reaches, found, missing, bucket_reached, unreachable}}
 use Rattle.cacache_calls.specs.{declared.reply.Reply.{Reply}, Table.{wants}}
 use Rattle.cacache_history.{specs.{Setup.{Setup, home}, History.{Now}}, proofs.{Histories.Holding.{of_caller}, Proper.{sound_proper}}}
 use Rattle.cacache_systems.proofs.{OpenTemps.{AreTemps}, Following.{Agree, has_call, make_histories}}
@@ -122,11 +122,11 @@ leads_kind h t p new placed e =
 module _ (h : Option Names) (temps : Names → Bool) (are : AreTemps h temps) where
   -- a path of another kind is no open temporary file
   no_temp : (names : Names) (k : PathKind) → path_kind h names ≡ k → (Temporary ≡ k → ⊥) → temps names ≡ false
-  no_temp names k is apart = not_true (temps names) (λ e. apart (sym (are names e) ∙ is))
+  no_temp names k is apart = false_from_ne_true (temps names) (λ e. apart (sym (are names e) ∙ is))
 
   led_no_temp : (p : List ℕ) (names new : Names) → names_of p ≡ Ok names → IsNotFor h Temporary p → LedOut h names new → temps new ≡ false
   led_no_temp p names new named other (inl same) =
-      not_true (temps new) (λ e. of_names (λ n. path_kind h n ≡ Temporary → ⊥) p names other named (ap (path_kind h) same ∙ are new e))
+      false_from_ne_true (temps new) (λ e. of_names (λ n. path_kind h n ≡ Temporary → ⊥) p names other named (ap (path_kind h) same ∙ are new e))
   led_no_temp p names new named other (inr out) = no_temp new Elsewhere out (λ e. cc)
 
   module _ (t d : Tree) (s : SameShape t d) (placed : Placed h d) where

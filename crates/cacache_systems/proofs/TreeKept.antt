@@ -1,5 +1,5 @@
 -- What the steps of storing calls leave at a path of a temporary file.
-use Rattle.std.proofs.Common.{◌≡◌, ℕ, false, List, [], Option, Ok, refl, sym, ap, ◌∙◌}
+use Rattle.std.proofs.{lemmas.Bool.{false_from_ne_true}, Common.{◌≡◌, ℕ, false, List, [], Option, Ok, refl, sym, ap, ◌∙◌}}
 use Rattle.cacache_core.specs.{declared.errors.Fault.TheVariants.{IsADirectory}, PathNames.{Names, names_of}}
 use Rattle.cacache_store.specs.{declared.store.plain.PlainTemp.{PlainTemp}, Plain.{PlainStep, PlainAnswer}}
 use Rattle.cacache_store.specs.declared.store.step.Step.TheVariants as steps
@@ -7,8 +7,7 @@ use Rattle.cacache_disk.specs.{declared.{luck.Luck.{Luck}, node.Node.TheVariants
 use Rattle.cacache_disk.proofs.Maps.{same_path-true}
 use Rattle.cacache_loss.specs.Fixing.{is_at}
 use Rattle.cacache_loss.proofs.{StepCases.{PersistCase, AppendCase, refused, moved, persist_case, unsent, took, torn, append_case, make_apart, put_misses, cut_misses, step_keeps, asked_keeps, dirs_keep, temp_keeps}, UnchangedPaths.{at_names}}
-use Rattle.cacache_value.specs.{Kinds.{PathKind, Content, Bucket, Temporary, Way, path_kind, IsFor}, Placed.{Placed, Proper}}
-use Rattle.cacache_value.proofs.{FoundPaths.{of_names}, KindsApart.{not_true}}
+use Rattle.cacache_value.{specs.{Kinds.{PathKind, Content, Bucket, Temporary, Way, path_kind, IsFor}, Placed.{Placed, Proper}}, proofs.FoundPaths.{of_names}}
 
 -- a step that makes, writes and moves no temporary file at this path
 abbrev pub Misses : Names → PlainStep → Type 0
@@ -33,7 +32,7 @@ IsStoring step = ⊥
 
 module _ (h : Option Names) (t : Tree) (placed : Placed h t) (q : Names) (at : path_kind h q ≡ Temporary) where
   other : (k : PathKind) (names : Names) → path_kind h names ≡ k → (Temporary ≡ k → ⊥) → same_path q names ≡ false
-  other k names is apart = not_true (same_path q names) (λ e. apart (sym at ∙ ap (path_kind h) (same_path-true q names e) ∙ is))
+  other k names is apart = false_from_ne_true (same_path q names) (λ e. apart (sym at ∙ ap (path_kind h) (same_path-true q names e) ∙ is))
 
   named : (k : PathKind) (p : List ℕ) (names : Names) → IsFor h k p → (Temporary ≡ k → ⊥) → names_of p ≡ Ok names → same_path q names ≡ false
   named k p names is apart e = other k names (of_names (λ n. path_kind h n ≡ k) p names is e) apart

@@ -17,7 +17,7 @@ use std::sync::Wait;
 
 /// A disk in memory and real folders, which go through the same rows.
 #[derive(Drop)]
-pub(crate) struct Places<R> {
+pub(crate) struct Places<R: Files + AllocGlobal + Clone + Drop> {
     rt: R,
     memory: On<MemStore>,
     folders: On<FolderStore<R>>,
