@@ -14,8 +14,8 @@ use cacache_walks::Walk;
 use std::alloc::Global;
 use std::mem::swap;
 
-/// The items of a listing, the paths of the buckets with odd lines, and those of the folders that links in bucket's
-/// places lead to, in the order of their reading.
+/// The items of a listing, and the paths of the buckets with odd lines and of those that are links to folders, in the
+/// order of their reading.
 #[derive(Drop)]
 pub(crate) struct Met {
     pub(crate) items: Vec<std::result::Result<Found, Error>>,
