@@ -17,15 +17,15 @@ use std::sync::Wait;
 
 /// A disk in memory and real folders, which go through the same rows.
 #[derive(Drop)]
-pub(crate) struct Places<R: Files + AllocGlobal + Clone + Drop> {
+pub(crate) struct Places<R, S> {
     rt: R,
     memory: On<MemStore>,
-    folders: On<FolderStore<R>>,
+    folders: On<S>,
 }
 
-impl<R: Files + AllocGlobal + Clone + Drop> Places<R> {
+impl<R: Files + AllocGlobal + Clone + Drop> Places<R, FolderStore<R>> {
     /// Empty ones. The folders are those below the one where the program runs.
-    pub(crate) fn new(rt: &R) -> io::Result<Places<R>> {
+    pub(crate) fn new(rt: &R) -> io::Result<Places<R, FolderStore<R>>> {
         let folders = in_folders(rt)?;
         let (memory, folders) = beside(in_memory(rt.alloc()), folders)?;
         let (rt, (memory, folders)) = beside(rt.clone(), (memory, folders))?;
@@ -96,7 +96,7 @@ fn faulty<R: Wait + RandomSource + AllocGlobal>(rt: &R, words: &str) -> Result<S
 }
 
 /// What an act gives at both places.
-fn at_both<R>(places: &mut Places<R>, act: &str) -> Result<String, Flaw>
+fn at_both<R>(places: &mut Places<R, FolderStore<R>>, act: &str) -> Result<String, Flaw>
 where
     R: Wait + RandomSource + Files + AllocGlobal + Clone + Drop,
 {
@@ -108,7 +108,7 @@ where
 
 /// What an act gives: `core`, `unlucky` and `faulty` at no place, after `memory` or `folders` only there, otherwise
 /// at both places.
-fn tried<R>(places: &mut Places<R>, act: &str) -> Result<String, Flaw>
+fn tried<R>(places: &mut Places<R, FolderStore<R>>, act: &str) -> Result<String, Flaw>
 where
     R: Wait + RandomSource + Files + AllocGlobal + Clone + Drop,
 {
@@ -126,7 +126,7 @@ where
     }
 }
 
-impl<R> Trial for Places<R>
+impl<R> Trial for Places<R, FolderStore<R>>
 where
     R: Wait + RandomSource + Files + AllocGlobal + Clone + Drop,
 {
