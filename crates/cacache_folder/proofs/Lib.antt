@@ -13,5 +13,3 @@ pub mod Reading
 pub mod ByPath
 pub mod HandleReads
 mod Moving
-mod Ghost
-pub mod StepsMade

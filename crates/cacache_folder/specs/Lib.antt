@@ -10,4 +10,3 @@ pub mod Looks
 pub mod Moves
 pub mod Listings
 pub mod StepClauses
-pub mod StepsMade

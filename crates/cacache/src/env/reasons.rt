@@ -19,7 +19,7 @@ pub trait Reasons: Store {
 }
 
 impl<R: Files + AllocGlobal + Clone + Drop> Reasons for FolderStore<R> {
-    ghost known = { λ store. store.runner.reason };
+    ghost known = { λ store. store.reason };
 
     fn reason(&self) -> Option<ErrorKind> {
         FolderStore::reason(self)
