@@ -13,3 +13,5 @@ pub mod Reading
 pub mod ByPath
 pub mod HandleReads
 mod Moving
+mod Ghost
+pub mod StepsMade

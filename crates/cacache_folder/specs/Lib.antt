@@ -10,3 +10,4 @@ pub mod Looks
 pub mod Moves
 pub mod Listings
 pub mod StepClauses
+pub mod StepsMade

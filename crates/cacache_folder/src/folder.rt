@@ -1,12 +1,8 @@
 //! Real folders as a store.
-ghost use Rattle.std.specs.Prelude.{◌≡◌, false, None, IfOk};
-ghost use Rattle.cacache_store.specs.declared.store.step.Step.TheVariants as steps;
-ghost use Rattle.cacache_store.specs.declared.store.answer.Answer.TheVariants as answers;
-ghost use Rattle.cacache_store.specs.{Plain.{plain_step, plain_answer}, Fits.{Fits, is_no_memory}};
-ghost use Rattle.cacache_system.specs.declared.call.CallResult.TheVariants as says;
-ghost use Rattle.cacache_system.specs.{CallLog.{said}, CallsOf.{RunLogged}, AnswersOf.{StepRuns}};
-ghost use Rattle.cacache_system.specs.CallsOf as calls;
-ghost use Rattle.cacache_folder.specs.{FolderHandles.{seen_file, seen_temp}, FolderNumbers.{numbered, answered}, PartialSteps.{HandsBackWhole}, Reasons.{Explains}, StepClauses.{ValueRuns, AnswerFits, AnswersWhole, AnswersRun, RunsByPath}};
+ghost use Rattle.std.specs.Prelude.{◌≡◌, ◌++◌, ◌∷◌, []};
+ghost use Rattle.cacache_store.specs.{Plain.{plain_step, plain_answer}, Fits.{Fits, Logs}};
+ghost use Rattle.cacache_system.specs.AnswersOf.{StepRuns};
+ghost use Rattle.cacache_folder.specs.{FolderHandles.{seen_file, seen_temp}, FolderNumbers.{numbered, answered}, PartialSteps.{HandsBackWhole}, Reasons.{Explains}, StepsMade.{StepsRun, log_of}};
 
 mod again;
 mod answers;
@@ -21,6 +17,7 @@ mod folders;
 mod fresh;
 mod guess;
 mod listing;
+mod log;
 mod looking;
 mod node;
 mod opened;
@@ -28,44 +25,34 @@ mod paths;
 mod refusing;
 mod removing;
 mod rewriting;
+mod runner;
 mod syncing;
 mod temp;
 mod values;
 mod whole;
 
-use again::ask_to_write;
-use answers::{created, moved, readable, synced};
-use cacache_core::bytes::Bytes;
-use cacache_core::keeping::let_go;
 use cacache_store::store::{Answer, Step, Store};
 use cacache_system::{Host, System};
-use copying::copy;
-use descent::Descent;
-use faults::failed_answer;
-use files::{create_temp, exists, open_with, size};
-use guess::Guess;
+use log::{Snapshot, StepLog};
 pub use opened::{FolderFile, SystemFile};
-use paths::make_dirs;
-use rewriting::Reading;
-use std::io;
+use runner::Runner;
 use std::io::ErrorKind;
 use std::rt::Files;
-use syncing::{sync_dir, sync_file};
 pub use temp::{FolderTemp, SystemTemp};
-use values::{done, length_of, listed, there, took, whole};
-use whole::{read_all, read_piece};
 
 /// The folders and files of a runtime's file system.
 pub type FolderStore<R> = SystemStore<Host<R>>;
 
 /// A step on the files of a system.
-type StepOf<Y> = Step<SystemFile<Y>, SystemTemp<Y>>;
+pub(crate) type StepOf<Y> = Step<SystemFile<Y>, SystemTemp<Y>>;
 
 /// An answer with files of a system.
-type AnswerOf<Y> = Answer<SystemFile<Y>, SystemTemp<Y>>;
+pub(crate) type AnswerOf<Y> = Answer<SystemFile<Y>, SystemTemp<Y>>;
 
-/// The folders and files of a system, by the system's own rules. As a store it keeps no log. Each `Reflink` fails with
-/// `Unsupported`.
+/// The folders and files of a system, by the system's own rules. Each `Reflink` fails with `Unsupported`.
+///
+/// Its log takes no memory, since only clauses see it. If the system keeps a log too, the calls there since the store began are
+/// those of the store's steps, one step after another. A store over a system that already made calls keeps no log.
 ///
 /// A name that isn't UTF-8 is listed as an escaped name, so that it hides no other one. No step reaches what stands
 /// under it.
@@ -79,18 +66,18 @@ type AnswerOf<Y> = Answer<SystemFile<Y>, SystemTemp<Y>>;
 /// unless it comes right after the listing; one that removes a folder, now and then; a `Persist` that replaces a file
 /// that was read; and an `Append`, unless a temporary file was made since the listing, as in a put.
 #[derive(Drop)]
-pub struct SystemStore<Y> {
-    system: Y,
-    guess: Guess,
-    descent: Descent,
-    reading: Reading,
-    reason: Option<ErrorKind>,
+pub struct SystemStore<Y: System + Drop> {
+    runner: Runner<Y>,
+    log: StepLog<StepOf<Y>, AnswerOf<Y>>,
+    began: Snapshot<Y>,
+    pub ghost ran: { ∥ StepsRun Y.number log.items (Y.calls began.value) (Y.calls runner.system) ∥₁ },
 }
 
 impl<R: Files + AllocGlobal + Clone + Drop> SystemStore<Host<R>> {
     /// The store over the runtime's file system.
     pub fn new(rt: R) -> FolderStore<R>
-        ensures { result.system.rt ≡ rt }
+        ensures system { result.runner.system.rt ≡ rt }
+        ensures log { result.log.items ≡ [] }
     {
         SystemStore::over(Host::new(rt))
     }
@@ -99,15 +86,15 @@ impl<R: Files + AllocGlobal + Clone + Drop> SystemStore<Host<R>> {
 impl<Y: System + AllocGlobal + Clone + Drop> SystemStore<Y> {
     /// The store over a system.
     pub fn over(system: Y) -> SystemStore<Y>
-        ensures { result.system ≡ system }
+        ensures system { result.runner.system ≡ system }
+        ensures began { result.began.value ≡ system }
+        ensures log { result.log.items ≡ [] }
     {
-        let descent = Descent::new(system.alloc());
+        let began = Snapshot::of(&system);
         SystemStore {
-            system,
-            guess: Guess::new(),
-            descent,
-            reading: Reading::none(),
-            reason: None,
+            runner: Runner::over(system),
+            log: StepLog::new(),
+            began,
         }
     }
 
@@ -123,107 +110,9 @@ impl<Y: System + AllocGlobal + Clone + Drop> SystemStore<Y> {
     /// link can be made: the reason is another device (`CrossesDevices`), or a system without hard links
     /// (`Unsupported`).
     pub fn reason(&self) -> Option<ErrorKind>
-        ensures { result ≡ self.now.reason }
+        ensures { result ≡ self.now.runner.reason }
     {
-        self.reason
-    }
-
-    /// Makes every missing folder of the path.
-    fn make_dirs(&mut self, path: &str) -> io::Result<()>
-        ensures kept { self.new.reason ≡ self.old.reason }
-        ensures ran { ValueRuns (steps.MakeDirs path.now) (λ _. answers.Done) result
-            (Y.calls self.old.system) (Y.calls self.new.system) }
-    {
-        self.reading.forget_in(path);
-        let is_guessed = self.guess.is_missing(path);
-        match make_dirs(&mut self.system, path, is_guessed) {
-            Ok(was_missing) => {
-                self.guess.keep(path, was_missing);
-                Ok(())
-            }
-            Err(error) => Err(error),
-        }
-    }
-
-    /// The whole file at the path.
-    fn read_all(&mut self, path: &str) -> io::Result<Bytes>
-        ensures kept { self.new.reason ≡ self.old.reason }
-        ensures ran { RunLogged (calls.opening calls.to_read path.now) (said says.Bytes result)
-            (Y.calls self.old.system) (Y.calls self.new.system) }
-    {
-        match read_all(&mut self.system, path) {
-            Ok(bytes) => {
-                self.reading.keep(path);
-                Ok(bytes)
-            }
-            Err(error) => Err(error),
-        }
-    }
-
-    /// Does a step that takes no file and gives none. A reflink is not supported.
-    fn do_by_path(&mut self, step: &StepOf<Y>) -> io::Result<AnswerOf<Y>>
-        ensures fits { IfOk result (λ answer. Fits (plain_step seen_file seen_temp step.now)
-            (plain_answer seen_file seen_temp answer)) }
-        ensures done { IfOk result (λ answer.
-            is_no_memory (plain_answer seen_file seen_temp answer) ≡ false) }
-        ensures explains { IfOk result (λ answer. Explains self.old.reason self.new.reason
-            (plain_answer seen_file seen_temp answer)) }
-        ensures kept { self.new.reason ≡ self.old.reason }
-        ensures ran { RunsByPath {Y = Y} {F = Y.File} {D = Y.Folder} Y.number step.now result
-            (Y.calls self.old.system) (Y.calls self.new.system) }
-    {
-        match step {
-            Step::MakeDirs(path) => done(self.make_dirs(path.as_str())),
-            Step::Append(path, bytes) => took(self.append(path.as_str(), bytes.as_slice())),
-            Step::ReadAll(path) => whole(self.read_all(path.as_str())),
-            Step::Exists(path) => there(exists(&mut self.system, path.as_str())),
-            Step::Size(path) => length_of(size(&mut self.system, path.as_str())),
-            Step::Symlink(target, path) => done(
-                self.system.symlink(target.as_str(), path.as_str()),
-            ),
-            Step::Copy(from, to) => took(copy(&mut self.system, from.as_str(), to.as_str())),
-            Step::HardLink(from, to) => done(self.system.hard_link(from.as_str(), to.as_str())),
-            Step::ReadDir(path) => listed(self.read_dir(path.as_str())),
-            Step::RemoveFile(path) => done(self.remove_file(path.as_str())),
-            Step::RemoveDir(path) => done(self.remove_dir(path.as_str())),
-            Step::SyncFile(path) => done(sync_file(&mut self.system, path.as_str())),
-            Step::SyncDir(path) => done(sync_dir(&mut self.system, path.as_str())),
-            Step::Reflink(_, _) => Err(io::Error::from(ErrorKind::Unsupported)),
-            _ => Err(io::Error::from(ErrorKind::InvalidInput)),
-        }
-    }
-
-    /// Does a `Write` and answers it.
-    fn write_temp(&mut self, temp: SystemTemp<Y>, bytes: Bytes) -> AnswerOf<Y>
-        ensures fits { AnswerFits {F = Y.File} (Step.Write temp bytes) result }
-        ensures whole { AnswersWhole {F = Y.File} (Step.Write temp bytes) result }
-        ensures explains { Explains self.old.reason self.new.reason
-            (plain_answer seen_file seen_temp result) }
-        ensures ran { AnswersRun {F = Y.File} Y.number (Step.Write temp bytes) result
-            (Y.calls self.old.system) (Y.calls self.new.system) }
-    {
-        let mut temp = temp;
-        match ask_to_write(&mut self.system, &mut temp.file, bytes.as_slice()) {
-            Ok(count) => Answer::Wrote(temp, count),
-            Err(error) => failed_answer(error, Step::Write(temp, bytes), &mut self.reason),
-        }
-    }
-
-    /// Does a `Read` and answers it.
-    fn read_file(&mut self, file: SystemFile<Y>, max: usize) -> AnswerOf<Y>
-        ensures fits { AnswerFits {Y = Y} {F = Y.File} {D = Y.Folder} (Step.Read file max) result }
-        ensures whole { AnswersWhole {Y = Y} {F = Y.File} {D = Y.Folder} (Step.Read file max)
-            result }
-        ensures explains { Explains self.old.reason self.new.reason
-            (plain_answer seen_file seen_temp result) }
-        ensures ran { AnswersRun {Y = Y} {F = Y.File} {D = Y.Folder} Y.number (Step.Read file max)
-            result (Y.calls self.old.system) (Y.calls self.new.system) }
-    {
-        let mut file = file;
-        match read_piece(&mut self.system, &mut file, max) {
-            Ok(bytes) => Answer::Got(file, bytes),
-            Err(error) => failed_answer(error, Step::Read(file, max), &mut self.reason),
-        }
+        self.runner.reason
     }
 }
 
@@ -232,45 +121,27 @@ impl<Y: System + AllocGlobal + Clone + Drop> Store for SystemStore<Y> {
 
     type Temp = SystemTemp<Y>;
 
-    ghost log = { λ _. None };
+    ghost log = { λ store. log_of (Y.calls store.began.value) store.log.items };
 
     fn step(&mut self, step: StepOf<Y>) -> AnswerOf<Y>
         ensures fits { Fits (plain_step seen_file seen_temp step)
             (plain_answer seen_file seen_temp result) }
+        ensures logged { Logs (log_of (Y.calls self.old.began.value) self.old.log.items)
+            (log_of (Y.calls self.new.began.value) self.new.log.items)
+            (plain_step seen_file seen_temp step) (plain_answer seen_file seen_temp result) }
         ensures whole { HandsBackWhole (plain_step seen_file seen_temp step)
             (plain_answer seen_file seen_temp result) }
-        ensures explains { Explains self.old.reason self.new.reason
+        ensures explains { Explains self.old.runner.reason self.new.runner.reason
             (plain_answer seen_file seen_temp result) }
         ensures ran { StepRuns (numbered Y.number step) (answered Y.number result)
-            (Y.calls self.old.system) (Y.calls self.new.system) }
+            (Y.calls self.old.runner.system) (Y.calls self.new.runner.system) }
+        ensures added { self.new.log.items ≡ self.old.log.items ++ (step, result) ∷ [] }
+        ensures began { self.new.began.value ≡ self.old.began.value }
     {
-        match step {
-            Step::CreateTemp(path) => {
-                let made = create_temp(&mut self.system, path.as_str());
-                self.descent.make(made.is_ok());
-                created(made, path, &mut self.reason)
-            }
-            Step::Write(temp, bytes) => self.write_temp(temp, bytes),
-            Step::SyncTemp(temp) => {
-                let done = self.system.sync(&temp.file);
-                synced(done, temp, &mut self.reason)
-            }
-            Step::Persist(temp, path) => {
-                let done = self.persist(&temp, path.as_str());
-                moved(done, temp, path, &mut self.reason)
-            }
-            Step::Open(path) => {
-                let file = open_with(&mut self.system, path.as_str());
-                readable(file, path, &mut self.reason)
-            }
-            Step::Read(file, max) => self.read_file(file, max),
-            step => match self.do_by_path(&step) {
-                Ok(answer) => {
-                    let_go(step);
-                    answer
-                }
-                Err(error) => failed_answer(error, step, &mut self.reason),
-            },
-        }
+        let made = Snapshot::of(&step);
+        let answer = self.runner.step(step);
+        let log = self.log.with(&made, &answer);
+        self.log = log;
+        answer
     }
 }

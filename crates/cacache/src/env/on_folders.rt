@@ -31,7 +31,7 @@ pub type FolderLinker = SyncToLinker<FolderFile<HostRuntime>>;
 ///
 /// `OutOfMemory` is the only error. No folder is touched.
 pub fn folders(rt: HostRuntime, base: &str) -> Result<Folders>
-    ensures store { IfOk result (λ env. env.store.system.rt ≡ rt) }
+    ensures store { IfOk result (λ env. env.store.runner.system.rt ≡ rt) }
     ensures clock { IfOk result (λ env. env.clock.rt ≡ rt) }
     ensures base { IfOk result (λ env. env.base ≡ base.now) }
     ensures err { IfErr result (λ e. e ≡ OutOfMemory) }

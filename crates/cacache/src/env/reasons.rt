@@ -2,13 +2,13 @@
 ghost use Rattle.std.specs.{Prelude.{◌≡◌, Option, None}, declared.io.ErrorKind.{ErrorKind}};
 
 use cacache_disk::memory::MemStore;
-use cacache_folder::FolderStore;
+use cacache_folder::SystemStore;
 use cacache_store::store::Store;
+use cacache_system::System;
 use std::io::ErrorKind;
-use std::rt::Files;
 
 /// A store that may know more of a failed step than its fault. A caller that has only real folders needs no such
-/// trait, and calls `FolderStore::reason`.
+/// trait, and calls `SystemStore::reason`.
 pub trait Reasons: Store {
     /// What it knows.
     ghost known: { Self → Option ErrorKind };
@@ -18,11 +18,11 @@ pub trait Reasons: Store {
         ensures { result ≡ known self.now };
 }
 
-impl<R: Files + AllocGlobal + Clone + Drop> Reasons for FolderStore<R> {
-    ghost known = { λ store. store.reason };
+impl<Y: System + AllocGlobal + Clone + Drop> Reasons for SystemStore<Y> {
+    ghost known = { λ store. store.runner.reason };
 
     fn reason(&self) -> Option<ErrorKind> {
-        FolderStore::reason(self)
+        SystemStore::reason(self)
     }
 }
 

@@ -2,13 +2,13 @@
 ghost use Rattle.std.specs.Prelude.{◌≡◌, ◌≤◌, IfOk, length};
 ghost use Rattle.cacache_folder.specs.Moves.{Appends};
 
-use crate::folder::SystemStore;
 use crate::folder::files::append;
 use crate::folder::folders::folder_of;
+use crate::folder::runner::Runner;
 use cacache_system::System;
 use std::io;
 
-impl<Y: System + AllocGlobal + Clone + Drop> SystemStore<Y> {
+impl<Y: System + AllocGlobal + Clone + Drop> Runner<Y> {
     /// Appends to the file at the path in one write. In a walk it looks first at the folder there.
     pub(crate) fn append(&mut self, path: &str, bytes: &[u8]) -> io::Result<usize>
         ensures count { IfOk result (λ count. count ≤ length bytes.now) }

@@ -8,10 +8,10 @@ ghost use Rattle.cacache_system.specs.CallsOf as calls;
 ghost use Rattle.cacache_system.specs.AnswersOf as table;
 ghost use Rattle.cacache_folder.specs.{StepClauses.{ValueRuns}, Listings.{ListsNames, CutsName, ReadsNames, ReadsAllNames, OpensFolder, OpensPath, ListsFolder}};
 
-use crate::folder::SystemStore;
 use crate::folder::again::ask_for_names;
 use crate::folder::entries::{Listed, Looked, add};
 use crate::folder::paths::is_absent;
+use crate::folder::runner::Runner;
 use cacache_store::store::Listing;
 use cacache_system::System;
 use std::alloc::{AllocError, Global};
@@ -251,7 +251,7 @@ fn names_in<Y: System + AllocGlobal>(system: &mut Y, path: &str, was_named: bool
     }
 }
 
-impl<Y: System + AllocGlobal + Clone + Drop> SystemStore<Y> {
+impl<Y: System + AllocGlobal + Clone + Drop> Runner<Y> {
     /// What is in the folder, in the system's order. A name that isn't UTF-8 is listed as an escaped one. What was
     /// removed meanwhile is left out; the kind of everything else is needed.
     pub(crate) fn read_dir(&mut self, path: &str) -> io::Result<Listing>

@@ -2,10 +2,10 @@
 ghost use Rattle.std.specs.Prelude.{◌≡◌};
 ghost use Rattle.cacache_folder.specs.Looks.{Descends, LooksFirst, LooksAt, LooksToLast, Decides, info_of};
 
-use crate::folder::SystemStore;
 use crate::folder::descent::Known;
 use crate::folder::node::Node;
 use crate::folder::refusing::if_folder;
+use crate::folder::runner::Runner;
 use cacache_store::store::Kind;
 use cacache_system::{FileInfo, System};
 use std::io;
@@ -83,7 +83,7 @@ fn look<Y: System>(system: &mut Y, folder: &str, known: Known) -> io::Result<()>
     }
 }
 
-impl<Y: System + AllocGlobal + Clone + Drop> SystemStore<Y> {
+impl<Y: System + AllocGlobal + Clone + Drop> Runner<Y> {
     /// Looks at the folder, if it is due, and refuses where somebody put a link in its place or on the way to it.
     pub(crate) fn look_if(&mut self, folder: &str, due: Option<Known>) -> io::Result<()>
         ensures looks { LooksFirst result (Y.calls self.old.system) (Y.calls self.new.system) }

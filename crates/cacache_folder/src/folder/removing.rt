@@ -4,12 +4,12 @@ ghost use Rattle.cacache_store.specs.declared.store.step.Step.TheVariants as ste
 ghost use Rattle.cacache_store.specs.declared.store.answer.Answer.TheVariants as answers;
 ghost use Rattle.cacache_folder.specs.StepClauses.{ValueRuns};
 
-use crate::folder::SystemStore;
 use crate::folder::folders::folder_of;
+use crate::folder::runner::Runner;
 use cacache_system::System;
 use std::io;
 
-impl<Y: System + AllocGlobal + Clone + Drop> SystemStore<Y> {
+impl<Y: System + AllocGlobal + Clone + Drop> Runner<Y> {
     /// Removes a file or a link.
     pub(crate) fn remove_file(&mut self, path: &str) -> io::Result<()>
         ensures kept { self.new.reason ≡ self.old.reason }

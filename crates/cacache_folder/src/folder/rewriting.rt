@@ -4,9 +4,9 @@ ghost use Rattle.cacache_system.specs.CallsOf as calls;
 ghost use Rattle.cacache_folder.specs.{FolderNumbers.{numbered_temp}, Moves.{GoesBefore, Moves, Rewrites, Persists}};
 ghost use Rattle.std.specs.Prelude.{◌≡◌};
 
-use crate::folder::SystemStore;
 use crate::folder::folders::{folder_of, number_of};
 use crate::folder::paths::is_absent;
+use crate::folder::runner::Runner;
 use crate::folder::temp::SystemTemp;
 use cacache_system::{FileInfo, System};
 use std::io;
@@ -94,7 +94,7 @@ fn keep<Y: System + Drop>(system: &mut Y, temp: &SystemTemp<Y>, path: &str) -> i
     }
 }
 
-impl<Y: System + AllocGlobal + Clone + Drop> SystemStore<Y> {
+impl<Y: System + AllocGlobal + Clone + Drop> Runner<Y> {
     /// Moves the temporary file to the path. In a walk it looks first at the folder there.
     fn move_there(&mut self, temp: &SystemTemp<Y>, path: &str) -> io::Result<()>
         ensures kept { self.new.reason ≡ self.old.reason }

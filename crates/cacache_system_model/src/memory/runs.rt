@@ -23,7 +23,7 @@ pub fn make_and_append(
 ) -> (MemoryAnswer, MemoryAnswer)
     ensures { LogsRuns (steps.MakeDirs folder) (answered number_of result.0)
         (steps.Append path line) (answered number_of result.1)
-        (calls_of store.old.system) (calls_of store.new.system) }
+        (calls_of store.old.runner.system) (calls_of store.new.runner.system) }
 {
     let made = store.step(Step::MakeDirs(folder));
     let appended = store.step(Step::Append(path, line));
