@@ -1,4 +1,4 @@
--- A call that asks for a content, on any machine.
+-- A call that asks for a content, on any machine with a cache.
 use Rattle.std.proofs.Common.{◌≡◌, inl, inr, ◌≤◌, ◌^◌, ◌+◌, ℕ, true, false, List, [], ◌∷◌, Option, None, Some, Result, Ok, Err, length, refl, sym, ap, subst, ◌∙◌, arith}
 use Rattle.std.specs.Prelude.{IfSome}
 use Rattle.std_io.specs.declared.io.kind.ErrorKind.TheVariants as kind
@@ -13,7 +13,7 @@ use Rattle.cacache_system.specs.declared.call.CallResult.TheVariants as says
 use Rattle.cacache_system_model.{specs.{Machine.{Machine, is_regular, Describes, ShowsEnd}, Chains.{StepMade}}, proofs.Saying.{Sayable, found_say}}
 use Rattle.cacache_calls.specs.{declared.{carried.Content.{Content}, reply.Reply.{Reply, TheVariants.{Exists, Refused}}}, State.{asking}, StepPaths.{content_path}, Table.{after}}
 use Rattle.cacache_history.specs.{Setup.{Setup}, History.{Ends}}
-use Rattle.cacache_systems.specs.{Seen.{answer_seen}, Example.{QuestionsCanBe}}
+use Rattle.cacache_systems.specs.{Made.{now_left}, Seen.{answer_seen}, Example.{QuestionsCanBe}}
 
 -- ---- what the system can say
 
@@ -76,10 +76,10 @@ asking_step s i m said = record {
 }
 
 pub questions_can_be : QuestionsCanBe
-questions_can_be s m i within integrity =
+questions_can_be s m cache i within integrity fewer =
     let g = end_said m (found m.tree (content_path s.cache i)) (found_say m.tree (content_path s.cache i)) in
     let r = asking_ends (content_of s i) (answer_seen (answer_of (store.Exists (content_path s.cache i)) g.0)) in
-    let few : 0 + 1 ≤ 2 ^ 64 = omega arith in (
+    let few : (now_left s cache.past).begun + 1 ≤ 2 ^ 64 = omega (arith, fewer) in (
       asking_step s i m g.0,
       r.0,
       (

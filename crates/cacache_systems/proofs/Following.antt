@@ -1,5 +1,5 @@
 -- A history follows what callers do on one machine, act by act.
-use Rattle.std.proofs.Common.{◌≡◌, ◌⊎◌, inl, inr, ◌+◌, ◌==◌, ℕ, Bool, true, false, cond, List, [], ◌∷◌, Option, None, Some, Ok, option_map, refl, sym, ap, subst, ◌∙◌}
+use Rattle.std.proofs.Common.{◌≡◌, ◌⊎◌, inl, inr, ◌≤◌, ◌+◌, ◌^◌, ◌==◌, ℕ, Bool, true, false, cond, List, [], ◌∷◌, ◌++◌, Option, None, Some, Ok, option_map, refl, sym, ap, subst, ◌∙◌, arith}
 use Rattle.cacache_core.specs.{declared.errors.{Fault.{Fault, TheVariants.{Device}}, Error.TheVariants.{OutOfMemory}}, PathNames.{Names}}
 use Rattle.cacache_store.specs.declared.store.answer.Answer.TheVariants as answers
 use Rattle.cacache_store.specs.{Plain.{PlainStep, PlainAnswer}, Fits.{Fits}}
@@ -11,9 +11,9 @@ use Rattle.cacache_system_model.proofs.Chaining.{steps_on_disk}
 use Rattle.cacache_calls.specs.{declared.{command.Command.{Command}, reply.Reply.{Reply, TheVariants.{Refused}}}, State.{State, over}, Table.{wants, after, opening}, Runs.{plain_reply}, Sound.{MayBegin}}
 use Rattle.cacache_calls.proofs.Memory.{no_memory_after}
 use Rattle.cacache_history.specs.{declared.record.Record.{Record, TheVariants.{Began, Moved, Stopped}}, Setup.{Setup, call_site, home, may_export, is_outside}, History.{Call, Now, tree_in, initial, new_call, call_after, unless_over, moved_call, now_after, replayed, Ends, MayMove, MayCome, Legal, IsLegal}}
-use Rattle.cacache_history.proofs.{Headline.{headline}, Histories.{Holding.{AllHold, of_caller, made_proper, next_holds, first_holds}, Runs.{memory_plain}}}
-use Rattle.cacache_systems.proofs.{OpenTemps.{AreTemps, temps_kept}, Fitting.{fits_so}, Failing.{failed_temps}}
-use Rattle.cacache_systems.specs.{Acts.{Act, begins, steps as makes, ends, stops, SystemState, EndsFailed, step_of, answer_in, NeedsFit, unless_ended, after_act, after_acts, MakesStep, MayAct, EachMay, IsRecordOf, AreRecordsOf}, Made.{system_at, history_of, MakeHistories, SystemsMakeHistories}}
+use Rattle.cacache_history.proofs.{Headline.{headline}, Histories.{Holding.{AllHold, of_caller, made_proper, next_holds, all_hold, first_holds, replay_more}, Runs.{memory_plain}}}
+use Rattle.cacache_systems.proofs.{OpenTemps.{temps_kept}, Fitting.{fits_so}, Failing.{failed_temps}}
+use Rattle.cacache_systems.specs.{Acts.{Act, begins, steps as makes, ends, stops, SystemState, EndsFailed, step_of, answer_in, NeedsFit, unless_ended, after_act, after_acts, MakesStep, MayAct, EachMay, IsRecordOf, AreRecordsOf}, Made.{history_of, now_left, AreTemps, CacheOn, CachesBegin, system_at, MakesHistory, MakeHistories, SystemsMakeHistories}}
 
 abbrev pub state_of : Call → State
 state_of call = call.state
@@ -242,33 +242,54 @@ module _ (s : Setup) (apart : LieApart (home s) s.outside) (May : SystemState �
         agree = g.agree;
       }
 
--- ---- from the outside files on
+-- ---- from a cache on
 
-opened_so : (s : Setup) (m : Machine) → with_files bare s.outside ≡ Ok m.tree → (initial s).tree ≡ m.tree
-opened_so s m is = ap tree_in is
+pub caches_begin : CachesBegin
+caches_begin s m apart is =
+    let opened : (initial s).tree ≡ m.tree = ap tree_in is in (
+      record {
+        past = [];
+        temps = λ q. false;
+        legal = record { apart = apart; opens = is ∙ ap Ok (sym opened); legal = tt };
+        over = λ k. refl;
+        few = (let none : 0 ≤ 2 ^ 64 = omega arith in none);
+        mirrors = record { files = λ q e. absurd cc; same = λ q. ap (λ (t : Tree). look t q) opened };
+        are_temps = λ q e. absurd cc;
+      },
+      refl,
+    )
 
-pub legal_of : (s : Setup) (m : Machine) (records : List Record) → LieApart (home s) s.outside → with_files bare s.outside ≡ Ok m.tree → Legal s (initial s) records → IsLegal (history_of s records)
-legal_of s m records apart is legal = record { apart = apart; opens = is ∙ ap Ok (sym (opened_so s m is)); legal = legal }
+legal_join : (s : Setup) (now : Now) (past records : List Record) → Legal s now past → Legal s (replayed s now past) records → Legal s now (past ++ records)
+legal_join s now [] records old legal = legal
+legal_join s now (r ∷ past) records old legal = (old.0, legal_join s (now_after s now r) past records old.1 legal)
 
-pub first_agree : (s : Setup) (m : Machine) → LieApart (home s) s.outside → with_files bare s.outside ≡ Ok m.tree → Agree s (system_at m) (initial s)
-first_agree s m apart is = record {
-  mirrors = record { files = λ q e. absurd cc; same = λ q. ap (λ (t : Tree). look t q) (opened_so s m is) };
-  states = λ k. refl;
-  begun = refl;
-  all = first_holds (history_of s []) (legal_of s m [] apart is tt);
-  temps = λ q e. absurd cc;
-}
+module _ (s : Setup) (m : Machine) (cache : CacheOn s m) where
+  pub first_agree : Agree s (system_at s m cache) (now_left s cache.past)
+  first_agree = record {
+    mirrors = cache.mirrors;
+    states = λ k. ap (option_map state_of) (sym (cache.over k));
+    begun = refl;
+    all = all_hold s cache.legal.apart (initial s) cache.past cache.legal.legal (first_holds (history_of s cache.past) cache.legal);
+    temps = cache.are_temps;
+  }
+
+  -- acts that a history follows from there
+  pub makes_history : (acts : List Act) (records : List Record) (last : SystemState) → AreRecordsOf acts records → Legal s (now_left s cache.past) records
+      → Agree s last (replayed s (now_left s cache.past) records) → MakesHistory s cache.past acts last
+  makes_history acts records last of_acts legal agree = record {
+    records = records;
+    of_acts = of_acts;
+    headline = headline (history_of s (cache.past ++ records))
+        (record { apart = cache.legal.apart; opens = cache.legal.opens; legal = legal_join s (initial s) cache.past records cache.legal.legal legal });
+    mirrors = subst (λ (now : Now). Mirrors last.temps last.machine.tree now.tree) (sym (replay_more s (initial s) cache.past records)) agree.mirrors;
+    are_temps = agree.temps;
+  }
 
 pub make_histories : (May : Setup → SystemState → Act → Type 0) → ((s : Setup) → LieApart (home s) s.outside → (w : SystemState) (now : Now) → Agree s w now → (act : Act) → May s w act → MayAct s w act)
     → MakeHistories May
-make_histories May may_act s m acts apart is each =
-    let f = acts_follow s apart (May s) (may_act s apart) acts (system_at m) (initial s) (first_agree s m apart is) each in
-    record {
-      records = f.records;
-      of_acts = f.of_acts;
-      headline = headline (history_of s f.records) (legal_of s m f.records apart is f.legal);
-      mirrors = f.agree.mirrors;
-    }
+make_histories May may_act s m cache acts each =
+    let f = acts_follow s cache.legal.apart (May s) (may_act s cache.legal.apart) acts (system_at s m cache) (now_left s cache.past) (first_agree s m cache) each in
+    makes_history s m cache acts f.records (after_acts s (system_at s m cache) acts) f.of_acts f.legal f.agree
 
 pub systems_make_histories : SystemsMakeHistories
 systems_make_histories = make_histories MayAct (λ s apart w now agree act may. may)

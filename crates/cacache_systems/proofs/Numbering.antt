@@ -1,14 +1,13 @@
 -- Callers as a store of real folders has them, on one machine: their temporary files hold there what their states say.
-use Rattle.std.proofs.Common.{◌≡◌, ◌≤◌, ◌^◌, ◌+◌, ℕ, false, List, [], ◌∷◌, Option, None, Some, Ok, refl, sym, ap, subst, ◌∙◌, arith}
-use Rattle.cacache_disk.specs.Tree.{bare}
-use Rattle.cacache_value.specs.OpeningTrees.{with_files, LieApart}
+use Rattle.std.proofs.Common.{◌≡◌, ◌≤◌, ◌^◌, ◌+◌, ℕ, List, [], ◌∷◌, Option, None, Some, refl, sym, ap, subst, ◌∙◌}
+use Rattle.cacache_value.specs.OpeningTrees.{LieApart}
 use Rattle.cacache_calls.specs.{declared.{command.Command.{Command}, reply.Reply.{Reply}}, Table.{opening}}
 use Rattle.cacache_history.specs.{declared.record.Record.{Record}, Setup.{Setup, call_site, home}, History.{Now, now_after, replayed, Legal, NamesIntegrity, initial}}
-use Rattle.cacache_history.proofs.{Headline.{headline}, durable.CallNumbers.{next_numbered, first_numbered}}
+use Rattle.cacache_history.proofs.durable.CallNumbers.{Numbered, next_numbered, first_numbered}
 use Rattle.cacache_system.specs.Seen.{NumberedTemp}
 use Rattle.cacache_system_model.specs.Machine.{Machine}
-use Rattle.cacache_systems.specs.{Acts.{Act, begins, steps as makes, ends, stops, SystemState, AreRecordsOf}, Made.{history_of}, Numbered.{NumberedState, numbered_after, StoresOrLooks, MayNext, EachNext, numbered_after_all, numbered_at, FoldersMakeHistories}}
-use Rattle.cacache_systems.proofs.{Covering.{may_act}, Following.{Follows, act_follows, first_agree, legal_of}, Files.{file_in, IsState, opens_free}, PathsOf.{HasPaths, opens_paths}, NextSteps.{HasHandle, PathsAt, Holds, at_state, no_paths, no_state, makes_storing_step, step_holds}}
+use Rattle.cacache_systems.specs.{Acts.{Act, begins, steps as makes, ends, stops, SystemState, AreRecordsOf}, Made.{now_left, CacheOn}, Numbered.{NumberedState, numbered_after, StoresOrLooks, MayNext, EachNext, numbered_after_all, numbered_at, FoldersMakeHistories}}
+use Rattle.cacache_systems.proofs.{Covering.{may_act}, Following.{Follows, act_follows, first_agree, makes_history}, Files.{file_in, IsState, opens_free}, PathsOf.{HasPaths, opens_paths}, NextSteps.{HasHandle, PathsAt, Holds, at_state, no_paths, no_state, makes_storing_step, step_holds}}
 
 module _ (s : Setup) (apart : LieApart (home s) s.outside) (f : NumberedState) (now : Now) (all : Holds s f now) where
   abbrev w : SystemState
@@ -83,21 +82,20 @@ numbered_follow s apart (act ∷ acts) f now all (may, later) =
       holds = rest.holds;
     }
 
-pub first_holds : (s : Setup) (m : Machine) → LieApart (home s) s.outside → with_files bare s.outside ≡ Ok m.tree → Holds s (numbered_at m) (initial s)
-first_holds s m apart is = record {
-  agree = first_agree s m apart is;
-  numbered = first_numbered s;
-  few = (let none : 0 ≤ 2 ^ 64 = omega arith in none);
-  handles = λ k. no_state (λ names. false) m None;
+all_numbered : (s : Setup) (now : Now) (records : List Record) → Numbered now → Numbered (replayed s now records)
+all_numbered s now [] h = h
+all_numbered s now (r ∷ records) h = all_numbered s (now_after s now r) records (next_numbered s now r h)
+
+pub first_holds : (s : Setup) (m : Machine) (cache : CacheOn s m) → Holds s (numbered_at s m cache) (now_left s cache.past)
+first_holds s m cache = record {
+  agree = first_agree s m cache;
+  numbered = all_numbered s (initial s) cache.past (first_numbered s);
+  few = cache.few;
+  handles = λ k. no_state cache.temps m None;
   paths = λ k. no_paths (home s);
 }
 
 pub folders_make_histories : FoldersMakeHistories
-folders_make_histories s m acts apart is each =
-    let g = numbered_follow s apart acts (numbered_at m) (initial s) (first_holds s m apart is) each in
-    record {
-      records = g.records;
-      of_acts = g.of_acts;
-      headline = headline (history_of s g.records) (legal_of s m g.records apart is g.legal);
-      mirrors = g.holds.agree.mirrors;
-    }
+folders_make_histories s m cache acts each =
+    let g = numbered_follow s cache.legal.apart acts (numbered_at s m cache) (now_left s cache.past) (first_holds s m cache) each in
+    makes_history s m cache acts g.records (numbered_after_all s (numbered_at s m cache) acts).system g.of_acts g.legal g.holds.agree

@@ -7,12 +7,8 @@ use Rattle.cacache_store.specs.Plain.{PlainStep, PlainAnswer}
 use Rattle.cacache_disk.{specs.Tree.{same_path}, proofs.{Maps.{same_path-true}, Roots.{same_self}}}
 use Rattle.cacache_value.specs.{Kinds.{Temporary, path_kind, Content}, Placed.{Proper}}
 use Rattle.cacache_system_model.specs.Mirrors.{without, with_new, temps_after}
-use Rattle.cacache_systems.proofs.TreeKept.{Misses, IsStoring}
+use Rattle.cacache_systems.{specs.Made.{AreTemps}, proofs.TreeKept.{Misses, IsStoring}}
 use Rattle.cacache_loss.{specs.Fixing.{is_at}, proofs.UnchangedPaths.{at_false}}
-
--- the open temporary files lie where temporary files belong
-abbrev pub AreTemps : Option Names → (Names → Bool) → Type 0
-AreTemps h temps = (q : Names) → temps q ≡ true → path_kind h q ≡ Temporary
 
 new_kind : (h : Option Names) (temps : Names → Bool) (r : Result Names Fault) → IfOk r (λ names. path_kind h names ≡ Temporary) → AreTemps h temps → AreTemps h (with_new temps r)
 new_kind h temps (Ok names) is old q e = by (same_path q names) refl e

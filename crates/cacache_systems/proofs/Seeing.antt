@@ -4,9 +4,9 @@ use Rattle.cacache_value.specs.OpeningTrees.{LieApart}
 use Rattle.cacache_system.specs.{Seen.{NumberedTemp, NumberedAnswer}, AnswersOf.{answer_of}}
 use Rattle.cacache_system_model.specs.{Machine.{Machine}, Laws.{answer_on}, Chains.{StepMade}}
 use Rattle.cacache_calls.specs.{declared.reply.Reply.{Reply}, State.{State}, Table.{wants, after, opening}, Sound.{MayBegin}}
-use Rattle.cacache_history.{specs.{Setup.{Setup, call_site, home, may_export, is_outside}, History.{Now, now_after, initial, Ends}}, proofs.Headline.{headline}}
-use Rattle.cacache_systems.specs.{Acts.{Act, begins, steps as makes, ends, stops, answer_in, unless_ended}, Made.{history_of}, Numbered.{NumberedState, handed, numbered_after, MakesNextStep, MayNext, numbered_at}, Seen.{SeenState, answer_seen, step_seen, after_seen, IsOnHeld, MakesSeenStep, MayActSeen, EachSeen, seen_at, SeenMakeHistories}}
-use Rattle.cacache_systems.proofs.{WithoutBytes.{without_bytes, after_without, wanted_plain, none_plain, ends_plain, is_storing, next_seen, opens_without}, Files.{IsState, follows_after}, Following.{legal_of}, NextSteps.{Holds}, Numbering.{NumberedFollow, next_act, first_holds}}
+use Rattle.cacache_history.specs.{Setup.{Setup, call_site, home, may_export, is_outside}, History.{Now, now_after, Ends}}
+use Rattle.cacache_systems.specs.{Acts.{Act, begins, steps as makes, ends, stops, answer_in, unless_ended}, Made.{now_left}, Numbered.{NumberedState, handed, numbered_after, MakesNextStep, MayNext, numbered_at, numbered_after_all}, Seen.{SeenState, answer_seen, step_seen, after_seen, IsOnHeld, MakesSeenStep, MayActSeen, EachSeen, seen_at, SeenMakeHistories}}
+use Rattle.cacache_systems.proofs.{WithoutBytes.{without_bytes, after_without, wanted_plain, none_plain, ends_plain, is_storing, next_seen, opens_without}, Files.{IsState, follows_after}, Following.{makes_history}, NextSteps.{Holds}, Numbering.{NumberedFollow, next_act, first_holds}}
 
 -- both have the same but for what handles hold
 record Sees (c : SeenState) (f : NumberedState) : Type 0 where
@@ -118,15 +118,8 @@ seen_follows s apart (act ∷ acts) c f now all sees (may, later) =
       holds = rest.holds;
     }
 
-first_sees : (m : Machine) → Sees (seen_at m) (numbered_at m)
-first_sees m = record { machine = refl; states = λ k. refl; held = λ k. refl; begun = refl }
-
 pub seen_make_histories : SeenMakeHistories
-seen_make_histories s m acts apart is each =
-    let g = seen_follows s apart acts (seen_at m) (numbered_at m) (initial s) (first_holds s m apart is) (first_sees m) each in
-    record {
-      records = g.records;
-      of_acts = g.of_acts;
-      headline = headline (history_of s g.records) (legal_of s m g.records apart is g.legal);
-      mirrors = g.holds.agree.mirrors;
-    }
+seen_make_histories s m cache acts each =
+    let sees : Sees (seen_at s m cache) (numbered_at s m cache) = record { machine = refl; states = λ k. refl; held = λ k. refl; begun = refl } in
+    let g = seen_follows s cache.legal.apart acts (seen_at s m cache) (numbered_at s m cache) (now_left s cache.past) (first_holds s m cache) sees each in
+    makes_history s m cache acts g.records (numbered_after_all s (numbered_at s m cache) acts).system g.of_acts g.legal g.holds.agree

@@ -1,16 +1,14 @@
 -- Callers over a store of real folders, in which a temporary file is a number and a path. Nothing is asked of what it holds.
-use Rattle.std.specs.Prelude.{◌≡◌, ◌≤◌, ◌+◌, ◌^◌, ◌==◌, ℕ, List, [], ◌∷◌, Option, None, Some, Ok, if◌then◌else◌}
+use Rattle.std.specs.Prelude.{◌≡◌, ◌≤◌, ◌+◌, ◌^◌, ◌==◌, ℕ, List, [], ◌∷◌, Option, None, Some, if◌then◌else◌}
 use Rattle.cacache_store.specs.declared.store.step.Step.TheVariants as steps
 use Rattle.cacache_store.specs.declared.store.answer.Answer.TheVariants as answers
 use Rattle.cacache_store.specs.Plain.{PlainStep}
 use Rattle.cacache_system.specs.{Seen.{NumberedTemp, NumberedStep, NumberedAnswer}, CallsOf.{Runs}, AnswersOf.{first, answer_of}}
 use Rattle.cacache_system_model.specs.{Machine.{Machine}, Calls.{OccursSomehow, EachCall}, Chains.{StepMade}}
-use Rattle.cacache_disk.specs.Tree.{bare}
-use Rattle.cacache_value.specs.OpeningTrees.{with_files, LieApart}
 use Rattle.cacache_calls.specs.{declared.{command.Command.{Command}, reply.Reply.{Reply}}, State.{State}, Table.{wants, after}}
 use Rattle.cacache_calls.specs.declared.command.Command.TheVariants as commands
-use Rattle.cacache_history.specs.{Setup.{Setup, home}, History.{Ends}}
-use Rattle.cacache_systems.specs.{Acts.{Act, begins, steps as makes, ends, stops, SystemState, answer_in, after_act, MayAct}, Made.{system_at, MakesHistory}, Storing.{HintStands, IsExplained}}
+use Rattle.cacache_history.specs.{Setup.{Setup}, History.{Ends}}
+use Rattle.cacache_systems.specs.{Acts.{Act, begins, steps as makes, ends, stops, SystemState, answer_in, after_act, MayAct}, Made.{CacheOn, system_at, MakesHistory}, Storing.{HintStands, IsExplained}}
 
 -- the state of the system, and the temporary file that each caller was handed last
 pub record NumberedState : Type 0 where
@@ -96,12 +94,12 @@ numbered_after_all s f [] = f
 numbered_after_all s f (act ∷ acts) = numbered_after_all s (numbered_after s f act) acts
 
 -- both before any act
-abbrev pub numbered_at : Machine → NumberedState
-numbered_at m = record { system = system_at m; held = λ caller. None }
+abbrev pub numbered_at : (s : Setup) (m : Machine) → CacheOn s m → NumberedState
+numbered_at s m cache = record { system = system_at s m cache; held = λ caller. None }
 
 -- such acts on one machine make a legal history
 abbrev pub FoldersMakeHistories : Type 0
 FoldersMakeHistories =
-    (s : Setup) (m : Machine) (acts : List Act) → LieApart (home s) s.outside
-    → with_files bare s.outside ≡ Ok m.tree → EachNext s (numbered_at m) acts
-    → MakesHistory s acts (numbered_after_all s (numbered_at m) acts).system
+    (s : Setup) (m : Machine) (cache : CacheOn s m) (acts : List Act)
+    → EachNext s (numbered_at s m cache) acts
+    → MakesHistory s cache.past acts (numbered_after_all s (numbered_at s m cache) acts).system

@@ -1,14 +1,12 @@
 -- Callers over stores of real folders, as the contracts of these stores see them: with handles that have no bytes.
-use Rattle.std.specs.Prelude.{◌≡◌, ◌≤◌, ◌<◌, ◌+◌, ◌^◌, ℕ, List, [], ◌∷◌, Option, None, Some, Ok, option_map}
+use Rattle.std.specs.Prelude.{◌≡◌, ◌≤◌, ◌<◌, ◌+◌, ◌^◌, ℕ, List, [], ◌∷◌, ◌++◌, Option, None, Some, option_map}
 use Rattle.cacache_store.specs.{declared.store.plain.{PlainFile.{PlainFile}, PlainTemp.{PlainTemp}}, Plain.{PlainStep, PlainAnswer}}
 use Rattle.cacache_store.specs.declared.store.step.Step.TheVariants as store
-use Rattle.cacache_disk.specs.Tree.{bare}
-use Rattle.cacache_value.specs.OpeningTrees.{with_files, LieApart}
 use Rattle.cacache_system.specs.{Seen.{NumberedFile, NumberedTemp, NumberedStep, NumberedAnswer, step_as, answer_as}, CallsOf.{Runs}, AnswersOf.{first, answer_of}}
 use Rattle.cacache_system_model.specs.{Machine.{Machine}, Calls.{OccursSomehow, EachCall}, Chains.{StepMade}}
 use Rattle.cacache_calls.specs.{declared.reply.Reply.{Reply}, State.{State}, Table.{wants, after, opening}, Sound.{MayBegin}}
-use Rattle.cacache_history.specs.{declared.record.Record.{Record}, Setup.{Setup, call_site, home, may_export, is_outside}, History.{History, Ends, NamesIntegrity}}
-use Rattle.cacache_systems.specs.{Acts.{Act, begins, steps, ends, stops, set_state, unless_ended, AreRecordsOf}, Made.{history_of, MakesHistory}, Storing.{HintStands, IsExplained}, Numbered.{held_after, StoresOrLooks, numbered_at, numbered_after_all}}
+use Rattle.cacache_history.specs.{declared.record.Record.{Record}, Setup.{Setup, call_site, may_export, is_outside}, History.{History, Ends, NamesIntegrity}}
+use Rattle.cacache_systems.specs.{Acts.{Act, begins, steps, ends, stops, set_state, unless_ended, AreRecordsOf}, Made.{history_of, now_left, CacheOn, MakesHistory}, Storing.{HintStands, IsExplained}, Numbered.{held_after, StoresOrLooks, numbered_at, numbered_after_all}}
 
 -- an open file of a store of real folders, as contracts see it
 abbrev pub seen_file : NumberedFile → PlainFile
@@ -100,19 +98,24 @@ EachSeen s f [] = Unit {0}
 EachSeen s f (act ∷ acts) = MayActSeen s f act × EachSeen s (after_seen s f act) acts
 
 -- before any act
-abbrev pub seen_at : Machine → SeenState
-seen_at m = record { machine = m; states = λ caller. None; held = λ caller. None; begun = 0 }
+abbrev pub seen_at : (s : Setup) (m : Machine) → CacheOn s m → SeenState
+seen_at s m cache = record {
+  machine = m;
+  states = λ caller. None;
+  held = λ caller. None;
+  begun = (now_left s cache.past).begun;
+}
 
 -- such acts on one machine make a legal history
 abbrev pub SeenMakeHistories : Type 0
 SeenMakeHistories =
-    (s : Setup) (m : Machine) (acts : List Act) → LieApart (home s) s.outside
-    → with_files bare s.outside ≡ Ok m.tree → EachSeen s (seen_at m) acts
-    → MakesHistory s acts (numbered_after_all s (numbered_at m) acts).system
+    (s : Setup) (m : Machine) (cache : CacheOn s m) (acts : List Act)
+    → EachSeen s (seen_at s m cache) acts
+    → MakesHistory s cache.past acts (numbered_after_all s (numbered_at s m cache) acts).system
 
--- each list of such acts on one machine is that of a history with this property
+-- each list of such acts on one machine goes on with the history of its cache, to one with this property
 abbrev pub SeenActsAre : (History → Type 0) → Type 0
 SeenActsAre Has =
-    (s : Setup) (m : Machine) (acts : List Act) → LieApart (home s) s.outside
-    → with_files bare s.outside ≡ Ok m.tree → EachSeen s (seen_at m) acts
-    → (records : List Record) × AreRecordsOf acts records × Has (history_of s records)
+    (s : Setup) (m : Machine) (cache : CacheOn s m) (acts : List Act)
+    → EachSeen s (seen_at s m cache) acts
+    → (records : List Record) × AreRecordsOf acts records × Has (history_of s (cache.past ++ records))

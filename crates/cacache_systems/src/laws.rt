@@ -1,5 +1,5 @@
 //! Laws, on a function that does nothing.
-ghost use Rattle.cacache_systems.specs.{Example.{QuestionsCanBe}, Made.{SystemsMakeHistories}, Numbered.{FoldersMakeHistories}, Opened.{RunsKeepOpen}, Seen.{SeenMakeHistories}, Storing.{StoringMakeHistories}};
+ghost use Rattle.cacache_systems.specs.{Example.{QuestionsCanBe}, Made.{CachesBegin, SystemsMakeHistories}, Numbered.{FoldersMakeHistories}, Opened.{RunsKeepOpen}, Seen.{SeenMakeHistories}, Storing.{StoringMakeHistories}};
 
 /// What callers do on one machine makes a legal history with their replies, if the system calls of each store step follow
 /// one another. The history's last tree mirrors the machine's. If a step failed and ended its call, the caller may be
@@ -12,6 +12,7 @@ ghost use Rattle.cacache_systems.specs.{Example.{QuestionsCanBe}, Made.{SystemsM
 /// - `keep`: the system calls of a storing or looking step keep open files open.
 /// - `example`: what `seen` asks can be met.
 pub fn system_history_laws()
+    ensures begin { CachesBegin }
     ensures made { SystemsMakeHistories }
     ensures storing { StoringMakeHistories }
     ensures folders { FoldersMakeHistories }

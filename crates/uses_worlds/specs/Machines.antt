@@ -7,6 +7,6 @@ pub record IsSafe (h : History) : Type 0 where
   pub readers : ReadersNeverLie h
   pub crashes : CrashesAreSafe h
 
--- so it is in the history of callers over real folders on one machine
+-- so it is in the history of a cache and of callers over real folders on its machine
 abbrev pub FoldersAreSafe : Type 0
 FoldersAreSafe = SeenActsAre IsSafe
