@@ -6,11 +6,11 @@ use Rattle.cacache_store.specs.{declared.store.plain.PlainTemp.{PlainTemp}, Plai
 use Rattle.cacache_store.specs.declared.store.step.Step.TheVariants as steps
 use Rattle.cacache_store.specs.declared.store.answer.Answer.TheVariants as answers
 use Rattle.cacache_entry.specs.Latest.{Found}
-use Rattle.cacache_calls.specs.{declared.{command.Command.{Command}, carried.{Aim.{Aim}, Commit.{Commit}, Lookup.{Lookup}}, reply.Reply.TheVariants.{Read}}, Answers.{done_in, temp_in, written_in, synced_in, there_in, taken_in, bytes_in}, Common.{fails, ends_with}, ContentReads.{checked, answer_there, answer_absent}, Inserting.{insertion, deletion, bucket_line, recorded, after_append, insert, refused_cause}, Looking.{found_in, found_for, after_bucket, no_bucket}, State.{State, doing, creating, writing, syncing, persisting, confirming, appending, looking, reading, asking, over, Site, Insertion, make_folder, sync_file, sync_dir}, StepPaths.{content_folder, content_path, bucket_path, temp_path}, Storing.{placed, secured, secured_found, write_rest, after_write, after_confirm}, Table.{wants, after, opening}}
+use Rattle.cacache_calls.specs.{declared.{command.Command.{Command}, carried.{Aim.{Aim}, Commit.{Commit}, Lookup.{Lookup}}, reply.Reply.TheVariants.{Read}}, Answers.{done_in, temp_in, written_in, synced_in, there_in, taken_in, bytes_in}, Common.{fails, ends_with}, ContentReads.{checked, answer_there, answer_absent}, Inserting.{insertion, deletion, bucket_line, recorded, after_append, insert, refused_cause}, Looking.{found_in, found_for, after_bucket, no_bucket}, State.{State, doing, creating, writing, syncing, persisting, confirming, appending, looking, reading, asking, over, Site, Insertion, Errand, make_folder, remove, sync_file, sync_dir}, StepPaths.{content_folder, content_path, bucket_path, temp_path}, Storing.{placed, secured, secured_found, write_rest, after_write, after_confirm}, Table.{wants, after, opening}}
 use Rattle.cacache_calls.proofs.{Branches.{cond_leads, go_on_leads}, Leading.{moves_on, secures, secures_found, records, places, inserts}, Sound.{some_is}}
 use Rattle.cacache_calls.specs.declared.command.Command.TheVariants as commands
 use Rattle.cacache_calls.specs.declared.carried.Aim.TheVariants as aims
-use Rattle.cacache_systems.specs.Numbered.{StoresOrLooks}
+use Rattle.cacache_systems.specs.Numbered.{StoresLooksOrRemoves}
 
 -- the temporary file that a state is about
 abbrev pub file_in : State → Option PlainTemp
@@ -34,10 +34,16 @@ file_given (answers.Wrote f n) = Some f
 file_given (answers.Synced f) = Some f
 file_given answer = None
 
--- ---- states of storing and looking calls
+-- ---- states of storing, looking and removing calls
+
+-- what such a call looks up a key for
+abbrev pub IsAim : Aim → Type 0
+IsAim (aims.Export x) = ⊥
+IsAim aim = Unit {0}
 
 abbrev pub IsState : State → Type 0
 IsState (doing (make_folder p) s) = IsState s
+IsState (doing (remove p) s) = IsState s
 IsState (doing (sync_file p) s) = IsState s
 IsState (doing (sync_dir p) s) = IsState s
 IsState (creating number c rest) = Unit {0}
@@ -46,7 +52,7 @@ IsState (syncing c file) = Unit {0}
 IsState (persisting c file) = Unit {0}
 IsState (confirming c fault) = Unit {0}
 IsState (appending i) = Unit {0}
-IsState (looking l) = (l.aim ≡ aims.Report) ⊎ (l.aim ≡ aims.Read)
+IsState (looking l) = IsAim l.aim
 IsState (reading k) = Unit {0}
 IsState (asking k) = Unit {0}
 IsState (over reply) = Unit {0}
@@ -68,14 +74,16 @@ free_secured c = secures IsFree free_syncs c (free_places c)
 free_inserts : (i : Insertion) → IsFree (insert i)
 free_inserts i = inserts IsFree (λ reply. (tt, refl)) (λ folder j. (tt, refl)) i (refused_cause i)
 
-pub opens_free : (site : Site) (command : Command) → StoresOrLooks command → IsFree (opening site command)
+pub opens_free : (site : Site) (command : Command) → StoresLooksOrRemoves command → IsFree (opening site command)
 opens_free site (commands.Put p) stores = (tt, refl)
 opens_free site (commands.Insert i) stores = free_inserts (insertion site.cache i)
 opens_free site (commands.Delete d) stores = free_inserts (deletion site.cache d)
-opens_free site (commands.Find key) stores = (inl refl, refl)
-opens_free site (commands.Get key) stores = (inr refl, refl)
+opens_free site (commands.Find key) stores = (tt, refl)
+opens_free site (commands.Get key) stores = (tt, refl)
 opens_free site (commands.GetHash i) stores = (tt, refl)
 opens_free site (commands.Exists i) stores = (tt, refl)
+opens_free site (commands.RemoveHash i) stores = (tt, refl)
+opens_free site (commands.RemoveFully key) stores = (tt, refl)
 opens_free site command stores = absurd stores
 
 -- ---- the state behind an answer
@@ -115,29 +123,28 @@ synced_given : (a : PlainAnswer) (file : PlainTemp) → synced_in a ≡ Ok file 
 synced_given (answers.Synced f) file e = let same : f ≡ file = cc in ap Some same
 synced_given a file e = absurd cc
 
-found_free : (l : Lookup) (aim : Aim) (found : Option Found) → (aim ≡ aims.Report) ⊎ (aim ≡ aims.Read) → IsFree (found_for l aim found)
+found_free : (l : Lookup) (aim : Aim) (found : Option Found) → IsAim aim → IsFree (found_for l aim found)
 found_free l aims.Report found is = (tt, refl)
 found_free l aims.Read None is = (tt, refl)
 found_free l aims.Read (Some f) is = (tt, refl)
-found_free l aims.Remove found (inl e) = absurd cc
-found_free l aims.Remove found (inr e) = absurd cc
-found_free l (aims.Export x) found (inl e) = absurd cc
-found_free l (aims.Export x) found (inr e) = absurd cc
+found_free l aims.Remove None is = (tt, refl)
+found_free l aims.Remove (Some f) is = (tt, refl)
+found_free l (aims.Export x) found is = absurd is
 
-unread_free : (l : Lookup) (fault : Fault) → (l.aim ≡ aims.Report) ⊎ (l.aim ≡ aims.Read) → IsFree (no_bucket l fault)
+unread_free : (l : Lookup) (fault : Fault) → IsAim l.aim → IsFree (no_bucket l fault)
 unread_free l faults.NotFound is = found_free l l.aim None is
 unread_free l fault is = (tt, refl)
 
+errand_follows : (errand : Errand) (s : State) (a : PlainAnswer) → IsState s → Follows (doing errand s) a (after (doing errand s) a)
+errand_follows errand s a h =
+    go_on_leads (Follows (doing errand s) a) (done_in a) fails (λ _. s) (tt, inr (inl refl)) (λ fault. (tt, inr (inl refl)))
+    (λ x e. (h, inr (inr (refl, done_none (doing errand s) a a x e, tt))))
+
 pub follows_after : (s : State) (a : PlainAnswer) → IsState s → Follows s a (after s a)
-follows_after (doing (make_folder p) s) a h =
-    go_on_leads (Follows (doing (make_folder p) s) a) (done_in a) fails (λ _. s) (tt, inr (inl refl)) (λ fault. (tt, inr (inl refl)))
-    (λ x e. (h, inr (inr (refl, done_none (doing (make_folder p) s) a a x e, tt))))
-follows_after (doing (sync_file p) s) a h =
-    go_on_leads (Follows (doing (sync_file p) s) a) (done_in a) fails (λ _. s) (tt, inr (inl refl)) (λ fault. (tt, inr (inl refl)))
-    (λ x e. (h, inr (inr (refl, done_none (doing (sync_file p) s) a a x e, tt))))
-follows_after (doing (sync_dir p) s) a h =
-    go_on_leads (Follows (doing (sync_dir p) s) a) (done_in a) fails (λ _. s) (tt, inr (inl refl)) (λ fault. (tt, inr (inl refl)))
-    (λ x e. (h, inr (inr (refl, done_none (doing (sync_dir p) s) a a x e, tt))))
+follows_after (doing (make_folder p) s) a h = errand_follows (make_folder p) s a h
+follows_after (doing (remove p) s) a h = errand_follows (remove p) s a h
+follows_after (doing (sync_file p) s) a h = errand_follows (sync_file p) s a h
+follows_after (doing (sync_dir p) s) a h = errand_follows (sync_dir p) s a h
 follows_after (creating number c rest) a h =
     go_on_leads (Follows (creating number c rest) a) (temp_in a) fails (λ file. write_rest c file rest) (tt, inr (inl refl)) (λ fault. (tt, inr (inl refl)))
     (λ file e. rest_follows (creating number c rest) a c file rest (temp_given a file e))
@@ -170,6 +177,7 @@ follows_after s a h = absurd h
 -- a step's temporary file is the state's
 pub wants_file : (s : State) (step : PlainStep) (f : PlainTemp) → IsState s → wants s ≡ Some step → file_of step ≡ Some f → file_in s ≡ Some f
 wants_file (doing (make_folder p) s) step f h w = some_is (λ x. file_of x ≡ Some f → file_in (doing (make_folder p) s) ≡ Some f) (steps.MakeDirs p) step w (λ e. absurd cc)
+wants_file (doing (remove p) s) step f h w = some_is (λ x. file_of x ≡ Some f → file_in (doing (remove p) s) ≡ Some f) (steps.RemoveFile p) step w (λ e. absurd cc)
 wants_file (doing (sync_file p) s) step f h w = some_is (λ x. file_of x ≡ Some f → file_in (doing (sync_file p) s) ≡ Some f) (steps.SyncFile p) step w (λ e. absurd cc)
 wants_file (doing (sync_dir p) s) step f h w = some_is (λ x. file_of x ≡ Some f → file_in (doing (sync_dir p) s) ≡ Some f) (steps.SyncDir p) step w (λ e. absurd cc)
 wants_file (creating number c rest) step f h w = some_is (λ x. file_of x ≡ Some f → file_in (creating number c rest) ≡ Some f) (steps.CreateTemp (temp_path c.cache number)) step w (λ e. absurd cc)
@@ -185,9 +193,11 @@ wants_file (over reply) step f h w = λ e. let no : None ≡ Some step = w in ab
 wants_file s step f h w = absurd h
 
 -- an errand moves no temporary file
-pub errand_steps : (s : State) (step : PlainStep) (P : PlainStep → Type 0) → IsState s → IsErrand s → wants s ≡ Some step → ((p : List ℕ) → P (steps.MakeDirs p) × (P (steps.SyncFile p) × P (steps.SyncDir p))) → P step
-errand_steps (doing (make_folder p) s) step P h e w all = some_is P (steps.MakeDirs p) step w (all p).0
-errand_steps (doing (sync_file p) s) step P h e w all = some_is P (steps.SyncFile p) step w (all p).1.0
-errand_steps (doing (sync_dir p) s) step P h e w all = some_is P (steps.SyncDir p) step w (all p).1.1
-errand_steps (doing errand s) step P h e w all = absurd h
-errand_steps s step P h e w all = absurd e
+pub errand_steps : (s : State) (step : PlainStep) (P : PlainStep → Type 0) → IsState s → IsErrand s → wants s ≡ Some step → ((p : List ℕ) → P (steps.MakeDirs p) × (P (steps.SyncFile p) × P (steps.SyncDir p)))
+    → ((p : List ℕ) → wants s ≡ Some (steps.RemoveFile p) → P (steps.RemoveFile p)) → P step
+errand_steps (doing (make_folder p) s) step P h e w all removes = some_is P (steps.MakeDirs p) step w (all p).0
+errand_steps (doing (remove p) s) step P h e w all removes = some_is P (steps.RemoveFile p) step w (removes p refl)
+errand_steps (doing (sync_file p) s) step P h e w all removes = some_is P (steps.SyncFile p) step w (all p).1.0
+errand_steps (doing (sync_dir p) s) step P h e w all removes = some_is P (steps.SyncDir p) step w (all p).1.1
+errand_steps (doing errand s) step P h e w all removes = absurd h
+errand_steps s step P h e w all removes = absurd e

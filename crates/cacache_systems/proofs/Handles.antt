@@ -73,6 +73,7 @@ module _ (temps : Names → Bool) (m : Machine) (o : Option NumberedTemp) where
   next_on (steps.Append p bytes) (steps.Append q more) (e, f) h = ap (λ (x : List ℕ). steps.Append x bytes) e ∙ ap (λ (x : List ℕ). steps.Append q x) f
   next_on (steps.ReadAll p) (steps.ReadAll q) e h = ap (λ (x : List ℕ). steps.ReadAll x) e
   next_on (steps.Exists p) (steps.Exists q) e h = ap (λ (x : List ℕ). steps.Exists x) e
+  next_on (steps.RemoveFile p) (steps.RemoveFile q) e h = ap (λ (x : List ℕ). steps.RemoveFile x) e
   next_on (steps.SyncTemp f) (steps.SyncTemp t) held h = ap (λ (x : PlainTemp). steps.SyncTemp x) (on_handle f t (h f refl) held)
   next_on (steps.SyncFile p) (steps.SyncFile q) e h = ap (λ (x : List ℕ). steps.SyncFile x) e
   next_on (steps.SyncDir p) (steps.SyncDir q) e h = ap (λ (x : List ℕ). steps.SyncDir x) e
@@ -86,12 +87,13 @@ module _ (temps : Names → Bool) (m : Machine) (o : Option NumberedTemp) where
   holds_on (steps.Append p bytes) (steps.Append q more) e h = tt
   holds_on (steps.ReadAll p) (steps.ReadAll q) e h = tt
   holds_on (steps.Exists p) (steps.Exists q) e h = tt
+  holds_on (steps.RemoveFile p) (steps.RemoveFile q) e h = tt
   holds_on (steps.SyncTemp f) (steps.SyncTemp t) held h = is_held f t (h f refl) held
   holds_on (steps.SyncFile p) (steps.SyncFile q) e h = tt
   holds_on (steps.SyncDir p) (steps.SyncDir q) e h = tt
   holds_on plain step e h = absurd e
 
--- it is of one of the kinds that storing and looking calls make
+-- it is of one of the kinds that storing, looking and removing calls make
 pub stores_on : (h : Option Names) (o : Option NumberedTemp) (plain : PlainStep) (step : NumberedStep) → IsNext o plain step → StepApart h plain → Stores h step
 stores_on h o (steps.MakeDirs p) (steps.MakeDirs q) e apart = tt
 stores_on h o (steps.CreateTemp p) (steps.CreateTemp q) e apart = tt
@@ -100,6 +102,7 @@ stores_on h o (steps.Persist f p) (steps.Persist t q) e apart = tt
 stores_on h o (steps.Append p bytes) (steps.Append q more) e apart = tt
 stores_on h o (steps.ReadAll p) (steps.ReadAll q) e apart = subst (IsNotFor h Temporary) e apart
 stores_on h o (steps.Exists p) (steps.Exists q) e apart = tt
+stores_on h o (steps.RemoveFile p) (steps.RemoveFile q) e apart = subst (IsNotFor h Temporary) e apart
 stores_on h o (steps.SyncTemp f) (steps.SyncTemp t) e apart = tt
 stores_on h o (steps.SyncFile p) (steps.SyncFile q) e apart = subst (IsNotFor h Temporary) e apart
 stores_on h o (steps.SyncDir p) (steps.SyncDir q) e apart = subst (IsFor h Way) e apart
@@ -203,6 +206,7 @@ still_stores h temps m d mirrors rooted (steps.Persist t p) stores holds = still
 still_stores h temps m d mirrors rooted (steps.Append p bytes) stores holds = tt
 still_stores h temps m d mirrors rooted (steps.ReadAll p) stores holds = tt
 still_stores h temps m d mirrors rooted (steps.Exists p) stores holds = tt
+still_stores h temps m d mirrors rooted (steps.RemoveFile p) stores holds = tt
 still_stores h temps m d mirrors rooted (steps.SyncTemp t) stores holds = still_there temps m d t mirrors rooted holds
 still_stores h temps m d mirrors rooted (steps.SyncFile p) stores holds = tt
 still_stores h temps m d mirrors rooted (steps.SyncDir p) stores holds = tt

@@ -6,7 +6,7 @@ use Rattle.cacache_store.specs.{declared.store.plain.PlainTemp.{PlainTemp}, Plai
 use Rattle.cacache_store.specs.declared.store.step.Step.TheVariants as steps
 use Rattle.cacache_store.specs.declared.store.answer.Answer.TheVariants as answers
 use Rattle.cacache_disk.specs.{declared.luck.Luck.{Luck}, Apply.{apply}}
-use Rattle.cacache_value.specs.{OpeningTrees.{LieApart}, Placed.{Placed, Proper}}
+use Rattle.cacache_value.specs.{Kinds.{Temporary, path_kind}, OpeningTrees.{LieApart}, Placed.{Placed, Proper}}
 use Rattle.cacache_calls.specs.{declared.{reply.Reply.{Reply}, carried.Lookup.{Lookup}}, Answers.{bytes_in as bytes_answered}, Looking.{found_in}, State.{State, doing, writing, syncing, persisting, looking, Site}, StepPaths.{temp_path, bucket_path}, Sound.{IsTemp, Allowed, Sound}, Table.{wants, after}}
 use Rattle.cacache_calls.proofs.Sound.{steps_allowed}
 use Rattle.cacache_calls.specs.declared.answers.Refusal.TheVariants as refusals
@@ -14,7 +14,7 @@ use Rattle.cacache_history.specs.{declared.record.Record.{Record, TheVariants.{M
 use Rattle.cacache_history.proofs.{Histories.Holding.{CallHolds, of_caller}, Entries.Spelled.{HasIntegrity}, Proper.{sound_proper}, durable.CallNumbers.{Numbered, next_numbered, number_below, numbers_apart, temps_apart}}
 use Rattle.cacache_system.specs.{declared.call.CallResult.{CallResult}, Seen.{NumberedTemp, NumberedStep, NumberedAnswer}, CallsOf.{Runs}, AnswersOf.{first, answer_of}}
 use Rattle.cacache_system_model.{specs.{Machine.{Machine}, Laws.{answer_on}, Mirrors.{Mirrors}, Chains.{StepMade, temps_left}}, proofs.Mirroring.{shapes}}
-use Rattle.cacache_systems.proofs.{Failing.{failed_none, failed_bytes}, OtherTemps.{explained, placed_same, asked_stays, storing_on}, Covering.{rooted_same, has_asked}, Following.{Agree, has_call, Follows}, Files.{file_in, file_of, file_given, IsState, IsErrand, Follows as StateFollows, follows_after, wants_file, errand_steps}, StayingOpen.{runs_keep_open, made_open}, PathsOf.{HasPaths, wants_apart, paths_after, bucket_has}, TreeKept.{Misses}, Handles.{Handle, next_on, holds_on, stores_on, handle_kept, wrote_same, synced_same, handed_handle, handed_none, temp_answer, still_stores}, OpenTemps.{temps_spare}}
+use Rattle.cacache_systems.proofs.{Failing.{failed_none, failed_bytes}, OtherTemps.{explained, placed_same, asked_stays, storing_on}, Covering.{rooted_same, has_asked}, Following.{Agree, has_call, Follows}, Files.{file_in, file_of, file_given, IsState, IsErrand, Follows as StateFollows, follows_after, wants_file, errand_steps}, StayingOpen.{runs_keep_open, made_open}, PathsOf.{HasPaths, StepApart, wants_apart, paths_after, bucket_has}, TreeKept.{Misses, is_elsewhere}, Handles.{Handle, next_on, holds_on, stores_on, handle_kept, wrote_same, synced_same, handed_handle, handed_none, temp_answer, still_stores}, OpenTemps.{temps_spare}}
 use Rattle.cacache_systems.specs.{Acts.{IsRecordOf, steps as makes, SystemState, step_of, answer_in, set_state, unless_ended}, Storing.{Stores, HoldsTemp, MakesStoringStep}, Opened.{IsOpenAt, KeepsOpen}, Numbered.{NumberedState, handed, held_after, numbered_after, MakesNextStep}}
 
 -- ---- whose a temporary file is
@@ -28,12 +28,13 @@ sound_file site may outside (persisting c f) file sound e = let same : f ≡ fil
 sound_file site may outside s file sound e = let no : None ≡ Some file = e in absurd cc
 
 -- a step of another call isn't about it
-others_miss : (s : Setup) (a b : ℕ) (file : List ℕ) (q : Names) → a < 2 ^ 64 → b < 2 ^ 64 → (a ≡ b → ⊥) → file ≡ temp_path s.cache a → names_of file ≡ Ok q
-    → (step : PlainStep) → Allowed (call_site s b) (may_export s) (is_outside s) step → Misses q step
-others_miss s a b file q few less differ own named (steps.CreateTemp p) allowed = temps_apart s.cache a b file p q few less differ own allowed named
-others_miss s a b file q few less differ own named (steps.Write f bytes) allowed = temps_apart s.cache a b file f.path q few less differ own allowed named
-others_miss s a b file q few less differ own named (steps.Persist f p) allowed = temps_apart s.cache a b file f.path q few less differ own allowed.0 named
-others_miss s a b file q few less differ own named step allowed = tt
+others_miss : (s : Setup) (a b : ℕ) (file : List ℕ) (q : Names) → a < 2 ^ 64 → b < 2 ^ 64 → (a ≡ b → ⊥) → file ≡ temp_path s.cache a → names_of file ≡ Ok q → path_kind (home s) q ≡ Temporary
+    → (step : PlainStep) → Allowed (call_site s b) (may_export s) (is_outside s) step → StepApart (home s) step → Misses q step
+others_miss s a b file q few less differ own named at (steps.CreateTemp p) allowed other = temps_apart s.cache a b file p q few less differ own allowed named
+others_miss s a b file q few less differ own named at (steps.Write f bytes) allowed other = temps_apart s.cache a b file f.path q few less differ own allowed named
+others_miss s a b file q few less differ own named at (steps.Persist f p) allowed other = temps_apart s.cache a b file f.path q few less differ own allowed.0 named
+others_miss s a b file q few less differ own named at (steps.RemoveFile p) allowed other = is_elsewhere (home s) q (names_of p) at other
+others_miss s a b file q few less differ own named at step allowed other = tt
 
 -- ---- many acts
 
@@ -108,10 +109,11 @@ module _ (s : Setup) (apart : LieApart (home s) s.outside) (f : NumberedState) (
     has_paths : HasPaths (home s) m.state
     has_paths = all.paths caller m.state m.stands
 
+    apart_of : (step : PlainStep) → wants m.state ≡ Some step → StepApart (home s) step
+    apart_of step wanted = wants_apart (call_site s own.0.number) (may_export s) (is_outside s) m.state step is_state sound has_paths wanted
+
     stores : Stores (home s) made.step
-    stores =
-        stores_on (home s) (f.held caller) m.plain made.step m.next
-        (wants_apart (call_site s own.0.number) (may_export s) (is_outside s) m.state m.plain is_state sound has_paths m.wanted)
+    stores = stores_on (home s) (f.held caller) m.plain made.step m.next (apart_of m.plain m.wanted)
 
     asks_same : m.plain ≡ step_of made
     asks_same = next_on w.temps made.before (f.held caller) m.plain made.step m.next of_step
@@ -187,8 +189,10 @@ module _ (s : Setup) (apart : LieApart (home s) s.outside) (f : NumberedState) (
         → Handle (temps_left w.temps made) made.after (handed (answer_of made.step made.end) (f.held caller)) file
     stayed_own file e none errand =
         let g = handles_of m.state m.stands in
+        let old = (g.1 file e).held in
         handle_stays (f.held caller) _ file (handed_none made.after (answer_of made.step made.end) (f.held caller) none) (g.1 file e)
-        (errand_steps m.state (step_of made) (Misses (g.1 file e).held.names) g.0 errand wants_asked (λ p. (tt, (tt, tt))))
+        (errand_steps m.state (step_of made) (Misses old.names) g.0 errand wants_asked (λ p. (tt, (tt, tt)))
+        (λ p wanted. is_elsewhere (home s) old.names (names_of p) (all.agree.temps old.names old.is_temp) (apart_of (steps.RemoveFile p) wanted)))
 
     own_given : (new : State) → StateFollows m.state (answer_in made) new → ((file : PlainTemp) → file_given (answer_in made) ≡ Some file
         → Handle (temps_left w.temps made) made.after (handed (answer_of made.step made.end) (f.held caller)) file)
@@ -217,7 +221,8 @@ module _ (s : Setup) (apart : LieApart (home s) s.outside) (f : NumberedState) (
               let named : names_of file.path ≡ Ok handle.held.names = ap (λ (x : PlainTemp). names_of x.path) (sym handle.same) ∙ handle.held.named in
               handle_stays (f.held k) (f.held k) file refl handle
               (others_miss s c.0.number own.0.number file.path handle.held.names (small k c.0 c.1) (small caller own.0 own.1)
-              (numbers_apart now all.numbered k caller c.0 own.0 differ c.1 own.1) its named (step_of made) allowed),
+              (numbers_apart now all.numbered k caller c.0 own.0 differ c.1 own.1) its named (all.agree.temps handle.held.names handle.held.is_temp)
+              (step_of made) allowed (apart_of (step_of made) wants_asked)),
         )
       where
         small : (j : ℕ) (a : Call) → now.calls j ≡ Some a → a.number < 2 ^ 64

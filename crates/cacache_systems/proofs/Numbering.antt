@@ -6,14 +6,14 @@ use Rattle.cacache_history.specs.{declared.record.Record.{Record}, Setup.{Setup,
 use Rattle.cacache_history.proofs.durable.CallNumbers.{Numbered, next_numbered, first_numbered}
 use Rattle.cacache_system.specs.Seen.{NumberedTemp}
 use Rattle.cacache_system_model.specs.Machine.{Machine}
-use Rattle.cacache_systems.specs.{Acts.{Act, begins, steps as makes, ends, stops, SystemState, AreRecordsOf}, Made.{now_left, CacheOn}, Numbered.{NumberedState, numbered_after, StoresOrLooks, MayNext, EachNext, numbered_after_all, numbered_at, FoldersMakeHistories}}
+use Rattle.cacache_systems.specs.{Acts.{Act, begins, steps as makes, ends, stops, SystemState, AreRecordsOf}, Made.{now_left, CacheOn}, Numbered.{NumberedState, numbered_after, StoresLooksOrRemoves, MayNext, EachNext, numbered_after_all, numbered_at, FoldersMakeHistories}}
 use Rattle.cacache_systems.proofs.{Covering.{may_act}, Following.{Follows, act_follows, first_agree, makes_history}, Files.{file_in, IsState, opens_free}, PathsOf.{HasPaths, opens_paths}, NextSteps.{HasHandle, PathsAt, Holds, at_state, no_paths, no_state, makes_storing_step, step_holds}}
 
 module _ (s : Setup) (apart : LieApart (home s) s.outside) (f : NumberedState) (now : Now) (all : Holds s f now) where
   abbrev w : SystemState
   w = f.system
 
-  begin_holds : (caller : ℕ) (command : Command) → StoresOrLooks command → NamesIntegrity command → w.begun + 1 ≤ 2 ^ 64 → (g : Follows s w now (begins caller command)) → Holds s (numbered_after s f (begins caller command)) (now_after s now g.r)
+  begin_holds : (caller : ℕ) (command : Command) → StoresLooksOrRemoves command → NamesIntegrity command → w.begun + 1 ≤ 2 ^ 64 → (g : Follows s w now (begins caller command)) → Holds s (numbered_after s f (begins caller command)) (now_after s now g.r)
   begin_holds caller command stores named few g = record {
     agree = g.agree;
     numbered = next_numbered s now g.r all.numbered;
@@ -24,7 +24,7 @@ module _ (s : Setup) (apart : LieApart (home s) s.outside) (f : NumberedState) (
     paths = λ k.
         at_state (PathsAt (home s)) k caller (Some (opening (call_site s w.begun) command)) (w.states k)
         (λ same state e. let begun : opening (call_site s w.begun) command ≡ state = cc in
-        subst (HasPaths (home s)) begun (opens_paths (home s) (call_site s w.begun) command stores named)) (λ differ. all.paths k);
+        subst (HasPaths (home s)) begun (opens_paths (call_site s w.begun) command stores named)) (λ differ. all.paths k);
   }
     where
       begun_handle : (o : Option NumberedTemp) → HasHandle w.temps w.machine o (Some (opening (call_site s w.begun) command))

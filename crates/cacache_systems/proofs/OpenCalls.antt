@@ -3,7 +3,7 @@ use Rattle.std.proofs.{Common.{◌≡◌, ◌==◌, ℕ, Bool, true, false, cond
 use Rattle.std.specs.Prelude.{Result, Err, IfSome, MatchResult}
 use Rattle.std_io.specs.declared.io.kind.ErrorKind.{ErrorKind}
 use Rattle.cacache_core.specs.{declared.errors.Fault.{Fault}, PathNames.{Names}}
-use Rattle.cacache_disk.specs.{declared.{luck.Luck.TheVariants.{Plain, Fail, Take}, node.Node.{Node, TheVariants.{Folder, File, Link}}}, Tree.{Tree, look}, LedTo.{standing, leads, found, place, replaceable, writable, free}, Apply.{taken, readable, lengthened}}
+use Rattle.cacache_disk.specs.{declared.{luck.Luck.TheVariants.{Plain, Fail, Take}, node.Node.{Node, TheVariants.{Folder, File, Link}}}, Tree.{Tree, look}, LedTo.{standing, leads, found, place, replaceable, removable, writable, free}, Apply.{taken, readable, lengthened}}
 use Rattle.cacache_system.specs.declared.call.{SystemCall.{SystemCall}, CallResult.{CallResult}}
 use Rattle.cacache_system.specs.declared.call.SystemCall.TheVariants as asks
 use Rattle.cacache_system.specs.declared.call.CallResult.TheVariants as says
@@ -107,6 +107,7 @@ Safe m (asks.Sync number) = IsOpenNumber m number
 Safe m (asks.StatFile number) = IsOpenNumber m number
 Safe m (asks.Stat path) = Unit {0}
 Safe m (asks.MakeFolder path) = Unit {0}
+Safe m (asks.RemoveFile path) = Unit {0}
 Safe m (asks.Rename from to) = Moves m.tree from
 Safe m call = ⊥
 
@@ -143,6 +144,7 @@ goes_keep most (asks.StatFile number) m n said (names, is) h =
     let g = open_of (m.files number) names (λ file. ShowsNode file.names m said n) is h in keeps_self m n (node_keeps g.0.names m n said g.3)
 goes_keep most (asks.Stat path) m n said safe h = shows_keep (found m.tree path) m n said h
 goes_keep most (asks.MakeFolder path) m n said safe h = changes_keep (free m.tree path) _ m n said h
+goes_keep most (asks.RemoveFile path) m n said safe h = changes_keep (removable m.tree path) _ m n said h
 goes_keep most (asks.Rename from to) m n said (names, bytes, is, here) h = moves_keep (place m.tree from) (replaceable m.tree to) m n said names bytes is here h
 goes_keep most call m n said safe h = absurd safe
 

@@ -58,5 +58,6 @@ temps_spare h temps (steps.CreateTemp p) a q at stores is misses e = e
 temps_spare h temps (steps.Persist f p) answers.Done q at stores is misses e =
     without_same (without temps (names_of f.path)) (names_of p) q (at_false h Content Temporary q (names_of p) is.1 at (λ s. cc)) ∙ without_same temps (names_of f.path) q misses ∙ e
 temps_spare h temps (steps.Persist f p) a q at stores is misses e = e
-temps_spare h temps (steps.RemoveFile p) a q at stores is misses e = absurd stores
+temps_spare h temps (steps.RemoveFile p) answers.Done q at stores is misses e = without_same temps (names_of p) q misses ∙ e
+temps_spare h temps (steps.RemoveFile p) a q at stores is misses e = e
 temps_spare h temps step a q at stores is misses e = e

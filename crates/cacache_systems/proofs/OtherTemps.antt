@@ -46,6 +46,7 @@ storing_on h m (steps.Persist t p) stores = tt
 storing_on h m (steps.Append p bytes) stores = tt
 storing_on h m (steps.ReadAll p) stores = tt
 storing_on h m (steps.Exists p) stores = tt
+storing_on h m (steps.RemoveFile p) stores = tt
 storing_on h m (steps.SyncTemp t) stores = tt
 storing_on h m (steps.SyncFile p) stores = tt
 storing_on h m (steps.SyncDir p) stores = tt

@@ -1,5 +1,5 @@
--- The paths that storing and looking calls read and sync.
-use Rattle.std.proofs.{Common.{◌≡◌, ◌⊎◌, inl, inr, ◌==◌, ℕ, Bool, true, false, cond, List, [], ◌∷◌, ◌++◌, Option, None, Some, Result, Ok, Err, length, drop, nat_le, refl, sym, ap, subst, ◌∙◌, arith, append-nil, append_assoc}, lemmas.List.Elements.{All-head, All-tail, All-append, All-nil, All-cons}}
+-- The paths that storing, looking and removing calls read, sync and remove.
+use Rattle.std.proofs.{Common.{◌≡◌, ◌==◌, ℕ, Bool, true, false, cond, List, [], ◌∷◌, ◌++◌, Option, None, Some, Result, Ok, Err, length, drop, nat_le, refl, sym, ap, subst, ◌∙◌, arith, append-nil, append_assoc}, lemmas.List.Elements.{All-head, All-tail, All-append, All-nil, All-cons}}
 use Rattle.std.specs.Prelude.{All, IfOk, filter}
 use Rattle.cacache_history.proofs.{Listings.ListingWalks.{joined_more}, Entries.{Formed.{TreeFormed}, Spelled.{HasIntegrity, latest_has}}, Histories.ShownTurns.{bucket_below}, Contents.Digests.{digest_hash}}
 use Rattle.cacache_history.specs.{Setup.{Setup, home}, History.{NamesIntegrity}}
@@ -10,7 +10,7 @@ use Rattle.cacache_core.specs.declared.errors.Fault.TheVariants as faults
 use Rattle.cacache_store.specs.{declared.store.plain.PlainTemp.{PlainTemp}, Plain.{PlainStep, PlainAnswer}}
 use Rattle.cacache_store.specs.declared.store.step.Step.TheVariants as steps
 use Rattle.cacache_entry.specs.{Latest.{Found}, Bucket.{entries_of}, FittingEntries.{IsEntry}}
-use Rattle.cacache_calls.specs.{declared.{carried.{Aim.{Aim}, Commit.{Commit}, Lookup.{Lookup}}, command.Command.{Command}, reply.Reply.TheVariants.{Read}}, Answers.{done_in, temp_in, written_in, synced_in, there_in, taken_in, bytes_in}, Common.{fails, ends_with, sync_up}, ContentReads.{checked, answer_there, answer_absent}, Inserting.{insertion, deletion, bucket_line, recorded, after_append, insert, refused_cause}, Looking.{found_in, found_for, after_bucket, no_bucket}, Sound.{SoundCommit, Sound}, State.{State, doing, creating, writing, syncing, persisting, confirming, appending, looking, reading, asking, over, Site, Insertion, make_folder, sync_file, sync_dir}, StepPaths.{content_folder, content_path, content_folders, bucket_path, bucket_folders, temp_path}, Storing.{placed, secured, secured_found, write_rest, after_write, after_confirm}, Table.{wants, after, opening}}
+use Rattle.cacache_calls.specs.{declared.{carried.{Aim.{Aim}, Commit.{Commit}, Lookup.{Lookup}}, command.Command.{Command}, reply.Reply.TheVariants.{Read}}, Answers.{done_in, temp_in, written_in, synced_in, there_in, taken_in, bytes_in}, Common.{fails, ends_with, sync_up}, ContentReads.{checked, answer_there, answer_absent}, Inserting.{insertion, deletion, bucket_line, recorded, after_append, insert, refused_cause}, Looking.{found_in, found_for, after_bucket, no_bucket}, Sound.{SoundCommit, Sound}, State.{State, doing, creating, writing, syncing, persisting, confirming, appending, looking, reading, asking, over, Site, Insertion, make_folder, remove, sync_file, sync_dir}, StepPaths.{content_folder, content_path, content_folders, bucket_path, bucket_folders, temp_path}, Storing.{placed, secured, secured_found, write_rest, after_write, after_confirm}, Table.{wants, after, opening}}
 use Rattle.cacache_calls.proofs.{Branches.{cond_leads, go_on_leads}, Leading.{moves_on, places, inserts}, Sound.{some_is}}
 use Rattle.cacache_calls.specs.declared.carried.Aim.TheVariants as aims
 use Rattle.cacache_calls.specs.declared.command.Command.TheVariants as commands
@@ -18,7 +18,7 @@ use Rattle.cacache_value.specs.{Kinds.{PathKind, Content, Bucket, Temporary, Way
 use Rattle.cacache_value.proofs.{KindsApart.{above, kind-below}, PathKinds.{paths_are_for}, Shows.{trees_show}}
 use Rattle.cacache_store.specs.declared.store.answer.Answer.TheVariants as answers
 use Rattle.cacache_disk.specs.{declared.luck.Luck.{Luck}, Tree.{Tree}, Apply.{apply}, Rooted.{Rooted}}
-use Rattle.cacache_systems.{specs.{Storing.{IsNotFor}, Numbered.{StoresOrLooks}}, proofs.Files.{IsState}}
+use Rattle.cacache_systems.{specs.{Storing.{IsNotFor}, Numbered.{StoresLooksOrRemoves}}, proofs.Files.{IsAim, IsState}}
 
 -- ---- the folders that lead to a path are ways
 
@@ -85,8 +85,9 @@ bucket_apart cache key = not_temporary (home_of cache) Bucket (names_of (joined 
 
 -- ---- states
 
--- the paths that a state reads and syncs, there and behind it
+-- the paths that a state reads, removes and syncs, there and behind it
 abbrev pub HasPaths : Option Names → State → Type 0
+HasPaths h (doing (remove p) s) = IsNotFor h Temporary p × HasPaths h s
 HasPaths h (doing (sync_file p) s) = IsNotFor h Temporary p × HasPaths h s
 HasPaths h (doing (sync_dir p) s) = IsFor h Way p × HasPaths h s
 HasPaths h (doing errand s) = HasPaths h s
@@ -121,18 +122,17 @@ module _ (h : Option Names) where
   rest_paths c file [] = moves_on (λ s. HasPaths h (doing (make_folder (content_folder c.cache c.computed)) s)) c file tt tt
   rest_paths c file (b ∷ bs) = tt
 
-  look_paths : (l : Lookup) (aim : Aim) (found : Option Found) → (aim ≡ aims.Report) ⊎ (aim ≡ aims.Read) → HasIntegrity found → HasPaths h (found_for l aim found)
-  look_paths l aims.Report found is has = tt
-  look_paths l aims.Read None is has = tt
-  look_paths l aims.Read (Some f) is has = has
-  look_paths l aims.Remove found (inl e) has = absurd cc
-  look_paths l aims.Remove found (inr e) has = absurd cc
-  look_paths l (aims.Export x) found (inl e) has = absurd cc
-  look_paths l (aims.Export x) found (inr e) has = absurd cc
+look_paths : (l : Lookup) (aim : Aim) (found : Option Found) → IsAim aim → HasIntegrity found → HasPaths (home_of l.cache) (found_for l aim found)
+look_paths l aims.Report found is has = tt
+look_paths l aims.Read None is has = tt
+look_paths l aims.Read (Some f) is has = has
+look_paths l aims.Remove None is has = (bucket_apart l.cache l.key, tt)
+look_paths l aims.Remove (Some f) is has = (content_apart l.cache f.integrity has, (bucket_apart l.cache l.key, tt))
+look_paths l (aims.Export x) found is has = absurd is
 
-  unread_paths : (l : Lookup) (fault : Fault) → (l.aim ≡ aims.Report) ⊎ (l.aim ≡ aims.Read) → HasPaths h (no_bucket l fault)
-  unread_paths l faults.NotFound is = look_paths l l.aim None is tt
-  unread_paths l fault is = tt
+unread_paths : (l : Lookup) (fault : Fault) → IsAim l.aim → HasPaths (home_of l.cache) (no_bucket l fault)
+unread_paths l faults.NotFound is = look_paths l l.aim None is tt
+unread_paths l fault is = tt
 
 -- a sound commit's content
 commit_ways : (site : Site) (c : Commit) → SoundCommit site c → AllWays (home_of site.cache) (content_folders c.cache c.computed)
@@ -152,6 +152,7 @@ module _ (site : Site) (may outside : List ℕ → Bool) (a : PlainAnswer) where
   -- behind an answer, by which what was found has an integrity
   pub paths_after : (s : State) → IsState s → Sound site may outside s → P s → ((l : Lookup) (bytes : List ℕ) → s ≡ looking l → bytes_in a ≡ Ok bytes → HasIntegrity (found_in l.key bytes)) → P (after s a)
   paths_after (doing (make_folder p) s) is sound h has = go_on_leads P (done_in a) fails (λ _. s) tt (λ fault. tt) (λ x e. h)
+  paths_after (doing (remove p) s) is sound h has = go_on_leads P (done_in a) fails (λ _. s) tt (λ fault. tt) (λ x e. h.1)
   paths_after (doing (sync_file p) s) is sound h has = go_on_leads P (done_in a) fails (λ _. s) tt (λ fault. tt) (λ x e. h.1)
   paths_after (doing (sync_dir p) s) is sound h has = go_on_leads P (done_in a) fails (λ _. s) tt (λ fault. tt) (λ x e. h.1)
   paths_after (creating number c rest) is sound h has = go_on_leads P (temp_in a) fails (λ file. write_rest c file rest) tt (λ fault. tt) (λ file e. rest_paths (home_of site.cache) c file rest)
@@ -172,8 +173,9 @@ module _ (site : Site) (may outside : List ℕ → Bool) (a : PlainAnswer) where
       (subst (λ (x : List ℕ). AllWays (home_of site.cache) (bucket_folders x i.entry.key)) (sym sound.0.here) (bucket_ways site.cache i.entry.key)))
       (λ _. tt))
   paths_after (looking l) is sound h has =
-      go_on_leads P (bytes_in a) (no_bucket l) (after_bucket l) tt (λ fault. unread_paths (home_of site.cache) l fault is)
-      (λ bytes e. look_paths (home_of site.cache) l l.aim (found_in l.key bytes) is (has l bytes refl e))
+      subst (λ (x : List ℕ). HasPaths (home_of x) (after (looking l) a)) sound.0
+      (go_on_leads (HasPaths (home_of l.cache)) (bytes_in a) (no_bucket l) (after_bucket l) tt (λ fault. unread_paths l fault is)
+      (λ bytes e. look_paths l l.aim (found_in l.key bytes) is (has l bytes refl e)))
   paths_after (reading k) is sound h has =
       go_on_leads P (bytes_in a) fails (checked k) tt (λ fault. tt)
       (λ bytes e. cond_leads P (meets k.integrity bytes) (over (Read bytes)) (ends_with (IntegrityError (Check k.integrity (actual k.integrity bytes)))) (λ _. tt) (λ _. tt))
@@ -184,20 +186,23 @@ module _ (site : Site) (may outside : List ℕ → Bool) (a : PlainAnswer) where
 insert_paths : (h : Option Names) (i : Insertion) → HasPaths h (insert i)
 insert_paths h i = inserts (HasPaths h) (λ reply. tt) (λ folder j. tt) i (refused_cause i)
 
-pub opens_paths : (h : Option Names) (site : Site) (command : Command) → StoresOrLooks command → NamesIntegrity command → HasPaths h (opening site command)
-opens_paths h site (commands.Put p) stores named = tt
-opens_paths h site (commands.Insert i) stores named = insert_paths h (insertion site.cache i)
-opens_paths h site (commands.Delete d) stores named = insert_paths h (deletion site.cache d)
-opens_paths h site (commands.Find key) stores named = tt
-opens_paths h site (commands.Get key) stores named = tt
-opens_paths h site (commands.GetHash i) stores named = named
-opens_paths h site (commands.Exists i) stores named = tt
-opens_paths h site command stores named = absurd stores
+pub opens_paths : (site : Site) (command : Command) → StoresLooksOrRemoves command → NamesIntegrity command → HasPaths (home_of site.cache) (opening site command)
+opens_paths site (commands.Put p) stores named = tt
+opens_paths site (commands.Insert i) stores named = insert_paths (home_of site.cache) (insertion site.cache i)
+opens_paths site (commands.Delete d) stores named = insert_paths (home_of site.cache) (deletion site.cache d)
+opens_paths site (commands.Find key) stores named = tt
+opens_paths site (commands.Get key) stores named = tt
+opens_paths site (commands.GetHash i) stores named = named
+opens_paths site (commands.Exists i) stores named = tt
+opens_paths site (commands.RemoveHash i) stores named = (content_apart site.cache i named, tt)
+opens_paths site (commands.RemoveFully key) stores named = tt
+opens_paths site command stores named = absurd stores
 
 -- ---- steps
 
 abbrev pub StepApart : Option Names → PlainStep → Type 0
 StepApart h (steps.ReadAll p) = IsNotFor h Temporary p
+StepApart h (steps.RemoveFile p) = IsNotFor h Temporary p
 StepApart h (steps.SyncFile p) = IsNotFor h Temporary p
 StepApart h (steps.SyncDir p) = IsFor h Way p
 StepApart h step = Unit {0}
@@ -205,6 +210,7 @@ StepApart h step = Unit {0}
 pub wants_apart : (site : Site) (may outside : List ℕ → Bool) (s : State) (step : PlainStep) → IsState s → Sound site may outside s → HasPaths (home_of site.cache) s → wants s ≡ Some step
     → StepApart (home_of site.cache) step
 wants_apart site may outside (doing (make_folder p) s) step is sound h w = some_is (StepApart (home_of site.cache)) (steps.MakeDirs p) step w tt
+wants_apart site may outside (doing (remove p) s) step is sound h w = some_is (StepApart (home_of site.cache)) (steps.RemoveFile p) step w h.0
 wants_apart site may outside (doing (sync_file p) s) step is sound h w = some_is (StepApart (home_of site.cache)) (steps.SyncFile p) step w h.0
 wants_apart site may outside (doing (sync_dir p) s) step is sound h w = some_is (StepApart (home_of site.cache)) (steps.SyncDir p) step w h.0
 wants_apart site may outside (creating number c rest) step is sound h w = some_is (StepApart (home_of site.cache)) (steps.CreateTemp (temp_path c.cache number)) step w tt

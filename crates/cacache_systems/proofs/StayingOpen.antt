@@ -238,6 +238,7 @@ first_safe hint (steps.Persist t p) m (names, old, still) =
 first_safe hint (steps.Append p bytes) m h = look_safe hint (appending p bytes) m tt
 first_safe hint (steps.ReadAll p) m h = tt
 first_safe hint (steps.Exists p) m h = tt
+first_safe hint (steps.RemoveFile p) m h = look_safe hint (only (asks.RemoveFile p)) m tt
 first_safe hint (steps.SyncTemp t) m (names, old, still) = (names, still.opened)
 first_safe hint (steps.SyncFile p) m h = tt
 first_safe hint (steps.SyncDir p) m h = tt

@@ -1,22 +1,23 @@
 -- What the steps of storing calls leave at a path of a temporary file.
-use Rattle.std.proofs.{lemmas.Bool.{false_from_ne_true}, Common.{◌≡◌, ℕ, false, List, [], Option, Ok, refl, sym, ap, ◌∙◌}}
-use Rattle.cacache_core.specs.{declared.errors.Fault.TheVariants.{IsADirectory}, PathNames.{Names, names_of}}
+use Rattle.std.{proofs.{lemmas.Bool.{false_from_ne_true}, Common.{◌≡◌, ℕ, false, List, [], Option, Ok, refl, sym, ap, ◌∙◌}}, specs.Prelude.{Result, Err, IfOk}}
+use Rattle.cacache_core.specs.{declared.errors.Fault.{Fault, TheVariants.{IsADirectory}}, PathNames.{Names, names_of}}
 use Rattle.cacache_store.specs.{declared.store.plain.PlainTemp.{PlainTemp}, Plain.{PlainStep, PlainAnswer}}
 use Rattle.cacache_store.specs.declared.store.step.Step.TheVariants as steps
-use Rattle.cacache_disk.specs.{declared.{luck.Luck.{Luck}, node.Node.TheVariants.{File}}, Tree.{Tree, look, cut, same_path}, LedTo.{file_at, folder}, Apply.{apply}}
-use Rattle.cacache_disk.proofs.Maps.{same_path-true}
+use Rattle.cacache_disk.specs.{declared.{luck.Luck.{Luck}, node.Node.TheVariants.{File}}, Tree.{Tree, look, cut, same_path}, LedTo.{file_at, folder, removable}, Apply.{apply}}
+use Rattle.cacache_disk.proofs.{Maps.{same_path-true}, Changes.{unless_tree}, FoundNodes.{removable_ok}}
 use Rattle.cacache_loss.specs.Fixing.{is_at}
 use Rattle.cacache_loss.proofs.{StepCases.{PersistCase, AppendCase, refused, moved, persist_case, unsent, took, torn, append_case, make_apart, put_misses, cut_misses, step_keeps, asked_keeps, dirs_keep, temp_keeps}, UnchangedPaths.{at_names}}
 use Rattle.cacache_value.{specs.{Kinds.{PathKind, Content, Bucket, Temporary, Way, path_kind, IsFor}, Placed.{Placed, Proper}}, proofs.FoundPaths.{of_names}}
 
--- a step that makes, writes and moves no temporary file at this path
+-- a step that makes, writes, moves and removes no temporary file at this path
 abbrev pub Misses : Names → PlainStep → Type 0
 Misses q (steps.CreateTemp p) = is_at (names_of p) q ≡ false
 Misses q (steps.Write f bytes) = is_at (names_of f.path) q ≡ false
 Misses q (steps.Persist f p) = is_at (names_of f.path) q ≡ false
+Misses q (steps.RemoveFile p) = is_at (names_of p) q ≡ false
 Misses q step = Unit {0}
 
--- the kinds of steps that storing and looking calls make
+-- the kinds of steps that storing, looking and removing calls make
 abbrev pub IsStoring : PlainStep → Type 0
 IsStoring (steps.MakeDirs p) = Unit {0}
 IsStoring (steps.CreateTemp p) = Unit {0}
@@ -25,10 +26,16 @@ IsStoring (steps.Persist f p) = Unit {0}
 IsStoring (steps.Append p bytes) = Unit {0}
 IsStoring (steps.ReadAll p) = Unit {0}
 IsStoring (steps.Exists p) = Unit {0}
+IsStoring (steps.RemoveFile p) = Unit {0}
 IsStoring (steps.SyncTemp f) = Unit {0}
 IsStoring (steps.SyncFile p) = Unit {0}
 IsStoring (steps.SyncDir p) = Unit {0}
 IsStoring step = ⊥
+
+-- what isn't for temporary files is no path of one
+pub is_elsewhere : (h : Option Names) (q : Names) (r : Result Names Fault) → path_kind h q ≡ Temporary → IfOk r (λ names. path_kind h names ≡ Temporary → ⊥) → is_at r q ≡ false
+is_elsewhere h q (Ok names) at other = false_from_ne_true (same_path q names) (λ e. other (ap (path_kind h) (sym (same_path-true q names e)) ∙ at))
+is_elsewhere h q (Err fault) at other = refl
 
 module _ (h : Option Names) (t : Tree) (placed : Placed h t) (q : Names) (at : path_kind h q ≡ Temporary) where
   other : (k : PathKind) (names : Names) → path_kind h names ≡ k → (Temporary ≡ k → ⊥) → same_path q names ≡ false
@@ -56,6 +63,9 @@ module _ (h : Option Names) (t : Tree) (placed : Placed h t) (q : Names) (at : p
   look_kept (steps.Append p bytes) luck stores is misses = append_keeps p bytes (apply t (steps.Append p bytes) luck) is.0 (append_case h t p bytes luck placed is.0)
   look_kept (steps.ReadAll p) luck stores is misses = step_keeps t q (look t q) refl (steps.ReadAll p) luck (λ most. asked_keeps t q (look t q) refl (file_at t p IsADirectory) _)
   look_kept (steps.Exists p) luck stores is misses = step_keeps t q (look t q) refl (steps.Exists p) luck (λ most. refl)
+  look_kept (steps.RemoveFile p) luck stores is misses =
+      step_keeps t q (look t q) refl (steps.RemoveFile p) luck
+      (λ most. unless_tree (λ (x : Tree). look x q ≡ look t q) (removable t p) t _ refl (λ names there. cut_misses t names q (at_names p names q misses (removable_ok t p names there).0)))
   look_kept (steps.SyncTemp f) luck stores is misses = step_keeps t q (look t q) refl (steps.SyncTemp f) luck (λ most. refl)
   look_kept (steps.SyncFile p) luck stores is misses = step_keeps t q (look t q) refl (steps.SyncFile p) luck (λ most. asked_keeps t q (look t q) refl (file_at t p IsADirectory) _)
   look_kept (steps.SyncDir p) luck stores is misses = step_keeps t q (look t q) refl (steps.SyncDir p) luck (λ most. asked_keeps t q (look t q) refl (folder t p) _)

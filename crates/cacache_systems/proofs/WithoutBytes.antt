@@ -1,5 +1,5 @@
--- The table is without_bytes to what the handles of storing and looking calls hold.
-use Rattle.std.proofs.Common.{◌≡◌, ◌⊎◌, inl, inr, ◌==◌, ℕ, Bool, true, false, cond, List, [], ◌∷◌, Option, None, Some, option_map, length, drop, nat_le, refl, sym, ap, ◌∙◌}
+-- The table is blind to what the handles of storing, looking and removing calls hold.
+use Rattle.std.proofs.Common.{◌≡◌, inl, inr, ◌==◌, ℕ, Bool, true, false, cond, List, [], ◌∷◌, Option, None, Some, option_map, length, drop, nat_le, refl, sym, ap, ◌∙◌}
 use Rattle.cacache_core.specs.{declared.errors.{Fault.{Fault}, Error.TheVariants.{IntegrityError}, IntegrityFault.TheVariants.{Check}}, Integrity.{actual}, Meeting.{meets}}
 use Rattle.cacache_core.specs.declared.errors.Fault.TheVariants as faults
 use Rattle.cacache_store.specs.{declared.store.plain.{PlainFile.{PlainFile}, PlainTemp.{PlainTemp}}, Plain.{PlainStep}}
@@ -8,12 +8,12 @@ use Rattle.cacache_store.specs.declared.store.answer.Answer.TheVariants as answe
 use Rattle.cacache_entry.specs.Latest.{Found}
 use Rattle.cacache_system.specs.Seen.{NumberedTemp, NumberedStep, NumberedAnswer, step_as}
 use Rattle.cacache_system_model.specs.{Machine.{Machine}, Laws.{temp_on, answer_on}}
-use Rattle.cacache_calls.specs.{declared.{carried.{Aim.{Aim}, Commit.{Commit}, Lookup.{Lookup}}, reply.Reply.{Reply, TheVariants.{Read}}, command.Command.{Command}}, Answers.{done_in, there_in, taken_in, bytes_in}, Common.{fails, ends_with}, Inserting.{insertion, deletion, insert, refused_cause, bucket_line, recorded}, Looking.{found_in, found_for, no_bucket}, Runs.{plain_reply}, State.{State, doing, creating, writing, syncing, persisting, confirming, appending, looking, reading, asking, over, Errand, Insertion, Site, make_folder, sync_file, sync_dir}, StepPaths.{content_folder, content_path, bucket_path, temp_path}, Storing.{placed, secured_found, write_rest}, Table.{wants, after, opening}}
+use Rattle.cacache_calls.specs.{declared.{carried.{Aim.{Aim}, Commit.{Commit}, Lookup.{Lookup}}, reply.Reply.{Reply, TheVariants.{Read}}, command.Command.{Command}}, Answers.{done_in, there_in, taken_in, bytes_in}, Common.{fails, ends_with}, Inserting.{insertion, deletion, insert, refused_cause, bucket_line, recorded}, Looking.{found_in, found_for, no_bucket}, Runs.{plain_reply}, State.{State, doing, creating, writing, syncing, persisting, confirming, appending, looking, reading, asking, over, Errand, Insertion, Site, make_folder, remove, sync_file, sync_dir}, StepPaths.{content_folder, content_path, bucket_path, temp_path}, Storing.{placed, secured_found, write_rest}, Table.{wants, after, opening}}
 use Rattle.cacache_calls.proofs.{Branches.{cond_leads}, Leading.{secures, secures_found, records, places, inserts}, Sound.{some_is}}
 use Rattle.cacache_calls.specs.declared.carried.Aim.TheVariants as aims
 use Rattle.cacache_calls.specs.declared.command.Command.TheVariants as commands
 use Rattle.cacache_history.specs.History.{Ends}
-use Rattle.cacache_systems.{specs.{Seen.{step_seen, answer_seen, IsOnHeld}, Numbered.{IsNext, StoresOrLooks}}, proofs.{Files.{IsState}, TreeKept.{IsStoring}}}
+use Rattle.cacache_systems.{specs.{Seen.{step_seen, answer_seen, IsOnHeld}, Numbered.{IsNext, StoresLooksOrRemoves}}, proofs.{Files.{IsAim, IsState}, TreeKept.{IsStoring}}}
 
 -- ---- without what handles hold
 
@@ -43,16 +43,15 @@ syncs_without p s h = (ap (λ (x : State). doing (sync_file p) x) h, ap (λ (x :
 places_without : (c : Commit) → P (placed c)
 places_without c = places P (λ reply. refl) (λ folder i. refl) c
 
-found_without : (l : Lookup) (aim : Aim) (found : Option Found) → (aim ≡ aims.Report) ⊎ (aim ≡ aims.Read) → P (found_for l aim found)
+found_without : (l : Lookup) (aim : Aim) (found : Option Found) → IsAim aim → P (found_for l aim found)
 found_without l aims.Report found is = refl
 found_without l aims.Read None is = refl
 found_without l aims.Read (Some f) is = refl
-found_without l aims.Remove found (inl e) = absurd cc
-found_without l aims.Remove found (inr e) = absurd cc
-found_without l (aims.Export x) found (inl e) = absurd cc
-found_without l (aims.Export x) found (inr e) = absurd cc
+found_without l aims.Remove None is = refl
+found_without l aims.Remove (Some f) is = refl
+found_without l (aims.Export x) found is = absurd is
 
-unread_without : (l : Lookup) (fault : Fault) → (l.aim ≡ aims.Report) ⊎ (l.aim ≡ aims.Read) → P (no_bucket l fault)
+unread_without : (l : Lookup) (fault : Fault) → IsAim l.aim → P (no_bucket l fault)
 unread_without l faults.NotFound is = found_without l l.aim None is
 unread_without l fault is = refl
 
@@ -111,6 +110,7 @@ module _ (m : Machine) where
   -- the state behind an answer, without what handles hold
   pub after_without : (s : State) (a : NumberedAnswer) → IsState s → without_bytes (after s (answer_on m a)) ≡ after (without_bytes s) (answer_seen a)
   after_without (doing (make_folder p) s) a is = errand_without s a (make_folder p)
+  after_without (doing (remove p) s) a is = errand_without s a (remove p)
   after_without (doing (sync_file p) s) a is = errand_without s a (sync_file p)
   after_without (doing (sync_dir p) s) a is = errand_without s a (sync_dir p)
   after_without (creating number c rest) a is = made_without number c rest a
@@ -138,6 +138,7 @@ module _ (m : Machine) where
 
 pub wants_without : (s : State) → IsState s → wants (without_bytes s) ≡ option_map step_without (wants s)
 wants_without (doing (make_folder p) s) is = refl
+wants_without (doing (remove p) s) is = refl
 wants_without (doing (sync_file p) s) is = refl
 wants_without (doing (sync_dir p) s) is = refl
 wants_without (creating number c rest) is = refl
@@ -181,6 +182,7 @@ ends_plain s (Some r) is (inr e) = inr e
 
 pub is_storing : (s : State) (step : PlainStep) → IsState s → wants s ≡ Some step → IsStoring step
 is_storing (doing (make_folder p) s) step is w = some_is IsStoring (steps.MakeDirs p) step w tt
+is_storing (doing (remove p) s) step is w = some_is IsStoring (steps.RemoveFile p) step w tt
 is_storing (doing (sync_file p) s) step is w = some_is IsStoring (steps.SyncFile p) step w tt
 is_storing (doing (sync_dir p) s) step is w = some_is IsStoring (steps.SyncDir p) step w tt
 is_storing (creating number c rest) step is w = some_is IsStoring (steps.CreateTemp (temp_path c.cache number)) step w tt
@@ -224,6 +226,10 @@ module _ (o : Option NumberedTemp) where
   ask_next p (steps.Exists q) e = cc
   ask_next p step e = absurd cc
 
+  remove_next : (p : List ℕ) (step : NumberedStep) → step_without (steps.RemoveFile p) ≡ step_seen step → IsNext o (steps.RemoveFile p) step
+  remove_next p (steps.RemoveFile q) e = cc
+  remove_next p step e = absurd cc
+
   temp_next : (f : PlainTemp) (step : NumberedStep) → step_without (steps.SyncTemp f) ≡ step_seen step → IsOnHeld o step → IsNext o (steps.SyncTemp f) step
   temp_next f (steps.SyncTemp t) e held = held
   temp_next f step e held = absurd cc
@@ -244,6 +250,7 @@ module _ (o : Option NumberedTemp) where
   next_seen (steps.Append p bytes) step e stores held = append_next p bytes step e
   next_seen (steps.ReadAll p) step e stores held = read_next p step e
   next_seen (steps.Exists p) step e stores held = ask_next p step e
+  next_seen (steps.RemoveFile p) step e stores held = remove_next p step e
   next_seen (steps.SyncTemp f) step e stores held = temp_next f step e held
   next_seen (steps.SyncFile p) step e stores held = file_next p step e
   next_seen (steps.SyncDir p) step e stores held = folder_next p step e
@@ -254,7 +261,7 @@ module _ (o : Option NumberedTemp) where
 insert_without : (i : Insertion) → P (insert i)
 insert_without i = inserts P (λ reply. refl) (λ folder j. refl) i (refused_cause i)
 
-pub opens_without : (site : Site) (command : Command) → StoresOrLooks command → without_bytes (opening site command) ≡ opening site command
+pub opens_without : (site : Site) (command : Command) → StoresLooksOrRemoves command → without_bytes (opening site command) ≡ opening site command
 opens_without site (commands.Put p) stores = refl
 opens_without site (commands.Insert i) stores = insert_without (insertion site.cache i)
 opens_without site (commands.Delete d) stores = insert_without (deletion site.cache d)
@@ -262,4 +269,6 @@ opens_without site (commands.Find key) stores = refl
 opens_without site (commands.Get key) stores = refl
 opens_without site (commands.GetHash i) stores = refl
 opens_without site (commands.Exists i) stores = refl
+opens_without site (commands.RemoveHash i) stores = refl
+opens_without site (commands.RemoveFully key) stores = refl
 opens_without site command stores = absurd stores

@@ -41,6 +41,7 @@ IsNext held (steps.Persist f p) (steps.Persist t q) = (held ≡ Some t) × (p �
 IsNext held (steps.Append p bytes) (steps.Append q more) = (p ≡ q) × (bytes ≡ more)
 IsNext held (steps.ReadAll p) (steps.ReadAll q) = p ≡ q
 IsNext held (steps.Exists p) (steps.Exists q) = p ≡ q
+IsNext held (steps.RemoveFile p) (steps.RemoveFile q) = p ≡ q
 IsNext held (steps.SyncTemp f) (steps.SyncTemp t) = held ≡ Some t
 IsNext held (steps.SyncFile p) (steps.SyncFile q) = p ≡ q
 IsNext held (steps.SyncDir p) (steps.SyncDir q) = p ≡ q
@@ -64,21 +65,23 @@ pub record MakesNextStep (f : NumberedState) (caller : ℕ) (made : StepMade)
   -- its answer ends the call or not
   pub over : Ends (after state (answer_in made)) reply
 
--- a call that stores or looks
-abbrev pub StoresOrLooks : Command → Type 0
-StoresOrLooks (commands.Put p) = Unit {0}
-StoresOrLooks (commands.Insert i) = Unit {0}
-StoresOrLooks (commands.Delete d) = Unit {0}
-StoresOrLooks (commands.Find key) = Unit {0}
-StoresOrLooks (commands.Get key) = Unit {0}
-StoresOrLooks (commands.GetHash i) = Unit {0}
-StoresOrLooks (commands.Exists i) = Unit {0}
-StoresOrLooks command = ⊥
+-- a call that stores, looks, or removes by an address or a key
+abbrev pub StoresLooksOrRemoves : Command → Type 0
+StoresLooksOrRemoves (commands.Put p) = Unit {0}
+StoresLooksOrRemoves (commands.Insert i) = Unit {0}
+StoresLooksOrRemoves (commands.Delete d) = Unit {0}
+StoresLooksOrRemoves (commands.Find key) = Unit {0}
+StoresLooksOrRemoves (commands.Get key) = Unit {0}
+StoresLooksOrRemoves (commands.GetHash i) = Unit {0}
+StoresLooksOrRemoves (commands.Exists i) = Unit {0}
+StoresLooksOrRemoves (commands.RemoveHash i) = Unit {0}
+StoresLooksOrRemoves (commands.RemoveFully key) = Unit {0}
+StoresLooksOrRemoves command = ⊥
 
 -- an act of such calls, each of which has a number, and so a temporary file, of its own
 abbrev pub MayNext : Setup → NumberedState → Act → Type 0
 MayNext s f (begins caller command) =
-    MayAct s f.system (begins caller command) × StoresOrLooks command × (f.system.begun + 1 ≤ 2 ^ 64)
+    MayAct s f.system (begins caller command) × StoresLooksOrRemoves command × (f.system.begun + 1 ≤ 2 ^ 64)
 MayNext s f (makes caller made reply) = MakesNextStep f caller made reply
 MayNext s f (ends caller reply) = MayAct s f.system (ends caller reply)
 MayNext s f (stops caller) = MayAct s f.system (stops caller)

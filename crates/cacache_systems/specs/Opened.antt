@@ -13,7 +13,7 @@ IsOpenAt m number names = option_map (λ (file : OpenFile). file.names) (m.files
 abbrev pub KeepsOpen : Machine → Machine → Type 0
 KeepsOpen m after = (number : ℕ) (names : Names) → IsOpenAt m number names → IsOpenAt after number names
 
--- a step of a kind that storing and looking calls make, whose temporary file is still at its path
+-- a step of a kind that storing, looking and removing calls make, whose temporary file is still at its path
 abbrev pub StillStores : Machine → NumberedStep → Type 0
 StillStores m (steps.MakeDirs p) = Unit {0}
 StillStores m (steps.CreateTemp p) = Unit {0}
@@ -22,6 +22,7 @@ StillStores m (steps.Persist t p) = IsStill m t
 StillStores m (steps.Append p bytes) = Unit {0}
 StillStores m (steps.ReadAll p) = Unit {0}
 StillStores m (steps.Exists p) = Unit {0}
+StillStores m (steps.RemoveFile p) = Unit {0}
 StillStores m (steps.SyncTemp t) = IsStill m t
 StillStores m (steps.SyncFile p) = Unit {0}
 StillStores m (steps.SyncDir p) = Unit {0}

@@ -6,7 +6,7 @@ use Rattle.cacache_system.specs.{Seen.{NumberedFile, NumberedTemp, NumberedStep,
 use Rattle.cacache_system_model.specs.{Machine.{Machine}, Calls.{OccursSomehow, EachCall}, Chains.{StepMade}}
 use Rattle.cacache_calls.specs.{declared.reply.Reply.{Reply}, State.{State}, Table.{wants, after, opening}, Sound.{MayBegin}}
 use Rattle.cacache_history.specs.{declared.record.Record.{Record}, Setup.{Setup, call_site, may_export, is_outside}, History.{History, Ends, NamesIntegrity}}
-use Rattle.cacache_systems.specs.{Acts.{Act, begins, steps, ends, stops, set_state, unless_ended, AreRecordsOf}, Made.{history_of, now_left, CacheOn, MakesHistory}, Storing.{HintStands, IsExplained}, Numbered.{held_after, StoresOrLooks, numbered_at, numbered_after_all}}
+use Rattle.cacache_systems.specs.{Acts.{Act, begins, steps, ends, stops, set_state, unless_ended, AreRecordsOf}, Made.{history_of, now_left, CacheOn, MakesHistory}, Storing.{HintStands, IsExplained}, Numbered.{held_after, StoresLooksOrRemoves, numbered_at, numbered_after_all}}
 
 -- an open file of a store of real folders, as contracts see it
 abbrev pub seen_file : NumberedFile → PlainFile
@@ -81,12 +81,12 @@ pub record MakesSeenStep (f : SeenState) (caller : ℕ) (made : StepMade) (reply
   pub hint : HintStands made.before.tree made.hint made.step
   pub over : Ends (after state (answer_seen (answer_of made.step made.end))) reply
 
--- an act of calls that store or look
+-- an act of calls that store, look or remove
 abbrev pub MayActSeen : Setup → SeenState → Act → Type 0
 MayActSeen s f (begins caller command) =
     (caller < s.callers) × (f.states caller ≡ None)
     × MayBegin (call_site s f.begun) (may_export s) (is_outside s) command × NamesIntegrity command
-    × StoresOrLooks command × (f.begun + 1 ≤ 2 ^ 64)
+    × StoresLooksOrRemoves command × (f.begun + 1 ≤ 2 ^ 64)
 MayActSeen s f (steps caller made reply) = MakesSeenStep f caller made reply
 MayActSeen s f (ends caller reply) =
     (state : State) × (f.states caller ≡ Some state) × (wants state ≡ None) × Ends state (Some reply)

@@ -1,4 +1,4 @@
--- Steps of calls that store or look. What their laws ask of the machine's tree follows from the acts before them.
+-- Steps of calls that store, look or remove. What their laws ask of the machine's tree follows from the acts before them.
 use Rattle.std.specs.Prelude.{◌≡◌, ◌⊎◌, ℕ, Bool, true, List, Option, None, Some, Ok, IfOk, option_map}
 use Rattle.std_io.specs.declared.io.kind.ErrorKind.TheVariants as kind
 use Rattle.cacache_core.specs.PathNames.{Names, names_of}
@@ -15,7 +15,7 @@ use Rattle.cacache_systems.specs.{Acts.{Act, begins, steps as makes, ends, stops
 abbrev pub IsNotFor : Option Names → PathKind → List ℕ → Type 0
 IsNotFor h k path = IfOk (names_of path) (λ names. path_kind h names ≡ k → ⊥)
 
--- the kinds of steps of calls that store or look, which read and sync no temporary file by its path
+-- the kinds of steps of such calls, which read, remove and sync no temporary file by its path
 abbrev pub Stores : Option Names → NumberedStep → Type 0
 Stores h (steps.MakeDirs p) = Unit {0}
 Stores h (steps.CreateTemp p) = Unit {0}
@@ -24,6 +24,7 @@ Stores h (steps.Persist t p) = Unit {0}
 Stores h (steps.Append p bytes) = Unit {0}
 Stores h (steps.ReadAll p) = IsNotFor h Temporary p
 Stores h (steps.Exists p) = Unit {0}
+Stores h (steps.RemoveFile p) = IsNotFor h Temporary p
 Stores h (steps.SyncTemp t) = Unit {0}
 Stores h (steps.SyncFile p) = IsNotFor h Temporary p
 Stores h (steps.SyncDir p) = IsFor h Way p
@@ -47,6 +48,7 @@ HoldsTemp temps m step = Unit {0}
 abbrev pub HintStands : Tree → Hint → NumberedStep → Type 0
 HintStands t hint (steps.Persist temp p) = MayReplace t hint p
 HintStands t hint (steps.Append p bytes) = WalkStands t hint
+HintStands t hint (steps.RemoveFile p) = WalkStands t hint
 HintStands t hint step = Unit {0}
 
 -- The disk's table does the step. Or none of its calls fails without cause, and the table may refuse it. Or it fails,
@@ -76,7 +78,7 @@ pub record MakesStoringStep (h : Option Names) (w : SystemState) (caller : ℕ) 
   -- its answer ends the call or not
   pub over : Ends (after state (answer_in made)) reply
 
--- an act of calls that store or look
+-- an act of calls that store, look or remove
 abbrev pub MayStore : Setup → SystemState → Act → Type 0
 MayStore s w (begins caller command) = MayAct s w (begins caller command)
 MayStore s w (makes caller made reply) = MakesStoringStep (home s) w caller made reply
