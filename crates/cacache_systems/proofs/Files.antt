@@ -10,7 +10,7 @@ use Rattle.cacache_calls.specs.{declared.{command.Command.{Command}, carried.{Ai
 use Rattle.cacache_calls.proofs.{Branches.{cond_leads, go_on_leads}, Leading.{moves_on, secures, secures_found, records, places, inserts}, Sound.{some_is}}
 use Rattle.cacache_calls.specs.declared.command.Command.TheVariants as commands
 use Rattle.cacache_calls.specs.declared.carried.Aim.TheVariants as aims
-use Rattle.cacache_systems.specs.Numbered.{StoresLooksOrRemoves}
+use Rattle.cacache_systems.specs.Seen.{StoresLooksOrRemoves}
 
 -- the temporary file that a state is about
 abbrev pub file_in : State → Option PlainTemp

@@ -274,22 +274,22 @@ module _ (s : Setup) (m : Machine) (cache : CacheOn s m) where
   }
 
   -- acts that a history follows from there
-  pub makes_history : (acts : List Act) (records : List Record) (last : SystemState) → AreRecordsOf acts records → Legal s (now_left s cache.past) records
-      → Agree s last (replayed s (now_left s cache.past) records) → MakesHistory s cache.past acts last
-  makes_history acts records last of_acts legal agree = record {
-    records = records;
-    of_acts = of_acts;
-    headline = headline (history_of s (cache.past ++ records))
-        (record { apart = cache.legal.apart; opens = cache.legal.opens; legal = legal_join s (initial s) cache.past records cache.legal.legal legal });
-    mirrors = subst (λ (now : Now). Mirrors last.temps last.machine.tree now.tree) (sym (replay_more s (initial s) cache.past records)) agree.mirrors;
-    are_temps = agree.temps;
-  }
+  pub makes_history : (acts : List Act) → FollowAll s (system_at s m cache) (now_left s cache.past) acts → MakesHistory s cache.past acts (after_acts s (system_at s m cache) acts)
+  makes_history acts f =
+      let last = after_acts s (system_at s m cache) acts in
+      record {
+        records = f.records;
+        of_acts = f.of_acts;
+        headline = headline (history_of s (cache.past ++ f.records))
+            (record { apart = cache.legal.apart; opens = cache.legal.opens; legal = legal_join s (initial s) cache.past f.records cache.legal.legal f.legal });
+        mirrors = subst (λ (now : Now). Mirrors last.temps last.machine.tree now.tree) (sym (replay_more s (initial s) cache.past f.records)) f.agree.mirrors;
+        are_temps = f.agree.temps;
+      }
 
 pub make_histories : (May : Setup → SystemState → Act → Type 0) → ((s : Setup) → LieApart (home s) s.outside → (w : SystemState) (now : Now) → Agree s w now → (act : Act) → May s w act → MayAct s w act)
     → MakeHistories May
 make_histories May may_act s m cache acts each =
-    let f = acts_follow s cache.legal.apart (May s) (may_act s cache.legal.apart) acts (system_at s m cache) (now_left s cache.past) (first_agree s m cache) each in
-    makes_history s m cache acts f.records (after_acts s (system_at s m cache) acts) f.of_acts f.legal f.agree
+    makes_history s m cache acts (acts_follow s cache.legal.apart (May s) (may_act s cache.legal.apart) acts (system_at s m cache) (now_left s cache.past) (first_agree s m cache) each)
 
 pub systems_make_histories : SystemsMakeHistories
 systems_make_histories = make_histories MayAct (λ s apart w now agree act may. may)

@@ -10,8 +10,8 @@ use Rattle.cacache_value.{specs.Kinds.{Temporary, Way, IsFor}, proofs.Shows.{app
 use Rattle.cacache_system.specs.{declared.call.CallResult.{CallResult}, Seen.{NumberedTemp, NumberedStep, NumberedAnswer}, AnswersOf.{answer_of, refuses_memory}}
 use Rattle.cacache_system.specs.declared.call.CallResult.TheVariants as says
 use Rattle.cacache_system_model.specs.{Machine.{OpenFile, Machine}, Laws.{bytes_in, temp_on, step_on, answer_on}, Mirrors.{Mirrors, temps_after}}
-use Rattle.cacache_systems.proofs.{Failing.{answer_if}, Covering.{still_there}, Files.{file_of, file_given}, PathsOf.{StepApart}, OpenTemps.{with_new_here}}
-use Rattle.cacache_systems.specs.{Storing.{IsNotFor, Stores, IsHeld, HoldsTemp}, Opened.{IsOpenAt, KeepsOpen, StillStores}, Numbered.{handed, IsNext}}
+use Rattle.cacache_systems.proofs.{NextActs.{IsNext}, Failing.{answer_if}, Covering.{still_there}, Files.{file_of, file_given}, PathsOf.{StepApart}, OpenTemps.{with_new_here}}
+use Rattle.cacache_systems.specs.{Storing.{IsNotFor, Stores, IsHeld, HoldsTemp}, Opened.{IsOpenAt, KeepsOpen, StillStores}, Seen.{handed}}
 
 -- ---- handles
 

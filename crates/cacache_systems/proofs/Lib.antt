@@ -9,6 +9,7 @@ pub mod OpenCalls
 pub mod StayingOpen
 pub mod PathsOf
 pub mod OtherTemps
+pub mod NextActs
 pub mod Handles
 pub mod NextSteps
 pub mod Numbering

@@ -14,8 +14,8 @@ use Rattle.cacache_history.specs.{declared.record.Record.{Record, TheVariants.{M
 use Rattle.cacache_history.proofs.{Histories.Holding.{CallHolds, of_caller}, Entries.Spelled.{HasIntegrity}, Proper.{sound_proper}, durable.CallNumbers.{Numbered, next_numbered, number_below, numbers_apart, temps_apart}}
 use Rattle.cacache_system.specs.{declared.call.CallResult.{CallResult}, Seen.{NumberedTemp, NumberedStep, NumberedAnswer}, CallsOf.{Runs}, AnswersOf.{first, answer_of}}
 use Rattle.cacache_system_model.{specs.{Machine.{Machine}, Laws.{answer_on}, Mirrors.{Mirrors}, Chains.{StepMade, temps_left}}, proofs.Mirroring.{shapes}}
-use Rattle.cacache_systems.proofs.{Failing.{failed_none, failed_bytes}, OtherTemps.{explained, placed_same, asked_stays, storing_on}, Covering.{rooted_same, has_asked}, Following.{Agree, has_call, Follows}, Files.{file_in, file_of, file_given, IsState, IsErrand, Follows as StateFollows, follows_after, wants_file, errand_steps}, StayingOpen.{runs_keep_open, made_open}, PathsOf.{HasPaths, StepApart, wants_apart, paths_after, bucket_has}, TreeKept.{Misses, is_elsewhere}, Handles.{Handle, next_on, holds_on, stores_on, handle_kept, wrote_same, synced_same, handed_handle, handed_none, temp_answer, still_stores}, OpenTemps.{temps_spare}}
-use Rattle.cacache_systems.specs.{Acts.{IsRecordOf, steps as makes, SystemState, step_of, answer_in, set_state, unless_ended}, Storing.{Stores, HoldsTemp, MakesStoringStep}, Opened.{IsOpenAt, KeepsOpen}, Numbered.{NumberedState, handed, held_after, numbered_after, MakesNextStep}}
+use Rattle.cacache_systems.proofs.{NextActs.{NumberedState, numbered_after, MakesNextStep}, Failing.{failed_none, failed_bytes}, OtherTemps.{explained, placed_same, asked_stays, storing_on}, Covering.{rooted_same, has_asked}, Following.{Agree, has_call, Follows}, Files.{file_in, file_of, file_given, IsState, IsErrand, Follows as StateFollows, follows_after, wants_file, errand_steps}, StayingOpen.{runs_keep_open, made_open}, PathsOf.{HasPaths, StepApart, wants_apart, paths_after, bucket_has}, TreeKept.{Misses, is_elsewhere}, Handles.{Handle, next_on, holds_on, stores_on, handle_kept, wrote_same, synced_same, handed_handle, handed_none, temp_answer, still_stores}, OpenTemps.{temps_spare}}
+use Rattle.cacache_systems.specs.{Acts.{IsRecordOf, steps as makes, SystemState, step_of, answer_in, set_state, unless_ended}, Storing.{Stores, HoldsTemp, MakesStoringStep}, Opened.{IsOpenAt, KeepsOpen}, Seen.{handed, held_after}}
 
 -- ---- whose a temporary file is
 

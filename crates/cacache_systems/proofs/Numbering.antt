@@ -2,12 +2,12 @@
 use Rattle.std.proofs.Common.{◌≡◌, ◌≤◌, ◌^◌, ◌+◌, ℕ, List, [], ◌∷◌, Option, None, Some, refl, sym, ap, subst, ◌∙◌}
 use Rattle.cacache_value.specs.OpeningTrees.{LieApart}
 use Rattle.cacache_calls.specs.{declared.{command.Command.{Command}, reply.Reply.{Reply}}, Table.{opening}}
-use Rattle.cacache_history.specs.{declared.record.Record.{Record}, Setup.{Setup, call_site, home}, History.{Now, now_after, replayed, Legal, NamesIntegrity, initial}}
+use Rattle.cacache_history.specs.{declared.record.Record.{Record}, Setup.{Setup, call_site, home}, History.{Now, now_after, replayed, NamesIntegrity, initial}}
 use Rattle.cacache_history.proofs.durable.CallNumbers.{Numbered, next_numbered, first_numbered}
 use Rattle.cacache_system.specs.Seen.{NumberedTemp}
 use Rattle.cacache_system_model.specs.Machine.{Machine}
-use Rattle.cacache_systems.specs.{Acts.{Act, begins, steps as makes, ends, stops, SystemState, AreRecordsOf}, Made.{now_left, CacheOn}, Numbered.{NumberedState, numbered_after, StoresLooksOrRemoves, MayNext, EachNext, numbered_after_all, numbered_at, FoldersMakeHistories}}
-use Rattle.cacache_systems.proofs.{Covering.{may_act}, Following.{Follows, act_follows, first_agree, makes_history}, Files.{file_in, IsState, opens_free}, PathsOf.{HasPaths, opens_paths}, NextSteps.{HasHandle, PathsAt, Holds, at_state, no_paths, no_state, makes_storing_step, step_holds}}
+use Rattle.cacache_systems.specs.{Acts.{Act, begins, steps as makes, ends, stops, SystemState}, Made.{now_left, CacheOn, system_at}, Seen.{StoresLooksOrRemoves}}
+use Rattle.cacache_systems.proofs.{NextActs.{NumberedState, numbered_after, MayNext}, Covering.{may_act}, Following.{Follows, act_follows, first_agree}, Files.{file_in, IsState, opens_free}, PathsOf.{HasPaths, opens_paths}, NextSteps.{HasHandle, PathsAt, Holds, at_state, no_paths, no_state, makes_storing_step, step_holds}}
 
 module _ (s : Setup) (apart : LieApart (home s) s.outside) (f : NumberedState) (now : Now) (all : Holds s f now) where
   abbrev w : SystemState
@@ -63,30 +63,11 @@ module _ (s : Setup) (apart : LieApart (home s) s.outside) (f : NumberedState) (
   next_act (ends caller reply) may = let g = act_follows s apart w now all.agree (ends caller reply) may in (g, over_holds caller reply g)
   next_act (stops caller) may = let g = act_follows s apart w now all.agree (stops caller) may in (g, stop_holds caller g)
 
--- a history that follows many acts
-pub record NumberedFollow (s : Setup) (f : NumberedState) (now : Now) (acts : List Act) : Type 0 where
-  pub records : List Record
-  pub of_acts : AreRecordsOf acts records
-  pub legal : Legal s now records
-  pub holds : Holds s (numbered_after_all s f acts) (replayed s now records)
-
-numbered_follow : (s : Setup) (apart : LieApart (home s) s.outside) (acts : List Act) (f : NumberedState) (now : Now) → Holds s f now → EachNext s f acts → NumberedFollow s f now acts
-numbered_follow s apart [] f now all each = record { records = []; of_acts = refl; legal = tt; holds = all }
-numbered_follow s apart (act ∷ acts) f now all (may, later) =
-    let g = next_act s apart f now all act may in
-    let rest = numbered_follow s apart acts (numbered_after s f act) (now_after s now g.0.r) g.1 later in
-    record {
-      records = g.0.r ∷ rest.records;
-      of_acts = (g.0.r, rest.records, refl, g.0.of_act, rest.of_acts);
-      legal = (g.0.may, rest.legal);
-      holds = rest.holds;
-    }
-
 all_numbered : (s : Setup) (now : Now) (records : List Record) → Numbered now → Numbered (replayed s now records)
 all_numbered s now [] h = h
 all_numbered s now (r ∷ records) h = all_numbered s (now_after s now r) records (next_numbered s now r h)
 
-pub first_holds : (s : Setup) (m : Machine) (cache : CacheOn s m) → Holds s (numbered_at s m cache) (now_left s cache.past)
+pub first_holds : (s : Setup) (m : Machine) (cache : CacheOn s m) → Holds s (record { system = system_at s m cache; held = λ caller. None }) (now_left s cache.past)
 first_holds s m cache = record {
   agree = first_agree s m cache;
   numbered = all_numbered s (initial s) cache.past (first_numbered s);
@@ -94,8 +75,3 @@ first_holds s m cache = record {
   handles = λ k. no_state cache.temps m None;
   paths = λ k. no_paths (home s);
 }
-
-pub folders_make_histories : FoldersMakeHistories
-folders_make_histories s m cache acts each =
-    let g = numbered_follow s cache.legal.apart acts (numbered_at s m cache) (now_left s cache.past) (first_holds s m cache) each in
-    makes_history s m cache acts g.records (numbered_after_all s (numbered_at s m cache) acts).system g.of_acts g.legal g.holds.agree

@@ -18,7 +18,7 @@ use Rattle.cacache_value.specs.{Kinds.{PathKind, Content, Bucket, Temporary, Way
 use Rattle.cacache_value.proofs.{KindsApart.{above, kind-below}, PathKinds.{paths_are_for}, Shows.{trees_show}}
 use Rattle.cacache_store.specs.declared.store.answer.Answer.TheVariants as answers
 use Rattle.cacache_disk.specs.{declared.luck.Luck.{Luck}, Tree.{Tree}, Apply.{apply}, Rooted.{Rooted}}
-use Rattle.cacache_systems.{specs.{Storing.{IsNotFor}, Numbered.{StoresLooksOrRemoves}}, proofs.Files.{IsAim, IsState}}
+use Rattle.cacache_systems.{specs.{Storing.{IsNotFor}, Seen.{StoresLooksOrRemoves}}, proofs.Files.{IsAim, IsState}}
 
 -- ---- the folders that lead to a path are ways
 

@@ -5,8 +5,8 @@ use Rattle.cacache_system.specs.{Seen.{NumberedTemp, NumberedAnswer}, AnswersOf.
 use Rattle.cacache_system_model.specs.{Machine.{Machine}, Laws.{answer_on}, Chains.{StepMade}}
 use Rattle.cacache_calls.specs.{declared.reply.Reply.{Reply}, State.{State}, Table.{wants, after, opening}, Sound.{MayBegin}}
 use Rattle.cacache_history.specs.{Setup.{Setup, call_site, home, may_export, is_outside}, History.{Now, now_after, Ends}}
-use Rattle.cacache_systems.specs.{Acts.{Act, begins, steps as makes, ends, stops, answer_in, unless_ended}, Made.{now_left}, Numbered.{NumberedState, handed, numbered_after, MakesNextStep, MayNext, numbered_at, numbered_after_all}, Seen.{SeenState, answer_seen, step_seen, after_seen, IsOnHeld, MakesSeenStep, MayActSeen, EachSeen, seen_at, SeenMakeHistories}}
-use Rattle.cacache_systems.proofs.{WithoutBytes.{without_bytes, after_without, wanted_plain, none_plain, ends_plain, is_storing, next_seen, opens_without}, Files.{IsState, follows_after}, Following.{makes_history}, NextSteps.{Holds}, Numbering.{NumberedFollow, next_act, first_holds}}
+use Rattle.cacache_systems.specs.{Acts.{Act, begins, steps as makes, ends, stops, answer_in, unless_ended}, Made.{now_left, system_at}, Seen.{SeenState, handed, answer_seen, step_seen, after_seen, IsOnHeld, MakesSeenStep, MayActSeen, EachSeen, seen_at, SeenMakeHistories}}
+use Rattle.cacache_systems.proofs.{NextActs.{NumberedState, numbered_after, MakesNextStep, MayNext}, WithoutBytes.{without_bytes, after_without, wanted_plain, none_plain, ends_plain, is_storing, next_seen, opens_without}, Files.{IsState, follows_after}, Following.{FollowAll, makes_history}, NextSteps.{Holds}, Numbering.{next_act, first_holds}}
 
 -- both have the same but for what handles hold
 record Sees (c : SeenState) (f : NumberedState) : Type 0 where
@@ -106,8 +106,8 @@ module _ (s : Setup) (c : SeenState) (f : NumberedState) (now : Now) (all : Hold
     begun = sees.begun;
   }
 
-seen_follows : (s : Setup) (apart : LieApart (home s) s.outside) (acts : List Act) (c : SeenState) (f : NumberedState) (now : Now) → Holds s f now → Sees c f → EachSeen s c acts → NumberedFollow s f now acts
-seen_follows s apart [] c f now all sees each = record { records = []; of_acts = refl; legal = tt; holds = all }
+seen_follows : (s : Setup) (apart : LieApart (home s) s.outside) (acts : List Act) (c : SeenState) (f : NumberedState) (now : Now) → Holds s f now → Sees c f → EachSeen s c acts → FollowAll s f.system now acts
+seen_follows s apart [] c f now all sees each = record { records = []; of_acts = refl; legal = tt; agree = all.agree }
 seen_follows s apart (act ∷ acts) c f now all sees (may, later) =
     let g = next_act s apart f now all act (may_next s c f now all sees act may) in
     let rest = seen_follows s apart acts (after_seen s c act) (numbered_after s f act) (now_after s now g.0.r) g.1 (sees_next s c f now all sees act may) later in
@@ -115,11 +115,11 @@ seen_follows s apart (act ∷ acts) c f now all sees (may, later) =
       records = g.0.r ∷ rest.records;
       of_acts = (g.0.r, rest.records, refl, g.0.of_act, rest.of_acts);
       legal = (g.0.may, rest.legal);
-      holds = rest.holds;
+      agree = rest.agree;
     }
 
 pub seen_make_histories : SeenMakeHistories
 seen_make_histories s m cache acts each =
-    let sees : Sees (seen_at s m cache) (numbered_at s m cache) = record { machine = refl; states = λ k. refl; held = λ k. refl; begun = refl } in
-    let g = seen_follows s cache.legal.apart acts (seen_at s m cache) (numbered_at s m cache) (now_left s cache.past) (first_holds s m cache) sees each in
-    makes_history s m cache acts g.records (numbered_after_all s (numbered_at s m cache) acts).system g.of_acts g.legal g.holds.agree
+    let f : NumberedState = record { system = system_at s m cache; held = λ caller. None } in
+    let sees : Sees (seen_at s m cache) f = record { machine = refl; states = λ k. refl; held = λ k. refl; begun = refl } in
+    makes_history s m cache acts (seen_follows s cache.legal.apart acts (seen_at s m cache) f (now_left s cache.past) (first_holds s m cache) sees each)

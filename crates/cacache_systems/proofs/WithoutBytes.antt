@@ -13,7 +13,7 @@ use Rattle.cacache_calls.proofs.{Branches.{cond_leads}, Leading.{secures, secure
 use Rattle.cacache_calls.specs.declared.carried.Aim.TheVariants as aims
 use Rattle.cacache_calls.specs.declared.command.Command.TheVariants as commands
 use Rattle.cacache_history.specs.History.{Ends}
-use Rattle.cacache_systems.{specs.{Seen.{step_seen, answer_seen, IsOnHeld}, Numbered.{IsNext, StoresLooksOrRemoves}}, proofs.{Files.{IsAim, IsState}, TreeKept.{IsStoring}}}
+use Rattle.cacache_systems.{specs.Seen.{step_seen, answer_seen, IsOnHeld, StoresLooksOrRemoves}, proofs.{NextActs.{IsNext}, Files.{IsAim, IsState}, TreeKept.{IsStoring}}}
 
 -- ---- without what handles hold
 

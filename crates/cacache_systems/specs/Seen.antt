@@ -1,12 +1,14 @@
 -- Callers over stores of real folders, as the contracts of these stores see them: with handles that have no bytes.
-use Rattle.std.specs.Prelude.{◌≡◌, ◌≤◌, ◌<◌, ◌+◌, ◌^◌, ℕ, List, [], ◌∷◌, ◌++◌, Option, None, Some, option_map}
+use Rattle.std.specs.Prelude.{◌≡◌, ◌≤◌, ◌<◌, ◌+◌, ◌^◌, ◌==◌, ℕ, List, [], ◌∷◌, ◌++◌, Option, None, Some, option_map, if◌then◌else◌}
 use Rattle.cacache_store.specs.{declared.store.plain.{PlainFile.{PlainFile}, PlainTemp.{PlainTemp}}, Plain.{PlainStep, PlainAnswer}}
 use Rattle.cacache_store.specs.declared.store.step.Step.TheVariants as store
+use Rattle.cacache_store.specs.declared.store.answer.Answer.TheVariants as answers
 use Rattle.cacache_system.specs.{Seen.{NumberedFile, NumberedTemp, NumberedStep, NumberedAnswer, step_as, answer_as}, CallsOf.{Runs}, AnswersOf.{first, answer_of}}
 use Rattle.cacache_system_model.specs.{Machine.{Machine}, Calls.{OccursSomehow, EachCall}, Chains.{StepMade}}
-use Rattle.cacache_calls.specs.{declared.reply.Reply.{Reply}, State.{State}, Table.{wants, after, opening}, Sound.{MayBegin}}
+use Rattle.cacache_calls.specs.declared.command.Command.TheVariants as commands
+use Rattle.cacache_calls.specs.{declared.{command.Command.{Command}, reply.Reply.{Reply}}, State.{State}, Table.{wants, after, opening}, Sound.{MayBegin}}
 use Rattle.cacache_history.specs.{declared.record.Record.{Record}, Setup.{Setup, call_site, may_export, is_outside}, History.{History, Ends, NamesIntegrity}}
-use Rattle.cacache_systems.specs.{Acts.{Act, begins, steps, ends, stops, set_state, unless_ended, AreRecordsOf}, Made.{history_of, now_left, CacheOn, MakesHistory}, Storing.{HintStands, IsExplained}, Numbered.{held_after, StoresLooksOrRemoves, numbered_at, numbered_after_all}}
+use Rattle.cacache_systems.specs.{Acts.{Act, begins, steps, ends, stops, set_state, unless_ended, after_acts, AreRecordsOf}, Made.{history_of, now_left, CacheOn, system_at, MakesHistory}, Storing.{HintStands, IsExplained}}
 
 -- an open file of a store of real folders, as contracts see it
 abbrev pub seen_file : NumberedFile → PlainFile
@@ -23,6 +25,19 @@ step_seen step = step_as seen_file seen_temp step
 -- an answer as contracts see it
 abbrev pub answer_seen : NumberedAnswer → PlainAnswer
 answer_seen answer = answer_as seen_file seen_temp answer
+
+-- the temporary file that an answer hands out, or the one before it
+abbrev pub handed : NumberedAnswer → Option NumberedTemp → Option NumberedTemp
+handed (answers.Temp t) old = Some t
+handed (answers.Wrote t n) old = Some t
+handed (answers.Synced t) old = Some t
+handed answer old = old
+
+-- what each caller was handed last, after an act
+abbrev pub held_after : (ℕ → Option NumberedTemp) → Act → ℕ → Option NumberedTemp
+held_after held (steps caller made reply) k =
+    if k == caller then handed (answer_of made.step made.end) (held caller) else held k
+held_after held act k = held k
 
 -- the machine, the state of each caller's call as contracts see it, the temporary file that it was handed last, and how
 -- many calls have begun
@@ -81,6 +96,19 @@ pub record MakesSeenStep (f : SeenState) (caller : ℕ) (made : StepMade) (reply
   pub hint : HintStands made.before.tree made.hint made.step
   pub over : Ends (after state (answer_seen (answer_of made.step made.end))) reply
 
+-- a call that stores, looks, or removes by an address or a key
+abbrev pub StoresLooksOrRemoves : Command → Type 0
+StoresLooksOrRemoves (commands.Put p) = Unit {0}
+StoresLooksOrRemoves (commands.Insert i) = Unit {0}
+StoresLooksOrRemoves (commands.Delete d) = Unit {0}
+StoresLooksOrRemoves (commands.Find key) = Unit {0}
+StoresLooksOrRemoves (commands.Get key) = Unit {0}
+StoresLooksOrRemoves (commands.GetHash i) = Unit {0}
+StoresLooksOrRemoves (commands.Exists i) = Unit {0}
+StoresLooksOrRemoves (commands.RemoveHash i) = Unit {0}
+StoresLooksOrRemoves (commands.RemoveFully key) = Unit {0}
+StoresLooksOrRemoves command = ⊥
+
 -- an act of calls that store, look or remove
 abbrev pub MayActSeen : Setup → SeenState → Act → Type 0
 MayActSeen s f (begins caller command) =
@@ -111,7 +139,7 @@ abbrev pub SeenMakeHistories : Type 0
 SeenMakeHistories =
     (s : Setup) (m : Machine) (cache : CacheOn s m) (acts : List Act)
     → EachSeen s (seen_at s m cache) acts
-    → MakesHistory s cache.past acts (numbered_after_all s (numbered_at s m cache) acts).system
+    → MakesHistory s cache.past acts (after_acts s (system_at s m cache) acts)
 
 -- each list of such acts on one machine goes on with the history of its cache, to one with this property
 abbrev pub SeenActsAre : (History → Type 0) → Type 0

@@ -1,23 +1,22 @@
 //! Laws, on a function that does nothing.
-ghost use Rattle.cacache_systems.specs.{Example.{QuestionsCanBe}, Made.{CachesBegin, SystemsMakeHistories}, Numbered.{FoldersMakeHistories}, Opened.{RunsKeepOpen}, Seen.{SeenMakeHistories}, Storing.{StoringMakeHistories}};
+ghost use Rattle.cacache_systems.specs.{Example.{QuestionsCanBe}, Made.{CachesBegin, SystemsMakeHistories}, Opened.{RunsKeepOpen}, Seen.{SeenMakeHistories}, Storing.{StoringMakeHistories}};
 
-/// What callers do on one machine goes on with the legal history that left its cache, with their replies, if the system calls
-/// of each store step follow one another. The history's last tree mirrors the machine's. If a step failed and ended its
-/// call, the caller may be recorded as giving the call up.
+/// What callers do on one machine goes on with the legal history that left its cache, with their replies, if the system
+/// calls of each store step follow one another. The history's last tree mirrors the machine's. If a step failed and ended
+/// its call, the caller may be recorded as giving the call up.
 ///
 /// - `begin`: a machine that holds only the outside files has a cache without a past.
 /// - `made` is about any commands, and asks of each step what the step's law asks.
 /// - `storing` is about calls that store, look or remove. It asks that their temporary files are open and hold what their
 ///   states say.
-/// - `folders` doesn't ask that: it is about callers whose temporary files are numbers and paths.
-/// - `seen` is about these callers as the contracts of their stores see them.
+/// - `seen` doesn't ask that: it is about callers as the contracts of their stores see them, whose temporary files are numbers
+///   and paths.
 /// - `keep`: the system calls of a step of these calls keep open files open.
 /// - `example`: what `seen` asks can be met.
 pub fn system_history_laws()
     ensures begin { CachesBegin }
     ensures made { SystemsMakeHistories }
     ensures storing { StoringMakeHistories }
-    ensures folders { FoldersMakeHistories }
     ensures seen { SeenMakeHistories }
     ensures keep { RunsKeepOpen }
     ensures example { QuestionsCanBe }
