@@ -13,7 +13,7 @@ use Rattle.cacache_value.specs.{Kinds.{PathKind, Content, Bucket, Temporary, Way
 use Rattle.cacache_value.proofs.{KindsApart.{above}, FoundPaths.{of_names, suits, Reaches, found, missing, bucket_reached, unreachable}}
 use Rattle.cacache_calls.specs.{declared.reply.Reply.{Reply}, Table.{wants}}
 use Rattle.cacache_history.{specs.{Setup.{Setup, home}, History.{Now}}, proofs.{Histories.Holding.{of_caller}, Proper.{sound_proper}}}
-use Rattle.cacache_systems.proofs.{Following.{Agree, has_call, make_histories}}
+use Rattle.cacache_systems.proofs.Following.{Agree, has_call, make_histories}
 use Rattle.cacache_systems.specs.{Acts.{Act, begins, steps as makes, ends, stops, SystemState, EndsFailed, step_of, NeedsFit, MakesStep, MayAct}, Made.{AreTemps}, Storing.{IsNotFor, Stores, IsHeld, HoldsTemp, HintStands, IsExplained, MakesStoringStep, MayStore, StoringMakeHistories}}
 
 -- ---- nodes by their shape

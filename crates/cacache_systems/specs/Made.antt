@@ -19,8 +19,8 @@ now_left s records = replayed s (initial s) records
 abbrev pub AreTemps : Option Names → (Names → Bool) → Type 0
 AreTemps home temps = (names : Names) → temps names ≡ true → path_kind home names ≡ Temporary
 
--- The cache on a machine is as a legal history left it, whose calls are over. Temporary files that these left open may
--- still be there, with any bytes. At most 2^64 calls began.
+-- The cache on a machine is as a legal history left it, with no call on its way. Temporary files that calls left open
+-- may still be there, with any bytes. At most 2^64 calls began.
 pub record CacheOn (s : Setup) (m : Machine) : Type 0 where
   pub past : List Record
   pub temps : Names → Bool
