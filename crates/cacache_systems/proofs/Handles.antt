@@ -6,12 +6,12 @@ use Rattle.cacache_store.specs.declared.store.step.Step.TheVariants as steps
 use Rattle.cacache_store.specs.declared.store.answer.Answer.TheVariants as answers
 use Rattle.cacache_disk.specs.{declared.{luck.Luck.{Luck}, node.Node.{Node, TheVariants.{File}}}, Tree.{Tree, look, put, bytes_of}, LedTo.{free}, Apply.{apply, unless, made_temp}, Rooted.{Rooted}}
 use Rattle.cacache_disk.proofs.FoundNodes.{free_ok}
-use Rattle.cacache_value.{specs.Kinds.{Temporary, Way, IsFor}, proofs.Shows.{apply_answer}}
+use Rattle.cacache_value.proofs.Shows.{apply_answer}
 use Rattle.cacache_system.specs.{declared.call.CallResult.{CallResult}, Seen.{NumberedTemp, NumberedStep, NumberedAnswer}, AnswersOf.{answer_of, refuses_memory}}
 use Rattle.cacache_system.specs.declared.call.CallResult.TheVariants as says
 use Rattle.cacache_system_model.specs.{Machine.{OpenFile, Machine}, Laws.{bytes_in, temp_on, step_on, answer_on}, Mirrors.{Mirrors, temps_after}}
-use Rattle.cacache_systems.proofs.{NextActs.{IsNext}, Failing.{answer_if}, Covering.{still_there}, Files.{file_of, file_given}, PathsOf.{StepApart}, OpenTemps.{with_new_here}}
-use Rattle.cacache_systems.specs.{Storing.{IsNotFor, Stores, IsHeld, HoldsTemp}, Opened.{IsOpenAt, KeepsOpen, StillStores}, Seen.{handed}}
+use Rattle.cacache_systems.proofs.{WithoutBytes.{step_without}, TreeKept.{IsStoring}, Failing.{answer_if}, Covering.{still_there}, Files.{file_of, file_given}, PathsOf.{StepApart}, OpenTemps.{with_new_here}}
+use Rattle.cacache_systems.specs.{Storing.{Stores, IsHeld, HoldsTemp}, Opened.{IsOpenAt, KeepsOpen, StillStores}, Seen.{step_seen, handed, IsOnHeld}}
 
 -- ---- handles
 
@@ -63,50 +63,55 @@ module _ (temps : Names → Bool) (m : Machine) (o : Option NumberedTemp) where
   is_held : (f : PlainTemp) (t : NumberedTemp) → Handle temps m o f → o ≡ Some t → IsHeld temps m t
   is_held f t g is = subst (IsHeld temps m) (same_temp o g.temp t g.is is) g.held
 
-  pub next_on : (plain : PlainStep) (step : NumberedStep) → IsNext o plain step → ((f : PlainTemp) → file_of plain ≡ Some f → Handle temps m o f) → plain ≡ step_on m step
-  next_on (steps.MakeDirs p) (steps.MakeDirs q) e h = ap (λ (x : List ℕ). steps.MakeDirs x) e
-  next_on (steps.CreateTemp p) (steps.CreateTemp q) e h = ap (λ (x : List ℕ). steps.CreateTemp x) e
-  next_on (steps.Write f bytes) (steps.Write t more) (held, e) h =
-      ap (λ (x : PlainTemp). steps.Write x bytes) (on_handle f t (h f refl) held) ∙ ap (λ (x : List ℕ). steps.Write (temp_on m t) x) e
-  next_on (steps.Persist f p) (steps.Persist t q) (held, e) h =
-      ap (λ (x : PlainTemp). steps.Persist x p) (on_handle f t (h f refl) held) ∙ ap (λ (x : List ℕ). steps.Persist (temp_on m t) x) e
-  next_on (steps.Append p bytes) (steps.Append q more) (e, f) h = ap (λ (x : List ℕ). steps.Append x bytes) e ∙ ap (λ (x : List ℕ). steps.Append q x) f
-  next_on (steps.ReadAll p) (steps.ReadAll q) e h = ap (λ (x : List ℕ). steps.ReadAll x) e
-  next_on (steps.Exists p) (steps.Exists q) e h = ap (λ (x : List ℕ). steps.Exists x) e
-  next_on (steps.RemoveFile p) (steps.RemoveFile q) e h = ap (λ (x : List ℕ). steps.RemoveFile x) e
-  next_on (steps.SyncTemp f) (steps.SyncTemp t) held h = ap (λ (x : PlainTemp). steps.SyncTemp x) (on_handle f t (h f refl) held)
-  next_on (steps.SyncFile p) (steps.SyncFile q) e h = ap (λ (x : List ℕ). steps.SyncFile x) e
-  next_on (steps.SyncDir p) (steps.SyncDir q) e h = ap (λ (x : List ℕ). steps.SyncDir x) e
-  next_on plain step e h = absurd e
+  -- a wanted step that is the store's, but for the bytes that handles hold, is the store's with its handles as they are here
+  pub next_on : (plain : PlainStep) (step : NumberedStep) → step_without plain ≡ step_seen step → IsStoring plain → IsOnHeld o step → ((f : PlainTemp) → file_of plain ≡ Some f → Handle temps m o f)
+      → plain ≡ step_on m step
+  next_on (steps.MakeDirs p) (steps.MakeDirs q) e is held h = e
+  next_on (steps.CreateTemp p) (steps.CreateTemp q) e is held h = e
+  next_on (steps.Write f bytes) (steps.Write t more) e is held h =
+      let same : bytes ≡ more = cc in
+      ap (λ (x : PlainTemp). steps.Write x bytes) (on_handle f t (h f refl) held) ∙ ap (λ (x : List ℕ). steps.Write (temp_on m t) x) same
+  next_on (steps.Persist f p) (steps.Persist t q) e is held h =
+      let same : p ≡ q = cc in
+      ap (λ (x : PlainTemp). steps.Persist x p) (on_handle f t (h f refl) held) ∙ ap (λ (x : List ℕ). steps.Persist (temp_on m t) x) same
+  next_on (steps.Append p bytes) (steps.Append q more) e is held h = e
+  next_on (steps.ReadAll p) (steps.ReadAll q) e is held h = e
+  next_on (steps.Exists p) (steps.Exists q) e is held h = e
+  next_on (steps.RemoveFile p) (steps.RemoveFile q) e is held h = e
+  next_on (steps.SyncTemp f) (steps.SyncTemp t) e is held h = ap (λ (x : PlainTemp). steps.SyncTemp x) (on_handle f t (h f refl) held)
+  next_on (steps.SyncFile p) (steps.SyncFile q) e is held h = e
+  next_on (steps.SyncDir p) (steps.SyncDir q) e is held h = e
+  next_on (steps.Open p) step e is held h = absurd is
+  next_on (steps.Read f size) step e is held h = absurd is
+  next_on (steps.Size p) step e is held h = absurd is
+  next_on (steps.Symlink target p) step e is held h = absurd is
+  next_on (steps.Copy p q) step e is held h = absurd is
+  next_on (steps.Reflink p q) step e is held h = absurd is
+  next_on (steps.HardLink p q) step e is held h = absurd is
+  next_on (steps.ReadDir p) step e is held h = absurd is
+  next_on (steps.RemoveDir p) step e is held h = absurd is
+  next_on plain step e is held h = absurd cc
 
-  pub holds_on : (plain : PlainStep) (step : NumberedStep) → IsNext o plain step → ((f : PlainTemp) → file_of plain ≡ Some f → Handle temps m o f) → HoldsTemp temps m step
-  holds_on (steps.MakeDirs p) (steps.MakeDirs q) e h = tt
-  holds_on (steps.CreateTemp p) (steps.CreateTemp q) e h = tt
-  holds_on (steps.Write f bytes) (steps.Write t more) (held, e) h = is_held f t (h f refl) held
-  holds_on (steps.Persist f p) (steps.Persist t q) (held, e) h = is_held f t (h f refl) held
-  holds_on (steps.Append p bytes) (steps.Append q more) e h = tt
-  holds_on (steps.ReadAll p) (steps.ReadAll q) e h = tt
-  holds_on (steps.Exists p) (steps.Exists q) e h = tt
-  holds_on (steps.RemoveFile p) (steps.RemoveFile q) e h = tt
-  holds_on (steps.SyncTemp f) (steps.SyncTemp t) held h = is_held f t (h f refl) held
-  holds_on (steps.SyncFile p) (steps.SyncFile q) e h = tt
-  holds_on (steps.SyncDir p) (steps.SyncDir q) e h = tt
-  holds_on plain step e h = absurd e
+  pub holds_on : (step : NumberedStep) → IsOnHeld o step → ((f : PlainTemp) → file_of (step_on m step) ≡ Some f → Handle temps m o f) → HoldsTemp temps m step
+  holds_on (steps.Write t bytes) held h = is_held (temp_on m t) t (h (temp_on m t) refl) held
+  holds_on (steps.Persist t p) held h = is_held (temp_on m t) t (h (temp_on m t) refl) held
+  holds_on (steps.SyncTemp t) held h = is_held (temp_on m t) t (h (temp_on m t) refl) held
+  holds_on step held h = tt
 
 -- it is of one of the kinds that storing, looking and removing calls make
-pub stores_on : (h : Option Names) (o : Option NumberedTemp) (plain : PlainStep) (step : NumberedStep) → IsNext o plain step → StepApart h plain → Stores h step
-stores_on h o (steps.MakeDirs p) (steps.MakeDirs q) e apart = tt
-stores_on h o (steps.CreateTemp p) (steps.CreateTemp q) e apart = tt
-stores_on h o (steps.Write f bytes) (steps.Write t more) e apart = tt
-stores_on h o (steps.Persist f p) (steps.Persist t q) e apart = tt
-stores_on h o (steps.Append p bytes) (steps.Append q more) e apart = tt
-stores_on h o (steps.ReadAll p) (steps.ReadAll q) e apart = subst (IsNotFor h Temporary) e apart
-stores_on h o (steps.Exists p) (steps.Exists q) e apart = tt
-stores_on h o (steps.RemoveFile p) (steps.RemoveFile q) e apart = subst (IsNotFor h Temporary) e apart
-stores_on h o (steps.SyncTemp f) (steps.SyncTemp t) e apart = tt
-stores_on h o (steps.SyncFile p) (steps.SyncFile q) e apart = subst (IsNotFor h Temporary) e apart
-stores_on h o (steps.SyncDir p) (steps.SyncDir q) e apart = subst (IsFor h Way) e apart
-stores_on h o plain step e apart = absurd e
+pub stores_on : (h : Option Names) (m : Machine) (step : NumberedStep) → IsStoring (step_on m step) → StepApart h (step_on m step) → Stores h step
+stores_on h m (steps.MakeDirs p) is apart = tt
+stores_on h m (steps.CreateTemp p) is apart = tt
+stores_on h m (steps.Write t more) is apart = tt
+stores_on h m (steps.Persist t p) is apart = tt
+stores_on h m (steps.Append p bytes) is apart = tt
+stores_on h m (steps.ReadAll p) is apart = apart
+stores_on h m (steps.Exists p) is apart = tt
+stores_on h m (steps.RemoveFile p) is apart = apart
+stores_on h m (steps.SyncTemp t) is apart = tt
+stores_on h m (steps.SyncFile p) is apart = apart
+stores_on h m (steps.SyncDir p) is apart = apart
+stores_on h m step is apart = absurd is
 
 -- ---- the handle that an answer hands out
 

@@ -1,12 +1,12 @@
 -- Callers over a store of real folders, whose states have the bytes that temporary files hold on the machine.
 use Rattle.std.proofs.Common.{◌≡◌, ◌≤◌, ◌+◌, ◌^◌, ℕ, Option, Some}
-use Rattle.cacache_store.specs.declared.store.step.Step.TheVariants as steps
 use Rattle.cacache_store.specs.Plain.{PlainStep}
-use Rattle.cacache_system.specs.{Seen.{NumberedTemp, NumberedStep}, CallsOf.{Runs}, AnswersOf.{first}}
+use Rattle.cacache_system.specs.{Seen.{NumberedTemp}, CallsOf.{Runs}, AnswersOf.{first}}
 use Rattle.cacache_system_model.specs.{Calls.{OccursSomehow, EachCall}, Chains.{StepMade}}
 use Rattle.cacache_calls.specs.{declared.reply.Reply.{Reply}, State.{State}, Table.{wants, after}}
 use Rattle.cacache_history.specs.{Setup.{Setup}, History.{Ends}}
-use Rattle.cacache_systems.specs.{Acts.{Act, begins, steps as makes, ends, stops, SystemState, answer_in, after_act, MayAct}, Storing.{HintStands, IsExplained}, Seen.{held_after, StoresLooksOrRemoves}}
+use Rattle.cacache_systems.specs.{Acts.{Act, begins, steps as makes, ends, stops, SystemState, answer_in, after_act, MayAct}, Storing.{HintStands, IsExplained}, Seen.{step_seen, held_after, IsOnHeld, StoresLooksOrRemoves}}
+use Rattle.cacache_systems.proofs.WithoutBytes.{step_without}
 
 -- the state of the system, and the temporary file that each caller was handed last
 pub record NumberedState : Type 0 where
@@ -17,30 +17,16 @@ pub record NumberedState : Type 0 where
 abbrev pub numbered_after : Setup → NumberedState → Act → NumberedState
 numbered_after s f act = record { system = after_act s f.system act; held = held_after f.held act }
 
--- the step that a caller makes is the one that its call wants, on the temporary file that it was handed
-abbrev pub IsNext : Option NumberedTemp → PlainStep → NumberedStep → Type 0
-IsNext held (steps.MakeDirs p) (steps.MakeDirs q) = p ≡ q
-IsNext held (steps.CreateTemp p) (steps.CreateTemp q) = p ≡ q
-IsNext held (steps.Write f bytes) (steps.Write t more) = (held ≡ Some t) × (bytes ≡ more)
-IsNext held (steps.Persist f p) (steps.Persist t q) = (held ≡ Some t) × (p ≡ q)
-IsNext held (steps.Append p bytes) (steps.Append q more) = (p ≡ q) × (bytes ≡ more)
-IsNext held (steps.ReadAll p) (steps.ReadAll q) = p ≡ q
-IsNext held (steps.Exists p) (steps.Exists q) = p ≡ q
-IsNext held (steps.RemoveFile p) (steps.RemoveFile q) = p ≡ q
-IsNext held (steps.SyncTemp f) (steps.SyncTemp t) = held ≡ Some t
-IsNext held (steps.SyncFile p) (steps.SyncFile q) = p ≡ q
-IsNext held (steps.SyncDir p) (steps.SyncDir q) = p ≡ q
-IsNext held plain step = ⊥
-
 -- a call makes its next step, as a store of real folders does
 pub record MakesNextStep (f : NumberedState) (caller : ℕ) (made : StepMade)
     (reply : Option Reply) : Type 0 where
-  -- it is the step that the call's state wants
+  -- it is the step that the call's state wants, but for the bytes that handles hold
   pub state : State
   pub stands : f.system.states caller ≡ Some state
   pub plain : PlainStep
   pub wanted : wants state ≡ Some plain
-  pub next : IsNext (f.held caller) plain made.step
+  pub same : step_without plain ≡ step_seen made.step
+  pub held : IsOnHeld (f.held caller) made.step
   -- its system calls are a run, and happened under any luck where the calls before them ended
   pub here : made.before ≡ f.system.machine
   pub runs : Runs (first made.hint made.step) made.items made.end

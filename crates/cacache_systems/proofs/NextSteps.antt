@@ -14,7 +14,7 @@ use Rattle.cacache_history.specs.{declared.record.Record.{Record, TheVariants.{M
 use Rattle.cacache_history.proofs.{Histories.Holding.{CallHolds, of_caller}, Entries.Spelled.{HasIntegrity}, Proper.{sound_proper}, durable.CallNumbers.{Numbered, next_numbered, number_below, numbers_apart, temps_apart}}
 use Rattle.cacache_system.specs.{declared.call.CallResult.{CallResult}, Seen.{NumberedTemp, NumberedStep, NumberedAnswer}, CallsOf.{Runs}, AnswersOf.{first, answer_of}}
 use Rattle.cacache_system_model.{specs.{Machine.{Machine}, Laws.{answer_on}, Mirrors.{Mirrors}, Chains.{StepMade, temps_left}}, proofs.Mirroring.{shapes}}
-use Rattle.cacache_systems.proofs.{NextActs.{NumberedState, numbered_after, MakesNextStep}, Failing.{failed_none, failed_bytes}, OtherTemps.{explained, placed_same, asked_stays, storing_on}, Covering.{rooted_same, has_asked}, Following.{Agree, has_call, Follows}, Files.{file_in, file_of, file_given, IsState, IsErrand, Follows as StateFollows, follows_after, wants_file, errand_steps}, StayingOpen.{runs_keep_open, made_open}, PathsOf.{HasPaths, StepApart, wants_apart, paths_after, bucket_has}, TreeKept.{Misses, is_elsewhere}, Handles.{Handle, next_on, holds_on, stores_on, handle_kept, wrote_same, synced_same, handed_handle, handed_none, temp_answer, still_stores}, OpenTemps.{temps_spare}}
+use Rattle.cacache_systems.proofs.{NextActs.{NumberedState, numbered_after, MakesNextStep}, WithoutBytes.{is_storing}, Failing.{failed_none, failed_bytes}, OtherTemps.{explained, placed_same, asked_stays, storing_on}, Covering.{rooted_same, has_asked}, Following.{Agree, has_call, Follows}, Files.{file_in, file_of, file_given, IsState, IsErrand, Follows as StateFollows, follows_after, wants_file, errand_steps}, StayingOpen.{runs_keep_open, made_open}, PathsOf.{HasPaths, StepApart, wants_apart, paths_after, bucket_has}, TreeKept.{Misses, is_elsewhere}, Handles.{Handle, next_on, holds_on, stores_on, handle_kept, wrote_same, synced_same, handed_handle, handed_none, temp_answer, still_stores}, OpenTemps.{temps_spare}}
 use Rattle.cacache_systems.specs.{Acts.{IsRecordOf, steps as makes, SystemState, step_of, answer_in, set_state, unless_ended}, Storing.{Stores, HoldsTemp, MakesStoringStep}, Opened.{IsOpenAt, KeepsOpen}, Seen.{handed, held_after}}
 
 -- ---- whose a temporary file is
@@ -112,17 +112,17 @@ module _ (s : Setup) (apart : LieApart (home s) s.outside) (f : NumberedState) (
     apart_of : (step : PlainStep) → wants m.state ≡ Some step → StepApart (home s) step
     apart_of step wanted = wants_apart (call_site s own.0.number) (may_export s) (is_outside s) m.state step is_state sound has_paths wanted
 
-    stores : Stores (home s) made.step
-    stores = stores_on (home s) (f.held caller) m.plain made.step m.next (apart_of m.plain m.wanted)
-
     asks_same : m.plain ≡ step_of made
-    asks_same = next_on w.temps made.before (f.held caller) m.plain made.step m.next of_step
-
-    holds : HoldsTemp w.temps made.before made.step
-    holds = holds_on w.temps made.before (f.held caller) m.plain made.step m.next of_step
+    asks_same = next_on w.temps made.before (f.held caller) m.plain made.step m.same (is_storing m.state m.plain is_state m.wanted) m.held of_step
 
     wants_asked : wants m.state ≡ Some (step_of made)
     wants_asked = m.wanted ∙ ap Some asks_same
+
+    holds : HoldsTemp w.temps made.before made.step
+    holds = holds_on w.temps made.before (f.held caller) made.step m.held (λ file e. of_step file (ap file_of asks_same ∙ e))
+
+    stores : Stores (home s) made.step
+    stores = stores_on (home s) made.before made.step (is_storing m.state (step_of made) is_state wants_asked) (apart_of (step_of made) wants_asked)
 
     pub makes_storing_step : MakesStoringStep (home s) w caller made reply
     makes_storing_step = record {

@@ -6,7 +6,7 @@ use Rattle.cacache_system_model.specs.{Machine.{Machine}, Laws.{answer_on}, Chai
 use Rattle.cacache_calls.specs.{declared.reply.Reply.{Reply}, State.{State}, Table.{wants, after, opening}, Sound.{MayBegin}}
 use Rattle.cacache_history.specs.{Setup.{Setup, call_site, home, may_export, is_outside}, History.{Now, now_after, Ends}}
 use Rattle.cacache_systems.specs.{Acts.{Act, begins, steps as makes, ends, stops, answer_in, unless_ended}, Made.{now_left, system_at}, Seen.{SeenState, handed, answer_seen, step_seen, after_seen, IsOnHeld, MakesSeenStep, MayActSeen, EachSeen, seen_at, SeenMakeHistories}}
-use Rattle.cacache_systems.proofs.{NextActs.{NumberedState, numbered_after, MakesNextStep, MayNext}, WithoutBytes.{without_bytes, after_without, wanted_plain, none_plain, ends_plain, is_storing, next_seen, opens_without}, Files.{IsState, follows_after}, Following.{FollowAll, makes_history}, NextSteps.{Holds}, Numbering.{next_act, first_holds}}
+use Rattle.cacache_systems.proofs.{NextActs.{NumberedState, numbered_after, MakesNextStep, MayNext}, WithoutBytes.{without_bytes, after_without, wanted_plain, none_plain, ends_plain, opens_without}, Files.{IsState, follows_after}, Following.{FollowAll, makes_history}, NextSteps.{Holds}, Numbering.{next_act, first_holds}}
 
 -- both have the same but for what handles hold
 record Sees (c : SeenState) (f : NumberedState) : Type 0 where
@@ -54,7 +54,8 @@ module _ (s : Setup) (c : SeenState) (f : NumberedState) (now : Now) (all : Hold
         stands = g.1;
         plain = w.0;
         wanted = w.1;
-        next = next_seen (f.held caller) w.0 made.step w.2 (is_storing g.0 w.0 is w.1) (subst (λ (o : Option NumberedTemp). IsOnHeld o made.step) (sees.held caller) m.held);
+        same = w.2;
+        held = subst (λ (o : Option NumberedTemp). IsOnHeld o made.step) (sees.held caller) m.held;
         here = m.here ∙ sees.machine;
         runs = m.runs;
         each = m.each;

@@ -6,14 +6,14 @@ use Rattle.cacache_store.specs.{declared.store.plain.{PlainFile.{PlainFile}, Pla
 use Rattle.cacache_store.specs.declared.store.step.Step.TheVariants as steps
 use Rattle.cacache_store.specs.declared.store.answer.Answer.TheVariants as answers
 use Rattle.cacache_entry.specs.Latest.{Found}
-use Rattle.cacache_system.specs.Seen.{NumberedTemp, NumberedStep, NumberedAnswer, step_as}
+use Rattle.cacache_system.specs.Seen.{NumberedAnswer, step_as}
 use Rattle.cacache_system_model.specs.{Machine.{Machine}, Laws.{temp_on, answer_on}}
 use Rattle.cacache_calls.specs.{declared.{carried.{Aim.{Aim}, Commit.{Commit}, Lookup.{Lookup}}, reply.Reply.{Reply, TheVariants.{Read}}, command.Command.{Command}}, Answers.{done_in, there_in, taken_in, bytes_in}, Common.{fails, ends_with}, Inserting.{insertion, deletion, insert, refused_cause, bucket_line, recorded}, Looking.{found_in, found_for, no_bucket}, Runs.{plain_reply}, State.{State, doing, creating, writing, syncing, persisting, confirming, appending, looking, reading, asking, over, Errand, Insertion, Site, make_folder, remove, sync_file, sync_dir}, StepPaths.{content_folder, content_path, bucket_path, temp_path}, Storing.{placed, secured_found, write_rest}, Table.{wants, after, opening}}
 use Rattle.cacache_calls.proofs.{Branches.{cond_leads}, Leading.{secures, secures_found, records, places, inserts}, Sound.{some_is}}
 use Rattle.cacache_calls.specs.declared.carried.Aim.TheVariants as aims
 use Rattle.cacache_calls.specs.declared.command.Command.TheVariants as commands
 use Rattle.cacache_history.specs.History.{Ends}
-use Rattle.cacache_systems.{specs.Seen.{step_seen, answer_seen, IsOnHeld, StoresLooksOrRemoves}, proofs.{NextActs.{IsNext}, Files.{IsAim, IsState}, TreeKept.{IsStoring}}}
+use Rattle.cacache_systems.{specs.Seen.{answer_seen, StoresLooksOrRemoves}, proofs.{Files.{IsAim, IsState}, TreeKept.{IsStoring}}}
 
 -- ---- without what handles hold
 
@@ -196,65 +196,6 @@ is_storing (reading k) step is w = some_is IsStoring (steps.ReadAll (content_pat
 is_storing (asking k) step is w = some_is IsStoring (steps.Exists (content_path k.cache k.integrity)) step w tt
 is_storing (over reply) step is w = let no : None ≡ Some step = w in absurd cc
 is_storing s step is w = absurd is
-
-module _ (o : Option NumberedTemp) where
-  make_next : (p : List ℕ) (step : NumberedStep) → step_without (steps.MakeDirs p) ≡ step_seen step → IsNext o (steps.MakeDirs p) step
-  make_next p (steps.MakeDirs q) e = cc
-  make_next p step e = absurd cc
-
-  create_next : (p : List ℕ) (step : NumberedStep) → step_without (steps.CreateTemp p) ≡ step_seen step → IsNext o (steps.CreateTemp p) step
-  create_next p (steps.CreateTemp q) e = cc
-  create_next p step e = absurd cc
-
-  write_next : (f : PlainTemp) (bytes : List ℕ) (step : NumberedStep) → step_without (steps.Write f bytes) ≡ step_seen step → IsOnHeld o step → IsNext o (steps.Write f bytes) step
-  write_next f bytes (steps.Write t more) e held = (held, cc)
-  write_next f bytes step e held = absurd cc
-
-  persist_next : (f : PlainTemp) (p : List ℕ) (step : NumberedStep) → step_without (steps.Persist f p) ≡ step_seen step → IsOnHeld o step → IsNext o (steps.Persist f p) step
-  persist_next f p (steps.Persist t q) e held = (held, cc)
-  persist_next f p step e held = absurd cc
-
-  append_next : (p bytes : List ℕ) (step : NumberedStep) → step_without (steps.Append p bytes) ≡ step_seen step → IsNext o (steps.Append p bytes) step
-  append_next p bytes (steps.Append q more) e = (cc, cc)
-  append_next p bytes step e = absurd cc
-
-  read_next : (p : List ℕ) (step : NumberedStep) → step_without (steps.ReadAll p) ≡ step_seen step → IsNext o (steps.ReadAll p) step
-  read_next p (steps.ReadAll q) e = cc
-  read_next p step e = absurd cc
-
-  ask_next : (p : List ℕ) (step : NumberedStep) → step_without (steps.Exists p) ≡ step_seen step → IsNext o (steps.Exists p) step
-  ask_next p (steps.Exists q) e = cc
-  ask_next p step e = absurd cc
-
-  remove_next : (p : List ℕ) (step : NumberedStep) → step_without (steps.RemoveFile p) ≡ step_seen step → IsNext o (steps.RemoveFile p) step
-  remove_next p (steps.RemoveFile q) e = cc
-  remove_next p step e = absurd cc
-
-  temp_next : (f : PlainTemp) (step : NumberedStep) → step_without (steps.SyncTemp f) ≡ step_seen step → IsOnHeld o step → IsNext o (steps.SyncTemp f) step
-  temp_next f (steps.SyncTemp t) e held = held
-  temp_next f step e held = absurd cc
-
-  file_next : (p : List ℕ) (step : NumberedStep) → step_without (steps.SyncFile p) ≡ step_seen step → IsNext o (steps.SyncFile p) step
-  file_next p (steps.SyncFile q) e = cc
-  file_next p step e = absurd cc
-
-  folder_next : (p : List ℕ) (step : NumberedStep) → step_without (steps.SyncDir p) ≡ step_seen step → IsNext o (steps.SyncDir p) step
-  folder_next p (steps.SyncDir q) e = cc
-  folder_next p step e = absurd cc
-
-  pub next_seen : (plain : PlainStep) (step : NumberedStep) → step_without plain ≡ step_seen step → IsStoring plain → IsOnHeld o step → IsNext o plain step
-  next_seen (steps.MakeDirs p) step e stores held = make_next p step e
-  next_seen (steps.CreateTemp p) step e stores held = create_next p step e
-  next_seen (steps.Write f bytes) step e stores held = write_next f bytes step e held
-  next_seen (steps.Persist f p) step e stores held = persist_next f p step e held
-  next_seen (steps.Append p bytes) step e stores held = append_next p bytes step e
-  next_seen (steps.ReadAll p) step e stores held = read_next p step e
-  next_seen (steps.Exists p) step e stores held = ask_next p step e
-  next_seen (steps.RemoveFile p) step e stores held = remove_next p step e
-  next_seen (steps.SyncTemp f) step e stores held = temp_next f step e held
-  next_seen (steps.SyncFile p) step e stores held = file_next p step e
-  next_seen (steps.SyncDir p) step e stores held = folder_next p step e
-  next_seen plain step e stores held = absurd stores
 
 -- ---- where calls begin
 
