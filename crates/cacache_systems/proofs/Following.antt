@@ -3,17 +3,17 @@ use Rattle.std.proofs.Common.{◌≡◌, ◌⊎◌, inl, inr, ◌≤◌, ◌+◌
 use Rattle.cacache_core.specs.{declared.errors.{Fault.{Fault, TheVariants.{Device}}, Error.TheVariants.{OutOfMemory}}, PathNames.{Names}}
 use Rattle.cacache_store.specs.declared.store.answer.Answer.TheVariants as answers
 use Rattle.cacache_store.specs.{Plain.{PlainStep, PlainAnswer}, Fits.{Fits}}
-use Rattle.cacache_disk.specs.{declared.luck.Luck.{Luck, TheVariants.{Plain, Fail}}, Tree.{Tree, look, bare}, Apply.{apply, plain, fails, fault_told}}
-use Rattle.cacache_value.specs.OpeningTrees.{with_files, LieApart}
+use Rattle.cacache_disk.specs.{declared.luck.Luck.{Luck, TheVariants.{Plain, Fail}}, Tree.{Tree, look}, Apply.{apply, plain, fails, fault_told}}
+use Rattle.cacache_value.specs.OpeningTrees.{LieApart}
 use Rattle.cacache_system.specs.AnswersOf.{answer_of}
 use Rattle.cacache_system_model.specs.{Machine.{Machine}, Laws.{step_on, answer_on, outcome, LeavesFresh}, Mirrors.{Mirrors}, Chains.{StepMade, temps_left, IsMade, OnDisk}}
 use Rattle.cacache_system_model.proofs.Chaining.{steps_on_disk}
 use Rattle.cacache_calls.specs.{declared.{command.Command.{Command}, reply.Reply.{Reply, TheVariants.{Refused}}}, State.{State, over}, Table.{wants, after, opening}, Runs.{plain_reply}, Sound.{MayBegin}}
 use Rattle.cacache_calls.proofs.Memory.{no_memory_after}
-use Rattle.cacache_history.specs.{declared.record.Record.{Record, TheVariants.{Began, Moved, Stopped}}, Setup.{Setup, call_site, home, may_export, is_outside}, History.{Call, Now, tree_in, initial, new_call, call_after, unless_over, moved_call, now_after, replayed, Ends, MayMove, MayCome, Legal, IsLegal}}
+use Rattle.cacache_history.specs.{declared.record.Record.{Record, TheVariants.{Began, Moved, Stopped}}, Setup.{Setup, call_site, home, may_export, is_outside}, History.{Call, Now, tree_in, initial, new_call, call_after, unless_over, moved_call, now_after, replayed, Ends, MayMove, MayCome, Legal}}
 use Rattle.cacache_history.proofs.{Headline.{headline}, Histories.{Holding.{AllHold, of_caller, made_proper, next_holds, all_hold, first_holds, replay_more}, Runs.{memory_plain}}}
 use Rattle.cacache_systems.proofs.{OpenTemps.{temps_kept}, Fitting.{fits_so}, Failing.{failed_temps}}
-use Rattle.cacache_systems.specs.{Acts.{Act, begins, steps as makes, ends, stops, SystemState, EndsFailed, step_of, answer_in, NeedsFit, unless_ended, after_act, after_acts, MakesStep, MayAct, EachMay, IsRecordOf, AreRecordsOf}, Made.{history_of, now_left, AreTemps, CacheOn, CachesBegin, system_at, MakesHistory, MakeHistories, SystemsMakeHistories}}
+use Rattle.cacache_systems.specs.{Acts.{Act, begins, steps as makes, ends, stops, SystemState, EndsFailed, step_of, answer_in, NeedsFit, unless_ended, after_act, after_acts, MakesStep, MayAct, EachMay, IsRecordOf, AreRecordsOf}, Made.{history_of, now_left, AreTemps, CacheOn, CachesBegin, CachesGoOn, system_at, MakesHistory, MakeHistories, SystemsMakeHistories}}
 
 abbrev pub state_of : Call → State
 state_of call = call.state
@@ -277,14 +277,31 @@ module _ (s : Setup) (m : Machine) (cache : CacheOn s m) where
   pub makes_history : (acts : List Act) → FollowAll s (system_at s m cache) (now_left s cache.past) acts → MakesHistory s cache.past acts (after_acts s (system_at s m cache) acts)
   makes_history acts f =
       let last = after_acts s (system_at s m cache) acts in
+      let agree : Agree s last (now_left s (cache.past ++ f.records)) = subst (Agree s last) (sym (replay_more s (initial s) cache.past f.records)) f.agree in
       record {
         records = f.records;
         of_acts = f.of_acts;
         headline = headline (history_of s (cache.past ++ f.records))
             (record { apart = cache.legal.apart; opens = cache.legal.opens; legal = legal_join s (initial s) cache.past f.records cache.legal.legal f.legal });
-        mirrors = subst (λ (now : Now). Mirrors last.temps last.machine.tree now.tree) (sym (replay_more s (initial s) cache.past f.records)) f.agree.mirrors;
-        are_temps = f.agree.temps;
+        mirrors = agree.mirrors;
+        are_temps = agree.temps;
+        over = λ k none. no_call ((now_left s (cache.past ++ f.records)).calls k) (last.states k) (agree.states k) none;
+        begun = agree.begun;
       }
+
+pub caches_go_on : CachesGoOn
+caches_go_on s past acts last made ended few = (
+  record {
+    past = past ++ made.records;
+    temps = last.temps;
+    legal = made.headline.legal;
+    over = λ k. made.over k (ended k);
+    few = subst (λ (n : ℕ). n ≤ 2 ^ 64) made.begun few;
+    mirrors = made.mirrors;
+    are_temps = made.are_temps;
+  },
+  refl,
+)
 
 pub make_histories : (May : Setup → SystemState → Act → Type 0) → ((s : Setup) → LieApart (home s) s.outside → (w : SystemState) (now : Now) → Agree s w now → (act : Act) → May s w act → MayAct s w act)
     → MakeHistories May

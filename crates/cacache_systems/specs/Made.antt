@@ -46,13 +46,23 @@ system_at s m cache = record {
 }
 
 -- The acts have records, one each. With those of the past they are a legal history, which has all that every legal
--- history has. Its last tree mirrors the machine's.
+-- history has. Its last tree mirrors the machine's, and a caller without a call has none there.
 pub record MakesHistory (s : Setup) (past : List Record) (acts : List Act) (last : SystemState) : Type 0 where
   pub records : List Record
   pub of_acts : AreRecordsOf acts records
   pub headline : Headline (history_of s (past ++ records))
   pub mirrors : Mirrors last.temps last.machine.tree (now_left s (past ++ records)).tree
   pub are_temps : AreTemps (home s) last.temps
+  pub over : (caller : ℕ) → last.states caller ≡ None
+      → (now_left s (past ++ records)).calls caller ≡ None
+  pub begun : last.begun ≡ (now_left s (past ++ records)).begun
+
+-- once no call is on its way, what acts left is such a cache again
+abbrev pub CachesGoOn : Type 0
+CachesGoOn =
+    (s : Setup) (past : List Record) (acts : List Act) (last : SystemState)
+    → (made : MakesHistory s past acts last) → ((caller : ℕ) → last.states caller ≡ None)
+    → last.begun ≤ 2 ^ 64 → (cache : CacheOn s last.machine) × (cache.past ≡ past ++ made.records)
 
 -- acts that this rule allows have such records, on a machine with a cache
 abbrev pub MakeHistories : (Setup → SystemState → Act → Type 0) → Type 0

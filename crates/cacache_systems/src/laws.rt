@@ -1,11 +1,12 @@
 //! Laws, on a function that does nothing.
-ghost use Rattle.cacache_systems.specs.{Example.{QuestionsCanBe}, Made.{CachesBegin, SystemsMakeHistories}, Opened.{RunsKeepOpen}, Seen.{SeenMakeHistories}, Storing.{StoringMakeHistories}};
+ghost use Rattle.cacache_systems.specs.{Example.{QuestionsCanBe}, Made.{CachesBegin, CachesGoOn, SystemsMakeHistories}, Opened.{RunsKeepOpen}, Seen.{SeenMakeHistories}, Storing.{StoringMakeHistories}};
 
 /// What callers do on one machine goes on with the legal history that left its cache, with their replies, if the system
 /// calls of each store step follow one another. The history's last tree mirrors the machine's. If a step failed and ended
 /// its call, the caller may be recorded as giving the call up.
 ///
 /// - `begin`: a machine that holds only the outside files has a cache without a past.
+/// - `goes_on`: once no call is on its way, what acts left is a cache for further acts.
 /// - `made` is about any commands, and asks of each step what the step's law asks.
 /// - `storing` is about calls that store, look or remove. It asks that their temporary files are open and hold what their
 ///   states say.
@@ -15,6 +16,7 @@ ghost use Rattle.cacache_systems.specs.{Example.{QuestionsCanBe}, Made.{CachesBe
 /// - `example`: what `seen` asks can be met.
 pub fn system_history_laws()
     ensures begin { CachesBegin }
+    ensures goes_on { CachesGoOn }
     ensures made { SystemsMakeHistories }
     ensures storing { StoringMakeHistories }
     ensures seen { SeenMakeHistories }
