@@ -122,6 +122,15 @@ fn count_taken<T: Write>(alloc: Global, temp: &mut T, word: &str) -> Result<Stri
     }
 }
 
+/// What comes of handing a temporary file all of a word's bytes.
+fn all_taken<T: Write>(alloc: Global, temp: &mut T, word: &str) -> Result<String, AllocError> {
+    let bytes = bytes_of(alloc, word)?;
+    match temp.write_all(bytes.as_slice()) {
+        Ok(()) => String::from_str(alloc, "all"),
+        Err(error) => failed(alloc, error),
+    }
+}
+
 impl<F: Read + Drop, T: Write + Drop> Held<F, T> {
     /// Reads or writes what is held as a `Read` or a `Write`.
     pub(crate) fn by_hand(&mut self, alloc: Global, ask: &str, word: &str) -> Result<String, Flaw> {
@@ -129,6 +138,7 @@ impl<F: Read + Drop, T: Write + Drop> Held<F, T> {
             ("gives", Some(file), _) => Ok(given(alloc, file)?),
             ("rest", Some(file), _) => Ok(rest(alloc, file)?),
             ("takes", _, Some(temp)) => Ok(count_taken(alloc, temp, word)?),
+            ("takes-all", _, Some(temp)) => Ok(all_taken(alloc, temp, word)?),
             _ => Err(Flaw::Unfit),
         }
     }

@@ -138,7 +138,7 @@ pub(crate) fn came<S: Store>(
             held.close();
             Ok(String::from_str(alloc, "closed")?)
         }
-        (ask, word) if ask == "gives" || ask == "rest" || ask == "takes" => {
+        (ask, word) if matches!(ask, "gives" | "rest" | "takes" | "takes-all") => {
             held.by_hand(alloc, ask, word)
         }
         _ => stepped(alloc, root, store, held, words),

@@ -19,8 +19,9 @@ pub(crate) fn taken(notes: &Notes, alloc: Global) -> String {
 }
 
 /// The system's runtime, but its files behave in ways of their own. No memory is found to open a file `full`. A file
-/// with a name that begins with `bare` has five bytes and no number. A file `kept` isn't removed, a folder `shy` is
-/// made and said to be refused, and a device is in a folder `special`. The names of each folder are made up.
+/// with a name that begins with `bare` has no number, and five bytes if its ways give no size. A file `kept` isn't removed,
+/// a folder `shy` is made and said to be refused, and a device is in a folder `special`. The names of each folder are
+/// made up.
 #[derive(Clone, Drop)]
 pub(crate) struct Watched {
     host: HostRuntime,
@@ -98,7 +99,7 @@ impl Files for Watched {
     fn metadata(&self, path: &str) -> io::Result<Metadata> {
         self.asked("metadata", &[path])?;
         if path.contains("/bare") {
-            return Ok(Metadata::of_file(5));
+            return Ok(Metadata::of_file(self.ways.size.unwrap_or(5)));
         }
         self.host.metadata(path)
     }
