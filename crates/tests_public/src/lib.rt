@@ -21,6 +21,8 @@ mod readme;
 #[cfg(test)]
 mod reads;
 #[cfg(test)]
+mod surviving;
+#[cfg(test)]
 mod threads;
 #[cfg(test)]
 mod turns;

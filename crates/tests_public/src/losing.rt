@@ -18,7 +18,7 @@ const CONTENT: &str =
     "/cache/content-v2/sha256/b9/4d/27b9934d3e08a52e52d7da7dabfac484efe37a5380ee9088f7ace2efcde9";
 
 /// A link is stored. Then the sixth move of a durable put can't move its content to its place, and the put finds the link.
-const FINDS_A_LINK: &[Row] = &[
+pub(crate) const FINDS_A_LINK: &[Row] = &[
     (0, Act::Link("a"), 8, Luck::Plain, STORED_HELLO),
     (
         0,

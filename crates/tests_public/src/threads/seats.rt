@@ -12,6 +12,7 @@ use std::marker::Brand;
 use std::sync::ledger::Ledger;
 use std::sync::{Wait, ledger};
 use std::test::Fail;
+use uses_worlds::close_after_reads;
 
 /// Whether a reply says that the device failed.
 fn is_device(reply: Option<&Reply>) -> bool {
@@ -58,7 +59,7 @@ fn put_fails<L: Ledger, R: Wait>(
 
 /// How many records there are after the close of a world, if it closes.
 fn records_of<L: Ledger>(shared: SharedWorld<L>, seats: Vec<Seat<L>>) -> usize {
-    match shared.close(seats) {
+    match close_after_reads(shared, seats) {
         Ok(world) => {
             let records = world.history().len();
             let_go(world);
