@@ -157,9 +157,22 @@ fn acted<S: Reasons>(env: &mut On<S>, act: &str, input: &str) -> Result<String, 
     }
 }
 
-/// What an act gives; after `stuck` and a kind of step, over a store on which these fail.
+/// The same, after how often the clock was asked, and how many numbers.
+fn asked<S: Reasons>(env: &mut On<S>, act: &str, input: &str) -> Result<String, Flaw> {
+    let (clock, numbers) = (env.clock.asked, env.names.next);
+    let came = acted(env, act, input)?;
+    let clock = env.clock.asked.wrapping_sub(clock);
+    let numbers = env.names.next.wrapping_sub(numbers);
+    Ok(format!(in env.alloc; "clock {clock}, numbers {numbers}: {came}")?)
+}
+
+/// What an act gives; after `stuck` and a kind of step, over a store on which these fail. After `asked` with how often the
+/// environment was asked.
 pub(crate) fn made<S: Reasons>(env: &mut On<S>, act: &str, input: &str) -> Result<String, Flaw> {
     let (name, words) = cut(act);
+    if name == "asked" {
+        return asked(env, words, input);
+    }
     if name != "stuck" {
         return acted(env, act, input);
     }
