@@ -4,7 +4,7 @@ use Rattle.cacache_core.specs.declared.{errors.Error.{Error}, integrity.digest.H
 use Rattle.cacache_store.specs.declared.store.log.LogItem.{LogItem}
 use Rattle.cacache_entry.specs.Latest.{Found}
 use Rattle.cacache_calls.specs.State.{Site}
-use Rattle.cacache_walks.specs.Listing.{IsByHash, ListsContents, StopsListing}
+use Rattle.cacache_walks.specs.Listing.{IsByBytes, IsByHash, ListsContents, StopsListing}
 use Rattle.cacache_keep.specs.{declared.checking.OddLines.{OddLines}, Checking.{Allows, RefusesOdd, odd_in}, Calls.{AreUnused, AsksEach, ListsEntries, MadeCalls, StopsReading, StopsRemoving, removal}, Reading.{ReadsEach, StopsEach}}
 
 -- The contents are listed, each is read in pieces, the index is listed, and each entry is asked
@@ -14,6 +14,7 @@ pub record VerifiesCache
     (strange : List (List ℕ)) (old new : Option (List LogItem)) : Type 0 where
   pub addresses : List (List Hash)
   pub order : IsByHash addresses
+  pub strange_order : IsByBytes strange
   pub found : Option (List LogItem)
   pub contents : ListsContents site.cache addresses strange old found
   pub read : Option (List LogItem)

@@ -57,6 +57,7 @@ returns-clause-verifies g c =
     = record {
       addresses = c.in_ok-addresses.field-0.addresses.items;
       order = c.in_ok-addresses.ensures.by_hash;
+      strange_order = c.in_ok-addresses.ensures.by_bytes;
       found = log c.list.new.env.store;
       contents = c.in_ok-addresses.ensures.lists;
       read = read;
