@@ -13,7 +13,7 @@ use Rattle.cacache_system_model.proofs.{Refused.{same_outcome}, Writing.{write_a
 
 -- ---- steps that came back
 
-memory_stay : (temps : Names → Bool) (step other : PlainStep) → temps_after temps step (answers.NoMemory other) ≡ temps
+pub memory_stay : (temps : Names → Bool) (step other : PlainStep) → temps_after temps step (answers.NoMemory other) ≡ temps
 memory_stay temps (steps.CreateTemp p) other = refl
 memory_stay temps (steps.Persist f p) other = refl
 memory_stay temps (steps.RemoveFile p) other = refl
@@ -27,7 +27,7 @@ DoneOn temps d m step end n =
     ⊎ ((answer_of step end ≡ answers.NoMemory step) × Mirrors (temps_after temps (step_on m step) (answer_on n (answer_of step end))) n.tree d)
     ⊎ LeavesFresh m step (answer_of step end) n
 
-came_back : (temps : Names → Bool) (d : Tree) (m n : Machine) (step : NumberedStep) (end : CallResult) → Mirrors temps m.tree d → answer_of step end ≡ answers.NoMemory step → n.tree ≡ m.tree
+pub came_back : (temps : Names → Bool) (d : Tree) (m n : Machine) (step : NumberedStep) (end : CallResult) → Mirrors temps m.tree d → answer_of step end ≡ answers.NoMemory step → n.tree ≡ m.tree
     → Mirrors (temps_after temps (step_on m step) (answer_on n (answer_of step end))) n.tree d
 came_back temps d m n step end mirrors is tree =
     let same : temps_after temps (step_on m step) (answer_on n (answer_of step end)) ≡ temps
@@ -55,7 +55,7 @@ same_fails : (o : Option Fault) (fault : Fault) (d : Tree) → (fails o fault d 
 same_fails None fault d = refl
 same_fails (Some own) fault d = refl
 
-write_keeps : (d : Tree) (f : PlainTemp) (more : List ℕ) (luck : Luck) → (apply d (steps.Write f more) luck).1 ≡ d
+pub write_keeps : (d : Tree) (f : PlainTemp) (more : List ℕ) (luck : Luck) → (apply d (steps.Write f more) luck).1 ≡ d
 unfolding apply
 write_keeps d f more Plain = refl
 write_keeps d f more (Take most) = refl
@@ -73,7 +73,7 @@ still_file true bytes a file = refl
 still_file false bytes a file = file
 
 -- an open temporary file may hold any bytes
-written_mirrors : (temps : Names → Bool) (t d : Tree) (names : Names) (bytes : List ℕ) → Mirrors temps t d → temps names ≡ true → Mirrors temps (put t names (File bytes)) d
+pub written_mirrors : (temps : Names → Bool) (t d : Tree) (names : Names) (bytes : List ℕ) → Mirrors temps t d → temps names ≡ true → Mirrors temps (put t names (File bytes)) d
 written_mirrors temps t d names bytes m open_file = record {
   files = λ q is. ap hollow (look-put t names (File bytes) q) ∙ still_file (same_path q names) bytes (look t q) (m.files q is);
   same = λ q.

@@ -1,5 +1,5 @@
 -- What syncs fix.
-use Rattle.std.proofs.Common.{◌≡◌, ◌&&◌, not, ℕ, Bool, true, false, cond, if◌then◌else◌, List, [], ◌∷◌, refl, sym, ap, subst, ◌∙◌}
+use Rattle.std.proofs.Common.{◌≡◌, ◌&&◌, not, ℕ, Bool, true, false, cond, if◌then◌else◌, List, [], ◌∷◌, ◌++◌, refl, sym, ap, subst, ◌∙◌}
 use Rattle.std.specs.{Prelude.{Option, None, Some, Result, Ok, option_map}, Option.{unwrap_or}}
 use Rattle.std_io.specs.declared.io.kind.ErrorKind.{ErrorKind}
 use Rattle.std_io.specs.declared.io.kind.ErrorKind.TheVariants as kind
@@ -9,12 +9,22 @@ use Rattle.cacache_store.specs.declared.store.step.Step.TheVariants as steps
 use Rattle.cacache_store.specs.declared.store.answer.Answer.TheVariants as answers
 use Rattle.cacache_disk.specs.{declared.node.Node.{Node, TheVariants.{Folder, File, Link}}, Tree.{Tree, look, bytes_of, same_path}, LedTo.{found, leads}}
 use Rattle.cacache_disk.proofs.{Maps.{same_path-true}, FoundNodes.{place_ok}}
-use Rattle.cacache_loss.specs.Fixing.{Fixed, synced, is_at, is_child_of, is_synced, temp_synced, file_synced, folder_synced}
-use Rattle.cacache_system.specs.{declared.call.FileInfo.{FileInfo}, CallsOf.{to_sync, to_sync_folder, only, if_folder, opened}, Seen.{NumberedTemp, NumberedStep}, AnswersOf.{failed_with, refuses_memory, leaves_a_part}}
+use Rattle.cacache_loss.specs.Fixing.{Fixed, fixed_after, synced, is_at, is_child_of, is_synced, temp_synced, file_synced, folder_synced}
+use Rattle.cacache_system.specs.{declared.call.{FileInfo.{FileInfo}, CallResult.{CallResult}}, CallsOf.{to_sync, to_sync_folder, only, if_folder, opened}, Seen.{NumberedTemp, NumberedStep}, AnswersOf.{Hint, first, answer_of, failed_with, refuses_memory, leaves_a_part}}
 use Rattle.cacache_system.specs.declared.call.SystemCall.TheVariants as asks
 use Rattle.cacache_system.specs.declared.call.CallResult.TheVariants as says
-use Rattle.cacache_system_model.specs.{Machine.{OpenFile, Machine, SyncedNode, Describes}, Laws.{bytes_in, temp_on, answer_on, Leads}, Syncing.{EndsInNoLink}, Fixing.{with_synced, FixesSynced, SyncTempFixes, SyncFileFixes, SyncDirFixes}}
+use Rattle.cacache_system_model.specs.{Machine.{OpenFile, Machine, SyncedNode, Describes}, Calls.{OccursSomehow}, Laws.{bytes_in, temp_on, step_on, answer_on, Leads}, OneCall.{StillStands}, Syncing.{EndsInNoLink}, Fixing.{with_synced, after_syncs}}
 use Rattle.cacache_system_model.proofs.{Claims.{way_of}, Opening.{OpenedOn, Openings, opening_leads}, Views.{nowhere, a_folder, a_file, view, leads_straight}, Looking.{link_there, refused_folder, wanted_file}, Syncing.{WasSynced, sync_leads, refused_other, open_under}}
+
+-- a step fixes what its calls synced, and nothing else
+abbrev pub FixesSynced : Machine → NumberedStep → CallResult → Machine → Type 0
+FixesSynced m step end after =
+    (nodes : List SyncedNode) × (after.synced ≡ nodes ++ m.synced)
+    × ((fixed : Fixed) → fixed_after fixed m.tree after.tree (step_on m step) (answer_on after (answer_of step end)) ≡ after_syncs nodes fixed)
+
+-- so does each run of its calls, whether or not some fail without cause
+abbrev FixesAsTold : Machine → Hint → NumberedStep → Type 0
+FixesAsTold m hint step = Leads OccursSomehow (first hint step) m (FixesSynced m step)
 
 -- ---- a sync that failed
 
@@ -87,7 +97,7 @@ module _ (m : Machine) (path : List ℕ) where
     opens = file_opens;
   }
 
-pub sync_file_fixes : SyncFileFixes
+pub sync_file_fixes : (m : Machine) (hint : Hint) (path : List ℕ) → FixesAsTold m hint (steps.SyncFile path)
 sync_file_fixes m hint path = opening_leads false m to_sync path (FixesSynced m (steps.SyncFile path)) (file_fixes m path)
 
 -- ---- a folder
@@ -118,7 +128,7 @@ module _ (m : Machine) (path : List ℕ) (none : EndsInNoLink m.tree path) where
     opens = folder_opens;
   }
 
-pub sync_dir_fixes : SyncDirFixes
+pub sync_dir_fixes : (m : Machine) (hint : Hint) (path : List ℕ) → EndsInNoLink m.tree path → FixesAsTold m hint (steps.SyncDir path)
 sync_dir_fixes m hint path none = opening_leads false m to_sync_folder path (FixesSynced m (steps.SyncDir path)) (folder_fixes m path none)
 
 -- ---- a temporary file
@@ -136,7 +146,7 @@ temp_fixed fixed path held names bytes named is =
 temp_names : (file : Option OpenFile) (f : OpenFile) (names : Names) → file ≡ Some f → option_map (λ (g : OpenFile). g.names) file ≡ Some names → f.names ≡ names
 temp_names file f names is at = let same : Some f.names ≡ Some names = ap (option_map (λ (g : OpenFile). g.names)) (sym is) ∙ at in cc
 
-pub sync_temp_fixes : SyncTempFixes
+pub sync_temp_fixes : (m : Machine) (hint : Hint) (temp : NumberedTemp) (names : Names) (bytes : List ℕ) → StillStands m temp names bytes → FixesAsTold m hint (steps.SyncTemp temp)
 sync_temp_fixes m hint temp names bytes ready =
     let file = open_under (m.files temp.number) names ready.opened in
     let at : file.0.names ≡ names = temp_names (m.files temp.number) file.0 names file.1 ready.opened in

@@ -27,6 +27,10 @@ pub mod Mirroring
 mod Keeping
 pub mod Covered
 pub mod Chaining
+pub mod Alike
+pub mod Touching
+pub mod Changed
+pub mod Lasting
 mod Logging
 pub mod Saying
 mod Meetings

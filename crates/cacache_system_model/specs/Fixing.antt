@@ -1,11 +1,15 @@
--- What syncs fix, against what a loss of power leaves.
-use Rattle.std.specs.Prelude.{◌≡◌, ◌++◌, ℕ, List, [], ◌∷◌, Option, None, Some, if◌then◌else◌}
-use Rattle.cacache_core.specs.PathNames.{Names}
-use Rattle.cacache_store.specs.declared.store.step.Step.TheVariants as steps
-use Rattle.cacache_disk.specs.{declared.node.Node.{Node, TheVariants.{Folder, File}}, Tree.{same_path, is_child}}
-use Rattle.cacache_loss.specs.Fixing.{Fixed, synced, fixed_after}
-use Rattle.cacache_system.specs.{declared.call.CallResult.{CallResult}, Seen.{NumberedTemp, NumberedStep}, AnswersOf.{Hint, first, answer_of}}
-use Rattle.cacache_system_model.specs.{Machine.{Machine, SyncedNode}, Calls.{OccursSomehow}, Laws.{step_on, answer_on, Leads}, OneCall.{StillStands}, Syncing.{EndsInNoLink}}
+-- What the syncs of many steps fix on a system, and what a loss of power then leaves there and on a disk in memory.
+use Rattle.std.specs.{Prelude.{◌≡◌, ◌⊎◌, ◌-◌, ◌||◌, Bool, true, false, List, [], ◌∷◌, Option, None, Some, if◌then◌else◌, length, take}, List.{AllByRecursion}}
+use Rattle.cacache_core.specs.{declared.errors.Fault.{Fault}, PathNames.{Names}}
+use Rattle.cacache_store.specs.{declared.store.step.Step.TheVariants.{Copy}, Plain.{PlainStep, PlainAnswer}}
+use Rattle.cacache_store.specs.declared.store.answer.Answer.TheVariants as answers
+use Rattle.cacache_disk.specs.{declared.node.Node.{Node, TheVariants.{Folder, File}}, Tree.{same_path, is_child}, Apply.{apply}}
+use Rattle.cacache_value.specs.Traces.{Move}
+use Rattle.cacache_loss.specs.{Fixing.{Fixed, synced, is_sync, changed, all_fixed}, Loss.{Loss, lost_at}, Moments.{Moment, after, lost_then, EachMove}, ChangedNames.{opening}}
+use Rattle.cacache_system.specs.{Seen.{NumberedStep}, AnswersOf.{answer_of}}
+use Rattle.cacache_system_model.specs.{Machine.{Machine, SyncedNode}, Laws.{step_on, answer_on}, Mirrors.{hollow, Mirrors}, Chains.{StepMade, temps_left, AreMade}}
+
+-- ---- what a step fixes on a machine
 
 -- what is fixed once a file's bytes, or the names in a folder, are synced
 abbrev pub with_synced : Names → Option Node → Fixed → Fixed
@@ -24,32 +28,96 @@ abbrev pub after_syncs : List SyncedNode → Fixed → Fixed
 after_syncs [] fixed = fixed
 after_syncs (node ∷ nodes) fixed = with_synced node.0 node.1 (after_syncs nodes fixed)
 
--- a step fixes what its calls synced, and nothing else
-abbrev pub FixesSynced : Machine → NumberedStep → CallResult → Machine → Type 0
-FixesSynced m step end after =
-    (nodes : List SyncedNode) × (after.synced ≡ nodes ++ m.synced)
-    × ((fixed : Fixed)
-    → fixed_after fixed m.tree after.tree (step_on m step)
-    (answer_on after (answer_of step end))
-    ≡ after_syncs nodes fixed)
+-- what was synced between these two machines, the latest first
+abbrev pub synced_since : Machine → Machine → List SyncedNode
+synced_since before later = take (length later.synced - length before.synced) later.synced
 
--- so does each run of its calls, whether or not some fail without cause
-abbrev pub FixesAsTold : Machine → Hint → NumberedStep → Type 0
-FixesAsTold m hint step = Leads OccursSomehow (first hint step) m (FixesSynced m step)
+-- the step that was made, with its handles as they are on the machine
+abbrev pub step_made : StepMade → PlainStep
+step_made s = step_on s.before s.step
 
--- a temporary file is synced
-abbrev pub SyncTempFixes : Type 0
-SyncTempFixes =
-    (m : Machine) (hint : Hint) (temp : NumberedTemp) (names : Names) (bytes : List ℕ)
-    → StillStands m temp names bytes → FixesAsTold m hint (steps.SyncTemp temp)
+-- its answer, with the handles as they are on the machine
+abbrev pub answer_made : StepMade → PlainAnswer
+answer_made s = answer_on s.after (answer_of s.step s.end)
 
--- a file is synced
-abbrev pub SyncFileFixes : Type 0
-SyncFileFixes =
-    (m : Machine) (hint : Hint) (path : List ℕ) → FixesAsTold m hint (steps.SyncFile path)
+-- A sync fixes what its calls synced. Any other step fixes nothing: what it changes in the machine's tree is no longer fixed,
+-- and a file that it moves stays as far fixed.
+abbrev pub fixed_by : Fixed → StepMade → Fixed
+fixed_by fixed s =
+    if is_sync (step_made s) then after_syncs (synced_since s.before s.after) fixed
+    else changed fixed s.before.tree s.after.tree (step_made s) (answer_made s)
 
--- a folder is synced
-abbrev pub SyncDirFixes : Type 0
-SyncDirFixes =
-    (m : Machine) (hint : Hint) (path : List ℕ) → EndsInNoLink m.tree path
-    → FixesAsTold m hint (steps.SyncDir path)
+-- ---- many steps
+
+-- no temporary file is open
+abbrev pub no_temps : Names → Bool
+no_temps path = false
+
+-- the machine after these steps
+abbrev pub machine_after : Machine → List StepMade → Machine
+machine_after m [] = m
+machine_after m (s ∷ made) = machine_after s.after made
+
+-- what is fixed on it
+abbrev pub fixed_after_all : Fixed → List StepMade → Fixed
+fixed_after_all fixed [] = fixed
+fixed_after_all fixed (s ∷ made) = fixed_after_all (fixed_by fixed s) made
+
+-- its open temporary files
+abbrev pub temps_after_all : (Names → Bool) → List StepMade → Names → Bool
+temps_after_all temps [] = temps
+temps_after_all temps (s ∷ made) = temps_after_all (temps_left temps s) made
+
+-- whether a temporary file was open at a path at some time
+abbrev pub was_temp : (Names → Bool) → List StepMade → Names → Bool
+was_temp temps [] path = temps path
+was_temp temps (s ∷ made) path = temps path || was_temp (temps_left temps s) made path
+
+-- A step copies no file. A system puts a fresh file in the place of a copy's target, the disk's table writes the target.
+abbrev pub CopiesNone : NumberedStep → Type 0
+CopiesNone (Copy from to) = ⊥
+CopiesNone step = Unit {0}
+
+-- ---- the same steps on a disk
+
+-- a disk's move is this step with its answer, or with a failure if the step came back
+abbrev pub IsMoveOf : StepMade → Move → Type 0
+IsMoveOf s move =
+    (move.step ≡ step_made s)
+    × ((move.answer ≡ answer_made s)
+    ⊎ ((answer_of s.step s.end ≡ answers.NoMemory s.step)
+    × (fault : Fault) × (move.answer ≡ answers.Failed fault)))
+
+-- one for each step, in their order
+abbrev pub AreMovesOf : List StepMade → List Move → Type 0
+AreMovesOf [] moves = moves ≡ []
+AreMovesOf (s ∷ made) moves =
+    (move : Move) × (more : List Move) × (moves ≡ move ∷ more) × IsMoveOf s move
+    × AreMovesOf made more
+
+-- the disk answers a move so
+abbrev pub IsAnswered : Moment → Move → Type 0
+IsAnswered now move = move.answer ≡ (apply now.tree move.step move.luck).0
+
+-- the same is left of both, but a file may have other bytes where a temporary file was open
+abbrev pub LeavesSame : Bool → Option Node → Option Node → Type 0
+LeavesSame true on_system on_disk = hollow on_disk ≡ hollow on_system
+LeavesSame false on_system on_disk = on_disk ≡ on_system
+
+-- A disk with the same tree does the steps with the same answers. Then each loss of power leaves the same of both.
+pub record LosesSame (m : Machine) (made : List StepMade) : Type 0 where
+  pub moves : List Move
+  pub of_steps : AreMovesOf made moves
+  pub answered : EachMove IsAnswered (opening m.tree) moves
+  pub mirrors : Mirrors (temps_after_all no_temps made) (machine_after m made).tree
+      (after (opening m.tree) moves).tree
+  pub losses : (home : Option Names) (loss : Loss) (path : Names)
+      → LeavesSame (was_temp no_temps made path)
+      (lost_at home (machine_after m made).tree (fixed_after_all (all_fixed m.tree) made) loss path)
+      (lost_then home (after (opening m.tree) moves) loss path)
+
+-- So it is of any steps without copies, from a machine on which all is fixed and no temporary file is open.
+abbrev pub LossesMirror : Type 0
+LossesMirror =
+    (m : Machine) (made : List StepMade) → AreMade no_temps m made
+    → AllByRecursion (λ (s : StepMade). CopiesNone s.step) made → LosesSame m made

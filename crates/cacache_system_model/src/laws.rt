@@ -1,5 +1,5 @@
 //! Laws, on functions that do nothing.
-ghost use Rattle.cacache_system_model.specs.{Chains.{RunsMirror, StepsOnDisk}, Fixing.{SyncDirFixes, SyncFileFixes, SyncTempFixes}, Listing.{ReadDirBreaks, ReadDirGoesPlainly}, Logged.{LogsAgree}, Making.{MakeDirsAgrees}, Moving.{PersistAgrees}, Meeting.{CallsCanGoWell}, Mirrors.{StepsMirror}, OneCall.{CreateAgrees, ExistsAgrees, HardLinkAgrees, ReflinkBreaks, SymlinkAgrees}, Opening.{OpenAgrees, SizeAgrees}, Premises.{EachGoesPlainly, EachMayBreak}, Reading.{PiecesReadPlainly, ReadAllAgrees, ReadBreaks}, Refusals.{NoAppendThroughLink, NoCallWithoutOwner, NoCopyInPlace, NoFileForFolder, NoMoveWithoutMode, NoOtherMode, NoOtherSync, NoRemovalBeforePut, NoRemovalThroughLink, NoSecondWrite}, Removing.{AppendAgrees, RemoveDirAgrees, RemoveFileAgrees}, Syncing.{SyncDirAgrees, SyncFileAgrees, SyncTempAgrees}, Writing.{CopyAgrees, WriteAgrees}};
+ghost use Rattle.cacache_system_model.specs.{Chains.{RunsMirror, StepsOnDisk}, Fixing.{LossesMirror}, Listing.{ReadDirBreaks, ReadDirGoesPlainly}, Logged.{LogsAgree}, Making.{MakeDirsAgrees}, Moving.{PersistAgrees}, Meeting.{CallsCanGoWell}, Mirrors.{StepsMirror}, OneCall.{CreateAgrees, ExistsAgrees, HardLinkAgrees, ReflinkBreaks, SymlinkAgrees}, Opening.{OpenAgrees, SizeAgrees}, Premises.{EachGoesPlainly, EachMayBreak}, Reading.{PiecesReadPlainly, ReadAllAgrees, ReadBreaks}, Refusals.{NoAppendThroughLink, NoCallWithoutOwner, NoCopyInPlace, NoFileForFolder, NoMoveWithoutMode, NoOtherMode, NoOtherSync, NoRemovalBeforePut, NoRemovalThroughLink, NoSecondWrite}, Removing.{AppendAgrees, RemoveDirAgrees, RemoveFileAgrees}, Syncing.{SyncDirAgrees, SyncFileAgrees, SyncTempAgrees}, Writing.{CopyAgrees, WriteAgrees}};
 
 /// A step that makes or moves something answers and leaves what the disk's table says of it.
 ///
@@ -58,13 +58,6 @@ pub fn sync_laws()
     ensures folder { SyncDirAgrees }
 {}
 
-/// A sync fixes what its calls synced and nothing else, as the losses of power count it.
-pub fn fixing_laws()
-    ensures temp { SyncTempFixes }
-    ensures file { SyncFileFixes }
-    ensures folder { SyncDirFixes }
-{}
-
 /// Each kind of step except writes, at once: if it has what its law asks, and the disk's table does it, it is as
 /// under some luck.
 ///
@@ -81,10 +74,14 @@ pub fn logged_laws()
 {}
 
 /// A disk in memory that has the bytes of open temporary files in their handles does what many steps do on a system.
+///
+/// `losses`: what the syncs among them fix is also the same. So what a loss of power leaves of the system it leaves of the
+/// disk, except for the bytes of temporary files.
 pub fn mirror_laws()
     ensures step { StepsMirror }
     ensures one { StepsOnDisk }
     ensures run { RunsMirror }
+    ensures losses { LossesMirror }
 {}
 
 /// The model can be met: each call can happen as it says.

@@ -11,6 +11,6 @@ pub use bucket::{
     bucket_event_laws, bucket_file_cases, bucket_file_laws, bucket_name_laws, bucket_step_laws,
 };
 pub use laws::{
-    change_laws, covered_laws, fixing_laws, folder_laws, list_laws, logged_laws, look_laws,
-    mirror_laws, model_laws, read_laws, refusal_laws, removal_laws, sync_laws, write_laws,
+    change_laws, covered_laws, folder_laws, list_laws, logged_laws, look_laws, mirror_laws,
+    model_laws, read_laws, refusal_laws, removal_laws, sync_laws, write_laws,
 };
