@@ -33,7 +33,7 @@ where
     R: Threads + Wait + Clock + RandomSource + Files + AllocGlobal + Print + Clone + Drop + Sync,
 {
     match name {
-        "core" => rows_core::all_hold(host, rows),
+        "core" => rows_steps::values::all_hold(host, rows),
         "folder" => rows_folder::all_hold(host, rows),
         "steps" => rows_steps::all_hold(host, rows),
         "world" => rows_world::all_hold(host, rows),

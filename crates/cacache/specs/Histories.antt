@@ -25,8 +25,8 @@ pub use Rattle.cacache_history.specs.Values.{MetDigestsAreSame}
 pub use Rattle.cacache_history.specs.durable.FewCalls.{FewCalls}
 pub use Rattle.cacache_history.specs.durable.Behind.{Behind, NoneAppends, StaysSynced}
 pub use Rattle.cacache_history.specs.durable.Outlasting.{AnsweredPut, DurableInsert, DurablePut, EntriesHaveBehind, FoundLink, HistoriesOutlive, KeepsLink, Outlives, OutlastsWith, PutsOrLinksOutlast}
-pub use Rattle.cacache_systems.specs.Made.{CacheOn, CachesBegin, CachesGoOn, MakesHistory, history_of, now_left}
-pub use Rattle.cacache_systems.specs.Seen.{SeenActsAre, SeenMakeHistories}
+pub use Rattle.cacache_system_model.specs.callers.Made.{CacheOn, CachesBegin, CachesGoOn, MakesHistory, history_of, now_left}
+pub use Rattle.cacache_system_model.specs.callers.Seen.{SeenActsAre, SeenMakeHistories}
 pub use Rattle.cacache_world.specs.Losses.{LeftBy}
 pub use Rattle.cacache_laws.specs.Standing.{IsStanding}
 pub use Rattle.cacache_laws.specs.results.DurableCases.{CanBeWritten, GoElsewhere, InsertsStandInOne, IsLastPut, PutsStandInOne, PutsStandLast, StandsIn, StoresDurably, followed_by}

@@ -20,3 +20,4 @@ pub mod Meeting
 pub mod Logged
 pub mod memory
 pub mod bucket
+pub mod callers

@@ -4,6 +4,7 @@
 
 mod calls;
 mod disk;
+pub mod values;
 
 use cacache_core::keeping::let_go;
 use calls::trial::Calls;

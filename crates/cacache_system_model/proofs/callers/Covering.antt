@@ -1,0 +1,239 @@
+-- Where a machine and a history agree, each step of a call that stores, looks or removes has what its law asks.
+use Rattle.std.proofs.{lemmas.Bool.{false_from_ne_true}, Common.{◌≡◌, ◌⊎◌, inl, inr, ℕ, zero, suc, Bool, false, List, [], ◌∷◌, ◌++◌, Option, None, Some, Ok, refl, sym, ap, subst, ◌∙◌, append-nil}}
+use Rattle.std.specs.Prelude.{Result, Err, IfOk, IfSome}
+use Rattle.cacache_core.specs.{declared.errors.Fault.{Fault}, PathNames.{Names, names_of}}
+use Rattle.cacache_store.specs.declared.store.step.Step.TheVariants as steps
+use Rattle.cacache_store.specs.Plain.{PlainAnswer}
+use Rattle.cacache_disk.specs.{declared.node.Node.{Node, TheVariants.{Folder, File, Link}}, Tree.{Tree, look}, LedTo.{and_then, standing, followed, leads, place, on_link, writable}, Rooted.{StandsIn, AreProper, Rooted}}
+use Rattle.cacache_disk.proofs.{FoundNodes.{and_then_ok, place_ok, standing_ok}, Standing.{way_clear}}
+use Rattle.cacache_system.specs.{Seen.{NumberedTemp, NumberedStep, NumberedAnswer}, CallsOf.{Runs}, AnswersOf.{Hint, first}}
+use Rattle.cacache_system_model.specs.{Machine.{Machine}, Calls.{OccursSomehow, EachCall}, Laws.{step_on, LeavesFresh}, Making.{HasNoLink}, Syncing.{EndsInNoLink}, OneCall.{StillStands}, Premises.{IsStill, Premise, HasPlainLaw}, Mirrors.{hollow, Mirrors, IsNoTemp, SparesOpen}, Chains.{StepMade, WritesTemp, IsMade}, callers.{Acts.{Act, begins, steps as makes, ends, stops, SystemState, EndsFailed, step_of, NeedsFit, MakesStep, MayAct}, Made.{AreTemps}, Storing.{IsNotFor, Stores, IsHeld, HoldsTemp, HintStands, IsExplained, MakesStoringStep, MayStore, StoringMakeHistories}}}
+use Rattle.cacache_system_model.proofs.{Mirroring.{SameShape, shapes, leads_same, writable_same}, callers.Following.{Agree, has_call, make_histories}}
+use Rattle.cacache_value.specs.{Kinds.{PathKind, Content, Bucket, Temporary, Way, Stray, Elsewhere, path_kind, is_used, IsFor}, OpeningTrees.{LieApart}, Placed.{MayStand, Placed, Proper}}
+use Rattle.cacache_value.proofs.{KindsApart.{above}, FoundPaths.{of_names, suits, Reaches, found, missing, bucket_reached, unreachable}}
+use Rattle.cacache_calls.specs.{declared.reply.Reply.{Reply}, Table.{wants}}
+use Rattle.cacache_history.{specs.{Setup.{Setup, home}, History.{Now}}, proofs.{Histories.Holding.{of_caller}, Proper.{sound_proper}}}
+
+-- ---- nodes by their shape
+
+pub hollow_folder : (o : Option Node) → hollow o ≡ Some Folder → o ≡ Some Folder
+hollow_folder None e = let no : None ≡ Some Folder = e in absurd cc
+hollow_folder (Some Folder) e = refl
+hollow_folder (Some (File bytes)) e = let no : Some (File []) ≡ Some Folder = e in absurd cc
+hollow_folder (Some (Link target)) e = let no : Some (Link target) ≡ Some Folder = e in absurd cc
+
+pub hollow_link : (o : Option Node) (target : List ℕ) → hollow o ≡ Some (Link target) → o ≡ Some (Link target)
+hollow_link None target e = let no : None ≡ Some (Link target) = e in absurd cc
+hollow_link (Some Folder) target e = let no : Some Folder ≡ Some (Link target) = e in absurd cc
+hollow_link (Some (File bytes)) target e = let no : Some (File []) ≡ Some (Link target) = e in absurd cc
+hollow_link (Some (Link other)) target e = e
+
+pub hollow_file : (o : Option Node) → hollow o ≡ Some (File []) → (bytes : List ℕ) × (o ≡ Some (File bytes))
+hollow_file None e = let no : None ≡ Some (File []) = e in absurd cc
+hollow_file (Some Folder) e = let no : Some Folder ≡ Some (File []) = e in absurd cc
+hollow_file (Some (File bytes)) e = (bytes, refl)
+hollow_file (Some (Link target)) e = let no : Some (Link target) ≡ Some (File []) = e in absurd cc
+
+hollow_none : (n : Node) → hollow (Some n) ≡ None → ⊥
+hollow_none Folder e = let no : Some Folder ≡ None = e in cc
+hollow_none (File bytes) e = let no : Some (File []) ≡ None = e in cc
+hollow_none (Link target) e = let no : Some (Link target) ≡ None = e in cc
+
+same_stands : (ut ct ud cd : Option Node) → hollow ud ≡ hollow ut → hollow cd ≡ hollow ct → StandsIn ud cd → StandsIn ut ct
+same_stands ut None ud cd u c s = tt
+same_stands ut (Some n) ud None u c s = absurd (hollow_none n (sym c))
+same_stands ut (Some n) ud (Some k) u c s = hollow_folder ut (sym u ∙ ap hollow s)
+
+same_proper : (names : Names) (ct cd : Option Node) → hollow cd ≡ hollow ct → IfSome cd (λ node. AreProper names) → IfSome ct (λ node. AreProper names)
+same_proper names None cd c h = tt
+same_proper names (Some n) None c h = absurd (hollow_none n (sym c))
+same_proper names (Some n) (Some k) c h = h
+
+-- a tree of the same shape is rooted too
+pub rooted_same : (t d : Tree) → SameShape t d → Rooted d → Rooted t
+rooted_same t d s r = record {
+  top = hollow_folder (look t []) (sym (s []) ∙ ap hollow r.top);
+  folders = λ above name. same_stands (look t above) (look t (above ++ name ∷ [])) (look d above) (look d (above ++ name ∷ [])) (s above) (s (above ++ name ∷ [])) (r.folders above name);
+  proper = λ names. same_proper names (look t names) (look d names) (s names) (r.proper names);
+}
+
+-- ---- no links on the ways of a cache
+
+front_way : (h : Option Names) (front rest : Names) → path_kind h (front ++ rest) ≡ Way → path_kind h front ≡ Way
+front_way h front [] is = sym (ap (path_kind h) (append-nil front)) ∙ is
+front_way h front (name ∷ rest) is = above h front rest name (ap is_used is)
+
+no_way_link : (h : Option Names) (o : Option Node) (target : List ℕ) → MayStand h o Way → o ≡ Some (Link target) → ⊥
+no_way_link h o target s e = subst (λ (x : Option Node). MayStand h x Way) e s
+
+module _ (h : Option Names) (t d : Tree) (s : SameShape t d) (placed : Placed h d) where
+  pub has_no_link : (p : List ℕ) → IsFor h Way p → HasNoLink t p
+  has_no_link p is names front rest named split target here =
+      let whole : path_kind h (front ++ rest) ≡ Way = sym (ap (path_kind h) split) ∙ of_names (λ n. path_kind h n ≡ Way) p names is named in
+      no_way_link h (look d front) target (suits h d front Way (front_way h front rest whole) placed) (hollow_link (look d front) target (s front ∙ ap hollow here))
+
+  pub ends_in_no_link : (p : List ℕ) → IsFor h Way p → EndsInNoLink t p
+  ends_in_no_link p is names e target here = has_no_link p is names names [] (place_ok t p names e) (sym (append-nil names)) target here
+
+-- ---- where a path leads
+
+link_out : (h : Option Names) (target : List ℕ) (k : PathKind) → MayStand h (Some (Link target)) k → IsFor h Elsewhere target
+link_out h target Content s = s
+link_out h target Bucket s = absurd s
+link_out h target Temporary s = absurd s
+link_out h target Way s = absurd s
+link_out h target Stray s = absurd s
+link_out h target Elsewhere s = s
+
+-- a path leads to its own names, or out of the cache
+abbrev LedOut : Option Names → Names → Names → Type 0
+LedOut h names new = (names ≡ new) ⊎ (path_kind h new ≡ Elsewhere)
+
+on_kind : (h : Option Names) (here : Option Node) (k : PathKind) (names new : Names) (go : List ℕ → Result Names Fault) → MayStand h here k
+    → ((target : List ℕ) → IsFor h Elsewhere target → go target ≡ Ok new → path_kind h new ≡ Elsewhere)
+    → on_link here names go ≡ Ok new → LedOut h names new
+on_kind h None k names new go s on e = inl cc
+on_kind h (Some Folder) k names new go s on e = inl cc
+on_kind h (Some (File bytes)) k names new go s on e = inl cc
+on_kind h (Some (Link target)) k names new go s on e = inr (on target (link_out h target k s) e)
+
+end_kind : (h : Option Names) (names new : Names) → path_kind h names ≡ Elsewhere → LedOut h names new → path_kind h new ≡ Elsewhere
+end_kind h names new k (inl same) = sym (ap (path_kind h) same) ∙ k
+end_kind h names new k (inr e) = e
+
+followed_kind : (h : Option Names) (t : Tree) (n : ℕ) (names new : Names) → Placed h t → followed n t names ≡ Ok new → LedOut h names new
+unfolding followed
+followed_kind h t zero names new placed e = on_kind h (look t names) (path_kind h names) names new _ (placed names) (λ target out is. absurd cc) e
+followed_kind h t (suc n) names new placed e =
+    on_kind h (look t names) (path_kind h names) names new (λ target. and_then (standing t target) (followed n t)) (placed names)
+    (λ target out is.
+    let f = and_then_ok (standing t target) (followed n t) new is in
+    end_kind h f.0 new (of_names (λ n. path_kind h n ≡ Elsewhere) target f.0 out (standing_ok t target f.0 f.1)) (followed_kind h t n f.0 new placed f.2))
+    e
+
+leads_kind : (h : Option Names) (t : Tree) (p : List ℕ) (new : Names) → Placed h t → leads t p ≡ Ok new → (names : Names) × (names_of p ≡ Ok names) × LedOut h names new
+unfolding leads
+leads_kind h t p new placed e =
+    let f = and_then_ok (place t p) (followed 16 t) new e in
+    (f.0, place_ok t p f.0 f.1, followed_kind h t 16 f.0 new placed f.2)
+
+module _ (h : Option Names) (temps : Names → Bool) (are : AreTemps h temps) where
+  -- a path of another kind is no open temporary file
+  no_temp : (names : Names) (k : PathKind) → path_kind h names ≡ k → (Temporary ≡ k → ⊥) → temps names ≡ false
+  no_temp names k is apart = false_from_ne_true (temps names) (λ e. apart (sym (are names e) ∙ is))
+
+  led_no_temp : (p : List ℕ) (names new : Names) → names_of p ≡ Ok names → IsNotFor h Temporary p → LedOut h names new → temps new ≡ false
+  led_no_temp p names new named other (inl same) =
+      false_from_ne_true (temps new) (λ e. of_names (λ n. path_kind h n ≡ Temporary → ⊥) p names other named (ap (path_kind h) same ∙ are new e))
+  led_no_temp p names new named other (inr out) = no_temp new Elsewhere out (λ e. cc)
+
+  module _ (t d : Tree) (s : SameShape t d) (placed : Placed h d) where
+    spared : (p : List ℕ) (r : Result Names Fault) → leads d p ≡ r → IsNotFor h Temporary p → IsNoTemp temps r
+    spared p (Ok new) e other = let f = leads_kind h d p new placed e in led_no_temp p f.0 new f.1 other f.2
+    spared p (Err fault) e other = tt
+
+    pub reads_spare : (p : List ℕ) → IsNotFor h Temporary p → IsNoTemp temps (leads t p)
+    reads_spare p other = subst (IsNoTemp temps) (leads_same t d s p) (spared p (leads d p) refl other)
+
+    reached_spares : (p : List ℕ) (names : Names) → path_kind h names ≡ Bucket → Reaches names (writable d p) → IsNoTemp temps (writable d p)
+    reached_spares p names k (found e) = subst (IsNoTemp temps) (sym e) (no_temp names Bucket k (λ same. cc))
+    reached_spares p names k (missing e) = subst (IsNoTemp temps) (sym e) tt
+
+    bucket_spares : (p : List ℕ) (r : Result Names Fault) → names_of p ≡ r → IfOk r (λ names. path_kind h names ≡ Bucket) → IsNoTemp temps (writable d p)
+    bucket_spares p (Ok names) named k = reached_spares p names k (bucket_reached h d p names placed named k)
+    bucket_spares p (Err fault) named k = subst (IsNoTemp temps) (sym (unreachable d p fault named)) tt
+
+    pub appends_spare : (p : List ℕ) → IsFor h Bucket p → IsNoTemp temps (writable t p)
+    appends_spare p is = subst (IsNoTemp temps) (writable_same t d s p) (bucket_spares p (names_of p) refl is)
+
+-- ---- steps
+
+-- what a step's law asks, or that it writes a temporary file
+abbrev pub HasAsked : (Names → Bool) → Machine → Hint → NumberedStep → Type 0
+HasAsked temps m hint step = (Premise m hint step × SparesOpen temps m.tree (step_on m step)) ⊎ WritesTemp temps m step
+
+held_there : (temps : Names → Bool) (m : Machine) (d : Tree) (temp : NumberedTemp) → Mirrors temps m.tree d → Rooted m.tree → (held : IsHeld temps m temp)
+    → (bytes : List ℕ) × StillStands m temp held.names bytes
+held_there temps m d temp mirrors rooted held =
+    let f = hollow_file (look m.tree held.names) (mirrors.files held.names held.is_temp) in
+    (f.0, record { named = held.named; way = way_clear m.tree [] held.names (File f.0) rooted f.1; stands = f.1; opened = held.opened })
+
+pub still_there : (temps : Names → Bool) (m : Machine) (d : Tree) (temp : NumberedTemp) → Mirrors temps m.tree d → Rooted m.tree → IsHeld temps m temp → IsStill m temp
+still_there temps m d temp mirrors rooted held = let f = held_there temps m d temp mirrors rooted held in (held.names, f.0, f.1)
+
+module _ (h : Option Names) (temps : Names → Bool) (are : AreTemps h temps) (m : Machine) (d : Tree) (mirrors : Mirrors temps m.tree d) (placed : Placed h d) (in_folders : Rooted d) (hint : Hint) where
+  shape : SameShape m.tree d
+  shape = shapes temps m.tree d mirrors
+
+  rooted : Rooted m.tree
+  rooted = rooted_same m.tree d shape in_folders
+
+  pub has_asked : (step : NumberedStep) → Stores h step → HoldsTemp temps m step → HintStands m.tree hint step → Proper h (step_on m step) → HasAsked temps m hint step
+  has_asked (steps.MakeDirs p) stores holds stands is = inl ((rooted, has_no_link h m.tree d shape placed p is), tt)
+  has_asked (steps.CreateTemp p) stores holds stands is = inl (tt, tt)
+  has_asked (steps.Write t bytes) stores holds stands is =
+      let g = held_there temps m d t mirrors rooted holds in inr (holds.names, g.0, g.1, holds.is_temp)
+  has_asked (steps.Persist t p) stores holds stands is = inl ((still_there temps m d t mirrors rooted holds, stands), tt)
+  has_asked (steps.Append p bytes) stores holds stands is = inl (stands, appends_spare h temps are m.tree d shape placed p is.0)
+  has_asked (steps.ReadAll p) stores holds stands is = inl (tt, reads_spare h temps are m.tree d shape placed p stores)
+  has_asked (steps.Exists p) stores holds stands is = inl (tt, tt)
+  has_asked (steps.RemoveFile p) stores holds stands is = inl (stands, tt)
+  has_asked (steps.SyncTemp t) stores holds stands is = inl (still_there temps m d t mirrors rooted holds, tt)
+  has_asked (steps.SyncFile p) stores holds stands is = inl (tt, reads_spare h temps are m.tree d shape placed p stores)
+  has_asked (steps.SyncDir p) stores holds stands is = inl (ends_in_no_link h m.tree d shape placed p stores, tt)
+  has_asked step stores holds stands is = absurd stores
+
+pub has_plain_law : (h : Option Names) (step : NumberedStep) → Stores h step → HasPlainLaw step
+has_plain_law h (steps.Read f size) stores = absurd stores
+has_plain_law h (steps.Copy p q) stores = absurd stores
+has_plain_law h (steps.Reflink p q) stores = absurd stores
+has_plain_law h (steps.ReadDir p) stores = absurd stores
+has_plain_law h step stores = tt
+
+needs_none : (h : Option Names) (m : Machine) (step : NumberedStep) (a : PlainAnswer) → Stores h step → NeedsFit (step_on m step) a
+needs_none h m (steps.Open p) a stores = absurd stores
+needs_none h m (steps.Read f size) a stores = absurd stores
+needs_none h m (steps.ReadDir p) a stores = absurd stores
+needs_none h m step a stores = tt
+
+pub no_fresh : (h : Option Names) (m : Machine) (step : NumberedStep) (a : NumberedAnswer) (n : Machine) → Stores h step → LeavesFresh m step a n → ⊥
+no_fresh h m (steps.Copy p q) a n stores left = absurd stores
+no_fresh h m step a n stores left = absurd left
+
+made_so : (h : Option Names) (temps : Names → Bool) (made : StepMade) (reply : Option Reply) → Stores h made.step → Runs (first made.hint made.step) made.items made.end
+    → EachCall OccursSomehow made.before made.items made.after → IsExplained made reply → HasAsked temps made.before made.hint made.step → IsMade temps made ⊎ EndsFailed made reply
+made_so h temps made reply stores runs each luck (inr writes) = inl (runs, each, inr (inl writes))
+made_so h temps made reply stores runs each (inl done) (inl (premise, spares)) = inl (runs, each, inl (record { premise = premise; done = done; spares = spares }))
+made_so h temps made reply stores runs each (inr (inl (well, memory))) (inl (premise, spares)) =
+    inl (runs, each, inr (inr (record { premise = premise; plain = has_plain_law h made.step stores; well = well; memory = memory; spares = spares })))
+made_so h temps made reply stores runs each (inr (inr failed)) (inl asked) = inr failed
+
+-- ---- acts
+
+module _ (s : Setup) (apart : LieApart (home s) s.outside) (w : SystemState) (now : Now) (agree : Agree s w now) where
+  makes_step : (caller : ℕ) (made : StepMade) (reply : Option Reply) → MakesStoringStep (home s) w caller made reply → MakesStep w caller made reply
+  makes_step caller made reply m =
+      let c = has_call (now.calls caller) (w.states caller) m.state (agree.states caller) m.stands in
+      let mine = of_caller s c.0 _ c.1 (agree.all.calls caller) in
+      let proper : Proper (home s) (step_of made) = sound_proper s c.0.number apart c.0.state (step_of made) mine.sound (ap wants c.2 ∙ m.wanted) in
+      let mirrors : Mirrors w.temps made.before.tree now.tree = subst (λ (x : Machine). Mirrors w.temps x.tree now.tree) (sym m.here) agree.mirrors in
+      record {
+        state = m.state;
+        stands = m.stands;
+        here = m.here;
+        wanted = m.wanted;
+        is_made = made_so (home s) w.temps made reply m.stores m.runs m.each m.luck
+            (has_asked (home s) w.temps agree.temps made.before now.tree mirrors agree.all.placed agree.all.rooted made.hint made.step m.stores m.holds m.hint proper);
+        clean = no_fresh (home s) made.before made.step _ made.after m.stores;
+        fits = needs_none (home s) made.before made.step _ m.stores;
+        over = m.over;
+      }
+
+  pub may_act : (act : Act) → MayStore s w act → MayAct s w act
+  may_act (begins caller command) may = may
+  may_act (makes caller made reply) may = makes_step caller made reply may
+  may_act (ends caller reply) may = may
+  may_act (stops caller) may = may
+
+pub storing_makes_histories : StoringMakeHistories
+storing_makes_histories = make_histories MayStore (λ s apart w now agree act may. may_act s apart w now agree act may)

@@ -1,0 +1,59 @@
+-- The disk's answers fit their steps.
+use Rattle.std.{proofs.Common.{◌≡◌, ◌≤◌, ℕ, List, Option, None, Some, length, refl, sym, subst, arith}, specs.Prelude.{Result, Ok, Err}}
+use Rattle.cacache_core.specs.{declared.errors.Fault.{Fault}, PathNames.{Names}}
+use Rattle.cacache_core.specs.declared.errors.Fault.TheVariants as fault
+use Rattle.cacache_store.specs.{declared.store.plain.PlainTemp.{PlainTemp}, Plain.{PlainStep, PlainAnswer}, Fits.{Fits}}
+use Rattle.cacache_store.specs.declared.store.step.Step.TheVariants as steps
+use Rattle.cacache_disk.specs.{declared.luck.Luck.{Luck}, Tree.{Tree}, LedTo.{free, known, kept, replaceable, writable, file_at, found, linked, folder, removable, emptied, dirs}, Apply.{apply, plain, unless, taken, grown, is_there}}
+use Rattle.cacache_value.proofs.Shows.{apply_answer}
+use Rattle.cacache_system_model.specs.callers.Acts.{NeedsFit}
+
+taken_below : (most : Option ℕ) (bytes : List ℕ) → taken most bytes ≤ length bytes
+taken_below None bytes = omega arith
+taken_below (Some m) bytes = omega arith
+
+unless_fits : {A : Type 0} (step : PlainStep) (t : Tree) (r : Result A Fault) (go : A → PlainAnswer × Tree) → ((x : A) → Fits step (go x).0) → Fits step (unless r t go).0
+unless_fits step t (Ok x) go h = h x
+unless_fits step t (Err why) go h = tt
+
+grown_fits : (f : PlainTemp) (bytes : List ℕ) (count : ℕ) (old : Option (List ℕ)) → count ≤ length bytes → Fits (steps.Write f bytes) (grown f bytes count old)
+grown_fits f bytes count None below = tt
+grown_fits f bytes count (Some old) below = (below, refl)
+
+there_fits : (p : List ℕ) (r : Result Names Fault) → Fits (steps.Exists p) (is_there r)
+there_fits p (Ok names) = tt
+there_fits p (Err why) = elim why as (λ f. Fits (steps.Exists p) (is_there (Err f))) [ fault.NotFound ↦ tt | fault.NotADirectory ↦ tt | _ ↦ tt ]
+
+plain_fits : (t : Tree) (step : PlainStep) (luck : Luck) → ((most : Option ℕ) → Fits step (plain t step most).0) → Fits step (apply t step luck).0
+plain_fits t step luck h = apply_answer (Fits step) (λ why. tt) t step luck h
+
+apply_fits : (t : Tree) (step : PlainStep) (luck : Luck) → NeedsFit step (apply t step luck).0 → Fits step (apply t step luck).0
+apply_fits t (steps.MakeDirs p) luck n = plain_fits t (steps.MakeDirs p) luck (λ most. unless_fits (steps.MakeDirs p) t (dirs t p) _ (λ x. tt))
+apply_fits t (steps.CreateTemp p) luck n = plain_fits t (steps.CreateTemp p) luck (λ most. unless_fits (steps.CreateTemp p) t (free t p) _ (λ x. refl))
+apply_fits t (steps.Write f bytes) luck n = plain_fits t (steps.Write f bytes) luck (λ most. grown_fits f bytes (taken most bytes) f.bytes (taken_below most bytes))
+apply_fits t (steps.Persist f p) luck n =
+    plain_fits t (steps.Persist f p) luck (λ most.
+    unless_fits (steps.Persist f p) t (known f.bytes) _ (λ x.
+    unless_fits (steps.Persist f p) t (kept t f.path) _ (λ y. unless_fits (steps.Persist f p) t (replaceable t p) _ (λ z. tt))))
+apply_fits t (steps.Append p bytes) luck n = plain_fits t (steps.Append p bytes) luck (λ most. unless_fits (steps.Append p bytes) t (writable t p) _ (λ x. taken_below most bytes))
+apply_fits t (steps.ReadAll p) luck n = plain_fits t (steps.ReadAll p) luck (λ most. unless_fits (steps.ReadAll p) t (file_at t p fault.IsADirectory) _ (λ x. tt))
+apply_fits t (steps.Open p) luck n = n
+apply_fits t (steps.Read f size) luck n = n
+apply_fits t (steps.Exists p) luck n = plain_fits t (steps.Exists p) luck (λ most. there_fits p (found t p))
+apply_fits t (steps.Size p) luck n = plain_fits t (steps.Size p) luck (λ most. unless_fits (steps.Size p) t (file_at t p fault.IsADirectory) _ (λ x. tt))
+apply_fits t (steps.Symlink target p) luck n = plain_fits t (steps.Symlink target p) luck (λ most. unless_fits (steps.Symlink target p) t (free t p) _ (λ x. tt))
+apply_fits t (steps.Copy p q) luck n =
+    plain_fits t (steps.Copy p q) luck (λ most. unless_fits (steps.Copy p q) t (file_at t p fault.InvalidInput) _ (λ x. unless_fits (steps.Copy p q) t (writable t q) _ (λ y. tt)))
+apply_fits t (steps.Reflink p q) luck n =
+    plain_fits t (steps.Reflink p q) luck (λ most. unless_fits (steps.Reflink p q) t (free t q) _ (λ x. unless_fits (steps.Reflink p q) t (file_at t p fault.IsADirectory) _ (λ y. tt)))
+apply_fits t (steps.HardLink p q) luck n =
+    plain_fits t (steps.HardLink p q) luck (λ most. unless_fits (steps.HardLink p q) t (free t q) _ (λ x. unless_fits (steps.HardLink p q) t (linked t p) _ (λ y. tt)))
+apply_fits t (steps.ReadDir p) luck n = n
+apply_fits t (steps.RemoveFile p) luck n = plain_fits t (steps.RemoveFile p) luck (λ most. unless_fits (steps.RemoveFile p) t (removable t p) _ (λ x. tt))
+apply_fits t (steps.RemoveDir p) luck n = plain_fits t (steps.RemoveDir p) luck (λ most. unless_fits (steps.RemoveDir p) t (emptied t p) _ (λ x. tt))
+apply_fits t (steps.SyncTemp f) luck n = plain_fits t (steps.SyncTemp f) luck (λ most. refl)
+apply_fits t (steps.SyncFile p) luck n = plain_fits t (steps.SyncFile p) luck (λ most. unless_fits (steps.SyncFile p) t (file_at t p fault.IsADirectory) _ (λ x. tt))
+apply_fits t (steps.SyncDir p) luck n = plain_fits t (steps.SyncDir p) luck (λ most. unless_fits (steps.SyncDir p) t (folder t p) _ (λ x. tt))
+
+pub fits_so : (t : Tree) (step : PlainStep) (luck : Luck) (a : PlainAnswer) → a ≡ (apply t step luck).0 → NeedsFit step a → Fits step a
+fits_so t step luck a is n = subst (Fits step) (sym is) (apply_fits t step luck (subst (NeedsFit step) is n))

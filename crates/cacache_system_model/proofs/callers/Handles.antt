@@ -1,0 +1,217 @@
+-- A caller's temporary file is open, and holds on the machine what the call's state says.
+use Rattle.std.{proofs.Common.{◌≡◌, ◌&&◌, not, ℕ, Bool, true, false, List, [], Option, None, Some, Ok, option_map, refl, sym, ap, subst, ◌∙◌}, specs.Prelude.{Result, Err}}
+use Rattle.cacache_core.specs.{Contexts.{fault_of}, declared.errors.Fault.{Fault}, PathNames.{Names, names_of}}
+use Rattle.cacache_store.specs.{declared.store.plain.PlainTemp.{PlainTemp}, Plain.{PlainStep}, Fits.{Fits}}
+use Rattle.cacache_store.specs.declared.store.step.Step.TheVariants as steps
+use Rattle.cacache_store.specs.declared.store.answer.Answer.TheVariants as answers
+use Rattle.cacache_disk.specs.{declared.{luck.Luck.{Luck}, node.Node.{Node, TheVariants.{File}}}, Tree.{Tree, look, put, bytes_of}, LedTo.{free}, Apply.{apply, unless, made_temp}, Rooted.{Rooted}}
+use Rattle.cacache_disk.proofs.FoundNodes.{free_ok}
+use Rattle.cacache_value.proofs.Shows.{apply_answer}
+use Rattle.cacache_system.specs.{declared.call.CallResult.{CallResult}, Seen.{NumberedTemp, NumberedStep, NumberedAnswer}, AnswersOf.{answer_of, refuses_memory}}
+use Rattle.cacache_system.specs.declared.call.CallResult.TheVariants as says
+use Rattle.cacache_system_model.specs.{Machine.{OpenFile, Machine}, Laws.{bytes_in, temp_on, step_on, answer_on}, Mirrors.{Mirrors, temps_after}, callers.{Storing.{Stores, IsHeld, HoldsTemp}, Opened.{IsOpenAt, KeepsOpen, StillStores}, Seen.{step_seen, handed, IsOnHeld}}}
+use Rattle.cacache_system_model.proofs.callers.{WithoutBytes.{step_without}, TreeKept.{IsStoring}, Failing.{answer_if}, Covering.{still_there}, Files.{file_of, file_given}, PathsOf.{StepApart}, OpenTemps.{with_new_here}}
+
+-- ---- handles
+
+-- a caller's temporary file is open, and holds on the machine what is said of it
+pub record Handle (temps : Names → Bool) (m : Machine) (o : Option NumberedTemp) (file : PlainTemp) : Type 0 where
+  pub temp : NumberedTemp
+  pub is : o ≡ Some temp
+  pub held : IsHeld temps m temp
+  pub same : temp_on m temp ≡ file
+
+abbrev at_names_of : OpenFile → Names
+at_names_of file = file.names
+
+bytes_same : (m n : Machine) (o p : Option OpenFile) (q : Names) → option_map at_names_of o ≡ Some q → option_map at_names_of p ≡ Some q → look n.tree q ≡ look m.tree q
+    → option_map (bytes_in n) p ≡ option_map (bytes_in m) o
+bytes_same m n None p q e f same = let no : None ≡ Some q = e in absurd cc
+bytes_same m n (Some a) None q e f same = let no : None ≡ Some q = f in absurd cc
+bytes_same m n (Some a) (Some b) q e f same =
+    let one : a.names ≡ q = (let is : Some a.names ≡ Some q = e in cc) in
+    let two : b.names ≡ q = (let is : Some b.names ≡ Some q = f in cc) in
+    ap (λ (x : Names). Some (bytes_of (look n.tree x))) two ∙ ap (λ (x : Option Node). Some (bytes_of x)) same ∙ ap (λ (x : Names). Some (bytes_of (look m.tree x))) (sym one)
+
+abbrev with_bytes : List ℕ → Option (List ℕ) → PlainTemp
+with_bytes path bytes = record { path = path; bytes = bytes }
+
+-- it still does, where its file stayed as it was
+pub handle_kept : (temps later : Names → Bool) (m n : Machine) (o new : Option NumberedTemp) (file : PlainTemp) → KeepsOpen m n → new ≡ o → (g : Handle temps m o file)
+    → later g.held.names ≡ true → look n.tree g.held.names ≡ look m.tree g.held.names → Handle later n new file
+handle_kept temps later m n o new file keeps same g is_temp stays =
+    let opened = keeps g.temp.number g.held.names g.held.opened in
+    record {
+      temp = g.temp;
+      is = same ∙ g.is;
+      held = record { names = g.held.names; named = g.held.named; is_temp = is_temp; opened = opened };
+      same = ap (with_bytes g.temp.path)
+          (bytes_same m n (m.files g.temp.number) (n.files g.temp.number) g.held.names g.held.opened opened stays)
+          ∙ g.same;
+    }
+
+same_temp : (o : Option NumberedTemp) (a b : NumberedTemp) → o ≡ Some a → o ≡ Some b → a ≡ b
+same_temp o a b e f = let is : Some a ≡ Some b = sym e ∙ f in cc
+
+-- ---- the next step, with its handle
+
+module _ (temps : Names → Bool) (m : Machine) (o : Option NumberedTemp) where
+  on_handle : (f : PlainTemp) (t : NumberedTemp) → Handle temps m o f → o ≡ Some t → f ≡ temp_on m t
+  on_handle f t g is = sym g.same ∙ ap (temp_on m) (same_temp o g.temp t g.is is)
+
+  is_held : (f : PlainTemp) (t : NumberedTemp) → Handle temps m o f → o ≡ Some t → IsHeld temps m t
+  is_held f t g is = subst (IsHeld temps m) (same_temp o g.temp t g.is is) g.held
+
+  -- a wanted step that is the store's, but for the bytes that handles hold, is the store's with its handles as they are here
+  pub next_on : (plain : PlainStep) (step : NumberedStep) → step_without plain ≡ step_seen step → IsStoring plain → IsOnHeld o step → ((f : PlainTemp) → file_of plain ≡ Some f → Handle temps m o f)
+      → plain ≡ step_on m step
+  next_on (steps.MakeDirs p) (steps.MakeDirs q) e is held h = e
+  next_on (steps.CreateTemp p) (steps.CreateTemp q) e is held h = e
+  next_on (steps.Write f bytes) (steps.Write t more) e is held h =
+      let same : bytes ≡ more = cc in
+      ap (λ (x : PlainTemp). steps.Write x bytes) (on_handle f t (h f refl) held) ∙ ap (λ (x : List ℕ). steps.Write (temp_on m t) x) same
+  next_on (steps.Persist f p) (steps.Persist t q) e is held h =
+      let same : p ≡ q = cc in
+      ap (λ (x : PlainTemp). steps.Persist x p) (on_handle f t (h f refl) held) ∙ ap (λ (x : List ℕ). steps.Persist (temp_on m t) x) same
+  next_on (steps.Append p bytes) (steps.Append q more) e is held h = e
+  next_on (steps.ReadAll p) (steps.ReadAll q) e is held h = e
+  next_on (steps.Exists p) (steps.Exists q) e is held h = e
+  next_on (steps.RemoveFile p) (steps.RemoveFile q) e is held h = e
+  next_on (steps.SyncTemp f) (steps.SyncTemp t) e is held h = ap (λ (x : PlainTemp). steps.SyncTemp x) (on_handle f t (h f refl) held)
+  next_on (steps.SyncFile p) (steps.SyncFile q) e is held h = e
+  next_on (steps.SyncDir p) (steps.SyncDir q) e is held h = e
+  next_on (steps.Open p) step e is held h = absurd is
+  next_on (steps.Read f size) step e is held h = absurd is
+  next_on (steps.Size p) step e is held h = absurd is
+  next_on (steps.Symlink target p) step e is held h = absurd is
+  next_on (steps.Copy p q) step e is held h = absurd is
+  next_on (steps.Reflink p q) step e is held h = absurd is
+  next_on (steps.HardLink p q) step e is held h = absurd is
+  next_on (steps.ReadDir p) step e is held h = absurd is
+  next_on (steps.RemoveDir p) step e is held h = absurd is
+  next_on plain step e is held h = absurd cc
+
+  pub holds_on : (step : NumberedStep) → IsOnHeld o step → ((f : PlainTemp) → file_of (step_on m step) ≡ Some f → Handle temps m o f) → HoldsTemp temps m step
+  holds_on (steps.Write t bytes) held h = is_held (temp_on m t) t (h (temp_on m t) refl) held
+  holds_on (steps.Persist t p) held h = is_held (temp_on m t) t (h (temp_on m t) refl) held
+  holds_on (steps.SyncTemp t) held h = is_held (temp_on m t) t (h (temp_on m t) refl) held
+  holds_on step held h = tt
+
+-- it is of one of the kinds that storing, looking and removing calls make
+pub stores_on : (h : Option Names) (m : Machine) (step : NumberedStep) → IsStoring (step_on m step) → StepApart h (step_on m step) → Stores h step
+stores_on h m (steps.MakeDirs p) is apart = tt
+stores_on h m (steps.CreateTemp p) is apart = tt
+stores_on h m (steps.Write t more) is apart = tt
+stores_on h m (steps.Persist t p) is apart = tt
+stores_on h m (steps.Append p bytes) is apart = tt
+stores_on h m (steps.ReadAll p) is apart = apart
+stores_on h m (steps.Exists p) is apart = tt
+stores_on h m (steps.RemoveFile p) is apart = apart
+stores_on h m (steps.SyncTemp t) is apart = tt
+stores_on h m (steps.SyncFile p) is apart = apart
+stores_on h m (steps.SyncDir p) is apart = apart
+stores_on h m step is apart = absurd is
+
+-- ---- the handle that an answer hands out
+
+-- a failure hands out none
+never_wrote : (step : NumberedStep) (fault : Fault) (b : Bool) (t : NumberedTemp) (n : ℕ) → answer_if step fault b ≡ answers.Wrote t n → ⊥
+never_wrote step fault true t n e = cc
+never_wrote step fault false t n e = cc
+
+never_synced : (step : NumberedStep) (fault : Fault) (b : Bool) (t : NumberedTemp) → answer_if step fault b ≡ answers.Synced t → ⊥
+never_synced step fault true t e = cc
+never_synced step fault false t e = cc
+
+pub wrote_same : (t u : NumberedTemp) (bytes : List ℕ) (end : CallResult) (n : ℕ) → answer_of (steps.Write t bytes) end ≡ answers.Wrote u n → t ≡ u
+wrote_same t u bytes says.Done n e = absurd cc
+wrote_same t u bytes (says.Opened k) n e = absurd cc
+wrote_same t u bytes (says.Count k) n e = cc
+wrote_same t u bytes (says.Bytes b) n e = absurd cc
+wrote_same t u bytes (says.Info i) n e = absurd cc
+wrote_same t u bytes (says.Names l) n e = absurd cc
+wrote_same t u bytes (says.Failed why) n e = absurd (never_wrote (steps.Write t bytes) (fault_of why) (refuses_memory why && not false) u n e)
+
+pub synced_same : (t u : NumberedTemp) (end : CallResult) → answer_of (steps.SyncTemp t) end ≡ answers.Synced u → t ≡ u
+synced_same t u says.Done e = cc
+synced_same t u (says.Opened k) e = absurd cc
+synced_same t u (says.Count k) e = absurd cc
+synced_same t u (says.Bytes b) e = absurd cc
+synced_same t u (says.Info i) e = absurd cc
+synced_same t u (says.Names l) e = absurd cc
+synced_same t u (says.Failed why) e = absurd (never_synced (steps.SyncTemp t) (fault_of why) (refuses_memory why && not true) u e)
+
+temp_there : (p : List ℕ) (t : Tree) (r : Result Names Fault) (f : PlainTemp) → ((names : Names) → r ≡ Ok names → names_of p ≡ Ok names)
+    → (new : Names → Tree) → (unless r t (λ names. (answers.Temp (made_temp p), new names))).0 ≡ answers.Temp f → (names : Names) × (names_of p ≡ Ok names)
+temp_there p t (Ok names) f named new e = (names, named names refl)
+temp_there p t (Err fault) f named new e = absurd cc
+
+temp_named : (t : Tree) (p : List ℕ) (luck : Luck) (f : PlainTemp) → (apply t (steps.CreateTemp p) luck).0 ≡ answers.Temp f → (names : Names) × (names_of p ≡ Ok names)
+temp_named t p luck f =
+    apply_answer (λ a. a ≡ answers.Temp f → (names : Names) × (names_of p ≡ Ok names)) (λ fault e. absurd cc) t (steps.CreateTemp p) luck
+    (λ most. temp_there p t (free t p) f (λ names is. (free_ok t p names is).0) (λ names. put t names (File [])))
+
+stays_held : (temps : Names → Bool) (m n : Machine) (u : NumberedTemp) → KeepsOpen m n → IsHeld temps m u → IsHeld temps n u
+stays_held temps m n u keeps g = record { names = g.names; named = g.named; is_temp = g.is_temp; opened = keeps u.number g.names g.opened }
+
+-- the handle behind a step, where the answer hands one out
+pub handed_handle : (temps : Names → Bool) (m n : Machine) (step : NumberedStep) (answer : NumberedAnswer) (o : Option NumberedTemp) (file : PlainTemp) (t : Tree) (luck : Luck) → KeepsOpen m n
+    → ((p : List ℕ) (u : NumberedTemp) (names : Names) → step ≡ steps.CreateTemp p → answer ≡ answers.Temp u → names_of u.path ≡ Ok names → IsOpenAt n u.number names)
+    → HoldsTemp temps m step
+    → ((v u : NumberedTemp) (bytes : List ℕ) (k : ℕ) → step ≡ steps.Write v bytes → answer ≡ answers.Wrote u k → v ≡ u)
+    → ((v u : NumberedTemp) → step ≡ steps.SyncTemp v → answer ≡ answers.Synced u → v ≡ u)
+    → Fits (step_on m step) (answer_on n answer) → answer_on n answer ≡ (apply t (step_on m step) luck).0 → file_given (answer_on n answer) ≡ Some file
+    → Handle (temps_after temps (step_on m step) (answer_on n answer)) n (handed answer o) file
+handed_handle temps m n (steps.CreateTemp p) (answers.Temp u) o file t luck keeps opens holds wrote synced fits answered e =
+    let g = temp_named t p luck (temp_on n u) (sym answered) in
+    let named : names_of u.path ≡ Ok g.0 = ap names_of fits ∙ g.1 in
+    let same : temp_on n u ≡ file = cc in
+    record { temp = u; is = refl; held = record { names = g.0; named = named; is_temp = with_new_here temps (names_of p) g.0 g.1; opened = opens p u g.0 refl refl named }; same = same }
+handed_handle temps m n (steps.Write v bytes) (answers.Wrote u k) o file t luck keeps opens holds wrote synced fits answered e =
+    let same : temp_on n u ≡ file = cc in
+    record { temp = u; is = refl; held = stays_held temps m n u keeps (subst (IsHeld temps m) (wrote v u bytes k refl refl) holds); same = same }
+handed_handle temps m n (steps.SyncTemp v) (answers.Synced u) o file t luck keeps opens holds wrote synced fits answered e =
+    let same : temp_on n u ≡ file = cc in
+    record { temp = u; is = refl; held = stays_held temps m n u keeps (subst (IsHeld temps m) (synced v u refl refl) holds); same = same }
+handed_handle temps m n step (answers.Temp u) o file t luck keeps opens holds wrote synced fits answered e = absurd fits
+handed_handle temps m n step (answers.Wrote u k) o file t luck keeps opens holds wrote synced fits answered e = absurd fits
+handed_handle temps m n step (answers.Synced u) o file t luck keeps opens holds wrote synced fits answered e = absurd fits
+handed_handle temps m n step answer o file t luck keeps opens holds wrote synced fits answered e = let no : None ≡ Some file = e in absurd cc
+
+pub handed_none : (n : Machine) (answer : NumberedAnswer) (o : Option NumberedTemp) → file_given (answer_on n answer) ≡ None → handed answer o ≡ o
+handed_none n (answers.Temp u) o e = let no : Some (temp_on n u) ≡ None = e in absurd cc
+handed_none n (answers.Wrote u k) o e = let no : Some (temp_on n u) ≡ None = e in absurd cc
+handed_none n (answers.Synced u) o e = let no : Some (temp_on n u) ≡ None = e in absurd cc
+handed_none n answer o e = refl
+
+abbrev made_at : ℕ → List ℕ → NumberedTemp
+made_at number path = record { number = number; path = path }
+
+never_temp : (step : NumberedStep) (fault : Fault) (b : Bool) (u : NumberedTemp) → answer_if step fault b ≡ answers.Temp u → ⊥
+never_temp step fault true u e = cc
+never_temp step fault false u e = cc
+
+pub temp_answer : (p : List ℕ) (u : NumberedTemp) (end : CallResult) → answer_of (steps.CreateTemp p) end ≡ answers.Temp u → (end ≡ says.Opened u.number) × (u.path ≡ p)
+temp_answer p u says.Done e = absurd cc
+temp_answer p u (says.Opened k) e =
+    let same : made_at k p ≡ u = cc in (ap (λ (x : NumberedTemp). says.Opened x.number) same, ap (λ (x : NumberedTemp). x.path) (sym same))
+temp_answer p u (says.Count k) e = absurd cc
+temp_answer p u (says.Bytes b) e = absurd cc
+temp_answer p u (says.Info i) e = absurd cc
+temp_answer p u (says.Names l) e = absurd cc
+temp_answer p u (says.Failed why) e = absurd (never_temp (steps.CreateTemp p) (fault_of why) (refuses_memory why && not true) u e)
+
+-- a step's temporary file still stands
+pub still_stores : (h : Option Names) (temps : Names → Bool) (m : Machine) (d : Tree) → Mirrors temps m.tree d → Rooted m.tree → (step : NumberedStep) → Stores h step → HoldsTemp temps m step → StillStores m step
+still_stores h temps m d mirrors rooted (steps.MakeDirs p) stores holds = tt
+still_stores h temps m d mirrors rooted (steps.CreateTemp p) stores holds = tt
+still_stores h temps m d mirrors rooted (steps.Write t bytes) stores holds = still_there temps m d t mirrors rooted holds
+still_stores h temps m d mirrors rooted (steps.Persist t p) stores holds = still_there temps m d t mirrors rooted holds
+still_stores h temps m d mirrors rooted (steps.Append p bytes) stores holds = tt
+still_stores h temps m d mirrors rooted (steps.ReadAll p) stores holds = tt
+still_stores h temps m d mirrors rooted (steps.Exists p) stores holds = tt
+still_stores h temps m d mirrors rooted (steps.RemoveFile p) stores holds = tt
+still_stores h temps m d mirrors rooted (steps.SyncTemp t) stores holds = still_there temps m d t mirrors rooted holds
+still_stores h temps m d mirrors rooted (steps.SyncFile p) stores holds = tt
+still_stores h temps m d mirrors rooted (steps.SyncDir p) stores holds = tt
+still_stores h temps m d mirrors rooted step stores holds = absurd stores

@@ -1,0 +1,300 @@
+-- What a step leaves of the handles and paths of all callers.
+use Rattle.std.proofs.{Common.{◌≡◌, ◌⊎◌, inl, inr, ◌≤◌, ◌<◌, ◌^◌, ◌==◌, ℕ, Bool, true, false, cond, List, Option, None, Some, Ok, option_map, refl, sym, ap, subst, ◌∙◌, arith}, lemmas.Bool.{eqb-true, eqb-false}}
+use Rattle.std.specs.Prelude.{Err}
+use Rattle.cacache_core.specs.PathNames.{Names, names_of}
+use Rattle.cacache_store.specs.{declared.store.plain.PlainTemp.{PlainTemp}, Plain.{PlainStep, PlainAnswer}, Fits.{Fits}}
+use Rattle.cacache_store.specs.declared.store.step.Step.TheVariants as steps
+use Rattle.cacache_store.specs.declared.store.answer.Answer.TheVariants as answers
+use Rattle.cacache_disk.specs.{declared.luck.Luck.{Luck}, Apply.{apply}}
+use Rattle.cacache_value.specs.{Kinds.{Temporary, path_kind}, OpeningTrees.{LieApart}, Placed.{Placed, Proper}}
+use Rattle.cacache_calls.specs.{declared.{reply.Reply.{Reply}, carried.Lookup.{Lookup}}, Answers.{bytes_in as bytes_answered}, Looking.{found_in}, State.{State, doing, writing, syncing, persisting, looking, Site}, StepPaths.{temp_path, bucket_path}, Sound.{IsTemp, Allowed, Sound}, Table.{wants, after}}
+use Rattle.cacache_calls.proofs.Sound.{steps_allowed}
+use Rattle.cacache_calls.specs.declared.answers.Refusal.TheVariants as refusals
+use Rattle.cacache_history.specs.{declared.record.Record.{Record, TheVariants.{Moved}}, Setup.{Setup, call_site, home, may_export, is_outside}, History.{Call, Now, now_after, MayMove, MayCome}}
+use Rattle.cacache_history.proofs.{Histories.Holding.{CallHolds, of_caller}, Entries.Spelled.{HasIntegrity}, Proper.{sound_proper}, durable.CallNumbers.{Numbered, next_numbered, number_below, numbers_apart, temps_apart}}
+use Rattle.cacache_system.specs.{declared.call.CallResult.{CallResult}, Seen.{NumberedTemp, NumberedStep, NumberedAnswer}, CallsOf.{Runs}, AnswersOf.{first, answer_of}}
+use Rattle.cacache_system_model.specs.{Machine.{Machine}, Laws.{answer_on}, Mirrors.{Mirrors}, Chains.{StepMade, temps_left}, callers.{Acts.{IsRecordOf, steps as makes, SystemState, step_of, answer_in, set_state, unless_ended}, Storing.{Stores, HoldsTemp, MakesStoringStep}, Opened.{IsOpenAt, KeepsOpen}, Seen.{handed, held_after}}}
+use Rattle.cacache_system_model.proofs.{Mirroring.{shapes}, callers.{NextActs.{NumberedState, numbered_after, MakesNextStep}, WithoutBytes.{is_storing}, Failing.{failed_none, failed_bytes}, OtherTemps.{explained, placed_same, asked_stays, storing_on}, Covering.{rooted_same, has_asked}, Following.{Agree, has_call, Follows}, Files.{file_in, file_of, file_given, IsState, IsErrand, Follows as StateFollows, follows_after, wants_file, errand_steps}, StayingOpen.{runs_keep_open, made_open}, PathsOf.{HasPaths, StepApart, wants_apart, paths_after, bucket_has}, TreeKept.{Misses, is_elsewhere}, Handles.{Handle, next_on, holds_on, stores_on, handle_kept, wrote_same, synced_same, handed_handle, handed_none, temp_answer, still_stores}, OpenTemps.{temps_spare}}}
+
+-- ---- whose a temporary file is
+
+-- a sound state's temporary file is its call's own
+sound_file : (site : Site) (may outside : List ℕ → Bool) (s : State) (file : PlainTemp) → Sound site may outside s → file_in s ≡ Some file → IsTemp site file
+sound_file site may outside (doing errand s) file sound e = sound_file site may outside s file sound.1 e
+sound_file site may outside (writing c f rest) file sound e = let same : f ≡ file = cc in subst (IsTemp site) same sound.1
+sound_file site may outside (syncing c f) file sound e = let same : f ≡ file = cc in subst (IsTemp site) same sound.1
+sound_file site may outside (persisting c f) file sound e = let same : f ≡ file = cc in subst (IsTemp site) same sound.1
+sound_file site may outside s file sound e = let no : None ≡ Some file = e in absurd cc
+
+-- a step of another call isn't about it
+others_miss : (s : Setup) (a b : ℕ) (file : List ℕ) (q : Names) → a < 2 ^ 64 → b < 2 ^ 64 → (a ≡ b → ⊥) → file ≡ temp_path s.cache a → names_of file ≡ Ok q → path_kind (home s) q ≡ Temporary
+    → (step : PlainStep) → Allowed (call_site s b) (may_export s) (is_outside s) step → StepApart (home s) step → Misses q step
+others_miss s a b file q few less differ own named at (steps.CreateTemp p) allowed other = temps_apart s.cache a b file p q few less differ own allowed named
+others_miss s a b file q few less differ own named at (steps.Write f bytes) allowed other = temps_apart s.cache a b file f.path q few less differ own allowed named
+others_miss s a b file q few less differ own named at (steps.Persist f p) allowed other = temps_apart s.cache a b file f.path q few less differ own allowed.0 named
+others_miss s a b file q few less differ own named at (steps.RemoveFile p) allowed other = is_elsewhere (home s) q (names_of p) at other
+others_miss s a b file q few less differ own named at step allowed other = tt
+
+-- ---- many acts
+
+-- what is known of a caller's call
+abbrev pub HasHandle : (Names → Bool) → Machine → Option NumberedTemp → Option State → Type 0
+HasHandle temps m o x = (state : State) → x ≡ Some state → IsState state × ((file : PlainTemp) → file_in state ≡ Some file → Handle temps m o file)
+
+-- and of the paths that it reads and syncs
+abbrev pub PathsAt : Option Names → Option State → Type 0
+PathsAt h x = (state : State) → x ≡ Some state → HasPaths h state
+
+-- the callers of a store of real folders and a history agree
+pub record Holds (s : Setup) (f : NumberedState) (now : Now) : Type 0 where
+  pub agree : Agree s f.system now
+  pub numbered : Numbered now
+  pub few : now.begun ≤ 2 ^ 64
+  pub handles : (k : ℕ) → HasHandle f.system.temps f.system.machine (f.held k) (f.system.states k)
+  pub paths : (k : ℕ) → PathsAt (home s) (f.system.states k)
+
+ended_some : (reply : Option Reply) (x : Option State) (old new : State) (a : PlainAnswer) → x ≡ Some old → unless_ended reply (option_map (λ (state : State). after state a) x) ≡ Some new → after old a ≡ new
+ended_some (Some r) x old new a is e = let no : None ≡ Some new = e in absurd cc
+ended_some None None old new a is e = let no : None ≡ Some old = is in absurd cc
+ended_some None (Some state) old new a is e =
+    let same : state ≡ old = cc in
+    let there : after state a ≡ new = (let both : Some (after state a) ≡ Some new = e in cc) in
+    ap (λ (x : State). after x a) (sym same) ∙ there
+
+at_caller : (P : Option NumberedTemp → Option State → Type 0) (k caller : ℕ) (ox oy : Option NumberedTemp) (x y : Option State) → (k ≡ caller → P ox x) → ((k ≡ caller → ⊥) → P oy y)
+    → P (cond (k == caller) ox oy) (cond (k == caller) x y)
+at_caller P k caller ox oy x y here there = by (k == caller) refl
+  where
+    by : (b : Bool) → (k == caller) ≡ b → P (cond b ox oy) (cond b x y)
+    by true e = here (eqb-true k caller e)
+    by false e = there (eqb-false k caller e)
+
+pub at_state : (P : Option State → Type 0) (k caller : ℕ) (x y : Option State) → (k ≡ caller → P x) → ((k ≡ caller → ⊥) → P y) → P (cond (k == caller) x y)
+at_state P k caller x y here there = by (k == caller) refl
+  where
+    by : (b : Bool) → (k == caller) ≡ b → P (cond b x y)
+    by true e = here (eqb-true k caller e)
+    by false e = there (eqb-false k caller e)
+
+pub no_paths : (h : Option Names) → PathsAt h None
+no_paths h state e = let no : None ≡ Some state = e in absurd cc
+
+pub no_state : (temps : Names → Bool) (m : Machine) (o : Option NumberedTemp) → HasHandle temps m o None
+no_state temps m o state e = let no : None ≡ Some state = e in absurd cc
+
+module _ (s : Setup) (apart : LieApart (home s) s.outside) (f : NumberedState) (now : Now) (all : Holds s f now) where
+  abbrev w : SystemState
+  w = f.system
+
+  module _ (caller : ℕ) (made : StepMade) (reply : Option Reply) (m : MakesNextStep f caller made reply) where
+    handles_of : HasHandle w.temps made.before (f.held caller) (w.states caller)
+    handles_of = subst (λ (x : Machine). HasHandle w.temps x (f.held caller) (w.states caller)) (sym m.here) (all.handles caller)
+
+    of_step : (file : PlainTemp) → file_of m.plain ≡ Some file → Handle w.temps made.before (f.held caller) file
+    of_step file e = let g = handles_of m.state m.stands in g.1 file (wants_file m.state m.plain file g.0 m.wanted e)
+
+    own : (call : Call) × (now.calls caller ≡ Some call) × (call.state ≡ m.state)
+    own = has_call (now.calls caller) (w.states caller) m.state (all.agree.states caller) m.stands
+
+    mine : CallHolds s own.0
+    mine = of_caller s own.0 _ own.1 (all.agree.all.calls caller)
+
+    sound : Sound (call_site s own.0.number) (may_export s) (is_outside s) m.state
+    sound = subst (Sound (call_site s own.0.number) (may_export s) (is_outside s)) own.2 mine.sound
+
+    is_state : IsState m.state
+    is_state = (all.handles caller m.state m.stands).0
+
+    has_paths : HasPaths (home s) m.state
+    has_paths = all.paths caller m.state m.stands
+
+    apart_of : (step : PlainStep) → wants m.state ≡ Some step → StepApart (home s) step
+    apart_of step wanted = wants_apart (call_site s own.0.number) (may_export s) (is_outside s) m.state step is_state sound has_paths wanted
+
+    asks_same : m.plain ≡ step_of made
+    asks_same = next_on w.temps made.before (f.held caller) m.plain made.step m.same (is_storing m.state m.plain is_state m.wanted) m.held of_step
+
+    wants_asked : wants m.state ≡ Some (step_of made)
+    wants_asked = m.wanted ∙ ap Some asks_same
+
+    holds : HoldsTemp w.temps made.before made.step
+    holds = holds_on w.temps made.before (f.held caller) made.step m.held (λ file e. of_step file (ap file_of asks_same ∙ e))
+
+    stores : Stores (home s) made.step
+    stores = stores_on (home s) made.before made.step (is_storing m.state (step_of made) is_state wants_asked) (apart_of (step_of made) wants_asked)
+
+    pub makes_storing_step : MakesStoringStep (home s) w caller made reply
+    makes_storing_step = record {
+      state = m.state;
+      stands = m.stands;
+      here = m.here;
+      wanted = wants_asked;
+      stores = stores;
+      holds = holds;
+      runs = m.runs;
+      each = m.each;
+      luck = m.luck;
+      hint = m.hint;
+      over = m.over;
+    }
+
+    wanted_own : wants own.0.state ≡ Some (step_of made)
+    wanted_own = ap wants own.2 ∙ wants_asked
+
+    proper : Proper (home s) (step_of made)
+    proper = sound_proper s own.0.number apart own.0.state (step_of made) mine.sound wanted_own
+
+    allowed : Allowed (call_site s own.0.number) (may_export s) (is_outside s) (step_of made)
+    allowed = steps_allowed (call_site s own.0.number) (may_export s) (is_outside s) own.0.state (step_of made) mine.sound wanted_own
+
+    mirrors : Mirrors w.temps made.before.tree now.tree
+    mirrors = subst (λ (x : Machine). Mirrors w.temps x.tree now.tree) (sym m.here) all.agree.mirrors
+
+    placed : Placed (home s) made.before.tree
+    placed = placed_same (home s) made.before.tree now.tree (shapes w.temps made.before.tree now.tree mirrors) all.agree.all.placed
+
+    keeps : KeepsOpen made.before made.after
+    keeps =
+        runs_keep_open made.before made.after made.hint made.step made.items made.end
+        (still_stores (home s) w.temps made.before now.tree mirrors (rooted_same made.before.tree now.tree (shapes w.temps made.before.tree now.tree mirrors) all.agree.all.rooted) made.step stores holds)
+        m.runs m.each
+
+    opens : (p : List ℕ) (u : NumberedTemp) (names : Names) → made.step ≡ steps.CreateTemp p → answer_of made.step made.end ≡ answers.Temp u → names_of u.path ≡ Ok names → IsOpenAt made.after u.number names
+    opens p u names step_is answer_is named =
+        let g = temp_answer p u made.end (ap (λ (x : NumberedStep). answer_of x made.end) (sym step_is) ∙ answer_is) in
+        made_open made.before made.after made.hint p made.items u.number names (ap names_of (sym g.1) ∙ named)
+        (subst (λ (e : CallResult). Runs (first made.hint (steps.CreateTemp p)) made.items e) g.0 (subst (λ (x : NumberedStep). Runs (first made.hint x) made.items made.end) step_is m.runs)) m.each
+
+    -- a handle that the step isn't about stays as it was
+    handle_stays : (o new : Option NumberedTemp) (file : PlainTemp) → new ≡ o → (g : Handle w.temps made.before o file) → Misses g.held.names (step_of made)
+        → Handle (temps_left w.temps made) made.after new file
+    handle_stays o new file same g misses =
+        let at = all.agree.temps g.held.names g.held.is_temp in
+        handle_kept w.temps (temps_left w.temps made) made.before made.after o new file keeps same g
+        (temps_spare (home s) w.temps (step_of made) (answer_in made) g.held.names at (storing_on (home s) made.before made.step stores) proper misses g.held.is_temp)
+        (asked_stays (home s) w.temps made.before made.after made.hint placed g.held.names at made.step made.items made.end stores proper misses m.runs m.each (explained made reply m.luck)
+        (has_asked (home s) w.temps all.agree.temps made.before now.tree mirrors all.agree.all.placed all.agree.all.rooted made.hint made.step stores holds m.hint proper))
+
+    -- the call itself
+    handed_own : (luck : Luck) → Fits (step_of made) (answer_in made) → answer_in made ≡ (apply now.tree (step_of made) luck).0 → (file : PlainTemp) → file_given (answer_in made) ≡ Some file
+        → Handle (temps_left w.temps made) made.after (handed (answer_of made.step made.end) (f.held caller)) file
+    handed_own luck fits answered file e =
+        handed_handle w.temps made.before made.after made.step (answer_of made.step made.end) (f.held caller) file now.tree luck keeps opens holds
+        (λ v u bytes k step_is answer_is. wrote_same v u bytes made.end k (ap (λ (x : NumberedStep). answer_of x made.end) (sym step_is) ∙ answer_is))
+        (λ v u step_is answer_is. synced_same v u made.end (ap (λ (x : NumberedStep). answer_of x made.end) (sym step_is) ∙ answer_is))
+        fits answered e
+
+    stayed_own : (file : PlainTemp) → file_in m.state ≡ Some file → file_given (answer_in made) ≡ None → IsErrand m.state
+        → Handle (temps_left w.temps made) made.after (handed (answer_of made.step made.end) (f.held caller)) file
+    stayed_own file e none errand =
+        let g = handles_of m.state m.stands in
+        let old = (g.1 file e).held in
+        handle_stays (f.held caller) _ file (handed_none made.after (answer_of made.step made.end) (f.held caller) none) (g.1 file e)
+        (errand_steps m.state (step_of made) (Misses old.names) g.0 errand wants_asked (λ p. (tt, (tt, tt)))
+        (λ p wanted. is_elsewhere (home s) old.names (names_of p) (all.agree.temps old.names old.is_temp) (apart_of (steps.RemoveFile p) wanted)))
+
+    own_given : (new : State) → StateFollows m.state (answer_in made) new → ((file : PlainTemp) → file_given (answer_in made) ≡ Some file
+        → Handle (temps_left w.temps made) made.after (handed (answer_of made.step made.end) (f.held caller)) file)
+        → IsState new × ((file : PlainTemp) → file_in new ≡ Some file → Handle (temps_left w.temps made) made.after (handed (answer_of made.step made.end) (f.held caller)) file)
+    own_given new (is, inl same) given = (is, λ file e. given file (sym same ∙ e))
+    own_given new (is, inr (inl none)) given = (is, λ file e. let no : None ≡ Some file = sym none ∙ e in absurd cc)
+    own_given new (is, inr (inr (same, none, errand))) given = (is, λ file e. stayed_own file (sym same ∙ e) none errand)
+
+    own_handles : ((file : PlainTemp) → file_given (answer_in made) ≡ Some file → Handle (temps_left w.temps made) made.after (handed (answer_of made.step made.end) (f.held caller)) file)
+        → HasHandle (temps_left w.temps made) made.after (handed (answer_of made.step made.end) (f.held caller)) (unless_ended reply (option_map (λ (state : State). after state (answer_in made)) (w.states caller)))
+    own_handles given new e =
+        let g = handles_of m.state m.stands in
+        own_given new (subst (StateFollows m.state (answer_in made)) (ended_some reply (w.states caller) m.state new (answer_in made) m.stands e) (follows_after m.state (answer_in made) g.0)) given
+
+    -- other calls
+    other_handles : (k : ℕ) → (k ≡ caller → ⊥) → HasHandle (temps_left w.temps made) made.after (f.held k) (w.states k)
+    other_handles k differ state e =
+        let g : HasHandle w.temps made.before (f.held k) (w.states k) = subst (λ (x : Machine). HasHandle w.temps x (f.held k) (w.states k)) (sym m.here) (all.handles k) in
+        let old = g state e in
+        let c = has_call (now.calls k) (w.states k) state (all.agree.states k) e in
+        let theirs = of_caller s c.0 _ c.1 (all.agree.all.calls k) in (
+          old.0,
+          λ file is.
+              let handle = old.1 file is in
+              let its : IsTemp (call_site s c.0.number) file = sound_file (call_site s c.0.number) (may_export s) (is_outside s) c.0.state file theirs.sound (ap file_in c.2 ∙ is) in
+              let named : names_of file.path ≡ Ok handle.held.names = ap (λ (x : PlainTemp). names_of x.path) (sym handle.same) ∙ handle.held.named in
+              handle_stays (f.held k) (f.held k) file refl handle
+              (others_miss s c.0.number own.0.number file.path handle.held.names (small k c.0 c.1) (small caller own.0 own.1)
+              (numbers_apart now all.numbered k caller c.0 own.0 differ c.1 own.1) its named (all.agree.temps handle.held.names handle.held.is_temp)
+              (step_of made) allowed (apart_of (step_of made) wants_asked)),
+        )
+      where
+        small : (j : ℕ) (a : Call) → now.calls j ≡ Some a → a.number < 2 ^ 64
+        small j a here = omega (arith, number_below now all.numbered j a here, all.few)
+
+    moved_handles : ((file : PlainTemp) → file_given (answer_in made) ≡ Some file → Handle (temps_left w.temps made) made.after (handed (answer_of made.step made.end) (f.held caller)) file)
+        → (k : ℕ) → HasHandle (temps_left w.temps made) made.after (held_after f.held (makes caller made reply) k) (set_state caller (unless_ended reply (option_map (λ (state : State). after state (answer_in made)) (w.states caller))) w.states k)
+    moved_handles given k =
+        at_caller (HasHandle (temps_left w.temps made) made.after) k caller (handed (answer_of made.step made.end) (f.held caller)) (f.held k)
+        (unless_ended reply (option_map (λ (state : State). after state (answer_in made)) (w.states caller))) (w.states k)
+        (λ same. own_handles given) (λ differ. other_handles k differ)
+
+    lost_none : answer_of made.step made.end ≡ answers.NoMemory made.step → file_given (answer_in made) ≡ None
+    lost_none lost = ap (λ (a : NumberedAnswer). file_given (answer_on made.after a)) lost
+
+    -- what the record says of the answer
+    answer_given : (luck : Luck) (answer : PlainAnswer) → MayMove now.tree own.0.state luck (Some (step_of made, answer)) reply
+        → (answer ≡ answer_in made) ⊎ (answer_of made.step made.end ≡ answers.NoMemory made.step)
+        → (file : PlainTemp) → file_given (answer_in made) ≡ Some file → Handle (temps_left w.temps made) made.after (handed (answer_of made.step made.end) (f.held caller)) file
+    answer_given luck answer may (inl same) file e =
+        handed_own luck (subst (Fits (step_of made)) same may.2) (sym same ∙ may.1) file e
+    answer_given luck answer may (inr lost) file e = let no : None ≡ Some file = sym (lost_none lost) ∙ e in absurd cc
+
+    -- what a lookup finds has an integrity
+    looks_has : (luck : Luck) (answer : PlainAnswer) → MayMove now.tree own.0.state luck (Some (step_of made, answer)) reply → answer ≡ answer_in made
+        → (l : Lookup) (bytes : List ℕ) → m.state ≡ looking l → bytes_answered (answer_in made) ≡ Ok bytes → HasIntegrity (found_in l.key bytes)
+    looks_has luck answer may same l bytes looks e =
+        let cache : l.cache ≡ s.cache = (subst (Sound (call_site s own.0.number) (may_export s) (is_outside s)) looks sound).0 in
+        let step : step_of made ≡ steps.ReadAll (bucket_path l.cache l.key)
+        = (let both : Some (steps.ReadAll (bucket_path l.cache l.key)) ≡ Some (step_of made) = sym (ap wants looks) ∙ wants_asked in cc) in
+        bucket_has s now.tree l.cache l.key bytes luck all.agree.all.placed all.agree.all.rooted all.agree.all.formed cache
+        (ap (λ (x : PlainStep). bytes_answered (apply now.tree x luck).0) (sym step) ∙ ap bytes_answered (sym may.1 ∙ same) ∙ e)
+
+    lost_bytes : answer_of made.step made.end ≡ answers.NoMemory made.step → (bytes : List ℕ) → bytes_answered (answer_in made) ≡ Ok bytes → ⊥
+    lost_bytes lost bytes e =
+        let no : Err refusals.Memory ≡ Ok bytes = sym (ap (λ (a : NumberedAnswer). bytes_answered (answer_on made.after a)) lost) ∙ e in cc
+
+    finds_has : (luck : Luck) (answer : PlainAnswer) → MayMove now.tree own.0.state luck (Some (step_of made, answer)) reply
+        → (answer ≡ answer_in made) ⊎ (answer_of made.step made.end ≡ answers.NoMemory made.step)
+        → (l : Lookup) (bytes : List ℕ) → m.state ≡ looking l → bytes_answered (answer_in made) ≡ Ok bytes → HasIntegrity (found_in l.key bytes)
+    finds_has luck answer may (inl same) l bytes looks e = looks_has luck answer may same l bytes looks e
+    finds_has luck answer may (inr lost) l bytes looks e = absurd (lost_bytes lost bytes e)
+
+    moved_paths : ((l : Lookup) (bytes : List ℕ) → m.state ≡ looking l → bytes_answered (answer_in made) ≡ Ok bytes → HasIntegrity (found_in l.key bytes))
+        → (k : ℕ) → PathsAt (home s) (set_state caller (unless_ended reply (option_map (λ (state : State). after state (answer_in made)) (w.states caller))) w.states k)
+    moved_paths has k =
+        at_state (PathsAt (home s)) k caller (unless_ended reply (option_map (λ (state : State). after state (answer_in made)) (w.states caller))) (w.states k)
+        (λ same new e. subst (HasPaths (home s)) (ended_some reply (w.states caller) m.state new (answer_in made) m.stands e)
+        (paths_after (call_site s own.0.number) (may_export s) (is_outside s) (answer_in made) m.state is_state sound has_paths has))
+        (λ differ. all.paths k)
+
+    may_of : (r : Record) (luck : Luck) (answer : PlainAnswer) → MayCome s now r → r ≡ Moved caller luck (Some (step_of made, answer)) reply → MayMove now.tree own.0.state luck (Some (step_of made, answer)) reply
+    may_of r luck answer may is =
+        let come : MayCome s now (Moved caller luck (Some (step_of made, answer)) reply) = subst (MayCome s now) is may in
+        let same : Some come.0 ≡ Some own.0 = sym come.1 ∙ own.1 in
+        let call : come.0 ≡ own.0 = cc in
+        subst (λ (x : Call). MayMove now.tree x.state luck (Some (step_of made, answer)) reply) call come.2
+
+    step_so : (g : Follows s w now (makes caller made reply)) → IsRecordOf (makes caller made reply) g.r → Holds s (numbered_after s f (makes caller made reply)) (now_after s now g.r)
+    step_so g (inl (luck, answer, is, given)) = record {
+      agree = g.agree;
+      numbered = next_numbered s now g.r all.numbered;
+      few = subst (λ (x : Record). (now_after s now x).begun ≤ 2 ^ 64) (sym is) all.few;
+      handles = moved_handles (answer_given luck answer (may_of g.r luck answer g.may is) given);
+      paths = moved_paths (finds_has luck answer (may_of g.r luck answer g.may is) given);
+    }
+    step_so g (inr (is, failed)) = record {
+      agree = g.agree;
+      numbered = next_numbered s now g.r all.numbered;
+      few = subst (λ (x : Record). (now_after s now x).begun ≤ 2 ^ 64) (sym is) all.few;
+      handles = moved_handles (λ file e. let no : None ≡ Some file = sym (failed_none made failed.why failed.failed) ∙ e in absurd cc);
+      paths = moved_paths (λ l bytes looks e. absurd (failed_bytes made failed.why failed.failed bytes e));
+    }
+
+    pub step_holds : (g : Follows s w now (makes caller made reply)) → Holds s (numbered_after s f (makes caller made reply)) (now_after s now g.r)
+    step_holds g = step_so g g.of_act

@@ -1,0 +1,271 @@
+-- Files that are open stay open at their names through the calls of a step.
+use Rattle.std.proofs.Common.{◌≡◌, ◌==◌, ℕ, Bool, true, false, cond, List, [], ◌∷◌, ◌++◌, Option, None, Some, Ok, inl, inr, min, refl, sym, subst, ◌∙◌}
+use Rattle.std_io.specs.declared.io.kind.ErrorKind.{ErrorKind}
+use Rattle.std_io.specs.declared.io.kind.ErrorKind.TheVariants as kind
+use Rattle.cacache_core.specs.PathNames.{Names, names_of}
+use Rattle.cacache_store.specs.declared.store.answer.Kind.{Kind}
+use Rattle.cacache_store.specs.declared.store.answer.Kind.TheVariants as kinds
+use Rattle.cacache_store.specs.declared.store.step.Step.TheVariants as steps
+use Rattle.cacache_disk.specs.{declared.{luck.Luck.TheVariants.{Plain, Fail, Take}, node.Node.TheVariants.{File}}, Tree.{Tree, put}, LedTo.{way_fault, place, free}}
+use Rattle.cacache_disk.proofs.FoundNodes.{free_ok}
+use Rattle.cacache_system.specs.{declared.call.{FileInfo.{FileInfo}, SystemCall.{SystemCall}, CallItem.{CallItem}, CallResult.{CallResult}}, Seen.{NumberedTemp, NumberedStep}, CallsOf.{Stage, Purpose, to_give, to_sync, to_sync_folder, to_read, over, only, trying, taking_memory, opening, checking, reading_front, reading_rest, appending, standing as asking_folder, making, confirming, wants, after, was_interrupted, interrupts, is_absent, is_same_node, unless_folder, if_folder, opened, below, climb, unmade, above_of, keeping, preparing, comparing, descending, sync_again, give, descend, compared, Runs}, AnswersOf.{Hint, no_hint, is_missing, was_named, in_walk, rewrites, look_first, persist, first}}
+use Rattle.cacache_system.specs.declared.call.SystemCall.TheVariants as asks
+use Rattle.cacache_system.specs.declared.call.CallResult.TheVariants as says
+use Rattle.cacache_system_model.specs.{Machine.{Machine, OpensIf}, Calls.{OccursSomehow, EachCall}, callers.Opened.{IsOpenAt, KeepsOpen, StillStores, RunsKeepOpen}}
+use Rattle.cacache_system_model.proofs.callers.OpenCalls.{Moves, keeps_same, keeps_self, Readable, IsOpenNumber, Safe, occurs_keep, front_left, rest_left, stat_left, readable_on, Unchanged, look_left, link_look_left, Readies, readied, open_ready, append_ready, opens_number}
+
+-- ---- stages
+
+-- the calls from a stage on are such
+abbrev IsSafe : Stage → Machine → Type 0
+IsSafe (over r) m = Unit {0}
+IsSafe (only call) m = Safe m call
+IsSafe (trying again (asks.Write number bytes)) m = IsOpenNumber m number
+IsSafe (taking_memory s) m = IsSafe s m
+IsSafe (opening purpose path) m = Unit {0}
+IsSafe (checking purpose number) m = Readable m number
+IsSafe (reading_front again size number) m = Readable m number
+IsSafe (reading_rest front number) m = Readable m number
+IsSafe (appending path bytes) m = Unit {0}
+IsSafe (asking_folder path) m = Unit {0}
+IsSafe (making again path todo) m = Unit {0}
+IsSafe (confirming why path todo) m = Unit {0}
+IsSafe (keeping number temp synced path s) m = IsOpenNumber m number × ((n : Machine) → Unchanged m n → IsSafe s n)
+IsSafe (preparing call s) m = Readies m call × ((n : Machine) → Unchanged m n → IsSafe s n)
+IsSafe (comparing node path entered s) m = IsSafe s m
+IsSafe (descending path entered s) m = IsSafe s m
+IsSafe s m = ⊥
+
+cond_safe : (b : Bool) (s t : Stage) (m : Machine) → IsSafe s m → IsSafe t m → IsSafe (cond b s t) m
+cond_safe true s t m h k = h
+cond_safe false s t m h k = k
+
+unless_safe : (k : Kind) (s : Stage) (m : Machine) → IsSafe s m → IsSafe (unless_folder k s) m
+unless_safe kinds.Folder s m h = tt
+unless_safe k s m h = h
+
+if_safe : (k : Kind) (why : ErrorKind) (s : Stage) (m : Machine) → IsSafe s m → IsSafe (if_folder k why s) m
+if_safe kinds.Folder why s m h = h
+if_safe k why s m h = tt
+
+opened_safe : (purpose : Purpose) (number : ℕ) (info : FileInfo) (m : Machine) → Readable m number → IsSafe (opened purpose number info) m
+opened_safe to_give number info m h = unless_safe info.kind (over (says.Opened number)) m tt
+opened_safe to_sync number info m h = unless_safe info.kind (only (asks.Sync number)) m (h.0, h.1)
+opened_safe to_sync_folder number info m h = if_safe info.kind kind.NotADirectory (only (asks.Sync number)) m (h.0, h.1)
+opened_safe to_read number info m h = cond_safe (info.size == 0) (reading_rest [] number) (reading_front false (min info.size 131072) number) m h h
+
+checked_safe : (purpose : Purpose) (number : ℕ) (said : CallResult) (m : Machine) → Readable m number → IsSafe (after (checking purpose number) said) m
+checked_safe purpose number (says.Info info) m h = opened_safe purpose number info m h
+checked_safe purpose number said m h = tt
+
+front_safe : (again : Bool) (size number : ℕ) (said : CallResult) (m : Machine) → Readable m number → IsSafe (after (reading_front again size number) said) m
+front_safe again size number (says.Bytes front) m h = h
+front_safe again size number (says.Failed why) m h = cond_safe (interrupts why) (reading_front true size number) (over (says.Failed why)) m h tt
+front_safe again size number said m h = tt
+
+rest_safe : (front : List ℕ) (number : ℕ) (said : CallResult) (m : Machine) → IsSafe (after (reading_rest front number) said) m
+rest_safe front number (says.Bytes rest) m = tt
+rest_safe front number said m = tt
+
+below_safe : (todo : List (List ℕ)) (m : Machine) → IsSafe (below todo) m
+below_safe [] m = tt
+below_safe (path ∷ todo) m = tt
+
+climb_safe : (o : Option (List ℕ)) (why : ErrorKind) (path : List ℕ) (todo : List (List ℕ)) (m : Machine) → IsSafe (climb o why path todo) m
+climb_safe None why path todo m = tt
+climb_safe (Some up) why path todo m = tt
+
+unmade_safe : (again : Bool) (why : ErrorKind) (path : List ℕ) (todo : List (List ℕ)) (m : Machine) → IsSafe (unmade again why path todo) m
+unmade_safe true why path todo m = tt
+unmade_safe false why path todo m = climb_safe (above_of path) why path todo m
+
+folder_safe : (path : List ℕ) (said : CallResult) (m : Machine) → IsSafe (after (asking_folder path) said) m
+folder_safe path (says.Info info) m = if_safe info.kind kind.AlreadyExists (over says.Done) m tt
+folder_safe path (says.Failed why) m = cond_safe (is_absent why) (making false path []) (over (says.Failed why)) m tt tt
+folder_safe path said m = tt
+
+making_safe : (again : Bool) (path : List ℕ) (todo : List (List ℕ)) (said : CallResult) (m : Machine) → IsSafe (after (making again path todo) said) m
+making_safe again path todo says.Done m = below_safe todo m
+making_safe again path todo (says.Failed why) m = cond_safe (is_absent why) (unmade again why path todo) (confirming why path todo) m (unmade_safe again why path todo m) tt
+making_safe again path todo said m = tt
+
+confirming_safe : (why : ErrorKind) (path : List ℕ) (todo : List (List ℕ)) (said : CallResult) (m : Machine) → IsSafe (after (confirming why path todo) said) m
+confirming_safe why path todo (says.Info info) m = if_safe info.kind kind.AlreadyExists (below todo) m (below_safe todo m)
+confirming_safe why path todo (says.Failed is_said) m = tt
+confirming_safe why path todo said m = tt
+
+-- from a stage on after calls that changed neither tree nor open files
+abbrev SafeLater : Stage → Machine → Type 0
+SafeLater s m = (n : Machine) → Unchanged m n → IsSafe s n
+
+open_later : (m n : Machine) (number : ℕ) → Unchanged m n → IsOpenNumber m number → IsOpenNumber n number
+open_later m n number (tree, files) (names, is) = (names, keeps_same m n files number names is)
+
+unchanged_on : (m n k : Machine) → Unchanged m n → Unchanged n k → Unchanged m k
+unchanged_on m n k (tree, files) (later, still) = (later ∙ tree, still ∙ files)
+
+again_safe : (synced : Bool) (number : ℕ) (s : Stage) (m : Machine) → IsOpenNumber m number → SafeLater s m → IsSafe (sync_again synced number s) m
+again_safe true number s m open_file later = (open_file, later)
+again_safe false number s m open_file later = later m (refl, refl)
+
+give_safe : (number : ℕ) (temp : List ℕ) (synced : Bool) (info : FileInfo) (s : Stage) (m : Machine) → IsOpenNumber m number → SafeLater s m → IsSafe (give number temp synced info s) m
+give_safe number temp synced info s m open_file later = (
+  tt,
+  λ n same. (
+    open_later m n number same open_file,
+    λ k next.
+        let still = unchanged_on m n k same next in
+        again_safe synced number s k (open_later m k number still open_file) (λ j last. later j (unchanged_on m k j still last)),
+  ),
+)
+
+kept_safe : (number : ℕ) (temp : List ℕ) (synced : Bool) (path : List ℕ) (s : Stage) (said : CallResult) (m : Machine) → IsOpenNumber m number → SafeLater s m
+    → IsSafe (after (keeping number temp synced path s) said) m
+kept_safe number temp synced path s (says.Info info) m open_file later = give_safe number temp synced info s m open_file later
+kept_safe number temp synced path s (says.Failed why) m open_file later = cond_safe (is_absent why) s (over (says.Failed why)) m (later m (refl, refl)) tt
+kept_safe number temp synced path s said m open_file later = tt
+
+prepared_safe : (call : SystemCall) (s : Stage) (said : CallResult) (m : Machine) → IsSafe s m → IsSafe (after (preparing call s) said) m
+prepared_safe call s says.Done m h = h
+prepared_safe call s said m h = tt
+
+descend_safe : (entered : List (List ℕ)) (s : Stage) (m : Machine) → IsSafe s m → IsSafe (descend entered s) m
+descend_safe [] s m h = h
+descend_safe (path ∷ entered) s m h = h
+
+compared_safe : (same : Bool) (k : Kind) (entered : List (List ℕ)) (s : Stage) (m : Machine) → IsSafe s m → IsSafe (compared same k entered s) m
+compared_safe true kinds.Folder entered s m h = h
+compared_safe same k entered s m h = descend_safe entered s m h
+
+comparing_safe : (node : FileInfo) (path : List ℕ) (entered : List (List ℕ)) (s : Stage) (said : CallResult) (m : Machine) → IsSafe s m → IsSafe (after (comparing node path entered s) said) m
+comparing_safe node path entered s (says.Info info) m h = compared_safe (is_same_node info node) info.kind (entered ++ path ∷ []) s m h
+comparing_safe node path entered s said m h = tt
+
+descending_safe : (path : List ℕ) (entered : List (List ℕ)) (s : Stage) (said : CallResult) (m : Machine) → IsSafe s m → IsSafe (after (descending path entered s) said) m
+descending_safe path entered s (says.Info info) m h = if_safe info.kind kind.NotADirectory (descend entered s) m (descend_safe entered s m h)
+descending_safe path entered s said m h = tt
+
+file_safe : (purpose : Purpose) (path : List ℕ) (said : CallResult) (m n : Machine) → OccursSomehow m (asks.OpenToRead path) said n → IsSafe (after (opening purpose path) said) n
+file_safe purpose path (says.Opened number) m n h = open_ready path m n number h
+file_safe purpose path said m n h = tt
+
+line_safe : (path bytes : List ℕ) (said : CallResult) (m n : Machine) → OccursSomehow m (asks.OpenToAppend path) said n → IsSafe (after (appending path bytes) said) n
+line_safe path bytes (says.Opened number) m n h = append_ready path m n number h
+line_safe path bytes said m n h = tt
+
+at_call : (a call : SystemCall) (m n : Machine) (said : CallResult) → Some a ≡ Some call → OccursSomehow m call said n → OccursSomehow m a said n
+at_call a call m n said w h = let same : a ≡ call = cc in subst (λ (x : SystemCall). OccursSomehow m x said n) (sym same) h
+
+goes_safe : (s : Stage) (m n : Machine) (call : SystemCall) (said : CallResult) → IsSafe s m → wants s ≡ Some call → OccursSomehow m call said n → KeepsOpen m n × IsSafe (after s said) n
+goes_safe (over r) m n call said safe w h = let no : None ≡ Some call = w in absurd cc
+goes_safe (only c) m n call said safe w h = (occurs_keep c m n said safe (at_call c call m n said w h), tt)
+goes_safe (trying again (asks.Write number bytes)) m n call said safe w h =
+    let keeps = occurs_keep (asks.Write number bytes) m n said safe (at_call (asks.Write number bytes) call m n said w h) in
+    (keeps, cond_safe (was_interrupted said) (trying true (asks.Write number bytes)) (over said) n (safe.0, keeps number safe.0 safe.1) tt)
+goes_safe (trying again c) m n call said safe w h = absurd safe
+goes_safe (taking_memory s) m n call said safe w h = goes_safe s m n call said safe w h
+goes_safe (opening purpose path) m n call said safe w h =
+    let happens = at_call (asks.OpenToRead path) call m n said w h in (occurs_keep (asks.OpenToRead path) m n said tt happens, file_safe purpose path said m n happens)
+goes_safe (checking purpose number) m n call said safe w h =
+    let same = stat_left number m n said safe.0 safe.1 (at_call (asks.StatFile number) call m n said w h) in
+    (keeps_self m n same, subst (λ (x : Machine). IsSafe (after (checking purpose number) said) x) (sym same) (checked_safe purpose number said m safe))
+goes_safe (reading_front again size number) m n call said safe w h =
+    let left = front_left number size m n said safe (at_call (asks.Read number size) call m n said w h) in
+    (left.0, front_safe again size number said n (readable_on number m n safe left))
+goes_safe (reading_rest front number) m n call said safe w h =
+    let left = rest_left number m n said safe (at_call (asks.ReadRest number) call m n said w h) in
+    (left.0, rest_safe front number said n)
+goes_safe (appending path bytes) m n call said safe w h =
+    let happens = at_call (asks.OpenToAppend path) call m n said w h in (occurs_keep (asks.OpenToAppend path) m n said tt happens, line_safe path bytes said m n happens)
+goes_safe (asking_folder path) m n call said safe w h = (occurs_keep (asks.Stat path) m n said tt (at_call (asks.Stat path) call m n said w h), folder_safe path said n)
+goes_safe (making again path todo) m n call said safe w h = (occurs_keep (asks.MakeFolder path) m n said tt (at_call (asks.MakeFolder path) call m n said w h), making_safe again path todo said n)
+goes_safe (confirming why path todo) m n call said safe w h = (occurs_keep (asks.Stat path) m n said tt (at_call (asks.Stat path) call m n said w h), confirming_safe why path todo said n)
+goes_safe (keeping number temp synced path s) m n call said (open_file, later) w h =
+    let same = look_left path m n said (at_call (asks.Stat path) call m n said w h) in
+    (keeps_self m n same, subst (λ (x : Machine). IsSafe (after (keeping number temp synced path s) said) x) (sym same) (kept_safe number temp synced path s said m open_file later))
+goes_safe (preparing c s) m n call said (ready, later) w h =
+    let left = readied c m n said ready (at_call c call m n said w h) in (keeps_same m n left.1, prepared_safe c s said n (later n left))
+goes_safe (comparing node path entered s) m n call said safe w h =
+    let same = link_look_left path m n said (at_call (asks.StatLink path) call m n said w h) in
+    (keeps_self m n same, subst (λ (x : Machine). IsSafe (after (comparing node path entered s) said) x) (sym same) (comparing_safe node path entered s said m safe))
+goes_safe (descending path entered s) m n call said safe w h =
+    let same = link_look_left path m n said (at_call (asks.StatLink path) call m n said w h) in
+    (keeps_self m n same, subst (λ (x : Machine). IsSafe (after (descending path entered s) said) x) (sym same) (descending_safe path entered s said m safe))
+goes_safe s m n call said safe w h = absurd safe
+
+-- ---- runs
+
+runs_keep : (s : Stage) (items : List CallItem) (end : CallResult) (m n : Machine) → IsSafe s m → Runs s items end → EachCall OccursSomehow m items n → KeepsOpen m n
+runs_keep s [] end m n safe runs each = keeps_self m n (sym each)
+runs_keep s (item ∷ items) end m n safe runs (next, happens, others) =
+    let g = goes_safe s m next item.call item.result safe runs.0 happens in
+    λ number names e. runs_keep (after s item.result) items end next n g.1 runs.1 others number names (g.0 number names e)
+
+dirs_safe : (hint : Hint) (p : List ℕ) (m : Machine) → IsSafe (first hint (steps.MakeDirs p)) m
+dirs_safe no_hint p m = tt
+dirs_safe is_missing p m = tt
+dirs_safe was_named p m = tt
+dirs_safe (in_walk node last entered) p m = tt
+dirs_safe (rewrites synced hint) p m = tt
+
+look_safe : (hint : Hint) (s : Stage) (m : Machine) → IsSafe s m → IsSafe (look_first hint s) m
+look_safe no_hint s m h = h
+look_safe is_missing s m h = h
+look_safe was_named s m h = h
+look_safe (in_walk node last entered) s m h = h
+look_safe (rewrites synced hint) s m h = h
+
+persist_safe : (hint : Hint) (temp : NumberedTemp) (path : List ℕ) (m : Machine) → IsOpenNumber m temp.number → SafeLater (only (asks.Rename temp.path path)) m
+    → IsSafe (persist hint temp path) m
+persist_safe no_hint temp path m open_file later = later m (refl, refl)
+persist_safe is_missing temp path m open_file later = later m (refl, refl)
+persist_safe was_named temp path m open_file later = later m (refl, refl)
+persist_safe (in_walk node last entered) temp path m open_file later = later m (refl, refl)
+persist_safe (rewrites synced hint) temp path m open_file later = (open_file, λ n same. look_safe hint (only (asks.Rename temp.path path)) n (later n same))
+
+placed_at : (t : Tree) (path : List ℕ) (names : Names) → names_of path ≡ Ok names → way_fault t [] names ≡ None → place t path ≡ Ok names
+unfolding place
+placed_at t path names named way = rw (named, way) refl
+
+first_safe : (hint : Hint) (step : NumberedStep) (m : Machine) → StillStores m step → IsSafe (first hint step) m
+first_safe hint (steps.MakeDirs p) m h = dirs_safe hint p m
+first_safe hint (steps.CreateTemp p) m h = tt
+first_safe hint (steps.Write t bytes) m (names, old, still) = (names, still.opened)
+first_safe hint (steps.Persist t p) m (names, old, still) =
+    persist_safe hint t p m (names, still.opened)
+    (λ n same. subst (λ (x : Tree). Moves x t.path) (sym same.0) (names, old, placed_at m.tree t.path names still.named still.way, still.stands))
+first_safe hint (steps.Append p bytes) m h = look_safe hint (appending p bytes) m tt
+first_safe hint (steps.ReadAll p) m h = tt
+first_safe hint (steps.Exists p) m h = tt
+first_safe hint (steps.RemoveFile p) m h = look_safe hint (only (asks.RemoveFile p)) m tt
+first_safe hint (steps.SyncTemp t) m (names, old, still) = (names, still.opened)
+first_safe hint (steps.SyncFile p) m h = tt
+first_safe hint (steps.SyncDir p) m h = tt
+first_safe hint step m h = absurd h
+
+pub runs_keep_open : RunsKeepOpen
+runs_keep_open m n hint step items end still runs each = runs_keep (first hint step) items end m n (first_safe hint step m still) runs each
+
+-- ---- the file that is made
+
+new_at : (p : List ℕ) (m n : Machine) (number : ℕ) (names : Names) → names_of p ≡ Ok names → OpensIf (free m.tree p) (λ names. put m.tree names (File [])) m (says.Opened number) n → IsOpenAt n number names
+new_at p m n number names named h =
+    let g = opens_number (free m.tree p) _ m n number h in
+    let both : Ok g.0 ≡ Ok names = sym (free_ok m.tree p g.0 g.1).0 ∙ named in
+    let same : g.0 ≡ names = cc in
+    subst (λ (x : Names). IsOpenAt n number x) same g.2
+
+new_open : (p : List ℕ) (m n : Machine) (number : ℕ) (names : Names) → names_of p ≡ Ok names → OccursSomehow m (asks.CreateNew p 384) (says.Opened number) n → IsOpenAt n number names
+new_open p m n number names named (Plain, h) = new_at p m n number names named h
+new_open p m n number names named (Take most, h) = new_at p m n number names named h
+new_open p m n number names named (Fail fault part, (why, is_said, of, missed, left)) = let no : says.Opened number ≡ says.Failed why = is_said in absurd cc
+
+pub made_open : (m n : Machine) (hint : Hint) (p : List ℕ) (items : List CallItem) (number : ℕ) (names : Names) → names_of p ≡ Ok names
+    → Runs (first hint (steps.CreateTemp p)) items (says.Opened number) → EachCall OccursSomehow m items n → IsOpenAt n number names
+made_open m n hint p [] number names named (inl ends) each = let no : says.Opened number ≡ says.Failed kind.OutOfMemory = ends in absurd cc
+made_open m n hint p [] number names named (inr ends) each = absurd ends
+made_open m n hint p (item ∷ []) number names named runs (next, happens, others) =
+    let result : item.result ≡ says.Opened number = runs.1 in
+    let made = at_call (asks.CreateNew p 384) item.call m next item.result runs.0 happens in
+    subst (λ (x : Machine). IsOpenAt x number names) others (new_open p m next number names named (subst (λ (r : CallResult). OccursSomehow m (asks.CreateNew p 384) r next) result made))
+made_open m n hint p (item ∷ other ∷ items) number names named runs each = let no : None ≡ Some other.call = runs.1.0 in absurd cc
