@@ -15,3 +15,4 @@ pub mod HandleReads
 mod Moving
 mod Ghost
 pub mod StepsMade
+pub mod CallsByLog

@@ -11,3 +11,4 @@ pub mod Moves
 pub mod Listings
 pub mod StepClauses
 pub mod StepsMade
+pub mod CallsByLog

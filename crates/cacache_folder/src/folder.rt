@@ -2,7 +2,7 @@
 ghost use Rattle.std.specs.Prelude.{◌≡◌, ◌++◌, ◌∷◌, []};
 ghost use Rattle.cacache_store.specs.{Plain.{plain_step, plain_answer}, Fits.{Fits, Logs}};
 ghost use Rattle.cacache_system.specs.AnswersOf.{StepRuns};
-ghost use Rattle.cacache_folder.specs.{FolderHandles.{seen_file, seen_temp}, FolderNumbers.{numbered, answered}, PartialSteps.{HandsBackWhole}, Reasons.{Explains}, StepsMade.{StepsRun, log_of}};
+ghost use Rattle.cacache_folder.specs.{FolderHandles.{seen_file, seen_temp}, FolderNumbers.{numbered, answered}, PartialSteps.{HandsBackWhole}, Reasons.{Explains}, StepsMade.{StepsRun, log_of}, CallsByLog.{CallsByLog}};
 
 mod again;
 mod answers;
@@ -114,6 +114,13 @@ impl<Y: System + AllocGlobal + Clone + Drop> SystemStore<Y> {
     {
         self.runner.reason
     }
+
+    /// A law: however the log is cut in two, so are the store's steps and the calls of its system. So after a call, what
+    /// the log gained divides the system's calls: those for the log before come first, and then the call's own.
+    pub fn calls_by_log(&self)
+        ensures parts { CallsByLog Y.number self.now.log.items (Y.calls self.now.began.value)
+            (Y.calls self.now.runner.system) }
+    {}
 }
 
 impl<Y: System + AllocGlobal + Clone + Drop> Store for SystemStore<Y> {
