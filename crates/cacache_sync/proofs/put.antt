@@ -1,4 +1,3 @@
 mod LinkCalls
-mod LinkerReads
 mod Linkers
 mod Wholes

@@ -1,3 +1,4 @@
 pub mod OpenReads
 pub mod Passed
 pub mod OpenWrites
+pub mod Filling

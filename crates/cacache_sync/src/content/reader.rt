@@ -1,9 +1,11 @@
 //! Contents that are read in pieces, and checked by what was read.
+ghost use Rattle.std.proofs.Common.{append-nil, append_assoc, subst, sym};
 ghost use Rattle.std.specs.{Prelude.{◌≡◌, ◌++◌, ℕ, List, Some, IsOk, IfOk, IfErr, OnOk, OnErr, length}, Io.{ReadsAtMost, KnownBytes.{Consumes, ReadConsumes}}};
 ghost use Rattle.cacache_core.specs.{declared.integrity.digest.Hash.{Hash}, Integrity.{Meets, strongest, actual}, Refusals.{IsCheckFailure}};
 ghost use Rattle.cacache_store.specs.Handles.{LeftFalls};
 ghost use Rattle.cacache_sync.specs.content.{OpenReads.{HasRead, OpensHash, OpensKey, ReadsMore, ReadsPart}, OpenWrites.{IsRetried}, Passed.{passed}};
 
+use crate::content::filling::{Pieces, fill};
 use cacache_calls::Command;
 use cacache_calls::answers::file_of;
 use cacache_core::errors::{Error, Result};
@@ -15,7 +17,7 @@ use cacache_store::env::{Clock, Env, Names};
 use cacache_store::store::{OpenedFile, Step, Store};
 use std::alloc::{AllocError, Global};
 use std::io;
-use std::io::{ErrorKind, Read};
+use std::io::Read;
 
 /// An open content, read in pieces. It gives the bytes of the file that was opened, in order, also if the content was
 /// replaced or removed since. Each byte is hashed once. No byte is verified before `check`: always call that at the
@@ -185,26 +187,22 @@ impl<F: OpenedFile> Read for SyncReader<F> {
         ensures part { OnErr result (ReadsPart F.seen self.old self.new buf.new) }
         ensures retried { IfErr result IsRetried }
     {
-        let size = buf.len();
-        let mut done = 0;
-        for _tries in 0..u64::MAX {
-            if done == size {
-                return Ok(());
-            }
-            match self.read(&mut buf[done..]) {
-                Ok(0) => {
-                    let message = "failed to fill whole buffer";
-                    return Err(io::Error::new(ErrorKind::UnexpectedEof, message));
-                }
-                Ok(count) => done += count,
-                Err(error) if error.kind() == ErrorKind::Interrupted => {}
-                Err(error) => return Err(error),
-            }
-        }
-        // the last read may have filled the rest
-        if done == size {
-            return Ok(());
-        }
-        Err(ErrorKind::TimedOut.into())
+        fill(self, buf)
+    }
+}
+
+impl<F: OpenedFile> Pieces for SyncReader<F> {
+    ghost left = { λ reader. (F.seen reader.file).bytes };
+
+    ghost gave = { ReadsMore };
+
+    ghost gave_none = { λ r i bytes had. subst (HasRead r i) (sym (append-nil bytes)) had };
+
+    ghost gave_on = { λ u v w one two x y i bytes had.
+        subst (HasRead w i) (append_assoc bytes one two) (y i (bytes ++ one) (x i bytes had)) };
+
+    #[inline(always)]
+    fn read_piece(&mut self, buf: &mut [u8]) -> io::Result<usize> {
+        self.read(buf)
     }
 }

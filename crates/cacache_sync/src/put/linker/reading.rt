@@ -1,12 +1,14 @@
 //! The reads of a linker, which hash what they read.
+ghost use Rattle.std.proofs.Common.{append-nil, append_assoc, refl, subst, sym, ◌∙◌};
 ghost use Rattle.std.specs.{Prelude.{◌≡◌, ◌++◌, ℕ, List, IfErr, OnOk, OnErr, length}, Io.{ReadsAtMost, KnownBytes.{Consumes, ReadConsumes}}};
 ghost use Rattle.cacache_store.specs.Handles.{LeftFalls};
 ghost use Rattle.cacache_sync.specs.{content.{OpenWrites.{IsRetried}, Passed.{passed}}, put.OpenLinkers.{HasHashed, HashesMore, HashesPart}};
 
+use crate::content::filling::{Pieces, fill};
 use crate::put::linker::SyncToLinker;
 use cacache_store::store::OpenedFile;
 use std::io;
-use std::io::{ErrorKind, Read};
+use std::io::Read;
 
 impl<F: OpenedFile> Read for SyncToLinker<F> {
     ghost remaining = { λ linker. (F.seen linker.file).bytes };
@@ -41,26 +43,25 @@ impl<F: OpenedFile> Read for SyncToLinker<F> {
         ensures linked { self.new.linked ≡ self.old.linked }
         ensures retried { IfErr result IsRetried }
     {
-        let size = buf.len();
-        let mut done = 0;
-        for _tries in 0..u64::MAX {
-            if done == size {
-                return Ok(());
-            }
-            match self.read(&mut buf[done..]) {
-                Ok(0) => {
-                    let message = "failed to fill whole buffer";
-                    return Err(io::Error::new(ErrorKind::UnexpectedEof, message));
-                }
-                Ok(count) => done += count,
-                Err(error) if error.kind() == ErrorKind::Interrupted => {}
-                Err(error) => return Err(error),
-            }
-        }
-        // the last read may have filled the rest
-        if done == size {
-            return Ok(());
-        }
-        Err(ErrorKind::TimedOut.into())
+        fill(self, buf)
+    }
+}
+
+impl<F: OpenedFile> Pieces for SyncToLinker<F> {
+    ghost left = { λ linker. (F.seen linker.file).bytes };
+
+    ghost gave = { λ old new more. HashesMore old new more × (new.linked ≡ old.linked) };
+
+    ghost gave_none = { λ l. (λ bytes had. subst (HasHashed l) (sym (append-nil bytes)) had, refl) };
+
+    ghost gave_on = { λ u v w one two x y. (
+      λ bytes had. subst (HasHashed w)
+          (append_assoc bytes one two) (y.0 (bytes ++ one) (x.0 bytes had)),
+      y.1 ∙ x.1,
+    ) };
+
+    #[inline(always)]
+    fn read_piece(&mut self, buf: &mut [u8]) -> io::Result<usize> {
+        self.read(buf)
     }
 }
