@@ -41,16 +41,6 @@ pub fn remove_hash_sync<S: Store, C: Clock, N: Names>(
     call(env, cache, command, 0).done()
 }
 
-/// Removes the content that a lookup of the key finds, if any, and then the key's bucket. Other keys that share either
-/// lose it too.
-fn remove_fully<S: Store, C, N>(env: &mut Env<S, C, N>, cache: &str, key: &str) -> Result<()>
-    ensures { Calls S.log env.old env.new cache.now (commands.RemoveFully key.now)
-        (reply_of done result) }
-{
-    let command = Command::RemoveFully(Text::from_str(env.alloc, key)?);
-    call(env, cache, command, 0).done()
-}
-
 /// Removes all that lies in the cache folder, which stays. A link is removed and not followed.
 ///
 /// ```
@@ -122,7 +112,8 @@ impl RemoveOpts {
             cache.now key.now (reply_of done result) }
     {
         if self.remove_fully {
-            remove_fully(env, cache, key)
+            let command = Command::RemoveFully(Text::from_str(env.alloc, key)?);
+            call(env, cache, command, 0).done()
         } else {
             delete(env, cache, key)
         }
