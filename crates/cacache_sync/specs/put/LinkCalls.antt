@@ -5,8 +5,8 @@ use Rattle.cacache_store.specs.declared.{env.Env.{Env}, store.log.LogItem.{LogIt
 use Rattle.cacache_store.specs.declared.store.step.Step.TheVariants as steps
 use Rattle.cacache_store.specs.declared.store.answer.Answer.TheVariants as answers
 use Rattle.cacache_calls.specs.declared.command.Command.TheVariants as commands
-use Rattle.cacache_calls.specs.{declared.{command.Link.{Link}, reply.Reply.{Reply, TheVariants.{Stored}}}, Linking.{link_target}, Runs.{Moves, Gains}, Verifying.{ReadsWhole}, Blank.{blank}}
-use Rattle.cacache_jobs.specs.{Environment.{RunsTimed}, ReadFirst.{Linked}, Sites.{site_of}}
+use Rattle.cacache_calls.specs.{declared.{command.Link.{Link}, reply.Reply.{Reply}}, Runs.{Moves, Gains}, Verifying.{ReadsWhole}, Blank.{blank}}
+use Rattle.cacache_jobs.specs.Environment.{RunsTimed}
 
 -- a link to a file; without a key the moment has no effect
 abbrev pub link_to : Option (List ℕ) → List ℕ → ℕ → Link
@@ -22,13 +22,6 @@ IsOfWhole path i moves =
 -- a log that is kept gained such moves
 abbrev pub HoldsTarget : List ℕ → List Hash → Option (List LogItem) → Option (List LogItem) → Type 0
 HoldsTarget path i old new = (moves : Moves) × Gains old new moves × IsOfWhole path i moves
-
--- a log that is kept gained moves that read such a link's whole target, to store this integrity
-abbrev pub LinkedTo :
-    List ℕ → List ℕ → Option (List ℕ) → List ℕ → ℕ → List Hash
-    → Option (List LogItem) → Option (List LogItem) → Type 0
-LinkedTo cache base key target moment i old new =
-    Linked (link_target (site_of cache base 0) (link_to key target moment)) (Stored i) old new
 
 -- the log gained a run of such a link, with a moment that the clock was asked for once
 abbrev pub RunsLink :

@@ -3,7 +3,7 @@ ghost use Rattle.std.specs.Prelude.{None, Some, IfOk};
 ghost use Rattle.cacache_core.specs.declared.integrity.algorithm.Algorithm.TheVariants.{Sha256};
 ghost use Rattle.cacache_calls.specs.declared.command.Command.TheVariants as commands;
 ghost use Rattle.cacache_calls.specs.{declared.reply.Reply.TheVariants.{Stored}, Linking.{based}, Runs.{reply_of}};
-ghost use Rattle.cacache_sync.specs.put.LinkCalls.{link_to, HoldsTarget, LinkedTo, RunsLink};
+ghost use Rattle.cacache_sync.specs.put.LinkCalls.{link_to, HoldsTarget, RunsLink};
 ghost use Rattle.cacache_jobs.specs.Environment.{Calls};
 
 use cacache_calls::{Command, Link, Options};
@@ -22,7 +22,7 @@ fn make_link<S: Store, C, N>(
     target: &str,
     moment: u128,
 ) -> Result<Integrity>
-    ensures linked { IfOk result (λ i. LinkedTo cache.now env.old.base key target.now moment i
+    ensures whole { IfOk result (λ i. HoldsTarget (based env.old.base target.now) i
         (S.log env.old.store) (S.log env.new.store)) }
     ensures ran { Calls S.log env.old env.new cache.now
         (commands.Link (link_to key target.now moment)) (reply_of Stored result) }

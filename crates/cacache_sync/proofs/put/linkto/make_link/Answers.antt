@@ -1,7 +1,7 @@
-use Rattle.cacache_sync.proofs.put.LinkCalls.{linked_ok}
+use Rattle.cacache_sync.proofs.put.LinkCalls.{links_hold}
 use Rattle.cacache_sync.proofs.put.linkto.make_link.Goals as goal
 
-pub returns-clause-linked : goal.returns-clause-linked
-returns-clause-linked g c =
+pub returns-clause-whole : goal.returns-clause-whole
+returns-clause-whole g c =
     let read = rw (← c.stored.ensures) at c.call.ensures.read_first in
-    linked_ok _ _ _ _ _ _ _ c.stored.result _ _ c.in_ok-target.ensures c.blank-options.ensures read
+    links_hold _ _ _ _ _ _ _ c.stored.result _ _ c.in_ok-target.ensures c.blank-options.ensures read
