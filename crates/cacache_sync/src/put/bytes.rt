@@ -4,7 +4,7 @@ ghost use Rattle.cacache_core.specs.{declared.integrity.algorithm.Algorithm.TheV
 ghost use Rattle.cacache_calls.specs.declared.command.Command.TheVariants as commands;
 ghost use Rattle.cacache_calls.specs.{declared.reply.Reply.TheVariants.{Stored}, Runs.{reply_of}};
 ghost use Rattle.cacache_jobs.specs.Environment.{Steps, RunsNumbered, RunsPut};
-ghost use Rattle.cacache_sync.specs.put.Puts.{keyed_put as keyed_put_of, unkeyed_put as unkeyed_put_of};
+ghost use Rattle.cacache_sync.specs.put.Puts.{keyed_put as keyed_put_of, put_of, unkeyed_put as unkeyed_put_of};
 
 use cacache_calls::{Command, Options, Put};
 use cacache_core::bytes::Bytes;
@@ -14,63 +14,30 @@ use cacache_core::text::Text;
 use cacache_jobs::call;
 use cacache_store::env::{Clock, Env, Names};
 use cacache_store::store::Store;
-use std::alloc::{AllocError, Global};
 
-/// What to store: the bytes, under a key.
-fn keyed_put(
-    alloc: Global,
-    algorithm: Algorithm,
-    key: &str,
-    data: Vec<u8>,
-    moment: u64,
-) -> std::result::Result<Put, AllocError>
-    ensures { IfOk result (λ put. put ≡ keyed_put_of algorithm key.now «data».items moment) }
-{
-    let key = Some(Text::from_str(alloc, key)?);
-    let data = Bytes::new(alloc, data)?;
-    let moment = u128::from(moment);
-    let options = Options::blank(algorithm);
-    Ok(Put {
-        key,
-        data,
-        moment,
-        options,
-    })
-}
-
-/// What to store: the bytes, without a key.
-fn unkeyed_put(
-    alloc: Global,
-    algorithm: Algorithm,
-    data: Vec<u8>,
-) -> std::result::Result<Put, AllocError>
-    ensures { IfOk result (λ put. put ≡ unkeyed_put_of algorithm «data».items) }
-{
-    let data = Bytes::new(alloc, data)?;
-    let options = Options::blank(algorithm);
-    Ok(Put {
-        key: None,
-        data,
-        moment: 0,
-        options,
-    })
-}
-
-/// Stores it with a temporary file of this number.
+/// Stores the bytes with a temporary file of this number. With a key, they are stored under it, with this moment.
 fn store<S: Store, C, N>(
     env: &mut Env<S, C, N>,
     cache: &str,
-    put: Put,
+    algorithm: Algorithm,
+    key: Option<Text>,
+    data: Vec<u8>,
+    moment: u64,
     number: u64,
 ) -> Result<Integrity>
-    requires { put.options.integrity ≡ None }
-    ensures stored { IfOk result
-        (λ i. i ≡ integrity_under put.options.algorithm put.«data») }
-    ensures ran { Steps S.log env.old env.new cache.now number (commands.Put put)
-        (reply_of Stored result) }
+    ensures stored { IfOk result (λ i. i ≡ integrity_under algorithm «data».items) }
+    ensures ran { Steps S.log env.old env.new cache.now number
+        (commands.Put (put_of algorithm key «data».items moment)) (reply_of Stored result) }
     ensures clock { env.new.clock ≡ env.old.clock }
     ensures names { env.new.names ≡ env.old.names }
 {
+    let data = Bytes::new(env.alloc, data)?;
+    let put = Put {
+        key,
+        data,
+        moment: u128::from(moment),
+        options: Options::blank(algorithm),
+    };
     call(env, cache, Command::Put(put), number).stored()
 }
 
@@ -124,9 +91,9 @@ pub fn write_sync_with_algo<S: Store, C: Clock, N: Names>(
 {
     let moment = env.clock.now();
     let number = env.names.fresh();
+    let key = Some(Text::from_str(env.alloc, key)?);
     let copy = Vec::from_slice(env.alloc, data)?;
-    let put = keyed_put(env.alloc, algo, key, copy, moment)?;
-    store(env, cache, put, number)
+    store(env, cache, algo, key, copy, moment, number)
 }
 
 /// What `write_sync` does, with bytes that are moved in, so that none is copied.
@@ -163,8 +130,8 @@ pub fn write_vec_sync_with_algo<S: Store, C: Clock, N: Names>(
 {
     let moment = env.clock.now();
     let number = env.names.fresh();
-    let put = keyed_put(env.alloc, algo, key, data, moment)?;
-    store(env, cache, put, number)
+    let key = Some(Text::from_str(env.alloc, key)?);
+    store(env, cache, algo, key, data, moment, number)
 }
 
 /// Stores the bytes without a key, and answers their SHA-256 integrity.
@@ -211,8 +178,7 @@ pub fn write_hash_sync_with_algo<S: Store, C: Clock, N: Names>(
 {
     let number = env.names.fresh();
     let copy = Vec::from_slice(env.alloc, data)?;
-    let put = unkeyed_put(env.alloc, algo, copy)?;
-    store(env, cache, put, number)
+    store(env, cache, algo, None, copy, 0, number)
 }
 
 /// What `write_hash_sync` does, with bytes that are moved in, so that none is copied.
@@ -240,6 +206,5 @@ pub fn write_hash_vec_sync_with_algo<S: Store, C: Clock, N: Names>(
         (commands.Put (unkeyed_put_of algo «data».items)) (reply_of Stored result) }
 {
     let number = env.names.fresh();
-    let put = unkeyed_put(env.alloc, algo, data)?;
-    store(env, cache, put, number)
+    store(env, cache, algo, None, data, 0, number)
 }

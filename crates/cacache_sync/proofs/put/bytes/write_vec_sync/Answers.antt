@@ -1,1 +1,0 @@
--- No answers are needed here.
