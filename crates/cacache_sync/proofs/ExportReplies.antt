@@ -1,7 +1,9 @@
 -- What exports answer, and what the checked ones read first.
-use Rattle.std.{proofs.Common.{◌≡◌, ◌≢◌, Bool, true, Result, Ok, Err, refl}, specs.Prelude.{IfOk}}
+use Rattle.std.{proofs.Common.{◌≡◌, ◌≢◌, ℕ, true, List, Option, Result, Ok, Err, refl}, specs.Prelude.{IfOk}}
 use Rattle.cacache_core.specs.declared.errors.Error.{Error}
-use Rattle.cacache_calls.specs.{declared.{command.{How.{How, TheVariants.{Copy, Reflink, HardLink}}, Source.{Source, TheVariants.{Key, Hash}}, Export.{Export}}, reply.Reply.{Reply, TheVariants.{Done}}}, Promises.{Answers, Exports, OnlyCopies, Only}, State.{Site}}
+use Rattle.cacache_store.specs.declared.store.log.LogItem.{LogItem}
+use Rattle.cacache_calls.specs.{declared.{command.{How.{How, TheVariants.{Copy, Reflink, HardLink}}, Source.{Source, TheVariants.{Key, Hash}}, Export.{Export}}, reply.Reply.{Reply, TheVariants.{Copied, Done}}}, Promises.{Answers, Exports, OnlyCopies, Only}, Replies.{done}, Runs.{reply_of}, State.{Site}}
+use Rattle.cacache_jobs.specs.ReadFirst.{ReadsFirst, Verified}
 use Rattle.cacache_calls.specs.declared.command.Command.TheVariants as commands
 
 -- every export answers by how it is made
@@ -22,7 +24,12 @@ done_by HardLink r other x = x
 pub says_nothing : (site : Site) (source : Source) (e : Export) (r : Reply) → e.how ≢ Copy → Answers site (commands.Export source e) r → Only Done r
 says_nothing site source e r other a = done_by e.how r other (exports site source e r a)
 
--- what holds of a checked one holds of what it answers
-pub if_checked : {A : Type 0} (P : A → Type 0) (checked : Bool) (r : Result A Error) → IfOk r (λ x. checked ≡ true → P x) → checked ≡ true → IfOk r P
-if_checked P checked (Ok x) h so = h so
-if_checked P checked (Err e) h so = tt
+-- ---- what a checked one read first
+
+pub copies_verified : (site : Site) (source : Source) (e : Export) (r : Result ℕ Error) (old new : Option (List LogItem)) → e.checked ≡ true → ReadsFirst site (commands.Export source e) (reply_of Copied r) old new → IfOk r (λ count. Verified site.cache source (Copied count) old new)
+copies_verified site source e (Ok count) old new so first = first so
+copies_verified site source e (Err error) old new so first = tt
+
+pub links_verified : (site : Site) (source : Source) (e : Export) (r : Result (Unit {0}) Error) (old new : Option (List LogItem)) → e.checked ≡ true → ReadsFirst site (commands.Export source e) (reply_of done r) old new → IfOk r (λ _. Verified site.cache source Done old new)
+links_verified site source e (Ok nothing) old new so first = first so
+links_verified site source e (Err error) old new so first = tt

@@ -1,7 +1,7 @@
 -- What exports are asked to do, and what the checked ones read first.
 use Rattle.std.specs.Prelude.{ℕ, List, Bool, true, false, ⊤}
 use Rattle.cacache_core.specs.Integrity.{IsIntegrity}
-use Rattle.cacache_calls.specs.{declared.{command.{Command.{Command}, Source.{Source, TheVariants.{Key, Hash}}, How.{How}}, reply.Reply.{Reply, TheVariants.{Done}}}, Promises.{Answers, Only, OnlyCopies}, State.{Site}}
+use Rattle.cacache_calls.specs.declared.command.{Command.{Command}, Source.{Source, TheVariants.{Key, Hash}}, How.{How}}
 use Rattle.cacache_calls.specs.declared.command.Command.TheVariants as commands
 use Rattle.cacache_sync.specs.declared.exporting.Named.{Named}
 use Rattle.cacache_sync.specs.declared.exporting.Named.TheVariants as named
@@ -28,11 +28,3 @@ checked_export how = exporting how true
 -- an export that doesn't verify the content
 abbrev pub unchecked_export : How → Source → List ℕ → Command
 unchecked_export how = exporting how false
-
--- wherever the command is called, it answers a count
-abbrev pub SaysCount : Command → Type 0
-SaysCount command = (site : Site) (r : Reply) → Answers site command r → OnlyCopies r
-
--- wherever the command is called, it only says that it is done
-abbrev pub SaysNothing : Command → Type 0
-SaysNothing command = (site : Site) (r : Reply) → Answers site command r → Only Done r

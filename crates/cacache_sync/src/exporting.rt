@@ -1,8 +1,8 @@
 //! Exports: a content is copied, shares its storage, or has one more name. A checked one verifies the content first.
 ghost use Rattle.std.specs.Prelude.{◌≡◌, ◌≢◌, true, IfOk};
 ghost use Rattle.cacache_calls.specs.{declared.{command.How.TheVariants.{Copy}, reply.Reply.TheVariants.{Copied, Done}}, Runs.{reply_of}, Replies.{done as says_done}};
-ghost use Rattle.cacache_sync.specs.Exports.{exporting, named_source, IsFormed, SaysCount, SaysNothing};
-ghost use Rattle.cacache_jobs.specs.{ReadFirst.{ReadsFirst, Verified}, Sites.{site_of}, Environment.{Calls}};
+ghost use Rattle.cacache_sync.specs.Exports.{exporting, named_source, IsFormed};
+ghost use Rattle.cacache_jobs.specs.{ReadFirst.{Verified}, Environment.{Calls}};
 
 use cacache_calls::{Command, Export, How, Source};
 use cacache_core::errors::Result;
@@ -12,26 +12,6 @@ use cacache_jobs::call;
 use cacache_store::env::Env;
 use cacache_store::store::Store;
 use std::alloc::{AllocError, Global};
-
-/// Makes a call that says how many bytes were copied.
-fn make_copy<S: Store, C, N>(env: &mut Env<S, C, N>, cache: &str, command: Command) -> Result<u64>
-    requires { SaysCount command }
-    ensures first { IfOk result (λ count. ReadsFirst (site_of cache.now env.old.base 0) command
-        (Copied count) (S.log env.old.store) (S.log env.new.store)) }
-    ensures ran { Calls S.log env.old env.new cache.now command (reply_of Copied result) }
-{
-    call(env, cache, command, 0).copied()
-}
-
-/// Makes a call that only says that it is done.
-fn make_link<S: Store, C, N>(env: &mut Env<S, C, N>, cache: &str, command: Command) -> Result<()>
-    requires { SaysNothing command }
-    ensures first { IfOk result (λ _. ReadsFirst (site_of cache.now env.old.base 0) command
-        Done (S.log env.old.store) (S.log env.new.store)) }
-    ensures ran { Calls S.log env.old env.new cache.now command (reply_of says_done result) }
-{
-    call(env, cache, command, 0).done()
-}
 
 /// What names the content that is exported.
 #[derive(Clone, Copy)]
@@ -74,7 +54,7 @@ pub fn copy_content<S: Store, C, N>(
     let to = Text::from_str(env.alloc, to)?;
     let how = How::Copy;
     let export = Export { how, checked, to };
-    make_copy(env, cache, Command::Export(source, export))
+    call(env, cache, Command::Export(source, export), 0).copied()
 }
 
 /// Shares the storage of the content with this path, or gives it this name, verified first or not.
@@ -96,5 +76,5 @@ pub fn link_content<S: Store, C, N>(
     let source = source_of(env.alloc, named)?;
     let to = Text::from_str(env.alloc, to)?;
     let export = Export { how, checked, to };
-    make_link(env, cache, Command::Export(source, export))
+    call(env, cache, Command::Export(source, export), 0).done()
 }

@@ -1,14 +1,15 @@
 use Rattle.std.{proofs.Common.{subst}, specs.Prelude.{IfOk}}
 use Rattle.cacache_calls.specs.declared.reply.Reply.TheVariants.{Done}
-use Rattle.cacache_jobs.specs.ReadFirst.{Verified}
-use Rattle.cacache_sync.proofs.ExportReplies.{says_nothing, if_checked}
+use Rattle.cacache_jobs.specs.{ReadFirst.{Verified}, Sites.{site_of}}
+use Rattle.cacache_sync.proofs.ExportReplies.{links_verified, says_nothing}
 use Rattle.cacache_sync.proofs.exporting.link_content.Goals as goal
 
-pub make_link-requires : goal.make_link-requires
-make_link-requires g c = λ site r a.
-    says_nothing site c.in_ok-source.source (record { how = c.args.how; checked = c.args.checked; to = c.in_ok-to.to }) r c.requires a
+pub done-requires : goal.done-requires
+done-requires g c =
+    says_nothing (site_of c.args.cache.now c.args.env.now.base 0) c.in_ok-source.source (record { how = c.args.how; checked = c.args.checked; to = c.in_ok-to.to }) _ c.requires c.call.ensures.promised
 
 pub returns-clause-verified : goal.returns-clause-verified
 returns-clause-verified g c = λ so.
-    subst (λ source. IfOk c.make_link.result (λ _. Verified c.args.cache.now source Done (g.S.Store.log c.args.env.now.store) (g.S.Store.log c.make_link.new.env.store))) c.in_ok-source.ensures.source
-    (if_checked (λ _. Verified c.args.cache.now c.in_ok-source.source Done (g.S.Store.log c.args.env.now.store) (g.S.Store.log c.make_link.new.env.store)) c.args.checked c.make_link.result c.make_link.ensures.first so)
+    let first = rw (← c.done.ensures) at c.call.ensures.read_first in
+    subst (λ source. IfOk c.done.result (λ _. Verified c.args.cache.now source Done (g.S.Store.log c.args.env.now.store) (g.S.Store.log c.call.new.env.store))) c.in_ok-source.ensures.source
+    (links_verified (site_of c.args.cache.now c.args.env.now.base 0) c.in_ok-source.source (record { how = c.args.how; checked = c.args.checked; to = c.in_ok-to.to }) c.done.result _ _ so first)
