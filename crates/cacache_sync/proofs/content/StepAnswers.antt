@@ -2,9 +2,9 @@
 use Rattle.std.proofs.Common.{◌≡◌, inl, inr, ℕ, List, Option, Result, Ok, Err, refl}
 use Rattle.cacache_core.specs.declared.errors.{Error.{Error, TheVariants.{IoError, OutOfMemory}}, Fault.{Fault}}
 use Rattle.cacache_store.specs.declared.store.answer.Answer.TheVariants as answers
-use Rattle.cacache_store.specs.{declared.store.log.LogItem.{LogItem}, Fits.{Fits, Logs}, Plain.{PlainStep, PlainAnswer}}
+use Rattle.cacache_store.specs.{declared.store.{log.LogItem.{LogItem}, plain.PlainFile.{PlainFile}}, Fits.{Fits, Logs}, Plain.{PlainStep, PlainAnswer}}
 use Rattle.cacache_store.specs.declared.store.step.Step.TheVariants as steps
-use Rattle.cacache_calls.specs.{declared.answers.Refusal.{Refusal}, Answers.{done_in, temp_in, file_in}, Common.{ends_with, fails, refuse}, Runs.{EndsAs}, SingleSteps.{FailsAt}}
+use Rattle.cacache_calls.specs.{declared.answers.Refusal.{Refusal}, Answers.{done_in, temp_in, file_in, length_in, got_in}, Common.{ends_with, fails, refuse}, Runs.{EndsAs}, SingleSteps.{FailsAt}}
 use Rattle.cacache_calls.specs.declared.answers.Refusal.TheVariants as refusals
 use Rattle.cacache_jobs.specs.Brought.{EndsRefused}
 
@@ -66,3 +66,15 @@ file_refused path (answers.Failed fault) refusal is fits = cc
 file_refused path (answers.NoMemory b) refusal is fits = cc
 file_refused path (answers.File f) refusal is fits = absurd cc
 file_refused path t refusal is fits = absurd fits
+
+pub size_refused : (path : List ℕ) (t : PlainAnswer) (refusal : Refusal) → Err refusal ≡ length_in t → Fits (steps.Size path) t → Refuses t refusal
+size_refused path (answers.Failed fault) refusal is fits = cc
+size_refused path (answers.NoMemory b) refusal is fits = cc
+size_refused path (answers.Length n) refusal is fits = absurd cc
+size_refused path t refusal is fits = absurd fits
+
+pub read_refused : (f : PlainFile) (max : ℕ) (t : PlainAnswer) (refusal : Refusal) → Err refusal ≡ got_in t → Fits (steps.Read f max) t → Refuses t refusal
+read_refused f max (answers.Failed fault) refusal is fits = cc
+read_refused f max (answers.NoMemory b) refusal is fits = cc
+read_refused f max (answers.Got g bytes) refusal is fits = absurd cc
+read_refused f max t refusal is fits = absurd fits

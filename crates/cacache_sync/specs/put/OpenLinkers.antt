@@ -28,14 +28,6 @@ asks_size l moment = sizing (target_at l moment)
 abbrev pub asks_file : LinkTarget → ℕ → State
 asks_file l moment = opening_file (to_link (target_at l moment))
 
--- it was asked, and is the one that the link is to have; or why it wasn't given
-abbrev pub Sizes :
-    LinkTarget → Result LinkTarget Error → Option (List LogItem) → Option (List LogItem) → Type 0
-Sizes l (Ok sized) old new =
-    (sized.moment ≡ l.moment)
-    × ((moment : ℕ) → Gone (asks_size l moment) (asks_file sized moment) old new)
-Sizes l (Err e) old new = (moment : ℕ) → Ran (asks_size l moment) (Refused (without_message e)) old new
-
 -- ---- how far a linker is
 
 -- the linker took these bytes of its target so far
@@ -69,13 +61,6 @@ HasSize path size old new = Does (steps.Size path) (answers.Length size) old new
 -- it wasn't given
 abbrev pub FailsToSize : List ℕ → Error → Option (List LogItem) → Option (List LogItem) → Type 0
 FailsToSize path e old new = FailsAt (steps.Size path) e old new
-
--- what is to be linked, with the size that was asked; or why it has none
-abbrev pub AsksSize :
-    LinkTarget → Result LinkTarget Error → Option (List LogItem) → Option (List LogItem) → Type 0
-AsksSize l (Ok next) old new =
-    (size : ℕ) × (next ≡ with_size l size) × HasSize l.path size old new
-AsksSize l (Err e) old new = FailsToSize l.path e old new
 
 module _ {F : Type 0} (file : F → PlainFile) where
   -- the target was opened, and the linker took nothing of it yet; or why it wasn't

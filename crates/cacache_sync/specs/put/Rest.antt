@@ -1,6 +1,6 @@
 -- What reading the rest of a target does.
 use Rattle.std.specs.Prelude.{◌≡◌, ℕ, List, Option, Result, Ok, Err, length}
-use Rattle.cacache_core.specs.{declared.{errors.Error.{Error}, integrity.{digest.Hash.{Hash}, hasher.Hasher.{Hasher}}}, Hashers.{Holds, algorithm_of}, Integrity.{integrity_under}}
+use Rattle.cacache_core.specs.{declared.{errors.Error.{Error}, integrity.hasher.Hasher.{Hasher}}, Hashers.{Holds, algorithm_of}}
 use Rattle.cacache_store.specs.declared.store.{log.LogItem.{LogItem}, plain.PlainFile.{PlainFile}}
 use Rattle.cacache_calls.specs.{declared.{reply.Reply.{Reply, TheVariants.{Refused}}, target.Target.{Target}}, Linking.{commit_for}, Runs.{Gone, Ran, without_message}, State.{State, hashing, to_link}, Storing.{link}}
 
@@ -29,15 +29,6 @@ abbrev pub ReadsOn :
 ReadsOn before file hasher next r old new =
     (t : Target ℕ) (bytes : List ℕ) → Holds hasher bytes → before ≡ length bytes
     → ReadsRest t file bytes hasher next r old new
-
--- the link was made of a target that was read to its end, and has this integrity and size
-abbrev pub LinksHashed :
-    Target ℕ → List Hash → ℕ → Reply
-    → Option (List LogItem) → Option (List LogItem) → Type 0
-LinksHashed t computed count reply old new =
-    (bytes : List ℕ)
-    → computed ≡ integrity_under t.options.algorithm bytes → count ≡ length bytes
-    → Ran (links t bytes) reply old new
 
 -- so many bytes of the target were hashed, the rest was read, and the link was made
 abbrev pub LinksRest :

@@ -2,7 +2,7 @@
 ghost use Rattle.std.specs.Prelude.{◌≡◌, ℕ, List, None, Some, IfOk};
 ghost use Rattle.cacache_core.specs.declared.integrity.algorithm.Algorithm.TheVariants.{Sha256};
 ghost use Rattle.cacache_calls.specs.{declared.reply.Reply.TheVariants.{Stored}, Runs.{reply_of}, Linking.{linked_to}, Blank.{blank}};
-ghost use Rattle.cacache_sync.specs.put.{OpenLinkers.{AsksSize, BeginsLink, CommitsLink, HasHashed, OpensLink, OpensLinker, OpensSized, OpensTarget, OpensWithSize, Sizes, StoresWhole, asks_file, asks_size, linked_by}, Options.{nothing_said, saying}, Rest.{LinksRest, LinksHashed}};
+ghost use Rattle.cacache_sync.specs.put.{OpenLinkers.{BeginsLink, CommitsLink, HasHashed, OpensLink, OpensLinker, OpensSized, OpensTarget, OpensWithSize, StoresWhole, asks_file, asks_size, linked_by}, Options.{nothing_said, saying}, Rest.{LinksRest}};
 
 mod reading;
 
@@ -75,19 +75,7 @@ pub(crate) fn open_target<S: Store>(
     }
 }
 
-/// Asks the target's size, which the link is to have.
-fn ask_size<S: Store>(alloc: Global, store: &mut S, linked: LinkTarget) -> Result<LinkTarget>
-    ensures asks { AsksSize linked result (S.log store.old) (S.log store.new) }
-    ensures begins { Sizes linked result (S.log store.old) (S.log store.new) }
-{
-    let path = linked.path.clone()?;
-    match told_size(alloc, &linked.path, store.step(Step::Size(path))) {
-        Ok(size) => Ok(linked.with_size(size as usize)),
-        Err(error) => Err(error),
-    }
-}
-
-/// Asks the target's size, and opens it.
+/// Asks the target's size, which the link is to have, and opens it.
 fn ask_size_and_open<S: Store>(
     alloc: Global,
     store: &mut S,
@@ -97,8 +85,9 @@ fn ask_size_and_open<S: Store>(
     ensures begins { OpensLinker S.File.seen linked.moment (asks_size linked) result
         (S.log store.old) (S.log store.new) }
 {
-    match ask_size(alloc, store, linked) {
-        Ok(linked) => open_target(alloc, store, linked),
+    let path = linked.path.clone()?;
+    match told_size(alloc, &linked.path, store.step(Step::Size(path))) {
+        Ok(size) => open_target(alloc, store, linked.with_size(size as usize)),
         Err(error) => Err(error),
     }
 }
@@ -123,23 +112,6 @@ fn open_blank<S: Store, C, N>(
     ask_size_and_open(alloc, &mut env.store, linked)
 }
 
-/// Makes the link of a target that was read to its end and has this integrity and size.
-fn finish<S: Store, C, N>(
-    env: &mut Env<S, C, N>,
-    target: Target<u128>,
-    computed: Integrity,
-    count: usize,
-) -> Result<Integrity>
-    ensures ran { LinksHashed target computed count (reply_of Stored result)
-        (S.log env.old.store) (S.log env.new.store) }
-    ensures clock { env.new.clock ≡ env.old.clock }
-    ensures names { env.new.names ≡ env.old.names }
-    ensures base { env.new.base ≡ env.old.base }
-{
-    let (commit, path) = target.into_commit(computed, count);
-    link_from(env, commit, path).stored()
-}
-
 /// Reads the rest of the target after so many bytes that were hashed, and makes the link.
 fn link_rest<S: Store, C, N>(
     env: &mut Env<S, C, N>,
@@ -157,7 +129,10 @@ fn link_rest<S: Store, C, N>(
     let mut hasher = hasher;
     match read_rest(env.alloc, &mut env.store, file, &mut hasher, count) {
         Ok(whole) => match hasher.result(env.alloc) {
-            Ok(computed) => finish(env, target, computed, whole),
+            Ok(computed) => {
+                let (commit, path) = target.into_commit(computed, whole);
+                link_from(env, commit, path).stored()
+            }
             Err(error) => Err(error),
         },
         Err(error) => Err(error),

@@ -9,7 +9,8 @@ returns-in-Ok-result-clause-ran g c =
     let x = c.in-Ok.ensures c.args.target bytes holds is in
     let same : algorithm_of c.read_rest.new.hasher ≡ c.args.target.options.algorithm = x.1.1 ∙ under in
     let computed : c.in-Ok-result.computed ≡ integrity_under c.args.target.options.algorithm x.0 = rw same at (c.in-Ok-result.ensures.ok x.0 x.1.0) in
-    ran_through _ _ _ _ _ _ x.3 (c.finish.ensures.ran x.0 computed x.2)
+    let ran = rw (c.into_commit-commit.ensures.commit x.0 computed x.2, c.into_commit-commit.ensures.path, ← c.stored.ensures) at c.link_from.ensures.ran in
+    ran_through _ _ _ _ _ _ x.3 ran
 
 pub returns-in-Err-result-clause-ran : goal.returns-in-Err-result-clause-ran
 returns-in-Err-result-clause-ran g c =
