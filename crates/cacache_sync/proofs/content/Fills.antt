@@ -1,6 +1,6 @@
 -- A buffer that is filled from its front, by one read after another.
 use Rattle.std.specs.{Prelude.{Option, None, Some}, Io.KnownBytes.{Consumes, Keeps}}
-use Rattle.std.proofs.{Common.{◌≡◌, ◌≤◌, ◌∙◌, ℕ, ◌+◌, ◌-◌, List, [], ◌++◌, ap, append-nil, drop, drop_at, le_refl, length, length-take-le, subst, sym, take, take-append-drop, take_all}, KnownBytes.{Consumes-kept, Consumes-nil, Consumes-trans}, lemmas.Slice.{take-put_mid_below}}
+use Rattle.std.proofs.{Common.{◌≡◌, ◌≤◌, ◌∙◌, ℕ, ◌+◌, ◌-◌, List, [], ◌++◌, ap, append-nil, drop, drop_at, le_refl, length, length-take-le, subst, sym, take, take-append-drop, take_all}, KnownBytes.{Consumes-kept, Consumes-trans}, lemmas.Slice.{take-put_mid_below}}
 use borrow.Rule.Slice.PartMut.{post_of, put_mid}
 use lib.Seq.{take-add, take-append-le}
 use Rattle.cacache_sync.specs.content.Filling.{GivesPart}
