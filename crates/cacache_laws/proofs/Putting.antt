@@ -5,10 +5,10 @@ pub mod Forms
 pub mod WritesLast
 pub mod KeptKeys
 pub mod Inserting
+pub mod Deeds
 pub mod Beside
 pub mod OpenWriters
 pub mod Committing
 pub mod Puts
 pub mod WrittenFiles
-pub mod Arriving
 pub mod StandingPuts

@@ -9,5 +9,4 @@ pub mod Looks
 pub mod Looked
 pub mod GivenReads
 pub mod OpenReaders
-pub mod Copying
 pub mod Standing

@@ -1,6 +1,3 @@
-pub mod Tasks
-pub mod Cutting
-pub mod Clearing
 pub mod Emptied
 pub mod Removals
 pub mod Removed

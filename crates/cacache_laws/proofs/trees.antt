@@ -11,7 +11,7 @@ mod Stepping
 pub mod Fully
 mod SameListing
 mod Swept
-mod Cleared
+pub mod Cleared
 pub mod BothLogs
 pub mod Keeping
 pub mod Logged

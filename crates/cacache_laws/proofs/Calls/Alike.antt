@@ -26,12 +26,6 @@ none_added : (b : Bool) (o : Option (List Entry)) → list_of (cond b (Some (lis
 none_added true o = append-nil (list_of o)
 none_added false o = refl
 
-pub alike_self : (v : Value) → Alike v v
-alike_self v = record { contents = λ a. refl; lists = λ d. refl }
-
-pub alike_on : (u v w : Value) → Alike u v → Alike v w → Alike u w
-alike_on u v w h k = record { contents = λ a. h.contents a ∙ k.contents a; lists = λ d. h.lists d ∙ k.lists d }
-
 module _ (folder : Option Names) where
   pub change_alike : (act : Act) (v w : Value) → Alike v w → Alike (change folder act v) (change folder act w)
   change_alike Nothing v w h = h
@@ -51,8 +45,7 @@ module _ (folder : Option Names) where
     contents = λ a. ap (cond (is_path_of folder (content_names a) path) None) (h.contents a);
     lists = λ d. dropped (is_path_of folder (bucket_names_of d) path) (v.buckets d) (w.buckets d) (h.lists d);
   }
-  change_alike (MakeFolders path count) v w h = record { contents = h.contents; lists = h.lists }
-  change_alike (DropFolder path) v w h = record { contents = h.contents; lists = h.lists }
+  change_alike act v w h = record { contents = h.contents; lists = h.lists }
 
   -- an act, and its deeds
   act_alike : (act : Act) (v w : Value) → Alike v w → Alike (change folder act v) (after_deeds folder (deeds_of_act act) w)
@@ -65,8 +58,7 @@ module _ (folder : Option Names) where
   }
   act_alike (AddEntries path (e ∷ es)) v w h = change_alike (AddEntries path (e ∷ es)) v w h
   act_alike (Drop path) v w h = change_alike (Drop path) v w h
-  act_alike (MakeFolders path count) v w h = record { contents = h.contents; lists = h.lists }
-  act_alike (DropFolder path) v w h = record { contents = h.contents; lists = h.lists }
+  act_alike act v w h = record { contents = h.contents; lists = h.lists }
 
   -- ---- one after another
 

@@ -3,15 +3,20 @@ use Rattle.std.proofs.Common.{◌≡◌, ◌⊎◌, inl, inr, ℕ, Bool, true, L
 use Rattle.cacache_core.specs.declared.{errors.{SerdeCause.{SerdeCause}, Error.TheVariants.{SerdeError}}, integrity.digest.Hash.{Hash}}
 use Rattle.cacache_store.specs.Plain.{PlainAnswer}
 use Rattle.cacache_calls.specs.declared.command.Command.TheVariants as commands
-use Rattle.cacache_calls.specs.{declared.{command.{Insert.{Insert}, Put.{Put}}, reply.Reply.{Reply, TheVariants.{Refused}}, carried.Commit.{Commit}}, Inserting.{unless_refused, insertion, deletion, refused_cause}, State.{State, Site, doing, creating, writing, syncing, persisting, linking, confirming, appending, walking, over, Insertion}, Storing.{insertion_of, indexed, sized, compared, placed, put_commit}, Table.{after, opening}, Runs.{Moves, Runs}}
+use Rattle.cacache_calls.specs.{Walking.{EachVisit}, declared.{visit.Visit.{Visit, TheVariants.{ReadBucket}}, command.{Insert.{Insert}, Put.{Put}}, reply.Reply.{Reply, TheVariants.{Refused}}, carried.Commit.{Commit}}, Inserting.{unless_refused, insertion, deletion, refused_cause}, State.{State, Site, doing, creating, writing, syncing, persisting, linking, confirming, appending, walking, over, Insertion}, Storing.{insertion_of, indexed, sized, compared, placed, put_commit}, Table.{after, opening}, Runs.{Moves, Runs}}
 use Rattle.cacache_calls.proofs.{Closed.{AnyAnswer, ClosedCommit, ClosedWalk, Closed, kept_always}, Visits.{MayMeet}}
-use Rattle.cacache_laws.{specs.CallErrors.{FailsOnly, CallsFailOnly}, proofs.Removing.Tasks.{Clears, ClearsAt}}
+use Rattle.cacache_laws.specs.CallErrors.{FailsOnly, CallsFailOnly}
 
 -- a commit that expects no integrity and no size, and has an entry that can be written
 pub record Plain (c : Commit) : Type 0 where
   pub no_integrity : c.options.integrity ≡ None
   pub no_size : c.options.size ≡ None
   pub written : (key : List ℕ) → c.key ≡ Some key → refused_cause (insertion_of c key) ≡ None
+
+-- what a clearing may visit: it reads no bucket
+abbrev ClearsAt : Visit → Type 0
+ClearsAt (ReadBucket p) = ⊥
+ClearsAt other = Unit {0}
 
 -- from this state on a call gives no other error
 abbrev Calm : State → Type 0
@@ -23,7 +28,7 @@ Calm (persisting c file) = Plain c
 Calm (linking c target) = Plain c
 Calm (confirming c fault) = Plain c
 Calm (appending i) = FailsOnly i.reply
-Calm (walking w v todo) = (w.clears ≡ true) × (ClearsAt v × Clears todo)
+Calm (walking w v todo) = (w.clears ≡ true) × (ClearsAt v × EachVisit ClearsAt todo)
 Calm (over r) = FailsOnly r
 Calm other = ⊥
 

@@ -7,28 +7,16 @@ use Rattle.cacache_laws.specs.Caches.{IsExcused}
 
 pub plain_error : (e : Error) → without_message (without_message e) ≡ without_message e
 plain_error (EntryNotFound c k) = refl
-plain_error (SizeMismatch wanted actual) = refl
-plain_error (IoError fault message) = refl
-plain_error (SerdeError cause message) = refl
-plain_error (IntegrityError fault) = refl
-plain_error OutOfMemory = refl
+plain_error e = refl
 
 -- an error that has no message is told as it is
 pub memory_error : (e : Error) → without_message e ≡ OutOfMemory → e ≡ OutOfMemory
-memory_error (EntryNotFound c k) h = absurd cc
-memory_error (SizeMismatch wanted actual) h = absurd cc
-memory_error (IoError fault message) h = absurd cc
-memory_error (SerdeError cause message) h = absurd cc
-memory_error (IntegrityError fault) h = absurd cc
 memory_error OutOfMemory h = refl
+memory_error e h = absurd cc
 
 pub missing_error : (e : Error) (cache key : List ℕ) → without_message e ≡ EntryNotFound cache key → e ≡ EntryNotFound cache key
 missing_error (EntryNotFound c k) cache key h = h
-missing_error (SizeMismatch wanted actual) cache key h = absurd cc
-missing_error (IoError fault message) cache key h = absurd cc
-missing_error (SerdeError cause message) cache key h = absurd cc
-missing_error (IntegrityError fault) cache key h = absurd cc
-missing_error OutOfMemory cache key h = absurd cc
+missing_error e cache key h = absurd cc
 
 -- what excuses an error without its message excuses it
 pub excused_error : (e : Error) (old new : List LogItem) → IsExcused (without_message e) old new → IsExcused e old new

@@ -27,7 +27,6 @@ module _ (t : Target ℕ) (a b : Option ℕ) (bytes : List ℕ) (same : placed (
 
   confirmed_same : (fault : Fault) (answer : PlainAnswer) → after (confirming one fault) answer ≡ after (confirming other fault) answer
   confirmed_same fault (answers.There true) = same
-  confirmed_same fault (answers.There false) = refl
   confirmed_same fault answer = refl
 
   confirming_same : (fault : Fault) (moves : Moves) (r : Reply) → Runs (confirming one fault) moves r → Runs (confirming other fault) moves r

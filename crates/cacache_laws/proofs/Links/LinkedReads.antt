@@ -26,10 +26,8 @@ module _ (t : Tree) where
 
       by : ((found : Names) → followed most t found ≡ Ok end → followed (suc most) t found ≡ Ok end) → (o : Option Node) → on_link o names (λ target. and_then (standing t target) (followed most t)) ≡ Ok end
           → on_link o names (λ target. and_then (standing t target) (followed (suc most) t)) ≡ Ok end
-      by rec None e = e
-      by rec (Some Folder) e = e
-      by rec (Some (File bytes)) e = e
       by rec (Some (Link target)) e = next rec (standing t target) e
+      by rec other e = e
 
   -- what is at a path is at its place
   stands_at : (path : List ℕ) (names : Names) → standing t path ≡ Ok names → place t path ≡ Ok names
@@ -66,6 +64,5 @@ module _ (t : Tree) where
 
 pub links_show : LinksShow
 links_show cache target bytes held i log lies shows reads =
-    let t = tree_of log in
     let is : Some bytes ≡ Some held = sym (shows_so (tree_of log) target bytes (sym (ap (blob_bytes (tree_of log)) lies) ∙ reads)) ∙ shows in
     cc

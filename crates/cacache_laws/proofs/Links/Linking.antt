@@ -1,23 +1,21 @@
 -- What a link leaves: its bytes are those that the target shows, and its deeds are those of its commit.
-use Rattle.std.proofs.{Common.{◌≡◌, ◌⊎◌, inl, inr, ℕ, Bool, true, false, cond, List, [], ◌∷◌, ◌++◌, ◌||◌, Option, None, Some, Result, Ok, Err, length, map, refl, sym, ap, subst, ◌∙◌}, lemmas.{List.Elements.{All-head}, Bool.{cond-true}}}
-use Rattle.sha1.specs.Sha1.{sha1}
-use Rattle.cacache_core.specs.{declared.{errors.{Error.TheVariants.{IoError}, Fault.{Fault}}, integrity.digest.Hash.{Hash}}, Integrity.{IsHash, IsIntegrity}, PathNames.{Names, home_of, names_of}, Paths.{content_names}}
+use Rattle.std.proofs.Common.{◌≡◌, ◌⊎◌, inl, inr, ℕ, true, false, List, [], ◌∷◌, ◌++◌, ◌||◌, Option, None, Some, Result, Ok, Err, length, map, refl, sym, ap, subst, ◌∙◌}
+use Rattle.cacache_core.specs.{declared.{errors.{Error.TheVariants.{IoError}, Fault.{Fault}}, integrity.digest.Hash.{Hash}}, PathNames.{Names, home_of, names_of}}
 use Rattle.cacache_core.specs.declared.errors.Fault.TheVariants as faults
 use Rattle.cacache_store.specs.declared.store.answer.Answer.TheVariants as answers
 use Rattle.cacache_store.specs.declared.store.{log.LogItem.{LogItem, TheVariants.{Made}}, plain.PlainFile.{PlainFile}}
 use Rattle.cacache_store.specs.declared.store.step.Step.TheVariants as steps
 use Rattle.cacache_disk.specs.{declared.luck.Luck.TheVariants.{Plain}, Tree.{Tree}, Apply.{apply, opened, unless}, LedTo.{file_at, leads, place}, memory.Replay.{bytes_told, shown, tree_of}}
 use Rattle.cacache_disk.proofs.Roots.{same_self}
-use Rattle.cacache_entry.specs.Latest.{latest}
 use Rattle.cacache_calls.specs.declared.command.Command.TheVariants as commands
-use Rattle.cacache_calls.specs.{declared.{command.{Link.{Link}, Put.{Put}}, reply.Reply.{Reply}, target.Target.{Target}}, Linking.{based, commit_for, link_target, with_size}, Promises.{Stores}, Runs.{Moves, Runs}, Sound.{SoundTarget}, StepPaths.{content_path}, Storing.{insertion_of, put_commit}, State.{sizing}, Table.{after, opening}}
+use Rattle.cacache_calls.specs.{declared.{command.{Link.{Link}, Put.{Put}}, reply.Reply.{Reply}, target.Target.{Target}}, Linking.{based, commit_for, link_target, with_size}, Promises.{Stores}, Runs.{Moves, Runs}, Sound.{SoundTarget}, StepPaths.{content_path}, Storing.{put_commit}, State.{sizing}, Table.{after, opening}}
 use Rattle.cacache_calls.proofs.Verifying.{links_read_whole}
 use Rattle.cacache_calls.specs.declared.reply.Reply.TheVariants as replies
-use Rattle.cacache_value.specs.{Acts.{PutLink, change, list_of}, Kinds.{is_path_of}, Value.{AtLink, Blob, Value, value_of_tree}}
-use Rattle.cacache_history.specs.{Commits.{AddsAfter, CommitsAs, Deed, IsNotOk, InsertionAdds, LinksTo, PutsContent, ReadsTarget, deeds, does, finds}, Setup.{Setup, call_site, same_place}, Values.{IsThere}}
-use Rattle.cacache_history.proofs.{Contents.{Digests.{digest_hash}, OpenedContents.{EachAsks, OnDisks, gives_all, run_asks}, Righted.{one_address}}, Histories.ShownTurns.{content_below}}
-use Rattle.cacache_laws.specs.{Beside.{IsOther, ShareAddress, own_integrity}, Caches.{Called, HasContent, IsCache, lies_under, setup_at}, Keeping.{found_under}, ExportEffects.{IsApart}, Links.{FitsLink, KeepsBesideLink, LeavesLink, LinksLast, put_like}, Puts.{ExpectsIntegrity, LeadsToPut, MayLeadToPut, stored_as}, Sequence.{Alike, AreAnswered, CallIsAnswered, IsMadeOn, IsSound, SequenceCall, after_deeds, tree_on, turns_on}, Stored.{own_hash}}
-use Rattle.cacache_laws.proofs.{Putting.{Beside.{later_contents, later_lookups}, KeptKeys.{alike_lookup}, Puts.{led_by}, Stored.{adds_entry, below_is, first_deed}}, Calls.{Logs.{some_same}, InParts.{logs_lead}, Sequence.{calls_answer_alone, turns_made}}, Readings.ReadsStay.{sizing_keeps}, Removing.Removed.{over_run}}
+use Rattle.cacache_value.specs.{Acts.{PutLink}, Value.{AtLink, value_of_tree}}
+use Rattle.cacache_history.specs.{Commits.{CommitsAs, Deed, IsNotOk, LinksTo, ReadsTarget, deeds, finds}, Setup.{Setup, call_site, same_place}, Values.{IsThere}}
+use Rattle.cacache_history.proofs.Contents.{Digests.{digest_hash}, OpenedContents.{EachAsks, OnDisks, gives_all, run_asks}}
+use Rattle.cacache_laws.specs.{Beside.{ShareAddress, own_integrity}, Caches.{Called, HasContent, IsCache, lies_under}, ExportEffects.{IsApart}, Links.{FitsLink, KeepsBesideLink, LeavesLink, LinksLast, put_like}, Puts.{ExpectsIntegrity, stored_as}, Sequence.{Alike, AreAnswered, CallIsAnswered, IsMadeOn, IsSound, SequenceCall, after_deeds, tree_on, turns_on}, Stored.{own_hash}}
+use Rattle.cacache_laws.proofs.{Putting.Deeds.{commit_leads, finds_so, lies_or_found, lies_so, may_lead}, Calls.{Logs.{some_same}, InParts.{logs_lead}, Sequence.{calls_answer_alone, turns_made}}, Readings.ReadsStay.{sizing_keeps}, Removing.Removed.{over_run}}
 
 -- ---- the bytes that the target shows
 
@@ -44,153 +42,33 @@ read_held t path held P moves shows answered asks read =
     let same : w.1 ≡ held = gives_all w.0 w.1 held w.2 (opened_held t path held w.0 shows opens.0) (on_disks (apply t (steps.Open path) Plain).1 w.2 opens.1) rest.1 w.4 in
     subst P same w.5
 
--- ---- deeds
-
-module _ (cache : List ℕ) (p : Put) (path : List ℕ) where
-  -- a content is what it was, or at this address the link
-  abbrev Kept : Hash → Option Blob → Option Blob → Type 0
-  Kept a old new = (new ≡ old) ⊎ ((a ≡ own_hash p) × (new ≡ Some (AtLink path)))
-
-  by_place : (a : Hash) (old : Option Blob) (b : Bool) → (b ≡ true → a ≡ own_hash p) → Kept a old (cond b (Some (AtLink path)) old)
-  by_place a old true here = inr (here refl, refl)
-  by_place a old false here = inl refl
-
-  put_content : (d : Deed) (v : Value) → PutsContent (put_commit cache p) (λ names. PutLink names path) d → (a : Hash) → IsHash a
-      → Kept a (v.contents a) ((after_deeds (home_of cache) (d ∷ []) v).contents a)
-  put_content (finds at) v puts a is = inl refl
-  put_content (does act) v puts a is =
-      let g = own_hash p in
-      let below = sym (content_below (setup_at cache []) (own_hash p) [] (digest_hash p.options.algorithm p.data)) ∙ puts.1 in
-      subst (λ x. Kept a (v.contents a) ((change (home_of cache) x v).contents a)) (sym puts.2)
-      (by_place a (v.contents a) (is_path_of (home_of cache) (content_names a) puts.0)
-      (λ here. one_address cache (home_of cache) g a puts.0 (digest_hash p.options.algorithm p.data) is below here))
-
-  keeps_entries : (d : Deed) (v : Value) (digest : List ℕ) → PutsContent (put_commit cache p) (λ names. PutLink names path) d
-      → (after_deeds (home_of cache) (d ∷ []) v).buckets digest ≡ v.buckets digest
-  keeps_entries (finds at) v digest is = refl
-  keeps_entries (does act) v digest is = ap (λ x. (change (home_of cache) x v).buckets digest) is.2
-
-  module _ (ds : List Deed) (reply : Option Reply) (v : Value) where
-    link_lookups : CommitsAs (put_commit cache p) (λ names. PutLink names path) ds reply → (other : List ℕ) → IsOther p.key other
-        → latest other (list_of ((after_deeds (home_of cache) ds v).buckets (sha1 other))) ≡ latest other (list_of (v.buckets (sha1 other)))
-    link_lookups (inl h) other differ = ap (λ (x : List Deed). latest other (list_of ((after_deeds (home_of cache) x v).buckets (sha1 other)))) h.0
-    link_lookups (inr h) other differ =
-        ap (λ (x : List Deed). latest other (list_of ((after_deeds (home_of cache) x v).buckets (sha1 other)))) h.3
-        ∙ ap (λ (w : Value). latest other (list_of (w.buckets (sha1 other)))) (first_deed (home_of cache) h.0 h.1 v)
-        ∙ later_lookups cache p p.key h.1 reply (after_deeds (home_of cache) (h.0 ∷ []) v) h.4 other differ
-        ∙ ap (λ o. latest other (list_of o)) (keeps_entries h.0 v (sha1 other) h.2)
-
-    -- what a first deed left at an address is there in the end
-    first_last : (h : CommitsAs (put_commit cache p) (λ names. PutLink names path) ds reply) → (d : Deed) (more : List Deed) → ds ≡ d ∷ more → AddsAfter (put_commit cache p) p.key more reply → (a : Hash)
-        → (after_deeds (home_of cache) ds v).contents a ≡ (after_deeds (home_of cache) (d ∷ []) v).contents a
-    first_last h d more is adds a =
-        ap (λ (x : List Deed). (after_deeds (home_of cache) x v).contents a) is
-        ∙ ap (λ (w : Value). w.contents a) (first_deed (home_of cache) d more v)
-        ∙ later_contents cache p p.key more reply (after_deeds (home_of cache) (d ∷ []) v) adds a
-
-    link_contents : CommitsAs (put_commit cache p) (λ names. PutLink names path) ds reply → (a : Hash) → IsHash a
-        → Kept a (v.contents a) ((after_deeds (home_of cache) ds v).contents a)
-    link_contents (inl h) a is = inl (ap (λ (x : List Deed). (after_deeds (home_of cache) x v).contents a) h.0)
-    link_contents (inr h) a is = subst (Kept a (v.contents a)) (sym (first_last (inr h) h.0 h.1 h.3 h.4 a)) (put_content h.0 v h.2 a is)
-
-    -- the key's bucket has its entries, or the link's entry after them
-    link_entries : (key : List ℕ) → p.key ≡ Some key → CommitsAs (put_commit cache p) (λ names. PutLink names path) ds reply
-        → ((list_of ((after_deeds (home_of cache) ds v).buckets (sha1 key)) ≡ list_of (v.buckets (sha1 key))) × IsNotOk reply)
-        ⊎ (list_of ((after_deeds (home_of cache) ds v).buckets (sha1 key)) ≡ list_of (v.buckets (sha1 key)) ++ (insertion_of (put_commit cache p) key).entry ∷ [])
-    link_entries key keyed (inl h) = inl (ap (λ (x : List Deed). list_of ((after_deeds (home_of cache) x v).buckets (sha1 key))) h.0, h.1)
-    link_entries key keyed (inr h) =
-        let i = insertion_of (put_commit cache p) key in
-        let adds : InsertionAdds (insertion_of (put_commit cache p) key) h.1 reply = subst (λ k. AddsAfter (put_commit cache p) k h.1 reply) keyed h.4 in
-        let w = after_deeds (home_of cache) (h.0 ∷ []) v in
-        let step : list_of ((after_deeds (home_of cache) ds v).buckets (sha1 key)) ≡ list_of ((after_deeds (home_of cache) h.1 (after_deeds (home_of cache) (h.0 ∷ []) v)).buckets (sha1 key))
-        = ap (λ (x : List Deed). list_of ((after_deeds (home_of cache) x v).buckets (sha1 key))) h.3
-        ∙ ap (λ (x : Value). list_of (x.buckets (sha1 key))) (first_deed (home_of cache) h.0 h.1 v) in
-        let before = keeps_entries h.0 v (sha1 key) h.2 in
-        elim adds [
-          | inl none ↦ inl (step ∙ ap (λ (x : List Deed). list_of ((after_deeds (home_of cache) x w).buckets (sha1 key))) none.0 ∙ ap list_of before, none.1)
-          | inr e ↦
-              inr
-              (step ∙ ap (λ (x : List Deed). list_of ((after_deeds (home_of cache) x w).buckets (sha1 key))) e.2 ∙ adds_entry (setup_at cache []) i e.0 w refl e.1
-              ∙ ap (λ o. list_of o ++ (insertion_of (put_commit cache p) key).entry ∷ []) before)
-        ]
-
-    -- once it is done, the link is the content, or a content was found there
-    abbrev LinkedOrFound : Type 0
-    LinkedOrFound =
-        ((after_deeds (home_of cache) ds v).contents (own_hash p) ≡ Some (AtLink path))
-        ⊎ ((more : List Deed) × (ds ≡ finds (content_path cache (own_integrity p)) ∷ more)
-        × ((after_deeds (home_of cache) ds v).contents (own_hash p) ≡ v.contents (own_hash p)))
-
-    by_first : (d : Deed) (more : List Deed) → PutsContent (put_commit cache p) (λ names. PutLink names path) d → ds ≡ d ∷ more
-        → (after_deeds (home_of cache) ds v).contents (own_hash p) ≡ (after_deeds (home_of cache) (d ∷ []) v).contents (own_hash p) → LinkedOrFound
-    by_first (finds at) more puts is same = inr (more, is ∙ ap (λ x. finds x ∷ more) puts, same)
-    by_first (does act) more puts is same =
-        let g = own_hash p in
-        let at = below_is (home_of cache) (content_names (own_hash p)) puts.0 (names_of (content_path cache (own_integrity p)))
-        (content_below (setup_at cache []) (own_hash p) [] (digest_hash p.options.algorithm p.data)) puts.1 in
-        inl
-        (same ∙ ap (λ x. (change (home_of cache) x v).contents (own_hash p)) puts.2
-        ∙ cond-true (is_path_of (home_of cache) (content_names (own_hash p)) puts.0) (Some (AtLink path)) (v.contents (own_hash p)) at)
-
-    linked_or_found : (IsNotOk reply → ⊥) → CommitsAs (put_commit cache p) (λ names. PutLink names path) ds reply → LinkedOrFound
-    linked_or_found ok (inl h) = absurd (ok h.1)
-    linked_or_found ok (inr h) = by_first h.0 h.1 h.2 h.3 (first_last (inr h) h.0 h.1 h.3 h.4 (own_hash p))
-
 -- ---- logs
 
 module _ (cache : List ℕ) (p : Put) (path : List ℕ) (old new : List LogItem) (ds : List Deed) (reply : Option Reply)
     (commits : CommitsAs (put_commit cache p) (λ names. PutLink names path) ds reply)
     (follows : Alike (value_of_tree (home_of cache) (tree_of new)) (after_deeds (home_of cache) ds (value_of_tree (home_of cache) (tree_of old)))) where
-  lies_so : (i : List Hash) → IsIntegrity i
-      → (lies_under cache i new ≡ lies_under cache i old) ⊎ (ShareAddress i (own_integrity p) × (lies_under cache i new ≡ Some (AtLink path)))
-  lies_so [] formed = inl refl
-  lies_so (a ∷ hs) formed =
-      elim (link_contents cache p path ds reply (value_of_tree (home_of cache) (tree_of old)) commits a (All-head IsHash a hs formed.hashes)) [
-        | inl same ↦ inl (follows.contents a ∙ same)
-        | inr h ↦ inr (ap Some h.0, follows.contents a ∙ h.1)
-      ]
-
-  finds_so : (other : List ℕ) → IsOther p.key other → found_under cache other new ≡ found_under cache other old
-  finds_so other differ =
-      alike_lookup other (after_deeds (home_of cache) ds (value_of_tree (home_of cache) (tree_of old))) (value_of_tree (home_of cache) (tree_of new)) follows
-      ∙ link_lookups cache p path ds reply (value_of_tree (home_of cache) (tree_of old)) commits other differ
-
   content_so : (i : List Hash) (bytes : List ℕ) → (ShareAddress i (own_integrity p) → ⊥) → HasContent cache i bytes old → HasContent cache i bytes new
   content_so i bytes apart h =
-      elim (lies_so i h.formed) [
+      elim (lies_so cache p (AtLink path) old new ds reply commits follows i h.formed) [
         | inl same ↦ record { content = same ∙ h.content; formed = h.formed; meets = h.meets }
         | inr at ↦ absurd (apart at.0)
       ]
 
   link_keeps : KeepsBesideLink cache p.key (own_integrity p) path old new
   link_keeps = record {
-    finds = finds_so;
-    lies = lies_so;
+    finds = finds_so cache p (AtLink path) old new ds reply commits follows;
+    lies = lies_so cache p (AtLink path) old new ds reply commits follows;
     content = content_so;
-    key = λ other bytes i differ apart h. record { found = h.found; finds = finds_so other differ ∙ h.finds; integrity = h.integrity; content = content_so i bytes apart h.content };
+    key = λ other bytes i differ apart h. record { found = h.found; finds = finds_so cache p (AtLink path) old new ds reply commits follows other differ ∙ h.finds; integrity = h.integrity; content = content_so i bytes apart h.content };
   }
-
-  link_may_lead : ExpectsIntegrity p → MayLeadToPut cache p old new
-  link_may_lead expects key keyed =
-      elim (link_entries cache p path ds reply (value_of_tree (home_of cache) (tree_of old)) key keyed commits) [
-        | inl same ↦ inl (ap (latest key) (follows.lists (sha1 key) ∙ same.0))
-        | inr more ↦ inr (led_by cache p expects old new key (follows.lists (sha1 key) ∙ more))
-      ]
-
-  link_leads : ExpectsIntegrity p → (IsNotOk reply → ⊥) → LeadsToPut cache p new
-  link_leads expects ok key keyed =
-      elim (link_entries cache p path ds reply (value_of_tree (home_of cache) (tree_of old)) key keyed commits) [
-        | inl same ↦ absurd (ok same.1)
-        | inr more ↦ led_by cache p expects old new key (follows.lists (sha1 key) ∙ more)
-      ]
 
   link_lies : (IsNotOk reply → ⊥) → ((more : List Deed) → ds ≡ finds (content_path cache (own_integrity p)) ∷ more → IsThere (lies_under cache (own_integrity p) old))
       → (lies_under cache (own_integrity p) new ≡ Some (AtLink path))
       ⊎ (IsThere (lies_under cache (own_integrity p) old) × (lies_under cache (own_integrity p) new ≡ lies_under cache (own_integrity p) old))
   link_lies ok there =
-      elim (linked_or_found cache p path ds reply (value_of_tree (home_of cache) (tree_of old)) ok commits) [
-        | inl put ↦ inl (follows.contents (own_hash p) ∙ put)
-        | inr found ↦ inr (there found.0 found.1, follows.contents (own_hash p) ∙ found.2)
+      elim (lies_or_found cache p (AtLink path) old new ds reply commits follows ok) [
+        | inl put ↦ inl put
+        | inr found ↦ inr (there found.0 found.1, found.2)
       ]
 
 -- what a link leaves if its deeds are those of its commit
@@ -203,10 +81,10 @@ module _ (cache : List ℕ) (p : Put) (path : List ℕ) (old new : List LogItem)
   leaves_by = record {
     links = λ i is. record {
       stored = stored i is;
-      entry = link_leads cache p path old new ds (Some r) commits follows expects (λ no. subst (λ x. IsNotOk (Some x)) is no);
+      entry = commit_leads cache p (AtLink path) old new ds (Some r) commits follows expects (λ no. subst (λ x. IsNotOk (Some x)) is no);
       lies = link_lies cache p path old new ds (Some r) commits follows (λ no. subst (λ x. IsNotOk (Some x)) is no) found;
     };
-    leads = link_may_lead cache p path old new ds (Some r) commits follows expects;
+    leads = may_lead cache p (AtLink path) old new ds (Some r) commits follows expects;
     beside = link_keeps cache p path old new ds (Some r) commits follows;
   }
 

@@ -59,8 +59,6 @@ module _ (r : Reply) where
 
     confirmed : (fault : Fault) (answer : PlainAnswer) → IsRefusal (after (confirming one fault) answer)
     confirmed fault (answers.There true) = refused
-    confirmed fault (answers.There false) = tt
-    confirmed fault (answers.NoMemory step) = tt
     confirmed fault answer = tt
 
     confirming_stops : (fault : Fault) (moves : Moves) → Runs (confirming one fault) moves r → Stops (confirming other fault) moves

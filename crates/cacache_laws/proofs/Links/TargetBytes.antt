@@ -101,10 +101,7 @@ module _ (cache path : List ℕ) (old new : List LogItem) (sound : IsCache cache
   size_errs (IoError fault message) h = size_fails (IoError fault message) fault (inr (message, refl)) h
   size_errs OutOfMemory (inl same) = (unchanged cache old new sound (some_same new old same), inl refl)
   size_errs OutOfMemory (inr h) = size_fails OutOfMemory h.0 (inl refl) h.1
-  size_errs (EntryNotFound c key) h = absurd h
-  size_errs (SizeMismatch wanted actual) h = absurd h
-  size_errs (SerdeError cause message) h = absurd h
-  size_errs (IntegrityError fault) h = absurd h
+  size_errs e h = absurd h
 
   -- the log once the size was reported
   module _ (size : ℕ) where

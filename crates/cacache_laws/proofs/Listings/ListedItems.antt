@@ -26,11 +26,10 @@ entries_right (Err e ∷ xs) ys h = absurd h
 
 -- the first items and an error have no key twice
 pub once_front : (n : ℕ) (items : List Item) → NoKeyTwice items → NoKeyTwice (take n items ++ too_deep ∷ [])
-once_front zero items h = tt
-once_front (suc n) [] h = tt
 once_front (suc n) (Ok f ∷ items) h =
     (All-append (OtherKey f.key) (take n items) (too_deep ∷ []) (All-take (OtherKey f.key) n items h.0) (All-cons (OtherKey f.key) too_deep [] tt (All-nil (OtherKey f.key))), once_front n items h.1)
 once_front (suc n) (Err e ∷ items) h = once_front n items h
+once_front n items h = tt
 
 -- ---- what a bucket lists
 

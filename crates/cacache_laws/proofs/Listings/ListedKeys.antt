@@ -29,9 +29,8 @@ no_key_twice true items h = once_front most items h
 no_key_twice false items h = h
 
 never_entries : (items : List Item) → AreAllFound (items ++ too_deep ∷ []) → ⊥
-never_entries [] h = h
 never_entries (Ok f ∷ items) h = never_entries items h
-never_entries (Err e ∷ items) h = h
+never_entries items h = h
 
 unless_past : (P : List Item → Type 0) (b : Bool) (items : List Item) → (b ≡ false → AreAllFound items → P items) → AreAllFound (cond b (take most items ++ too_deep ∷ []) items)
     → P (cond b (take most items ++ too_deep ∷ []) items)
@@ -81,12 +80,7 @@ gives_keys cache base old new sound (replies.Listed list) plain k gave =
           (subst (ListsHeld s moves) plain (subst (λ r. ListsHeld (setup_at cache base) (turns_on (tree_of old) k.call.moves) (plain_reply r)) k.reply_is h))
     ]
 gives_keys cache base old new sound (replies.Refused e) plain k gave = gave
-gives_keys cache base old new sound (replies.Read b) plain k gave = absurd gave
-gives_keys cache base old new sound (replies.Stored i) plain k gave = absurd gave
-gives_keys cache base old new sound (replies.LookedUp found) plain k gave = absurd gave
-gives_keys cache base old new sound (replies.Exists there) plain k gave = absurd gave
-gives_keys cache base old new sound (replies.Copied n) plain k gave = absurd gave
-gives_keys cache base old new sound replies.Done plain k gave = absurd gave
+gives_keys cache base old new sound other plain k gave = absurd gave
 
 pub listings_give : ListingsGive
 listings_give cache r old new sound c =

@@ -75,9 +75,8 @@ module _ (s : Setup) (t : Tree) where
   found_leads turn here (Err e) h = tt
 
   folder_leads : (a : Result (List Name) Refusal) → All (Leads s t) (by_folder a)
-  folder_leads (Ok names) = All-nil (Leads s t)
   folder_leads (Err (refusals.Fault fault)) = All-cons (Leads s t) (failed fault) [] tt (All-nil (Leads s t))
-  folder_leads (Err refusals.Memory) = All-nil (Leads s t)
+  folder_leads a = All-nil (Leads s t)
 
   turn_leads : (turn : Turn) (step : PlainStep) (items : List Item) → IsHere turn → TurnGives s turn step items → All (Leads s t) items
   turn_leads turn (steps.ReadDir path) items here g = subst (All (Leads s t)) (sym g.1) (folder_leads (names_in turn.move.answer))
@@ -116,9 +115,8 @@ module _ (s : Setup) (turn : Turn) (holds : TurnHolds s turn) (path : List ℕ) 
 
 folder_errs : (a : PlainAnswer) (refusal : Refusal) → IsGiven a → names_in a ≡ Err refusal → AreAllFound (by_folder (names_in a)) → ⊥
 folder_errs (answers.Names names) refusal given is h = absurd cc
-folder_errs (answers.Failed fault) refusal given is h = h
 folder_errs (answers.NoMemory back) refusal given is h = given
-folder_errs other refusal given is h = h
+folder_errs a refusal given is h = h
 
 bucket_errs : (es : List Entry) (a : PlainAnswer) (refusal : Refusal) → IsGiven a → shown_result a (Ok es) ≡ Err refusal → AreAllFound (by_entries (shown_result a (Ok es))) → ⊥
 bucket_errs es (answers.Failed faults.NotFound) refusal given is h = absurd cc

@@ -1,19 +1,17 @@
 -- What the commit of a writer leaves in a cache.
-use Rattle.std.{proofs.Common.{◌≡◌, ◌⊎◌, inl, inr, ℕ, List, [], ◌∷◌, ◌++◌, Option, None, Some, map, refl, sym, ap, subst, ◌∙◌, append-nil, append_assoc}, specs.Prelude.{length}}
-use Rattle.cacache_core.specs.{declared.{errors.{Error.TheVariants.{IoError}, Fault.{Fault}}, integrity.{algorithm.Algorithm.{Algorithm}, digest.Hash.{Hash}}}, PathNames.{home_of}, Integrity.{IsHash, integrity_under}, Texts.{integrity_text}}
+use Rattle.std.proofs.Common.{◌≡◌, inl, inr, ℕ, List, [], ◌∷◌, ◌++◌, Some, map, refl, sym, ap, subst, ◌∙◌, append-nil, append_assoc}
+use Rattle.cacache_core.specs.{declared.{errors.{Error.TheVariants.{IoError}, Fault.{Fault}}, integrity.digest.Hash.{Hash}}, PathNames.{home_of}, Integrity.{IsHash}}
 use Rattle.cacache_store.specs.declared.store.answer.Answer.TheVariants as answers
 use Rattle.cacache_store.specs.declared.store.log.LogItem.{LogItem, TheVariants.{Made}}
 use Rattle.cacache_disk.specs.{Apply.{made_temp}, memory.Replay.{tree_of}}
 use Rattle.cacache_calls.specs.declared.command.Command.TheVariants as commands
-use Rattle.cacache_calls.specs.{declared.{command.Put.{Put}, reply.Reply.{Reply}}, Causes.{Faulted, HasCause, own_of}, StepPaths.{content_path, temp_folder, temp_path}, Runs.{Moves, Runs, plain_reply}, Sound.{FormedIfWritten}, Storing.{insertion_of, put_commit, persist, write_rest}, Table.{opening}, Inserting.{refused_cause}, Promises.{Stores}}
-use Rattle.cacache_calls.proofs.{Promises.{calls_answer}, IntegrityUtf8.{integrity_utf8}}
+use Rattle.cacache_calls.specs.{declared.{command.Put.{Put}, reply.Reply.{Reply}}, Causes.{Faulted, HasCause, own_of}, StepPaths.{content_path, temp_folder, temp_path}, Runs.{Moves, Runs, plain_reply}, Sound.{FormedIfWritten}, Storing.{insertion_of, put_commit, persist, write_rest}, Table.{opening}}
 use Rattle.cacache_calls.specs.declared.reply.Reply.TheVariants as replies
-use Rattle.cacache_value.specs.{Acts.{PutBytes}, Value.{Blob, InFile, value_of_tree}}
+use Rattle.cacache_value.specs.{Acts.{PutBytes}, Value.{value_of_tree}}
 use Rattle.cacache_history.specs.{Setup.{call_site}, History.{Turn}, Commits.{Deed, finds, deeds_of, deeds, CommitsAs}, Values.{IsThere}}
-use Rattle.cacache_history.proofs.{Contents.Digests.{digest_hash}, durable.CommitPlaces.{goes_runs}}
-use Rattle.cacache_laws.specs.{Sequence.{tree_on, turns_on, Alike, after_deeds, IsSound}, Stored.{own_hash}, InParts.{moves_in, Begun, with_part, IsOnItsWay}, Caches.{IsCache, setup_at, plain_put, WritesKey}, OpenWriters.{NothingElse, make_folder, make_file, IsOpened, CommitsBytes, CommitsLast, CommitsStore}}
-use Rattle.cacache_laws.proofs.{Calls.{Logs.{some_same}, InParts.{logs_lead, calls_begin, parts_go_on, parts_answer}, Handed.{writes_are_parts}, CallErrors.{calls_fail_only}}, Putting.{Forms.{bare_written}, Stored.{stores as stores_so}, OpenWriters.{gains_join, gains_grow, folder_first}, WritesLast.{has_key, keyed_formed}}, Readings.Known.{excused_by}}
-use Rattle.cacache_entry.specs.FittingEntries.{IsEntry}
+use Rattle.cacache_history.proofs.durable.CommitPlaces.{goes_runs}
+use Rattle.cacache_laws.specs.{Sequence.{tree_on, turns_on, Alike, after_deeds, IsSound}, InParts.{moves_in, Begun, with_part, IsOnItsWay}, Caches.{IsCache, setup_at}, OpenWriters.{make_folder, make_file, IsOpened, CommitsBytes, CommitsLast}}
+use Rattle.cacache_laws.proofs.{Calls.{Logs.{some_same}, InParts.{logs_lead, calls_begin, parts_go_on, parts_answer}, Handed.{writes_are_parts}}, Putting.OpenWriters.{gains_join, gains_grow, folder_first}}
 
 deeds_through : (xs ys : List Turn) → deeds (xs ++ ys) ≡ deeds xs ++ deeds ys
 deeds_through [] ys = refl
@@ -105,46 +103,3 @@ module _ (cache : List ℕ) (p : Put) (number : ℕ) (may : (key : List ℕ) →
 
 pub commits_last : CommitsLast
 commits_last cache p number r old new may o sound c = let e = ended cache p number may o r old new sound c in (e.sound, gains_grow old new c.ran.0 c.ran.2)
-
--- ---- of bytes under a key
-
-module _ (a : Algorithm) (cache key bytes : List ℕ) (moment number : ℕ) (old new : List LogItem) (free : NothingElse cache (integrity_under a bytes) bytes old)
-    (written : refused_cause (insertion_of (put_commit cache (plain_put a key bytes moment)) key) ≡ None) where
-  -- the reply is one of a put
-  is_of_put : (r : Reply) → Ended cache (plain_put a key bytes moment) number r old new → Stores (put_commit cache (plain_put a key bytes moment)) r
-  is_of_put r e = calls_answer (call_site (setup_at cache []) number) (commands.Put (plain_put a key bytes moment)) e.whole r e.run
-
-  -- a content that the commit finds has the bytes, since nothing else lies there
-  found_free : (r : Reply) → Ended cache (plain_put a key bytes moment) number r old new → IsThere ((value_of_tree (home_of cache) (tree_of old)).contents (own_hash (plain_put a key bytes moment)))
-      → (value_of_tree (home_of cache) (tree_of old)).contents (own_hash (plain_put a key bytes moment)) ≡ Some (InFile bytes)
-  found_free r e there = there_free ((value_of_tree (home_of cache) (tree_of old)).contents (own_hash (plain_put a key bytes moment))) free there
-    where
-      there_free : (o : Option Blob) → (o ≡ None) ⊎ (o ≡ Some (InFile bytes)) → IsThere o → o ≡ Some (InFile bytes)
-      there_free o (inl none) h = absurd (subst IsThere none h)
-      there_free o (inr is) h = is
-
-  stores : (r : Reply) → Ended cache (plain_put a key bytes moment) number r old new → WritesKey cache key bytes r old new
-  stores (replies.Stored i) e =
-      let p = plain_put a key bytes moment in
-      has_key a cache [] key bytes moment old new written i (tree_on (tree_of old) e.moves) (is_of_put (replies.Stored i) e).0 e.leads
-      (stores_so (setup_at cache []) (tree_of old) (tree_on (tree_of old) e.moves) (deeds (turns_on (tree_of old) e.moves)) e.follows (plain_put a key bytes moment) key (replies.Stored i)
-      (λ path more eq is. found_free (replies.Stored i) e (e.found (own_hash (plain_put a key bytes moment)) more (digest_hash a bytes) (eq ∙ ap (λ path. finds path ∷ more) is)))
-      (λ no. no) e.commits refl)
-  stores (replies.Refused error) e =
-      excused_by (own_of (commands.Put (plain_put a key bytes moment))) old new e.moves (λ fault none. none) e.gained error e.causes
-      (calls_fail_only.puts (call_site (setup_at cache []) number) key (plain_put a key bytes moment) e.whole (replies.Refused error)
-      (record { key_is = refl; no_integrity = refl; no_size = refl; written = written }) e.run)
-  stores (replies.Read b) e = absurd (is_of_put (replies.Read b) e)
-  stores (replies.LookedUp found) e = absurd (is_of_put (replies.LookedUp found) e)
-  stores (replies.Exists there) e = absurd (is_of_put (replies.Exists there) e)
-  stores (replies.Copied n) e = absurd (is_of_put (replies.Copied n) e)
-  stores (replies.Listed items) e = absurd (is_of_put (replies.Listed items) e)
-  stores replies.Done e = absurd (is_of_put replies.Done e)
-
-pub commits_store : CommitsStore
-unfolding refused_cause
-commits_store a cache key bytes moment number r old new utf8 small early o sound free c =
-    let p = plain_put a key bytes moment in
-    let w = bare_written key (Some (integrity_text (integrity_under a bytes))) moment (length bytes) utf8 (integrity_utf8 (integrity_under a bytes)) early small in
-    let e = ended cache p number (λ k is none. keyed_formed (λ k. IsEntry (insertion_of (put_commit cache (plain_put a key bytes moment)) k).entry) key k is w.formed) o r old new sound c in
-    (e.sound, gains_grow old new c.ran.0 c.ran.2, stores a cache key bytes moment number old new free w.no_cause r e)

@@ -107,10 +107,8 @@ still_stands t new p file made s = record {
 -- ---- it becomes a content
 
 no_folder : (home : Option Names) (here : Option Node) (names : Names) → MayStand home here Content → where_no_folder here names ≡ Ok names
-no_folder home None names s = refl
 no_folder home (Some Folder) names s = absurd s
-no_folder home (Some (File bytes)) names s = refl
-no_folder home (Some (Link target)) names s = refl
+no_folder home here names s = refl
 
 pub kept_so : (t : Tree) (file : PlainTemp) (s : Stands t file) → kept t file.path ≡ Ok s.names
 unfolding kept

@@ -115,10 +115,7 @@ module _ (cache : List ℕ) (number : ℕ) (old new : List LogItem) (sound : IsC
   folder_errs (IoError fault message) h = folder_fails (IoError fault message) fault (inr (message, refl)) h
   folder_errs OutOfMemory (inl same) = (part_keeps [] begins refl refl (gains_none (Some old) new same), inl refl)
   folder_errs OutOfMemory (inr h) = folder_fails OutOfMemory h.0 (inl refl) h.1
-  folder_errs (EntryNotFound c key) h = absurd h
-  folder_errs (SizeMismatch wanted actual) h = absurd h
-  folder_errs (SerdeError cause message) h = absurd h
-  folder_errs (IntegrityError fault) h = absurd h
+  folder_errs e h = absurd h
 
   module _ (mid : Option (List LogItem)) (made : Does (make_folder cache number) answers.Done (Some old) mid) where
     file_fails : (e : Error) (fault : Fault) → (e ≡ OutOfMemory) ⊎ ((message : List ℕ) × (e ≡ IoError fault message)) → Does (make_file cache number) (answers.Failed fault) mid (Some new) → KeptWith e
@@ -137,10 +134,7 @@ module _ (cache : List ℕ) (number : ℕ) (old new : List LogItem) (sound : IsC
       inl refl,
     )
     file_errs OutOfMemory (inr h) = file_fails OutOfMemory h.0 (inl refl) h.1
-    file_errs (EntryNotFound c key) h = absurd h
-    file_errs (SizeMismatch wanted actual) h = absurd h
-    file_errs (SerdeError cause message) h = absurd h
-    file_errs (IntegrityError fault) h = absurd h
+    file_errs e h = absurd h
 
   opens : (r : Result PlainTemp Error) → OpensWriter cache number r (Some old) (Some new) → Kept × HasOpened cache number r old new
   opens (Err e) (inl h) = folder_errs e h

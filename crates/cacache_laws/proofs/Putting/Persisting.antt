@@ -221,14 +221,11 @@ finds_nothing step a other = refl
 
 module _ (path : List ℕ) (more : List Deed) where
   acts_first : (act : Act) (rest : List Deed) → deeds_of_act act ++ rest ≡ finds path ∷ more → rest ≡ finds path ∷ more
-  acts_first Nothing rest e = e
   acts_first (PutBytes names bytes) rest e = absurd cc
   acts_first (PutLink names target) rest e = absurd cc
-  acts_first (AddEntries names []) rest e = e
   acts_first (AddEntries names (x ∷ xs)) rest e = absurd cc
   acts_first (Drop names) rest e = absurd cc
-  acts_first (MakeFolders names count) rest e = e
-  acts_first (DropFolder names) rest e = e
+  acts_first act rest e = e
 
   quiet_deeds : (t : Tree) (moves : Moves) → Quiet moves → deeds (turns_on t moves) ≡ finds path ∷ more → ⊥
   quiet_deeds t [] asks e = absurd cc

@@ -1,21 +1,21 @@
 -- What a put leaves if each thing is where it may be, even with ill-formed entries, which a loss may leave.
+use Rattle.cacache_laws.specs.{Puts.{PutsLeave, PutsMayLead, ExpectsIntegrity, HasPut}, Beside.{FitsEntry, own_integrity}, CallErrors.{IsPlainPut}, Caches.{Called, IsExcused, setup_at}, Sequence.{Alike, AreAnswered, after_deeds, plain_moves, tree_on, turns_on}, Standing.{IsStanding, PutStands, StandingWrites}}
+use Rattle.cacache_laws.proofs.{Readings.{Standing.{caches_stand}, Known.{excused_by}}, Putting.{Beside.{put_keeps}, Persisting.{puts_find_nothing}, Deeds.{commit_leads, may_lead}, Puts.{has_or_found}}, Calls.{CallErrors.{calls_fail_only}, InParts.{logs_lead}, Logs.{some_same}, Sequence.{moves_after, moves_follow, turns_made}}}
 use Rattle.std.proofs.{Common.{◌≡◌, ◌⊎◌, inl, inr, ℕ, List, [], ◌∷◌, ◌++◌, Option, None, Some, Result, Ok, Err, map, refl, sym, ap, subst, ◌∙◌, append-nil}, lemmas.List.Elements.{All-nil}}
 use Rattle.std.specs.Prelude.{IfOk}
 use Rattle.cacache_core.specs.{declared.{errors.{Error.{Error}, Fault.{Fault}}, integrity.digest.Hash.{Hash}}, PathNames.{Names, names_of, home_of}}
 use Rattle.cacache_store.specs.{Fits.{Fits}, Plain.{PlainStep, PlainAnswer}, declared.store.log.LogItem.{LogItem, TheVariants.{Made}}}
-use Rattle.cacache_disk.specs.{declared.{luck.Luck.TheVariants.{Plain}, node.Node.{Node, TheVariants.{Folder, File, Link}}}, Apply.{apply}, Rooted.{Rooted}, Tree.{Tree, look}, memory.Replay.{tree_of}}
+use Rattle.cacache_disk.specs.{declared.{luck.Luck.TheVariants.{Plain}, node.Node.{Node, TheVariants.{Link}}}, Apply.{apply}, Rooted.{Rooted}, Tree.{Tree, look}, memory.Replay.{tree_of}}
 use Rattle.cacache_disk.proofs.KeptFolders.{steps_keep_rooted}
 use Rattle.cacache_entry.{specs.FittingEntries.{IsEntry}, proofs.EntryCauses.{Fits-no_cause}}
 use Rattle.cacache_calls.specs.{declared.{command.{Command.{Command}, Put.{Put}}, reply.Reply.{Reply}}, Causes.{HasCause, own_of as faults_of}, Effects.{Commits, Effect, Indexes, Inserts, IsRefused, TookAll, effects_of, sent, stored}, Inserting.{bucket_line, refused_cause}, Runs.{Moves, Runs, plain_reply}, Sound.{FormedIfWritten, Sound}, State.{Insertion, Site, State}, StepPaths.{bucket_path, content_path}, Storing.{insertion_of, put_commit}, Table.{after, opening}}
 use Rattle.cacache_calls.proofs.{EarnedErrors.{io_errors_have_causes}, Effects.{puts_commit}, Promises.{calls_answer}, Sound.{begins_sound, stays_sound}}
 use Rattle.cacache_calls.specs.declared.command.Command.TheVariants as commands
 use Rattle.cacache_calls.specs.declared.reply.Reply.TheVariants as replies
-use Rattle.cacache_value.specs.{Acts.{AddEntries, PutBytes}, Kinds.{Elsewhere, path_kind}, OpeningTrees.{LieApart}, Placed.{MayStand, Placed}, Traces.{IsTrace}, Value.{value_of_tree}}
+use Rattle.cacache_value.specs.{Acts.{AddEntries, PutBytes}, Kinds.{Elsewhere, path_kind}, OpeningTrees.{LieApart}, Placed.{MayStand, Placed}, Traces.{IsTrace}, Value.{InFile, value_of_tree}}
 use Rattle.cacache_value.proofs.Traces.{steps_keep_placed, traces_act}
 use Rattle.cacache_history.specs.{Commits.{AddsAfter, CommitsAs, Deed, InsertionAdds, IsNotOk, PutsContent, deeds, does, finds}, History.{Turn, turn_of}, Setup.{Setup, call_site, home, is_outside, may_export}, Turns.{EachTurn, made_in}}
 use Rattle.cacache_history.proofs.{Contents.{Carrying.{Carries, Makes, Own, carries_makes, carries_on, opening_carries, own_bytes, own_of}, Deeds.{PutsAt, Realizes, SendsEntry, took_entry, turns_realize}}, Entries.Formed.{TreeFormed}, Histories.Holding.{TurnHolds, TurnsHold}, Proper.{sound_proper}}
-use Rattle.cacache_laws.specs.{Beside.{FitsEntry, own_integrity}, CallErrors.{IsPlainPut}, Caches.{Called, IsExcused, setup_at}, Puts.{ExpectsIntegrity, HasPut}, Sequence.{Alike, AreAnswered, after_deeds, plain_moves, tree_on, turns_on}, Standing.{IsStanding, PutStands, StandingWrites}}
-use Rattle.cacache_laws.proofs.{Putting.{Beside.{put_keeps}, Persisting.{puts_find_nothing}, Puts.{has_or_found, leads, may_lead}}, Calls.{CallErrors.{calls_fail_only}, InParts.{logs_lead}, Logs.{some_same}, Sequence.{moves_after, moves_follow, turns_made}}, Readings.Known.{excused_by}}
 
 -- ---- turns of a cache that names no folder: whatever is on the disk, it holds no entry
 
@@ -31,10 +31,8 @@ any_target (Ok names) = refl
 any_target (Err fault) = tt
 
 any_node : (o : Option Node) → MayStand None o Elsewhere
-any_node None = tt
-any_node (Some Folder) = tt
-any_node (Some (File bytes)) = tt
 any_node (Some (Link target)) = any_target (names_of target)
+any_node o = tt
 
 held_there : (turn : Turn) → Rooted turn.place → turn.move.answer ≡ (apply turn.place turn.move.step turn.move.luck).0 → Fits turn.move.step turn.move.answer → TurnHolds nowhere turn
 held_there turn rooted answered fits = record {
@@ -174,8 +172,8 @@ module _ (cache : List ℕ) (p : Put) (r : Reply) (old new : List LogItem) (fits
       let ok : IsNotOk (Some r) → ⊥ = λ no. subst (λ (x : Reply). IsNotOk (Some x)) is no in
       record {
         stored = (calls_answer site (commands.Put p) moves (replies.Stored i) (subst (Runs (opening site (commands.Put p)) moves) is c.ran.1)).0;
-        entry = leads cache p expects old new ds (Some r) commits follows ok;
-        content = elim (has_or_found cache p expects old new ds (Some r) commits follows ok) [
+        entry = commit_leads cache p (InFile p.data) old new ds (Some r) commits follows expects ok;
+        content = elim (has_or_found cache p old new ds (Some r) commits follows ok) [
           | inl has ↦ has
           | inr found ↦ absurd (puts_find_nothing (home_of cache) site p t moves r (content_path cache (own_integrity p)) found.0 standing.rooted standing.placed goes.trace c.ran.1 found.1)
         ];
@@ -194,10 +192,18 @@ module _ (cache : List ℕ) (p : Put) (r : Reply) (old new : List LogItem) (fits
   stands = record {
     standing = record { placed = subst (Placed (home_of cache)) (sym led) (goes.placed standing.placed); rooted = subst Rooted (sym led) goes.rooted };
     stored = has_put;
-    may_lead = may_lead cache p expects old new ds (Some r) commits follows;
+    may_lead = may_lead cache p (InFile p.data) old new ds (Some r) commits follows expects;
     keeps = put_keeps cache p old new ds (Some r) commits follows;
     fails = excused;
   }
 
 pub standing_writes : StandingWrites
 standing_writes cache p r old new fits expects standing c = stands cache p r old new fits expects standing c
+
+-- so does one on a cache
+
+pub puts_leave : PutsLeave
+puts_leave cache p i old new fits expects sound c = (standing_writes cache p (replies.Stored i) old new fits expects (caches_stand cache old sound) c).stored i refl
+
+pub puts_may_lead : PutsMayLead
+puts_may_lead cache p r old new fits expects sound c = (standing_writes cache p r old new fits expects (caches_stand cache old sound) c).may_lead

@@ -45,12 +45,12 @@ module _ (s : Setup) where
   keeps_blob i (does act) v a is = ap (λ x. (change (home s) x v).contents a) is.2
 
   -- a content that is put, or was there already
-  pub keeps_entries : (c : Commit) (bytes : List ℕ) (d : Deed) (v : Value) (digest : List ℕ) → PutsContent c (λ names. PutBytes names bytes) d
+  keeps_entries : (c : Commit) (bytes : List ℕ) (d : Deed) (v : Value) (digest : List ℕ) → PutsContent c (λ names. PutBytes names bytes) d
       → (after_deeds (home s) (d ∷ []) v).buckets digest ≡ v.buckets digest
   keeps_entries c bytes (finds path) v digest is = refl
   keeps_entries c bytes (does act) v digest is = ap (λ x. (change (home s) x v).buckets digest) is.2
 
-  pub puts_blob : (c : Commit) (bytes : List ℕ) (a : Hash) (d : Deed) (more ds : List Deed) (v : Value) → c.cache ≡ s.cache → c.computed ≡ a ∷ [] → IsHash a
+  puts_blob : (c : Commit) (bytes : List ℕ) (a : Hash) (d : Deed) (more ds : List Deed) (v : Value) → c.cache ≡ s.cache → c.computed ≡ a ∷ [] → IsHash a
       → ((path : List ℕ) (more : List Deed) → ds ≡ finds path ∷ more → path ≡ content_path c.cache c.computed → v.contents a ≡ Some (InFile bytes)) → ds ≡ d ∷ more
       → PutsContent c (λ names. PutBytes names bytes) d → (after_deeds (home s) (d ∷ []) v).contents a ≡ Some (InFile bytes)
   puts_blob c bytes a (finds path) more ds v here of hash found e is = found path more e is

@@ -1,10 +1,10 @@
 -- A path shows the file that was written at its end.
-use Rattle.std.proofs.{Common.{◌≡◌, ℕ, zero, suc, Bool, true, false, cond, List, [], ◌∷◌, ◌++◌, Option, None, Some, Result, Ok, Err, length, take, refl, sym, ap, subst, ◌∙◌, arith}, lemmas.List.{take_all}}
+use Rattle.std.proofs.Common.{◌≡◌, ℕ, zero, suc, Bool, true, false, cond, List, [], ◌∷◌, ◌++◌, Option, None, Some, Result, Ok, Err, refl, sym, ap, subst, ◌∙◌}
 use Rattle.cacache_core.specs.{declared.errors.Fault.{Fault}, PathNames.{Names, names_of}}
 use Rattle.cacache_core.specs.declared.errors.Fault.TheVariants as faults
 use Rattle.cacache_store.specs.declared.store.answer.Answer.TheVariants as answers
 use Rattle.cacache_store.specs.declared.store.step.Step.TheVariants as steps
-use Rattle.cacache_disk.specs.{declared.{luck.Luck.TheVariants.{Plain}, node.Node.{Node, TheVariants.{Folder, File, Link}}}, Apply.{apply, unless}, LedTo.{and_then, or_fault, way_fault, through, bytes_there, on_link, place, standing, followed, leads, file_at, writable, where_there, where_no_folder}, Tree.{Tree, look, put, same_path}, memory.Replay.{bytes_told, shown}}
+use Rattle.cacache_disk.specs.{declared.node.Node.{Node, TheVariants.{Folder, File, Link}}, Apply.{apply, unless}, LedTo.{and_then, or_fault, way_fault, through, bytes_there, on_link, place, standing, followed, leads, file_at, writable, where_there, where_no_folder}, Tree.{Tree, look, put, same_path}, memory.Replay.{bytes_told, shown}}
 use Rattle.cacache_disk.proofs.{Maps.{same_path-true}, PutNodes.{look-put}, Roots.{same_self}, FoundNodes.{or_fault_none}}
 use Rattle.cacache_laws.proofs.trees.Within.{through_none}
 
@@ -33,12 +33,11 @@ module _ (t : Tree) (end : Names) (bytes : List ℕ) (takes : Takes (look t end)
   -- ---- the way to a place
 
   way_so : (above rest : Names) → way_fault t above rest ≡ None → way_fault new above rest ≡ None
-  way_so above [] e = refl
-  way_so above (name ∷ []) e = refl
   way_so above (name ∷ next ∷ rest) e =
       let h = through_none (look t (above ++ name ∷ [])) (way_fault t (above ++ name ∷ []) (next ∷ rest)) e in
       ap (λ o. through o (way_fault new (above ++ name ∷ []) (next ∷ rest))) (other (above ++ name ∷ []) (Some Folder) h.0 (λ no. no))
       ∙ way_so (above ++ name ∷ []) (next ∷ rest) h.1
+  way_so above rest e = refl
 
   place_so : (path : List ℕ) (found : Names) → place t path ≡ Ok found → place new path ≡ Ok found
   unfolding place
@@ -78,10 +77,8 @@ module _ (t : Tree) (end : Names) (bytes : List ℕ) (takes : Takes (look t end)
   -- where links lead on, by what was there
   link_so : (names : Names) (go next : List ℕ → Result Names Fault) → ((target : List ℕ) → go target ≡ Ok end → next target ≡ Ok end) → (o : Option Node) → look t names ≡ o → on_link o names go ≡ Ok end
       → on_link (look new names) names next ≡ Ok end
-  link_so names go next each None is e = at_end names next cc
-  link_so names go next each (Some Folder) is e = at_end names next cc
-  link_so names go next each (Some (File b)) is e = at_end names next cc
   link_so names go next each (Some (Link target)) is e = ap (λ x. on_link x names next) (other names (Some (Link target)) is (λ no. no)) ∙ each target e
+  link_so names go next each other is e = at_end names next cc
 
   followed_so : (most : ℕ) (names : Names) → followed most t names ≡ Ok end → followed most new names ≡ Ok end
   unfolding followed
@@ -128,10 +125,9 @@ no_link t (suc most) names end e = link_ends (look t names) names end (λ target
     go rec (Ok next) e path l = rec next e path l
 
 takes : (t : Tree) (end : Names) (o : Option Node) → look t end ≡ o → ((path : List ℕ) → look t end ≡ Some (Link path) → ⊥) → (found : Names) → where_no_folder o end ≡ Ok found → Takes o × (end ≡ found)
-takes t end None is never found e = (tt, cc)
 takes t end (Some Folder) is never found e = absurd cc
-takes t end (Some (File b)) is never found e = (tt, cc)
 takes t end (Some (Link path)) is never found e = absurd (never path is)
+takes t end o is never found e = (tt, cc)
 
 leads_plain : (t : Tree) (path : List ℕ) (end : Names) → leads t path ≡ Ok end → (to : List ℕ) → look t end ≡ Some (Link to) → ⊥
 unfolding leads
@@ -152,17 +148,3 @@ written_shown t path bytes names = by (leads t path) refl
         subst (λ ns. shown (put t ns (File bytes)) path ≡ Some bytes) h.1 (shown_so t end bytes h.0 path is)
 
 -- ---- a copy
-
--- what a copy that is done took, and what it left
-pub copied : (t : Tree) (p q : List ℕ) (n : ℕ) → answers.Took n ≡ (apply t (steps.Copy p q) Plain).0
-    → (bytes : List ℕ) × (file_at t p faults.InvalidInput ≡ Ok bytes) × (n ≡ length bytes) × (shown (apply t (steps.Copy p q) Plain).1 q ≡ Some bytes)
-unfolding apply
-copied t p q n = by (file_at t p faults.InvalidInput) (writable t q) refl refl
-  where
-    by : (r : Result (List ℕ) Fault) (w : Result Names Fault) → file_at t p faults.InvalidInput ≡ r → writable t q ≡ w
-        → answers.Took n ≡ (unless r t (λ bytes. unless w t (λ names. (answers.Took (length bytes), put t names (File (take (length bytes) bytes)))))).0
-        → (bytes : List ℕ) × (r ≡ Ok bytes) × (n ≡ length bytes) × (shown (unless r t (λ bytes. unless w t (λ names. (answers.Took (length bytes), put t names (File (take (length bytes) bytes)))))).1 q ≡ Some bytes)
-    by (Err fault) w is to e = absurd cc
-    by (Ok bytes) (Err fault) is to e = absurd cc
-    by (Ok bytes) (Ok names) is to e =
-        (bytes, refl, cc, ap (λ b. shown (put t names (File b)) q) (take_all (length bytes) bytes (omega arith)) ∙ written_shown t q bytes names to)

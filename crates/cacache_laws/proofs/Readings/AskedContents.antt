@@ -57,27 +57,20 @@ module _ (cache base bytes : List ℕ) (i : List Hash) (old new : List LogItem) 
   -- a no comes from a failed step, and an error is out of memory
   failed_so : (step : PlainStep) (a : PlainAnswer) → replies.Exists false ≡ there_reply (unless_failed a (Ok true)) → (fault : Fault) × Faults step a fault
   failed_so step (answers.Failed fault) e = (fault, refl)
-  failed_so step (answers.NoMemory back) e = absurd cc
-  failed_so step other e = absurd cc
+  failed_so step a e = absurd cc
 
   lost_so : (e : Error) (a : PlainAnswer) → plain_reply (replies.Refused e) ≡ there_reply (unless_failed a (Ok true)) → plain_reply (replies.Refused e) ≡ replies.Refused OutOfMemory
-  lost_so e (answers.Failed fault) is = absurd cc
   lost_so e (answers.NoMemory back) is = is
-  lost_so e other is = absurd cc
+  lost_so e a is = absurd cc
 
   memory_so : (e : Error) → plain_reply (replies.Refused e) ≡ replies.Refused OutOfMemory → e ≡ OutOfMemory
   memory_so OutOfMemory is = refl
-  memory_so (IoError fault message) is = absurd cc
-  memory_so (EntryNotFound c key) is = absurd cc
-  memory_so (SizeMismatch wanted actual) is = absurd cc
-  memory_so (SerdeError cause message) is = absurd cc
-  memory_so (IntegrityError fault) is = absurd cc
+  memory_so e is = absurd cc
 
   -- no reply of another kind comes of it
   kind_so : (a : PlainAnswer) → IsSaid (there_reply (unless_failed a (Ok true)))
   kind_so (answers.Failed fault) = tt
-  kind_so (answers.NoMemory back) = tt
-  kind_so other = tt
+  kind_so a = tt
 
   no_other : (r : Reply) (a : PlainAnswer) → r ≡ there_reply (unless_failed a (Ok true)) → IsSaid r
   no_other r a e = subst IsSaid (sym e) (kind_so a)
@@ -116,9 +109,8 @@ abbrev SaysNo : PlainAnswer → Type 0
 SaysNo a = SaysAbsent (there_reply (unless_failed a (Ok false)))
 
 never_yes : (a : PlainAnswer) → SaysNo a
-never_yes (answers.Failed fault) = tt
 never_yes (answers.NoMemory back) = refl
-never_yes other = tt
+never_yes a = tt
 
 plainly_absent : (r : Reply) → SaysAbsent (plain_reply r) → SaysAbsent r
 plainly_absent (replies.Exists false) h = tt
@@ -128,13 +120,7 @@ plainly_absent (replies.Refused (EntryNotFound c key)) h = absurd cc
 plainly_absent (replies.Refused (SizeMismatch wanted actual)) h = absurd cc
 plainly_absent (replies.Refused (SerdeError cause message)) h = absurd cc
 plainly_absent (replies.Refused (IntegrityError fault)) h = absurd cc
-plainly_absent (replies.Exists true) h = absurd h
-plainly_absent (replies.Read b) h = absurd h
-plainly_absent (replies.Stored j) h = absurd h
-plainly_absent (replies.LookedUp found) h = absurd h
-plainly_absent (replies.Copied n) h = absurd h
-plainly_absent (replies.Listed items) h = absurd h
-plainly_absent replies.Done h = absurd h
+plainly_absent r h = absurd h
 
 pub asks_absent : AsksAbsent
 asks_absent cache i r old new sound formed none c =

@@ -16,14 +16,11 @@ module _ (s : Setup) (a : Hash) (is : IsHash a) (more : List Deed) where
   -- an act whose deeds aren't first leaves contents
   no_deeds : (act : Act) (v : Value) (rest : List Deed) → deeds_of_act act ++ rest ≡ finds (content_path s.cache (a ∷ [])) ∷ more
       → (rest ≡ finds (content_path s.cache (a ∷ [])) ∷ more) × ((change (home s) act v).contents a ≡ v.contents a)
-  no_deeds Nothing v rest e = (e, refl)
   no_deeds (PutBytes names bytes) v rest e = absurd cc
   no_deeds (PutLink names target) v rest e = absurd cc
-  no_deeds (AddEntries names []) v rest e = (e, refl)
   no_deeds (AddEntries names (x ∷ xs)) v rest e = absurd cc
   no_deeds (Drop names) v rest e = absurd cc
-  no_deeds (MakeFolders names count) v rest e = (e, refl)
-  no_deeds (DropFolder names) v rest e = (e, refl)
+  no_deeds act v rest e = (e, refl)
 
   -- a question that is answered yes, or otherwise what comes later
   asked : (t : Tree) (step : PlainStep) (answer : PlainAnswer) (rest : List Deed) → finds_in step answer ++ rest ≡ finds (content_path s.cache (a ∷ [])) ∷ more

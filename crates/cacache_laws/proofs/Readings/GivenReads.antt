@@ -1,6 +1,6 @@
 -- What reads answer in any cache, whether the content is there or not, whole or damaged.
-use Rattle.std.proofs.Common.{◌≡◌, ℕ, Bool, true, false, cond, List, [], Option, None, Some, Result, Ok, Err, refl, sym, ap, subst, ◌∙◌}
-use Rattle.cacache_core.specs.{declared.{errors.{Error.TheVariants.{EntryNotFound, SizeMismatch, IoError, SerdeError, IntegrityError, OutOfMemory}, Fault.{Fault}, IntegrityFault.TheVariants.{Check}}, integrity.digest.Hash.{Hash}}, Integrity.{Meets, actual}, Meeting.{meets}, PathNames.{home_of}}
+use Rattle.std.proofs.Common.{◌≡◌, inl, inr, ℕ, Bool, true, false, cond, List, [], Option, None, Some, Result, Ok, Err, refl, sym, ap, subst, ◌∙◌}
+use Rattle.cacache_core.specs.{declared.{errors.{Error.TheVariants.{EntryNotFound, IoError, IntegrityError, OutOfMemory}, Fault.{Fault}, IntegrityFault.TheVariants.{Check}}, integrity.digest.Hash.{Hash}}, Integrity.{Meets, actual}, Meeting.{meets}, PathNames.{home_of}}
 use Rattle.cacache_core.proofs.Meeting.{meets_finds}
 use Rattle.cacache_store.specs.declared.store.log.LogItem.{LogItem}
 use Rattle.cacache_disk.specs.memory.Replay.{tree_of}
@@ -9,8 +9,9 @@ use Rattle.cacache_calls.specs.{declared.{command.Command.{Command}, reply.Reply
 use Rattle.cacache_calls.specs.declared.command.Command.TheVariants as commands
 use Rattle.cacache_calls.specs.declared.reply.Reply.TheVariants as replies
 use Rattle.cacache_history.specs.ShownTurns.{as_refusal}
-use Rattle.cacache_laws.specs.{Caches.{IsExcused, setup_at}, Keeping.{found_under}, Looks.{bytes_under, GivesHeld, ContentReadsGive, GivesOfKey, KeyReadsGive}, ReadAnswers.{UnlessFailed, read_on, get_on}}
-use Rattle.cacache_laws.proofs.Readings.{Known.{Known, known, excuse}, ReadsKeep.{answered}}
+use Rattle.cacache_value.specs.Shows.{blob_bytes}
+use Rattle.cacache_laws.specs.{Caches.{IsExcused, setup_at, HasContent, GivesBytes, ReadsKey, ReadsContent, FindsNone, ReadsNone}, Keeping.{found_under}, Looks.{bytes_under, GivesHeld, ContentReadsGive, GivesLed, GivesOfKey, KeyReadsGive}, ReadAnswers.{UnlessFailed, read_on, get_on}}
+use Rattle.cacache_laws.proofs.Readings.{Known.{Known, known, excuse}, Looks.{looks_keep}, ReadsKeep.{answered, content_stays}, Standing.{caches_stand, standing_reads}}
 
 -- ---- what is to be answered
 
@@ -38,16 +39,10 @@ module _ (cache base : List ℕ) (command : Command) (old new : List LogItem) (n
 
   gives_held : (i : List Hash) {expected : Reply} → Answer i (bytes_under cache i old) expected → (r : Reply) → Known cache base command r old new → UnlessFailed expected (plain_reply r) → GivesHeld cache i r old new
   gives_held i (whole bytes is met) (replies.Read b) k h = let same : b ≡ bytes = cc in (is ∙ ap Ok (sym same), subst (Meets i) (sym same) met)
-  gives_held i (damaged bytes is unmet) (replies.Read b) k h = absurd cc
-  gives_held i (missing fault) (replies.Read b) k h = absurd cc
   gives_held i a (replies.Refused OutOfMemory) k h = tt
   gives_held i a (replies.Refused (IoError fault message)) k h = excused fault message k
-  gives_held i (whole bytes is met) (replies.Refused (IntegrityError f)) k h = absurd cc
   gives_held i (damaged bytes is unmet) (replies.Refused (IntegrityError f)) k h = (bytes, is, unmet, cc)
-  gives_held i (missing fault) (replies.Refused (IntegrityError f)) k h = absurd cc
-  gives_held i (whole bytes is met) other k h = absurd cc
-  gives_held i (damaged bytes is unmet) other k h = absurd cc
-  gives_held i (missing fault) other k h = absurd cc
+  gives_held i other another k h = absurd cc
 
 pub content_reads_give : ContentReadsGive
 content_reads_give cache i r old new formed sound c =
@@ -63,9 +58,6 @@ module _ (cache base key : List ℕ) (old new : List LogItem) where
   gives_none lacks (replies.Refused OutOfMemory) k h = tt
   gives_none lacks (replies.Refused (IoError fault message)) k h = excused cache base (commands.Get key) old new (λ f none. none) fault message k
   gives_none lacks (replies.Refused (EntryNotFound c l)) k h = (cc, cc, lacks)
-  gives_none lacks (replies.Refused (SizeMismatch wanted actual)) k h = absurd cc
-  gives_none lacks (replies.Refused (SerdeError cause message)) k h = absurd cc
-  gives_none lacks (replies.Refused (IntegrityError fault)) k h = absurd cc
   gives_none lacks other k h = absurd cc
 
   -- of one that leads to an entry
@@ -73,9 +65,6 @@ module _ (cache base key : List ℕ) (old new : List LogItem) where
   gives_led found finds (replies.Refused OutOfMemory) k h = tt
   gives_led found finds (replies.Refused (IoError fault message)) k h = h
   gives_led found finds (replies.Refused (EntryNotFound c l)) k h = absurd h
-  gives_led found finds (replies.Refused (SizeMismatch wanted actual)) k h = (found, finds, h)
-  gives_led found finds (replies.Refused (SerdeError cause message)) k h = (found, finds, h)
-  gives_led found finds (replies.Refused (IntegrityError fault)) k h = (found, finds, h)
   gives_led found finds other k h = (found, finds, h)
 
   gives_of_key : (o : Option Found) → found_under cache key old ≡ o → (r : Reply) → Known cache base (commands.Get key) r old new → UnlessFailed (get_on (setup_at cache base) (tree_of old) key o) (plain_reply r)
@@ -91,3 +80,44 @@ key_reads_give cache key r old new sound c =
     let k = known cache (commands.Get key) r old new c tt tt sound in
     let expected = get_on (setup_at cache c.base) (tree_of old) key (found_under cache key old) in
     gives_of_key cache c.base key old new (found_under cache key old) refl r k (answered cache c.base (commands.Get key) expected r old new k refl)
+
+-- ---- what is known to be there, or not to be
+
+pub reads_key : ReadsKey
+reads_key cache key bytes i r old new sound has c =
+    ((known cache (commands.Get key) r old new c tt tt sound).sound, standing_reads cache key bytes i r old new (caches_stand cache old sound) has c)
+
+pub reads_content : ReadsContent
+reads_content cache bytes i r old new sound has c =
+    ((known cache (commands.GetHash i) r old new c tt has.formed sound).sound, by r (content_reads_give cache i r old new has.formed sound c))
+  where
+    held : bytes_under cache i old ≡ Ok bytes
+    held = ap (blob_bytes (tree_of old)) has.content
+
+    by : (q : Reply) → GivesHeld cache i q old new → GivesBytes (HasContent cache i bytes new) bytes q old new
+    by (replies.Read b) h =
+        let same : ◌≡◌ {A = Result (List ℕ) Fault} (Ok b) (Ok bytes) = sym h.0 ∙ held in
+        (cc, content_stays cache bytes i old new (looks_keep cache (commands.GetHash i) r old new tt c) has)
+    by (replies.Refused OutOfMemory) h = inl refl
+    by (replies.Refused (IoError fault message)) h = h
+    by (replies.Refused (IntegrityError fault)) h =
+        let same : ◌≡◌ {A = Result (List ℕ) Fault} (Ok h.0) (Ok bytes) = sym h.1 ∙ held in
+        let is : h.0 ≡ bytes = cc in
+        absurd (h.2 (subst (Meets i) (sym is) has.meets))
+    by other h = absurd h
+
+pub reads_none : ReadsNone
+reads_none cache key r old new sound lacks c =
+    ((known cache (commands.Get key) r old new c tt tt sound).sound, by r (key_reads_give cache key r old new sound c))
+  where
+    led : (q : Reply) → GivesLed cache key q old new → FindsNone cache key q old new
+    led q h = let no : None ≡ Some h.0 = sym lacks ∙ h.1 in absurd cc
+
+    by : (q : Reply) → GivesOfKey cache key q old new → FindsNone cache key q old new
+    by (replies.Refused (EntryNotFound d k)) h =
+        let one : d ≡ cache = h.0 in
+        let two : k ≡ key = h.1 in
+        inl cc
+    by (replies.Refused (IoError fault message)) h = inr h
+    by (replies.Refused OutOfMemory) h = inr (inl refl)
+    by q h = led q h

@@ -60,10 +60,7 @@ pub excused_by : (own : Fault → Type 0) (old new : List LogItem) (moves : Move
     → HasCause own moves (plain_reply (replies.Refused e)) → FailsOnly (replies.Refused e) → IsExcused e old new
 excused_by own old new moves none gained OutOfMemory cause h = inl refl
 excused_by own old new moves none gained (IoError fault message) cause h = inr (moves, gained, fault, elim cause [ inl mine ↦ absurd (none fault mine) | inr f ↦ f ])
-excused_by own old new moves none gained (EntryNotFound c key) cause h = absurd h
-excused_by own old new moves none gained (SizeMismatch wanted actual) cause h = absurd h
-excused_by own old new moves none gained (SerdeError cause message) fault h = absurd h
-excused_by own old new moves none gained (IntegrityError fault) cause h = absurd h
+excused_by own old new moves none gained other cause h = absurd h
 
 pub excuse : (cache base : List ℕ) (command : Command) (old new : List LogItem) → ((fault : Fault) → own_of command fault → ⊥) → (e : Error)
     → Known cache base command (replies.Refused e) old new → FailsOnly (replies.Refused e) → IsExcused e old new

@@ -16,21 +16,13 @@ same_stays_known cache old new same = stays_known cache old new (record { conten
 fails_for : (there : Option Found) (e : Error) → UnlessFailed (replies.LookedUp there) (plain_reply (replies.Refused e)) → FailsOnly (replies.Refused e)
 fails_for there OutOfMemory h = tt
 fails_for there (IoError fault message) h = tt
-fails_for there (EntryNotFound c key) h = absurd cc
-fails_for there (SizeMismatch wanted actual) h = absurd cc
-fails_for there (SerdeError cause message) h = absurd cc
-fails_for there (IntegrityError fault) h = absurd cc
+fails_for there e h = absurd cc
 
 gives_found : (cache base key : List ℕ) (there : Option Found) (old new : List LogItem) (r : Reply) → Known cache base (commands.Find key) r old new
     → UnlessFailed (replies.LookedUp there) (plain_reply r) → GivesFound there r old new
 gives_found cache base key there old new (replies.LookedUp found) k h = cc
 gives_found cache base key there old new (replies.Refused e) k h = excuse cache base (commands.Find key) old new (λ fault none. none) e k (fails_for there e h)
-gives_found cache base key there old new (replies.Read b) k h = absurd cc
-gives_found cache base key there old new (replies.Stored i) k h = absurd cc
-gives_found cache base key there old new (replies.Exists there_is) k h = absurd cc
-gives_found cache base key there old new (replies.Copied n) k h = absurd cc
-gives_found cache base key there old new (replies.Listed items) k h = absurd cc
-gives_found cache base key there old new replies.Done k h = absurd cc
+gives_found cache base key there old new r k h = absurd cc
 
 pub finds_found : FindsFound
 finds_found cache key r old new sound c =
@@ -46,12 +38,7 @@ entry_found cache key bytes i old new has stays (replies.LookedUp (Some f)) h =
     (ap (λ (x : Found). x.integrity) same ∙ has.integrity, stays)
 entry_found cache key bytes i old new has stays (replies.LookedUp None) h = let no : None ≡ Some has.found = h ∙ has.finds in absurd cc
 entry_found cache key bytes i old new has stays (replies.Refused e) h = h
-entry_found cache key bytes i old new has stays (replies.Read b) h = absurd h
-entry_found cache key bytes i old new has stays (replies.Stored j) h = absurd h
-entry_found cache key bytes i old new has stays (replies.Exists there) h = absurd h
-entry_found cache key bytes i old new has stays (replies.Copied n) h = absurd h
-entry_found cache key bytes i old new has stays (replies.Listed items) h = absurd h
-entry_found cache key bytes i old new has stays replies.Done h = absurd h
+entry_found cache key bytes i old new has stays other h = absurd h
 
 pub finds_key : FindsKey
 finds_key cache key bytes i r old new sound has c =

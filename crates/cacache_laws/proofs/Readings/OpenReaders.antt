@@ -63,10 +63,7 @@ module _ (path : List ℕ) (old new : List LogItem) where
     excused = λ x is. (let one : OutOfMemory ≡ x = cc in inl (sym one));
   }
   errs OutOfMemory (inr h) = failed_at OutOfMemory h.0 (inl refl) h.1
-  errs (EntryNotFound c key) h = absurd h
-  errs (SizeMismatch wanted actual) h = absurd h
-  errs (SerdeError cause message) h = absurd h
-  errs (IntegrityError fault) h = absurd h
+  errs e h = absurd h
 
 pub opened_by : (cache : List ℕ) (i : List Hash) (r : Result PlainFile Error) (old new : List LogItem) → OpensContent cache i r (Some old) (Some new) → Opened (content_path cache i) r old new
 opened_by cache i (Err e) old new h = errs (content_path cache i) old new e h
@@ -150,10 +147,7 @@ lookup_keeps t cache key (m ∷ moves) r run =
 lookup_fails : (o : Option Found) (e : Error) → UnlessFailed (replies.LookedUp o) (plain_reply (replies.Refused (without_message e))) → FailsOnly (replies.Refused (without_message e))
 lookup_fails o OutOfMemory h = tt
 lookup_fails o (IoError fault message) h = tt
-lookup_fails o (EntryNotFound c key) h = absurd cc
-lookup_fails o (SizeMismatch wanted actual) h = absurd cc
-lookup_fails o (SerdeError cause message) h = absurd cc
-lookup_fails o (IntegrityError fault) h = absurd cc
+lookup_fails o e h = absurd cc
 
 -- ---- the opening of what a key leads to
 

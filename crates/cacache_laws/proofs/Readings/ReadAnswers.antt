@@ -75,7 +75,6 @@ module _ (s : Setup) (r : Reply) where
   gets t key (m ∷ moves) h =
       let entries = entries_on (home s) t key in
       let expected = get_on s t key (latest key (entries_on (home s) t key)) in
-      let t1 = (apply t m.0 Plain).1 in
       let first : turn_of t Plain m ≡ h.0 = cc in
       let rest : turns_on (apply t m.0 Plain).1 moves ≡ h.1 = cc in
       let step : m.0 ≡ steps.ReadAll (bucket_path s.cache key) = ap (λ (turn : Turn). turn.move.step) first ∙ h.3 in
@@ -122,9 +121,8 @@ module _ (s : Setup) (r : Reply) where
       only_one t m moves (bucket_path s.cache key) none (ap (λ (turn : Turn). turn.move.step) first ∙ h.2)
 
   next_keeps : (t : Tree) (key : List ℕ) (o : Result (Option Found) Refusal) (moves : Moves) → ReadsNext s key o (turns_on t moves) r → tree_on t moves ≡ t
-  next_keeps t key (Ok None) moves h = ap (tree_on t) (no_moves t moves h.0)
   next_keeps t key (Ok (Some f)) moves h = read_keeps t f.integrity moves h
-  next_keeps t key (Err refusal) moves h = ap (tree_on t) (no_moves t moves h.0)
+  next_keeps t key o moves h = ap (tree_on t) (no_moves t moves h.0)
 
   get_keeps : (t : Tree) (key : List ℕ) (moves : Moves) → GetsHeld s key (turns_on t moves) r → tree_on t moves ≡ t
   get_keeps t key [] h = refl

@@ -23,12 +23,7 @@ removes cache base key moment old new written (replies.Refused e) k h =
     let d : Delete = record { key = key; moment = moment } in
     excuse cache base (commands.Delete (record { key = key; moment = moment })) old new (λ fault none. none) e k
     (calls_fail_only.deletes (call_site (setup_at cache base) k.call.number) d k.call.moves (replies.Refused e) written k.run)
-removes cache base key moment old new written (replies.Stored i) k h = absurd cc
-removes cache base key moment old new written (replies.Read b) k h = absurd cc
-removes cache base key moment old new written (replies.LookedUp found) k h = absurd cc
-removes cache base key moment old new written (replies.Exists there) k h = absurd cc
-removes cache base key moment old new written (replies.Copied n) k h = absurd cc
-removes cache base key moment old new written (replies.Listed items) k h = absurd cc
+removes cache base key moment old new written other k h = absurd cc
 
 pub removals_last : RemovalsLast
 unfolding refused_cause
@@ -62,12 +57,7 @@ cleared cache base old new sound (replies.Refused (EntryNotFound c l)) plain k h
 cleared cache base old new sound (replies.Refused (SizeMismatch wanted actual)) plain k h = absurd (calls_fail_only.clears (call_site (setup_at cache base) k.call.number) k.call.moves (replies.Refused (SizeMismatch wanted actual)) k.run)
 cleared cache base old new sound (replies.Refused (SerdeError cause message)) plain k h = absurd (calls_fail_only.clears (call_site (setup_at cache base) k.call.number) k.call.moves (replies.Refused (SerdeError cause message)) k.run)
 cleared cache base old new sound (replies.Refused (IntegrityError fault)) plain k h = absurd (calls_fail_only.clears (call_site (setup_at cache base) k.call.number) k.call.moves (replies.Refused (IntegrityError fault)) k.run)
-cleared cache base old new sound (replies.Stored i) plain k h = absurd cc
-cleared cache base old new sound (replies.Read b) plain k h = absurd cc
-cleared cache base old new sound (replies.LookedUp found) plain k h = absurd cc
-cleared cache base old new sound (replies.Exists there) plain k h = absurd cc
-cleared cache base old new sound (replies.Copied n) plain k h = absurd cc
-cleared cache base old new sound (replies.Listed items) plain k h = absurd cc
+cleared cache base old new sound other plain k h = absurd cc
 
 pub clearings_empty : ClearingsEmpty
 clearings_empty cache r old new sound c =

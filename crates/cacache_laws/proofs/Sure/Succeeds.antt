@@ -15,7 +15,7 @@ use Rattle.cacache_laws.proofs.{Readings.Standing.{caches_stand}, Sure.{SureInse
 
 -- ---- a store on which no step fails
 
-home_ground : (cache : List ℕ) (log : List LogItem) (home : Names) → home_of cache ≡ Some home → IsStanding cache log → Ground home (tree_of log)
+pub home_ground : (cache : List ℕ) (log : List LogItem) (home : Names) → home_of cache ≡ Some home → IsStanding cache log → Ground home (tree_of log)
 home_ground cache log home is standing = record {
   placed = subst (λ h. Placed h (tree_of log)) is standing.placed;
   rooted = standing.rooted;

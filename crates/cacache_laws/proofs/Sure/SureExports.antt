@@ -1,31 +1,29 @@
 -- An export in which all steps succeed.
-use Rattle.std.proofs.{Common.{◌≡◌, ℕ, Bool, true, false, cond, List, [], ◌∷◌, ◌++◌, Option, None, Some, Result, Ok, Err, length, take, refl, sym, ap, subst, ◌∙◌, arith}, lemmas.List.Elements.{All-head}}
+use Rattle.std.proofs.{Common.{◌≡◌, option_map, ℕ, Bool, true, false, cond, List, [], ◌∷◌, ◌++◌, Option, None, Some, Result, Ok, Err, length, take, refl, sym, ap, subst, ◌∙◌, arith}, lemmas.List.{take_all, Elements.{All-head}}}
 use Rattle.sha1.specs.Sha1.{sha1}
-use Rattle.cacache_core.specs.{declared.{errors.{Error.TheVariants.{EntryNotFound, IoError, IntegrityError}, Fault.{Fault}, IntegrityFault.TheVariants.{Check}}, integrity.digest.Hash.{Hash}}, Integrity.{IsHash, IsIntegrity, Meets, actual, address}, Meeting.{meets}, PathNames.{Names, home_of, names_of}, Paths.{content_names}}
+use Rattle.cacache_core.specs.{declared.{errors.{Error.TheVariants.{EntryNotFound, IoError, IntegrityError}, Fault.{Fault}, IntegrityFault.TheVariants.{Check}}, integrity.digest.Hash.{Hash}}, Integrity.{IsHash, IsIntegrity, Meets, actual, address}, Meeting.{meets}, PathNames.{Names, home_of}, Paths.{content_names}}
 use Rattle.cacache_core.proofs.Meeting.{meets_finds}
 use Rattle.cacache_core.specs.declared.errors.Fault.TheVariants as faults
 use Rattle.cacache_store.specs.declared.store.answer.Answer.TheVariants as answers
 use Rattle.cacache_store.specs.declared.store.log.LogItem.{LogItem}
 use Rattle.cacache_store.specs.declared.store.step.Step.TheVariants as steps
-use Rattle.cacache_disk.specs.{declared.{luck.Luck.TheVariants.{Plain}, node.Node.{Node, TheVariants.{Folder, File, Link}}}, Tree.{Tree, look, put}, LedTo.{and_then, bytes_there, file_at, free, linked, writable}, Apply.{apply, opened, unless}, memory.Replay.{tree_of}}
+use Rattle.cacache_disk.specs.{declared.{luck.Luck.TheVariants.{Plain}, node.Node.{Node, TheVariants.{Folder, File, Link}}}, Tree.{Tree, look, put}, LedTo.{and_then, bytes_there, file_at, free, linked, writable}, Apply.{apply, opened, unless}, memory.Replay.{shown, tree_of}}
 use Rattle.cacache_entry.specs.Latest.{Found, latest}
 use Rattle.cacache_calls.specs.declared.carried.Aim.TheVariants as aims
-use Rattle.cacache_calls.specs.{declared.{carried.{Content.{Content}, Lookup.{Lookup}}, command.{Export.{Export}, How.{How, TheVariants.{Copy, HardLink, Reflink}}}, reply.Reply.{Reply, TheVariants.{Copied, Done, Refused}}}, Common.{ends_with}, Exporting.{copied_count, export, export_content, export_from, verified}, Looking.{found_for}, Replies.{OrMemory}, State.{State, copying, doing, hard_link, opening_file, over, reflink, to_verify}, StepPaths.{content_path}, Table.{opening}}
+use Rattle.cacache_calls.specs.{declared.{carried.{Content.{Content}, Lookup.{Lookup}}, command.{Export.{Export}, How.{How, TheVariants.{Copy, HardLink, Reflink}}, Source.{Source}}, reply.Reply.{Reply, TheVariants.{Copied, Done, Refused}}}, Common.{ends_with}, Exporting.{copied_count, export, export_content, export_from, verified}, Looking.{found_for}, Replies.{OrMemory}, State.{State, copying, doing, hard_link, opening_file, over, reflink, to_verify}, StepPaths.{content_path}, Table.{opening}}
 use Rattle.cacache_calls.specs.declared.command.Command.TheVariants as commands
 use Rattle.cacache_calls.specs.declared.command.Source.TheVariants as sources
 use Rattle.cacache_value.specs.{Kinds.{Content as AtContent}, Placed.{MayStand}, Shows.{blob_bytes, link_end}, Value.{AtLink, Blob, InFile, blob_in, value_of_tree}}
-use Rattle.cacache_history.{specs.ShownTurns.{blob_at}, proofs.Entries.Spelled.{HasIntegrity, latest_has}}
-use Rattle.cacache_laws.specs.{Caches.{HasContent}, ExportAnswers.{ExportsAnswer, StaysIfRefused, blob_named, blob_read, exported_reply, led_reply, made_reply, or_told, verified_reply}, Exported.{export_by}, OpenSucceeds.{ExportsSucceed, MayTake, exported}, ReadAnswers.{entries_on}}
-use Rattle.cacache_laws.proofs.{Readings.Standing.{caches_stand}, Sure.{Succeeds.{back, either, ground}, SureFiles.{opens_as, reads_whole}, SureReads.{bytes_at, held, led_there, looks_so, read_at, suited}, SureRuns.{EndsSo, both, ends, goes, of_log}, SureSteps.{Ground, Reached, arrives, missing}}, trees.Covering.{home_named}}
+use Rattle.cacache_history.{specs.{ShownTurns.{blob_at}, History.{NamesSource}}, proofs.Entries.Spelled.{HasIntegrity, latest_has}}
+use Rattle.cacache_laws.specs.{Caches.{Called, HasContent, IsCache, lies_under}, Keeping.{found_under}, results.Exports.{NamesHeld}, ExportAnswers.{export_reply, ExportsAnswer, StaysIfRefused, blob_named, blob_read, exported_reply, led_reply, made_reply, or_told, verified_reply}, Exported.{export_by}, OpenSucceeds.{ExportsSucceed, MayTake, exported}, ReadAnswers.{entries_on}}
+use Rattle.cacache_laws.proofs.{Putting.WrittenFiles.{written_shown}, Exports.Sharing.{put_shown}, Readings.Standing.{caches_stand}, Sure.{Succeeds.{either, ground, home_ground}, SureFiles.{opens_as, reads_whole}, SureReads.{bytes_at, held, led_there, looks_so, read_at, suited}, SureRuns.{EndsSo, both, ends, goes, of_log}, SureSteps.{Ground, Reached, arrives, missing}}, trees.Covering.{home_named}}
 
 -- ---- what lies there
 
 -- bytes that were read, and are copied then, are the same
 same_node : (here : Option Node) (read copied : List ℕ) → bytes_there faults.IsADirectory here ≡ Ok read → bytes_there faults.InvalidInput here ≡ Ok copied → read ≡ copied
-same_node None read copied a b = absurd cc
-same_node (Some Folder) read copied a b = absurd cc
 same_node (Some (File bytes)) read copied a b = cc
-same_node (Some (Link target)) read copied a b = absurd cc
+same_node here read copied a b = absurd cc
 
 same_end : (t : Tree) (end : Result Names Fault) (read copied : List ℕ) → and_then end (λ names. bytes_there faults.IsADirectory (look t names)) ≡ Ok read
     → and_then end (λ names. bytes_there faults.InvalidInput (look t names)) ≡ Ok copied → read ≡ copied
@@ -45,29 +43,34 @@ named (Some node) = Ok node
 module _ (home : Names) (t : Tree) (p : List ℕ) (names : Names) where
   named_as : (here : Option Node) → look t names ≡ here → MayStand (Some home) here AtContent → Reached t p names → linked t p ≡ named here
   unfolding linked
-  named_as None e s (arrives w) = rw (w, e) refl
   named_as None e s (missing h w) = rw w refl
   named_as (Some Folder) e s r = absurd s
-  named_as (Some (File bytes)) e s (arrives w) = rw (w, e) refl
   named_as (Some (File bytes)) e s (missing h w) = let differ : Some (File bytes) ≡ None = sym e ∙ h in absurd cc
-  named_as (Some (Link target)) e s (arrives w) = rw (w, e) refl
   named_as (Some (Link target)) e s (missing h w) = let differ : Some (Link target) ≡ None = sym e ∙ h in absurd cc
+  named_as here e s (arrives w) = rw (w, e) refl
 
   told_so : (here : Option Node) → MayStand (Some home) here AtContent → or_told (named here) (λ node. Done) ≡ or_told (blob_named (blob_in here)) (λ blob. Done)
-  told_so None s = refl
   told_so (Some Folder) s = absurd s
-  told_so (Some (File bytes)) s = refl
-  told_so (Some (Link target)) s = refl
+  told_so here s = refl
+
+file_there : (here : Option Node) (bytes : List ℕ) → blob_in here ≡ Some (InFile bytes) → here ≡ Some (File bytes)
+file_there (Some (File b)) bytes e = let same : InFile b ≡ InFile bytes = cc in let is : b ≡ bytes = cc in ap (λ x. Some (File x)) is
+file_there here bytes e = absurd cc
+
+-- a reply that refuses nothing
+abbrev pub IsGiven : Reply → Type 0
+IsGiven (Refused e) = ⊥
+IsGiven r = Unit {0}
 
 -- ---- an export of a content
 
-module _ (cache : List ℕ) (home : Names) (is : names_of cache ≡ Ok home) (t : Tree) (g : Ground home t) (e : Export) where
-  -- this reply, and after a refusal the same tree
-  abbrev pub Gives : Reply → Tree → Reply → Type 0
-  Gives wanted new r = (r ≡ wanted) × StaysIfRefused r t new
+module _ (cache : List ℕ) (home : Names) (is : home_of cache ≡ Some home) (t : Tree) (g : Ground home t) (e : Export) where
+  -- this reply, and after a refusal the same tree; otherwise the path shows the bytes of the file that lies there
+  abbrev pub Gives : Option Blob → Reply → Tree → Reply → Type 0
+  Gives blob wanted new r = (r ≡ wanted) × StaysIfRefused r t new × ((bytes : List ℕ) → blob ≡ Some (InFile bytes) → IsGiven r → shown new e.to ≡ Some bytes)
 
-  abbrev Leads : Reply → State → Type 0
-  Leads wanted s = EndsSo (Gives wanted) t s
+  abbrev Leads : Option Blob → Reply → State → Type 0
+  Leads blob wanted s = EndsSo (Gives blob wanted) t s
 
   module _ (h : Hash) (hs : List Hash) (hash : IsHash h) where
     -- the content of the integrity
@@ -79,13 +82,13 @@ module _ (cache : List ℕ) (home : Names) (is : names_of cache ≡ Ok home) (t 
 
     -- what lies there
     abbrev blob : Option Blob
-    blob = held home t g cache (home_named cache home is) h hs hash
+    blob = held home t g cache is h hs hash
 
     abbrev names : Names
     names = home ++ content_names h
 
     from_at : (folder : Fault) → file_at t path folder ≡ blob_read folder t blob
-    from_at folder = read_at home t g cache (home_named cache home is) h hs hash folder
+    from_at folder = read_at home t g cache is h hs hash folder
 
     -- ---- its last step
 
@@ -111,136 +114,202 @@ module _ (cache : List ℕ) (home : Names) (is : names_of cache ≡ Ok home) (t 
         ∙ ap (λ x. unless w t (λ q. unless x t (λ node. (answers.Done, put t q node)))) from
 
     -- a refusal
-    refused : (fault : Fault) → EndsSo (Gives (Refused (IoError fault []))) t (over (Refused (IoError fault [])))
-    refused fault = ends (Gives (Refused (IoError fault []))) t (Refused (IoError fault [])) (refl, refl)
+    refused : (fault : Fault) → EndsSo (Gives blob (Refused (IoError fault []))) t (over (Refused (IoError fault [])))
+    refused fault = ends (Gives blob (Refused (IoError fault []))) t (Refused (IoError fault [])) (refl, refl, λ bytes is given. absurd given)
 
     -- a count that was verified is that of the bytes
     abbrev Counts : Option ℕ → Type 0
     Counts count = (bytes : List ℕ) → blob_read faults.InvalidInput t blob ≡ Ok bytes → copied_count count (length bytes) ≡ length bytes
 
     copy_ends : (count : Option ℕ) (r : Result (List ℕ) Fault) (w : Result Names Fault) → blob_read faults.InvalidInput t blob ≡ r → writable t e.to ≡ w → Counts count
-        → Leads (or_told r (λ bytes. or_told w (λ q. Copied (length bytes)))) (copying path e.to count)
+        → Leads blob (or_told r (λ bytes. or_told w (λ q. Copied (length bytes)))) (copying path e.to count)
     copy_ends count (Err fault) w from to counts =
-        goes (Gives (Refused (IoError fault []))) t t (copying path e.to count) (steps.Copy path e.to) (answers.Failed fault) refl (copy_is (Err fault) w (from_at faults.InvalidInput ∙ from) to) (refused fault)
+        goes (Gives blob (Refused (IoError fault []))) t t (copying path e.to count) (steps.Copy path e.to) (answers.Failed fault) refl (copy_is (Err fault) w (from_at faults.InvalidInput ∙ from) to) (refused fault)
     copy_ends count (Ok bytes) (Err fault) from to counts =
-        goes (Gives (Refused (IoError fault []))) t t (copying path e.to count) (steps.Copy path e.to) (answers.Failed fault) refl (copy_is (Ok bytes) (Err fault) (from_at faults.InvalidInput ∙ from) to) (refused fault)
+        goes (Gives blob (Refused (IoError fault []))) t t (copying path e.to count) (steps.Copy path e.to) (answers.Failed fault) refl (copy_is (Ok bytes) (Err fault) (from_at faults.InvalidInput ∙ from) to) (refused fault)
     copy_ends count (Ok bytes) (Ok q) from to counts =
-        goes (Gives (Copied (length bytes))) t (put t q (File (take (length bytes) bytes))) (copying path e.to count) (steps.Copy path e.to) (answers.Took (length bytes)) refl
+        goes (Gives blob (Copied (length bytes))) t (put t q (File (take (length bytes) bytes))) (copying path e.to count) (steps.Copy path e.to) (answers.Took (length bytes)) refl
         (copy_is (Ok bytes) (Ok q) (from_at faults.InvalidInput ∙ from) to)
-        (ends (Gives (Copied (length bytes))) (put t q (File (take (length bytes) bytes))) (Copied (copied_count count (length bytes))) (ap Copied (counts bytes from), tt))
+        (ends (Gives blob (Copied (length bytes))) (put t q (File (take (length bytes) bytes))) (Copied (copied_count count (length bytes))) (
+          ap Copied (counts bytes from),
+          tt,
+          λ held lies given.
+              let both : ◌≡◌ {A = Result (List ℕ) Fault} (Ok bytes) (Ok held) = sym from ∙ ap (blob_read faults.InvalidInput t) lies in
+              let same : bytes ≡ held = cc in
+              ap (λ b. shown (put t q (File b)) e.to) (take_all (length bytes) bytes (omega arith)) ∙ written_shown t e.to bytes q to ∙ ap Some same,
+        ))
 
     reflink_ends : (w : Result Names Fault) (r : Result (List ℕ) Fault) → free t e.to ≡ w → file_at t path faults.IsADirectory ≡ r
-        → Leads (or_told w (λ q. or_told r (λ bytes. Done))) (doing (reflink path e.to) (over Done))
+        → Leads blob (or_told w (λ q. or_told r (λ bytes. Done))) (doing (reflink path e.to) (over Done))
     reflink_ends (Err fault) r to from =
-        goes (Gives (Refused (IoError fault []))) t t (doing (reflink path e.to) (over Done)) (steps.Reflink path e.to) (answers.Failed fault) refl (reflink_is (Err fault) r to from) (refused fault)
+        goes (Gives blob (Refused (IoError fault []))) t t (doing (reflink path e.to) (over Done)) (steps.Reflink path e.to) (answers.Failed fault) refl (reflink_is (Err fault) r to from) (refused fault)
     reflink_ends (Ok q) (Err fault) to from =
-        goes (Gives (Refused (IoError fault []))) t t (doing (reflink path e.to) (over Done)) (steps.Reflink path e.to) (answers.Failed fault) refl (reflink_is (Ok q) (Err fault) to from) (refused fault)
+        goes (Gives blob (Refused (IoError fault []))) t t (doing (reflink path e.to) (over Done)) (steps.Reflink path e.to) (answers.Failed fault) refl (reflink_is (Ok q) (Err fault) to from) (refused fault)
     reflink_ends (Ok q) (Ok bytes) to from =
-        goes (Gives Done) t (put t q (File bytes)) (doing (reflink path e.to) (over Done)) (steps.Reflink path e.to) answers.Done refl (reflink_is (Ok q) (Ok bytes) to from)
-        (ends (Gives Done) (put t q (File bytes)) Done (refl, tt))
+        goes (Gives blob Done) t (put t q (File bytes)) (doing (reflink path e.to) (over Done)) (steps.Reflink path e.to) answers.Done refl (reflink_is (Ok q) (Ok bytes) to from)
+        (ends (Gives blob Done) (put t q (File bytes)) Done (
+          refl,
+          tt,
+          λ held lies given.
+              let both : ◌≡◌ {A = Result (List ℕ) Fault} (Ok bytes) (Ok held)
+              = sym from ∙ bytes_at home t g cache is h hs hash ∙ ap (blob_bytes t) lies in
+              let same : bytes ≡ held = cc in
+              put_shown t e.to bytes q to ∙ ap Some same,
+        ))
 
-    hard_link_ends : (w : Result Names Fault) (n : Result Node Fault) → free t e.to ≡ w → linked t path ≡ n
-        → Leads (or_told w (λ q. or_told n (λ node. Done))) (doing (hard_link path e.to) (over Done))
-    hard_link_ends (Err fault) n to from =
-        goes (Gives (Refused (IoError fault []))) t t (doing (hard_link path e.to) (over Done)) (steps.HardLink path e.to) (answers.Failed fault) refl (hard_link_is (Err fault) n to from) (refused fault)
-    hard_link_ends (Ok q) (Err fault) to from =
-        goes (Gives (Refused (IoError fault []))) t t (doing (hard_link path e.to) (over Done)) (steps.HardLink path e.to) (answers.Failed fault) refl (hard_link_is (Ok q) (Err fault) to from) (refused fault)
-    hard_link_ends (Ok q) (Ok node) to from =
-        goes (Gives Done) t (put t q node) (doing (hard_link path e.to) (over Done)) (steps.HardLink path e.to) answers.Done refl (hard_link_is (Ok q) (Ok node) to from)
-        (ends (Gives Done) (put t q node) Done (refl, tt))
+    hard_link_ends : (w : Result Names Fault) (n : Result Node Fault) → free t e.to ≡ w → linked t path ≡ n → ((bytes : List ℕ) → blob ≡ Some (InFile bytes) → n ≡ Ok (File bytes))
+        → Leads blob (or_told w (λ q. or_told n (λ node. Done))) (doing (hard_link path e.to) (over Done))
+    hard_link_ends (Err fault) n to from here =
+        goes (Gives blob (Refused (IoError fault []))) t t (doing (hard_link path e.to) (over Done)) (steps.HardLink path e.to) (answers.Failed fault) refl (hard_link_is (Err fault) n to from) (refused fault)
+    hard_link_ends (Ok q) (Err fault) to from here =
+        goes (Gives blob (Refused (IoError fault []))) t t (doing (hard_link path e.to) (over Done)) (steps.HardLink path e.to) (answers.Failed fault) refl (hard_link_is (Ok q) (Err fault) to from) (refused fault)
+    hard_link_ends (Ok q) (Ok node) to from here =
+        goes (Gives blob Done) t (put t q node) (doing (hard_link path e.to) (over Done)) (steps.HardLink path e.to) answers.Done refl (hard_link_is (Ok q) (Ok node) to from)
+        (ends (Gives blob Done) (put t q node) Done (
+          refl,
+          tt,
+          λ held lies given.
+              let both : ◌≡◌ {A = Result Node Fault} (Ok node) (Ok (File held)) = here held lies in
+              let same : node ≡ File held = cc in
+              ap (λ x. shown (put t q x) e.to) same ∙ put_shown t e.to held q to,
+        ))
 
-    made_ends : (how : How) (count : Option ℕ) → Counts count → Leads (made_reply how e.to t blob) (export_from how path e.to count)
+    made_ends : (how : How) (count : Option ℕ) → Counts count → Leads blob (made_reply how e.to t blob) (export_from how path e.to count)
     made_ends Copy count counts = copy_ends count (blob_read faults.InvalidInput t blob) (writable t e.to) refl refl counts
-    made_ends Reflink count counts = reflink_ends (free t e.to) (blob_bytes t blob) refl (bytes_at home t g cache (home_named cache home is) h hs hash)
+    made_ends Reflink count counts = reflink_ends (free t e.to) (blob_bytes t blob) refl (bytes_at home t g cache is h hs hash)
     made_ends HardLink count counts =
-        subst (λ reply. Leads (or_told (free t e.to) (λ q. reply)) (doing (hard_link path e.to) (over Done))) (told_so home t path names (look t names) (suited home t g cache (home_named cache home is) h hs hash))
-        (hard_link_ends (free t e.to) (named (look t names)) refl (named_as home t path names (look t names) refl (suited home t g cache (home_named cache home is) h hs hash) (led_there home t g cache (home_named cache home is) h hs hash)))
+        subst (λ reply. Leads blob (or_told (free t e.to) (λ q. reply)) (doing (hard_link path e.to) (over Done))) (told_so home t path names (look t names) (suited home t g cache is h hs hash))
+        (hard_link_ends (free t e.to) (named (look t names)) refl (named_as home t path names (look t names) refl (suited home t g cache is h hs hash) (led_there home t g cache is h hs hash))
+        (λ bytes lies. ap named (file_there (look t names) bytes lies)))
 
     -- ---- before it
 
-    verified_ends : (bytes : List ℕ) → blob_bytes t blob ≡ Ok bytes → Leads (verified_reply (h ∷ hs) (made_reply e.how e.to t blob) bytes) (verified k e bytes)
+    verified_ends : (bytes : List ℕ) → blob_bytes t blob ≡ Ok bytes → Leads blob (verified_reply (h ∷ hs) (made_reply e.how e.to t blob) bytes) (verified k e bytes)
     verified_ends bytes whole =
         let unmet = Refused (IntegrityError (Check (h ∷ hs) (actual (h ∷ hs) bytes))) in
-        both Leads (meets (h ∷ hs) bytes) (made_reply e.how e.to t blob) unmet (export_content k e (Some (length bytes))) (ends_with (IntegrityError (Check (h ∷ hs) (actual (h ∷ hs) bytes))))
+        both (Leads blob) (meets (h ∷ hs) bytes) (made_reply e.how e.to t blob) unmet (export_content k e (Some (length bytes))) (ends_with (IntegrityError (Check (h ∷ hs) (actual (h ∷ hs) bytes))))
         (made_ends e.how (Some (length bytes)) (λ copied from. ap (λ (b : List ℕ). length b) (same_read t blob bytes copied whole from)))
-        (ends (Gives unmet) t unmet (refl, refl))
+        (ends (Gives blob unmet) t unmet (refl, refl, λ bytes lies given. absurd given))
 
-    checked_ends : (r : Result (List ℕ) Fault) → blob_bytes t blob ≡ r → Leads (or_told r (verified_reply (h ∷ hs) (made_reply e.how e.to t blob))) (opening_file (to_verify k e))
+    checked_ends : (r : Result (List ℕ) Fault) → blob_bytes t blob ≡ r → Leads blob (or_told r (verified_reply (h ∷ hs) (made_reply e.how e.to t blob))) (opening_file (to_verify k e))
     checked_ends (Err fault) from =
-        goes (Gives (Refused (IoError fault []))) t t (opening_file (to_verify k e)) (steps.Open path) (answers.Failed fault) refl (opens_as t path (Err fault) (bytes_at home t g cache (home_named cache home is) h hs hash ∙ from)) (refused fault)
+        goes (Gives blob (Refused (IoError fault []))) t t (opening_file (to_verify k e)) (steps.Open path) (answers.Failed fault) refl (opens_as t path (Err fault) (bytes_at home t g cache is h hs hash ∙ from)) (refused fault)
     checked_ends (Ok bytes) from =
         let wanted = verified_reply (h ∷ hs) (made_reply e.how e.to t blob) bytes in
-        goes (Gives wanted) t t (opening_file (to_verify k e)) (steps.Open path) (answers.File (opened bytes)) refl (opens_as t path (Ok bytes) (bytes_at home t g cache (home_named cache home is) h hs hash ∙ from))
-        (reads_whole (Gives wanted) t (to_verify k e) bytes (verified_ends bytes from) bytes [] refl)
+        goes (Gives blob wanted) t t (opening_file (to_verify k e)) (steps.Open path) (answers.File (opened bytes)) refl (opens_as t path (Ok bytes) (bytes_at home t g cache is h hs hash ∙ from))
+        (reads_whole (Gives blob wanted) t (to_verify k e) bytes (verified_ends bytes from) bytes [] refl)
 
-    export_ends : Leads (exported_reply (h ∷ hs) e t blob) (export k e)
+    export_ends : Leads blob (exported_reply (h ∷ hs) e t blob) (export k e)
     export_ends =
-        both Leads e.checked (or_told (blob_bytes t blob) (verified_reply (h ∷ hs) (made_reply e.how e.to t blob))) (made_reply e.how e.to t blob) (opening_file (to_verify k e)) (export_content k e None)
+        both (Leads blob) e.checked (or_told (blob_bytes t blob) (verified_reply (h ∷ hs) (made_reply e.how e.to t blob))) (made_reply e.how e.to t blob) (opening_file (to_verify k e)) (export_content k e None)
         (checked_ends (blob_bytes t blob) refl) (made_ends e.how None (λ bytes from. refl))
 
   -- what lies under an integrity
   abbrev lies_at : List Hash → Option Blob
   lies_at i = blob_at (value_of_tree (Some home) t) (address i)
 
-  pub content_ends : (i : List Hash) → IsIntegrity i → Leads (exported_reply i e t (lies_at i)) (export (record { cache = cache; integrity = i }) e)
+  pub content_ends : (i : List Hash) → IsIntegrity i → Leads (lies_at i) (exported_reply i e t (lies_at i)) (export (record { cache = cache; integrity = i }) e)
   content_ends [] formed = absurd (omega (arith, formed.nonempty))
   content_ends (h ∷ hs) formed = export_ends h hs (All-head IsHash h hs formed.hashes)
 
 -- ---- by its source
 
-module _ (cache key : List ℕ) (home : Names) (is : names_of cache ≡ Ok home) (old : List LogItem) (g : Ground home (tree_of old)) (e : Export) where
+module _ (cache key : List ℕ) (home : Names) (is : home_of cache ≡ Some home) (old : List LogItem) (g : Ground home (tree_of old)) (e : Export) where
   abbrev look_up : Lookup
   look_up = record { cache = cache; key = key; aim = aims.Export e }
 
-  by_found : (found : Option Found) → HasIntegrity found → EndsSo (Gives cache home is (tree_of old) g e (led_reply cache key e old found)) (tree_of old) (found_for look_up (aims.Export e) found)
-  by_found None has = ends (Gives cache home is (tree_of old) g e (Refused (EntryNotFound cache key))) (tree_of old) (Refused (EntryNotFound cache key)) (refl, refl)
-  by_found (Some f) has =
-      back cache home is
-      (λ h. EndsSo (Gives cache home is (tree_of old) g e (exported_reply f.integrity e (tree_of old) (blob_at (value_of_tree h (tree_of old)) (address f.integrity)))) (tree_of old) (export (record { cache = cache; integrity = f.integrity }) e))
-      (content_ends cache home is (tree_of old) g e f.integrity has)
+  -- what lies where the key leads
+  abbrev led_to : Option Found → Option Blob
+  led_to None = None
+  led_to (Some f) = lies_at cache home is (tree_of old) g e f.integrity
 
-pub exports_answer : ExportsAnswer
-exports_answer cache (sources.Hash i) e r old new folder formed sound c =
-    let home = folder.0 in
-    let g = ground cache old home folder.1 (caches_stand cache old sound) in
-    back cache home folder.1 (λ h. OrMemory ((r ≡ exported_reply i e (tree_of old) (blob_at (value_of_tree h (tree_of old)) (address i))) × StaysIfRefused r (tree_of old) (tree_of new)) r)
-    (of_log (Gives cache home folder.1 (tree_of old) g e (exported_reply i e (tree_of old) (blob_at (value_of_tree (Some home) (tree_of old)) (address i)))) (opening (record { cache = cache; base = c.base; number = c.number }) (commands.Export (sources.Hash i) e)) r old new
-    (content_ends cache home folder.1 (tree_of old) g e i formed) c.ran c.logged)
-exports_answer cache (sources.Key key) e r old new folder formed sound c =
-    let home = folder.0 in
-    let g = ground cache old home folder.1 (caches_stand cache old sound) in
+  by_found : (found : Option Found) → HasIntegrity found → EndsSo (Gives cache home is (tree_of old) g e (led_to found) (led_reply cache key e old found)) (tree_of old) (found_for look_up (aims.Export e) found)
+  by_found None has =
+      ends (Gives cache home is (tree_of old) g e None (Refused (EntryNotFound cache key))) (tree_of old) (Refused (EntryNotFound cache key)) (refl, refl, λ bytes lies given. absurd given)
+  by_found (Some f) has =
+      subst
+      (λ h. EndsSo (Gives cache home is (tree_of old) g e (lies_at cache home is (tree_of old) g e f.integrity) (exported_reply f.integrity e (tree_of old) (blob_at (value_of_tree h (tree_of old)) (address f.integrity)))) (tree_of old) (export (record { cache = cache; integrity = f.integrity }) e))
+      (sym is) (content_ends cache home is (tree_of old) g e f.integrity has)
+
+  led_blob : (found : Option Found) (i : List Hash) → option_map (λ (f : Found). f.integrity) found ≡ Some i → led_to found ≡ lies_at cache home is (tree_of old) g e i
+  led_blob None i leads = absurd cc
+  led_blob (Some f) i leads = let same : f.integrity ≡ i = cc in ap (lies_at cache home is (tree_of old) g e) same
+
+-- it answers so, and unless it is refused its path shows the bytes of a file that lies where the source leads
+abbrev pub Told : List ℕ → Source → Export → Reply → List LogItem → List LogItem → Type 0
+Told cache source e r old new =
+    (r ≡ export_reply cache source e old) × StaysIfRefused r (tree_of old) (tree_of new)
+    × ((i : List Hash) (bytes : List ℕ) → NamesHeld cache source i old → lies_under cache i old ≡ Some (InFile bytes) → IsGiven r → shown (tree_of new) e.to ≡ Some bytes)
+
+pub exports_told : (cache : List ℕ) (home : Names) → home_of cache ≡ Some home → (source : Source) (e : Export) (r : Reply) (old new : List LogItem) → NamesSource source → IsCache cache old → Called cache (commands.Export source e) r old new
+    → OrMemory (Told cache source e r old new) r
+exports_told cache home is (sources.Hash i) e r old new formed sound c =
+    let g = home_ground cache old home is (caches_stand cache old sound) in
+    either r
+    (λ h. (
+      h.0 ∙ ap (λ o. exported_reply i e (tree_of old) (blob_at (value_of_tree o (tree_of old)) (address i))) (sym is),
+      h.1,
+      λ j bytes same lies given.
+          h.2 bytes (ap (λ o. blob_at (value_of_tree o (tree_of old)) (address i)) (sym is) ∙ ap (λ k. lies_under cache k old) same ∙ lies) given,
+    ))
+    (of_log (Gives cache home is (tree_of old) g e (lies_at cache home is (tree_of old) g e i) (exported_reply i e (tree_of old) (lies_at cache home is (tree_of old) g e i))) (opening (record { cache = cache; base = c.base; number = c.number }) (commands.Export (sources.Hash i) e)) r old new
+    (content_ends cache home is (tree_of old) g e i formed) c.ran c.logged)
+exports_told cache home is (sources.Key key) e r old new formed sound c =
+    let g = home_ground cache old home is (caches_stand cache old sound) in
     let led = latest key (entries_on (Some home) (tree_of old) key) in
     let has : HasIntegrity (latest key (entries_on (home_of cache) (tree_of old) key)) = latest_has key (entries_on (home_of cache) (tree_of old) key) (sound.formed (sha1 key)) in
-    let led_has : HasIntegrity led = subst (λ h. HasIntegrity (latest key (entries_on h (tree_of old) key))) (home_named cache home folder.1) has in
-    let Q : Tree → Reply → Type 0 = Gives cache home folder.1 (tree_of old) g e (led_reply cache key e old (latest key (entries_on (Some home) (tree_of old) key))) in
-    back cache home folder.1 (λ h. OrMemory ((r ≡ led_reply cache key e old (latest key (entries_on h (tree_of old) key))) × StaysIfRefused r (tree_of old) (tree_of new)) r)
+    let led_has : HasIntegrity led = subst (λ h. HasIntegrity (latest key (entries_on h (tree_of old) key))) is has in
+    let here : latest key (entries_on (Some home) (tree_of old) key) ≡ found_under cache key old = ap (λ h. latest key (entries_on h (tree_of old) key)) (sym is) in
+    let Q : Tree → Reply → Type 0
+    = Gives cache home is (tree_of old) g e (led_to cache key home is old g e (latest key (entries_on (Some home) (tree_of old) key))) (led_reply cache key e old (latest key (entries_on (Some home) (tree_of old) key))) in
+    either r
+    (λ h. (
+      h.0 ∙ ap (led_reply cache key e old) here,
+      h.1,
+      λ i bytes leads lies given.
+          h.2 bytes
+          (led_blob cache key home is old g e (latest key (entries_on (Some home) (tree_of old) key)) i (ap (option_map (λ (f : Found). f.integrity)) here ∙ leads)
+          ∙ ap (λ o. blob_at (value_of_tree o (tree_of old)) (address i)) (sym is) ∙ lies) given,
+    ))
     (of_log Q (opening (record { cache = cache; base = c.base; number = c.number }) (commands.Export (sources.Key key) e)) r old new
-    (looks_so Q home (tree_of old) g (look_up cache key home folder.1 old g e) (home_named cache home folder.1) (by_found cache key home folder.1 old g e led led_has)) c.ran c.logged)
+    (looks_so Q home (tree_of old) g (look_up cache key home is old g e) is (by_found cache key home is old g e led led_has)) c.ran c.logged)
+
+pub exports_answer : ExportsAnswer
+exports_answer cache source e r old new folder formed sound c =
+    either r (λ h. (h.0, h.1)) (exports_told cache folder.0 (home_named cache folder.0 folder.1) source e r old new formed sound c)
+
+-- for a source that leads to this integrity
+pub by_held : (cache : List ℕ) (source : Source) (i : List Hash) (e : Export) (old : List LogItem) → NamesHeld cache source i old → export_reply cache source e old ≡ exported_reply i e (tree_of old) (lies_under cache i old)
+by_held cache (sources.Hash j) i e old leads = ap (λ j. exported_reply j e (tree_of old) (lies_under cache j old)) leads
+by_held cache (sources.Key key) i e old leads = by (found_under cache key old) leads
+  where
+    by : (found : Option Found) → option_map (λ (x : Found). x.integrity) found ≡ Some i → led_reply cache key e old found ≡ exported_reply i e (tree_of old) (lies_under cache i old)
+    by None is = absurd cc
+    by (Some f) is = let same : f.integrity ≡ i = cc in ap (λ j. exported_reply j e (tree_of old) (lies_under cache j old)) same
 
 -- ---- of bytes that are there
 
 -- if the path may take it, an export of these bytes is done
 made_so : (how : How) (to bytes : List ℕ) (log : List LogItem) → MayTake how to log → made_reply how to (tree_of log) (Some (InFile bytes)) ≡ exported how bytes
 made_so Copy to bytes log may = ap (λ w. or_told w (λ q. Copied (length bytes))) may.1
-made_so Reflink to bytes log may = ap (λ w. or_told w (λ q. Done)) may.1
-made_so HardLink to bytes log may = ap (λ w. or_told w (λ q. Done)) may.1
+made_so how to bytes log may = ap (λ w. or_told w (λ q. Done)) may.1
 
-exported_so : (checked : Bool) (how : How) (to bytes : List ℕ) (i : List Hash) (log : List LogItem) → Meets i bytes → MayTake how to log
-    → exported_reply i (record { how = how; checked = checked; to = to }) (tree_of log) (Some (InFile bytes)) ≡ exported how bytes
-exported_so true how to bytes i log met may =
-    ap (λ b. cond b (made_reply how to (tree_of log) (Some (InFile bytes))) (Refused (IntegrityError (Check i (actual i bytes))))) ((meets_finds i bytes).1 met) ∙ made_so how to bytes log may
-exported_so false how to bytes i log met may = made_so how to bytes log may
+-- bytes that meet the integrity pass the check
+pub passes : (checked : Bool) (how : How) (to bytes : List ℕ) (i : List Hash) (t : Tree) → Meets i bytes
+    → exported_reply i (record { how = how; checked = checked; to = to }) t (Some (InFile bytes)) ≡ made_reply how to t (Some (InFile bytes))
+passes true how to bytes i t met = ap (λ b. cond b (made_reply how to t (Some (InFile bytes))) (Refused (IntegrityError (Check i (actual i bytes))))) ((meets_finds i bytes).1 met)
+passes false how to bytes i t met = refl
 
-module _ (cache bytes to : List ℕ) (how : How) (checked : Bool) (old : List LogItem) (home : Names) (is : names_of cache ≡ Ok home) (g : Ground home (tree_of old)) (may : MayTake how to old) where
+module _ (cache bytes to : List ℕ) (how : How) (checked : Bool) (old : List LogItem) (home : Names) (is : home_of cache ≡ Some home) (g : Ground home (tree_of old)) (may : MayTake how to old) where
   abbrev to_path : Export
   to_path = record { how = how; checked = checked; to = to }
 
   -- the same holds of what lies under an integrity
-  by_content : (i : List Hash) → HasContent cache i bytes old → EndsSo (Gives cache home is (tree_of old) g to_path (exported how bytes)) (tree_of old) (export (record { cache = cache; integrity = i }) to_path)
+  by_content : (i : List Hash) → HasContent cache i bytes old → EndsSo (Gives cache home is (tree_of old) g to_path (lies_at cache home is (tree_of old) g to_path i) (exported how bytes)) (tree_of old) (export (record { cache = cache; integrity = i }) to_path)
   by_content i has =
-      let lies : blob_at (value_of_tree (Some home) (tree_of old)) (address i) ≡ Some (InFile bytes) = subst (λ h. blob_at (value_of_tree h (tree_of old)) (address i) ≡ Some (InFile bytes)) (home_named cache home is) has.content in
-      subst (λ wanted. EndsSo (Gives cache home is (tree_of old) g to_path wanted) (tree_of old) (export (record { cache = cache; integrity = i }) to_path))
-      (ap (λ blob. exported_reply i to_path (tree_of old) blob) lies ∙ exported_so checked how to bytes i old has.meets may)
+      let lies : blob_at (value_of_tree (Some home) (tree_of old)) (address i) ≡ Some (InFile bytes) = subst (λ h. blob_at (value_of_tree h (tree_of old)) (address i) ≡ Some (InFile bytes)) is has.content in
+      subst (λ wanted. EndsSo (Gives cache home is (tree_of old) g to_path (lies_at cache home is (tree_of old) g to_path i) wanted) (tree_of old) (export (record { cache = cache; integrity = i }) to_path))
+      (ap (λ blob. exported_reply i to_path (tree_of old) blob) lies ∙ passes checked how to bytes i (tree_of old) has.meets ∙ made_so how to bytes old may)
       (content_ends cache home is (tree_of old) g to_path i has.formed)
 
 pub exports_succeed : ExportsSucceed
@@ -249,17 +318,17 @@ exports_succeed cache bytes to how (sources.Hash i) checked r old new folder sta
     let g = ground cache old home folder.1 standing in
     let e : Export = record { how = how; checked = checked; to = to } in
     either r (λ h. h.0)
-    (of_log (Gives cache home folder.1 (tree_of old) g e (exported how bytes)) (opening (record { cache = cache; base = c.base; number = c.number }) (export_by how (sources.Hash i) checked to)) r old new
-    (by_content cache bytes to how checked old home folder.1 g may i has) c.ran c.logged)
+    (of_log (Gives cache home (home_named cache home folder.1) (tree_of old) g e (lies_at cache home (home_named cache home folder.1) (tree_of old) g e i) (exported how bytes)) (opening (record { cache = cache; base = c.base; number = c.number }) (export_by how (sources.Hash i) checked to)) r old new
+    (by_content cache bytes to how checked old home (home_named cache home folder.1) g may i has) c.ran c.logged)
 exports_succeed cache bytes to how (sources.Key key) checked r old new folder standing has may c =
     let home = folder.0 in
     let g = ground cache old home folder.1 standing in
     let e : Export = record { how = how; checked = checked; to = to } in
     let l : Lookup = record { cache = cache; key = key; aim = aims.Export e } in
-    let Q : Tree → Reply → Type 0 = Gives cache home folder.1 (tree_of old) g e (exported how bytes) in
+    let Q : Tree → Reply → Type 0 = Gives cache home (home_named cache home folder.1) (tree_of old) g e (lies_at cache home (home_named cache home folder.1) (tree_of old) g e has.0) (exported how bytes) in
     let finds : latest key (entries_on (Some home) (tree_of old) key) ≡ Some has.1.found = subst (λ h. latest key (entries_on h (tree_of old) key) ≡ Some has.1.found) (home_named cache home folder.1) has.1.finds in
     let next = subst (λ i. EndsSo Q (tree_of old) (export (record { cache = cache; integrity = i }) (record { how = how; checked = checked; to = to }))) (sym has.1.integrity)
-    (by_content cache bytes to how checked old home folder.1 g may has.0 has.1.content) in
+    (by_content cache bytes to how checked old home (home_named cache home folder.1) g may has.0 has.1.content) in
     either r (λ h. h.0)
     (of_log Q (opening (record { cache = cache; base = c.base; number = c.number }) (export_by how (sources.Key key) checked to)) r old new
     (looks_so Q home (tree_of old) g l (home_named cache home folder.1)

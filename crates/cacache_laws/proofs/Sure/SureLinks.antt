@@ -148,7 +148,6 @@ module _ (cache : List ℕ) (home : Names) (is : names_of cache ≡ Ok home) (ol
     -- once all bytes were read
     link_of : (bytes : List ℕ) → EndsSo (Tells (linked_reply (commit_for target bytes) old)) t (link (commit_for target bytes) target.path)
     link_of bytes =
-        let x = hash_of target.options.algorithm (digest target.options.algorithm bytes) in
         back target.cache home named
         (λ h. EndsSo (Tells (unless_dangling (compared_reply (commit_for target bytes) target.options.integrity) (tree_of old) (blob_at (value_of_tree h (tree_of old)) (Some (hash_of target.options.algorithm (digest target.options.algorithm bytes)))))) (tree_of old)
         (link (commit_for target bytes) target.path))

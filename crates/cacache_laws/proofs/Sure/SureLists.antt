@@ -30,9 +30,8 @@ both_all [] ys h k = k
 both_all (x ∷ xs) ys h k = (h.0, both_all xs ys h.1 k)
 
 front_all : (n : ℕ) (xs : List Item) → AllItems xs → AllItems (take n xs)
-front_all zero xs h = tt
-front_all (suc n) [] h = tt
 front_all (suc n) (x ∷ xs) h = (h.0, front_all n xs h.1)
+front_all n xs h = tt
 
 more_all : (o : Option Found) (items : List Item) → AllItems items → AllItems (cons_option (option_map Ok o) items)
 more_all None items h = h
@@ -64,11 +63,8 @@ many_fine items left all moves r run = over_fine (Listed (items ++ failed faults
 -- ---- what is in the index
 
 no_link : (home : Option Names) (target : List ℕ) (rest : Names) → MayStand home (Some (Link target)) (kind_in_area Bucket 3 rest) → ⊥
-no_link home target [] s = s
-no_link home target (a ∷ []) s = s
-no_link home target (a ∷ b ∷ []) s = s
 no_link home target (a ∷ b ∷ c ∷ []) s = s
-no_link home target (a ∷ b ∷ c ∷ d ∷ rest) s = s
+no_link home target rest s = s
 
 pub no_folder : (t : Tree) (p : List ℕ) (names : Names) → look t names ≡ None → Reached t p names → apply t (steps.ReadDir p) Plain ≡ (answers.Failed faults.NotFound, t)
 unfolding apply folder
@@ -198,8 +194,7 @@ module _ (cache : List ℕ) (home : Names) (is : names_of cache ≡ Ok home) (t 
       (ends Q t (Listed (failed faults.NotFound ∷ [])) refl)
   by_index (Some Folder) e s = λ moves r run answered.
       walks_all home t g moves [] most (Enter (join cache index_area) 0) [] r tt ([], index_named, e) tt run answered
-  by_index (Some (File bytes)) e s = absurd s
-  by_index (Some (Link target)) e s = absurd s
+  by_index here e s = absurd s
 
   pub lists_so : EndsSo (λ _ r. ListsAll (look t (home ++ index_area ∷ [])) r) t (walk false (join cache index_area))
   lists_so = by_index (look t (home ++ index_area ∷ [])) refl (suits (Some home) t (home ++ index_area ∷ []) Way index_way g.placed)

@@ -44,10 +44,7 @@ opens_so : (path : List ℕ) (content : Result (List ℕ) Fault) (r : Result Pla
 opens_so path content (Ok file) old new is h logged = opened_so path old new logged content is file h
 opens_so path content (Err (IoError fault message)) old new is h logged = failed path old new logged content is fault message h
 opens_so path content (Err OutOfMemory) old new is h logged = memory_so content OutOfMemory refl
-opens_so path content (Err (EntryNotFound c key)) old new is h logged = absurd h
-opens_so path content (Err (SizeMismatch wanted actual)) old new is h logged = absurd h
-opens_so path content (Err (SerdeError cause message)) old new is h logged = absurd h
-opens_so path content (Err (IntegrityError fault)) old new is h logged = absurd h
+opens_so path content r old new is h logged = absurd h
 
 pub linker_openings_answer : LinkerOpeningsAnswer
 linker_openings_answer path r old new h logged = opens_so path (target_bytes path old) r old new refl h logged
@@ -66,10 +63,7 @@ module _ (path : List ℕ) (old new : List LogItem) (logged : IsLog new) where
   size_fails : (e : Error) → FailsAt (steps.Size path) e (Some old) (Some new) → OpensAs (target_bytes path old) (Err e)
   size_fails (IoError fault message) h = size_failed (target_bytes path old) refl fault message h
   size_fails OutOfMemory h = memory_so (target_bytes path old) OutOfMemory refl
-  size_fails (EntryNotFound c key) h = absurd h
-  size_fails (SizeMismatch wanted actual) h = absurd h
-  size_fails (SerdeError cause message) h = absurd h
-  size_fails (IntegrityError fault) h = absurd h
+  size_fails e h = absurd h
 
   -- once it was reported the file is opened
   size_told : (r : Result PlainFile Error) (size : ℕ) (mid : Option (List LogItem)) → TellsSize path size (Some old) mid → OpensTarget path r mid (Some new) → OpensAs (target_bytes path old) r

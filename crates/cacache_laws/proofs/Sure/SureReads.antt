@@ -26,12 +26,11 @@ file_told (Some (Link target)) = answers.Failed faults.TooDeep
 bucket_read : (home : Names) (t : Tree) (p : List ℕ) (names : Names) (here : Option Node) → look t names ≡ here → MayStand (Some home) here Bucket → Reached t p names
     → apply t (steps.ReadAll p) Plain ≡ (file_told here, t)
 unfolding apply file_at leads followed
-bucket_read home t p names None e s (arrives w) = rw (w, e, e) refl
 bucket_read home t p names None e s (missing h w) = rw w refl
 bucket_read home t p names (Some Folder) e s r = absurd s
-bucket_read home t p names (Some (File bytes)) e s (arrives w) = rw (w, e, e) refl
 bucket_read home t p names (Some (File bytes)) e s (missing h w) = let differ : Some (File bytes) ≡ None = sym e ∙ h in absurd cc
 bucket_read home t p names (Some (Link target)) e s r = absurd s
+bucket_read home t p names here e s (arrives w) = rw (w, e, e) refl
 
 -- ---- what a content's path answers
 
@@ -42,30 +41,27 @@ told_all t p (Err fault) e = rw e refl
 
 -- the bytes of a content, if a folder at a link's end gives `IsADirectory`
 pub as_bytes : (t : Tree) (blob : Option Blob) → blob_read faults.IsADirectory t blob ≡ blob_bytes t blob
-as_bytes t None = refl
 as_bytes t (Some (InFile bytes)) = refl
-as_bytes t (Some (AtLink target)) = refl
+as_bytes t blob = refl
 
 module _ (home : Names) (t : Tree) (p : List ℕ) (names : Names) where
   pub read_as : (folder : Fault) (here : Option Node) → look t names ≡ here → MayStand (Some home) here Content → Reached t p names → file_at t p folder ≡ blob_read folder t (blob_in here)
   unfolding file_at leads followed link_end
-  read_as folder None e s (arrives w) = rw (w, e, e) refl
   read_as folder None e s (missing h w) = rw w refl
   read_as folder (Some Folder) e s r = absurd s
-  read_as folder (Some (File bytes)) e s (arrives w) = rw (w, e, e) refl
   read_as folder (Some (File bytes)) e s (missing h w) = let differ : Some (File bytes) ≡ None = sym e ∙ h in absurd cc
   read_as folder (Some (Link target)) e s (arrives w) = rw (w, e) refl
   read_as folder (Some (Link target)) e s (missing h w) = let differ : Some (Link target) ≡ None = sym e ∙ h in absurd cc
+  read_as folder here e s (arrives w) = rw (w, e, e) refl
 
   pub content_there : (here : Option Node) → look t names ≡ here → MayStand (Some home) here Content → Reached t p names → is_there (found t p) ≡ blob_there t (blob_in here)
   unfolding found leads followed link_end
-  content_there None e s (arrives w) = rw (w, e, e) refl
   content_there None e s (missing h w) = rw w refl
   content_there (Some Folder) e s r = absurd s
-  content_there (Some (File bytes)) e s (arrives w) = rw (w, e, e) refl
   content_there (Some (File bytes)) e s (missing h w) = let differ : Some (File bytes) ≡ None = sym e ∙ h in absurd cc
   content_there (Some (Link target)) e s (arrives w) = rw (w, e) refl
   content_there (Some (Link target)) e s (missing h w) = let differ : Some (Link target) ≡ None = sym e ∙ h in absurd cc
+  content_there here e s (arrives w) = rw (w, e, e) refl
 
   -- what is there can be removed, and nothing else
   removed : (here : Option Node) → look t names ≡ here → MayStand (Some home) here Content → Reached t p names
@@ -90,10 +86,8 @@ IsAsked (answers.Failed fault) = Unit {0}
 IsAsked other = ⊥
 
 pub is_asked : (r : Result Names Fault) → IsAsked (is_there r)
-is_asked (Ok names) = tt
 is_asked (Err faults.NotFound) = tt
-is_asked (Err faults.NotADirectory) = tt
-is_asked (Err other) = tt
+is_asked r = tt
 
 -- what is at a content's path is a content
 is_blob : (home : Names) (here : Option Node) → MayStand (Some home) here Content → (node : Node) → here ≡ Some node → (blob : Blob) × (blob_in here ≡ Some blob)
@@ -116,12 +110,11 @@ module _ (Q : Tree → Reply → Type 0) (home : Names) (t : Tree) (g : Ground h
       let none : latest l.key (entries_on (Some home) t l.key) ≡ None = ap (λ n. latest l.key (list_of (bucket_in n))) e in
       goes Q t t (looking l) (steps.ReadAll (bucket_path l.cache l.key)) (answers.Failed faults.NotFound) refl read
       (subst (λ f. EndsSo Q t (found_for l l.aim f)) none next)
-  by_bucket (Some Folder) e next s read = absurd s
   by_bucket (Some (File bytes)) e next s read =
       let some : latest l.key (entries_on (Some home) t l.key) ≡ found_in l.key bytes = ap (λ n. latest l.key (list_of (bucket_in n))) e in
       goes Q t t (looking l) (steps.ReadAll (bucket_path l.cache l.key)) (answers.Bytes bytes) refl read
       (subst (λ f. EndsSo Q t (found_for l l.aim f)) some next)
-  by_bucket (Some (Link target)) e next s read = absurd s
+  by_bucket here e next s read = absurd s
 
   -- a lookup goes on with what the key leads to
   pub looks_so : EndsSo Q t (found_for l l.aim (latest l.key (entries_on (Some home) t l.key))) → EndsSo Q t (looking l)

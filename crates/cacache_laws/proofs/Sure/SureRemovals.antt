@@ -70,7 +70,6 @@ module _ (cache : List ℕ) (home : Names) (is : names_of cache ≡ Ok home) (ke
   by_content found (h ∷ hs) same formed bytes e =
       let hash = All-head IsHash h hs formed.hashes in
       let Q : Tree → Reply → Type 0 = λ _ x. x ≡ removal_reply (blob_at (value_of_tree (Some home) t) (address (h ∷ hs))) in
-      let blob = (value_of_tree (Some home) t).contents h in
       removes_so Q home t g cache (home_named cache home is) h hs hash (remove_bucket cache key)
       (λ b there rest.
       bucket_there Q cache home is key (cut t (home ++ content_names h)) rest bytes (kept_bucket h hs hash (File bytes) e) (sym (ap removal_reply there)))
@@ -88,8 +87,7 @@ module _ (cache : List ℕ) (home : Names) (is : names_of cache ≡ Ok home) (ke
       let none : led_by ≡ None = ap (λ n. latest key (list_of (bucket_in n))) e in
       let differ : Some found ≡ None = sym led ∙ none in absurd cc
   by_found (Some (File bytes)) e s (Some found) led has = by_content found found.integrity refl has bytes e
-  by_found (Some Folder) e s found led has = absurd s
-  by_found (Some (Link target)) e s found led has = absurd s
+  by_found here e s found led has = absurd s
 
   pub fully_ends : HasIntegrity led_by → EndsSo (λ _ x. x ≡ fully_reply (Some home) t key led_by) t (found_for (record { cache = cache; key = key; aim = aims.Remove }) aims.Remove led_by)
   fully_ends has = by_found bucket refl (suits (Some home) t (home ++ bucket_names key) Bucket (bucket_lies cache home (home_named cache home is) key).kind g.placed) led_by refl has

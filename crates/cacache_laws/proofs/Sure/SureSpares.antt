@@ -1,5 +1,5 @@
 -- If no temporary file is there, no other step of a call makes one.
-use Rattle.std.proofs.Common.{◌≡◌, ℕ, Bool, true, false, cond, List, [], ◌∷◌, Option, None, Some, refl, sym, ap, ◌∙◌}
+use Rattle.std.proofs.Common.{◌≡◌, ℕ, cond, List, [], ◌∷◌, Option, None, Some, sym, ap, ◌∙◌}
 use Rattle.cacache_core.specs.PathNames.{Names}
 use Rattle.cacache_store.specs.declared.store.step.Step.TheVariants as steps
 use Rattle.cacache_store.specs.Plain.{PlainStep}
@@ -17,10 +17,6 @@ use Rattle.cacache_laws.specs.Sequence.{tree_on, plain_moves}
 pub put_apart : (t : Tree) (p q : Names) (node : Node) → (q ≡ p → ⊥) → look t q ≡ None → look (put t p node) q ≡ None
 put_apart t p q node apart e =
     look-put t p node q ∙ ap (λ b. cond b (Some node) (look t q)) (not_true (same_path q p) (λ s. apart (same_path-true q p s))) ∙ e
-
-pub cut_none : (b : Bool) (old : Option Node) → old ≡ None → cond b None old ≡ None
-cut_none true old e = refl
-cut_none false old e = e
 
 -- ---- steps
 

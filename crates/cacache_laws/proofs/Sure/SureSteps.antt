@@ -125,10 +125,9 @@ persists home t file path names s led may =
 
 writable_so : (home : Names) (t : Tree) (p : List ℕ) (names : Names) (here : Option Node) → look t names ≡ here → MayStand (Some home) here Bucket → place t p ≡ Ok names → writable t p ≡ Ok names
 unfolding writable leads followed
-writable_so home t p names None is s led = rw (led, is, is) refl
 writable_so home t p names (Some Folder) is s led = absurd s
-writable_so home t p names (Some (File bytes)) is s led = rw (led, is, is) refl
 writable_so home t p names (Some (Link target)) is s led = absurd s
+writable_so home t p names here is s led = rw (led, is, is) refl
 
 pub appends : (home : Names) (t : Tree) (p : List ℕ) (names : Names) (line : List ℕ) → MayStand (Some home) (look t names) Bucket → place t p ≡ Ok names
     → apply t (steps.Append p line) Plain ≡ (answers.Took (length line), put t names (File (bytes_of (look t names) ++ take (length line) line)))

@@ -1,26 +1,25 @@
 -- Why an export fails, by the reply that it answers if no step fails.
 use Rattle.std.proofs.Common.{◌≡◌, ◌⊎◌, inl, inr, ℕ, Bool, true, false, cond, List, [], Option, None, Some, option_map, Result, Ok, Err, length, refl, sym, ap, subst, ◌∙◌}
 use Rattle.std.specs.Prelude.{IfErr}
-use Rattle.cacache_core.specs.{declared.{errors.{Error.{Error, TheVariants.{EntryNotFound, SizeMismatch, IoError, SerdeError, IntegrityError, OutOfMemory}}, Fault.{Fault}, IntegrityFault.{IntegrityFault, TheVariants.{Check}}}, integrity.digest.Hash.{Hash}}, Integrity.{Meets, actual}, Meeting.{meets}, PathNames.{Names}}
+use Rattle.cacache_core.specs.{declared.{errors.{Error.{Error, TheVariants.{EntryNotFound, IoError, IntegrityError}}, Fault.{Fault}, IntegrityFault.{IntegrityFault, TheVariants.{Check}}}, integrity.digest.Hash.{Hash}}, Integrity.{Meets, actual}, Meeting.{meets}, PathNames.{Names}}
 use Rattle.cacache_core.proofs.Meeting.{meets_finds}
 use Rattle.cacache_core.specs.declared.errors.Fault.TheVariants as faults
 use Rattle.cacache_store.specs.declared.store.log.LogItem.{LogItem}
-use Rattle.cacache_disk.specs.{declared.node.Node.{Node, TheVariants.{Folder, File, Link}}, LedTo.{and_then, bytes_there, free, writable}, Tree.{Tree, look}, memory.Replay.{tree_of}}
+use Rattle.cacache_disk.specs.{declared.node.Node.{Node, TheVariants.{Folder, File}}, LedTo.{and_then, bytes_there, free, writable}, Tree.{Tree, look}, memory.Replay.{tree_of}}
 use Rattle.cacache_entry.specs.Latest.{Found}
 use Rattle.cacache_calls.specs.{declared.{command.{Export.{Export}, How.{How, TheVariants.{Copy, HardLink, Reflink}}, Source.{Source}}, reply.Reply.{Reply, TheVariants.{Copied, Done, Refused}}}, Replies.{OrMemory}, Runs.{reply_of, without_message}}
 use Rattle.cacache_calls.specs.declared.command.Source.TheVariants as sources
 use Rattle.cacache_value.specs.{Shows.{blob_bytes, link_end}, Value.{AtLink, Blob, InFile}}
 use Rattle.cacache_laws.specs.{Caches.{LacksKey, lies_under}, ExportAnswers.{StaysIfRefused, blob_named, blob_read, export_reply, exported_reply, led_reply, made_reply, or_told, verified_reply}, Keeping.{found_under}, Looks.{IsDamaged, bytes_under}, results.{Exports.{FailsExport, NamesHeld, RefusesSource, TellsPath, TellsSource, made_at}, Success.{FailsAs, FailsFor}}}
-use Rattle.cacache_laws.proofs.results.SureResults.{IsGiven, fails_for, fails_too, of_refused}
+use Rattle.cacache_laws.proofs.{Sure.SureExports.{by_held}, results.SureResults.{IsGiven, fails_for, fails_too, of_refused}}
 
 -- ---- what lies there can't be read
 
 no_node : (here : Option Node) (fault : Fault) → bytes_there faults.InvalidInput here ≡ Err fault
     → (bytes_there faults.IsADirectory here ≡ Err fault) ⊎ ((bytes_there faults.IsADirectory here ≡ Err faults.IsADirectory) × (fault ≡ faults.InvalidInput))
-no_node None fault e = inl e
 no_node (Some Folder) fault e = inr (refl, cc)
 no_node (Some (File bytes)) fault e = absurd cc
-no_node (Some (Link target)) fault e = inl e
+no_node here fault e = inl e
 
 no_end : (t : Tree) (end : Result Names Fault) (fault : Fault) → and_then end (λ names. bytes_there faults.InvalidInput (look t names)) ≡ Err fault
     → (and_then end (λ names. bytes_there faults.IsADirectory (look t names)) ≡ Err fault)
@@ -87,11 +86,7 @@ module _ (cache : List ℕ) (source : Source) (checked : Bool) (to : List ℕ) (
   -- what a reply says without its message, its error says
   plain_tells : (how : How) (e : Error) → Tells how (Refused (without_message e)) → TellsSource cache source checked e old ⊎ TellsPath how to e old
   plain_tells how (EntryNotFound c key) h = h
-  plain_tells how (SizeMismatch wanted actual) h = h
-  plain_tells how (IoError fault message) h = h
-  plain_tells how (SerdeError cause message) h = h
-  plain_tells how (IntegrityError fault) h = h
-  plain_tells how OutOfMemory h = h
+  plain_tells how e h = h
 
 export_tells : (cache : List ℕ) (source : Source) (how : How) (checked : Bool) (to : List ℕ) (old : List LogItem)
     → Tells cache source checked to old how (export_reply cache source (record { how = how; checked = checked; to = to }) old)
@@ -123,15 +118,6 @@ module _ {X : Type 0} (answer : X → Reply) (gives : (x : X) → IsGiven (answe
 
   so_fails : (wanted : Error) → export_reply cache source e old ≡ Refused wanted → FailsFor wanted r
   so_fails wanted is = fails_for answer gives r wanted (elim h [ inl m ↦ inl m | inr same ↦ inr (same.0 ∙ is) ])
-
--- for a source that leads to this integrity
-by_held : (cache : List ℕ) (source : Source) (i : List Hash) (e : Export) (old : List LogItem) → NamesHeld cache source i old → export_reply cache source e old ≡ exported_reply i e (tree_of old) (lies_under cache i old)
-by_held cache (sources.Hash j) i e old leads = ap (λ j. exported_reply j e (tree_of old) (lies_under cache j old)) leads
-by_held cache (sources.Key key) i e old leads = by (found_under cache key old) leads
-  where
-    by : (found : Option Found) → option_map (λ (x : Found). x.integrity) found ≡ Some i → led_reply cache key e old found ≡ exported_reply i e (tree_of old) (lies_under cache i old)
-    by None is = absurd cc
-    by (Some f) is = let same : f.integrity ≡ i = cc in ap (λ j. exported_reply j e (tree_of old) (lies_under cache j old)) same
 
 by_key : (cache : List ℕ) (source : Source) (key : List ℕ) (e : Export) (old : List LogItem) → source ≡ sources.Key key → LacksKey cache key old → export_reply cache source e old ≡ Refused (EntryNotFound cache key)
 by_key cache source key e old is lacks = ap (λ s. export_reply cache s e old) is ∙ ap (led_reply cache key e old) lacks
@@ -170,11 +156,7 @@ missing_or to HardLink false i t = by_path HardLink to t (free t to) refl
 -- an error with this fault gives it
 path_told : (how : How) (to : List ℕ) (e : Error) (fault : Fault) (old : List LogItem) → without_message e ≡ IoError fault [] → made_at how (tree_of old) to ≡ Err fault → TellsPath how to e old
 path_told how to (IoError other message) fault old same is = let one : fault ≡ other = cc in is ∙ ap Err one
-path_told how to (EntryNotFound c key) fault old same is = absurd cc
-path_told how to (SizeMismatch wanted actual) fault old same is = absurd cc
-path_told how to (SerdeError cause message) fault old same is = absurd cc
-path_told how to (IntegrityError other) fault old same is = absurd cc
-path_told how to OutOfMemory fault old same is = absurd cc
+path_told how to e fault old same is = absurd cc
 
 module _ {X : Type 0} (answer : X → Reply) (gives : (x : X) → IsGiven (answer x)) (r : Result X Error) (cache : List ℕ) (source : Source) (how : How) (checked : Bool) (to : List ℕ) (old new : List LogItem)
     (h : Answered cache source how checked to (reply_of answer r) old new) where

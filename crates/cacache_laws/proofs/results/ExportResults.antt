@@ -44,13 +44,11 @@ shared (Err e) bytes to old new h = excused_error e old new h
 
 may_take : (how : How) (to : List ℕ) (log : List LogItem) → MayTake HardLink to log → MayTake how to log
 may_take Copy to log may = (may.0, free_writable (tree_of log) to may.0 may.1)
-may_take Reflink to log may = may
-may_take HardLink to log may = may
+may_take how to log may = may
 
 is_given : (how : How) (bytes : List ℕ) → IsGiven (exported how bytes)
 is_given Copy bytes = tt
-is_given Reflink bytes = tt
-is_given HardLink bytes = tt
+is_given how bytes = tt
 
 pub sharing_means : {C N : Type 0} (cache : List ℕ) (source : Source) (how : How) (checked : Bool) (to : List ℕ) (r : Result (Unit {0}) Error) (new : Env (List LogItem) C N) → IsLog new.store
     → SharingMeans cache source how checked to r new

@@ -92,11 +92,7 @@ module _ (path : Names) where
 -- a put that appends something does so no more
 errand_appends : (errand : Errand) (s : State) (p line : List ℕ) (P : Type 0) → wants (doing errand s) ≡ Some (steps.Append p line) → P
 errand_appends (make_folder q) s p line P w = absurd cc
-errand_appends (remove q) s p line P w = absurd cc
-errand_appends (reflink q o) s p line P w = absurd cc
-errand_appends (hard_link q o) s p line P w = absurd cc
-errand_appends (sync_file q) s p line P w = absurd cc
-errand_appends (sync_dir q) s p line P w = absurd cc
+errand_appends errand s p line P w = absurd cc
 
 append_ends : (s : State) (p line : List ℕ) (a : PlainAnswer) → Once s → wants s ≡ Some (steps.Append p line) → Never (after s a)
 append_ends (doing errand s) p line a h w = errand_appends errand s p line (Never (after (doing errand s) a)) w

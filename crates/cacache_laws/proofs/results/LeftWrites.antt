@@ -1,21 +1,19 @@
 -- What a write gave and left on a standing store.
-use Rattle.std.{proofs.Common.{◌≡◌, ◌<◌, ◌^◌, ℕ, List, Option, Some, Result, Ok, Err, length, refl, sym, subst}, specs.Prelude.{IfErr, IfOk, IsUtf8}}
+use Rattle.std.{proofs.Common.{◌≡◌, ◌<◌, ◌^◌, ℕ, List, Option, Some, Result, Ok, Err, length, refl}, specs.Prelude.{IfErr, IfOk, IsUtf8}}
 use Rattle.cacache_core.specs.{declared.{errors.Error.{Error}, integrity.{algorithm.Algorithm.{Algorithm}, digest.Hash.{Hash}}}, Integrity.{integrity_under}, Texts.{integrity_text}}
 use Rattle.cacache_store.specs.declared.{env.Env.{Env}, store.log.LogItem.{LogItem}}
 use Rattle.cacache_disk.specs.memory.Replay.{IsLog}
 use Rattle.cacache_calls.specs.declared.command.Command.TheVariants as commands
 use Rattle.cacache_calls.{specs.{declared.reply.Reply.TheVariants.{Stored}, Inserting.{refused_cause}, Runs.{reply_of, without_message}}, proofs.IntegrityUtf8.{integrity_utf8}}
-use Rattle.cacache_laws.specs.{CallErrors.{IsPlainPut}, Caches.{HasKey, IsExcused, plain_put}, Puts.{entry_of_put}, Standing.{PutStands}, results.Losses.{LeftWriteMeans}}
-use Rattle.cacache_laws.proofs.{Putting.{Beside.{plain_writes_fit}, Forms.{bare_written}, StandingPuts.{standing_writes}}, results.{Told.{called}, WriteResults.{keyed_succeeds, leads_so}}, Calls.Messages.{excused_error}}
+use Rattle.cacache_laws.specs.{CallErrors.{IsPlainPut}, Caches.{HasKey, IsExcused, plain_put}, Standing.{PutStands}, results.Losses.{LeftWriteMeans}}
+use Rattle.cacache_laws.proofs.{Putting.{Beside.{plain_writes_fit}, Forms.{bare_written, has_key}, StandingPuts.{standing_writes}}, results.{Told.{called}, WriteResults.{keyed_succeeds, leads_so}}, Calls.Messages.{excused_error}}
 
 left_told : (a : Algorithm) (cache key bytes : List ℕ) (moment : ℕ) (r : Result (List Hash) Error) (old new : List LogItem) → PutStands cache (plain_put a key bytes moment) (reply_of Stored r) old new
     → IsPlainPut cache key (plain_put a key bytes moment)
     → IfOk r (λ i. (i ≡ integrity_under a bytes) × HasKey cache key i bytes new) × IfErr r (λ e. IsExcused e old new)
 left_told a cache key bytes moment (Ok i) old new k plain =
-    let p = plain_put a key bytes moment in
     let h = k.stored i refl in
-    let has : HasKey cache key (integrity_under a bytes) bytes new = record { found = entry_of_put cache p key; finds = h.entry key refl; integrity = refl; content = h.content } in
-    ((h.stored, subst (λ j. HasKey cache key j bytes new) (sym h.stored) has), tt)
+    ((h.stored, has_key a cache key bytes moment i new h.stored (h.entry key refl) h.content), tt)
 left_told a cache key bytes moment (Err e) old new k plain = (tt, excused_error e old new (k.fails key (without_message e) plain refl))
 
 pub left_write_means : {C N : Type 0} (moments : C → Option (List ℕ)) (numbers : N → Option (List ℕ)) (a : Algorithm) (cache key bytes : List ℕ) (r : Result (List Hash) Error) (new : Env (List LogItem) C N)

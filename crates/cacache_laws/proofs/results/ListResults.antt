@@ -23,12 +23,7 @@ items_plain (item ∷ items) = ap (λ x. x ∷ map plain_item (map plain_item it
 reply_plain : (r : Reply) → plain_reply (plain_reply r) ≡ plain_reply r
 reply_plain (replies.Listed items) = ap (λ l. replies.Listed l) (items_plain items)
 reply_plain (replies.Refused e) = ap (λ x. replies.Refused x) (plain_error e)
-reply_plain (replies.Stored i) = refl
-reply_plain (replies.Read b) = refl
-reply_plain (replies.LookedUp found) = refl
-reply_plain (replies.Exists there) = refl
-reply_plain (replies.Copied n) = refl
-reply_plain replies.Done = refl
+reply_plain r = refl
 
 -- ---- entries alone
 

@@ -29,9 +29,8 @@ put_none t p node not none q is = by (same_path q p) (subst IsLink (look-put t p
     by false i = none q i
 
 made_one : (t : Tree) (p : Names) (here : Option Node) (b : Bool) → NoneLinks t → NoneLinks (if_missing here (cond b t (put t p Folder)) t)
-made_one t p None true none = none
 made_one t p None false none = put_none t p Folder (λ i. i) none
-made_one t p (Some node) b none = none
+made_one t p here b none = none
 
 made_none : (t : Tree) (above rest : Names) (count : ℕ) → NoneLinks t → NoneLinks (make_some t above rest count)
 made_none t above [] count none = none
@@ -64,10 +63,8 @@ bare_none q is = by (same_path q []) (subst IsLink (look-bare q) is)
 -- ---- the file that a path leads to if no link is there
 
 stays_here : (here : Option Node) (q end : Names) (go : List ℕ → Result Names Fault) → (IsLink here → ⊥) → on_link here q go ≡ Ok end → q ≡ end
-stays_here None q end go none e = cc
-stays_here (Some Folder) q end go none e = cc
-stays_here (Some (File bytes)) q end go none e = cc
 stays_here (Some (Link target)) q end go none e = absurd (none tt)
+stays_here here q end go none e = cc
 
 followed_none : (t : Tree) (q end : Names) → (IsLink (look t q) → ⊥) → followed 16 t q ≡ Ok end → q ≡ end
 unfolding followed
@@ -108,10 +105,8 @@ look_stays q w (Stopped caller ∷ more) later leaves = look_stays q w more late
 -- ---- links of contents
 
 link_node : (here : Option Node) (target : List ℕ) → blob_in here ≡ Some (AtLink target) → here ≡ Some (Link target)
-link_node None target e = absurd cc
-link_node (Some Folder) target e = absurd cc
-link_node (Some (File bytes)) target e = absurd cc
 link_node (Some (Link other)) target e = let same : other ≡ target = cc in ap (λ t. Some (Link t)) same
+link_node here target e = absurd cc
 
 link_elsewhere : (home : Option Names) (t : Tree) (a : Hash) (target : List ℕ) → Placed home t → (value_of_tree home t).contents a ≡ Some (AtLink target) → IsFor home Elsewhere target
 link_elsewhere None t a target placed e = absurd cc

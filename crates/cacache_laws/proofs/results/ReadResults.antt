@@ -9,7 +9,7 @@ use Rattle.cacache_calls.specs.declared.reply.Reply.TheVariants as replies
 use Rattle.cacache_calls.specs.{Replies.{looked_up, OrMemory, content_reply}, Runs.{reply_of}}
 use Rattle.cacache_sync.specs.Reads.{bytes_read}
 use Rattle.cacache_laws.specs.{Caches.{HasContent, HasKey, IsExcused, AStepFailed, GivesBytes, FindsNone, SaysThere, setup_at}, Inserts.{leads_to}, Keeping.{found_under}, Looks.{GivesFound, GivesHeld, GivesOfKey, SaysAbsent}, ReadAnswers.{get_on, read_on}, Succeeds.{NamesFolder, exists_reply, is_yes}, results.{Reads.{ContentReadMeans, GivesJust, GivesNoEntry, LinksToFile, LiesWhole, KeyLiesWhole, KeyReadMeans, LookupMeans, QuestionMeans}, Success.{FailsForMemory}}}
-use Rattle.cacache_laws.proofs.{Readings.{AskedContents.{asks_absent, asks_content}, GivenReads.{content_reads_give, key_reads_give}, Known.{caches_last}, Looked.{finds_found}, Looks.{tree_stays}, ReadsKeep.{reads_content, reads_key, reads_none}, Standing.{caches_stand, met_reply}}, Links.LinkedReads.{links_show}, Sure.Succeeds.{content_reads_answer, key_reads_answer, lookups_answer, questions_answer}, results.{SureResults.{for_memory, for_missing, or_as}, Told.{called, looks_leave}}, Calls.Messages.{missing_error, excused_error}}
+use Rattle.cacache_laws.proofs.{Readings.{AskedContents.{asks_absent, asks_content}, GivenReads.{content_reads_give, key_reads_give, reads_content, reads_key, reads_none}, Known.{caches_last}, Looked.{finds_found}, Looks.{tree_stays}, Standing.{caches_stand, met_reply}}, Links.LinkedReads.{links_show}, Sure.Succeeds.{content_reads_answer, key_reads_answer, lookups_answer, questions_answer}, results.{SureResults.{for_memory, for_missing, or_as}, Told.{called, looks_leave}}, Calls.Messages.{missing_error, excused_error}}
 use Rattle.cacache_disk.specs.memory.Replay.{IsLog, tree_of}
 use Rattle.cacache_value.specs.Shows.{blob_bytes, blob_there}
 use Rattle.cacache_history.specs.ShownTurns.{as_refusal}

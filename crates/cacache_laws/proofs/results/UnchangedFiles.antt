@@ -37,10 +37,6 @@ module _ (home : Option Names) (path : Names) (bytes : List ℕ) where
         )
     not_moved step answer p is folder = refl
 
-    cond_names : (b : Bool) (later : Fixed) → Firm later → Firm (cond b later fixed)
-    cond_names true later firm = firm
-    cond_names false later firm = now.2
-
     sync_stands : (b : Bool) (later : Fixed) → ((fixed.files path).whole ≡ true → (later.files path).whole ≡ true) → Firm later → Stands t (cond b later fixed)
     sync_stands true later whole firm = (now.0, whole now.1, firm)
     sync_stands false later whole firm = now

@@ -12,7 +12,7 @@ use Rattle.cacache_calls.proofs.IntegrityUtf8.{integrity_utf8}
 use Rattle.cacache_jobs.specs.{Environment.{HasMoment}, Sites.{site_of}}
 use Rattle.cacache_sync.specs.put.{Options.{Said, options_of}, Puts.{insert_of, unkeyed_put}}
 use Rattle.cacache_laws.specs.{Beside.{FitsEntry, KeepsBeside}, Caches.{Called, IsCache, HasContent, HasKey, IsExcused, WritesKey, plain_put}, Inserts.{InsertsKey, leads_to}, Keeping.{found_under}, Puts.{MayLeadToPut}, Standing.{IsStanding}, Succeeds.{NamesFolder, IsReady, put_reply, unless_unwritable}, results.{Success.{FailsForMemory}, Writes.{ContentWriteMeans, InsertionMeans, KeepsUntouched, SaysPlain, WriteMeans}}}
-use Rattle.cacache_laws.proofs.{Putting.{Beside.{plain_writes_fit, writes_keep}, Forms.{Written, bare_written}, Inserting.{inserts_last, given_utf8}, Puts.{puts_leave, puts_may_lead}, WritesLast.{writes_last}}, Calls.{CallErrors.{contents_fail}, Logs.{calls_grow}, Messages.{excused_error}}, Readings.{Known.{excuse, known}, Standing.{caches_stand}}, Sure.Succeeds.{puts_answer, insertions_answer}, Spares.Unused.{others_leave_none, puts_leave_tidy, stays_ready}, results.{SureResults.{for_memory, so_ready}, Told.{called}}}
+use Rattle.cacache_laws.proofs.{Putting.{Beside.{plain_writes_fit, writes_keep}, Forms.{Written, bare_written}, Inserting.{inserts_last, given_utf8}, StandingPuts.{puts_leave, puts_may_lead}, WritesLast.{writes_last}}, Calls.{CallErrors.{contents_fail}, Logs.{calls_grow}, Messages.{excused_error}}, Readings.{Known.{excuse, known}, Standing.{caches_stand}}, Sure.Succeeds.{puts_answer, insertions_answer}, Spares.Unused.{others_leave_none, puts_leave_tidy, stays_ready}, results.{SureResults.{for_memory, so_ready}, Told.{called}}}
 
 -- ---- what stays
 
@@ -58,7 +58,6 @@ pub keyed_succeeds : (a : Algorithm) (cache key bytes : List ℕ) (moment : ℕ)
 unfolding refused_cause
 keyed_succeeds a cache key bytes moment r old new utf8 small early ready standing c =
     let p = plain_put a key bytes moment in
-    let i = insertion_of (put_commit cache p) key in
     let w = bare_written key (Some (integrity_text (integrity_under a bytes))) moment (length bytes) utf8 (integrity_utf8 (integrity_under a bytes)) early small in
     let fits : put_reply cache (plain_put a key bytes moment) ≡ Stored (integrity_under a bytes) = ap (unless_unwritable (Stored (integrity_under a bytes))) w.no_cause in
     elim (puts_answer cache p (reply_of Stored r) old new c ready.folder standing (ready.tidy c.number)) [
@@ -131,12 +130,9 @@ content_write_means moments numbers a cache bytes r new logged old sound ran =
 inserted_so : (r : Result (List Hash) Error) (cache : List ℕ) (i : Insert) (old new : List LogItem) → refused_cause (insertion cache i) ≡ None → InsertsKey cache i (reply_of Stored r) old new
     → IfOk r (λ j. leads_to cache i.key new ≡ i.options.integrity) × IfErr r (λ e. IsExcused e old new)
 inserted_so (Ok j) cache i old new fits h = (h, tt)
-inserted_so (Err (EntryNotFound c k)) cache i old new fits h = (tt, h)
-inserted_so (Err (SizeMismatch wanted actual)) cache i old new fits h = (tt, h)
 inserted_so (Err (IoError fault message)) cache i old new fits h = (tt, excused_error (IoError fault message) old new h)
 inserted_so (Err (SerdeError cause message)) cache i old new fits h = let no : None ≡ Some cause = sym fits ∙ h in absurd cc
-inserted_so (Err (IntegrityError fault)) cache i old new fits h = (tt, h)
-inserted_so (Err OutOfMemory) cache i old new fits h = (tt, h)
+inserted_so r cache i old new fits h = (tt, h)
 
 pub early_of : {C : Type 0} (moments : C → Option (List ℕ)) (time : Option ℕ) (old new : C) (moment : ℕ) → ((t : ℕ) → time ≡ Some t → t < 2 ^ 64) → HasMoment moments time old new moment → moment < 2 ^ 64
 early_of moments None old new moment early h = h.1

@@ -207,10 +207,7 @@ module _ (cache : List ℕ) (number : ℕ) (path : List ℕ) (is : path ≡ temp
   removed (Err (IoError fault message)) h = asked (answers.Failed fault) h
   removed (Err OutOfMemory) (inl same) = inl same
   removed (Err OutOfMemory) (inr h) = asked (answers.Failed h.0) h.1
-  removed (Err (EntryNotFound c k)) h = absurd h
-  removed (Err (SizeMismatch wanted actual)) h = absurd h
-  removed (Err (SerdeError cause message)) h = absurd h
-  removed (Err (IntegrityError fault)) h = absurd h
+  removed r h = absurd h
 
   tried : (e : Error) → TriesToRemove path e (Some old) (Some new) → GivesUpTemp cache number (Some old) (Some new)
   tried OutOfMemory (inl same) = inl same

@@ -38,8 +38,7 @@ below_member x e (y ∷ es) h (inr m) = below_member x e es (both_parts (is_lt (
 
 not_both : (o : Ordering) → T (is_lt o) → is_eq o ≡ true → ⊥
 not_both Less a e = absurd cc
-not_both Equal a e = a
-not_both Greater a e = a
+not_both o a e = a
 
 apart_at : (x q : Names) (b : Bool) → same_path q x ≡ b → T (is_lt (names_cmp x q)) → b ≡ false
 apart_at x q true is lt = absurd (not_both (names_cmp q q) (subst (λ (z : Names). T (is_lt (names_cmp z q))) (sym (same_path-true q x is)) lt) (same_self q))
@@ -127,16 +126,12 @@ made_up_shows t p NotFound names e = absurd cc
 made_up_shows t p other names e = absurd cc
 
 folder_at : (here : Option Node) (old new : Names) → where_folder here old ≡ Ok new → old ≡ new
-folder_at None old new e = absurd cc
 folder_at (Some Folder) old new e = cc
-folder_at (Some (File bytes)) old new e = absurd cc
-folder_at (Some (Link target)) old new e = absurd cc
+folder_at here old new e = absurd cc
 
 folder_node : (here : Option Node) (old new : Names) → where_folder here old ≡ Ok new → here ≡ Some Folder
-folder_node None old new e = absurd cc
 folder_node (Some Folder) old new e = refl
-folder_node (Some (File bytes)) old new e = absurd cc
-folder_node (Some (Link target)) old new e = absurd cc
+folder_node here old new e = absurd cc
 
 pub folder_found : (t : Tree) (path : List ℕ) (names : Names) → folder t path ≡ Ok names → (names_of path ≡ Ok names) × (look t names ≡ Some Folder)
 unfolding folder

@@ -43,19 +43,12 @@ live_so [] f h m e = absurd m
 live_so (g ∷ entries) f h (inl same) e = or_left (is_address (address g.integrity) h) (is_live entries h) (ap (λ (x : Found). is_address (address x.integrity) h) (sym same) ∙ at_some (address f.integrity) h e)
 live_so (g ∷ entries) f h (inr m) e = or_right (is_address (address g.integrity) h) (is_live entries h) (live_so entries f h m e)
 
-ok_same : (f g : Found) (x : Item) → Ok f ≡ x → x ≡ Ok g → f ≡ g
-ok_same f g x a b = let both : Ok f ≡ Ok g = a ∙ b in cc
-
 pub item_in : (f : Found) (items : List Item) → Member (Ok f) items → Member f (entries_in items)
 item_in f [] m = m
 item_in f (Ok g ∷ items) (inl e) = inl (let same : Ok f ≡ Ok g = e in cc)
 item_in f (Ok g ∷ items) (inr m) = inr (item_in f items m)
 item_in f (Err error ∷ items) (inl e) = absurd (let wrong : Ok f ≡ Err error = e in cc)
 item_in f (Err error ∷ items) (inr m) = item_in f items m
-
-no_blob : (o : Option Blob) → ((b : Blob) → o ≡ Some b → ⊥) → o ≡ None
-no_blob None h = refl
-no_blob (Some b) h = absurd (h b refl)
 
 not_false : (b : Bool) → b ≡ true → not b ≡ true → ⊥
 not_false b e n = let wrong : false ≡ true = ap not (sym e) ∙ n in cc

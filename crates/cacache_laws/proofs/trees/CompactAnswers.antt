@@ -13,10 +13,8 @@ none_either true = refl
 none_either false = refl
 
 unsigned : (parts : List (List ℕ)) → signed_parts parts ≡ false → entry_of_parts parts ≡ None
-unsigned [] is = refl
-unsigned (digest ∷ []) is = refl
 unsigned (digest ∷ text ∷ []) is = ap (λ (b : Bool). cond b (read_entry text) None) is
-unsigned (digest ∷ text ∷ more ∷ others) is = refl
+unsigned parts is = refl
 
 -- what is no line is no entry
 pub no_entry : (p : List ℕ) → is_line p ≡ false → entry_of_piece (without_cr p) ≡ None

@@ -64,10 +64,8 @@ module _ (g : Spot) (t : Tree) (p : Names) (m : PlainStep × PlainAnswer) (ns : 
       ap is_leaf (ap (look t) (sym (append_assoc p (x ∷ []) (y ∷ ys))) ∙ none_below t (p ++ x ∷ []) y ys shown.rooted (λ folder. apart (sym is ∙ folder)))
 
   standing : (x : List ℕ) (xs : Names) (here : Option Node) → look t (p ++ x ∷ []) ≡ here → ns ≡ listing t p → Covered (m ∷ moves) (t ∷ trees) (joined g.path (x ∷ xs)) (p ++ x ∷ xs)
-  standing x [] None is all = here_not x [] (ap is_leaf is)
   standing x (y ∷ ys) None is all =
       here_not x (y ∷ ys) (ap is_leaf (ap (look t) (sym (append_assoc p (x ∷ []) (y ∷ ys))) ∙ none_below t (p ++ x ∷ []) y ys shown.rooted (λ folder. let e : None ≡ Some Folder = sym is ∙ folder in cc)))
-  standing x [] (Some Folder) is all = here_not x [] (ap is_leaf is)
   standing x (y ∷ ys) (Some Folder) is all =
       let member : Member (record { name = x; kind = kinds.Folder }) ns = subst (Member _) (sym all) (child_listed t p x Folder is) in
       let f : Spot = record { path = join g.path x; level = g.level + 1 } in
@@ -79,6 +77,7 @@ module _ (g : Spot) (t : Tree) (p : Names) (m : PlainStep × PlainAnswer) (ns : 
   standing x (y ∷ ys) (Some (File bytes)) is all = here_not x (y ∷ ys) (below_leaf x y ys (File bytes) is (λ e. cc))
   standing x [] (Some (Link target)) is all = a_file x kinds.Link (subst (Member _) (sym all) (child_listed t p x (Link target) is)) refl
   standing x (y ∷ ys) (Some (Link target)) is all = here_not x (y ∷ ys) (below_leaf x y ys (Link target) is (λ e. cc))
+  standing x [] here is all = here_not x [] (ap is_leaf is)
 
   covered_first : (x : List ℕ) (xs : Names) → FolderShows t p ns → Covered (m ∷ moves) (t ∷ trees) (joined g.path (x ∷ xs)) (p ++ x ∷ xs)
   covered_first x xs (listed all) = standing x xs (look t (p ++ x ∷ [])) refl all
@@ -104,13 +103,11 @@ covers (m ∷ moves) (t ∷ trees) (g ∷ todo) r a f base x xs k named =
 
 deeper_path : (k : Kind) (path : List ℕ) (level : ℕ) (f : Spot) → folder_as k path level ≡ Some f → f.path ≡ path
 deeper_path kinds.Folder path level f e = let same : record { path = path; level = level + 1 } ≡ f = cc in ap (λ (h : Spot). h.path) (sym same)
-deeper_path kinds.File path level f e = absurd cc
-deeper_path kinds.Link path level f e = absurd cc
+deeper_path k path level f e = absurd cc
 
 file_leaf : (node : Node) (path found : List ℕ) → file_as (kind_of node) path ≡ Some found → (found ≡ path) × (is_leaf (Some node) ≡ true)
 file_leaf Folder path found e = absurd cc
-file_leaf (File bytes) path found e = (cc, refl)
-file_leaf (Link target) path found e = (cc, refl)
+file_leaf node path found e = (cc, refl)
 
 some_more : (ns : Names) (n : List ℕ) → 0 < length (ns ++ n ∷ [])
 some_more [] n = omega arith

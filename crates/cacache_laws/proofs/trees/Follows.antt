@@ -95,8 +95,7 @@ module _ (site : Site) (home : Names) (t new : Tree) (at_home : home_of site.cac
       subst (λ (c : List ℕ). (apply new (ReadAll (content_path c f.integrity)) Plain).0 ≡ (apply t (ReadAll (content_path c f.integrity)) Plain).0) (sym at)
       (alike.contents l.key f (b, e, found)))
   ready_found l (answers.Failed NotFound) at ok e = ready_for l l.aim None ok (λ f wrong. absurd cc)
-  ready_found l (answers.Failed other) at ok e = tt
-  ready_found l other at ok e = tt
+  ready_found l u at ok e = tt
 
   lean_found : (l : Lookup) (durable : Bool) (b : List ℕ) → after (looking l) (answers.Bytes b) ≡ after (looking l) (answers.Bytes (compact_text durable b))
   unfolding found_in
@@ -110,8 +109,7 @@ module _ (site : Site) (home : Names) (t new : Tree) (at_home : home_of site.cac
 
   ready_read : (k : carried.Content) (u : PlainAnswer) → Ready (after (reading k) u)
   ready_read k (answers.Bytes b) = ready_checked (meets k.integrity b) _ _
-  ready_read k (answers.Failed fault) = tt
-  ready_read k other = tt
+  ready_read k u = tt
 
   -- ---- walks
 
@@ -133,8 +131,7 @@ module _ (site : Site) (home : Names) (t new : Tree) (at_home : home_of site.cac
 
   name_visits : (kind : Kind) (level : ℕ) (p : List ℕ) (todo : List Task) → InIndex p → EachVisit Visits todo → EachVisit Visits (task_for_name false level p kind ∷ todo)
   name_visits kinds.Folder level p todo at each = folder_visits (nat_lt level 16) p (level + 1) todo at each
-  name_visits kinds.File level p todo at each = (at, each)
-  name_visits kinds.Link level p todo at each = (at, each)
+  name_visits kind level p todo at each = (at, each)
 
   names_visit : (ns : List Name) (level : ℕ) (p : List ℕ) (todo : List Task) → InIndex p → AreProperNames ns → EachVisit Visits todo → EachVisit Visits (tasks_of false level p ns ++ todo)
   names_visit [] level p todo at proper each = each
@@ -207,8 +204,7 @@ module _ (site : Site) (home : Names) (t new : Tree) (at_home : home_of site.cac
         fits = fits_read p;
         ready = ready_bucket p todo items left (apply t (ReadAll p) Plain).0 each;
       }
-  walk_goes items left (RemoveFile p) todo at each x fits e = absurd at
-  walk_goes items left (RemoveFolder p) todo at each x fits e = absurd at
+  walk_goes items left v todo at each x fits e = absurd at
 
   goes : (s : State) (a : PlainStep) → Ready s → wants s ≡ Some a → Goes s a
   goes (looking l) a ready w =

@@ -60,9 +60,6 @@ module _ (cache : List ℕ) (home : Names) where
   -- ---- a key with its content
 
   module _ (is : home_of cache ≡ Some home) (key : List ℕ) (full lean : Tree) (rooted : Rooted full) (other : Rooted lean) (l : LacksIdle cache home full lean) where
-    abbrev to_bucket : State
-    to_bucket = remove_bucket cache key
-
     abbrev to_content : Found → State
     to_content found = remove_content cache found.integrity (remove_bucket cache key)
 
@@ -87,8 +84,7 @@ module _ (cache : List ℕ) (home : Names) where
     bucket_goes : (u : PlainAnswer) → (apply full (ReadAll (bucket_path cache key)) Plain).0 ≡ u → (b : Both (after (looking looks) u) (after (looking looks) u) full lean) → LackAfter (after (looking looks) u) (after (looking looks) u) full lean b
     bucket_goes (answers.Bytes bytes) answer b = found_goes bytes (found_in key bytes) refl answer b
     bucket_goes (answers.Failed NotFound) answer b = last_removed (bucket_path cache key) full lean rooted other l b
-    bucket_goes (answers.Failed fault) answer b = both_stay _ _ full lean b l
-    bucket_goes other_answer answer b = both_stay _ _ full lean b l
+    bucket_goes u answer b = both_stay _ _ full lean b l
 
     pub key_goes : (b : Both (looking looks) (looking looks) full lean) → LackAfter (looking looks) (looking looks) full lean b
     key_goes b =

@@ -12,16 +12,14 @@ use Rattle.cacache_laws.proofs.trees.{Covering.{walks_find, walks_stay}, Logged.
 use Rattle.cacache_walks.specs.{Listing.{Sorts, IsByHash, content_area_in}, Reading.{ReadsFolders, top_folder, files_shown}}
 
 leaf_held : (here : Option Node) → is_leaf here ≡ true → (blob : Blob) × (blob_in here ≡ Some blob)
-leaf_held None e = absurd cc
-leaf_held (Some Folder) e = absurd cc
 leaf_held (Some (File bytes)) e = (InFile bytes, refl)
 leaf_held (Some (Link target)) e = (AtLink target, refl)
+leaf_held here e = absurd cc
 
 held_leaf : (here : Option Node) (blob : Blob) → blob_in here ≡ Some blob → is_leaf here ≡ true
-held_leaf None blob e = absurd cc
-held_leaf (Some Folder) blob e = absurd cc
 held_leaf (Some (File bytes)) blob e = refl
 held_leaf (Some (Link target)) blob e = refl
+held_leaf here blob e = absurd cc
 
 pub top_named : (cache : List ℕ) (home : Names) → home_of cache ≡ Some home → names_of (join cache content_area) ≡ Ok (home ++ content_area ∷ [])
 top_named cache home is = joined_texts_name cache (content_area ∷ []) (All-cons IsProperName content_area [] proper_content_folder (All-nil IsProperName)) (omega arith) ∙ rw is refl

@@ -44,7 +44,6 @@ module _ (site : Site) (d : Delete) where
 
   appended : (t : PlainAnswer) (moves : Moves) → Runs (after (appending i) t) moves Done → (n : ℕ) × (t ≡ answers.Took n) × (length (bucket_line i) ≤ n) × (moves ≡ [])
   appended (answers.Took n) moves run = let took = took_all (nat_le (length (bucket_line i)) n) n moves refl run in (n, refl, took.0, took.1)
-  appended (answers.Failed fault) moves run = absurd (let e = (ended moves _ run).1 in cc)
   appended t moves run = absurd (let e = (ended moves _ run).1 in cc)
 
   append_run : (moves : Moves) → Runs (appending i) moves Done → (n : ℕ) × (length (bucket_line i) ≤ n) × (moves ≡ (steps.Append (bucket_path site.cache d.key) (bucket_line i), answers.Took n) ∷ [])
@@ -57,7 +56,6 @@ module _ (site : Site) (d : Delete) where
 
   made : (t : PlainAnswer) (moves : Moves) → Runs (after (doing (make_folder (bucket_folder site.cache d.key)) (appending i)) t) moves Done → (t ≡ answers.Done) × Runs (appending i) moves Done
   made answers.Done moves run = (refl, run)
-  made (answers.Failed fault) moves run = absurd (let e = (ended moves _ run).1 in cc)
   made t moves run = absurd (let e = (ended moves _ run).1 in cc)
 
   inserted : (cause : Option SerdeCause) (moves : Moves) → refused_cause i ≡ cause → Runs (unless_refused i cause) moves Done → Buried moves

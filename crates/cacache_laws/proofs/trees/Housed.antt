@@ -102,7 +102,6 @@ module _ (site : Site) (d : Delete) (formed : calls.FormedIfWritten (deletion si
   two_house : (t : Tree) (fits : refused_cause (deletion site.cache d) ≡ None) → Proper (home_of site.cache) make → Proper (home_of site.cache) append → Housed (home_of site.cache) t
       → Housed (home_of site.cache) (apply (apply t make Plain).1 append Plain).1 × Still (home_of site.cache) t (apply (apply t make Plain).1 append Plain).1
   two_house t fits one two h =
-      let mid = (apply t make Plain).1 in
       let first = step_housed (home_of site.cache) t make one tt tt h in (
         step_housed (home_of site.cache) (apply t make Plain).1 append two (d.key, bucket_below (setup_at site.cache site.base) d.key) (own_line fits) first,
         append_still (home_of site.cache) t (apply t make Plain).1 (bucket_path site.cache d.key) (bucket_line (deletion site.cache d)) first.placed two
@@ -112,7 +111,6 @@ module _ (site : Site) (d : Delete) (formed : calls.FormedIfWritten (deletion si
   houses : (moves : Moves) (t : Tree) → Runs (opening site (commands.Delete d)) moves Done → Housed (home_of site.cache) t
       → Housed (home_of site.cache) (tree_on t moves) × Still (home_of site.cache) t (tree_on t moves)
   houses moves t run h =
-      let x = setup_at site.cache site.base in
       let b = buried site d moves run in
       let sound = begins_sound site (may_export (setup_at site.cache site.base)) (is_outside (setup_at site.cache site.base)) (commands.Delete d) formed in
       let proper = subst (AllProper site d formed) b.are (proper_run site d formed (opening site (commands.Delete d)) moves Done sound run) in

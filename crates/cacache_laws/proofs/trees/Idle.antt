@@ -63,8 +63,7 @@ checked_over t false x y more reply run = over_done t y more reply run
 -- after a content was read the call is over
 reading_over : (t : Tree) (k : carried.Content) (u : PlainAnswer) (more : Moves) (reply : Reply) → Runs (after (reading k) u) more reply → AnsweredBy t more
 reading_over t k (answers.Bytes b) more reply run = checked_over t (meets k.integrity b) _ _ more reply run
-reading_over t k (answers.Failed fault) more reply run = over_done t _ more reply run
-reading_over t k other more reply run = over_done t _ more reply run
+reading_over t k u more reply run = over_done t _ more reply run
 
 pub address_is : (i : List Hash) → IsIntegrity i → (h : Hash) × IsHash h × (address i ≡ Some h)
 address_is [] is = absurd (let some = is.nonempty in omega (arith, some))
@@ -78,7 +77,6 @@ module _ (cache : List ℕ) (home : Names) (full lean : Tree) (is : home_of cach
   pub bucket_read : (key : List ℕ) → (apply lean (ReadAll (bucket_path cache key)) Plain).0 ≡ (apply full (ReadAll (bucket_path cache key)) Plain).0
   unfolding bucket_path
   bucket_read key =
-      let q = home ++ bucket_names key in
       let named : names_of (joined cache (bucket_names key)) ≡ Ok (home ++ bucket_names key) = joined_texts_name cache (bucket_names key) (names_are_proper.buckets (sha1 key) (keys_have_digests key)) (omega arith) ∙ rw is refl in
       let kind : path_kind (Some home) (home ++ bucket_names key) ≡ Bucket = kind-below home (bucket_names key) in
       read_same home full lean same_node l.links (joined cache (bucket_names key)) (home ++ bucket_names key) named (inl (ap is_used kind)) (same_node (home ++ bucket_names key) (λ c. let wrong : Bucket ≡ Content = sym kind ∙ c in cc))
@@ -119,8 +117,7 @@ module _ (cache : List ℕ) (home : Names) (full lean : Tree) (is : home_of cach
     bucket_moves : (u : PlainAnswer) (more : Moves) → (apply full (ReadAll (bucket_path cache key)) Plain).0 ≡ u → Runs (after (looking by_key) u) more reply → AnsweredBy lean more → AnsweredBy full more
     bucket_moves (answers.Bytes b) more answer run a = found_moves b (found_in key b) more refl answer run a
     bucket_moves (answers.Failed NotFound) more answer run a = over_done full _ more reply run
-    bucket_moves (answers.Failed other) more answer run a = over_done full _ more reply run
-    bucket_moves other more answer run a = over_done full _ more reply run
+    bucket_moves u more answer run a = over_done full _ more reply run
 
     pub get_moves : (moves : Moves) → Runs (looking by_key) moves reply → AnsweredBy lean moves → AnsweredBy full moves
     get_moves [] run a = tt

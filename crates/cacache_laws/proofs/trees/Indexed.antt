@@ -25,12 +25,10 @@ no_stumble : (moves : Moves) (todo : List Task) (fault : Fault) (path : List ℕ
 no_stumble moves [] fault path r m = m
 no_stumble moves (Stumble other below ∷ todo) fault path r m = r
 no_stumble [] (Make (Enter p level) ∷ todo) fault path r m = r
-no_stumble [] (Make (ReadBucket p) ∷ todo) fault path r m = r
-no_stumble moves (Make (RemoveFile p) ∷ todo) fault path r m = r
-no_stumble moves (Make (RemoveFolder p) ∷ todo) fault path r m = r
 no_stumble (x ∷ moves) (Make v ∷ todo) fault path r (inl same) = absurd (let wrong : Stumble fault path ≡ Make v = same in cc)
 no_stumble (x ∷ moves) (Make (Enter p level) ∷ todo) fault path r (inr m) = no_stumble moves (tasks_of false level p r.1.0 ++ todo) fault path r.1.2 (in_right (Stumble fault path) (tasks_of false level p r.1.0) todo m)
 no_stumble (x ∷ moves) (Make (ReadBucket p) ∷ todo) fault path r (inr m) = no_stumble moves todo fault path r.1 m
+no_stumble moves todo fault path r m = r
 
 -- ---- on a tree
 
@@ -47,15 +45,13 @@ module _ (t : Tree) (rooted : Rooted t) where
   bucket_reached moves [] path r a k = absurd k
   bucket_reached moves (Stumble other below ∷ todo) path r a k = absurd r
   bucket_reached [] (Make (Enter p level) ∷ todo) path r a k = absurd r
-  bucket_reached [] (Make (ReadBucket p) ∷ todo) path r a k = absurd r
-  bucket_reached moves (Make (RemoveFile p) ∷ todo) path r a k = absurd r
-  bucket_reached moves (Make (RemoveFolder p) ∷ todo) path r a k = absurd r
   bucket_reached (m ∷ moves) (Make (Enter p level) ∷ todo) path r a (inl same) = absurd (let wrong : Make (ReadBucket path) ≡ Make (Enter p level) = same in cc)
   bucket_reached (m ∷ moves) (Make (Enter p level) ∷ todo) path r a (inr k) = inr (bucket_reached moves (tasks_of false level p r.1.0 ++ todo) path r.1.2 a.1 (in_right (Make (ReadBucket path)) (tasks_of false level p r.1.0) todo k))
   bucket_reached (m ∷ moves) (Make (ReadBucket p) ∷ todo) path r a (inl same) =
       let is : path ≡ p = (let e : Make (ReadBucket path) ≡ Make (ReadBucket p) = same in cc) in
       inl (same_move m path (r.0 ∙ ap ReadAll (sym is)) a.0)
   bucket_reached (m ∷ moves) (Make (ReadBucket p) ∷ todo) path r a (inr k) = inr (bucket_reached moves todo path r.1 a.1 k)
+  bucket_reached moves todo path r a k = absurd r
 
   -- so is a file or link below a folder that is to be read
   abbrev Reaches : List Task → Moves → Type 0
@@ -96,9 +92,6 @@ module _ (t : Tree) (rooted : Rooted t) where
   reaches moves [] r a p level base x xs k named leaf = absurd k
   reaches moves (Stumble other path ∷ todo) r a p level base x xs k named leaf = absurd r
   reaches [] (Make (Enter q l) ∷ todo) r a p level base x xs k named leaf = absurd r
-  reaches [] (Make (ReadBucket q) ∷ todo) r a p level base x xs k named leaf = absurd r
-  reaches moves (Make (RemoveFile q) ∷ todo) r a p level base x xs k named leaf = absurd r
-  reaches moves (Make (RemoveFolder q) ∷ todo) r a p level base x xs k named leaf = absurd r
   reaches (m ∷ moves) (Make (ReadBucket q) ∷ todo) r a p level base x xs (inl same) named leaf = absurd (let wrong : Make (Enter p level) ≡ Make (ReadBucket q) = same in cc)
   reaches (m ∷ moves) (Make (ReadBucket q) ∷ todo) r a p level base x xs (inr k) named leaf = inr (reaches moves todo r.1 a.1 p level base x xs k named leaf)
   reaches (m ∷ moves) (Make (Enter q l) ∷ todo) r a p level base x xs (inr k) named leaf =
@@ -110,14 +103,14 @@ module _ (t : Tree) (rooted : Rooted t) where
       let shows = folder_shown t q base Plain names rooted named_q (ap (λ s. names_shown (apply t s Plain).0) (sym r.0) ∙ ap names_shown (sym a.0) ∙ r.1.1) in
       subst (λ (z : List ℕ). Member (reads (joined z (x ∷ xs))) (m ∷ moves)) (sym is)
       (reached_first m moves q l base names todo r.1.2 a.1 (reaches moves (tasks_of false l q names ++ todo) r.1.2 a.1) named_q x xs shows leaf)
+  reaches moves todo r a p level base x xs k named leaf = absurd r
 
   -- ---- what can be read is a file or a link
 
   judged : (here : Option Node) (names : Names) (go : List ℕ → Result Names Fault) (bytes : List ℕ) → look t names ≡ here → and_then (on_link here names go) (λ n. bytes_there IsADirectory (look t n)) ≡ Ok bytes → is_leaf here ≡ true
   judged None names go bytes is e = let wrong : Err NotFound ≡ Ok bytes = rw is at e in absurd cc
   judged (Some Folder) names go bytes is e = let wrong : Err IsADirectory ≡ Ok bytes = rw is at e in absurd cc
-  judged (Some (File b)) names go bytes is e = refl
-  judged (Some (Link target)) names go bytes is e = refl
+  judged here names go bytes is e = refl
 
   placed_leaf : (names : Names) (fault : Option Fault) (bytes : List ℕ) → and_then (and_then (or_fault fault names) (followed 16 t)) (λ n. bytes_there IsADirectory (look t n)) ≡ Ok bytes → is_leaf (look t names) ≡ true
   unfolding followed

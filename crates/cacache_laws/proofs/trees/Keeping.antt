@@ -167,10 +167,8 @@ collections_keep_reads site home t new listing items dropped key moves reply is 
 -- ---- lookups
 
 report_over : (t : Tree) (site : Site) (key : List ℕ) (u : PlainAnswer) (more : Moves) (reply : Reply) → Runs (after (looking (record { cache = site.cache; key = key; aim = aims.Report })) u) more reply → AnsweredBy t more
-report_over t site key (answers.Bytes b) more reply run = over_done t _ more reply run
 report_over t site key (answers.Failed NotFound) more reply run = over_done t _ more reply run
-report_over t site key (answers.Failed other) more reply run = over_done t _ more reply run
-report_over t site key other more reply run = over_done t _ more reply run
+report_over t site key u more reply run = over_done t _ more reply run
 
 bucket_kept : (site : Site) (home : Names) (t new : Tree) (dropped : List Hash) (key : List ℕ) → home_of site.cache ≡ Some home → LinksLeadOut home t → ((h : Hash) → Member h dropped → IsHash h) → Removes site.cache dropped t new → (apply new (ReadAll (bucket_path site.cache key)) Plain).0 ≡ (apply t (ReadAll (bucket_path site.cache key)) Plain).0
 unfolding bucket_path

@@ -95,9 +95,7 @@ indexes_lead site home t entries f is rooted housed index c =
 by_answer : (key : List ℕ) (found : Option Found) (bucket : Option (List Entry)) (a : PlainAnswer) → ShowsBucket bucket a → LookedUp found ≡ find_reply key (bucket_shown a) → found ≡ latest key (list_of bucket)
 by_answer key found bucket (answers.Bytes bytes) h e = let same : found ≡ latest key (entries_of bytes) = cc in same ∙ ap (λ b. latest key (list_of b)) (sym h)
 by_answer key found bucket (answers.Failed NotFound) h e = let same : found ≡ latest key [] = cc in same ∙ ap (λ b. latest key (list_of b)) (sym h)
-by_answer key found bucket (answers.Failed fault) h e = absurd cc
-by_answer key found bucket (answers.NoMemory step) h e = absurd cc
-by_answer key found bucket other h e = absurd cc
+by_answer key found bucket a h e = absurd cc
 
 file_read : (t : Tree) (path : List ℕ) (names : Names) (bytes : List ℕ) → Rooted t → names_of path ≡ Ok names → look t names ≡ Some (File bytes) → file_at t path IsADirectory ≡ Ok bytes
 unfolding file_at leads place followed
@@ -108,10 +106,8 @@ pub file_shown : (t : Tree) (path : List ℕ) (names : Names) (bytes : List ℕ)
 file_shown t path names bytes rooted is there = read_answer t path ∙ ap said (file_read t path names bytes rooted is there)
 
 bucket_at : (key : List ℕ) (found : Found) (here node : Option Node) → node ≡ here → latest key (list_of (bucket_in here)) ≡ Some found → (bytes : List ℕ) × (node ≡ Some (File bytes)) × (latest key (entries_of bytes) ≡ Some found)
-bucket_at key found None there is e = absurd cc
-bucket_at key found (Some Folder) there is e = absurd cc
 bucket_at key found (Some (File bytes)) there is e = (bytes, is, e)
-bucket_at key found (Some (Link target)) there is e = absurd cc
+bucket_at key found here there is e = absurd cc
 
 module _ (site : Site) (home : Names) (t : Tree) (is : home_of site.cache ≡ Some home) (rooted : Rooted t) where
   below : (key : List ℕ) → NamesBelow (Some home) (bucket_names_of (sha1 key)) (bucket_path site.cache key)
@@ -131,7 +127,6 @@ module _ (site : Site) (home : Names) (t : Tree) (is : home_of site.cache ≡ So
   -- and a listing has it
   pub found_listed : (entries : List Found) (key : List ℕ) (found : Found) → IndexLists site t entries → found_in home t key ≡ Some found → Contains entries found
   found_listed entries key found index e =
-      let names = home ++ bucket_names_of (sha1 key) in
       let b = bucket_at key found (look t (home ++ bucket_names_of (sha1 key))) (look t (home ++ bucket_names_of (sha1 key))) refl e in
       let read = read_answer t (bucket_path site.cache key) ∙ ap said (file_read t (bucket_path site.cache key) (home ++ bucket_names_of (sha1 key)) b.0 rooted (below key) b.1) in
       indexes_find site home t entries key b.0 found is rooted index read b.2

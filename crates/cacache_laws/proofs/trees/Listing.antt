@@ -36,9 +36,8 @@ deeper_fine true p level todo h = h
 deeper_fine false p level todo h = (refl, h)
 
 task_fine : (kind : Kind) (level : ℕ) (p : List ℕ) (todo : List Task) → Fine todo → Fine (task_for_name false level p kind ∷ todo)
-task_fine kinds.File level p todo h = h
-task_fine kinds.Link level p todo h = h
 task_fine kinds.Folder level p todo h = deeper_fine (nat_lt level 16) p (level + 1) todo h
+task_fine kind level p todo h = h
 
 tasks_fine : (level : ℕ) (p : List ℕ) (names : List Name) (todo : List Task) → Fine todo → Fine (tasks_of false level p names ++ todo)
 tasks_fine level p [] todo h = h
@@ -48,14 +47,11 @@ tasks_fine level p (n ∷ ns) todo h = task_fine n.kind level (join p n.name) (t
 
 shown_ok : (t : PlainAnswer) (names : List Name) → names_in t ≡ Ok names → names_shown t ≡ Some names
 shown_ok (answers.Names ns) names e = let same : ns ≡ names = cc in ap Some same
-shown_ok (answers.Failed f) names e = absurd cc
-shown_ok other names e = absurd cc
+shown_ok t names e = absurd cc
 
 shown_missing : (t : PlainAnswer) → names_in t ≡ Err (refusals.Fault NotFound) → names_shown t ≡ Some []
-shown_missing (answers.Names ns) e = absurd cc
 shown_missing (answers.Failed NotFound) e = refl
-shown_missing (answers.Failed other) e = absurd cc
-shown_missing other e = absurd cc
+shown_missing t e = absurd cc
 
 abbrev pub lists : List Item → ℕ → Walk
 lists items left = record { clears = false; items = items; left = left }
@@ -103,12 +99,6 @@ module _ (list : List Item) where
   -- the first visit of a walk
   abbrev Visits : Moves → Type 0
   Visits moves = (v : Visit) (todo : List Task) (items : List Item) (left : ℕ) → Fine (Make v ∷ todo) → Runs (walking (lists items left) v todo) moves (Listed list) → Outcome moves (Make v ∷ todo) items
-
-  fine_rest : (v : Visit) (todo : List Task) → Fine (Make v ∷ todo) → Fine todo
-  fine_rest (Enter p level) todo h = h
-  fine_rest (ReadBucket p) todo h = h
-  fine_rest (RemoveFile p) todo h = absurd h
-  fine_rest (RemoveFolder p) todo h = absurd h
 
   goes_on : (moves : Moves) → Visits moves → (todo : List Task) → Fine todo → GoesOn moves todo
   goes_on moves visits [] fine items left run =

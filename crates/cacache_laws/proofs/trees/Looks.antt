@@ -28,15 +28,14 @@ same_step s m n e f = let both : Some m.0 ≡ Some n.0 = sym e ∙ f in cc
 runs_agree : (t : Tree) (s : State) (xs ys : Moves) (r other : Reply) → Runs s xs r → AnsweredBy t xs → Runs s ys other → AnsweredBy t ys → Agree r other
 unfolding Agree
 runs_agree t s [] [] r other (inl e) a (inl f) b = inl (same_over r other (sym e ∙ f))
-runs_agree t s [] [] r other (inl e) a (inr f) b = inr (inr f)
 runs_agree t s [] ys r other (inr e) a run b = inr (inl e)
 runs_agree t s [] (n ∷ ys) r other (inl e) a run b = absurd (over_ends s r other n ys e run)
 runs_agree t s (m ∷ xs) [] r other run a (inl f) b = absurd (over_ends s other r m xs f run)
-runs_agree t s (m ∷ xs) [] r other run a (inr f) b = inr (inr f)
 runs_agree t s (m ∷ xs) (n ∷ ys) r other run a more b =
     let step = same_step s m n run.0 more.0 in
     let answer : n.1 ≡ m.1 = b.0 ∙ ap (λ x. (apply t x Plain).0) (sym step) ∙ sym a.0 in
     runs_agree t (after s m.1) xs ys r other run.2 a.1 (subst (λ x. Runs (after s x) ys other) answer more.2) b.1
+runs_agree t s xs [] r other run a (inr f) b = inr (inr f)
 
 pub answers_agree : AnswersAgree
 unfolding Agree

@@ -9,8 +9,7 @@ use Rattle.cacache_laws.{specs.trees.Removing.{RemovalsRun}, proofs.trees.Hidden
 -- the step was answered Done, and nothing follows
 answered : (path : List ℕ) (t : PlainAnswer) (more : Moves) → Runs (after (doing (remove path) (over Done)) t) more Done → (t ≡ answers.Done) × (more ≡ [])
 answered path answers.Done more run = (refl, (ended more Done run).0)
-answered path (answers.Failed fault) more run = absurd (let e = (ended more _ run).1 in cc)
-answered path other more run = absurd (let e = (ended more _ run).1 in cc)
+answered path t more run = absurd (let e = (ended more _ run).1 in cc)
 
 pub removals_run : RemovalsRun
 unfolding content_path

@@ -22,10 +22,8 @@ shape (Some (File bytes)) = Some (File [])
 shape (Some (Link target)) = Some (Link target)
 
 shape_is : (o : Option Node) → option_map bare_node o ≡ shape o
-shape_is None = refl
 shape_is (Some Folder) = refl
-shape_is (Some (File bytes)) = refl
-shape_is (Some (Link target)) = refl
+shape_is o = refl
 
 -- ---- entries
 
@@ -50,8 +48,7 @@ sorted_shaped (e ∷ es) = ap₂ (λ (a b : Bool). a && b) (below_shaped e.0 es)
 
 kind_bare : (node : Node) → kind_of (bare_node node) ≡ kind_of node
 kind_bare Folder = refl
-kind_bare (File bytes) = refl
-kind_bare (Link target) = refl
+kind_bare node = refl
 
 child_shaped : (p q : Names) (node : Node) → child_of p (q, bare_node node) ≡ child_of p (q, node)
 child_shaped p q node = ap (λ (k : Kind). cond (is_child p q) (Some (record { name = slice_index_or q (length p) []; kind = k })) None) (kind_bare node)

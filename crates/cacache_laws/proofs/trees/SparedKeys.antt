@@ -45,10 +45,7 @@ module _ (cache : List ℕ) (number : ℕ) (old new : List LogItem) (logged : Is
   folder_errs (IoError fault message) h = folder_failed fault h
   folder_errs OutOfMemory (inl same) = broken [] begins refl refl (gains_none (Some old) new same)
   folder_errs OutOfMemory (inr h) = folder_failed h.0 h.1
-  folder_errs (EntryNotFound c key) h = absurd h
-  folder_errs (SizeMismatch wanted actual) h = absurd h
-  folder_errs (SerdeError cause message) h = absurd h
-  folder_errs (IntegrityError fault) h = absurd h
+  folder_errs e h = absurd h
 
   module _ (mid : Option (List LogItem)) (made : Does (make_folder cache number) answers.Done (Some old) mid) where
     file_failed : (fault : Fault) → Does (make_file cache number) (answers.Failed fault) mid (Some new) → Broken
@@ -63,10 +60,7 @@ module _ (cache : List ℕ) (number : ℕ) (old new : List LogItem) (logged : Is
         broken ((make_folder cache number, answers.Done) ∷ []) _ (refl, tt, refl) (folder_first (tree_of old) (temp_folder cache) answers.Done [] refl)
         (gains_join old new mid ((make_folder cache number, answers.Done) ∷ []) [] made (gains_none mid new same))
     file_errs OutOfMemory (inr h) = file_failed h.0 h.1
-    file_errs (EntryNotFound c key) h = absurd h
-    file_errs (SizeMismatch wanted actual) h = absurd h
-    file_errs (SerdeError cause message) h = absurd h
-    file_errs (IntegrityError fault) h = absurd h
+    file_errs e h = absurd h
 
   opened_broken : (r : Result PlainTemp Error) → OpensWriter cache number r (Some old) (Some new) → Broken
   opened_broken (Err e) (inl h) = folder_errs e h
@@ -97,7 +91,6 @@ given_up cache key i number old new logged standing (inr h) =
     let t = tree_of old in
     let moves : Moves = (drop_temp cache number, h.0) ∷ [] in
     let lead = logs_lead old new moves h.1 logged in
-    let next = (apply t (steps.RemoveFile path) Plain).1 in
     let alike : Alike (value_of_tree (home_of cache) (tree_of new)) (value_of_tree (home_of cache) (tree_of old))
     = subst (λ x. Alike (value_of_tree (home_of cache) x) (value_of_tree (home_of cache) (tree_of old))) (sym lead.1) (still_alike cache path t standing.placed h.0 (temp_for cache number) lead.0.0) in
     known_left cache key i None old new

@@ -30,10 +30,8 @@ LeadsOut home (Some (AtLink target)) = IsFor (Some home) Elsewhere target
 LeadsOut home other = Unit {0}
 
 out_at : (home : Names) (here : Option Node) → MayStand (Some home) here Content → LeadsOut home (blob_in here)
-out_at home None s = tt
-out_at home (Some Folder) s = tt
-out_at home (Some (File bytes)) s = tt
 out_at home (Some (Link target)) s = s
+out_at home here s = tt
 
 content_out : (home : Names) (t : Tree) (h : Hash) → Placed (Some home) t → LeadsOut home (content_in home t h)
 content_out home t h placed =
@@ -43,8 +41,7 @@ content_out home t h placed =
 found_names : (r : Result Names Fault) → is_there r ≡ There true → (m : Names) × (r ≡ Ok m)
 found_names (Ok m) e = (m, refl)
 found_names (Err NotFound) e = absurd cc
-found_names (Err NotADirectory) e = absurd cc
-found_names (Err fault) e = absurd cc
+found_names r e = absurd cc
 
 some_there : (t : Tree) (blob : Option Blob) → blob_there t blob ≡ There true → (b : Blob) × (blob ≡ Some b)
 some_there t None e = absurd cc
@@ -66,10 +63,9 @@ bytes_are_there t (Some (AtLink target)) bytes e =
 
 leaf_there : (t : Tree) (path : List ℕ) (names : Names) (here : Option Node) (b : Blob) → Rooted t → names_of path ≡ Ok names → look t names ≡ here → blob_in here ≡ Some b → is_there (found t path) ≡ blob_there t (blob_in here)
 unfolding found leads place followed link_end
-leaf_there t path names None b rooted is there e = absurd cc
-leaf_there t path names (Some Folder) b rooted is there e = absurd cc
 leaf_there t path names (Some (File bytes)) b rooted is there e = rw (is, way_clear t [] names (File bytes) rooted there, there, there) refl
 leaf_there t path names (Some (Link target)) b rooted is there e = rw (is, way_clear t [] names (Link target) rooted there, there) refl
+leaf_there t path names here b rooted is there e = absurd cc
 
 said_yes : (x a : PlainAnswer) → says_yes a ≡ true → ShowsThere x a → x ≡ There true
 said_yes x (There b) e h = h ∙ ap There e
@@ -104,12 +100,11 @@ module _ (cache : List ℕ) (home : Names) (is : home_of cache ≡ Some home) wh
     Out names = path_kind (Some home) names ≡ Elsewhere
 
     way_still : (p rest : Names) → path_kind (Some home) (p ++ rest) ≡ Elsewhere → way_fault t p rest ≡ None → way_fault new p rest ≡ None
-    way_still p [] out e = refl
-    way_still p (name ∷ []) out e = refl
     way_still p (name ∷ next ∷ rest) out e =
         let k = through_none (look t (p ++ name ∷ [])) (way_fault t (p ++ name ∷ []) (next ∷ rest)) e in
         let longer : path_kind (Some home) ((p ++ name ∷ []) ++ next ∷ rest) ≡ Elsewhere = ap (path_kind (Some home)) (append_assoc p (name ∷ []) (next ∷ rest)) ∙ out in
         rw (still (p ++ name ∷ []) Folder (upper home (p ++ name ∷ []) (next ∷ rest) longer) k.0) (way_still (p ++ name ∷ []) (next ∷ rest) longer k.1)
+    way_still p rest out e = refl
 
     place_still : (path : List ℕ) (names : Names) → IsFor (Some home) Elsewhere path → place t path ≡ Ok names → (place new path ≡ Ok names) × Out names
     unfolding place

@@ -117,7 +117,6 @@ module _ (r : Reply) (whole : BreaksOff commands.Clear r → ⊥) where
   entered_run : (w : Walk) (path : List ℕ) (level : ℕ) (todo : List Task) (names : List Name) (moves : Moves) → w.clears ≡ true → (level == 0) ≡ false → Runs (entered w path level todo names) moves r
       → Runs (walk_on (tasks_of true level path names ++ Make (RemoveFolder path) ∷ todo) (record w { left = w.left - length names })) moves r
   entered_run w path level todo names moves clears inner run =
-      let next : Walk = record w { left = w.left - length names } in
       let cleared = subst (λ b. Runs (cond (nat_le (length names) w.left) (walk_on (tasks_of b level path names ++ leaving b level path ++ todo) (record w { left = w.left - length names })) (too_many w)) moves r) clears run in
       let left = subst (λ b. Runs (cond (nat_le (length names) w.left) (walk_on (tasks_of true level path names ++ cond b [] (Make (RemoveFolder path) ∷ []) ++ todo) (record w { left = w.left - length names })) (too_many w)) moves r) inner cleared in
       subst (λ tasks. Runs (walk_on tasks (record w { left = w.left - length names })) moves r) (append_assoc (tasks_of true level path names) (Make (RemoveFolder path) ∷ []) todo)
@@ -147,7 +146,6 @@ module _ (r : Reply) (whole : BreaksOff commands.Clear r → ⊥) where
         is = cut_sheds t p rooted (λ n. none_below t p n [] rooted (leaf_only (look t p) ready.1));
       }
   visited (suc fuel) (Enter path level) p todo w t m low clears rooted ready =
-      let names = listing t p in
       let first = goes (walking w (Enter path level) todo) (steps.ReadDir path) t r (answers.Names (listing t p)) t m refl (lists_folder t path p rooted ready.0 ready.1) alive in
       let inside : MadeOn (walk_on (tasks_of true level path (listing t p) ++ Make (RemoveFolder path) ∷ todo) (record w { left = w.left - length (listing t p) })) t r
       = record { moves = first.on.moves; run = entered_run w path level todo (listing t p) first.on.moves clears ready.2 first.on.run; answered = first.on.answered } in

@@ -16,16 +16,14 @@ pub data FileGoes (t : Tree) (path : List ℕ) : Type 0 where
 
 pub leaf_goes : (t : Tree) (path : List ℕ) (names : Names) (here : Option Node) → Rooted t → names_of path ≡ Ok names → look t names ≡ here → is_leaf here ≡ true → apply t (RemoveFile path) Plain ≡ (Done, cut t names)
 unfolding apply removable place
-leaf_goes t path names None rooted is there e = absurd cc
-leaf_goes t path names (Some Folder) rooted is there e = absurd cc
 leaf_goes t path names (Some (File bytes)) rooted is there e = rw (is, way_clear t [] names (File bytes) rooted there, there) refl
 leaf_goes t path names (Some (Link target)) rooted is there e = rw (is, way_clear t [] names (Link target) rooted there, there) refl
+leaf_goes t path names here rooted is there e = absurd cc
 
 leaf_at : (here : Option Node) (old new : Names) → where_removable here old ≡ Ok new → (is_leaf here ≡ true) × (old ≡ new)
-leaf_at None old new e = absurd cc
-leaf_at (Some Folder) old new e = absurd cc
 leaf_at (Some (File bytes)) old new e = (refl, cc)
 leaf_at (Some (Link target)) old new e = (refl, cc)
+leaf_at here old new e = absurd cc
 
 leaf_there : (t : Tree) (path : List ℕ) (names : Names) → removable t path ≡ Ok names → (names_of path ≡ Ok names) × (is_leaf (look t names) ≡ true)
 unfolding removable

@@ -5,15 +5,14 @@ use Rattle.cacache_store.specs.declared.store.step.Step.TheVariants.{ReadAll, Re
 use Rattle.cacache_disk.specs.{declared.luck.Luck.TheVariants.{Plain}, Tree.{Tree}, Apply.{apply}}
 use Rattle.cacache_value.specs.Kinds.{PathKind, Bucket, Content, Elsewhere, Stray, Temporary, kind_below, kind_beside, kind_in_area}
 use Rattle.cacache_laws.specs.trees.Idle.{IdleIsUnseen, LacksIdle}
-use Rattle.cacache_laws.proofs.trees.{Agreeing.{said}, Follows.{Alike, ReadsAlike, reads_as_before}, Idle.{content_read}, LeanReads.{Clear, InArea, SameOrLean, clear_area, dir_alike, file_alike}, Within.{read_answer}}
+use Rattle.cacache_laws.proofs.trees.{Agreeing.{said}, Follows.{Alike, ReadsAlike, reads_as_before}, Idle.{content_read}, LeanReads.{Clear, InArea, NoneLean, SameOrLean, Sees, clear_area, dir_alike, file_alike, sees_clear}, Within.{read_answer}}
 
 -- ---- contents lie in their area
 
 not_content : (file : PathKind) (n : ℕ) (rest : Names) → (file ≡ Content → ⊥) → kind_in_area file n rest ≡ Content → ⊥
 not_content file zero [] other e = other e
-not_content file zero (name ∷ rest) other e = cc
-not_content file (suc n) [] other e = cc
 not_content file (suc n) (name ∷ rest) other e = not_content file n rest other e
+not_content file n rest other e = cc
 
 other_area : (b c : Bool) (rest : Names) → cond b (kind_in_area Bucket 3 rest) (cond c (kind_in_area Temporary 1 rest) Stray) ≡ Content → ⊥
 other_area true c rest e = not_content Bucket 3 rest (λ f. cc) e
@@ -42,19 +41,26 @@ in_area (n ∷ home) (first ∷ q) e = by (bytes_eq n first) refl e (in_area hom
 
 module _ (cache : List ℕ) (home : Names) (full lean : Tree) (is : home_of cache ≡ Some home) (l : LacksIdle cache home full lean) where
   -- except for the contents
-  at_clear : (q : Names) → Clear home content_area q → SameOrLean false home full lean q
+  at_clear : (q : Names) → Clear home content_area q → SameOrLean NoneLean full lean q
   at_clear q clear = elim (l.nodes q) [ inl same ↦ inl same | inr gap ↦ absurd (clear (in_area home q gap.1.kind)) ]
 
+  sees : Sees home full lean NoneLean (Clear home content_area)
+  sees = sees_clear home full lean NoneLean content_area at_clear (λ q x y none k. none) l.links
+
+  clear : (ns : Names) → Clear home content_area (home ++ index_area ∷ ns)
+  clear ns = clear_area home content_area ns index_area refl refl
+
   files_alike : (path : List ℕ) (ns : Names) → names_of path ≡ Ok (home ++ index_area ∷ ns) → Alike (apply lean (ReadAll path) Plain).0 (apply full (ReadAll path) Plain).0
-  files_alike path ns named = elim (file_alike false home full lean content_area at_clear l.links path (home ++ index_area ∷ ns) named (clear_area home content_area ns index_area refl refl)) [
-    | inl same ↦ inl (read_answer lean path ∙ ap said same ∙ sym (read_answer full path))
-    | inr compact ↦ inr (false, compact.1, read_answer lean path ∙ ap said compact.3, read_answer full path ∙ ap said compact.2)
-  ]
+  files_alike path ns named =
+      elim (file_alike home full lean NoneLean (Clear home content_area) sees path (home ++ index_area ∷ ns) named (clear ns) (at_clear (home ++ index_area ∷ ns) (clear ns))) [
+        | inl same ↦ inl (read_answer lean path ∙ ap said same ∙ sym (read_answer full path))
+        | inr none ↦ absurd none.2
+      ]
 
   folders_alike : (path : List ℕ) (ns : Names) → names_of path ≡ Ok (home ++ index_area ∷ ns) → (apply lean (ReadDir path) Plain).0 ≡ (apply full (ReadDir path) Plain).0
   folders_alike path ns named =
-      dir_alike false home full lean content_area at_clear path (home ++ index_area ∷ ns) named (clear_area home content_area ns index_area refl refl)
-      (λ name. subst (λ q. Clear home content_area q) (sym (append_assoc home (index_area ∷ ns) (name ∷ []))) (clear_area home content_area (ns ++ name ∷ []) index_area refl refl))
+      dir_alike home full lean NoneLean (Clear home content_area) sees path (home ++ index_area ∷ ns) named (clear ns) (at_clear (home ++ index_area ∷ ns) (clear ns))
+      (λ name. subst (SameOrLean NoneLean full lean) (sym (append_assoc home (index_area ∷ ns) (name ∷ []))) (at_clear (home ++ index_area ∷ (ns ++ name ∷ [])) (clear (ns ++ name ∷ []))))
 
   alike : ReadsAlike cache home full lean
   alike = record { folders = folders_alike; files = files_alike; contents = content_read cache home full lean is l }

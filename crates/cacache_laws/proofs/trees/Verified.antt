@@ -15,10 +15,9 @@ use Rattle.cacache_laws.proofs.trees.{Agreeing.{said}, Keeping.{content_named}, 
 
 leaf_read : (t : Tree) (path : List ℕ) (names : Names) (here : Option Node) (blob : Blob) → Rooted t → names_of path ≡ Ok names → look t names ≡ here → blob_in here ≡ Some blob → file_at t path IsADirectory ≡ blob_bytes t (blob_in here)
 unfolding file_at leads place followed link_end
-leaf_read t path names None blob rooted is there e = absurd cc
-leaf_read t path names (Some Folder) blob rooted is there e = absurd cc
 leaf_read t path names (Some (File bytes)) blob rooted is there e = rw (is, way_clear t [] names (File bytes) rooted there, there, there) refl
 leaf_read t path names (Some (Link target)) blob rooted is there e = rw (is, way_clear t [] names (Link target) rooted there, there) refl
+leaf_read t path names here blob rooted is there e = absurd cc
 
 met : (i : List Hash) (b : List ℕ) (reply : Reply) (m : Bool) → meets i b ≡ m → reply ≡ cond m (Read b) (Refused (IntegrityError (Check i (actual i b)))) → ((bytes : List ℕ) × (reply ≡ Read bytes)) ↔ (meets i b ≡ true)
 met i b reply true is e = ((λ k. is), (λ k. (b, e)))

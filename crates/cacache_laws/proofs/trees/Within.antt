@@ -12,20 +12,16 @@ abbrev pub Within : Tree → Tree → Type 0
 Within part whole = (q : Names) (node : Node) → look part q ≡ Some node → look whole q ≡ Some node
 
 pub through_none : (here : Option Node) (later : Option Fault) → through here later ≡ None → (here ≡ Some Folder) × (later ≡ None)
-through_none None later e = absurd cc
 through_none (Some Folder) later e = (refl, e)
-through_none (Some (File bytes)) later e = absurd cc
-through_none (Some (Link target)) later e = absurd cc
+through_none here later e = absurd cc
 
 pub something_there : (here : Option Node) (old new : Names) → where_there here old ≡ Ok new → (node : Node) × (here ≡ Some node)
 something_there None old new e = absurd cc
 something_there (Some node) old new e = (node, refl)
 
 pub file_there : (here : Option Node) (bytes : List ℕ) → bytes_there IsADirectory here ≡ Ok bytes → here ≡ Some (File bytes)
-file_there None bytes e = absurd cc
-file_there (Some Folder) bytes e = absurd cc
 file_there (Some (File b)) bytes e = let same : b ≡ bytes = cc in ap (λ x. Some (File x)) same
-file_there (Some (Link target)) bytes e = absurd cc
+file_there here bytes e = absurd cc
 
 bytes_said : (r : Result (List ℕ) Fault) (bytes : List ℕ) → said r ≡ Bytes bytes → r ≡ Ok bytes
 bytes_said (Ok b) bytes e = let same : b ≡ bytes = cc in ap Ok same
@@ -37,11 +33,10 @@ read_answer t path = answer_of (file_at t path IsADirectory) t
 
 module _ (part whole : Tree) (within : Within part whole) where
   way_within : (p rest : Names) → way_fault part p rest ≡ None → way_fault whole p rest ≡ None
-  way_within p [] e = refl
-  way_within p (name ∷ []) e = refl
   way_within p (name ∷ next ∷ rest) e =
       let k = through_none (look part (p ++ name ∷ [])) (way_fault part (p ++ name ∷ []) (next ∷ rest)) e in
       rw (within (p ++ name ∷ []) Folder k.0) (way_within (p ++ name ∷ []) (next ∷ rest) k.1)
+  way_within p rest e = refl
 
   place_within : (path : List ℕ) (names : Names) → place part path ≡ Ok names → place whole path ≡ Ok names
   unfolding place

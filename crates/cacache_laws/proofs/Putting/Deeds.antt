@@ -1,0 +1,192 @@
+-- What the deeds of a commit leave, whether it puts a file or a link.
+use Rattle.std.proofs.{Common.{◌≡◌, ◌⊎◌, inl, inr, ℕ, Bool, true, false, cond, List, [], ◌∷◌, ◌++◌, Option, None, Some, option_map, refl, sym, ap, subst, ◌∙◌}, lemmas.{List.Elements.{All-head}, Bool.{cond-true}}}
+use Rattle.std.specs.Prelude.{IfSome}
+use Rattle.sha1.specs.Sha1.{sha1}
+use Rattle.cacache_core.specs.{declared.integrity.digest.Hash.{Hash}, Integrity.{IsHash, IsIntegrity}, PathNames.{Names, home_of, names_of}, Paths.{content_names}}
+use Rattle.cacache_core.proofs.Printed.{printed}
+use Rattle.cacache_store.specs.declared.store.log.LogItem.{LogItem}
+use Rattle.cacache_disk.specs.memory.Replay.{tree_of}
+use Rattle.cacache_entry.specs.Latest.{answer_of, answer_read, found_of, latest}
+use Rattle.cacache_calls.specs.{declared.{command.Put.{Put}, reply.Reply.{Reply}}, Inserting.{given_or}, StepPaths.{content_path}, Storing.{insertion_of, put_commit}}
+use Rattle.cacache_value.specs.{Acts.{Act, PutBytes, PutLink, change, list_of}, Kinds.{is_path_of}, Value.{AtLink, Blob, InFile, Value, value_of_tree}}
+use Rattle.cacache_history.specs.Commits.{Deed, does, finds, PutsContent, AddsAfter, CommitsAs, InsertionAdds, IsNotOk}
+use Rattle.cacache_history.proofs.{Contents.{Digests.{digest_hash, own_integrity as own_formed}, Righted.{one_address}}, Histories.ShownTurns.{content_below}}
+use Rattle.cacache_laws.specs.{Beside.{IsOther, ShareAddress, own_integrity}, Caches.{lies_under, setup_at}, Keeping.{found_under}, Puts.{ExpectsIntegrity, LeadsToPut, MayLeadToPut, entry_of_put}, ReadAnswers.{entries_on}, Sequence.{Alike, after_deeds}, Stored.{own_hash}}
+use Rattle.cacache_laws.proofs.{Putting.{KeptKeys.{adds_contents, adds_lookups, alike_lookup}, Stored.{adds_entry, below_is, first_deed}}, Readings.Looking.{finds_last}}
+
+-- the act that puts this at an address
+abbrev pub put_of : Blob → Names → Act
+put_of (InFile bytes) names = PutBytes names bytes
+put_of (AtLink path) names = PutLink names path
+
+put_contents : (folder : Option Names) (names : Names) (blob : Blob) (v : Value) (a : Hash)
+    → (change folder (put_of blob names) v).contents a ≡ cond (is_path_of folder (content_names a) names) (Some blob) (v.contents a)
+put_contents folder names (InFile bytes) v a = refl
+put_contents folder names (AtLink path) v a = refl
+
+put_buckets : (folder : Option Names) (names : Names) (blob : Blob) (v : Value) (digest : List ℕ) → (change folder (put_of blob names) v).buckets digest ≡ v.buckets digest
+put_buckets folder names (InFile bytes) v digest = refl
+put_buckets folder names (AtLink path) v digest = refl
+
+-- ---- values
+
+module _ (cache : List ℕ) (p : Put) where
+  -- what comes after the first deed leaves contents, and lookups of other keys
+  later_contents : (key : Option (List ℕ)) (more : List Deed) (reply : Option Reply) (v : Value) → AddsAfter (put_commit cache p) key more reply → (a : Hash)
+      → (after_deeds (home_of cache) more v).contents a ≡ v.contents a
+  later_contents None more reply v none a = ap (λ (x : List Deed). (after_deeds (home_of cache) x v).contents a) none
+  later_contents (Some key) more reply v adds a = adds_contents (home_of cache) (insertion_of (put_commit cache p) key) more reply v adds a
+
+  later_lookups : (key : Option (List ℕ)) (more : List Deed) (reply : Option Reply) (v : Value) → AddsAfter (put_commit cache p) key more reply → (other : List ℕ) → IsOther key other
+      → latest other (list_of ((after_deeds (home_of cache) more v).buckets (sha1 other))) ≡ latest other (list_of (v.buckets (sha1 other)))
+  later_lookups None more reply v none other differ = ap (λ (x : List Deed). latest other (list_of ((after_deeds (home_of cache) x v).buckets (sha1 other)))) none
+  later_lookups (Some key) more reply v adds other differ = adds_lookups (home_of cache) (insertion_of (put_commit cache p) key) more reply v adds other differ
+
+module _ (cache : List ℕ) (p : Put) (blob : Blob) where
+  -- the deeds of its commit, and the first of them
+  abbrev pub PutsIt : List Deed → Option Reply → Type 0
+  PutsIt ds reply = CommitsAs (put_commit cache p) (λ names. put_of blob names) ds reply
+
+  abbrev IsFirst : Deed → Type 0
+  IsFirst d = PutsContent (put_commit cache p) (λ names. put_of blob names) d
+
+  -- a content is what it was, or what is put at this address
+  abbrev Kept : Hash → Option Blob → Option Blob → Type 0
+  Kept a old new = (new ≡ old) ⊎ ((a ≡ own_hash p) × (new ≡ Some blob))
+
+  by_place : (a : Hash) (old : Option Blob) (b : Bool) → (b ≡ true → a ≡ own_hash p) → Kept a old (cond b (Some blob) old)
+  by_place a old true here = inr (here refl, refl)
+  by_place a old false here = inl refl
+
+  -- it goes to the address of its bytes
+  first_content : (d : Deed) (v : Value) → IsFirst d → (a : Hash) → IsHash a → Kept a (v.contents a) ((after_deeds (home_of cache) (d ∷ []) v).contents a)
+  first_content (finds path) v puts a is = inl refl
+  first_content (does act) v puts a is =
+      let below = sym (content_below (setup_at cache []) (own_hash p) [] (digest_hash p.options.algorithm p.data)) ∙ puts.1 in
+      subst (Kept a (v.contents a)) (sym (ap (λ x. (change (home_of cache) x v).contents a) puts.2 ∙ put_contents (home_of cache) puts.0 blob v a))
+      (by_place a (v.contents a) (is_path_of (home_of cache) (content_names a) puts.0)
+      (λ here. one_address cache (home_of cache) (own_hash p) a puts.0 (digest_hash p.options.algorithm p.data) is below here))
+
+  first_entries : (d : Deed) (v : Value) (digest : List ℕ) → IsFirst d → (after_deeds (home_of cache) (d ∷ []) v).buckets digest ≡ v.buckets digest
+  first_entries (finds path) v digest puts = refl
+  first_entries (does act) v digest puts = ap (λ x. (change (home_of cache) x v).buckets digest) puts.2 ∙ put_buckets (home_of cache) puts.0 blob v digest
+
+  module _ (ds : List Deed) (reply : Option Reply) (v : Value) where
+    lookups : PutsIt ds reply → (other : List ℕ) → IsOther p.key other
+        → latest other (list_of ((after_deeds (home_of cache) ds v).buckets (sha1 other))) ≡ latest other (list_of (v.buckets (sha1 other)))
+    lookups (inl h) other differ = ap (λ (x : List Deed). latest other (list_of ((after_deeds (home_of cache) x v).buckets (sha1 other)))) h.0
+    lookups (inr h) other differ =
+        ap (λ (x : List Deed). latest other (list_of ((after_deeds (home_of cache) x v).buckets (sha1 other)))) h.3
+        ∙ ap (λ (w : Value). latest other (list_of (w.buckets (sha1 other)))) (first_deed (home_of cache) h.0 h.1 v)
+        ∙ later_lookups cache p p.key h.1 reply (after_deeds (home_of cache) (h.0 ∷ []) v) h.4 other differ
+        ∙ ap (λ o. latest other (list_of o)) (first_entries h.0 v (sha1 other) h.2)
+
+    -- what the first deed left at an address is there in the end
+    first_last : (d : Deed) (more : List Deed) → ds ≡ d ∷ more → AddsAfter (put_commit cache p) p.key more reply → (a : Hash)
+        → (after_deeds (home_of cache) ds v).contents a ≡ (after_deeds (home_of cache) (d ∷ []) v).contents a
+    first_last d more is adds a =
+        ap (λ (x : List Deed). (after_deeds (home_of cache) x v).contents a) is
+        ∙ ap (λ (w : Value). w.contents a) (first_deed (home_of cache) d more v)
+        ∙ later_contents cache p p.key more reply (after_deeds (home_of cache) (d ∷ []) v) adds a
+
+    contents : PutsIt ds reply → (a : Hash) → IsHash a → Kept a (v.contents a) ((after_deeds (home_of cache) ds v).contents a)
+    contents (inl h) a is = inl (ap (λ (x : List Deed). (after_deeds (home_of cache) x v).contents a) h.0)
+    contents (inr h) a is = subst (Kept a (v.contents a)) (sym (first_last h.0 h.1 h.3 h.4 a)) (first_content h.0 v h.2 a is)
+
+    -- the key's bucket has its entries, or the commit's entry after them
+    entries : (key : List ℕ) → p.key ≡ Some key → PutsIt ds reply
+        → ((list_of ((after_deeds (home_of cache) ds v).buckets (sha1 key)) ≡ list_of (v.buckets (sha1 key))) × IsNotOk reply)
+        ⊎ (list_of ((after_deeds (home_of cache) ds v).buckets (sha1 key)) ≡ list_of (v.buckets (sha1 key)) ++ (insertion_of (put_commit cache p) key).entry ∷ [])
+    entries key keyed (inl h) = inl (ap (λ (x : List Deed). list_of ((after_deeds (home_of cache) x v).buckets (sha1 key))) h.0, h.1)
+    entries key keyed (inr h) =
+        let i = insertion_of (put_commit cache p) key in
+        let adds : InsertionAdds (insertion_of (put_commit cache p) key) h.1 reply = subst (λ k. AddsAfter (put_commit cache p) k h.1 reply) keyed h.4 in
+        let w = after_deeds (home_of cache) (h.0 ∷ []) v in
+        let step : list_of ((after_deeds (home_of cache) ds v).buckets (sha1 key)) ≡ list_of ((after_deeds (home_of cache) h.1 (after_deeds (home_of cache) (h.0 ∷ []) v)).buckets (sha1 key))
+        = ap (λ (x : List Deed). list_of ((after_deeds (home_of cache) x v).buckets (sha1 key))) h.3
+        ∙ ap (λ (x : Value). list_of (x.buckets (sha1 key))) (first_deed (home_of cache) h.0 h.1 v) in
+        let before = first_entries h.0 v (sha1 key) h.2 in
+        elim adds [
+          | inl none ↦ inl (step ∙ ap (λ (x : List Deed). list_of ((after_deeds (home_of cache) x w).buckets (sha1 key))) none.0 ∙ ap list_of before, none.1)
+          | inr e ↦
+              inr
+              (step ∙ ap (λ (x : List Deed). list_of ((after_deeds (home_of cache) x w).buckets (sha1 key))) e.2 ∙ adds_entry (setup_at cache []) i e.0 w refl e.1
+              ∙ ap (λ o. list_of o ++ (insertion_of (put_commit cache p) key).entry ∷ []) before)
+        ]
+
+    -- once it is done, it is the content, or a content was found there
+    abbrev PutOrFound : Type 0
+    PutOrFound =
+        ((after_deeds (home_of cache) ds v).contents (own_hash p) ≡ Some blob)
+        ⊎ ((more : List Deed) × (ds ≡ finds (content_path cache (own_integrity p)) ∷ more)
+        × ((after_deeds (home_of cache) ds v).contents (own_hash p) ≡ v.contents (own_hash p)))
+
+    by_first : (d : Deed) (more : List Deed) → IsFirst d → ds ≡ d ∷ more → (after_deeds (home_of cache) ds v).contents (own_hash p) ≡ (after_deeds (home_of cache) (d ∷ []) v).contents (own_hash p) → PutOrFound
+    by_first (finds path) more puts is same = inr (more, is ∙ ap (λ x. finds x ∷ more) puts, same)
+    by_first (does act) more puts is same =
+        let at = below_is (home_of cache) (content_names (own_hash p)) puts.0 (names_of (content_path cache (own_integrity p)))
+        (content_below (setup_at cache []) (own_hash p) [] (digest_hash p.options.algorithm p.data)) puts.1 in
+        inl
+        (same ∙ ap (λ x. (change (home_of cache) x v).contents (own_hash p)) puts.2 ∙ put_contents (home_of cache) puts.0 blob v (own_hash p)
+        ∙ cond-true (is_path_of (home_of cache) (content_names (own_hash p)) puts.0) (Some blob) (v.contents (own_hash p)) at)
+
+    put_or_found : (IsNotOk reply → ⊥) → PutsIt ds reply → PutOrFound
+    put_or_found ok (inl h) = absurd (ok h.1)
+    put_or_found ok (inr h) = by_first h.0 h.1 h.2 h.3 (first_last h.0 h.1 h.3 h.4 (own_hash p))
+
+-- ---- logs
+
+given_formed : (p : Put) (o : Option (List Hash)) → IfSome o IsIntegrity → IsIntegrity (given_or (own_integrity p) o)
+given_formed p None h = own_formed p.options.algorithm p.data
+given_formed p (Some i) h = h
+
+-- a key leads to the entry that comes after its others
+led_by : (cache : List ℕ) (p : Put) → ExpectsIntegrity p → (old new : List LogItem) (key : List ℕ)
+    → entries_on (home_of cache) (tree_of new) key ≡ entries_on (home_of cache) (tree_of old) key ++ (insertion_of (put_commit cache p) key).entry ∷ []
+    → found_under cache key new ≡ Some (entry_of_put cache p key)
+led_by cache p expects old new key entries =
+    let e = (insertion_of (put_commit cache p) key).entry in
+    let j = given_or (own_integrity p) p.options.integrity in
+    let answer : answer_of e e.integrity ≡ Some (Some (found_of e j))
+    = ap (λ r. option_map (option_map (found_of e)) (answer_read r)) (printed j (given_formed p p.options.integrity expects)) in
+    finds_last key e (Some (found_of e j)) (entries_on (home_of cache) (tree_of old) key) (entries_on (home_of cache) (tree_of new) key) refl answer entries
+
+module _ (cache : List ℕ) (p : Put) (blob : Blob) (old new : List LogItem) (ds : List Deed) (reply : Option Reply) (commits : PutsIt cache p blob ds reply)
+    (follows : Alike (value_of_tree (home_of cache) (tree_of new)) (after_deeds (home_of cache) ds (value_of_tree (home_of cache) (tree_of old)))) where
+  abbrev v : Value
+  v = value_of_tree (home_of cache) (tree_of old)
+
+  pub lies_so : (i : List Hash) → IsIntegrity i → (lies_under cache i new ≡ lies_under cache i old) ⊎ (ShareAddress i (own_integrity p) × (lies_under cache i new ≡ Some blob))
+  lies_so [] formed = inl refl
+  lies_so (a ∷ hs) formed =
+      elim (contents cache p blob ds reply v commits a (All-head IsHash a hs formed.hashes)) [
+        | inl same ↦ inl (follows.contents a ∙ same)
+        | inr h ↦ inr (ap Some h.0, follows.contents a ∙ h.1)
+      ]
+
+  pub finds_so : (other : List ℕ) → IsOther p.key other → found_under cache other new ≡ found_under cache other old
+  finds_so other differ =
+      alike_lookup other (after_deeds (home_of cache) ds v) (value_of_tree (home_of cache) (tree_of new)) follows ∙ lookups cache p blob ds reply v commits other differ
+
+  pub may_lead : ExpectsIntegrity p → MayLeadToPut cache p old new
+  may_lead expects key keyed =
+      elim (entries cache p blob ds reply v key keyed commits) [
+        | inl same ↦ inl (ap (latest key) (follows.lists (sha1 key) ∙ same.0))
+        | inr more ↦ inr (led_by cache p expects old new key (follows.lists (sha1 key) ∙ more))
+      ]
+
+  pub commit_leads : ExpectsIntegrity p → (IsNotOk reply → ⊥) → LeadsToPut cache p new
+  commit_leads expects ok key keyed =
+      elim (entries cache p blob ds reply v key keyed commits) [
+        | inl same ↦ absurd (ok same.1)
+        | inr more ↦ led_by cache p expects old new key (follows.lists (sha1 key) ∙ more)
+      ]
+
+  pub lies_or_found : (IsNotOk reply → ⊥)
+      → (lies_under cache (own_integrity p) new ≡ Some blob)
+      ⊎ ((more : List Deed) × (ds ≡ finds (content_path cache (own_integrity p)) ∷ more) × (lies_under cache (own_integrity p) new ≡ lies_under cache (own_integrity p) old))
+  lies_or_found ok =
+      elim (put_or_found cache p blob ds reply v ok commits) [
+        | inl put ↦ inl (follows.contents (own_hash p) ∙ put)
+        | inr found ↦ inr (found.0, found.1, follows.contents (own_hash p) ∙ found.2)
+      ]
