@@ -6,13 +6,12 @@ use Rattle.cacache_store.specs.declared.store.log.LogItem.{LogItem}
 use Rattle.cacache_store.specs.declared.store.step.Step.TheVariants as steps
 use Rattle.cacache_disk.specs.{Tree.{Tree}, memory.Replay.{tree_of, IsLog}}
 use Rattle.cacache_entry.specs.Latest.{Found}
-use Rattle.cacache_calls.specs.{declared.{command.Command.{Command}, reply.Reply.{Reply}}, State.{Site}, Runs.{Moves, Gains}, StepPaths.{content_path}, Licence.{looking_on}}
-use Rattle.cacache_calls.proofs.Within.{calls_keep_to}
+use Rattle.cacache_calls.specs.{State.{Site}, Runs.{Moves, Gains}, StepPaths.{content_path}}
 use Rattle.cacache_laws.specs.{Sequence.{tree_on, AreAnswered}, trees.{Contents.{HoldsJust}, Index.{IndexLists}}}
-use Rattle.cacache_laws.proofs.{Calls.InParts.{logs_lead}, Readings.{Looks.{moves_keep}, ReadsStay.{sizing_keeps}}, trees.{Agreed.{holdings_agree, indexes_agree}, Held.{holds_just}, Logged.{answered_rest, answered_split, gains_join, log_rooted, tree_rest, walked}}}
+use Rattle.cacache_laws.proofs.{Calls.InParts.{logs_lead}, Readings.ReadsStay.{sizing_keeps}, trees.{Agreed.{holdings_agree, indexes_agree}, Held.{holds_just}, Logged.{answered_rest, answered_split, gains_join, log_rooted, tree_rest, walked}}}
 use Rattle.cacache_walks.specs.{Listing.{content_area_in}, Reading.{top_folder}}
-use Rattle.cacache_keep.specs.{Calls.{MadeCalls, has_entry, removal}, Keeping.{Chooses}, Kept.{PlansForetell, PlansLeave}, Planning.{Sized, TellsSizes}}
-use Rattle.cacache_keep.proofs.{Parts.{AllLook, calls_gain, gains_none}, StandingIndexes.{index_looked}}
+use Rattle.cacache_keep.specs.{Calls.{has_entry, removal}, Keeping.{Chooses}, Kept.{PlansForetell, PlansLeave}, Planning.{Sized, TellsSizes}}
+use Rattle.cacache_keep.proofs.{Parts.{calls_gain, gains_none}, StandingIndexes.{index_looked}}
 
 -- ---- a choice
 
@@ -49,19 +48,6 @@ pub record Keeps (old new : Option (List LogItem)) : Type 0 where
   pub moves : Moves
   pub gains : Gains old new moves
   pub stays : (t : Tree) → tree_on t moves ≡ t
-
--- so do calls that only look
-pub looks_keep : (site : Site) (calls : List (Command × Reply)) (old new : Option (List LogItem)) → AllLook calls → MadeCalls site calls old new → Keeps old new
-looks_keep site [] old new looks made = record { moves = []; gains = gains_none old new made; stays = λ t. refl }
-looks_keep site (c ∷ calls) old new looks made =
-    let ran = made.1 in
-    let rest = looks_keep site calls made.0 new looks.1 made.2 in
-    let may = calls_keep_to looking_on site c.0 ran.0 c.1 looks.0 ran.1 in
-    record {
-      moves = ran.0 ++ rest.moves;
-      gains = gains_join old made.0 new ran.0 rest.moves ran.2 rest.gains;
-      stays = λ t. tree_rest t ran.0 rest.moves (moves_keep t ran.0 may) ∙ rest.stays t;
-    }
 
 sizes_keep : (cache : List ℕ) (told : List Sized) (old new : Option (List LogItem)) → TellsSizes cache told old new → Keeps old new
 sizes_keep cache [] old new tells = record { moves = []; gains = gains_none old new tells; stays = λ t. refl }

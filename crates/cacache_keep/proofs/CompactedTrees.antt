@@ -145,10 +145,6 @@ module _ (durable : Bool) (cache : List ℕ) (home : Names) (is : home_of cache 
   files_still t u [] all files = tt
   files_still t u (p ∷ paths) all files = (file_at p t u files.0 (all files.0.names), files_still t u paths all files.1)
 
-  all_tight : (t u : Tree) (paths : List (List ℕ)) → Compacted durable home t u → AllByRecursion (λ p. IsTight durable p t) paths → AllByRecursion (λ p. IsTight durable p u) paths
-  all_tight t u [] all tight = tt
-  all_tight t u (p ∷ paths) all tight = (tight_still durable home p t u tight.0 (all tight.0.names), all_tight t u paths all tight.1)
-
   abbrev pub CompactsThese : List (List ℕ) → Tree → Tree → Type 0
   CompactsThese paths t u = AllByRecursion (IsBucketFile home t) paths → Compacted durable home t u × AllByRecursion (λ p. IsTight durable p u) paths
 

@@ -70,9 +70,6 @@ each_on : (durable : Bool) (cache : List ℕ) (buckets : List Bucket) (b : Bucke
 each_on durable cache [] b old mid new h one = (new, subst (λ (log : Option (List LogItem)). CompactsBucket durable cache b log new) h one, refl)
 each_on durable cache (x ∷ buckets) b old mid new h one = (h.0, h.1, each_on durable cache buckets b h.0 mid new h.2 one)
 
-pub none_compacted : (durable : Bool) (cache : List ℕ) (log : Option (List LogItem)) → CompactsAll durable cache [] 0 0 log log
-none_compacted durable cache log = record { buckets = []; each = refl; compacting = refl; counted = refl; sized = refl }
-
 counts_on : (durable : Bool) (buckets : List Bucket) (b : Bucket) (saving : Option ℕ) (count : ℕ) → Saves durable b saving → count ≡ min (length (filter (is_loose durable) buckets)) (2 ^ 64 - 1) → min (count + length (option_to_list saving)) (2 ^ 64 - 1) ≡ min (length (filter (is_loose durable) (buckets ++ b ∷ []))) (2 ^ 64 - 1)
 counts_on durable buckets b None count saves is = let same = ap length (passed (is_loose durable) buckets b saves) in omega (arith, is, same)
 counts_on durable buckets b (Some n) count saves is =

@@ -263,11 +263,6 @@ parts_stay folders e old new stop = leads_then Stays Stays Stays old stop.betwee
 all_stay : (last : Bool) (folders paths : List (List ℕ)) (old new : Option (List LogItem)) → ListsParts last folders paths old new → Leads Stays old new
 all_stay last folders paths old new p = listings_stay p.listings old new p.listing
 
-pub finds_stay : (cache : List ℕ) (tops paths : List (List ℕ)) (old new : Option (List LogItem)) → FindsBuckets cache tops paths old new → Leads Stays old new
-finds_stay cache tops paths old new (lows, one, two, a, b, c) =
-    leads_then Stays Stays Stays old one new (all_stay false (index_area_in cache ∷ []) tops old one a)
-    (leads_then Stays Stays Stays one two new (all_stay false tops lows one two b) (all_stay true lows paths two new c) stays_on) stays_on
-
 pub finding_stays : (cache : List ℕ) (e : Error) (old new : Option (List LogItem)) → StopsFinding cache e old new → Leads Stays old new
 finding_stays cache e old new (inl first) = parts_stay (index_area_in cache ∷ []) e old new first
 finding_stays cache e old new (inr (tops, one, a, inl second)) = leads_then Stays Stays Stays old one new (all_stay false (index_area_in cache ∷ []) tops old one a) (parts_stay tops e one new second) stays_on

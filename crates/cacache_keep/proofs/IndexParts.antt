@@ -11,9 +11,6 @@ turn_on : (listings : List Listed) (l : Listed) (old mid new : Option (List LogI
 turn_on [] l old mid new h lists = (new, subst (λ (log : Option (List LogItem)). ListsFolder l.0 l.1 log new) h lists, refl)
 turn_on (x ∷ listings) l old mid new h lists = (h.0, h.1, turn_on listings l h.0 mid new h.2 lists)
 
-pub none_listed : (last : Bool) (paths : List (List ℕ)) (log : Option (List LogItem)) → paths ≡ [] → ListsParts last [] paths log log
-none_listed last paths log none = record { listings = []; each = refl; listing = refl; which = none }
-
 -- one folder more
 pub one_listed : (last : Bool) (folders paths more : List (List ℕ)) (k : ℕ) (f : List ℕ) (names : List Name) (old mid new : Option (List LogItem)) → k < length folders → f ≡ get_or folders k f → ListsParts last (take k folders) paths old mid
     → ListsFolder f names mid new → more ≡ paths ++ map (λ (n : Name). join f n.name) (filter (belongs last) names) → ListsParts last (take (k + 1) folders) more old new
@@ -58,7 +55,3 @@ lost_listed last folders paths k f names old mid new below is so lists =
       listing = turn_on so.listings l old mid new so.listing lists;
       stop = lost_next (drop (k + 1) folders) new;
     }
-
--- memory ran out before the first
-pub lost_before_all : (folders : List (List ℕ)) (log : Option (List LogItem)) → StopsParts folders OutOfMemory log log
-lost_before_all folders log = record { listings = []; rest = folders; split = refl; between = log; listing = refl; stop = lost_next folders log }

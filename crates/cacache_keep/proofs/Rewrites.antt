@@ -6,7 +6,6 @@ use Rattle.cacache_store.specs.declared.store.answer.Answer.TheVariants as answe
 use Rattle.cacache_store.specs.{declared.store.{log.LogItem.{LogItem}, plain.PlainTemp.{PlainTemp}}, Fits.{Fits, Logs}, Plain.{PlainStep, PlainAnswer}}
 use Rattle.cacache_store.specs.declared.store.step.Step.TheVariants as steps
 use Rattle.cacache_calls.specs.{declared.answers.Refusal.{Refusal}, Answers.{bytes_in, done_in, synced_in, temp_in, written_in}, Common.{fails, refuse}, Runs.{EndsAs, Moves}, SingleSteps.{Does, FailsAt}}
-use Rattle.cacache_calls.proofs.Going.{no_gain}
 use Rattle.cacache_laws.proofs.trees.Logged.{gains_join}
 use Rattle.cacache_jobs.specs.Brought.{Brings, EndsRefused}
 use Rattle.cacache_keep.specs.Rewriting.{MakesTemp, Rewrites, StopsMoving, StopsRewriting, StopsSecuring, StopsSyncing, StopsWriting, SyncsFolder, SyncsTemp, Takes, Took}
@@ -64,34 +63,12 @@ write_refused file bytes t refusal is fits = absurd fits
 
 -- ---- a step that was done
 
-pub was_done : (a : PlainStep) (t : PlainAnswer) (u : Unit {0}) (old new : Option (List LogItem)) → Ok u ≡ done_in t → Logs old new a t → Does a answers.Done old new
-was_done a answers.Done u old new is logs = logs
-was_done a t u old new is logs = absurd cc
-
-pub was_read : (a : PlainStep) (t : PlainAnswer) (bytes : List ℕ) (old new : Option (List LogItem)) → Ok bytes ≡ bytes_in t → Logs old new a t → Does a (answers.Bytes bytes) old new
-was_read a (answers.Bytes b) bytes old new is logs = let same : b ≡ bytes = cc in rw same at logs
-was_read a t bytes old new is logs = absurd cc
-
-pub was_made : (a : PlainStep) (t : PlainAnswer) (file : PlainTemp) (old new : Option (List LogItem)) → temp_in t ≡ Ok file → Logs old new a t → Does a (answers.Temp file) old new
-was_made a (answers.Temp f) file old new is logs = let same : f ≡ file = cc in rw same at logs
-was_made a t file old new is logs = absurd cc
-
-pub was_synced : (file synced : PlainTemp) (t : PlainAnswer) (old new : Option (List LogItem)) → Ok synced ≡ synced_in t → Fits (steps.SyncTemp file) t → Logs old new (steps.SyncTemp file) t → (synced ≡ file) × Does (steps.SyncTemp file) (answers.Synced file) old new
-was_synced file synced (answers.Synced f) old new is fits logs =
-    let same : f ≡ file = fits in
-    let given : synced ≡ f = cc in
-    (given ∙ same, rw same at logs)
-was_synced file synced t old new is fits logs = absurd cc
-
 -- ---- writes
 
 takes_on : (file last g : PlainTemp) (n : ℕ) (moves : Moves) (bytes rest : List ℕ) → Takes file bytes moves last rest → Takes file bytes (moves ++ (steps.Write last rest, answers.Wrote g n) ∷ []) g (drop n rest)
 takes_on file last g n [] bytes rest h = (h.0, h.1, (refl, ap (drop n) h.1))
 takes_on file last g n ((steps.Write f b, answers.Wrote k m) ∷ moves) bytes rest h = (h.0, h.1, takes_on k last g n moves (drop m bytes) rest h.2)
 takes_on file last g n moves bytes rest h = absurd h
-
-pub took_none : (file : PlainTemp) (bytes : List ℕ) (log : Option (List LogItem)) → Took file bytes file bytes log log
-took_none file bytes log = ([], (refl, refl), no_gain log)
 
 -- what a write brought
 abbrev wrote_ok : PlainTemp × ℕ → Result (PlainTemp × ℕ) Refusal

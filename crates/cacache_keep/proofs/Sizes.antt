@@ -1,27 +1,15 @@
 -- Contents that are asked for their sizes, one after another.
-use Rattle.std.proofs.{Common.{◌≡◌, true, false, inl, inr, ℕ, List, [], ◌∷◌, ◌++◌, Option, Ok, Err, refl, sym, ap, subst, ◌∙◌, map, append_assoc}, lemmas.List.{map-append}}
-use Rattle.cacache_core.specs.declared.{errors.{Error.{Error, TheVariants.{OutOfMemory}}, Fault.TheVariants.{NotFound}}, integrity.digest.Hash.{Hash}}
+use Rattle.std.proofs.{Common.{◌≡◌, false, inl, ℕ, List, [], ◌∷◌, ◌++◌, Option, Err, refl, sym, ap, subst, ◌∙◌, map, append_assoc}, lemmas.List.{map-append}}
+use Rattle.cacache_core.specs.declared.{errors.Error.{Error, TheVariants.{OutOfMemory}}, integrity.digest.Hash.{Hash}}
 use Rattle.cacache_store.specs.declared.store.answer.Answer.TheVariants as answers
 use Rattle.cacache_store.specs.{declared.store.log.LogItem.{LogItem}, Fits.{Fits, Logs}, Plain.{PlainAnswer}}
 use Rattle.cacache_store.specs.declared.store.step.Step.TheVariants as steps
-use Rattle.cacache_calls.specs.{declared.answers.Refusal.{Refusal}, Answers.{length_in}, Common.{fails, refuse}, Runs.{EndsAs}, SingleSteps.{Does, FailsAt}, StepPaths.{content_path}}
+use Rattle.cacache_calls.specs.{declared.answers.Refusal.{Refusal}, Answers.{length_in}, Common.{fails, refuse}, Runs.{EndsAs}, SingleSteps.{FailsAt}, StepPaths.{content_path}}
 use Rattle.cacache_calls.specs.declared.answers.Refusal.TheVariants as refusals
 use Rattle.cacache_keep.specs.{declared.planning.Unused.{Unused}, Planning.{HidesFirst, HidesSize, Sized, StopsTelling, TellsSize, TellsSizes, sized_of}, Reading.{finds_none}}
-use Rattle.cacache_keep.proofs.{Gives.{none_found}, Sweeps.{Refuses, sizing_refused, step_fails, still_there, told_size}}
+use Rattle.cacache_keep.proofs.Sweeps.{sizing_refused, step_fails, still_there}
 
 -- ---- one content
-
-pub told_so : (cache path : List ℕ) (i : List Hash) (t : PlainAnswer) (size : ℕ) (old new : Option (List LogItem)) → path ≡ content_path cache i → Ok size ≡ length_in t → Logs old new (steps.Size path) t → TellsSize cache i size old new
-told_so cache path i t size old new at is logs = inl (subst (λ (p : List ℕ). Does (steps.Size p) (answers.Length size) old new) at (told_size path t size old new is logs))
-
-none_at : (path : List ℕ) (t : PlainAnswer) (refusal : Refusal) (old new : Option (List LogItem)) → Refuses t refusal → refusal ≡ refusals.Fault NotFound → Logs old new (steps.Size path) t → Does (steps.Size path) (answers.Failed NotFound) old new
-none_at path (answers.Failed fault) refusal old new refused gone logs = let is : fault ≡ NotFound = cc in rw is at logs
-none_at path (answers.NoMemory b) refusal old new refused gone logs = absurd cc
-none_at path t refusal old new refused gone logs = absurd refused
-
-pub none_so : (cache path : List ℕ) (i : List Hash) (t : PlainAnswer) (refusal : Refusal) (old new : Option (List LogItem)) → path ≡ content_path cache i → finds_none refusal ≡ true → Err refusal ≡ length_in t → Fits (steps.Size path) t → Logs old new (steps.Size path) t → TellsSize cache i 0 old new
-none_so cache path i t refusal old new at gone is fits logs =
-    inr (refl, subst (λ (p : List ℕ). Does (steps.Size p) (answers.Failed NotFound) old new) at (none_at path t refusal old new (sizing_refused path t refusal is fits) (none_found refusal gone) logs))
 
 pub hidden_so : (cache path : List ℕ) (i : List Hash) (t : PlainAnswer) (refusal : Refusal) (e : Error) (old new : Option (List LogItem)) → path ≡ content_path cache i → finds_none refusal ≡ false → Err refusal ≡ length_in t → Fits (steps.Size path) t → Logs old new (steps.Size path) t → EndsAs e (refuse refusal fails) → HidesSize cache i e old new
 hidden_so cache path i t refusal e old new at some is fits logs ends =
@@ -37,9 +25,6 @@ tells_on cache (r ∷ told) u old mid new h says = (h.0, h.1, tells_on cache tol
 pub record ToldTo (cache : List ℕ) (seen : List (List Hash)) (unused : List Unused) (old new : Option (List LogItem)) : Type 0 where
   pub each : map (λ u. u.address) unused ≡ seen
   pub tells : TellsSizes cache (map sized_of unused) old new
-
-pub none_told : (cache : List ℕ) (unused : List Unused) (log : Option (List LogItem)) → unused ≡ [] → ToldTo cache [] unused log log
-none_told cache unused log none = record { each = ap (map (λ (u : Unused). u.address)) none; tells = subst (λ (l : List Unused). TellsSizes cache (map sized_of l) log log) (sym none) refl }
 
 pub one_told : (cache : List ℕ) (seen : List (List Hash)) (unused more : List Unused) (u : Unused) (old mid new : Option (List LogItem)) → more ≡ unused ++ u ∷ [] → ToldTo cache seen unused old mid → TellsSize cache u.address u.bytes mid new → ToldTo cache (seen ++ u.address ∷ []) more old new
 one_told cache seen unused more u old mid new is so says = record {

@@ -105,10 +105,6 @@ index_lost_here site log = ([], inl (replies.Refused OutOfMemory, inr refl, inl 
 pub lost_here : (site : Site) (log : Option (List LogItem)) → StopsQuestions site OutOfMemory log log
 lost_here site log = stops_lost site [] log log refl (All-nil (λ (c : Command × Reply). Asks c.0))
 
--- the base folder is the same
-pub stops_base : (cache base before : List ℕ) (e : Error) (old new : Option (List LogItem)) → before ≡ base → StopsQuestions (site_of cache before 0) e old new → StopsQuestions (site_of cache base 0) e old new
-stops_base cache base before e old new same s = subst (λ (b : List ℕ). StopsQuestions (site_of cache b 0) e old new) same s
-
 -- ---- results
 
 -- what holds of an error if something else does

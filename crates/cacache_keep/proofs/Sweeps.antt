@@ -1,15 +1,14 @@
 -- Files of a folder that are removed, one after another, and why that ends.
-use Rattle.std.proofs.{Common.{◌≡◌, Some, ◌+◌, ◌-◌, ◌^◌, ◌<◌, inl, ℕ, List, [], ◌∷◌, ◌++◌, true, false, Option, Ok, Err, refl, sym, ap, subst, ◌∙◌, map, length, take, drop, get_or, arith}, lemmas.List.{Sums.{sum_by-append}, drop_more, length-map, map-append, take-append-drop, take_more}}
+use Rattle.std.proofs.{Common.{◌≡◌, ◌+◌, ◌-◌, ◌^◌, ◌<◌, inl, ℕ, List, [], ◌∷◌, ◌++◌, true, false, Option, Ok, Err, refl, sym, ap, subst, ◌∙◌, map, length, take, drop, get_or, arith}, lemmas.List.{Sums.{sum_by-append}, drop_more, length-map, map-append, take-append-drop, take_more}}
 use Rattle.std.specs.{Prelude.{min}, List.{sum}}
-use Rattle.cacache_core.specs.{declared.errors.{Error.{Error, TheVariants.{OutOfMemory}}, Fault.TheVariants.{NotFound}}, Paths.{join}}
+use Rattle.cacache_core.specs.{declared.errors.Error.{Error, TheVariants.{OutOfMemory}}, Paths.{join}}
 use Rattle.cacache_store.specs.declared.store.answer.Answer.TheVariants as answers
 use Rattle.cacache_store.specs.{declared.store.{answer.Name.{Name}, log.LogItem.{LogItem}}, Fits.{Fits, Logs}, Plain.{PlainStep, PlainAnswer}}
 use Rattle.cacache_store.specs.declared.store.step.Step.TheVariants as steps
 use Rattle.cacache_calls.specs.{declared.answers.Refusal.{Refusal}, Answers.{done_in, length_in, names_in}, Common.{fails, refuse}, Runs.{EndsAs, Gains, Moves}, SingleSteps.{Does, FailsAt}}
-use Rattle.cacache_calls.proofs.Going.{no_gain}
 use Rattle.cacache_calls.specs.declared.answers.Refusal.TheVariants as refusals
 use Rattle.cacache_laws.{proofs.trees.Logged.{gains_join}, specs.trees.Temporary.{sized_removals, total}}
-use Rattle.cacache_keep.{specs.{Reading.{finds_none, is_gone}, Sweeping.{ListsFolder, RemovesSized, StopsRemoval, StopsSized}}, proofs.Gives.{failed, lost, none_found, not_gone}}
+use Rattle.cacache_keep.{specs.{Reading.{finds_none, is_gone}, Sweeping.{RemovesSized, StopsRemoval, StopsSized}}, proofs.Gives.{failed, lost, not_gone}}
 
 -- ---- a step that was refused
 
@@ -44,21 +43,6 @@ removal_refused path t refusal is fits = absurd fits
 
 -- ---- the names of a folder
 
-pub lists_names : (path : List ℕ) (t : PlainAnswer) (names : List Name) (old new : Option (List LogItem)) → Ok names ≡ names_in t → Fits (steps.ReadDir path) t → Logs old new (steps.ReadDir path) t → ListsFolder path names old new
-lists_names path (answers.Names l) names old new is fits logs = let same : l ≡ names = cc in (answers.Names l, record { fits = fits; shown = ap Some same; gained = logs })
-lists_names path t names old new is fits logs = absurd cc
-
-lists_none_at : (path : List ℕ) (t : PlainAnswer) (refusal : Refusal) (old new : Option (List LogItem)) → Refuses t refusal → refusal ≡ refusals.Fault NotFound → Logs old new (steps.ReadDir path) t → ListsFolder path [] old new
-lists_none_at path (answers.Failed fault) refusal old new refused gone logs =
-    let is : fault ≡ NotFound = cc in
-    let logged : Logs old new (steps.ReadDir path) (answers.Failed NotFound) = rw is at logs in
-    (answers.Failed NotFound, record { fits = tt; shown = refl; gained = logged })
-lists_none_at path (answers.NoMemory b) refusal old new refused gone logs = absurd cc
-lists_none_at path t refusal old new refused gone logs = absurd refused
-
-pub lists_none : (path : List ℕ) (t : PlainAnswer) (refusal : Refusal) (old new : Option (List LogItem)) → finds_none refusal ≡ true → Err refusal ≡ names_in t → Fits (steps.ReadDir path) t → Logs old new (steps.ReadDir path) t → ListsFolder path [] old new
-lists_none path t refusal old new gone is fits logs = lists_none_at path t refusal old new (listing_refused path t refusal is fits) (none_found refusal gone) logs
-
 pub still_there : (e : Error) (refusal : Refusal) → EndsAs e (refuse refusal fails) → finds_none refusal ≡ false → is_gone e ≡ false
 still_there e refusal ends some = not_gone e refusal ends (λ same. let wrong : true ≡ false = sym (ap finds_none same) ∙ some in absurd cc)
 
@@ -71,15 +55,8 @@ pub told_size : (path : List ℕ) (t : PlainAnswer) (size : ℕ) (old new : Opti
 told_size path (answers.Length count) size old new is logs = let same : count ≡ size = cc in rw same at logs
 told_size path t size old new is logs = absurd cc
 
-pub was_removed : (path : List ℕ) (t : PlainAnswer) (u : Unit {0}) (old new : Option (List LogItem)) → Ok u ≡ done_in t → Logs old new (steps.RemoveFile path) t → Does (steps.RemoveFile path) answers.Done old new
-was_removed path answers.Done u old new is logs = logs
-was_removed path t u old new is logs = absurd cc
-
 abbrev sized : List ℕ → ℕ → Moves
 sized path size = (steps.Size path, answers.Length size) ∷ (steps.RemoveFile path, answers.Done) ∷ []
-
-pub both_done : (path : List ℕ) (size : ℕ) (old mid new : Option (List LogItem)) → Does (steps.Size path) (answers.Length size) old mid → Does (steps.RemoveFile path) answers.Done mid new → Gains old new (sized path size)
-both_done path size old mid new one two = gains_join old mid new ((steps.Size path, answers.Length size) ∷ []) ((steps.RemoveFile path, answers.Done) ∷ []) one two
 
 -- ---- files, one after another
 
@@ -102,9 +79,6 @@ pub record RemovedTo (folder : List ℕ) (files : List Name) (k bytes : ℕ) (ol
   pub each : map (λ r. r.0) removed ≡ take k files
   pub sum : bytes ≡ total (map (λ r. r.1) removed)
   pub removing : RemovesSized folder removed old new
-
-pub none_removed : (folder : List ℕ) (files : List Name) (log : Option (List LogItem)) → RemovedTo folder files 0 0 log log
-none_removed folder files log = record { removed = []; each = refl; sum = refl; removing = no_gain log }
 
 pub one_sized : (folder : List ℕ) (files : List Name) (k bytes size : ℕ) (file : Name) (old mid new : Option (List LogItem)) → k < length files → file ≡ get_or files k file → RemovedTo folder files k bytes old mid
     → Gains mid new (sized (join folder file.name) size) → RemovedTo folder files (k + 1) (min (bytes + size) (2 ^ 64 - 1)) old new
@@ -133,11 +107,6 @@ next_kept folder files k bytes file e old mid new below is so stop = record {
 -- memory ran out before the next one was asked for its size
 pub lost_before : (folder : List ℕ) (files : List Name) (k bytes : ℕ) (file : Name) (old mid : Option (List LogItem)) → k < length files → file ≡ get_or files k file → RemovedTo folder files k bytes old mid → StopsSized folder files OutOfMemory old mid
 lost_before folder files k bytes file old mid below is so = next_kept folder files k bytes file OutOfMemory old mid mid below is so (inl (inl refl))
-
--- memory ran out before the first
-pub lost_first : (folder : List ℕ) (files : List Name) (log : Option (List LogItem)) → StopsSized folder files OutOfMemory log log
-lost_first folder [] log = record { removed = []; rest = []; split = refl; between = log; removing = no_gain log; stop = (refl, refl) }
-lost_first folder (n ∷ files) log = record { removed = []; rest = n ∷ files; split = refl; between = log; removing = no_gain log; stop = inl (inl refl) }
 
 -- as many files were removed as there are
 pub counted_all : (count : ℕ) (removed : List (Name × ℕ)) (files : List Name) → count ≡ length files → map (λ r. r.0) removed ≡ files → count ≡ length removed

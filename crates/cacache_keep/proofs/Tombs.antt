@@ -1,5 +1,5 @@
 -- Keys that lead to no content get tombstones, one after another.
-use Rattle.std.proofs.{Common.{◌≡◌, ◌<◌, ◌^◌, inl, inr, ℕ, List, [], ◌∷◌, ◌++◌, Bool, true, false, Option, None, Some, refl, sym, ap, subst, ◌∙◌, map, append-nil, arith}, lemmas.List.{flat_map_more, map-append, Elements.{All-append, All-cons, All-nil}}}
+use Rattle.std.proofs.{Common.{◌≡◌, ◌<◌, ◌^◌, inl, inr, ℕ, List, [], ◌∷◌, ◌++◌, Bool, true, false, Option, Some, refl, sym, ap, subst, ◌∙◌, map, append-nil, arith}, lemmas.List.{flat_map_more, map-append, Elements.{All-append, All-cons, All-nil}}}
 use Rattle.std.specs.{Prelude.{All, if◌then◌else◌, not}, List.{filter, flat_map}}
 use Rattle.cacache_core.specs.declared.errors.Error.{Error, TheVariants.{OutOfMemory}}
 use Rattle.cacache_store.specs.declared.store.log.LogItem.{LogItem}
@@ -11,9 +11,6 @@ use Rattle.cacache_keep.specs.{Calls.{MadeCalls}, Missing.{Doubts, Look, is_miss
 use Rattle.cacache_keep.proofs.{Asked.{kept, passed}, Stopped.{made_both}}
 
 -- ---- one key
-
-pub found_none : (site : Site) (key : List ℕ) (old new : Option (List LogItem)) → Ran (opening site (commands.Find key)) (replies.LookedUp None) old new → MadeCalls site (looks_of key None) old new
-found_none site key old new ran = (new, ran, refl)
 
 pub found_some : (site : Site) (key : List ℕ) (f : Found) (there : Bool) (old mid new : Option (List LogItem)) → Ran (opening site (commands.Find key)) (replies.LookedUp (Some f)) old mid → Ran (opening site (commands.Exists f.integrity)) (replies.Exists there) mid new
     → MadeCalls site (looks_of key (Some (f, there))) old new

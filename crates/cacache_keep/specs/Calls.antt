@@ -1,9 +1,9 @@
 -- What a verification and a collection ask of a cache, call by call.
-use Rattle.std.specs.Prelude.{◌≡◌, ◌⊎◌, ◌++◌, ◌≤◌, All, ℕ, List, [], ◌∷◌, Bool, false, Option, Ok, Err, Vec, filter, length, map, not}
+use Rattle.std.specs.Prelude.{◌≡◌, ◌⊎◌, ◌++◌, ◌≤◌, All, ℕ, List, [], ◌∷◌, Bool, false, Option, Ok, Err, filter, length, map, not}
 use Rattle.cacache_core.specs.{declared.{errors.{Error.{Error, TheVariants.{IoError, OutOfMemory}}, Fault.TheVariants.{IsADirectory, NotFound}}, integrity.digest.Hash.{Hash}}, Integrity.{IsIntegrity}, Meeting.{lists}, Paths.{index_area, join}}
 use Rattle.cacache_store.specs.declared.store.log.LogItem.{LogItem}
 use Rattle.cacache_entry.specs.Latest.{Found}
-use Rattle.cacache_calls.specs.{declared.{command.Command.{Command}, reply.Reply.{Reply}}, State.{Site, Item}, Table.{opening}, Common.{fails}, Runs.{EndsAs, Gains, Moves, Ran, plain_item, without_message}}
+use Rattle.cacache_calls.specs.{declared.{command.Command.{Command}, reply.Reply.{Reply}}, State.{Site, Item}, Table.{opening}, Common.{fails}, Runs.{EndsAs, Gains, Moves, Ran, without_message}}
 use Rattle.cacache_calls.specs.declared.command.Command.TheVariants as commands
 use Rattle.cacache_calls.specs.declared.reply.Reply.TheVariants as replies
 use Rattle.cacache_laws.specs.trees.Collecting.{is_live}
@@ -18,10 +18,6 @@ MadeCalls site (call ∷ calls) old new =
     × MadeCalls site calls next new
 
 -- ---- the index
-
--- items, as the reply of a listing
-abbrev pub listing_reply : {A : Type 0} → Vec Item A → Reply
-listing_reply items = replies.Listed (map plain_item items.items)
 
 -- the only item says that the folder of the index isn't there
 abbrev pub HasNoIndex : List Item → Type 0

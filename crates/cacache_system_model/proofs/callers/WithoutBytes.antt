@@ -71,17 +71,6 @@ written_without c file rest n false = rest_without c file (drop n rest)
 -- ---- answers to steps without handles
 
 module _ (m : Machine) where
-  done_same : (a : NumberedAnswer) → done_in (answer_on m a) ≡ done_in (answer_seen a)
-  done_same answers.Done = refl
-  done_same a = refl
-
-  there_same : (a : NumberedAnswer) → there_in (answer_on m a) ≡ there_in (answer_seen a)
-  there_same (answers.There b) = refl
-  there_same a = refl
-
-  taken_same : (a : NumberedAnswer) → taken_in (answer_on m a) ≡ taken_in (answer_seen a)
-  taken_same (answers.Took n) = refl
-  taken_same a = refl
 
   bytes_same : (a : NumberedAnswer) → bytes_in (answer_on m a) ≡ bytes_in (answer_seen a)
   bytes_same (answers.Bytes b) = refl
