@@ -9,7 +9,7 @@ use Rattle.cacache_entry.specs.Latest.{Found}
 use Rattle.cacache_system.specs.Seen.{NumberedAnswer, step_as}
 use Rattle.cacache_system_model.specs.{Machine.{Machine}, Laws.{temp_on, answer_on}, callers.Seen.{answer_seen, StoresLooksOrRemoves}}
 use Rattle.cacache_system_model.proofs.callers.{Files.{IsAim, IsState}, TreeKept.{IsStoring}}
-use Rattle.cacache_calls.specs.{declared.{carried.{Aim.{Aim}, Commit.{Commit}, Lookup.{Lookup}}, reply.Reply.{Reply, TheVariants.{Read}}, command.Command.{Command}}, Answers.{done_in, there_in, taken_in, bytes_in}, Common.{fails, ends_with}, Inserting.{insertion, deletion, insert, refused_cause, bucket_line, recorded}, Looking.{found_in, found_for, no_bucket}, Runs.{plain_reply}, State.{State, doing, creating, writing, syncing, persisting, confirming, appending, looking, reading, asking, over, Errand, Insertion, Site, make_folder, remove, sync_file, sync_dir}, StepPaths.{content_folder, content_path, bucket_path, temp_path}, Storing.{placed, secured_found, write_rest}, Table.{wants, after, opening}}
+use Rattle.cacache_calls.specs.{declared.{carried.{Aim.{Aim}, Commit.{Commit}, Lookup.{Lookup}}, reply.Reply.{Reply, TheVariants.{Read}}, command.Command.{Command}}, Answers.{bytes_in}, Common.{fails, ends_with}, Inserting.{insertion, deletion, insert, refused_cause, bucket_line, recorded}, Looking.{found_in, found_for, no_bucket}, Runs.{plain_reply}, State.{State, doing, creating, writing, syncing, persisting, confirming, appending, looking, reading, asking, over, Errand, Insertion, Site, make_folder, remove, sync_file, sync_dir}, StepPaths.{content_folder, content_path, bucket_path, temp_path}, Storing.{placed, secured_found, write_rest}, Table.{wants, after, opening}}
 use Rattle.cacache_calls.proofs.{Branches.{cond_leads}, Leading.{secures, secures_found, records, places, inserts}, Sound.{some_is}}
 use Rattle.cacache_calls.specs.declared.carried.Aim.TheVariants as aims
 use Rattle.cacache_calls.specs.declared.command.Command.TheVariants as commands
@@ -71,7 +71,6 @@ written_without c file rest n false = rest_without c file (drop n rest)
 -- ---- answers to steps without handles
 
 module _ (m : Machine) where
-
   bytes_same : (a : NumberedAnswer) → bytes_in (answer_on m a) ≡ bytes_in (answer_seen a)
   bytes_same (answers.Bytes b) = refl
   bytes_same a = refl
