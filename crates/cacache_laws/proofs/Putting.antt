@@ -11,4 +11,5 @@ pub mod OpenWriters
 pub mod Committing
 pub mod Puts
 pub mod WrittenFiles
+pub mod Arriving
 pub mod StandingPuts

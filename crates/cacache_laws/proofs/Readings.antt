@@ -10,3 +10,4 @@ pub mod Looked
 pub mod GivenReads
 pub mod OpenReaders
 pub mod Standing
+pub mod Copying

@@ -7,7 +7,9 @@ pub mod ExportErrors
 pub mod ExportResults
 pub mod SureLinkResults
 pub mod LinkResults
+pub mod Expected
 pub mod WriterResults
+pub mod WriterErrors
 pub mod JoinedResults
 pub mod ListResults
 pub mod LossResults

@@ -17,6 +17,11 @@ use Rattle.cacache_laws.specs.{Beside.{FitsEntry}, Caches.{IsCache, Called, setu
 abbrev pub NamesFolder : List ℕ → Type 0
 NamesFolder cache = (home : Names) × (names_of cache ≡ Ok home)
 
+-- and then the cache has a home, the folder of these names
+abbrev pub FoldersAreHomes : Type 0
+FoldersAreHomes =
+    (cache : List ℕ) → NamesFolder cache → (home : Names) × (home_of cache ≡ Some home)
+
 -- nothing is at the place of the temporary file of this number
 abbrev pub IsUnused : List ℕ → ℕ → List LogItem → Type 0
 IsUnused cache number log = node_below (home_of cache) (tree_of log) (temp_names number) ≡ None

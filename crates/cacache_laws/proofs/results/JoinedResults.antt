@@ -2,7 +2,7 @@
 use Rattle.std.proofs.Common.{inl, inr, [], ◌∷◌, ◌++◌, ◌∙◌}
 use Rattle.cacache_core.specs.declared.errors.Fault.{Fault}
 use Rattle.cacache_calls.specs.{Causes.{Faulted}, Runs.{Moves}}
-use Rattle.cacache_laws.{proofs.Calls.Logs.{growths_join, joined}, specs.results.Joins.{ExcusesStay, KnownStays, LeavingsJoin, UntouchedJoin}}
+use Rattle.cacache_laws.{proofs.Calls.Logs.{growths_join, joined}, specs.results.Joins.{ExcusesStay, KnownStays, LeavingsJoin, OthersStay, UntouchedJoin}}
 
 pub leavings_join : LeavingsJoin
 leavings_join cache old mid new a b = (
@@ -21,6 +21,14 @@ untouched_join cache written own added old mid new a b = record {
   finds = λ other differ. b.finds other differ ∙ a.finds other differ;
   content = λ i bytes apart has. b.content i bytes apart (a.content i bytes apart has);
   key = λ other bytes i differ apart has. b.key other bytes i differ apart (a.key other bytes i differ apart has);
+}
+
+pub others_stay : OthersStay
+others_stay cache except old mid new a b = record {
+  finds = λ other differ. b.1.finds other ∙ a.finds other differ;
+  lies = λ i. b.1.lies i ∙ a.lies i;
+  key = λ other bytes i differ has. b.1.key other bytes i (a.key other bytes i differ has);
+  content = λ i bytes has. b.1.content i bytes (a.content i bytes has);
 }
 
 pub known_stays : KnownStays

@@ -12,7 +12,7 @@ use Rattle.cacache_disk.specs.{Apply.{opened}, memory.Replay.{IsLog, shown, tree
 use Rattle.cacache_calls.specs.{declared.{command.Link.{Link}, reply.Reply.TheVariants.{Stored}}, Inserting.{entry_of, given_or, refused_cause}, Promises.{answered}, Linking.{based, commit_for, link_target, linked_to, target_at}, Runs.{Gains, Goes, Gone, Moves, Ran, reply_of, without_message}, State.{hashing, to_link}}
 use Rattle.cacache_calls.proofs.IntegrityUtf8.{integrity_utf8}
 use Rattle.cacache_sync.specs.{content.Passed.{passed}, put.{OpenLinkers.{HasHashed, LinkTarget, OpensLinker, OpensSized, OpensTarget, asks_file, asks_size, stands_at}, Options.{Said, options_of}}}
-use Rattle.cacache_laws.specs.{Caches.{Grows, IsCache, IsExcused}, ExportEffects.{IsApart}, LinkAnswers.{OpensAs, target_bytes}, Links.{FitsLink, HasLinked, LeavesLink, put_like}, OpenLinkers.{CanWrite, CommitsRest, SuitsSize, TargetOpened}, OpenWriters.{LeavesKnownCache}, Puts.{entry_of_put}, Succeeds.{NamesFolder}, results.{Handles.{IsText, LeadsToEntry, SaysFit, said_integrity}, Writes.{SaysPlain}, Linkers.{IsLinking, PlainSaysFit, LinkCommitsMean, LinkOpeningsMean, LinkedBytes, LinkersGoOn, MemLinker, OpenedLinker, SizedOpeningsMean}, Links.{LeadsOn}, Success.{FailsForMemory}}}
+use Rattle.cacache_laws.specs.{Caches.{Grows, IsCache, IsExcused}, ExportEffects.{IsApart}, LinkAnswers.{OpensAs, target_bytes}, Links.{FitsLink, HasLinked, LeavesLink, put_like}, OpenLinkers.{CanWrite, CommitsRest, SuitsSize, TargetOpened}, OpenWriters.{LeavesKnownCache}, Puts.{entry_of_put}, Succeeds.{NamesFolder}, results.{Handles.{IsText, LeadsToEntry, PlainSaysFit, SaysFit, said_integrity}, Writes.{SaysPlain}, Linkers.{IsLinking, LinkCommitsMean, LinkOpeningsMean, LinkedBytes, LinkersGoOn, MemLinker, OpenedLinker, SizedOpeningsMean}, Links.{LeadsOn}, Success.{FailsForMemory}}}
 use Rattle.cacache_laws.proofs.{Putting.{Forms.{bare_written}, OpenWriters.{gains_join}}, Calls.{Logs.{some_same}, Messages.{excused_error}}, Links.{OpenLinkers.{linkers_commit, linkers_fail}, TargetBytes.{linkers_open, linkers_open_sized}}, Readings.Standing.{caches_stand}, Sure.{SureLinks.{linkers_answer}, SureReaders.{linker_openings_answer, sized_openings_answer}}, results.{LinkResults.{lies_so}, SureLinkResults.{commit_succeeds, shown_read}, Told.{plain_result}, WriteResults.{early_of}, WriterResults.{fits}}}
 
 -- ---- the moves of an opening
@@ -191,7 +191,7 @@ linkers_go_on cache key path s held bytes w v r buf t most reads falls hashed li
 -- ---- commits
 
 pub plain_says_fit : PlainSaysFit
-plain_says_fit s plain = record { json = subst IsJson (sym plain.metadata) IsJson-null; raw = subst AreBytes (sym plain.raw_metadata) tt; formed = plain.formed }
+plain_says_fit s none no_raw formed = record { json = subst IsJson (sym none) IsJson-null; raw = subst AreBytes (sym no_raw) tt; formed = formed }
 
 module _ (cache : List ℕ) (key : Option (List ℕ)) (base target : List ℕ) (s : Said) (size : Option ℕ) (moment : ℕ) (held : List ℕ) (old new : List LogItem) where
   -- the link that a commit makes

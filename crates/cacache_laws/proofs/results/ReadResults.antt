@@ -1,5 +1,5 @@
 -- What reads and questions gave and left.
-use Rattle.std.proofs.Common.{◌≡◌, inl, inr, ℕ, Bool, true, false, List, [], Option, Some, Vec, Global, Result, Ok, Err, refl, sym, ap, subst, ◌∙◌}
+use Rattle.std.proofs.Common.{◌≡◌, inl, inr, ℕ, Bool, true, false, List, [], Option, None, Some, Vec, Global, Result, Ok, Err, refl, sym, ap, subst, ◌∙◌}
 use Rattle.std.specs.Prelude.{IfOk, IfErr, option_map}
 use Rattle.cacache_core.specs.{declared.{errors.Error.{Error}, integrity.digest.Hash.{Hash}}, Integrity.{IsIntegrity}, PathNames.{home_of}}
 use Rattle.cacache_store.specs.declared.{env.Env.{Env}, store.log.LogItem.{LogItem}}
@@ -59,6 +59,12 @@ key_gives cache key i bytes log has =
     ∙ ap (read_on (home_of cache) (tree_of log)) has.integrity
     ∙ whole_gives cache i bytes log (lies_whole cache i bytes log has.content)
 
+-- and so does a read by key
+led_gives : (cache key : List ℕ) (i : List Hash) (bytes : List ℕ) (log : List LogItem) (o : Option Found) → option_map (λ (f : Found). f.integrity) o ≡ Some i → LiesWhole cache i log bytes
+    → get_on (setup_at cache []) (tree_of log) key o ≡ replies.Read bytes
+led_gives cache key i bytes log None leads lies = absurd cc
+led_gives cache key i bytes log (Some f) leads lies = let same : f.integrity ≡ i = cc in ap (read_on (home_of cache) (tree_of log)) same ∙ whole_gives cache i bytes log lies
+
 pub key_read_means : {C N : Type 0} (cache key : List ℕ) (r : Result (Vec ℕ Global) Error) (new : Env (List LogItem) C N) → IsLog new.store → KeyReadMeans cache key r new
 key_read_means cache key r new logged old sound ran =
     let c = called bytes_read (λ b. refl) r cache old.base 0 (commands.Get key) old.store new.store ran.0.0 logged in
@@ -73,6 +79,9 @@ key_read_means cache key r new logged old sound ran =
       any = any;
       succeeds = λ i bytes folder has.
           for_memory bytes_read r (replies.Read bytes) tt (or_as (reply_of bytes_read r) (key_gives cache key i bytes old.store has) (key_reads_answer cache key (reply_of bytes_read r) old.store new.store folder sound c));
+      reads_on = λ i bytes folder leads lies.
+          for_memory bytes_read r (replies.Read bytes) tt
+          (or_as (reply_of bytes_read r) (led_gives cache key i bytes old.store (found_under cache key old.store) leads lies) (key_reads_answer cache key (reply_of bytes_read r) old.store new.store folder sound c));
       missing = λ folder lacks.
           for_missing bytes_read r cache key (or_as (reply_of bytes_read r) (ap (get_on (setup_at cache []) (tree_of old.store) key) lacks) (key_reads_answer cache key (reply_of bytes_read r) old.store new.store folder sound c));
     }

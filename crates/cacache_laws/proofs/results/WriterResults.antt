@@ -7,12 +7,12 @@ use Rattle.cacache_store.specs.{declared.{env.Env.{Env}, store.{log.LogItem.{Log
 use Rattle.cacache_store.specs.declared.store.answer.Answer.TheVariants as answers
 use Rattle.cacache_store.specs.declared.store.step.Step.TheVariants as steps
 use Rattle.cacache_disk.specs.memory.Replay.{IsLog}
-use Rattle.cacache_calls.specs.{declared.{command.Put.{Put}, reply.Reply.{Reply, TheVariants.{Stored}}}, Inserting.{given_or, refused_cause}, Promises.{answered}, Runs.{reply_of}, SingleSteps.{Does}, StepPaths.{temp_path}}
+use Rattle.cacache_calls.specs.{declared.{command.Put.{Put}, reply.Reply.{Reply, TheVariants.{Stored}}}, Inserting.{given_or, refused_cause}, Promises.{answered}, Runs.{reply_of}, SingleSteps.{Does}, StepPaths.{temp_path}, Storing.{put_commit}}
 use Rattle.cacache_calls.proofs.IntegrityUtf8.{integrity_utf8}
 use Rattle.cacache_sync.specs.{content.OpenWrites.{RemovesTemp, TriesToRemove, counted_bytes}, put.{KeyedWriters.{CommitsWriter, OpensAt}, Options.{Said, options_of}}}
 use Rattle.cacache_jobs.specs.Environment.{MomentOf}
 use Rattle.cacache_laws.specs.{Beside.{FitsEntry}, Caches.{IsCache}, GivenUp.{GivesUpTemp}, OpenWriters.{CommitsBytes}, Puts.{HasCommitted, MayLeadToPut, entry_of_put}, OpenSucceeds.{FileAt}, Succeeds.{put_reply, unless_unwritable}, results.{Handles.{CommitsMean, CommitsSucceed, FailedWritesMean, GivingUpMeans, IsText, IsWriting, LeadsToEntry, MayLeadToEntry, MemWriter, OpenedWriter, OpeningsMean, SaysFit, WritersGoOn, said_integrity}, Writes.{SaysPlain}}}
-use Rattle.cacache_laws.proofs.{Putting.{Committing.{commits_last}, Forms.{bare_written}, OpenWriters.{writers_open}, Puts.{commits_keep, commits_leave}}, Readings.Standing.{caches_stand}, Sure.SureWriters.{commits_answer, openings_succeed}, Spares.GivenUp.{giving_up_lasts}, results.{SureResults.{for_memory}, Told.{plain_result}, WriteResults.{early_of, untouched}}}
+use Rattle.cacache_laws.proofs.{Putting.{Committing.{commits_last}, Forms.{bare_written}, OpenWriters.{writers_open}, Puts.{commits_keep, commits_leave}}, Readings.Standing.{caches_stand}, Sure.SureWriters.{commits_answer, openings_succeed}, Spares.GivenUp.{giving_up_lasts}, results.{Expected.{as_expected, suits_so}, SureResults.{for_memory}, Told.{plain_result}, WriteResults.{early_of, untouched}}}
 
 -- ---- openings
 
@@ -82,7 +82,7 @@ writers_go_on cache key s bytes more w v t appends takes on said = record {
 -- ---- commits
 
 -- the put that a commit makes
-abbrev put_of : Option (List ℕ) → Said → List ℕ → ℕ → Put
+abbrev pub put_of : Option (List ℕ) → Said → List ℕ → ℕ → Put
 put_of key s bytes moment = record { key = key; «data» = bytes; moment = moment; options = options_of s }
 
 pub fits : (cache : List ℕ) (key : Option (List ℕ)) (s : Said) (bytes : List ℕ) (moment : ℕ) → SaysFit s → IsText key → length bytes < 2 ^ 64 → FitsEntry cache (put_of key s bytes moment)
@@ -96,7 +96,7 @@ fits cache (Some key) s bytes moment says text small k is = λ none. record {
 }
 
 module _ (cache : List ℕ) (key : Option (List ℕ)) (s : Said) (bytes : List ℕ) (w : MemWriter) (t : IsWriting cache key s bytes w) (small : length bytes < 2 ^ 64) where
-  commits_bytes : {C N : Type 0} (moments : C → Option (List ℕ)) (r : Result (List Hash) Error) (old new : Env (List LogItem) C N) → IsLog new.store
+  pub commits_bytes : {C N : Type 0} (moments : C → Option (List ℕ)) (r : Result (List Hash) Error) (old new : Env (List LogItem) C N) → IsLog new.store
       → (h : CommitsWriter (λ (f : PlainTemp). f) (λ (log : List LogItem). Some log) moments old new w bytes (reply_of Stored r))
       → CommitsBytes cache (put_of key s bytes h.0) t.number (reply_of Stored r) old.store new.store
   commits_bytes moments r old new logged h =
@@ -137,6 +137,7 @@ commits_mean moments new logged cache key s bytes w (Ok i) old sound t says text
       sound = last.0;
       grows = last.1;
       stored = left.stored;
+      expected = as_expected cache key s bytes h.0 (suits_so (put_commit cache p) c.file i c.ran.0 c.ran.1);
       leads = leads_so cache key s bytes h.0 i old.store new.store left;
       may_lead = may_lead_so cache key s bytes h.0 old.store new.store kept.0;
       content = left.content;
@@ -152,6 +153,7 @@ commits_mean moments new logged cache key s bytes w (Err e) old sound t says tex
       sound = last.0;
       grows = last.1;
       stored = tt;
+      expected = tt;
       leads = tt;
       may_lead = may_lead_so cache key s bytes h.0 old.store new.store kept.0;
       content = tt;

@@ -1,13 +1,13 @@
 -- What exports gave their caller and left, by their results, on a store in memory.
-use Rattle.std.specs.Prelude.{◌≡◌, ◌⊎◌, ℕ, Bool, true, List, [], None, Some, Result, Err, IfErr, MatchResult, length}
-use Rattle.cacache_core.specs.{declared.{errors.{Error.{Error, TheVariants.{EntryNotFound, IoError, IntegrityError, OutOfMemory}}, Fault.{Fault, TheVariants.{NotFound, IsADirectory, InvalidInput}}, IntegrityFault.{IntegrityFault}}, integrity.digest.Hash.{Hash}}, PathNames.{Names}}
+use Rattle.std.specs.Prelude.{◌≡◌, ◌⊎◌, ℕ, Bool, true, List, [], None, Some, Result, Ok, Err, IfOk, IfErr, MatchResult, length}
+use Rattle.cacache_core.specs.{declared.{errors.{Error.{Error, TheVariants.{EntryNotFound, IoError, IntegrityError, OutOfMemory}}, Fault.{Fault, TheVariants.{NotFound, IsADirectory, InvalidInput}}, IntegrityFault.{IntegrityFault}}, integrity.digest.Hash.{Hash}}, Integrity.{Meets}, PathNames.{Names}}
 use Rattle.cacache_store.specs.declared.{env.Env.{Env}, store.log.LogItem.{LogItem}}
 use Rattle.cacache_disk.specs.{LedTo.{free, writable}, Tree.{Tree}, memory.Replay.{shown, tree_of}}
 use Rattle.cacache_calls.specs.{declared.{command.{How.{How, TheVariants.{Copy, HardLink, Reflink}}, Source.{Source, TheVariants.{Hash as OfHash, Key as OfKey}}}, reply.Reply.TheVariants.{Copied}}, Replies.{done}, Runs.{reply_of, without_message}}
 use Rattle.cacache_jobs.specs.Environment.{Calls}
 use Rattle.cacache_sync.specs.Exports.{exporting}
 use Rattle.cacache_history.specs.History.{NamesSource}
-use Rattle.cacache_laws.specs.{Caches.{IsCache, IsExcused, LacksKey, lies_under}, ExportEffects.{IsApart, NamesBytes}, Inserts.{leads_to}, Looks.{IsDamaged, bytes_under}, OpenSucceeds.{MayTake}, OpenWriters.{LeavesKnownCache}, Succeeds.{NamesFolder}, results.Success.{FailsAs, FailsFor, FailsForMemory}}
+use Rattle.cacache_laws.specs.{Caches.{IsCache, IsExcused, LacksKey, lies_under}, ExportEffects.{IsApart, NamesBytes}, Inserts.{leads_to}, Looks.{IsDamaged, bytes_under}, OpenSucceeds.{MayTake}, OpenWriters.{LeavesKnownCache}, Succeeds.{NamesFolder}, results.{Reads.{LinksToFile}, Success.{FailsAs, FailsFor, FailsForMemory}}}
 
 -- ---- why nothing is exported
 
@@ -65,15 +65,32 @@ pub record RefusesSource {X : Type 0} (cache : List ℕ) (source : Source) (chec
 
 -- ---- what is exported
 
--- a copy: the bytes are where the path leads, and the count is theirs, or the error is excused. If
--- the cache's path names a folder, an error says what is wrong, and damaged bytes, a key that leads
--- to nothing and a content that is missing have their own
+-- bytes lie under the integrity that the source leads to, or where a link there leads, and they are
+-- where the path leads; the count is theirs. If they were verified first, they meet the integrity
+pub record HasArrived (cache : List ℕ) (source : Source) (checked : Bool) (to : List ℕ) (n : ℕ)
+    (old new : List LogItem) : Type 0 where
+  pub integrity : List Hash
+  pub names : NamesHeld cache source integrity old
+  pub bytes : List ℕ
+  pub lies : bytes_under cache integrity old ≡ Ok bytes
+  pub meets : checked ≡ true → Meets integrity bytes
+  pub shows : shown (tree_of new) to ≡ Some bytes
+  pub counts : n ≡ length bytes
+
+-- a copy: the bytes are where the path leads, and the count is theirs, or the error is excused.
+-- Whatever lies there, only whole bytes arrive if they are verified first; of a link, those that its
+-- target shows. If the cache's path names a folder, an error says what is wrong, and damaged bytes, a
+-- key that leads to nothing and a content that is missing have their own
 pub record CopiedOut (cache : List ℕ) (source : Source) (checked : Bool) (to : List ℕ)
     (r : Result ℕ Error) (old new : List LogItem) : Type 0 where
   pub leaves : LeavesKnownCache cache old new
   pub arrives : (bytes : List ℕ) → NamesBytes cache source bytes old
       → MatchResult r (λ n. (shown (tree_of new) to ≡ Some bytes) × (n ≡ length bytes))
       (λ e. IsExcused e old new)
+  pub whole : IfOk r (λ n. HasArrived cache source checked to n old new)
+  pub linked : (i : List Hash) (target held : List ℕ) → NamesHeld cache source i old
+      → LinksToFile cache i target held old
+      → IfOk r (λ n. (shown (tree_of new) to ≡ Some held) × (n ≡ length held))
   pub succeeds : (bytes : List ℕ) → NamesFolder cache → NamesBytes cache source bytes old
       → MayTake Copy to old → FailsForMemory r
   pub fails : NamesFolder cache

@@ -1,6 +1,7 @@
 -- What open writers did, by their results, on a store in memory.
-use Rattle.std.specs.{Prelude.{◌≡◌, ◌⊎◌, ◌<◌, ◌^◌, ◌++◌, ℕ, List, [], Option, None, Some, Result, IfOk, IfErr, IfSome, IsUtf8, length}, Io.KnownBytes.{Appends}}
-use Rattle.cacache_core.specs.{declared.{errors.Error.{Error}, integrity.digest.Hash.{Hash}}, Hashers.{algorithm_of}, Integrity.{IsIntegrity, integrity_under}}
+use Rattle.std.specs.{Prelude.{◌≡◌, ◌⊎◌, ◌<◌, ◌^◌, ◌++◌, ℕ, List, [], Option, None, Some, Result, IfOk, IfErr, IfSome, OnOk, IsUtf8, length}, Io.KnownBytes.{Appends}}
+use Rattle.serde_json.specs.Data.{null}
+use Rattle.cacache_core.specs.{declared.{errors.{Error.{Error, TheVariants.{SizeMismatch, SerdeError, IntegrityError, OutOfMemory}}, IntegrityFault.TheVariants.{Check}}, integrity.digest.Hash.{Hash}}, Digests.{digest}, Hashers.{algorithm_of}, Integrity.{HasDigest, IsIntegrity, integrity_under}}
 use Rattle.cacache_store.specs.declared.{env.Env.{Env}, store.{log.LogItem.{LogItem}, plain.PlainTemp.{PlainTemp}}}
 use Rattle.cacache_entry.specs.{FittingEntries.{AreBytes, IsJson}, Latest.{Found}}
 use Rattle.cacache_calls.specs.{declared.reply.Reply.TheVariants.{Stored}, Promises.{answered}, Runs.{reply_of}, StepPaths.{temp_path}}
@@ -46,6 +47,12 @@ pub record SaysFit (s : Said) : Type 0 where
   pub raw : AreBytes s.raw_metadata
   pub formed : IfSome s.integrity IsIntegrity
 
+-- if no metadata were said, it fits
+abbrev pub PlainSaysFit : Type 0
+PlainSaysFit =
+    (s : Said) → s.metadata ≡ null → s.raw_metadata ≡ None → IfSome s.integrity IsIntegrity
+    → SaysFit s
+
 -- if there is a key, it is a text
 abbrev pub IsText : Option (List ℕ) → Type 0
 IsText key = IfSome key (λ k. IsUtf8 k)
@@ -53,6 +60,27 @@ IsText key = IfSome key (λ k. IsUtf8 k)
 -- the integrity of the bytes, under the algorithm that was said
 abbrev pub said_integrity : Said → List ℕ → List Hash
 said_integrity s bytes = integrity_under s.algorithm bytes
+
+-- an integrity lists the digest of the bytes, under the algorithm that was said
+abbrev pub ListsOwn : Said → List ℕ → List Hash → Type 0
+ListsOwn s bytes expected = HasDigest expected s.algorithm (digest s.algorithm bytes)
+
+-- what was said to be expected of the bytes is so: the integrity, if any, lists their digest, and
+-- the size, if any, is theirs
+pub record AreAsExpected (s : Said) (bytes : List ℕ) : Type 0 where
+  pub integrity : IfSome s.integrity (ListsOwn s bytes)
+  pub size : IfSome s.size (λ wanted. wanted ≡ length bytes)
+
+-- memory was refused, another integrity or size was expected, or the entry can't be written
+abbrev pub FailsCommit : Said → List ℕ → Error → Type 0
+FailsCommit s bytes OutOfMemory = Unit {0}
+FailsCommit s bytes (IntegrityError fault) =
+    (expected : List Hash) × (s.integrity ≡ Some expected)
+    × (fault ≡ Check expected (said_integrity s bytes)) × (ListsOwn s bytes expected → ⊥)
+FailsCommit s bytes (SizeMismatch wanted actual) =
+    (s.size ≡ Some wanted) × (actual ≡ length bytes) × (wanted ≡ actual → ⊥)
+FailsCommit s bytes (SerdeError cause message) = Unit {0}
+FailsCommit s bytes e = ⊥
 
 -- an entry of this integrity, of so many bytes, and of the metadata that was said
 pub record IsEntryFor (s : Said) (i : List Hash) (count : ℕ) (found : Found) : Type 0 where
@@ -80,13 +108,14 @@ LiesOrStayed cache own bytes old new =
     ⊎ (IsThere (lies_under cache own old)
     × (lies_under cache own new ≡ lies_under cache own old))
 
--- a commit: the key leads to an entry of what was said, the bytes lie there, and what wasn't written stays.
--- Whatever it answers, the key leads where it led, or to that entry
+-- a commit: the key leads to an entry of what was said, the bytes are as expected and lie there, and what
+-- wasn't written stays. Whatever it answers, the key leads where it led, or to that entry
 pub record CommittedBytes (cache : List ℕ) (key : Option (List ℕ)) (s : Said) (bytes : List ℕ)
     (r : Result (List Hash) Error) (old new : List LogItem) : Type 0 where
   pub sound : IsCache cache new
   pub grows : Grows old new
   pub stored : IfOk r (λ i. i ≡ answered (said_integrity s bytes) s.integrity key)
+  pub expected : OnOk r (AreAsExpected s bytes)
   pub leads : IfOk r (λ i. (k : List ℕ) → key ≡ Some k
       → LeadsToEntry cache k s i (length bytes) new)
   pub may_lead : (k : List ℕ) → key ≡ Some k → MayLeadToEntry cache k s
@@ -136,6 +165,17 @@ module _ {C N : Type 0} where
       → CommitsWriter (λ file. file) (λ log. Some log) moments old new w bytes
       (reply_of Stored r)
       → FailsForMemory r
+
+  -- with whatever was said, it fails for memory or for what that says
+  abbrev pub CommitsTell : (C → Option (List ℕ)) → Env (List LogItem) C N → Type 0
+  CommitsTell moments new =
+      (cache : List ℕ) (key : Option (List ℕ)) (s : Said) (bytes : List ℕ) (w : MemWriter)
+      (r : Result (List Hash) Error) (old : Env (List LogItem) C N)
+      → IsCache cache old.store → NamesFolder cache → FileAt w.writer.path old.store
+      → IsWriting cache key s bytes w → length bytes < 2 ^ 64
+      → CommitsWriter (λ file. file) (λ log. Some log) moments old new w bytes
+      (reply_of Stored r)
+      → IfErr r (FailsCommit s bytes)
 
   -- a writer that is given up leaves all that was known: by hand, or for a write that failed
   abbrev pub GivingUpMeans : Env (List LogItem) C N → Type 0

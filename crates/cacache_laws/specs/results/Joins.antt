@@ -2,7 +2,7 @@
 use Rattle.std.specs.Prelude.{ℕ, List, Option}
 use Rattle.cacache_core.specs.declared.{errors.Error.{Error}, integrity.digest.Hash.{Hash}}
 use Rattle.cacache_store.specs.declared.store.log.LogItem.{LogItem}
-use Rattle.cacache_laws.specs.{Caches.{Grows, IsExcused}, OpenWriters.{LeavesKnownCache}, results.Writes.{KeepsUntouched}}
+use Rattle.cacache_laws.specs.{Caches.{Grows, IsExcused}, Keeping.{KeepsOthers}, OpenWriters.{LeavesKnownCache}, results.Writes.{KeepsUntouched}}
 
 -- what was known twice is known
 abbrev pub LeavingsJoin : Type 0
@@ -19,6 +19,13 @@ UntouchedJoin =
     → KeepsUntouched cache written own added old mid
     → KeepsUntouched cache written own added mid new
     → KeepsUntouched cache written own added old new
+
+-- what stayed of the other keys, and then is known, stayed
+abbrev pub OthersStay : Type 0
+OthersStay =
+    (cache except : List ℕ) (old mid new : List LogItem)
+    → KeepsOthers cache except old mid → LeavesKnownCache cache mid new
+    → KeepsOthers cache except old new
 
 -- what is known stayed untouched
 abbrev pub KnownStays : Type 0

@@ -66,10 +66,6 @@ pub record LinkedBytes (cache : List ℕ) (key : Option (List ℕ)) (path : List
 
 -- ---- laws, of the environment that a call left
 
--- if nothing was said but an integrity and a time, it fits
-abbrev pub PlainSaysFit : Type 0
-PlainSaysFit = (s : Said) → SaysPlain s → SaysFit s
-
 -- a linker that was read goes on after the bytes that it gave
 abbrev pub LinkersGoOn : Type 0
 LinkersGoOn =

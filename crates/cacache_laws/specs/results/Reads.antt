@@ -56,6 +56,8 @@ pub record KeyRead (cache key : List ℕ) (r : Result (Vec ℕ Global) Error) (o
   pub any : GivesOfKey cache key (reply_of bytes_read r) old new
   pub succeeds : (i : List Hash) (bytes : List ℕ) → NamesFolder cache
       → HasKey cache key i bytes old → FailsForMemory r
+  pub reads_on : (i : List Hash) (bytes : List ℕ) → NamesFolder cache
+      → leads_to cache key old ≡ Some i → LiesWhole cache i old bytes → FailsForMemory r
   pub missing : NamesFolder cache → LacksKey cache key old
       → IfErr r (λ e. (e ≡ EntryNotFound cache key) ⊎ (e ≡ OutOfMemory))
 

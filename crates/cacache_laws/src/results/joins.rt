@@ -1,5 +1,5 @@
 //! Calls after one another.
-ghost use Rattle.cacache_laws.specs.{Caches.{ExcusesLast}, results.Joins.{ExcusesStay, KnownStays, LeavingsJoin, UntouchedJoin}};
+ghost use Rattle.cacache_laws.specs.{Caches.{ExcusesLast}, results.Joins.{ExcusesStay, KnownStays, LeavingsJoin, OthersStay, UntouchedJoin}};
 
 /// What calls left after one another: what was known twice is known, what stayed twice stayed, and an error that is
 /// excused in a part of a log is excused in the whole.
@@ -7,6 +7,7 @@ pub fn joining_laws()
     ensures leavings { LeavingsJoin }
     ensures untouched { UntouchedJoin }
     ensures known { KnownStays }
+    ensures others { OthersStay }
     ensures earlier { ExcusesStay }
     ensures later { ExcusesLast }
 {}

@@ -14,7 +14,7 @@ returns-in_err-_sri g c =
     let opened = c.linker_laws.ensures.opens_sized c.args.cache.now (Some c.args.key.now) c.args.file.now nothing_said c.open-opened.result c.args.env.now c.requires.cache c.open-opened.ensures.opens c.open-opened.ensures.begins in
     let start = rw c.in_ok-linker.was at opened.linker in
     let reading = c.linker_laws.ensures.goes_on c.args.cache.now (Some c.args.key.now) path nothing_said start.0 [] c.in_ok-linker.linker c.read-front.new.self c.read-front.result c.read-front.new.buf start.2 c.read-front.ensures.bound c.read-front.ensures.bytes c.read-front.ensures.left (c.read-front.ensures.so_far [] start.2.hashed) c.read-front.ensures.linked in
-    let fits = c.linker_laws.ensures.plain nothing_said (record { size = refl; metadata = refl; raw_metadata = refl; early = λ time e. absurd cc; formed = tt }) in
+    let fits = c.linker_laws.ensures.plain nothing_said refl refl tt in
     let done = c.linker_laws-2.ensures.commits c.args.cache.now (Some c.args.key.now) path nothing_said start.0 _ c.read-front.new.self c.commit-linked.result c.open-opened.new.env opened.leaves.0 c.requires.apart reading fits c.utf8.key (c.commit-linked.ensures.ran _ reading.hashed) in
     record { sound = done.sound; mirrors = search rules }
 
@@ -24,7 +24,7 @@ returns g c =
     let opened = c.linker_laws.ensures.opens_sized c.args.cache.now (Some c.args.key.now) c.args.file.now nothing_said c.open-opened.result c.args.env.now c.requires.cache c.open-opened.ensures.opens c.open-opened.ensures.begins in
     let start = rw c.in_ok-linker.was at opened.linker in
     let reading = c.linker_laws.ensures.goes_on c.args.cache.now (Some c.args.key.now) path nothing_said start.0 [] c.in_ok-linker.linker c.read-front.new.self c.read-front.result c.read-front.new.buf start.2 c.read-front.ensures.bound c.read-front.ensures.bytes c.read-front.ensures.left (c.read-front.ensures.so_far [] start.2.hashed) c.read-front.ensures.linked in
-    let fits = c.linker_laws.ensures.plain nothing_said (record { size = refl; metadata = refl; raw_metadata = refl; early = λ time e. absurd cc; formed = tt }) in
+    let fits = c.linker_laws.ensures.plain nothing_said refl refl tt in
     let done = c.linker_laws-2.ensures.commits c.args.cache.now (Some c.args.key.now) path nothing_said start.0 _ c.read-front.new.self c.commit-linked.result c.open-opened.new.env opened.leaves.0 c.requires.apart reading fits c.utf8.key (c.commit-linked.ensures.ran _ reading.hashed) in
     let read = c.after_read.ensures c.commit-linked.new.env done.sound c.read_sync-read.ensures.ran in
     record {

@@ -1,5 +1,5 @@
-use Rattle.cacache_laws.proofs.{Calls.Logs.{excuses_last}, results.JoinedResults.{excuses_stay, known_stays, leavings_join, untouched_join}}
+use Rattle.cacache_laws.proofs.{Calls.Logs.{excuses_last}, results.JoinedResults.{excuses_stay, known_stays, leavings_join, others_stay, untouched_join}}
 use Rattle.cacache_laws.proofs.results.joins.joining_laws.Goals as goal
 
 pub returns : goal.returns
-returns c = record { leavings = leavings_join; untouched = untouched_join; known = known_stays; earlier = excuses_stay; later = excuses_last }
+returns c = record { leavings = leavings_join; untouched = untouched_join; known = known_stays; others = others_stay; earlier = excuses_stay; later = excuses_last }
