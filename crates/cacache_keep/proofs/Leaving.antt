@@ -35,7 +35,7 @@ unused_on : (b : Bool) (h : Hash) (F : List (List Hash)) (G : List Hash) → F �
 unused_on true h F G e = ap (λ l. (h ∷ []) ∷ l) e
 unused_on false h F G e = e
 
-unused_ones : (entries : List Found) (hs : List Hash) → filter (λ i. not (has_entry entries i)) (map (λ h. h ∷ []) hs) ≡ map (λ h. h ∷ []) (filter (λ h. not (is_live entries h)) hs)
+pub unused_ones : (entries : List Found) (hs : List Hash) → filter (λ i. not (has_entry entries i)) (map (λ h. h ∷ []) hs) ≡ map (λ h. h ∷ []) (filter (λ h. not (is_live entries h)) hs)
 unused_ones entries [] = refl
 unused_ones entries (h ∷ hs) = unused_on (not (is_live entries h)) h (filter (λ i. not (has_entry entries i)) (map (λ x. x ∷ []) hs)) (filter (λ x. not (is_live entries x)) hs) (unused_ones entries hs)
 

@@ -8,6 +8,7 @@ mod Verdicts
 mod Chosen
 mod Leaving
 mod Behind
+mod StoppedKeys
 mod Gives
 mod InTurn
 mod Sweeps

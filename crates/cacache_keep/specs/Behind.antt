@@ -7,7 +7,7 @@ use Rattle.cacache_calls.specs.declared.command.Command.TheVariants as commands
 use Rattle.cacache_calls.specs.{declared.{command.{Delete.{Delete}, Export.{Export}, Insert.{Insert}, Put.{Put}, Source.{Source}}, reply.Reply.{Reply}}, Inserting.{insertion}, Sound.{FormedIfWritten}, State.{Site}}
 use Rattle.cacache_history.specs.History.{NamesIntegrity}
 use Rattle.cacache_laws.specs.{Beside.{FitsEntry, IsOther}, Caches.{IsCache, HasKey, Called}, ExportEffects.{IsApart}, GivenUp.{GivesUpTemp}, Keeping.{found_under}, OpenWriters.{CommitsBytes, IsOpened, OpensWriter}, Puts.{ExpectsIntegrity}}
-use Rattle.cacache_keep.specs.{Keeping.{Collects}, Kept.{LeavesTree}}
+use Rattle.cacache_keep.specs.{declared.checking.OddLines.{OddLines}, Keeping.{Collects, StopsCollecting}, Kept.{LeavesTree}}
 
 -- ---- a collection
 
@@ -24,6 +24,13 @@ CollectionsKeepKeys =
     (site : Site) (home : Names) (kept : ℕ) (dropped : List (List Hash)) (old new : List LogItem)
     → home_of site.cache ≡ Some home → IsLog new → IsCache site.cache old
     → Collects site kept dropped (Some old) (Some new) → KeepsKeys site.cache old new
+
+-- and after one that an error ended, wherever it stopped
+abbrev pub StoppedKeepKeys : Type 0
+StoppedKeepKeys =
+    (choice : OddLines) (site : Site) (home : Names) (e : Error) (old new : List LogItem)
+    → home_of site.cache ≡ Some home → IsLog new → IsCache site.cache old
+    → StopsCollecting choice site e (Some old) (Some new) → KeepsKeys site.cache old new
 
 -- ---- what may come in between
 

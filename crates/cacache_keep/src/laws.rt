@@ -1,6 +1,6 @@
 //! What `list`, `verify`, `collect`, `plan`, `sweep`, `repair` and `compact` come to on a store in memory.
 ghost use Rattle.cacache_disk.specs.memory.Replay.{IsLog};
-ghost use Rattle.cacache_keep.specs.{Behind.{CollectionsKeepKeys, LaterKeysStay}, Houses.{RepairsHouse, SweepsHouse, SweepsKeepGood}, Kept.{CachesAreSwept, CollectionsLackIdle, CollectionsLeave, CollectionsSettle, CompactionsAreUnseen, CompactionsLeave, CompactionsStop, LaterReadsStay, ListsHold, LooksStay, PlansForetell, PlansLeave, RepairsKeepGood, RepairsMend, RepairsVerify, VerdictsJudge}, Losses.{CompactionsFix, CompactionsGrow, CompactionsLast, CompactionsOutlast, CompactionsSpare}};
+ghost use Rattle.cacache_keep.specs.{Behind.{CollectionsKeepKeys, LaterKeysStay, StoppedKeepKeys}, Houses.{RepairsHouse, SweepsHouse, SweepsKeepGood}, Kept.{CachesAreSwept, CollectionsLackIdle, CollectionsLeave, CollectionsSettle, CompactionsAreUnseen, CompactionsLeave, CompactionsStop, LaterReadsStay, ListsHold, LooksStay, PlansForetell, PlansLeave, RepairsKeepGood, RepairsMend, RepairsVerify, VerdictsJudge}, Losses.{CompactionsFix, CompactionsGrow, CompactionsLast, CompactionsOutlast, CompactionsSpare}};
 
 use cacache_disk::memory::MemStore;
 
@@ -31,7 +31,7 @@ use cacache_disk::memory::MemStore;
 /// `cacache_laws::trees::collect_laws`. Step by step this follows from `lacks` and from `cacache_laws::trees::idle_laws`.
 ///
 /// In a cache that only calls wrote to, a collection leaves such a cache, in which each key leads to the entry that
-/// it led to, and to the same bytes. This holds for a key after collections, up to its next insertion, while contents
+/// it led to, and to the same bytes, and so does one that an error ended. This holds for a key after collections, up to its next insertion, while contents
 /// are exported, other keys are written, inserted and removed, and writers of other keys are opened, committed and
 /// given up: under its integrity lie its bytes, or one of the texts that were written in between, if it meets the
 /// integrity too.
@@ -49,6 +49,7 @@ pub fn keep_laws(store: &MemStore)
     ensures looks { LooksStay }
     ensures later { LaterReadsStay }
     ensures keys { CollectionsKeepKeys }
+    ensures stopped { StoppedKeepKeys }
     ensures later_keys { LaterKeysStay }
     ensures plans_leave { PlansLeave }
     ensures plans { PlansForetell }

@@ -1,4 +1,4 @@
-use Rattle.cacache_keep.proofs.{GrownLosses.{compactions_grow}, LaterLosses.{compactions_last}, SparedLosses.{compactions_spare}, LeanLosses.{compactions_fix, compactions_outlast}, Behind.{collections_keep_keys, later_keys_stay}, Chosen.{plans_foretell, plans_leave}, WholeCompactions.{compactions_are_unseen, compactions_leave, compactions_stop}, Houses.{repairs_house, sweeps_house, sweeps_keep_good}, Leaving.{collections_lack_idle, collections_leave}, Mends.{repairs_mend}, Settled.{collections_settle}, SweptCaches.{caches_are_swept}, Tidying.{later_reads_stay, looks_stay}, Verdicts.{lists_hold, verdicts_judge}, Whole.{repairs_keep_good, repairs_verify}}
+use Rattle.cacache_keep.proofs.{GrownLosses.{compactions_grow}, LaterLosses.{compactions_last}, SparedLosses.{compactions_spare}, LeanLosses.{compactions_fix, compactions_outlast}, Behind.{collections_keep_keys, later_keys_stay}, StoppedKeys.{stopped_keep_keys}, Chosen.{plans_foretell, plans_leave}, WholeCompactions.{compactions_are_unseen, compactions_leave, compactions_stop}, Houses.{repairs_house, sweeps_house, sweeps_keep_good}, Leaving.{collections_lack_idle, collections_leave}, Mends.{repairs_mend}, Settled.{collections_settle}, SweptCaches.{caches_are_swept}, Tidying.{later_reads_stay, looks_stay}, Verdicts.{lists_hold, verdicts_judge}, Whole.{repairs_keep_good, repairs_verify}}
 use Rattle.cacache_keep.proofs.laws.keep_laws.Goals as goal
 
 pub returns-clause-lists : goal.returns-clause-lists
@@ -24,6 +24,9 @@ returns-clause-later c = later_reads_stay
 
 pub returns-clause-keys : goal.returns-clause-keys
 returns-clause-keys c = collections_keep_keys
+
+pub returns-clause-stopped : goal.returns-clause-stopped
+returns-clause-stopped c = stopped_keep_keys
 
 pub returns-clause-later_keys : goal.returns-clause-later_keys
 returns-clause-later_keys c = later_keys_stay
