@@ -1,7 +1,7 @@
 -- What the answers of an audit's calls say about the cache.
-use Rattle.std.proofs.{Common.{◌≡◌, inl, inr, ℕ, Bool, true, false, List, [], ◌∷◌, ◌++◌, Vec, Result, Ok, Err, map, refl, sym, ap, subst, ◌∙◌}, lemmas.List.Elements.{All-nil, All-cons, All-head, All-tail}}
+use Rattle.std.proofs.{Common.{◌≡◌, ◌⊎◌, inl, inr, ℕ, Bool, true, false, List, [], ◌∷◌, ◌++◌, Vec, Result, Ok, Err, map, refl, sym, ap, subst, ◌∙◌}, lemmas.List.Elements.{All-nil, All-cons, All-head, All-tail}}
 use Rattle.std.specs.Prelude.{IfOk}
-use Rattle.cacache.specs.{Calls.{Error}, Entries.{Found}, Integrities.{Hash}, Laws.{AreAllEntries, LiesWhole, NamesFolder, OutOfMemory, bytes_under, tree_of}, Stores.{LogItem}}
+use Rattle.cacache.specs.{Calls.{Error}, Entries.{Found}, Integrities.{Hash}, Laws.{AreAllEntries, FailsListing, In, LiesWhole, NamesFolder, OutOfMemory, bytes_under, tree_of}, Stores.{LogItem}}
 use Rattle.uses_client.specs.{declared.auditing.Verdict.{Verdict}, Audits.{AreRight, IsRight, entries_in}}
 
 -- an error other than out of memory says that no whole bytes lie there, since these are read unless memory is refused
@@ -15,6 +15,11 @@ pub listed : {X : Type 0} (cache : List ℕ) (log : List LogItem) (items : List 
     → (r : Result (Vec Found X) Error) → IfOk r (λ v. items ≡ map (λ f. Ok f) v.items) → IfOk r (λ v. AreAllEntries cache log v.items)
 listed cache log items all (Ok v) is = all v.items is
 listed cache log items all (Err e) is = tt
+
+-- the error of an item, or of memory
+pub listing_failed : (items : List (Result Found Error)) (e : Error) (old new : List LogItem) → (In (Err e) items → FailsListing e old new) → (e ≡ OutOfMemory) ⊎ In (Err e) items → FailsListing e old new
+listing_failed items e old new gives (inl memory) = inl (inl memory)
+listing_failed items e old new gives (inr i) = gives i
 
 -- ---- verdicts
 

@@ -1,3 +1,6 @@
 pub mod Audited
+pub mod ByResult
 pub mod Installed
 pub mod Opened
+pub mod Shown
+pub mod Written

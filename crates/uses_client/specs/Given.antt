@@ -1,6 +1,6 @@
 -- What calls give of what lies in a cache, and what lies there then.
-use Rattle.std.specs.{Prelude.{◌≡◌, ◌⊎◌, ◌<◌, ◌^◌, ℕ, List, [], Some, None, IfOk, MatchResult, Result, Ok, Err, Vec, length}, Global.{Global}}
-use Rattle.cacache.specs.{Calls.{Error, without_message}, Integrities.{Hash, Sha256, integrity_under}, Laws.{DontClash, FailsFor, FailsForMemory, Fault, GivesJust, HasContent, HasKey, IntegrityError, IntegrityFault, IoError, IsDamaged, IsExcused, LeadsOn, NotFound, OutOfMemory, bytes_under, leads_to, lies_under, shown, tree_of}, Stores.{LogItem}}
+use Rattle.std.specs.{Prelude.{◌≡◌, ◌⊎◌, ◌<◌, ◌^◌, ℕ, List, [], Option, Some, None, IfOk, IfErr, MatchResult, Result, Ok, Err, Vec, length, option_map}, Global.{Global}}
+use Rattle.cacache.specs.{Calls.{Error, without_message}, Entries.{Metadata, found_view}, Integrities.{Hash, Meets, Sha256, integrity_under}, Laws.{DontClash, EntryNotFound, FailsFor, FailsForMemory, Fault, GivesJust, HasContent, HasKey, IntegrityError, IntegrityFault, IoError, IsDamaged, IsExcused, IsReady, LacksKey, LeadsOn, LinksBytes, LinksToFile, NamesFolder, NotFound, OutOfMemory, bytes_under, found_under, leads_to, lies_under, shown, tree_of}, Stores.{LogItem}}
 
 -- ---- what is given
 
@@ -17,6 +17,29 @@ abbrev pub GivesContent :
     List ℕ → List Hash → Result (Vec ℕ Global) Error → List LogItem → List LogItem → Type 0
 GivesContent cache i result old new =
     (bytes : List ℕ) → HasContent cache i bytes old → GivesJust bytes result old new
+
+-- if the cache's path names a folder, only memory fails the read of bytes that the key leads to
+abbrev pub KeyFailsForMemory :
+    List ℕ → List ℕ → Result (Vec ℕ Global) Error → List LogItem → Type 0
+KeyFailsForMemory cache key result log =
+    (i : List Hash) (bytes : List ℕ) → NamesFolder cache
+    → HasKey cache key i bytes log → FailsForMemory result
+
+-- so it does of those under the integrity
+abbrev pub ContentFailsForMemory :
+    List ℕ → List Hash → Result (Vec ℕ Global) Error → List LogItem → Type 0
+ContentFailsForMemory cache i result log =
+    (bytes : List ℕ) → NamesFolder cache → HasContent cache i bytes log → FailsForMemory result
+
+-- there is no entry of a key that leads to nothing, or memory was refused
+abbrev pub MissesKey : List ℕ → List ℕ → Result (Vec ℕ Global) Error → List LogItem → Type 0
+MissesKey cache key result log =
+    NamesFolder cache → LacksKey cache key log
+    → IfErr result (λ e. (e ≡ EntryNotFound cache key) ⊎ (e ≡ OutOfMemory))
+
+-- what was found is the entry that the key leads to, if any
+abbrev pub Describes : List ℕ → List ℕ → List LogItem → Option Metadata → Type 0
+Describes cache key log found = option_map found_view found ≡ found_under cache key log
 
 -- the bytes that the file showed and shows are given, if nothing lay under their integrity
 abbrev pub MirrorsFile :
@@ -39,6 +62,22 @@ ArrivesAt cache key to result old new =
     (λ count. (shown (tree_of new) to ≡ Some bytes) × (count ≡ length bytes))
     (λ e. IsExcused e old new)
 
+-- of a link those that its target shows
+abbrev pub ArrivesLinked :
+    List ℕ → List ℕ → List ℕ → Result ℕ Error → List LogItem → List LogItem → Type 0
+ArrivesLinked cache key to result old new =
+    (i : List Hash) (target held : List ℕ)
+    → leads_to cache key old ≡ Some i → LinksToFile cache i target held old
+    → IfOk result (λ count. (shown (tree_of new) to ≡ Some held) × (count ≡ length held))
+
+-- bytes with the digest of those that the file showed arrive at the path, and are counted
+abbrev pub CopiesFile : List ℕ → List ℕ → Result ℕ Error → List LogItem → List LogItem → Type 0
+CopiesFile file to result old new =
+    (held : List ℕ)
+    → shown (tree_of old) file ≡ Some held
+    → IfOk result (λ count. (bytes : List ℕ) × Meets (integrity_under Sha256 held) bytes
+    × (shown (tree_of new) to ≡ Some bytes) × (count ≡ length bytes))
+
 -- a package with bytes that are damaged or missing isn't exported: the error says so, or that memory was refused
 abbrev pub RefusesBroken : List ℕ → List ℕ → Result ℕ Error → List LogItem → Type 0
 RefusesBroken cache key result old =
@@ -47,6 +86,13 @@ RefusesBroken cache key result old =
     → ((fault : IntegrityFault)
     → IsDamaged cache i fault old → FailsFor (IntegrityError fault) result)
     × (lies_under cache i old ≡ None → FailsFor (IoError NotFound []) result)
+
+-- if the file shows bytes, the key leads to their integrity, and the link lies there unless something did
+abbrev pub LinksHeld :
+    List ℕ → List ℕ → List ℕ → Result (List Hash) Error → List LogItem → List LogItem → Type 0
+LinksHeld cache key file result old new =
+    (held : List ℕ)
+    → shown (tree_of old) file ≡ Some held → LinksBytes cache (Some key) file held result old new
 
 -- if the file shows bytes, and no link that leads nowhere lies in the way, it is linked unless memory is refused
 abbrev pub LinksShown : List ℕ → List ℕ → Result (List Hash) Error → List LogItem → Type 0
@@ -67,6 +113,12 @@ TellsWhetherOpen cache i result log =
     × (without_message e ≡ IoError fault [])))
 
 -- ---- what lies there
+
+-- on a cache that is ready it is done and leaves it ready, or memory was refused
+abbrev pub StaysReady :
+    {X : Type 0} → List ℕ → Result X Error → List LogItem → List LogItem → Type 0
+StaysReady cache result old new =
+    IsReady cache old → MatchResult result (λ x. IsReady cache new) (λ e. e ≡ OutOfMemory)
 
 -- the bytes lie under their integrity, if nothing did
 abbrev pub LiesIfFree : List ℕ → List ℕ → List LogItem → List LogItem → Type 0

@@ -1,3 +1,4 @@
 pub mod Packages
+pub mod Writing
 pub mod Audits
 pub mod Given

@@ -1,7 +1,40 @@
 -- What is said about a package.
-use Rattle.std.specs.Prelude.{ℕ, Some}
-use Rattle.cacache.specs.{Calls.{Said, nothing_said}, Laws.{Data}}
+use Rattle.std.specs.Prelude.{◌≡◌, ◌⊎◌, ℕ, List, [], ◌∷◌, Some}
+use Rattle.cacache.specs.{Calls.{Error, Said, nothing_said, without_message}, Integrities.{Algorithm, Hash, integrity_under}, Laws.{Data, FailsCommit, IoError, NotFound, OutOfMemory, TooDeep}}
 
 -- its metadata, and how many bytes it has
 abbrev pub package_said : Data → ℕ → Said
 package_said about size = record nothing_said { metadata = about; size = Some size }
+
+-- the integrity and the size that its bytes are to have
+abbrev pub expected_said : Algorithm → ℕ → List Hash → Said
+expected_said a size expected =
+    record nothing_said { algorithm = a; size = Some size; integrity = Some expected }
+
+-- under the strongest algorithm of the integrity
+abbrev pub said_of : List Hash → ℕ → Said
+said_of [] size = nothing_said
+said_of (h ∷ hs) size = expected_said h.algorithm size (h ∷ hs)
+
+-- the integrity of these bytes under the strongest algorithm of another
+abbrev pub own_of : List Hash → List ℕ → List Hash
+own_of [] bytes = []
+own_of (h ∷ hs) bytes = integrity_under h.algorithm bytes
+
+-- ---- errors
+
+-- memory was refused, or a write to the file failed
+abbrev pub FailsWrite : Error → Type 0
+FailsWrite OutOfMemory = Unit {0}
+FailsWrite (IoError fault message) = Unit {0}
+FailsWrite e = ⊥
+
+-- so it is, or the bytes aren't as they were said to be, or the entry can't be written
+abbrev pub FailsStoring : Said → List ℕ → Error → Type 0
+FailsStoring s bytes e = FailsWrite e ⊎ FailsCommit s bytes e
+
+-- memory was refused, or the cache's folder is missing or has too many names
+abbrev pub FailsClear : Error → Type 0
+FailsClear e =
+    (e ≡ OutOfMemory) ⊎ (without_message e ≡ IoError TooDeep [])
+    ⊎ (without_message e ≡ IoError NotFound [])

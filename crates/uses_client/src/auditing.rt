@@ -1,6 +1,6 @@
 //! Packages that are listed and audited.
-ghost use Rattle.std.specs.Prelude.{◌≡◌, IfOk, Ok, false, map};
-ghost use Rattle.cacache.specs.Laws.{IsCache, FailsForMemory, LeavesKnownCache, AreAllEntries, ListedEntries, OutOfMemory, tree_of};
+ghost use Rattle.std.specs.Prelude.{◌≡◌, ◌⊎◌, IfOk, IfErr, Ok, Err, false, map};
+ghost use Rattle.cacache.specs.Laws.{IsCache, FailsForMemory, FailsListing, In, LeavesKnownCache, AreAllEntries, ListedEntries, OutOfMemory, tree_of};
 ghost use Rattle.uses_client.specs.Audits.{AreRight, IsRight, entries_in};
 
 use cacache::env::{Clock, Env, Names};
@@ -11,9 +11,10 @@ use cacache::store::MemStore;
 use cacache::{Integrity, Result};
 use std::alloc::Global;
 
-/// The entries among the items, unless one is an error.
+/// The entries among the items, unless one is an error, which is reported then.
 fn entries(alloc: Global, items: Vec<std::result::Result<Found, Error>>) -> Result<Vec<Found>>
-    ensures { IfOk result (λ entries. items.items ≡ map Ok entries.items) }
+    ensures all { IfOk result (λ entries. items.items ≡ map Ok entries.items) }
+    ensures fails { IfErr result (λ e. (e ≡ OutOfMemory) ⊎ In (Err e) items.items) }
 {
     let mut entries = Vec::new(alloc);
     for item in items {
@@ -32,12 +33,14 @@ fn ask<C: Clock, N: Names>(env: &mut Env<MemStore, C, N>, cache: &str) -> Reply
     reply
 }
 
-/// The entries that keys lead to, all of them.
+/// The entries that keys lead to, all of them. An error says that a step failed, as that at an index that isn't there, that
+/// there were more than 2^63 names, or that memory was refused.
 pub fn list<C: Clock, N: Names>(env: &mut Env<MemStore, C, N>, cache: &str) -> Result<Vec<Found>>
     requires { IsCache cache.now env.old.store }
     ensures leaves { LeavesKnownCache cache.now env.old.store env.new.store }
     ensures same { tree_of env.new.store ≡ tree_of env.old.store }
     ensures entries { IfOk result (λ found. AreAllEntries cache.now env.old.store found.items) }
+    ensures fails { IfErr result (λ e. FailsListing e env.old.store env.new.store) }
 {
     let reply = ask(env, cache);
     match reply {
@@ -86,7 +89,7 @@ pub struct Verdict {
     pub whole: bool,
 }
 
-/// Says of each entry that a key leads to whether its bytes are whole.
+/// Says of each entry that a key leads to whether its bytes are whole. It fails as `list` does.
 pub fn audit<C: Clock, N: Names>(env: &mut Env<MemStore, C, N>, cache: &str) -> Result<Vec<Verdict>>
     requires { IsCache cache.now env.old.store }
     ensures sound { IsCache cache.now env.new.store }
@@ -94,6 +97,7 @@ pub fn audit<C: Clock, N: Names>(env: &mut Env<MemStore, C, N>, cache: &str) -> 
     ensures all { IfOk result (λ verdicts.
         AreAllEntries cache.now env.old.store (entries_in verdicts.items)) }
     ensures right { IfOk result (λ verdicts. AreRight cache.now env.old.store verdicts.items) }
+    ensures fails { IfErr result (λ e. FailsListing e env.old.store env.new.store) }
 {
     let entries = list(env, cache)?;
     let mut verdicts = Vec::new(env.alloc);

@@ -1,7 +1,7 @@
 //! Files outside of the cache: some that are linked into it, and packages that are copied out.
 ghost use Rattle.std.specs.Prelude.{IfErr, true};
 ghost use Rattle.cacache.specs.Laws.{IsCache, IsApart, LeavesKnownCache, NamesFolder, FailsExport, Copy, Key, based};
-ghost use Rattle.uses_client.specs.Given.{ArrivesAt, LinksShown, MirrorsFile, RefusesBroken};
+ghost use Rattle.uses_client.specs.Given.{ArrivesAt, ArrivesLinked, CopiesFile, LinksHeld, LinksShown, MirrorsFile, RefusesBroken};
 
 use cacache::env::{Clock, Env, Names};
 use cacache::laws::{after_copy, after_link, after_read, linker_laws};
@@ -9,8 +9,9 @@ use cacache::store::MemStore;
 use cacache::{Integrity, Result, SyncToLinker};
 use std::io::Read;
 
-/// Links a file into the cache under a key. If the cache's path names a folder, and the file shows bytes, that fails
-/// for memory alone, unless a link that leads nowhere lies under their integrity.
+/// Links a file into the cache under a key, which leads to the integrity of the bytes that the file shows. If the cache's path
+/// names a folder, and the file shows bytes, that fails for memory alone, unless a link that leads nowhere lies under their
+/// integrity.
 pub fn link<C: Clock, N: Names>(
     env: &mut Env<MemStore, C, N>,
     cache: &str,
@@ -20,6 +21,8 @@ pub fn link<C: Clock, N: Names>(
     requires cache { IsCache cache.now env.old.store }
     requires apart { IsApart cache.now (based env.old.base file.now) }
     ensures sound { IsCache cache.now env.new.store }
+    ensures held { LinksHeld cache.now key.now (based env.old.base file.now) result
+        env.old.store env.new.store }
     ensures links { NamesFolder cache.now
         → LinksShown cache.now (based env.old.base file.now) result env.old.store }
 {
@@ -29,7 +32,7 @@ pub fn link<C: Clock, N: Names>(
 }
 
 /// Links a file into the cache under a key, and reads it there: while the file shows the same bytes, these are read, if
-/// nothing lay under their integrity.
+/// nothing lay under their integrity. Which errors come isn't said here; `link` says when the first step fails.
 pub fn mirror<C: Clock, N: Names>(
     env: &mut Env<MemStore, C, N>,
     cache: &str,
@@ -89,6 +92,7 @@ pub fn export<C: Clock, N: Names>(
     requires apart { IsApart cache.now to.now }
     ensures leaves { LeavesKnownCache cache.now env.old.store env.new.store }
     ensures arrives { ArrivesAt cache.now key.now to.now result env.old.store env.new.store }
+    ensures linked { ArrivesLinked cache.now key.now to.now result env.old.store env.new.store }
     ensures refuses { NamesFolder cache.now → RefusesBroken cache.now key.now result env.old.store }
     ensures fails { NamesFolder cache.now → IfErr result (λ e.
         FailsExport cache.now (Key key.now) Copy true to.now e env.old.store env.new.store) }
@@ -96,4 +100,29 @@ pub fn export<C: Clock, N: Names>(
     let copied = cacache::copy_sync(env, cache, key, to);
     after_copy(env, cache, to, &copied);
     copied
+}
+
+/// Links a file into the cache under a key, and copies what lies there to a path outside of the cache: bytes with the digest of
+/// those that the file showed, whatever lay under their integrity before. Which errors come isn't said here; `link` and
+/// `export` say it.
+pub fn link_and_copy<C: Clock, N: Names>(
+    env: &mut Env<MemStore, C, N>,
+    cache: &str,
+    key: &str,
+    file: &str,
+    to: &str,
+) -> Result<u64>
+    requires cache { IsCache cache.now env.old.store }
+    requires apart { IsApart cache.now (based env.old.base file.now) }
+    requires out { IsApart cache.now to.now }
+    ensures sound { IsCache cache.now env.new.store }
+    ensures copies { CopiesFile (based env.old.base file.now) to.now result
+        env.old.store env.new.store }
+{
+    let linked = cacache::link_to_sync(env, cache, key, file);
+    after_link(env, cache, key, file, &linked);
+    let _sri = linked?;
+    let count = cacache::copy_sync(env, cache, key, to);
+    after_copy(env, cache, to, &count);
+    count
 }

@@ -1,14 +1,15 @@
 //! Packages that are stored and removed.
-ghost use Rattle.std.specs.Prelude.{◌≡◌, List, Some, IfOk, IfErr, OnOk};
-ghost use Rattle.cacache.specs.{Integrities.{Hash, Sha256, integrity_under}, Laws.{IsCache, HasKey, LacksKey, IsExcused, DontClash, KeepsUntouched, KeepsOthers}};
-ghost use Rattle.uses_client.specs.Given.{KeepsOlder};
+ghost use Rattle.std.specs.Prelude.{◌≡◌, List, None, Some, IfOk, IfErr, OnOk};
+ghost use Rattle.cacache.specs.{Integrities.{Hash, Sha256, integrity_under}, Laws.{IsCache, HasKey, LacksKey, Grows, IsExcused, DontClash, KeepsUntouched, KeepsOthers, FailsForMemory, IsReady, NamesFolder}};
+ghost use Rattle.uses_client.specs.Given.{KeepsOlder, StaysReady};
 
+use crate::reading::describe;
 use cacache::env::{Clock, Env, Names};
 use cacache::laws::{after_remove, after_write, joining_laws};
 use cacache::store::MemStore;
-use cacache::{Algorithm, Integrity, Result};
+use cacache::{Algorithm, Integrity, Metadata, Result};
 
-/// Stores bytes under a key, and leaves all else.
+/// Stores bytes under a key, and leaves all else. On a cache that is ready only memory fails it, elsewhere also a step.
 pub fn store<C: Clock, N: Names>(
     env: &mut Env<MemStore, C, N>,
     cache: &str,
@@ -21,7 +22,9 @@ pub fn store<C: Clock, N: Names>(
         × HasKey cache.now key.now i «data».now env.new.store) }
     ensures keeps { KeepsUntouched cache.now (Some key.now) (integrity_under Sha256 «data».now)
         «data».now env.old.store env.new.store }
+    ensures grows { Grows env.old.store env.new.store }
     ensures fails { IfErr result (λ e. IsExcused e env.old.store env.new.store) }
+    ensures ready { StaysReady cache.now result env.old.store env.new.store }
 {
     let written = cacache::write_sync(env, cache, key, data);
     after_write(env, Algorithm::Sha256, cache, key, data, &written);
@@ -41,6 +44,7 @@ pub fn replace<C: Clock, N: Names>(
         × HasKey cache.now key.now i «data».now env.new.store) }
     ensures older { KeepsOlder cache.now key.now «data».now env.old.store env.new.store }
     ensures fails { IfErr result (λ e. IsExcused e env.old.store env.new.store) }
+    ensures memory { IsReady cache.now env.old.store → FailsForMemory result }
 {
     store(env, cache, key, data)
 }
@@ -52,7 +56,8 @@ pub struct Installed {
     pub second: Integrity,
 }
 
-/// Stores two keys, one after the other: afterwards both lead to their bytes.
+/// Stores two keys, one after the other: afterwards both lead to their bytes. It fails as `store` does. What the first call
+/// stored stays if the second one fails.
 pub fn install_two<C: Clock, N: Names>(
     env: &mut Env<MemStore, C, N>,
     cache: &str,
@@ -70,13 +75,17 @@ pub fn install_two<C: Clock, N: Names>(
         HasKey cache.now first_key.now both.first first.now env.new.store) }
     ensures second { IfOk result (λ both.
         HasKey cache.now second_key.now both.second second.now env.new.store) }
+    ensures fails { IfErr result (λ e. IsExcused e env.old.store env.new.store) }
+    ensures memory { IsReady cache.now env.old.store → FailsForMemory result }
 {
+    joining_laws();
     let first = store(env, cache, first_key, first)?;
     let second = store(env, cache, second_key, second)?;
     Ok(Installed { first, second })
 }
 
-/// Stores bytes under a key, and tries once more if that fails.
+/// Stores bytes under a key, and tries once more if that fails. An error is the second one's, and says that a step failed, or
+/// memory. Nothing says that it tries again: a call that is like `store` meets these clauses too.
 pub fn retry_install<C: Clock, N: Names>(
     env: &mut Env<MemStore, C, N>,
     cache: &str,
@@ -89,6 +98,7 @@ pub fn retry_install<C: Clock, N: Names>(
         × HasKey cache.now key.now i «data».now env.new.store) }
     ensures keeps { KeepsUntouched cache.now (Some key.now) (integrity_under Sha256 «data».now)
         «data».now env.old.store env.new.store }
+    ensures fails { IfErr result (λ e. IsExcused e env.old.store env.new.store) }
 {
     joining_laws();
     match store(env, cache, key, data) {
@@ -97,7 +107,8 @@ pub fn retry_install<C: Clock, N: Names>(
     }
 }
 
-/// Removes a key, and leaves all else. Its bytes are still there, by their integrity.
+/// Removes a key, and leaves all else. Its bytes are still there, by their integrity. If the cache's path names a folder, only
+/// memory fails it, and elsewhere also a step of its own.
 pub fn uninstall<C: Clock, N: Names>(
     env: &mut Env<MemStore, C, N>,
     cache: &str,
@@ -107,9 +118,29 @@ pub fn uninstall<C: Clock, N: Names>(
     ensures sound { IsCache cache.now env.new.store }
     ensures gone { OnOk result (LacksKey cache.now key.now env.new.store) }
     ensures others { KeepsOthers cache.now key.now env.old.store env.new.store }
+    ensures grows { Grows env.old.store env.new.store }
     ensures fails { IfErr result (λ e. IsExcused e env.old.store env.new.store) }
+    ensures memory { NamesFolder cache.now → FailsForMemory result }
 {
     let removed = cacache::remove_sync(env, cache, key);
     after_remove(env, cache, key, &removed);
     removed
+}
+
+/// Removes a key, and looks it up: there is no entry. All else stays. It fails as `uninstall` does.
+pub fn uninstall_and_describe<C: Clock, N: Names>(
+    env: &mut Env<MemStore, C, N>,
+    cache: &str,
+    key: &str,
+) -> Result<Option<Metadata>>
+    requires { IsCache cache.now env.old.store }
+    ensures sound { IsCache cache.now env.new.store }
+    ensures gone { IfOk result (λ found. found ≡ None) }
+    ensures others { KeepsOthers cache.now key.now env.old.store env.new.store }
+    ensures fails { IfErr result (λ e. IsExcused e env.old.store env.new.store) }
+    ensures memory { NamesFolder cache.now → FailsForMemory result }
+{
+    joining_laws();
+    uninstall(env, cache, key)?;
+    describe(env, cache, key)
 }

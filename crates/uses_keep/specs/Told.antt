@@ -1,6 +1,6 @@
 -- What the values that calls give say about a cache in memory.
-use Rattle.std.specs.Prelude.{◌≡◌, ◌⊎◌, ℕ, List, [], Some, IfOk, Result, Vec, map, string_bytes}
-use Rattle.cacache_core.specs.{declared.{errors.Error.{Error}, integrity.digest.Hash.{Hash}}, Integrity.{Meets}, PathNames.{Names, home_of}}
+use Rattle.std.specs.{Prelude.{◌≡◌, ◌⊎◌, ℕ, List, [], Some, IfOk, MatchResult, Result, Vec, map, string_bytes}, Global.{Global}}
+use Rattle.cacache_core.specs.{declared.{errors.Error.{Error, TheVariants.{OutOfMemory}}, integrity.digest.Hash.{Hash}}, Integrity.{Meets}, PathNames.{Names, home_of}}
 use Rattle.cacache_store.specs.declared.store.log.LogItem.{LogItem}
 use Rattle.cacache_disk.specs.memory.Replay.{tree_of}
 use Rattle.cacache_entry.specs.{Latest.{Found}, View.{found_view}}
@@ -30,6 +30,13 @@ IsMended v = (v.damaged.items ≡ []) × (map found_view v.dangling.items ≡ []
 abbrev pub LeavesAs : Site → Names → List LogItem → List LogItem → Collected → Type 0
 LeavesAs site home old new c =
     LeavesLive site home (tree_of old) (tree_of new) c.kept c.dropped.items
+
+-- a read gives the bytes that the key led to, or memory was refused
+abbrev pub ReadsTidied :
+    List ℕ → List ℕ → Result (Vec ℕ Global) Error → List LogItem → Type 0
+ReadsTidied cache key result old =
+    (i : List Hash) (bytes : List ℕ) → HasKey cache key i bytes old
+    → MatchResult result (λ v. v.items ≡ bytes) (λ e. e ≡ OutOfMemory)
 
 -- a read of the key may answer these bytes on what the log leads to
 abbrev pub MayRead : Site → List ℕ → List LogItem → List ℕ → Type 0

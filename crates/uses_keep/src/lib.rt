@@ -1,14 +1,16 @@
 //! Functions of a caller's own that verify a cache in memory, sweep, repair, collect and compact it. Their contracts
 //! are proved from clauses alone: those of the calls, of `keep_laws`, `later_laws`, `spared_laws`, `answer_laws` and
-//! `cache_laws`. They say what is so if all calls answer Ok. Of errors they say nothing: those are the calls' own.
+//! `cache_laws`. They say what is so if all calls answer Ok, and `tidied` and `read_tidied` also what is so otherwise. Of other
+//! errors they say nothing: those are the calls' own.
 #![tactic(auto)]
 
 ghost use Rattle.std.specs.Prelude.{◌≡◌, [], Some, IfOk, map};
 ghost use Rattle.cacache_core.specs.PathNames.{Names as PathNames, home_of};
 ghost use Rattle.cacache_disk.specs.memory.Replay.{tree_of};
 ghost use Rattle.cacache_jobs.specs.Sites.{site_of};
-ghost use Rattle.cacache_laws.specs.trees.{Collecting.{LinksLeadOut}, Housed.{Housed}, Temporary.{LeavesUntemporary}};
-ghost use Rattle.uses_keep.specs.Told.{IsMended, JudgesAs, LeavesAs, MendsPlaced, ReadsBeside, ReadsHoused, ReadsSpared, ReadsStill, ReadsAsRemoved, ReadsTended};
+ghost use Rattle.cacache_laws.specs.{Caches.{IsCache}, Succeeds.{NamesFolder}, trees.{Collecting.{LinksLeadOut}, Housed.{Housed}, Temporary.{LeavesUntemporary}}};
+ghost use Rattle.cacache_keep.specs.Behind.{KeepsKeys};
+ghost use Rattle.uses_keep.specs.Told.{IsMended, JudgesAs, LeavesAs, MendsPlaced, ReadsBeside, ReadsHoused, ReadsSpared, ReadsStill, ReadsAsRemoved, ReadsTended, ReadsTidied};
 
 use cacache_core::errors::Result;
 use cacache_core::keeping::let_go;
@@ -17,8 +19,9 @@ use cacache_keep::{
     Collected, Planned, Repaired, Swept, Verdict, collect, compact, keep_laws, later_laws, plan,
     repair, sweep, verify,
 };
-use cacache_laws::cache_laws;
+use cacache_laws::results::after_read;
 use cacache_laws::trees::{answer_laws, spared_laws};
+use cacache_laws::{cache_laws, success_laws};
 use cacache_store::env::{Clock, Env, Names};
 use cacache_sync::put::bytes::write_sync;
 use cacache_sync::rm::RemoveOpts;
@@ -46,6 +49,33 @@ pub fn collected<C: Clock, N: Names>(
     let collected = collect(env, cache)?;
     keep_laws(&env.store);
     Ok(collected)
+}
+
+/// Collects a cache in memory that only calls wrote to. Each key leads where it led, also if an error ended the collection.
+pub fn tidied<C: Clock, N: Names>(env: &mut Env<MemStore, C, N>, cache: &str) -> Result<Collected>
+    requires { IsCache cache.now env.old.store }
+    ensures { NamesFolder cache.now → KeepsKeys cache.now env.old.store env.new.store }
+{
+    success_laws();
+    let collected = collect(env, cache);
+    keep_laws(&env.store);
+    collected
+}
+
+/// Does this, and then reads by a key, whether the collection was done or not. It reads the bytes that the key led to, unless
+/// memory is refused.
+pub fn read_tidied<C: Clock, N: Names>(
+    env: &mut Env<MemStore, C, N>,
+    cache: &str,
+    key: &str,
+) -> Result<Vec<u8>>
+    requires { IsCache cache.now env.old.store }
+    ensures { NamesFolder cache.now → ReadsTidied cache.now key.now result env.old.store }
+{
+    let _collected = tidied(env, cache);
+    let read = read_sync(env, cache, key);
+    after_read(env, cache, key, &read);
+    read
 }
 
 /// Collects a cache in memory, and reads by a key. It reads what it would have read without the

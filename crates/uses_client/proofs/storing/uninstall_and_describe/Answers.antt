@@ -1,0 +1,15 @@
+-- The lookup finds what the removal left.
+use Rattle.uses_client.proofs.{ByResult.{on_error}, Shown.{none_found}}
+use Rattle.uses_client.proofs.storing.uninstall_and_describe.Goals as goal
+
+pub returns : goal.returns
+returns g c =
+    let gone = c.in_ok-uninstall.ensures in
+    let found = c.describe.ensures in
+    record {
+      sound = found.leaves.0;
+      gone = none_found c.args.cache.now c.args.key.now _ c.describe.result gone.gone found.finds;
+      others = c.joining_laws.ensures.others _ _ _ _ _ gone.others found.leaves;
+      fails = on_error c.describe.result (λ e h. c.joining_laws.ensures.later e _ _ _ gone.grows h) found.fails;
+      memory = found.memory;
+    }
