@@ -1,5 +1,5 @@
 -- What the answers of an audit's calls say about the cache.
-use Rattle.std.proofs.{Common.{◌≡◌, ◌⊎◌, inl, inr, ℕ, Bool, true, false, List, [], ◌∷◌, ◌++◌, Vec, Result, Ok, Err, map, refl, sym, ap, subst, ◌∙◌}, lemmas.List.Elements.{All-nil, All-cons, All-head, All-tail}}
+use Rattle.std.proofs.{Common.{◌≡◌, ◌⊎◌, ◌<◌, inl, inr, ℕ, zero, suc, arith, get_or, length, Bool, true, false, List, [], ◌∷◌, ◌++◌, Vec, Result, Ok, Err, map, refl, sym, ap, subst, ◌∙◌}, lemmas.List.Elements.{All-nil, All-cons, All-head, All-tail}}
 use Rattle.std.specs.Prelude.{IfOk}
 use Rattle.cacache.specs.{Calls.{Error}, Entries.{Found}, Integrities.{Hash}, Laws.{AreAllEntries, FailsListing, In, LiesWhole, NamesFolder, OutOfMemory, bytes_under, tree_of}, Stores.{LogItem}}
 use Rattle.uses_client.specs.{declared.auditing.Verdict.{Verdict}, Audits.{AreRight, IsRight, entries_in}}
@@ -15,6 +15,12 @@ pub listed : {X : Type 0} (cache : List ℕ) (log : List LogItem) (items : List 
     → (r : Result (Vec Found X) Error) → IfOk r (λ v. items ≡ map (λ f. Ok f) v.items) → IfOk r (λ v. AreAllEntries cache log v.items)
 listed cache log items all (Ok v) is = all v.items is
 listed cache log items all (Err e) is = tt
+
+-- what is found at a place among them is one of them
+pub in_at : {X : Type 0} (all : List X) (at : ℕ) (x : X) → at < length all → x ≡ get_or all at x → In x all
+in_at [] at x small is = absurd (omega (arith, small))
+in_at (y ∷ ys) zero x small is = inl is
+in_at (y ∷ ys) (suc at) x small is = inr (in_at ys at x (omega (arith, small)) is)
 
 -- the error of an item, or of memory
 pub listing_failed : (items : List (Result Found Error)) (e : Error) (old new : List LogItem) → (In (Err e) items → FailsListing e old new) → (e ≡ OutOfMemory) ⊎ In (Err e) items → FailsListing e old new

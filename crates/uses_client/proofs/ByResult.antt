@@ -1,5 +1,5 @@
 -- What is known of a result, by its two cases.
-use Rattle.std.{proofs.Common.{◌≡◌, Result, Ok, Err, refl, subst, sym}, specs.Prelude.{IfErr, IfOk, IsErrAnd, MatchResult, OnOk}}
+use Rattle.std.{proofs.Common.{◌≡◌, Result, Ok, Err, refl, subst, sym}, specs.Prelude.{IfErr, IfOk, IsErrAnd, MatchResult}}
 use Rattle.cacache.specs.Calls.{Error}
 
 pub by_result : {X : Type 0} (r : Result X Error) (A : X → Type 0) (B : Error → Type 0) → ((x : X) → r ≡ Ok x → A x) → ((e : Error) → r ≡ Err e → B e) → MatchResult r A B

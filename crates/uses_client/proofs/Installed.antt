@@ -1,7 +1,7 @@
 -- What a commit left, since before its writer was opened.
-use Rattle.std.proofs.Common.{◌≡◌, inl, inr, ℕ, List, [], ◌∷◌, Option, None, Some, Result, Ok, Err, arith, length, option_map, refl, sym, ap, subst, ◌∙◌}
+use Rattle.std.proofs.Common.{◌≡◌, inl, inr, ℕ, List, [], ◌∷◌, None, Some, Result, Ok, Err, arith, length, option_map, refl, sym, ap, subst, ◌∙◌}
 use Rattle.std.specs.Prelude.{IfErr, IfOk, OnOk}
-use Rattle.cacache.specs.{Calls.{Error, Said}, Entries.{Found}, Integrities.{Hash, Meets}, Laws.{CommittedBytes, FailsCommit, HasContent, IsCache, IsIntegrity, IsReady, IsThere, KeepsUntouched, LeadsToEntry, LeavesKnownCache, LiesOrStayed, OpenedWriter, OutOfMemory, leads_to, lies_under, said_integrity}, Stores.{LogItem}}
+use Rattle.cacache.specs.{Calls.{Error, Said}, Entries.{Found}, Integrities.{Hash, Meets}, Laws.{CommittedBytes, FailsCommit, HasContent, IsCache, IsIntegrity, IsReady, IsThere, KeepsUntouched, LeadsToEntry, LeavesKnownCache, LiesOrStayed, OutOfMemory, leads_to, lies_under, said_integrity}, Stores.{LogItem}}
 use Rattle.uses_client.{specs.{Packages.{FailsStoring, FailsWrite, expected_said, own_of, said_of}, Writing.{StoredWith}}, proofs.ByResult.{on_error}}
 
 -- for the key alone

@@ -1,6 +1,6 @@
 -- A listing without an error has all entries.
-use Rattle.std.{proofs.Common.{◌∙◌, inl, inr, ap, sym, subst}, specs.Prelude.{Err}}
-use Rattle.cacache.specs.{Calls.{Listed, Refused}, Laws.{GivesError}}
+use Rattle.std.proofs.Common.{◌∙◌, ap, sym, subst}
+use Rattle.cacache.specs.{Calls.{Listed}, Laws.{GivesError}}
 use Rattle.uses_client.proofs.{Audited.{listed, listing_failed}, ByResult.{on_error}}
 use Rattle.uses_client.proofs.auditing.list.Goals as goal
 

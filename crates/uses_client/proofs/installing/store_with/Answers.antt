@@ -1,5 +1,5 @@
 -- A writer opens, takes all bytes and commits, or is given up.
-use Rattle.std.proofs.Common.{◌≡◌, Some, [], arith, subst, sym, ◌∙◌}
+use Rattle.std.proofs.Common.{Some, [], arith, subst, sym}
 use Rattle.cacache.specs.Laws.{FileAt, LeavesKnownCache}
 use Rattle.uses_client.{specs.Writing.{StoredWith}, proofs.{ByResult.{handed}, Installed.{finished, for_memory, unstored}}}
 use Rattle.uses_client.proofs.installing.store_with.Goals as goal

@@ -5,7 +5,7 @@ use Rattle.uses_client.proofs.storing.install_two.Goals as goal
 
 pub returns-in_err-second-clause-fails : goal.returns-in_err-second-clause-fails
 returns-in_err-second-clause-fails g c =
-    handed (λ r. IfErr r (λ e. IsExcused e c.args.env.now.store c.store-second.new.env.store)) c.from_residual-in_err-second.result c.in_err-second.field-0.0 c.from_residual-in_err-second.ensures.1
+    handed (λ r. IfErr r (λ e. IsExcused e c.args.env.now.store c.store-2.new.env.store)) c.from_residual-in_err-second.result c.in_err-second.field-0.0 c.from_residual-in_err-second.ensures.1
     (c.joining_laws.ensures.later c.in_err-second.field-0.0 _ _ _ c.in_ok-first.ensures.grows c.in_err-second.ensures.fails)
 
 pub returns-in_err-second-clause-memory : goal.returns-in_err-second-clause-memory

@@ -1,7 +1,7 @@
 -- All bytes were taken, or the writer is gone.
 use Rattle.std.proofs.Common.{◌≡◌, ◌++◌}
 use Rattle.cacache.specs.Laws.{IsWriting, LeavesKnownCache}
-use Rattle.uses_client.proofs.{ByResult.{by_result, on_error}, Written.{write_failed}}
+use Rattle.uses_client.proofs.{ByResult.{by_result}, Written.{only_writes}}
 use Rattle.uses_client.proofs.writing.feed.Goals as goal
 
 pub returns : goal.returns
@@ -19,5 +19,5 @@ returns g c =
             rw is at w.ensures.quiet,
           ))
           (λ e is. laws.fails cache key s bytes c.args.writer e c.args.env.now sound writing (rw is at w.ensures.removed));
-      fails = on_error w.result (λ e h. write_failed _ e h) w.ensures.earned;
+      fails = only_writes _ w.result w.ensures.earned (λ c k h. h) (λ w a h. h) (λ c m h. h) (λ f h. h);
     }
