@@ -1,15 +1,12 @@
 -- The laws of a collection, and of one that an error ended.
 use Rattle.cacache_jobs.specs.Sites.{site_of}
 use Rattle.cacache_keep.specs.{declared.checking.OddLines.TheVariants.{Refuse}, Behind.{KeepsKeys}}
-use Rattle.uses_keep.proofs.Tidied.{in_both}
+use Rattle.uses_keep.proofs.Ended.{in_both}
 use Rattle.uses_keep.proofs.tidied.Goals as goal
 
 pub returns : goal.returns
 returns g c = λ folder.
     let home = c.success_laws.ensures.homes c.args.cache.now folder in
-    let site = site_of c.args.cache.now c.args.env.now.base 0 in
-    let old = c.args.env.now.store in
-    let new = c.collect-collected.new.env.store in
     let laws = c.keep_laws.ensures in
     in_both c.collect-collected.result (KeepsKeys c.args.cache.now c.args.env.now.store c.collect-collected.new.env.store) _ _
     (λ x done. laws.keys (site_of c.args.cache.now c.args.env.now.base 0) home.0 _ _ c.args.env.now.store c.collect-collected.new.env.store home.1 laws.logged c.requires (Refuse, done))

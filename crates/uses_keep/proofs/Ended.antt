@@ -1,5 +1,5 @@
 -- A collection that was done or ended by an error, and a read after it.
-use Rattle.std.{proofs.Common.{◌≡◌, ℕ, List, Result, Ok, Err, refl}, specs.Prelude.{IfErr, IfOk, MatchResult}}
+use Rattle.std.{proofs.Common.{Result, Ok, Err}, specs.Prelude.{IfErr, IfOk, MatchResult}}
 use Rattle.cacache_core.specs.declared.errors.Error.{Error}
 
 pub in_both : {X : Type 0} (r : Result X Error) (A : Type 0) (P : X → Type 0) (Q : Error → Type 0) → ((x : X) → P x → A) → ((e : Error) → Q e → A) → IfOk r P → IfErr r Q → A
