@@ -129,8 +129,8 @@ def stated():
     for name, form, there in [
             ("docs/GATE.md", r"names: (\w+) in \w+ crates", len(edits)),
             ("docs/GATE.md", r"names: \w+ in (\w+) crates", len({it.parent for it in edits})),
-            ("README.md", r"(\w+) of its \w+:", shown.count("ensures")),
-            ("README.md", r"\w+ of its (\w+):", play.count("ensures")),
+            ("README.md", r"\w+ clauses, these are (\w+):", shown.count("ensures")),
+            ("README.md", r"(\w+) clauses, these are \w+:", play.count("ensures")),
             ("docs/ARCHITECTURE.md", r"`Step` has (\w+) kinds", steps),
             ("docs/ARCHITECTURE.md", r"at once: (\w+) \*\*states\*\*", states),
             ("docs/promises-model.md", r"the table of the (\w+) steps", steps),

@@ -245,9 +245,9 @@ pub fn read_compacted<C: Clock, N: Names>(
     Ok(bytes)
 }
 
-/// Sweeps, repairs and compacts a cache in memory where each thing lies in its place, and reads by a key that led to a good
-/// content. The key still leads to the same entry, and its content is what it was. The function reads what a read
-/// before the compaction might have given.
+/// Sweeps, repairs and compacts a cache in memory, and then reads by a key that led to a good content. If each file and
+/// folder of the cache was in its place, the key still leads to the same entry, and its content is unchanged. The answer is
+/// one that a read just before the compaction could have given.
 pub fn read_tended<C: Clock, N: Names>(
     env: &mut Env<MemStore, C, N>,
     cache: &str,

@@ -29,9 +29,9 @@ fn compile(rt: HostRuntime, unit: &Unit) -> Result<()> {
     unit.compile(&mut env)
 }
 
-/// Stores the interfaces of all units, each in a thread of its own, and returns once all threads have ended. If the
-/// system gives no thread, the calls are made one after another. That is enough, because no call waits for another. `rt`
-/// starts the threads, and `host`, the same runtime, goes to each.
+/// Stores the interface of each unit in a thread of its own, and returns once all threads have ended. If the system can't
+/// start a thread, the calls run one after another, which works because none waits for another. `rt` starts the threads.
+/// `host` is the same runtime; each thread gets it.
 fn store_all<R: Threads + Sync>(rt: &R, host: HostRuntime) -> Result<()> {
     let ends = thread::map_indices(rt, host.alloc(), UNITS.len(), &|at| store(host, &UNITS[at]))?;
     for end in ends {

@@ -84,8 +84,8 @@ impl<S: Reasons, C: Clock, N: Names> Builds<S, C, N> {
         self.tell(format_args!("{name}: {size} bytes copied to {to}"))
     }
 
-    /// Puts a build at a path outside the cache by a hard link, which takes no room. If none can be made, the build
-    /// is copied; any other error is handed on. Whoever writes to a linked file writes into the cache.
+    /// Hard-links a build to a path outside the cache, which takes no extra space. If a hard link can't be made there,
+    /// copies the build. Returns any other error. Whoever writes to a linked file writes into the cache.
     pub(crate) fn export(&mut self, name: &str, to: &str) -> Result<()> {
         match hard_link_sync(&mut self.env, CACHE, name, to) {
             Ok(()) => self.tell(format_args!("{name}: {to} is a hard link to it")),

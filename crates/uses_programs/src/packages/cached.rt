@@ -46,7 +46,7 @@ impl<S: Store, C: Clock, N: Names> Packages<S, C, N> {
         Packages { env, report }
     }
 
-    /// Fetches a package and stores it, unless its tarball isn't the one that was locked.
+    /// Fetches a package, and stores it if its tarball is the locked one.
     fn fetch(&mut self, package: &Package) -> Result<()> {
         let tarball = tarball(self.env.alloc, package.name.as_str())?;
         let algorithm = package.integrity.check(self.env.alloc, tarball)?;
@@ -54,7 +54,7 @@ impl<S: Store, C: Clock, N: Names> Packages<S, C, N> {
         Ok(())
     }
 
-    /// Reads a package, which verifies it. A damaged one is removed, and fetched again.
+    /// Reads a package. The read verifies it; a damaged package is removed and fetched again.
     fn verify(&mut self, package: &Package) -> Result<Outcome> {
         match read_hash_sync(&mut self.env, CACHE, &package.integrity) {
             Ok(_tarball) => Ok(Outcome::Verified),
