@@ -47,7 +47,7 @@ def crate_tables():
              [("docs/ARCHITECTURE.md", "| Crate | Holds |"), ("docs/ARCHITECTURE.md", "| Crate | Proves |"),
               ("docs/ARCHITECTURE.md", "| Crate | Shows or tests |"), ("docs/GATE.md", "| Crate | Lines |"),
               ("docs/how-to/add-a-row.md", "| Crate | A row is |")]]
-    trusted = told("README.md", r"(?s)its contracts for (.*?), the C library")
+    trusted = told("README.md", r"(?s)its contracts for (.*?)\. The C library")
     kit = {it for below in crates().values() for it in below} - set(listed)
     return [*compared("docs/ARCHITECTURE.md", "crates", sum(plain[:3], []), listed),
             *compared("docs/GATE.md", "crates", plain[3], [*listed, "all"]),
@@ -129,8 +129,8 @@ def stated():
     for name, form, there in [
             ("docs/GATE.md", r"names: (\w+) in \w+ crates", len(edits)),
             ("docs/GATE.md", r"names: \w+ in (\w+) crates", len({it.parent for it in edits})),
-            ("README.md", r"\w+ clauses, these are (\w+):", shown.count("ensures")),
-            ("README.md", r"(\w+) clauses, these are \w+:", play.count("ensures")),
+            ("README.md", r"Here are (\w+) of its \w+ clauses:", shown.count("ensures")),
+            ("README.md", r"Here are \w+ of its (\w+) clauses:", play.count("ensures")),
             ("docs/ARCHITECTURE.md", r"`Step` has (\w+) kinds", steps),
             ("docs/ARCHITECTURE.md", r"at once: (\w+) \*\*states\*\*", states),
             ("docs/promises-model.md", r"the table of the (\w+) steps", steps),

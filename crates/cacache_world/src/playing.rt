@@ -45,7 +45,7 @@ impl World {
         outcome
     }
 
-    /// Makes the events in order, and stops at the first that can't be made.
+    /// Carries out the events in order, and stops at the first that can't be carried out.
     fn run(&mut self, events: &[Event]) -> Result<(), WorldFault>
         ensures all { OnOk result (HappenAll events.now self.old self.new) }
         ensures until { IfErr result (λ fault. StopAt events.now self.old self.new fault) }

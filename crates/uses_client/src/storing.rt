@@ -9,7 +9,7 @@ use cacache::laws::{after_remove, after_write, joining_laws};
 use cacache::store::MemStore;
 use cacache::{Algorithm, Integrity, Metadata, Result};
 
-/// Stores bytes under a key, and changes nothing else. Fails for lack of memory or, unless the cache is ready, a failed step.
+/// Stores bytes under a key, and changes nothing else. Fails for lack of memory or, if the cache isn't ready, at a step.
 pub fn store<C: Clock, N: Names>(
     env: &mut Env<MemStore, C, N>,
     cache: &str,

@@ -86,7 +86,7 @@ impl<S: Store, N: Names> Responses<S, N> {
         Ok(Answer::Stale(self.fetch(path)?))
     }
 
-    /// Answers a request for a response with this entry: from the cache if it is fresh, and otherwise from the origin.
+    /// Answers a request that has an entry: from the cache if the entry is fresh, and otherwise from the origin.
     fn answer_from(&mut self, path: &str, entry: &Metadata) -> Result<Answer> {
         if !is_fresh(entry, self.env.clock.now()) {
             return self.renew(path);
