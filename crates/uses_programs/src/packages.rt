@@ -33,7 +33,7 @@ fn get_thrice<S: Store, C: Clock, N: Names>(
 pub(crate) fn run(rt: HostRuntime) -> Result<()> {
     let alloc = rt.alloc();
     let locked = read_lock(&rt)?;
-    // To keep the packages in real folders, write `folders(rt, "/")` for `memory(rt, "/")`.
+    // To keep the packages in real folders, write `folders(rt, "/")` instead of `memory(rt, "/")`.
     let report = get_thrice(memory(rt, "/")?, &locked)?;
     print!(rt; "{report}").context(alloc, "Failed to print the report")
 }

@@ -29,7 +29,7 @@ where
     Ok((count, sri))
 }
 
-/// Calls `written` with a writer, while the writer's worker runs in a thread of its own.
+/// Calls the function `written` with a writer, while the writer's worker runs in a thread of its own.
 fn made<R>(rt: R, mut env: Memory) -> Result<(usize, Integrity)>
 where
     R: Threads + Wait + Clock + RandomSource + AllocGlobal + Copy + Sync + Send + 'static,
