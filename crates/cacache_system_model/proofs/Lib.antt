@@ -35,3 +35,8 @@ mod Logging
 pub mod Saying
 mod Meetings
 mod Listing
+mod StageCalls
+mod Arriving
+mod StepCalls
+mod CallGroups
+mod PutCalls

@@ -18,6 +18,8 @@ pub mod Mirrors
 pub mod Chains
 pub mod Meeting
 pub mod Logged
+pub mod CallForms
+pub mod CallLaws
 pub mod memory
 pub mod bucket
 pub mod callers

@@ -1,5 +1,8 @@
 //! Laws, on functions that do nothing.
-ghost use Rattle.cacache_system_model.specs.{Chains.{RunsMirror, StepsOnDisk}, Fixing.{LossesMirror}, Listing.{ReadDirBreaks, ReadDirGoesPlainly}, Logged.{LogsAgree}, Making.{MakeDirsAgrees}, Moving.{PersistAgrees}, Meeting.{CallsCanGoWell}, Mirrors.{StepsMirror}, OneCall.{CreateAgrees, ExistsAgrees, HardLinkAgrees, ReflinkBreaks, SymlinkAgrees}, Opening.{OpenAgrees, SizeAgrees}, Premises.{EachGoesPlainly, EachMayBreak}, Reading.{PiecesReadPlainly, ReadAllAgrees, ReadBreaks}, Refusals.{NoAppendThroughLink, NoCallWithoutOwner, NoCopyInPlace, NoFileForFolder, NoMoveWithoutMode, NoOtherMode, NoOtherSync, NoRemovalBeforePut, NoRemovalThroughLink, NoSecondWrite}, Removing.{AppendAgrees, RemoveDirAgrees, RemoveFileAgrees}, Syncing.{SyncDirAgrees, SyncFileAgrees, SyncTempAgrees}, Writing.{CopyAgrees, WriteAgrees}};
+ghost use Rattle.cacache_system_model.specs.{CallLaws.{CallsByCall}, Chains.{RunsMirror, StepsOnDisk}, Fixing.{LossesMirror}, Listing.{ReadDirBreaks, ReadDirGoesPlainly}, Logged.{LogsAgree}, Making.{MakeDirsAgrees}, Moving.{PersistAgrees}, Meeting.{CallsCanGoWell}, Mirrors.{StepsMirror}, OneCall.{CreateAgrees, ExistsAgrees, HardLinkAgrees, ReflinkBreaks, SymlinkAgrees}, Opening.{OpenAgrees, SizeAgrees}, Premises.{EachGoesPlainly, EachMayBreak}, Reading.{PiecesReadPlainly, ReadAllAgrees, ReadBreaks}, Refusals.{NoAppendThroughLink, NoCallWithoutOwner, NoCopyInPlace, NoFileForFolder, NoMoveWithoutMode, NoOtherMode, NoOtherSync, NoRemovalBeforePut, NoRemovalThroughLink, NoSecondWrite}, Removing.{AppendAgrees, RemoveDirAgrees, RemoveFileAgrees}, Syncing.{SyncDirAgrees, SyncFileAgrees, SyncTempAgrees}, Writing.{CopyAgrees, WriteAgrees}};
+
+use cacache_folder::SystemStore;
+use cacache_system::System;
 
 /// A step that makes or moves something answers and leaves what the disk's table says of it.
 ///
@@ -101,4 +104,15 @@ pub fn refusal_laws()
     ensures append { NoAppendThroughLink }
     ensures move_first { NoMoveWithoutMode }
     ensures owner { NoCallWithoutOwner }
+{}
+
+/// The system calls of a public call, in order: those of the steps that a store's log gained for it.
+///
+/// A call that only looks or lists made no call that changes anything. A put that answered Ok made its temporary file,
+/// wrote it, and then renamed it once, or failed to and found the content there. With a key, one line was then handed to
+/// the bucket. A durable put synced before the rename, and synced the content's folders, the bucket and its folders after it.
+/// Of puts, insertions and removals that is so if each system call was answered by a result of its kind.
+pub fn system_call_laws<Y: System + Drop>(store: &SystemStore<Y>)
+    ensures calls { CallsByCall Y.number store.now.log.items (Y.calls store.now.began.value)
+        (Y.calls store.now.runner.system) }
 {}
