@@ -21,7 +21,7 @@ pub use cacache_laws::{
 pub use cacache_polled::laws::event_laws;
 pub use cacache_shared::seat_laws;
 pub use cacache_system_model::{
-    bucket_event_laws, bucket_file_laws, bucket_name_laws, system_history_laws,
+    bucket_event_laws, bucket_file_laws, bucket_name_laws, system_call_laws, system_history_laws,
 };
 pub use cacache_value::{append_laws, step_laws, trace_laws};
 pub use cacache_walks::contents_laws;
