@@ -1,4 +1,5 @@
 mod FolderNames
+pub mod Failing
 pub mod Escapes
 pub mod CallRuns
 pub mod Copying

@@ -18,9 +18,7 @@ impl<Y: System + AllocGlobal + Clone + Drop> Runner<Y> {
     {
         let folder = folder_of(path);
         let due = self.descent.due_for_append(folder);
-        match self.look_if(folder, due) {
-            Ok(()) => append(&mut self.system, path, bytes),
-            Err(error) => Err(error),
-        }
+        self.look_if(folder, due)?;
+        append(&mut self.system, path, bytes)
     }
 }

@@ -58,10 +58,8 @@ fn replace_end<Y: System + AllocGlobal>(
         (Y.calls system.old) (Y.calls system.new) }
 {
     let alloc = system.alloc();
-    match system.real_path(alloc, to) {
-        Ok(path) => replace(system, number, from, path.as_str()),
-        Err(error) => Err(error),
-    }
+    let path = system.real_path(alloc, to)?;
+    replace(system, number, from, path.as_str())
 }
 
 /// Copies the file to where the link at the second path leads, if nothing is there yet.
@@ -74,13 +72,9 @@ fn make_end<Y: System + AllocGlobal>(
     ensures { RunLogged (calls.making_end number from.now to.now) (said says.Count result)
         (Y.calls system.old) (Y.calls system.new) }
 {
-    match system.open_to_append(to) {
-        Ok(file) => {
-            let_go(file);
-            replace_end(system, number, from, to)
-        }
-        Err(error) => Err(error),
-    }
+    let file = system.open_to_append(to)?;
+    let_go(file);
+    replace_end(system, number, from, to)
 }
 
 /// Copies the file about which the system said this over what is at the second path, about which it said that. A

@@ -37,13 +37,8 @@ pub(crate) fn append<Y: System>(system: &mut Y, path: &str, bytes: &[u8]) -> io:
     ensures ran { RunLogged (calls.appending path.now bytes.now) (said says.Count result)
         (Y.calls system.old) (Y.calls system.new) }
 {
-    match system.open_to_append(path) {
-        Ok(file) => {
-            let mut file = file;
-            ask_to_write(system, &mut file, bytes)
-        }
-        Err(error) => Err(error),
-    }
+    let mut file = system.open_to_append(path)?;
+    ask_to_write(system, &mut file, bytes)
 }
 
 /// The file or folder at the path, opened to read, and what the system says about it.

@@ -129,8 +129,6 @@ pub(crate) fn replace<Y: System + AllocGlobal>(
         (Y.calls system.old) (Y.calls system.new) }
 {
     let alloc = system.alloc();
-    match make_fresh(system, alloc, MORE_NAMES, number, path) {
-        Ok(fresh) => fill(system, from, fresh.as_str(), path),
-        Err(error) => Err(error),
-    }
+    let fresh = make_fresh(system, alloc, MORE_NAMES, number, path)?;
+    fill(system, from, fresh.as_str(), path)
 }

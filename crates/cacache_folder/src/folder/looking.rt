@@ -52,10 +52,8 @@ fn look_above<Y: System>(system: &mut Y, folder: &str, from: usize) -> io::Resul
 fn look_at_all<Y: System>(system: &mut Y, folder: &str, from: usize) -> io::Result<()>
     ensures { LooksToLast folder.now result (Y.calls system.old) (Y.calls system.new) }
 {
-    match look_above(system, folder, from) {
-        Ok(()) => look_at(system, folder),
-        Err(error) => Err(error),
-    }
+    look_above(system, folder, from)?;
+    look_at(system, folder)
 }
 
 /// Whether this is the folder that was listed.

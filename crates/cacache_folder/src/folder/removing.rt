@@ -18,10 +18,8 @@ impl<Y: System + AllocGlobal + Clone + Drop> Runner<Y> {
     {
         let folder = folder_of(path);
         let due = self.descent.due_for_file(folder);
-        match self.look_if(folder, due) {
-            Ok(()) => self.system.remove_file(path),
-            Err(error) => Err(error),
-        }
+        self.look_if(folder, due)?;
+        self.system.remove_file(path)
     }
 
     /// Removes an empty folder.
@@ -32,9 +30,7 @@ impl<Y: System + AllocGlobal + Clone + Drop> Runner<Y> {
     {
         let folder = folder_of(path);
         let due = self.descent.due_for_folder(path, folder);
-        match self.look_if(folder, due) {
-            Ok(()) => self.system.remove_folder(path),
-            Err(error) => Err(error),
-        }
+        self.look_if(folder, due)?;
+        self.system.remove_folder(path)
     }
 }

@@ -60,10 +60,8 @@ fn give_mode<Y: System + Drop>(system: &mut Y, temp: &SystemTemp<Y>, mode: u32) 
     ensures { GoesBefore (calls.give_mode (Y.number temp.now.file) temp.now.is_synced mode) result
         (Y.calls system.old) (Y.calls system.new) }
 {
-    match system.set_mode(&temp.file, mode) {
-        Ok(()) => sync_again(system, temp),
-        Err(error) => Err(error),
-    }
+    system.set_mode(&temp.file, mode)?;
+    sync_again(system, temp)
 }
 
 /// Gives the temporary file this owner, this group and this mode. The mode comes last: a new owner takes bits of it
@@ -72,10 +70,8 @@ fn give<Y: System + Drop>(system: &mut Y, temp: &SystemTemp<Y>, info: &FileInfo)
     ensures { GoesBefore (calls.give (Y.number temp.now.file) temp.now.path temp.now.is_synced
         info.now) result (Y.calls system.old) (Y.calls system.new) }
 {
-    match system.set_owner(temp.path.as_str(), info.owner, info.group) {
-        Ok(()) => give_mode(system, temp, info.mode),
-        Err(error) => Err(error),
-    }
+    system.set_owner(temp.path.as_str(), info.owner, info.group)?;
+    give_mode(system, temp, info.mode)
 }
 
 /// Gives the temporary file the owner, the group and the mode of the file at the path, if there is one. A link is
@@ -103,10 +99,8 @@ impl<Y: System + AllocGlobal + Clone + Drop> Runner<Y> {
     {
         let folder = folder_of(path);
         let due = self.descent.due_for_move(folder);
-        match self.look_if(folder, due) {
-            Ok(()) => self.system.rename(temp.path.as_str(), path),
-            Err(error) => Err(error),
-        }
+        self.look_if(folder, due)?;
+        self.system.rename(temp.path.as_str(), path)
     }
 
     /// Replaces the file at the path, which was read before.
@@ -115,10 +109,8 @@ impl<Y: System + AllocGlobal + Clone + Drop> Runner<Y> {
         ensures ran { Rewrites (numbered_temp Y.number temp.now) temp.now.is_synced path.now result
             (Y.calls self.old.system) (Y.calls self.new.system) }
     {
-        match keep(&mut self.system, temp, path) {
-            Ok(()) => self.move_there(temp, path),
-            Err(error) => Err(error),
-        }
+        keep(&mut self.system, temp, path)?;
+        self.move_there(temp, path)
     }
 
     /// Moves the temporary file to the path. It replaces the file there, if that was read before.

@@ -63,13 +63,9 @@ impl<Y: System + AllocGlobal + Clone + Drop> Runner<Y> {
     {
         self.reading.forget_in(path);
         let is_guessed = self.guess.is_missing(path);
-        match make_dirs(&mut self.system, path, is_guessed) {
-            Ok(was_missing) => {
-                self.guess.keep(path, was_missing);
-                Ok(())
-            }
-            Err(error) => Err(error),
-        }
+        let was_missing = make_dirs(&mut self.system, path, is_guessed)?;
+        self.guess.keep(path, was_missing);
+        Ok(())
     }
 
     /// The whole file at the path.
@@ -78,13 +74,9 @@ impl<Y: System + AllocGlobal + Clone + Drop> Runner<Y> {
         ensures ran { RunLogged (calls.opening calls.to_read path.now) (said says.Bytes result)
             (Y.calls self.old.system) (Y.calls self.new.system) }
     {
-        match read_all(&mut self.system, path) {
-            Ok(bytes) => {
-                self.reading.keep(path);
-                Ok(bytes)
-            }
-            Err(error) => Err(error),
-        }
+        let bytes = read_all(&mut self.system, path)?;
+        self.reading.keep(path);
+        Ok(bytes)
     }
 
     /// Does a step that takes no file and gives none. A reflink is not supported.

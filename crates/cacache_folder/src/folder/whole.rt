@@ -40,13 +40,8 @@ fn with_rest<Y: System + AllocGlobal>(
         (said says.Bytes result) (Y.calls system.old) (Y.calls system.new) }
 {
     let mut bytes = front;
-    match system.read_rest(file, &mut bytes) {
-        Ok(_) => match Bytes::new(system.alloc(), bytes) {
-            Ok(bytes) => Ok(bytes),
-            Err(_) => Err(io::Error::from(ErrorKind::OutOfMemory)),
-        },
-        Err(error) => Err(error),
-    }
+    system.read_rest(file, &mut bytes)?;
+    Ok(Bytes::new(system.alloc(), bytes)?)
 }
 
 /// One read to the front of a vector, which keeps its length.
@@ -70,28 +65,9 @@ fn read_front<Y: System>(system: &mut Y, file: &mut Y::File, room: Vec<u8>) -> i
         (said (λ front. says.Bytes front.items) result) (Y.calls system.old) (Y.calls system.new) }
 {
     let mut bytes = room;
-    match read_to(system, file, &mut bytes) {
-        Ok(count) => {
-            bytes.truncate(count);
-            Ok(bytes)
-        }
-        Err(error) => Err(error),
-    }
-}
-
-/// All that the file has. There is room for a read.
-fn read_through<Y: System + AllocGlobal>(
-    system: &mut Y,
-    file: &mut Y::File,
-    room: Vec<u8>,
-) -> io::Result<Bytes>
-    ensures { RunLogged (calls.reading_front false (length room.items) (Y.number file.old))
-        (said says.Bytes result) (Y.calls system.old) (Y.calls system.new) }
-{
-    match read_front(system, file, room) {
-        Ok(front) => with_rest(system, file, front),
-        Err(error) => Err(error),
-    }
+    let count = read_to(system, file, &mut bytes)?;
+    bytes.truncate(count);
+    Ok(bytes)
 }
 
 /// All that the file has. `size` is what it says about its size in bytes: most files of that size are read in one
@@ -104,14 +80,12 @@ fn read_whole<Y: System + AllocGlobal>(
     ensures { RunLogged (calls.taking_memory (calls.read_whole size (Y.number file.old)))
         (said says.Bytes result) (Y.calls system.old) (Y.calls system.new) }
 {
-    match room_for(system.alloc(), size) {
-        Ok(room) => if size == 0 {
-            with_rest(system, file, room)
-        } else {
-            read_through(system, file, room)
-        },
-        Err(_) => Err(io::Error::from(ErrorKind::OutOfMemory)),
+    let room = room_for(system.alloc(), size)?;
+    if size == 0 {
+        return with_rest(system, file, room);
     }
+    let front = read_front(system, file, room)?;
+    with_rest(system, file, front)
 }
 
 /// The whole file at the path.
@@ -119,13 +93,8 @@ pub(crate) fn read_all<Y: System + AllocGlobal>(system: &mut Y, path: &str) -> i
     ensures { RunLogged (calls.opening calls.to_read path.now) (said says.Bytes result)
         (Y.calls system.old) (Y.calls system.new) }
 {
-    match opened(system, path) {
-        Ok((file, info)) => {
-            let mut file = file;
-            read_whole(system, &mut file, count_of(info.size))
-        }
-        Err(error) => Err(error),
-    }
+    let (mut file, info) = opened(system, path)?;
+    read_whole(system, &mut file, count_of(info.size))
 }
 
 /// A shared vector of so many zeros.

@@ -1,13 +1,14 @@
-use Rattle.std.proofs.Common.{◌≡◌, true, false, refl, sym, ap, subst, ◌∙◌}
+use Rattle.std.proofs.{Common.{◌≡◌, true, false, refl, sym, ap, subst, ◌∙◌}, lemmas.Result.{err_from_is_err_and}}
 use Rattle.cacache_folder.{specs.FolderNumbers.{numbered_temp}, proofs.Moving.{rewrites_kept, rewrites_not}}
 use Rattle.cacache_folder.proofs.folder.runner.Runner.replace_read.Goals as goal
 
-pub returns-in-Ok-clause-ran : goal.returns-in-Ok-clause-ran
-returns-in-Ok-clause-ran g c =
+pub returns-clause-ran : goal.returns-clause-ran
+returns-clause-ran g c =
     rewrites_kept (numbered_temp g.Y.System.number c.args.temp.now) c.args.temp.now.is_synced c.args.path.now tt c.move_there.result
-    (g.Y.System.calls c.args.self.now.system) (g.Y.System.calls c.keep.new.system) (g.Y.System.calls c.move_there.new.self.system) c.in-Ok.ensures c.move_there.ensures.ran
+    (g.Y.System.calls c.args.self.now.system) (g.Y.System.calls c.keep.new.system) (g.Y.System.calls c.move_there.new.self.system) c.in_ok-keep.ensures c.move_there.ensures.ran
 
-pub returns-in-Err-clause-ran : goal.returns-in-Err-clause-ran
-returns-in-Err-clause-ran g c =
-    rewrites_not (numbered_temp g.Y.System.number c.args.temp.now) c.args.temp.now.is_synced c.args.path.now c.in-Err.error
-    (g.Y.System.calls c.args.self.now.system) (g.Y.System.calls c.keep.new.system) c.in-Err.ensures
+pub returns-in_err-keep-clause-ran : goal.returns-in_err-keep-clause-ran
+returns-in_err-keep-clause-ran g c =
+    let p = err_from_is_err_and c.from_residual.result c.from_residual.ensures.1 in
+    rw (p.1, p.2) (rewrites_not (numbered_temp g.Y.System.number c.args.temp.now) c.args.temp.now.is_synced c.args.path.now c.in_err-keep.field-0.0
+    (g.Y.System.calls c.args.self.now.system) (g.Y.System.calls c.keep.new.system) c.in_err-keep.ensures)
