@@ -1,11 +1,12 @@
 -- How a run grows by one step, and how a call follows it.
-use Rattle.std.proofs.Common.{◌≡◌, ◌⊎◌, inl, inr, ◌<◌, List, [], ◌∷◌, ◌++◌, Option, Some, None, option_map, true, refl, sym, ap, arith, append_assoc, append-nil}
-use Rattle.cacache_core.specs.declared.errors.Error.TheVariants.{OutOfMemory}
+use Rattle.std.proofs.Common.{◌≡◌, ◌⊎◌, inl, inr, ◌<◌, List, [], ◌∷◌, ◌++◌, Option, Some, None, Ok, Err, option_map, true, refl, sym, ap, subst, arith, append_assoc, append-nil}
+use Rattle.std.specs.Prelude.{Result}
+use Rattle.cacache_core.specs.declared.errors.Error.{Error, TheVariants.{OutOfMemory}}
 use Rattle.cacache_store.specs.{declared.store.{plain.{PlainFile.{PlainFile}, PlainTemp.{PlainTemp}}, log.LogItem.{LogItem, TheVariants.{Made}}}, Plain.{PlainStep, PlainAnswer}, Fits.{Fits, Logs}}
 use Rattle.cacache_store.specs.declared.store.answer.Answer.TheVariants as answers
-use Rattle.cacache_calls.specs.{declared.reply.Reply.{Reply, TheVariants.{Refused}}, State.{State, over}, Table.{wants, after}, Runs.{Moves, Runs, Gains, Ran, effort}}
+use Rattle.cacache_calls.specs.{declared.reply.Reply.{Reply, TheVariants.{Refused}}, State.{State, over}, Table.{wants, after}, Runs.{EndsAs, Moves, Runs, Gains, Ran, effort, plain_reply}}
 use Rattle.cacache_calls.proofs.{Effort.{falls}, Memory.{no_memory_after}, Going.{answer_cases, gains_one, no_gain}}
-use Rattle.cacache_jobs.specs.{declared.{phase.Phase.{Phase}, job.Standing.{Standing}}, JobStates.{PhaseAt}, Jobs.{IdleAt, OutAt, LostMemory, PhaseGoesTo, GoesOnTo, is_idle}, Effort.{phase_effort}}
+use Rattle.cacache_jobs.specs.{declared.{phase.Phase.{Phase}, job.Standing.{Standing}}, JobStates.{Leads, PhaseAt}, Jobs.{IdleAt, OutAt, LostMemory, PhaseGoesTo, GoesOnTo, is_idle}, Effort.{phase_effort, result_effort}}
 use Rattle.cacache_jobs.proofs.PhaseEffort.{phase_effort_is}
 use Rattle.cacache_jobs.specs.declared.phase.Phase.TheVariants as phases
 use Rattle.cacache_jobs.specs.declared.job.Standing.TheVariants as standings
@@ -32,7 +33,7 @@ stops : {s0 : State} {old new : Option (List LogItem)} {s : State} → Reached s
 stops {s = s} x = record { moves = x.moves; gains = x.gains; goes = λ more r h. x.goes more r (memory_runs s more r h) }
 
 -- one more step
-steps : {s0 : State} {old new next : Option (List LogItem)} {s : State} (a : PlainStep) (t : PlainAnswer) → Reached s0 old new s → wants s ≡ Some a → Fits a t → Logs new next a t → Reached s0 old next (after s t)
+pub steps : {s0 : State} {old new next : Option (List LogItem)} {s : State} (a : PlainStep) (t : PlainAnswer) → Reached s0 old new s → wants s ≡ Some a → Fits a t → Logs new next a t → Reached s0 old next (after s t)
 steps {s0} {old} {new} {next} {s} a t x w fits logs =
     elim (answer_cases t) [
       | inl p ↦ rw p.1 (rw (no_memory_after s a p.0 w) (stops {s = s} (let e : next ≡ new = rw p.1 at logs in rw e x)))
@@ -76,40 +77,22 @@ module _ {F T : Type 0} (file : F → PlainFile) (temp : T → PlainTemp) where
   stands_idle (standings.Out stage) s e = absurd e
   stands_idle standings.Told s e = absurd e
 
-  -- there is a state that the call is in after an answer, or at its beginning
-  pub phase_stands : (p : Phase F T) (s : State) → PhaseGoesTo file temp p s → (t : State) × PhaseAt file temp p t
-  phase_stands p s e =
-      elim (phase_at p s e) [
-        | inl at ↦ (s, at)
-        | inr at ↦ (over (Refused OutOfMemory), at)
-      ]
+  falls_on : (p : Phase F T) (r : Result (Phase F T) Error) (s : State) (a : PlainStep) (t : PlainAnswer) → PhaseAt file temp p s → wants s ≡ Some a → Fits a t → Leads file temp r (after s t) → result_effort file temp r < phase_effort file temp p
+  falls_on p (Ok next) s a t now w fits leads = rw (phase_effort_is file temp next (after s t) leads) (rw (phase_effort_is file temp p s now) (falls s a t w fits))
+  falls_on p (Err e) s a t now w fits leads = rw (phase_effort_is file temp p s now) (wants_some s a w)
 
-  pub phase_reached : (s0 s : State) (old new next : Option (List LogItem)) (p : Phase F T) (a : PlainStep) (t : PlainAnswer) → Reached s0 old new s → wants s ≡ Some a → Fits a t → Logs new next a t → PhaseGoesTo file temp p (after s t) → (u : State) × PhaseAt file temp p u × Reached s0 old next u
-  phase_reached s0 s old new next p a t x w fits logs e =
-      let y = steps a t x w fits logs in
-      elim (phase_at p (after s t) e) [
-        | inl at ↦ (after s t, at, y)
-        | inr at ↦ (over (Refused OutOfMemory), at, stops y)
-      ]
-
-  pub phase_shrinks : (r p : Phase F T) (s : State) (a : PlainStep) (t : PlainAnswer) → PhaseAt file temp r s → wants s ≡ Some a → Fits a t → PhaseGoesTo file temp p (after s t) → phase_effort file temp p < phase_effort file temp r
-  phase_shrinks r p s a t now w fits e =
-      elim (phase_at p (after s t) e) [
-        | inl at ↦ rw (phase_effort_is file temp p (after s t) at) (rw (phase_effort_is file temp r s now) (falls s a t w fits))
-        | inr at ↦ rw (phase_effort_is file temp p (over (Refused OutOfMemory)) at) (rw (phase_effort_is file temp r s now) (wants_some s a w))
-      ]
-
-  -- a run from the state in which a call begins is a run from its first state
-  pub ran_from : (p : Phase F T) (s : State) (r : Reply) (old new : Option (List LogItem)) → PhaseGoesTo file temp p s → ((t : State) → PhaseAt file temp p t → Ran t r old new) → Ran s r old new
-  ran_from p s r old new e run =
-      elim (phase_at p s e) [
-        | inl at ↦ run s at
-        | inr at ↦ let h = run (over (Refused OutOfMemory)) at in (h.0, memory_runs s h.0 r h.1, h.2)
-      ]
+  -- with each step the bound falls
+  pub result_shrinks : (q r : Result (Phase F T) Error) (p : Phase F T) (s : State) (a : PlainStep) (t : PlainAnswer) → q ≡ Ok p → PhaseAt file temp p s → wants s ≡ Some a → Fits a t → Leads file temp r (after s t) → result_effort file temp r < result_effort file temp q
+  result_shrinks q r p s a t is now w fits leads = subst (λ (x : Result (Phase F T) Error). result_effort file temp r < result_effort file temp x) (sym is) (falls_on p r s a t now w fits leads)
 
 -- a run of a call that is over
 pub ended : {s0 : State} {old new : Option (List LogItem)} {s : State} (r : Reply) → Reached s0 old new s → s ≡ over r → Ran s0 r old new
 ended r x e = (x.moves ++ [], x.goes [] r (inl e), simp append-nil x.gains)
+
+-- a run of a call that an error ends
+pub ended_by : {s0 : State} {old new : Option (List LogItem)} {s : State} (e : Error) → Reached s0 old new s → EndsAs e s → Ran s0 (plain_reply (Refused e)) old new
+ended_by e x (inl is) = ended (plain_reply (Refused e)) x is
+ended_by e x (inr is) = (x.moves ++ [], x.goes [] (plain_reply (Refused e)) (inr (ap (λ (y : Error). plain_reply (Refused y)) is)), simp append-nil x.gains)
 
 pub start : (s : State) (log : Option (List LogItem)) → Reached s log log s
 start s log = record { moves = []; gains = no_gain log; goes = λ more r h. h }

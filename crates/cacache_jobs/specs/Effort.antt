@@ -1,5 +1,6 @@
 -- A bound on the number of steps that a call still takes.
-use Rattle.std.specs.Prelude.{ℕ, ◌+◌, ◌*◌, ◌^◌, if◌then◌else◌, length}
+use Rattle.std.specs.Prelude.{ℕ, ◌+◌, ◌*◌, ◌^◌, if◌then◌else◌, Result, Ok, Err, length}
+use Rattle.cacache_core.specs.declared.errors.Error.{Error}
 use Rattle.cacache_store.specs.{declared.store.plain.{PlainFile.{PlainFile}, PlainTemp.{PlainTemp}}, Plain.{PlainStep, plain_step}}
 use Rattle.cacache_store.specs.declared.store.step.Step.TheVariants as steps
 use Rattle.cacache_calls.specs.{Runs.{weight, weights, effort}, Storing.{placed}}
@@ -54,3 +55,9 @@ stage_effort (stages.Walking w v) step =
 abbrev pub phase_effort : {F T : Type 0} → (F → PlainFile) → (T → PlainTemp) → Phase F T → ℕ
 phase_effort file temp (phases.Wanting stage step) = stage_effort stage (plain_step file temp step)
 phase_effort file temp (phases.Over reply) = 0
+
+-- the bound of a result; an error ends the call
+abbrev pub result_effort :
+    {F T : Type 0} → (F → PlainFile) → (T → PlainTemp) → Result (Phase F T) Error → ℕ
+result_effort file temp (Ok phase) = phase_effort file temp phase
+result_effort file temp (Err error) = 0

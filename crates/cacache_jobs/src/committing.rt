@@ -3,7 +3,7 @@ ghost use Rattle.std.specs.Prelude.{◌≡◌};
 ghost use Rattle.cacache_core.specs.declared.errors.Error.TheVariants.{OutOfMemory};
 ghost use Rattle.cacache_calls.specs.{Formed.{FormsCommit}, Promises.{OnlyStores, Stores}, Runs.{Ran, plain_reply}, Storing.{persist}, declared.reply.Reply.TheVariants.{Refused}};
 
-use crate::run::finish;
+use crate::run::go_on;
 use crate::storing::begin_commit;
 use cacache_calls::{Commit, Reply, form_commit};
 use cacache_store::env::Env;
@@ -28,5 +28,5 @@ pub fn commit_from<S: Store, C, N>(env: &mut Env<S, C, N>, commit: Commit, file:
 {
     form_commit(&commit);
     let phase = begin_commit(env.alloc, commit, file);
-    finish(&mut env.store, env.alloc, phase)
+    go_on(&mut env.store, env.alloc, phase)
 }

@@ -51,9 +51,7 @@ impl<F: Drop, T: Drop> Drop for Job<F, T> {
 
 /// The phase that this result leads to. An error ends the call.
 #[inline(always)]
-pub(crate) fn over_on_error<F: FileHandle, T: TempHandle>(
-    phase: errors::Result<Phase<F, T>>,
-) -> Phase<F, T>
+fn over_on_error<F: FileHandle, T: TempHandle>(phase: errors::Result<Phase<F, T>>) -> Phase<F, T>
     ensures { (s : State) → Leads F.seen T.seen phase s → PhaseGoesTo F.seen T.seen result s }
 {
     match phase {

@@ -20,16 +20,7 @@ pub fn temp_folder(alloc: Global, cache: &str) -> Result<Text, AllocError>
 pub fn temp_path(alloc: Global, cache: &str, number: u64) -> Result<Text, AllocError>
     ensures { IfOk result (λ path. path ≡ temp_path_of cache.now number) }
 {
-    Ok(temp_place(alloc, cache, number)?.path)
-}
-
-/// The same with its folder.
-#[tactic(auto, unfolding(cacache_calls::specs::StepPaths::temp_path, cacache_calls::specs::StepPaths::temp_folder))]
-pub(crate) fn temp_place(alloc: Global, cache: &str, number: u64) -> Result<Place, AllocError>
-    ensures folder { IfOk result (λ place. place.folder ≡ temp_folder_of cache.now) }
-    ensures path { IfOk result (λ place. place.path ≡ temp_path_of cache.now number) }
-{
-    paths::temp_place(alloc, cache, number)
+    Ok(paths::temp_place(alloc, cache, number)?.path)
 }
 
 /// The path of an integrity's content.

@@ -4,7 +4,7 @@ ghost use Rattle.cacache_core.specs.declared.errors.Error.TheVariants.{OutOfMemo
 ghost use Rattle.cacache_calls.specs.{Formed.{FormsCommit}, Promises.{OnlyStores, Stores}, Runs.{Ran, plain_reply}, Storing.{link as link_of}, declared.reply.Reply.TheVariants.{Refused}};
 
 use crate::linking::link;
-use crate::run::finish;
+use crate::run::go_on;
 use cacache_calls::{Commit, Reply, form_commit};
 use cacache_core::text::Text;
 use cacache_store::env::Env;
@@ -29,5 +29,5 @@ pub fn link_from<S: Store, C, N>(env: &mut Env<S, C, N>, commit: Commit, target:
 {
     form_commit(&commit);
     let phase = link(env.alloc, commit, target);
-    finish(&mut env.store, env.alloc, phase)
+    go_on(&mut env.store, env.alloc, phase)
 }

@@ -3,9 +3,9 @@ ghost use Rattle.std.specs.Prelude.{◌≡◌};
 ghost use Rattle.cacache_core.specs.declared.errors.Error.TheVariants.{OutOfMemory};
 ghost use Rattle.cacache_store.specs.{Fits.{Fits}, Plain.{plain_step, plain_answer}};
 ghost use Rattle.cacache_calls.specs.{Formed.{FormsCommand}, Promises.{Answers}, Runs.{Ran, plain_reply}, State.{State}, Table.{opening}, declared.reply.Reply.TheVariants.{Refused}};
-ghost use Rattle.cacache_jobs.specs.{ReadFirst.{FindsBytes, ReadsFirst}, Jobs.{Stands}, Sites.{site_of}, JobStates.{Leads, PhaseAt}, LeadsOn.{LogsSeen}};
+ghost use Rattle.cacache_jobs.specs.{ReadFirst.{FindsBytes, ReadsFirst}, Jobs.{Stands}, Sites.{site_of}, JobStates.{Leads}, LeadsOn.{LogsSeen}};
 
-use crate::job::{Job, over_on_error};
+use crate::job::Job;
 use crate::opening::open;
 use crate::phase::Phase;
 use cacache_calls::{Command, Reply, form_command};
@@ -25,28 +25,9 @@ fn ask<S: Store>(store: &mut S, step: Step<S::File, S::Temp>) -> Answer<S::File,
     store.step(step)
 }
 
-/// Makes the steps of a call from this phase on, until it is over.
+/// Makes the steps of a call from this result on, until it is over. An error ends the call.
 #[inline(always)]
-fn go_on<S: Store>(store: &mut S, alloc: Global, phase: Phase<S::File, S::Temp>) -> Reply
-    requires { (s : State) × PhaseAt S.File.seen S.Temp.seen phase s }
-    ensures { (s : State) → PhaseAt S.File.seen S.Temp.seen phase s
-        → Ran s (plain_reply result) (S.log store.old) (S.log store.new) }
-{
-    let mut phase = phase;
-    'steps: loop {
-        match phase {
-            Phase::Over(reply) => return reply,
-            Phase::Wanting(stage, step) => {
-                let answer = ask(store, step);
-                phase = over_on_error(stage.resume(alloc, answer));
-            }
-        }
-    }
-}
-
-/// Finishes a call that began with this result. An error ends the call.
-#[inline(always)]
-pub(crate) fn finish<S: Store>(
+pub(crate) fn go_on<S: Store>(
     store: &mut S,
     alloc: Global,
     phase: errors::Result<Phase<S::File, S::Temp>>,
@@ -55,7 +36,17 @@ pub(crate) fn finish<S: Store>(
     ensures { (s : State) → Leads S.File.seen S.Temp.seen phase s
         → Ran s (plain_reply result) (S.log store.old) (S.log store.new) }
 {
-    go_on(store, alloc, over_on_error(phase))
+    let mut phase = phase;
+    'steps: loop {
+        match phase {
+            Err(error) => return Reply::Refused(error),
+            Ok(Phase::Over(reply)) => return reply,
+            Ok(Phase::Wanting(stage, step)) => {
+                let answer = ask(store, step);
+                phase = stage.resume(alloc, answer);
+            }
+        }
+    }
 }
 
 /// Makes the steps of a call until it is over. The reply is that of a run of the call. If the store keeps its log, the log
@@ -66,7 +57,7 @@ pub fn drive<S: Store>(store: &mut S, job: Job<S::File, S::Temp>) -> Reply
         → Ran s (plain_reply result) (S.log store.old) (S.log store.new) }
 {
     let (alloc, phase) = job.into_phase();
-    go_on(store, alloc, phase)
+    go_on(store, alloc, Ok(phase))
 }
 
 /// Makes a call on a cache from its beginning to its end. The reply is that of a run of the call. If the store keeps its
@@ -99,5 +90,5 @@ pub fn call<S: Store, C, N>(
 {
     form_command(&command);
     let phase = open(env.alloc, cache, env.base.as_str(), number, command);
-    finish(&mut env.store, env.alloc, phase)
+    go_on(&mut env.store, env.alloc, phase)
 }

@@ -11,7 +11,7 @@ use crate::comparing::{compare_integrity, compare_size};
 use crate::inserting::{entry_of, insert};
 use crate::messages;
 use crate::phase::{Phase, refused};
-use crate::places::{content_folders, content_path, content_place, temp_place};
+use crate::places::{content_folders, content_path, content_place};
 use crate::stage::{Stage, Then};
 use crate::syncing::{Goal, sync_file, sync_up};
 use cacache_calls::answers::Written;
@@ -21,7 +21,7 @@ use cacache_core::errors::{self, Error, Fault};
 use cacache_core::hasher::Hasher;
 use cacache_core::integrity::{Algorithm, Integrity};
 use cacache_core::keeping::{beside, let_go};
-use cacache_core::paths::Place;
+use cacache_core::paths::{Place, temp_place};
 use cacache_core::text::Text;
 use cacache_store::store::{Answer, FileHandle, Step, TempHandle};
 use std::alloc::Global;
@@ -64,6 +64,7 @@ fn commit_of(alloc: Global, cache: &str, put: Put) -> errors::Result<(Box<Commit
 }
 
 /// Begins a put.
+#[tactic(auto, unfolding(cacache_calls::specs::StepPaths::temp_path, cacache_calls::specs::StepPaths::temp_folder))]
 pub(crate) fn store<F: FileHandle, T: TempHandle>(
     alloc: Global,
     cache: &str,

@@ -2,11 +2,11 @@ use Rattle.cacache_calls.{specs.Storing.{persist}, proofs.{ReplyKinds.{stores_on
 use Rattle.cacache_jobs.proofs.{WrittenCommits.{moved_promise}, Running.{memory_lost}}
 use Rattle.cacache_jobs.proofs.committing.commit_from.Goals as goal
 
-pub finish-requires : goal.finish-requires
-finish-requires g c = (persist c.args.commit (g.S.Temp.TempHandle.seen c.args.file), c.begin_commit-phase.ensures)
+pub go_on-requires : goal.go_on-requires
+go_on-requires g c = (persist c.args.commit (g.S.Temp.TempHandle.seen c.args.file), c.begin_commit-phase.ensures)
 
 pub returns-clause-ran : goal.returns-clause-ran
-returns-clause-ran g c = c.finish.ensures _ c.begin_commit-phase.ensures
+returns-clause-ran g c = c.go_on.ensures _ c.begin_commit-phase.ensures
 
 pub returns-clause-promised : goal.returns-clause-promised
 returns-clause-promised g c =

@@ -2,11 +2,11 @@ use Rattle.cacache_calls.{specs.Storing.{link}, proofs.{ReplyKinds.{stores_only}
 use Rattle.cacache_jobs.proofs.Running.{memory_lost}
 use Rattle.cacache_jobs.proofs.resuming.link_from.Goals as goal
 
-pub finish-requires : goal.finish-requires
-finish-requires g c = (link c.args.commit c.args.target, c.link-phase.ensures)
+pub go_on-requires : goal.go_on-requires
+go_on-requires g c = (link c.args.commit c.args.target, c.link-phase.ensures)
 
 pub returns-clause-ran : goal.returns-clause-ran
-returns-clause-ran g c = c.finish.ensures _ c.link-phase.ensures
+returns-clause-ran g c = c.go_on.ensures _ c.link-phase.ensures
 
 pub returns-clause-promised : goal.returns-clause-promised
 returns-clause-promised g c =
