@@ -159,14 +159,10 @@ pub entries_have_behind : (h : History) → IsLegal h → EntriesHaveBehind h
 entries_have_behind h legal folder p key loss left home_is put keyed left_of =
     entry_behind (insertion_of (put_commit h.setup.cache p) key).entry (put_whole h legal folder home_is p put key keyed) loss left left_of
 
--- the same put, without what is asked about links
-abbrev answered : {h : History} {folder : Names} {p : Put} → DurablePut h folder p → AnsweredPut h folder p
-answered put = record { before = put.before; rest = put.rest; is = put.is; durable = put.durable; reply = put.reply; call = put.call; quiet = put.quiet }
-
 -- it finds no link, so its content is left
 puts_outlast : (h : History) → IsLegal h → FewCalls h → PutsOutlast h
 puts_outlast h legal few folder p loss left home_is put left_of =
-    let both = puts_or_links_outlast h legal few folder p loss left home_is (answered put) left_of in (
+    let both = puts_or_links_outlast h legal few folder p loss left home_is put.answered left_of in (
       elim both.0 [
         | inl content ↦ content
         | inr link ↦ absurd (put.no_link link.0 link.1.target link.1.was)
@@ -179,7 +175,7 @@ inserts_outlast h legal folder n loss left home_is put left_of =
     entry_outlasts (insertion h.setup.cache n).entry (inserted_whole h legal folder home_is n put) loss left left_of
 
 puts_have_behind : (h : History) → IsLegal h → PutsHaveBehind h
-puts_have_behind h legal folder p key loss left home_is put = entries_have_behind h legal folder p key loss left home_is (answered put)
+puts_have_behind h legal folder p key loss left home_is put = entries_have_behind h legal folder p key loss left home_is put.answered
 
 inserts_have_behind : (h : History) → IsLegal h → InsertsHaveBehind h
 inserts_have_behind h legal folder n loss left home_is put left_of =

@@ -94,14 +94,8 @@ pub record AnsweredPut (h : History) (folder : Names) (p : Put) : Type 0 where
 -- such a put that found no link: if it found its content instead of putting it, no link was at its
 -- address
 pub record DurablePut (h : History) (folder : Names) (p : Put) : Type 0 where
-  pub before : List Record
-  pub rest : List Record
-  pub is : h.records ≡ before ++ rest
-  pub durable : p.options.durable ≡ true
-  pub reply : List Hash
-  pub call : EndsFrom h before rest (commands.Put p) (Stored reply)
-  pub quiet :
-      AreQuiet h.setup (folder ++ content_names (address_of_put p)) (now_at h before) rest
+  pub answered : AnsweredPut h folder p
+  pub open answered use *
   pub no_link :
       FindsThere call.caller (joined h.setup.cache (content_names (address_of_put p))) rest
       → IsNoLink (address_of_put p) (value_at h before)

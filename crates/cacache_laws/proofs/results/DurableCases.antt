@@ -128,13 +128,15 @@ module _ (cache : List ℕ) (folder : Names) (p : Put) (is : names_of cache ≡ 
   abbrev put_in : (records : List Record) → EndsFrom (begins_with cache own (commands.Put p) put_moves records) (Began 0 (commands.Put p) ∷ []) records (commands.Put p) (Stored own)
       → AreQuiet (setup_of cache) path (begun cache own (commands.Put p) put_moves) records → DurablePut (begins_with cache own (commands.Put p) put_moves records) folder p
   put_in records ends quiet = record {
-    before = Began 0 (commands.Put p) ∷ [];
-    rest = records;
-    is = refl;
-    durable = durable;
-    reply = own;
-    call = ends;
-    quiet = quiet;
+    answered = record {
+      before = Began 0 (commands.Put p) ∷ [];
+      rest = records;
+      is = refl;
+      durable = durable;
+      reply = own;
+      call = ends;
+      quiet = quiet;
+    };
     no_link = λ found. no_links cache (commands.Put p) (Began 0 (commands.Put p) ∷ records) (address_of_put p);
   }
 
