@@ -4,7 +4,7 @@ use Rattle.cacache_system.specs.declared.call.SystemCall.TheVariants as asks
 use Rattle.cacache_system.specs.declared.call.CallResult.TheVariants as says
 use Rattle.cacache_system.specs.CallLog.{said}
 use Rattle.cacache_system.specs.CallsOf as calls
-use Rattle.cacache_folder.proofs.{CallRuns.{run_call, insists_run}, Failing.{failed_as}}
+use Rattle.cacache_folder.proofs.CallRuns.{run_call, insists_run}
 use Rattle.cacache_folder.proofs.folder.files.append.Goals as goal
 
 pub returns-clause-ran : goal.returns-clause-ran
