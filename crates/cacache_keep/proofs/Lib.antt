@@ -56,3 +56,6 @@ mod SparedLosses
 mod LaterLosses
 mod GrownLosses
 mod LaterCalls
+mod Aging
+mod Entombed
+mod SparedOnes

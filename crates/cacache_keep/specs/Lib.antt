@@ -19,3 +19,6 @@ pub mod Compacting
 pub mod Told
 pub mod Losses
 pub mod Later
+pub mod Limits
+pub mod Pruning
+pub mod Sparing

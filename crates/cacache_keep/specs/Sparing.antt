@@ -1,0 +1,38 @@
+-- Where a key leads after a pruning of any store in memory that stands.
+use Rattle.std.specs.Prelude.{◌≡◌, ℕ, List, Some, Contains, map}
+use Rattle.cacache_core.specs.{declared.integrity.digest.Hash.{Hash}, PathNames.{Names, home_of}}
+use Rattle.cacache_store.specs.declared.store.log.LogItem.{LogItem}
+use Rattle.cacache_disk.specs.memory.Replay.{IsLog}
+use Rattle.cacache_entry.specs.Latest.{Found}
+use Rattle.cacache_calls.specs.State.{Site}
+use Rattle.cacache_laws.specs.{Caches.{HasKey}, Keeping.{found_under}, Standing.{IsStanding}}
+use Rattle.cacache_keep.specs.{declared.limits.Limits.{Limits}, Kept.{LeavesTree}, Pruning.{PlansPrune, PrunesCache}}
+
+-- everything stands where it may still; the key leads to the entry that it led to, and to the same
+-- bytes
+pub record StaysLed
+    (cache key : List ℕ) (i : List Hash) (bytes : List ℕ) (old new : List LogItem) : Type 0 where
+  pub standing : IsStanding cache new
+  pub finds : found_under cache key new ≡ found_under cache key old
+  pub has : HasKey cache key i bytes new
+
+-- one of these entries has the key
+abbrev pub HasKeyAmong : List Found → List ℕ → Type 0
+HasKeyAmong entries key = Contains (map (λ f. f.key) entries) key
+
+-- a plan of a pruning leaves the tree
+abbrev pub PrunePlansLeave : Type 0
+PrunePlansLeave =
+    (limits : Limits) (site : Site) (home : Names) (entries dropped kept : List Found)
+    (odd : List (List ℕ)) (old new : List LogItem) → home_of site.cache ≡ Some home → IsLog new
+    → PlansPrune limits site entries dropped kept odd (Some old) (Some new) → LeavesTree old new
+
+-- after a pruning each key that led to bytes leads where it led, unless a dropped entry has it
+abbrev pub PrunesSpareKeys : Type 0
+PrunesSpareKeys =
+    (limits : Limits) (site : Site) (home : Names) (entries dropped kept : List Found) (left : ℕ)
+    (gone : List (List Hash)) (key bytes : List ℕ) (i : List Hash) (old new : List LogItem)
+    → home_of site.cache ≡ Some home → IsLog new → IsStanding site.cache old
+    → PrunesCache limits site entries dropped kept left gone (Some old) (Some new)
+    → (HasKeyAmong dropped key → ⊥) → HasKey site.cache key i bytes old
+    → StaysLed site.cache key i bytes old new

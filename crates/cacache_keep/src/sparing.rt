@@ -1,0 +1,10 @@
+//! What a pruning leaves, on any store in memory.
+ghost use Rattle.cacache_keep.specs.Sparing.{PrunePlansLeave, PrunesSpareKeys};
+
+/// A plan of a pruning leaves the tree as it is (`plans`). After a pruning of a store in memory where everything stands where
+/// it may, as in a cache or after a loss of power, each key that led to bytes leads to the same entry and the same bytes,
+/// unless an entry that was dropped has it (`keys`).
+pub fn prune_laws()
+    ensures plans { PrunePlansLeave }
+    ensures keys { PrunesSpareKeys }
+{}
