@@ -1,5 +1,5 @@
 -- A pruning leaves each key that led to bytes where it led, unless an entry that is dropped has it.
-use Rattle.std.proofs.{Common.{◌≡◌, ◌⊎◌, ◌<◌, inl, inr, ℕ, List, [], ◌∷◌, ◌++◌, Option, Some, refl, sym, ap, subst, ◌∙◌, map, arith}, lemmas.List.Elements.{All-head, All-tail, Contains-append_left, Contains-append_right, Contains-push}}
+use Rattle.std.proofs.{Common.{◌≡◌, ◌⊎◌, ◌<◌, inl, inr, ℕ, List, [], ◌∷◌, ◌++◌, Option, Some, refl, ap, subst, ◌∙◌, map, arith}, lemmas.List.Elements.{All-head, All-tail, Contains-append_left, Contains-append_right, Contains-push}}
 use Rattle.std.specs.Prelude.{All, Contains, filter_map}
 use Rattle.cacache_core.specs.{declared.integrity.digest.Hash.{Hash}, PathNames.{Names, home_of}}
 use Rattle.cacache_store.specs.declared.store.log.LogItem.{LogItem, TheVariants.{Made}}
@@ -8,10 +8,10 @@ use Rattle.cacache_entry.specs.Latest.{Found}
 use Rattle.cacache_calls.specs.declared.command.Command.TheVariants as commands
 use Rattle.cacache_calls.specs.declared.reply.Reply.TheVariants as replies
 use Rattle.cacache_calls.specs.{Runs.{Gains, Moves}, State.{Site}}
-use Rattle.cacache_laws.specs.{Caches.{Called, HasKey}, Keeping.{found_under}, Standing.{IsStanding}, trees.Later.{AllSpare, Later, SparingCall, StaysRead, calls, looks, written}}
+use Rattle.cacache_laws.specs.{Caches.{Called, HasKey}, Standing.{IsStanding}, trees.Later.{AllSpare, Later, SparingCall, calls, looks, written}}
 use Rattle.cacache_laws.proofs.{Calls.InParts.{logs_lead}, Readings.OpenReaders.{log_front}, trees.{Logged.{gains_join, log_rooted}, SparedKeys.{spared_keys_stay, tombstones_fit}}}
 use Rattle.cacache_sync.specs.Lookups.{delete_of}
-use Rattle.cacache_keep.specs.{declared.{checking.OddLines.TheVariants.{Refuse}, limits.Limits.{Limits}}, Calls.{MadeCalls, removal}, Kept.{LeavesTree}, Keeping.{CollectsFrom, CollectsWith}, Pruning.{IsTomb, PlansPrune, PrunesCache, Tomb, entombing}, Sparing.{HasKeyAmong, PrunePlansLeave, PrunesSpareKeys, StaysLed}}
+use Rattle.cacache_keep.specs.{declared.{checking.OddLines.TheVariants.{Refuse}, limits.Limits.{Limits}}, Calls.{MadeCalls, removal}, Keeping.{CollectsFrom, CollectsWith}, Pruning.{IsTomb, PlansPrune, Tomb, entombing}, Sparing.{PrunePlansLeave, PrunesSpareKeys, StaysLed}}
 use Rattle.cacache_keep.proofs.{LaterCalls.{collections_keep_led}, Parts.{calls_gain}, StandingIndexes.{index_looked}}
 
 -- ---- logs

@@ -1,4 +1,4 @@
-use Rattle.std.{proofs.Common.{◌≡◌, ◌∙◌, map, refl, rules, string_bytes, take}, specs.Prelude.{IsUtf8}}
+use Rattle.std.{proofs.Common.{◌≡◌, ◌∙◌, map, refl, rules, string_bytes}, specs.Prelude.{IsUtf8}}
 use Rattle.cacache_entry.specs.View.{found_view}
 use Rattle.cacache_calls.specs.Runs.{without_message}
 use Rattle.cacache_calls.specs.declared.reply.Reply.TheVariants as replies

@@ -1,4 +1,4 @@
-use Rattle.std.proofs.Common.{◌≡◌, [], ap, inl, inr, map, refl, subst, sym, ◌∙◌}
+use Rattle.std.proofs.Common.{inl, inr, map, refl, subst, ◌∙◌}
 use Rattle.cacache_entry.specs.View.{found_view}
 use Rattle.cacache_jobs.specs.Sites.{site_of}
 use Rattle.cacache_keep.specs.{declared.checking.OddLines.TheVariants.{Refuse}, Checking.{Allows, RefusesOdd}, Keeping.{CollectsWith, StopsCollecting}, Pruning.{Entombs, PlansPrune, StopsEntombing, StopsPruning}}
