@@ -7,7 +7,7 @@ use Rattle.cacache_store.specs.declared.store.answer.Answer.TheVariants as answe
 use Rattle.cacache_disk.specs.{declared.luck.Luck.TheVariants.{Plain}, Tree.{Tree}, Apply.{apply}, memory.Replay.{tree_of, IsLog}}
 use Rattle.cacache_entry.specs.Latest.{Found}
 use Rattle.cacache_calls.specs.{State.{Site}, Runs.{Moves, Gains}}
-use Rattle.cacache_laws.specs.{Sequence.{tree_on, AreAnswered}, trees.{Contents.{HoldsJust}, Index.{IndexLists}, Collecting.{LeavesLive, LinksLeadOut, Removes, is_live}, Idle.{LacksIdle}}}
+use Rattle.cacache_laws.specs.{Sequence.{tree_on, AreAnswered}, trees.{Contents.{HoldsJust}, Index.{IndexLists}, Collecting.{LeavesLive, Removes, is_live}}}
 use Rattle.cacache_laws.proofs.trees.{Collected.{lacks, leaves, others_gone, picked_left, rest_stays}, Logged.{gains_join, log_rooted}, Removed.{removals_run}}
 use Rattle.cacache_keep.specs.{Calls.{MadeCalls, has_entry, removal}, Keeping.{CollectsFrom}, Kept.{CollectionsLackIdle, CollectionsLeave}}
 use Rattle.cacache_keep.proofs.{Chosen.{choice}, Parts.{gains_none}}

@@ -1,5 +1,5 @@
 -- The index read as a whole: a walk through it, and then one through each folder that a link in it leads to.
-use Rattle.std.proofs.Common.{◌≡◌, inl, inr, List, ◌++◌, ℕ, Option, refl, sym, ap, subst, ◌∙◌, map}
+use Rattle.std.proofs.Common.{inr, List, ◌++◌, ℕ, Option, refl, sym, ap, subst, ◌∙◌, map}
 use Rattle.cacache_core.specs.declared.errors.Error.{Error}
 use Rattle.cacache_store.specs.declared.store.log.LogItem.{LogItem}
 use Rattle.cacache_entry.specs.Latest.{Found}

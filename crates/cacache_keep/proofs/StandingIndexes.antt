@@ -6,16 +6,16 @@ use Rattle.cacache_core.proofs.{JoinedNames.{joined_texts_name}, ProperNames.{pr
 use Rattle.cacache_store.specs.declared.store.answer.Answer.TheVariants as answers
 use Rattle.cacache_store.specs.{declared.store.answer.{Kind.{Kind}, Name.{Name}}, Plain.{PlainStep, PlainAnswer}}
 use Rattle.cacache_store.specs.declared.store.step.Step.TheVariants as steps
-use Rattle.cacache_disk.specs.{declared.{luck.Luck.TheVariants.{Plain}, node.Node.{Node, TheVariants.{Folder, File, Link}}}, Tree.{Tree, kind_of, listing, look}, Rooted.{Rooted}, Apply.{apply}, LedTo.{folder, place}}
+use Rattle.cacache_disk.specs.{declared.{luck.Luck.TheVariants.{Plain}, node.Node.{Node, TheVariants.{Folder, File, Link}}}, Tree.{Tree, kind_of, look}, Rooted.{Rooted}, Apply.{apply}, LedTo.{folder, place}}
 use Rattle.cacache_disk.proofs.Standing.{way_clear}
 use Rattle.cacache_entry.specs.Latest.{Found}
 use Rattle.cacache_calls.specs.declared.command.Command.TheVariants as commands
 use Rattle.cacache_calls.specs.declared.reply.Reply.TheVariants as replies
 use Rattle.cacache_calls.specs.{declared.visit.{Task.{Task, TheVariants.{Make, Stumble}}, Visit.{Visit, TheVariants.{Enter, ReadBucket, RemoveFile, RemoveFolder}}}, Runs.{Moves, Runs}, State.{Item, Site}, Walking.{EachVisit, task_for_name, tasks_of, walk}}
 use Rattle.cacache_walks.specs.Reading.{names_shown}
-use Rattle.cacache_laws.specs.{Sequence.{AreAnswered, tree_on}, trees.Index.{IndexLists, is_failure}}
-use Rattle.cacache_laws.proofs.{Readings.ReadsStay.{listing_keeps, reading_keeps}, trees.{Children.{FolderShows, Stands, folder_shown, listed, listed_child, missing, proper_child}, Covering.{named_on}, Listing.{ReadsAll, listing_runs}, Logged.{answered_rest, answered_split, looked, tree_rest}, Members.{Member}}}
-use Rattle.cacache_keep.specs.{Calls.{AreEntries, ListsIndex, index_of}, Linked.{ListsBelow, ListsEach, Part, as_walked, entries_in, linked_in, linked_read, moves_in, taken_as}}
+use Rattle.cacache_laws.specs.{Sequence.{AreAnswered, tree_on}, trees.Index.{IndexLists}}
+use Rattle.cacache_laws.proofs.{Readings.ReadsStay.{listing_keeps, reading_keeps}, trees.{Children.{FolderShows, Stands, folder_shown, listed, listed_child, missing, proper_child}, Covering.{named_on}, Listing.{ReadsAll, listing_runs}, Logged.{answered_rest, answered_split, looked}, Members.{Member}}}
+use Rattle.cacache_keep.specs.{Calls.{ListsIndex, index_of}, Linked.{ListsEach, Part, as_walked, entries_in, linked_in, linked_read, moves_in, taken_as}}
 use Rattle.cacache_keep.proofs.Judged.{index_clean, index_lists}
 
 -- ---- moves without folders in place of buckets

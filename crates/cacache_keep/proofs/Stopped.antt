@@ -6,7 +6,6 @@ use Rattle.cacache_store.specs.declared.store.log.LogItem.{LogItem}
 use Rattle.cacache_entry.specs.Latest.{Found}
 use Rattle.cacache_calls.specs.{declared.{command.Command.{Command}, reply.Reply.{Reply}}, State.{Site, Item}, Table.{opening}, Runs.{Ran, plain_item, without_message}}
 use Rattle.cacache_calls.proofs.Going.{no_gain}
-use Rattle.cacache_calls.specs.declared.command.Command.TheVariants as commands
 use Rattle.cacache_calls.specs.declared.reply.Reply.TheVariants as replies
 use Rattle.cacache_jobs.specs.Sites.{site_of}
 use Rattle.cacache_walks.specs.Listing.{ListsContents}

@@ -1,4 +1,4 @@
-use Rattle.std.proofs.Common.{List, map, subst, ℕ}
+use Rattle.std.proofs.Common.{List, map, ℕ}
 use Rattle.cacache_core.specs.{declared.errors.Error.TheVariants.{OutOfMemory}, Paths.{index_area, join}}
 use Rattle.cacache_calls.specs.Runs.{plain_item}
 use Rattle.cacache_jobs.specs.Sites.{site_of}
