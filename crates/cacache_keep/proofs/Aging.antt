@@ -1,6 +1,6 @@
 -- Entries in the order of their ages, and how many of the newest keep within limits.
 use Rattle.std.proofs.{Common.{◌≡◌, Bool, true, false, ◌+◌, ◌-◌, ◌<◌, ◌≤◌, ℕ, List, [], ◌∷◌, ◌++◌, Option, None, Some, refl, sym, ap, ap₂, subst, ◌∙◌, map, length, drop, take, get_or, option_map, append_assoc, length-append, arith}, lemmas.List.{drop-map, drop_at, drop_more, get_or-map, length-map, length-take-le, map-append, take-append-drop, Elements.{All-cons, All-head, All-nil}, Sums.{sum_by-cons}}}
-use Rattle.std.specs.{Prelude.{All, IsTrue, ◌↔◌}, List.{Sorted.{IsPermutation, IsSorted, IsSortedBy}}, declared.cmp.Ordering.{Ordering}, Ordering.{is_lt}, Cmp.{IsTotalOrder, then_total, on_total, nat_cmp_total, Lexicographic.{nat_list_cmp_total}}}
+use Rattle.std.specs.{Prelude.{All, IsTrue, ◌↔◌}, List.Sorted.{IsPermutation, IsSorted, IsSortedBy}, declared.cmp.Ordering.{Ordering}, Ordering.{is_lt}, Cmp.{IsTotalOrder, then_total, on_total, nat_cmp_total, Lexicographic.{nat_list_cmp_total}}}
 use Rattle.cacache_entry.specs.{Latest.{Found}, View.{found_view}, declared.metadata.Metadata.{Metadata}}
 use Rattle.cacache_keep.specs.{declared.limits.Limits.{Limits}, Limits.{DropsOldest, IsSince, IsWithin, Keeps, age_cmp, bytes_in}}
 

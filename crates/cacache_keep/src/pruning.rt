@@ -48,10 +48,7 @@ pub struct Pruned {
 }
 
 /// The entries, out of what the index has.
-fn metadata_of(
-    alloc: Global,
-    entries: Vec<Found>,
-) -> std::result::Result<Vec<Metadata>, AllocError>
+fn metadata_of(alloc: Global, entries: Vec<Found>) -> std::result::Result<Vec<Metadata>, AllocError>
     ensures { IfOk result (λ all. map found_view all.items ≡ entries.items) }
 {
     let mut all = Vec::new(alloc);
