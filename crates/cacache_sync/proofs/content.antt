@@ -1,6 +1,7 @@
 pub mod Fills
 pub mod GivenUp
 pub mod OpenedLookups
+pub mod Rests
 pub mod StepAnswers
 pub mod Writes
 mod MadeTemps

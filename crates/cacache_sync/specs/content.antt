@@ -2,3 +2,4 @@ pub mod OpenReads
 pub mod Passed
 pub mod OpenWrites
 pub mod Filling
+pub mod Rests

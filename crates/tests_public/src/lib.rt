@@ -7,6 +7,8 @@ mod bases;
 #[cfg(test)]
 mod bytes;
 #[cfg(test)]
+mod fetched;
+#[cfg(test)]
 mod losing;
 #[cfg(test)]
 mod making;

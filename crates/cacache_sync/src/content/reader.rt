@@ -3,8 +3,9 @@ ghost use Rattle.std.proofs.Common.{append-nil, append_assoc, subst, sym};
 ghost use Rattle.std.specs.{Prelude.{◌≡◌, ◌++◌, ℕ, List, Some, IsOk, IfOk, IfErr, OnOk, OnErr, length}, Io.{ReadsAtMost, KnownBytes.{Consumes, ReadConsumes}}};
 ghost use Rattle.cacache_core.specs.{declared.integrity.digest.Hash.{Hash}, Integrity.{Meets, strongest, actual}, Refusals.{IsCheckFailure}};
 ghost use Rattle.cacache_store.specs.Handles.{LeftFalls};
-ghost use Rattle.cacache_sync.specs.content.{OpenReads.{HasRead, OpensHash, OpensKey, ReadsMore, ReadsPart}, OpenWrites.{IsRetried}, Passed.{passed}};
+ghost use Rattle.cacache_sync.specs.content.{OpenReads.{HasRead, OpensHash, OpensKey, ReadsMore, ReadsPart}, OpenWrites.{IsRetried}, Passed.{passed}, Rests.{CopiesTo, Finishes}};
 
+use crate::content::draining::{drain, once_checked, unread};
 use crate::content::filling::{Pieces, fill};
 use cacache_calls::Command;
 use cacache_calls::answers::file_of;
@@ -17,7 +18,7 @@ use cacache_store::env::{Clock, Env, Names};
 use cacache_store::store::{OpenedFile, Step, Store};
 use std::alloc::{AllocError, Global};
 use std::io;
-use std::io::Read;
+use std::io::{Read, Write};
 
 /// An open content, read in pieces. It gives the bytes of the file that was opened, in order, also if the content was
 /// replaced or removed since. Each byte is hashed once. No byte is verified before `check`: always call that at the
@@ -154,6 +155,42 @@ impl<F: OpenedFile> SyncReader<F> {
             checker,
         } = self;
         checker.result(alloc)
+    }
+
+    /// Reads the rest of the content in pieces of 8192 bytes, and then does what `check` does. The bytes that were read
+    /// before count too. It holds one piece at a time.
+    ///
+    /// `IoError` says that a read failed. `IntegrityError` has the integrity that the reader was opened with and the one
+    /// of all bytes, if these don't meet the first.
+    pub fn finish(self) -> Result<Algorithm>
+        ensures finishes { (i : List Hash) (bytes : List ℕ) → HasRead self i bytes
+            → Finishes (F.seen self.file) i bytes result }
+    {
+        let alloc = self.alloc;
+        let mut reader = self;
+        match drain(&mut reader, &mut io::sink()) {
+            Ok(_count) => reader.check(),
+            Err(error) => Err(unread(alloc, error)),
+        }
+    }
+
+    /// Reads the rest of the content in pieces of 8192 bytes, writes each to `out`, and checks all bytes as `finish` does.
+    /// Returns how many bytes it wrote, where 2^64 - 1 stands for that many or more. Bytes that were read before count for
+    /// the check and aren't written. `out` isn't flushed.
+    ///
+    /// `out` gets bytes before they are checked: after an error use none of them. `IoError` says that a read or a write
+    /// failed. `IntegrityError` comes as from `finish`; then `out` has all bytes that were left.
+    pub fn copy_to<W: Write>(self, out: &mut W) -> Result<u64>
+        ensures copies { (i : List Hash) (bytes : List ℕ) → HasRead self i bytes
+            → CopiesTo (F.seen self.file) i bytes
+            (W.contents out.old) (W.contents out.new) result }
+    {
+        let alloc = self.alloc;
+        let mut reader = self;
+        match drain(&mut reader, out) {
+            Ok(count) => once_checked(count, reader.check()),
+            Err(error) => Err(unread(alloc, error)),
+        }
     }
 }
 
