@@ -2,3 +2,4 @@
 pub use cacache_core::errors::{
     Error, Fault, IntegrityFault, IoErrorExt, Quoting, Result, SerdeCause, io_error,
 };
+pub use cacache_sync::is_damage;
