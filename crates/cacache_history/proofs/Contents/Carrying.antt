@@ -5,7 +5,7 @@ use Rattle.cacache_store.specs.{declared.store.plain.{PlainTemp.{PlainTemp}, Pla
 use Rattle.cacache_store.specs.declared.store.step.Step.TheVariants as steps
 use Rattle.cacache_store.specs.declared.store.answer.Answer.TheVariants as answers
 use Rattle.cacache_disk.specs.{declared.{luck.Luck.{Luck}, node.Node.TheVariants.{File}}, Tree.{Tree, put}, LedTo.{free}, Apply.{apply, grown, taken, unless, made_temp}}
-use Rattle.cacache_calls.specs.{declared.{command.{Command.{Command}, Export.{Export}, How.{How, TheVariants.{Copy, Reflink, HardLink}}}, carried.{Commit.{Commit}, Aim.{Aim}, Lookup.{Lookup}, Content.{Content}}, visit.Visit.{Visit, TheVariants.{Enter, ReadBucket, RemoveFile, RemoveFolder}}}, StepPaths.{temp_path, content_path}, Exporting.{export_from, export_content, export, verified}, Looking.{found_content, found_for}, Walking.{visit_step}, State.{State, doing, creating, writing, syncing, persisting, linking, confirming, appending, looking, reading, asking, sizing, opening_file, hashing, copying, walking, over, Site, Insertion, Hashing, to_verify, to_link, Errand, make_folder, remove, reflink, hard_link, sync_file, sync_dir}, Answers.{temp_in, written_in, synced_in}, Common.{ends_with, errand_step}, Inserting.{insertion, deletion, unless_refused, refused_cause}, Linking.{link_target, after_read}, Table.{wants, after, opening}}
+use Rattle.cacache_calls.specs.{declared.{command.{Command.{Command}, Export.{Export}, How.{How, TheVariants.{Copy}}}, carried.{Commit.{Commit}, Aim.{Aim}, Lookup.{Lookup}, Content.{Content}}, visit.Visit.{Visit, TheVariants.{Enter}}}, StepPaths.{temp_path, content_path}, Exporting.{export_from, export_content, export, verified}, Looking.{found_content, found_for}, Walking.{visit_step}, State.{State, doing, creating, writing, syncing, persisting, linking, sizing, opening_file, hashing, walking, over, Site, Insertion, Hashing, to_verify, to_link, Errand, make_folder}, Answers.{temp_in, written_in, synced_in}, Common.{ends_with, errand_step}, Inserting.{insertion, deletion, unless_refused, refused_cause}, Linking.{link_target, after_read}, Table.{wants, after, opening}}
 use Rattle.cacache_calls.proofs.{Branches.{cond_leads}, Closed.{AnyWalk, ClosedCommit, ClosedWalk, Closed, kept}, Leading.{inserts as adds, places}, Visits.{AnyVisit, any_visits}, Sound.{some_is}}
 use Rattle.cacache_calls.specs.declared.command.Command.TheVariants as commands
 use Rattle.cacache_calls.specs.declared.command.Source.TheVariants as sources
@@ -71,38 +71,25 @@ Makes own step = Unit {0}
 
 errand_makes : (own : Own) (errand : Errand) → Makes own (errand_step errand)
 errand_makes own (make_folder path) = tt
-errand_makes own (remove path) = tt
-errand_makes own (reflink from to) = tt
-errand_makes own (hard_link from to) = tt
-errand_makes own (sync_file path) = tt
-errand_makes own (sync_dir path) = tt
+errand_makes own errand = tt
 
 visit_makes : (own : Own) (v : Visit) → Makes own (visit_step v)
 visit_makes own (Enter p level) = tt
-visit_makes own (ReadBucket p) = tt
-visit_makes own (RemoveFile p) = tt
-visit_makes own (RemoveFolder p) = tt
+visit_makes own v = tt
 
 pub carries_makes : (own : Own) (s : State) (step : PlainStep) → Carries own s → wants s ≡ Some step → Makes own step
 carries_makes own (doing errand s) step h w = some_is (Makes own) _ step w (errand_makes own errand)
-carries_makes own (creating number c rest) step h w = some_is (Makes own) _ step w tt
 carries_makes own (writing c file rest) step h w = some_is (Makes own) (steps.Write file rest) step w tt
 carries_makes own (syncing c file) step h w = some_is (Makes own) (steps.SyncTemp file) step w tt
 carries_makes own (persisting c file) step h w = some_is (Makes own) _ step w h
 carries_makes own (linking c target) step h w = some_is (Makes own) _ step w h
-carries_makes own (confirming c fault) step h w = some_is (Makes own) _ step w tt
-carries_makes own (appending i) step h w = some_is (Makes own) _ step w tt
 carries_makes own (sizing t) step h w = some_is (Makes own) (steps.Size t.path) step w tt
 carries_makes own (opening_file (to_link t)) step h w = some_is (Makes own) (steps.Open t.path) step w tt
 carries_makes own (hashing (to_link t) file bytes) step h w = some_is (Makes own) _ step w tt
-carries_makes own (looking l) step h w = some_is (Makes own) _ step w tt
-carries_makes own (reading k) step h w = some_is (Makes own) _ step w tt
-carries_makes own (asking k) step h w = some_is (Makes own) _ step w tt
 carries_makes own (opening_file (to_verify k e)) step h w = some_is (Makes own) (steps.Open (content_path k.cache k.integrity)) step w tt
-carries_makes own (hashing (to_verify k e) file bytes) step h w = some_is (Makes own) _ step w tt
-carries_makes own (copying from to verified) step h w = some_is (Makes own) _ step w tt
 carries_makes own (walking w v todo) step h e = some_is (Makes own) _ step e (visit_makes own v)
 carries_makes own (over reply) step h w = absurd cc
+carries_makes own s step h w = some_is (Makes own) _ step w tt
 
 -- ---- answers of the disk
 
@@ -143,8 +130,7 @@ module _ (own : Own) where
 
   exports_from : (how : How) (from to : List ℕ) (count : Option ℕ) → Carries own (export_from how from to count)
   exports_from Copy from to count = tt
-  exports_from Reflink from to count = tt
-  exports_from HardLink from to count = tt
+  exports_from how from to count = tt
 
   pub exports : (k : Content) (e : Export) → Carries own (export k e)
   exports k e = cond_leads (Carries own) e.checked (opening_file (to_verify k e)) (export_content k e None) (λ _. tt) (λ _. exports_from e.how (content_path k.cache k.integrity) e.to None)
@@ -156,12 +142,10 @@ module _ (own : Own) where
 
   founds : (l : Lookup) (aim : Aim) (found : Option Found) → Carries own (found_for l aim found)
   founds l aims.Report found = tt
-  founds l aims.Remove None = tt
   founds l aims.Remove (Some f) = tt
-  founds l aims.Read None = tt
   founds l aims.Read (Some f) = tt
-  founds l (aims.Export e) None = tt
   founds l (aims.Export e) (Some f) = exports (found_content l f) e
+  founds l aim None = tt
 
   reads_on : (x : Hashing) (file : PlainFile) (bytes : List ℕ) (got : PlainFile × List ℕ) → Carries own (hashing x file bytes) → Carries own (after_read x bytes got)
   reads_on (to_link t) file bytes (rest, []) h = h

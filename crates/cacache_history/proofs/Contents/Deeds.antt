@@ -22,7 +22,7 @@ unless_fails : {A : Type 0} (r : Result A Fault) (t : Tree) (go : A → PlainAns
 unless_fails (Ok x) t go h = h x
 unless_fails (Err fault) t go h = tt
 
-no_place : (t : Tree) (path : List ℕ) (fault : Fault) → names_of path ≡ Err fault → place t path ≡ Err fault
+pub no_place : (t : Tree) (path : List ℕ) (fault : Fault) → names_of path ≡ Err fault → place t path ≡ Err fault
 unfolding place
 no_place t path fault e = rw e refl
 
@@ -164,21 +164,12 @@ module _ (own : Own) (t : Tree) (luck : Luck) (es : List Effect) (ds : List Deed
   one_step (steps.Symlink target p) a is m = links target p a (names_of p) own refl refl is m
   one_step (steps.Append p line) a is m = appends p line a is
   one_step (steps.Exists p) a is m = asks p a
-  one_step (steps.CreateTemp p) a is m = h
-  one_step (steps.Write file bytes) a is m = h
-  one_step (steps.ReadAll p) a is m = h
-  one_step (steps.Open p) a is m = h
-  one_step (steps.Read file n) a is m = h
-  one_step (steps.Size p) a is m = h
-  one_step (steps.ReadDir p) a is m = h
-  one_step (steps.SyncTemp file) a is m = h
-  one_step (steps.SyncFile p) a is m = h
-  one_step (steps.SyncDir p) a is m = h
   one_step (steps.Copy p q) a is m = ([], ds, refl, h)
   one_step (steps.Reflink p q) a is m = ([], ds, refl, h)
   one_step (steps.HardLink p q) a is m = ([], ds, refl, h)
   one_step (steps.RemoveFile p) a is m = (_, ds, refl, h)
   one_step (steps.RemoveDir p) a is m = (_, ds, refl, h)
+  one_step step a is m = h
 
 -- ---- all turns
 

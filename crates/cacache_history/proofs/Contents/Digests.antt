@@ -9,11 +9,8 @@ use Rattle.cacache_core.specs.{declared.integrity.{algorithm.Algorithm.{Algorith
 use Rattle.cacache_core.proofs.{Decoded.{bytes_append}, PathLemmas.{sha1_bytes, keys_have_digests}, ProperNames.{be_bytes}}
 
 word_bytes : (n : ℕ) → IsBytes (to_be_bytes w32 n)
-word_bytes n zero = omega arith
-word_bytes n (suc zero) = omega arith
-word_bytes n (suc (suc zero)) = omega arith
 word_bytes n (suc (suc (suc zero))) = omega arith
-word_bytes n (suc (suc (suc (suc i)))) = omega arith
+word_bytes n i = omega arith
 
 small_bytes : (h : List ℕ) (n : ℕ) → IsBytes (small.digest_bytes h n)
 unfolding small.digest_bytes
@@ -56,9 +53,7 @@ digest_hash Sha512 m = record { bytes = sha512_bytes m; long_enough = omega (ari
 
 pub own_ordered : (a : Algorithm) (d : List ℕ) → strongest_first (hash_of a d ∷ []) ≡ hash_of a d ∷ []
 own_ordered Sha1 d = refl
-own_ordered Sha256 d = refl
-own_ordered Sha384 d = refl
-own_ordered Sha512 d = refl
+own_ordered a d = refl
 
 -- the digest alone makes one
 pub own_integrity : (a : Algorithm) (bytes : List ℕ) → IsIntegrity (integrity_under a bytes)
@@ -70,7 +65,7 @@ own_integrity a bytes = record {
 
 -- ---- bytes that meet it
 
-one_of : (x y : Hash) → Contains (x ∷ []) y → x ≡ y
+pub one_of : (x y : Hash) → Contains (x ∷ []) y → x ≡ y
 one_of x y c = by c.0 c.1 c.2
   where
     by : (k : ℕ) → k < 1 → slice_index_or (x ∷ []) k y ≡ y → x ≡ y

@@ -6,7 +6,7 @@ use Rattle.cacache_store.specs.{declared.store.plain.PlainFile.{PlainFile}, Plai
 use Rattle.cacache_store.specs.declared.store.step.Step.TheVariants as steps
 use Rattle.cacache_store.specs.declared.store.answer.Answer.TheVariants as answers
 use Rattle.cacache_disk.specs.{declared.luck.Luck.{Luck}, Tree.{Tree}, Apply.{apply, given, readable, rest_of}}
-use Rattle.cacache_calls.specs.{State.{State, doing, creating, writing, syncing, persisting, linking, confirming, appending, looking, reading, asking, sizing, opening_file, hashing, copying, walking, over, Errand, make_folder, remove, reflink, hard_link, sync_file, sync_dir}, declared.visit.Visit.{Visit, TheVariants.{Enter, ReadBucket, RemoveFile, RemoveFolder}}, Common.{errand_step}, Runs.{Moves, Runs}, Table.{piece, wants, after}, Verifying.{Gives}, Walking.{visit_step}}
+use Rattle.cacache_calls.specs.{State.{State, doing, writing, syncing, sizing, hashing, walking, over, Errand, make_folder}, declared.visit.Visit.{Visit, TheVariants.{Enter}}, Common.{errand_step}, Runs.{Moves, Runs}, Table.{piece, wants, after}, Verifying.{Gives}, Walking.{visit_step}}
 use Rattle.cacache_calls.proofs.Sound.{some_is}
 use Rattle.cacache_value.proofs.Shows.{apply_answer}
 
@@ -18,36 +18,21 @@ AsksPiece step = Unit {0}
 
 errand_asks : (errand : Errand) → AsksPiece (errand_step errand)
 errand_asks (make_folder path) = tt
-errand_asks (remove path) = tt
-errand_asks (reflink from to) = tt
-errand_asks (hard_link from to) = tt
-errand_asks (sync_file path) = tt
-errand_asks (sync_dir path) = tt
+errand_asks errand = tt
 
 visit_asks : (v : Visit) → AsksPiece (visit_step v)
 visit_asks (Enter p level) = tt
-visit_asks (ReadBucket p) = tt
-visit_asks (RemoveFile p) = tt
-visit_asks (RemoveFolder p) = tt
+visit_asks v = tt
 
 state_asks : (s : State) (step : PlainStep) → wants s ≡ Some step → AsksPiece step
 state_asks (doing errand s) step w = some_is AsksPiece _ step w (errand_asks errand)
-state_asks (creating number c rest) step w = some_is AsksPiece _ step w tt
 state_asks (writing c file rest) step w = some_is AsksPiece (steps.Write file rest) step w tt
 state_asks (syncing c file) step w = some_is AsksPiece (steps.SyncTemp file) step w tt
-state_asks (persisting c file) step w = some_is AsksPiece _ step w tt
-state_asks (linking c target) step w = some_is AsksPiece _ step w tt
-state_asks (confirming c fault) step w = some_is AsksPiece _ step w tt
-state_asks (appending i) step w = some_is AsksPiece _ step w tt
-state_asks (looking l) step w = some_is AsksPiece _ step w tt
-state_asks (reading k) step w = some_is AsksPiece _ step w tt
-state_asks (asking k) step w = some_is AsksPiece _ step w tt
 state_asks (sizing t) step w = some_is AsksPiece (steps.Size t.path) step w tt
-state_asks (opening_file h) step w = some_is AsksPiece _ step w tt
 state_asks (hashing h file bytes) step w = some_is AsksPiece (steps.Read file piece) step w refl
-state_asks (copying from to verified) step w = some_is AsksPiece _ step w tt
 state_asks (walking v visit todo) step w = some_is AsksPiece _ step w (visit_asks visit)
 state_asks (over reply) step w = absurd cc
+state_asks s step w = some_is AsksPiece _ step w tt
 
 abbrev pub EachAsks : Moves → Type 0
 EachAsks [] = Unit {0}
@@ -76,7 +61,7 @@ given_next file size all lt = by (file.left == length all)
     by true = (drop size all, refl, take-append-drop size all, no_first size all lt)
     by false = tt
 
-some_readable : (most : Option ℕ) (size : ℕ) → 0 < size → 0 < readable most size
+pub some_readable : (most : Option ℕ) (size : ℕ) → 0 < size → 0 < readable most size
 some_readable None size lt = lt
 some_readable (Some most) size lt = omega (arith, lt)
 

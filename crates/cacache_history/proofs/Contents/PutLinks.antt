@@ -5,7 +5,7 @@ use Rattle.cacache_store.specs.declared.store.step.Step.TheVariants as steps
 use Rattle.cacache_store.specs.Plain.{PlainStep, PlainAnswer}
 use Rattle.cacache_disk.specs.declared.luck.Luck.{Luck}
 use Rattle.cacache_calls.specs.{declared.{reply.Reply.{Reply}, carried.Commit.{Commit}}, StepPaths.{content_path}, State.{Insertion}, Storing.{insertion_of}}
-use Rattle.cacache_value.specs.{Acts.{Act, Nothing, PutBytes, PutLink, AddEntries, Drop, MakeFolders, DropFolder, act_of, change}, Kinds.{is_path_of}, Traces.{Move}, Value.{Blob, InFile, AtLink, Value}}
+use Rattle.cacache_value.specs.{Acts.{Act, PutBytes, PutLink, AddEntries, Drop, act_of, change}, Kinds.{is_path_of}, Traces.{Move}, Value.{Blob, InFile, AtLink, Value}}
 use Rattle.cacache_history.specs.{History.{Turn}, Commits.{Deed, does, finds, deeds_of_act, finds_in, deeds_of, deeds, PutsContent, IsAdded, InsertionAdds, AddsAfter, CommitsAs}, AddedEntries.{IsAmong}}
 use Rattle.cacache_history.proofs.{Each.{any_left, any_right}, StepActs.{MayAct, acts_so}}
 
@@ -45,10 +45,7 @@ pub from_act : (folder : Option Names) (v : Value) (act : Act) (a : Hash) (targe
 from_act folder v (PutLink path to) a target e = by_link folder path to a target (v.contents a) (is_path_of folder (content_names a) path) refl e
 from_act folder v (PutBytes path bytes) a target e = inl (by_bytes bytes target (v.contents a) (is_path_of folder (content_names a) path) e)
 from_act folder v (Drop path) a target e = inl (by_drop target (v.contents a) (is_path_of folder (content_names a) path) e)
-from_act folder v Nothing a target e = inl e
-from_act folder v (AddEntries path new) a target e = inl e
-from_act folder v (MakeFolders path count) a target e = inl e
-from_act folder v (DropFolder path) a target e = inl e
+from_act folder v act a target e = inl e
 
 -- ---- the deed among those of its call
 

@@ -7,7 +7,7 @@ use Rattle.cacache_store.specs.declared.store.step.Step.TheVariants as steps
 use Rattle.cacache_disk.{specs.{declared.luck.Luck.{Luck}, Tree.{Tree}, Apply.{apply}}, proofs.Maps.{same_path-true}}
 use Rattle.cacache_calls.specs.{declared.command.Command.{Command}, StepPaths.{content_path}}
 use Rattle.cacache_calls.specs.declared.command.Command.TheVariants as commands
-use Rattle.cacache_value.specs.{Kinds.{is_path_of}, Value.{Blob, InFile, AtLink, Value, wide_value}, Acts.{Act, Nothing, PutBytes, PutLink, AddEntries, Drop, MakeFolders, DropFolder, act_of, change}, Placed.{Placed, Proper}, OpeningTrees.{IsOpening}}
+use Rattle.cacache_value.specs.{Kinds.{is_path_of}, Value.{Blob, InFile, AtLink, Value, wide_value}, Acts.{Act, PutBytes, PutLink, Drop, act_of, change}, Placed.{Placed, Proper}, OpeningTrees.{IsOpening}}
 use Rattle.cacache_value.proofs.Traces.{steps_act}
 use Rattle.cacache_history.specs.{Setup.{Setup, call_site, home}, Values.{HasDigest, AreRight}}
 use Rattle.cacache_history.proofs.{Contents.{Carrying.{Own, own_bytes, own_link, own_of, Makes}, Digests.{digest_hash}}, StepActs.{MayAct, acts_so}}
@@ -42,10 +42,7 @@ change_right : (folder : Option Names) (v : Value) (act : Act) → PutsRight fol
 change_right folder v (PutBytes path new) p r h is bytes = put_right h bytes new (is_path_of folder (content_names h) path) (v.contents h) (p h is) (r h is bytes)
 change_right folder v (PutLink path target) p r h is bytes = link_right h bytes target (is_path_of folder (content_names h) path) (v.contents h) (r h is bytes)
 change_right folder v (Drop path) p r h is bytes = drop_right h bytes (is_path_of folder (content_names h) path) (v.contents h) (r h is bytes)
-change_right folder v Nothing p r h is bytes = r h is bytes
-change_right folder v (AddEntries path new) p r h is bytes = r h is bytes
-change_right folder v (MakeFolders path count) p r h is bytes = r h is bytes
-change_right folder v (DropFolder path) p r h is bytes = r h is bytes
+change_right folder v act p r h is bytes = r h is bytes
 
 -- ---- what a command puts
 

@@ -8,7 +8,7 @@ use Rattle.cacache_disk.{specs.{declared.luck.Luck.{Luck}, Tree.{Tree}}, proofs.
 use Rattle.cacache_entry.specs.Entry.{Entry}
 use Rattle.cacache_calls.specs.{declared.{command.{Command.{Command}, Link.{Link}}, reply.Reply.{Reply, TheVariants.{Stored}}, carried.Commit.{Commit}}, StepPaths.{content_path}, Storing.{insertion_of, put_commit}, Inserting.{given_or}, Linking.{link_target, commit_for}, Answers.{there_in}}
 use Rattle.cacache_calls.specs.declared.command.Command.TheVariants as commands
-use Rattle.cacache_value.specs.{Kinds.{is_path_of}, Value.{Blob, InFile, AtLink, Value, value_of_tree}, Shows.{blob_there}, Acts.{Act, Nothing, PutBytes, PutLink, AddEntries, Drop, MakeFolders, DropFolder, act_of, change}, Traces.{acts}}
+use Rattle.cacache_value.specs.{Kinds.{is_path_of}, Value.{Blob, InFile, AtLink, Value, value_of_tree}, Shows.{blob_there}, Acts.{Act, PutBytes, PutLink, AddEntries, Drop, act_of, change}, Traces.{acts}}
 use Rattle.cacache_history.specs.{declared.record.Record.{Record, TheVariants.{Began, Moved, Stopped}}, Setup.{call_site, home}, History.{History, Turn, Call, Made, IsLegal, Reaches}, Turns.{EachTurn}, Values.{steps_of, value_at, opening_value, KeepContent, IsThere, HasDigest}, ShownTurns.{content_at, unless_failed}, Commits.{Deed, does, finds, deeds_of_act, finds_in, deeds_of, deeds, PutsContent, IsAdded, InsertionAdds, AddsAfter, CommitsAs, LinksAs, IsCase}, AddedEntries.{NamesOwn, IsAmong, Added, IsContentOf, NamesContent, EntriesNameContents, address_of_put, PutsLeaveContents}, TurnPlaces.{TurnAt}}
 use Rattle.cacache_history.proofs.{Contents.{Carrying.{Own, own_bytes, own_link, put_own}, Digests.{digest_hash}, Commits.{commits_are_cases}}, Histories.{Holding.{TurnHolds, TurnsHold}, Values.{value_follows_acts, contents_stay, contents_are_right}, Runs.{reached}, ShownTurns.{content_below, there_at}, Turned.{reached_turns}}}
 
@@ -35,18 +35,15 @@ done_at h d (turn ∷ turns) hold at is =
     ]
 
 pub act_is : (act of : Act) → IsAmong (does act) (deeds_of_act of) → of ≡ act
-act_is act Nothing h = absurd h
 act_is act (PutBytes names bytes) (inl e) = cc
 act_is act (PutBytes names bytes) (inr none) = absurd none
 act_is act (PutLink names target) (inl e) = cc
 act_is act (PutLink names target) (inr none) = absurd none
-act_is act (AddEntries names []) h = absurd h
 act_is act (AddEntries names (e ∷ es)) (inl same) = cc
 act_is act (AddEntries names (e ∷ es)) (inr none) = absurd none
 act_is act (Drop names) (inl e) = cc
 act_is act (Drop names) (inr none) = absurd none
-act_is act (MakeFolders names count) h = absurd h
-act_is act (DropFolder names) h = absurd h
+act_is act of h = absurd h
 
 pub not_found : (act : Act) (step : PlainStep) (answer : PlainAnswer) → IsAmong (does act) (finds_in step answer) → ⊥
 not_found act (steps.Exists path) (answers.There true) (inl e) = absurd cc
@@ -54,18 +51,15 @@ not_found act (steps.Exists path) (answers.There true) (inr none) = absurd none
 not_found act step answer h = absurd h
 
 not_done : (path : List ℕ) (of : Act) → IsAmong (finds path) (deeds_of_act of) → ⊥
-not_done path Nothing h = absurd h
 not_done path (PutBytes names bytes) (inl e) = absurd cc
 not_done path (PutBytes names bytes) (inr none) = absurd none
 not_done path (PutLink names target) (inl e) = absurd cc
 not_done path (PutLink names target) (inr none) = absurd none
-not_done path (AddEntries names []) h = absurd h
 not_done path (AddEntries names (e ∷ es)) (inl same) = absurd cc
 not_done path (AddEntries names (e ∷ es)) (inr none) = absurd none
 not_done path (Drop names) (inl e) = absurd cc
 not_done path (Drop names) (inr none) = absurd none
-not_done path (MakeFolders names count) h = absurd h
-not_done path (DropFolder names) h = absurd h
+not_done path of h = absurd h
 
 -- a question with the answer yes
 abbrev FoundIn : List ℕ → PlainStep → PlainAnswer → Type 0

@@ -7,7 +7,7 @@ use Rattle.cacache_disk.specs.{declared.luck.Luck.{Luck}, Tree.{Tree}}
 use Rattle.cacache_calls.{specs.declared.reply.Reply.{Reply}, proofs.Sound.{steps_allowed}}
 use Rattle.cacache_calls.specs.Sound as calls
 use Rattle.cacache_value.specs.OpeningTrees.{LieApart}
-use Rattle.cacache_history.specs.{declared.record.Record.{Record, TheVariants.{Began, Moved, Stopped}}, Setup.{Setup, call_site, home, may_export, is_outside}, History.{Call, Now, History, Turn, Made, initial, moved_tree, now_after, replayed, now_at, MayMove, MayCome, Legal, IsLegal, Reaches}, Turns.{EachTurn}, TurnPlaces.{TurnAt}, Buckets.{BucketsHaveKeys, BucketsAreOfKeys, BucketsHoldOwn}}
+use Rattle.cacache_history.specs.{declared.record.Record.{Record, TheVariants.{Moved}}, Setup.{Setup, call_site, home, may_export, is_outside}, History.{Call, Now, History, Turn, Made, initial, moved_tree, now_after, replayed, now_at, MayMove, MayCome, Legal, IsLegal, Reaches}, Turns.{EachTurn}, TurnPlaces.{TurnAt}, Buckets.{BucketsHaveKeys, BucketsAreOfKeys, BucketsHoldOwn}}
 use Rattle.cacache_history.proofs.{Histories.{Holding.{AllHold, CallHolds, of_caller, made_proper, next_holds, first_opens, first_holds, legal_before}, ShownTurns.{bucket_below}, Turned.{reached_turns}}, Entries.{Owned.{AppendsOwn, TreeOwn, step_own, opening_own}, Keyed.{ToKeys, step_keyed, opening_keyed}}, Each.{each_weaker}}
 use Rattle.cacache_entry.proofs.EntryCauses.{Fits-no_cause}
 
@@ -45,9 +45,8 @@ module _ (s : Setup) (apart : LieApart (home s) s.outside) where
       }
 
   next_keyed : (w : Now) (r : Record) → MayCome s w r → AllHold s w → Keeps s w.tree → Keeps s (now_after s w r).tree
-  next_keyed w (Began caller command) may h k = k
   next_keyed w (Moved caller luck made reply) may h k = move_keyed w luck made reply may.0 h (of_caller s may.0 _ may.1 (h.calls caller)) may.2 k
-  next_keyed w (Stopped caller) may h k = k
+  next_keyed w r may h k = k
 
   all_keyed : (w : Now) (records : List Record) → Legal s w records → AllHold s w → Keeps s w.tree → Keeps s (replayed s w records).tree
   all_keyed w [] legal h k = k

@@ -7,7 +7,7 @@ use Rattle.cacache_disk.specs.{declared.luck.Luck.{Luck}, Tree.{Tree}}
 use Rattle.cacache_entry.specs.{Entry.{Entry}, Latest.{Found, answer_of, answer_to, after_entry, latest}}
 use Rattle.cacache_calls.specs.{declared.{command.Command.{Command}, reply.Reply.{Reply}}, State.{Site}}
 use Rattle.cacache_calls.specs.declared.command.Command.TheVariants as commands
-use Rattle.cacache_value.specs.{Acts.{Act, Nothing, PutBytes, PutLink, AddEntries, Drop, MakeFolders, DropFolder, act_of, change, list_of}, Kinds.{is_path_of}, Traces.{acts}}
+use Rattle.cacache_value.specs.{Acts.{Act, AddEntries, Drop, act_of, change, list_of}, Kinds.{is_path_of}, Traces.{acts}}
 use Rattle.cacache_history.specs.{declared.record.Record.{Record, TheVariants.{Began, Moved, Stopped}}, AddedEntries.{IsAmong}, Commits.{Deed, does, finds_in, deeds_of_act, deeds_of, deeds}, History.{History, Call, Turn, Made, IsLegal, turn_of, call_after}, Lookups.{lookup_at, WritesEntry, LeavesBucket, SparesKey, WrittenIn, WasWritten, EntriesAreWritten, FoundWasWritten, LookupsFollowWrites, LookupsStay}, Places.{now_before, MoveAt, MoveOfCall, MovesAre}, Setup.{call_site, home}, Values.{steps_of, bucket_at, opening_value, acted}}
 use Rattle.cacache_history.proofs.{Entries.{AddedEntries.{acts_last}, Writes.{adds_own, drops_others}}, Histories.{Places.{split_at, at_place, moves_are_of_calls}, Values.{value_follows_acts}}, Each.{any_left, any_right}}
 
@@ -113,20 +113,14 @@ module _ (h : History) (legal : IsLegal h) (n : ℕ) (digest : List ℕ) where
         unchanged (AddEntries names []) act (ap (λ b. list_of (cond b (Some (list_of (v.buckets digest) ++ [])) (v.buckets digest))) here)
 
     step_changes : (act : Act) → act_of made.0 luck made.1 ≡ act → Changes
-    step_changes Nothing e = unchanged Nothing e refl
-    step_changes (PutBytes names bytes) e = unchanged (PutBytes names bytes) e refl
-    step_changes (PutLink names target) e = unchanged (PutLink names target) e refl
     step_changes (AddEntries names []) e = empty names e (is_path_of (home h.setup) (bucket_names_of digest) names) refl
     step_changes (AddEntries names (x ∷ es)) e = added (moves_are_of_calls h legal n caller move) names x es e (is_path_of (home h.setup) (bucket_names_of digest) names) refl
     step_changes (Drop names) e = dropped (moves_are_of_calls h legal n caller move) names e (is_path_of (home h.setup) (bucket_names_of digest) names) refl
-    step_changes (MakeFolders names count) e = unchanged (MakeFolders names count) e refl
-    step_changes (DropFolder names) e = unchanged (DropFolder names) e refl
+    step_changes act e = unchanged act e refl
 
   record_changes : (r : Record) → slice_get h.records n ≡ Some r → Changes
-  record_changes (Began caller command) is = no_step (Began caller command) is refl
-  record_changes (Stopped caller) is = no_step (Stopped caller) is refl
-  record_changes (Moved caller luck None reply) is = no_step (Moved caller luck None reply) is refl
   record_changes (Moved caller luck (Some made) reply) is = step_changes caller luck made reply is (act_of made.0 luck made.1) refl
+  record_changes r is = no_step r is refl
 
   changes : Changes
   changes = elim (at_place h.records n) [

@@ -126,12 +126,7 @@ module _ (h : History) (legal : IsLegal h) (call : Call) (reply : Option Reply) 
       by (commands.RemoveFully key) (inl case) reads = absurd (no_drops (bucket_path h.setup.cache key ∷ []) (deeds call.turns) names e es case among)
       by (commands.RemoveFully key) (inr case) reads = absurd (no_drops (content_path h.setup.cache case.0.integrity ∷ bucket_path h.setup.cache key ∷ []) (deeds call.turns) names e es case.2 among)
       by commands.Clear case reads = absurd (no_removals (deeds call.turns) names e es case among)
-      by (commands.Find key) case reads = idle act (reads tt) among
-      by (commands.Get key) case reads = idle act (reads tt) among
-      by (commands.GetHash i) case reads = idle act (reads tt) among
-      by (commands.Exists i) case reads = idle act (reads tt) among
-      by commands.Ls case reads = idle act (reads tt) among
-      by (commands.Export source x) case reads = idle act (reads tt) among
+      by c case reads = idle act (reads tt) among
 
 -- ---- what is removed
 
@@ -217,9 +212,4 @@ module _ (h : History) (legal : IsLegal h) (call : Call) (reply : Option Reply) 
           drops_apart h.setup key (content_path h.setup.cache case.0.integrity ∷ bucket_path h.setup.cache other ∷ []) (deeds call.turns) names
           (content_apart h.setup key case.0.integrity (found_formed h.setup other call.turns case.0 holds.turns case.1), (bucket_apart h.setup key other l, tt)) case.2 among
       by commands.Clear case reads l named = absurd l
-      by (commands.Find k) case reads l named = idle_among act call.turns (reads tt) among
-      by (commands.Get k) case reads l named = idle_among act call.turns (reads tt) among
-      by (commands.GetHash i) case reads l named = idle_among act call.turns (reads tt) among
-      by (commands.Exists i) case reads l named = idle_among act call.turns (reads tt) among
-      by commands.Ls case reads l named = idle_among act call.turns (reads tt) among
-      by (commands.Export source x) case reads l named = idle_among act call.turns (reads tt) among
+      by c case reads l named = idle_among act call.turns (reads tt) among

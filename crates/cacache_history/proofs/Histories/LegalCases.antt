@@ -129,10 +129,8 @@ look cache key = record { cache = cache; key = key; aim = aims.Report }
 -- a lookup ends with what the answer gives, without a message
 looked : (cache key : List ℕ) (a : Result (List ℕ) Refusal) → go_on a (no_bucket (look cache key)) (after_bucket (look cache key)) ≡ over (plain_reply (find_reply key (entries_shown a)))
 unfolding found_in
-looked cache key (Ok bytes) = refl
 looked cache key (Err (refusals.Fault faults.NotFound)) = refl
-looked cache key (Err (refusals.Fault fault)) = refl
-looked cache key (Err refusals.Memory) = refl
+looked cache key a = refl
 
 lookup_legal : (cache key : List ℕ) (luck : Luck) → IsLegal (lookup_alone cache key luck (find_reply key (bucket_shown (lookup_made cache key luck).1)))
 lookup_legal cache key luck =

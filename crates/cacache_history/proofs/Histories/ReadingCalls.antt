@@ -54,8 +54,7 @@ looked s key turns bytes t more hold begins met =
 -- an export answers no bytes
 no_bytes : (how : How) (bytes : List ℕ) → Exports how (Read bytes) → ⊥
 no_bytes Copy bytes h = h
-no_bytes Reflink bytes h = absurd cc
-no_bytes HardLink bytes h = absurd cc
+no_bytes how bytes h = absurd cc
 
 not_stored : (i : List Hash) (bytes : List ℕ) → Read bytes ≡ Stored i → ⊥
 not_stored i bytes e = absurd cc
@@ -69,14 +68,9 @@ module _ (s : Setup) (n : ℕ) (turns : List Turn) (bytes : List ℕ) (hold : Tu
   is_verified (commands.Get key) run =
       let m = gets_meet (call_site s n) key (made_in turns) bytes run in
       looked s key turns bytes m.0 m.1 hold m.2 m.3
-  is_verified (commands.Put p) run = absurd (calls_answer (call_site s n) (commands.Put p) (made_in turns) (Read bytes) run)
-  is_verified (commands.Link l) run = absurd (calls_answer (call_site s n) (commands.Link l) (made_in turns) (Read bytes) run)
   is_verified (commands.Insert i) run =
       absurd (not_stored (given_or no_integrity i.options.integrity) bytes (calls_answer (call_site s n) (commands.Insert i) (made_in turns) (Read bytes) run))
   is_verified (commands.Delete d) run = absurd (not_done bytes (calls_answer (call_site s n) (commands.Delete d) (made_in turns) (Read bytes) run))
-  is_verified (commands.Find key) run = absurd (calls_answer (call_site s n) (commands.Find key) (made_in turns) (Read bytes) run)
-  is_verified (commands.Exists i) run = absurd (calls_answer (call_site s n) (commands.Exists i) (made_in turns) (Read bytes) run)
-  is_verified commands.Ls run = absurd (calls_answer (call_site s n) commands.Ls (made_in turns) (Read bytes) run)
   is_verified (commands.Export (sources.Key key) e) run =
       absurd (no_bytes e.how bytes (calls_answer (call_site s n) (commands.Export (sources.Key key) e) (made_in turns) (Read bytes) run))
   is_verified (commands.Export (sources.Hash i) e) run =
@@ -84,6 +78,7 @@ module _ (s : Setup) (n : ℕ) (turns : List Turn) (bytes : List ℕ) (hold : Tu
   is_verified (commands.RemoveHash i) run = absurd (not_done bytes (calls_answer (call_site s n) (commands.RemoveHash i) (made_in turns) (Read bytes) run))
   is_verified (commands.RemoveFully key) run = absurd (not_done bytes (calls_answer (call_site s n) (commands.RemoveFully key) (made_in turns) (Read bytes) run))
   is_verified commands.Clear run = absurd (not_done bytes (calls_answer (call_site s n) commands.Clear (made_in turns) (Read bytes) run))
+  is_verified command run = absurd (calls_answer (call_site s n) command (made_in turns) (Read bytes) run)
 
 pub reads_are_verified : (h : History) → IsLegal h → ReadsAreVerified h
 reads_are_verified h legal call bytes reaches =

@@ -1,6 +1,6 @@
 -- The turns of a call that moved are a run of it.
 use Rattle.std.proofs.Common.{◌≡◌, ◌⊎◌, inl, inr, ◌∷◌, Option, None, Some, option_map, refl, sym, ap, subst, ◌∙◌}
-use Rattle.cacache_core.specs.declared.errors.Error.TheVariants.{EntryNotFound, SizeMismatch, IoError, SerdeError, IntegrityError, OutOfMemory}
+use Rattle.cacache_core.specs.declared.errors.Error.TheVariants.{OutOfMemory}
 use Rattle.cacache_disk.specs.declared.luck.Luck.{Luck}
 use Rattle.cacache_calls.{specs.{declared.reply.Reply.{Reply}, Table.{opening}, Runs.{Runs, Goes, plain_reply}}, proofs.Going.{goes_over, goes_lost}}
 use Rattle.cacache_calls.specs.declared.reply.Reply.TheVariants as replies
@@ -48,16 +48,5 @@ lost_run h call reply x = goes_lost (opening (call_site h.setup call.number) cal
 
 -- without its message, a reply is out of memory only if it was
 pub memory_plain : (r : Reply) → plain_reply r ≡ replies.Refused OutOfMemory → r ≡ replies.Refused OutOfMemory
-memory_plain (replies.Stored i) e = absurd cc
-memory_plain (replies.Read bytes) e = absurd cc
-memory_plain (replies.LookedUp found) e = absurd cc
-memory_plain (replies.Exists there) e = absurd cc
-memory_plain (replies.Copied n) e = absurd cc
-memory_plain (replies.Listed items) e = absurd cc
-memory_plain replies.Done e = absurd cc
-memory_plain (replies.Refused (EntryNotFound cache key)) e = absurd cc
-memory_plain (replies.Refused (SizeMismatch wanted actual)) e = absurd cc
-memory_plain (replies.Refused (IoError fault message)) e = absurd cc
-memory_plain (replies.Refused (SerdeError cause message)) e = absurd cc
-memory_plain (replies.Refused (IntegrityError fault)) e = absurd cc
 memory_plain (replies.Refused OutOfMemory) e = refl
+memory_plain r e = absurd cc

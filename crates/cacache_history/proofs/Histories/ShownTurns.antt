@@ -1,6 +1,5 @@
 -- Replies read the value at the places of their turns.
-use Rattle.std.proofs.{Common.{◌≡◌, ℕ, List, [], ◌∷◌, Option, None, Some, Result, Ok, Err, refl, sym, ap, subst, ◌∙◌, arith}, lemmas.List.Elements.{All-head}}
-use Rattle.std.specs.Prelude.{All}
+use Rattle.std.{proofs.{Common.{◌≡◌, ℕ, List, [], ◌∷◌, Option, Some, Result, Ok, Err, refl, sym, ap, subst, ◌∙◌, arith}, lemmas.List.Elements.{All-head}}, specs.Prelude.{All}}
 use Rattle.sha1.specs.Sha1.{sha1}
 use Rattle.cacache_core.specs.{declared.{errors.Fault.{Fault}, integrity.digest.Hash.{Hash}}, Integrity.{IsHash, IsIntegrity}, Paths.{content_names, bucket_names_of}}
 use Rattle.cacache_core.proofs.{JoinedNames.{joined_texts_name}, PathLemmas.{keys_have_digests}, ProperNames.{names_are_proper}}
@@ -145,8 +144,7 @@ module _ (s : Setup) where
   reads_on : (key : List ℕ) (found : Result (Option Found) Refusal) (turns : List Turn) (r : Reply) → FoundHas found → TurnsHold s turns
       → ReadsOn s.cache key found (made_in turns) r → ReadsNext s key found turns r
   reads_on key (Ok (Some f)) turns r has hold h = reads f.integrity turns r has hold h
-  reads_on key (Ok None) turns r has hold h = (no_turn turns h.0, h.1)
-  reads_on key (Err refusal) turns r has hold h = (no_turn turns h.0, h.1)
+  reads_on key found turns r has hold h = (no_turn turns h.0, h.1)
 
   pub gets : (key : List ℕ) (turns : List Turn) (r : Reply) (t : PlainAnswer) (more : Moves) → TurnsHold s turns → BeginsWithBucket s.cache key t more (made_in turns)
       → ReadsOn s.cache key (lookup key (bucket_shown t)) more r → GetsHeld s key turns r
@@ -177,10 +175,8 @@ unfolding items_in
 items_is a r e = by (bytes_in a) ∙ ap by_entries e
   where
     by : (b : Result (List ℕ) Refusal) → by_bucket b ≡ by_entries (entries_shown b)
-    by (Ok bytes) = refl
     by (Err (refusals.Fault faults.NotFound)) = refl
-    by (Err (refusals.Fault fault)) = refl
-    by (Err refusals.Memory) = refl
+    by b = refl
 
 pub lists_bucket : (s : Setup) (turn : Turn) → TurnHolds s turn → ListsBucket s turn
 lists_bucket s turn h path digest is below =

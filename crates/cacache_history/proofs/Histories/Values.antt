@@ -3,7 +3,7 @@ use Rattle.std.proofs.Common.{◌≡◌, ℕ, Bool, true, false, cond, List, [],
 use Rattle.cacache_disk.specs.declared.luck.Luck.{Luck}
 use Rattle.cacache_calls.specs.declared.reply.Reply.{Reply}
 use Rattle.cacache_core.specs.{declared.integrity.digest.Hash.{Hash}, PathNames.{Names}, Paths.{content_names}}
-use Rattle.cacache_value.specs.{Kinds.{is_path_of}, Value.{Blob, InFile, AtLink, Value, wide_value, value_of_tree}, Acts.{Act, Nothing, PutBytes, PutLink, AddEntries, Drop, MakeFolders, DropFolder, act_of, change, list_of}, Traces.{Move, IsTrace, tree_after, acts}, OpeningTrees.{LieApart}}
+use Rattle.cacache_value.specs.{Kinds.{is_path_of}, Value.{Blob, InFile, AtLink, Value, wide_value, value_of_tree}, Acts.{Act, PutBytes, PutLink, Drop, act_of, change, list_of}, Traces.{Move, IsTrace, tree_after, acts}, OpeningTrees.{LieApart}}
 use Rattle.cacache_value.proofs.Traces.{traces_act, traces_show, buckets_grow}
 use Rattle.cacache_history.specs.{declared.record.Record.{Record, TheVariants.{Began, Moved, Stopped}}, Setup.{Setup, home}, History.{Call, Now, History, Made, initial, now_after, replayed, now_at, MayMove, Legal, IsLegal}, Values.{steps_of, ValueFollowsActs, BucketsOnlyGrow, KeepsContent, KeepContent, IsThere, ContentsStay, ContentsAreRight}}
 use Rattle.cacache_history.proofs.Histories.Holding.{AllHold, of_caller, made_proper, next_holds, first_opens, first_holds, legal_front, replay_more, legal_before, legal_after, held_at}
@@ -67,10 +67,7 @@ change_stays : (folder : Option Names) (v : Value) (address : Hash) (act : Act) 
 change_stays folder v address (PutBytes path bytes) keeps h = put_there (is_path_of folder (content_names address) path) (v.contents address) (InFile bytes) h
 change_stays folder v address (PutLink path target) keeps h = put_there (is_path_of folder (content_names address) path) (v.contents address) (AtLink target) h
 change_stays folder v address (Drop path) keeps h = rw keeps h
-change_stays folder v address Nothing keeps h = h
-change_stays folder v address (AddEntries path new) keeps h = h
-change_stays folder v address (MakeFolders path count) keeps h = h
-change_stays folder v address (DropFolder path) keeps h = h
+change_stays folder v address act keeps h = h
 
 acts_stay : (folder : Option Names) (v : Value) (address : Hash) (moves : List Move) → KeepContent folder address moves → IsThere (v.contents address) → IsThere ((acts folder v moves).contents address)
 acts_stay folder v address [] keep h = h

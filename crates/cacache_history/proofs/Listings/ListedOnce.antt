@@ -83,14 +83,12 @@ bucket_once es other = items_once es
 -- ---- many turns
 
 folder_other : (key : List ℕ) (a : Result (List Name) Refusal) → All (OtherSha key) (by_folder a)
-folder_other key (Ok names) = All-nil (OtherSha key)
 folder_other key (Err (refusals.Fault fault)) = All-cons (OtherSha key) (failed fault) [] tt (All-nil (OtherSha key))
-folder_other key (Err refusals.Memory) = All-nil (OtherSha key)
+folder_other key a = All-nil (OtherSha key)
 
 folder_once : (a : Result (List Name) Refusal) (rest : List Item) → NoKeyTwice rest → NoKeyTwice (by_folder a ++ rest)
-folder_once (Ok names) rest h = h
-folder_once (Err (refusals.Fault fault)) rest h = h
 folder_once (Err refusals.Memory) rest h = h
+folder_once a rest h = h
 
 other_weaker : (key other : List ℕ) → (sha1 other ≡ sha1 key → ⊥) → (item : Item) → OfKey other item → OtherSha key item
 other_weaker key other differ (Ok f) own = λ e. differ (sym own ∙ e)

@@ -8,7 +8,7 @@ use Rattle.hex.specs.Hex.{encode_lower}
 use Rattle.cacache_store.specs.{declared.store.answer.Name.{Name}, Plain.{PlainStep, PlainAnswer}, Fits.{Fits}}
 use Rattle.cacache_store.specs.declared.store.answer.Answer.TheVariants as answers
 use Rattle.cacache_store.specs.declared.store.step.Step.TheVariants as steps
-use Rattle.cacache_calls.specs.{declared.{answers.Refusal.{Refusal}, reply.Reply.{Reply, TheVariants.{Listed, Done, Refused}}, visit.{Visit.{Visit, TheVariants.{Enter, ReadBucket, RemoveFile, RemoveFolder}}, Task.{Task, TheVariants.{Make, Stumble}}}}, Answers.{bytes_in, names_in}, Common.{fails, go_on}, ListReplies.{by_bucket, by_folder, given_by, too_deep}, StepPaths.{bucket_path}, Runs.{Runs, plain_reply}, State.{State, walking, over, Item, Walk}, Table.{wants, after, opening}, Walking.{most, failed, give, miss, walk_on, tasks_of, leaving, too_many, entered, unread_bucket, listed, items_in, visit_step, after_visit}}
+use Rattle.cacache_calls.specs.{declared.{answers.Refusal.{Refusal}, reply.Reply.{Reply, TheVariants.{Listed, Done, Refused}}, visit.{Visit.{Visit, TheVariants.{Enter, ReadBucket}}, Task.{Task, TheVariants.{Make, Stumble}}}}, Answers.{bytes_in, names_in}, Common.{fails, go_on}, ListReplies.{by_bucket, by_folder, given_by, too_deep}, StepPaths.{bucket_path}, Runs.{Runs, plain_reply}, State.{State, walking, over, Item, Walk}, Table.{wants, after, opening}, Walking.{most, failed, give, miss, walk_on, tasks_of, leaving, too_many, entered, unread_bucket, listed, items_in, visit_step, after_visit}}
 use Rattle.cacache_calls.proofs.Branches.{cond_leads}
 use Rattle.cacache_calls.specs.declared.answers.Refusal.TheVariants as refusals
 use Rattle.cacache_calls.specs.declared.command.Command.TheVariants as commands
@@ -182,8 +182,7 @@ module _ (s : Setup) (r : Reply) where
   visit_gives w (ReadBucket p) todo turn turns holds keyed is e le visits tasks h =
       reads turn turns (ReadBucket p) todo tasks w e le (bytes_in turn.move.answer) (no_names p turn.move.answer (subst (λ x. Fits x turn.move.answer) (sym is) holds.fits))
       (bucket_gives turn p visits holds keyed is) (reads_follow turn p todo is) h
-  visit_gives w (RemoveFile p) todo turn turns holds keyed is e le visits tasks h = absurd visits
-  visit_gives w (RemoveFolder p) todo turn turns holds keyed is e le visits tasks h = absurd visits
+  visit_gives w v todo turn turns holds keyed is e le visits tasks h = absurd visits
 
   -- ---- runs
 

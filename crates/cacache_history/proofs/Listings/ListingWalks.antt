@@ -195,10 +195,8 @@ among_covers s key level p n (m ∷ ns) (inr among) c =
 
 -- the file of a bucket that the value holds
 bucket_file : (o : Option Node) (entries : List Entry) → bucket_in o ≡ Some entries → (bytes : List ℕ) × (o ≡ Some (File bytes))
-bucket_file None entries e = absurd cc
-bucket_file (Some Folder) entries e = absurd cc
 bucket_file (Some (File bytes)) entries e = (bytes, refl)
-bucket_file (Some (Link target)) entries e = absurd cc
+bucket_file o entries e = absurd cc
 
 -- the first names of a bucket's path are proper
 front_proper : (key : List ℕ) (front rest : Names) → front ++ rest ≡ bucket_names key → All IsProperName front

@@ -8,7 +8,7 @@ use Rattle.cacache_store.specs.{declared.store.answer.{Kind.{Kind}, Name.{Name}}
 use Rattle.cacache_store.specs.declared.store.answer.Kind.TheVariants as kinds
 use Rattle.cacache_store.specs.declared.store.step.Step.TheVariants as steps
 use Rattle.cacache_disk.specs.Apply.{apply}
-use Rattle.cacache_calls.specs.{declared.{answers.Refusal.{Refusal}, reply.Reply.{Reply, TheVariants.{Listed, Done}}, visit.{Visit.{Visit, TheVariants.{Enter, ReadBucket, RemoveFile, RemoveFolder}}, Task.{Task, TheVariants.{Make, Stumble}}}}, Answers.{bytes_in, names_in}, Common.{fails, go_on}, ListReplies.{too_deep}, Runs.{Runs}, State.{State, walking, over, Item, Walk}, Table.{wants, after, opening}, Walking.{most, failed, give, miss, walk_on, task_for_name, tasks_of, leaving, too_many, entered, unread_bucket, listed, items_in, visit_step, after_visit}}
+use Rattle.cacache_calls.specs.{declared.{answers.Refusal.{Refusal}, reply.Reply.{Reply, TheVariants.{Listed, Done}}, visit.{Visit.{Visit, TheVariants.{Enter, ReadBucket}}, Task.{Task, TheVariants.{Make, Stumble}}}}, Answers.{bytes_in, names_in}, Common.{fails, go_on}, ListReplies.{too_deep}, Runs.{Runs}, State.{State, walking, over, Item, Walk}, Table.{wants, after, opening}, Walking.{most, failed, give, miss, walk_on, task_for_name, tasks_of, leaving, too_many, entered, unread_bucket, listed, items_in, visit_step, after_visit}}
 use Rattle.cacache_calls.proofs.Branches.{cond_leads}
 use Rattle.cacache_calls.specs.declared.answers.Refusal.TheVariants as refusals
 use Rattle.cacache_calls.specs.declared.command.Command.TheVariants as commands
@@ -84,8 +84,7 @@ child_tasks level p q (n ∷ ns) named all s tasks =
     by : (kind : Kind) → (Tasks s (tasks_of false level p ns) → TasksAt (tasks_of false level p ns) (children q ns)) → Tasks s (task_for_name false level (join p n.name) kind ∷ tasks_of false level p ns)
         → TasksAt (task_for_name false level (join p n.name) kind ∷ tasks_of false level p ns) ((q ++ n.name ∷ []) ∷ children q ns)
     by kinds.Folder more t = by_level (nat_lt level 16) more t
-    by kinds.File more t = (own, more t.1)
-    by kinds.Link more t = (own, more t.1)
+    by kind more t = (own, more t.1)
 
 module _ (s : Setup) where
   -- a folder's names are at its path, and none is listed twice
@@ -195,8 +194,7 @@ module _ (s : Setup) where
       enter_once turn turns todo q qs p level w (names_in turn.move.answer) refl e holds keyed is v tasks named at apart h
   visit_once w (ReadBucket p) todo turn turns holds keyed is e v tasks q qs named at apart h =
       once_more q qs [] turn turns (ap (λ x. names_of (step_path x)) (sym is) ∙ named) apart.0 (reads turns todo qs tasks at apart.1 w e (bytes_in turn.move.answer) h)
-  visit_once w (RemoveFile p) todo turn turns holds keyed is e v tasks q qs named at apart h = absurd v
-  visit_once w (RemoveFolder p) todo turn turns holds keyed is e v tasks q qs named at apart h = absurd v
+  visit_once w other todo turn turns holds keyed is e v tasks q qs named at apart h = absurd v
 
   before : (st : State) (turn : Turn) (turns : List Turn) → TurnHolds s turn → KeyedTurn s turn → wants st ≡ Some turn.move.step → Rest (after st turn.move.answer) turns → Rest st (turn ∷ turns)
   before (walking w v todo) turn turns holds keyed is h =

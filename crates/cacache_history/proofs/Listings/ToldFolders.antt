@@ -1,6 +1,6 @@
 -- What a listing of a folder says of the nodes in it.
 use Rattle.std.proofs.{Common.{◌≡◌, ◌⊎◌, inl, inr, ◌+◌, ◌&&◌, ℕ, Bool, true, false, cond, List, [], ◌∷◌, ◌++◌, Option, None, Some, Result, Ok, Err, length, take, refl, sym, ap, subst, ◌∙◌, arith, eqb-true, ap₂}, lemmas.{Bool.{and_parts}, List.{take_all, get_or_at}}}
-use Rattle.std.specs.{Prelude.{T, slice_index_or, filter_map}, List.{cons_option}, FinMap.Entries.{below_all}, declared.cmp.Ordering.{Ordering, TheVariants.{Less, Equal, Greater}}, Ordering.{is_lt, is_eq, ordering_reverse}, Cmp.{eq_by_cmp_equiv}}
+use Rattle.std.specs.{Prelude.{T, slice_index_or, filter_map}, List.{cons_option}, FinMap.Entries.{below_all}, declared.cmp.Ordering.{Ordering, TheVariants.{Less}}, Ordering.{is_lt, is_eq, ordering_reverse}, Cmp.{eq_by_cmp_equiv}}
 use Rattle.std.specs.FinMap as map
 use Rattle.cacache_core.specs.{declared.errors.Fault.{Fault}, PathNames.{Names, names_of}}
 use Rattle.cacache_store.specs.declared.store.answer.{Kind.{Kind}, Name.{Name}}
@@ -21,8 +21,7 @@ both_parts false b h = absurd h
 
 lt_apart : (r : Ordering) → T (is_lt r) → is_eq (ordering_reverse r) ≡ false
 lt_apart Less h = refl
-lt_apart Equal h = absurd h
-lt_apart Greater h = absurd h
+lt_apart r h = absurd h
 
 apart : (x y : Names) → T (is_lt (names_cmp x y)) → same_path y x ≡ false
 apart x y h = ap is_eq (total.antisymm y x) ∙ lt_apart (names_cmp x y) h

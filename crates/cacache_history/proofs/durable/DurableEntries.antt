@@ -6,7 +6,7 @@ use Rattle.cacache_core.specs.{PathNames.{Names, names_below, names_of}, Paths.{
 use Rattle.cacache_core.proofs.{JoinedNames.{joined_texts_name}, PathLemmas.{keys_have_digests}, ProperNames.{names_are_proper}}
 use Rattle.cacache_store.specs.declared.store.step.Step.TheVariants as steps
 use Rattle.cacache_store.specs.declared.store.answer.Answer.TheVariants as answers
-use Rattle.cacache_disk.specs.{declared.node.Node.{Node, TheVariants.{Folder, File, Link}}, Tree.{Tree, bytes_of, look}}
+use Rattle.cacache_disk.specs.{declared.node.Node.{Node, TheVariants.{File}}, Tree.{Tree, bytes_of, look}}
 use Rattle.cacache_entry.specs.{Entry.{Entry, closed_line}, Bucket.{entries_of}, FittingEntries.{IsEntry, IsWritable}, Latest.{after_entry, latest}}
 use Rattle.cacache_entry.proofs.Lines.{empty_holds_nothing}
 use Rattle.cacache_calls.specs.{Runs.{Moves}, StepPaths.{bucket_folders, bucket_path}}
@@ -23,10 +23,8 @@ whole_append cache entry =
 
 -- the entries of a bucket are those of its bytes
 bucket_bytes : (here : Option Node) → entries_of (bytes_of here) ≡ list_of (bucket_in here)
-bucket_bytes None = empty_holds_nothing
-bucket_bytes (Some Folder) = empty_holds_nothing
 bucket_bytes (Some (File bytes)) = refl
-bucket_bytes (Some (Link target)) = empty_holds_nothing
+bucket_bytes node = empty_holds_nothing
 
 -- where the bucket of a key lies
 pub bucket_named : (key : List ℕ) (h : History) (folder : Names) → home h.setup ≡ Some folder → names_of (bucket_path h.setup.cache key) ≡ Ok (folder ++ bucket_names_of (sha1 key))

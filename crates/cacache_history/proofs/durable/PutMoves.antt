@@ -81,9 +81,8 @@ module _ (i : List Hash) where
     confirms : (fault : Fault) (a : PlainAnswer) (r : Result Bool Refusal) (more : Moves) → there_in a ≡ r → Stores i (go_on r (λ _. fails fault) (after_confirm c fault)) more
         → (a ≡ answers.There true) × Stores i (secured_found c) more
     confirms fault a (Ok true) more e run = (there_is a true e, run)
-    confirms fault a (Ok false) more e run = refused i (IoError fault []) more run
-    confirms fault a (Err (refusals.Fault other)) more e run = refused i (IoError fault []) more run
     confirms fault a (Err refusals.Memory) more e run = refused i OutOfMemory more run
+    confirms fault a r more e run = refused i (IoError fault []) more run
 
     confirmed : (fault : Fault) (moves : Moves) → Stores i (confirming c fault) moves → Places moves
     confirmed fault moves run =

@@ -10,7 +10,7 @@ use Rattle.cacache_disk.specs.{declared.luck.Luck.{Luck}, Tree.{Tree, look}, Led
 use Rattle.cacache_calls.specs.{declared.{command.{Command.{Command}, Put.{Put}}, reply.Reply.{Reply}}, StepPaths.{content_path}, Table.{wants}}
 use Rattle.cacache_calls.specs.declared.command.Command.TheVariants as commands
 use Rattle.cacache_value.proofs.Shows.{apply_answer}
-use Rattle.cacache_history.specs.{declared.record.Record.{Record, TheVariants.{Began, Moved, Stopped}}, AddedEntries.{address_of_put}, Setup.{call_site, home}, History.{Call, History, IsLegal, Made, initial, now_after, now_at}, Values.{steps_of}, durable.{FewCalls.{FewCalls}, Outlasting.{moment_at}, QuietMoves.{AreQuiet, IsQuiet, IsQuietMove, PutsDurably}}}
+use Rattle.cacache_history.specs.{declared.record.Record.{Record, TheVariants.{Moved}}, AddedEntries.{address_of_put}, Setup.{call_site, home}, History.{Call, History, IsLegal, Made, initial, now_after, now_at}, Values.{steps_of}, durable.{FewCalls.{FewCalls}, Outlasting.{moment_at}, QuietMoves.{AreQuiet, IsQuiet, IsQuietMove, PutsDurably}}}
 use Rattle.cacache_history.proofs.{Contents.{Carrying.{Makes, carries_makes, own_of}, Digests.{digest_hash}}, Histories.Holding.{CallHolds, held_at, legal_after, of_caller, replay_more}, durable.{DurableStates.{ready_file}, HeldTemps.{IsSynced, TempAt, temps_at}, Traces.{moment_more}}}
 use Rattle.cacache_loss.specs.{CalmMoves.{OfBytes, PutWell, PutsMove, PutsStep}, LossLaws.{HasDigest}, Moments.{EachMove, after}}
 
@@ -165,10 +165,8 @@ module _ (h : History) (legal : IsLegal h) (few : FewCalls h) (folder : Names) (
     where
       by : (r : Record) → h.records ≡ past ++ r ∷ todo → IsQuiet path_of (now_at h past) r
           → EachMove (PutsMove (HasDigest a) path_of) (after (moment_at h past) (steps_of (r ∷ []))) (steps_of todo) → EachMove (PutsMove (HasDigest a) path_of) (moment_at h past) (steps_of (r ∷ todo))
-      by (Began caller command) is quiet more = more
-      by (Moved caller luck None told) is quiet more = more
       by (Moved caller luck (Some made) told) is quiet more = (move_puts past todo caller luck made told is quiet, more)
-      by (Stopped caller) is quiet more = more
+      by r is quiet more = more
 
 -- what quiet moves move to a content's path has its digest, and is synced
 pub put_well_at : (h : History) → IsLegal h → FewCalls h → (before rest : List Record) → h.records ≡ before ++ rest → (folder : Names) → home h.setup ≡ Some folder → (a : Hash) → IsHash a
