@@ -1,3 +1,4 @@
 pub mod ExportEffects
 pub mod Sharing
 pub mod Exported
+pub mod Arriving

@@ -11,5 +11,4 @@ pub mod OpenWriters
 pub mod Committing
 pub mod Puts
 pub mod WrittenFiles
-pub mod Arriving
 pub mod StandingPuts

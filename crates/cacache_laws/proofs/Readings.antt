@@ -10,4 +10,3 @@ pub mod Looked
 pub mod GivenReads
 pub mod OpenReaders
 pub mod Standing
-pub mod Copying

@@ -14,5 +14,6 @@ pub mod SureWriters
 pub mod SureStays
 pub mod SureFiles
 pub mod SureExports
+pub mod SureCopies
 pub mod SureLinks
 pub mod SureReaders

@@ -10,7 +10,7 @@ use Rattle.cacache_value.specs.Value.{InFile, value_of_tree}
 use Rattle.cacache_history.specs.{History.{NamesSource}, ShownTurns.{blob_at}}
 use Rattle.cacache_entry.specs.Latest.{Found}
 use Rattle.cacache_laws.specs.{CallErrors.{FailsOnly}, Caches.{IsCache, HasContent, HasKey, Called}, Inserts.{leads_to}, ExportAnswers.{exported_reply, made_reply, or_told}, Exported.{Arrives, ExportsArrive, export_by}, ExportEffects.{CopiesArrive, CopiesCount}, results.Exports.{NamesHeld}}
-use Rattle.cacache_laws.proofs.{Exports.ExportEffects.{exports_apart}, Readings.Known.{Known, excuse, known}, Sure.SureExports.{IsGiven, Told, by_held, exports_told, passes}}
+use Rattle.cacache_laws.proofs.{Exports.ExportEffects.{exports_apart}, Readings.Known.{Known, excuse, known}, Sure.{SureExports.{Shows, Told, by_held, exports_told}, SureCopies.{passes}}}
 
 -- how an export of these bytes may end
 abbrev Ends : List ℕ → List ℕ → Tree → Reply → Type 0
@@ -19,19 +19,19 @@ Ends bytes to t replies.Done = shown t to ≡ Some bytes
 Ends bytes to t (replies.Refused e) = FailsOnly (replies.Refused e)
 Ends bytes to t r = ⊥
 
-done_ends : (to bytes : List ℕ) (new : Tree) (w : Result Names Fault) → (IsGiven (or_told w (λ q. replies.Done)) → shown new to ≡ Some bytes) → Ends bytes to new (or_told w (λ q. replies.Done))
-done_ends to bytes new (Ok q) shows = shows tt
-done_ends to bytes new (Err fault) shows = tt
+done_ends : (to bytes : List ℕ) (new : Tree) (old : Tree) (w : Result Names Fault) → Shows to old (Some (InFile bytes)) new (or_told w (λ q. replies.Done)) → Ends bytes to new (or_told w (λ q. replies.Done))
+done_ends to bytes new old (Ok q) shows = shows bytes refl
+done_ends to bytes new old (Err fault) shows = tt
 
 -- if it answers so, and shows them unless it is refused
-made_ends : (how : How) (to bytes : List ℕ) (t new : Tree) → (IsGiven (made_reply how to t (Some (InFile bytes))) → shown new to ≡ Some bytes) → Ends bytes to new (made_reply how to t (Some (InFile bytes)))
+made_ends : (how : How) (to bytes : List ℕ) (t new : Tree) → Shows to t (Some (InFile bytes)) new (made_reply how to t (Some (InFile bytes))) → Ends bytes to new (made_reply how to t (Some (InFile bytes)))
 made_ends Copy to bytes t new = by (writable t to)
   where
-    by : (w : Result Names Fault) → (IsGiven (or_told w (λ q. replies.Copied (length bytes))) → shown new to ≡ Some bytes) → Ends bytes to new (or_told w (λ q. replies.Copied (length bytes)))
-    by (Ok q) shows = (shows tt, refl)
+    by : (w : Result Names Fault) → Shows to t (Some (InFile bytes)) new (or_told w (λ q. replies.Copied (length bytes))) → Ends bytes to new (or_told w (λ q. replies.Copied (length bytes)))
+    by (Ok q) shows = (shows bytes refl, refl)
     by (Err fault) shows = tt
-made_ends Reflink to bytes t new = done_ends to bytes new (free t to)
-made_ends HardLink to bytes t new = done_ends to bytes new (free t to)
+made_ends Reflink to bytes t new = done_ends to bytes new t (free t to)
+made_ends HardLink to bytes t new = done_ends to bytes new t (free t to)
 
 module _ (cache bytes to : List ℕ) (i : List Hash) (how : How) (source : Source) (checked : Bool) (r : Reply) (old new : List LogItem) (sound : IsCache cache old) (leads : NamesHeld cache source i old) (has : HasContent cache i bytes old) (named : NamesSource source)
     (c : Called cache (export_by how source checked to) r old new) where
@@ -43,7 +43,8 @@ module _ (cache bytes to : List ℕ) (i : List Hash) (how : How) (source : Sourc
   told_ends (inr h) =
       let is : r ≡ made_reply how to (tree_of old) (Some (InFile bytes))
       = h.0 ∙ by_held cache source i e old leads ∙ ap (exported_reply i e (tree_of old)) has.content ∙ passes checked how to bytes i (tree_of old) has.meets in
-      subst (Ends bytes to (tree_of new)) (sym is) (made_ends how to bytes (tree_of old) (tree_of new) (λ given. h.2 i bytes leads has.content (subst IsGiven (sym is) given)))
+      subst (Ends bytes to (tree_of new)) (sym is) (made_ends how to bytes (tree_of old) (tree_of new) (subst (Shows to (tree_of old) (Some (InFile bytes)) (tree_of new)) is
+      (subst (λ blob. Shows to (tree_of old) blob (tree_of new) r) has.content (h.2 i leads))))
 
   -- a cache whose path names no folder has no content
   ends : Ends bytes to (tree_of new) r

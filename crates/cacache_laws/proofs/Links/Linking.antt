@@ -136,20 +136,20 @@ module _ (cache : List ℕ) (l : Link) (base : List ℕ) (number : ℕ) (moves :
       (λ more e. answers.found (own_hash (put_like l held)) more (digest_hash l.options.algorithm held) e)
 
 -- a path that names nothing shows nothing
-nowhere : (t : Tree) (path : List ℕ) (fault : Fault) → names_of path ≡ Err fault → file_at t path faults.IsADirectory ≡ Err fault
+pub nowhere : (t : Tree) (path : List ℕ) (fault folder : Fault) → names_of path ≡ Err fault → file_at t path folder ≡ Err fault
 unfolding file_at leads place
-nowhere t path fault e = rw e refl
+nowhere t path fault folder e = rw e refl
 
 pub nothing_shown : (t : Tree) (path held : List ℕ) (fault : Fault) → names_of path ≡ Err fault → shown t path ≡ Some held → ⊥
 unfolding apply
 nothing_shown t path held fault e shows =
-    let no : None ≡ Some held = sym (ap (λ r. bytes_told (unless r t (λ b. (answers.Bytes b, t))).0) (nowhere t path fault e)) ∙ shows in
+    let no : None ≡ Some held = sym (ap (λ r. bytes_told (unless r t (λ b. (answers.Bytes b, t))).0) (nowhere t path fault faults.IsADirectory e)) ∙ shows in
     absurd cc
 
 -- a link to it asks for its size, and fails
 size_fails : (t : Tree) (path : List ℕ) (fault : Fault) → names_of path ≡ Err fault → (apply t (steps.Size path) Plain).0 ≡ answers.Failed fault
 unfolding apply
-size_fails t path fault e = ap (λ r. (unless r t (λ b. (answers.Length (length b), t))).0) (nowhere t path fault e)
+size_fails t path fault e = ap (λ r. (unless r t (λ b. (answers.Length (length b), t))).0) (nowhere t path fault faults.IsADirectory e)
 
 stops : (t : Tree) (target : Target ℕ) (fault : Fault) (moves : Moves) (r : Reply) → names_of target.path ≡ Err fault → Runs (sizing target) moves r → AreAnswered t moves → tree_on t moves ≡ t
 stops t target fault [] r e run answered = refl

@@ -1,10 +1,9 @@
 -- A path shows the file that was written at its end.
-use Rattle.std.proofs.{Common.{◌≡◌, ℕ, zero, suc, Bool, true, false, cond, List, [], ◌∷◌, ◌++◌, Option, None, Some, Result, Ok, Err, length, take, refl, sym, ap, subst, ◌∙◌, arith}, lemmas.List.{take_all}}
+use Rattle.std.proofs.Common.{◌≡◌, ℕ, zero, suc, Bool, true, false, cond, List, [], ◌∷◌, ◌++◌, Option, None, Some, Result, Ok, Err, refl, sym, ap, subst, ◌∙◌}
 use Rattle.cacache_core.specs.{declared.errors.Fault.{Fault}, PathNames.{Names, names_of}}
 use Rattle.cacache_core.specs.declared.errors.Fault.TheVariants as faults
 use Rattle.cacache_store.specs.declared.store.answer.Answer.TheVariants as answers
-use Rattle.cacache_store.specs.declared.store.step.Step.TheVariants as steps
-use Rattle.cacache_disk.specs.{declared.{luck.Luck.TheVariants.{Plain}, node.Node.{Node, TheVariants.{Folder, File, Link}}}, Apply.{apply, unless}, LedTo.{and_then, or_fault, way_fault, through, bytes_there, on_link, place, standing, followed, leads, file_at, writable, where_there, where_no_folder}, Tree.{Tree, look, put, same_path}, memory.Replay.{bytes_told, shown}}
+use Rattle.cacache_disk.specs.{declared.node.Node.{Node, TheVariants.{Folder, File, Link}}, Apply.{apply, unless}, LedTo.{and_then, or_fault, way_fault, through, bytes_there, on_link, place, standing, followed, leads, file_at, writable, where_there, where_no_folder}, Tree.{Tree, look, put, same_path}, memory.Replay.{bytes_told, shown}}
 use Rattle.cacache_disk.proofs.{Maps.{same_path-true}, PutNodes.{look-put}, Roots.{same_self}, FoundNodes.{or_fault_none}}
 use Rattle.cacache_laws.proofs.trees.Within.{through_none}
 
@@ -146,19 +145,3 @@ written_shown t path bytes names = by (leads t path) refl
     by (Ok end) is e =
         let h = takes t end (look t end) refl (leads_plain t path end is) names e in
         subst (λ ns. shown (put t ns (File bytes)) path ≡ Some bytes) h.1 (shown_so t end bytes h.0 path is)
-
--- ---- a copy
-
--- what a copy that is done took, and what it left
-pub copied : (t : Tree) (p q : List ℕ) (n : ℕ) → answers.Took n ≡ (apply t (steps.Copy p q) Plain).0
-    → (bytes : List ℕ) × (file_at t p faults.InvalidInput ≡ Ok bytes) × (n ≡ length bytes) × (shown (apply t (steps.Copy p q) Plain).1 q ≡ Some bytes)
-unfolding apply
-copied t p q n = by (file_at t p faults.InvalidInput) (writable t q) refl refl
-  where
-    by : (r : Result (List ℕ) Fault) (w : Result Names Fault) → file_at t p faults.InvalidInput ≡ r → writable t q ≡ w
-        → answers.Took n ≡ (unless r t (λ bytes. unless w t (λ names. (answers.Took (length bytes), put t names (File (take (length bytes) bytes)))))).0
-        → (bytes : List ℕ) × (r ≡ Ok bytes) × (n ≡ length bytes) × (shown (unless r t (λ bytes. unless w t (λ names. (answers.Took (length bytes), put t names (File (take (length bytes) bytes)))))).1 q ≡ Some bytes)
-    by (Err fault) w is to e = absurd cc
-    by (Ok bytes) (Err fault) is to e = absurd cc
-    by (Ok bytes) (Ok names) is to e =
-        (bytes, refl, cc, ap (λ b. shown (put t names (File b)) q) (take_all (length bytes) bytes (omega arith)) ∙ written_shown t q bytes names to)

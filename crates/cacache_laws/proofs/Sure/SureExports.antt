@@ -1,8 +1,7 @@
 -- An export in which all steps succeed.
-use Rattle.std.proofs.{Common.{◌≡◌, option_map, ℕ, Bool, true, false, cond, List, [], ◌∷◌, ◌++◌, Option, None, Some, Result, Ok, Err, length, take, refl, sym, ap, subst, ◌∙◌, arith}, lemmas.List.{take_all, Elements.{All-head}}}
+use Rattle.std.proofs.{Common.{◌≡◌, option_map, ℕ, List, [], ◌∷◌, ◌++◌, Option, None, Some, Result, Ok, Err, length, take, refl, sym, ap, subst, ◌∙◌, arith}, lemmas.List.{take_all, Elements.{All-head}}}
 use Rattle.sha1.specs.Sha1.{sha1}
-use Rattle.cacache_core.specs.{declared.{errors.{Error.TheVariants.{EntryNotFound, IoError, IntegrityError}, Fault.{Fault}, IntegrityFault.TheVariants.{Check}}, integrity.digest.Hash.{Hash}}, Integrity.{IsHash, IsIntegrity, Meets, actual, address}, Meeting.{meets}, PathNames.{Names, home_of}, Paths.{content_names}}
-use Rattle.cacache_core.proofs.Meeting.{meets_finds}
+use Rattle.cacache_core.specs.{declared.{errors.{Error.TheVariants.{EntryNotFound, IoError, IntegrityError}, Fault.{Fault}, IntegrityFault.TheVariants.{Check}}, integrity.digest.Hash.{Hash}}, Integrity.{IsHash, IsIntegrity, actual, address}, Meeting.{meets}, PathNames.{Names, home_of}, Paths.{content_names}}
 use Rattle.cacache_core.specs.declared.errors.Fault.TheVariants as faults
 use Rattle.cacache_store.specs.declared.store.answer.Answer.TheVariants as answers
 use Rattle.cacache_store.specs.declared.store.log.LogItem.{LogItem}
@@ -15,25 +14,24 @@ use Rattle.cacache_calls.specs.declared.command.Command.TheVariants as commands
 use Rattle.cacache_calls.specs.declared.command.Source.TheVariants as sources
 use Rattle.cacache_value.specs.{Kinds.{Content as AtContent}, Placed.{MayStand}, Shows.{blob_bytes, link_end}, Value.{AtLink, Blob, InFile, blob_in, value_of_tree}}
 use Rattle.cacache_history.{specs.{ShownTurns.{blob_at}, History.{NamesSource}}, proofs.Entries.Spelled.{HasIntegrity, latest_has}}
-use Rattle.cacache_laws.specs.{Caches.{Called, HasContent, IsCache, lies_under}, Keeping.{found_under}, results.Exports.{NamesHeld}, ExportAnswers.{export_reply, ExportsAnswer, StaysIfRefused, blob_named, blob_read, exported_reply, led_reply, made_reply, or_told, verified_reply}, Exported.{export_by}, OpenSucceeds.{ExportsSucceed, MayTake, exported}, ReadAnswers.{entries_on}}
-use Rattle.cacache_laws.proofs.{Putting.WrittenFiles.{written_shown}, Exports.Sharing.{put_shown}, Readings.Standing.{caches_stand}, Sure.{Succeeds.{either, ground, home_ground}, SureFiles.{opens_as, reads_whole}, SureReads.{bytes_at, held, led_there, looks_so, read_at, suited}, SureRuns.{EndsSo, both, ends, goes, of_log}, SureSteps.{Ground, Reached, arrives, missing}}, trees.Covering.{home_named}}
+use Rattle.cacache_laws.specs.{Caches.{Called, IsCache, lies_under}, Keeping.{found_under}, results.Exports.{NamesHeld}, ExportAnswers.{export_reply, ExportsAnswer, StaysIfRefused, blob_named, blob_read, exported_reply, led_reply, made_reply, or_told, verified_reply}, ReadAnswers.{entries_on}}
+use Rattle.cacache_laws.proofs.{Putting.WrittenFiles.{written_shown}, Exports.Sharing.{put_shown}, Readings.Standing.{caches_stand}, Sure.{Succeeds.{either, home_ground}, SureFiles.{opens_as, reads_whole}, SureReads.{bytes_at, held, led_there, looks_so, read_at, suited}, SureRuns.{EndsSo, both, ends, goes, of_log}, SureSteps.{Ground, Reached, arrives, missing}}, trees.Covering.{home_named}}
 
 -- ---- what lies there
 
--- bytes that were read, and are copied then, are the same
-same_node : (here : Option Node) (read copied : List ℕ) → bytes_there faults.IsADirectory here ≡ Ok read → bytes_there faults.InvalidInput here ≡ Ok copied → read ≡ copied
-same_node (Some (File bytes)) read copied a b = cc
-same_node here read copied a b = absurd cc
+-- the bytes that a copy takes are those that a read gives
+same_node : (here : Option Node) (bytes : List ℕ) → bytes_there faults.InvalidInput here ≡ Ok bytes → bytes_there faults.IsADirectory here ≡ Ok bytes
+same_node (Some Folder) bytes e = absurd cc
+same_node here bytes e = e
 
-same_end : (t : Tree) (end : Result Names Fault) (read copied : List ℕ) → and_then end (λ names. bytes_there faults.IsADirectory (look t names)) ≡ Ok read
-    → and_then end (λ names. bytes_there faults.InvalidInput (look t names)) ≡ Ok copied → read ≡ copied
-same_end t (Ok names) read copied a b = same_node (look t names) read copied a b
-same_end t (Err fault) read copied a b = absurd cc
+same_end : (t : Tree) (end : Result Names Fault) (bytes : List ℕ) → and_then end (λ names. bytes_there faults.InvalidInput (look t names)) ≡ Ok bytes
+    → and_then end (λ names. bytes_there faults.IsADirectory (look t names)) ≡ Ok bytes
+same_end t (Ok names) bytes e = same_node (look t names) bytes e
+same_end t (Err fault) bytes e = e
 
-same_read : (t : Tree) (blob : Option Blob) (read copied : List ℕ) → blob_bytes t blob ≡ Ok read → blob_read faults.InvalidInput t blob ≡ Ok copied → read ≡ copied
-same_read t None read copied a b = absurd cc
-same_read t (Some (InFile bytes)) read copied a b = cc
-same_read t (Some (AtLink target)) read copied a b = same_end t (link_end t target) read copied a b
+pub read_too : (t : Tree) (blob : Option Blob) (bytes : List ℕ) → blob_read faults.InvalidInput t blob ≡ Ok bytes → blob_bytes t blob ≡ Ok bytes
+read_too t (Some (AtLink target)) bytes e = same_end t (link_end t target) bytes e
+read_too t blob bytes e = e
 
 -- the node that a hard link is a name of
 abbrev named : Option Node → Result Node Fault
@@ -57,17 +55,18 @@ file_there : (here : Option Node) (bytes : List ℕ) → blob_in here ≡ Some (
 file_there (Some (File b)) bytes e = let same : InFile b ≡ InFile bytes = cc in let is : b ≡ bytes = cc in ap (λ x. Some (File x)) is
 file_there here bytes e = absurd cc
 
--- a reply that refuses nothing
-abbrev pub IsGiven : Reply → Type 0
-IsGiven (Refused e) = ⊥
-IsGiven r = Unit {0}
+-- unless it is refused the path shows the bytes that a copy took, or those of the file that lies there
+abbrev pub Shows : List ℕ → Tree → Option Blob → Tree → Reply → Type 0
+Shows to t blob new (Refused e) = Unit {0}
+Shows to t blob new (Copied n) = (bytes : List ℕ) → blob_read faults.InvalidInput t blob ≡ Ok bytes → shown new to ≡ Some bytes
+Shows to t blob new r = (bytes : List ℕ) → blob ≡ Some (InFile bytes) → shown new to ≡ Some bytes
 
 -- ---- an export of a content
 
 module _ (cache : List ℕ) (home : Names) (is : home_of cache ≡ Some home) (t : Tree) (g : Ground home t) (e : Export) where
-  -- this reply, and after a refusal the same tree; otherwise the path shows the bytes of the file that lies there
+  -- this reply, and after a refusal the same tree; otherwise the path shows what lies there
   abbrev pub Gives : Option Blob → Reply → Tree → Reply → Type 0
-  Gives blob wanted new r = (r ≡ wanted) × StaysIfRefused r t new × ((bytes : List ℕ) → blob ≡ Some (InFile bytes) → IsGiven r → shown new e.to ≡ Some bytes)
+  Gives blob wanted new r = (r ≡ wanted) × StaysIfRefused r t new × Shows e.to t blob new r
 
   abbrev Leads : Option Blob → Reply → State → Type 0
   Leads blob wanted s = EndsSo (Gives blob wanted) t s
@@ -115,7 +114,7 @@ module _ (cache : List ℕ) (home : Names) (is : home_of cache ≡ Some home) (t
 
     -- a refusal
     refused : (fault : Fault) → EndsSo (Gives blob (Refused (IoError fault []))) t (over (Refused (IoError fault [])))
-    refused fault = ends (Gives blob (Refused (IoError fault []))) t (Refused (IoError fault [])) (refl, refl, λ bytes is given. absurd given)
+    refused fault = ends (Gives blob (Refused (IoError fault []))) t (Refused (IoError fault [])) (refl, refl, tt)
 
     -- a count that was verified is that of the bytes
     abbrev Counts : Option ℕ → Type 0
@@ -133,8 +132,8 @@ module _ (cache : List ℕ) (home : Names) (is : home_of cache ≡ Some home) (t
         (ends (Gives blob (Copied (length bytes))) (put t q (File (take (length bytes) bytes))) (Copied (copied_count count (length bytes))) (
           ap Copied (counts bytes from),
           tt,
-          λ held lies given.
-              let both : ◌≡◌ {A = Result (List ℕ) Fault} (Ok bytes) (Ok held) = sym from ∙ ap (blob_read faults.InvalidInput t) lies in
+          λ held lies.
+              let both : ◌≡◌ {A = Result (List ℕ) Fault} (Ok bytes) (Ok held) = sym from ∙ lies in
               let same : bytes ≡ held = cc in
               ap (λ b. shown (put t q (File b)) e.to) (take_all (length bytes) bytes (omega arith)) ∙ written_shown t e.to bytes q to ∙ ap Some same,
         ))
@@ -150,7 +149,7 @@ module _ (cache : List ℕ) (home : Names) (is : home_of cache ≡ Some home) (t
         (ends (Gives blob Done) (put t q (File bytes)) Done (
           refl,
           tt,
-          λ held lies given.
+          λ held lies.
               let both : ◌≡◌ {A = Result (List ℕ) Fault} (Ok bytes) (Ok held)
               = sym from ∙ bytes_at home t g cache is h hs hash ∙ ap (blob_bytes t) lies in
               let same : bytes ≡ held = cc in
@@ -168,7 +167,7 @@ module _ (cache : List ℕ) (home : Names) (is : home_of cache ≡ Some home) (t
         (ends (Gives blob Done) (put t q node) Done (
           refl,
           tt,
-          λ held lies given.
+          λ held lies.
               let both : ◌≡◌ {A = Result Node Fault} (Ok node) (Ok (File held)) = here held lies in
               let same : node ≡ File held = cc in
               ap (λ x. shown (put t q x) e.to) same ∙ put_shown t e.to held q to,
@@ -188,8 +187,8 @@ module _ (cache : List ℕ) (home : Names) (is : home_of cache ≡ Some home) (t
     verified_ends bytes whole =
         let unmet = Refused (IntegrityError (Check (h ∷ hs) (actual (h ∷ hs) bytes))) in
         both (Leads blob) (meets (h ∷ hs) bytes) (made_reply e.how e.to t blob) unmet (export_content k e (Some (length bytes))) (ends_with (IntegrityError (Check (h ∷ hs) (actual (h ∷ hs) bytes))))
-        (made_ends e.how (Some (length bytes)) (λ copied from. ap (λ (b : List ℕ). length b) (same_read t blob bytes copied whole from)))
-        (ends (Gives blob unmet) t unmet (refl, refl, λ bytes lies given. absurd given))
+        (made_ends e.how (Some (length bytes)) (λ copied from. let both : ◌≡◌ {A = Result (List ℕ) Fault} (Ok bytes) (Ok copied) = sym whole ∙ read_too t blob copied from in let same : bytes ≡ copied = cc in ap (λ (b : List ℕ). length b) same))
+        (ends (Gives blob unmet) t unmet (refl, refl, tt))
 
     checked_ends : (r : Result (List ℕ) Fault) → blob_bytes t blob ≡ r → Leads blob (or_told r (verified_reply (h ∷ hs) (made_reply e.how e.to t blob))) (opening_file (to_verify k e))
     checked_ends (Err fault) from =
@@ -205,7 +204,7 @@ module _ (cache : List ℕ) (home : Names) (is : home_of cache ≡ Some home) (t
         (checked_ends (blob_bytes t blob) refl) (made_ends e.how None (λ bytes from. refl))
 
   -- what lies under an integrity
-  abbrev lies_at : List Hash → Option Blob
+  abbrev pub lies_at : List Hash → Option Blob
   lies_at i = blob_at (value_of_tree (Some home) t) (address i)
 
   pub content_ends : (i : List Hash) → IsIntegrity i → Leads (lies_at i) (exported_reply i e t (lies_at i)) (export (record { cache = cache; integrity = i }) e)
@@ -225,7 +224,7 @@ module _ (cache key : List ℕ) (home : Names) (is : home_of cache ≡ Some home
 
   by_found : (found : Option Found) → HasIntegrity found → EndsSo (Gives cache home is (tree_of old) g e (led_to found) (led_reply cache key e old found)) (tree_of old) (found_for look_up (aims.Export e) found)
   by_found None has =
-      ends (Gives cache home is (tree_of old) g e None (Refused (EntryNotFound cache key))) (tree_of old) (Refused (EntryNotFound cache key)) (refl, refl, λ bytes lies given. absurd given)
+      ends (Gives cache home is (tree_of old) g e None (Refused (EntryNotFound cache key))) (tree_of old) (Refused (EntryNotFound cache key)) (refl, refl, tt)
   by_found (Some f) has =
       subst
       (λ h. EndsSo (Gives cache home is (tree_of old) g e (lies_at cache home is (tree_of old) g e f.integrity) (exported_reply f.integrity e (tree_of old) (blob_at (value_of_tree h (tree_of old)) (address f.integrity)))) (tree_of old) (export (record { cache = cache; integrity = f.integrity }) e))
@@ -235,11 +234,11 @@ module _ (cache key : List ℕ) (home : Names) (is : home_of cache ≡ Some home
   led_blob None i leads = absurd cc
   led_blob (Some f) i leads = let same : f.integrity ≡ i = cc in ap (lies_at cache home is (tree_of old) g e) same
 
--- it answers so, and unless it is refused its path shows the bytes of a file that lies where the source leads
+-- it answers so, and unless it is refused its path shows what lies where the source leads
 abbrev pub Told : List ℕ → Source → Export → Reply → List LogItem → List LogItem → Type 0
 Told cache source e r old new =
     (r ≡ export_reply cache source e old) × StaysIfRefused r (tree_of old) (tree_of new)
-    × ((i : List Hash) (bytes : List ℕ) → NamesHeld cache source i old → lies_under cache i old ≡ Some (InFile bytes) → IsGiven r → shown (tree_of new) e.to ≡ Some bytes)
+    × ((i : List Hash) → NamesHeld cache source i old → Shows e.to (tree_of old) (lies_under cache i old) (tree_of new) r)
 
 pub exports_told : (cache : List ℕ) (home : Names) → home_of cache ≡ Some home → (source : Source) (e : Export) (r : Reply) (old new : List LogItem) → NamesSource source → IsCache cache old → Called cache (commands.Export source e) r old new
     → OrMemory (Told cache source e r old new) r
@@ -249,8 +248,7 @@ exports_told cache home is (sources.Hash i) e r old new formed sound c =
     (λ h. (
       h.0 ∙ ap (λ o. exported_reply i e (tree_of old) (blob_at (value_of_tree o (tree_of old)) (address i))) (sym is),
       h.1,
-      λ j bytes same lies given.
-          h.2 bytes (ap (λ o. blob_at (value_of_tree o (tree_of old)) (address i)) (sym is) ∙ ap (λ k. lies_under cache k old) same ∙ lies) given,
+      λ j same. subst (λ blob. Shows e.to (tree_of old) blob (tree_of new) r) (ap (λ o. blob_at (value_of_tree o (tree_of old)) (address i)) (sym is) ∙ ap (λ k. lies_under cache k old) same) h.2,
     ))
     (of_log (Gives cache home is (tree_of old) g e (lies_at cache home is (tree_of old) g e i) (exported_reply i e (tree_of old) (lies_at cache home is (tree_of old) g e i))) (opening (record { cache = cache; base = c.base; number = c.number }) (commands.Export (sources.Hash i) e)) r old new
     (content_ends cache home is (tree_of old) g e i formed) c.ran c.logged)
@@ -266,10 +264,10 @@ exports_told cache home is (sources.Key key) e r old new formed sound c =
     (λ h. (
       h.0 ∙ ap (led_reply cache key e old) here,
       h.1,
-      λ i bytes leads lies given.
-          h.2 bytes
+      λ i leads.
+          subst (λ blob. Shows e.to (tree_of old) blob (tree_of new) r)
           (led_blob cache key home is old g e (latest key (entries_on (Some home) (tree_of old) key)) i (ap (option_map (λ (f : Found). f.integrity)) here ∙ leads)
-          ∙ ap (λ o. blob_at (value_of_tree o (tree_of old)) (address i)) (sym is) ∙ lies) given,
+          ∙ ap (λ o. blob_at (value_of_tree o (tree_of old)) (address i)) (sym is)) h.2,
     ))
     (of_log Q (opening (record { cache = cache; base = c.base; number = c.number }) (commands.Export (sources.Key key) e)) r old new
     (looks_so Q home (tree_of old) g (look_up cache key home is old g e) is (by_found cache key home is old g e led led_has)) c.ran c.logged)
@@ -286,50 +284,3 @@ by_held cache (sources.Key key) i e old leads = by (found_under cache key old) l
     by : (found : Option Found) → option_map (λ (x : Found). x.integrity) found ≡ Some i → led_reply cache key e old found ≡ exported_reply i e (tree_of old) (lies_under cache i old)
     by None is = absurd cc
     by (Some f) is = let same : f.integrity ≡ i = cc in ap (λ j. exported_reply j e (tree_of old) (lies_under cache j old)) same
-
--- ---- of bytes that are there
-
--- if the path may take it, an export of these bytes is done
-made_so : (how : How) (to bytes : List ℕ) (log : List LogItem) → MayTake how to log → made_reply how to (tree_of log) (Some (InFile bytes)) ≡ exported how bytes
-made_so Copy to bytes log may = ap (λ w. or_told w (λ q. Copied (length bytes))) may.1
-made_so how to bytes log may = ap (λ w. or_told w (λ q. Done)) may.1
-
--- bytes that meet the integrity pass the check
-pub passes : (checked : Bool) (how : How) (to bytes : List ℕ) (i : List Hash) (t : Tree) → Meets i bytes
-    → exported_reply i (record { how = how; checked = checked; to = to }) t (Some (InFile bytes)) ≡ made_reply how to t (Some (InFile bytes))
-passes true how to bytes i t met = ap (λ b. cond b (made_reply how to t (Some (InFile bytes))) (Refused (IntegrityError (Check i (actual i bytes))))) ((meets_finds i bytes).1 met)
-passes false how to bytes i t met = refl
-
-module _ (cache bytes to : List ℕ) (how : How) (checked : Bool) (old : List LogItem) (home : Names) (is : home_of cache ≡ Some home) (g : Ground home (tree_of old)) (may : MayTake how to old) where
-  abbrev to_path : Export
-  to_path = record { how = how; checked = checked; to = to }
-
-  -- the same holds of what lies under an integrity
-  by_content : (i : List Hash) → HasContent cache i bytes old → EndsSo (Gives cache home is (tree_of old) g to_path (lies_at cache home is (tree_of old) g to_path i) (exported how bytes)) (tree_of old) (export (record { cache = cache; integrity = i }) to_path)
-  by_content i has =
-      let lies : blob_at (value_of_tree (Some home) (tree_of old)) (address i) ≡ Some (InFile bytes) = subst (λ h. blob_at (value_of_tree h (tree_of old)) (address i) ≡ Some (InFile bytes)) is has.content in
-      subst (λ wanted. EndsSo (Gives cache home is (tree_of old) g to_path (lies_at cache home is (tree_of old) g to_path i) wanted) (tree_of old) (export (record { cache = cache; integrity = i }) to_path))
-      (ap (λ blob. exported_reply i to_path (tree_of old) blob) lies ∙ passes checked how to bytes i (tree_of old) has.meets ∙ made_so how to bytes old may)
-      (content_ends cache home is (tree_of old) g to_path i has.formed)
-
-pub exports_succeed : ExportsSucceed
-exports_succeed cache bytes to how (sources.Hash i) checked r old new folder standing has may c =
-    let home = folder.0 in
-    let g = ground cache old home folder.1 standing in
-    let e : Export = record { how = how; checked = checked; to = to } in
-    either r (λ h. h.0)
-    (of_log (Gives cache home (home_named cache home folder.1) (tree_of old) g e (lies_at cache home (home_named cache home folder.1) (tree_of old) g e i) (exported how bytes)) (opening (record { cache = cache; base = c.base; number = c.number }) (export_by how (sources.Hash i) checked to)) r old new
-    (by_content cache bytes to how checked old home (home_named cache home folder.1) g may i has) c.ran c.logged)
-exports_succeed cache bytes to how (sources.Key key) checked r old new folder standing has may c =
-    let home = folder.0 in
-    let g = ground cache old home folder.1 standing in
-    let e : Export = record { how = how; checked = checked; to = to } in
-    let l : Lookup = record { cache = cache; key = key; aim = aims.Export e } in
-    let Q : Tree → Reply → Type 0 = Gives cache home (home_named cache home folder.1) (tree_of old) g e (lies_at cache home (home_named cache home folder.1) (tree_of old) g e has.0) (exported how bytes) in
-    let finds : latest key (entries_on (Some home) (tree_of old) key) ≡ Some has.1.found = subst (λ h. latest key (entries_on h (tree_of old) key) ≡ Some has.1.found) (home_named cache home folder.1) has.1.finds in
-    let next = subst (λ i. EndsSo Q (tree_of old) (export (record { cache = cache; integrity = i }) (record { how = how; checked = checked; to = to }))) (sym has.1.integrity)
-    (by_content cache bytes to how checked old home (home_named cache home folder.1) g may has.0 has.1.content) in
-    either r (λ h. h.0)
-    (of_log Q (opening (record { cache = cache; base = c.base; number = c.number }) (export_by how (sources.Key key) checked to)) r old new
-    (looks_so Q home (tree_of old) g l (home_named cache home folder.1)
-    (subst (λ f. EndsSo Q (tree_of old) (found_for l (aims.Export e) f)) (sym finds) next)) c.ran c.logged)

@@ -34,7 +34,7 @@ bucket_read home t p names here e s (arrives w) = rw (w, e, e) refl
 
 -- ---- what a content's path answers
 
-told_all : (t : Tree) (p : List ℕ) (r : Result (List ℕ) Fault) → file_at t p faults.IsADirectory ≡ r → apply t (steps.ReadAll p) Plain ≡ (said r, t)
+pub told_all : (t : Tree) (p : List ℕ) (r : Result (List ℕ) Fault) → file_at t p faults.IsADirectory ≡ r → apply t (steps.ReadAll p) Plain ≡ (said r, t)
 unfolding apply
 told_all t p (Ok bytes) e = rw e refl
 told_all t p (Err fault) e = rw e refl

@@ -3,12 +3,12 @@ use Rattle.std.{proofs.Common.{◌≡◌, ℕ, Bool, List, Some, Result, Ok, Err
 use Rattle.cacache_core.specs.declared.{errors.Error.{Error}, integrity.digest.Hash.{Hash}}
 use Rattle.cacache_store.specs.declared.{env.Env.{Env}, store.log.LogItem.{LogItem}}
 use Rattle.cacache_disk.specs.memory.Replay.{IsLog, shown, tree_of}
-use Rattle.cacache_calls.specs.{declared.{command.{How.{How, TheVariants.{Copy, Reflink, HardLink}}, Source.{Source}}, reply.Reply.{Reply, TheVariants.{Copied}}}, Replies.{done}, Runs.{reply_of}}
+use Rattle.cacache_calls.specs.{declared.{command.{How.{How, TheVariants.{Copy, HardLink}}, Source.{Source}}, reply.Reply.{Reply, TheVariants.{Copied}}}, Replies.{done}, Runs.{reply_of}}
 use Rattle.cacache_calls.specs.declared.command.Source.TheVariants as sources
 use Rattle.cacache_sync.specs.Exports.{exporting}
 use Rattle.cacache_history.specs.History.{NamesSource}
 use Rattle.cacache_laws.specs.{Caches.{Called, IsCache, IsExcused}, Exported.{Arrives, export_by}, ExportEffects.{IsApart}, Looks.{bytes_under}, OpenWriters.{LeavesKnownCache}, OpenSucceeds.{MayTake, exported}, Succeeds.{NamesFolder}, results.{Exports.{CopyMeans, HasArrived, NamesHeld, SharingMeans}, Reads.{LinksToFile}}}
-use Rattle.cacache_laws.proofs.{Links.LinkedReads.{links_show}, Putting.Arriving.{has_arrived}, Readings.Standing.{caches_stand}, Sure.SureExports.{exports_answer, exports_succeed}, Exports.{Exported.{exports_arrive}, ExportEffects.{exports_keep}, Sharing.{free_writable}}, Calls.{Logs.{calls_grow}, Messages.{excused_error}}, results.{ExportErrors.{Answered, copy_missing, fails_so, missing_fails, refuses_so}, SureResults.{IsGiven, for_memory}, Told.{called}}}
+use Rattle.cacache_laws.proofs.{Links.LinkedReads.{links_show}, Readings.Standing.{caches_stand}, Sure.{SureExports.{exports_answer}, SureCopies.{exports_succeed}}, Exports.{Arriving.{has_arrived}, Exported.{exports_arrive}, ExportEffects.{exports_keep}, Sharing.{free_writable}}, Calls.{Logs.{calls_grow}, Messages.{excused_error}}, results.{ExportErrors.{Answered, copy_missing, fails_so, missing_fails, refuses_so}, SureResults.{IsGiven, for_memory}, Told.{called}}}
 
 leaves : (cache : List ℕ) (source : Source) (how : How) (checked : Bool) (to : List ℕ) (r : Reply) (old new : List LogItem) → IsApart cache to → NamesSource source → IsCache cache old
     → Called cache (export_by how source checked to) r old new → LeavesKnownCache cache old new
@@ -22,10 +22,10 @@ copied (Ok n) bytes to old new h = h
 copied (Err e) bytes to old new h = excused_error e old new h
 
 -- what arrived of any content
-whole : (cache : List ℕ) (source : Source) (checked : Bool) (to : List ℕ) (r : Result ℕ Error) (old new : List LogItem) → IsApart cache to → NamesSource source → IsCache cache old
+whole : (cache : List ℕ) (source : Source) (checked : Bool) (to : List ℕ) (r : Result ℕ Error) (old new : List LogItem) → NamesSource source → IsCache cache old
     → Called cache (export_by Copy source checked to) (reply_of Copied r) old new → IfOk r (λ n. HasArrived cache source checked to n old new)
-whole cache source checked to (Ok n) old new apart named sound c = has_arrived cache to source checked n old new apart named sound c
-whole cache source checked to (Err e) old new apart named sound c = tt
+whole cache source checked to (Ok n) old new named sound c = has_arrived cache to source checked n old new named sound c
+whole cache source checked to (Err e) old new named sound c = tt
 
 -- a source leads to one integrity
 one_held : (cache : List ℕ) (source : Source) (i j : List Hash) (log : List LogItem) → NamesHeld cache source i log → NamesHeld cache source j log → j ≡ i
@@ -45,7 +45,7 @@ copy_means cache source checked to r new logged old apart named sound ran =
     let c = called Copied (λ n. refl) r cache old.base 0 (exporting Copy checked source to) old.store new.store ran.0.0 logged in
     let answers : NamesFolder cache → Answered cache source Copy checked to (reply_of Copied r) old.store new.store
     = λ folder. exports_answer cache source (record { how = Copy; checked = checked; to = to }) (reply_of Copied r) old.store new.store folder named sound c in
-    let any = whole cache source checked to r old.store new.store apart named sound c in
+    let any = whole cache source checked to r old.store new.store named sound c in
     record {
       leaves = leaves cache source Copy checked to (reply_of Copied r) old.store new.store apart named sound c;
       whole = any;

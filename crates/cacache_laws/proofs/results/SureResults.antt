@@ -4,8 +4,12 @@ use Rattle.cacache_core.specs.declared.errors.Error.{Error, TheVariants.{EntryNo
 use Rattle.cacache_store.specs.declared.store.log.LogItem.{LogItem}
 use Rattle.cacache_calls.specs.{declared.reply.Reply.{Reply}, Replies.{OrMemory}, Runs.{reply_of, without_message}}
 use Rattle.cacache_calls.specs.declared.reply.Reply.TheVariants as replies
-pub use Rattle.cacache_laws.proofs.Sure.SureExports.{IsGiven}
 use Rattle.cacache_laws.{specs.{Succeeds.{IsReady, IsTidy}, results.Success.{FailsAs, FailsFor, FailsForMemory}}, proofs.Calls.Messages.{memory_error, missing_error}}
+
+-- a reply that refuses nothing
+abbrev pub IsGiven : Reply → Type 0
+IsGiven (replies.Refused e) = ⊥
+IsGiven r = Unit {0}
 
 pub of_refused : (e : Error) → replies.Refused (without_message e) ≡ replies.Refused OutOfMemory → e ≡ OutOfMemory
 of_refused e h = let same : without_message e ≡ OutOfMemory = cc in memory_error e same
