@@ -31,7 +31,7 @@ written : (t : Tree) (file full : PlainTemp) (bytes : List ℕ) → file.bytes �
 unfolding apply
 written t file full bytes empty path_is bytes_are = grown_is file full bytes path_is bytes_are ∙ ap (grown file bytes (length bytes)) (sym empty)
 
-writing_keeps : (t : Tree) (file : PlainTemp) (bytes : List ℕ) → (apply t (steps.Write file bytes) Plain).1 ≡ t
+pub writing_keeps : (t : Tree) (file : PlainTemp) (bytes : List ℕ) → (apply t (steps.Write file bytes) Plain).1 ≡ t
 unfolding apply
 writing_keeps t file bytes = refl
 

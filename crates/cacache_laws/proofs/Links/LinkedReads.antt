@@ -3,7 +3,7 @@ use Rattle.std.proofs.Common.{◌≡◌, ℕ, zero, suc, List, Option, None, Som
 use Rattle.cacache_core.specs.{declared.errors.Fault.{Fault}, PathNames.{Names}}
 use Rattle.cacache_core.specs.declared.errors.Fault.TheVariants as faults
 use Rattle.cacache_store.specs.declared.store.answer.Answer.TheVariants as answers
-use Rattle.cacache_disk.specs.{declared.node.Node.{Node, TheVariants.{Folder, File, Link}}, Apply.{apply, unless}, LedTo.{and_then, bytes_there, file_at, followed, leads, on_link, place, standing, where_there}, Tree.{Tree, look}, memory.Replay.{bytes_told, shown, tree_of}}
+use Rattle.cacache_disk.specs.{declared.node.Node.{Node, TheVariants.{Link}}, Apply.{apply, unless}, LedTo.{and_then, bytes_there, file_at, followed, leads, on_link, place, standing, where_there}, Tree.{Tree, look}, memory.Replay.{bytes_told, shown, tree_of}}
 use Rattle.cacache_value.specs.{Shows.{blob_bytes, link_end}, Value.{AtLink}}
 use Rattle.cacache_laws.specs.Looks.{LinksShow}
 
@@ -14,10 +14,8 @@ module _ (t : Tree) where
   one_more zero names end e = by (look t names) e
     where
       by : (o : Option Node) → on_link o names (λ target. Err faults.TooDeep) ≡ Ok end → on_link o names (λ target. and_then (standing t target) (followed zero t)) ≡ Ok end
-      by None e = e
-      by (Some Folder) e = e
-      by (Some (File bytes)) e = e
       by (Some (Link target)) e = absurd cc
+      by o e = e
   one_more (suc most) names end e = by (λ found. one_more most found end) (look t names) e
     where
       next : ((found : Names) → followed most t found ≡ Ok end → followed (suc most) t found ≡ Ok end) → (r : Result Names Fault) → and_then r (followed most t) ≡ Ok end → and_then r (followed (suc most) t) ≡ Ok end

@@ -59,12 +59,7 @@ module _ (cache base : List ℕ) (i : Insert) (old new : List LogItem) (formed :
   inserts (replies.Refused (EntryNotFound c l)) k = absurd (no_other cache base i old new (EntryNotFound c l) k (λ h. h) (λ cause e. absurd cc))
   inserts (replies.Refused (SizeMismatch wanted actual)) k = absurd (no_other cache base i old new (SizeMismatch wanted actual) k (λ h. h) (λ cause e. absurd cc))
   inserts (replies.Refused (IntegrityError fault)) k = absurd (no_other cache base i old new (IntegrityError fault) k (λ h. h) (λ cause e. absurd cc))
-  inserts (replies.Read b) k = let no = only cache base i old new (replies.Read b) k in absurd cc
-  inserts (replies.LookedUp found) k = let no = only cache base i old new (replies.LookedUp found) k in absurd cc
-  inserts (replies.Exists there) k = let no = only cache base i old new (replies.Exists there) k in absurd cc
-  inserts (replies.Copied n) k = let no = only cache base i old new (replies.Copied n) k in absurd cc
-  inserts (replies.Listed items) k = let no = only cache base i old new (replies.Listed items) k in absurd cc
-  inserts replies.Done k = let no = only cache base i old new replies.Done k in absurd cc
+  inserts r k = let no = only cache base i old new r k in absurd cc
 
 pub inserts_last : InsertsLast
 inserts_last cache i r old new formed written sound c =

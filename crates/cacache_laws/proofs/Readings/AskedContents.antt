@@ -81,12 +81,8 @@ module _ (cache base bytes : List ℕ) (i : List Hash) (old new : List LogItem) 
       let f = failed_so a.move.0 a.move.1 a.reply in
       (k.call.moves, k.gained, f.0, subst (λ moves. Faulted moves f.0) (sym a.only) (inl f.1))
   says (replies.Refused e) k a = inl (memory_so e (lost_so e a.move.1 a.reply))
-  says (replies.Read b) k a = absurd (no_other (replies.Read b) a.move.1 a.reply)
-  says (replies.Stored j) k a = absurd (no_other (replies.Stored j) a.move.1 a.reply)
-  says (replies.LookedUp found) k a = absurd (no_other (replies.LookedUp found) a.move.1 a.reply)
-  says (replies.Copied n) k a = absurd (no_other (replies.Copied n) a.move.1 a.reply)
   says (replies.Listed items) k a = absurd (no_other (plain_reply (replies.Listed items)) a.move.1 a.reply)
-  says replies.Done k a = absurd (no_other replies.Done a.move.1 a.reply)
+  says r k a = absurd (no_other r a.move.1 a.reply)
 
   lost : (r : Reply) → r ≡ replies.Refused OutOfMemory → SaysThere (HasContent cache i bytes new) r old new
   lost r e = subst (λ x. SaysThere (HasContent cache i bytes new) x old new) (sym e) (inl refl)

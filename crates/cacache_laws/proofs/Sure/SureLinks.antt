@@ -17,7 +17,7 @@ use Rattle.cacache_laws.proofs.Sure.SureCommits as commits
 
 -- ---- folders that are there
 
-make_step : (t : Tree) (p rest : Names) (name : List ℕ) (node : Node) (most : ℕ) → look t (p ++ name ∷ []) ≡ Some node → make_some t p (name ∷ rest) most ≡ make_some t (p ++ name ∷ []) rest most
+pub make_step : (t : Tree) (p rest : Names) (name : List ℕ) (node : Node) (most : ℕ) → look t (p ++ name ∷ []) ≡ Some node → make_some t p (name ∷ rest) most ≡ make_some t (p ++ name ∷ []) rest most
 make_step t p rest name node most e = rw (e, make_some) refl
 
 -- no folder is made if all of them are there

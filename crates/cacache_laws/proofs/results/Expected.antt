@@ -1,6 +1,5 @@
 -- What was expected of the bytes of a commit that stored.
-use Rattle.std.proofs.{Common.{◌≡◌, inl, inr, ◌<◌, ℕ, Bool, true, false, cond, List, [], ◌∷◌, Option, None, Some, length, arith, refl, sym, subst}, lemmas.List.Elements.{Contains-push_cases}}
-use Rattle.std.specs.Prelude.{Contains, IfSome, is_some}
+use Rattle.std.{proofs.Common.{◌≡◌, ℕ, Bool, true, false, cond, List, Option, None, Some, length, arith, refl, sym, subst}, specs.Prelude.{Contains, IfSome, is_some}}
 use Rattle.cacache_core.specs.{declared.integrity.{algorithm.Algorithm.{Algorithm}, digest.Hash.{Hash}}, Digests.{digest}, Integrity.{HasDigest, hash_of, integrity_under}, Meeting.{matching}}
 use Rattle.cacache_core.proofs.Meeting.{matching_finds}
 use Rattle.cacache_store.specs.declared.store.plain.PlainTemp.{PlainTemp}
@@ -8,15 +7,9 @@ use Rattle.cacache_calls.specs.{declared.{carried.Commit.{Commit}, reply.Reply.T
 use Rattle.cacache_calls.proofs.Promises.{runs_keep}
 use Rattle.cacache_sync.specs.put.Options.{Said, options_of}
 use Rattle.cacache_laws.specs.results.Handles.{AreAsExpected}
+use Rattle.cacache_history.proofs.Contents.Digests.{one_of}
 
 -- ---- integrities
-
-only_one : (h x : Hash) → Contains (h ∷ []) x → h ≡ x
-only_one h x has =
-    elim (Contains-push_cases [] h x has) [
-      | inl none ↦ let lt : none.0 < 0 = none.1 in absurd (omega arith)
-      | inr is ↦ is
-    ]
 
 -- one that matches that of bytes lists their digest
 pub lists_own : (expected : List Hash) (a : Algorithm) (bytes : List ℕ) → matches expected (integrity_under a bytes) ≡ true → HasDigest expected a (digest a bytes)
@@ -26,7 +19,7 @@ lists_own expected a bytes = by (matching expected (integrity_under a bytes)) re
     by None e is = absurd cc
     by (Some b) e is =
         let shared = ((matching_finds expected (integrity_under a bytes) b).0 e).1 in
-        subst (Contains expected) (sym (only_one (hash_of a (digest a bytes)) (hash_of b shared.0) shared.2)) shared.1
+        subst (Contains expected) (sym (one_of (hash_of a (digest a bytes)) (hash_of b shared.0) shared.2)) shared.1
 
 -- and one that lists it matches
 pub own_matches : (expected : List Hash) (a : Algorithm) (bytes : List ℕ) → HasDigest expected a (digest a bytes) → matches expected (integrity_under a bytes) ≡ true

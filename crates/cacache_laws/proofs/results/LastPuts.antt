@@ -110,14 +110,12 @@ append_ends other p line a h w = absurd h
 module _ (path : Names) (tail : List Record) (none : NoneAppends path (steps_of tail)) where
   -- if none of the records appends, none after one of them does
   none_behind : (records : List Record) (append : Record) (later : List Record) → NoneAppends path (steps_of (records ++ append ∷ later)) → NoneAppends path (steps_of later)
-  none_behind [] (Began caller command) later h = h
-  none_behind [] (Moved caller luck None told) later h = h
   none_behind [] (Moved caller luck (Some m) told) later h = h.1
-  none_behind [] (Stopped caller) later h = h
   none_behind (Began caller command ∷ records) append later h = none_behind records append later h
   none_behind (Moved caller luck None told ∷ records) append later h = none_behind records append later h
   none_behind (Moved caller luck (Some m) told ∷ records) append later h = none_behind records append later h.1
   none_behind (Stopped caller ∷ records) append later h = none_behind records append later h
+  none_behind records append later h = h
 
   none_more : (s : State) (m : Made) (more : Moves) (reply r : Reply) → Never s → Reaches s (m ∷ more) r → NoneAppends path (steps_of (records_of m more reply ++ tail))
   none_more s m [] reply r never run = (never_apart path s m.0 never run.0, none)

@@ -28,7 +28,7 @@ map_same ((step, a) ∷ xs) ((other, b) ∷ ys) e =
     ap (λ x. (x, a) ∷ xs) one ∙ ap (λ x. (other, x) ∷ xs) two ∙ ap (λ (l : Moves). (other, b) ∷ l) (map_same xs ys more)
 
 -- a log gained the same moves
-moves_same : (old new : List LogItem) (xs ys : Moves) → Gains (Some old) (Some new) xs → Gains (Some old) (Some new) ys → xs ≡ ys
+pub moves_same : (old new : List LogItem) (xs ys : Moves) → Gains (Some old) (Some new) xs → Gains (Some old) (Some new) ys → xs ≡ ys
 moves_same old new xs ys g h =
     map_same xs ys (append_cancel_left old (map (λ m. Made m.0 m.1) xs) (map (λ m. Made m.0 m.1) ys) (sym (some_same new _ g) ∙ some_same new _ h))
 

@@ -63,12 +63,7 @@ item_shown cache old new e (item ∷ items) all (inr i) = item_shown cache old n
 fails_so : (cache : List ℕ) (r : Reply) (old new : List LogItem) → GivesKeys cache (plain_reply r) old new → (e : Error) → GivesError r e → FailsListing e old new
 fails_so cache (replies.Listed items) old new h e i = elim (item_shown cache old new e items h.shown i) [ inl f ↦ inl (inr f) | inr deep ↦ inr deep ]
 fails_so cache (replies.Refused refusal) old new h e is = inl (inl (sym is ∙ memory_error refusal h))
-fails_so cache (replies.Stored i) old new h e never = absurd never
-fails_so cache (replies.Read b) old new h e never = absurd never
-fails_so cache (replies.LookedUp found) old new h e never = absurd never
-fails_so cache (replies.Exists there) old new h e never = absurd never
-fails_so cache (replies.Copied n) old new h e never = absurd never
-fails_so cache replies.Done old new h e never = absurd never
+fails_so cache r old new h e never = absurd never
 
 pub listing_means : {C N : Type 0} (cache : List ℕ) (r : Reply) (new : Env (List LogItem) C N) → IsLog new.store → ListingMeans cache r new
 listing_means cache r new logged old sound ran =

@@ -1,7 +1,7 @@
 -- Which errors the commit of a writer gives while its file is there.
-use Rattle.std.proofs.{Common.{◌≡◌, inl, inr, ◌<◌, ◌^◌, ◌==◌, ℕ, Bool, true, false, cond, List, Option, None, Some, Result, Ok, Err, length, refl, sym, subst, ◌∙◌}, lemmas.Bool.{eq-eqb}}
+use Rattle.std.proofs.{Common.{◌≡◌, inl, inr, ◌==◌, ℕ, Bool, true, false, cond, List, Option, None, Some, Result, Ok, Err, length, refl, sym, subst, ◌∙◌}, lemmas.Bool.{eq-eqb}}
 use Rattle.std.specs.Prelude.{IfErr}
-use Rattle.cacache_core.specs.{declared.{errors.{Error.{Error, TheVariants.{EntryNotFound, SizeMismatch, IoError, SerdeError, IntegrityError, OutOfMemory}}, IntegrityFault.TheVariants.{Check}, SerdeCause.{SerdeCause}}, integrity.digest.Hash.{Hash}}, Integrity.{integrity_under}}
+use Rattle.cacache_core.specs.declared.{errors.{Error.{Error, TheVariants.{EntryNotFound, SizeMismatch, IntegrityError, OutOfMemory}}, IntegrityFault.TheVariants.{Check}, SerdeCause.{SerdeCause}}, integrity.digest.Hash.{Hash}}
 use Rattle.cacache_store.specs.declared.{env.Env.{Env}, store.log.LogItem.{LogItem}}
 use Rattle.cacache_disk.specs.memory.Replay.{IsLog}
 use Rattle.cacache_calls.specs.{declared.{carried.Commit.{Commit}, reply.Reply.{Reply, TheVariants.{Refused, Stored}}}, Inserting.{refused_cause}, Runs.{reply_of, without_message}, Storing.{insertion_of, matches, put_commit}}
@@ -45,11 +45,7 @@ module _ (cache : List ℕ) (key : Option (List ℕ)) (s : Said) (bytes : List �
   -- what a reply says without its message, its error says
   plain_tells : (e : Error) → FailsCommit s bytes (without_message e) → FailsCommit s bytes e
   plain_tells (EntryNotFound c k) h = h
-  plain_tells (SizeMismatch wanted actual) h = h
-  plain_tells (IoError fault message) h = h
-  plain_tells (SerdeError cause message) h = h
-  plain_tells (IntegrityError fault) h = h
-  plain_tells OutOfMemory h = h
+  plain_tells e h = h
 
   told : (r : Result (List Hash) Error) → reply_of Stored r ≡ put_reply cache (put_of key s bytes moment) → IfErr r (FailsCommit s bytes)
   told (Ok i) is = tt

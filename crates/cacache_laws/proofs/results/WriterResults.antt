@@ -1,7 +1,7 @@
 -- What open writers did.
 use Rattle.std.proofs.Common.{◌≡◌, inl, inr, ◌<◌, ◌^◌, ◌++◌, ℕ, Bool, List, Option, None, Some, Result, Ok, Err, length, refl, sym, ap, subst, ◌∙◌, arith}
 use Rattle.std.specs.{Prelude.{IsUtf8}, Io.KnownBytes.{Appends}}
-use Rattle.cacache_core.specs.{declared.{errors.Error.{Error, TheVariants.{EntryNotFound, SizeMismatch, IoError, SerdeError, IntegrityError, OutOfMemory}}, integrity.{algorithm.Algorithm.{Algorithm}, digest.Hash.{Hash}}}, Integrity.{integrity_under}, Texts.{integrity_text}}
+use Rattle.cacache_core.specs.{declared.{errors.Error.{Error, TheVariants.{IoError, OutOfMemory}}, integrity.{algorithm.Algorithm.{Algorithm}, digest.Hash.{Hash}}}, Integrity.{integrity_under}, Texts.{integrity_text}}
 use Rattle.serde_json.specs.Data.{Data, null}
 use Rattle.cacache_store.specs.{declared.{env.Env.{Env}, store.{log.LogItem.{LogItem}, plain.PlainTemp.{PlainTemp}}}, Plain.{PlainAnswer}}
 use Rattle.cacache_store.specs.declared.store.answer.Answer.TheVariants as answers
@@ -214,11 +214,7 @@ module _ (cache : List ℕ) (number : ℕ) (path : List ℕ) (is : path ≡ temp
   tried : (e : Error) → TriesToRemove path e (Some old) (Some new) → GivesUpTemp cache number (Some old) (Some new)
   tried OutOfMemory (inl same) = inl same
   tried OutOfMemory (inr h) = asked h.0 h.1
-  tried (IoError fault message) h = asked h.0 h.1
-  tried (EntryNotFound c k) h = asked h.0 h.1
-  tried (SizeMismatch wanted actual) h = asked h.0 h.1
-  tried (SerdeError cause message) h = asked h.0 h.1
-  tried (IntegrityError fault) h = asked h.0 h.1
+  tried e h = asked h.0 h.1
 
 pub giving_up_means : {C N : Type 0} (new : Env (List LogItem) C N) → IsLog new.store → GivingUpMeans new
 giving_up_means new logged cache key s bytes w r old sound t h =

@@ -8,7 +8,7 @@ use Rattle.cacache_store.specs.{declared.store.{answer.{Kind.{Kind}, Name.{Name}
 use Rattle.cacache_store.specs.declared.store.answer.Kind.TheVariants as kinds
 use Rattle.cacache_disk.specs.{declared.{luck.Luck.TheVariants.{Plain}, node.Node.{Node, TheVariants.{Folder, File, Link}}}, Tree.{Tree, look, listing}, LedTo.{and_then, or_fault, on_link, bytes_there, standing, way_fault, place, followed, leads, file_at}, Rooted.{Rooted}, Apply.{apply, unless}}
 use Rattle.cacache_entry.specs.{Bucket.{entries_of}, Latest.{Found, latest}}
-use Rattle.cacache_calls.specs.{State.{Item, Site}, declared.visit.{Task.{Task, TheVariants.{Make, Stumble}}, Visit.TheVariants.{Enter, ReadBucket, RemoveFile, RemoveFolder}}, Walking.{task_for_name, tasks_of, items_in}, Runs.{Moves}, ListReplies.{items_given, given_by}, StepPaths.{bucket_path}}
+use Rattle.cacache_calls.specs.{State.{Item, Site}, declared.visit.{Task.{Task, TheVariants.{Make, Stumble}}, Visit.TheVariants.{Enter, ReadBucket}}, Walking.{task_for_name, tasks_of, items_in}, Runs.{Moves}, ListReplies.{items_given, given_by}, StepPaths.{bucket_path}}
 use Rattle.cacache_walks.specs.Reading.{names_shown}
 use Rattle.cacache_laws.specs.trees.{Walks.{is_leaf}, Answers.{AnsweredBy}, Index.{ListsEachKey}}
 use Rattle.cacache_laws.proofs.{trees.{Members.{Member, contains_member, in_left, in_right}, Children.{child_listed, none_below, proper_child, FolderShows, listed, missing, folder_shown}, Covering.{named_on}, Listing.{ReadsAll, Good, listing_runs}}, Listings.ListedItems.{lists_found}}
@@ -76,13 +76,11 @@ module _ (t : Tree) (rooted : Rooted t) where
 
     at_node : (x : List ℕ) (xs : Names) (here : Option Node) → look t (base ++ x ∷ []) ≡ here → names ≡ listing t base → is_leaf (look t (base ++ x ∷ xs)) ≡ true → Member (reads (joined p (x ∷ xs))) (m ∷ moves)
     at_node x [] None is all leaf = absurd (no_leaf base (look t (base ++ x ∷ [])) is leaf)
-    at_node x (y ∷ ys) None is all leaf = absurd (below_no x y ys None is (λ e. cc) leaf)
     at_node x [] (Some Folder) is all leaf = absurd (let wrong : false ≡ true = ap is_leaf (sym is) ∙ leaf in cc)
     at_node x (y ∷ ys) (Some Folder) is all leaf = a_folder x y ys (nat_lt level 16) (task_in level p (record { name = x; kind = kinds.Folder }) names (subst (Member _) (sym all) (child_listed t base x Folder is))) is leaf
     at_node x [] (Some (File bytes)) is all leaf = a_bucket x kinds.File (subst (Member _) (sym all) (child_listed t base x (File bytes) is)) refl
-    at_node x (y ∷ ys) (Some (File bytes)) is all leaf = absurd (below_no x y ys (Some (File bytes)) is (λ e. cc) leaf)
     at_node x [] (Some (Link target)) is all leaf = a_bucket x kinds.Link (subst (Member _) (sym all) (child_listed t base x (Link target) is)) refl
-    at_node x (y ∷ ys) (Some (Link target)) is all leaf = absurd (below_no x y ys (Some (Link target)) is (λ e. cc) leaf)
+    at_node x (y ∷ ys) here is all leaf = absurd (below_no x y ys here is (λ e. cc) leaf)
 
     reached_first : (x : List ℕ) (xs : Names) → FolderShows t base names → is_leaf (look t (base ++ x ∷ xs)) ≡ true → Member (reads (joined p (x ∷ xs))) (m ∷ moves)
     reached_first x xs (listed all) leaf = at_node x xs (look t (base ++ x ∷ [])) refl all leaf

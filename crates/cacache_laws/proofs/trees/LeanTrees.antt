@@ -22,7 +22,7 @@ ends durable home q old new (inl same) = inl same
 ends durable home q old new (inr (inl lean)) = inr (inl lean)
 ends durable home q old new (inr (inr made)) = inr (inr (inl made))
 
-same_bytes : (x y : List ℕ) (here : Option Node) → here ≡ Some (File x) → here ≡ Some (File y) → x ≡ y
+pub same_bytes : (x y : List ℕ) (here : Option Node) → here ≡ Some (File x) → here ≡ Some (File y) → x ≡ y
 same_bytes x y here e f = let both : Some (File x) ≡ Some (File y) = sym e ∙ f in cc
 
 -- what was compacted twice is as if it was once

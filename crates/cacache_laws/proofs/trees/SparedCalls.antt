@@ -262,12 +262,7 @@ module _ (cache key : List ℕ) (i : List Hash) (formed : IsIntegrity i) (r : Re
   call_left (commands.Insert x) c may spares content = insert_left x c may spares
   call_left (commands.Delete d) c may spares content = delete_left d c may spares
   call_left (commands.Link l) c may spares content = absurd (let no : false ≡ true = may.1 in cc)
-  call_left (commands.Find k) c may spares content = read_left (commands.Find k) c may tt
-  call_left (commands.Get k) c may spares content = read_left (commands.Get k) c may tt
-  call_left (commands.GetHash j) c may spares content = read_left (commands.GetHash j) c may tt
-  call_left (commands.Exists j) c may spares content = read_left (commands.Exists j) c may tt
-  call_left commands.Ls c may spares content = read_left commands.Ls c may tt
-  call_left (commands.Export source e) c may spares content = read_left (commands.Export source e) c may tt
   call_left (commands.RemoveHash other) c may spares content = hash_left other c may content
   call_left (commands.RemoveFully gone) c may spares content = fully_left gone c may spares content
   call_left commands.Clear c may spares content = absurd spares
+  call_left command c may spares content = read_left command c may tt

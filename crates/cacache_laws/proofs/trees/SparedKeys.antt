@@ -1,7 +1,7 @@
 -- Where a key leads after later calls that spare it, on a store that stands.
 use Rattle.std.proofs.Common.{◌≡◌, inl, inr, ℕ, List, [], ◌∷◌, Option, None, Some, Result, Ok, Err, arith, filter_map, refl, sym, ap, subst, ◌∙◌}
 use Rattle.std.specs.{Prelude.{Contains}, List.{cons_option}}
-use Rattle.cacache_core.specs.{declared.{errors.{Error.{Error, TheVariants.{EntryNotFound, SizeMismatch, IoError, SerdeError, IntegrityError, OutOfMemory}}, Fault.{Fault}}, integrity.digest.Hash.{Hash}}, PathNames.{home_of}}
+use Rattle.cacache_core.specs.{declared.{errors.{Error.{Error, TheVariants.{IoError, OutOfMemory}}, Fault.{Fault}}, integrity.digest.Hash.{Hash}}, PathNames.{home_of}}
 use Rattle.cacache_store.specs.declared.store.answer.Answer.TheVariants as answers
 use Rattle.cacache_store.specs.declared.store.{log.LogItem.{LogItem}, plain.PlainTemp.{PlainTemp}}
 use Rattle.cacache_store.specs.declared.store.step.Step.TheVariants as steps
@@ -102,11 +102,11 @@ given_up cache key i number old new logged standing (inr h) =
 
 -- ---- one after another
 
-more_texts : (o : Option (List ℕ)) (t : List ℕ) (ts : List (List ℕ)) → Contains ts t → Contains (cons_option o ts) t
+pub more_texts : (o : Option (List ℕ)) (t : List ℕ) (ts : List (List ℕ)) → Contains ts t → Contains (cons_option o ts) t
 more_texts None t ts c = c
 more_texts (Some u) t ts c = contains_member t (u ∷ ts) (inr (member_contains t ts c))
 
-first_text : (o : Option (List ℕ)) (t : List ℕ) (ts : List (List ℕ)) → o ≡ Some t → Contains (cons_option o ts) t
+pub first_text : (o : Option (List ℕ)) (t : List ℕ) (ts : List (List ℕ)) → o ≡ Some t → Contains (cons_option o ts) t
 first_text None t ts e = absurd (let wrong : None ≡ Some t = e in cc)
 first_text (Some u) t ts e = contains_member t (u ∷ ts) (inl (let same : Some u ≡ Some t = e in cc))
 

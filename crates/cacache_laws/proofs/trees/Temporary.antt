@@ -152,7 +152,7 @@ module _ (folder : List ℕ) (p : Names) (named : names_of folder ≡ Ok p) wher
 pub temp_area_named : (cache : List ℕ) (home : Names) → home_of cache ≡ Some home → names_of (temp_area_in cache) ≡ Ok (home ++ temp_area ∷ [])
 temp_area_named cache home is = joined_texts_name cache (temp_area ∷ []) (All-cons IsProperName temp_area [] proper_temp_folder (All-nil IsProperName)) (omega arith) ∙ rw is refl
 
-file_node : (node : Node) (kind : Kind) → kind ≡ kind_of node → is_file kind ≡ true → (bytes : List ℕ) × (node ≡ File bytes)
+pub file_node : (node : Node) (kind : Kind) → kind ≡ kind_of node → is_file kind ≡ true → (bytes : List ℕ) × (node ≡ File bytes)
 file_node Folder kind is file = absurd (let wrong : is_file kinds.Folder ≡ true = ap is_file (sym is) ∙ file in cc)
 file_node (File bytes) kind is file = (bytes, refl)
 file_node (Link target) kind is file = absurd (let wrong : is_file kinds.Link ≡ true = ap is_file (sym is) ∙ file in cc)
