@@ -2,7 +2,7 @@
 use Rattle.std.proofs.Common.{◌≡◌, ◌&&◌, not, ℕ, Bool, true, false, cond, if◌then◌else◌, List, [], ◌∷◌, ◌++◌, refl, sym, ap, subst, ◌∙◌}
 use Rattle.std.specs.Prelude.{Option, None, Some, unwrap_or}
 use Rattle.cacache_core.specs.PathNames.{Names}
-use Rattle.cacache_disk.specs.{declared.node.Node.{Node, TheVariants.{Folder, File, Link}}, Rooted.{is_folder}, Tree.{Tree, look}}
+use Rattle.cacache_disk.specs.{declared.node.Node.{Node, TheVariants.{Folder}}, Rooted.{is_folder}, Tree.{Tree, look}}
 use Rattle.cacache_loss.specs.{declared.fixing.{Fixing.{Fixing}, Place.{Place}}, Fixing.{Fixed, place_now}, Loss.{Loss, stays, left_at, lead_folders, node_left, lost_at}}
 use Rattle.cacache_system_model.{specs.{Mirrors.{hollow, Mirrors}, Fixing.{LeavesSame}}, proofs.Mirroring.{shapes}}
 
@@ -22,10 +22,8 @@ pub look_alike : (own temps : Names → Bool) (t d : Tree) → Mirrors temps t d
 look_alike own temps t d m keeps q = alike_at (own q) (temps q) (look t q) (look d q) (shapes temps t d m q) (keeps q) (m.same q)
 
 left_hollow : (f : Fixing) (tail : List ℕ) (o : Option Node) → hollow (node_left f tail o) ≡ hollow o
-left_hollow f tail None = refl
 left_hollow f tail (Some Folder) = refl
-left_hollow f tail (Some (File bytes)) = refl
-left_hollow f tail (Some (Link target)) = refl
+left_hollow f tail o = refl
 
 node_left_alike : (o : Bool) (f g : Fixing) (tail : List ℕ) (a b : Option Node) → g ≡ f → LeavesSame o a b → LeavesSame o (node_left f tail a) (node_left g tail b)
 node_left_alike true f g tail a b fixing same = left_hollow g tail b ∙ same ∙ sym (left_hollow f tail a)
@@ -59,10 +57,8 @@ was_alike true o None (Some b) p r was now = absurd was
 was_alike false o a b p r was now = now
 
 folder_shape : (o : Option Node) → is_folder (hollow o) ≡ is_folder o
-folder_shape None = refl
 folder_shape (Some Folder) = refl
-folder_shape (Some (File bytes)) = refl
-folder_shape (Some (Link target)) = refl
+folder_shape o = refl
 
 folder_alike : (o : Bool) (a b : Option Node) → LeavesSame o a b → is_folder b ≡ is_folder a
 folder_alike o a b same = sym (folder_shape b) ∙ ap is_folder (shape_left o a b same) ∙ folder_shape a

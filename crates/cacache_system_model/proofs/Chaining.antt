@@ -5,7 +5,7 @@ use Rattle.cacache_core.specs.{declared.errors.Fault.{Fault}, PathNames.{Names}}
 use Rattle.cacache_store.specs.{declared.store.plain.PlainTemp.{PlainTemp}, Plain.{PlainStep, PlainAnswer}}
 use Rattle.cacache_store.specs.declared.store.step.Step.TheVariants as steps
 use Rattle.cacache_store.specs.declared.store.answer.Answer.TheVariants as answers
-use Rattle.cacache_disk.specs.{declared.{luck.Luck.{Luck, TheVariants.{Plain, Fail, Take}}, node.Node.{Node, TheVariants.{File}}}, Tree.{Tree, look, put, same_path, bytes_of}, Apply.{apply, plain, fails, fault_told, lengthened}}
+use Rattle.cacache_disk.specs.{declared.{luck.Luck.{Luck, TheVariants.{Plain, Fail}}, node.Node.{Node, TheVariants.{File}}}, Tree.{Tree, look, put, same_path, bytes_of}, Apply.{apply, plain, fails, fault_told, lengthened}}
 use Rattle.cacache_disk.proofs.{Maps.{same_path-true}, PutNodes.{look-put}}
 use Rattle.cacache_system.specs.{declared.call.{CallItem.{CallItem}, CallResult.{CallResult}}, Seen.{NumberedTemp, NumberedStep}, CallsOf.{Runs}, AnswersOf.{Hint, first, answer_of}}
 use Rattle.cacache_system_model.specs.{Machine.{Machine}, Calls.{OccursSomehow, EachCall}, Laws.{temp_on, step_on, answer_on, outcome, LeavesFresh, IsLucky}, Writing.{WritesSome}, Mirrors.{hollow, Mirrors, temps_after, SparesOpen}, Chains.{StepMade, temps_left, HasLaw, WritesTemp, MadePlainly, IsCovered, OnDisk, StepsOnDisk, DiskDoes, RunsMirror}}
@@ -57,10 +57,9 @@ same_fails (Some own) fault d = refl
 
 pub write_keeps : (d : Tree) (f : PlainTemp) (more : List ℕ) (luck : Luck) → (apply d (steps.Write f more) luck).1 ≡ d
 unfolding apply
-write_keeps d f more Plain = refl
-write_keeps d f more (Take most) = refl
 write_keeps d f more (Fail fault None) = same_fails (fault_told (plain d (steps.Write f more) None).0) fault d
 write_keeps d f more (Fail fault (Some part)) = same_fails (fault_told (plain d (steps.Write f more) None).0) fault d
+write_keeps d f more luck = refl
 
 shown_file : (c temp : Bool) (bytes : List ℕ) (a b : Option Node) → (c ≡ true → (temp ≡ true) × (b ≡ Some (File []))) → b ≡ (if temp then hollow a else a)
     → b ≡ (if temp then hollow (cond c (Some (File bytes)) a) else cond c (Some (File bytes)) a)

@@ -13,10 +13,9 @@ use Rattle.cacache_system_model.proofs.{Mirroring.{shapes, leads_same, look_same
 -- ---- nodes that are the same
 
 self_same : (o : Option Node) → same_node o o ≡ true
-self_same None = refl
-self_same (Some Folder) = refl
 self_same (Some (File bytes)) = bytes_same bytes
 self_same (Some (Link target)) = bytes_same target
+self_same o = refl
 
 -- whether a thing is the same goes by the shape
 thing_hollow : (a b : Option Node) → same_thing a b ≡ same_node (hollow a) (hollow b)
@@ -43,13 +42,11 @@ things_same a b c e old new =
 
 -- the same node is the same thing
 node_thing : (a b : Option Node) → same_node a b ≡ true → same_thing a b ≡ true
-node_thing None b is = is
-node_thing (Some Folder) b is = is
 node_thing (Some (File bytes)) None is = is
 node_thing (Some (File bytes)) (Some Folder) is = is
 node_thing (Some (File bytes)) (Some (File others)) is = refl
 node_thing (Some (File bytes)) (Some (Link target)) is = is
-node_thing (Some (Link target)) b is = is
+node_thing a b is = is
 
 none_first : (b e : Option Node) → hollow e ≡ hollow b → same_node None e ≡ same_node None b
 none_first b e new = things_same None b None e refl new
@@ -58,16 +55,13 @@ none_second : (a c : Option Node) → hollow c ≡ hollow a → same_node c None
 none_second a c old = second c ∙ things_same a None c None old refl ∙ sym (second a)
   where
     second : (o : Option Node) → same_node o None ≡ same_thing o None
-    second None = refl
     second (Some Folder) = refl
-    second (Some (File bytes)) = refl
-    second (Some (Link target)) = refl
+    second o = refl
 
 hollow_none : (o : Option Node) → hollow o ≡ None → o ≡ None
 hollow_none None is = refl
 hollow_none (Some Folder) is = absurd cc
-hollow_none (Some (File bytes)) is = absurd cc
-hollow_none (Some (Link target)) is = absurd cc
+hollow_none o is = absurd cc
 
 -- ---- what is fixed of one path
 

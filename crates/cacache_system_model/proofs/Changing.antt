@@ -1,5 +1,5 @@
 -- Steps with one call, which changes the tree.
-use Rattle.std.proofs.Common.{◌≡◌, ℕ, Bool, true, false, cond, List, [], ◌==◌, refl, sym, ap, subst, ◌∙◌, ⊎_elim, eq-eqb}
+use Rattle.std.proofs.Common.{◌≡◌, ℕ, Bool, true, false, cond, List, [], refl, sym, ap, subst, ◌∙◌, ⊎_elim}
 use Rattle.std.specs.Prelude.{Option, None, Some, Result, Ok, Err, MatchResult, option_map}
 use Rattle.std_io.specs.declared.io.kind.ErrorKind.{ErrorKind}
 use Rattle.std_io.specs.declared.io.kind.ErrorKind.TheVariants as kind
@@ -7,13 +7,12 @@ use Rattle.cacache_core.specs.{Contexts.{fault_of}, declared.errors.Fault.{Fault
 use Rattle.cacache_store.specs.declared.store.step.Step.TheVariants as steps
 use Rattle.cacache_store.specs.declared.store.answer.Answer.TheVariants as answers
 use Rattle.cacache_store.specs.Plain.{PlainAnswer}
-use Rattle.cacache_disk.specs.{declared.{luck.Luck.TheVariants.{Plain}, node.Node.{Node, TheVariants.{File, Link}}}, Tree.{Tree, look, put, cut, bytes_of}, LedTo.{and_then, or_fault, where_file, way_fault, place, kept, known, free, replaceable, found, linked}, Apply.{apply, unless, made_temp, is_there}}
-use Rattle.cacache_disk.proofs.{PutNodes.{look-put}, Roots.{same_self}}
+use Rattle.cacache_disk.specs.{declared.{luck.Luck.TheVariants.{Plain}, node.Node.{Node, TheVariants.{File, Link}}}, Tree.{Tree, look, put, cut, bytes_of}, LedTo.{and_then, where_file, kept, known, free, replaceable, found, linked}, Apply.{apply, unless, made_temp, is_there}}
 use Rattle.cacache_system.specs.declared.call.SystemCall.TheVariants as asks
 use Rattle.cacache_system.specs.{declared.call.CallResult.{CallResult}, Seen.{NumberedTemp, NumberedStep}, AnswersOf.{answer_of, failed_with, refuses_memory, misses}}
 use Rattle.cacache_system.specs.declared.call.CallResult.TheVariants as says
 use Rattle.cacache_system_model.specs.{Machine.{OpenFile, Machine, IsRefused, ChangesTree, OpensIf, ShowsEnd, LinksNode, MovesNode, unread}, Calls.{GoesWell, OccursSomehow}, Laws.{answer_on, step_on, outcome, led_to, IsLucky}, OneCall.{StillStands, CreateAgrees, ExistsAgrees, SymlinkAgrees, HardLinkAgrees, ReflinkBreaks}}
-use Rattle.cacache_system_model.proofs.{Refused.{same_outcome, refused_agrees, plainly_refused, broken_agrees}, OneCalls.{one_agrees}, Leading.{over_leads}}
+use Rattle.cacache_system_model.proofs.{Refused.{same_outcome, refused_agrees, plainly_refused, broken_agrees}, OneCalls.{one_agrees}, Leading.{over_leads}, Writing.{look_same}, Opening.{same_number}, memory.Places.{place_led}}
 
 -- a step that answers that it is done, if its call changed the tree
 pub changed : (ends : Result Names Fault) (new : Names → Tree) (step : NumberedStep) (m n : Machine) (end : CallResult) → answer_of step says.Done ≡ answers.Done
@@ -26,12 +25,6 @@ changed (Ok names) new step m n end done fails (said, left) =
 changed (Err fault) new step m n end done fails refuses = refused_agrees step fault end m n (plainly_refused step fault n fails) refuses
 
 -- ---- a temporary file is made
-
-same_number : (number : ℕ) → (number == number) ≡ true
-same_number number = eq-eqb number number refl
-
-look_same : (t : Tree) (p : Names) (node : Node) → look (put t p node) p ≡ Some node
-look_same t p node = look-put t p node p ∙ ap (λ (b : Bool). cond b (Some node) (look t p)) (same_self p)
 
 abbrev temp_of : List ℕ → Option (List ℕ) → PlainAnswer
 temp_of path bytes = answers.Temp (record { path = path; bytes = bytes })
@@ -97,11 +90,6 @@ exists_agrees m hint path = one_agrees m hint (steps.Exists path) (asks.Stat pat
 
 -- ---- a file is put
 
-pub placed : (t : Tree) (path : List ℕ) (names : Names) → names_of path ≡ Ok names → way_fault t [] names ≡ None → place t path ≡ Ok names
-unfolding place
-placed t path names named way =
-    ap (λ (r : Result Names Fault). and_then r (λ n. or_fault (way_fault t [] n) n)) named ∙ ap (λ (o : Option Fault). or_fault o names) way
-
 still_kept : (t : Tree) (path : List ℕ) (names : Names) (bytes : List ℕ) → names_of path ≡ Ok names → look t names ≡ Some (File bytes) → kept t path ≡ Ok names
 unfolding kept
 still_kept t path names bytes named stands =
@@ -124,7 +112,7 @@ pub put_away : (m : Machine) (temp : NumberedTemp) (path : List ℕ) (names : Na
     → apply m.tree (step_on m (steps.Persist temp path)) Plain ≡ led_to (steps.Persist temp path) said n
 put_away m temp path names bytes ready most said n well =
     let moved = subst (λ (r : Result Names Fault). MatchResult r (λ old. MovesNode old (look m.tree old) (replaceable m.tree path) m said n) (λ fault. IsRefused fault m said n))
-    (placed m.tree temp.path names ready.named ready.way) well in
+    (place_led m.tree temp.path names ready.named ready.way) well in
     let moves = subst (λ (o : Option Node). MovesNode names o (replaceable m.tree path) m said n) ready.stands moved in
     apply_persist m.tree temp.path path _ names bytes
     (held_names m.tree (m.files temp.number) names ready.opened ∙ ap (λ (o : Option Node). Some (bytes_of o)) ready.stands)

@@ -33,16 +33,13 @@ each_goes_plainly m hint (steps.Persist t p) ((names, bytes, stands), may) plain
 each_goes_plainly m hint (steps.Append p bytes) asks plain = (append_agrees m hint p bytes asks).plainly
 each_goes_plainly m hint (steps.ReadAll p) asks plain = (read_all_agrees m hint p).plainly
 each_goes_plainly m hint (steps.Open p) asks plain = (open_agrees m hint p).plainly
-each_goes_plainly m hint (steps.Read f max) asks plain = absurd plain
 each_goes_plainly m hint (steps.Exists p) asks plain = (exists_agrees m hint p).plainly
 each_goes_plainly m hint (steps.Size p) asks plain = (size_agrees m hint p).plainly
 each_goes_plainly m hint (steps.Symlink target p) asks plain = (symlink_agrees m hint target p).plainly
-each_goes_plainly m hint (steps.Copy p q) asks plain = absurd plain
-each_goes_plainly m hint (steps.Reflink p q) asks plain = absurd plain
 each_goes_plainly m hint (steps.HardLink p q) (node, is) plain = (hard_link_agrees m hint p q node is).plainly
-each_goes_plainly m hint (steps.ReadDir p) asks plain = absurd plain
 each_goes_plainly m hint (steps.RemoveFile p) asks plain = (remove_file_agrees m hint p asks).plainly
 each_goes_plainly m hint (steps.RemoveDir p) asks plain = (remove_dir_agrees m hint p asks).plainly
 each_goes_plainly m hint (steps.SyncTemp t) (names, bytes, stands) plain = (sync_temp_agrees m hint t names bytes stands).plainly
 each_goes_plainly m hint (steps.SyncFile p) asks plain = (sync_file_agrees m hint p).plainly
 each_goes_plainly m hint (steps.SyncDir p) asks plain = (sync_dir_agrees m hint p asks).plainly
+each_goes_plainly m hint other asks plain = absurd plain

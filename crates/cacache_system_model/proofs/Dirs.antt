@@ -1,5 +1,5 @@
 -- The step that makes folders, whether they can be made or not.
-use Rattle.std.proofs.Common.{◌≡◌, ◌==◌, ℕ, Bool, true, false, if◌then◌else◌, List, [], ◌∷◌, length, filter, refl, sym, ap, subst, ◌∙◌, arith, eqb-true}
+use Rattle.std.proofs.{Common.{◌≡◌, ◌==◌, ℕ, Bool, true, false, if◌then◌else◌, List, [], length, filter, refl, sym, ap, subst, ◌∙◌, arith, eqb-true}, lemmas.List.{nil_from_length}}
 use Rattle.std.specs.Prelude.{Option, None, Some, Result, Ok, Err}
 use Rattle.std_io.specs.declared.io.kind.ErrorKind.{ErrorKind}
 use Rattle.std_io.specs.declared.io.kind.ErrorKind.TheVariants as kind
@@ -7,13 +7,15 @@ use Rattle.cacache_core.specs.{Contexts.{fault_of}, declared.errors.Fault.{Fault
 use Rattle.cacache_store.specs.declared.store.answer.Kind.{Kind}
 use Rattle.cacache_store.specs.declared.store.step.Step.TheVariants as steps
 use Rattle.cacache_store.specs.declared.store.answer.Answer.TheVariants as answers
-use Rattle.cacache_disk.specs.{declared.{luck.Luck.TheVariants.{Plain}, node.Node.{Node, TheVariants.{Folder, File}}}, Tree.{Tree, look, put}, LedTo.{and_then, or_fault, way_fault, place, free, leads, followed, found, where_there, where_free, dirs, dirs_fault}, Apply.{apply, unless, make_some, making as how_many, left_by, fault_told}, Rooted.{Rooted}}
+use Rattle.cacache_disk.specs.{declared.{luck.Luck.TheVariants.{Plain}, node.Node.{Node, TheVariants.{Folder, File}}}, Tree.{Tree, look, put}, LedTo.{and_then, or_fault, place, free, leads, followed, found, where_there, where_free, dirs, dirs_fault}, Apply.{apply, unless, make_some, making as how_many, left_by, fault_told}, Rooted.{Rooted}}
 use Rattle.cacache_disk.proofs.NameLemmas.{names_proper}
 use Rattle.cacache_system.specs.{declared.call.{FileInfo.{FileInfo}, CallResult.{CallResult}}, CallsOf.{Stage, over, standing, making, confirming, below, unmade, climb, above_of, is_absent, if_folder, after}, AnswersOf.{Hint, no_hint, is_missing, was_named, in_walk, rewrites, make_dirs, refuses_memory}}
 use Rattle.cacache_system.specs.declared.call.SystemCall.TheVariants as asks
 use Rattle.cacache_system.specs.declared.call.CallResult.TheVariants as says
 use Rattle.cacache_system_model.specs.{Machine.{Machine, IsRefused, ChangesTree, ShowsEnd, ShowsNode, Describes}, Calls.{GoesWell}, Laws.{outcome, Leads, IsPlain, IsDone}, Making.{HasNoLink, MakeDirsAgrees}}
-use Rattle.cacache_system_model.proofs.{Refused.{broken_part}, Leading.{Claim, over_leads, call_leads}, Claims.{way_of, claim_of, agrees_of, claim_plain, claim_lucky}, Opening.{said_leads, of_some}, Views.{leads_straight, found_at}, Looking.{table_fails}, Growing.{none_grown, grown_left, grown_whole, Blocked, on_way, at_last, blocked}, Making.{absent_fault, never_absent, DirsEnd, up_leads, stand_leads, place_so, free_so}}
+use Rattle.cacache_system_model.proofs.{Refused.{broken_part}, Leading.{Claim, over_leads, call_leads}, Claims.{way_of, claim_of, agrees_of, claim_plain, claim_lucky}, Opening.{said_leads, of_some}, Views.{leads_straight, found_at}, Looking.{table_fails}, Growing.{none_grown, grown_left, grown_whole, Blocked, on_way, at_last, blocked}, Making.{never_absent, DirsEnd, up_leads, stand_leads, place_so}, Fresh.{free_at_place}, CopyFacts.{fault_absent}}
+use Rattle.cacache_history.proofs.Contents.Deeds.{no_place}
+use Rattle.cacache_value.proofs.FoundPaths.{unmakeable}
 
 apply_dirs : (t : Tree) (path : List ℕ) (r : Result Names Fault) → dirs t path ≡ r → apply t (steps.MakeDirs path) Plain ≡ unless r t (λ names. outcome answers.Done (make_some t [] names (length names)))
 unfolding apply
@@ -23,14 +25,6 @@ dirs_so : (t : Tree) (path : List ℕ) (names : Names) (fault : Option Fault) �
 unfolding dirs
 dirs_so t path names fault named is =
     ap (λ (r : Result Names Fault). and_then r (λ n. or_fault (dirs_fault t [] n) n)) named ∙ ap (λ (o : Option Fault). or_fault o names) is
-
-dirs_unnamed : (t : Tree) (path : List ℕ) (fault : Fault) → names_of path ≡ Err fault → dirs t path ≡ Err fault
-unfolding dirs
-dirs_unnamed t path fault is = ap (λ (r : Result Names Fault). and_then r (λ n. or_fault (dirs_fault t [] n) n)) is
-
-place_unnamed : (t : Tree) (path : List ℕ) (fault : Fault) → names_of path ≡ Err fault → place t path ≡ Err fault
-unfolding place
-place_unnamed t path fault is = ap (λ (r : Result Names Fault). and_then r (λ n. or_fault (way_fault t [] n) n)) is
 
 found_nowhere : (t : Tree) (path : List ℕ) (fault : Fault) → place t path ≡ Err fault → found t path ≡ Err fault
 unfolding found leads
@@ -117,7 +111,7 @@ module _ (m : Machine) (path : List ℕ) (fault : Fault) (is : dirs m.tree path 
       → Leads (GoesWell None) (after (making false path []) said) l (IsPlain m (steps.MakeDirs path))
   make_said (empty none missing frees finds) n tree said l changes =
       let refused : IsRefused NotFound n said l = subst (λ (r : Result Names Fault). ChangesTree r (λ y. put m.tree y Folder) n said l) frees changes in
-      making_said refused.0 true said l refused.1 (absent_fault refused.0 refused.2)
+      making_said refused.0 true said l refused.1 (fault_absent refused.0 refused.2)
       (subst (λ (p : List ℕ). Leads (GoesWell None) (climb (above_of p) refused.0 path []) l (IsPlain m (steps.MakeDirs path))) (sym none)
       (over_fault refused.0 l (refused.2 ∙ sym missing) refused.3 (ap (λ (x : Machine). x.tree) refused.4 ∙ tree)))
   make_said (nowhere other frees finds) n tree said l changes =
@@ -144,7 +138,7 @@ module _ (m : Machine) (path : List ℕ) (fault : Fault) (is : dirs m.tree path 
   stand_said : (bar : Bar m.tree path fault) (said : CallResult) (l : Machine) → ShowsEnd (found m.tree path) m said l → Leads (GoesWell None) (after (standing path) said) l (IsPlain m (steps.MakeDirs path))
   stand_said (empty none missing frees finds) said l shows =
       let refused : IsRefused NotFound m said l = subst (λ (r : Result Names Fault). ShowsEnd r m said l) finds shows in
-      standing_said refused.0 true said l refused.1 (absent_fault refused.0 refused.2) (make_bar (empty none missing frees finds) l (ap (λ (x : Machine). x.tree) refused.4))
+      standing_said refused.0 true said l refused.1 (fault_absent refused.0 refused.2) (make_bar (empty none missing frees finds) l (ap (λ (x : Machine). x.tree) refused.4))
   stand_said (nowhere other frees finds) said l shows =
       let refused : IsRefused fault m said l = subst (λ (r : Result Names Fault). ShowsEnd r m said l) finds shows in
       standing_said refused.0 false said l refused.1 (never_absent refused.0 fault refused.2 other) (over_fault refused.0 l refused.2 refused.3 (ap (λ (x : Machine). x.tree) refused.4))
@@ -169,21 +163,17 @@ not_done false m path fault is done =
 
 -- ---- why a path has no names
 
-no_bytes : (path : List ℕ) → length path ≡ 0 → path ≡ []
-no_bytes [] is = refl
-no_bytes (x ∷ path) is = absurd (omega arith)
-
 bar_unnamed : (t : Tree) (path : List ℕ) (fault : Fault) (x y : Bool) → (length path == 0) ≡ x → is_bad path ≡ y → names_of path ≡ Err fault
     → (if x then Err NotFound else if y then Err InvalidInput else Ok (filter is_name (pieces path))) ≡ Err fault → Bar t path fault
 bar_unnamed t path fault true y none bad named is =
     let missing : NotFound ≡ fault = cc in
-    let placed = place_unnamed t path fault named in
-    empty (no_bytes path (eqb-true (length path) 0 none)) (sym missing) (free_so t path (Err fault) placed ∙ ap (λ (f : Fault). let r : Result Names Fault = Err f in r) (sym missing))
+    let placed = no_place t path fault named in
+    empty (nil_from_length path (eqb-true (length path) 0 none)) (sym missing) (free_at_place t path (Err fault) placed ∙ ap (λ (f : Fault). let r : Result Names Fault = Err f in r) (sym missing))
     (found_nowhere t path fault placed ∙ ap (λ (f : Fault). let r : Result Names Fault = Err f in r) (sym missing))
 bar_unnamed t path fault false true none bad named is =
     let invalid : InvalidInput ≡ fault = cc in
-    let placed = place_unnamed t path fault named in
-    nowhere (λ missing. cc) (free_so t path (Err fault) placed) (found_nowhere t path fault placed)
+    let placed = no_place t path fault named in
+    nowhere (λ missing. cc) (free_at_place t path (Err fault) placed) (found_nowhere t path fault placed)
 bar_unnamed t path fault false false none bad named is = absurd cc
 
 unnamed : (t : Tree) (path : List ℕ) (fault : Fault) → names_of path ≡ Err fault → Bar t path fault
@@ -193,10 +183,10 @@ unnamed t path fault is = bar_unnamed t path fault (length path == 0) (is_bad pa
 bar_blocked : (t : Tree) (path : List ℕ) (names : Names) (fault : Fault) → names_of path ≡ Ok names → Blocked t [] names fault → Bar t path fault
 bar_blocked t path names fault named (on_way not_folder way) =
     let placed : place t path ≡ Err fault = place_so t path names (Some NotADirectory) named way ∙ ap (λ (f : Fault). let r : Result Names Fault = Err f in r) (sym not_folder) in
-    nowhere (λ missing. cc) (free_so t path (Err fault) placed) (found_nowhere t path fault placed)
+    nowhere (λ missing. cc) (free_at_place t path (Err fault) placed) (found_nowhere t path fault placed)
 bar_blocked t path names fault named (at_last bytes exists way stands) =
     let placed : place t path ≡ Ok names = place_so t path names None named way in
-    a_file names bytes exists (free_so t path (Ok names) placed ∙ ap (λ (o : Option Node). where_free o names) stands)
+    a_file names bytes exists (free_at_place t path (Ok names) placed ∙ ap (λ (o : Option Node). where_free o names) stands)
     (found_at t path (Ok names) (leads_straight t path (λ n at target link. let same : names ≡ n = cc in let here : look t n ≡ Some (File bytes) = ap (look t) (sym same) ∙ stands in cc) ∙ placed)
     ∙ ap (λ (o : Option Node). where_there o names) stands) stands
 
@@ -214,7 +204,7 @@ dirs_leads : (b : Bool) (m : Machine) (hint : Hint) (path : List ℕ) (r : Resul
     → names_of path ≡ r → Leads (way_of b) (make_dirs hint path) m (claim_of b m (steps.MakeDirs path))
 dirs_leads b m hint path (Ok names) rooted link done named = dirs_named b m hint path names (dirs_fault m.tree [] names) rooted link done named refl
 dirs_leads b m hint path (Err fault) rooted link done named =
-    let barred : dirs m.tree path ≡ Err fault = dirs_unnamed m.tree path fault named in
+    let barred : dirs m.tree path ≡ Err fault = unmakeable m.tree path fault named in
     subst (λ (c : Bool). Leads (way_of c) (make_dirs hint path) m (claim_of c m (steps.MakeDirs path))) (sym (not_done b m path fault barred done))
     (bar_leads m path fault barred hint (unnamed m.tree path fault named))
 

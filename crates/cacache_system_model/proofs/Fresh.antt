@@ -9,10 +9,9 @@ use Rattle.cacache_system_model.{specs.Machine.{EndsInName}, proofs.{Views.{foun
 -- ---- the way to a name next to a path
 
 way_beside : (t : Tree) (above front : Names) (x y : List ℕ) → way_fault t above (front ++ x ∷ []) ≡ way_fault t above (front ++ y ∷ [])
-way_beside t above [] x y = refl
-way_beside t above (n ∷ []) x y = refl
 way_beside t above (n ∷ k ∷ front) x y =
     ap (through (look t (above ++ n ∷ []))) (way_beside t (above ++ n ∷ []) (k ∷ front) x y)
+way_beside t above front x y = refl
 
 pub placed_as : (t : Tree) (path : List ℕ) (r : Result Names Fault) → names_of path ≡ r → place t path ≡ and_then r (λ names. or_fault (way_fault t [] names) names)
 unfolding place
@@ -56,17 +55,14 @@ module _ (t : Tree) (fn : Names) (bytes : List ℕ) (free_there : look t fn ≡ 
   still q node is = look-put t fn (File bytes) q ∙ still_at q node (same_path q fn) refl is
 
   way_step : (o : Option Node) (q : Names) (old new : Option Fault) → look t q ≡ o → through o old ≡ None → (old ≡ None → new ≡ None) → through (look new_tree q) new ≡ None
-  way_step None q old new at e next = absurd cc
   way_step (Some Folder) q old new at e next = ap (λ (x : Option Node). through x new) (still q Folder at) ∙ next e
-  way_step (Some (File more)) q old new at e next = absurd cc
-  way_step (Some (Link target)) q old new at e next = absurd cc
+  way_step o q old new at e next = absurd cc
 
   way_still : (above names : Names) → way_fault t above names ≡ None → way_fault new_tree above names ≡ None
-  way_still above [] e = refl
-  way_still above (n ∷ []) e = refl
   way_still above (n ∷ k ∷ rest) e =
       way_step (look t (above ++ n ∷ [])) (above ++ n ∷ []) (way_fault t (above ++ n ∷ []) (k ∷ rest)) (way_fault new_tree (above ++ n ∷ []) (k ∷ rest)) refl e
       (way_still (above ++ n ∷ []) (k ∷ rest))
+  way_still above names e = refl
 
   -- a path's place stays
   pub place_still : (path : List ℕ) (names : Names) → place t path ≡ Ok names → place new_tree path ≡ Ok names

@@ -24,15 +24,13 @@ WayOrGone fault = (fault ≡ None) ⊎ (fault ≡ Some NotFound)
 way_here : (t : Tree) (here : Option Node) (later : Option Fault) → is_in_way here ≡ false → WayOrGone later → WayOrGone (through here later)
 way_here t None later none rest = inr refl
 way_here t (Some Folder) later none rest = rest
-way_here t (Some (File bytes)) later none rest = absurd cc
-way_here t (Some (Link target)) later none rest = absurd cc
+way_here t here later none rest = absurd cc
 
 way_below : (t : Tree) (p front rest : Names) → dirs_fault t p (front ++ rest) ≡ None → WayOrGone (way_fault t p front)
-way_below t p [] rest none = inl refl
-way_below t p (name ∷ []) rest none = inl refl
 way_below t p (name ∷ next ∷ front) rest none =
     let g = no_fault (is_in_way (look t (p ++ name ∷ []))) (cond (length (next ∷ front ++ rest) == 0) AlreadyExists NotADirectory) (dirs_fault t (p ++ name ∷ []) (next ∷ front ++ rest)) none in
     way_here t (look t (p ++ name ∷ [])) (way_fault t (p ++ name ∷ []) (next ∷ front)) g.0 (way_below t (p ++ name ∷ []) (next ∷ front) rest g.1)
+way_below t p front rest none = inl refl
 
 pub way_at : (t : Tree) (all front rest : Names) → dirs_fault t [] all ≡ None → all ≡ front ++ rest → WayOrGone (way_fault t [] front)
 way_at t all front rest none cut = way_below t [] front rest (ap (dirs_fault t []) (sym cut) ∙ none)

@@ -5,8 +5,8 @@ use Rattle.cacache_core.specs.{declared.errors.Fault.{Fault, TheVariants.{IsADir
 use Rattle.cacache_store.specs.{declared.store.{plain.PlainTemp.{PlainTemp}, answer.Name.{Name}}, Plain.{PlainStep, PlainAnswer}}
 use Rattle.cacache_store.specs.declared.store.step.Step.TheVariants as steps
 use Rattle.cacache_store.specs.declared.store.answer.Answer.TheVariants as answers
-use Rattle.cacache_disk.specs.{declared.{luck.Luck.{Luck, TheVariants.{Plain, Fail, Take}}, node.Node.{Node, TheVariants.{Folder, File, Link}}}, Tree.{Tree, look, put, cut, same_path, bytes_of}, LedTo.{place, leads, file_at, writable, free, replaceable, kept, known, linked, removable, folder, emptied, dirs, where_free}, Apply.{apply, plain, unless, if_missing, make_some, making, taken, lengthened, is_there, is_taking, is_parted, left_by, fails, fault_told, made_up}}
-use Rattle.cacache_disk.proofs.{Maps.{same_path-true}, PutNodes.{look-put, look-cut}, FoundNodes.{free_ok, replaceable_ok, kept_ok, removable_ok, emptied_ok, and_then_ok}}
+use Rattle.cacache_disk.specs.{declared.{luck.Luck.{Luck, TheVariants.{Plain, Fail, Take}}, node.Node.{Node, TheVariants.{Folder, File, Link}}}, Tree.{Tree, look, put, cut, same_path, bytes_of}, LedTo.{place, leads, file_at, writable, free, replaceable, kept, known, linked, removable, folder, emptied, dirs}, Apply.{apply, plain, unless, if_missing, make_some, making, taken, lengthened, is_there, is_taking, is_parted, left_by, fails, fault_told, made_up}}
+use Rattle.cacache_disk.proofs.{Maps.{same_path-true}, PutNodes.{look-put, look-cut}, FoundNodes.{free_ok, replaceable_ok, kept_ok, removable_ok, emptied_ok, free_none}}
 use Rattle.cacache_system_model.specs.Mirrors.{hollow, Mirrors, all_but, without, with_new, temps_after, IsNoTemp, SparesOpen, StepsMirror}
 use Rattle.cacache_system_model.proofs.Mirroring.{shapes, found_same, writable_same, free_same, replaceable_same, removable_same, folder_same, kept_same, dirs_same, listing_same, emptied_same, look_same_at, file_same, linked_same}
 
@@ -90,17 +90,6 @@ no_temp_at : (temps : Names → Bool) (t d : Tree) (names : Names) (o : Option N
 no_temp_at temps t d names o true m is at other = absurd (other (ap hollow (sym is) ∙ m.files names at))
 no_temp_at temps t d names o false m is at other = at
 
-free_at : (o : Option Node) (a names : Names) → where_free o a ≡ Ok names → (o ≡ None) × (a ≡ names)
-free_at None a names is = (refl, cc)
-free_at (Some node) a names is = absurd cc
-
-free_none : (t : Tree) (path : List ℕ) (names : Names) → free t path ≡ Ok names → look t names ≡ None
-unfolding free
-free_none t path names is =
-    let f = and_then_ok (place t path) (λ n. where_free (look t n) n) names is in
-    let g = free_at (look t f.0) f.0 names f.2 in
-    ap (look t) (sym g.1) ∙ g.0
-
 free_no_temp : (temps : Names → Bool) (t d : Tree) (path : List ℕ) (names : Names) → Mirrors temps t d → free t path ≡ Ok names → temps names ≡ false
 free_no_temp temps t d path names m is = no_temp_at temps t d names None (temps names) m (free_none t path names is) refl (λ e. cc)
 
@@ -116,9 +105,8 @@ made_so temps t d here rest None true none count m is at next = absurd (let wron
 made_so temps t d here rest None false true count m is at next = next t d (count - 1) m
 made_so temps t d here rest None false false count m is at next = next (put t here Folder) (put d here Folder) (count - 1) (put_apart temps t d here Folder at m)
 made_so temps t d here rest (Some Folder) true none count m is at next = next t d count m
-made_so temps t d here rest (Some (File bytes)) true none count m is at next = next t d count m
-made_so temps t d here rest (Some (Link target)) true none count m is at next = next t d count m
 made_so temps t d here rest (Some node) false none count m is at next = next t d count m
+made_so temps t d here rest o true none count m is at next = next t d count m
 
 make_mirrors : (temps : Names → Bool) (t d : Tree) (above rest : Names) (count : ℕ) → Mirrors temps t d → Mirrors temps (make_some t above rest count) (make_some d above rest count)
 make_mirrors temps t d above [] count m = m
@@ -234,12 +222,10 @@ module _ (temps : Names → Bool) (t d : Tree) (m : Mirrors temps t d) where
   plain_same : (step : PlainStep) (k : Option ℕ) → SparesOpen temps t step → Same temps step (plain t step k) (plain d step k)
   plain_same (steps.MakeDirs p) k spares = dirs_made p k
   plain_same (steps.CreateTemp p) k spares = create_same p k
-  plain_same (steps.Write f bytes) k spares = (refl, m)
   plain_same (steps.Persist f p) k spares = persist_same f p k
   plain_same (steps.Append p bytes) k spares = append_same p bytes k spares
   plain_same (steps.ReadAll p) k spares = read_all_same p k spares
   plain_same (steps.Open p) k spares = open_same p k spares
-  plain_same (steps.Read f size) k spares = (refl, m)
   plain_same (steps.Exists p) k spares = exists_same p k
   plain_same (steps.Size p) k spares = size_same p k spares
   plain_same (steps.Symlink target p) k spares = symlink_same target p k
@@ -249,9 +235,9 @@ module _ (temps : Names → Bool) (t d : Tree) (m : Mirrors temps t d) where
   plain_same (steps.ReadDir p) k spares = read_dir_same p k
   plain_same (steps.RemoveFile p) k spares = remove_file_same p k
   plain_same (steps.RemoveDir p) k spares = remove_dir_same p k
-  plain_same (steps.SyncTemp f) k spares = (refl, m)
   plain_same (steps.SyncFile p) k spares = sync_file_same p k spares
   plain_same (steps.SyncDir p) k spares = sync_dir_same p k
+  plain_same step k spares = (refl, m)
 
 -- ---- any luck
 

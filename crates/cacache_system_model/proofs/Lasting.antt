@@ -1,5 +1,5 @@
 -- What many steps leave fixed on a system and on a disk that does the same, and what a loss of power leaves of both.
-use Rattle.std.proofs.{Common.{◌≡◌, ◌⊎◌, inl, inr, ◌||◌, ◌-◌, ◌+◌, ℕ, Bool, true, false, cond, List, [], ◌∷◌, ◌++◌, take, length, refl, sym, ap, subst, ◌∙◌}, lemmas.List.{length-append}, Math.{Seq.{take-append_seam}, Nat.{add-sub_cancel}}}
+use Rattle.std.proofs.{Common.{◌≡◌, ◌⊎◌, inl, inr, ◌||◌, ◌-◌, ℕ, Bool, true, false, cond, List, [], ◌∷◌, ◌++◌, take, length, refl, sym, ap, subst, ◌∙◌}, lemmas.{List.{length-append}, Bool.{or_right}}, Math.{Seq.{take-append_seam}, Nat.{add-sub_cancel}}}
 use Rattle.std.specs.{Prelude.{Option, None, Some, Result, Ok}, List.{AllByRecursion}}
 use Rattle.cacache_core.specs.{declared.errors.Fault.{Fault, TheVariants.{Device}}, PathNames.{Names, names_of}}
 use Rattle.cacache_store.specs.Plain.{PlainStep, PlainAnswer}
@@ -179,10 +179,6 @@ open_first : (temps : Names → Bool) (made : List StepMade) (q : Names) → tem
 open_first temps [] q is = is
 open_first temps (s ∷ made) q is = ap (λ (b : Bool). b || was_temp (temps_left temps s) made q) is
 
-open_later : (b c : Bool) → c ≡ true → (b || c) ≡ true
-open_later true c is = refl
-open_later false c is = is
-
 lasts : (own temps : Names → Bool) (m : Machine) (f : Fixed) (now : Moment) (made : List StepMade) → Mirrors temps m.tree now.tree → ((q : Names) → was_temp temps made q ≡ true → own q ≡ true) → AlikeFixed own f now.fixed
     → AreMade temps m made → AllByRecursion (λ (s : StepMade). CopiesNone s.step) made → Lasts own temps m f now made
 lasts own temps m f now [] mirrors keeps alike chain none =
@@ -191,7 +187,7 @@ lasts own temps m f now (s ∷ made) mirrors keeps alike (begins, (runs, each, c
     let here : Mirrors temps s.before.tree now.tree = subst (λ (x : Machine). Mirrors temps x.tree now.tree) (sym begins) mirrors in
     let one = one_follows own temps f now s here (λ q is. keeps q (open_first temps (s ∷ made) q is)) alike none.0 runs each covered in
     let more = lasts own (temps_left temps s) s.after (fixed_by f s) (next now one.move) made one.mirrors
-    (λ q is. keeps q (open_later (temps q) (was_temp (temps_left temps s) made q) is)) one.alike chain none.1 in
+    (λ q is. keeps q (or_right (temps q) (was_temp (temps_left temps s) made q) is)) one.alike chain none.1 in
     record {
       moves = one.move ∷ more.moves;
       of_steps = (one.move, more.moves, refl, one.of_step, more.of_steps);

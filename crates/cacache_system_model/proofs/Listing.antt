@@ -1,18 +1,18 @@
 -- A folder is listed call by call.
-use Rattle.std.proofs.Common.{◌≡◌, ◌≢◌, ◌==◌, ◌||◌, ◌&&◌, not, ◌⊎◌, ◌+◌, ◌-◌, ◌^◌, ℕ, zero, suc, Bool, true, false, if◌then◌else◌, List, [], ◌∷◌, ◌++◌, length, refl, sym, ap, ap₂, subst, ◌∙◌, ⊎_elim, inl, inr, arith, ne_eqb, length-append}
-use Rattle.std.specs.{Prelude.{Option, None, Some, Result, Ok, Err, IfSome}, List.{AllByRecursion, list_any}, Str.{is_utf8}}
+use Rattle.std.proofs.{Common.{◌≡◌, ◌≢◌, ◌==◌, ◌||◌, ◌&&◌, not, ◌-◌, ◌^◌, ℕ, zero, suc, Bool, true, false, if◌then◌else◌, List, [], ◌∷◌, ◌++◌, length, refl, sym, ap, subst, ◌∙◌, ⊎_elim, inl, inr, arith, ne_eqb, length-append, append-nil, append_assoc}, lemmas.Bool.{or_parts}}
+use Rattle.std.specs.{Prelude.{Option, Some, Result, Ok}, List.{AllByRecursion, list_any}, Str.{is_utf8}}
 use Rattle.std_io.specs.declared.io.kind.ErrorKind.{ErrorKind}
 use Rattle.std_io.specs.declared.io.kind.ErrorKind.TheVariants as kind
-use Rattle.cacache_core.{proofs.Splits.{split-append, split_none}, specs.{declared.errors.Fault.{Fault}, PathNames.{Names, is_name, is_above, ends_name, IsProperName}}}
+use Rattle.cacache_core.{proofs.Splits.{split-append, split_none}, specs.{declared.errors.Fault.{Fault}, PathNames.{Names, is_above, ends_name, IsProperName}}}
 use Rattle.cacache_store.specs.declared.store.answer.{Kind.{Kind, TheVariants.{File}}, Name.{Name}}
 use Rattle.cacache_store.specs.declared.store.step.Step.TheVariants as steps
 use Rattle.cacache_store.specs.declared.store.answer.Answer.TheVariants as answers
-use Rattle.cacache_disk.specs.{declared.{luck.Luck.TheVariants.{Plain}, node.Node.{Node, TheVariants.{Folder}}}, Tree.{Tree, look, listing, kind_of}, LedTo.{standing, folder}, Apply.{apply, unless}}
-use Rattle.cacache_system.specs.{declared.call.{FileInfo.{FileInfo}, SystemCall.{SystemCall}, CallItem.{CallItem}, CallResult.{CallResult}}, ListedNames.{text_of, is_proper, is_passed, names_in, with_slash}, CallsOf.{Stage, Reader, over, taking_memory, opening_folder, following, unopened, is_no_folder, is_absent, interrupts, reading_names, asking_kind, reader, read_once, more_names, entered, ask_kind, next_name, names_read, broken_off, after, Ends, Runs}, AnswersOf.{Hint, is_named, list, misses}}
+use Rattle.cacache_disk.specs.{declared.{luck.Luck.TheVariants.{Plain}, node.Node.{Node}}, Tree.{Tree, look, listing}, LedTo.{standing, folder}, Apply.{apply, unless}}
+use Rattle.cacache_system.specs.{declared.call.{SystemCall.{SystemCall}, CallItem.{CallItem}, CallResult.{CallResult}}, ListedNames.{text_of, is_proper, is_passed, names_in, with_slash}, CallsOf.{Stage, Reader, over, taking_memory, opening_folder, following, unopened, is_no_folder, interrupts, reading_names, asking_kind, reader, read_once, more_names, entered, ask_kind, next_name, names_read, broken_off, after, Ends, Runs}, AnswersOf.{is_named, list, misses}}
 use Rattle.cacache_system.specs.declared.call.SystemCall.TheVariants as asks
 use Rattle.cacache_system.specs.declared.call.CallResult.TheVariants as says
-use Rattle.cacache_system_model.specs.{Machine.{Machine, ShowsNode, ShowsEnd, Describes}, Folders.{IsDots, GivesNames, ended, HasLeft, OpensNames, OpensFolder, ReadsSome, ReadsFolder}, Calls.{GoesWell, EachCall}, Laws.{outcome, led_to, Leads, IsDone, IsLucky}, Listing.{IsPlainEntry, ListsPlainly, IsListed, ReadDirGoesPlainly, ReadDirBreaks}}
-use Rattle.cacache_system_model.proofs.{Leading.{Claim, over_leads, call_leads}, Refused.{broken_agrees}, Claims.{way_of, cases_of, taking_leads}, Opening.{of_some}}
+use Rattle.cacache_system_model.specs.{Machine.{Machine, ShowsNode, ShowsEnd, Describes}, Folders.{IsDots, GivesNames, ended, OpensNames, OpensFolder, ReadsSome, ReadsFolder}, Calls.{EachCall}, Laws.{outcome, led_to, Leads, IsDone, IsLucky}, Listing.{IsPlainEntry, ListsPlainly, IsListed, ReadDirGoesPlainly, ReadDirBreaks}}
+use Rattle.cacache_system_model.proofs.{Leading.{Claim, over_leads, call_leads}, Refused.{broken_agrees}, Claims.{way_of, cases_of, taking_leads}, Opening.{of_some}, CopyFacts.{not_absent}}
 
 -- what a listing's calls come to: if none fails without cause, and if some may
 abbrev ListClaim : Bool → Machine → List ℕ → Claim
@@ -21,15 +21,11 @@ ListClaim false m path = IsLucky m (steps.ReadDir path)
 
 -- ---- names
 
-either : (a b : Bool) → (a || b) ≡ false → (a ≡ false) × (b ≡ false)
-either true b e = absurd cc
-either false b e = (refl, e)
-
 no_nul : (name : List ℕ) → list_any ends_name name ≡ false → list_any (λ b. b == 0) name ≡ false
 no_nul [] is = refl
 no_nul (x ∷ xs) is =
-    let first = either (ends_name x) (list_any ends_name xs) is in
-    let both = either (x == 47) (x == 0) first.0 in
+    let first = or_parts (ends_name x) (list_any ends_name xs) is in
+    let both = or_parts (x == 47) (x == 0) first.0 in
     ap (λ (c : Bool). c || list_any (λ b. b == 0) xs) both.1 ∙ no_nul xs first.1
 
 proper_is : (name : List ℕ) → IsProperName name → is_proper name ≡ true
@@ -56,20 +52,8 @@ first_name : (name rest : List ℕ) → list_any (λ b. b == 0) name ≡ false �
 first_name name rest none =
     split-append (λ b. b == 0) name 0 rest refl ∙ ap (λ (l : List (List ℕ)). l ++ names_in rest) (one_name name none)
 
-append_one : (xs : List Name) (y : Name) (ys : List Name) → (xs ++ y ∷ []) ++ ys ≡ xs ++ y ∷ ys
-append_one [] y ys = refl
-append_one (x ∷ xs) y ys = ap (λ l. x ∷ l) (append_one xs y ys)
-
-append_none : (xs : List Name) → xs ++ [] ≡ xs
-append_none [] = refl
-append_none (x ∷ xs) = ap (λ l. x ∷ l) (append_none xs)
-
 not_zero : (n : ℕ) → n ≢ 0 → (n == 0) ≡ false
 not_zero n some = ne_eqb n 0 some
-
-not_absent : (why : ErrorKind) → misses why ≡ false → is_absent why ≡ false
-not_absent kind.NotFound fine = absurd (let wrong : true ≡ false = fine in cc)
-not_absent _ fine = refl
 
 not_broken : (why : ErrorKind) → misses why ≡ false → broken_off why ≡ why
 not_broken kind.NotFound fine = absurd (let wrong : true ≡ false = fine in cc)
@@ -195,7 +179,7 @@ module _ (b : Bool) (m : Machine) (path : List ℕ) (names : Names) (done : b �
       let parts = subst (AllByRecursion (IsPlainEntry m.tree path names)) is plain in
       subst (λ (x : List ℕ). Goes (next_name r (x ∷ given ++ [] ∷ []) found) n) named
       (entry_leads r e (given ++ [] ∷ []) found n at parts.0 tree
-      (names_lead r given rest others (found ++ e ∷ []) all n at tree gives parts.1 (append_one found e others ∙ ap (λ (l : List Name). found ++ l) (sym is) ∙ sums) goes))
+      (names_lead r given rest others (found ++ e ∷ []) all n at tree gives parts.1 (append_assoc found (e ∷ []) others ∙ ap (λ (l : List Name). found ++ l) (sym is) ∙ sums) goes))
 
   -- ---- reads
 
@@ -220,7 +204,7 @@ module _ (b : Bool) (m : Machine) (path : List ℕ) (names : Names) (done : b �
       let over_now : es ≡ [] = subst (λ (l : List (List ℕ)). GivesNames l es) (none refl) gives in
       taking (over (says.Names found)) k tree
       (over_leads (way_of b) (says.Names found) k (ListClaim b m path)
-      (listed_so found k is tree (sym (append_none found) ∙ ap (λ (l : List Name). found ++ l) (sym over_now) ∙ sums)))
+      (listed_so found k is tree (sym (append-nil found) ∙ ap (λ (l : List Name). found ++ l) (sym over_now) ∙ sums)))
   read_leads r (name ∷ given) rest es found k is at tree none gives plain sums goes =
       subst (λ (c : Bool). Goes (read_if c r (ended (name ∷ given)) found) k)
       (sym (not_zero (length (ended (name ∷ given))) (λ empty. omega (arith, empty, length-append name (0 ∷ ended given)))))

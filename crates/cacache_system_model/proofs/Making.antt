@@ -10,7 +10,7 @@ use Rattle.cacache_system.specs.declared.call.SystemCall.TheVariants as asks
 use Rattle.cacache_system.specs.{declared.call.CallResult.{CallResult}, CallsOf.{over, standing, making, confirming, below, unmade, climb, is_absent, if_folder, after}, AnswersOf.{misses, refuses_memory}}
 use Rattle.cacache_system.specs.declared.call.CallResult.TheVariants as says
 use Rattle.cacache_system_model.specs.{Machine.{Machine, IsRefused, ChangesTree, ShowsEnd, ShowsNode, Describes}, Laws.{Leads}}
-use Rattle.cacache_system_model.proofs.{Leading.{Claim, over_leads, call_leads}, Claims.{way_of, cases_of}, Opening.{said_leads, of_some}, Views.{leads_straight, found_at}, Slashes.{OneMore, Above, above}, Writing.{look_same}, Growing.{clear_at, way_at, way_more, WayOrGone, Grown, grown_more}}
+use Rattle.cacache_system_model.proofs.{Leading.{Claim, over_leads, call_leads}, Claims.{way_of, cases_of}, Opening.{said_leads, of_some}, Views.{leads_straight, found_at}, Slashes.{OneMore, Above, above}, Writing.{look_same}, Growing.{clear_at, way_at, way_more, WayOrGone, Grown, grown_more}, CopyFacts.{not_absent, fault_absent}, Fresh.{free_at_place}}
 
 -- ---- what the system finds where a folder is to be
 
@@ -25,20 +25,16 @@ unfolding place
 place_so t path names fault named way =
     ap (λ (r : Result Names Fault). and_then r (λ n. or_fault (way_fault t [] n) n)) named ∙ ap (λ (o : Option Fault). or_fault o names) way
 
-pub free_so : (t : Tree) (path : List ℕ) (r : Result Names Fault) → place t path ≡ r → free t path ≡ and_then r (λ n. where_free (look t n) n)
-unfolding free
-free_so t path r is = ap (λ (x : Result Names Fault). and_then x (λ n. where_free (look t n) n)) is
-
 found_so : (t : Tree) (path : List ℕ) (r : Result Names Fault) → place t path ≡ r → ((names : Names) → r ≡ Ok names → is_in_way (look t names) ≡ false) → found t path ≡ and_then r (λ n. where_there (look t n) n)
 found_so t path r is clear =
     found_at t path r (leads_straight t path (λ names at target link. let wrong : is_in_way (look t names) ≡ true = ap is_in_way link in let right : is_in_way (look t names) ≡ false = clear names (sym is ∙ at) in cc) ∙ is)
 
 spot_at : (t : Tree) (path : List ℕ) (names : Names) (o : Option Node) → way_fault t [] names ≡ None → place t path ≡ Ok names → look t names ≡ o → is_in_way o ≡ false → Spot t path names
 spot_at t path names None way placed is clear =
-    vacant way is (free_so t path (Ok names) placed ∙ ap (λ (o : Option Node). where_free o names) is)
+    vacant way is (free_at_place t path (Ok names) placed ∙ ap (λ (o : Option Node). where_free o names) is)
     (found_so t path (Ok names) placed (λ n same. let e : names ≡ n = cc in ap (λ (x : Names). is_in_way (look t x)) (sym e) ∙ ap is_in_way is) ∙ ap (λ (o : Option Node). where_there o names) is)
 spot_at t path names (Some Folder) way placed is clear =
-    a_folder is (free_so t path (Ok names) placed ∙ ap (λ (o : Option Node). where_free o names) is)
+    a_folder is (free_at_place t path (Ok names) placed ∙ ap (λ (o : Option Node). where_free o names) is)
     (found_so t path (Ok names) placed (λ n same. let e : names ≡ n = cc in ap (λ (x : Names). is_in_way (look t x)) (sym e) ∙ ap is_in_way is) ∙ ap (λ (o : Option Node). where_there o names) is)
 spot_at t path names (Some (File bytes)) way placed is clear = absurd cc
 spot_at t path names (Some (Link target)) way placed is clear = absurd cc
@@ -47,21 +43,13 @@ spot : (t : Tree) (path : List ℕ) (names : Names) → names_of path ≡ Ok nam
 spot t path names named clear (inl way) = spot_at t path names (look t names) way (place_so t path names None named way) refl clear
 spot t path names named clear (inr way) =
     let placed = place_so t path names (Some NotFound) named way in
-    gone way (free_so t path (Err NotFound) placed) (found_so t path (Err NotFound) placed (λ n same. absurd cc))
+    gone way (free_at_place t path (Err NotFound) placed) (found_so t path (Err NotFound) placed (λ n same. absurd cc))
 
 -- ---- errors
-
-pub absent_fault : (why : ErrorKind) → fault_of why ≡ NotFound → is_absent why ≡ true
-absent_fault kind.NotFound is = refl
-absent_fault _ is = absurd cc
 
 pub never_absent : (why : ErrorKind) (fault : Fault) → fault_of why ≡ fault → (fault ≡ NotFound → ⊥) → is_absent why ≡ false
 never_absent kind.NotFound fault is other = absurd (other (sym is))
 never_absent _ fault is other = refl
-
-not_missing : (why : ErrorKind) → misses why ≡ false → is_absent why ≡ false
-not_missing kind.NotFound is = absurd cc
-not_missing _ is = refl
 
 -- ---- one folder
 
@@ -84,7 +72,7 @@ module _ (b : Bool) (t : Tree) (names : Names) (again : Bool) (path : List ℕ) 
   confirm_absent : (why : ErrorKind) (said : CallResult) (n l : Machine) → n.tree ≡ t → ((l : Machine) → l.tree ≡ t → P (says.Failed why) l) → IsRefused NotFound n said l → Leads (way_of b) (after (confirming why path todo) said) l P
   confirm_absent why said n l tree holds (other, same, of, memory, stays) =
       said_leads b (confirming why path todo) said (says.Failed other) l P same
-      (subst (λ (c : Bool). Leads (way_of b) (over (says.Failed (if c then why else other))) l P) (sym (absent_fault other of))
+      (subst (λ (c : Bool). Leads (way_of b) (over (says.Failed (if c then why else other))) l P) (sym (fault_absent other of))
       (over_leads (way_of b) (says.Failed why) l P (holds l (ap (λ (x : Machine). x.tree) stays ∙ tree))))
 
   -- the system is asked what is there
@@ -96,7 +84,7 @@ module _ (b : Bool) (t : Tree) (names : Names) (again : Bool) (path : List ℕ) 
       (λ (most, all, well). shown said l (subst (λ (x : Tree). ShowsEnd (found x path) n said l) tree well))
       (λ (broke, other, same, fine, part, left).
       said_leads b (confirming why path todo) said (says.Failed other) l P same
-      (subst (λ (c : Bool). Leads (way_of b) (over (says.Failed (if c then why else other))) l P) (sym (not_missing other fine))
+      (subst (λ (c : Bool). Leads (way_of b) (over (says.Failed (if c then why else other))) l P) (sym (not_absent other fine))
       (over_leads (way_of b) (says.Failed other) l P (next.fails other l broke fine (ap (λ (x : Machine). x.tree) left ∙ tree)))))
       (cases_of b n (asks.Stat path) said l happens))
 
@@ -117,7 +105,7 @@ module _ (b : Bool) (t : Tree) (names : Names) (again : Bool) (path : List ℕ) 
   made_spot : (s : Spot t path names) (said : CallResult) (n l : Machine) → n.tree ≡ t → ChangesTree (free t path) (λ x. put t x Folder) n said l → Leads (way_of b) (after (making again path todo) said) l P
   made_spot (gone way is at) said n l tree changes =
       let refused : IsRefused NotFound n said l = subst (λ (r : Result Names Fault). ChangesTree r (λ x. put t x Folder) n said l) is changes in
-      making_failed refused.0 true said l refused.1 (absent_fault refused.0 refused.2)
+      making_failed refused.0 true said l refused.1 (fault_absent refused.0 refused.2)
       (next.missing refused.0 l way refused.2 refused.3 (ap (λ (x : Machine). x.tree) refused.4 ∙ tree))
   made_spot (vacant way none is at) said n l tree changes =
       let was = subst (λ (r : Result Names Fault). ChangesTree r (λ x. put t x Folder) n said l) is changes in
@@ -136,7 +124,7 @@ module _ (b : Bool) (t : Tree) (names : Names) (again : Bool) (path : List ℕ) 
       (λ (most, all, well). made_spot s said n l tree (subst (λ (x : Tree). ChangesTree (free x path) (λ y. put x y Folder) n said l) tree well))
       (λ (broke, why, same, fine, part, left).
       let here : l.tree ≡ t = ap (λ (x : Machine). x.tree) left ∙ tree in
-      making_failed why false said l same (not_missing why fine) (confirm_broke why l s here (λ k stays. next.fails why k broke fine stays)))
+      making_failed why false said l same (not_absent why fine) (confirm_broke why l s here (λ k stays. next.fails why k broke fine stays)))
       (cases_of b n (asks.MakeFolder path) said l happens))
 
 -- ---- names
@@ -153,11 +141,9 @@ snoc : (names : Names) → Snoc names
 snoc [] = inl refl
 snoc (first ∷ rest) = snoc_more first rest (snoc rest)
 
-through_folder : (here : Option Node) (later : Option Fault) → through here later ≡ None → (here ≡ Some Folder) × (later ≡ None)
-through_folder None later is = absurd cc
+pub through_folder : (here : Option Node) (later : Option Fault) → through here later ≡ None → (here ≡ Some Folder) × (later ≡ None)
 through_folder (Some Folder) later is = (refl, is)
-through_folder (Some (File bytes)) later is = absurd cc
-through_folder (Some (Link target)) later is = absurd cc
+through_folder here later is = absurd cc
 
 -- a clear way ends in a folder
 way_last : (t : Tree) (p base : Names) (name : List ℕ) → look t p ≡ Some Folder → way_fault t p (base ++ name ∷ []) ≡ None → look t (p ++ base) ≡ Some Folder
@@ -168,9 +154,8 @@ way_last t p (a ∷ b ∷ base) name here way =
     ap (look t) (sym (append_assoc p (a ∷ []) (b ∷ base))) ∙ way_last t (p ++ a ∷ []) (b ∷ base) name f.0 f.1
 
 two_names : (t : Tree) (names : Names) → way_fault t [] names ≡ Some NotFound → 2 ≤ length names
-two_names t [] way = absurd cc
-two_names t (name ∷ []) way = absurd cc
 two_names t (name ∷ next ∷ rest) way = omega arith
+two_names t names way = absurd cc
 
 -- ---- all folders of a path
 
@@ -253,7 +238,7 @@ module _ (b : Bool) (t : Tree) (all : Names) (P : Claim) (proper : AreProper all
   stand_missing : (path : List ℕ) (n l : Machine) → Grown t all 0 t → names_of path ≡ Ok all → n.tree ≡ t → (said : CallResult) → IsRefused NotFound n said l → Leads (way_of b) (after (standing path) said) l P
   stand_missing path n l grown named tree said (why, same, of, memory, stays) =
       said_leads b (standing path) said (says.Failed why) l P same
-      (subst (λ (c : Bool). Leads (way_of b) (if c then making false path [] else over (says.Failed why)) l P) (sym (absent_fault why of))
+      (subst (λ (c : Bool). Leads (way_of b) (if c then making false path [] else over (says.Failed why)) l P) (sym (fault_absent why of))
       (up_leads (length path) path [] all l (omega arith) grown named refl (ap (λ (x : Machine). x.tree) stays ∙ tree)))
 
   stand_shown : (path : List ℕ) (n l : Machine) → Grown t all 0 t → n.tree ≡ t → look t all ≡ Some Folder → (said : CallResult) → ShowsNode all n said l → Leads (way_of b) (after (standing path) said) l P
@@ -278,6 +263,6 @@ module _ (b : Bool) (t : Tree) (all : Names) (P : Claim) (proper : AreProper all
       (λ (most, all_moved, well). stand_found path n grown named tree here said l (subst (λ (x : Tree). ShowsEnd (found x path) n said l) tree well))
       (λ (broke, why, same, fine, part, left).
       said_leads b (standing path) said (says.Failed why) l P same
-      (subst (λ (c : Bool). Leads (way_of b) (if c then making false path [] else over (says.Failed why)) l P) (sym (not_missing why fine))
+      (subst (λ (c : Bool). Leads (way_of b) (if c then making false path [] else over (says.Failed why)) l P) (sym (not_absent why fine))
       (over_leads (way_of b) (says.Failed why) l P (ends.breaks why l t 0 grown (ap (λ (x : Machine). x.tree) left ∙ tree) broke fine))))
       (cases_of b n (asks.Stat path) said l happens))

@@ -42,9 +42,8 @@ abbrev info_of : Node → ℕ × ℕ → FileInfo
 info_of node inode = record { kind = kind_of node; regular = is_regular node; size = size_of (Some node); inode = inode.0; device = inode.1; mode = 0; owner = 0; group = 0 }
 
 described : (node : Node) (inode : ℕ × ℕ) → Describes node inode (info_of node inode)
-described Folder inode = record { kind = refl; regular = refl; size = tt; number = refl }
 described (File bytes) inode = record { kind = refl; regular = refl; size = refl; number = refl }
-described (Link target) inode = record { kind = refl; regular = refl; size = tt; number = refl }
+described node inode = record { kind = refl; regular = refl; size = tt; number = refl }
 
 can_show_node : (m : Machine) (names : Names) (o : Option Node) → look m.tree names ≡ o → Can (ShowsNode names m)
 can_show_node m names None is =
@@ -61,18 +60,16 @@ of_open None Claim m can = (says.Done, m, tt)
 of_open (Some file) Claim m can = can file
 
 can_read : (m : Machine) (pick : List ℕ → List ℕ) (number : ℕ) (file : OpenFile) (here : Option Node) → Can (ReadsFile pick number file here m)
-can_read m pick number file None = (says.Done, m, tt)
 can_read m pick number file (Some Folder) = can_refuse IsADirectory m a_folder
 can_read m pick number file (Some (File bytes)) =
     let next = pick (drop file.read bytes) in
     (says.Bytes next, open_on m m.tree number (record { names = file.names; read = file.read + length next }), (refl, (refl, refl, refl)))
-can_read m pick number file (Some (Link target)) = (says.Done, m, tt)
+can_read m pick number file here = (says.Done, m, tt)
 
 can_move : (m : Machine) (old : Names) (here : Option Node) (ends : Result Names Fault) → Sayable ends → Can (MovesNode old here ends m)
-can_move m old None ends can = (says.Done, m, tt)
-can_move m old (Some Folder) ends can = (says.Done, m, tt)
 can_move m old (Some (File bytes)) ends can = can_change m ends (λ new. put (cut m.tree old) new (File bytes)) can
 can_move m old (Some (Link target)) ends can = can_change m ends (λ new. put (cut m.tree old) new (Link target)) can
+can_move m old here ends can = (says.Done, m, tt)
 
 can_rename : (m : Machine) (from : Result Names Fault) (ends : Result Names Fault) → Sayable from → Sayable ends
     → Can (λ said after. MatchResult from (λ old. MovesNode old (look m.tree old) ends m said after) (λ fault. IsRefused fault m said after))

@@ -1,6 +1,6 @@
 -- The disk's table answers the same whether open temporary files have their bytes in the tree or are empty there.
 use Rattle.std.proofs.Common.{◌≡◌, ◌==◌, ◌&&◌, T, ℕ, zero, suc, Bool, true, false, cond, if◌then◌else◌, List, [], ◌∷◌, ◌++◌, length, map, refl, sym, ap, subst, ◌∙◌}
-use Rattle.std.specs.{Prelude.{Option, None, Some, Result, Ok, Err, IfOk}, FinMap.Entries.{below_all}, List.{filter_map, cons_option}, Ordering.{is_lt, eq_by_cmp}}
+use Rattle.std.specs.{Prelude.{Option, Some, Result, Ok, Err, IfOk}, FinMap.Entries.{below_all}, List.{filter_map, cons_option}, Ordering.{is_lt, eq_by_cmp}}
 use Rattle.std.specs.FinMap as finite
 use Rattle.cacache_core.specs.{declared.errors.Fault.{Fault, TheVariants.{NotEmpty, AlreadyExists, NotADirectory, TooDeep}}, PathNames.{Names, names_of}}
 use Rattle.cacache_store.specs.declared.store.answer.Name.{Name}
@@ -11,67 +11,47 @@ use Rattle.cacache_system_model.specs.Mirrors.{hollow, Mirrors}
 -- ---- what goes by a node's shape
 
 pub hollow_twice : (o : Option Node) → hollow (hollow o) ≡ hollow o
-hollow_twice None = refl
 hollow_twice (Some Folder) = refl
-hollow_twice (Some (File bytes)) = refl
-hollow_twice (Some (Link target)) = refl
+hollow_twice o = refl
 
 by_shape : {A : Type 0} (f : Option Node → A) → ((o : Option Node) → f (hollow o) ≡ f o) → (a b : Option Node) → hollow a ≡ hollow b → f a ≡ f b
 by_shape f shape a b same = sym (shape a) ∙ ap f same ∙ shape b
 
 through_shape : (later : Option Fault) (o : Option Node) → through (hollow o) later ≡ through o later
-through_shape later None = refl
 through_shape later (Some Folder) = refl
-through_shape later (Some (File bytes)) = refl
-through_shape later (Some (Link target)) = refl
+through_shape later o = refl
 
 there_shape : (n : Names) (o : Option Node) → where_there (hollow o) n ≡ where_there o n
-there_shape n None = refl
 there_shape n (Some Folder) = refl
-there_shape n (Some (File bytes)) = refl
-there_shape n (Some (Link target)) = refl
+there_shape n o = refl
 
 free_shape : (n : Names) (o : Option Node) → where_free (hollow o) n ≡ where_free o n
-free_shape n None = refl
 free_shape n (Some Folder) = refl
-free_shape n (Some (File bytes)) = refl
-free_shape n (Some (Link target)) = refl
+free_shape n o = refl
 
 no_folder_shape : (n : Names) (o : Option Node) → where_no_folder (hollow o) n ≡ where_no_folder o n
-no_folder_shape n None = refl
 no_folder_shape n (Some Folder) = refl
-no_folder_shape n (Some (File bytes)) = refl
-no_folder_shape n (Some (Link target)) = refl
+no_folder_shape n o = refl
 
 removable_shape : (n : Names) (o : Option Node) → where_removable (hollow o) n ≡ where_removable o n
-removable_shape n None = refl
 removable_shape n (Some Folder) = refl
-removable_shape n (Some (File bytes)) = refl
-removable_shape n (Some (Link target)) = refl
+removable_shape n o = refl
 
 folder_shape : (n : Names) (o : Option Node) → where_folder (hollow o) n ≡ where_folder o n
-folder_shape n None = refl
 folder_shape n (Some Folder) = refl
-folder_shape n (Some (File bytes)) = refl
-folder_shape n (Some (Link target)) = refl
+folder_shape n o = refl
 
 file_shape : (n : Names) (o : Option Node) → where_file (hollow o) n ≡ where_file o n
-file_shape n None = refl
 file_shape n (Some Folder) = refl
-file_shape n (Some (File bytes)) = refl
-file_shape n (Some (Link target)) = refl
+file_shape n o = refl
 
 link_shape : (n : Names) (go : List ℕ → Result Names Fault) (o : Option Node) → on_link (hollow o) n go ≡ on_link o n go
-link_shape n go None = refl
 link_shape n go (Some Folder) = refl
-link_shape n go (Some (File bytes)) = refl
-link_shape n go (Some (Link target)) = refl
+link_shape n go o = refl
 
 way_shape : (o : Option Node) → is_in_way (hollow o) ≡ is_in_way o
-way_shape None = refl
 way_shape (Some Folder) = refl
-way_shape (Some (File bytes)) = refl
-way_shape (Some (Link target)) = refl
+way_shape o = refl
 
 -- ---- two trees of one shape
 
@@ -92,11 +72,10 @@ and_same r (Err fault) f g same next = ap (λ (x : Result _ Fault). and_then x f
 
 module _ (t d : Tree) (s : SameShape t d) where
   way_same : (above rest : Names) → way_fault d above rest ≡ way_fault t above rest
-  way_same above [] = refl
-  way_same above (name ∷ []) = refl
   way_same above (name ∷ next ∷ rest) =
       by_shape (λ o. through o (way_fault d (above ++ name ∷ []) (next ∷ rest))) (through_shape (way_fault d (above ++ name ∷ []) (next ∷ rest))) (look d (above ++ name ∷ [])) (look t (above ++ name ∷ [])) (s (above ++ name ∷ []))
       ∙ ap (through (look t (above ++ name ∷ []))) (way_same (above ++ name ∷ []) (next ∷ rest))
+  way_same above rest = refl
 
   pub place_same : (path : List ℕ) → place d path ≡ place t path
   unfolding place
@@ -172,8 +151,7 @@ hollow_entry e = (e.0, hollow_node e.1)
 
 child_shape : (folder : Names) (e : Names × Node) → child_of folder (hollow_entry e) ≡ child_of folder e
 child_shape folder (names, Folder) = refl
-child_shape folder (names, File bytes) = refl
-child_shape folder (names, Link target) = refl
+child_shape folder e = refl
 
 children : (folder : Names) (es : List (Names × Node)) → filter_map (child_of folder) (map hollow_entry es) ≡ filter_map (child_of folder) es
 children folder [] = refl
@@ -191,8 +169,7 @@ sorted_hollow (e ∷ es) =
 
 some_hollow : (node : Node) → Some (hollow_node node) ≡ hollow (Some node)
 some_hollow Folder = refl
-some_hollow (File bytes) = refl
-some_hollow (Link target) = refl
+some_hollow node = refl
 
 found_hollow : (b : Bool) (node : Node) (o u : Option Node) → u ≡ hollow o → cond b (Some (hollow_node node)) u ≡ hollow (cond b (Some node) o)
 found_hollow true node o u same = some_hollow node

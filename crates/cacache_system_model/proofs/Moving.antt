@@ -2,15 +2,15 @@
 use Rattle.std.proofs.Common.{◌≡◌, ℕ, Bool, true, false, if◌then◌else◌, List, [], refl, sym, ap, subst, ◌∙◌, ⊎_elim}
 use Rattle.std.specs.Prelude.{Option, None, Some, Result, Ok, Err, IfSome, MatchResult, option_map}
 use Rattle.std_io.specs.declared.io.kind.ErrorKind.{ErrorKind}
-use Rattle.cacache_core.specs.{Contexts.{fault_of}, declared.errors.Fault.{Fault, TheVariants.{NotFound}}, PathNames.{Names}}
+use Rattle.cacache_core.specs.{declared.errors.Fault.{Fault, TheVariants.{NotFound}}, PathNames.{Names}}
 use Rattle.cacache_store.specs.declared.store.step.Step.TheVariants as steps
 use Rattle.cacache_store.specs.Plain.{PlainAnswer}
 use Rattle.cacache_disk.specs.{declared.{luck.Luck.TheVariants.{Plain}, node.Node.{Node, TheVariants.{File}}}, Tree.{Tree, look, bytes_of}, LedTo.{and_then, place, standing, found, way_fault, where_there}, Apply.{apply}}
-use Rattle.cacache_system.specs.{declared.call.{FileInfo.{FileInfo}, SystemCall.{SystemCall}, CallResult.{CallResult}}, CallsOf.{Stage, over, only, preparing, keeping, give, give_mode, sync_again, is_absent, after}, Seen.{NumberedTemp}, AnswersOf.{Hint, no_hint, is_missing, was_named, in_walk, rewrites, look_first, persist, misses}}
+use Rattle.cacache_system.specs.{declared.call.{FileInfo.{FileInfo}, SystemCall.{SystemCall}, CallResult.{CallResult}}, CallsOf.{Stage, over, only, preparing, keeping, give, give_mode, sync_again, after}, Seen.{NumberedTemp}, AnswersOf.{Hint, no_hint, is_missing, was_named, in_walk, rewrites, look_first, persist, misses}}
 use Rattle.cacache_system.specs.declared.call.SystemCall.TheVariants as asks
 use Rattle.cacache_system.specs.declared.call.CallResult.TheVariants as says
-use Rattle.cacache_system_model.specs.{Machine.{OpenFile, Machine, Became, IsRefused, ShowsNode, ShowsEnd, GivesOwner}, Calls.{GoesWell, LeavesPart}, Laws.{step_on, led_to, Leads, IsDone}, OneCall.{StillStands}, Removing.{WalkStands}, Moving.{LeadsOrMisses, MayReplace, PersistAgrees}}
-use Rattle.cacache_system_model.proofs.{Leading.{Claim, over_leads, call_leads, only_leads}, Claims.{way_of, claim_of, cases_of, agrees_of, claim_plain, claim_broken}, Opening.{said_leads}, CopyFacts.{not_absent, fault_absent}, Walking.{looks_so}, Changing.{placed, put_away}}
+use Rattle.cacache_system_model.specs.{Machine.{OpenFile, Machine, ShowsEnd, GivesOwner}, Calls.{GoesWell, LeavesPart}, Laws.{Leads, IsDone}, OneCall.{StillStands}, Removing.{WalkStands}, Moving.{LeadsOrMisses, MayReplace, PersistAgrees}}
+use Rattle.cacache_system_model.proofs.{Leading.{Claim, over_leads, call_leads, only_leads}, Claims.{way_of, claim_of, cases_of, agrees_of, claim_plain, claim_broken}, Opening.{said_leads}, CopyFacts.{not_absent, fault_absent}, Walking.{looks_so}, Changing.{put_away}, memory.Places.{place_led}}
 
 -- the same stands, and the same files are open
 pub record Same (m n : Machine) : Type 0 where
@@ -104,7 +104,7 @@ module _ (b : Bool) (m : Machine) (temp : NumberedTemp) (path : List ℕ) (names
   owned : (owner group : ℕ) (n : Machine) → Same m n → (most : Option ℕ) (said : CallResult) (l : Machine) → GoesWell most n (asks.SetOwner temp.path owner group) said l → (said ≡ says.Done) × Same m l
   owned owner group n same most said l well =
       let now = ready_on n same in
-      let at : standing n.tree temp.path ≡ Ok names = stands_at n.tree temp.path names (File bytes) (placed n.tree temp.path names now.named now.way) now.stands in
+      let at : standing n.tree temp.path ≡ Ok names = stands_at n.tree temp.path names (File bytes) (place_led n.tree temp.path names now.named now.way) now.stands in
       let given : (said ≡ says.Done) × (l ≡ n) = subst (λ (r : Result Names Fault). GivesOwner r n said l) at well in
       (given.0, still_same m n l same given.1)
 

@@ -11,17 +11,14 @@ use Rattle.cacache_system.specs.declared.call.SystemCall.TheVariants as asks
 use Rattle.cacache_system.specs.{declared.call.CallResult.{CallResult}, CallsOf.{over, trying, taking_memory}, Seen.{NumberedFile}, AnswersOf.{read_piece}}
 use Rattle.cacache_system.specs.declared.call.CallResult.TheVariants as says
 use Rattle.cacache_system_model.specs.{Machine.{OpenFile, Machine, ReadsFile, Gives, with_file}, Laws.{left_in, step_on, outcome, led_to, Leads, IsDone}, Reading.{StaysOpen, ReadBreaks, PiecesReadPlainly}}
-use Rattle.cacache_system_model.proofs.{Refused.{same_outcome, broken_agrees}, Leading.{Claim, over_leads, trying_leads}, Claims.{way_of, claim_of, Well, taking_leads, claim_broken, claim_memory}, Trying.{SaidWell, tried_so}, Opening.{same_number, newly_open, of_some}}
+use Rattle.cacache_system_model.proofs.{Refused.{same_outcome, broken_agrees}, Leading.{Claim, over_leads, trying_leads}, Claims.{way_of, claim_of, Well, taking_leads, claim_broken, claim_memory}, Trying.{SaidWell, tried_so}, Opening.{newly_open, of_some, same_number}}
+use Rattle.cacache_history.proofs.Contents.OpenedContents.{some_readable}
 
 -- ---- counts
 
 readable_within : (most : Option ℕ) (size : ℕ) → readable most size ≤ size
 readable_within None size = omega arith
 readable_within (Some q) size = omega arith
-
-readable_some : (most : Option ℕ) (size : ℕ) → 0 < size → 0 < readable most size
-readable_some None size some = some
-readable_some (Some q) size some = omega arith
 
 pub either : (k n : ℕ) → (k ≤ n) ⊎ (n ≤ k)
 either zero n = inl (omega arith)
@@ -38,20 +35,17 @@ taken_part most size all within none =
     let l : readable most size ≤ size = readable_within most size in
     ⊎_elim
     (λ (z : size ≡ 0). let a : all ≡ 0 = none z in let r : readable most size ≡ 0 = omega (arith, l, z) in omega (arith, a, r))
-    (λ (p : 0 < size). let r : 0 < readable most size = readable_some most size p in omega (arith, r, l, within))
+    (λ (p : 0 < size). let r : 0 < readable most size = some_readable most size p in omega (arith, r, l, within))
     (zero_or size)
 
 -- ---- a read in the disk's table
-
-same_length : (n : ℕ) → (n == n) ≡ true
-same_length n = same_number n
 
 abbrev got : List ℕ → List ℕ → PlainAnswer
 got rest next = answers.Got (record { left = length rest; bytes = Some rest }) next
 
 given_known : (rest : List ℕ) (k : ℕ) → given (record { left = length rest; bytes = Some rest }) k (Some rest) ≡ got (drop k rest) (take k rest)
 given_known rest k =
-    ap (λ (b : Bool). if b then answers.Got (rest_of rest k) (take k rest) else answers.Failed Closed) (same_length (length rest))
+    ap (λ (b : Bool). if b then answers.Got (rest_of rest k) (take k rest) else answers.Failed Closed) (same_number (length rest))
     ∙ ap (λ (size : ℕ). answers.Got (record { left = size; bytes = Some (drop k rest) }) (take k rest)) (let l : length (drop k rest) ≡ length rest - k = length-drop k rest in omega (arith, l))
 
 pub drop_taken : (rest : List ℕ) (k : ℕ) → drop (length (take k rest)) rest ≡ drop k rest

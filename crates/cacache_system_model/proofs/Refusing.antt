@@ -4,7 +4,7 @@ use Rattle.std.specs.{Cmp.Lexicographic.{pointwise}, Prelude.{None, Some}}
 use Rattle.std_io.specs.declared.io.kind.ErrorKind.TheVariants as kind
 use Rattle.cacache_store.specs.declared.store.answer.Kind.{Kind}
 use Rattle.cacache_store.specs.declared.store.answer.Kind.TheVariants as kinds
-use Rattle.cacache_system.specs.{declared.call.{FileInfo.{FileInfo}, SystemCall.{SystemCall}, CallItem.{CallItem}, CallResult.{CallResult}}, CallLog.{item}, Seen.{NumberedTemp}, AnswersOf.{Hint, no_hint, is_missing, was_named, in_walk, rewrites, look_first}, CallsOf.{Stage, Runs, over, only, appending, wants, if_folder, unless_folder, descend, compared, is_same_node, is_link, asking_target, asking_end, place_fresh}}
+use Rattle.cacache_system.specs.{declared.call.{FileInfo.{FileInfo}, SystemCall.{SystemCall}, CallItem.{CallItem}, CallResult.{CallResult}}, CallLog.{item}, Seen.{NumberedTemp}, AnswersOf.{no_hint, is_missing, was_named, in_walk, rewrites, look_first}, CallsOf.{Stage, Runs, over, only, appending, wants, if_folder, unless_folder, descend, compared, is_same_node, is_link, asking_target, asking_end, place_fresh}}
 use Rattle.cacache_system.specs.declared.call.SystemCall.TheVariants as asks
 use Rattle.cacache_system.specs.declared.call.CallResult.TheVariants as says
 use Rattle.cacache_system_model.specs.Refusals.{NoSecondWrite, NoRemovalBeforePut, NoOtherMode, NoOtherSync, NoFileForFolder, NoCopyInPlace, NoRemovalThroughLink, NoAppendThroughLink, NoMoveWithoutMode, NoCallWithoutOwner}
@@ -59,8 +59,7 @@ unfolding filled
 not_opened source from to onto kinds.File true true k r is = cc
 not_opened source from to onto kinds.File true false k r is = cc
 not_opened source from to onto kinds.File false same k r is = cc
-not_opened source from to onto kinds.Folder regular same k r is = cc
-not_opened source from to onto kinds.Link regular same k r is = cc
+not_opened source from to onto kind regular same k r is = cc
 
 no_copy_if : (source target : FileInfo) (from to onto : List ℕ) (said end : CallResult) (rest : List CallItem) (c : Bool) → target.kind ≡ kinds.File → target.regular ≡ true
     → Runs (if c then asking_target source from to else over (says.Failed kind.InvalidInput)) (item (asks.StatLink to) (says.Info target) ∷ item (asks.CopyFile from onto) said ∷ rest) end → ⊥

@@ -49,14 +49,12 @@ names_say path = names_at path (length path == 0) (is_bad path)
 through_say : (here : Option Node) (later : Option Fault) → IfSome later CanSay → IfSome (through here later) CanSay
 through_say None later can = not_found
 through_say (Some Folder) later can = can
-through_say (Some (File bytes)) later can = no_folder
-through_say (Some (Link target)) later can = no_folder
+through_say here later can = no_folder
 
 way_say : (t : Tree) (above rest : Names) → IfSome (way_fault t above rest) CanSay
-way_say t above [] = tt
-way_say t above (name ∷ []) = tt
 way_say t above (name ∷ next ∷ rest) =
     through_say (look t (above ++ name ∷ [])) (way_fault t (above ++ name ∷ []) (next ∷ rest)) (way_say t (above ++ name ∷ []) (next ∷ rest))
+way_say t above rest = tt
 
 pub place_say : (t : Tree) (path : List ℕ) → Sayable (place t path)
 unfolding place
@@ -71,32 +69,26 @@ free_judge None names = tt
 free_judge (Some node) names = exists
 
 no_folder_judge : (o : Option Node) (names : Names) → Sayable (where_no_folder o names)
-no_folder_judge None names = tt
 no_folder_judge (Some Folder) names = a_folder
-no_folder_judge (Some (File bytes)) names = tt
-no_folder_judge (Some (Link target)) names = tt
+no_folder_judge o names = tt
 
 removable_judge : (o : Option Node) (names : Names) → Sayable (where_removable o names)
 removable_judge None names = not_found
 removable_judge (Some Folder) names = a_folder
-removable_judge (Some (File bytes)) names = tt
-removable_judge (Some (Link target)) names = tt
+removable_judge o names = tt
 
 folder_judge : (o : Option Node) (names : Names) → Sayable (where_folder o names)
 folder_judge None names = not_found
 folder_judge (Some Folder) names = tt
-folder_judge (Some (File bytes)) names = no_folder
-folder_judge (Some (Link target)) names = no_folder
+folder_judge o names = no_folder
 
 pub standing_say : (t : Tree) (path : List ℕ) → Sayable (standing t path)
 unfolding standing
 standing_say t path = and_say (place t path) (λ names. where_there (look t names) names) (place_say t path) (λ names. there_say (look t names) names)
 
 link_say : (o : Option Node) (names : Names) (go : List ℕ → Result Names Fault) → ((target : List ℕ) → Sayable (go target)) → Sayable (on_link o names go)
-link_say None names go can = tt
-link_say (Some Folder) names go can = tt
-link_say (Some (File bytes)) names go can = tt
 link_say (Some (Link target)) names go can = can target
+link_say o names go can = tt
 
 followed_say : (most : ℕ) (t : Tree) (names : Names) → Sayable (followed most t names)
 unfolding followed
@@ -158,8 +150,7 @@ LinkSayable r = IfErr r (λ fault. CanSay (link_fault fault))
 linked_node : (o : Option Node) → LinkSayable (linked_in o)
 linked_node None = not_found
 linked_node (Some Folder) = (kind.PermissionDenied, refl, refl)
-linked_node (Some (File bytes)) = tt
-linked_node (Some (Link target)) = tt
+linked_node o = tt
 
 link_fault_say : (t : Tree) (r : Result Names Fault) → IfErr r (λ fault. CanSay (link_fault fault)) → LinkSayable (and_then r (λ names. linked_in (look t names)))
 link_fault_say t (Ok names) can = linked_node (look t names)
@@ -172,14 +163,12 @@ LinkSay fault = CanSay (link_fault fault)
 through_links : (here : Option Node) (later : Option Fault) → IfSome later LinkSay → IfSome (through here later) LinkSay
 through_links None later can = not_found
 through_links (Some Folder) later can = can
-through_links (Some (File bytes)) later can = no_folder
-through_links (Some (Link target)) later can = no_folder
+through_links here later can = no_folder
 
 way_links : (t : Tree) (above rest : Names) → IfSome (way_fault t above rest) LinkSay
-way_links t above [] = tt
-way_links t above (name ∷ []) = tt
 way_links t above (name ∷ next ∷ rest) =
     through_links (look t (above ++ name ∷ [])) (way_fault t (above ++ name ∷ []) (next ∷ rest)) (way_links t (above ++ name ∷ []) (next ∷ rest))
+way_links t above rest = tt
 
 names_links : (path : List ℕ) (x y : Bool) → IfErr (let r : Result Names Fault = if x then Err NotFound else if y then Err InvalidInput else Ok (filter is_name (pieces path)) in r) LinkSay
 names_links path true y = not_found

@@ -1,5 +1,5 @@
 -- The names of the path above.
-use Rattle.std.proofs.{Common.{◌≡◌, ◌⊎◌, ◌≤◌, ◌<◌, ◌==◌, ◌||◌, ℕ, zero, suc, Bool, true, false, cond, if◌then◌else◌, List, [], ◌∷◌, ◌++◌, filter, get_or, take, drop, length, refl, sym, ap, subst, ◌∙◌, inl, inr, arith, append-nil, take-append-drop, drop-cons, drop_of_length-le, eqb-true, ne_eqb, length-take, length-append}, lemmas.List.{Elements.{filter-append}, Folds.{list_any-append}}}
+use Rattle.std.proofs.{Common.{◌≡◌, ◌⊎◌, ◌≤◌, ◌<◌, ◌==◌, ◌||◌, ℕ, zero, suc, Bool, true, false, cond, if◌then◌else◌, List, [], ◌∷◌, ◌++◌, filter, get_or, take, drop, length, refl, sym, ap, subst, ◌∙◌, inl, inr, arith, append-nil, take-append-drop, drop-cons, drop_of_length-le, eqb-true, ne_eqb, length-take, length-append}, lemmas.{List.{Elements.{filter-append}, Folds.{list_any-append}}, Bool.{or_parts}}}
 use Rattle.std.specs.{Prelude.{Option, None, Some, Result, Ok, Err, option_map}, List.{list_any}}
 use Rattle.cacache_core.specs.{declared.errors.Fault.{Fault, TheVariants.{NotFound, InvalidInput}}, PathNames.{Names, names_of, pieces, is_bad, is_above, is_name, ends_name, IsProperName}}
 use Rattle.cacache_core.proofs.Splits.{split-append, split_none}
@@ -28,10 +28,6 @@ slash_of : (path : List ℕ) → Slash path (last_slash path (length path))
 slash_of path = slash_from path (length path) (omega arith) (ap (list_any (λ b. b == 47)) (drop_of_length-le path {i = length path} (omega arith)))
 
 -- ---- names of a text
-
-or_parts : (a b : Bool) → (a || b) ≡ false → (a ≡ false) × (b ≡ false)
-or_parts true b e = absurd cc
-or_parts false b e = (refl, e)
 
 named_so : (path : List ℕ) (ns : Names) (x y : Bool) → (length path == 0) ≡ x → is_bad path ≡ y → (if x then Err NotFound else if y then Err InvalidInput else Ok (filter is_name (pieces path))) ≡ Ok ns
     → (is_bad path ≡ false) × (filter is_name (pieces path) ≡ ns)

@@ -5,7 +5,7 @@ use Rattle.cacache_core.specs.{declared.errors.Fault.{Fault}, PathNames.{Names, 
 use Rattle.cacache_store.specs.{declared.store.plain.PlainTemp.{PlainTemp}, Plain.{PlainStep, PlainAnswer}}
 use Rattle.cacache_store.specs.declared.store.step.Step.TheVariants as steps
 use Rattle.cacache_store.specs.declared.store.answer.Answer.TheVariants as answers
-use Rattle.cacache_disk.specs.{declared.{luck.Luck.{Luck, TheVariants.{Plain, Fail, Take}}, node.Node.{Node, TheVariants.{File}}}, Tree.{Tree, look, put, cut, same_path}, LedTo.{writable, free, removable}, Apply.{apply, plain, unless, fails, fault_told, made_temp}}
+use Rattle.cacache_disk.specs.{declared.{luck.Luck.{Luck, TheVariants.{Fail}}, node.Node.{Node, TheVariants.{File}}}, Tree.{Tree, look, put, cut, same_path}, LedTo.{writable, free, removable}, Apply.{apply, plain, unless, fails, fault_told, made_temp}}
 use Rattle.cacache_disk.proofs.{Maps.{same_path-true}, PutNodes.{look-cut}, FoundNodes.{free_ok, free_none, removable_ok}, Changes.{TreeChange, NoChange, PutNode, MakeFolders, CutNode, Makes, Puts, At, at_rest, at_put, at_cut, step_at}}
 use Rattle.cacache_loss.{specs.Fixing.{moves_file, moved_to, between, writes_at}, proofs.StepCases.{PersistCase, refused, moved, persist_case, put_misses, cut_misses}}
 use Rattle.cacache_system_model.specs.Mirrors.{temps_after, all_but, without, with_new, IsNoTemp, SparesOpen}
@@ -47,10 +47,9 @@ module _ (temps : Names → Bool) (t : Tree) (q : Names) where
 
   create_touched : (p : List ℕ) (luck : Luck) → TouchedBy temps t (steps.CreateTemp p) q (apply t (steps.CreateTemp p) luck)
   unfolding apply
-  create_touched p Plain = create_plain p None
-  create_touched p (Take most) = create_plain p None
   create_touched p (Fail fault None) = fails_case (TouchedBy temps t (steps.CreateTemp p) q) t (fault_told (plain t (steps.CreateTemp p) None).0) fault (λ fault. rests refl refl)
   create_touched p (Fail fault (Some part)) = fails_case (TouchedBy temps t (steps.CreateTemp p) q) t (fault_told (plain t (steps.CreateTemp p) None).0) fault (λ fault. rests refl refl)
+  create_touched p luck = create_plain p None
 
   remove_so : (p : List ℕ) (names : Names) (c : Bool) → removable t p ≡ Ok names → same_path q names ≡ c → TouchedBy temps t (steps.RemoveFile p) q (answers.Done, cut t names)
   remove_so p names true is at = goes (look-cut t names q ∙ ap (λ (b : Bool). cond b None (look t q)) at)
@@ -62,10 +61,9 @@ module _ (temps : Names → Bool) (t : Tree) (q : Names) where
 
   remove_touched : (p : List ℕ) (luck : Luck) → TouchedBy temps t (steps.RemoveFile p) q (apply t (steps.RemoveFile p) luck)
   unfolding apply
-  remove_touched p Plain = remove_plain p None
-  remove_touched p (Take most) = remove_plain p None
   remove_touched p (Fail fault None) = fails_case (TouchedBy temps t (steps.RemoveFile p) q) t (fault_told (plain t (steps.RemoveFile p) None).0) fault (λ fault. rests refl refl)
   remove_touched p (Fail fault (Some part)) = fails_case (TouchedBy temps t (steps.RemoveFile p) q) t (fault_told (plain t (steps.RemoveFile p) None).0) fault (λ fault. rests refl refl)
+  remove_touched p luck = remove_plain p None
 
   persist_so : (f : PlainTemp) (p bytes : List ℕ) (old new : Names) (a b : Bool) → names_of f.path ≡ Ok old → names_of p ≡ Ok new → same_path q new ≡ a → same_path q old ≡ b
       → TouchedBy temps t (steps.Persist f p) q (answers.Done, put (cut t old) new (File bytes))

@@ -72,10 +72,8 @@ NoLinkAt t path = (names : Names) → place t path ≡ Ok names → NoLink (look
 
 followed_stays : (t : Tree) (names : Names) (o : Option Node) → look t names ≡ o → NoLink o → followed 16 t names ≡ Ok names
 unfolding followed
-followed_stays t names None is none = ap (λ (o : Option Node). on_link o names (λ target. and_then (standing t target) (followed 15 t))) is
-followed_stays t names (Some Folder) is none = ap (λ (o : Option Node). on_link o names (λ target. and_then (standing t target) (followed 15 t))) is
-followed_stays t names (Some (File bytes)) is none = ap (λ (o : Option Node). on_link o names (λ target. and_then (standing t target) (followed 15 t))) is
 followed_stays t names (Some (Link target)) is none = absurd (none target refl)
+followed_stays t names other is none = ap (λ (o : Option Node). on_link o names (λ target. and_then (standing t target) (followed 15 t))) is
 
 leads_place : (t : Tree) (path : List ℕ) (r : Result Names Fault) → place t path ≡ r → ((names : Names) → r ≡ Ok names → NoLink (look t names)) → leads t path ≡ r
 unfolding leads

@@ -1,12 +1,12 @@
 -- The folders of a walk, which are looked at before a step changes what is in them.
 use Rattle.std.proofs.Common.{◌≡◌, ℕ, Bool, true, false, List, [], ◌∷◌, ◌++◌, refl, sym, ap, subst, ◌∙◌, ⊎_elim}
-use Rattle.std.specs.{Prelude.{Option, None, Some, Result, Ok, Err}, List.{AllByRecursion}}
+use Rattle.std.specs.{Prelude.{Option, Some, Result, Ok, Err}, List.{AllByRecursion}}
 use Rattle.std_io.specs.declared.io.kind.ErrorKind.{ErrorKind}
 use Rattle.std_io.specs.declared.io.kind.ErrorKind.TheVariants as kind
 use Rattle.cacache_core.specs.{declared.errors.Fault.{Fault}, PathNames.{Names}}
 use Rattle.cacache_store.specs.declared.store.answer.Kind.{Kind}
 use Rattle.cacache_store.specs.declared.store.answer.Kind.TheVariants as kinds
-use Rattle.cacache_disk.specs.{declared.node.Node.{Node, TheVariants.{Folder, File, Link}}, Tree.{Tree, look}, LedTo.{and_then, place, folder, standing, where_there, where_folder}}
+use Rattle.cacache_disk.specs.{declared.node.Node.{Node, TheVariants.{Folder}}, Tree.{Tree, look}, LedTo.{and_then, place, folder, standing, where_there, where_folder}}
 use Rattle.cacache_system.specs.{declared.call.{FileInfo.{FileInfo}, CallResult.{CallResult}}, CallsOf.{Stage, over, comparing, descending, descend, compared, is_same_node, if_folder, after}, AnswersOf.{Hint, no_hint, is_missing, was_named, in_walk, rewrites, look_first, misses}}
 use Rattle.cacache_system.specs.declared.call.SystemCall.TheVariants as asks
 use Rattle.cacache_system.specs.declared.call.CallResult.TheVariants as says
@@ -14,10 +14,8 @@ use Rattle.cacache_system_model.specs.{Machine.{Machine, Describes, ShowsEnd, Sh
 use Rattle.cacache_system_model.proofs.{Leading.{Claim, over_leads, call_leads}, Claims.{way_of, cases_of}, Opening.{said_leads, of_some}}
 
 folder_names : (o : Option Node) (names n : Names) → where_folder o names ≡ Ok n → (o ≡ Some Folder) × (names ≡ n)
-folder_names None names n is = absurd cc
 folder_names (Some Folder) names n is = (refl, cc)
-folder_names (Some (File bytes)) names n is = absurd cc
-folder_names (Some (Link target)) names n is = absurd cc
+folder_names o names n is = absurd cc
 
 stands_from : (t : Tree) (r : Result Names Fault) (n : Names) → and_then r (λ names. where_folder (look t names) names) ≡ Ok n
     → (and_then r (λ names. where_there (look t names) names) ≡ Ok n) × (look t n ≡ Some Folder)

@@ -53,10 +53,8 @@ no_more_at t names (Some (File bytes)) is fits none = lengthened_none t names by
 no_more_at t names (Some (Link target)) is fits none = absurd (none target refl)
 
 no_folder_names : (o : Option Node) (names n : Names) → where_no_folder o names ≡ Ok n → names ≡ n
-no_folder_names None names n is = cc
 no_folder_names (Some Folder) names n is = absurd cc
-no_folder_names (Some (File bytes)) names n is = cc
-no_folder_names (Some (Link target)) names n is = cc
+no_folder_names o names n is = cc
 
 -- if a path can be written, it leads, and no folder is there
 pub writable_at : (t : Tree) (path : List ℕ) (names : Names) → writable t path ≡ Ok names → (leads t path ≡ Ok names) × (where_no_folder (look t names) names ≡ Ok names)

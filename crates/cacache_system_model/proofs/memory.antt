@@ -1,5 +1,5 @@
 mod Empty
-mod Places
+pub mod Places
 mod Steps
 mod Looks
 mod Moves

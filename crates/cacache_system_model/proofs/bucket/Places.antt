@@ -1,7 +1,7 @@
 -- At each place among events the file's entries are the whole ones.
 use Rattle.std.proofs.Common.{◌≡◌, ◌≤◌, ◌==◌, ◌⊎◌, inl, inr, length, length-append, ℕ, Bool, true, false, if◌then◌else◌, arith, List, [], ◌∷◌, ◌++◌, Option, None, Some, IfSome, option_map, refl, sym, ap, subst, ◌∙◌, append-nil, append_assoc, ⊎_elim}
 use Rattle.cacache_entry.specs.{Entry.{closed_line}, FittingEntries.{IsEntry, IsWritable}, Bucket.{entries_of}}
-use Rattle.cacache_system_model.specs.bucket.File.{IsBeginning, LineWrite, BucketFile, Event, OpensToAppend, Starts, Shows, Answers, Stops, Opens, Reads, Ends, bytes_to_write, idle, with_visible, with_read, next, file_after, MayHappen, Happen, held, completed_by, completed, all_completed}
+use Rattle.cacache_system_model.specs.bucket.File.{IsBeginning, LineWrite, BucketFile, Event, OpensToAppend, Starts, Shows, Opens, Reads, Ends, bytes_to_write, idle, with_visible, with_read, next, file_after, MayHappen, Happen, held, completed_by, completed, all_completed}
 use Rattle.cacache_system_model.proofs.bucket.Parts.{begins_more, begins_all, begins_shorter, begins_within, begins_less, part_adds, held_further, either_completed}
 
 -- ---- what holds at each place
@@ -61,13 +61,12 @@ next_sound s (Shows bytes) can sound = record {
   part = subst (λ o. IfSome (option_map (with_visible bytes) o) (IsPart (s.bytes ++ bytes))) (sym can.1) (shown_part s.bytes bytes can.0 (part_of s can.0 can.1 sound) can.2);
   read = λ reader. if_more (s.read reader) s.bytes bytes (sound.read reader);
 }
-next_sound s (Answers process count) can sound = record { part = tt; read = sound.read }
-next_sound s (Stops process) can sound = record { part = tt; read = sound.read }
 next_sound s (Opens reader) can sound = read_sound s reader (Some []) (s.bytes, refl) sound
 next_sound s (Reads reader bytes) can sound =
     let more = λ (before : List ℕ). before ++ bytes in
     read_sound s reader (option_map more (s.read reader)) (subst (λ o. IfSome (option_map more o) (λ b. IsBeginning b s.bytes)) (sym can.1) can.2) sound
 next_sound s (Ends reader) can sound = read_sound s reader None tt sound
+next_sound s e can sound = record { part = tt; read = sound.read }
 
 -- ---- the entries
 

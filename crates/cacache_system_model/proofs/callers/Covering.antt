@@ -7,9 +7,9 @@ use Rattle.cacache_store.specs.Plain.{PlainAnswer}
 use Rattle.cacache_disk.specs.{declared.node.Node.{Node, TheVariants.{Folder, File, Link}}, Tree.{Tree, look}, LedTo.{and_then, standing, followed, leads, place, on_link, writable}, Rooted.{StandsIn, AreProper, Rooted}}
 use Rattle.cacache_disk.proofs.{FoundNodes.{and_then_ok, place_ok, standing_ok}, Standing.{way_clear}}
 use Rattle.cacache_system.specs.{Seen.{NumberedTemp, NumberedStep, NumberedAnswer}, CallsOf.{Runs}, AnswersOf.{Hint, first}}
-use Rattle.cacache_system_model.specs.{Machine.{Machine}, Calls.{OccursSomehow, EachCall}, Laws.{step_on, LeavesFresh}, Making.{HasNoLink}, Syncing.{EndsInNoLink}, OneCall.{StillStands}, Premises.{IsStill, Premise, HasPlainLaw}, Mirrors.{hollow, Mirrors, IsNoTemp, SparesOpen}, Chains.{StepMade, WritesTemp, IsMade}, callers.{Acts.{Act, begins, steps as makes, ends, stops, SystemState, EndsFailed, step_of, NeedsFit, MakesStep, MayAct}, Made.{AreTemps}, Storing.{IsNotFor, Stores, IsHeld, HoldsTemp, HintStands, IsExplained, MakesStoringStep, MayStore, StoringMakeHistories}}}
+use Rattle.cacache_system_model.specs.{Machine.{Machine}, Calls.{OccursSomehow, EachCall}, Laws.{step_on, LeavesFresh}, Making.{HasNoLink}, Syncing.{EndsInNoLink}, OneCall.{StillStands}, Premises.{IsStill, Premise, HasPlainLaw}, Mirrors.{hollow, Mirrors, IsNoTemp, SparesOpen}, Chains.{StepMade, WritesTemp, IsMade}, callers.{Acts.{Act, steps as makes, SystemState, EndsFailed, step_of, NeedsFit, MakesStep, MayAct}, Made.{AreTemps}, Storing.{IsNotFor, Stores, IsHeld, HoldsTemp, HintStands, IsExplained, MakesStoringStep, MayStore, StoringMakeHistories}}}
 use Rattle.cacache_system_model.proofs.{Mirroring.{SameShape, shapes, leads_same, writable_same}, callers.Following.{Agree, has_call, make_histories}}
-use Rattle.cacache_value.specs.{Kinds.{PathKind, Content, Bucket, Temporary, Way, Stray, Elsewhere, path_kind, is_used, IsFor}, OpeningTrees.{LieApart}, Placed.{MayStand, Placed, Proper}}
+use Rattle.cacache_value.specs.{Kinds.{PathKind, Content, Bucket, Temporary, Way, Elsewhere, path_kind, is_used, IsFor}, OpeningTrees.{LieApart}, Placed.{MayStand, Placed, Proper}}
 use Rattle.cacache_value.proofs.{KindsApart.{above}, FoundPaths.{of_names, suits, Reaches, found, missing, bucket_reached, unreachable}}
 use Rattle.cacache_calls.specs.{declared.reply.Reply.{Reply}, Table.{wants}}
 use Rattle.cacache_history.{specs.{Setup.{Setup, home}, History.{Now}}, proofs.{Histories.Holding.{of_caller}, Proper.{sound_proper}}}
@@ -35,9 +35,8 @@ hollow_file (Some (File bytes)) e = (bytes, refl)
 hollow_file (Some (Link target)) e = let no : Some (Link target) ≡ Some (File []) = e in absurd cc
 
 hollow_none : (n : Node) → hollow (Some n) ≡ None → ⊥
-hollow_none Folder e = let no : Some Folder ≡ None = e in cc
 hollow_none (File bytes) e = let no : Some (File []) ≡ None = e in cc
-hollow_none (Link target) e = let no : Some (Link target) ≡ None = e in cc
+hollow_none n e = let no : Some n ≡ None = e in cc
 
 same_stands : (ut ct ud cd : Option Node) → hollow ud ≡ hollow ut → hollow cd ≡ hollow ct → StandsIn ud cd → StandsIn ut ct
 same_stands ut None ud cd u c s = tt
@@ -79,11 +78,8 @@ module _ (h : Option Names) (t d : Tree) (s : SameShape t d) (placed : Placed h 
 
 link_out : (h : Option Names) (target : List ℕ) (k : PathKind) → MayStand h (Some (Link target)) k → IsFor h Elsewhere target
 link_out h target Content s = s
-link_out h target Bucket s = absurd s
-link_out h target Temporary s = absurd s
-link_out h target Way s = absurd s
-link_out h target Stray s = absurd s
 link_out h target Elsewhere s = s
+link_out h target k s = absurd s
 
 -- a path leads to its own names, or out of the cache
 abbrev LedOut : Option Names → Names → Names → Type 0
@@ -92,10 +88,8 @@ LedOut h names new = (names ≡ new) ⊎ (path_kind h new ≡ Elsewhere)
 on_kind : (h : Option Names) (here : Option Node) (k : PathKind) (names new : Names) (go : List ℕ → Result Names Fault) → MayStand h here k
     → ((target : List ℕ) → IsFor h Elsewhere target → go target ≡ Ok new → path_kind h new ≡ Elsewhere)
     → on_link here names go ≡ Ok new → LedOut h names new
-on_kind h None k names new go s on e = inl cc
-on_kind h (Some Folder) k names new go s on e = inl cc
-on_kind h (Some (File bytes)) k names new go s on e = inl cc
 on_kind h (Some (Link target)) k names new go s on e = inr (on target (link_out h target k s) e)
+on_kind h here k names new go s on e = inl cc
 
 end_kind : (h : Option Names) (names new : Names) → path_kind h names ≡ Elsewhere → LedOut h names new → path_kind h new ≡ Elsewhere
 end_kind h names new k (inl same) = sym (ap (path_kind h) same) ∙ k
@@ -230,10 +224,8 @@ module _ (s : Setup) (apart : LieApart (home s) s.outside) (w : SystemState) (no
       }
 
   pub may_act : (act : Act) → MayStore s w act → MayAct s w act
-  may_act (begins caller command) may = may
   may_act (makes caller made reply) may = makes_step caller made reply may
-  may_act (ends caller reply) may = may
-  may_act (stops caller) may = may
+  may_act act may = may
 
 pub storing_makes_histories : StoringMakeHistories
 storing_makes_histories = make_histories MayStore (λ s apart w now agree act may. may_act s apart w now agree act may)

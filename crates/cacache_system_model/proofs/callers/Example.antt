@@ -29,9 +29,8 @@ abbrev info_of : Node → ℕ × ℕ → FileInfo
 info_of node inode = record { kind = kind_of node; regular = is_regular node; size = size_of node; inode = inode.0; device = inode.1; mode = 0; owner = 0; group = 0 }
 
 described : (node : Node) (inode : ℕ × ℕ) → Describes node inode (info_of node inode)
-described Folder inode = record { kind = refl; regular = refl; size = tt; number = refl }
 described (File bytes) inode = record { kind = refl; regular = refl; size = refl; number = refl }
-described (Link target) inode = record { kind = refl; regular = refl; size = tt; number = refl }
+described node inode = record { kind = refl; regular = refl; size = tt; number = refl }
 
 no_failure : (info : FileInfo) → says.Info info ≡ says.Failed kind.OutOfMemory → ⊥
 no_failure info e = cc

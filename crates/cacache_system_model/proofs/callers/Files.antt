@@ -125,11 +125,10 @@ synced_given a file e = absurd cc
 
 found_free : (l : Lookup) (aim : Aim) (found : Option Found) → IsAim aim → IsFree (found_for l aim found)
 found_free l aims.Report found is = (tt, refl)
-found_free l aims.Read None is = (tt, refl)
 found_free l aims.Read (Some f) is = (tt, refl)
-found_free l aims.Remove None is = (tt, refl)
 found_free l aims.Remove (Some f) is = (tt, refl)
 found_free l (aims.Export x) found is = absurd is
+found_free l aim None is = (tt, refl)
 
 unread_free : (l : Lookup) (fault : Fault) → IsAim l.aim → IsFree (no_bucket l fault)
 unread_free l faults.NotFound is = found_free l l.aim None is

@@ -37,8 +37,6 @@ apply_fits t (steps.Persist f p) luck n =
     unless_fits (steps.Persist f p) t (kept t f.path) _ (λ y. unless_fits (steps.Persist f p) t (replaceable t p) _ (λ z. tt))))
 apply_fits t (steps.Append p bytes) luck n = plain_fits t (steps.Append p bytes) luck (λ most. unless_fits (steps.Append p bytes) t (writable t p) _ (λ x. taken_below most bytes))
 apply_fits t (steps.ReadAll p) luck n = plain_fits t (steps.ReadAll p) luck (λ most. unless_fits (steps.ReadAll p) t (file_at t p fault.IsADirectory) _ (λ x. tt))
-apply_fits t (steps.Open p) luck n = n
-apply_fits t (steps.Read f size) luck n = n
 apply_fits t (steps.Exists p) luck n = plain_fits t (steps.Exists p) luck (λ most. there_fits p (found t p))
 apply_fits t (steps.Size p) luck n = plain_fits t (steps.Size p) luck (λ most. unless_fits (steps.Size p) t (file_at t p fault.IsADirectory) _ (λ x. tt))
 apply_fits t (steps.Symlink target p) luck n = plain_fits t (steps.Symlink target p) luck (λ most. unless_fits (steps.Symlink target p) t (free t p) _ (λ x. tt))
@@ -48,12 +46,12 @@ apply_fits t (steps.Reflink p q) luck n =
     plain_fits t (steps.Reflink p q) luck (λ most. unless_fits (steps.Reflink p q) t (free t q) _ (λ x. unless_fits (steps.Reflink p q) t (file_at t p fault.IsADirectory) _ (λ y. tt)))
 apply_fits t (steps.HardLink p q) luck n =
     plain_fits t (steps.HardLink p q) luck (λ most. unless_fits (steps.HardLink p q) t (free t q) _ (λ x. unless_fits (steps.HardLink p q) t (linked t p) _ (λ y. tt)))
-apply_fits t (steps.ReadDir p) luck n = n
 apply_fits t (steps.RemoveFile p) luck n = plain_fits t (steps.RemoveFile p) luck (λ most. unless_fits (steps.RemoveFile p) t (removable t p) _ (λ x. tt))
 apply_fits t (steps.RemoveDir p) luck n = plain_fits t (steps.RemoveDir p) luck (λ most. unless_fits (steps.RemoveDir p) t (emptied t p) _ (λ x. tt))
 apply_fits t (steps.SyncTemp f) luck n = plain_fits t (steps.SyncTemp f) luck (λ most. refl)
 apply_fits t (steps.SyncFile p) luck n = plain_fits t (steps.SyncFile p) luck (λ most. unless_fits (steps.SyncFile p) t (file_at t p fault.IsADirectory) _ (λ x. tt))
 apply_fits t (steps.SyncDir p) luck n = plain_fits t (steps.SyncDir p) luck (λ most. unless_fits (steps.SyncDir p) t (folder t p) _ (λ x. tt))
+apply_fits t step luck n = n
 
 pub fits_so : (t : Tree) (step : PlainStep) (luck : Luck) (a : PlainAnswer) → a ≡ (apply t step luck).0 → NeedsFit step a → Fits step a
 fits_so t step luck a is n = subst (Fits step) (sym is) (apply_fits t step luck (subst (NeedsFit step) is n))

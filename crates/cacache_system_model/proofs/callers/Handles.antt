@@ -10,7 +10,8 @@ use Rattle.cacache_value.proofs.Shows.{apply_answer}
 use Rattle.cacache_system.specs.{declared.call.CallResult.{CallResult}, Seen.{NumberedTemp, NumberedStep, NumberedAnswer}, AnswersOf.{answer_of, refuses_memory}}
 use Rattle.cacache_system.specs.declared.call.CallResult.TheVariants as says
 use Rattle.cacache_system_model.specs.{Machine.{OpenFile, Machine}, Laws.{bytes_in, temp_on, step_on, answer_on}, Mirrors.{Mirrors, temps_after}, callers.{Storing.{Stores, IsHeld, HoldsTemp}, Opened.{IsOpenAt, KeepsOpen, StillStores}, Seen.{step_seen, handed, IsOnHeld}}}
-use Rattle.cacache_system_model.proofs.callers.{WithoutBytes.{step_without}, TreeKept.{IsStoring}, Failing.{answer_if}, Covering.{still_there}, Files.{file_of, file_given}, PathsOf.{StepApart}, OpenTemps.{with_new_here}}
+use Rattle.cacache_system_model.proofs.callers.{WithoutBytes.{step_without}, TreeKept.{IsStoring}, Failing.{answer_if}, Covering.{still_there}, Files.{file_of, file_given}, PathsOf.{StepApart}, OpenTemps.{with_new_here}, OpenCalls.{names_at}}
+use Rattle.cacache_folder.proofs.Answering.{temp_of}
 
 -- ---- handles
 
@@ -21,10 +22,7 @@ pub record Handle (temps : Names → Bool) (m : Machine) (o : Option NumberedTem
   pub held : IsHeld temps m temp
   pub same : temp_on m temp ≡ file
 
-abbrev at_names_of : OpenFile → Names
-at_names_of file = file.names
-
-bytes_same : (m n : Machine) (o p : Option OpenFile) (q : Names) → option_map at_names_of o ≡ Some q → option_map at_names_of p ≡ Some q → look n.tree q ≡ look m.tree q
+bytes_same : (m n : Machine) (o p : Option OpenFile) (q : Names) → option_map names_at o ≡ Some q → option_map names_at p ≡ Some q → look n.tree q ≡ look m.tree q
     → option_map (bytes_in n) p ≡ option_map (bytes_in m) o
 bytes_same m n None p q e f same = let no : None ≡ Some q = e in absurd cc
 bytes_same m n (Some a) None q e f same = let no : None ≡ Some q = f in absurd cc
@@ -124,22 +122,14 @@ never_synced step fault true t e = cc
 never_synced step fault false t e = cc
 
 pub wrote_same : (t u : NumberedTemp) (bytes : List ℕ) (end : CallResult) (n : ℕ) → answer_of (steps.Write t bytes) end ≡ answers.Wrote u n → t ≡ u
-wrote_same t u bytes says.Done n e = absurd cc
-wrote_same t u bytes (says.Opened k) n e = absurd cc
 wrote_same t u bytes (says.Count k) n e = cc
-wrote_same t u bytes (says.Bytes b) n e = absurd cc
-wrote_same t u bytes (says.Info i) n e = absurd cc
-wrote_same t u bytes (says.Names l) n e = absurd cc
 wrote_same t u bytes (says.Failed why) n e = absurd (never_wrote (steps.Write t bytes) (fault_of why) (refuses_memory why && not false) u n e)
+wrote_same t u bytes end n e = absurd cc
 
 pub synced_same : (t u : NumberedTemp) (end : CallResult) → answer_of (steps.SyncTemp t) end ≡ answers.Synced u → t ≡ u
 synced_same t u says.Done e = cc
-synced_same t u (says.Opened k) e = absurd cc
-synced_same t u (says.Count k) e = absurd cc
-synced_same t u (says.Bytes b) e = absurd cc
-synced_same t u (says.Info i) e = absurd cc
-synced_same t u (says.Names l) e = absurd cc
 synced_same t u (says.Failed why) e = absurd (never_synced (steps.SyncTemp t) (fault_of why) (refuses_memory why && not true) u e)
+synced_same t u end e = absurd cc
 
 temp_there : (p : List ℕ) (t : Tree) (r : Result Names Fault) (f : PlainTemp) → ((names : Names) → r ≡ Ok names → names_of p ≡ Ok names)
     → (new : Names → Tree) → (unless r t (λ names. (answers.Temp (made_temp p), new names))).0 ≡ answers.Temp f → (names : Names) × (names_of p ≡ Ok names)
@@ -184,22 +174,15 @@ handed_none n (answers.Wrote u k) o e = let no : Some (temp_on n u) ≡ None = e
 handed_none n (answers.Synced u) o e = let no : Some (temp_on n u) ≡ None = e in absurd cc
 handed_none n answer o e = refl
 
-abbrev made_at : ℕ → List ℕ → NumberedTemp
-made_at number path = record { number = number; path = path }
-
 never_temp : (step : NumberedStep) (fault : Fault) (b : Bool) (u : NumberedTemp) → answer_if step fault b ≡ answers.Temp u → ⊥
 never_temp step fault true u e = cc
 never_temp step fault false u e = cc
 
 pub temp_answer : (p : List ℕ) (u : NumberedTemp) (end : CallResult) → answer_of (steps.CreateTemp p) end ≡ answers.Temp u → (end ≡ says.Opened u.number) × (u.path ≡ p)
-temp_answer p u says.Done e = absurd cc
 temp_answer p u (says.Opened k) e =
-    let same : made_at k p ≡ u = cc in (ap (λ (x : NumberedTemp). says.Opened x.number) same, ap (λ (x : NumberedTemp). x.path) (sym same))
-temp_answer p u (says.Count k) e = absurd cc
-temp_answer p u (says.Bytes b) e = absurd cc
-temp_answer p u (says.Info i) e = absurd cc
-temp_answer p u (says.Names l) e = absurd cc
+    let same : temp_of k p ≡ u = cc in (ap (λ (x : NumberedTemp). says.Opened x.number) same, ap (λ (x : NumberedTemp). x.path) (sym same))
 temp_answer p u (says.Failed why) e = absurd (never_temp (steps.CreateTemp p) (fault_of why) (refuses_memory why && not true) u e)
+temp_answer p u end e = absurd cc
 
 -- a step's temporary file still stands
 pub still_stores : (h : Option Names) (temps : Names → Bool) (m : Machine) (d : Tree) → Mirrors temps m.tree d → Rooted m.tree → (step : NumberedStep) → Stores h step → HoldsTemp temps m step → StillStores m step

@@ -71,11 +71,10 @@ ReadLeft m n = KeepsOpen m n × (n.tree ≡ m.tree)
 
 file_read : (pick : List ℕ → List ℕ) (number : ℕ) (file : OpenFile) (here : Option Node) (m n : Machine) (said : CallResult) → m.files number ≡ Some file → CanRead here
     → ReadsFile pick number file here m said n → ReadLeft m n
-file_read pick number file None m n said is can h = absurd can
 file_read pick number file (Some Folder) m n said is can (why, is_said, of, memory, stays) = (keeps_self m n stays, ap (λ (x : Machine). x.tree) stays)
 file_read pick number file (Some (File bytes)) m n said is can (is_said, (tree, files, synced)) =
     (λ k at e. ap (λ (fs : ℕ → Option OpenFile). option_map names_at (fs k)) files ∙ read_keeps m.files number k _ file at (k == number) refl is refl e, tree)
-file_read pick number file (Some (Link target)) m n said is can h = absurd can
+file_read pick number file here m n said is can h = absurd can
 
 -- an open file, at which no link stands
 abbrev pub Readable : Machine → ℕ → Type 0

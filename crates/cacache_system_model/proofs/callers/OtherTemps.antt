@@ -6,7 +6,7 @@ use Rattle.cacache_store.specs.Plain.{PlainAnswer}
 use Rattle.cacache_disk.specs.{declared.{luck.Luck.TheVariants.{Plain}, node.Node.{Node, TheVariants.{Folder, File, Link}}}, Tree.{Tree, look, put, same_path}}
 use Rattle.cacache_disk.proofs.{Maps.{same_path-true}, PutNodes.{look-put}, Roots.{same_self}}
 use Rattle.cacache_loss.proofs.{StepCases.{put_misses, step_keeps}, UnchangedPaths.{at_names}}
-use Rattle.cacache_value.specs.{Kinds.{PathKind, Content, Bucket, Temporary, Way, Stray, Elsewhere, path_kind}, Placed.{MayStand, Placed, Proper}}
+use Rattle.cacache_value.specs.{Kinds.{PathKind, Temporary, Way, Stray, path_kind}, Placed.{MayStand, Placed, Proper}}
 use Rattle.cacache_calls.specs.declared.reply.Reply.{Reply}
 use Rattle.cacache_system.specs.{declared.call.{CallResult.{CallResult}, CallItem.{CallItem}}, Seen.{NumberedTemp, NumberedStep}, CallsOf.{Runs}, AnswersOf.{Hint, first, answer_of}}
 use Rattle.cacache_system.specs.declared.call.CallResult.TheVariants as says
@@ -17,12 +17,9 @@ use Rattle.cacache_system_model.proofs.{Covered.{each_may_break, each_goes_plain
 -- ---- the machine's tree is one of the cache's too
 
 file_stand : (h : Option Names) (a b : List ℕ) (k : PathKind) → MayStand h (Some (File a)) k → MayStand h (Some (File b)) k
-file_stand h a b Content s = tt
-file_stand h a b Bucket s = tt
-file_stand h a b Temporary s = tt
 file_stand h a b Way s = s
 file_stand h a b Stray s = s
-file_stand h a b Elsewhere s = tt
+file_stand h a b k s = tt
 
 same_stand : (h : Option Names) (k : PathKind) (ot od : Option Node) → hollow od ≡ hollow ot → MayStand h od k → MayStand h ot k
 same_stand h k None od c s = tt

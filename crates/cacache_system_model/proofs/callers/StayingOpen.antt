@@ -6,13 +6,12 @@ use Rattle.cacache_core.specs.PathNames.{Names, names_of}
 use Rattle.cacache_store.specs.declared.store.answer.Kind.{Kind}
 use Rattle.cacache_store.specs.declared.store.answer.Kind.TheVariants as kinds
 use Rattle.cacache_store.specs.declared.store.step.Step.TheVariants as steps
-use Rattle.cacache_disk.specs.{declared.{luck.Luck.TheVariants.{Plain, Fail, Take}, node.Node.TheVariants.{File}}, Tree.{Tree, put}, LedTo.{way_fault, place, free}}
-use Rattle.cacache_disk.proofs.FoundNodes.{free_ok}
+use Rattle.cacache_disk.{specs.{declared.{luck.Luck.TheVariants.{Plain, Fail, Take}, node.Node.TheVariants.{File}}, Tree.{Tree, put}, LedTo.{free}}, proofs.FoundNodes.{free_ok}}
 use Rattle.cacache_system.specs.{declared.call.{FileInfo.{FileInfo}, SystemCall.{SystemCall}, CallItem.{CallItem}, CallResult.{CallResult}}, Seen.{NumberedTemp, NumberedStep}, CallsOf.{Stage, Purpose, to_give, to_sync, to_sync_folder, to_read, over, only, trying, taking_memory, opening, checking, reading_front, reading_rest, appending, standing as asking_folder, making, confirming, wants, after, was_interrupted, interrupts, is_absent, is_same_node, unless_folder, if_folder, opened, below, climb, unmade, above_of, keeping, preparing, comparing, descending, sync_again, give, descend, compared, Runs}, AnswersOf.{Hint, no_hint, is_missing, was_named, in_walk, rewrites, look_first, persist, first}}
 use Rattle.cacache_system.specs.declared.call.SystemCall.TheVariants as asks
 use Rattle.cacache_system.specs.declared.call.CallResult.TheVariants as says
 use Rattle.cacache_system_model.specs.{Machine.{Machine, OpensIf}, Calls.{OccursSomehow, EachCall}, callers.Opened.{IsOpenAt, KeepsOpen, StillStores, RunsKeepOpen}}
-use Rattle.cacache_system_model.proofs.callers.OpenCalls.{Moves, keeps_same, keeps_self, Readable, IsOpenNumber, Safe, occurs_keep, front_left, rest_left, stat_left, readable_on, Unchanged, look_left, link_look_left, Readies, readied, open_ready, append_ready, opens_number}
+use Rattle.cacache_system_model.proofs.{callers.OpenCalls.{Moves, keeps_same, keeps_self, Readable, IsOpenNumber, Safe, occurs_keep, front_left, rest_left, stat_left, readable_on, Unchanged, look_left, link_look_left, Readies, readied, open_ready, append_ready, opens_number}, memory.Places.{place_led}}
 
 -- ---- stages
 
@@ -223,17 +222,13 @@ persist_safe was_named temp path m open_file later = later m (refl, refl)
 persist_safe (in_walk node last entered) temp path m open_file later = later m (refl, refl)
 persist_safe (rewrites synced hint) temp path m open_file later = (open_file, λ n same. look_safe hint (only (asks.Rename temp.path path)) n (later n same))
 
-placed_at : (t : Tree) (path : List ℕ) (names : Names) → names_of path ≡ Ok names → way_fault t [] names ≡ None → place t path ≡ Ok names
-unfolding place
-placed_at t path names named way = rw (named, way) refl
-
 first_safe : (hint : Hint) (step : NumberedStep) (m : Machine) → StillStores m step → IsSafe (first hint step) m
 first_safe hint (steps.MakeDirs p) m h = dirs_safe hint p m
 first_safe hint (steps.CreateTemp p) m h = tt
 first_safe hint (steps.Write t bytes) m (names, old, still) = (names, still.opened)
 first_safe hint (steps.Persist t p) m (names, old, still) =
     persist_safe hint t p m (names, still.opened)
-    (λ n same. subst (λ (x : Tree). Moves x t.path) (sym same.0) (names, old, placed_at m.tree t.path names still.named still.way, still.stands))
+    (λ n same. subst (λ (x : Tree). Moves x t.path) (sym same.0) (names, old, place_led m.tree t.path names still.named still.way, still.stands))
 first_safe hint (steps.Append p bytes) m h = look_safe hint (appending p bytes) m tt
 first_safe hint (steps.ReadAll p) m h = tt
 first_safe hint (steps.Exists p) m h = tt

@@ -45,11 +45,10 @@ places_without c = places P (λ reply. refl) (λ folder i. refl) c
 
 found_without : (l : Lookup) (aim : Aim) (found : Option Found) → IsAim aim → P (found_for l aim found)
 found_without l aims.Report found is = refl
-found_without l aims.Read None is = refl
 found_without l aims.Read (Some f) is = refl
-found_without l aims.Remove None is = refl
 found_without l aims.Remove (Some f) is = refl
 found_without l (aims.Export x) found is = absurd is
+found_without l aim None is = refl
 
 unread_without : (l : Lookup) (fault : Fault) → IsAim l.aim → P (no_bucket l fault)
 unread_without l faults.NotFound is = found_without l l.aim None is

@@ -4,7 +4,7 @@ use Rattle.std.specs.Prelude.{◌⊎◌, ⊤, Option, None, Some, Result, Ok, Er
 use Rattle.std_io.specs.declared.io.kind.ErrorKind.{ErrorKind}
 use Rattle.std_io.specs.declared.io.kind.ErrorKind.TheVariants as kind
 use Rattle.cacache_core.specs.{Contexts.{fault_of}, declared.errors.Fault.{Fault, TheVariants.{Unsupported, ShortAppend, Closed, OtherBytes, Cancelled}}, PathNames.{Names}}
-use Rattle.cacache_disk.specs.{declared.{node.Node.{Node, TheVariants.{Folder, File, Link}}, stop.Stop.{Stop}}, Tree.{Tree, look, put, cut}}
+use Rattle.cacache_disk.specs.{declared.{node.Node.{Node, TheVariants.{File, Link}}, stop.Stop.{Stop}}, Tree.{Tree, look, put, cut}}
 use Rattle.cacache_disk.specs.declared.stop.Stop.TheVariants as stop
 use Rattle.cacache_system.specs.{declared.call.{FileInfo.{FileInfo}, CallResult.{CallResult}}, AnswersOf.{refuses_memory}}
 use Rattle.cacache_system.specs.declared.call.CallResult.TheVariants as says
@@ -82,10 +82,9 @@ goes_from : (t u : Tree) (files : List OpenFile) (old : Names) (here : Option No
     → out ≡ outcome (λ _. says.Done) done → MovedNode old here ends done t u
     → (MovesNode old here ends (machine t files) out (machine u files) ⊎ GivesUp kind.OutOfMemory (machine t files) out (machine u files))
     ⊎ GivesUp kind.Unsupported (machine t files) out (machine u files)
-goes_from t u files old None ends done out can is change = inl (inl tt)
-goes_from t u files old (Some Folder) ends done out can is change = inl (inl tt)
 goes_from t u files old (Some (File bytes)) ends done out can is change = inl (goes_changed t u files ends (λ new. put (cut t old) new (File bytes)) done out can is change)
 goes_from t u files old (Some (Link target)) ends done out can is change = nested (kept_link t u files done out is change)
+goes_from t u files old here ends done out can is change = inl (inl tt)
 
 pub goes_moved : (t u : Tree) (files : List OpenFile) (from : Result Names Fault) (ends : Result Names Fault) (done : Result ⊤ Stop) (out : CallResult) → Sayable from → Sayable ends
     → out ≡ outcome (λ _. says.Done) done
@@ -97,9 +96,8 @@ goes_moved t u files (Ok old) ends done out first can is change = goes_from t u 
 goes_moved t u files (Err fault) ends done out first can is change = inl (goes_changed t u files (Err fault) (λ names. t) done out first is change)
 
 described : (node : Node) → Describes node (0, 0) (info_of node)
-described Folder = record { kind = refl; regular = refl; size = tt; number = refl }
 described (File bytes) = record { kind = refl; regular = refl; size = refl; number = refl }
-described (Link target) = record { kind = refl; regular = refl; size = tt; number = refl }
+described node = record { kind = refl; regular = refl; size = tt; number = refl }
 
 describes : (here : Option Node) (info : FileInfo) → IsSomeAnd here (λ node. info ≡ info_of node) → IfSome here (λ node. Describes node (0, 0) info)
 describes None info is = tt

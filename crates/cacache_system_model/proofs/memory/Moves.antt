@@ -1,8 +1,8 @@
 -- Hard links and moves, which first look at their source.
-use Rattle.std.{proofs.Common.{◌≡◌, ℕ, List, refl, sym, ap}, specs.Prelude.{⊤, Option, None, Some, Result, Ok, Err, MatchResult, IsOk, IsOkAnd}}
+use Rattle.std.{proofs.Common.{◌≡◌, ℕ, List, refl, sym, ap}, specs.Prelude.{⊤, Option, Some, Result, Ok, Err, MatchResult, IsOk, IsOkAnd}}
 use Rattle.cacache_core.specs.{declared.errors.Fault.{Fault}, PathNames.{Names}}
 use Rattle.cacache_store.specs.declared.store.step.Step.TheVariants as steps
-use Rattle.cacache_disk.specs.{declared.{node.Node.{Node, TheVariants.{Folder, File, Link}}, stop.Stop.{Stop}}, Tree.{Tree, look, put, cut}, LedTo.{place, free, replaceable, kept, linked, linked_in}, Apply.{apply}, Stops.{Stops}}
+use Rattle.cacache_disk.specs.{declared.{node.Node.{Node, TheVariants.{File, Link}}, stop.Stop.{Stop}}, Tree.{Tree, look, put, cut}, LedTo.{place, free, replaceable, kept, linked, linked_in}, Apply.{apply}, Stops.{Stops}}
 use Rattle.cacache_disk.specs.declared.stop.Stop.TheVariants as stop
 use Rattle.cacache_system_model.specs.{memory.Changes.{Does, Changed, Linked, Movable, Moved, MovedNode, IsUnmoved, Stopped, link_stop}, Machine.{link_fault}}
 use Rattle.cacache_system_model.proofs.memory.Steps.{changes, place_parts}
@@ -42,16 +42,14 @@ links t u from to done ok does = links_node t u from to done (linked t from) ref
 -- ---- moves
 
 refused_move : (t : Tree) (old : Names) (here : Option Node) (ends : Result Names Fault) → MovedNode old here ends (Err stop.OutOfMemory) t t
-refused_move t old None ends = tt
-refused_move t old (Some Folder) ends = tt
 refused_move t old (Some (File bytes)) ends = refl
 refused_move t old (Some (Link target)) ends = refl
+refused_move t old here ends = tt
 
 unmoved_at : (t : Tree) (old : Names) (here : Option Node) (ends : Result Names Fault) (fault : Fault) → IsUnmoved here fault → MovedNode old here ends (Err (stop.Fault fault)) t t
-unmoved_at t old None ends fault e = tt
-unmoved_at t old (Some Folder) ends fault e = tt
 unmoved_at t old (Some (File bytes)) ends fault e = absurd e
 unmoved_at t old (Some (Link target)) ends fault e = (ap Err (sym e), refl)
+unmoved_at t old here ends fault e = tt
 
 moves_none : (t : Tree) (to : List ℕ) (from : Result Names Fault)
     → MatchResult from (λ old. MovedNode old (look t old) (replaceable t to) (Err stop.OutOfMemory) t t) (λ fault. Stopped fault (Err stop.OutOfMemory) t t)

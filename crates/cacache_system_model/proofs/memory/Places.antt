@@ -30,9 +30,8 @@ way_next t names i h =
     rw (drop_here names i [] here, drop_here names (i + 1) [] h, front_next names i [] here) refl
 
 way_short : (t : Tree) (above rest : Names) → length rest ≤ 1 → way_fault t above rest ≡ None
-way_short t above [] h = refl
-way_short t above (name ∷ []) h = refl
 way_short t above (name ∷ next ∷ rest) h = absurd (omega (arith, h))
+way_short t above rest h = refl
 
 -- after the last folder nothing is asked
 pub way_over : (t : Tree) (names : Names) (i : ℕ) → length names ≤ i + 1 → way_fault t (take i names) (drop i names) ≡ None

@@ -1,13 +1,13 @@
 -- What the disk's table says about the steps that stand for calls.
 use Rattle.std.proofs.{Common.{◌≡◌, ◌∙◌, ◌<◌, ◌==◌, ℕ, suc, false, List, [], ◌∷◌, ◌++◌, length, refl, sym, ap, subst, append_assoc, arith}, lemmas.Bool.Decides.{nat_tests}}
-use Rattle.std.specs.Prelude.{⊤, Option, None, Some, Result, Ok, Err}
+use Rattle.std.specs.Prelude.{⊤, None, Some, Result, Ok, Err}
 use Rattle.cacache_core.specs.{declared.errors.Fault.{Fault, TheVariants.{AlreadyExists}}, PathNames.{Names, names_of}}
 use Rattle.cacache_store.specs.{Plain.{PlainStep, PlainAnswer}, declared.store.answer.Answer.TheVariants.{Done, Failed}}
 use Rattle.cacache_store.specs.declared.store.step.Step.TheVariants as steps
-use Rattle.cacache_disk.specs.{declared.{luck.Luck.TheVariants.{Plain}, node.Node.{Node, TheVariants.{Folder, File, Link}}, stop.Stop.{Stop}}, Tree.{Tree, look, put, cut}, LedTo.{through, way_fault, or_fault, dirs_fault, dirs, place, free, removable, emptied}, Apply.{unless, apply, fault_told, make_some}, Rooted.{Rooted}, Stops.{Stops}}
+use Rattle.cacache_disk.specs.{declared.{luck.Luck.TheVariants.{Plain}, node.Node.{Node, TheVariants.{Folder, Link}}, stop.Stop.{Stop}}, Tree.{Tree, look, put, cut}, LedTo.{way_fault, or_fault, dirs_fault, dirs, place, free, removable, emptied}, Apply.{unless, apply, fault_told, make_some}, Rooted.{Rooted}, Stops.{Stops}}
 use Rattle.cacache_disk.proofs.FoundNodes.{and_then_ok, or_fault_none}
 use Rattle.cacache_disk.specs.declared.stop.Stop.TheVariants as stop
-use Rattle.cacache_system_model.specs.memory.Changes.{Does, Changed}
+use Rattle.cacache_system_model.{specs.memory.Changes.{Does, Changed}, proofs.Making.{through_folder}}
 
 clash : (fault : Fault) → Some fault ≡ None → ⊥
 clash fault e = cc
@@ -23,12 +23,11 @@ pub changes : {A : Type 0} (ends : Result A Fault) (new : A → Tree) (t u : Tre
     → apply t step Plain ≡ unless ends t (λ found. (Done, new found)) → Does t step done u → Changed ends new done t u
 changes (Ok found) new t u step (Ok done) is does = same_tree does.0 Done u (new found) (sym does.1 ∙ is)
 changes (Ok found) new t u step (Err (stop.Fault fault)) is does = absurd (clash fault (same_fault (Failed fault) Done u (new found) (sym does ∙ is)))
-changes (Ok found) new t u step (Err stop.OutOfMemory) is does = does
 changes (Err own) new t u step (Ok done) is does = absurd (clash own (sym (same_fault does.0 (Failed own) u t (sym does.1 ∙ is)) ∙ does.2))
 changes (Err own) new t u step (Err (stop.Fault fault)) is does =
     let e : Some fault ≡ Some own = same_fault (Failed fault) (Failed own) u t (sym does ∙ is) in
     (cc, same_tree (Failed fault) (Failed own) u t (sym does ∙ is))
-changes (Err own) new t u step (Err stop.OutOfMemory) is does = does
+changes ends new t u step (Err stop.OutOfMemory) is does = does
 
 pub removes_file : (t u : Tree) (path : List ℕ) (done : Result ⊤ Stop) → Does t (steps.RemoveFile path) done u → Changed (removable t path) (cut t) done t u
 unfolding apply
@@ -45,13 +44,6 @@ makes_link t u target path done does = changes (free t path) (λ names. put t na
 
 -- ---- a folder
 
--- a folder lets through
-through_ok : (here : Option Node) (later : Option Fault) → through here later ≡ None → (here ≡ Some Folder) × (later ≡ None)
-through_ok None later e = absurd cc
-through_ok (Some Folder) later e = (refl, e)
-through_ok (Some (File bytes)) later e = absurd cc
-through_ok (Some (Link target)) later e = absurd cc
-
 -- if nothing is at names and their folder is there, one folder is missing
 make_last : (t : Tree) (above rest whole : Names) (most : ℕ) → above ++ rest ≡ whole → 0 < length rest → way_fault t above rest ≡ None → look t whole ≡ None
     → (dirs_fault t above rest ≡ None) × (make_some t above rest (suc most) ≡ put t whole Folder)
@@ -61,7 +53,7 @@ make_last t above (name ∷ []) whole most same some way missing =
     let more : (suc most == 0) ≡ false = grind (arith, nat_tests) in
     (rw here refl, rw (here, more, same) refl)
 make_last t above (name ∷ next ∷ rest) whole most same some way missing =
-    let on = through_ok (look t (above ++ name ∷ [])) (way_fault t (above ++ name ∷ []) (next ∷ rest)) way in
+    let on = through_folder (look t (above ++ name ∷ [])) (way_fault t (above ++ name ∷ []) (next ∷ rest)) way in
     let more = make_last t (above ++ name ∷ []) (next ∷ rest) whole most (append_assoc above (name ∷ []) (next ∷ rest) ∙ same) (omega arith) on.1 missing in
     (rw on.0 more.0, rw on.0 more.1)
 
