@@ -8,10 +8,10 @@ use Rattle.cacache_store.specs.declared.store.step.Step.TheVariants as steps
 use Rattle.cacache_disk.specs.Tree.{Tree}
 use Rattle.cacache_calls.specs.{Runs.{Moves}, SingleSteps.{Does, FailsAt}, StepPaths.{temp_folder, temp_path}}
 use Rattle.cacache_value.{specs.Kinds.{PathKind, Temporary, path_kind}, proofs.KindsApart.{kind-below}}
-use Rattle.cacache_laws.specs.{Sequence.{AreAnswered}, trees.Compacting.{compact_text}}
+use Rattle.cacache_laws.{specs.{Sequence.{AreAnswered}, trees.Compacting.{compact_text}}, proofs.Calls.Handed.{writing_keeps}}
 use Rattle.cacache_loss.{specs.{Fixing.{is_at}, Moments.{Moment}}, proofs.UnchangedPaths.{at_false}}
 use Rattle.cacache_keep.specs.{Compacting.{Bucket, CompactsBucket, RewritesIf, StopsBucket, StopsUnchanged, is_loose}, Rewriting.{MakesTemp, Rewrites, StopsMaking, StopsMoving, StopsRewriting, StopsSyncingBucket, StopsWriting, SyncsBucket, Takes, TakesNone, Took, folder_of}}
-use Rattle.cacache_keep.proofs.{ApartSteps.{Apart, EachApart, apart_join}, MomentRuns.{Fixes, fixes_failed, fixes_step, fixes_then}, Rewritten.{Has, temp_made, temp_path_named, wrote_has, writes_keep, writes_take}}
+use Rattle.cacache_keep.proofs.{ApartSteps.{Apart, EachApart, apart_join}, MomentRuns.{Fixes, fixes_failed, fixes_step, fixes_then}, Rewritten.{Has, temp_made, temp_path_named, wrote_has, writes_take}}
 
 module _ (cache : List ℕ) (home : Names) (is : home_of cache ≡ Some home) (q : Names) (k : PathKind) (kind : path_kind (Some home) q ≡ k) (other : k ≡ Temporary → ⊥) where
   -- the text leads elsewhere
@@ -47,7 +47,7 @@ module _ (cache : List ℕ) (home : Names) (is : home_of cache ≡ Some home) (q
   writes_apart ((steps.Write f b, answers.Wrote g n) ∷ moves) t file last path had bytes rest spares takes a has =
       let here = subst (λ (x : PlainTemp). Has x path had) (sym takes.0) has in
       let next = wrote_has t f g b n path had here a.0 in
-      let then = subst (λ (u : Tree). AreAnswered u moves) (writes_keep t f b) a.1 in
+      let then = subst (λ (u : Tree). AreAnswered u moves) (writing_keeps t f b) a.1 in
       let more = writes_apart moves t g last path (had ++ take n bytes) (drop n bytes) rest spares takes.2 then (subst (λ (l : List ℕ). Has g path (had ++ take n l)) takes.1 next) in
       ((ap (λ p. is_at (names_of p) q) here.path_is ∙ spares, more.0), more.1)
   writes_apart moves t file last path had bytes rest spares takes a has = absurd takes

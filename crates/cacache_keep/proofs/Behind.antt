@@ -1,6 +1,5 @@
 -- A collection leaves a cache in which each key leads where it led, and so do exports and writes of other keys.
-use Rattle.std.proofs.Common.{◌≡◌, ◌⊎◌, inl, inr, ℕ, List, [], ◌∷◌, true, Option, None, Some, filter_map, refl, sym, ap, subst, ◌∙◌}
-use Rattle.std.specs.{Prelude.{Contains}, List.{cons_option}}
+use Rattle.std.proofs.Common.{◌≡◌, ◌⊎◌, inl, inr, ℕ, List, [], ◌∷◌, true, Option, Some, filter_map, refl, sym, ap, subst, ◌∙◌}
 use Rattle.sha1.specs.Sha1.{sha1}
 use Rattle.cacache_core.specs.{declared.integrity.digest.Hash.{Hash}, Integrity.{IsHash, address}, PathLaws.{IsKeyDigest}, PathNames.{Names, home_of}}
 use Rattle.cacache_core.proofs.PathLemmas.{keys_have_digests}
@@ -11,7 +10,7 @@ use Rattle.cacache_calls.specs.State.{Site}
 use Rattle.cacache_value.specs.{Acts.{list_of}, Value.{value_of_tree}}
 use Rattle.cacache_history.specs.ShownTurns.{blob_at}
 use Rattle.cacache_laws.specs.{Beside.{IsOther, KeepsBeside, own_integrity}, Caches.{IsCache, HasKey, lies_under}, Keeping.{found_under, KeepsOthers, StaysKnown}, ReadAnswers.{entries_on}, Sequence.{IsSound}, trees.{Collecting.{is_live}, Contents.{bucket_in, content_in}, Index.{IndexLists}, Mending.{found_in}}}
-use Rattle.cacache_laws.proofs.{Putting.{Beside.{removals_keep, writes_keep}, Committing.{commits_last}, Inserting.{inserts_last}, OpenWriters.{writers_open}, Puts.{commits_keep}}, Exports.ExportEffects.{exports_keep}, Spares.GivenUp.{giving_up_lasts}, Readings.Looked.{same_stays_known}, Removing.Removals.{removals_last}, trees.{Collected.{live_so}, Idle.{address_is}, Led.{found_listed}, Logged.{log_rooted}, Members.{contains_member, member_contains}, SoundRemovals.{removals_leave_sound}}}
+use Rattle.cacache_laws.proofs.{Putting.{Beside.{removals_keep, writes_keep}, Committing.{commits_last}, Inserting.{inserts_last}, OpenWriters.{writers_open}, Puts.{commits_keep}}, Exports.ExportEffects.{exports_keep}, Spares.GivenUp.{giving_up_lasts}, Readings.Looked.{same_stays_known}, Removing.Removals.{removals_last}, trees.{Collected.{live_so}, Idle.{address_is}, Led.{found_listed}, Logged.{log_rooted}, Members.{member_contains}, SoundRemovals.{removals_leave_sound}, SparedKeys.{more_texts, first_text}}}
 use Rattle.cacache_keep.specs.{Behind.{CollectionsKeepKeys, Event, Happen, Happens, KeepsKey, LaterKeysStay, LeadsOn, collects, commits, deletes, exports, gives_up, inserts, looks, opens, puts, text_of}, Kept.{LeavesTree}}
 use Rattle.cacache_keep.proofs.Leaving.{leaves_live, steps_done, unused}
 
@@ -59,14 +58,6 @@ collections_keep_keys site home kept dropped old new is logged sound c =
     }
 
 -- ---- texts
-
-more_texts : (o : Option (List ℕ)) (t : List ℕ) (ts : List (List ℕ)) → Contains ts t → Contains (cons_option o ts) t
-more_texts None t ts c = c
-more_texts (Some u) t ts c = contains_member t (u ∷ ts) (inr (member_contains t ts c))
-
-first_text : (o : Option (List ℕ)) (t : List ℕ) (ts : List (List ℕ)) → o ≡ Some t → Contains (cons_option o ts) t
-first_text None t ts e = absurd (let wrong : None ≡ Some t = e in cc)
-first_text (Some u) t ts e = contains_member t (u ∷ ts) (inl (let same : Some u ≡ Some t = e in cc))
 
 -- ---- events
 

@@ -4,14 +4,14 @@ use Rattle.cacache_core.specs.{declared.{errors.Fault.TheVariants.{NotFound}, in
 use Rattle.cacache_store.specs.declared.store.answer.Answer.TheVariants as answers
 use Rattle.cacache_store.specs.declared.store.log.LogItem.{LogItem}
 use Rattle.cacache_store.specs.declared.store.step.Step.TheVariants as steps
-use Rattle.cacache_disk.specs.{Tree.{Tree}, memory.Replay.{tree_of, IsLog}}
+use Rattle.cacache_disk.specs.memory.Replay.{tree_of, IsLog}
 use Rattle.cacache_entry.specs.Latest.{Found}
 use Rattle.cacache_calls.specs.{State.{Site}, Runs.{Moves, Gains}, StepPaths.{content_path}}
 use Rattle.cacache_laws.specs.{Sequence.{tree_on, AreAnswered}, trees.{Contents.{HoldsJust}, Index.{IndexLists}}}
-use Rattle.cacache_laws.proofs.{Calls.InParts.{logs_lead}, Readings.ReadsStay.{sizing_keeps}, trees.{Agreed.{holdings_agree, indexes_agree}, Held.{holds_just}, Logged.{answered_rest, answered_split, gains_join, log_rooted, tree_rest, walked}}}
+use Rattle.cacache_laws.proofs.{Calls.InParts.{logs_lead}, trees.{Agreed.{holdings_agree, indexes_agree}, Held.{holds_just}, Logged.{answered_rest, answered_split, gains_join, log_rooted, tree_rest, walked}}}
 use Rattle.cacache_walks.specs.{Listing.{content_area_in}, Reading.{top_folder}}
 use Rattle.cacache_keep.specs.{Calls.{has_entry, removal}, Keeping.{Chooses}, Kept.{PlansForetell, PlansLeave}, Planning.{Sized, TellsSizes}}
-use Rattle.cacache_keep.proofs.{Parts.{calls_gain, gains_none}, StandingIndexes.{index_looked}}
+use Rattle.cacache_keep.proofs.{Parts.{calls_gain, gains_none, Keeps, gained, then_keeps}, StandingIndexes.{index_looked}}
 
 -- ---- a choice
 
@@ -43,28 +43,12 @@ module _ (site : Site) (home : Names) (kept : ℕ) (dropped : List (List Hash)) 
 
 -- ---- sizes
 
--- moves that a log gained, which leave each tree
-pub record Keeps (old new : Option (List LogItem)) : Type 0 where
-  pub moves : Moves
-  pub gains : Gains old new moves
-  pub stays : (t : Tree) → tree_on t moves ≡ t
-
 sizes_keep : (cache : List ℕ) (told : List Sized) (old new : Option (List LogItem)) → TellsSizes cache told old new → Keeps old new
 sizes_keep cache [] old new tells = record { moves = []; gains = gains_none old new tells; stays = λ t. refl }
 sizes_keep cache (u ∷ told) old new (next, inl said, later) =
-    let rest = sizes_keep cache told next new later in
-    record {
-      moves = (steps.Size (content_path cache u.0), answers.Length u.1) ∷ rest.moves;
-      gains = gains_join old next new ((steps.Size (content_path cache u.0), answers.Length u.1) ∷ []) rest.moves said rest.gains;
-      stays = λ t. ap (λ x. tree_on x rest.moves) (sizing_keeps t (content_path cache u.0)) ∙ rest.stays t;
-    }
+    then_keeps old next new (gained old next ((steps.Size (content_path cache u.0), answers.Length u.1) ∷ []) said (tt, tt)) (sizes_keep cache told next new later)
 sizes_keep cache (u ∷ told) old new (next, inr said, later) =
-    let rest = sizes_keep cache told next new later in
-    record {
-      moves = (steps.Size (content_path cache u.0), answers.Failed NotFound) ∷ rest.moves;
-      gains = gains_join old next new ((steps.Size (content_path cache u.0), answers.Failed NotFound) ∷ []) rest.moves said.1 rest.gains;
-      stays = λ t. ap (λ x. tree_on x rest.moves) (sizing_keeps t (content_path cache u.0)) ∙ rest.stays t;
-    }
+    then_keeps old next new (gained old next ((steps.Size (content_path cache u.0), answers.Failed NotFound) ∷ []) said.1 (tt, tt)) (sizes_keep cache told next new later)
 
 -- ---- a plan and a collection
 

@@ -9,10 +9,10 @@ use Rattle.cacache_disk.specs.{declared.{luck.Luck.TheVariants.{Plain}, node.Nod
 use Rattle.cacache_disk.proofs.{Maps.{same_path-true}, Roots.{same_self}, Standing.{upper_folder}}
 use Rattle.cacache_calls.specs.{SingleSteps.{Does}, StepPaths.{temp_folder, temp_path}}
 use Rattle.cacache_value.specs.Kinds.{path_kind}
-use Rattle.cacache_laws.proofs.{Readings.ReadsStay.{reading_keeps}, trees.{CompactTwice.{compact_again}, LeanTrees.{Becomes, compacted_more, compacted_none, cut_later, cut_short}, Led.{file_shown}}}
+use Rattle.cacache_laws.proofs.{Readings.ReadsStay.{reading_keeps}, trees.{CompactTwice.{compact_again}, LeanTrees.{Becomes, compacted_more, compacted_none, cut_later, cut_short}, Led.{file_shown}}, Calls.Handed.{writing_keeps}}
 use Rattle.cacache_laws.specs.trees.{Compacted.{Compacted, CutShort}, Compacting.{compact_text}}
 use Rattle.cacache_keep.specs.{Compacting.{Bucket, CompactsBucket, CompactsEach, RewritesIf, StopsBucket, StopsCompactingEach, is_loose}, Rewriting.{MakesTemp, Rewrites, StopsMaking, StopsRewriting, StopsWriting, SyncsTemp, Took}}
-use Rattle.cacache_keep.proofs.{FoundBuckets.{IsBucketFile, Stays}, MovedFiles.{MovedTo, moved, unmoved}, Rewritten.{Has, HasTemp, IsRewritten, TookSo, folder_made, left_over, rewritten, temp_failed, temp_made, writes_keep, writes_stay, writes_take}, SyncedTrees.{bucket_synced, bucket_unsynced, folder_synced, folder_unsynced, temp_synced, temp_unsynced}, TightBuckets.{IsTight, not_loose, tight_still}, TreeRuns.{Leads, leads_as, leads_failed, leads_none, leads_step, leads_then}}
+use Rattle.cacache_keep.proofs.{FoundBuckets.{IsBucketFile, Stays, stays_on}, MovedFiles.{MovedTo, moved, unmoved}, Rewritten.{Has, HasTemp, IsRewritten, TookSo, folder_made, left_over, rewritten, temp_failed, temp_made, writes_stay, writes_take}, SyncedTrees.{bucket_synced, bucket_unsynced, folder_synced, folder_unsynced, temp_synced, temp_unsynced}, TightBuckets.{IsTight, not_loose, tight_still}, TreeRuns.{Leads, leads_as, leads_failed, leads_none, leads_step, leads_then}}
 
 -- ---- one bucket is written anew
 
@@ -185,16 +185,13 @@ module _ (durable : Bool) (cache : List ℕ) (home : Names) (is : home_of cache 
   took_keeps : (file last : PlainTemp) (bytes rest : List ℕ) (old new : Option (List LogItem)) → Took file bytes last rest old new → Leads Stays old new
   took_keeps file last bytes rest old new took = leads_as (Written file bytes last rest) Stays old new (took_leads file last bytes rest old new took) (λ t u rooted w. w.0)
 
-  stays_on : (t u v : Tree) → Rooted t → Rooted u → Stays t u → Stays u v → Stays t v
-  stays_on t u v rooted next one two = two ∙ one
-
   write_failed : (file : PlainTemp) (bytes : List ℕ) (e : Error) (old new : Option (List LogItem)) → StopsWriting file bytes e old new → Leads Stays old new
   write_failed file bytes e old new (last, rest, mid, took, inl fails) =
       leads_then Stays Stays Stays old mid new (took_keeps file last bytes rest old mid took)
-      (leads_failed Stays (steps.Write last rest) e mid new fails (λ t. refl) (λ t fault rooted failed. writes_keep t last rest)) stays_on
+      (leads_failed Stays (steps.Write last rest) e mid new fails (λ t. refl) (λ t fault rooted failed. writing_keeps t last rest)) stays_on
   write_failed file bytes e old new (last, rest, mid, took, inr (g, does, ends)) =
       leads_then Stays Stays Stays old mid new (took_keeps file last bytes rest old mid took)
-      (leads_step Stays (steps.Write last rest) (answers.Wrote g 0) mid new does (λ t rooted failed. writes_keep t last rest)) stays_on
+      (leads_step Stays (steps.Write last rest) (answers.Wrote g 0) mid new does (λ t rooted failed. writing_keeps t last rest)) stays_on
 
   -- so it is for a bucket at the path, and for one that has these bytes
   abbrev CutsAt : List ℕ → Tree → Tree → Type 0

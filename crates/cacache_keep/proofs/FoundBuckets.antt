@@ -3,19 +3,19 @@ use Rattle.std.proofs.{Common.{◌≡◌, inl, inr, ℕ, suc, List, [], ◌∷�
 use Rattle.std.specs.List.{AllByRecursion, flat_map}
 use Rattle.cacache_core.specs.{declared.errors.Error.{Error}, PathNames.{Names, names_of, home_of, IsProperName}, Paths.{index_area, join}}
 use Rattle.cacache_core.proofs.{JoinedNames.{joined_texts_name}, ProperNames.{proper_bucket_folder}}
-use Rattle.cacache_store.specs.{declared.store.{answer.{Kind.{Kind}, Name.{Name}}, log.LogItem.{LogItem}}, Plain.{PlainAnswer}}
+use Rattle.cacache_store.specs.{declared.store.{answer.Name.{Name}, log.LogItem.{LogItem}}, Plain.{PlainAnswer}}
 use Rattle.cacache_store.specs.declared.store.answer.Kind.TheVariants as kinds
 use Rattle.cacache_store.specs.declared.store.step.Step.TheVariants as steps
-use Rattle.cacache_disk.specs.{declared.{luck.Luck.TheVariants.{Plain}, node.Node.{Node, TheVariants.{Folder, File, Link}}}, Tree.{Tree, kind_of, look}, Apply.{apply}, Rooted.{Rooted}}
+use Rattle.cacache_disk.specs.{declared.{luck.Luck.TheVariants.{Plain}, node.Node.{Node, TheVariants.{Folder, File}}}, Tree.{Tree, kind_of, look}, Apply.{apply}, Rooted.{Rooted}}
 use Rattle.cacache_disk.proofs.Standing.{upper_folder}
-use Rattle.cacache_laws.proofs.{Readings.ReadsStay.{listing_keeps}, trees.{Children.{FolderShows, Stands, child_listed, folder_shown, listed, listed_child, missing, proper_child}, Covering.{named_on}, Collected.{kept_in}, Members.{Member, in_left, in_right}}}
+use Rattle.cacache_laws.proofs.{Readings.ReadsStay.{listing_keeps}, trees.{Children.{FolderShows, Stands, child_listed, folder_shown, listed, listed_child, missing, proper_child}, Covering.{named_on}, Collected.{kept_in}, Members.{Member, in_left, in_right}, Temporary.{file_node}}}
 use Rattle.cacache_laws.specs.trees.Temporary.{is_file}
 use Rattle.cacache_walks.specs.Reading.{names_shown}
 use Rattle.cacache_value.{specs.Kinds.{Bucket, path_kind}, proofs.KindsApart.{kind-below}}
 use Rattle.cacache_keep.specs.{Buckets.{FindsBuckets, Listed, ListsInTurn, ListsParts, StopsFinding, StopsNextPart, StopsParts, belongs, index_area_in, is_hex_name, parts_in}, Sweeping.{ListsFolder}}
 use Rattle.cacache_keep.proofs.TreeRuns.{Leads, leads_as, leads_failed, leads_none, leads_step, leads_then}
 
-in_map : {X Y : Type 0} (f : X → Y) (x : X) (xs : List X) → Member x xs → Member (f x) (map f xs)
+pub in_map : {X Y : Type 0} (f : X → Y) (x : X) (xs : List X) → Member x xs → Member (f x) (map f xs)
 in_map f x [] m = absurd m
 in_map f x (y ∷ xs) (inl e) = inl (ap f e)
 in_map f x (y ∷ xs) (inr m) = inr (in_map f x xs m)
@@ -42,16 +42,8 @@ IsPart home t false depth path = InIndex home depth path
 IsPart home t true depth path = IsBucketFile home t path
 
 pub bucket_kind : (home ns : Names) → length ns ≡ 3 → path_kind (Some home) (home ++ index_area ∷ ns) ≡ Bucket
-bucket_kind home [] e = absurd (omega (arith, e))
-bucket_kind home (a ∷ []) e = absurd (omega (arith, e))
-bucket_kind home (a ∷ b ∷ []) e = absurd (omega (arith, e))
 bucket_kind home (a ∷ b ∷ c ∷ []) e = kind-below home (index_area ∷ a ∷ b ∷ c ∷ [])
-bucket_kind home (a ∷ b ∷ c ∷ d ∷ ns) e = absurd (omega (arith, e))
-
-file_node : (node : Node) (kind : Kind) → kind ≡ kind_of node → is_file kind ≡ true → (bytes : List ℕ) × (node ≡ File bytes)
-file_node Folder kind is file = absurd (let wrong : is_file kinds.Folder ≡ true = ap is_file (sym is) ∙ file in cc)
-file_node (File bytes) kind is file = (bytes, refl)
-file_node (Link target) kind is file = absurd (let wrong : is_file kinds.Link ≡ true = ap is_file (sym is) ∙ file in cc)
+bucket_kind home ns e = absurd (omega (arith, e))
 
 pub longer : (ns : Names) (name : List ℕ) (depth : ℕ) → length ns ≡ depth → length (ns ++ name ∷ []) ≡ suc depth
 longer [] name depth e = omega (arith, e)

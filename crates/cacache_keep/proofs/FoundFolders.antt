@@ -7,6 +7,7 @@ use Rattle.cacache_value.specs.Kinds.{Bucket, path_kind}
 use Rattle.cacache_laws.{specs.trees.Temporary.{is_file}, proofs.trees.Covering.{named_on}}
 use Rattle.cacache_keep.specs.{Buckets.{FindsBuckets, Listed, ListsParts, belongs, index_area_in, is_folder, is_hex_digit, is_hex_name, parts_in}, Rewriting.{folder_of}}
 use Rattle.cacache_keep.proofs.{FoundBuckets.{InIndex, area_named, bucket_kind, longer}, ParentTexts.{EndsHex, digits_end, digits_proper, folder_is, joined_ends}}
+use Rattle.cacache_disk.proofs.Roots.{same_folder}
 
 -- ---- hex names
 
@@ -54,23 +55,6 @@ LiesHex home depth f = InIndex home depth f × EndsHex f
 abbrev pub FolderNamed : List ℕ → Type 0
 FolderNamed p = (folder : Names) (name : List ℕ) → names_of p ≡ Ok (folder ++ name ∷ []) → names_of (folder_of p) ≡ Ok folder
 
-same_front : (a b : Names) (x y : List ℕ) → a ++ x ∷ [] ≡ b ++ y ∷ [] → a ≡ b
-same_front [] [] x y e = refl
-same_front [] (n ∷ b) x y e = absurd (short b (ap (λ (l : Names). length l) e))
-  where
-    short : (b : Names) → length (x ∷ []) ≡ length (n ∷ (b ++ y ∷ [])) → ⊥
-    short [] e = omega (arith, e)
-    short (m ∷ b) e = omega (arith, e)
-same_front (m ∷ a) [] x y e = absurd (short a (ap (λ (l : Names). length l) e))
-  where
-    short : (a : Names) → length (m ∷ (a ++ x ∷ [])) ≡ length (y ∷ []) → ⊥
-    short [] e = omega (arith, e)
-    short (k ∷ a) e = omega (arith, e)
-same_front (m ∷ a) (n ∷ b) x y e =
-    let head : m ≡ n = cc in
-    let rest : a ++ x ∷ [] ≡ b ++ y ∷ [] = cc in
-    ap (λ (l : Names). m ∷ l) (same_front a b x y rest) ∙ ap (λ (k : List ℕ). k ∷ b) head
-
 module _ (home : Names) where
   -- one name more
   name_lies : (depth : ℕ) (f : List ℕ) (n : Name) → InIndex home depth f → IsHex n.name → LiesHex home (suc depth) (join f n.name)
@@ -89,7 +73,7 @@ module _ (home : Names) where
         λ folder name e.
             let both : Ok ((home ++ index_area ∷ lies.0) ++ n.name ∷ []) ≡ Ok (folder ++ name ∷ []) = sym (named_on f (home ++ index_area ∷ lies.0) n.name lies.1 hex.2) ∙ e in
             let same : (home ++ index_area ∷ lies.0) ++ n.name ∷ [] ≡ folder ++ name ∷ [] = cc in
-            ap names_of (folder_is f n.name ends hex.1 hex.0) ∙ lies.1 ∙ ap Ok (same_front (home ++ index_area ∷ lies.0) folder n.name name same),
+            ap names_of (folder_is f n.name ends hex.1 hex.0) ∙ lies.1 ∙ ap Ok (same_folder (home ++ index_area ∷ lies.0) folder n.name name same),
         (name_lies 2 f n lies hex).0,
       )
 

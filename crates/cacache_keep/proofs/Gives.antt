@@ -1,55 +1,30 @@
 -- Reads of an open content, one after another, and why they end.
-use Rattle.std.proofs.{Common.{◌≡◌, ◌==◌, ◌+◌, ◌-◌, ◌^◌, inl, inr, ℕ, List, [], ◌∷◌, ◌++◌, Bool, true, false, Option, Result, Ok, Err, refl, sym, ap, subst, ◌∙◌, length, length-append, append_assoc, arith}, lemmas.Bool.{eqb-true}}
+use Rattle.std.proofs.{Common.{◌≡◌, ◌==◌, ◌+◌, ◌-◌, ◌^◌, inl, inr, ℕ, List, [], ◌∷◌, ◌++◌, Bool, true, false, Option, Result, Ok, Err, refl, sym, ap, subst, ◌∙◌, length, length-append, append_assoc, arith, append-nil}, lemmas.Bool.{eqb-true}}
 use Rattle.std.specs.Prelude.{min}
 use Rattle.cacache_core.specs.{declared.{errors.{Error.{Error, TheVariants.{IoError, OutOfMemory}}, Fault.{Fault, TheVariants.{NotFound}}}, integrity.digest.Hash.{Hash}}, Integrity.{Meets}, Meeting.{meets}}
 use Rattle.cacache_core.proofs.Meeting.{meets_finds}
 use Rattle.cacache_store.specs.declared.store.answer.Answer.TheVariants as answers
 use Rattle.cacache_store.specs.{declared.store.{log.LogItem.{LogItem}, plain.PlainFile.{PlainFile}}, Fits.{Fits, Logs}, Plain.{PlainStep, PlainAnswer}}
 use Rattle.cacache_store.specs.declared.store.step.Step.TheVariants as steps
-use Rattle.cacache_calls.specs.{declared.answers.Refusal.{Refusal}, Answers.{file_in, got_in}, Common.{ends_with, fails, refuse}, Runs.{EndsAs, Moves}, SingleSteps.{FailsAt}, StepPaths.{content_path}, Table.{piece}}
+use Rattle.cacache_calls.specs.{declared.answers.Refusal.{Refusal}, Answers.{file_in, got_in}, Common.{fails, refuse}, Runs.{EndsAs, Moves}, SingleSteps.{FailsAt}, StepPaths.{content_path}, Table.{piece}}
 use Rattle.cacache_calls.proofs.Going.{no_gain}
 use Rattle.cacache_calls.specs.declared.answers.Refusal.TheVariants as refusals
 use Rattle.cacache_laws.proofs.trees.Logged.{gains_join}
 use Rattle.cacache_keep.specs.Reading.{FindsNone, Gave, GaveAll, Opens, Pieces, StopsContent, StopsGiving, finds_none, is_gone}
+use Rattle.cacache_sync.proofs.content.StepAnswers.{refused_fails, read_refused, file_refused}
 
 -- ---- a step that brought nothing
 
-pub failed : (a : PlainStep) (fault : Fault) (e : Error) (old new : Option (List LogItem)) → Logs old new a (answers.Failed fault) → EndsAs e (fails fault) → FailsAt a e old new
-failed a fault (IoError g message) old new logs (inl is) = let same : g ≡ fault = cc in rw same logs
-failed a fault (IoError g message) old new logs (inr is) = absurd cc
-failed a fault OutOfMemory old new logs ends = inr (fault, logs)
-failed a fault e old new logs (inl is) = absurd cc
-failed a fault e old new logs (inr is) = absurd cc
-
-pub lost : (a : PlainStep) (e : Error) (old new : Option (List LogItem)) → new ≡ old → EndsAs e (ends_with OutOfMemory) → FailsAt a e old new
-lost a OutOfMemory old new same ends = inl same
-lost a e old new same (inl is) = absurd cc
-lost a e old new same (inr is) = absurd cc
-
 read_fails : (file : PlainFile) (t : PlainAnswer) (refusal : Refusal) (e : Error) (old new : Option (List LogItem)) → Err refusal ≡ got_in t → Fits (steps.Read file piece) t → Logs old new (steps.Read file piece) t → EndsAs e (refuse refusal fails) → FailsAt (steps.Read file piece) e old new
-read_fails file (answers.Failed fault) refusal e old new is fits logs ends =
-    let same : refusal ≡ refusals.Fault fault = cc in failed (steps.Read file piece) fault e old new logs (rw same at ends)
-read_fails file (answers.NoMemory b) refusal e old new is fits logs ends =
-    let same : refusal ≡ refusals.Memory = cc in lost (steps.Read file piece) e old new logs (rw same at ends)
-read_fails file (answers.Got g b) refusal e old new is fits logs ends = absurd cc
-read_fails file t refusal e old new is fits logs ends = absurd fits
+read_fails file t refusal e old new is fits logs ends = refused_fails (steps.Read file piece) t refusal e old new (read_refused file piece t refusal is fits) logs ends
 
 open_fails : (path : List ℕ) (t : PlainAnswer) (refusal : Refusal) (e : Error) (old new : Option (List LogItem)) → Err refusal ≡ file_in t → Fits (steps.Open path) t → Logs old new (steps.Open path) t → EndsAs e (refuse refusal fails) → FailsAt (steps.Open path) e old new
-open_fails path (answers.Failed fault) refusal e old new is fits logs ends =
-    let same : refusal ≡ refusals.Fault fault = cc in failed (steps.Open path) fault e old new logs (rw same at ends)
-open_fails path (answers.NoMemory b) refusal e old new is fits logs ends =
-    let same : refusal ≡ refusals.Memory = cc in lost (steps.Open path) e old new logs (rw same at ends)
-open_fails path (answers.File f) refusal e old new is fits logs ends = absurd cc
-open_fails path t refusal e old new is fits logs ends = absurd fits
+open_fails path t refusal e old new is fits logs ends = refused_fails (steps.Open path) t refusal e old new (file_refused path t refusal is fits) logs ends
 
 -- ---- pieces
 
 pieces_on : (file left g : PlainFile) (moves : Moves) (bytes : List ℕ) (b : ℕ) (bs : List ℕ) → Pieces file moves bytes left → Pieces file (moves ++ (steps.Read left piece, answers.Got g (b ∷ bs)) ∷ []) (bytes ++ b ∷ bs) g
-pieces_on file left g [] bytes b bs h = (h.1, refl, [], ap (λ l. l ++ b ∷ bs) h.0 ∙ sym (append_none (b ∷ bs)), (refl, refl))
-  where
-    append_none : (l : List ℕ) → l ++ [] ≡ l
-    append_none [] = refl
-    append_none (x ∷ l) = ap (λ k. x ∷ k) (append_none l)
+pieces_on file left g [] bytes b bs h = (h.1, refl, [], ap (λ l. l ++ b ∷ bs) h.0 ∙ sym (append-nil (b ∷ bs)), (refl, refl))
 pieces_on file left g ((steps.Read f most, answers.Got k (c ∷ cs)) ∷ moves) bytes b bs h =
     (h.0, h.1, h.2 ++ b ∷ bs, ap (λ l. l ++ b ∷ bs) h.3 ∙ append_assoc (c ∷ cs) h.2 (b ∷ bs), pieces_on k left g moves h.2 b bs h.4)
 pieces_on file left g moves bytes b bs h = absurd h

@@ -68,13 +68,12 @@ module _ (home rest : Names) (name : List ℕ) (kind : path_kind (Some home) (ho
 
   -- the names of the folders on the way stay fixed
   way_still : (w : Moment) (m : Move) (b : List ℕ) (above more : Names) → above ++ more ≡ q → Stands (Some home) q kind b w → IsCalm (Some home) w m → WayFixed w.fixed above more → WayFixed (next w m).fixed above more
-  way_still w m b above [] e s calm fixed = tt
-  way_still w m b above (n ∷ []) e s calm fixed = tt
   way_still w m b above (n ∷ k ∷ more) e s calm fixed =
       let here : (above ++ n ∷ []) ++ k ∷ more ≡ q = append_assoc above (n ∷ []) (k ∷ more) ∙ e in
       let way = apart.above (Some home) (above ++ n ∷ []) more k (ap (λ p. is_used (path_kind (Some home) p)) here ∙ ap is_used kind) in
       let folder = upper_folder w.tree (above ++ n ∷ []) more k (File b) s.0.1 (ap (look w.tree) here ∙ s.1) in
       (fixed_next (Some home) w.tree w.fixed (above ++ n ∷ []) m.step m.luck m.answer s.0.0 way folder calm.0 calm.1 fixed.0, way_still w m b (above ++ n ∷ []) (k ∷ more) here s calm fixed.1)
+  way_still w m b above more e s calm fixed = tt
 
   -- a bucket that begins with these bytes, which are fixed, and its name and those of its folders
   record Begun (w : Moment) : Type 0 where

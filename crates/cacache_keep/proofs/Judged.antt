@@ -1,5 +1,5 @@
 -- Which contents their reads count as good, and which entries questions count as dangling.
-use Rattle.std.proofs.Common.{◌≡◌, ◌==◌, ◌<◌, ◌-◌, ◌^◌, inl, inr, ℕ, zero, suc, List, [], ◌∷◌, ◌++◌, Bool, true, false, cond, Option, Some, Result, Ok, Err, map, length, filter, take, drop, take-append-drop, append_assoc, refl, sym, ap, ap₂, subst, ◌∙◌, arith}
+use Rattle.std.proofs.Common.{◌≡◌, ◌==◌, ◌<◌, ◌-◌, ◌^◌, inl, inr, ℕ, zero, suc, List, [], ◌∷◌, ◌++◌, Bool, true, false, cond, Option, Some, Result, Ok, Err, map, length, filter, take, drop, take-append-drop, append_assoc, refl, sym, ap, ap₂, subst, ◌∙◌, arith, append-nil}
 use Rattle.std.specs.Prelude.{min, not}
 use Rattle.cacache_core.specs.declared.errors.Error.TheVariants as errors
 use Rattle.cacache_core.specs.{declared.{errors.Fault.{Fault, TheVariants.{Closed, IsADirectory, NotFound}}, integrity.digest.Hash.{Hash}}, Integrity.{IsHash}, PathNames.{Names, home_of}}
@@ -13,15 +13,11 @@ use Rattle.cacache_calls.specs.declared.reply.Reply.TheVariants as replies
 use Rattle.cacache_calls.specs.{Answers.{there_in}, Replies.{there_reply}, Runs.{Moves, Gains}, State.{Site, Item}, StepPaths.{content_path}, Table.{piece}}
 use Rattle.cacache_calls.proofs.Replies.{exists_shown}
 use Rattle.cacache_laws.specs.{Sequence.{AreAnswered, tree_on}, trees.{Contents.{IsHeld, content_in}, Answers.{AnsweredBy, AnswersOn}, Index.{IndexLists, entries_in, is_failure}, Verifying.{is_good, is_met, says_yes, has_content}}}
-use Rattle.cacache_laws.proofs.trees.{Logged.{answered_rest, answered_split, gains_join, tree_rest}, Members.{Member, member_contains}, Verified.{content_file}}
+use Rattle.cacache_laws.proofs.{trees.{Logged.{answered_rest, answered_split, gains_join, tree_rest}, Members.{Member, member_contains}, Verified.{content_file}}, Readings.ReadsStay.{opening_keeps, piece_keeps}}
 use Rattle.cacache_value.specs.Shows.{blob_bytes}
 use Rattle.cacache_keep.{specs.{Calls.{AreEntries, question_of}, Reading.{Judged, Pieces, SaysGood, SaysOfEach}}, proofs.Parts.{EachOn, gains_none}}
 
 -- ---- reads of an open file
-
-read_keeps : (t : Tree) (f : PlainFile) (size : ℕ) → (apply t (steps.Read f size) Plain).1 ≡ t
-unfolding apply
-read_keeps t f size = refl
 
 -- bytes and a file, or the answer of a closed one
 abbrev got_or_closed : Bool → List ℕ → ℕ → PlainAnswer
@@ -57,7 +53,7 @@ pieces_given t file left [] bytes all known h a = record {
 }
 pieces_given t file left ((steps.Read f most, answers.Got g (b ∷ bs)) ∷ moves) bytes all known h a =
     let gives = read_gives t f g most all (b ∷ bs) (ap (λ (x : PlainFile). x.bytes) h.0 ∙ known) a.0 in
-    let stays = read_keeps t f most in
+    let stays = piece_keeps t f most in
     let more = pieces_given t g left moves h.2 (drop most all) gives.1 h.4 (subst (λ (x : Tree). AreAnswered x moves) stays a.1) in
     record {
       rest = more.rest;
@@ -73,14 +69,6 @@ no_rest (suc size) [] lt e = refl
 no_rest (suc size) (b ∷ bs) lt e = absurd cc
 
 -- ---- the opening
-
-open_keeps : (t : Tree) (path : List ℕ) → (apply t (steps.Open path) Plain).1 ≡ t
-unfolding apply
-open_keeps t path = by (file_at t path IsADirectory)
-  where
-    by : (r : Result (List ℕ) Fault) → (unless r t (λ bytes. (answers.File (opened bytes), t))).1 ≡ t
-    by (Ok bytes) = refl
-    by (Err fault) = refl
 
 open_gives : (t : Tree) (path : List ℕ) (file : PlainFile) → answers.File file ≡ (apply t (steps.Open path) Plain).0 → (all : List ℕ) × (file_at t path IsADirectory ≡ Ok all) × (file.bytes ≡ Some all)
 unfolding apply
@@ -132,7 +120,7 @@ module _ (site : Site) (home : Names) (t : Tree) (is : home_of site.cache ≡ So
         gains = gains_join old mid new opening (gave.0 ++ ending) opens (gains_join mid late new gave.0 ending gave.2 judges.3.4);
         tells = λ held a.
             let there = content_file site home t h held.1.0 is rooted held.0 held.1.1 in
-            let stays = open_keeps t path in
+            let stays = opening_keeps t path in
             let opened_as = open_gives t path file a.0 in
             let behind = subst (λ (x : Tree). AreAnswered x (gave.0 ++ ending)) stays a.1 in
             let parts = answered_split t gave.0 ending behind in
@@ -140,16 +128,12 @@ module _ (site : Site) (home : Names) (t : Tree) (is : home_of site.cache ≡ So
             let late_part = answered_rest t gave.0 ending given_all.stays behind in
             let at_end = read_gives t left last piece given_all.rest [] given_all.known late_part.0 in
             let none = no_rest piece given_all.rest (omega arith) at_end.0 in
-            let all_bytes : bytes ≡ opened_as.0 = sym (append_nil bytes) ∙ ap (λ (l : List ℕ). bytes ++ l) (sym none) ∙ given_all.whole in (
+            let all_bytes : bytes ≡ opened_as.0 = sym (append-nil bytes) ∙ ap (λ (l : List ℕ). bytes ++ l) (sym none) ∙ given_all.whole in (
               judges.1 ∙ ap (λ (r : Result (List ℕ) Fault). is_met (h ∷ []) r) (ap Ok all_bytes ∙ sym opened_as.1 ∙ there),
               judges.2 ∙ ap size_given (ap Ok all_bytes ∙ sym opened_as.1 ∙ there),
-              ap (λ (x : Tree). tree_on x (gave.0 ++ ending)) stays ∙ tree_rest t gave.0 ending given_all.stays ∙ read_keeps t left piece,
+              ap (λ (x : Tree). tree_on x (gave.0 ++ ending)) stays ∙ tree_rest t gave.0 ending given_all.stays ∙ piece_keeps t left piece,
             );
       }
-    where
-      append_nil : (l : List ℕ) → l ++ [] ≡ l
-      append_nil [] = refl
-      append_nil (x ∷ l) = ap (λ (k : List ℕ). x ∷ k) (append_nil l)
   good_told h good size old new (inr (bad, none, finds)) =
       let path = content_path site.cache (h ∷ []) in
       record {
@@ -158,7 +142,7 @@ module _ (site : Site) (home : Names) (t : Tree) (is : home_of site.cache ≡ So
         tells = λ held a.
             let there = content_file site home t h held.1.0 is rooted held.0 held.1.1 in
             let failed = sym (open_finds_none t path a.0) ∙ there in
-            (bad ∙ ap (λ (r : Result (List ℕ) Fault). is_met (h ∷ []) r) failed, none ∙ ap size_given failed, open_keeps t path);
+            (bad ∙ ap (λ (r : Result (List ℕ) Fault). is_met (h ∷ []) r) failed, none ∙ ap size_given failed, opening_keeps t path);
       }
 
   abbrev pub judged : Hash → Judged
@@ -218,10 +202,8 @@ module _ (site : Site) (home : Names) (t : Tree) (is : home_of site.cache ≡ So
 -- ---- questions
 
 says_so : (a : PlainAnswer) (b : Bool) → replies.Exists b ≡ there_reply (there_in a) → b ≡ says_yes a
-says_so (answers.There there) b e = cc
 says_so (answers.NoMemory step) b e = absurd cc
-says_so (answers.Failed fault) b e = cc
-says_so other b e = cc
+says_so a b e = cc
 
 module _ (site : Site) (t : Tree) where
   pub there_told : (f : Found) (b : Bool) → AnswersOn site t (commands.Exists f.integrity) (replies.Exists b) → b ≡ has_content site.cache t f

@@ -45,10 +45,9 @@ move_still w m q leaves = step_still w m.step m.luck m.answer q leaves
 -- ---- the way to a bucket
 
 way_still : (w : Moment) (m : Move) (above rest : Names) → LeavesWay above rest w m → WayFixed w.fixed above rest → WayFixed (next w m).fixed above rest
-way_still w m above [] leaves fixed = tt
-way_still w m above (name ∷ []) leaves fixed = tt
 way_still w m above (name ∷ more ∷ rest) leaves fixed =
     ((move_still w m (above ++ name ∷ []) leaves.0).2 fixed.0, way_still w m (above ++ name ∷ []) (more ∷ rest) leaves.1 fixed.1)
+way_still w m above rest leaves fixed = tt
 
 end_left : (w : Moment) (m : Move) (above rest : Names) (name : List ℕ) → LeavesWay above (name ∷ rest) w m → Leaves (above ++ name ∷ rest) w m
 end_left w m above [] name leaves = leaves.0

@@ -9,9 +9,9 @@ use Rattle.cacache_calls.specs.Runs.{Gains, Moves}
 use Rattle.cacache_value.{specs.{Acts.{list_of}, Kinds.{Bucket as IsBucket, path_kind}, Value.{bucket_in}}, proofs.KindsApart.{kind-below}}
 use Rattle.cacache_loss.specs.{declared.fixing.Fixing.{Fixing}, Fixing.{Fixed, synced}, Loss.{Loss}, LostValues.{LeftOf}, Moments.{Moment}}
 use Rattle.cacache_laws.specs.trees.{Compacting.{compact_text}, Mending.{found_in}}
-use Rattle.cacache_laws.proofs.trees.{CompactTexts.{compact_texts_answer}, LeanTrees.{Becomes}, Covering.{home_named}, Logged.{log_rooted}, Members.{Member, in_left, in_right}}
+use Rattle.cacache_laws.proofs.trees.{CompactTexts.{compact_texts_answer}, LeanTrees.{Becomes, same_bytes}, Covering.{home_named}, Logged.{log_rooted}, Members.{Member, in_left, in_right}}
 use Rattle.cacache_keep.specs.{Buckets.{index_area_in}, Compacting.{CompactsAll, CompactsCache}, Losses.{BucketsFixed, CompactionsFix, CompactionsOutlast, IsFixedAt, KeepsLean, moment_after}, Syncing.{folders_above}}
-use Rattle.cacache_keep.proofs.{ApartSteps.{IsWhole}, FixedFolders.{IsFixedFolder, SyncsNames, file_lost, in_turn_fixed}, FoundBuckets.{AreBucketNames, FindsFiles, area_named, buckets_found}, FoundFolders.{FolderNamed, folders_named}, HexNames.{bucket_names_hex}, MomentRuns.{Fixes, OfTrees, fixes_leads, fixes_on, fixes_then, later, later_split, tree_then}, SettledBuckets.{Held, HeldWhole, Settled, SettlesThese, each_settles}, TightBuckets.{same_file}, WholeCompactions.{compactions_leave}}
+use Rattle.cacache_keep.proofs.{ApartSteps.{IsWhole}, FixedFolders.{IsFixedFolder, SyncsNames, file_lost, in_turn_fixed}, FoundBuckets.{AreBucketNames, FindsFiles, area_named, buckets_found}, FoundFolders.{FolderNamed, folders_named}, HexNames.{bucket_names_hex}, MomentRuns.{Fixes, OfTrees, fixes_leads, fixes_on, fixes_then, later, later_split, tree_then}, SettledBuckets.{Held, HeldWhole, Settled, SettlesThese, each_settles}, WholeCompactions.{compactions_leave}}
 
 -- ---- the folders above those of buckets
 
@@ -160,7 +160,7 @@ module _ (cache : List ℕ) (home : Names) (count bytes : ℕ) (moves : Moves) (
       → (later start moves).fixed.files (home ++ bucket_names_of digest) ≡ synced (compact_text true text)
   synced_now digest text d there =
       let held = (bucket_fixed digest text d there).1 in
-      held.2 ∙ ap synced (same_file held.0 (compact_text true text) (look (later start moves).tree (home ++ bucket_names_of digest)) held.1 (lean_now digest text d there).0)
+      held.2 ∙ ap synced (same_bytes held.0 (compact_text true text) (look (later start moves).tree (home ++ bucket_names_of digest)) held.1 (lean_now digest text d there).0)
 
   module _ (loss : Loss) (left : Tree) (lost : LeftOf home (moment_after (tree_of old) fixed moves) loss left) where
     lean : (digest text : List ℕ) → IsKeyDigest digest → look (tree_of old) (home ++ bucket_names_of digest) ≡ Some (File text) → look left (home ++ bucket_names_of digest) ≡ Some (File (compact_text true text))

@@ -1,9 +1,10 @@
 -- How the lines of a bucket come together, and which are chosen.
-use Rattle.std.proofs.{Common.{◌≡◌, ◌+◌, ℕ, List, [], ◌∷◌, ◌++◌, Bool, true, false, cond, not, ◌&&◌, ◌||◌, Option, Some, None, map, filter_map, drop, take, refl, sym, ap, subst, ◌∙◌, bytes_eq}, lemmas.{List.{reverse-append}, Map.Text.{btree_map_updates_str}}}
+use Rattle.std.proofs.{Common.{◌≡◌, ◌+◌, ℕ, List, [], ◌∷◌, ◌++◌, Bool, true, false, cond, not, ◌&&◌, ◌||◌, Option, Some, None, map, filter_map, drop, take, refl, sym, ap, subst, ◌∙◌, bytes_eq}, lemmas.{List.{reverse-append}, Map.Text.{btree_map_updates_str}, Bool.{or_right}}}
 use Rattle.std.specs.{Prelude.{Result, Ok, Err, OnOk, is_some}, List.{cons_option, list_any}, Option.{option_to_list}, BTreeMap.{BTreeMap, UpdatesBy, get_by}, Borrow.{Bor}, Cmp.Lexicographic.{slice_cmp}, Ordering.{nat_cmp}}
 use Rattle.cacache_entry.specs.Bucket.{CutsAt}
 use Rattle.cacache_laws.{specs.trees.Compacting.{Decision, Line, decided, kept, line_of_piece, lines_of}, proofs.trees.CompactAnswers.{same_key}}
 use Rattle.cacache_keep.specs.{Lines.{HasKeys, has_key, in_order, last_lines, line_view, without_tombstones}, declared.lines.Line.{Line as Held}}
+use Rattle.cacache_loss.proofs.PathMaps.{or_false}
 
 onto : (o : Option Line) (ls : List Line) → cons_option o ls ≡ option_to_list o ++ ls
 onto None ls = refl
@@ -20,31 +21,23 @@ on_ok (Err e) P Q f p = tt
 
 -- ---- two passes
 
-odd_still : (odd : Bool) → (odd || false) ≡ odd
-odd_still true = refl
-odd_still false = refl
-
 either_way : (a b : Bool) → (a || b) ≡ (b || a)
 either_way true true = refl
 either_way true false = refl
 either_way false true = refl
 either_way false false = refl
 
-odd_now : (odd : Bool) → (odd || true) ≡ true
-odd_now true = refl
-odd_now false = refl
-
 -- the two passes choose the lines that stay
 pub two_passes : (odd : Bool) (ls : List Line) → without_tombstones odd (last_lines ls) ≡ kept odd ls
 two_passes odd [] = refl
 two_passes odd ((t, None) ∷ ls) =
-    ap (λ (b : Bool). cond (b || false) ((t, None) ∷ without_tombstones b (last_lines ls)) (without_tombstones b (last_lines ls))) (odd_now odd)
+    ap (λ (b : Bool). cond (b || false) ((t, None) ∷ without_tombstones b (last_lines ls)) (without_tombstones b (last_lines ls))) (or_right odd true refl)
     ∙ ap (λ (xs : List Line). (t, None) ∷ xs) (two_passes true ls)
 two_passes odd ((t, Some d) ∷ ls) = by (list_any (bytes_eq d.0) (decided ls)) (two_passes odd ls)
   where
     last : without_tombstones odd (last_lines ls) ≡ kept odd ls → without_tombstones odd ((t, Some d) ∷ last_lines ls) ≡ cond (d.1 || odd) ((t, Some d) ∷ kept odd ls) (kept odd ls)
     last rest =
-        ap (λ (b : Bool). cond (b || d.1) ((t, Some d) ∷ without_tombstones b (last_lines ls)) (without_tombstones b (last_lines ls))) (odd_still odd)
+        ap (λ (b : Bool). cond (b || d.1) ((t, Some d) ∷ without_tombstones b (last_lines ls)) (without_tombstones b (last_lines ls))) (or_false odd)
         ∙ ap (λ (xs : List Line). cond (odd || d.1) ((t, Some d) ∷ xs) xs) rest ∙ ap (λ (b : Bool). cond b ((t, Some d) ∷ kept odd ls) (kept odd ls)) (either_way odd d.1)
 
     by : (a : Bool) → without_tombstones odd (last_lines ls) ≡ kept odd ls

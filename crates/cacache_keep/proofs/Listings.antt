@@ -4,7 +4,7 @@ use Rattle.cacache_core.specs.{declared.errors.{Error.TheVariants.{OutOfMemory},
 use Rattle.cacache_store.specs.declared.store.answer.Answer.TheVariants as answers
 use Rattle.cacache_store.specs.declared.store.answer.Kind.TheVariants as kinds
 use Rattle.cacache_store.specs.{declared.store.answer.{Kind.{Kind}, Name.{Name}}, Plain.{PlainAnswer}}
-use Rattle.cacache_calls.specs.{declared.{reply.Reply.{Reply, TheVariants.{Listed, Refused}}, visit.{Task.{Task, TheVariants.{Make, Stumble}}, Visit.{Visit, TheVariants.{Enter, ReadBucket, RemoveFile, RemoveFolder}}}}, Runs.{Moves, Runs}, State.{Item, State, Walk, over, walking}, Table.{after}, Walking.{EachVisit, after_visit, failed, give, items_in, most, task_for_name, tasks_of, too_many, walk, walk_on}}
+use Rattle.cacache_calls.specs.{declared.{reply.Reply.{Reply, TheVariants.{Listed, Refused}}, visit.{Task.{Task, TheVariants.{Make, Stumble}}, Visit.{Visit, TheVariants.{Enter, ReadBucket}}}}, Runs.{Moves, Runs}, State.{Item, State, Walk, over, walking}, Table.{after}, Walking.{EachVisit, after_visit, failed, give, items_in, most, task_for_name, tasks_of, too_many, walk, walk_on}}
 use Rattle.cacache_laws.proofs.trees.Listing.{lists}
 
 -- items, or out of memory
@@ -44,8 +44,7 @@ folder_reads false p level todo each = each
 
 name_reads : (kind : Kind) (level : ℕ) (p : List ℕ) (todo : List Task) → EachVisit Reads todo → EachVisit Reads (task_for_name false level p kind ∷ todo)
 name_reads kinds.Folder level p todo each = folder_reads (nat_lt level 16) p (level + 1) todo each
-name_reads kinds.File level p todo each = (tt, each)
-name_reads kinds.Link level p todo each = (tt, each)
+name_reads kind level p todo each = (tt, each)
 
 names_read : (ns : List Name) (level : ℕ) (p : List ℕ) (todo : List Task) → EachVisit Reads todo → EachVisit Reads (tasks_of false level p ns ++ todo)
 names_read [] level p todo each = each
@@ -76,8 +75,7 @@ after_bucket p todo items left other each = misses_on todo items left Device eac
 after_listing : (v : Visit) (todo : List Task) (items : List Item) (left : ℕ) (x : PlainAnswer) → Reads v → EachVisit Reads todo → IsListing (after_visit (lists items left) v todo x)
 after_listing (Enter p level) todo items left x is each = after_folder p level todo items left x each
 after_listing (ReadBucket p) todo items left x is each = after_bucket p todo items left x each
-after_listing (RemoveFile p) todo items left x is each = absurd is
-after_listing (RemoveFolder p) todo items left x is each = absurd is
+after_listing v todo items left x is each = absurd is
 
 as_list : (w : Walk) → w.clears ≡ false → lists w.items w.left ≡ w
 as_list w e = ap (λ (b : Bool). record { clears = b; items = w.items; left = w.left }) (sym e)

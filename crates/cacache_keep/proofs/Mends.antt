@@ -11,17 +11,12 @@ use Rattle.cacache_laws.specs.{Sequence.{tree_on}, trees.{Collecting.{Removes}, 
 use Rattle.cacache_laws.proofs.{Calls.InParts.{logs_lead}, trees.{Collected.{from_kept, kept_in, leaves}, Held.{holds_just}, Logged.{answered_rest, answered_split, gains_join, log_rooted, tree_rest, tree_split, walked}, Members.{Member, contains_member, member_contains}, Mended.{repairs_leave}}}
 use Rattle.cacache_walks.specs.{Listing.{content_area_in}, Reading.{top_folder}}
 use Rattle.cacache_keep.specs.{Calls.{MadeCalls, question_of, removal}, Kept.{IsKeyOf, MendsCache, RepairsMend}, Reading.{Judged}, Repairing.{Fate, RepairsFrom, is_buried}}
-use Rattle.cacache_keep.proofs.{ListedLogs.{repaired_on}, Buried.{After, all_told}, Judged.{asks_told, others_named, reads_judged}, Leaving.{removals, removals_gain, removed_by}, Parts.{made_looks}, Shown.{burial_of}, Verdicts.{all_questions}}
+use Rattle.cacache_keep.proofs.{ListedLogs.{repaired_on}, Buried.{After, all_told}, Judged.{asks_told, others_named, reads_judged}, Leaving.{removals, removals_gain, removed_by}, Parts.{made_looks}, Shown.{burial_of}, Verdicts.{all_questions}, FoundBuckets.{in_map}}
 
 pub map_from : {X Y : Type 0} (f : X → Y) (y : Y) (xs : List X) → Member y (map f xs) → (x : X) × Member x xs × (f x ≡ y)
 map_from f y [] m = absurd m
 map_from f y (x ∷ xs) (inl same) = (x, inl refl, sym same)
 map_from f y (x ∷ xs) (inr m) = let k = map_from f y xs m in (k.0, inr k.1, k.2)
-
-map_in : {X Y : Type 0} (f : X → Y) (x : X) (xs : List X) → Member x xs → Member (f x) (map f xs)
-map_in f x [] m = absurd m
-map_in f x (z ∷ xs) (inl same) = inl (ap f same)
-map_in f x (z ∷ xs) (inr m) = inr (map_in f x xs m)
 
 -- what a filter leaves of reads at addresses of one hash
 singles : (p : Judged → Bool) (reads : List Judged) (hs : List Hash) → map (λ r. r.0) reads ≡ map (λ h. h ∷ []) hs → (gone : List Hash) × (map (λ r. r.0) (filter p reads) ≡ map (λ h. h ∷ []) gone)
@@ -83,15 +78,15 @@ module _ (site : Site) (home : Names) (is : home_of site.cache ≡ Some home) wh
         let rem = removals_gain site gone.0 v.read v.removed (subst (λ d. MadeCalls site (map removal d) v.read v.removed) ones v.removing) in
         let cut = removals site.cache gone.0 in
         let mid = tree_on (tree_of old) cut in
-        let a = made_looks site mid (map question_of v.asking.asks) v.removed v.asked (all_questions v.asking.asks) v.asking.asking in
+        let a = made_looks site (map question_of v.asking.asks) v.removed v.asked (all_questions v.asking.asks) v.asking.asking in
         let w = burial_of v in
         let b = all_told site home is w.each.fates w.looked (Some new) w.each.keys w.each.calls in
         let last = w.moves ++ b.moves in
-        let late = a.moves ++ last in
+        let late = a.keeps.moves ++ last in
         let gains = gains_join (Some old) v.found (Some new) c.0 (r.moves ++ (cut ++ late)) c.1
         (gains_join v.found v.read (Some new) r.moves (cut ++ late) r.gains
         (gains_join v.read v.removed (Some new) cut late rem
-        (gains_join v.removed v.asked (Some new) a.moves last a.gains
+        (gains_join v.removed v.asked (Some new) a.keeps.moves last a.keeps.gains
         (gains_join v.asked w.looked (Some new) w.moves b.moves w.gains b.gains)))) in
         let lead = logs_lead old new (c.0 ++ (r.moves ++ (cut ++ late))) gains logged in
         let walk = walked (tree_of old) c.0 (top_folder (content_area_in site.cache) ∷ []) c.2 (answered_split (tree_of old) c.0 (r.moves ++ (cut ++ late)) lead.0).0 in
@@ -104,19 +99,19 @@ module _ (site : Site) (home : Names) (is : home_of site.cache ≡ Some home) wh
         let same : gone.0 ≡ bad = same_singles gone.0 bad (sym ones ∙ broken) in
         let split = answered_split (tree_of old) cut late after_reads in
         let placed_mid = removals_placed gone.0 (tree_of old) placed in
-        let questions = a.tells (answered_split mid a.moves last split.1).0 in
-        let looking = answered_rest mid a.moves last questions.1 split.1 in
+        let questions = a.tells mid (answered_split mid a.keeps.moves last split.1).0 in
+        let looking = answered_rest mid a.keeps.moves last (a.keeps.stays mid) split.1 in
         let stays = w.stays mid (answered_split mid w.moves b.moves looking).0 in
         let told = b.tells mid placed_mid (answered_rest mid w.moves b.moves stays looking) in
         let leads : tree_of new ≡ tree_on mid b.moves
         = lead.1 ∙ tree_rest (tree_of old) c.0 (r.moves ++ (cut ++ late)) walk.1 ∙ tree_rest (tree_of old) r.moves (cut ++ late) reads.1 ∙ tree_split (tree_of old) cut late
-        ∙ tree_rest mid a.moves last questions.1 ∙ tree_rest mid w.moves b.moves stays in
+        ∙ tree_rest mid a.keeps.moves last (a.keeps.stays mid) ∙ tree_rest mid w.moves b.moves stays in
         record {
           holds = holds;
           broken = broken;
           mid = mid;
           removes = subst (λ (hs : List Hash). Removes site.cache hs (tree_of old) mid) same (removed_by site.cache gone.0 (tree_of old) split.0);
-          absent = v.asking.absent ∙ asks_told site mid v.asking.asks questions.0 ∙ ap (λ l. filter (λ f. not (has_content site.cache mid f)) l) v.asking.each;
+          absent = v.asking.absent ∙ asks_told site mid v.asking.asks questions ∙ ap (λ l. filter (λ f. not (has_content site.cache mid f)) l) v.asking.each;
           after = subst (After site home is (burial_of v).each.fates mid) (sym leads) told;
         }
 
@@ -129,7 +124,7 @@ module _ (site : Site) (home : Names) (is : home_of site.cache ≡ Some home) wh
 
     fate_told : (key : List ℕ) (f : Found × Fate) → Member f (burial_of v).each.fates → is_buried f.1 ≡ true → key ≡ f.0.key → IsKeyOf buried key
     fate_told key f m b e =
-        let k = map_in (λ (x : Found × Fate). x.0) f (filter (λ (x : Found × Fate). is_buried x.1) (burial_of v).each.fates) (kept_in (λ (x : Found × Fate). is_buried x.1) f (burial_of v).each.fates b m) in
+        let k = in_map (λ (x : Found × Fate). x.0) f (filter (λ (x : Found × Fate). is_buried x.1) (burial_of v).each.fates) (kept_in (λ (x : Found × Fate). is_buried x.1) f (burial_of v).each.fates b m) in
         (f.0, contains_member f.0 buried (subst (Member f.0) (sym (burial_of v).each.which) k), sym e)
 
     pub repaired : MendsCache site home (tree_of old) (tree_of new) damaged buried

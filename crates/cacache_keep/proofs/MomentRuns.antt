@@ -1,11 +1,12 @@
 -- What parts of a log do from a moment on: to the tree that they find, and to what of it is fixed.
-use Rattle.std.proofs.Common.{◌≡◌, inl, inr, List, [], ◌∷◌, ◌++◌, Option, Some, map, refl, sym, ap, ap₂, subst, ◌∙◌}
+use Rattle.std.proofs.Common.{◌≡◌, inl, inr, List, [], ◌∷◌, ◌++◌, Option, Some, refl, sym, ap, subst, ◌∙◌}
 use Rattle.cacache_core.specs.declared.errors.{Error.{Error, TheVariants.{IoError, OutOfMemory}}, Fault.{Fault}}
 use Rattle.cacache_store.specs.declared.store.answer.Answer.TheVariants as answers
-use Rattle.cacache_store.specs.{declared.store.log.LogItem.{LogItem, TheVariants.{Made}}, Plain.{PlainStep, PlainAnswer}}
+use Rattle.cacache_store.specs.{declared.store.log.LogItem.{LogItem}, Plain.{PlainStep, PlainAnswer}}
 use Rattle.cacache_disk.specs.{declared.luck.Luck.TheVariants.{Plain}, Tree.{Tree}, Apply.{apply}, Rooted.{Rooted}, memory.Replay.{tree_of, IsLog}}
 use Rattle.cacache_calls.specs.{Runs.{Gains, Moves}, SingleSteps.{Does, FailsAt}}
-use Rattle.cacache_laws.{specs.Sequence.{tree_on, plain_moves, AreAnswered}, proofs.{Calls.InParts.{logs_lead}, trees.Logged.{answered_split, gains_join, log_rooted}}}
+use Rattle.cacache_laws.specs.Sequence.{tree_on, plain_moves, AreAnswered}
+use Rattle.cacache_laws.proofs.{Calls.InParts.{logs_lead}, trees.Logged.{answered_split, gains_join, log_rooted}, results.LinkerResults.{moves_same}}
 use Rattle.cacache_loss.specs.Moments.{Moment, after, next}
 use Rattle.cacache_keep.proofs.{Parts.{gains_none}, TreeRuns.{Leads, moves_rooted}}
 
@@ -72,31 +73,11 @@ fixes_leads P old new l = record {
 
 -- ---- the moves that a log gained
 
-same_moves : (one two : Moves) → map (λ m. Made m.0 m.1) one ≡ map (λ m. Made m.0 m.1) two → one ≡ two
-same_moves [] [] e = refl
-same_moves [] (m ∷ two) e = absurd cc
-same_moves (m ∷ one) [] e = absurd cc
-same_moves (m ∷ one) (n ∷ two) e =
-    let step : m.0 ≡ n.0 = cc in
-    let answer : m.1 ≡ n.1 = cc in
-    let rest : map (λ m. Made m.0 m.1) one ≡ map (λ m. Made m.0 m.1) two = cc in
-    let first : m ≡ n = ap₂ (λ (s : PlainStep) (a : PlainAnswer). (s, a)) step answer in
-    ap₂ (λ (x : PlainStep × PlainAnswer) (l : Moves). x ∷ l) first (same_moves one two rest)
-
-same_rest : (old xs ys : List LogItem) → old ++ xs ≡ old ++ ys → xs ≡ ys
-same_rest [] xs ys e = e
-same_rest (i ∷ old) xs ys e = same_rest old xs ys cc
-
-gained_once : (old new : List LogItem) (one two : Moves) → Gains (Some old) (Some new) one → Gains (Some old) (Some new) two → one ≡ two
-gained_once old new one two a b =
-    let both : Some (old ++ map (λ m. Made m.0 m.1) one) ≡ Some (old ++ map (λ m. Made m.0 m.1) two) = sym a ∙ b in
-    same_moves one two (same_rest old (map (λ m. Made m.0 m.1) one) (map (λ m. Made m.0 m.1) two) cc)
-
 -- on the log of a store in memory, from a moment that has its tree
 pub fixes_on : (P : Moment → Moves → Type 0) (old new : List LogItem) (moves : Moves) (w : Moment) → IsLog new → Gains (Some old) (Some new) moves → w.tree ≡ tree_of old → Fixes P (Some old) (Some new) → P w moves
 fixes_on P old new moves w logged gains tree f =
     let lead = logs_lead old new f.moves f.gains logged in
-    subst (P w) (gained_once old new f.moves moves f.gains gains) (f.tells w (subst Rooted (sym tree) (log_rooted old)) (subst (λ t. AreAnswered t f.moves) (sym tree) lead.0))
+    subst (P w) (moves_same old new f.moves moves f.gains gains) (f.tells w (subst Rooted (sym tree) (log_rooted old)) (subst (λ t. AreAnswered t f.moves) (sym tree) lead.0))
 
 -- the tree after that
 pub tree_then : (old new : List LogItem) (moves : Moves) (w : Moment) → IsLog new → Gains (Some old) (Some new) moves → w.tree ≡ tree_of old → (later w moves).tree ≡ tree_of new

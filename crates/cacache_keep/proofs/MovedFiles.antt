@@ -1,11 +1,12 @@
 -- Temporary files that are moved to a path.
-use Rattle.std.proofs.Common.{◌≡◌, ℕ, List, Option, None, Some, Result, Ok, Err, refl}
+use Rattle.std.proofs.Common.{◌≡◌, ℕ, List, Some, Result, Ok, Err, refl}
 use Rattle.cacache_core.specs.{declared.errors.Fault.{Fault}, PathNames.{Names, names_of}}
 use Rattle.cacache_store.specs.declared.store.answer.Answer.TheVariants as answers
 use Rattle.cacache_store.specs.declared.store.plain.PlainTemp.{PlainTemp}
 use Rattle.cacache_store.specs.declared.store.step.Step.TheVariants as steps
 use Rattle.cacache_disk.specs.{declared.{luck.Luck.TheVariants.{Plain}, node.Node.TheVariants.{File}}, Tree.{Tree, cut, put}, LedTo.{kept, known, replaceable}, Apply.{apply, unless}}
 use Rattle.cacache_disk.proofs.FoundNodes.{kept_ok, replaceable_ok}
+use Rattle.cacache_value.proofs.Steps.{known_ok}
 
 pub record MovedTo (full : PlainTemp) (path : List ℕ) (t new : Tree) : Type 0 where
   pub bytes : List ℕ
@@ -16,10 +17,6 @@ pub record MovedTo (full : PlainTemp) (path : List ℕ) (t new : Tree) : Type 0 
   pub at : names_of path ≡ Ok to
   pub leads : new ≡ put (cut t old) to (File bytes)
 
-known_ok : (o : Option (List ℕ)) (bytes : List ℕ) → known o ≡ Ok bytes → o ≡ Some bytes
-known_ok None bytes e = absurd cc
-known_ok (Some old) bytes e = cc
-
 pub moved : (full : PlainTemp) (path : List ℕ) (t : Tree) → answers.Done ≡ (apply t (steps.Persist full path) Plain).0 → MovedTo full path t (apply t (steps.Persist full path) Plain).1
 unfolding apply
 moved full path t e = by (known full.bytes) (kept t full.path) (replaceable t path) (λ b k. known_ok full.bytes b k) (λ n k. (kept_ok t full.path n k).0) (λ n k. (replaceable_ok t path n k).0) e
@@ -28,10 +25,8 @@ moved full path t e = by (known full.bytes) (kept t full.path) (replaceable t pa
         → ((n : Names) → k ≡ Ok n → names_of full.path ≡ Ok n) → ((n : Names) → p ≡ Ok n → names_of path ≡ Ok n)
         → answers.Done ≡ (unless r t (λ bytes. unless k t (λ old. unless p t (λ new. (answers.Done, put (cut t old) new (File bytes)))))).0
         → MovedTo full path t (unless r t (λ bytes. unless k t (λ old. unless p t (λ new. (answers.Done, put (cut t old) new (File bytes)))))).1
-    by (Err f) k p x y z e = absurd cc
-    by (Ok b) (Err f) p x y z e = absurd cc
-    by (Ok b) (Ok old) (Err f) x y z e = absurd cc
     by (Ok b) (Ok old) (Ok to) x y z e = record { bytes = b; has = x b refl; old = old; from = y old refl; to = to; at = z to refl; leads = refl }
+    by r k p x y z e = absurd cc
 
 pub unmoved : (full : PlainTemp) (path : List ℕ) (fault : Fault) (t : Tree) → answers.Failed fault ≡ (apply t (steps.Persist full path) Plain).0 → (apply t (steps.Persist full path) Plain).1 ≡ t
 unfolding apply
@@ -40,7 +35,5 @@ unmoved full path fault t e = by (known full.bytes) (kept t full.path) (replacea
     by : (r : Result (List ℕ) Fault) (k : Result Names Fault) (p : Result Names Fault)
         → answers.Failed fault ≡ (unless r t (λ bytes. unless k t (λ old. unless p t (λ new. (answers.Done, put (cut t old) new (File bytes)))))).0
         → (unless r t (λ bytes. unless k t (λ old. unless p t (λ new. (answers.Done, put (cut t old) new (File bytes)))))).1 ≡ t
-    by (Err f) k p e = refl
-    by (Ok b) (Err f) p e = refl
-    by (Ok b) (Ok old) (Err f) e = refl
     by (Ok b) (Ok old) (Ok to) e = absurd cc
+    by r k p e = refl

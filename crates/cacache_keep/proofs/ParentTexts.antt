@@ -1,5 +1,5 @@
 -- The text of the folder that holds a bucket's path.
-use Rattle.std.proofs.{Common.{◌≡◌, ◌+◌, ◌-◌, ◌≤◌, ◌<◌, ◌==◌, ◌&&◌, ℕ, zero, suc, List, [], ◌∷◌, ◌++◌, Bool, true, false, cond, Some, length, take, drop, slice_index, refl, sym, ap, ◌∙◌, arith, append_assoc, length-append, eqb-true, bytes_eq}, Math.Seq.{take-append_seam, get_or-append-add, get_or-append_seam}, lemmas.{Bool.{and_parts, eq-eqb}, Slice.Eq.{bytes_eq-Decides}}}
+use Rattle.std.proofs.{Common.{◌≡◌, ◌+◌, ◌-◌, ◌≤◌, ◌<◌, ◌==◌, ℕ, zero, suc, List, [], ◌∷◌, ◌++◌, Bool, true, false, cond, Some, length, take, drop, slice_index, refl, sym, ap, ◌∙◌, arith, append_assoc, length-append, eqb-true, bytes_eq}, Math.Seq.{take-append_seam, get_or-append-add, get_or-append_seam}, lemmas.{Bool.{and_parts, eq-eqb, and_right}, Slice.Eq.{bytes_eq-Decides}, List.{take_all}}}
 use Rattle.std.specs.{List.{list_all, list_any}, Path.{is_trailing, path_parent, rfind_below, root_dir, rsplit_once, split_last_component, trim_trailing, trimmed_len}, Prelude.{unwrap_or}}
 use Rattle.cacache_core.specs.{PathNames.{IsProperName, ends_name}, Paths.{join}}
 use Rattle.cacache_keep.specs.{Buckets.{is_hex_digit}, Rewriting.{folder_of}}
@@ -41,17 +41,8 @@ size_of x e = ap length e.is ∙ (let sum = length-append e.front (e.last ∷ []
 last_of : (x : List ℕ) (e : EndsHex x) → slice_index x (length e.front) ≡ e.last
 last_of x e = ap (λ (l : List ℕ). slice_index l (length e.front)) e.is ∙ get_or-append_seam e.front (e.last) [] 0
 
--- such a text stays as it is if trailing slashes are cut
-and_false : (b : Bool) → (b && false) ≡ false
-and_false true = refl
-and_false false = refl
-
 not_trailing : (x : List ℕ) (i : ℕ) → (slice_index x i == 47) ≡ false → (slice_index x i == 46) ≡ false → is_trailing x i ≡ false
-not_trailing x i slash dot = rw (slash, dot) (and_false _)
-
-all_taken : (l : List ℕ) → take (length l) l ≡ l
-all_taken [] = refl
-all_taken (c ∷ l) = ap (λ (m : List ℕ). c ∷ m) (all_taken l)
+not_trailing x i slash dot = rw (slash, dot) (and_right _ false refl)
 
 not_last : (x : List ℕ) (e : EndsHex x) (c : ℕ) → is_hex_digit c ≡ false → (slice_index x (length e.front) == c) ≡ false
 not_last x e c none = ap (λ (d : ℕ). d == c) (last_of x e) ∙ not_digit c e.last none e.hex
@@ -61,7 +52,7 @@ unfolding trim_trailing
 trimmed x e =
     let kept : trimmed_len x (length x) ≡ length x
     = ap (trimmed_len x) (size_of x e) ∙ ap (λ b. cond b (trimmed_len x (length e.front)) (suc (length e.front))) (not_trailing x (length e.front) (not_last x e 47 refl) (not_last x e 46 refl)) ∙ sym (size_of x e) in
-    ap (λ (n : ℕ). take n x) kept ∙ all_taken x
+    ap (λ (n : ℕ). take n x) kept ∙ take_all (length x) x (omega arith)
 
 -- ---- a name after a slash
 

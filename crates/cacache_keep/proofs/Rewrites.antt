@@ -9,15 +9,9 @@ use Rattle.cacache_calls.specs.{declared.answers.Refusal.{Refusal}, Answers.{byt
 use Rattle.cacache_laws.proofs.trees.Logged.{gains_join}
 use Rattle.cacache_jobs.specs.Brought.{Brings, EndsRefused}
 use Rattle.cacache_keep.specs.Rewriting.{MakesTemp, Rewrites, StopsMoving, StopsRewriting, StopsSecuring, StopsSyncing, StopsWriting, SyncsFolder, SyncsTemp, Takes, Took}
-use Rattle.cacache_keep.proofs.Sweeps.{Refuses, step_fails}
+use Rattle.cacache_keep.proofs.Sweeps.{refused_fails, Refuses, temp_refused}
 
 -- ---- a step that was refused
-
-pub folder_refused : (path : List ℕ) (t : PlainAnswer) (refusal : Refusal) → Err refusal ≡ done_in t → Fits (steps.MakeDirs path) t → Refuses t refusal
-folder_refused path (answers.Failed fault) refusal is fits = cc
-folder_refused path (answers.NoMemory b) refusal is fits = cc
-folder_refused path answers.Done refusal is fits = absurd cc
-folder_refused path t refusal is fits = absurd fits
 
 pub move_refused : (file : PlainTemp) (path : List ℕ) (t : PlainAnswer) (refusal : Refusal) → Err refusal ≡ done_in t → Fits (steps.Persist file path) t → Refuses t refusal
 move_refused file path (answers.Failed fault) refusal is fits = cc
@@ -49,19 +43,11 @@ read_refused path (answers.NoMemory b) refusal is fits = cc
 read_refused path (answers.Bytes b) refusal is fits = absurd cc
 read_refused path t refusal is fits = absurd fits
 
-pub making_refused : (path : List ℕ) (t : PlainAnswer) (refusal : Refusal) → temp_in t ≡ Err refusal → Fits (steps.CreateTemp path) t → Refuses t refusal
-making_refused path (answers.Failed fault) refusal is fits = cc
-making_refused path (answers.NoMemory b) refusal is fits = cc
-making_refused path (answers.Temp file) refusal is fits = absurd cc
-making_refused path t refusal is fits = absurd fits
-
 pub write_refused : (file : PlainTemp) (bytes : List ℕ) (t : PlainAnswer) (refusal : Refusal) → Err refusal ≡ written_in t → Fits (steps.Write file bytes) t → Refuses t refusal
 write_refused file bytes (answers.Failed fault) refusal is fits = cc
 write_refused file bytes (answers.NoMemory b) refusal is fits = cc
 write_refused file bytes (answers.Wrote g n) refusal is fits = absurd cc
 write_refused file bytes t refusal is fits = absurd fits
-
--- ---- a step that was done
 
 -- ---- writes
 
@@ -106,7 +92,7 @@ module _ (file last g : PlainTemp) (bytes rest shared : List ℕ) (t : PlainAnsw
 pub write_stops : (file last : PlainTemp) (bytes rest shared : List ℕ) (t : PlainAnswer) (refusal : Refusal) (e : Error) (old mid new : Option (List LogItem)) → Took file bytes last rest old mid → shared ≡ rest → Err refusal ≡ written_in t → Fits (steps.Write last shared) t → Logs mid new (steps.Write last shared) t
     → EndsAs e (refuse refusal fails) → StopsWriting file bytes e old new
 write_stops file last bytes rest shared t refusal e old mid new h same is fits logs ends =
-    (last, rest, mid, h, inl (subst (λ (b : List ℕ). FailsAt (steps.Write last b) e mid new) same (step_fails (steps.Write last shared) t refusal e mid new (write_refused last shared t refusal is fits) logs ends)))
+    (last, rest, mid, h, inl (subst (λ (b : List ℕ). FailsAt (steps.Write last b) e mid new) same (refused_fails (steps.Write last shared) t refusal e mid new (write_refused last shared t refusal is fits) logs ends)))
 
 -- memory ran out before one
 pub write_lost : (file last : PlainTemp) (bytes rest : List ℕ) (old mid : Option (List LogItem)) → Took file bytes last rest old mid → StopsWriting file bytes OutOfMemory old mid
@@ -116,7 +102,7 @@ write_lost file last bytes rest old mid h = (last, rest, mid, h, inl (inl refl))
 
 made_stops : (path : List ℕ) (t : PlainAnswer) (r : Result PlainTemp Refusal) (e : Error) (old new : Option (List LogItem)) → temp_in t ≡ r → EndsRefused r e → Fits (steps.CreateTemp path) t → Logs old new (steps.CreateTemp path) t → FailsAt (steps.CreateTemp path) e old new
 made_stops path t (Ok file) e old new is ends fits logs = absurd ends
-made_stops path t (Err refusal) e old new is ends fits logs = step_fails (steps.CreateTemp path) t refusal e old new (making_refused path t refusal is fits) logs ends
+made_stops path t (Err refusal) e old new is ends fits logs = refused_fails (steps.CreateTemp path) t refusal e old new (temp_refused path t refusal (sym is) fits) logs ends
 
 pub brings_stops : {X : Type 0} (seen : X → PlainTemp) (path : List ℕ) (t : PlainAnswer) (r : Result X Error) (old new : Option (List LogItem)) → Brings seen (temp_in t) r → Fits (steps.CreateTemp path) t → Logs old new (steps.CreateTemp path) t
     → IfErr r (λ e. FailsAt (steps.CreateTemp path) e old new)

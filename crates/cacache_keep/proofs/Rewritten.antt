@@ -9,7 +9,7 @@ use Rattle.cacache_disk.specs.{declared.{luck.Luck.TheVariants.{Plain}, node.Nod
 use Rattle.cacache_disk.proofs.{FoundNodes.{and_then_ok, place_ok}, Maps.{same_path-true}, PutNodes.{look-cut, look-put}, Roots.{same_self}, Standing.{upper_folder}}
 use Rattle.cacache_calls.specs.{Runs.{Moves}, StepPaths.{temp_folder, temp_path}}
 use Rattle.cacache_laws.specs.{Sequence.{tree_on, AreAnswered}, trees.{Compacted.{Compacted}, Temporary.{is_temp_name, temp_at}}}
-use Rattle.cacache_laws.proofs.trees.LeanTrees.{Becomes, EndsUp, compacted_none, ends}
+use Rattle.cacache_laws.proofs.{trees.LeanTrees.{Becomes, EndsUp, compacted_none, ends}, Calls.Handed.{writing_keeps}, Sure.SureLinks.{make_step}}
 use Rattle.cacache_keep.{specs.Rewriting.{Takes}, proofs.MovedFiles.{MovedTo}}
 
 -- ---- the folder of temporary files is made
@@ -19,9 +19,6 @@ stands_on : (t : Tree) (p above : Names) (name : List ℕ) (node : Node) → Roo
 stands_on t p [] name node rooted e = (node, e)
 stands_on t p (next ∷ above) name node rooted e =
     (Folder, upper_folder t (p ++ name ∷ []) above next node rooted (ap (look t) (append_assoc p (name ∷ []) (next ∷ above)) ∙ e))
-
-make_step : (t : Tree) (p rest : Names) (name : List ℕ) (node : Node) (most : ℕ) → look t (p ++ name ∷ []) ≡ Some node → make_some t p (name ∷ rest) most ≡ make_some t (p ++ name ∷ []) rest most
-make_step t p rest name node most e = rw (e, make_some) refl
 
 -- folders that are there are passed by
 make_to : (t : Tree) (p above rest : Names) (node : Node) (most : ℕ) → Rooted t → look t (p ++ above) ≡ Some node → make_some t p (above ++ rest) most ≡ make_some t (p ++ above) rest most
@@ -125,14 +122,10 @@ temp_failed path fault t e = by (free t path) e
 
 -- ---- it is written
 
-pub writes_keep : (t : Tree) (file : PlainTemp) (bytes : List ℕ) → (apply t (steps.Write file bytes) Plain).1 ≡ t
-unfolding apply
-writes_keep t file bytes = refl
-
 pub writes_stay : (moves : Moves) (t : Tree) (file last : PlainTemp) (bytes rest : List ℕ) → Takes file bytes moves last rest → tree_on t moves ≡ t
 writes_stay [] t file last bytes rest takes = refl
 writes_stay ((steps.Write f b, answers.Wrote g n) ∷ moves) t file last bytes rest takes =
-    ap (λ (u : Tree). tree_on u moves) (writes_keep t f b) ∙ writes_stay moves t g last (drop n bytes) rest takes.2
+    ap (λ (u : Tree). tree_on u moves) (writing_keeps t f b) ∙ writes_stay moves t g last (drop n bytes) rest takes.2
 writes_stay moves t file last bytes rest takes = absurd takes
 
 -- what it has, and where it lies
@@ -168,9 +161,9 @@ writes_take [] t file last path had bytes rest takes a has =
 writes_take ((steps.Write f b, answers.Wrote g n) ∷ moves) t file last path had bytes rest takes a has =
     let here = subst (λ (x : PlainTemp). Has x path had) (sym takes.0) has in
     let next = wrote_has t f g b n path had here a.0 in
-    let later = subst (λ (u : Tree). AreAnswered u moves) (writes_keep t f b) a.1 in
+    let later = subst (λ (u : Tree). AreAnswered u moves) (writing_keeps t f b) a.1 in
     let more = writes_take moves t g last path (had ++ take n bytes) (drop n bytes) rest takes.2 later (subst (λ (l : List ℕ). Has g path (had ++ take n l)) takes.1 next) in (
-      ap (λ (u : Tree). tree_on u moves) (writes_keep t f b) ∙ more.0,
+      ap (λ (u : Tree). tree_on u moves) (writing_keeps t f b) ∙ more.0,
       record {
         has = more.1.has;
         file = more.1.file;

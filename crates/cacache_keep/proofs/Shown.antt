@@ -1,6 +1,6 @@
 -- Looks at the contents: what they show, and that they leave the tree.
 use Rattle.std.proofs.Common.{◌≡◌, ◌+◌, ℕ, zero, suc, List, [], ◌∷◌, false, Option, Some, arith, refl, sym, ap, ap₂, subst, ◌∙◌, map, get_or}
-use Rattle.std.specs.{declared.cmp.Ordering.{Ordering, TheVariants.{Less, Equal, Greater}}, List.Sorted.{IsSorted, IsStrictlySortedBy}, Ordering.{is_lt, ordering_reverse}}
+use Rattle.std.specs.{declared.cmp.Ordering.{Ordering, TheVariants.{Less}}, List.Sorted.{IsSorted, IsStrictlySortedBy}, Ordering.{is_lt, ordering_reverse}}
 use Rattle.cacache_core.specs.{declared.integrity.digest.Hash.{Hash}, Integrity.{address}}
 use Rattle.cacache_store.specs.declared.store.log.LogItem.{LogItem}
 use Rattle.cacache_disk.specs.Tree.{Tree}
@@ -46,8 +46,7 @@ burial_of {site} {entries} {damaged} {buried} {old} {new} v = burial site v.dang
 
 later_first : (r : Ordering) → r ≡ Less → is_lt (ordering_reverse r) ≡ false
 later_first Less e = refl
-later_first Equal e = absurd cc
-later_first Greater e = absurd cc
+later_first r e = absurd cc
 
 not_lower : (x y : Hash) → hash_cmp x y ≡ Less → is_lt (hash_cmp y x) ≡ false
 not_lower x y up = ap is_lt (hash_total.antisymm y x) ∙ later_first (hash_cmp x y) up
@@ -55,12 +54,11 @@ not_lower x y up = ap is_lt (hash_total.antisymm y x) ∙ later_first (hash_cmp 
 -- what strictly ascends is sorted
 sorted_strictly : (hs : List Hash) → IsStrictlySortedBy hash_cmp hs → IsSorted hash_cmp hs
 unfolding IsStrictlySortedBy
-sorted_strictly [] up k d low high = absurd (omega (arith, high))
-sorted_strictly (x ∷ []) up k d low high = absurd (omega (arith, high))
 sorted_strictly (x ∷ y ∷ hs) up zero d low high = not_lower x y up.0.0
 sorted_strictly (x ∷ y ∷ hs) up (suc k) d low high =
     let next : suc k + 1 ≡ suc (k + 1) = omega arith in
     subst (λ (n : ℕ). is_lt (hash_cmp (get_or (x ∷ y ∷ hs) n d) (get_or (y ∷ hs) k d)) ≡ false) (sym next) (sorted_strictly (y ∷ hs) up.1 k d (omega arith) (omega (arith, high)))
+sorted_strictly hs up k d low high = absurd (omega (arith, high))
 
 same_hashes : (hs gs : List Hash) → map Some hs ≡ map address (map (λ h. h ∷ []) gs) → hs ≡ gs
 same_hashes [] [] e = refl

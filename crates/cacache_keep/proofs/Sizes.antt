@@ -5,13 +5,13 @@ use Rattle.cacache_store.specs.{declared.store.log.LogItem.{LogItem}, Fits.{Fits
 use Rattle.cacache_store.specs.declared.store.step.Step.TheVariants as steps
 use Rattle.cacache_calls.specs.{declared.answers.Refusal.{Refusal}, Answers.{length_in}, Common.{fails, refuse}, Runs.{EndsAs}, SingleSteps.{FailsAt}, StepPaths.{content_path}}
 use Rattle.cacache_keep.specs.{declared.planning.Unused.{Unused}, Planning.{HidesFirst, HidesSize, Sized, StopsTelling, TellsSize, TellsSizes, sized_of}, Reading.{finds_none}}
-use Rattle.cacache_keep.proofs.Sweeps.{sizing_refused, step_fails, still_there}
+use Rattle.cacache_keep.proofs.Sweeps.{still_there, refused_fails, size_refused}
 
 -- ---- one content
 
 pub hidden_so : (cache path : List ℕ) (i : List Hash) (t : PlainAnswer) (refusal : Refusal) (e : Error) (old new : Option (List LogItem)) → path ≡ content_path cache i → finds_none refusal ≡ false → Err refusal ≡ length_in t → Fits (steps.Size path) t → Logs old new (steps.Size path) t → EndsAs e (refuse refusal fails) → HidesSize cache i e old new
 hidden_so cache path i t refusal e old new at some is fits logs ends =
-    (still_there e refusal ends some, subst (λ (p : List ℕ). FailsAt (steps.Size p) e old new) at (step_fails (steps.Size path) t refusal e old new (sizing_refused path t refusal is fits) logs ends))
+    (still_there e refusal ends some, subst (λ (p : List ℕ). FailsAt (steps.Size p) e old new) at (refused_fails (steps.Size path) t refusal e old new (size_refused path t refusal is fits) logs ends))
 
 -- ---- contents, one after another
 

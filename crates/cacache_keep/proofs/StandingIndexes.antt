@@ -52,8 +52,7 @@ module _ (t : Tree) (rooted : Rooted t) where
   unlisted_at : (path : List ℕ) (names : Names) (node : Node) → names_of path ≡ Ok names → look t names ≡ Some node → (node ≡ Folder → ⊥) → folder t path ≡ Err NotADirectory
   unfolding folder place
   unlisted_at path names Folder named stands leaf = absurd (leaf refl)
-  unlisted_at path names (File bytes) named stands leaf = rw (named, way_clear t [] names (File bytes) rooted stands, stands) refl
-  unlisted_at path names (Link target) named stands leaf = rw (named, way_clear t [] names (Link target) rooted stands, stands) refl
+  unlisted_at path names node named stands leaf = rw (named, way_clear t [] names node rooted stands, stands) refl
 
   unlisted : (path : List ℕ) → IsLeaf path → (apply t (steps.ReadDir path) Plain).0 ≡ answers.Failed NotADirectory
   unfolding apply
@@ -103,10 +102,6 @@ module _ (t : Tree) (rooted : Rooted t) where
   -- folders that it read as buckets are files or links
   leaves : (moves : Moves) (todo : List Task) → ReadsAll todo (as_walked moves) → AreAnswered t moves → EachVisit Fit todo → AllLeaves (linked_in moves) × (tree_on t moves ≡ t)
   leaves [] todo reads a each = (tt, refl)
-  leaves (m ∷ moves) [] reads a each = absurd reads
-  leaves (m ∷ moves) (Stumble fault path ∷ todo) reads a each = absurd reads
-  leaves (m ∷ moves) (Make (RemoveFile p) ∷ todo) reads a each = absurd reads
-  leaves (m ∷ moves) (Make (RemoveFolder p) ∷ todo) reads a each = absurd reads
   leaves (m ∷ moves) (Make (ReadBucket p) ∷ todo) reads a each =
       let step : m.0 ≡ steps.ReadAll p = reads.0 in
       let stays : (apply t m.0 Plain).1 ≡ t = ap (λ s. (apply t s Plain).1) step ∙ reading_keeps t p in
@@ -124,6 +119,7 @@ module _ (t : Tree) (rooted : Rooted t) where
         subst (λ (s : PlainStep). AllLeaves (cons_option (linked_read s m.1) (linked_in moves))) (sym step) rest.0,
         ap (λ x. tree_on x moves) stays ∙ rest.1,
       )
+  leaves moves todo reads a each = absurd reads
 
   -- ---- a folder that a link leads to isn't listed
 

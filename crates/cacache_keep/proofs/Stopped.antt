@@ -1,7 +1,7 @@
 -- Calls and listings that an error ends.
 use Rattle.std.proofs.{Common.{◌≡◌, ◌⊎◌, ◌<◌, ◌+◌, ℕ, List, [], ◌∷◌, ◌++◌, Bool, Option, Ok, Err, Result, IfErr, inl, inr, refl, sym, ap, subst, ◌∙◌, map, length, take, drop, get_or, append_assoc}, lemmas.List.{drop_more, take-append-drop, Elements.{All-append, All-cons, All-map, All-nil}}}
 use Rattle.std.specs.Prelude.{All, IsErrAnd}
-use Rattle.cacache_core.specs.declared.{errors.{Error.{Error, TheVariants.{EntryNotFound, SizeMismatch, IoError, SerdeError, IntegrityError, OutOfMemory}}, Fault.{Fault, TheVariants.{NotFound}}}, integrity.digest.Hash.{Hash}}
+use Rattle.cacache_core.specs.declared.{errors.{Error.{Error, TheVariants.{IoError, OutOfMemory}}, Fault.{Fault, TheVariants.{NotFound}}}, integrity.digest.Hash.{Hash}}
 use Rattle.cacache_store.specs.declared.store.log.LogItem.{LogItem}
 use Rattle.cacache_entry.specs.Latest.{Found}
 use Rattle.cacache_calls.specs.{declared.{command.Command.{Command}, reply.Reply.{Reply}}, State.{Site, Item}, Table.{opening}, Runs.{Ran, plain_item, without_message}}
@@ -58,19 +58,13 @@ pub first_plain : (items : List Item) (e : Error) → IsFirstError items e → I
 first_plain items e (entries, rest, is) = (entries, map plain_item rest, ap (map plain_item) is ∙ entries_plain entries (Err e ∷ rest))
 
 only_missing : (item : Item) (message : List ℕ) → plain_item item ≡ Err (IoError NotFound message) → (m : List ℕ) × (item ≡ Err (IoError NotFound m))
-only_missing (Ok found) message is = absurd (cc)
 only_missing (Err (IoError fault m)) message is = (m, (let same : fault ≡ NotFound = cc in ap (λ (f : Fault). Err (IoError f m)) same))
-only_missing (Err (SerdeError cause m)) message is = absurd (cc)
-only_missing (Err (EntryNotFound cache key)) message is = absurd (cc)
-only_missing (Err (SizeMismatch wanted found)) message is = absurd (cc)
-only_missing (Err (IntegrityError fault)) message is = absurd (cc)
-only_missing (Err OutOfMemory) message is = absurd (cc)
+only_missing item message is = absurd (cc)
 
 missing_too : (items : List Item) → HasNoIndex (map plain_item items) → HasNoIndex items
-missing_too [] (message, is) = absurd (cc)
 missing_too (item ∷ []) (message, is) =
     let it = only_missing item message (cc) in (it.0, ap (λ (i : Item). i ∷ []) it.1)
-missing_too (item ∷ other ∷ rest) (message, is) = absurd (cc)
+missing_too items (message, is) = absurd (cc)
 
 own_plain : (items : List Item) (e : Error) → IsOwnError items e → IsOwnError (map plain_item items) (without_message e)
 own_plain items e own = (first_plain items e own.0, λ missing. own.1 (missing_too items missing))

@@ -1,100 +1,23 @@
 -- A collection that an error ended leaves a cache in which each key leads where it led.
-use Rattle.std.proofs.{Common.{◌≡◌, inl, inr, ℕ, List, [], ◌∷◌, ◌++◌, true, false, Option, Some, Ok, map, refl, sym, ap, ap₂, subst, ◌∙◌, ◌-◌, arith, filter, length}, lemmas.List.Elements.{All-cons, All-head, All-nil, All-tail}}
+use Rattle.std.proofs.{Common.{◌≡◌, inl, inr, ℕ, List, [], ◌∷◌, ◌++◌, true, false, Option, Some, map, refl, sym, ap, ap₂, subst, ◌∙◌, arith, filter}, lemmas.List.Elements.{All-cons, All-head, All-nil, All-tail}}
 use Rattle.std.specs.Prelude.{All, Contains, not}
 use Rattle.sha1.specs.Sha1.{sha1}
-use Rattle.cacache_core.specs.{declared.{errors.Error.{Error}, integrity.{algorithm.Algorithm.{Algorithm, TheVariants.{Sha1, Sha256, Sha384, Sha512}}, digest.Hash.{Hash}}}, Integrity.{IsHash, IsIntegrity, address, strongest_first}, PathNames.{Names, home_of}}
+use Rattle.cacache_core.specs.{declared.{errors.Error.{Error}, integrity.{algorithm.Algorithm.{Algorithm, TheVariants.{Sha1}}, digest.Hash.{Hash}}}, Integrity.{IsHash, IsIntegrity, address, strongest_first}, PathNames.{Names, home_of}}
 use Rattle.cacache_core.proofs.PathLemmas.{keys_have_digests}
 use Rattle.cacache_store.specs.declared.store.log.LogItem.{LogItem, TheVariants.{Made}}
 use Rattle.cacache_disk.specs.{Tree.{Tree}, memory.Replay.{tree_of, IsLog}}
 use Rattle.cacache_entry.specs.Latest.{Found, latest}
 use Rattle.cacache_calls.specs.declared.command.Command.TheVariants as commands
 use Rattle.cacache_calls.specs.declared.reply.Reply.TheVariants as replies
-use Rattle.cacache_calls.specs.{declared.{command.Command.{Command}, reply.Reply.{Reply}}, Licence.{AllMay, looking_on}, Runs.{Gains, Moves, Ran, without_message}, State.{Item, Site}, Table.{opening}, Walking.{most, walk}}
-use Rattle.cacache_calls.proofs.Within.{calls_keep_to, run_allowed}
+use Rattle.cacache_calls.specs.{declared.{command.Command.{Command}, reply.Reply.{Reply}}, Runs.{Gains, Moves, Ran, without_message}, State.{Site}, Table.{opening}, Walking.{most}}
 use Rattle.cacache_value.specs.Value.{value_of_tree}
-use Rattle.cacache_walks.specs.{Listing.{ListsContents, content_area_in}, Reading.{Folder, ReadsFolders, StopsWalk, folders_in, top_folder}}
+use Rattle.cacache_walks.specs.{Listing.{ListsContents, content_area_in}, Reading.{top_folder}}
 use Rattle.cacache_laws.specs.{Beside.{ShareAddress}, Caches.{Called, HasKey, IsCache}, Looks.{OnlyLooks}, ReadAnswers.{entries_on}, Sequence.{IsSound}, trees.{Collecting.{IsCollected, Removes, is_live}, Contents.{content_in}, Mending.{found_in}}}
-use Rattle.cacache_laws.proofs.{Calls.{InParts.{logs_lead}, Logs.{some_same}, Messages.{plain_error}}, Readings.{Looks.{moves_keep}, Looked.{same_stays_known}, OpenReaders.{log_front}}, Removing.Removed.{contents_go}, trees.{Collected.{from_kept, live_so}, Keeping.{removals_leave}, Led.{found_listed}, Logged.{gains_join, log_rooted, tree_rest}, Members.{Member, contains_member, member_contains}, SoundRemovals.{removals_leave_sound}}}
-use Rattle.cacache_keep.specs.{Behind.{KeepsKeys, StoppedKeepKeys}, Calls.{Asks, EndsFirst, EndsIndex, ListsEntries, ListsIndex, MadeCalls, StopsReading, StopsRemoving, has_entry, removal}, Keeping.{Chooses, StopsEarly}, Linked.{ListsBelow, ListsEach, Part, as_walked, linked_in, moves_in}}
-use Rattle.cacache_keep.proofs.{Behind.{found_same, key_same}, Chosen.{Choice, Keeps, choice}, Leaving.{removals, removals_gain, removed_by, unused_ones}, Parts.{AllLook, gains_none}}
+use Rattle.cacache_laws.proofs.{Calls.{InParts.{logs_lead}, Logs.{some_same}, Messages.{plain_error}}, Readings.{Looked.{same_stays_known}, OpenReaders.{log_front}}, Removing.Removed.{contents_go}, trees.{Collected.{from_kept, live_so}, Keeping.{removals_leave}, Led.{found_listed}, Logged.{gains_join, log_rooted}, Members.{Member, contains_member, member_contains}, SoundRemovals.{removals_leave_sound}}}
+use Rattle.cacache_keep.specs.{Behind.{KeepsKeys, StoppedKeepKeys}, Calls.{Asks, ListsEntries, MadeCalls, StopsReading, StopsRemoving, has_entry, removal}, Keeping.{Chooses, StopsEarly}}
+use Rattle.cacache_keep.proofs.{Behind.{found_same, key_same}, Chosen.{Choice, choice}, Leaving.{removals, removals_gain, removed_by, unused_ones}, Parts.{AllLook, index_look, ends_look, folders_look, stops_look, gained, then_keeps, Keeps, made_looks}}
 
 -- ---- moves that only look
-
-abbrev Look : Moves → Type 0
-Look moves = AllMay looking_on moves
-
-both_look : (xs ys : Moves) → Look xs → Look ys → Look (xs ++ ys)
-both_look [] ys a b = b
-both_look (m ∷ xs) ys a b = (a.0, both_look xs ys a.1 b)
-
--- whatever a walk takes their answers for
-taken_look : (moves : Moves) → Look (as_walked moves) → Look moves
-taken_look [] h = tt
-taken_look (m ∷ moves) h = (h.0, taken_look moves h.1)
-
-below_look : (top : List ℕ) (moves : Moves) (reply : Reply) → ListsBelow top moves reply → Look moves
-below_look top moves reply run = taken_look moves (run_allowed looking_on (walk false top) (as_walked moves) reply (tt, (tt, tt)) run)
-
-each_look : (tops : List (List ℕ)) (parts : List Part) → ListsEach tops parts → Look (moves_in parts)
-each_look [] [] h = tt
-each_look [] (part ∷ parts) h = absurd h
-each_look (top ∷ tops) [] h = absurd h
-each_look (top ∷ tops) (part ∷ parts) h = both_look part.1 (moves_in parts) (below_look top part.1 (replies.Listed (map (λ f. Ok f) part.0)) h.0) (each_look tops parts h.2)
-
-index_look : (site : Site) (items : List Item) (parts : List Part) (entries : List Found) (moves : Moves) → ListsIndex site items parts entries moves → Look moves
-index_look site items parts entries moves i =
-    subst Look (sym i.all) (both_look i.main (moves_in parts) (below_look _ i.main (replies.Listed items) i.listing) (each_look (linked_in i.main) parts i.linked))
-
-first_look : (tops : List (List ℕ)) (e : Error) (moves : Moves) → EndsFirst tops e moves → Look moves
-first_look [] e moves h = subst Look (sym h.1) tt
-first_look (top ∷ tops) e moves h = below_look top moves h.0 h.1
-
-ends_look : (site : Site) (e : Error) (moves : Moves) → EndsIndex site e moves → Look moves
-ends_look site e moves (inl h) = below_look _ moves h.0 h.1
-ends_look site e moves (inr (items, own, are, main, lists, more, ends, all)) =
-    let rest : Look more = subst Look (sym ends.all) (both_look (moves_in ends.parts) ends.last (each_look ends.done ends.parts ends.listed) (first_look ends.rest e ends.last ends.stop)) in
-    subst Look (sym all) (both_look main more (below_look _ main (replies.Listed items) lists) rest)
-
-folders_look : (todo : List Folder) (moves : Moves) → ReadsFolders todo moves → Look moves
-folders_look todo [] h = tt
-folders_look [] (m ∷ moves) h = absurd h
-folders_look (f ∷ todo) (m ∷ moves) h = (rw h.0 tt, folders_look (folders_in f h.3.0 ++ todo) moves h.3.2)
-
-stops_look : (left : ℕ) (todo : List Folder) (moves : Moves) (e : Error) → StopsWalk left todo moves e → Look moves
-stops_look left todo [] e h = tt
-stops_look left [] (m ∷ moves) e h = absurd h
-stops_look left (f ∷ todo) (m ∷ moves) e h = (
-  rw h.0 tt,
-  elim h.3 [
-    | inl on ↦ stops_look (left - length on.0) (folders_in f on.0 ++ todo) moves e on.2
-    | inr ends ↦ subst Look (sym ends.0) tt
-  ],
-)
-
--- ---- logs that gained them
-
-gained : (old new : Option (List LogItem)) (moves : Moves) → Gains old new moves → Look moves → Keeps old new
-gained old new moves gains look = record { moves = moves; gains = gains; stays = λ t. moves_keep t moves look }
-
-then_keeps : (old mid new : Option (List LogItem)) → Keeps old mid → Keeps mid new → Keeps old new
-then_keeps old mid new a b = record {
-  moves = a.moves ++ b.moves;
-  gains = gains_join old mid new a.moves b.moves a.gains b.gains;
-  stays = λ t. tree_rest t a.moves b.moves (a.stays t) ∙ b.stays t;
-}
-
--- those of calls that only look
-looks_keep : (site : Site) (calls : List (Command × Reply)) (old new : Option (List LogItem)) → AllLook calls → MadeCalls site calls old new → Keeps old new
-looks_keep site [] old new looks made = record { moves = []; gains = gains_none old new made; stays = λ t. refl }
-looks_keep site (c ∷ calls) old new looks made =
-    let ran = made.1 in
-    let rest = looks_keep site calls made.0 new looks.1 made.2 in
-    let may = calls_keep_to looking_on site c.0 ran.0 c.1 looks.0 ran.1 in
-    record {
-      moves = ran.0 ++ rest.moves;
-      gains = gains_join old made.0 new ran.0 rest.moves ran.2 rest.gains;
-      stays = λ t. tree_rest t ran.0 rest.moves (moves_keep t ran.0 may) ∙ rest.stays t;
-    }
 
 asks_look : (command : Command) → Asks command → OnlyLooks command
 asks_look (commands.Exists i) h = tt
@@ -110,7 +33,7 @@ module _ (site : Site) where
 
   reading_keeps : (e : Error) (old new : Option (List LogItem)) → StopsReading site e old new → Keeps old new
   reading_keeps e old new (inl (moves, ends, gains)) = gained old new moves gains (ends_look site e moves ends)
-  reading_keeps e old new (inr (entries, listed, l, q)) = then_keeps old listed new (listing_keeps entries old listed l) (looks_keep site q.calls listed new (all_look q.calls q.harmless) q.made)
+  reading_keeps e old new (inr (entries, listed, l, q)) = then_keeps old listed new (listing_keeps entries old listed l) (made_looks site q.calls listed new (all_look q.calls q.harmless) q.made).keeps
 
   contents_keep : (addresses : List (List Hash)) (strange : List (List ℕ)) (old new : Option (List LogItem)) → ListsContents site.cache addresses strange old new → Keeps old new
   contents_keep addresses strange old new c = gained old new c.0 c.1 (folders_look (top_folder (content_area_in site.cache) ∷ []) c.0 c.2)
@@ -133,9 +56,7 @@ module _ (site : Site) where
 
 ordered : (h : Hash) (a : Algorithm) → h.algorithm ≡ a → strongest_first (h ∷ []) ≡ h ∷ []
 ordered h Sha1 e = rw e refl
-ordered h Sha256 e = rw e refl
-ordered h Sha384 e = rw e refl
-ordered h Sha512 e = rw e refl
+ordered h a e = rw e refl
 
 single : (h : Hash) → IsHash h → IsIntegrity (h ∷ [])
 single h is = record { nonempty = omega arith; ordered = ordered h h.algorithm refl; hashes = All-cons IsHash h [] is (All-nil IsHash) }

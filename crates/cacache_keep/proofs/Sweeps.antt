@@ -3,25 +3,14 @@ use Rattle.std.proofs.{Common.{◌≡◌, ◌+◌, ◌-◌, ◌^◌, ◌<◌, in
 use Rattle.std.specs.{Prelude.{min}, List.{sum}}
 use Rattle.cacache_core.specs.{declared.errors.Error.{Error, TheVariants.{OutOfMemory}}, Paths.{join}}
 use Rattle.cacache_store.specs.declared.store.answer.Answer.TheVariants as answers
-use Rattle.cacache_store.specs.{declared.store.{answer.Name.{Name}, log.LogItem.{LogItem}}, Fits.{Fits, Logs}, Plain.{PlainStep, PlainAnswer}}
+use Rattle.cacache_store.specs.{declared.store.{answer.Name.{Name}, log.LogItem.{LogItem}}, Fits.{Fits, Logs}, Plain.{PlainAnswer}}
 use Rattle.cacache_store.specs.declared.store.step.Step.TheVariants as steps
-use Rattle.cacache_calls.specs.{declared.answers.Refusal.{Refusal}, Answers.{done_in, length_in, names_in}, Common.{fails, refuse}, Runs.{EndsAs, Gains, Moves}, SingleSteps.{Does, FailsAt}}
-use Rattle.cacache_calls.specs.declared.answers.Refusal.TheVariants as refusals
+use Rattle.cacache_calls.specs.{declared.answers.Refusal.{Refusal}, Answers.{length_in, names_in}, Common.{fails, refuse}, Runs.{EndsAs, Gains, Moves}, SingleSteps.{Does, FailsAt}}
 use Rattle.cacache_laws.{proofs.trees.Logged.{gains_join}, specs.trees.Temporary.{sized_removals, total}}
-use Rattle.cacache_keep.{specs.{Reading.{finds_none, is_gone}, Sweeping.{RemovesSized, StopsRemoval, StopsSized}}, proofs.Gives.{failed, lost, not_gone}}
+use Rattle.cacache_keep.{specs.{Reading.{finds_none, is_gone}, Sweeping.{RemovesSized, StopsRemoval, StopsSized}}, proofs.Gives.{not_gone}}
+pub use Rattle.cacache_sync.proofs.content.StepAnswers.{Refuses, refused_fails, folder_refused, removal_refused, size_refused, temp_refused}
 
 -- ---- a step that was refused
-
--- the answer is a fault or refused memory, and this is what it says
-abbrev pub Refuses : PlainAnswer → Refusal → Type 0
-Refuses (answers.Failed fault) refusal = refusal ≡ refusals.Fault fault
-Refuses (answers.NoMemory step) refusal = refusal ≡ refusals.Memory
-Refuses answer refusal = ⊥
-
-pub step_fails : (a : PlainStep) (t : PlainAnswer) (refusal : Refusal) (e : Error) (old new : Option (List LogItem)) → Refuses t refusal → Logs old new a t → EndsAs e (refuse refusal fails) → FailsAt a e old new
-step_fails a (answers.Failed fault) refusal e old new is logs ends = failed a fault e old new logs (rw is at ends)
-step_fails a (answers.NoMemory b) refusal e old new is logs ends = lost a e old new logs (rw is at ends)
-step_fails a t refusal e old new is logs ends = absurd is
 
 pub listing_refused : (path : List ℕ) (t : PlainAnswer) (refusal : Refusal) → Err refusal ≡ names_in t → Fits (steps.ReadDir path) t → Refuses t refusal
 listing_refused path (answers.Failed fault) refusal is fits = cc
@@ -29,25 +18,13 @@ listing_refused path (answers.NoMemory b) refusal is fits = cc
 listing_refused path (answers.Names names) refusal is fits = absurd cc
 listing_refused path t refusal is fits = absurd fits
 
-pub sizing_refused : (path : List ℕ) (t : PlainAnswer) (refusal : Refusal) → Err refusal ≡ length_in t → Fits (steps.Size path) t → Refuses t refusal
-sizing_refused path (answers.Failed fault) refusal is fits = cc
-sizing_refused path (answers.NoMemory b) refusal is fits = cc
-sizing_refused path (answers.Length count) refusal is fits = absurd cc
-sizing_refused path t refusal is fits = absurd fits
-
-pub removal_refused : (path : List ℕ) (t : PlainAnswer) (refusal : Refusal) → Err refusal ≡ done_in t → Fits (steps.RemoveFile path) t → Refuses t refusal
-removal_refused path (answers.Failed fault) refusal is fits = cc
-removal_refused path (answers.NoMemory b) refusal is fits = cc
-removal_refused path answers.Done refusal is fits = absurd cc
-removal_refused path t refusal is fits = absurd fits
-
 -- ---- the names of a folder
 
 pub still_there : (e : Error) (refusal : Refusal) → EndsAs e (refuse refusal fails) → finds_none refusal ≡ false → is_gone e ≡ false
 still_there e refusal ends some = not_gone e refusal ends (λ same. let wrong : true ≡ false = sym (ap finds_none same) ∙ some in absurd cc)
 
 pub unlisted_so : (path : List ℕ) (t : PlainAnswer) (refusal : Refusal) (e : Error) (old new : Option (List LogItem)) → finds_none refusal ≡ false → Err refusal ≡ names_in t → Fits (steps.ReadDir path) t → Logs old new (steps.ReadDir path) t → EndsAs e (refuse refusal fails) → (is_gone e ≡ false) × FailsAt (steps.ReadDir path) e old new
-unlisted_so path t refusal e old new some is fits logs ends = (still_there e refusal ends some, step_fails (steps.ReadDir path) t refusal e old new (listing_refused path t refusal is fits) logs ends)
+unlisted_so path t refusal e old new some is fits logs ends = (still_there e refusal ends some, refused_fails (steps.ReadDir path) t refusal e old new (listing_refused path t refusal is fits) logs ends)
 
 -- ---- one file
 

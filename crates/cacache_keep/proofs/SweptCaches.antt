@@ -1,5 +1,5 @@
 -- A sweep leaves all but the temporary files in the tree of the log.
-use Rattle.std.proofs.Common.{◌≡◌, ℕ, List, [], ◌∷◌, ◌++◌, Option, None, Some, Ok, filter, length, refl, sym, ap, subst, ◌∙◌}
+use Rattle.std.proofs.Common.{◌≡◌, ℕ, List, [], ◌∷◌, ◌++◌, Option, Some, Ok, filter, length, refl, sym, ap, subst, ◌∙◌}
 use Rattle.cacache_core.specs.{PathNames.{Names, home_of, names_of}, Paths.{temp_area}}
 use Rattle.cacache_store.specs.declared.store.answer.Kind.TheVariants as kinds
 use Rattle.cacache_store.specs.{declared.store.{answer.{Kind.{Kind}, Name.{Name}}, log.LogItem.{LogItem}, step.Step.TheVariants.{ReadDir}}, Plain.{PlainAnswer}}
@@ -67,10 +67,8 @@ module _ (cache : List ℕ) (home : Names) (files bytes : ℕ) (strange : List (
         found two.1 (lead.1 ∙ one.2 ∙ two.2)
 
     area_swept : (here : Option Kind) → area_of around ≡ here → ListsArea here (swept_folder cache) s.found strange looked s.listed → Leaves
-    area_swept None at lists = none_swept lists.0 lists.2 (λ stands. subst (AreaStands t p) at stands)
     area_swept (Some kinds.Folder) at lists = all_swept lists
-    area_swept (Some kinds.File) at lists = none_swept lists.0 lists.2 (λ stands. subst (AreaStands t p) at stands)
-    area_swept (Some kinds.Link) at lists = none_swept lists.0 lists.2 (λ stands. subst (AreaStands t p) at stands)
+    area_swept here at lists = none_swept lists.0 lists.2 (λ stands. subst (AreaStands t p) at stands)
 
   leaves : Leaves
   leaves = let (around, looked, (a, shows), lists) = s.listing in area_swept around looked a shows (area_of around) refl lists

@@ -1,12 +1,12 @@
 -- Syncs leave the tree, whether they are done or fail.
-use Rattle.std.proofs.Common.{◌≡◌, ℕ, List, [], ◌∷◌, Bool, true, false, Option, Result, Ok, Err, inl, inr, refl, ◌∙◌}
+use Rattle.std.proofs.Common.{◌≡◌, ℕ, List, [], ◌∷◌, Bool, true, false, Option, Result, Ok, Err, inl, inr, refl}
 use Rattle.cacache_core.specs.{declared.errors.{Error.{Error}, Fault.{Fault, TheVariants.{IsADirectory}}}, PathNames.{Names}}
 use Rattle.cacache_store.specs.declared.store.answer.Answer.TheVariants as answers
 use Rattle.cacache_store.specs.declared.store.{log.LogItem.{LogItem}, plain.PlainTemp.{PlainTemp}}
 use Rattle.cacache_store.specs.declared.store.step.Step.TheVariants as steps
-use Rattle.cacache_disk.specs.{declared.luck.Luck.TheVariants.{Plain}, LedTo.{file_at, folder}, Tree.{Tree}, Apply.{apply, unless}, Rooted.{Rooted}}
+use Rattle.cacache_disk.specs.{declared.luck.Luck.TheVariants.{Plain}, LedTo.{file_at, folder}, Tree.{Tree}, Apply.{apply, unless}}
 use Rattle.cacache_keep.specs.{Syncing.{StopsAbove, StopsNextSync, SyncsAbove, SyncsInTurn, folders_above}, Rewriting.{StopsSecuring, StopsSyncing, StopsSyncingBucket, SyncsBucket, SyncsFolder, SyncsTemp, folder_of}}
-use Rattle.cacache_keep.proofs.{FoundBuckets.{Stays}, TreeRuns.{Leads, leads_failed, leads_none, leads_step, leads_then}}
+use Rattle.cacache_keep.proofs.{FoundBuckets.{Stays, stays_on}, TreeRuns.{Leads, leads_failed, leads_none, leads_step, leads_then}}
 
 temp_sync_keeps : (t : Tree) (file : PlainTemp) → (apply t (steps.SyncTemp file) Plain).1 ≡ t
 unfolding apply
@@ -49,9 +49,6 @@ folder_unsynced true path e old new fails = leads_failed Stays (steps.SyncDir (f
 folder_unsynced false path e old new fails = absurd fails
 
 -- ---- of a bucket
-
-stays_on : (t u v : Tree) → Rooted t → Rooted u → Stays t u → Stays u v → Stays t v
-stays_on t u v rooted next one two = two ∙ one
 
 pub bucket_synced : (durable : Bool) (path : List ℕ) (old new : Option (List LogItem)) → SyncsBucket durable path old new → Leads Stays old new
 bucket_synced true path old new (synced, file, dir) =

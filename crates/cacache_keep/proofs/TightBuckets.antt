@@ -1,9 +1,9 @@
 -- Buckets that a compaction doesn't change.
-use Rattle.std.proofs.{Common.{◌≡◌, inl, inr, ℕ, List, Bool, true, false, Option, None, Some, Ok, refl, sym, ap, ◌∙◌}, lemmas.{Bool.Decides.{Decides-eqb}, Slice.Eq.{slice_eq-Decides}}}
+use Rattle.std.proofs.{Common.{◌≡◌, inl, inr, ℕ, List, Bool, true, false, None, Some, Ok, refl, sym, ap, ◌∙◌}, lemmas.{Bool.Decides.{Decides-eqb}, Slice.Eq.{slice_eq-Decides}}}
 use Rattle.std.specs.Prelude.{not}
 use Rattle.cacache_core.specs.PathNames.{Names, names_of}
-use Rattle.cacache_disk.specs.{declared.node.Node.{Node, TheVariants.{File}}, Tree.{Tree, look}}
-use Rattle.cacache_laws.{specs.trees.Compacting.{compact_text}, proofs.trees.LeanTrees.{Becomes}}
+use Rattle.cacache_disk.specs.{declared.node.Node.TheVariants.{File}, Tree.{Tree, look}}
+use Rattle.cacache_laws.{specs.trees.Compacting.{compact_text}, proofs.trees.LeanTrees.{Becomes, same_bytes as same_file}}
 use Rattle.cacache_keep.specs.Compacting.{Bucket, is_loose, same_bytes}
 
 -- the file at the path has bytes that a compaction, durable or not, leaves
@@ -13,9 +13,6 @@ pub record IsTight (durable : Bool) (path : List ℕ) (t : Tree) : Type 0 where
   pub bytes : List ℕ
   pub stands : look t names ≡ Some (File bytes)
   pub tight : compact_text durable bytes ≡ bytes
-
-pub same_file : (x y : List ℕ) (here : Option Node) → here ≡ Some (File x) → here ≡ Some (File y) → x ≡ y
-same_file x y here e f = let both : Some (File x) ≡ Some (File y) = sym e ∙ f in cc
 
 pub tight_still : (durable : Bool) (home : Names) (path : List ℕ) (t u : Tree) (k : IsTight durable path t) → Becomes durable home k.names (look t k.names) (look u k.names) → IsTight durable path u
 tight_still durable home path t u k (inl same) = record { names = k.names; named = k.named; bytes = k.bytes; stands = same ∙ k.stands; tight = k.tight }

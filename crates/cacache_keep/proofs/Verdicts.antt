@@ -36,19 +36,19 @@ module _ (site : Site) (home : Names) (good : ℕ) (damaged : List (List Hash)) 
       let c = v.contents in
       let r = reads_judged site home t is (log_rooted old) hashes v.reading.reads v.found v.read (v.reading.each ∙ v.order.single) v.reading.reading in
       let l = v.listing.2 in
-      let a = made_looks site t (map question_of v.asking.asks) v.listed (Some new) (all_questions v.asking.asks) v.asking.asking in
-      let behind = r.moves ++ (l.0 ++ a.moves) in
-      let gains = gains_join (Some old) v.found (Some new) c.0 behind c.1 (gains_join v.found v.read (Some new) r.moves (l.0 ++ a.moves) r.gains (gains_join v.read v.listed (Some new) l.0 a.moves l.2 a.gains)) in
+      let a = made_looks site (map question_of v.asking.asks) v.listed (Some new) (all_questions v.asking.asks) v.asking.asking in
+      let behind = r.moves ++ (l.0 ++ a.keeps.moves) in
+      let gains = gains_join (Some old) v.found (Some new) c.0 behind c.1 (gains_join v.found v.read (Some new) r.moves (l.0 ++ a.keeps.moves) r.gains (gains_join v.read v.listed (Some new) l.0 a.keeps.moves l.2 a.keeps.gains)) in
       let lead = logs_lead old new (c.0 ++ behind) gains logged in
       let walk = walked t c.0 (top_folder (content_area_in site.cache) ∷ []) c.2 (answered_split t c.0 behind lead.0).0 in
       let after_walk = answered_rest t c.0 behind walk.1 lead.0 in
       let holds : HoldsJust site.cache home t hashes strange = holds_just site.cache home t c.0 is (log_rooted old) c.2 walk.0 v.addresses strange c.3 v.order in
       let reads = r.tells
       (λ h m. let k = contains_member h hashes m in (holds.formed h k, (holds.held h (holds.formed h k)).0 k))
-      (answered_split t r.moves (l.0 ++ a.moves) after_walk).0 in
-      let after_reads = answered_rest t r.moves (l.0 ++ a.moves) reads.1 after_walk in
-      let index = index_looked site home t v.listing.0 v.listing.1 v.entries l.0 is (log_rooted old) l.1 (answered_split t l.0 a.moves after_reads).0 in
-      let asks = a.tells (answered_rest t l.0 a.moves index.1 after_reads) in (
+      (answered_split t r.moves (l.0 ++ a.keeps.moves) after_walk).0 in
+      let after_reads = answered_rest t r.moves (l.0 ++ a.keeps.moves) reads.1 after_walk in
+      let index = index_looked site home t v.listing.0 v.listing.1 v.entries l.0 is (log_rooted old) l.1 (answered_split t l.0 a.keeps.moves after_reads).0 in
+      let asks = a.tells t (answered_rest t l.0 a.keeps.moves index.1 after_reads) in (
         record {
           hashes = hashes;
           contents = holds;
@@ -56,9 +56,9 @@ module _ (site : Site) (home : Names) (good : ℕ) (damaged : List (List Hash)) 
           broken = v.reading.broken ∙ ap (λ (l : List Judged). map (λ (x : Judged). x.0) (filter (λ (x : Judged). not x.1) l)) reads.0 ∙ others_named site home t is (log_rooted old) hashes;
           entries = v.entries;
           index = index.0;
-          absent = v.asking.absent ∙ asks_told site t v.asking.asks asks.0 ∙ ap (λ l. filter (λ f. not (has_content site.cache t f)) l) v.asking.each;
+          absent = v.asking.absent ∙ asks_told site t v.asking.asks asks ∙ ap (λ l. filter (λ f. not (has_content site.cache t f)) l) v.asking.each;
         },
-        lead.1 ∙ tree_rest t c.0 behind walk.1 ∙ tree_rest t r.moves (l.0 ++ a.moves) reads.1 ∙ tree_rest t l.0 a.moves index.1 ∙ asks.1,
+        lead.1 ∙ tree_rest t c.0 behind walk.1 ∙ tree_rest t r.moves (l.0 ++ a.keeps.moves) reads.1 ∙ tree_rest t l.0 a.keeps.moves index.1 ∙ a.keeps.stays t,
       )
 
 pub verdicts_judge : VerdictsJudge

@@ -4,9 +4,9 @@ use Rattle.cacache_core.specs.{PathNames.{Names, home_of, names_of}, Paths.{inde
 use Rattle.cacache_store.specs.declared.store.log.LogItem.{LogItem}
 use Rattle.cacache_disk.specs.{declared.node.Node.TheVariants.{File}, Tree.{Tree, look}, memory.Replay.{IsLog, tree_of}}
 use Rattle.cacache_laws.specs.trees.{Compacted.{Compacted, CutShort}, Compacting.{compact_text}}
-use Rattle.cacache_laws.proofs.trees.{LeanCalls.{compactions_answer}, LeanTrees.{compactions_keep, Becomes, compacted_none, cut_short}, Led.{houses_are_fit}, Logged.{log_rooted}, Members.{Member}}
+use Rattle.cacache_laws.proofs.trees.{LeanCalls.{compactions_answer}, LeanTrees.{compactions_keep, Becomes, compacted_none, cut_short, same_bytes}, Led.{houses_are_fit}, Logged.{log_rooted}, Members.{Member}}
 use Rattle.cacache_keep.specs.{Compacting.{CompactsAll, CompactsCache, StopsAfterAll, StopsCompactingEach}, Syncing.{SyncsAbove}, Kept.{CompactionsAreUnseen, CompactionsLeave, CompactionsStop, MayCompact}}
-use Rattle.cacache_keep.proofs.{FoundBuckets.{AreBucketNames, FindsFiles, IsBucketFile, Stays, buckets_found, finding_stays}, HexNames.{bucket_names_hex}, TreeRuns.{Leads, leads_as, leads_on, leads_then}, CompactedTrees.{CompactsThese, each_leads, stop_leads}, SyncedTrees.{above_synced, above_unsynced}, TightBuckets.{IsTight, same_file}}
+use Rattle.cacache_keep.proofs.{FoundBuckets.{AreBucketNames, FindsFiles, IsBucketFile, Stays, buckets_found, finding_stays}, HexNames.{bucket_names_hex}, TreeRuns.{Leads, leads_as, leads_on, leads_then}, CompactedTrees.{CompactsThese, each_leads, stop_leads}, SyncedTrees.{above_synced, above_unsynced}, TightBuckets.{IsTight}}
 
 -- ---- what a whole one leaves
 
@@ -19,9 +19,9 @@ tight_bytes durable home t u path bytes q k named there all = by (all q)
 
     by : Becomes durable home q (look t q) (look u q) → look u q ≡ Some (File (compact_text durable bytes))
     by (inl same) =
-        let bytes_are : bytes ≡ k.bytes = same_file bytes k.bytes (look u q) (same ∙ there) (ap (look u) (sym here) ∙ k.stands) in
+        let bytes_are : bytes ≡ k.bytes = same_bytes bytes k.bytes (look u q) (same ∙ there) (ap (look u) (sym here) ∙ k.stands) in
         same ∙ there ∙ ap (λ (l : List ℕ). Some (File l)) (bytes_are ∙ sym k.tight ∙ ap (compact_text durable) (sym bytes_are))
-    by (inr (inl lean)) = lean.3 ∙ ap (λ (l : List ℕ). Some (File (compact_text durable l))) (same_file lean.1 bytes (look t q) lean.2 there)
+    by (inr (inl lean)) = lean.3 ∙ ap (λ (l : List ℕ). Some (File (compact_text durable l))) (same_bytes lean.1 bytes (look t q) lean.2 there)
     by (inr (inr made)) = absurd (let wrong : None ≡ Some (File bytes) = sym made.1 ∙ there in cc)
 
 tight_in : (durable : Bool) (u : Tree) (path : List ℕ) (paths : List (List ℕ)) → Member path paths → AllByRecursion (λ p. IsTight durable p u) paths → IsTight durable path u

@@ -6,7 +6,7 @@ use Rattle.cacache_calls.specs.declared.reply.Reply.TheVariants as replies
 use Rattle.cacache_calls.specs.Runs.{without_message}
 use Rattle.cacache_jobs.specs.Sites.{site_of}
 use Rattle.cacache_keep.specs.Calls.{AsksEach, StopsQuestions}
-use Rattle.cacache_keep.proofs.{Stopped.{asks_stop, error_as, lost_here, stops_at}, Asked.{absent_asked, keeps_on, none_asked, ran_at, there_asked}}
+use Rattle.cacache_keep.proofs.{Stopped.{asks_stop, lost_here, stops_at, error_as}, Asked.{absent_asked, keeps_on, none_asked, ran_at, there_asked}}
 use Rattle.cacache_keep.proofs.asking.dangling_of.Goals as goal
 
 pub loop-found-init : goal.loop-found-init

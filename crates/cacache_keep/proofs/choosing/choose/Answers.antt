@@ -1,7 +1,7 @@
 use Rattle.std.proofs.Common.{◌≡◌, ◌+◌, ◌-◌, inl, inr, length, map, rules, string_bytes}
 use Rattle.cacache_core.specs.declared.errors.Error.TheVariants.{OutOfMemory}
 use Rattle.cacache_jobs.specs.Sites.{site_of}
-use Rattle.cacache_keep.{specs.{Calls.{AreUnused}, Keeping.{Chooses, StopsEarly}}, proofs.Stopped.{entries_stop, error_as, lost_here}}
+use Rattle.cacache_keep.{specs.{Calls.{AreUnused}, Keeping.{Chooses, StopsEarly}}, proofs.Stopped.{entries_stop, lost_here, error_as}}
 use Rattle.cacache_keep.proofs.choosing.choose.Goals as goal
 
 pub returns-in_err-addresses-clause-stops : goal.returns-in_err-addresses-clause-stops

@@ -1,6 +1,6 @@
 use Rattle.std.proofs.Common.{inl, inr, refl, subst}
 use Rattle.cacache_jobs.specs.Sites.{site_of}
-use Rattle.cacache_keep.{specs.{Checking.{Allows, RefusesOdd}, Repairing.{StopsRepairing}}, proofs.{Asked.{value_so}, Stopped.{error_as, error_so}}}
+use Rattle.cacache_keep.{specs.{Checking.{Allows, RefusesOdd}, Repairing.{StopsRepairing}}, proofs.{Stopped.{error_so, error_as}, Asked.{value_so}}}
 use Rattle.cacache_keep.proofs.repairing.repair_with.Goals as goal
 
 pub returns-in_err-index-clause-stops : goal.returns-in_err-index-clause-stops

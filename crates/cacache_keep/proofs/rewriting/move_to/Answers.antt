@@ -1,7 +1,7 @@
 use Rattle.std.proofs.Common.{ℕ, List, subst}
 use Rattle.cacache_store.specs.declared.store.step.Step.TheVariants as steps
 use Rattle.cacache_calls.specs.SingleSteps.{FailsAt}
-use Rattle.cacache_keep.proofs.{Rewrites.{move_refused}, Sweeps.{step_fails}}
+use Rattle.cacache_keep.proofs.{Rewrites.{move_refused}, Sweeps.{refused_fails}}
 use Rattle.cacache_keep.proofs.rewriting.move_to.Goals as goal
 
 pub returns-in-Err-clause-stops : goal.returns-in-Err-clause-stops
@@ -12,4 +12,4 @@ returns-in-Err-clause-stops g c =
     let p = c.in_ok-place.place in
     let e = c.refused.result in
     subst (λ (q : List ℕ). FailsAt (steps.Persist file q) e old new) c.in_ok-place.ensures.cases
-    (step_fails (steps.Persist file p) _ c.in-Err.refusal e old new (move_refused file p _ c.in-Err.refusal c.in-Err.ensures c.step.ensures.fits) c.step.ensures.logged c.refused.ensures)
+    (refused_fails (steps.Persist file p) _ c.in-Err.refusal e old new (move_refused file p _ c.in-Err.refusal c.in-Err.ensures c.step.ensures.fits) c.step.ensures.logged c.refused.ensures)

@@ -1,7 +1,7 @@
 use Rattle.std.proofs.Common.{ℕ, List, subst}
 use Rattle.cacache_store.specs.declared.store.step.Step.TheVariants as steps
 use Rattle.cacache_calls.specs.SingleSteps.{FailsAt}
-use Rattle.cacache_keep.proofs.{Rewrites.{securing_refused}, Sweeps.{step_fails}}
+use Rattle.cacache_keep.proofs.{Rewrites.{securing_refused}, Sweeps.{refused_fails}}
 use Rattle.cacache_keep.proofs.rewriting.sync_folder.Goals as goal
 
 pub returns-in-Err-clause-stops : goal.returns-in-Err-clause-stops
@@ -11,4 +11,4 @@ returns-in-Err-clause-stops g c =
     let p = c.in_ok-folder.folder in
     let e = c.refused.result in
     subst (λ (q : List ℕ). FailsAt (steps.SyncDir q) e old new) c.in_ok-folder.ensures
-    (step_fails (steps.SyncDir p) _ c.in-Err.refusal e old new (securing_refused p _ c.in-Err.refusal c.in-Err.ensures c.step.ensures.fits) c.step.ensures.logged c.refused.ensures)
+    (refused_fails (steps.SyncDir p) _ c.in-Err.refusal e old new (securing_refused p _ c.in-Err.refusal c.in-Err.ensures c.step.ensures.fits) c.step.ensures.logged c.refused.ensures)

@@ -1,6 +1,6 @@
 use Rattle.std.proofs.Common.{◌≡◌, Bool, subst, sym, true}
 use Rattle.cacache_store.specs.declared.store.step.Step.TheVariants as steps
-use Rattle.cacache_keep.{specs.Rewriting.{StopsSyncing}, proofs.{Rewrites.{sync_refused}, Sweeps.{step_fails}}}
+use Rattle.cacache_keep.{specs.Rewriting.{StopsSyncing}, proofs.{Rewrites.{sync_refused}, Sweeps.{refused_fails}}}
 use Rattle.cacache_keep.proofs.rewriting.sync_temp.Goals as goal
 
 pub returns-in-Err-clause-stops : goal.returns-in-Err-clause-stops
@@ -11,4 +11,4 @@ returns-in-Err-clause-stops g c =
     let e = c.refused.result in
     let asked : c.args.durable ≡ true = cc in
     subst (λ (d : Bool). StopsSyncing d file e old new) (sym asked)
-    (step_fails (steps.SyncTemp file) _ c.in-Err.refusal e old new (sync_refused file _ c.in-Err.refusal c.in-Err.ensures c.step.ensures.fits) c.step.ensures.logged c.refused.ensures)
+    (refused_fails (steps.SyncTemp file) _ c.in-Err.refusal e old new (sync_refused file _ c.in-Err.refusal c.in-Err.ensures c.step.ensures.fits) c.step.ensures.logged c.refused.ensures)
