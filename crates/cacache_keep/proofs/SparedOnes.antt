@@ -9,10 +9,10 @@ use Rattle.cacache_calls.specs.declared.command.Command.TheVariants as commands
 use Rattle.cacache_calls.specs.declared.reply.Reply.TheVariants as replies
 use Rattle.cacache_calls.specs.{Runs.{Gains, Moves}, State.{Site}}
 use Rattle.cacache_laws.specs.{Caches.{Called, HasKey}, Standing.{IsStanding}, trees.Later.{AllSpare, Later, SparingCall, calls, looks, written}}
-use Rattle.cacache_laws.proofs.{Calls.InParts.{logs_lead}, Readings.OpenReaders.{log_front}, trees.{Logged.{gains_join, log_rooted}, SparedKeys.{spared_keys_stay, tombstones_fit}}}
+use Rattle.cacache_laws.proofs.{Calls.InParts.{logs_lead}, Readings.OpenReaders.{log_front}, trees.{Logged.{gains_join, log_rooted}, Spared.SparedKeys.{spared_keys_stay, tombstones_fit}}}
 use Rattle.cacache_sync.specs.Lookups.{delete_of}
 use Rattle.cacache_keep.specs.{declared.{checking.OddLines.TheVariants.{Refuse}, limits.Limits.{Limits}}, Calls.{MadeCalls, removal}, Keeping.{CollectsFrom, CollectsWith}, Pruning.{IsTomb, PlansPrune, Tomb, entombing}, Sparing.{PrunePlansLeave, PrunesSpareKeys, StaysLed}}
-use Rattle.cacache_keep.proofs.{LaterCalls.{collections_keep_led}, Parts.{calls_gain}, StandingIndexes.{index_looked}}
+use Rattle.cacache_keep.proofs.{Collections.LaterCalls.{collections_keep_led}, Parts.{calls_gain}, Indexes.StandingIndexes.{index_looked}}
 
 -- ---- logs
 

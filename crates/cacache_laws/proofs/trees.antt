@@ -3,16 +3,11 @@ pub mod Children
 pub mod Covering
 pub mod Listing
 mod Indexed
-pub mod Agreeing
+pub mod Twins
 pub mod Within
-pub mod Idle
-mod Twice
 mod Stepping
-pub mod Fully
 mod SameListing
 mod Swept
-pub mod Cleared
-pub mod BothLogs
 pub mod Keeping
 pub mod Logged
 pub mod Looks
@@ -26,22 +21,8 @@ pub mod Agreed
 pub mod Tombstones
 pub mod Mended
 pub mod HiddenKeys
-pub mod StillThere
+pub mod Spared
 pub mod Led
 pub mod Housed
 pub mod SoundRemovals
-pub mod CompactLines
-mod KeptLines
-pub mod CompactTwice
-mod CompactFound
-pub mod CompactAnswers
-pub mod CompactTexts
-mod Shapes
-pub mod LeanTrees
-mod LeanReads
-mod Follows
-pub mod Unseen
-pub mod LeanCalls
-mod SparedCalls
-mod SparedCommits
-pub mod SparedKeys
+pub mod Compactions

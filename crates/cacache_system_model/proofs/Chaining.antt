@@ -9,7 +9,7 @@ use Rattle.cacache_disk.specs.{declared.{luck.Luck.{Luck, TheVariants.{Plain, Fa
 use Rattle.cacache_disk.proofs.{Maps.{same_path-true}, PutNodes.{look-put}}
 use Rattle.cacache_system.specs.{declared.call.{CallItem.{CallItem}, CallResult.{CallResult}}, Seen.{NumberedTemp, NumberedStep}, CallsOf.{Runs}, AnswersOf.{Hint, first, answer_of}}
 use Rattle.cacache_system_model.specs.{Machine.{Machine}, Calls.{OccursSomehow, EachCall}, Laws.{temp_on, step_on, answer_on, outcome, LeavesFresh, IsLucky}, Writing.{WritesSome}, Mirrors.{hollow, Mirrors, temps_after, SparesOpen}, Chains.{StepMade, temps_left, HasLaw, WritesTemp, MadePlainly, IsCovered, OnDisk, StepsOnDisk, DiskDoes, RunsMirror}}
-use Rattle.cacache_system_model.proofs.{Refused.{same_outcome}, Writing.{write_agrees}, Covered.{each_may_break, each_goes_plainly}, Keeping.{steps_mirror}}
+use Rattle.cacache_system_model.proofs.{Refused.{same_outcome}, Steps.Writing.{write_agrees}, Covered.{each_may_break, each_goes_plainly}, Keeping.{steps_mirror}}
 
 -- ---- steps that came back
 

@@ -14,7 +14,7 @@ use Rattle.cacache_system.specs.{declared.call.{FileInfo.{FileInfo}, CallResult.
 use Rattle.cacache_system.specs.declared.call.SystemCall.TheVariants as asks
 use Rattle.cacache_system.specs.declared.call.CallResult.TheVariants as says
 use Rattle.cacache_system_model.specs.{Machine.{OpenFile, Machine, SyncedNode, Describes}, Calls.{OccursSomehow}, Laws.{bytes_in, temp_on, step_on, answer_on, Leads}, OneCall.{StillStands}, Syncing.{EndsInNoLink}, Fixing.{with_synced, after_syncs}}
-use Rattle.cacache_system_model.proofs.{Claims.{way_of}, Opening.{OpenedOn, Openings, opening_leads}, Views.{nowhere, a_folder, a_file, view, leads_straight}, Looking.{link_there, refused_folder, wanted_file}, Syncing.{WasSynced, sync_leads, refused_other, open_under}}
+use Rattle.cacache_system_model.proofs.{Claims.{way_of}, Steps.{Opening.{OpenedOn, Openings, opening_leads}, Looking.{link_there, refused_folder, wanted_file}, Syncing.{WasSynced, sync_leads, refused_other, open_under}}, Views.{nowhere, a_folder, a_file, view, leads_straight}}
 
 -- a step fixes what its calls synced, and nothing else
 abbrev pub FixesSynced : Machine → NumberedStep → CallResult → Machine → Type 0

@@ -4,7 +4,7 @@ use Rattle.cacache_core.specs.{declared.errors.Fault.{Fault, TheVariants.{TooDee
 use Rattle.cacache_disk.specs.{declared.node.Node.{Node, TheVariants.{Folder, File, Link}}, Tree.{Tree, look, put, cut, same_path}, LedTo.{and_then, or_fault, through, way_fault, on_link, followed, place, standing, leads, found, file_at, writable, free, removable, replaceable, where_there, where_free, where_removable, where_no_folder, bytes_there}}
 use Rattle.cacache_disk.proofs.{FoundNodes.{and_then_ok, or_fault_none, place_ok}, Maps.{same_path-true}, PutNodes.{cut-put, put-cut_same, look-put}, Roots.{same_self}}
 use Rattle.cacache_system.specs.CallsOf.{above_of, in_folder}
-use Rattle.cacache_system_model.{specs.Machine.{EndsInName}, proofs.{Views.{found_at, file_from, leads_straight}, Slashes.{beside}}}
+use Rattle.cacache_system_model.{specs.Machine.{EndsInName}, proofs.{Views.{found_at, file_from, leads_straight}, Steps.Slashes.{beside}}}
 
 -- ---- the way to a name next to a path
 

@@ -11,7 +11,7 @@ use Rattle.cacache_loss.specs.{Fixing.{Fixed, all_fixed, is_sync, is_synced, mov
 use Rattle.cacache_loss.proofs.StepCases.{put_misses}
 use Rattle.cacache_system.specs.{declared.call.{CallItem.{CallItem}, CallResult.{CallResult}}, Seen.{NumberedTemp, NumberedStep}, CallsOf.{Runs}, AnswersOf.{Hint, first, answer_of}}
 use Rattle.cacache_system_model.specs.{Machine.{Machine, SyncedNode}, Calls.{OccursSomehow, EachCall}, Laws.{temp_on, step_on, answer_on, outcome, LeavesFresh, IsLucky}, Premises.{Premise}, Writing.{WritesSome}, Mirrors.{Mirrors, temps_after, SparesOpen}, Chains.{StepMade, temps_left, WritesTemp, IsCovered, AreMade}, Fixing.{after_syncs, synced_since, step_made, answer_made, fixed_by, no_temps, machine_after, fixed_after_all, temps_after_all, was_temp, CopiesNone, IsMoveOf, AreMovesOf, IsAnswered, LossesMirror}}
-use Rattle.cacache_system_model.proofs.{Writing.{write_agrees}, Covered.{each_may_break, each_goes_plainly}, Keeping.{steps_mirror}, Fixing.{FixesSynced, sync_temp_fixes, sync_file_fixes, sync_dir_fixes}, Chaining.{memory_stay, came_back, write_keeps, written_mirrors}, Alike.{AlikeFixed, lost_alike}, Touching.{Touched, rests, grows, touched}, Changed.{fixed_alike}}
+use Rattle.cacache_system_model.proofs.{Steps.Writing.{write_agrees}, Covered.{each_may_break, each_goes_plainly}, Keeping.{steps_mirror}, Fixing.{FixesSynced, sync_temp_fixes, sync_file_fixes, sync_dir_fixes}, Chaining.{memory_stay, came_back, write_keeps, written_mirrors}, Alike.{AlikeFixed, lost_alike}, Touching.{Touched, rests, grows, touched}, Changed.{fixed_alike}}
 
 -- ---- what a step's syncs fix
 

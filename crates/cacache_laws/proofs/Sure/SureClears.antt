@@ -13,7 +13,7 @@ use Rattle.cacache_calls.specs.{declared.reply.Reply.{Reply, TheVariants.{Done, 
 use Rattle.cacache_value.{specs.{Kinds.{Way, Stray, kind_below, node_below, path_kind, is_used}, Placed.{MayStand}}, proofs.{FoundPaths.{suits}, KindsApart.{kind-below}}}
 use Rattle.cacache_history.proofs.{Listings.ToldFolders.{Told, listing_told}, Each.{Each}}
 use Rattle.cacache_laws.specs.{Succeeds.{Clears, ClearingsAnswer}, Sequence.{tree_on}, trees.Idle.{BreaksOff}}
-use Rattle.cacache_laws.proofs.{Sure.{Succeeds.{back, ground}, SureLists.{no_folder}, SureRuns.{EndsSo, ends, goes, of_log}, SureSteps.{Ground, reached}}, trees.Cleared.{Cleared, IsFolderName, cleared, kept, swept}}
+use Rattle.cacache_laws.proofs.{Sure.{Succeeds.{back, ground}, SureLists.{no_folder}, SureRuns.{EndsSo, ends, goes, of_log}, SureSteps.{Ground, reached}}, trees.Twins.Cleared.{Cleared, IsFolderName, cleared, kept, swept}}
 
 -- ---- how it ends
 

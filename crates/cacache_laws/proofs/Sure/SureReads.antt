@@ -12,7 +12,7 @@ use Rattle.cacache_value.specs.{Kinds.{Content, Bucket, is_used}, Placed.{MaySta
 use Rattle.cacache_value.proofs.FoundPaths.{suits}
 use Rattle.cacache_history.specs.ShownTurns.{as_refusal}
 use Rattle.cacache_laws.specs.{ExportAnswers.{blob_read}, ReadAnswers.{entries_on, read_on}, Succeeds.{is_yes}}
-use Rattle.cacache_laws.proofs.{Sure.{SureInserts.{bucket_lies}, SureTemps.{content_lies}, SureRuns.{EndsSo, ends, goes}, SureSteps.{Ground, Lies, Reached, arrives, missing, goes_to, reached}}, trees.Agreeing.{said}}
+use Rattle.cacache_laws.proofs.{Sure.{SureInserts.{bucket_lies}, SureTemps.{content_lies}, SureRuns.{EndsSo, ends, goes}, SureSteps.{Ground, Lies, Reached, arrives, missing, goes_to, reached}}, trees.Twins.Agreeing.{said}}
 
 -- ---- what a bucket's file answers
 

@@ -13,7 +13,7 @@ use Rattle.cacache_calls.specs.declared.command.Command.TheVariants as commands
 use Rattle.cacache_calls.specs.{declared.reply.Reply.{Reply, TheVariants.{Listed}}, State.{looking, Site, Item}, StepPaths.{addressed, bucket_path, content_path}, Table.{opening, after}, Runs.{Moves, Runs}}
 use Rattle.cacache_calls.specs.declared.carried.Aim.TheVariants as aims
 use Rattle.cacache_value.{specs.{Kinds.{Content, Bucket, path_kind, is_used}, Value.{blob_in, bucket_in}}, proofs.KindsApart.{kind-below}}
-use Rattle.cacache_laws.proofs.trees.{Members.{Member, contains_member, member_contains}, Indexed.{lists_each_key}, Agreeing.{read_same}, Idle.{address_is, get_moves, moved_same, over_done}, Twice.{leaf_done}}
+use Rattle.cacache_laws.proofs.trees.{Members.{Member, contains_member, member_contains}, Indexed.{lists_each_key}, Twins.{Agreeing.{read_same}, Idle.{address_is, get_moves, moved_same, over_done}, Twice.{leaf_done}}}
 use Rattle.cacache_laws.specs.trees.{Answers.{AnsweredBy}, Index.{is_failure}, Walks.{is_leaf}, Idle.{Finds, IsNeeded, LacksIdle}, Collecting.{LinksLeadOut, IsLive, Removes, RemovalsLeave, CollectionsKeepReads, CollectionsKeepLookups}}
 use Rattle.cacache_loss.proofs.KeptPaths.{cond_none}
 

@@ -15,7 +15,7 @@ use Rattle.cacache_value.{specs.{Acts.{list_of}, Kinds.{NamesBelow}, Placed.{Pla
 use Rattle.cacache_history.specs.{Buckets.{BucketsHaveKeys}, ListingTurns.{is_past, listing_of}, Setup.{Setup}, Turns.{made_in, EachTurn}}
 use Rattle.cacache_history.proofs.{Entries.{Bucketed.{KeyedTurn}, Formed.{TreeFormed}, Owned.{TreeOwn}, Spelled.{HasIntegrity, latest_has}}, Histories.{Holding.{TurnsHold}, ShownTurns.{bucket_below}}, Listings.ListingTurns.{lists}}
 use Rattle.cacache_laws.specs.{Caches.{setup_at}, ReadAnswers.{entries_on}, Sequence.{turns_on}, trees.{Answers.{AnsweredBy, AnswersOn}, Compacted.{HousesAreFit}, Housed.{CachesAreHoused, Housed, IndexesLead}, Index.{IndexLists, entries_in}, Mending.{found_in}}}
-use Rattle.cacache_laws.proofs.{Listings.ListedTurns.{Leads, turns_lead}, Readings.Looks.{moves_keep, moves_place}, Calls.Sequence.{turns_made}, trees.{Agreeing.{said}, Collected.{indexes_find}, Links.{links_out}, Members.{Member, member_contains}, Within.{read_answer}}}
+use Rattle.cacache_laws.proofs.{Listings.ListedTurns.{Leads, turns_lead}, Readings.Looks.{moves_keep, moves_place}, Calls.Sequence.{turns_made}, trees.{Twins.Agreeing.{said}, Collected.{indexes_find}, Links.{links_out}, Members.{Member, member_contains}, Within.{read_answer}}}
 
 pub caches_are_housed : CachesAreHoused
 caches_are_housed cache home log is cached =

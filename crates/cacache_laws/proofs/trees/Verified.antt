@@ -9,7 +9,7 @@ use Rattle.cacache_calls.specs.{declared.reply.Reply.{Reply, TheVariants.{Read, 
 use Rattle.cacache_calls.proofs.Replies.{reads_shown}
 use Rattle.cacache_value.specs.{Value.{Blob, blob_in, value_of_tree}, Shows.{link_end, blob_bytes}}
 use Rattle.cacache_laws.specs.trees.{Answers.{AnsweredBy}, Verifying.{is_met, is_good, ReadsTellGood}}
-use Rattle.cacache_laws.proofs.trees.{Agreeing.{said}, Keeping.{content_named}, Within.{read_answer}}
+use Rattle.cacache_laws.proofs.trees.{Twins.Agreeing.{said}, Keeping.{content_named}, Within.{read_answer}}
 
 -- ---- if a content is there, a read gives its bytes
 

@@ -5,7 +5,7 @@ use Rattle.cacache_store.specs.declared.store.{step.Step.TheVariants.{ReadAll}, 
 use Rattle.cacache_disk.specs.{declared.{luck.Luck.TheVariants.{Plain}, node.Node.{Node, TheVariants.{Folder, File, Link}}}, Tree.{Tree, look}, LedTo.{and_then, or_fault, through, way_fault, place, standing, where_there, on_link, followed, leads, bytes_there, file_at}, Apply.{apply}}
 use Rattle.cacache_disk.proofs.FoundNodes.{and_then_ok, or_fault_none, there_at}
 use Rattle.cacache_entry.specs.Latest.{Found}
-use Rattle.cacache_laws.{specs.trees.Idle.{Finds}, proofs.trees.Agreeing.{said, answer_of}}
+use Rattle.cacache_laws.{specs.trees.Idle.{Finds}, proofs.trees.Twins.Agreeing.{said, answer_of}}
 
 -- what the first tree has at a path, the second one has there
 abbrev pub Within : Tree → Tree → Type 0

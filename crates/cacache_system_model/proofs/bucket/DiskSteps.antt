@@ -7,7 +7,7 @@ use Rattle.cacache_disk.specs.{declared.{luck.Luck.TheVariants.{Take, Plain}, no
 use Rattle.cacache_disk.proofs.{Standing.{way_clear}, PutNodes.{look-put}, Roots.{same_self}, KeptFolders.{steps_keep_rooted}}
 use Rattle.cacache_value.specs.Traces.{Move, tree_after}
 use Rattle.cacache_system_model.specs.bucket.{File.{LineWrite, bytes_to_write, idle, file_after}, Steps.{all_writes, left_by, move_of, steps_of, AnswerSo, StepsLeaveFile, ReadsAreOfDisk}}
-use Rattle.cacache_system_model.proofs.{CopyFacts.{writable_found}, Looking.{file_there}, bucket.{Parts.{front_taken}, Places.{idle_sound}, Moments.{at_end}, Writes.{Fronts, all_fronts, writes_are_appends}}}
+use Rattle.cacache_system_model.proofs.{Steps.{CopyFacts.{writable_found}, Looking.{file_there}}, bucket.{Parts.{front_taken}, Places.{idle_sound}, Moments.{at_end}, Writes.{Fronts, all_fronts, writes_are_appends}}}
 
 -- ---- a file at a path of which no part is a link
 

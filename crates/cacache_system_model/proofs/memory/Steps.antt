@@ -7,7 +7,7 @@ use Rattle.cacache_store.specs.declared.store.step.Step.TheVariants as steps
 use Rattle.cacache_disk.specs.{declared.{luck.Luck.TheVariants.{Plain}, node.Node.{Node, TheVariants.{Folder, Link}}, stop.Stop.{Stop}}, Tree.{Tree, look, put, cut}, LedTo.{way_fault, or_fault, dirs_fault, dirs, place, free, removable, emptied}, Apply.{unless, apply, fault_told, make_some}, Rooted.{Rooted}, Stops.{Stops}}
 use Rattle.cacache_disk.proofs.FoundNodes.{and_then_ok, or_fault_none}
 use Rattle.cacache_disk.specs.declared.stop.Stop.TheVariants as stop
-use Rattle.cacache_system_model.{specs.memory.Changes.{Does, Changed}, proofs.Making.{through_folder}}
+use Rattle.cacache_system_model.{specs.memory.Changes.{Does, Changed}, proofs.Steps.Making.{through_folder}}
 
 clash : (fault : Fault) → Some fault ≡ None → ⊥
 clash fault e = cc

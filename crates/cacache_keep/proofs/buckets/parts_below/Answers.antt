@@ -3,7 +3,7 @@ use Rattle.cacache_core.specs.{declared.errors.Error.TheVariants.{OutOfMemory}, 
 use Rattle.cacache_store.specs.declared.store.step.Step.TheVariants as steps
 use Rattle.cacache_calls.specs.SingleSteps.{FailsAt}
 use Rattle.cacache_keep.specs.{Reading.{is_gone}, Sweeping.{ListsFolder}, Buckets.{StopsParts, belongs}}
-use Rattle.cacache_keep.proofs.{IndexParts.{lost_listed, next_unlisted, one_listed}, Stopped.{error_as}}
+use Rattle.cacache_keep.proofs.{Indexes.IndexParts.{lost_listed, next_unlisted, one_listed}, Stopped.{error_as}}
 use Rattle.cacache_keep.proofs.buckets.parts_below.Goals as goal
 
 pub returns-in_err-names-clause-stops : goal.returns-in_err-names-clause-stops

@@ -4,7 +4,7 @@ use Rattle.cacache_core.specs.declared.errors.Error.TheVariants.{OutOfMemory}
 use Rattle.cacache_entry.specs.{Latest.{Found}, View.{found_view}}
 use Rattle.cacache_jobs.specs.Sites.{site_of}
 use Rattle.cacache_keep.specs.{Calls.{MadeCalls}, Repairing.{BuriesEach, IsFateOf, StopsBurying, StopsFate, calls_for}}
-use Rattle.cacache_keep.proofs.{Stopped.{at_base, error_as}, Tombs.{buried_so, lost_between, next_stops_burying, none_buried, one_buried, one_spared, spared_so}}
+use Rattle.cacache_keep.proofs.{Stopped.{at_base, error_as}, Repairs.Tombs.{buried_so, lost_between, next_stops_burying, none_buried, one_buried, one_spared, spared_so}}
 use Rattle.cacache_keep.proofs.burying.bury_each.Goals as goal
 
 pub loop-entry-init : goal.loop-entry-init

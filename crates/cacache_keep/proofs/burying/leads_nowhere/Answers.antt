@@ -4,7 +4,7 @@ use Rattle.cacache_calls.specs.declared.command.Command.TheVariants as commands
 use Rattle.cacache_calls.specs.declared.reply.Reply.TheVariants as replies
 use Rattle.cacache_jobs.specs.Sites.{site_of}
 use Rattle.cacache_keep.specs.Repairing.{AsksFor, StopsAsking, StopsLooking}
-use Rattle.cacache_keep.proofs.{Asked.{ran_at, value_so}, Stopped.{at_base, error_so, error_as}, Tombs.{led_by, look_stops, question_stops}}
+use Rattle.cacache_keep.proofs.{Asked.{ran_at, value_so}, Stopped.{at_base, error_so, error_as}, Repairs.Tombs.{led_by, look_stops, question_stops}}
 use Rattle.cacache_keep.proofs.burying.leads_nowhere.Goals as goal
 
 pub returns-in_err-found-clause-stops : goal.returns-in_err-found-clause-stops

@@ -1,5 +1,5 @@
 use Rattle.std.{proofs.Common.{◌≡◌, None, subst}, specs.Prelude.{slice_get}}
-use Rattle.cacache_keep.{specs.Checking.{StopsFolder}, proofs.{LinkedFolders.{folder_read, item_ends, none_first}, Stopped.{error_as}}}
+use Rattle.cacache_keep.{specs.Checking.{StopsFolder}, proofs.{Indexes.LinkedFolders.{folder_read, item_ends, none_first}, Stopped.{error_as}}}
 use Rattle.cacache_keep.proofs.index.read_folder.Goals as goal
 
 pub returns-in_err-entries-clause-stops : goal.returns-in_err-entries-clause-stops

@@ -1,6 +1,7 @@
 use Rattle.std.proofs.{Common.{◌+◌, drop, length, refl, rules, sym, ◌∙◌}, lemmas.{List.{map-id}, Iterator.{Adapters.{YieldsList-from_vec}, Consumers.{YieldsList-so_far, YieldsList-turn}}}}
 use Rattle.cacache_core.specs.declared.errors.Error.TheVariants.{OutOfMemory}
-use Rattle.cacache_keep.{specs.Checking.{StopsFolders}, proofs.{InTurn.{split_at}, LinkedFolders.{next_stops, none_added, one_added, read_lost}, Stopped.{error_as}}}
+use Rattle.cacache_keep.specs.Checking.{StopsFolders}
+use Rattle.cacache_keep.proofs.{Repairs.InTurn.{split_at}, Indexes.LinkedFolders.{next_stops, none_added, one_added, read_lost}, Stopped.{error_as}}
 use Rattle.cacache_keep.proofs.index.read_folders.Goals as goal
 
 pub loop-folder-init : goal.loop-folder-init

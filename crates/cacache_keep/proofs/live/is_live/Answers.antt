@@ -1,6 +1,6 @@
 use Rattle.std.proofs.{Common.{rules, ◌∙◌}, lemmas.Fn.{always_returns_same}}
 use Rattle.cacache_walks.specs.Listing.{hash_cmp}
-use Rattle.cacache_keep.proofs.Searching.{found_so}
+use Rattle.cacache_keep.proofs.Collections.Searching.{found_so}
 use Rattle.cacache_keep.proofs.live.is_live.Goals as goal
 
 pub returns : goal.returns

@@ -1,6 +1,6 @@
 use Rattle.std.proofs.Common.{◌++◌, ◌∷◌, [], List, true, false, sym, subst}
 use Rattle.cacache_core.specs.declared.integrity.digest.Hash.{Hash}
-use Rattle.cacache_keep.{specs.Calls.{AreOthers}, proofs.Searching.{among_so, live_passed, other_taken}}
+use Rattle.cacache_keep.{specs.Calls.{AreOthers}, proofs.Collections.Searching.{among_so, live_passed, other_taken}}
 use Rattle.cacache_keep.proofs.live.others.Goals as goal
 
 pub loop-sri-preserved-in-Continue-1 : goal.loop-sri-preserved-in-Continue-1

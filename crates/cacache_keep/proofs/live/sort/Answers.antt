@@ -1,7 +1,7 @@
 use Rattle.std.{proofs.{Common.{ap}, lemmas.List.Sorted.{Contains-permutation, IsPermutation-sym, answers_always, ranks_by}}, specs.Ordering.{is_lt}}
 use Rattle.cacache_core.specs.declared.integrity.digest.Hash.{Hash}
 use Rattle.cacache_walks.specs.Listing.{hash_cmp}
-use Rattle.cacache_keep.proofs.Searching.{hash_total}
+use Rattle.cacache_keep.proofs.Collections.Searching.{hash_total}
 use Rattle.cacache_keep.proofs.live.sort.Goals as goal
 
 pub returns-clause-same : goal.returns-clause-same

@@ -1,6 +1,6 @@
 use Rattle.std.proofs.Common.{List, refl, subst}
 use Rattle.cacache_core.specs.declared.integrity.digest.Hash.{Hash}
-use Rattle.cacache_keep.{specs.Calls.{AreOthers}, proofs.{Searching.{no_entry_has}, Asked.{value_so}}}
+use Rattle.cacache_keep.{specs.Calls.{AreOthers}, proofs.{Collections.Searching.{no_entry_has}, Asked.{value_so}}}
 use Rattle.cacache_keep.proofs.live.unused.Goals as goal
 
 pub returns : goal.returns

@@ -1,7 +1,7 @@
 use Rattle.std.proofs.Common.{inr, List, map, refl, string_bytes, subst, ap, ◌∙◌}
 use Rattle.cacache_core.specs.{declared.{errors.Error.TheVariants.{OutOfMemory}, integrity.digest.Hash.{Hash}}, Integrity.{address}}
 use Rattle.cacache_walks.specs.Listing.{ListsContents}
-use Rattle.cacache_keep.{specs.Missing.{StopsShowing}, proofs.{Shown.{single_hashes, sorted_hashes}, Stopped.{error_as}}}
+use Rattle.cacache_keep.{specs.Missing.{StopsShowing}, proofs.{Repairs.Shown.{single_hashes, sorted_hashes}, Stopped.{error_as}}}
 use Rattle.cacache_keep.proofs.missing.look.Goals as goal
 
 pub returns-in_err-contents-clause-stops : goal.returns-in_err-contents-clause-stops

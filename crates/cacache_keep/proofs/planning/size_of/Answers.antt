@@ -1,5 +1,5 @@
 use Rattle.std.proofs.Common.{sym, ◌∙◌}
-use Rattle.cacache_keep.proofs.Sizes.{hidden_so}
+use Rattle.cacache_keep.proofs.Collections.Sizes.{hidden_so}
 use Rattle.cacache_keep.proofs.planning.size_of.Goals as goal
 
 pub returns-else-says_gone-clause-stops : goal.returns-else-says_gone-clause-stops

@@ -1,7 +1,7 @@
 use Rattle.std.proofs.{Common.{◌+◌, drop, length, rules, sym, ◌∙◌}, lemmas.{List.{map-id}, Iterator.{Adapters.{YieldsList-from_vec}, Consumers.{YieldsList-so_far, YieldsList-turn}}}}
 use Rattle.cacache_core.specs.declared.errors.Error.TheVariants.{OutOfMemory}
 use Rattle.cacache_keep.specs.{declared.planning.Unused.{Unused}, Planning.{StopsTelling}}
-use Rattle.cacache_keep.proofs.{InTurn.{split_at}, Sizes.{lost_told, next_hidden, one_told}, Stopped.{error_as}}
+use Rattle.cacache_keep.proofs.{Repairs.InTurn.{split_at}, Collections.Sizes.{lost_told, next_hidden, one_told}, Stopped.{error_as}}
 use Rattle.cacache_keep.proofs.planning.sizes_of.Goals as goal
 
 pub returns-in_err-bytes-clause-stops : goal.returns-in_err-bytes-clause-stops

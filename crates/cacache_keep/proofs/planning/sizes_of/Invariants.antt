@@ -1,4 +1,4 @@
-use Rattle.cacache_keep.proofs.Sizes.{ToldTo}
+use Rattle.cacache_keep.proofs.Collections.Sizes.{ToldTo}
 use Rattle.cacache_keep.proofs.planning.sizes_of.Given as goal
 
 abbrev pub invariant-loop-address : goal.invariant-loop-address

@@ -1,7 +1,7 @@
 use Rattle.std.proofs.{Common.{◌≡◌, ◌+◌, ◌++◌, ◌∷◌, [], Bool, List, drop, false, length, refl, rules, sym, subst, true, append_assoc, ◌∙◌}, lemmas.{List.{map-id}, Iterator.{Adapters.{YieldsList-from_vec}, Consumers.{YieldsList-end, YieldsList-so_far, YieldsList-turn}}}}
 use Rattle.cacache_core.specs.declared.{errors.Error.TheVariants.{OutOfMemory}, integrity.digest.Hash.{Hash}}
 use Rattle.cacache_keep.specs.Reading.{SaysGood, StopsEach, WeighsOthers}
-use Rattle.cacache_keep.proofs.{InTurn.{damaged_read, good_read, memory_stops, next_stops, none_read, split_at}, Stopped.{error_as}}
+use Rattle.cacache_keep.proofs.{Repairs.InTurn.{damaged_read, good_read, memory_stops, next_stops, none_read, split_at}, Stopped.{error_as}}
 use Rattle.cacache_keep.proofs.reading.others_of.Goals as goal
 
 pub loop-sri-init : goal.loop-sri-init

@@ -2,7 +2,7 @@ use Rattle.std.proofs.Common.{ℕ, List, subst}
 use Rattle.cacache_store.specs.declared.store.step.Step.TheVariants as steps
 use Rattle.cacache_calls.specs.SingleSteps.{FailsAt}
 use Rattle.cacache_keep.proofs.rewriting.make_folder.Goals as goal
-use Rattle.cacache_keep.proofs.Sweeps.{refused_fails, folder_refused}
+use Rattle.cacache_keep.proofs.Collections.Sweeps.{refused_fails, folder_refused}
 
 pub returns-in-Err-clause-stops : goal.returns-in-Err-clause-stops
 returns-in-Err-clause-stops g c =

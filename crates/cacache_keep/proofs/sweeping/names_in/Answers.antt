@@ -1,7 +1,7 @@
 use Rattle.std.proofs.Common.{◌≡◌, ℕ, List, false, subst, sym, ◌∙◌}
 use Rattle.cacache_store.specs.declared.store.step.Step.TheVariants as steps
 use Rattle.cacache_calls.specs.SingleSteps.{FailsAt}
-use Rattle.cacache_keep.{specs.Reading.{is_gone}, proofs.Sweeps.{unlisted_so}}
+use Rattle.cacache_keep.{specs.Reading.{is_gone}, proofs.Collections.Sweeps.{unlisted_so}}
 use Rattle.cacache_keep.proofs.sweeping.names_in.Goals as goal
 
 pub returns-else-says_gone-clause-stops : goal.returns-else-says_gone-clause-stops

@@ -3,7 +3,7 @@ use Rattle.cacache_core.specs.{declared.errors.Error.TheVariants.{OutOfMemory}, 
 use Rattle.cacache_store.specs.declared.store.answer.Answer.TheVariants as answers
 use Rattle.cacache_store.specs.declared.store.step.Step.TheVariants as steps
 use Rattle.cacache_calls.specs.Runs.{Gains}
-use Rattle.cacache_keep.{specs.Sweeping.{StopsRemoval, StopsSized}, proofs.{Sweeps.{RemovedTo, lost_before, next_kept, one_sized}, Stopped.{error_as}}}
+use Rattle.cacache_keep.{specs.Sweeping.{StopsRemoval, StopsSized}, proofs.{Collections.Sweeps.{RemovedTo, lost_before, next_kept, one_sized}, Stopped.{error_as}}}
 use Rattle.cacache_keep.proofs.sweeping.remove_files.Goals as goal
 
 pub returns-in_err-path-clause-stops : goal.returns-in_err-path-clause-stops

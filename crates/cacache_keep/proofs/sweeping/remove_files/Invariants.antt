@@ -1,4 +1,4 @@
-use Rattle.cacache_keep.proofs.Sweeps.{RemovedTo}
+use Rattle.cacache_keep.proofs.Collections.Sweeps.{RemovedTo}
 use Rattle.cacache_keep.proofs.sweeping.remove_files.Given as goal
 
 abbrev pub invariant-loop-file : goal.invariant-loop-file

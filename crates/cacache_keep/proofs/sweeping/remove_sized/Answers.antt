@@ -2,7 +2,7 @@ use Rattle.std.proofs.Common.{ℕ, List, inl, inr, subst}
 use Rattle.cacache_store.specs.declared.store.answer.Answer.TheVariants as answers
 use Rattle.cacache_store.specs.declared.store.step.Step.TheVariants as steps
 use Rattle.cacache_calls.specs.SingleSteps.{Does, FailsAt}
-use Rattle.cacache_keep.proofs.Sweeps.{told_size, refused_fails, removal_refused, size_refused}
+use Rattle.cacache_keep.proofs.Collections.Sweeps.{told_size, refused_fails, removal_refused, size_refused}
 use Rattle.cacache_keep.proofs.sweeping.remove_sized.Goals as goal
 
 pub returns-in-Err-clause-stops : goal.returns-in-Err-clause-stops

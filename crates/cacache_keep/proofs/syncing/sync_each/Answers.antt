@@ -1,4 +1,4 @@
-use Rattle.cacache_keep.{specs.Syncing.{StopsInTurn}, proofs.{SyncedFolders.{next_unsynced, one_synced}, Stopped.{error_as}}}
+use Rattle.cacache_keep.{specs.Syncing.{StopsInTurn}, proofs.{Losses.SyncedFolders.{next_unsynced, one_synced}, Stopped.{error_as}}}
 use Rattle.cacache_keep.proofs.syncing.sync_each.Goals as goal
 
 pub returns-in_err-sync_folder-clause-stops : goal.returns-in_err-sync_folder-clause-stops

@@ -1,6 +1,6 @@
 use Rattle.cacache_core.specs.declared.errors.Error.TheVariants.{OutOfMemory}
 use Rattle.cacache_store.specs.Plain.{plain_answer, plain_step}
-use Rattle.cacache_keep.{specs.Walking.{VisitStops}, proofs.{IndexWalks.{lost_before, resumed_goes, resumed_stops, stops_after}, Stopped.{error_as}}}
+use Rattle.cacache_keep.{specs.Walking.{VisitStops}, proofs.{Indexes.IndexWalks.{lost_before, resumed_goes, resumed_stops, stops_after}, Stopped.{error_as}}}
 use Rattle.cacache_keep.proofs.walking.make.Goals as goal
 
 pub returns-in_err-step-clause-stops : goal.returns-in_err-step-clause-stops

@@ -1,7 +1,7 @@
 use Rattle.std.proofs.Common.{◌<◌, map, rules, subst, sym}
 use Rattle.cacache_calls.specs.Runs.{plain_item}
 use Rattle.cacache_walks.specs.Iterating.{steps_left}
-use Rattle.cacache_keep.{specs.Walking.{LosesIndex, MeetsIndex, WalksIndex}, proofs.IndexWalks.{begins, ended}}
+use Rattle.cacache_keep.{specs.Walking.{LosesIndex, MeetsIndex, WalksIndex}, proofs.Indexes.IndexWalks.{begins, ended}}
 use Rattle.cacache_keep.proofs.walking.walk_below.Goals as goal
 
 pub visits-init : goal.visits-init

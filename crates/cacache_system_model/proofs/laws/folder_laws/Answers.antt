@@ -1,4 +1,4 @@
-use Rattle.cacache_system_model.proofs.Dirs.{make_dirs_agrees}
+use Rattle.cacache_system_model.proofs.Steps.Dirs.{make_dirs_agrees}
 use Rattle.cacache_system_model.proofs.laws.folder_laws.Goals as goal
 
 pub returns : goal.returns

@@ -1,4 +1,4 @@
-use Rattle.cacache_system_model.proofs.Listing.{read_dir_goes, read_dir_breaks}
+use Rattle.cacache_system_model.proofs.Steps.Listing.{read_dir_goes, read_dir_breaks}
 use Rattle.cacache_system_model.proofs.laws.list_laws.Goals as goal
 
 pub returns : goal.returns

@@ -1,4 +1,4 @@
-use Rattle.cacache_system_model.proofs.{Changing.{exists_agrees}, Looking.{open_agrees, size_agrees}}
+use Rattle.cacache_system_model.proofs.Steps.{Changing.{exists_agrees}, Looking.{open_agrees, size_agrees}}
 use Rattle.cacache_system_model.proofs.laws.look_laws.Goals as goal
 
 pub returns : goal.returns

@@ -1,4 +1,4 @@
-use Rattle.cacache_system_model.proofs.Syncing.{sync_temp_agrees, sync_file_agrees, sync_dir_agrees}
+use Rattle.cacache_system_model.proofs.Steps.Syncing.{sync_temp_agrees, sync_file_agrees, sync_dir_agrees}
 use Rattle.cacache_system_model.proofs.laws.sync_laws.Goals as goal
 
 pub returns : goal.returns

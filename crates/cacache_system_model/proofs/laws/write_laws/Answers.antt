@@ -1,4 +1,4 @@
-use Rattle.cacache_system_model.proofs.{Copying.{copy_agrees}, Writing.{append_agrees, write_agrees}}
+use Rattle.cacache_system_model.proofs.Steps.{Copying.{copy_agrees}, Writing.{append_agrees, write_agrees}}
 use Rattle.cacache_system_model.proofs.laws.write_laws.Goals as goal
 
 pub returns : goal.returns

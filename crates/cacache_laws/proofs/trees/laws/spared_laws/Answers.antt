@@ -1,4 +1,4 @@
-use Rattle.cacache_laws.proofs.trees.SparedKeys.{spared_keys_stay, tombstones_fit}
+use Rattle.cacache_laws.proofs.trees.Spared.SparedKeys.{spared_keys_stay, tombstones_fit}
 use Rattle.cacache_laws.proofs.trees.laws.spared_laws.Goals as goal
 
 pub returns : goal.returns

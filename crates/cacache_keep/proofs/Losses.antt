@@ -1,0 +1,13 @@
+pub mod SyncedTrees
+pub mod SyncedFolders
+pub mod MomentRuns
+pub mod ApartSteps
+pub mod ApartBuckets
+pub mod ApartCompactions
+pub mod SettledBuckets
+pub mod SafeBuckets
+pub mod FixedFolders
+pub mod LeanLosses
+pub mod SparedLosses
+pub mod LaterLosses
+pub mod GrownLosses

@@ -1,0 +1,105 @@
+-- Contents that are read one after another.
+use Rattle.std.proofs.{Common.{◌≡◌, ◌+◌, ◌-◌, ◌^◌, ◌<◌, ℕ, List, [], ◌∷◌, ◌++◌, Bool, true, false, Option, inl, refl, sym, ap, subst, ◌∙◌, map, length, take, drop, get_or, length-append, take-append-drop, arith}, lemmas.List.{drop_more, map-append}}
+use Rattle.std.specs.{List.{filter}, Prelude.{min, not}}
+use Rattle.cacache_core.specs.declared.{errors.Error.{Error, TheVariants.{OutOfMemory}}, integrity.digest.Hash.{Hash}}
+use Rattle.cacache_store.specs.declared.store.log.LogItem.{LogItem}
+use Rattle.cacache_laws.specs.trees.Temporary.{total}
+use Rattle.cacache_keep.specs.Reading.{Judged, ReadsEach, SaysGood, SaysOfEach, StopsContent, StopsEach, StopsNext, WeighsOthers}
+use Rattle.cacache_keep.proofs.{Asked.{kept, passed}, Collections.Sweeps.{total_more}}
+
+-- ---- one more
+
+says_on : (cache : List ℕ) (reads : List Judged) (r : Judged) (old mid new : Option (List LogItem)) → SaysOfEach cache reads old mid → SaysGood cache r.0 r.1 r.2 mid new → SaysOfEach cache (reads ++ r ∷ []) old new
+says_on cache [] r old mid new h says = (new, subst (λ (log : Option (List LogItem)). SaysGood cache r.0 r.1 r.2 log new) h says, refl)
+says_on cache (x ∷ reads) r old mid new h says = (h.0, h.1, says_on cache reads r h.0 mid new h.2 says)
+
+-- ---- bytes of those that a test keeps
+
+abbrev bytes_of : (Judged → Bool) → List Judged → ℕ
+bytes_of p reads = total (map (λ (r : Judged). r.2) (filter p reads))
+
+bytes_more : (p : Judged → Bool) (reads : List Judged) (r : Judged) (bytes more : ℕ) → p r ≡ true → bytes ≡ bytes_of p reads → more ≡ min (bytes + r.2) (2 ^ 64 - 1) → more ≡ bytes_of p (reads ++ r ∷ [])
+bytes_more p reads r bytes more is so grows =
+    grows ∙ ap (λ b. min (b + r.2) (2 ^ 64 - 1)) so ∙ sym (total_more (map (λ (x : Judged). x.2) (filter p reads)) r.2)
+    ∙ ap total (sym (map-append (λ (x : Judged). x.2) (filter p reads) (r ∷ []))) ∙ ap (λ (l : List Judged). total (map (λ x. x.2) l)) (sym (kept p reads r is))
+
+bytes_same : (p : Judged → Bool) (reads : List Judged) (r : Judged) (bytes : ℕ) → p r ≡ false → bytes ≡ bytes_of p reads → bytes ≡ bytes_of p (reads ++ r ∷ [])
+bytes_same p reads r bytes is so = so ∙ ap (λ (l : List Judged). total (map (λ x. x.2) l)) (sym (passed p reads r is))
+
+-- ---- reads
+
+pub none_read : (cache : List ℕ) (good_bytes : ℕ) (damaged : List (List Hash)) (damaged_bytes : ℕ) (log : Option (List LogItem)) → good_bytes ≡ 0 → damaged ≡ [] → damaged_bytes ≡ 0 → WeighsOthers cache [] good_bytes damaged damaged_bytes log log
+none_read cache good_bytes damaged damaged_bytes log zero none nil =
+    let nothing : total [] ≡ 0 = omega arith in
+    (0, (record { reads = []; each = refl; reading = refl; whole = refl; broken = none; counts = omega (arith, ap length none) }, zero ∙ sym nothing, nil ∙ sym nothing))
+
+pub good_read : (cache : List ℕ) (addresses : List (List Hash)) (good_bytes more : ℕ) (damaged : List (List Hash)) (damaged_bytes : ℕ) (i : List Hash) (size : ℕ) (old mid new : Option (List LogItem)) → WeighsOthers cache addresses good_bytes damaged damaged_bytes old mid → SaysGood cache i true size mid new
+    → more ≡ min (good_bytes + size) (2 ^ 64 - 1) → WeighsOthers cache (addresses ++ i ∷ []) more damaged damaged_bytes old new
+good_read cache addresses good_bytes more damaged damaged_bytes i size old mid new g says grows =
+    let r = g.1.0 in
+    let one : Judged = (i, true, size) in
+    let it : ReadsEach cache (addresses ++ i ∷ []) (g.0 + 1) damaged old new = record {
+      reads = r.reads ++ one ∷ [];
+      each = map-append (λ (x : Judged). x.0) r.reads (one ∷ []) ∙ ap (λ (l : List (List Hash)). l ++ i ∷ []) r.each;
+      reading = says_on cache r.reads one old mid new r.reading says;
+      whole = ap (λ n. n + 1) r.whole ∙ sym (ap length (kept (λ (x : Judged). x.1) r.reads one refl) ∙ length-append (filter (λ (x : Judged). x.1) r.reads) (one ∷ []));
+      broken = r.broken ∙ ap (λ (l : List Judged). map (λ x. x.0) l) (sym (passed (λ (x : Judged). not x.1) r.reads one refl));
+      counts = omega (arith, r.counts, length-append addresses (i ∷ []));
+    } in
+    (g.0 + 1, (it, bytes_more (λ (x : Judged). x.1) r.reads one good_bytes more refl g.1.1 grows, bytes_same (λ (x : Judged). not x.1) r.reads one damaged_bytes refl g.1.2))
+
+pub damaged_read : (cache : List ℕ) (addresses : List (List Hash)) (good_bytes : ℕ) (damaged : List (List Hash)) (damaged_bytes more : ℕ) (i : List Hash) (size : ℕ) (old mid new : Option (List LogItem)) → WeighsOthers cache addresses good_bytes damaged damaged_bytes old mid → SaysGood cache i false size mid new
+    → more ≡ min (damaged_bytes + size) (2 ^ 64 - 1) → WeighsOthers cache (addresses ++ i ∷ []) good_bytes (damaged ++ i ∷ []) more old new
+damaged_read cache addresses good_bytes damaged damaged_bytes more i size old mid new g says grows =
+    let r = g.1.0 in
+    let one : Judged = (i, false, size) in
+    let broken : List Judged = filter (λ (x : Judged). not x.1) r.reads in
+    let it : ReadsEach cache (addresses ++ i ∷ []) g.0 (damaged ++ i ∷ []) old new = record {
+      reads = r.reads ++ one ∷ [];
+      each = map-append (λ (x : Judged). x.0) r.reads (one ∷ []) ∙ ap (λ (l : List (List Hash)). l ++ i ∷ []) r.each;
+      reading = says_on cache r.reads one old mid new r.reading says;
+      whole = r.whole ∙ ap length (sym (passed (λ (x : Judged). x.1) r.reads one refl));
+      broken = ap (λ (l : List (List Hash)). l ++ i ∷ []) r.broken ∙ sym (map-append (λ (x : Judged). x.0) broken (one ∷ [])) ∙ ap (λ (l : List Judged). map (λ x. x.0) l) (sym (kept (λ (x : Judged). not x.1) r.reads one refl));
+      counts = omega (arith, r.counts, length-append addresses (i ∷ []), length-append damaged (i ∷ []));
+    } in
+    (g.0, (it, bytes_same (λ (x : Judged). x.1) r.reads one good_bytes refl g.1.1, bytes_more (λ (x : Judged). not x.1) r.reads one damaged_bytes more refl g.1.2 grows))
+
+-- ---- an error that ends it
+
+-- what is still to come after the first so many
+pub split_at : {X : Type 0} (addresses seen : List X) (i : X) (k : ℕ) → k < length addresses → seen ≡ take k addresses → i ≡ get_or addresses k i → addresses ≡ seen ++ i ∷ drop (k + 1) addresses
+split_at {X} addresses seen i k below before is =
+    sym (take-append-drop k addresses)
+    ∙ ap (λ (l : List X). take k addresses ++ l) (drop_more addresses k i below ∙ ap (λ (x : X). x ∷ drop (k + 1) addresses) (sym is))
+    ∙ ap (λ (l : List X). l ++ i ∷ drop (k + 1) addresses) (sym before)
+
+-- the next one couldn't be read
+pub next_stops : (cache : List ℕ) (addresses seen damaged : List (List Hash)) (good_bytes damaged_bytes : ℕ) (i : List Hash) (rest : List (List Hash)) (e : Error) (old mid new : Option (List LogItem)) → addresses ≡ seen ++ i ∷ rest → WeighsOthers cache seen good_bytes damaged damaged_bytes old mid → StopsContent cache i e mid new
+    → StopsEach cache addresses e old new
+next_stops cache addresses seen damaged good_bytes damaged_bytes i rest e old mid new split g stop =
+    let r = g.1.0 in
+    record {
+      reads = r.reads;
+      rest = i ∷ rest;
+      split = split ∙ ap (λ (l : List (List Hash)). l ++ i ∷ rest) (sym r.each);
+      between = mid;
+      reading = r.reading;
+      stop = stop;
+    }
+
+memory_next : (cache : List ℕ) (rest : List (List Hash)) (log : Option (List LogItem)) → StopsNext cache rest OutOfMemory log log
+memory_next cache [] log = (refl, refl)
+memory_next cache (i ∷ rest) log = inl (refl, inl refl)
+
+-- memory ran out after these
+pub memory_stops : (cache : List ℕ) (addresses seen damaged rest : List (List Hash)) (good_bytes damaged_bytes : ℕ) (old new : Option (List LogItem)) → addresses ≡ seen ++ rest → WeighsOthers cache seen good_bytes damaged damaged_bytes old new → StopsEach cache addresses OutOfMemory old new
+memory_stops cache addresses seen damaged rest good_bytes damaged_bytes old new split g =
+    let r = g.1.0 in
+    record {
+      reads = r.reads;
+      rest = rest;
+      split = split ∙ ap (λ (l : List (List Hash)). l ++ rest) (sym r.each);
+      between = new;
+      reading = r.reading;
+      stop = memory_next cache rest new;
+    }

@@ -1,0 +1,4 @@
+pub mod StillThere
+pub mod SparedCalls
+pub mod SparedCommits
+pub mod SparedKeys

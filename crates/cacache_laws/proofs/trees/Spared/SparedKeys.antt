@@ -1,0 +1,170 @@
+-- Where a key leads after later calls that spare it, on a store that stands.
+use Rattle.std.proofs.Common.{◌≡◌, inl, inr, ℕ, List, [], ◌∷◌, Option, None, Some, Result, Ok, Err, arith, filter_map, refl, sym, ap, subst, ◌∙◌}
+use Rattle.std.specs.{Prelude.{Contains}, List.{cons_option}}
+use Rattle.cacache_core.specs.{declared.{errors.{Error.{Error, TheVariants.{IoError, OutOfMemory}}, Fault.{Fault}}, integrity.digest.Hash.{Hash}}, PathNames.{home_of}}
+use Rattle.cacache_store.specs.declared.store.answer.Answer.TheVariants as answers
+use Rattle.cacache_store.specs.declared.store.{log.LogItem.{LogItem}, plain.PlainTemp.{PlainTemp}}
+use Rattle.cacache_store.specs.declared.store.step.Step.TheVariants as steps
+use Rattle.cacache_disk.{specs.{declared.luck.Luck.TheVariants.{Plain}, Apply.{apply}, Rooted.{Rooted}, memory.Replay.{IsLog, tree_of}}, proofs.KeptFolders.{steps_keep_rooted}}
+use Rattle.cacache_calls.specs.{Common.{fails}, Inserting.{refused_cause}, Runs.{Gains, Goes, Moves}, SingleSteps.{Does, FailsAt}, State.{State}, StepPaths.{temp_folder, temp_path}, Storing.{persist, put_commit}, Table.{opening}}
+use Rattle.cacache_calls.proofs.Going.{goes_lost}
+use Rattle.cacache_calls.specs.declared.command.Command.TheVariants as commands
+use Rattle.cacache_calls.specs.declared.reply.Reply.TheVariants as replies
+use Rattle.cacache_value.{specs.{Placed.{Placed}, Value.{value_of_tree}}, proofs.Traces.{steps_keep_placed}}
+use Rattle.cacache_history.specs.{Commits.{deeds}, Setup.{call_site}}
+use Rattle.cacache_laws.specs.{Caches.{Called, HasKey, setup_at}, GivenUp.{GivesUpTemp, drop_temp}, Keeping.{found_under}, OpenWriters.{OpensWriter, make_file, make_folder}, Sequence.{Alike, after_deeds, turns_on}, Standing.{IsStanding}, trees.Later.{AllSpare, Later, ReadsOf, Spares, SparedKeysStay, StaysRead, TombstonesFit, calls, commits, gives_up, looks, opens, written}}
+use Rattle.cacache_laws.proofs.{Calls.{InParts.{logs_lead}, Logs.{some_same}}, Putting.{Forms.{bare_written}, KeptKeys.{stays_known}, OpenWriters.{folder_first, gains_join, gains_none, put_nothing, temp_made}}, Readings.{Looked.{same_stays_known}, Standing.{standing_reads}}, Spares.GivenUp.{still_alike, temp_for}, trees.{Members.{contains_member, member_contains}, Spared.{SparedCalls.{Left, call_left, idle, known_left, stands}, SparedCommits.{commit_left}}}}
+
+-- ---- the tree as it was
+
+tree_stands : (cache : List ℕ) (old new : List LogItem) → tree_of new ≡ tree_of old → IsStanding cache old → IsStanding cache new
+tree_stands cache old new same standing = record { placed = subst (Placed (home_of cache)) (sym same) standing.placed; rooted = subst Rooted (sym same) standing.rooted }
+
+tree_left : (cache key : List ℕ) (i : List Hash) (old new : List LogItem) → tree_of new ≡ tree_of old → IsStanding cache old → Left cache key i None old new
+tree_left cache key i old new same standing =
+    known_left cache key i None old new (tree_stands cache old new same standing) (same_stays_known cache old new (ap (value_of_tree (home_of cache)) same))
+
+-- ---- a writer's opening
+
+-- it is a put of nothing that was broken off, and did nothing to contents or buckets
+module _ (cache : List ℕ) (number : ℕ) (old new : List LogItem) (logged : IsLog new) where
+  abbrev begins : State
+  begins = opening (call_site (setup_at cache []) number) (commands.Put put_nothing)
+
+  abbrev Broken : Type 0
+  Broken = (c : Called cache (commands.Put put_nothing) (replies.Refused OutOfMemory) old new) × (deeds (turns_on (tree_of old) c.ran.0) ≡ [])
+
+  broken : (moves : Moves) (next : State) → Goes begins moves next → deeds (turns_on (tree_of old) moves) ≡ [] → Gains (Some old) (Some new) moves → Broken
+  broken moves next goes nothing gains = (record { base = []; number = number; ran = (moves, goes_lost begins moves next goes, gains); plain = refl; logged = logged }, nothing)
+
+  folder_failed : (fault : Fault) → Does (make_folder cache number) (answers.Failed fault) (Some old) (Some new) → Broken
+  folder_failed fault g =
+      broken ((make_folder cache number, answers.Failed fault) ∷ []) (fails fault) (refl, tt, refl) (folder_first (tree_of old) (temp_folder cache) (answers.Failed fault) [] refl) g
+
+  folder_errs : (e : Error) → FailsAt (make_folder cache number) e (Some old) (Some new) → Broken
+  folder_errs (IoError fault message) h = folder_failed fault h
+  folder_errs OutOfMemory (inl same) = broken [] begins refl refl (gains_none (Some old) new same)
+  folder_errs OutOfMemory (inr h) = folder_failed h.0 h.1
+  folder_errs e h = absurd h
+
+  module _ (mid : Option (List LogItem)) (made : Does (make_folder cache number) answers.Done (Some old) mid) where
+    file_failed : (fault : Fault) → Does (make_file cache number) (answers.Failed fault) mid (Some new) → Broken
+    file_failed fault g =
+        broken ((make_folder cache number, answers.Done) ∷ (make_file cache number, answers.Failed fault) ∷ []) (fails fault) (refl, tt, (refl, tt, refl))
+        (folder_first (tree_of old) (temp_folder cache) answers.Done ((make_file cache number, answers.Failed fault) ∷ []) refl)
+        (gains_join old new mid ((make_folder cache number, answers.Done) ∷ []) ((make_file cache number, answers.Failed fault) ∷ []) made g)
+
+    file_errs : (e : Error) → FailsAt (make_file cache number) e mid (Some new) → Broken
+    file_errs (IoError fault message) h = file_failed fault h
+    file_errs OutOfMemory (inl same) =
+        broken ((make_folder cache number, answers.Done) ∷ []) _ (refl, tt, refl) (folder_first (tree_of old) (temp_folder cache) answers.Done [] refl)
+        (gains_join old new mid ((make_folder cache number, answers.Done) ∷ []) [] made (gains_none mid new same))
+    file_errs OutOfMemory (inr h) = file_failed h.0 h.1
+    file_errs e h = absurd h
+
+  opened_broken : (r : Result PlainTemp Error) → OpensWriter cache number r (Some old) (Some new) → Broken
+  opened_broken (Err e) (inl h) = folder_errs e h
+  opened_broken (Err e) (inr h) = file_errs h.0 h.1 e h.2
+  opened_broken (Ok file) h =
+      let moves : Moves = (make_folder cache number, answers.Done) ∷ (make_file cache number, answers.Temp file) ∷ [] in
+      let gains = gains_join old new h.0 ((make_folder cache number, answers.Done) ∷ []) ((make_file cache number, answers.Temp file) ∷ []) h.1 h.2 in
+      let lead = logs_lead old new moves gains logged in
+      let same = temp_made (apply (tree_of old) (make_folder cache number) Plain).1 (temp_path cache number) file lead.0.1.0 in
+      broken moves (persist (put_commit cache put_nothing) file) (refl, tt, (refl, ap (λ (f : PlainTemp). f.path) same, refl))
+      (folder_first (tree_of old) (temp_folder cache) answers.Done ((make_file cache number, answers.Temp file) ∷ []) refl) gains
+
+opening_left : (cache key : List ℕ) (i : List Hash) (number : ℕ) (r : Result PlainTemp Error) (old new : List LogItem) → IsLog new → IsStanding cache old → OpensWriter cache number r (Some old) (Some new)
+    → Left cache key i None old new
+opening_left cache key i number r old new logged standing opened =
+    let b = opened_broken cache number old new logged r opened in
+    let command = commands.Put put_nothing in
+    let lost = replies.Refused OutOfMemory in
+    known_left cache key i None old new (stands cache command lost old new standing b.0 (λ key e. absurd cc))
+    (idle cache command lost old new standing b.0 (λ key e. absurd cc) (ap (λ ds. after_deeds (home_of cache) ds (value_of_tree (home_of cache) (tree_of old))) b.1))
+
+-- ---- a writer that is given up
+
+given_up : (cache key : List ℕ) (i : List Hash) (number : ℕ) (old new : List LogItem) → IsLog new → IsStanding cache old → GivesUpTemp cache number (Some old) (Some new) → Left cache key i None old new
+given_up cache key i number old new logged standing (inl same) = tree_left cache key i old new (ap tree_of (some_same new old same)) standing
+given_up cache key i number old new logged standing (inr h) =
+    let path = temp_path cache number in
+    let t = tree_of old in
+    let moves : Moves = (drop_temp cache number, h.0) ∷ [] in
+    let lead = logs_lead old new moves h.1 logged in
+    let alike : Alike (value_of_tree (home_of cache) (tree_of new)) (value_of_tree (home_of cache) (tree_of old))
+    = subst (λ x. Alike (value_of_tree (home_of cache) x) (value_of_tree (home_of cache) (tree_of old))) (sym lead.1) (still_alike cache path t standing.placed h.0 (temp_for cache number) lead.0.0) in
+    known_left cache key i None old new
+    (record {
+      placed = subst (Placed (home_of cache)) (sym lead.1) (steps_keep_placed (home_of cache) t (steps.RemoveFile path) Plain standing.placed tt);
+      rooted = subst Rooted (sym lead.1) (steps_keep_rooted t (steps.RemoveFile path) Plain standing.rooted);
+    })
+    (stays_known cache old new alike)
+
+-- ---- one after another
+
+pub more_texts : (o : Option (List ℕ)) (t : List ℕ) (ts : List (List ℕ)) → Contains ts t → Contains (cons_option o ts) t
+more_texts None t ts c = c
+more_texts (Some u) t ts c = contains_member t (u ∷ ts) (inr (member_contains t ts c))
+
+pub first_text : (o : Option (List ℕ)) (t : List ℕ) (ts : List (List ℕ)) → o ≡ Some t → Contains (cons_option o ts) t
+first_text None t ts e = absurd (let wrong : None ≡ Some t = e in cc)
+first_text (Some u) t ts e = contains_member t (u ∷ ts) (inl (let same : Some u ≡ Some t = e in cc))
+
+module _ (cache key : List ℕ) (i : List Hash) where
+  one_left : (e : Later) (bytes : List ℕ) (old new : List LogItem) → IsLog new → IsStanding cache old → HasKey cache key i bytes old → Spares cache key i e old new → Left cache key i (written e) old new
+  one_left looks bytes old new logged standing has same = tree_left cache key i old new same standing
+  one_left (calls command) bytes old new logged standing has call =
+      call_left cache key i has.content.formed call.reply old new standing command call.called call.may call.key_spared call.content_spared
+  one_left (opens number) bytes old new logged standing has (r, opened) = opening_left cache key i number r old new logged standing opened
+  one_left (commits number p) bytes old new logged standing has (differ, fits, opened, r, made) = commit_left cache p number fits opened r old new standing made key i differ
+  one_left (gives_up number) bytes old new logged standing has gives = given_up cache key i number old new logged standing gives
+
+  reads_of : (bytes : List ℕ) (log : List LogItem) → IsStanding cache log → HasKey cache key i bytes log → ReadsOf cache key i bytes log
+  reads_of bytes log standing has r new c = standing_reads cache key bytes i r log new standing has c
+
+  -- after a call that kept the bytes, and after one that wrote others
+  kept_then : (e : Later) (later : List Later) (bytes : List ℕ) (old next new : List LogItem) → found_under cache key next ≡ found_under cache key old
+      → StaysRead cache key i bytes (filter_map written later) next new → StaysRead cache key i bytes (filter_map written (e ∷ later)) old new
+  kept_then e later bytes old next new finds s = record {
+    standing = s.standing;
+    finds = s.finds ∙ finds;
+    held = s.held;
+    which = elim s.which [ inl same ↦ inl same | inr c ↦ inr (more_texts (written e) s.held (filter_map written later) c) ];
+    has = s.has;
+    reads = s.reads;
+  }
+
+  wrote_then : (e : Later) (later : List Later) (bytes text : List ℕ) (old next new : List LogItem) → found_under cache key next ≡ found_under cache key old → written e ≡ Some text
+      → StaysRead cache key i text (filter_map written later) next new → StaysRead cache key i bytes (filter_map written (e ∷ later)) old new
+  wrote_then e later bytes text old next new finds wrote s = record {
+    standing = s.standing;
+    finds = s.finds ∙ finds;
+    held = s.held;
+    which = elim s.which [
+      | inl same ↦ inr (first_text (written e) s.held (filter_map written later) (wrote ∙ ap Some (sym same)))
+      | inr c ↦ inr (more_texts (written e) s.held (filter_map written later) c)
+    ];
+    has = s.has;
+    reads = s.reads;
+  }
+
+  all_left : (later : List Later) (bytes : List ℕ) (old new : List LogItem) → IsStanding cache old → HasKey cache key i bytes old → AllSpare cache key i later old new
+      → StaysRead cache key i bytes (filter_map written later) old new
+  all_left [] bytes old new standing has same =
+      let known = same_stays_known cache old new (ap (value_of_tree (home_of cache)) same) in
+      let there = tree_stands cache old new same standing in
+      let still = known.key key bytes i has in
+      record { standing = there; finds = known.finds key; held = bytes; which = inl refl; has = still; reads = reads_of bytes new there still }
+  all_left (e ∷ later) bytes old new standing has (next, logged, spares, more) =
+      let l = one_left e bytes old next logged standing has spares in
+      elim (l.leads bytes has) [
+        | inl still ↦ kept_then e later bytes old next new l.finds (all_left later bytes next new l.standing still more)
+        | inr wrote ↦ wrote_then e later bytes wrote.0 old next new l.finds wrote.1 (all_left later wrote.0 next new l.standing wrote.2 more)
+      ]
+
+pub spared_keys_stay : SparedKeysStay
+spared_keys_stay cache key i bytes later old new standing has spares = all_left cache key i later bytes old new standing has spares
+
+pub tombstones_fit : TombstonesFit
+unfolding refused_cause
+tombstones_fit cache d utf8 early none = (bare_written d.key None d.moment 0 utf8 tt early (omega arith)).formed

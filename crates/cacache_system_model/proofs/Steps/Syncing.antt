@@ -1,0 +1,136 @@
+-- Steps that sync a file or a folder.
+use Rattle.std.{proofs.Common.{◌≡◌, ℕ, Bool, false, List, ◌∷◌, refl, sym, ap, subst, ◌∙◌, ⊎_elim}, specs.Prelude.{Option, None, Some, Result, Ok, Err, option_map}}
+use Rattle.std_io.specs.declared.io.kind.ErrorKind.{ErrorKind}
+use Rattle.std_io.specs.declared.io.kind.ErrorKind.TheVariants as kind
+use Rattle.cacache_core.specs.{declared.errors.Fault.{Fault, TheVariants.{IsADirectory, NotADirectory}}, PathNames.{Names}}
+use Rattle.cacache_store.specs.{declared.store.answer.Kind.{Kind}, Plain.{PlainAnswer}}
+use Rattle.cacache_store.specs.declared.store.answer.Kind.TheVariants as kinds
+use Rattle.cacache_store.specs.declared.store.step.Step.TheVariants as steps
+use Rattle.cacache_store.specs.declared.store.answer.Answer.TheVariants as answers
+use Rattle.cacache_disk.specs.{declared.{luck.Luck.TheVariants.{Plain}, node.Node.{Node, TheVariants.{Folder, File, Link}}}, Tree.{Tree, look, bytes_of}, LedTo.{and_then, found, file_at, folder, where_folder}, Apply.{apply, unless}}
+use Rattle.cacache_system.specs.{declared.call.{FileInfo.{FileInfo}, CallResult.{CallResult}}, CallsOf.{Stage, to_sync, to_sync_folder, only, if_folder, opened}, Seen.{NumberedTemp}, AnswersOf.{misses}}
+use Rattle.cacache_system.specs.declared.call.SystemCall.TheVariants as asks
+use Rattle.cacache_system.specs.declared.call.CallResult.TheVariants as says
+use Rattle.cacache_system_model.specs.{Machine.{OpenFile, Machine, Describes, Became}, Laws.{bytes_in, temp_on, step_on, outcome, Leads, IsDone}, Syncing.{EndsInNoLink, SyncTempAgrees, SyncFileAgrees, SyncDirAgrees}}
+use Rattle.cacache_system_model.proofs.{Refused.{same_outcome}, Leading.{Claim, over_leads, only_leads}, Claims.{way_of, claim_of, cases_of, agrees_of, claim_plain, claim_broken}, Steps.{Opening.{OpenedOn, Openings, opening_leads, of_some}, Looking.{table_fails, no_file, file_there, folder_there, link_there, refused_folder, wanted_file}}, Views.{folder_found}}
+
+-- an open file was synced
+pub record WasSynced (n l : Machine) (names : Names) : Type 0 where
+  pub tree : l.tree ≡ n.tree
+  pub files : l.files ≡ n.files
+  pub synced : l.synced ≡ (names, look n.tree names) ∷ n.synced
+
+-- the sync of an open file ends the step
+pub sync_leads : (b : Bool) (n : Machine) (number : ℕ) (file : OpenFile) (P : Claim) → n.files number ≡ Some file
+    → ((l : Machine) → WasSynced n l file.names → P says.Done l)
+    → ((why : ErrorKind) (l : Machine) → b ≡ false → misses why ≡ false → l ≡ n → P (says.Failed why) l) → Leads (way_of b) (only (asks.Sync number)) n P
+sync_leads b n number file P is done breaks =
+    only_leads (way_of b) (asks.Sync number) n P (λ said l happens.
+    ⊎_elim
+    (λ (most, all, well).
+    let syncs = of_some (n.files number) file (λ f. (said ≡ says.Done) × Became n.tree n.files ((f.names, look n.tree f.names) ∷ n.synced) l) is well in
+    subst (λ (r : CallResult). P r l) (sym syncs.0) (done l (record { tree = syncs.1.0; files = syncs.1.1; synced = syncs.1.2 })))
+    (λ (broke, why, same, fine, part, left).
+    subst (λ (r : CallResult). P r l) (sym same) (breaks why l broke fine left))
+    (cases_of b n (asks.Sync number) said l happens))
+
+-- ---- a file
+
+apply_sync : (t : Tree) (path : List ℕ) (r : Result (List ℕ) Fault) → file_at t path IsADirectory ≡ r → apply t (steps.SyncFile path) Plain ≡ unless r t (λ bytes. outcome answers.Done t)
+unfolding apply
+apply_sync t path r is = ap (λ (x : Result (List ℕ) Fault). unless x t (λ bytes. outcome answers.Done t)) is
+
+module _ (b : Bool) (m : Machine) (path : List ℕ) (done : b ≡ false → IsDone m (steps.SyncFile path)) where
+  file_synced_so : (number : ℕ) (names : Names) (node : Node) (info : FileInfo) (n : Machine) (inode : ℕ × ℕ) → found m.tree path ≡ Ok names → look m.tree names ≡ Some node
+      → OpenedOn m n number names → Describes node inode info → Leads (way_of b) (opened to_sync number info) n (claim_of b m (steps.SyncFile path))
+  file_synced_so number names Folder info n inode is stands open_on described =
+      refused_folder b info.kind (only (asks.Sync number)) n (claim_of b m (steps.SyncFile path)) described.kind
+      (claim_plain b m (steps.SyncFile path) done (says.Failed kind.IsADirectory) n
+      (apply_sync m.tree path (Err IsADirectory) (folder_there m.tree path IsADirectory names is stands) ∙ table_fails (steps.SyncFile path) IsADirectory kind.IsADirectory m n refl refl refl open_on.tree))
+  file_synced_so number names (File bytes) info n inode is stands open_on described =
+      wanted_file b info.kind (only (asks.Sync number)) n (claim_of b m (steps.SyncFile path)) described.kind
+      (sync_leads b n number _ (claim_of b m (steps.SyncFile path)) open_on.file
+      (λ l synced. claim_plain b m (steps.SyncFile path) done says.Done l
+      (apply_sync m.tree path (Ok bytes) (file_there m.tree path IsADirectory names bytes is stands) ∙ ap (outcome answers.Done) (sym (synced.tree ∙ open_on.tree))))
+      (λ why l broke fine stays. claim_broken b m (steps.SyncFile path) done why l broke refl fine (ap (λ (x : Machine). x.tree) stays ∙ open_on.tree)))
+  file_synced_so number names (Link target) info n inode is stands open_on described = absurd (link_there m.tree path names target is stands)
+
+  file_openings : Openings b m to_sync path (claim_of b m (steps.SyncFile path))
+  file_openings = record {
+    refuses = λ fault why is of memory. claim_plain b m (steps.SyncFile path) done (says.Failed why) m
+        (apply_sync m.tree path (Err fault) (no_file m.tree path IsADirectory fault is) ∙ table_fails (steps.SyncFile path) fault why m m refl of memory refl);
+    breaks = λ why n broke fine stays synced. claim_broken b m (steps.SyncFile path) done why n broke refl fine stays;
+    opens = file_synced_so;
+  }
+
+pub sync_file_agrees : SyncFileAgrees
+sync_file_agrees m hint path = agrees_of m hint (steps.SyncFile path) (λ b done. opening_leads b m to_sync path (claim_of b m (steps.SyncFile path)) (file_openings b m path done))
+
+-- ---- a folder
+
+apply_sync_dir : (t : Tree) (path : List ℕ) (r : Result Names Fault) → folder t path ≡ r → apply t (steps.SyncDir path) Plain ≡ unless r t (λ names. outcome answers.Done t)
+unfolding apply
+apply_sync_dir t path r is = ap (λ (x : Result Names Fault). unless x t (λ names. outcome answers.Done t)) is
+
+pub folder_of : (t : Tree) (path : List ℕ) (names : Names) (node : Node) → EndsInNoLink t path → found t path ≡ Ok names → look t names ≡ Some node → folder t path ≡ where_folder (Some node) names
+folder_of t path names node none is stands =
+    folder_found t path none ∙ ap (λ (r : Result Names Fault). and_then r (λ n. where_folder (look t n) n)) is ∙ ap (λ (o : Option Node). where_folder o names) stands
+
+-- what is no folder
+pub refused_other : (b : Bool) (k : Kind) (why : ErrorKind) (s : Stage) (n : Machine) (P : Claim) → k ≡ kinds.File → P (says.Failed why) n → Leads (way_of b) (if_folder k why s) n P
+refused_other b k why s n P is holds = subst (λ (x : Kind). Leads (way_of b) (if_folder x why s) n P) (sym is) (over_leads (way_of b) (says.Failed why) n P holds)
+
+module _ (b : Bool) (m : Machine) (path : List ℕ) (none : EndsInNoLink m.tree path) (done : b ≡ false → IsDone m (steps.SyncDir path)) where
+  folder_synced_so : (number : ℕ) (names : Names) (node : Node) (info : FileInfo) (n : Machine) (inode : ℕ × ℕ) → found m.tree path ≡ Ok names → look m.tree names ≡ Some node
+      → OpenedOn m n number names → Describes node inode info → Leads (way_of b) (opened to_sync_folder number info) n (claim_of b m (steps.SyncDir path))
+  folder_synced_so number names Folder info n inode is stands open_on described =
+      subst (λ (k : Kind). Leads (way_of b) (if_folder k kind.NotADirectory (only (asks.Sync number))) n (claim_of b m (steps.SyncDir path))) (sym described.kind)
+      (sync_leads b n number _ (claim_of b m (steps.SyncDir path)) open_on.file
+      (λ l synced. claim_plain b m (steps.SyncDir path) done says.Done l
+      (apply_sync_dir m.tree path (Ok names) (folder_of m.tree path names Folder none is stands) ∙ ap (outcome answers.Done) (sym (synced.tree ∙ open_on.tree))))
+      (λ why l broke fine stays. claim_broken b m (steps.SyncDir path) done why l broke refl fine (ap (λ (x : Machine). x.tree) stays ∙ open_on.tree)))
+  folder_synced_so number names (File bytes) info n inode is stands open_on described =
+      refused_other b info.kind kind.NotADirectory (only (asks.Sync number)) n (claim_of b m (steps.SyncDir path)) described.kind
+      (claim_plain b m (steps.SyncDir path) done (says.Failed kind.NotADirectory) n
+      (apply_sync_dir m.tree path (Err NotADirectory) (folder_of m.tree path names (File bytes) none is stands) ∙ table_fails (steps.SyncDir path) NotADirectory kind.NotADirectory m n refl refl refl open_on.tree))
+  folder_synced_so number names (Link target) info n inode is stands open_on described = absurd (link_there m.tree path names target is stands)
+
+  folder_openings : Openings b m to_sync_folder path (claim_of b m (steps.SyncDir path))
+  folder_openings = record {
+    refuses = λ fault why is of memory. claim_plain b m (steps.SyncDir path) done (says.Failed why) m
+        (apply_sync_dir m.tree path (Err fault) (folder_found m.tree path none ∙ ap (λ (r : Result Names Fault). and_then r (λ n. where_folder (look m.tree n) n)) is)
+        ∙ table_fails (steps.SyncDir path) fault why m m refl of memory refl);
+    breaks = λ why n broke fine stays synced. claim_broken b m (steps.SyncDir path) done why n broke refl fine stays;
+    opens = folder_synced_so;
+  }
+
+pub sync_dir_agrees : SyncDirAgrees
+sync_dir_agrees m hint path none = agrees_of m hint (steps.SyncDir path) (λ b done. opening_leads b m to_sync_folder path (claim_of b m (steps.SyncDir path)) (folder_openings b m path none done))
+
+-- ---- a temporary file
+
+apply_sync_temp : (m : Machine) (temp : NumberedTemp) → apply m.tree (step_on m (steps.SyncTemp temp)) Plain ≡ outcome (answers.Synced (temp_on m temp)) m.tree
+unfolding apply
+apply_sync_temp m temp = refl
+
+abbrev synced_temp : NumberedTemp → Option (List ℕ) → PlainAnswer
+synced_temp temp bytes = answers.Synced (record { path = temp.path; bytes = bytes })
+
+pub open_under : (file : Option OpenFile) (names : Names) → option_map (λ (f : OpenFile). f.names) file ≡ Some names → (f : OpenFile) × (file ≡ Some f)
+open_under None names is = absurd cc
+open_under (Some file) names is = (file, refl)
+
+temp_kept : (m l : Machine) (temp : NumberedTemp) → l.tree ≡ m.tree → l.files ≡ m.files → synced_temp temp (option_map (bytes_in l) (l.files temp.number)) ≡ synced_temp temp (option_map (bytes_in m) (m.files temp.number))
+temp_kept m l temp tree files =
+    ap (λ (t : Tree). synced_temp temp (option_map (λ (f : OpenFile). bytes_of (look t f.names)) (l.files temp.number))) tree
+    ∙ ap (λ (g : ℕ → Option OpenFile). synced_temp temp (option_map (bytes_in m) (g temp.number))) files
+
+pub sync_temp_agrees : SyncTempAgrees
+sync_temp_agrees m hint temp names bytes ready = agrees_of m hint (steps.SyncTemp temp) (λ b done.
+    let file = open_under (m.files temp.number) names ready.opened in
+    sync_leads b m temp.number file.0 (claim_of b m (steps.SyncTemp temp)) file.1
+    (λ l synced. claim_plain b m (steps.SyncTemp temp) done says.Done l
+    (apply_sync_temp m temp
+    ∙ sym (same_outcome (synced_temp temp (option_map (bytes_in l) (l.files temp.number))) (synced_temp temp (option_map (bytes_in m) (m.files temp.number))) l.tree m.tree
+    (temp_kept m l temp synced.tree synced.files) synced.tree)))
+    (λ why l broke fine stays. claim_broken b m (steps.SyncTemp temp) done why l broke refl fine (ap (λ (x : Machine). x.tree) stays)))
