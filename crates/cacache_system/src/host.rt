@@ -1,5 +1,5 @@
 //! The real system. All that stays trusted here is that each method asks what it is named for.
-ghost use Rattle.std.specs.Prelude.{◌≡◌, None};
+ghost use Rattle.std.specs.{Prelude.{◌≡◌, ◌++◌, None, OnOk, IfSome}, Io.{StartsWith}};
 
 use crate::call::FileInfo;
 use crate::system::System;
@@ -104,7 +104,12 @@ impl<R: Files + Drop> System for Host<R> {
         file.read(buf)
     }
 
-    fn read_rest(&mut self, file: &mut R::File, bytes: &mut Vec<u8>) -> io::Result<usize> {
+    // If it is known what the file will give, all of it is read, over any runtime.
+    fn read_rest(&mut self, file: &mut R::File, bytes: &mut Vec<u8>) -> io::Result<usize>
+        ensures appends { StartsWith bytes.new.items bytes.old.items }
+        ensures rest { OnOk result (IfSome (R.File.remaining file.old) (λ rest.
+            bytes.new.items ≡ bytes.old.items ++ rest)) }
+    {
         file.read_to_end(bytes)
     }
 
