@@ -10,12 +10,6 @@ pub no_is_right : (cache : List ℕ) (i : List Hash) (e : Error) (old : List Log
 no_is_right cache i e old reads (Ok told) is = subst (IsRight cache i old) (sym is.0) (λ folder bytes lies. is.1 (reads bytes folder lies))
 no_is_right cache i e old reads (Err error) is = tt
 
--- items that are entries are those of the cache
-pub listed : {X : Type 0} (cache : List ℕ) (log : List LogItem) (items : List (Result Found Error)) → ((entries : List Found) → items ≡ map (λ f. Ok f) entries → AreAllEntries cache log entries)
-    → (r : Result (Vec Found X) Error) → IfOk r (λ v. items ≡ map (λ f. Ok f) v.items) → IfOk r (λ v. AreAllEntries cache log v.items)
-listed cache log items all (Ok v) is = all v.items is
-listed cache log items all (Err e) is = tt
-
 -- what is found at a place among them is one of them
 pub in_at : {X : Type 0} (all : List X) (at : ℕ) (x : X) → at < length all → x ≡ get_or all at x → In x all
 in_at [] at x small is = absurd (omega (arith, small))
@@ -29,22 +23,7 @@ listing_failed items e old new gives (inr i) = gives i
 
 -- ---- verdicts
 
--- on the same tree the same bytes are read
-same_under : (cache : List ℕ) (i : List Hash) (a b : List LogItem) → tree_of a ≡ tree_of b → bytes_under cache i a ≡ bytes_under cache i b
-same_under cache i a b same = rw same refl
-
--- so that a verdict is right there too
+-- a verdict is right on the same tree too
 pub right_on : (cache : List ℕ) (i : List Hash) (a b : List LogItem) (whole : Bool) → tree_of a ≡ tree_of b → IsRight cache i a whole → IsRight cache i b whole
-right_on cache i a b true same h = (h.0, (sym (same_under cache i a b same) ∙ h.1.0, h.1.1))
-right_on cache i a b false same none = λ folder bytes lies. none folder bytes (same_under cache i a b same ∙ lies.0, lies.1)
-
--- one verdict more
-pub entries_more : (verdicts : List Verdict) (v : Verdict) → entries_in verdicts ++ v.entry ∷ [] ≡ entries_in (verdicts ++ v ∷ [])
-entries_more [] v = refl
-entries_more (x ∷ xs) v = ap (λ l. x.entry ∷ l) (entries_more xs v)
-
-pub right_more : (cache : List ℕ) (log : List LogItem) (verdicts : List Verdict) (v : Verdict) → AreRight cache log verdicts → IsRight cache v.entry.integrity log v.whole → AreRight cache log (verdicts ++ v ∷ [])
-right_more cache log [] v h one = All-cons (λ (v : Verdict). IsRight cache v.entry.integrity log v.whole) v [] one (All-nil (λ (v : Verdict). IsRight cache v.entry.integrity log v.whole))
-right_more cache log (x ∷ xs) v h one =
-    let P : Verdict → Type 0 = λ v. IsRight cache v.entry.integrity log v.whole in
-    All-cons P x (xs ++ v ∷ []) (All-head P x xs h) (right_more cache log xs v (All-tail P x xs h) one)
+right_on cache i a b true same h = rw (← same) h
+right_on cache i a b false same h = rw (← same) h

@@ -1,12 +1,11 @@
 -- What an opening says about the bytes that are to be opened.
-use Rattle.std.proofs.Common.{◌≡◌, ◌⊎◌, inl, inr, ℕ, List, [], Result, Ok, Err, refl}
+use Rattle.std.{proofs.Common.{◌≡◌, ◌⊎◌, inl, inr, ℕ, List, [], Result, Ok, Err, refl}, specs.Prelude.{MatchResult}}
 use Rattle.cacache.specs.{Calls.{Error, without_message}, Laws.{Fault, IoError, OpensAs, OutOfMemory}, Stores.{PlainFile}}
 
-pub some_opened : (content : Result (List ℕ) Fault) (file : PlainFile) → OpensAs content (Ok file) → (bytes : List ℕ) × (content ≡ Ok bytes)
-some_opened (Ok bytes) file h = (bytes, refl)
-some_opened (Err fault) file h = absurd h
-
-pub why_none : (content : Result (List ℕ) Fault) (e : Error) → OpensAs content (Err e) → (e ≡ OutOfMemory) ⊎ ((fault : Fault) × (content ≡ Err fault) × (without_message e ≡ IoError fault []))
-why_none (Ok bytes) e h = inl h
-why_none (Err fault) e (inl m) = inl m
-why_none (Err fault) e (inr is) = inr (fault, refl, is)
+pub told : (content : Result (List ℕ) Fault) (r : Result PlainFile Error) → OpensAs content r
+    → MatchResult r (λ file. (bytes : List ℕ) × (content ≡ Ok bytes)) (λ e. (e ≡ OutOfMemory) ⊎ ((fault : Fault) × (content ≡ Err fault) × (without_message e ≡ IoError fault [])))
+told (Ok bytes) (Ok file) h = (bytes, refl)
+told (Ok bytes) (Err e) h = inl h
+told (Err fault) (Ok file) h = absurd h
+told (Err fault) (Err e) (inl memory) = inl memory
+told (Err fault) (Err e) (inr is) = inr (fault, refl, is)

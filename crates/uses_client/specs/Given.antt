@@ -1,6 +1,6 @@
 -- What calls give of what lies in a cache, and what lies there then.
 use Rattle.std.specs.{Prelude.{◌≡◌, ◌⊎◌, ◌<◌, ◌^◌, ℕ, List, [], Option, Some, None, IfOk, IfErr, MatchResult, Result, Ok, Err, Vec, length, option_map}, Global.{Global}}
-use Rattle.cacache.specs.{Calls.{Error, without_message}, Entries.{Metadata, found_view}, Integrities.{Hash, Meets, Sha256, integrity_under}, Laws.{DontClash, EntryNotFound, FailsFor, FailsForMemory, Fault, GivesJust, HasContent, HasKey, IntegrityError, IntegrityFault, IoError, IsDamaged, IsExcused, IsReady, LacksKey, LeadsOn, LinksBytes, LinksToFile, NamesFolder, NotFound, OutOfMemory, bytes_under, found_under, leads_to, lies_under, shown, tree_of}, Stores.{LogItem}}
+use Rattle.cacache.specs.{Calls.{Error, without_message}, Entries.{Metadata, found_view}, Integrities.{Hash, Meets, Sha256, integrity_under}, Laws.{DontClash, EntryNotFound, FailsFor, FailsForMemory, Fault, GivesJust, HasContent, HasKey, IntegrityError, IntegrityFault, IoError, IsDamaged, IsExcused, LacksKey, LeadsOn, LinksBytes, LinksToFile, NamesFolder, NotFound, OutOfMemory, bytes_under, found_under, leads_to, lies_under, shown, tree_of}, Stores.{LogItem}}
 
 -- ---- what is given
 
@@ -17,6 +17,14 @@ abbrev pub GivesContent :
     List ℕ → List Hash → Result (Vec ℕ Global) Error → List LogItem → List LogItem → Type 0
 GivesContent cache i result old new =
     (bytes : List ℕ) → HasContent cache i bytes old → GivesJust bytes result old new
+
+-- of a link those that its target shows
+abbrev pub GivesLinked :
+    List ℕ → List ℕ → Result (Vec ℕ Global) Error → List LogItem → Type 0
+GivesLinked cache key result old =
+    (i : List Hash) (target held : List ℕ)
+    → leads_to cache key old ≡ Some i → LinksToFile cache i target held old
+    → IfOk result (λ v. v.items ≡ held)
 
 -- if the cache's path names a folder, only memory fails the read of bytes that the key leads to
 abbrev pub KeyFailsForMemory :
@@ -94,10 +102,10 @@ LinksHeld cache key file result old new =
     (held : List ℕ)
     → shown (tree_of old) file ≡ Some held → LinksBytes cache (Some key) file held result old new
 
--- if the file shows bytes, and no link that leads nowhere lies in the way, it is linked unless memory is refused
+-- only memory fails the link of a file that shows bytes, if no link that leads nowhere lies there
 abbrev pub LinksShown : List ℕ → List ℕ → Result (List Hash) Error → List LogItem → Type 0
 LinksShown cache file result old =
-    (held : List ℕ)
+    (held : List ℕ) → NamesFolder cache
     → shown (tree_of old) file ≡ Some held
     → length held < 2 ^ 64
     → LeadsOn cache (integrity_under Sha256 held) old
@@ -113,12 +121,6 @@ TellsWhetherOpen cache i result log =
     × (without_message e ≡ IoError fault [])))
 
 -- ---- what lies there
-
--- on a cache that is ready it is done and leaves it ready, or memory was refused
-abbrev pub StaysReady :
-    {X : Type 0} → List ℕ → Result X Error → List LogItem → List LogItem → Type 0
-StaysReady cache result old new =
-    IsReady cache old → MatchResult result (λ x. IsReady cache new) (λ e. e ≡ OutOfMemory)
 
 -- the bytes lie under their integrity, if nothing did
 abbrev pub LiesIfFree : List ℕ → List ℕ → List LogItem → List LogItem → Type 0

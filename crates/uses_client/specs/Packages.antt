@@ -1,6 +1,6 @@
 -- What is said about a package.
 use Rattle.std.specs.Prelude.{◌≡◌, ◌⊎◌, ℕ, List, [], ◌∷◌, Some}
-use Rattle.cacache.specs.{Calls.{Error, Said, nothing_said, without_message}, Integrities.{Algorithm, Hash, integrity_under}, Laws.{Data, FailsCommit, IoError, NotFound, OutOfMemory, TooDeep}}
+use Rattle.cacache.specs.{Calls.{Error, Said, nothing_said, without_message}, Integrities.{Algorithm, Hash, Sha256}, Laws.{Data, FailsCommit, IoError, NotFound, OutOfMemory, TooDeep}}
 
 -- its metadata, and how many bytes it has
 abbrev pub package_said : Data → ℕ → Said
@@ -11,15 +11,14 @@ abbrev pub expected_said : Algorithm → ℕ → List Hash → Said
 expected_said a size expected =
     record nothing_said { algorithm = a; size = Some size; integrity = Some expected }
 
--- under the strongest algorithm of the integrity
-abbrev pub said_of : List Hash → ℕ → Said
-said_of [] size = nothing_said
-said_of (h ∷ hs) size = expected_said h.algorithm size (h ∷ hs)
+-- the strongest algorithm of an integrity, which has one or more hashes
+abbrev pub algorithm_for : List Hash → Algorithm
+algorithm_for [] = Sha256
+algorithm_for (h ∷ hs) = h.algorithm
 
--- the integrity of these bytes under the strongest algorithm of another
-abbrev pub own_of : List Hash → List ℕ → List Hash
-own_of [] bytes = []
-own_of (h ∷ hs) bytes = integrity_under h.algorithm bytes
+-- under that algorithm
+abbrev pub said_of : List Hash → ℕ → Said
+said_of expected size = expected_said (algorithm_for expected) size expected
 
 -- ---- errors
 

@@ -1,7 +1,7 @@
 //! Packages that are stored by a writer.
 ghost use Rattle.std.specs.Prelude.{◌≡◌, ◌∷◌, List, Some, IfOk, IfErr, OnOk, length};
-ghost use Rattle.cacache.specs.{Integrities.{Hash, Meets, Sha256, integrity_under}, Laws.{IsCache, IsIntegrity, IsReady, KeepsUntouched, LeadsToEntry, LeavesKnownCache, SaysFit, leads_to, view}};
-ghost use Rattle.uses_client.specs.{Given.{LiesIfFree}, Packages.{FailsStoring, expected_said, own_of, package_said, said_of}, Writing.{StoredWith}};
+ghost use Rattle.cacache.specs.{Integrities.{Hash, Meets, Sha256, integrity_under}, Laws.{IsCache, IsIntegrity, IsReady, KeepsUntouched, LeadsToEntry, LeavesKnownCache, SaysFit, view}};
+ghost use Rattle.uses_client.specs.{Given.{LiesIfFree}, Packages.{FailsStoring, algorithm_for, expected_said, package_said, said_of}, Writing.{StoredWith}};
 
 use crate::writing::{feed, finish, leave, open};
 use cacache::env::{Clock, Env, Names};
@@ -69,7 +69,7 @@ fn expecting(expected: Integrity, size: usize) -> WriteOpts
         .integrity(expected)
 }
 
-/// Stores a package's bytes under its key, if they meet the integrity that is expected: the key leads to it. Whatever it
+/// Stores a package's bytes under its key, if they meet the integrity that is expected: the key leads to an entry of it. Whatever it
 /// answers, all else stays. On a cache that is ready it fails as `install` does, or since the bytes don't have the digest.
 pub fn install_expected<C: Clock, N: Names>(
     env: &mut Env<MemStore, C, N>,
@@ -82,9 +82,10 @@ pub fn install_expected<C: Clock, N: Names>(
     ensures sound { IsCache cache.now env.new.store }
     ensures stored { IfOk result (λ i. i ≡ expected) }
     ensures meets { OnOk result (Meets expected «data».now) }
-    ensures leads { OnOk result (leads_to cache.now key.now env.new.store ≡ Some expected) }
-    ensures keeps { KeepsUntouched cache.now (Some key.now) (own_of expected «data».now)
-        «data».now env.old.store env.new.store }
+    ensures leads { IfOk result (λ i. LeadsToEntry cache.now key.now
+        (said_of expected (length «data».now)) i (length «data».now) env.new.store) }
+    ensures keeps { KeepsUntouched cache.now (Some key.now) (integrity_under
+        (algorithm_for expected) «data».now) «data».now env.old.store env.new.store }
     ensures fails { IsReady cache.now env.old.store → IfErr result
         (FailsStoring (said_of expected (length «data».now)) «data».now) }
 {

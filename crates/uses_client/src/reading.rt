@@ -1,7 +1,7 @@
 //! Packages that are read.
 ghost use Rattle.std.specs.Prelude.{◌≡◌, IfErr, IfOk};
 ghost use Rattle.cacache.specs.{Histories.{IsStanding}, Laws.{IsCache, LacksKey, LeavesKnownCache, NamesFolder, IsExcused, FailsForMemory, GivesNoEntry, KeyLiesWhole, tree_of}};
-ghost use Rattle.uses_client.specs.Given.{ContentFailsForMemory, Describes, GivesContent, GivesKey, KeyFailsForMemory, MissesKey, TellsWhetherOpen};
+ghost use Rattle.uses_client.specs.Given.{ContentFailsForMemory, Describes, GivesContent, GivesKey, GivesLinked, KeyFailsForMemory, MissesKey, TellsWhetherOpen};
 
 use cacache::env::{Clock, Env, Names};
 use cacache::laws::{
@@ -11,7 +11,7 @@ use cacache::laws::{
 use cacache::store::MemStore;
 use cacache::{Integrity, Metadata, Result, SyncReader};
 
-/// The bytes under a key: whole ones, whatever lies there. If the cache's path names a folder, only memory fails the read of
+/// The bytes under a key: whole ones, whatever lies there, and of a link those that its target shows. If the cache's path names a folder, only memory fails the read of
 /// bytes that are there, and a key that leads to nothing is `EntryNotFound`, or memory was refused. Of damaged bytes it isn't
 /// said here which error comes.
 pub fn fetch<C: Clock, N: Names>(
@@ -26,6 +26,7 @@ pub fn fetch<C: Clock, N: Names>(
     ensures lacks { LacksKey cache.now key.now env.old.store
         → GivesNoEntry cache.now key.now result env.old.store env.new.store }
     ensures whole { IfOk result (λ v. KeyLiesWhole cache.now key.now env.old.store v.items) }
+    ensures linked { GivesLinked cache.now key.now result env.old.store }
     ensures memory { KeyFailsForMemory cache.now key.now result env.old.store }
     ensures missing { MissesKey cache.now key.now result env.old.store }
 {

@@ -1,7 +1,7 @@
 //! Packages that are stored and removed.
 ghost use Rattle.std.specs.Prelude.{◌≡◌, List, None, Some, IfOk, IfErr, OnOk};
 ghost use Rattle.cacache.specs.{Integrities.{Hash, Sha256, integrity_under}, Laws.{IsCache, HasKey, LacksKey, Grows, IsExcused, DontClash, KeepsUntouched, KeepsOthers, FailsForMemory, IsReady, NamesFolder}};
-ghost use Rattle.uses_client.specs.Given.{KeepsOlder, StaysReady};
+ghost use Rattle.uses_client.specs.Given.{KeepsOlder};
 
 use crate::reading::describe;
 use cacache::env::{Clock, Env, Names};
@@ -25,7 +25,8 @@ pub fn store<C: Clock, N: Names>(
         «data».now env.old.store env.new.store }
     ensures grows { Grows env.old.store env.new.store }
     ensures fails { IfErr result (λ e. IsExcused e env.old.store env.new.store) }
-    ensures ready { StaysReady cache.now result env.old.store env.new.store }
+    ensures ready { IsReady cache.now env.old.store → OnOk result (IsReady cache.now env.new.store) }
+    ensures memory { IsReady cache.now env.old.store → FailsForMemory result }
 {
     let written = cacache::write_sync(env, cache, key, data);
     after_write(env, Algorithm::Sha256, cache, key, data, &written);

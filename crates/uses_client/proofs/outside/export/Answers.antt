@@ -9,6 +9,7 @@ returns g c =
       leaves = copied.leaves;
       arrives = λ i bytes has. copied.arrives bytes (i, has);
       linked = copied.linked;
+      whole = copied.whole;
       refuses = λ folder i leads. (λ fault damaged. (copied.refuses folder).damaged i fault refl leads damaged, λ none. copied.missing i folder leads none);
       fails = copied.fails;
     }

@@ -1,6 +1,4 @@
 use Rattle.uses_client.proofs.outside.link.Goals as goal
 
 pub returns : goal.returns
-returns g c =
-    let linked = c.after_link.ensures c.args.env.now c.requires.apart c.requires.cache c.link_to_sync-linked.ensures.ran in
-    record { sound = linked.sound; held = linked.of; links = λ folder held shows small leads. linked.succeeds held folder shows small leads }
+returns g c = search (c.after_link.ensures c.args.env.now c.requires.apart c.requires.cache c.link_to_sync-linked.ensures.ran)
