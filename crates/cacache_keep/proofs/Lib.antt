@@ -3,7 +3,7 @@ mod Collections
 mod Stopped
 mod Parts
 mod Repairs
-mod Rewriting
+mod NewBuckets
 mod Indexes
 mod TreeRuns
 mod Losses

@@ -11,7 +11,7 @@ use Rattle.cacache_loss.specs.{declared.fixing.Fixing.{Fixing}, Fixing.{Fixed, s
 use Rattle.cacache_laws.specs.trees.{Compacting.{compact_text}, Mending.{found_in}}
 use Rattle.cacache_laws.proofs.trees.{Compactions.{CompactTexts.{compact_texts_answer}, LeanTrees.{Becomes, same_bytes}}, Covering.{home_named}, Logged.{log_rooted}, Members.{Member, in_left, in_right}}
 use Rattle.cacache_keep.specs.{Buckets.{index_area_in}, Compacting.{CompactsAll, CompactsCache}, Losses.{BucketsFixed, CompactionsFix, CompactionsOutlast, IsFixedAt, KeepsLean, moment_after}, Syncing.{folders_above}}
-use Rattle.cacache_keep.proofs.{Losses.{ApartSteps.{IsWhole}, FixedFolders.{IsFixedFolder, SyncsNames, file_lost, in_turn_fixed}, MomentRuns.{Fixes, OfTrees, fixes_leads, fixes_on, fixes_then, later, later_split, tree_then}, SettledBuckets.{Held, HeldWhole, Settled, SettlesThese, each_settles}}, Indexes.{FoundBuckets.{AreBucketNames, FindsFiles, area_named, buckets_found}, FoundFolders.{FolderNamed, folders_named}, HexNames.{bucket_names_hex}}, Rewriting.WholeCompactions.{compactions_leave}}
+use Rattle.cacache_keep.proofs.{Losses.{ApartSteps.{IsWhole}, FixedFolders.{IsFixedFolder, SyncsNames, file_lost, in_turn_fixed}, MomentRuns.{Fixes, OfTrees, fixes_leads, fixes_on, fixes_then, later, later_split, tree_then}, SettledBuckets.{Held, HeldWhole, Settled, SettlesThese, each_settles}}, Indexes.{FoundBuckets.{AreBucketNames, FindsFiles, area_named, buckets_found}, FoundFolders.{FolderNamed, folders_named}, HexNames.{bucket_names_hex}}, NewBuckets.WholeCompactions.{compactions_leave}}
 
 -- ---- the folders above those of buckets
 

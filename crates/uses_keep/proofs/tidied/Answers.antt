@@ -1,8 +1,14 @@
 -- The laws of a collection, and of one that an error ended.
+use Rattle.std.{proofs.Common.{Result, Ok, Err}, specs.Prelude.{IfErr, IfOk}}
+use Rattle.cacache_core.specs.declared.errors.Error.{Error}
 use Rattle.cacache_jobs.specs.Sites.{site_of}
 use Rattle.cacache_keep.specs.{declared.checking.OddLines.TheVariants.{Refuse}, Behind.{KeepsKeys}}
-use Rattle.uses_keep.proofs.Ended.{in_both}
 use Rattle.uses_keep.proofs.tidied.Goals as goal
+
+-- what a value and an error alike give
+in_both : {X : Type 0} (r : Result X Error) (A : Type 0) (P : X → Type 0) (Q : Error → Type 0) → ((x : X) → P x → A) → ((e : Error) → Q e → A) → IfOk r P → IfErr r Q → A
+in_both (Ok x) A P Q f g done stopped = f x done
+in_both (Err e) A P Q f g done stopped = g e stopped
 
 pub returns : goal.returns
 returns g c = λ folder.

@@ -1,7 +1,7 @@
 use Rattle.std.proofs.Common.{Bool, List, ap, false, map, ℕ, ◌++◌, ◌||◌, ◌∙◌}
 use Rattle.cacache_entry.specs.Entry.{closing}
 use Rattle.cacache_laws.specs.trees.Compacting.{Line, compact_text, is_closed, lines_of, text_of}
-use Rattle.cacache_keep.{specs.Lines.{last_lines, line_view, without_tombstones}, proofs.Rewriting.LineLoops.{two_passes}}
+use Rattle.cacache_keep.{specs.Lines.{last_lines, line_view, without_tombstones}, proofs.NewBuckets.LineLoops.{two_passes}}
 use Rattle.cacache_keep.proofs.lines.compact_text.Goals as goal
 
 pub returns-clause-text : goal.returns-clause-text

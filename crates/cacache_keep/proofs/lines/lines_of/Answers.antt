@@ -1,6 +1,6 @@
 use Rattle.std.proofs.{Common.{◌≤◌, ◌+◌, ◌++◌, map, length, drop, sym, ap, ◌∙◌, subst, arith, append_assoc, length-drop}, lemmas.List.{take_rest}}
 use Rattle.cacache_laws.specs.trees.Compacting.{lines_of}
-use Rattle.cacache_keep.{specs.Lines.{line_view}, proofs.Rewriting.LineLoops.{lines_first}}
+use Rattle.cacache_keep.{specs.Lines.{line_view}, proofs.NewBuckets.LineLoops.{lines_first}}
 use Rattle.cacache_keep.proofs.lines.lines_of.Goals as goal
 
 pub loop-at-preserved : goal.loop-at-preserved

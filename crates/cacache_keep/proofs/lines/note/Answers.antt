@@ -1,6 +1,6 @@
 use Rattle.std.proofs.Common.{List, ap, option_map, string_bytes, subst, sym, cond, bytes_eq, true, ℕ, ◌≡◌, ◌∷◌, ◌∙◌}
 use Rattle.cacache_keep.specs.Lines.{decision_view, has_key, in_order, line_view}
-use Rattle.cacache_keep.proofs.{Rewriting.LineLoops.{Noted, has_after, in_order_more, noted_last, noted_odd}, lines.note.Goals.{in-Some+else-contains_key+in_ok-insert, in_default}}
+use Rattle.cacache_keep.proofs.{NewBuckets.LineLoops.{Noted, has_after, in_order_more, noted_last, noted_odd}, lines.note.Goals.{in-Some+else-contains_key+in_ok-insert, in_default}}
 use Rattle.cacache_keep.proofs.lines.note.Goals as goal
 
 pub returns : goal.returns

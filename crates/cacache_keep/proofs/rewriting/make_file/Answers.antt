@@ -1,7 +1,7 @@
 use Rattle.std.proofs.Common.{IfErr, ℕ, List, subst}
 use Rattle.cacache_store.specs.declared.store.step.Step.TheVariants as steps
 use Rattle.cacache_calls.specs.SingleSteps.{FailsAt}
-use Rattle.cacache_keep.proofs.Rewriting.Rewrites.{brings_stops}
+use Rattle.cacache_keep.proofs.NewBuckets.Rewrites.{brings_stops}
 use Rattle.cacache_keep.proofs.rewriting.make_file.Goals as goal
 
 pub returns-clause-stops : goal.returns-clause-stops

@@ -1,5 +1,5 @@
 use Rattle.std.proofs.Common.{inr, inl}
-use Rattle.cacache_keep.{specs.Rewriting.{StopsRewriting}, proofs.{Asked.{done_so}, Rewriting.Rewrites.{secured, unmoved, unsecured, unsynced}, Stopped.{error_so, error_as}}}
+use Rattle.cacache_keep.{specs.Rewriting.{StopsRewriting}, proofs.{Asked.{done_so}, NewBuckets.Rewrites.{secured, unmoved, unsecured, unsynced}, Stopped.{error_so, error_as}}}
 use Rattle.cacache_keep.proofs.rewriting.rewrite.Goals as goal
 
 pub returns-in_err-file-2-clause-stops : goal.returns-in_err-file-2-clause-stops

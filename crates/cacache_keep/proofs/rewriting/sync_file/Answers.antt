@@ -1,7 +1,7 @@
 use Rattle.std.proofs.Common.{ℕ, List, subst}
 use Rattle.cacache_store.specs.declared.store.step.Step.TheVariants as steps
 use Rattle.cacache_calls.specs.SingleSteps.{FailsAt}
-use Rattle.cacache_keep.proofs.{Rewriting.Rewrites.{file_refused}, Collections.Sweeps.{refused_fails}}
+use Rattle.cacache_keep.proofs.{NewBuckets.Rewrites.{file_refused}, Collections.Sweeps.{refused_fails}}
 use Rattle.cacache_keep.proofs.rewriting.sync_file.Goals as goal
 
 pub returns-in-Err-clause-stops : goal.returns-in-Err-clause-stops

@@ -1,6 +1,6 @@
 use Rattle.std.proofs.Common.{◌≡◌, Bool, subst, sym, true}
 use Rattle.cacache_store.specs.declared.store.step.Step.TheVariants as steps
-use Rattle.cacache_keep.{specs.Rewriting.{StopsSyncing}, proofs.{Rewriting.Rewrites.{sync_refused}, Collections.Sweeps.{refused_fails}}}
+use Rattle.cacache_keep.{specs.Rewriting.{StopsSyncing}, proofs.{NewBuckets.Rewrites.{sync_refused}, Collections.Sweeps.{refused_fails}}}
 use Rattle.cacache_keep.proofs.rewriting.sync_temp.Goals as goal
 
 pub returns-in-Err-clause-stops : goal.returns-in-Err-clause-stops

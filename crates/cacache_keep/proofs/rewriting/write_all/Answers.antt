@@ -1,6 +1,6 @@
 use Rattle.std.proofs.Common.{◌≡◌, arith}
 use Rattle.cacache_core.specs.declared.errors.Error.TheVariants.{OutOfMemory}
-use Rattle.cacache_keep.{specs.Rewriting.{StopsWriting}, proofs.{Rewriting.Rewrites.{write_lost, write_more, write_none, write_stops}, Stopped.{error_as}}}
+use Rattle.cacache_keep.{specs.Rewriting.{StopsWriting}, proofs.{NewBuckets.Rewrites.{write_lost, write_more, write_none, write_stops}, Stopped.{error_as}}}
 use Rattle.cacache_keep.proofs.rewriting.write_all.Goals as goal
 
 pub returns-in_err-shared-clause-stops : goal.returns-in_err-shared-clause-stops

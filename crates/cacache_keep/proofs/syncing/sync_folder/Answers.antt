@@ -1,7 +1,7 @@
 use Rattle.std.proofs.Common.{ℕ, List, subst}
 use Rattle.cacache_store.specs.declared.store.step.Step.TheVariants as steps
 use Rattle.cacache_calls.specs.SingleSteps.{FailsAt}
-use Rattle.cacache_keep.proofs.{Rewriting.Rewrites.{securing_refused}, Collections.Sweeps.{refused_fails}}
+use Rattle.cacache_keep.proofs.{NewBuckets.Rewrites.{securing_refused}, Collections.Sweeps.{refused_fails}}
 use Rattle.cacache_keep.proofs.syncing.sync_folder.Goals as goal
 
 pub returns-in-Err-clause-stops : goal.returns-in-Err-clause-stops

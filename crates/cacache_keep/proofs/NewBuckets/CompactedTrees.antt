@@ -12,7 +12,7 @@ use Rattle.cacache_value.specs.Kinds.{path_kind}
 use Rattle.cacache_laws.proofs.{Readings.ReadsStay.{reading_keeps}, trees.{Compactions.{CompactTwice.{compact_again}, LeanTrees.{Becomes, compacted_more, compacted_none, cut_later, cut_short}}, Led.{file_shown}}, Calls.Handed.{writing_keeps}}
 use Rattle.cacache_laws.specs.trees.{Compacted.{Compacted, CutShort}, Compacting.{compact_text}}
 use Rattle.cacache_keep.specs.{Compacting.{Bucket, CompactsBucket, CompactsEach, RewritesIf, StopsBucket, StopsCompactingEach, is_loose}, Rewriting.{MakesTemp, Rewrites, StopsMaking, StopsRewriting, StopsWriting, SyncsTemp, Took}}
-use Rattle.cacache_keep.proofs.{Indexes.FoundBuckets.{IsBucketFile, Stays, stays_on}, Rewriting.{MovedFiles.{MovedTo, moved, unmoved}, Rewritten.{Has, HasTemp, IsRewritten, TookSo, folder_made, left_over, rewritten, temp_failed, temp_made, writes_stay, writes_take}, TightBuckets.{IsTight, not_loose, tight_still}}, Losses.SyncedTrees.{bucket_synced, bucket_unsynced, folder_synced, folder_unsynced, temp_synced, temp_unsynced}, TreeRuns.{Leads, leads_as, leads_failed, leads_none, leads_step, leads_then}}
+use Rattle.cacache_keep.proofs.{Indexes.FoundBuckets.{IsBucketFile, Stays, stays_on}, NewBuckets.{MovedFiles.{MovedTo, moved, unmoved}, Rewritten.{Has, HasTemp, IsRewritten, TookSo, folder_made, left_over, rewritten, temp_failed, temp_made, writes_stay, writes_take}, TightBuckets.{IsTight, not_loose, tight_still}}, Losses.SyncedTrees.{bucket_synced, bucket_unsynced, folder_synced, folder_unsynced, temp_synced, temp_unsynced}, TreeRuns.{Leads, leads_as, leads_failed, leads_none, leads_step, leads_then}}
 
 -- ---- one bucket is written anew
 

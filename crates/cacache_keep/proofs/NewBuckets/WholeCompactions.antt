@@ -6,7 +6,7 @@ use Rattle.cacache_disk.specs.{declared.node.Node.TheVariants.{File}, Tree.{Tree
 use Rattle.cacache_laws.specs.trees.{Compacted.{Compacted, CutShort}, Compacting.{compact_text}}
 use Rattle.cacache_laws.proofs.trees.{Compactions.{LeanCalls.{compactions_answer}, LeanTrees.{compactions_keep, Becomes, compacted_none, cut_short, same_bytes}}, Led.{houses_are_fit}, Logged.{log_rooted}, Members.{Member}}
 use Rattle.cacache_keep.specs.{Compacting.{CompactsAll, CompactsCache, StopsAfterAll, StopsCompactingEach}, Syncing.{SyncsAbove}, Kept.{CompactionsAreUnseen, CompactionsLeave, CompactionsStop, MayCompact}}
-use Rattle.cacache_keep.proofs.{Indexes.{FoundBuckets.{AreBucketNames, FindsFiles, IsBucketFile, Stays, buckets_found, finding_stays}, HexNames.{bucket_names_hex}}, TreeRuns.{Leads, leads_as, leads_on, leads_then}, Rewriting.{CompactedTrees.{CompactsThese, each_leads, stop_leads}, TightBuckets.{IsTight}}, Losses.SyncedTrees.{above_synced, above_unsynced}}
+use Rattle.cacache_keep.proofs.{Indexes.{FoundBuckets.{AreBucketNames, FindsFiles, IsBucketFile, Stays, buckets_found, finding_stays}, HexNames.{bucket_names_hex}}, TreeRuns.{Leads, leads_as, leads_on, leads_then}, NewBuckets.{CompactedTrees.{CompactsThese, each_leads, stop_leads}, TightBuckets.{IsTight}}, Losses.SyncedTrees.{above_synced, above_unsynced}}
 
 -- ---- what a whole one leaves
 
