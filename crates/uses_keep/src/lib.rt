@@ -246,8 +246,8 @@ pub fn read_compacted<C: Clock, N: Names>(
 }
 
 /// Sweeps, repairs and compacts a cache in memory, and then reads by a key that led to a good content. If each file and
-/// folder of the cache was where the format puts it, the key still leads to the same entry and the same content. The read
-/// answers what a read between the repair and the compaction could have answered.
+/// folder of the cache was where the format puts it, the key still leads to the same entry and the same content. The result
+/// is one that a read could have given right before the compaction.
 pub fn read_tended<C: Clock, N: Names>(
     env: &mut Env<MemStore, C, N>,
     cache: &str,
