@@ -51,8 +51,8 @@ pub fn collected<C: Clock, N: Names>(
     Ok(collected)
 }
 
-/// Collects a cache in memory to which only calls of the cache wrote. Each key leads where it led, also if an error ended the
-/// collection.
+/// Calls `collect` on a cache in memory into which only its own calls wrote. Each key leads where it led, even if the
+/// collection ended with an error.
 pub fn tidied<C: Clock, N: Names>(env: &mut Env<MemStore, C, N>, cache: &str) -> Result<Collected>
     requires { IsCache cache.now env.old.store }
     ensures { NamesFolder cache.now → KeepsKeys cache.now env.old.store env.new.store }
