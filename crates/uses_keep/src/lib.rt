@@ -51,7 +51,7 @@ pub fn collected<C: Clock, N: Names>(
     Ok(collected)
 }
 
-/// Calls `collect` on a cache in memory into which only its own calls wrote. Each key leads where it led, even if the
+/// Collects a cache in memory that only the cache's own calls have written to. Each key leads where it led, even if the
 /// collection ended with an error.
 pub fn tidied<C: Clock, N: Names>(env: &mut Env<MemStore, C, N>, cache: &str) -> Result<Collected>
     requires { IsCache cache.now env.old.store }
