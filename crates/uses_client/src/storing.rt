@@ -9,8 +9,8 @@ use cacache::laws::{after_remove, after_write, joining_laws};
 use cacache::store::MemStore;
 use cacache::{Algorithm, Integrity, Metadata, Result};
 
-/// Stores bytes under a key, and changes nothing else. Fails only for lack of memory, or because a step fails. No step fails in a
-/// cache that is ready: its path names a folder, and no temporary file is left in it.
+/// Stores bytes under a key, and changes nothing else. Fails only for lack of memory, or because a step fails. In a cache that
+/// is ready, no step fails. A cache is ready if its path names a folder and no temporary file is left in it.
 pub fn store<C: Clock, N: Names>(
     env: &mut Env<MemStore, C, N>,
     cache: &str,
