@@ -47,7 +47,7 @@ def crate_tables():
              [("docs/ARCHITECTURE.md", "| Crate | Holds |"), ("docs/ARCHITECTURE.md", "| Crate | Proves |"),
               ("docs/ARCHITECTURE.md", "| Crate | Shows or tests |"), ("docs/GATE.md", "| Crate | Lines |"),
               ("docs/how-to/add-a-row.md", "| Crate | A row is |")]]
-    trusted = told("README.md", r"(?s)kit.s contracts for (.*?)\. The C library")
+    trusted = told("README.md", r"(?s)kit.s contracts for\s+(.*?)\.\s+The C library")
     kit = {it for below in crates().values() for it in below} - set(listed)
     return [*compared("docs/ARCHITECTURE.md", "crates", sum(plain[:3], []), listed),
             *compared("docs/GATE.md", "crates", plain[3], [*listed, "all"]),
