@@ -16,4 +16,4 @@ returns-in-Ok g c =
 
 pub returns-in-Err : goal.returns-in-Err
 returns-in-Err g c =
-    record { copies = λ i bytes had. unread_fails (g.F.FileHandle.seen c.args.self.file) i bytes c.unread.result c.unread.ensures; }
+    record { copies = λ i bytes had. unread_fails (g.F.FileHandle.seen c.args.self.file) i bytes c.unread.result c.unread.ensures }

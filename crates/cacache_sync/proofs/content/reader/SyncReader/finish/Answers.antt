@@ -12,4 +12,4 @@ returns-in-Ok g c =
 
 pub returns-in-Err : goal.returns-in-Err
 returns-in-Err g c =
-    record { finishes = λ i bytes had. unread_fails (g.F.FileHandle.seen c.args.self.file) i bytes c.unread.result c.unread.ensures; }
+    record { finishes = λ i bytes had. unread_fails (g.F.FileHandle.seen c.args.self.file) i bytes c.unread.result c.unread.ensures }
