@@ -13,3 +13,4 @@ pub mod Relation
 pub mod Meeting
 pub mod Joining
 pub mod HexDigits
+pub mod FaultKinds

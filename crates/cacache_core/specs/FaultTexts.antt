@@ -1,6 +1,7 @@
--- How a fault is described in words.
+-- How a fault, and the cause of a refused entry, are described in words.
 use Rattle.std.specs.Prelude.{ℕ, List, codes}
-use Rattle.cacache_core.specs.declared.errors.Fault.{Fault, TheVariants.{NotFound, AlreadyExists, NotADirectory, IsADirectory, NotEmpty, Unsupported, InvalidInput, WriteZero, ShortAppend, Closed, OtherBytes, Cancelled, TooDeep, Device}}
+use Rattle.cacache_core.specs.declared.errors.{Fault.{Fault, TheVariants.{NotFound, AlreadyExists, NotADirectory, IsADirectory, NotEmpty, Unsupported, InvalidInput, WriteZero, ShortAppend, Closed, OtherBytes, Cancelled, TooDeep, Device}}, SerdeCause.{SerdeCause}}
+use Rattle.cacache_core.specs.declared.errors.SerdeCause.TheVariants as cause
 
 -- a few plain words for each fault
 abbrev pub fault_text : Fault → List ℕ
@@ -18,3 +19,9 @@ fault_text OtherBytes = codes "other bytes than those under way"
 fault_text Cancelled = codes "cancelled"
 fault_text TooDeep = codes "too deep or too many links"
 fault_text Device = codes "device or system error"
+
+-- a few plain words for each cause
+abbrev pub cause_text : SerdeCause → List ℕ
+cause_text cause.TimeTooLarge = codes "time too large"
+cause_text cause.NotWhole = codes "number not an integer of 64 bits"
+cause_text cause.TooDeep = codes "nested too deeply"

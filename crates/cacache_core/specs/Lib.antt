@@ -12,6 +12,7 @@ pub mod PathLaws
 pub mod TextLaws
 pub mod Contexts
 pub mod FaultTexts
+pub mod ErrorTexts
 pub mod Meeting
 pub mod Joining
 pub mod IntegrityLaws

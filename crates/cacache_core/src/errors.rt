@@ -1,9 +1,10 @@
 //! Why calls fail.
-ghost use Rattle.std.specs.Prelude.{◌≡◌, Some};
-ghost use Rattle.cacache_core.specs.{Contexts.{fault_of, fault_in}, FaultTexts.{fault_text}, declared.errors.Error.TheVariants.{OutOfMemory, IntegrityError}};
+ghost use Rattle.std.specs.{Prelude.{◌≡◌, Some}, declared.io.ErrorKind.{ErrorKind}};
+ghost use Rattle.cacache_core.specs.{Contexts.{fault_of, fault_in, kind_of, kind_in}, FaultTexts.{fault_text}, declared.errors.Error.TheVariants.{OutOfMemory, IntegrityError}};
 
 mod context;
 mod quoting;
+mod texts;
 
 use crate::integrity::Integrity;
 use crate::text::Text;
@@ -12,7 +13,6 @@ pub use quoting::Quoting;
 use std::alloc::{AllocError, AllocFailed};
 use std::fmt;
 use std::io::ErrorKind;
-use thiserror::Error as ErrorTexts;
 
 /// Why a step of a store failed.
 #[derive(Clone, Copy, Debug, PartialEq, Eq)]
@@ -88,6 +88,28 @@ impl Fault {
             Fault::Device => "device or system error",
         }
     }
+
+    /// The kind of I/O error that has this fault: `WriteZero` for a short append, `InvalidInput` for other
+    /// bytes, and `Other` for a device, a close and a cancel. If the fault is `Device`,
+    /// `cacache::env::Reasons` of the store gives the system's own kind. Allocates nothing.
+    #[tactic(auto, using(crate::proofs::FaultKinds::kind_back))]
+    pub fn kind(self) -> ErrorKind
+        ensures value { result ≡ kind_of self }
+        ensures back { (kind : ErrorKind) → fault_of kind ≡ self → fault_of result ≡ self }
+    {
+        match self {
+            Fault::NotFound => ErrorKind::NotFound,
+            Fault::AlreadyExists => ErrorKind::AlreadyExists,
+            Fault::NotADirectory => ErrorKind::NotADirectory,
+            Fault::IsADirectory => ErrorKind::IsADirectory,
+            Fault::NotEmpty => ErrorKind::DirectoryNotEmpty,
+            Fault::Unsupported => ErrorKind::Unsupported,
+            Fault::InvalidInput | Fault::OtherBytes => ErrorKind::InvalidInput,
+            Fault::WriteZero | Fault::ShortAppend => ErrorKind::WriteZero,
+            Fault::TooDeep => ErrorKind::FilesystemLoop,
+            Fault::Closed | Fault::Cancelled | Fault::Device => ErrorKind::Other,
+        }
+    }
 }
 
 /// A few plain words in lower case, without a full stop, such as `not found` or `folder not empty`.
@@ -112,41 +134,32 @@ pub enum SerdeCause {
 }
 
 /// Why an integrity was refused.
-#[derive(Debug, Drop, ErrorTexts)]
+#[derive(Debug, Drop)]
 pub enum IntegrityFault {
     /// The text has no hash, or its first wrong hash is malformed.
-    #[error("integrity text not readable")]
     BadText,
     /// The first wrong hash of the text is well-formed, but its digest is shorter than three bytes.
-    #[error("integrity digest shorter than three bytes")]
     ShortDigest,
     /// The bytes don't meet the expected integrity, which is the first. The second is that of the
     /// bytes.
-    #[error("Integrity check failed.\n\tWanted: {0}\n\tActual: {1}")]
     Check(Integrity, Integrity),
 }
 
-/// Why a call failed. Its text says which step failed, and where. `fault` returns why, which the
-/// text omits.
-#[derive(Debug, Drop, ErrorTexts)]
+/// Why a call failed. Its text `{}` says which step failed, and where. `fault` returns why, which that
+/// text omits. The text `{:#}` is for one line: it begins with why, and shows at most 34 bytes of an integrity.
+#[derive(Debug, Drop)]
 pub enum Error {
     /// The cache and the key. Looking up the key returned None.
-    #[error("Entry not found for key {1:?} in cache {0:?}")]
     EntryNotFound(Text, Text),
     /// The expected size and the actual size, in bytes.
-    #[error("Size check failed.\n\tWanted: {0}\n\tActual: {1}")]
     SizeMismatch(usize, usize),
     /// A step of the call failed. The text says which one.
-    #[error("{1}")]
     IoError(Fault, Text),
     /// The entry can't be written. The text says which one.
-    #[error("{1}")]
     SerdeError(SerdeCause, Text),
     /// A text isn't an integrity, or bytes don't meet one.
-    #[error("{0}")]
     IntegrityError(IntegrityFault),
     /// The call ran out of memory.
-    #[error("out of memory")]
     OutOfMemory,
 }
 
@@ -159,6 +172,22 @@ impl Error {
         match self {
             Error::IoError(fault, _) => Some(*fault),
             _ => None,
+        }
+    }
+
+    /// The kind of I/O error that says the same: `NotFound` for a missing entry, that of the fault for an
+    /// `IoError`, `InvalidData` for a wrong size or other bytes than the integrity's, `InvalidInput` for an
+    /// entry that can't be written or a text that is no integrity, and `OutOfMemory`. Allocates nothing.
+    pub fn kind(&self) -> ErrorKind
+        ensures { result ≡ kind_in self.now }
+    {
+        match self {
+            Error::EntryNotFound(_, _) => ErrorKind::NotFound,
+            Error::IoError(fault, _) => fault.kind(),
+            Error::SizeMismatch(_, _) => ErrorKind::InvalidData,
+            Error::IntegrityError(IntegrityFault::Check(_, _)) => ErrorKind::InvalidData,
+            Error::IntegrityError(_) | Error::SerdeError(_, _) => ErrorKind::InvalidInput,
+            Error::OutOfMemory => ErrorKind::OutOfMemory,
         }
     }
 }

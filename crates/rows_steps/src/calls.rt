@@ -13,4 +13,4 @@ mod script;
 mod steps;
 mod told;
 pub(crate) mod trial;
-mod words;
+pub(crate) mod words;

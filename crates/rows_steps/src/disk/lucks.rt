@@ -1,20 +1,8 @@
 //! Lucks as words: `Plain`, `Take 2`, `Fail Device`, or `Fail Device 2` if a part is left done.
-use cacache_core::errors::Fault;
+use crate::calls::words::fault_of;
 use cacache_disk::Luck;
 use rows::Flaw;
 use rows::words::{cut, number_of};
-
-/// The fault of a name.
-fn fault_of(name: &str) -> Result<Fault, Flaw> {
-    match name {
-        "NotFound" => Ok(Fault::NotFound),
-        "AlreadyExists" => Ok(Fault::AlreadyExists),
-        "Unsupported" => Ok(Fault::Unsupported),
-        "Closed" => Ok(Fault::Closed),
-        "Device" => Ok(Fault::Device),
-        _ => Err(Flaw::NotRead),
-    }
-}
 
 /// The fault that a text says, and how much is left done.
 fn failing(text: &str) -> Result<Luck, Flaw> {

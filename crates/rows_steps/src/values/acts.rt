@@ -53,6 +53,7 @@ fn of_others(alloc: Global, act: &str, given: &str) -> Result<String, Flaw> {
         "number" => parts::number(alloc, given),
         "environment" => parts::environment(alloc, given),
         "error" => errors::error(alloc, given),
+        "short" => errors::short(alloc, given),
         "kind" => errors::kind(alloc, given),
         "fault" => errors::fault(alloc, given),
         "context" => errors::context(alloc, given),

@@ -1,4 +1,5 @@
 //! The messages of errors, and errors with a context.
+use crate::calls::words::fault_of;
 use crate::values::words::{Debugged, column, printed, text_of, two};
 use cacache_core::errors::{Error, Fault, IntegrityFault, IoErrorExt, SerdeCause, io_error};
 use cacache_core::integrity::Integrity;
@@ -10,51 +11,55 @@ use rows::words::number_of;
 use std::alloc::{AllocError, Global};
 use std::io::{self, ErrorKind};
 
-/// The message about two sizes that differ.
-fn sizes(alloc: Global, columns: &str) -> Result<String, Flaw> {
+/// The error about two sizes that differ.
+fn sizes(columns: &str) -> Result<Error, Flaw> {
     let (wanted, found) = column(columns);
-    let wanted = number_of(wanted)?;
-    let found = number_of(found)?;
-    printed(alloc, Error::SizeMismatch(wanted, found))
+    Ok(Error::SizeMismatch(number_of(wanted)?, number_of(found)?))
 }
 
-/// The message about an entry that isn't found.
-fn missing(alloc: Global, columns: &str) -> Result<String, Flaw> {
+/// The error about an entry that isn't found.
+fn missing(alloc: Global, columns: &str) -> Result<Error, Flaw> {
     let (cache, key) = column(columns);
     let cache = Text::from_str(alloc, cache)?;
     let key = Text::from_str(alloc, key)?;
-    printed(alloc, Error::EntryNotFound(cache, key))
+    Ok(Error::EntryNotFound(cache, key))
 }
 
-/// The message about a check that failed.
-fn unmet(alloc: Global, columns: &str) -> Result<String, Flaw> {
+/// The error about a check that failed.
+fn unmet(alloc: Global, columns: &str) -> Result<Error, Flaw> {
     let (wanted, found) = column(columns);
     let wanted = given(Integrity::parse(alloc, wanted))?;
     let found = given(Integrity::parse(alloc, found))?;
-    printed(alloc, Error::from(IntegrityFault::Check(wanted, found)))
+    Ok(Error::from(IntegrityFault::Check(wanted, found)))
 }
 
-/// The message about an incomplete entry, or about a device that failed.
-fn failed(alloc: Global, columns: &str, is_device: bool) -> Result<String, Flaw> {
-    let text = Text::from_str(alloc, columns)?;
-    if is_device {
-        return printed(alloc, Error::IoError(Fault::Device, text));
+/// The error that the first column names, with what the others say. The name of a fault is an `IoError`.
+fn made(alloc: Global, columns: &str) -> Result<Error, Flaw> {
+    let (name, more) = column(columns);
+    match name {
+        "EntryNotFound" => missing(alloc, more),
+        "SizeMismatch" => sizes(more),
+        "Check" => unmet(alloc, more),
+        "BadText" => Ok(Error::from(IntegrityFault::BadText)),
+        "NotWhole" => Ok(Error::SerdeError(
+            SerdeCause::NotWhole,
+            Text::from_str(alloc, more)?,
+        )),
+        "AllocError" => Ok(Error::from(AllocError)),
+        _ => Ok(Error::IoError(fault_of(name)?, Text::from_str(alloc, more)?)),
     }
-    printed(alloc, Error::SerdeError(SerdeCause::NotWhole, text))
 }
 
 /// The message of an error.
 pub(crate) fn error(alloc: Global, columns: &str) -> Result<String, Flaw> {
-    let (kind, more) = column(columns);
-    match kind {
-        "EntryNotFound" => missing(alloc, more),
-        "SizeMismatch" => sizes(alloc, more),
-        "Check" => unmet(alloc, more),
-        "NotWhole" => failed(alloc, more, false),
-        "Device" => failed(alloc, more, true),
-        "AllocError" => printed(alloc, Error::from(AllocError)),
-        _ => Err(Flaw::NotRead),
-    }
+    printed(alloc, made(alloc, columns)?)
+}
+
+/// The kind of an error, and its short message.
+pub(crate) fn short(alloc: Global, columns: &str) -> Result<String, Flaw> {
+    let error = made(alloc, columns)?;
+    let kind = error.kind();
+    given(format!(in alloc; "{kind:?} {error:#}"))
 }
 
 /// An io error of the kind that the word names; if it names none, one with the word as its text.
