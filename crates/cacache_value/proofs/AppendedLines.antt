@@ -3,7 +3,7 @@ use Rattle.std.proofs.{Common.{◌≡◌, ◌≤◌, ◌<◌, ◌+◌, length, �
 use Rattle.std.specs.Prelude.{Result, []}
 use Rattle.cacache_core.specs.{declared.errors.Fault.{Fault}, PathNames.{Names, names_of}}
 use Rattle.cacache_store.specs.{declared.store.step.Step.TheVariants.{Append}, Plain.{PlainAnswer}}
-use Rattle.cacache_disk.specs.{declared.{luck.Luck.{Luck}, node.Node.{Node, TheVariants.{Folder, File, Link}}}, Tree.{bytes_of}}
+use Rattle.cacache_disk.specs.{declared.{luck.Luck.{Luck}, node.Node.{Node, TheVariants.{File}}}, Tree.{bytes_of}}
 use Rattle.cacache_entry.specs.{Entry.{Entry, line_of, closing, closed_line}, FittingEntries.{IsEntry, IsWritable}, Bucket.{entries_of}}
 use Rattle.cacache_entry.proofs.{Pieces.{entries_split}, Lines.{lines_append, empty_holds_nothing, torn_lines_add_nothing}}
 use Rattle.cacache_value.specs.{Value.{bucket_in}, Acts.{Act, Nothing, AddEntries, act_at, act_with, amount_left, act_of, list_of}, ValueLaws.{WholeLinesAdd, TornLinesAddNone, NothingLeftIsNothing}}
@@ -16,10 +16,8 @@ entries_left x y (suc n) = entries_split x (take n y) ∙ ap (λ es. entries_of 
 -- after a bucket's bytes too
 pub bucket_left : (here : Option Node) (y : List ℕ) (n : ℕ)
     → entries_of (bytes_of here ++ take n (10 ∷ y)) ≡ list_of (bucket_in here) ++ entries_of (take n (10 ∷ y))
-bucket_left None y n = refl
-bucket_left (Some Folder) y n = refl
 bucket_left (Some (File x)) y n = entries_left x y n
-bucket_left (Some (Link target)) y n = refl
+bucket_left here y n = refl
 
 -- what is left of a line holds its entry if all of it is there
 pub whole_line : (e : Entry) (n : ℕ) → IsEntry e → IsWritable e → length (line_of e) ≤ n → entries_of (take n (line_of e)) ≡ e ∷ []

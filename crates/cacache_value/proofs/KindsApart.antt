@@ -70,9 +70,8 @@ way_here home path (next ∷ rest) name is = above home (path ++ name ∷ []) re
 
 pub kind_in_used : (file : PathKind) (n : ℕ) (rest : Names) → (file ≡ Elsewhere → ⊥) → kind_in_area file n rest ≡ Elsewhere → ⊥
 kind_in_used file zero [] used e = used e
-kind_in_used file zero (name ∷ rest) used e = cc
-kind_in_used file (suc n) [] used e = cc
 kind_in_used file (suc n) (name ∷ rest) used e = kind_in_used file n rest used e
+kind_in_used file n rest used e = cc
 
 area_used : (b c d : Bool) (rest : Names)
     → cond b (kind_in_area Content 4 rest) (cond c (kind_in_area Bucket 3 rest) (cond d (kind_in_area Temporary 1 rest) Stray)) ≡ Elsewhere → ⊥

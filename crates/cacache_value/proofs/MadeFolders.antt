@@ -27,8 +27,7 @@ module _ (home : Option Names) (above rest : Names) where
       let all = more (put t above Folder) (count - 1) (placed_put home t above Folder (subst (MayStand home (Some Folder)) (sym k) tt) placed) in
       (all.0, all.1 ∙ ap (λ v. with_folders (make_folders v.folders above rest (count - 1)) v) one)
   made_at t (Some Folder) count b k is none s placed more = more t count placed
-  made_at t (Some (File bytes)) count b k is none s placed more = absurd s
-  made_at t (Some (Link target)) count b k is none s placed more = absurd s
+  made_at t here count b k is none s placed more = absurd s
 
 pub made : (home : Option Names) (t : Tree) (above rest : Names) (count : ℕ) → path_kind home (above ++ rest) ≡ Way → Placed home t
     → HasFolders home t (make_some t above rest count) (make_folders (folders_of t) above rest count)
@@ -39,10 +38,9 @@ made home t above (name ∷ rest) count k placed =
     (λ new count there. made home new (above ++ name ∷ []) rest count (further home Way above rest name k) there)
 
 clear_way : (home : Option Names) (here : Option Node) → MayStand home here Way → is_in_way here ≡ false
-clear_way home None s = refl
-clear_way home (Some Folder) s = refl
 clear_way home (Some (File bytes)) s = absurd s
 clear_way home (Some (Link target)) s = absurd s
+clear_way home here s = refl
 
 -- nothing is in the way
 pub no_dirs_fault : (home : Option Names) (t : Tree) (above rest : Names) → path_kind home (above ++ rest) ≡ Way → Placed home t

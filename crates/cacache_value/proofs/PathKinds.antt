@@ -8,10 +8,9 @@ use Rattle.cacache_value.proofs.KindsApart.{kind-below}
 
 -- without the last name, proper names are proper too
 pub proper_folder : (ns : Names) → All IsProperName ns → All IsProperName (folder_names ns)
-proper_folder [] all = All-nil IsProperName
-proper_folder (n ∷ []) all = All-nil IsProperName
 proper_folder (n ∷ m ∷ ns) all =
     All-cons IsProperName n (folder_names (m ∷ ns)) (All-head IsProperName n (m ∷ ns) all) (proper_folder (m ∷ ns) (All-tail IsProperName n (m ∷ ns) all))
+proper_folder ns all = All-nil IsProperName
 
 kind_at : (home : Option Names) (k : PathKind) (ns : Names) → kind_below ns ≡ k → IfOk (names_below home ns) (λ names. path_kind home names ≡ k)
 kind_at None k ns is = tt

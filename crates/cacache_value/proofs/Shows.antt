@@ -1,7 +1,7 @@
 -- Reading steps show what the value holds.
 use Rattle.std.{proofs.Common.{◌≡◌, ℕ, true, false, cond, List, [], ◌++◌, Option, None, Some, Ok, Err, refl, sym, ap, subst, ◌∙◌, length}, specs.Prelude.{Result}}
 use Rattle.cacache_core.specs.{declared.{errors.Fault.{Fault, TheVariants.{NotFound, IsADirectory, InvalidInput}}, integrity.digest.Hash.{Hash}}, Paths.{content_names, bucket_names_of}, PathNames.{names_of, names_below}}
-use Rattle.cacache_store.specs.{declared.store.{step.Step.TheVariants.{ReadAll, Open, Size, Exists}, answer.Answer.TheVariants.{Done, Temp, Wrote, Took, Bytes, File as Opened, Got, There, Length, Names as Listed, Synced, Failed, NoMemory}}, Plain.{PlainStep, PlainAnswer}}
+use Rattle.cacache_store.specs.{declared.store.{step.Step.TheVariants.{ReadAll, Open, Size, Exists}, answer.Answer.TheVariants.{Bytes, File as Opened, There, Length, Failed}}, Plain.{PlainStep, PlainAnswer}}
 use Rattle.cacache_disk.specs.{declared.{luck.Luck.{Luck, TheVariants.{Plain, Fail, Take}}, node.Node.{Node, TheVariants.{Folder, File, Link}}}, Tree.{Tree, Names, look}, LedTo.{way_fault, place, followed, leads, found, file_at, bytes_there}, Apply.{apply, plain, unless, is_there, is_taking, fails, fault_told, left_by, made_up}, Rooted.{Rooted}}
 use Rattle.cacache_disk.proofs.Standing.{way_clear}
 use Rattle.cacache_entry.specs.Entry.{Entry}
@@ -11,19 +11,8 @@ use Rattle.cacache_value.proofs.{KindsApart.{kind-below}, FoundPaths.{OnlyMissin
 -- ---- an answer under any luck
 
 failed_is : (a : PlainAnswer) (own : Fault) → fault_told a ≡ Some own → a ≡ Failed own
-failed_is Done own e = absurd cc
-failed_is (Temp x) own e = absurd cc
-failed_is (Wrote x n) own e = absurd cc
-failed_is (Took n) own e = absurd cc
-failed_is (Bytes b) own e = absurd cc
-failed_is (Opened f) own e = absurd cc
-failed_is (Got f b) own e = absurd cc
-failed_is (There b) own e = absurd cc
-failed_is (Length n) own e = absurd cc
-failed_is (Listed l) own e = absurd cc
-failed_is (Synced f) own e = absurd cc
 failed_is (Failed f) own e = cc
-failed_is (NoMemory s) own e = absurd cc
+failed_is a own e = absurd cc
 
 module _ (Q : PlainAnswer → Type 0) (made_up_too : (fault : Fault) → Q (Failed (made_up fault))) where
   fails_answer : (t left : Tree) (a : PlainAnswer) (own : Option Fault) (fault : Fault) → fault_told a ≡ own → Q a → Q (fails own fault t left).0
@@ -92,11 +81,10 @@ module _ (t : Tree) (path : List ℕ) (names : Names) where
   bucket_read home None e s (there node h w) = let differ : None ≡ Some node = sym e ∙ h in absurd cc
   bucket_read home None e s (free h w) = rw (w, h, h) refl
   bucket_read home None e s (missing h w) = rw w refl
-  bucket_read home (Some Folder) e s l = absurd s
   bucket_read home (Some (File bytes)) e s (there node h w) = rw (w, e, e) refl
   bucket_read home (Some (File bytes)) e s (free h w) = let differ : Some (File bytes) ≡ None = sym e ∙ h in absurd cc
   bucket_read home (Some (File bytes)) e s (missing h w) = let differ : Some (File bytes) ≡ None = sym e ∙ h in absurd cc
-  bucket_read home (Some (Link target)) e s l = absurd s
+  bucket_read home here e s l = absurd s
 
 -- ---- what the answers show
 
@@ -110,10 +98,9 @@ made_up_content held other = tt
 
 bucket_shown : (home : Option Names) (t : Tree) (here : Option Node) (r : Result (List ℕ) Fault) → MayStand home here Bucket
     → r ≡ bytes_there IsADirectory here → ShowsBucket (bucket_in here) (unless r t (λ bytes. (Bytes bytes, t))).0
-bucket_shown home t None r s e = rw e refl
 bucket_shown home t (Some Folder) r s e = absurd s
-bucket_shown home t (Some (File x)) r s e = rw e refl
 bucket_shown home t (Some (Link target)) r s e = absurd s
+bucket_shown home t here r s e = rw e refl
 
 -- what answers a read of a content's bytes
 abbrev IsAnswerOf : (List ℕ → PlainAnswer) → Type 0

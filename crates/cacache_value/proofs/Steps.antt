@@ -14,10 +14,8 @@ known_ok None bytes e = absurd cc
 known_ok (Some old) bytes e = cc
 
 no_folder_in : (home : Option Names) (here : Option Node) → MayStand home here Bucket → is_folder here ≡ false
-no_folder_in home None s = refl
 no_folder_in home (Some Folder) s = absurd s
-no_folder_in home (Some (File bytes)) s = refl
-no_folder_in home (Some (Link target)) s = refl
+no_folder_in home here s = refl
 
 -- a placed tree with the same value
 abbrev pub Same : Option Names → Tree → Tree → Type 0

@@ -2,7 +2,7 @@
 use Rattle.std.proofs.Common.{◌≡◌, ℕ, Bool, true, false, cond, List, [], ◌∷◌, ◌++◌, Option, Some, refl, sym, ap, ◌∙◌, append-nil, append_assoc}
 use Rattle.cacache_entry.specs.Entry.{Entry}
 use Rattle.cacache_core.specs.Paths.{bucket_names_of}
-use Rattle.cacache_value.specs.{Kinds.{is_path_of}, Value.{Value, wide_value, cache_part}, Acts.{Act, Nothing, PutBytes, PutLink, AddEntries, Drop, MakeFolders, DropFolder, act_of, change, list_of}, Placed.{Placed}, Traces.{Move, IsTrace, tree_after, acts}, ValueLaws.{StepsKeepPlaced, StepsAct, TracesAct, TracesShow, KeepsBucket, IsLonger, BucketsGrow}}
+use Rattle.cacache_value.specs.{Kinds.{is_path_of}, Value.{Value, wide_value, cache_part}, Acts.{Act, AddEntries, Drop, act_of, change, list_of}, Placed.{Placed}, Traces.{Move, IsTrace, tree_after, acts}, ValueLaws.{StepsKeepPlaced, StepsAct, TracesAct, TracesShow, KeepsBucket, IsLonger, BucketsGrow}}
 use Rattle.cacache_value.proofs.{Shows.{trees_show}, Steps.{step_kept}}
 use Rattle.cacache_disk.{specs.{Rooted.{Rooted}, Tree.{Tree, Names}, Apply.{apply}}, proofs.KeptFolders.{steps_keep_rooted}}
 
@@ -50,11 +50,7 @@ change_grows : (home : Option Names) (v : Value) (hash : List ℕ) (act : Act) �
     → IsLonger (list_of (v.buckets hash)) (list_of ((change home act v).buckets hash))
 change_grows home v hash (AddEntries path new) keeps = added_list (is_path_of home (bucket_names_of hash) path) (v.buckets hash) new
 change_grows home v hash (Drop path) keeps = rw keeps (same_list (list_of (v.buckets hash)))
-change_grows home v hash Nothing keeps = same_list (list_of (v.buckets hash))
-change_grows home v hash (PutBytes path bytes) keeps = same_list (list_of (v.buckets hash))
-change_grows home v hash (PutLink path target) keeps = same_list (list_of (v.buckets hash))
-change_grows home v hash (MakeFolders path count) keeps = same_list (list_of (v.buckets hash))
-change_grows home v hash (DropFolder path) keeps = same_list (list_of (v.buckets hash))
+change_grows home v hash act keeps = same_list (list_of (v.buckets hash))
 
 pub buckets_grow : BucketsGrow
 buckets_grow home v hash [] keep = same_list (list_of (v.buckets hash))
