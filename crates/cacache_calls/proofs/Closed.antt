@@ -6,7 +6,7 @@ use Rattle.cacache_core.specs.declared.errors.Fault.TheVariants as faults
 use Rattle.cacache_store.specs.{declared.store.{answer.Name.{Name}, plain.{PlainFile.{PlainFile}, PlainTemp.{PlainTemp}}}, Plain.{PlainStep, PlainAnswer}}
 use Rattle.cacache_store.specs.declared.store.step.Step.TheVariants as steps
 use Rattle.cacache_entry.specs.Latest.{Found}
-use Rattle.cacache_calls.specs.{declared.{answers.Refusal.{Refusal}, reply.Reply.TheVariants.{Copied, Done, Exists, Listed, Read}, carried.{Commit.{Commit}, Lookup.{Lookup}, Content.{Content}}, target.Target.{Target}, visit.{Visit.{Visit, TheVariants.{Enter, ReadBucket, RemoveFile, RemoveFolder}}, Task.{Task, TheVariants.{Make, Stumble}}}}, Answers.{done_in, temp_in, written_in, synced_in, there_in, taken_in, bytes_in, file_in, got_in, length_in, names_in}, Common.{ends_with, fails, go_on}, ContentReads.{checked, answer_there, answer_absent}, Exporting.{copied_count}, Inserting.{bucket_line, recorded, after_append}, Linking.{with_size, after_size, after_read, hashed_path}, Looking.{found_in, found_for, after_bucket, no_bucket}, State.{State, doing, creating, writing, syncing, persisting, linking, confirming, appending, looking, reading, asking, sizing, opening_file, hashing, copying, walking, over, Insertion, Hashing, to_link, Errand, make_folder, sync_file, sync_dir, Item, Walk}, StepPaths.{temp_path, content_folder}, Storing.{placed, secured, write_rest, after_write, after_confirm}, Table.{piece, wants, after}, Walking.{EachVisit, most, failed, give, miss, walk_on, tasks_of, leaving, too_many, entered, unread_bucket, listed, visit_step, after_visit, items_in}}
+use Rattle.cacache_calls.specs.{declared.{answers.Refusal.{Refusal}, reply.Reply.TheVariants.{Copied, Done, Exists, Listed, Read}, carried.{Commit.{Commit}, Lookup.{Lookup}, Content.{Content}}, target.Target.{Target}, visit.{Visit.{Visit, TheVariants.{Enter, ReadBucket, RemoveFolder}}, Task.{Task, TheVariants.{Make, Stumble}}}}, Answers.{done_in, temp_in, written_in, synced_in, there_in, taken_in, bytes_in, file_in, got_in, length_in, names_in}, Common.{ends_with, fails, go_on}, ContentReads.{checked, answer_there, answer_absent}, Exporting.{copied_count}, Inserting.{bucket_line, recorded, after_append}, Linking.{with_size, after_size, after_read, hashed_path}, Looking.{found_in, found_for, after_bucket, no_bucket}, State.{State, doing, creating, writing, syncing, persisting, linking, confirming, appending, looking, reading, asking, sizing, opening_file, hashing, copying, walking, over, Insertion, Hashing, to_link, Errand, make_folder, sync_file, sync_dir, Item, Walk}, StepPaths.{temp_path, content_folder}, Storing.{placed, secured, write_rest, after_write, after_confirm}, Table.{piece, wants, after}, Walking.{EachVisit, most, failed, give, miss, walk_on, tasks_of, leaving, too_many, entered, unread_bucket, listed, visit_step, after_visit, items_in}}
 use Rattle.cacache_calls.proofs.{Branches.{cond_leads, go_on_leads}, Leading.{moves_on, secures, secures_found, records}, Visits.{each_append, MayMeet, each_name, each_leaving}}
 
 -- every walk satisfies this
@@ -178,8 +178,7 @@ module _ (Good : PlainStep → PlainAnswer → Type 0) (P : State → Type 0) (K
       visits (Enter p level) a good is =
           go_on_leads P (names_in a) (miss w (walk_on todo)) (entered w p level todo) memory missed (λ names e. enters p level names (a, good, e) is)
       visits (ReadBucket p) a good is = go_on_leads P (bytes_in a) (unread_bucket w todo) (listed w todo) memory unlisted (λ bytes _. gives w (items_in bytes) (walk_on todo) h (goes_on todo k))
-      visits (RemoveFile p) a good is = removed a
-      visits (RemoveFolder p) a good is = removed a
+      visits v a good is = removed a
 
     -- ---- each state
 

@@ -7,7 +7,7 @@ use Rattle.cacache_store.specs.declared.store.answer.Kind.TheVariants as kinds
 use Rattle.cacache_store.specs.declared.store.answer.Answer.TheVariants as answers
 use Rattle.cacache_store.specs.declared.store.step.Step.TheVariants as steps
 use Rattle.cacache_entry.specs.Latest.{Found}
-use Rattle.cacache_calls.specs.{declared.{answers.Refusal.{Refusal}, command.{Command.{Command}, Export.{Export}, How.{How, TheVariants.{Copy, Reflink, HardLink}}}, reply.Reply.{Reply, TheVariants.{Stored, Read, LookedUp, Exists, Copied, Listed, Done, Refused}}, carried.{Commit.{Commit}, Aim.{Aim}, Lookup.{Lookup}, Content.{Content}}, visit.{Visit.{Visit, TheVariants.{Enter, ReadBucket, RemoveFile, RemoveFolder}}, Task.{Task, TheVariants.{Make, Stumble}}}}, Answers.{done_in, temp_in, written_in, synced_in, there_in, taken_in, bytes_in, file_in, got_in, length_in, names_in}, StepPaths.{temp_path, content_path, content_folders, bucket_path, bucket_folders}, State.{State, doing, creating, writing, syncing, persisting, linking, confirming, appending, looking, reading, asking, sizing, opening_file, hashing, copying, walking, over, Site, Insertion, Hashing, to_verify, to_link, Errand, make_folder, remove, reflink, hard_link, sync_file, sync_dir, Item, Walk}, Common.{ends_with, fails, go_on, errand_step, sync_up}, Inserting.{insertion, deletion, unless_refused, refused_cause, bucket_line, recorded, after_append}, Storing.{insertion_of, indexed, sized, matches, compared, placed, secured, secured_found, move_in, write_rest, after_write, after_confirm}, ContentReads.{checked, answer_there, answer_absent}, Exporting.{export_from, export_content, export, copied_count}, Linking.{after_size, hashed_path, hashed, after_read}, Looking.{found_in, found_content, found_for, after_bucket, no_bucket}, Walking.{most, failed, give, miss, walk_on, task_for_name, tasks_of, leaving, too_many, entered, unread_bucket, listed, visit_step, after_visit, items_in}, Table.{piece, wants, after, opening}, Runs.{Moves, Runs}, Causes.{Faults, HasCause, OfWalk, own_of}}
+use Rattle.cacache_calls.specs.{declared.{answers.Refusal.{Refusal}, command.{Command.{Command}, Export.{Export}, How.{How, TheVariants.{Copy}}}, reply.Reply.{Reply, TheVariants.{Stored, Read, LookedUp, Exists, Copied, Listed, Done, Refused}}, carried.{Commit.{Commit}, Aim.{Aim}, Lookup.{Lookup}, Content.{Content}}, visit.{Visit.{Visit, TheVariants.{Enter, ReadBucket, RemoveFile, RemoveFolder}}, Task.{Task, TheVariants.{Make, Stumble}}}}, Answers.{done_in, temp_in, written_in, synced_in, there_in, taken_in, bytes_in, file_in, got_in, length_in, names_in}, StepPaths.{temp_path, content_path, content_folders, bucket_path, bucket_folders}, State.{State, doing, creating, writing, syncing, persisting, linking, confirming, appending, looking, reading, asking, sizing, opening_file, hashing, copying, walking, over, Site, Insertion, Hashing, to_verify, to_link, Errand, make_folder, remove, sync_file, sync_dir, Item, Walk}, Common.{ends_with, fails, go_on, errand_step, sync_up}, Inserting.{insertion, deletion, unless_refused, refused_cause, bucket_line, recorded, after_append}, Storing.{insertion_of, indexed, sized, matches, compared, placed, secured, secured_found, move_in, write_rest, after_write, after_confirm}, ContentReads.{checked, answer_there, answer_absent}, Exporting.{export_from, export_content, export, copied_count}, Linking.{after_size, hashed_path, hashed, after_read}, Looking.{found_in, found_content, found_for, after_bucket, no_bucket}, Walking.{most, failed, give, miss, walk_on, task_for_name, tasks_of, leaving, too_many, entered, unread_bucket, listed, visit_step, after_visit, items_in}, Table.{piece, wants, after, opening}, Runs.{Moves, Runs}, Causes.{Faults, HasCause, OfWalk, own_of}}
 use Rattle.cacache_calls.proofs.Branches.{cond_leads}
 use Rattle.cacache_calls.specs.declared.answers.Refusal.TheVariants as refusals
 use Rattle.cacache_calls.specs.declared.command.Command.TheVariants as commands
@@ -21,11 +21,7 @@ errand_faults e (answers.Failed g) f fits k = cc
 errand_faults e (answers.NoMemory b) f fits k = absurd cc
 errand_faults e answers.Done f fits k = absurd cc
 errand_faults (make_folder p) t f fits k = absurd fits
-errand_faults (remove p) t f fits k = absurd fits
-errand_faults (reflink q p) t f fits k = absurd fits
-errand_faults (hard_link q p) t f fits k = absurd fits
-errand_faults (sync_file p) t f fits k = absurd fits
-errand_faults (sync_dir p) t f fits k = absurd fits
+errand_faults e t f fits k = absurd fits
 
 persist_faults : (file : PlainTemp) (p : List ℕ) (t : PlainAnswer) (f : Fault) → Fits (steps.Persist file p) t → done_in t ≡ Err (refusals.Fault f) → Faults (steps.Persist file p) t f
 persist_faults file p (answers.Failed g) f fits e = cc
@@ -255,8 +251,7 @@ module _ (O : Fault → Type 0) (a : PlainStep) (t : PlainAnswer) (moves : Moves
 
   exports_from : (how : How) (from to : List ℕ) (count : Option ℕ) → Causes (export_from how from to count) moves r → Now
   exports_from Copy from to count h = holds_none (h tt)
-  exports_from Reflink from to count h = holds_none (h tt)
-  exports_from HardLink from to count h = holds_none (h tt)
+  exports_from how from to count h = holds_none (h tt)
 
   hashes : (h : Hashing) (bytes : List ℕ) → Causes (hashed h bytes) moves r → Now
   hashes (to_verify k e) bytes g =
@@ -273,12 +268,11 @@ module _ (O : Fault → Type 0) (a : PlainStep) (t : PlainAnswer) (moves : Moves
 
   founds : (l : Lookup) (aim : Aim) (found : Option Found) → Causes (found_for l aim found) moves r → Now
   founds l aims.Report found h = over_now (LookedUp found) tt h
-  founds l aims.Read (Some f) h = holds_none (h tt)
   founds l aims.Read None h = over_now (Refused (EntryNotFound l.cache l.key)) tt h
   founds l (aims.Export e) (Some f) h = exports (found_content l f) e h
   founds l (aims.Export e) None h = over_now (Refused (EntryNotFound l.cache l.key)) tt h
   founds l aims.Remove (Some f) h = holds_none (h tt)
-  founds l aims.Remove None h = holds_none (h tt)
+  founds l aim found h = holds_none (h tt)
 
   unreads : (l : Lookup) (f : Fault) → Faults a t f → Causes (no_bucket l f) moves r → Now
   unreads l faults.NotFound x h = founds l l.aim None h
@@ -316,14 +310,13 @@ task_ordinary clears level p kinds.Folder = by_level (nat_lt level 16)
     by_level : (b : Bool) → Ordinary (cond b (Make (Enter p (level + 1))) (Stumble faults.TooDeep p) ∷ [])
     by_level true = tt
     by_level false = (inl refl, tt)
-task_ordinary false level p kinds.File = tt
 task_ordinary false level p kinds.Link = tt
-task_ordinary true level p kinds.Link = tt
 task_ordinary true level p kinds.File = by_top (level == 0)
   where
     by_top : (b : Bool) → Ordinary (cond b (Stumble faults.NotADirectory p) (Make (RemoveFile p)) ∷ [])
     by_top true = (inr refl, tt)
     by_top false = tt
+task_ordinary clears level p kind = tt
 
 tasks_ordinary : (clears : Bool) (level : ℕ) (p : List ℕ) (names : List Name) → Ordinary (tasks_of clears level p names)
 tasks_ordinary clears level p [] = tt
@@ -472,21 +465,10 @@ io_errors_have_causes site command moves r run = opened command (runs_cause (ope
 
     exported : (how : How) (from to : List ℕ) → Causes (export_from how from to None) moves r → HasCause (λ _. ⊥) moves r
     exported Copy from to h = h tt
-    exported Reflink from to h = h tt
-    exported HardLink from to h = h tt
+    exported how from to h = h tt
 
     opened : (command : Command) → Causes (opening site command) moves r → HasCause (own_of command) moves r
-    opened (commands.Put p) h = h tt
-    opened (commands.Link l) h = h tt
     opened (commands.Insert i) h = inserted (insertion site.cache i) (refused_cause (insertion site.cache i)) tt h
     opened (commands.Delete d) h = inserted (deletion site.cache d) (refused_cause (deletion site.cache d)) tt h
-    opened (commands.Find key) h = h tt
-    opened (commands.Get key) h = h tt
-    opened (commands.GetHash i) h = h tt
-    opened (commands.Exists i) h = h tt
-    opened commands.Ls h = h tt
-    opened (commands.Export (sources.Key key) e) h = h tt
     opened (commands.Export (sources.Hash i) e) h = cond_leads (λ s. Causes s moves r → HasCause (λ _. ⊥) moves r) e.checked (opening_file (to_verify (record { cache = site.cache; integrity = i }) e)) (export_from e.how (content_path site.cache i) e.to None) (λ _ g. g tt) (λ _. exported e.how (content_path site.cache i) e.to) h
-    opened (commands.RemoveHash i) h = h tt
-    opened (commands.RemoveFully key) h = h tt
-    opened commands.Clear h = h tt
+    opened command h = h tt

@@ -1,11 +1,11 @@
 -- The steps of a commit do nothing; or store its content; or store its content and then append its entry.
-use Rattle.std.proofs.{Common.{◌≡◌, ◌⊎◌, inl, inr, ℕ, ◌+◌, ◌<◌, ◌^◌, ◌==◌, List, [], ◌∷◌, Option, Some, None, Bool, true, false, nat_le, Result, Ok, Err, refl, sym, subst, length, length-append, drop, arith}, lemmas.Bool.{leb-true}}
+use Rattle.std.proofs.{Common.{◌≡◌, ◌⊎◌, inl, inr, ℕ, ◌+◌, ◌<◌, ◌^◌, ◌==◌, List, [], ◌∷◌, Option, Some, None, Bool, true, nat_le, Result, Ok, Err, refl, sym, subst, length, length-append, drop, arith}, lemmas.Bool.{leb-true}}
 use Rattle.cacache_core.specs.declared.{errors.{Fault.{Fault}, SerdeCause.{SerdeCause}, IntegrityFault.TheVariants.{Check}, Error.{Error, TheVariants.{SizeMismatch, IoError, SerdeError, IntegrityError, OutOfMemory}}}, integrity.digest.Hash.{Hash}}
 use Rattle.cacache_core.specs.declared.errors.Fault.TheVariants as faults
 use Rattle.cacache_store.specs.{declared.store.plain.{PlainTemp.{PlainTemp}, PlainFile.{PlainFile}}, Fits.{Fits}, Plain.{PlainStep, PlainAnswer}}
 use Rattle.cacache_store.specs.declared.store.answer.Answer.TheVariants as answers
 use Rattle.cacache_store.specs.declared.store.step.Step.TheVariants as steps
-use Rattle.cacache_calls.specs.{declared.{answers.Refusal.{Refusal}, command.{Put.{Put}, Link.{Link}, Insert.{Insert}, Delete.{Delete}}, reply.Reply.{Reply, TheVariants.{Refused}}, carried.Commit.{Commit}, target.Target.{Target}}, Answers.{done_in, temp_in, written_in, synced_in, there_in, taken_in, file_in, got_in, length_in}, StepPaths.{content_path, content_folders, bucket_path, bucket_folders}, State.{State, doing, creating, writing, syncing, persisting, linking, confirming, appending, sizing, opening_file, hashing, over, Site, Insertion, to_link, Errand, make_folder, remove, reflink, hard_link, sync_file, sync_dir}, Common.{ends_with, fails, go_on, errand_step, sync_up}, Inserting.{insertion, deletion, unless_refused, refused_cause, bucket_line, recorded, after_append}, Storing.{insertion_of, indexed, sized, matches, compared, placed, secured, secured_found, move_in, write_rest, after_write, after_confirm, put_commit}, Linking.{link_target, after_size, after_read}, Table.{piece, wants, after, opening}, Runs.{Moves, Runs}, Effects.{Effect, stored, sent, if_done, if_there, effect, effects_of, IsRefused, DoesNothing, TookAll, Sends, Inserts, Indexes, Commits, Links, OnlyChanges}}
+use Rattle.cacache_calls.specs.{declared.{answers.Refusal.{Refusal}, command.{Put.{Put}, Link.{Link}, Insert.{Insert}, Delete.{Delete}}, reply.Reply.{Reply, TheVariants.{Refused}}, carried.Commit.{Commit}, target.Target.{Target}}, Answers.{done_in, temp_in, written_in, synced_in, there_in, taken_in, file_in, got_in, length_in}, StepPaths.{content_path, content_folders, bucket_path, bucket_folders}, State.{State, doing, creating, writing, syncing, persisting, linking, confirming, appending, sizing, opening_file, hashing, over, Site, Insertion, to_link, Errand, make_folder, sync_file, sync_dir}, Common.{ends_with, fails, go_on, errand_step, sync_up}, Inserting.{insertion, deletion, unless_refused, refused_cause, bucket_line, recorded, after_append}, Storing.{insertion_of, indexed, sized, matches, compared, placed, secured, secured_found, move_in, write_rest, after_write, after_confirm, put_commit}, Linking.{link_target, after_size, after_read}, Table.{piece, wants, after, opening}, Runs.{Moves, Runs}, Effects.{Effect, stored, sent, if_done, if_there, effect, effects_of, IsRefused, DoesNothing, TookAll, Sends, Inserts, Indexes, Commits, Links, OnlyChanges}}
 use Rattle.cacache_calls.proofs.Branches.{cond_leads, go_on_leads}
 use Rattle.cacache_calls.specs.declared.answers.Refusal.TheVariants as refusals
 use Rattle.cacache_calls.specs.declared.command.Command.TheVariants as commands
@@ -98,9 +98,8 @@ module _ (c : Commit) (effects : List Effect) (r : Reply) where
 
   confirms : (fault : Fault) (a : Result Bool Refusal) → Does (go_on a (λ _. fails fault) (after_confirm c fault)) effects r → Commits c (if_there a (stored (content_path c.cache c.computed)) effects) r
   confirms fault (Ok true) h = inr (effects, refl, secures_found h)
-  confirms fault (Ok false) h = fails_first fault h
-  confirms fault (Err (refusals.Fault other)) h = fails_first fault h
   confirms fault (Err refusals.Memory) h = no_memory h
+  confirms fault a h = fails_first fault h
 
   moves : (file : PlainTemp) → Does (move_in c file) effects r → Commits c effects r
   moves file h = cond_leads (λ s. Does s effects r → Commits c effects r) c.options.durable (syncing c file) (persisting c file) (λ _ g. g) (λ _ g. g) h
@@ -253,8 +252,4 @@ deletes_send site d moves r run =
 
 pub errands_only_change : (e : Errand) (t : PlainAnswer) → OnlyChanges (effect (errand_step e) t [])
 errands_only_change (make_folder path) t = tt
-errands_only_change (remove path) t = tt
-errands_only_change (reflink from to) t = tt
-errands_only_change (hard_link from to) t = tt
-errands_only_change (sync_file path) t = tt
-errands_only_change (sync_dir path) t = tt
+errands_only_change e t = tt

@@ -7,7 +7,7 @@ use Rattle.cacache_store.specs.declared.store.answer.Kind.TheVariants as kinds
 use Rattle.cacache_store.specs.declared.store.answer.Answer.TheVariants as answers
 use Rattle.cacache_store.specs.declared.store.step.Step.TheVariants as steps
 use Rattle.cacache_entry.specs.Latest.{Found}
-use Rattle.cacache_calls.specs.{declared.{command.{Export.{Export}, How.{How, TheVariants.{Copy, Reflink, HardLink}}}, reply.Reply.TheVariants.{Read, Exists, Copied, Listed, Done}, carried.{Commit.{Commit}, Aim.{Aim}, Lookup.{Lookup}, Content.{Content}}, visit.{Visit.{Visit, TheVariants.{Enter, ReadBucket, RemoveFile, RemoveFolder}}, Task.{Task, TheVariants.{Make, Stumble}}}}, Answers.{done_in, temp_in, written_in, synced_in, there_in, taken_in, bytes_in, file_in, got_in, length_in, names_in}, StepPaths.{content_path, addressed, content_folders, bucket_path, bucket_folders}, State.{State, doing, creating, writing, syncing, persisting, linking, confirming, appending, looking, reading, asking, sizing, opening_file, hashing, copying, walking, over, Insertion, Hashing, to_verify, to_link, Item, Walk, sync_file, sync_dir}, Common.{ends_with, fails, sync_up}, Inserting.{unless_refused, refused_cause, bucket_line, recorded, after_append}, Storing.{insertion_of, indexed, sized, matches, compared, placed, secured, secured_found, move_in, write_rest, after_write, after_confirm}, ContentReads.{checked}, Exporting.{export_from, export, copied_count}, Linking.{after_size, hashed_path, hashed, after_read}, Looking.{found_in, found_for, after_bucket, no_bucket}, Walking.{most, failed, give, miss, walk_on, go_deeper, task_for_name, tasks_of, leaving, too_many, entered, unread_bucket, after_visit, items_in}, Table.{piece, wants, after}, Runs.{weight, weights, effort}}
+use Rattle.cacache_calls.specs.{declared.{command.{Export.{Export}, How.{How, TheVariants.{Copy}}}, reply.Reply.TheVariants.{Read, Exists, Copied, Listed, Done}, carried.{Commit.{Commit}, Aim.{Aim}, Lookup.{Lookup}, Content.{Content}}, visit.{Visit.{Visit, TheVariants.{Enter, ReadBucket, RemoveFile, RemoveFolder}}, Task.{Task, TheVariants.{Make, Stumble}}}}, Answers.{done_in, temp_in, written_in, synced_in, there_in, taken_in, bytes_in, file_in, got_in, length_in, names_in}, StepPaths.{content_path, addressed, content_folders, bucket_path, bucket_folders}, State.{State, doing, creating, writing, syncing, persisting, linking, confirming, appending, looking, reading, asking, sizing, opening_file, hashing, copying, walking, over, Insertion, Hashing, to_verify, to_link, Item, Walk, sync_file, sync_dir}, Common.{ends_with, fails, sync_up}, Inserting.{unless_refused, refused_cause, bucket_line, recorded, after_append}, Storing.{insertion_of, indexed, sized, matches, compared, placed, secured, secured_found, move_in, write_rest, after_write, after_confirm}, ContentReads.{checked}, Exporting.{export_from, export, copied_count}, Linking.{after_size, hashed_path, hashed, after_read}, Looking.{found_in, found_for, after_bucket, no_bucket}, Walking.{most, failed, give, miss, walk_on, go_deeper, task_for_name, tasks_of, leaving, too_many, entered, unread_bucket, after_visit, items_in}, Table.{piece, wants, after}, Runs.{weight, weights, effort}}
 use Rattle.cacache_calls.proofs.Branches.{cond_leads, go_on_leads}
 use Rattle.cacache_calls.specs.declared.carried.Aim.TheVariants as aims
 
@@ -100,8 +100,7 @@ appended_below i n = cond_leads (Below 6) (nat_le (length (bucket_line i)) n) (r
 
 exports_below : (how : How) (from to : List ℕ) (count : Option ℕ) → Below 2 (export_from how from to count)
 exports_below Copy from to count = omega arith
-exports_below Reflink from to count = omega arith
-exports_below HardLink from to count = omega arith
+exports_below how from to count = omega arith
 
 export_below : (k : Content) (e : Export) → Below (2 ^ 64 + 18) (export k e)
 export_below k e =
@@ -130,13 +129,11 @@ left_after old t x fits e = absurd cc
 -- ---- lookups
 
 found_below : (l : Lookup) (aim : Aim) (found : Option Found) → Below (2 ^ 64 + 18) (found_for l aim found)
-found_below l aims.Report found = omega arith
 found_below l aims.Read (Some f) = omega arith
 found_below l aims.Read None = omega arith
 found_below l (aims.Export e) (Some f) = export_below _ e
-found_below l (aims.Export e) None = omega arith
 found_below l aims.Remove (Some f) = omega arith
-found_below l aims.Remove None = omega arith
+found_below l aim found = omega arith
 
 unread_below : (l : Lookup) (fault : Fault) → Below (2 ^ 64 + 18) (no_bucket l fault)
 unread_below l faults.NotFound = found_below l l.aim None
@@ -184,10 +181,9 @@ file_light p false = omega arith
 
 task_light : (clears : Bool) (level : ℕ) (p : List ℕ) (kind : Kind) → weights (task_for_name clears level p kind ∷ []) ≤ 2
 task_light clears level p kinds.Folder = deeper_light p level
-task_light false level p kinds.File = omega arith
 task_light false level p kinds.Link = omega arith
 task_light true level p kinds.File = file_light p (level == 0)
-task_light true level p kinds.Link = omega arith
+task_light clears level p kind = omega arith
 
 tasks_light : (clears : Bool) (level : ℕ) (p : List ℕ) (names : List Name) → weights (tasks_of clears level p names) ≤ 2 * length names
 tasks_light clears level p [] = omega arith
@@ -229,9 +225,7 @@ visit_below w (Enter p level) todo t =
     go_on_leads (Below (2 * w.left + 2 + weights todo)) (names_in t) _ _ (omega arith) (λ fault. miss_below w (walk_on todo) fault _ (omega arith) (same_left w todo 1)) (λ names _. entered_below w p level todo names)
 visit_below w (ReadBucket p) todo t =
     go_on_leads (Below (2 * w.left + 1 + weights todo)) (bytes_in t) _ _ (omega arith) (bucketless_below w todo) (λ bytes _. give_below w (items_in bytes) (walk_on todo) _ (omega arith) (same_left w todo 0))
-visit_below w (RemoveFile p) todo t =
-    go_on_leads (Below (2 * w.left + 1 + weights todo)) (done_in t) _ _ (omega arith) (λ fault. miss_below w (walk_on todo) fault _ (omega arith) (same_left w todo 0)) (λ _ _. same_left w todo 0 w refl)
-visit_below w (RemoveFolder p) todo t =
+visit_below w v todo t =
     go_on_leads (Below (2 * w.left + 1 + weights todo)) (done_in t) _ _ (omega arith) (λ fault. miss_below w (walk_on todo) fault _ (omega arith) (same_left w todo 0)) (λ _ _. same_left w todo 0 w refl)
 
 -- ---- all states

@@ -12,18 +12,7 @@ made move = Made move.0 move.1
 -- memory was refused, or not
 pub answer_cases : (t : PlainAnswer) → ((b : PlainStep) × (t ≡ answers.NoMemory b)) ⊎ (is_no_memory t ≡ false)
 answer_cases (answers.NoMemory b) = inl (b, refl)
-answer_cases answers.Done = inr refl
-answer_cases (answers.Temp t) = inr refl
-answer_cases (answers.Wrote t n) = inr refl
-answer_cases (answers.Took n) = inr refl
-answer_cases (answers.Bytes b) = inr refl
-answer_cases (answers.File f) = inr refl
-answer_cases (answers.Got f b) = inr refl
-answer_cases (answers.There there) = inr refl
-answer_cases (answers.Length n) = inr refl
-answer_cases (answers.Names names) = inr refl
-answer_cases (answers.Synced t) = inr refl
-answer_cases (answers.Failed fault) = inr refl
+answer_cases t = inr refl
 
 -- a log gains one more move
 pub gains_one : (old new : Option (List LogItem)) (moves : Moves) (move : PlainStep × PlainAnswer) → Gains old new moves → Gains old (option_map (λ log. log ++ made move ∷ []) new) (moves ++ move ∷ [])

@@ -28,13 +28,12 @@ lists_append (Make v ∷ a) b h k = (h.0, lists_append a b h.1 k)
 lists_append (Stumble fault path ∷ a) b h k = (h.0, lists_append a b h.1 k)
 
 task_lists : (level : ℕ) (p : List ℕ) (kind : Kind) (todo : List Task) → Lists todo → Lists (task_for_name false level p kind ∷ todo)
-task_lists level p kinds.File todo h = (tt, h)
-task_lists level p kinds.Link todo h = (tt, h)
 task_lists level p kinds.Folder todo h = by_level (nat_lt level 16)
   where
     by_level : (b : Bool) → Lists (cond b (Make (Enter p (level + 1))) (Stumble faults.TooDeep p) ∷ todo)
     by_level true = (tt, h)
     by_level false = (refl, h)
+task_lists level p kind todo h = (tt, h)
 
 tasks_list : (clears : Bool) → clears ≡ false → (level : ℕ) (p : List ℕ) (names : List Name) → Lists (tasks_of clears level p names)
 tasks_list true e level p names = absurd cc

@@ -4,7 +4,7 @@ use Rattle.cacache_core.specs.{declared.{errors.{Fault.{Fault}, SerdeCause.{Serd
 use Rattle.cacache_core.proofs.Meeting.{meets_finds}
 use Rattle.cacache_store.specs.{declared.store.plain.PlainFile.{PlainFile}, Plain.{PlainAnswer}}
 use Rattle.cacache_entry.specs.Latest.{Found}
-use Rattle.cacache_calls.specs.{declared.{command.{Command.{Command}, Export.{Export}, How.{How, TheVariants.{Copy, Reflink, HardLink}}}, reply.Reply.{Reply, TheVariants.{Stored, Read, LookedUp, Exists, Copied, Listed, Done, Refused}}, carried.{Commit.{Commit}, Aim.{Aim}, Lookup.{Lookup}, Content.{Content}}, target.Target.{Target}}, StepPaths.{content_path}, State.{State, doing, looking, opening_file, hashing, walking, over, Site, Insertion, Hashing, to_verify, to_link}, Common.{ends_with, fails}, Inserting.{insertion, deletion, unless_refused, refused_cause}, Storing.{insertion_of, indexed, sized, matches, compared, placed}, Exporting.{export_from, export_content, export, verified, copied_count}, Linking.{with_size, commit_for, hashed, after_read}, Looking.{found_content, found_for}, Table.{after, opening}, Runs.{Moves, Runs}, Promises.{Only, OnlyReads, OnlyExists, OnlyCopies, Copies, MadeOf, ReadsMeeting, answered, Suits, StoresIf, StoresSized, Stores, StoresRead, Exports, Aims, Hashes, Walks, Promises, Answers}}
+use Rattle.cacache_calls.specs.{declared.{command.{Command.{Command}, Export.{Export}, How.{How, TheVariants.{Copy}}}, reply.Reply.{Reply, TheVariants.{Stored, Read, LookedUp, Exists, Copied, Listed, Done, Refused}}, carried.{Commit.{Commit}, Aim.{Aim}, Lookup.{Lookup}, Content.{Content}}, target.Target.{Target}}, StepPaths.{content_path}, State.{State, doing, looking, opening_file, hashing, walking, over, Site, Insertion, Hashing, to_verify, to_link}, Common.{ends_with, fails}, Inserting.{insertion, deletion, unless_refused, refused_cause}, Storing.{insertion_of, indexed, sized, matches, compared, placed}, Exporting.{export_from, export_content, export, verified, copied_count}, Linking.{with_size, commit_for, hashed, after_read}, Looking.{found_content, found_for}, Table.{after, opening}, Runs.{Moves, Runs}, Promises.{Only, OnlyReads, OnlyExists, OnlyCopies, Copies, MadeOf, ReadsMeeting, answered, Suits, StoresIf, StoresSized, Stores, StoresRead, Exports, Aims, Hashes, Walks, Promises, Answers}}
 use Rattle.cacache_calls.proofs.{Branches.{cond_leads}, Closed.{AnyAnswer, ClosedCommit, ClosedReads, ClosedFiles, ClosedWalk, Closed, kept_always}, Visits.{AnyVisit, any_visits}}
 use Rattle.cacache_calls.specs.declared.command.Command.TheVariants as commands
 use Rattle.cacache_calls.specs.declared.command.Source.TheVariants as sources
@@ -14,14 +14,11 @@ use Rattle.cacache_calls.specs.declared.carried.Aim.TheVariants as aims
 
 exports_refused : (how : How) (e : Error) → Exports how (Refused e)
 exports_refused Copy e = tt
-exports_refused Reflink e = tt
-exports_refused HardLink e = tt
+exports_refused how e = tt
 
 aims_refused : (aim : Aim) (e : Error) → Aims aim (Refused e)
-aims_refused aims.Report e = tt
-aims_refused aims.Read e = tt
 aims_refused (aims.Export x) e = exports_refused x.how e
-aims_refused aims.Remove e = tt
+aims_refused aim e = tt
 
 hashes_refused : (h : Hashing) (bytes : List ℕ) (e : Error) → Hashes h bytes (Refused e)
 hashes_refused (to_verify k x) bytes e = (exports_refused x.how e, tt)
@@ -130,8 +127,7 @@ module _ (r : Reply) where
 
   exports_from : (how : How) (from to : List ℕ) (count : Option ℕ) → Promises (export_from how from to count) r → Exports how r
   exports_from Copy from to count h = copies_only count h
-  exports_from Reflink from to count h = h
-  exports_from HardLink from to count h = h
+  exports_from how from to count h = h
 
   copy_made : (i : List Hash) (bytes : List ℕ) → Meets i bytes → Copies (Some (length bytes)) r → MadeOf i bytes r
   copy_made i bytes m = by_reply r
@@ -161,8 +157,7 @@ module _ (r : Reply) where
 
   export_made : (how : How) (i : List Hash) (bytes from to : List ℕ) → Meets i bytes → Promises (export_from how from to (Some (length bytes))) r → Exports how r × MadeOf i bytes r
   export_made Copy i bytes from to m h = (copies_only (Some (length bytes)) h, copy_made i bytes m h)
-  export_made Reflink i bytes from to m h = (h, link_made i bytes m h)
-  export_made HardLink i bytes from to m h = (h, link_made i bytes m h)
+  export_made how i bytes from to m h = (h, link_made i bytes m h)
 
   hash_exports : (k : Content) (e : Export) → Promises (export k e) r → Exports e.how r × (e.checked ≡ true → MadeOf k.integrity [] r)
   hash_exports k e h =
@@ -333,13 +328,7 @@ module _ (r : Reply) where
 
 own_kept : (r : Reply) → Only r r
 own_kept (Refused e) = tt
-own_kept (Stored i) = refl
-own_kept (Read bytes) = refl
-own_kept (LookedUp found) = refl
-own_kept (Exists there) = refl
-own_kept (Copied n) = refl
-own_kept (Listed items) = refl
-own_kept Done = refl
+own_kept r = refl
 
 -- the reply of every run keeps the promise of its first state
 pub runs_keep : (s : State) (moves : Moves) (r : Reply) → Runs s moves r → Promises s r

@@ -51,8 +51,7 @@ found_after : (site : Site) (key : List ℕ) (a : Result (List ℕ) Refusal) →
 unfolding found_in
 found_after site key (Ok bytes) = refl
 found_after site key (Err (refusals.Fault faults.NotFound)) = refl
-found_after site key (Err (refusals.Fault fault)) = refl
-found_after site key (Err refusals.Memory) = refl
+found_after site key a = refl
 
 pub finds_shown : (site : Site) (key : List ℕ) (moves : Moves) (r : Reply) → Runs (opening site (commands.Find key)) moves r → OrMemory (ReadsBucketOnce site.cache key moves r) r
 finds_shown site key moves r run = one_step (looking (look site key)) (steps.ReadAll (bucket_path site.cache key)) (λ t. find_reply key (bucket_shown t)) refl (λ t. found_after site key (bytes_in t)) moves r run
@@ -130,9 +129,8 @@ meeting i (Err refusals.Memory) bytes e = absurd cc
 
 on_meets : (cache key : List ℕ) (look : Result (Option Found) Refusal) (more : Moves) (bytes : List ℕ) → ReadsOn cache key look more (Read bytes) → (found : Found) × (look ≡ Ok (Some found)) × Meets found.integrity bytes
 on_meets cache key (Ok (Some f)) more bytes h = (f, refl, meeting f.integrity (bytes_in h.0) bytes h.2)
-on_meets cache key (Ok None) more bytes h = absurd cc
 on_meets cache key (Err (refusals.Fault fault)) more bytes h = absurd cc
-on_meets cache key (Err refusals.Memory) more bytes h = absurd cc
+on_meets cache key look more bytes h = absurd cc
 
 pub gets_meet : (site : Site) (key : List ℕ) (moves : Moves) (bytes : List ℕ) → Runs (opening site (commands.Get key)) moves (Read bytes) → (t : PlainAnswer) × (more : Moves) × BeginsWithBucket site.cache key t more moves × MeetsFound key t bytes
 gets_meet site key moves bytes run =

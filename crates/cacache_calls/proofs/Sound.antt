@@ -5,7 +5,7 @@ use Rattle.cacache_store.specs.{declared.store.{plain.{PlainTemp.{PlainTemp}, Pl
 use Rattle.cacache_store.specs.declared.store.answer.Answer.TheVariants as answers
 use Rattle.cacache_store.specs.declared.store.step.Step.TheVariants as steps
 use Rattle.cacache_entry.specs.Latest.{Found}
-use Rattle.cacache_calls.specs.{declared.{command.{Command.{Command}, Export.{Export}, How.{How, TheVariants.{Copy, Reflink, HardLink}}}, carried.{Commit.{Commit}, Aim.{Aim}, Lookup.{Lookup}, Content.{Content}}, target.Target.{Target}, visit.Visit.{Visit, TheVariants.{Enter, ReadBucket, RemoveFile, RemoveFolder}}}, Answers.{temp_in, written_in, synced_in, file_in, got_in, names_in}, StepPaths.{temp_path, content_path, content_folder, bucket_path, bucket_folder}, State.{State, doing, creating, writing, syncing, persisting, linking, confirming, appending, looking, reading, asking, sizing, opening_file, hashing, copying, walking, over, Site, Insertion, Hashing, to_verify, to_link}, Common.{ends_with}, Inserting.{insertion, deletion, unless_refused, refused_cause, bucket_line}, Storing.{insertion_of, indexed, sized, matches, compared, placed}, Removing.{remove_found}, Exporting.{export_from, export_content, export}, Linking.{commit_for, hashed_path, hashed, after_read}, Looking.{found_content, found_for}, Walking.{visit_step}, Table.{piece, wants, after, opening}, Sound.{SoundCommit, SoundInsertion, SoundTarget, IsBelow, IsContent, IsFolder, IsLine, SoundVisit, Allowed, SoundAim, SoundHashing, Sound, MayBegin}}
+use Rattle.cacache_calls.specs.{declared.{command.{Command.{Command}, Export.{Export}, How.{How, TheVariants.{Copy}}}, carried.{Commit.{Commit}, Aim.{Aim}, Lookup.{Lookup}, Content.{Content}}, target.Target.{Target}, visit.Visit.{Visit, TheVariants.{RemoveFile, RemoveFolder}}}, Answers.{temp_in, written_in, synced_in, file_in, got_in, names_in}, StepPaths.{temp_path, content_path, content_folder, bucket_path, bucket_folder}, State.{State, doing, creating, writing, syncing, persisting, linking, appending, opening_file, copying, walking, over, Site, Insertion, Hashing, to_verify, to_link}, Common.{ends_with}, Inserting.{insertion, deletion, unless_refused, refused_cause, bucket_line}, Storing.{insertion_of, indexed, sized, matches, compared, placed}, Removing.{remove_found}, Exporting.{export_from, export_content, export}, Linking.{commit_for, hashed_path, hashed, after_read}, Looking.{found_content, found_for}, Walking.{visit_step}, Table.{piece, wants, after, opening}, Sound.{SoundCommit, SoundInsertion, SoundTarget, IsBelow, IsContent, IsFolder, IsLine, SoundVisit, Allowed, SoundAim, SoundHashing, Sound, MayBegin}}
 use Rattle.cacache_calls.proofs.{Closed.{AnyWalk, ClosedCommit, ClosedFiles, ClosedWalk, Closed, kept}, Branches.{cond_leads}, Visits.{MayMeet}}
 use Rattle.cacache_calls.specs.declared.command.Command.TheVariants as commands
 use Rattle.cacache_calls.specs.declared.command.Source.TheVariants as sources
@@ -65,8 +65,7 @@ module _ (site : Site) (apart outside : List ℕ → Bool) where
 
   exports_from : (how : How) (from to : List ℕ) (count : Option ℕ) → apart to ≡ true → Is (export_from how from to count)
   exports_from Copy from to count h = h
-  exports_from Reflink from to count h = (h, tt)
-  exports_from HardLink from to count h = (h, tt)
+  exports_from how from to count h = (h, tt)
 
   exports : (k : Content) (e : Export) → apart e.to ≡ true → Is (export k e)
   exports k e h = cond_leads Is e.checked (opening_file (to_verify k e)) (export_content k e None) (λ _. h) (λ _. exports_from e.how (content_path k.cache k.integrity) e.to None h)
@@ -100,12 +99,10 @@ module _ (site : Site) (apart outside : List ℕ → Bool) where
   removes cache key None e = (inr (inl (key, ap (λ c. bucket_path c key) e)), tt)
 
   founds : (l : Lookup) (aim : Aim) (found : Option Found) → l.cache ≡ site.cache → SoundAim site apart outside aim → Is (found_for l aim found)
-  founds l aims.Report found e h = tt
   founds l aims.Remove found e h = removes l.cache l.key found e
   founds l aims.Read (Some f) e h = e
-  founds l aims.Read None e h = tt
   founds l (aims.Export x) (Some f) e h = exports (found_content l f) x h
-  founds l (aims.Export x) None e h = tt
+  founds l aim found e h = tt
 
   -- ---- walks
 
@@ -133,24 +130,21 @@ module _ (site : Site) (apart outside : List ℕ → Bool) where
   begins_sound (commands.Link l) h = h
   begins_sound (commands.Insert i) h = inserts (insertion site.cache i) (refused_cause (insertion site.cache i)) refl (record { here = refl; formed = h })
   begins_sound (commands.Delete d) h = inserts (deletion site.cache d) (refused_cause (deletion site.cache d)) refl (record { here = refl; formed = h })
-  begins_sound (commands.Find key) h = (refl, tt)
-  begins_sound (commands.Get key) h = (refl, tt)
   begins_sound (commands.GetHash i) h = refl
   begins_sound (commands.Exists i) h = refl
   begins_sound commands.Ls h = ((index_area ∷ [], All-cons IsProperName index_area [] (refl, refl, refl) (All-nil IsProperName), refl), tt)
   begins_sound (commands.Export (sources.Key key) e) h = (refl, h)
   begins_sound (commands.Export (sources.Hash i) e) h = exports (record { cache = site.cache; integrity = i }) e h
   begins_sound (commands.RemoveHash i) h = (inl (i, refl), tt)
-  begins_sound (commands.RemoveFully key) h = (refl, tt)
   begins_sound commands.Clear h = (([], All-nil IsProperName, refl), tt)
+  begins_sound command h = (refl, tt)
 
   -- ---- its steps
 
   visit_allowed : (v : Visit) → SoundVisit site v → Allowed site apart outside (visit_step v)
-  visit_allowed (Enter p level) h = tt
-  visit_allowed (ReadBucket p) h = tt
   visit_allowed (RemoveFile p) h = inr (inr h)
   visit_allowed (RemoveFolder p) h = h
+  visit_allowed v h = tt
 
   line_at : (i : Insertion) → SoundInsertion site i → refused_cause i ≡ None → IsLine site (bucket_path i.cache i.entry.key) (bucket_line i)
   unfolding bucket_line refused_cause
@@ -163,17 +157,11 @@ module _ (site : Site) (apart outside : List ℕ → Bool) where
   steps_allowed (syncing c file) step h e = some_is (Allowed site apart outside) _ step e h.1
   steps_allowed (persisting c file) step h e = some_is (Allowed site apart outside) _ step e (h.1, content_at c h.0)
   steps_allowed (linking c target) step h e = some_is (Allowed site apart outside) _ step e (h.1, content_at c h.0)
-  steps_allowed (confirming c fault) step h e = some_is (Allowed site apart outside) _ step e tt
   steps_allowed (appending i) step h e = some_is (Allowed site apart outside) _ step e (line_at i h.0 h.1)
-  steps_allowed (looking l) step h e = some_is (Allowed site apart outside) _ step e tt
-  steps_allowed (reading k) step h e = some_is (Allowed site apart outside) _ step e tt
-  steps_allowed (asking k) step h e = some_is (Allowed site apart outside) _ step e tt
-  steps_allowed (sizing t) step h e = some_is (Allowed site apart outside) _ step e tt
-  steps_allowed (opening_file x) step h e = some_is (Allowed site apart outside) _ step e tt
-  steps_allowed (hashing x file bytes) step h e = some_is (Allowed site apart outside) _ step e tt
   steps_allowed (copying from to count) step h e = some_is (Allowed site apart outside) _ step e h
   steps_allowed (walking w v todo) step h e = some_is (Allowed site apart outside) _ step e (visit_allowed v h.0)
   steps_allowed (over reply) step h e = absurd cc
+  steps_allowed s step h e = some_is (Allowed site apart outside) _ step e tt
 
   -- ---- the states after them
 

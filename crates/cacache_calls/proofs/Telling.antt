@@ -21,10 +21,9 @@ IsUtf8-number (negative (pos _)) h = elim h [ ]
 IsUtf8-number (float x) h = IsUtf8-nil
 
 whole_number : (n : Num) → IsRanged n → has_float (number n) ≡ false → IsWholeNumber n
-whole_number (unsigned n) h e = h
-whole_number (negative (negsuc n)) h e = h
 whole_number (negative (pos _)) h e = elim h [ ]
 whole_number (float x) h e = absurd cc
+whole_number n h e = h
 
 -- a number in range is JSON
 pub IsJson-number : (n : Num) → IsRanged n → IsJson (number n)

@@ -7,7 +7,7 @@ use Rattle.cacache_store.specs.{declared.store.plain.PlainFile.{PlainFile}, Plai
 use Rattle.cacache_store.specs.declared.store.step.Step.TheVariants as steps
 use Rattle.cacache_store.specs.declared.store.answer.Answer.TheVariants as answers
 use Rattle.cacache_entry.specs.Latest.{Found}
-use Rattle.cacache_calls.specs.{declared.{answers.Refusal.{Refusal}, command.{Source.{Source}, How.{How, TheVariants.{Copy, Reflink, HardLink}}, Export.{Export}, Link.{Link}}, reply.Reply.{Reply, TheVariants.{Stored, Read, LookedUp, Exists, Copied, Listed, Done, Refused}}, carried.{Lookup.{Lookup}, Content.{Content}}, target.Target.{Target}}, Answers.{file_in, got_in, bytes_in, length_in, refusal_in}, StepPaths.{content_path, bucket_path}, State.{State, looking, sizing, opening_file, hashing, over, Site, Hashing, to_verify, to_link}, Common.{ends_with, fails, refuse, go_on}, Exporting.{export_from, export_content, export, verified}, Looking.{found_in, found_for, found_content, after_bucket, no_bucket}, Linking.{link_target, with_size, after_size, commit_for, hashed_path, hashed, after_read}, Storing.{link}, Table.{wants, opening, piece}, Runs.{Moves, Runs}, Replies.{entries_shown, lookup}, Verifying.{Gives, ReadsWhole, CountsAs, VerifiesContent, Verifies, LinksWhole, UnlessRefused}, Promises.{Promises}}
+use Rattle.cacache_calls.specs.{declared.{answers.Refusal.{Refusal}, command.{Source.{Source}, How.{How, TheVariants.{Copy, Reflink, HardLink}}, Export.{Export}, Link.{Link}}, reply.Reply.{Reply, TheVariants.{Read, Copied, Refused}}, carried.{Lookup.{Lookup}, Content.{Content}}, target.Target.{Target}}, Answers.{file_in, got_in, bytes_in, length_in, refusal_in}, StepPaths.{content_path, bucket_path}, State.{State, looking, sizing, opening_file, hashing, over, Site, Hashing, to_verify, to_link}, Common.{ends_with, fails, refuse, go_on}, Exporting.{export_from, export_content, export, verified}, Looking.{found_in, found_for, found_content, after_bucket, no_bucket}, Linking.{link_target, with_size, after_size, commit_for, hashed_path, hashed, after_read}, Storing.{link}, Table.{wants, opening, piece}, Runs.{Moves, Runs}, Replies.{entries_shown, lookup}, Verifying.{Gives, ReadsWhole, CountsAs, VerifiesContent, Verifies, LinksWhole, UnlessRefused}, Promises.{Promises}}
 use Rattle.cacache_calls.proofs.{Promises.{runs_keep}, Replies.{over_run}}
 use Rattle.cacache_calls.specs.declared.answers.Refusal.TheVariants as refusals
 use Rattle.cacache_calls.specs.declared.command.Command.TheVariants as commands
@@ -17,26 +17,14 @@ use Rattle.cacache_calls.specs.declared.carried.Aim.TheVariants as aims
 -- what holds of every reply except a refusal
 unless : (P : Type 0) (r : Reply) → (((e : Error) → r ≡ Refused e → ⊥) → P) → UnlessRefused P r
 unless P (Refused e) k = tt
-unless P (Stored i) k = k (λ e is. absurd cc)
-unless P (Read bytes) k = k (λ e is. absurd cc)
-unless P (LookedUp found) k = k (λ e is. absurd cc)
-unless P (Exists there) k = k (λ e is. absurd cc)
-unless P (Copied n) k = k (λ e is. absurd cc)
-unless P (Listed items) k = k (λ e is. absurd cc)
-unless P Done k = k (λ e is. absurd cc)
+unless P r k = k (λ e is. absurd cc)
 
 -- a copy returns the verified count
 counted : (bytes : List ℕ) (how : How) (from to : List ℕ) (r : Reply) → Promises (export_from how from to (Some (length bytes))) r → CountsAs bytes r
 counted bytes Copy from to (Copied n) h = h (length bytes) refl
 counted bytes Reflink from to (Copied n) h = absurd cc
 counted bytes HardLink from to (Copied n) h = absurd cc
-counted bytes how from to (Refused e) h = tt
-counted bytes how from to (Stored i) h = tt
-counted bytes how from to (Read b) h = tt
-counted bytes how from to (LookedUp found) h = tt
-counted bytes how from to (Exists there) h = tt
-counted bytes how from to (Listed items) h = tt
-counted bytes how from to Done h = tt
+counted bytes how from to r h = tt
 
 module _ (r : Reply) (good : (e : Error) → r ≡ Refused e → ⊥) where
   -- a call that ended with an error was refused
@@ -112,8 +100,7 @@ module _ (r : Reply) (good : (e : Error) → r ≡ Refused e → ⊥) where
     unfolding found_in
     by_bucket (Ok bytes) moves run = let x = by_found (found_in key bytes) moves run in (x.0, ap Ok x.1, x.2)
     by_bucket (Err (refusals.Fault faults.NotFound)) moves run = absurd (over_refused _ moves run)
-    by_bucket (Err (refusals.Fault fault)) moves run = absurd (over_refused _ moves run)
-    by_bucket (Err refusals.Memory) moves run = absurd (over_refused _ moves run)
+    by_bucket a moves run = absurd (over_refused _ moves run)
 
     by_key : (moves : Moves) → Runs (looking look) moves r → Verifies cache (sources.Key key) moves r
     by_key [] run = absurd (no_moves _ (steps.ReadAll (bucket_path cache key)) refl run)

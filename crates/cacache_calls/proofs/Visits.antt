@@ -33,10 +33,9 @@ module _ (V : Visit → Type 0) (level : ℕ) (p : List ℕ) where
 
   each_kind : (b : Bool) (q : List ℕ) (kind : Kind) → V (Enter q (level + 1)) → V (cond b (RemoveFile q) (ReadBucket q)) → EachVisit V (task_for_name b level q kind ∷ [])
   each_kind b q kinds.Folder h k = one_of (nat_lt level 16) (Make (Enter q (level + 1))) (Stumble faults.TooDeep q) (h, tt) tt
-  each_kind false q kinds.File h k = (k, tt)
   each_kind false q kinds.Link h k = (k, tt)
   each_kind true q kinds.File h k = one_of (level == 0) (Stumble faults.NotADirectory q) (Make (RemoveFile q)) tt (k, tt)
-  each_kind true q kinds.Link h k = (k, tt)
+  each_kind b q kind h k = (k, tt)
 
   pub each_name : (b : Bool) (names : List Name) → All (MayMeet b) names → EachVisit V (tasks_of b level p names)
   each_name b [] h = tt

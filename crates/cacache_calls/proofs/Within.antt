@@ -4,7 +4,7 @@ use Rattle.cacache_core.specs.{declared.errors.{Error.TheVariants.{IntegrityErro
 use Rattle.cacache_store.specs.{declared.store.{answer.Name.{Name}, plain.PlainFile.{PlainFile}}, Plain.{PlainStep, PlainAnswer}}
 use Rattle.cacache_store.specs.declared.store.step.Step.TheVariants as steps
 use Rattle.cacache_entry.specs.Latest.{Found}
-use Rattle.cacache_calls.specs.{declared.{command.{Command.{Command}, Export.{Export}, How.{How, TheVariants.{Copy, Reflink, HardLink}}}, reply.Reply.{Reply}, carried.{Commit.{Commit}, Aim.{Aim}, Lookup.{Lookup}, Content.{Content}}, visit.Visit.{Visit}}, Common.{ends_with, errand_step}, Exporting.{export_from, export_content, export}, Inserting.{insertion, deletion, unless_refused, refused_cause, bucket_line}, Licence.{Licence, May, allows, as_far, KeepsTo, AllMay}, Linking.{after_read, hashed_path}, Looking.{found_for, found_content}, Runs.{Moves, Runs, Goes}, State.{State, doing, creating, writing, syncing, persisting, linking, confirming, appending, looking, reading, asking, sizing, opening_file, hashing, copying, walking, over, Site, Insertion, Hashing, to_verify, to_link}, StepPaths.{temp_path, bucket_path, content_path}, Storing.{placed}, Table.{piece, wants, after, opening}, Walking.{EachVisit, visit_step}}
+use Rattle.cacache_calls.specs.{declared.{command.{Command.{Command}, Export.{Export}, How.{How, TheVariants.{Copy}}}, reply.Reply.{Reply}, carried.{Commit.{Commit}, Aim.{Aim}, Lookup.{Lookup}, Content.{Content}}, visit.Visit.{Visit}}, Common.{ends_with, errand_step}, Exporting.{export_from, export_content, export}, Inserting.{insertion, deletion, unless_refused, refused_cause, bucket_line}, Licence.{Licence, May, allows, as_far, KeepsTo, AllMay}, Linking.{after_read, hashed_path}, Looking.{found_for, found_content}, Runs.{Moves, Runs, Goes}, State.{State, doing, creating, writing, syncing, persisting, linking, confirming, appending, looking, reading, asking, sizing, opening_file, hashing, copying, walking, over, Site, Insertion, Hashing, to_verify, to_link}, StepPaths.{temp_path, bucket_path, content_path}, Storing.{placed}, Table.{piece, wants, after, opening}, Walking.{EachVisit, visit_step}}
 use Rattle.cacache_calls.proofs.{Branches.{cond_leads}, Closed.{AnyAnswer, ClosedCommit, ClosedWalk, Closed, kept_always}, Leading.{inserts, places}, Sound.{some_is}, Visits.{MayMeet}}
 use Rattle.cacache_calls.specs.declared.command.Command.TheVariants as commands
 use Rattle.cacache_calls.specs.declared.command.Source.TheVariants as sources
@@ -102,8 +102,7 @@ module _ (l : Licence) where
 
   exports_from : May l.exports → (how : How) (from to : List ℕ) (count : Option ℕ) → Within (export_from how from to count)
   exports_from h Copy from to count = h
-  exports_from h Reflink from to count = (h, tt)
-  exports_from h HardLink from to count = (h, tt)
+  exports_from h how from to count = (h, tt)
 
   exports : May l.exports → (k : Content) (e : Export) → Within (export k e)
   exports h k e = cond_leads Within e.checked (opening_file (to_verify k e)) (export_content k e None) (λ _. h) (λ _. exports_from h e.how (content_path k.cache k.integrity) e.to None)
@@ -116,13 +115,11 @@ module _ (l : Licence) where
       (λ _. exports_from h e.how (content_path k.cache k.integrity) e.to (Some (length bytes))) (λ _. tt)
 
   founds : (k : Lookup) (aim : Aim) → Aims aim → (found : Option Found) → Within (found_for k aim found)
-  founds k aims.Report h found = tt
   founds k aims.Read h None = tt
-  founds k aims.Read h (Some f) = tt
-  founds k (aims.Export e) h None = tt
   founds k (aims.Export e) h (Some f) = exports h (found_content k f) e
   founds k aims.Remove h None = (h, tt)
   founds k aims.Remove h (Some f) = (h, (h, tt))
+  founds k aim h found = tt
 
   -- ---- after a step
 
@@ -185,10 +182,6 @@ module _ (l : Licence) where
   begins_within site (commands.Link k) e = may_add l.links e
   begins_within site (commands.Insert i) e = inserted (may_insert e) (insertion site.cache i)
   begins_within site (commands.Delete d) e = inserted (may_insert e) (deletion site.cache d)
-  begins_within site (commands.Find key) e = tt
-  begins_within site (commands.Get key) e = tt
-  begins_within site (commands.GetHash i) e = tt
-  begins_within site (commands.Exists i) e = tt
   begins_within site commands.Ls e = let h = (got l.lists true e).0 in (h, (h, tt))
   begins_within site (commands.Export (sources.Key key) x) e = (got l.exports true e).0
   begins_within site (commands.Export (sources.Hash i) x) e = exports (got l.exports true e).0 (record { cache = site.cache; integrity = i }) x
@@ -197,6 +190,7 @@ module _ (l : Licence) where
   begins_within site commands.Clear e =
       let k = got l.lists (cond l.removes true false) e in
       ((k.0, (got l.removes true k.1).0), (k.0, tt))
+  begins_within site command e = tt
 
   -- moves lead from such a state to another
   pub goes_within : (s end : State) (moves : Moves) → Within s → Goes s moves end → Within end
