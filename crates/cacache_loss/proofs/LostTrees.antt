@@ -3,9 +3,9 @@ use Rattle.std.proofs.{Common.{◌≡◌, inl, inr, Bool, true, false, cond, Lis
 use Rattle.std.specs.Prelude.{ℕ, IfSome, not, ◌&&◌, unwrap_or}
 use Rattle.cacache_core.specs.PathNames.{Names, names_of}
 use Rattle.cacache_store.specs.{declared.store.step.Step.TheVariants.{SyncTemp, SyncFile, SyncDir}, Plain.{PlainStep, PlainAnswer}}
-use Rattle.cacache_disk.specs.{declared.node.Node.{Node, TheVariants.{Folder, File, Link}}, Rooted.{is_folder, StandsIn, AreProper, Rooted}, Tree.{Tree, look, bytes_of}}
+use Rattle.cacache_disk.specs.{declared.node.Node.{Node, TheVariants.{Folder, File}}, Rooted.{is_folder, StandsIn, AreProper, Rooted}, Tree.{Tree, look, bytes_of}}
 use Rattle.cacache_disk.proofs.Standing.{upper_folder}
-use Rattle.cacache_value.specs.{Kinds.{PathKind, Content, Bucket, Temporary, Way, Stray, Elsewhere, path_kind}, Placed.{MayStand}}
+use Rattle.cacache_value.specs.{Kinds.{PathKind, Content, path_kind}, Placed.{MayStand}}
 use Rattle.cacache_loss.specs.{Fixing.{Fixed, Fixing, Place, all_fixed, file_synced, fixed_after, folder_synced, is_child_of, is_synced, place_now, renamed, synced, temp_synced}, Loss.{Loss, bytes_left, lead_folders, left_at, lost_at, node_left, stays}, Moments.{Moment, lost_then, next}, LostTrees.{FixedTreesStay, LossesLeaveTrees, MomentsFollowTrees, MovesKeepMoments, OfCache, OpeningsStandWell, StoodWell, Suits}}
 use Rattle.cacache_loss.proofs.{KeptPaths.{cache_next, none_cond}, SyncedFolders.{left_firm, top_stays}}
 
@@ -52,17 +52,11 @@ moves_keep_moments home w (m ∷ moves) of_cache stood trace =
 
 file_may : (home : Option Names) (old new : List ℕ) (k : PathKind) → MayStand home (Some (File old)) k → MayStand home (Some (File new)) k
 file_may home old new Content may = may
-file_may home old new Bucket may = may
-file_may home old new Temporary may = may
-file_may home old new Way may = may
-file_may home old new Stray may = may
-file_may home old new Elsewhere may = may
+file_may home old new k may = may
 
 left_suits : (home : Option Names) (q : Names) (f : Fixing) (tail : List ℕ) (here : Option Node) → Suits home q here → Suits home q (node_left f tail here)
-left_suits home q f tail None s = s
-left_suits home q f tail (Some Folder) s = s
 left_suits home q f tail (Some (File bytes)) s = (file_may home bytes (bytes_left f bytes tail) (path_kind home q) s.0, s.1)
-left_suits home q f tail (Some (Link target)) s = s
+left_suits home q f tail here s = s
 
 place_suits : (home : Option Names) (q : Names) (b : Bool) (o : Option Place) (now : Place) → Suits home q now.node → Stood home q o
     → Suits home q (cond b (unwrap_or o now) now).node
@@ -85,10 +79,8 @@ leads_above left above (n ∷ path) name e =
     (rw (both.0, further.0) refl, ap (λ q. is_folder (left q).node) (sym (append_assoc above (n ∷ []) path)) ∙ further.1)
 
 folder_left : (f : Fixing) (tail : List ℕ) (here : Option Node) → is_folder here ≡ true → node_left f tail here ≡ Some Folder
-folder_left f tail None e = absurd cc
 folder_left f tail (Some Folder) e = refl
-folder_left f tail (Some (File bytes)) e = absurd cc
-folder_left f tail (Some (Link target)) e = absurd cc
+folder_left f tail here e = absurd cc
 
 whatever : {A : Type 0} (P : Type 0) (o : Option A) → P → IfSome o (λ a. P)
 whatever P None p = tt
@@ -136,8 +128,7 @@ openings_stand_well home t q = tt
 same_left : (t : Tree) (q : Names) (tail : List ℕ) (here : Option Node) → node_left (synced (bytes_of (look t q))) tail here ≡ here
 same_left t q tail None = refl
 same_left t q tail (Some Folder) = refl
-same_left t q tail (Some (File bytes)) = refl
-same_left t q tail (Some (Link target)) = refl
+same_left t q tail here = refl
 
 module _ (home : Option Names) (t : Tree) (loss : Loss) (rooted : Rooted t) where
   abbrev fixed_left : Names → Place

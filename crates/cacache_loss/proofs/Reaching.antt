@@ -87,5 +87,4 @@ moves_reached t (Persist f p) Done q apart = arrives (names_of f.path) (names_of
     arrives (Ok n) (Ok m) apart = (or_parts (same_path q m) false (or_parts (same_path q n) (same_path q m || false) apart).1).0
     arrives (Ok n) (Err f) apart = refl
     arrives (Err f) s apart = refl
-moves_reached t (Persist f p) answer q apart = refl
 moves_reached t step answer q apart = refl

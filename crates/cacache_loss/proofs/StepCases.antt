@@ -72,10 +72,9 @@ persist_plain t f p =
 
 pub persist_case : (t : Tree) (f : PlainTemp) (p : List ℕ) (luck : Luck) → PersistCase t f p (apply t (Persist f p) luck)
 unfolding apply
-persist_case t f p Plain = persist_plain t f p
-persist_case t f p (Take most) = persist_plain t f p
 persist_case t f p (Fail fault None) = fails_case (PersistCase t f p) t t (fault_told (plain t (Persist f p) None).0) fault (λ e. refused e refl) (λ e. refused e refl)
 persist_case t f p (Fail fault (Some n)) = fails_case (PersistCase t f p) t t (fault_told (plain t (Persist f p) None).0) fault (λ e. refused e refl) (λ e. refused e refl)
+persist_case t f p luck = persist_plain t f p
 
 -- ---- what becomes of a bucket
 
@@ -90,21 +89,19 @@ pub data AppendCase (t : Tree) (p bytes : List ℕ) (o : PlainAnswer × Tree) : 
 append_reached : (t : Tree) (p bytes : List ℕ) (names : Names) (luck : Luck) → names_of p ≡ Ok names → Reaches names (writable t p)
     → AppendCase t p bytes (apply t (Append p bytes) luck)
 unfolding apply
-append_reached t p bytes names Plain is (found w) = rw w (took names _ is refl)
-append_reached t p bytes names (Take most) is (found w) = rw w (took names _ is refl)
 append_reached t p bytes names (Fail fault None) is (found w) = rw w (unsent _ refl)
 append_reached t p bytes names (Fail fault (Some n)) is (found w) = rw w (torn names _ _ is refl)
 append_reached t p bytes names Plain is (missing w) = rw w (unsent _ refl)
 append_reached t p bytes names (Take most) is (missing w) = rw w (unsent _ refl)
 append_reached t p bytes names (Fail fault None) is (missing w) = rw w (unsent _ refl)
 append_reached t p bytes names (Fail fault (Some n)) is (missing w) = rw w (unsent _ refl)
+append_reached t p bytes names luck is (found w) = rw w (took names _ is refl)
 
 append_nowhere : (t : Tree) (p bytes : List ℕ) (fault : Fault) (luck : Luck) → writable t p ≡ Err fault → AppendCase t p bytes (apply t (Append p bytes) luck)
 unfolding apply
 append_nowhere t p bytes fault Plain w = rw w (unsent _ refl)
-append_nowhere t p bytes fault (Take most) w = rw w (unsent _ refl)
 append_nowhere t p bytes fault (Fail f None) w = rw w (unsent _ refl)
-append_nowhere t p bytes fault (Fail f (Some n)) w = rw w (unsent _ refl)
+append_nowhere t p bytes fault luck w = rw w (unsent _ refl)
 
 append_at : (home : Option Names) (t : Tree) (p bytes : List ℕ) (luck : Luck) (r : Result Names Fault) → Placed home t → names_of p ≡ r
     → IfOk r (λ n. path_kind home n ≡ Bucket) → AppendCase t p bytes (apply t (Append p bytes) luck)

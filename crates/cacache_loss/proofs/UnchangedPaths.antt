@@ -2,22 +2,19 @@
 use Rattle.std.{proofs.{Common.{◌≡◌, ℕ, true, false, cond, List, Option, None, Some, Ok, Err, refl, sym, ap, ◌∙◌}, lemmas.Bool.{false_from_ne_true}}, specs.Prelude.{Result, IfOk}}
 use Rattle.cacache_core.specs.{declared.errors.Fault.{Fault}, PathNames.{Names, names_of}}
 use Rattle.cacache_store.specs.{declared.store.{step.Step.TheVariants.{CreateTemp, Write, Persist, Append, Copy}, answer.Answer.TheVariants.{Done}}, Plain.{PlainStep, PlainAnswer}}
-use Rattle.cacache_disk.{specs.{declared.node.Node.{Node, TheVariants.{Folder, File, Link}}, Tree.{Tree, look, same_path}}, proofs.Maps.{same_path-true}}
+use Rattle.cacache_disk.{specs.{declared.node.Node.{Node, TheVariants.{File, Link}}, Tree.{Tree, look, same_path}}, proofs.Maps.{same_path-true}}
 use Rattle.cacache_value.specs.Kinds.{PathKind, path_kind}
 pub use Rattle.cacache_value.proofs.KindsApart.{bytes_same}
 use Rattle.cacache_loss.specs.{Fixing.{Fixed, Fixing, between, file_after, is_at, moved_fixing, moved_to, moves_file, name_after, rewrites_at, same_node, same_thing, writes_at}, Loss.{stays}, CalmMoves.{is_calm}}
 
 node_same : (here : Option Node) → same_node here here ≡ true
-node_same None = refl
-node_same (Some Folder) = refl
 node_same (Some (File bytes)) = bytes_same bytes
 node_same (Some (Link target)) = bytes_same target
+node_same here = refl
 
 thing_same : (here : Option Node) → same_thing here here ≡ true
-thing_same None = refl
-thing_same (Some Folder) = refl
-thing_same (Some (File bytes)) = refl
 thing_same (Some (Link target)) = bytes_same target
+thing_same here = refl
 
 pub not_moved : (m : Option (Names × Names)) (fixed : Fixed) (q : Names) (f : Fixing) → moved_to m q ≡ false → moved_fixing m fixed q f ≡ f
 not_moved None fixed q f e = refl
@@ -65,7 +62,6 @@ between_false (Err fault) to q e = refl
 
 pub moved_false : (step : PlainStep) (answer : PlainAnswer) (q : Names) → Misses q step → moved_to (moves_file step answer) q ≡ false
 moved_false (Persist f p) Done q e = between_false (names_of f.path) (names_of p) q e.1
-moved_false (Persist f p) answer q e = refl
 moved_false step answer q e = refl
 
 pub at_names : (p : List ℕ) (n q : Names) → is_at (names_of p) q ≡ false → names_of p ≡ Ok n → same_path q n ≡ false
