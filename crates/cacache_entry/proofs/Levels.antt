@@ -165,13 +165,12 @@ placed p Token.begin_object b more total same k h = allowed (may_begin p) Token.
 placed p Token.end_object b more total same k h = allowed (may_close p) Token.end_object more after_value total same k h
 placed p Token.begin_array b more total same k h = allowed (may_begin p) Token.begin_array more fresh total same k h
 placed p Token.end_array b more total same k h = allowed (may_close p) Token.end_array more after_value total same k h
-placed p (Token.key s) b more total same k h = absurd (true≢false (sym h))
 placed p (Token.string s) true more total same k h = allowed (may_begin p) (Token.key s) more after_key total same k h
 placed p (Token.string s) false more total same k h = allowed (may_begin p) (Token.string s) more after_value total same k h
 placed p (Token.number s) b more total same k h = allowed (may_begin p) (Token.number s) more after_value total same k h
 placed p (Token.boolean c) b more total same k h = allowed (may_begin p) (Token.boolean c) more after_value total same k h
 placed p Token.null b more total same k h = allowed (may_begin p) Token.null more after_value total same k h
-placed p Token.bad b more total same k h = absurd (true≢false (sym h))
+placed p t b more total same k h = absurd (true≢false (sym h))
 
 -- and so does punctuating
 pub level-punctuate : (p : Place) (ls : List Lexeme) (k : ℕ) → are_fine (punctuate p ls) ≡ true → after_tokens k (punctuate p ls) ≡ after_lexemes k ls
@@ -201,12 +200,9 @@ are_fine-append (t ∷ ts) us h g = let p = and_parts (is_fine t) (are_fine ts) 
 
 mutual
   pub are_fine-json_tokens : (j : json.Json) → are_fine (json_tokens j) ≡ true
-  are_fine-json_tokens json.null = refl
-  are_fine-json_tokens (json.boolean b) = refl
-  are_fine-json_tokens (json.number s) = refl
-  are_fine-json_tokens (json.string s) = refl
   are_fine-json_tokens (json.array js) = are_fine-items_tokens js
   are_fine-json_tokens (json.object ms) = are_fine-members_tokens ms
+  are_fine-json_tokens j = refl
 
   are_fine-items_tokens : (js : json.Items) → are_fine (items_tokens js) ≡ true
   are_fine-items_tokens json.no_items = refl
@@ -222,12 +218,9 @@ closed k rest = let e : suc k - 1 ≡ k = omega arith in ap (λ i. after_tokens 
 mutual
   -- after a value's tokens, the same brackets are open as before
   balanced : (j : json.Json) (k : ℕ) (rest : List Token) → after_tokens k (json_tokens j ++ rest) ≡ after_tokens k rest
-  balanced json.null k rest = refl
-  balanced (json.boolean b) k rest = refl
-  balanced (json.number s) k rest = refl
-  balanced (json.string s) k rest = refl
   balanced (json.array js) k rest = items_close js k rest
   balanced (json.object ms) k rest = members_close ms k rest
+  balanced j k rest = refl
 
   items_close : (js : json.Items) (k : ℕ) (rest : List Token) → after_tokens (suc k) (items_tokens js ++ rest) ≡ after_tokens k rest
   items_close json.no_items k rest = closed k rest

@@ -1,8 +1,8 @@
 -- An entry's text has no control character; a text without those, quotes and backslashes needs no escapes.
-use Rattle.std.proofs.{Common.{◌≡◌, ℕ, suc, ◌/◌, ◌%◌, ◌<◌, ◌≤◌, pos, negsuc, List, [], ◌∷◌, ◌++◌, Bool, true, false, not, ◌&&◌, ◌||◌, ◌==◌, cond, decimal, refl, ap, ap₂, arith, inl, inr, ◌⊎◌}, lemmas.{Bool.{ne_eqb, and_parts, and_from, or_cases, le-leb, leb-true, eqb-true, ltb-true, ltb-false}, Fmt.{decimal_is_IsNumeral}}}
+use Rattle.std.proofs.{Common.{◌≡◌, ℕ, suc, ◌/◌, ◌%◌, ◌<◌, ◌≤◌, negsuc, List, [], ◌∷◌, ◌++◌, Bool, true, false, not, ◌&&◌, ◌||◌, ◌==◌, cond, decimal, refl, ap, ap₂, arith, inl, inr, ◌⊎◌}, lemmas.{Bool.{ne_eqb, and_parts, and_from, or_cases, le-leb, leb-true, eqb-true, ltb-true, ltb-false}, Fmt.{decimal_is_IsNumeral}}}
 use Rattle.std.specs.{Prelude.{nat_lt, nat_le}, Char.{digit_char, digit_value}, Str.Parse.{AllDigits}}
 use Rattle.json.{specs.{Token.{Token}, Print.{token_text, escape_letter, escape_byte, escape, quoted}}, proofs.Printed.Strings.{escape_byte_plain}}
-use Rattle.serde_json.specs.{Data.{Num, unsigned, negative, float, Data, null, boolean, number, string, array, object, Items, no_items, item, Members, no_members, member}, Written.{number_text, comma_if, compact_text, items_text, members_text}}
+use Rattle.serde_json.specs.{Data.{Num, unsigned, negative, Data, null, boolean, number, string, array, object, Items, no_items, item, Members, no_members, member}, Written.{number_text, comma_if, compact_text, items_text, members_text}}
 use Rattle.cacache_entry.{specs.FittingEntries.{IsWholeNumber, IsWhole, ItemsAreWhole, MembersAreWhole}, proofs.Cuts.{lacks}}
 
 -- no byte is below 32
@@ -66,9 +66,8 @@ plain-digits (d ∷ ds) h = let is : digit_value d < 10 = h.0 in more d ds (grin
 
 plain-number_text : (n : Num) → IsWholeNumber n → plain (number_text n) ≡ true
 plain-number_text (unsigned n) h = plain-digits (decimal n) (decimal_is_IsNumeral n h).0.1
-plain-number_text (negative (pos n)) h = absurd h
 plain-number_text (negative (negsuc n)) h = plain-digits (decimal (suc n)) (decimal_is_IsNumeral (suc n) (omega arith)).0.1
-plain-number_text (float x) h = absurd h
+plain-number_text n h = absurd h
 
 plain-comma_if : (later : Bool) → plain (comma_if later) ≡ true
 plain-comma_if true = refl

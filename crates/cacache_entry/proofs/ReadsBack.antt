@@ -1,11 +1,11 @@
 -- An entry that fits reads back from its own text.
-use Rattle.std.proofs.{Common.{◌≡◌, ℕ, suc, ◌^◌, ◌<◌, ◌≤◌, max, pos, negsuc, List, [], ◌∷◌, false, Option, Some, None, option_map, option_and_then, Less, Greater, nat_cmp, codes, refl, sym, ap, ap₂, subst, inl, inr, ◌⊎◌, ◌∙◌, arith, append-nil, lt-ltb}, lemmas.{Cmp.{nat_list_cmp_total}, Bool.{cases_eq}}}
+use Rattle.std.proofs.{Common.{◌≡◌, ℕ, suc, ◌^◌, ◌<◌, ◌≤◌, max, negsuc, List, [], ◌∷◌, false, Option, Some, None, option_map, option_and_then, Less, Greater, nat_cmp, codes, refl, sym, ap, ap₂, subst, inl, inr, ◌⊎◌, ◌∙◌, arith, append-nil, lt-ltb}, lemmas.{Cmp.{nat_list_cmp_total}, Bool.{cases_eq}}}
 use Rattle.std.specs.{Cmp.Lexicographic.{slice_cmp}, Ordering.{ordering_reverse}, Fmt.{signed_decimal, digits}}
 use Rattle.json.specs.{Print.{IsNumber}, Token.{Token}, Lex.{tokens}}
 use Rattle.json.proofs.{OnLiterals.{json_on_literals}, Printed.{Tokens.{tokens-print}, Trees.{value-json_tokens, ArePrintable-json_tokens}, Decimals.{IsNumber-decimal, IsNumber-signed_decimal}}}
 use Rattle.json.specs.Json as json
 use Rattle.json.specs.Tree as tree
-use Rattle.serde_json.specs.{Data.{Num, unsigned, negative, float, Data, null, boolean, number, string, array, object, Items, no_items, item, Members, no_members, member, put, depth, items_depth, members_depth}, Find.{is_float}, Read.{number_of, of_json, of_items, of_members, read, max_depth}, Written.{number_text, outline, items_outline, members_outline, compact_text, has_float, items_have_float, members_have_float}}
+use Rattle.serde_json.specs.{Data.{Num, unsigned, negative, float, Data, number, string, array, object, Items, no_items, item, Members, no_members, member, put, depth, items_depth, members_depth}, Find.{is_float}, Read.{number_of, of_json, of_items, of_members, read, max_depth}, Written.{number_text, outline, items_outline, members_outline, compact_text, has_float, items_have_float, members_have_float}}
 use Rattle.serde_json.proofs.{Numbers.{number_of-decimal, number_of-negative}, Texts.{print-outline}}
 use Rattle.cacache_entry.specs.{Entry.{Entry, text_or_null, byte_items, bytes_or_null, members_of, text_of}, EntryTexts.{text_or_none, bytes_of, bytes_or_none, entry_read, read_entry}, FittingEntries.{EachIsByte, AreBytes, AreAbove, IsOrdered, ItemsAreOrdered, MembersAreOrdered, IsWholeNumber, IsWhole, ItemsAreWhole, MembersAreWhole, IsEntry, IsWritable}}
 
@@ -13,12 +13,9 @@ use Rattle.cacache_entry.specs.{Entry.{Entry, text_or_null, byte_items, bytes_or
 
 mutual
   depth-outline : (d : Data) → tree.depth (outline d) ≡ depth d
-  depth-outline null = refl
-  depth-outline (boolean b) = refl
-  depth-outline (number n) = refl
-  depth-outline (string s) = refl
   depth-outline (array ds) = ap suc (items_depth-outline ds)
   depth-outline (object ms) = ap suc (members_depth-outline ms)
+  depth-outline d = refl
 
   items_depth-outline : (ds : Items) → tree.items_depth (items_outline ds) ≡ items_depth ds
   items_depth-outline no_items = refl
@@ -40,18 +37,15 @@ HasNegative n h (inr e) = IsNumber-signed_decimal (negsuc n) (omega arith)
 
 HasNumber : (n : Num) → IsWholeNumber n → tree.HasNumbers (json.number (number_text n))
 HasNumber (unsigned n) h = IsNumber-decimal n h
-HasNumber (negative (pos n)) h = absurd h
 HasNumber (negative (negsuc n)) h = HasNegative n h (cases_eq n 9223372036854775807)
-HasNumber (float x) h = absurd h
+HasNumber n h = absurd h
 
 mutual
   HasNumbers-outline : (d : Data) → IsWhole d → tree.HasNumbers (outline d)
-  HasNumbers-outline null h = tt
-  HasNumbers-outline (boolean b) h = tt
   HasNumbers-outline (number n) h = HasNumber n h
-  HasNumbers-outline (string s) h = tt
   HasNumbers-outline (array ds) h = ItemsHaveNumbers-outline ds h
   HasNumbers-outline (object ms) h = MembersHaveNumbers-outline ms h
+  HasNumbers-outline d h = tt
 
   ItemsHaveNumbers-outline : (ds : Items) → ItemsAreWhole ds → tree.ItemsHaveNumbers (items_outline ds)
   ItemsHaveNumbers-outline no_items h = tt
@@ -75,9 +69,8 @@ read-compact_text d numbers shallow =
 
 number_of-text : (n : Num) → IsWholeNumber n → number_of (number_text n) ≡ Some n
 number_of-text (unsigned n) h = number_of-decimal n h
-number_of-text (negative (pos n)) h = absurd h
 number_of-text (negative (negsuc n)) h = number_of-negative n h
-number_of-text (float x) h = absurd h
+number_of-text n h = absurd h
 
 abbrev join : Members → Members → Members
 join no_members ns = ns
@@ -123,12 +116,10 @@ put_last k d (member l e ms) h = rw (above_from_below k l h.0) (ap (member l e) 
 
 mutual
   pub of_json-outline : (d : Data) → IsWhole d → IsOrdered d → of_json (outline d) ≡ Some d
-  of_json-outline null w o = refl
-  of_json-outline (boolean b) w o = refl
   of_json-outline (number n) w o = ap (option_map number) (number_of-text n w)
-  of_json-outline (string s) w o = refl
   of_json-outline (array ds) w o = ap (option_map array) (of_items-outline ds w o)
   of_json-outline (object ms) w o = ap (option_map object) (of_members-outline ms no_members w o (Precede-nil ms))
+  of_json-outline d w o = refl
 
   of_items-outline : (ds : Items) → ItemsAreWhole ds → ItemsAreOrdered ds → of_items (items_outline ds) ≡ Some ds
   of_items-outline no_items w o = refl
@@ -155,18 +146,15 @@ bytes_or_none-bytes_or_null None h = refl
 bytes_or_none-bytes_or_null (Some bs) h = ap (option_map Some) (bytes_of-byte_numbers bs h)
 
 is_float-IsWhole : (n : Num) → IsWholeNumber n → is_float n ≡ false
-is_float-IsWhole (unsigned n) h = refl
-is_float-IsWhole (negative z) h = refl
 is_float-IsWhole (float x) h = absurd h
+is_float-IsWhole n h = refl
 
 mutual
   pub has_float-IsWhole : (d : Data) → IsWhole d → has_float d ≡ false
-  has_float-IsWhole null h = refl
-  has_float-IsWhole (boolean b) h = refl
   has_float-IsWhole (number n) h = is_float-IsWhole n h
-  has_float-IsWhole (string s) h = refl
   has_float-IsWhole (array ds) h = items_have_float-AreWhole ds h
   has_float-IsWhole (object ms) h = members_have_float-AreWhole ms h
+  has_float-IsWhole d h = refl
 
   items_have_float-AreWhole : (ds : Items) → ItemsAreWhole ds → items_have_float ds ≡ false
   items_have_float-AreWhole no_items h = refl

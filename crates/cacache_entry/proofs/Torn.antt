@@ -1,10 +1,10 @@
 -- A proper beginning of an object's text reads as nothing.
-use Rattle.std.proofs.{Common.{◌≡◌, ℕ, zero, suc, ◌/◌, ◌%◌, ◌<◌, ◌≤◌, pos, negsuc, Bool, true, false, cond, List, [], ◌∷◌, ◌++◌, Option, Some, None, length, take, decimal, refl, sym, ap, ap₂, ◌∙◌, subst, arith, append-nil, inl, inr, ◌⊎◌}, lemmas.{Bool.{ne_eqb, ltb-true, true≢false}, Fmt.{decimal_is_IsNumeral}}}
+use Rattle.std.proofs.{Common.{◌≡◌, ℕ, zero, suc, ◌/◌, ◌%◌, ◌<◌, ◌≤◌, negsuc, Bool, true, false, cond, List, [], ◌∷◌, ◌++◌, Option, Some, None, length, take, decimal, refl, sym, ap, ap₂, ◌∙◌, subst, arith, append-nil, inl, inr, ◌⊎◌}, lemmas.{Bool.{ne_eqb, ltb-true, true≢false}, Fmt.{decimal_is_IsNumeral}}}
 use Rattle.std.specs.{Prelude.{⊤, nat_lt}, Char.{digit_char, digit_value}, Str.Parse.{AllDigits}}
 use Rattle.json.specs.{Token.{Token}, Word.{is_operator, is_space}, Lex.{Class, operator, space, other, class, Mode, between, in_word, in_string, tokens}, Print.{token_text, escape_letter, escape_byte, escape, quoted}, Tree.{json_tokens}}
 use Rattle.json.proofs.{OnLiterals.{json_on_literals}, Unique.Spelling.{value-json_tokens_back}}
 use Rattle.json.specs.Json as json
-use Rattle.serde_json.specs.{Data.{Num, unsigned, negative, float, Data, null, boolean, number, string, array, object, Items, no_items, item, Members, no_members, member}, Read.{read, max_depth}, Written.{number_text, comma_if, compact_text, items_text, members_text}}
+use Rattle.serde_json.specs.{Data.{Num, unsigned, negative, Data, null, boolean, number, string, array, object, Items, no_items, item, Members, no_members, member}, Read.{read, max_depth}, Written.{number_text, comma_if, compact_text, items_text, members_text}}
 use Rattle.cacache_entry.specs.FittingEntries.{IsWholeNumber, IsWhole, ItemsAreWhole, MembersAreWhole}
 use Rattle.cacache_entry.proofs.{ReadsBack.{from_grammar}, Levels.{next, after_byte, level, mode, level-value}}
 
@@ -147,12 +147,11 @@ Goes-digits k m (d ∷ ds) some r h =
 
 Goes-number : (k : ℕ) (n : Num) → 1 ≤ k → IsWholeNumber n → Goes k between (number_text n)
 Goes-number k (unsigned n) some h = Goes-digits k between (decimal n) some (inl refl) (decimal_is_IsNumeral n h).0.1
-Goes-number k (negative (pos n)) some h = absurd h
 Goes-number k (negative (negsuc n)) some h =
     let rest = Goes-digits k in_word (decimal (suc n)) some (inr refl) (decimal_is_IsNumeral (suc n) (omega arith)).0.1 in
     let one : Leads k between (45 ∷ []) k in_word = record { stays = (some, tt); level = refl; mode = refl } in
     (rest.0, rest.1, then k k k between in_word rest.0 (45 ∷ []) (decimal (suc n)) one rest.2)
-Goes-number k (float x) some h = absurd h
+Goes-number k n some h = absurd h
 
 Goes-boolean : (k : ℕ) (b : Bool) → 1 ≤ k → Goes k between (token_text (Token.boolean b))
 Goes-boolean k true some = (in_word, inr refl, record { stays = (some, (some, (some, (some, tt)))); level = refl; mode = refl })
@@ -205,11 +204,10 @@ mutual
 
 -- a text that leaves a bracket open reads as nothing
 refused : (t : List ℕ) (o : Option (json.Json × List Token)) → json.value max_depth (tokens t) ≡ o → 1 ≤ level 0 between t → from_grammar o ≡ None
-refused t None e h = refl
 refused t (Some (j, [])) e h =
     let none : level 0 between t ≡ 0 = level-value t j (value-json_tokens_back max_depth (tokens t) [] j e ∙ append-nil (json_tokens j)) in
     absurd (omega arith)
-refused t (Some (j, u ∷ r)) e h = refl
+refused t o e h = refl
 
 empty : read [] ≡ None
 unfolding json_on_literals

@@ -55,12 +55,10 @@ MembersAreOrdered-put k d (member m e ms) fine h = put_turn (slice_cmp nat_cmp k
 
 mutual
   IsOrdered-of_json : (j : json.Json) → Given IsOrdered (of_json j)
-  IsOrdered-of_json json.null = tt
-  IsOrdered-of_json (json.boolean b) = tt
   IsOrdered-of_json (json.number s) = Given-map (λ _. ⊤) IsOrdered number (λ n x. tt) (number_of s) (always (number_of s))
-  IsOrdered-of_json (json.string s) = tt
   IsOrdered-of_json (json.array js) = Given-map ItemsAreOrdered IsOrdered array (λ ds x. x) (of_items js) (ItemsAreOrdered-of_items js)
   IsOrdered-of_json (json.object ms) = Given-map MembersAreOrdered IsOrdered object (λ ds x. x) (of_members ms no_members) (MembersAreOrdered-of_members ms no_members tt)
+  IsOrdered-of_json j = tt
 
   ItemsAreOrdered-of_items : (js : json.Items) → Given ItemsAreOrdered (of_items js)
   ItemsAreOrdered-of_items json.no_items = tt
@@ -152,12 +150,10 @@ MembersInRange-put k d (member m e ms) fine h =
 
 mutual
   InRange-of_json : (j : json.Json) → Given InRange (of_json j)
-  InRange-of_json json.null = tt
-  InRange-of_json (json.boolean b) = tt
   InRange-of_json (json.number s) = Given-map IsRanged InRange number (λ n x. x) (number_of s) (IsRanged-number_of s)
-  InRange-of_json (json.string s) = tt
   InRange-of_json (json.array js) = Given-map ItemsInRange InRange array (λ ds x. x) (of_items js) (ItemsInRange-of_items js)
   InRange-of_json (json.object ms) = Given-map MembersInRange InRange object (λ ds x. x) (of_members ms no_members) (MembersInRange-of_members ms no_members tt)
+  InRange-of_json j = tt
 
   ItemsInRange-of_items : (js : json.Items) → Given ItemsInRange (of_items js)
   ItemsInRange-of_items json.no_items = tt
@@ -170,19 +166,16 @@ mutual
       Given-and_then InRange MembersInRange _ (λ d x. MembersInRange-of_members ms (put k d found) (MembersInRange-put k d found x h)) (of_json j) (InRange-of_json j)
 
 no_float : (n : Num) → IsRanged n → is_float n ≡ false → IsWholeNumber n
-no_float (unsigned n) h e = h
 no_float (negative (pos n)) h e = absurd h
-no_float (negative (negsuc n)) h e = h
 no_float (float x) h e = absurd cc
+no_float n h e = h
 
 mutual
   IsWhole-InRange : (d : Data) → InRange d → has_float d ≡ false → IsWhole d
-  IsWhole-InRange null h e = tt
-  IsWhole-InRange (boolean b) h e = tt
   IsWhole-InRange (number n) h e = no_float n h e
-  IsWhole-InRange (string s) h e = tt
   IsWhole-InRange (array ds) h e = ItemsAreWhole-InRange ds h e
   IsWhole-InRange (object ms) h e = MembersAreWhole-InRange ms h e
+  IsWhole-InRange d h e = tt
 
   ItemsAreWhole-InRange : (ds : Items) → ItemsInRange ds → items_have_float ds ≡ false → ItemsAreWhole ds
   ItemsAreWhole-InRange no_items h e = tt
