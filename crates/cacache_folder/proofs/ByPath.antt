@@ -14,26 +14,13 @@ pub by_path : {Y F D : Type 0} (number : F → ℕ) (step : Step (SystemFile Y F
     → ((a : SystemFile Y F D) (b : ℕ) → step ≡ steps.Read a b → ⊥)
     → ((a : SystemTemp Y F D) → step ≡ steps.SyncTemp a → ⊥)
     → goes_by_path (numbered number step) ≡ true
-by_path number (steps.MakeDirs a) _ _ _ _ _ _ = refl
 by_path number (steps.CreateTemp a) h0 h1 h2 h3 h4 h5 = absurd (h0 a refl)
 by_path number (steps.Write a b) h0 h1 h2 h3 h4 h5 = absurd (h1 a b refl)
 by_path number (steps.Persist a b) h0 h1 h2 h3 h4 h5 = absurd (h2 a b refl)
-by_path number (steps.Append a b) _ _ _ _ _ _ = refl
-by_path number (steps.ReadAll a) _ _ _ _ _ _ = refl
 by_path number (steps.Open a) h0 h1 h2 h3 h4 h5 = absurd (h3 a refl)
 by_path number (steps.Read a b) h0 h1 h2 h3 h4 h5 = absurd (h4 a b refl)
-by_path number (steps.Exists a) _ _ _ _ _ _ = refl
-by_path number (steps.Size a) _ _ _ _ _ _ = refl
-by_path number (steps.Symlink a b) _ _ _ _ _ _ = refl
-by_path number (steps.Copy a b) _ _ _ _ _ _ = refl
-by_path number (steps.Reflink a b) _ _ _ _ _ _ = refl
-by_path number (steps.HardLink a b) _ _ _ _ _ _ = refl
-by_path number (steps.ReadDir a) _ _ _ _ _ _ = refl
-by_path number (steps.RemoveFile a) _ _ _ _ _ _ = refl
-by_path number (steps.RemoveDir a) _ _ _ _ _ _ = refl
 by_path number (steps.SyncTemp a) h0 h1 h2 h3 h4 h5 = absurd (h5 a refl)
-by_path number (steps.SyncFile a) _ _ _ _ _ _ = refl
-by_path number (steps.SyncDir a) _ _ _ _ _ _ = refl
+by_path number step _ _ _ _ _ _ = refl
 
 -- what isn't any other step
 pub by_file : {Y F D : Type 0} (number : F → ℕ) (step : Step (SystemFile Y F D) (SystemTemp Y F D))
@@ -53,13 +40,8 @@ pub by_file : {Y F D : Type 0} (number : F → ℕ) (step : Step (SystemFile Y F
     → ((a : List ℕ) → step ≡ steps.SyncDir a → ⊥)
     → goes_by_path (numbered number step) ≡ true → ⊥
 by_file number (steps.MakeDirs a) h0 h1 h2 h3 h4 h5 h6 h7 h8 h9 h10 h11 h12 h13 is = absurd (h0 a refl)
-by_file number (steps.CreateTemp a) _ _ _ _ _ _ _ _ _ _ _ _ _ _ is = absurd (let no_way : false ≡ true = is in cc)
-by_file number (steps.Write a b) _ _ _ _ _ _ _ _ _ _ _ _ _ _ is = absurd (let no_way : false ≡ true = is in cc)
-by_file number (steps.Persist a b) _ _ _ _ _ _ _ _ _ _ _ _ _ _ is = absurd (let no_way : false ≡ true = is in cc)
 by_file number (steps.Append a b) h0 h1 h2 h3 h4 h5 h6 h7 h8 h9 h10 h11 h12 h13 is = absurd (h1 a b refl)
 by_file number (steps.ReadAll a) h0 h1 h2 h3 h4 h5 h6 h7 h8 h9 h10 h11 h12 h13 is = absurd (h2 a refl)
-by_file number (steps.Open a) _ _ _ _ _ _ _ _ _ _ _ _ _ _ is = absurd (let no_way : false ≡ true = is in cc)
-by_file number (steps.Read a b) _ _ _ _ _ _ _ _ _ _ _ _ _ _ is = absurd (let no_way : false ≡ true = is in cc)
 by_file number (steps.Exists a) h0 h1 h2 h3 h4 h5 h6 h7 h8 h9 h10 h11 h12 h13 is = absurd (h3 a refl)
 by_file number (steps.Size a) h0 h1 h2 h3 h4 h5 h6 h7 h8 h9 h10 h11 h12 h13 is = absurd (h4 a refl)
 by_file number (steps.Symlink a b) h0 h1 h2 h3 h4 h5 h6 h7 h8 h9 h10 h11 h12 h13 is = absurd (h5 a b refl)
@@ -69,9 +51,9 @@ by_file number (steps.HardLink a b) h0 h1 h2 h3 h4 h5 h6 h7 h8 h9 h10 h11 h12 h1
 by_file number (steps.ReadDir a) h0 h1 h2 h3 h4 h5 h6 h7 h8 h9 h10 h11 h12 h13 is = absurd (h9 a refl)
 by_file number (steps.RemoveFile a) h0 h1 h2 h3 h4 h5 h6 h7 h8 h9 h10 h11 h12 h13 is = absurd (h10 a refl)
 by_file number (steps.RemoveDir a) h0 h1 h2 h3 h4 h5 h6 h7 h8 h9 h10 h11 h12 h13 is = absurd (h11 a refl)
-by_file number (steps.SyncTemp a) _ _ _ _ _ _ _ _ _ _ _ _ _ _ is = absurd (let no_way : false ≡ true = is in cc)
 by_file number (steps.SyncFile a) h0 h1 h2 h3 h4 h5 h6 h7 h8 h9 h10 h11 h12 h13 is = absurd (h12 a refl)
 by_file number (steps.SyncDir a) h0 h1 h2 h3 h4 h5 h6 h7 h8 h9 h10 h11 h12 h13 is = absurd (h13 a refl)
+by_file number step _ _ _ _ _ _ _ _ _ _ _ _ _ _ is = absurd (let no_way : false ≡ true = is in cc)
 
 -- an answer that isn't the step handed back
 pub whole_of : (step : PlainStep) (answer : PlainAnswer) → is_no_memory answer ≡ false → HandsBackWhole step answer

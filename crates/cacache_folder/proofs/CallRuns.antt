@@ -3,7 +3,7 @@ use Rattle.std.proofs.Common.{◌≡◌, ℕ, zero, suc, Bool, true, false, if�
 use Rattle.std.specs.Prelude.{Option, None, Some, option_map}
 use Rattle.std_io.specs.declared.io.kind.ErrorKind.{ErrorKind}
 use Rattle.std_io.specs.declared.io.kind.ErrorKind.TheVariants as kind
-use Rattle.cacache_system.specs.{declared.call.{SystemCall.{SystemCall, TheVariants.{Read}}, CallResult.{CallResult, TheVariants.{Failed, Bytes}}, CallItem.{CallItem}}, CallLog.{item, GainsCalls, MakesCall}, CallsOf.{Stage, over, trying, taking_memory, reading_front, wants, after, interrupts, was_interrupted, Ends, Runs, Goes, RunLogged, CallsLogged}}
+use Rattle.cacache_system.specs.{declared.call.{SystemCall.{SystemCall, TheVariants.{Read}}, CallResult.{CallResult, TheVariants.{Failed}}, CallItem.{CallItem}}, CallLog.{item, GainsCalls, MakesCall}, CallsOf.{Stage, over, trying, taking_memory, reading_front, wants, after, interrupts, was_interrupted, Ends, Runs, Goes, RunLogged, CallsLogged}}
 use Rattle.cacache_folder.specs.Interruptions.{interrupted, Waits, Insists}
 
 abbrev Log : Type 0
@@ -137,8 +137,7 @@ insists_run call result old new (n, gains) = (interrupted call n ++ item call re
 
 front_same : (result : CallResult) (again : Bool) (size file : ℕ) → after (reading_front again size file) result ≡ after (reading_front true size file) result
 front_same (Failed why) again size file = refl
-front_same (Bytes bytes) again size file = refl
-front_same _ again size file = refl
+front_same result again size file = refl
 
 fronts : (file size : ℕ) (result : CallResult) (n : ℕ) (again : Bool)
     → Goes (reading_front again size file) (interrupted (Read file size) n ++ item (Read file size) result ∷ []) (after (reading_front true size file) result)

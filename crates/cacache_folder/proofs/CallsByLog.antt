@@ -80,9 +80,8 @@ module _ {Y F D : Type 0} where
 
   -- if there is a log, it has the items of the steps
   log_is : (began : Log) (steps : List (StepMade Y F D)) (all : List LogItem) → log_of began steps ≡ Some all → flat_map items_of steps ≡ all
-  log_is None steps all is = ap some_or is
-  log_is (Some []) steps all is = ap some_or is
   log_is (Some (call ∷ calls)) steps all is = absurd cc
+  log_is began steps all is = ap some_or is
 
   pub in_parts : (number : F → ℕ) (steps : List (StepMade Y F D)) (began new : Log) (log more : List LogItem) → log_of began steps ≡ Some (log ++ more) → StepsRun number steps began new
       → CallsInParts number steps began new log more

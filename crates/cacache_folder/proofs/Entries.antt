@@ -1,5 +1,5 @@
 -- The entries of a listing, name by name.
-use Rattle.std.proofs.{Common.{◌≡◌, ◌≢◌, ◌==◌, ◌||◌, ◌&&◌, not, ◌⊎◌, suc, ◌<◌, ◌≤◌, ◌+◌, ◌-◌, ◌↔◌, ℕ, Bool, true, false, if◌then◌else◌, List, [], ◌∷◌, ◌++◌, length, take, drop, length-drop, refl, sym, ap, subst, ◌∙◌, inl, inr, arith}, lemmas.{Str.{is_utf8-from_IsUtf8, IsUtf8-from_is_utf8}, List.{take_all, Splits.{slice_split-cons_no, slice_split_first}}, Bool.Decides.{leb_tells}}, Math.Dec.{leb}}
+use Rattle.std.proofs.{Common.{◌≡◌, ◌≢◌, ◌==◌, ◌||◌, ◌&&◌, not, ◌⊎◌, suc, ◌<◌, ◌≤◌, ◌+◌, ◌-◌, ◌↔◌, ℕ, Bool, true, false, if◌then◌else◌, List, [], ◌∷◌, ◌++◌, length, take, drop, length-drop, refl, sym, ap, subst, ◌∙◌, inl, inr, arith}, lemmas.{Str.{is_utf8-from_IsUtf8, IsUtf8-from_is_utf8}, List.{take_all, nil_from_length, Splits.{slice_split-cons_no, slice_split_first}}, Bool.Decides.{leb_tells}}, Math.Dec.{leb}}
 use Rattle.std.specs.{Prelude.{Option, None, Some, Result, Ok, Err, OnOk, IfOk, IfErr, IsTrue, IsUtf8}, Bool.{nat_eq}, List.{starts_with, list_any, position, prefix_len, position_or_len, onto_first}, Str.{is_utf8}, Option.{unwrap_or}}
 use Rattle.hex.specs.Hex.{encode_lower}
 use Rattle.std_io.specs.declared.io.kind.ErrorKind.{ErrorKind}
@@ -179,10 +179,6 @@ none_so k n (inr fails_it) is = omega (arith, fails_it.1)
 abbrev nul_at : List ℕ → ℕ
 nul_at bytes = position_or_len (λ b. b == 0) bytes
 
-empty_is : (xs : List ℕ) → length xs ≡ 0 → xs ≡ []
-empty_is [] is = refl
-empty_is (x ∷ xs) is = absurd (omega (arith, is))
-
 cut_back : (names : List ℕ) (n : ℕ) → take (length names - n) (drop n names) ≡ drop n names
 cut_back names n = take_all (length names - n) (drop n names) (omega (arith, length-drop n names))
 
@@ -201,7 +197,7 @@ pub cuts_none : (bytes later : List ℕ) → None ≡ position (λ b. b == 0) by
 cuts_none bytes later is none =
     inr (
       one_name bytes (none_so (nul_at bytes) (length bytes) (leb_tells (suc (nul_at bytes)) (length bytes)) is),
-      empty_is later (ap (λ (l : List ℕ). length l) (none ∙ cut_back bytes (length bytes)) ∙ length-drop (length bytes) bytes ∙ omega arith),
+      nil_from_length later (ap (λ (l : List ℕ). length l) (none ∙ cut_back bytes (length bytes)) ∙ length-drop (length bytes) bytes ∙ omega arith),
     )
 
 -- one more name of some bytes
@@ -241,4 +237,4 @@ pub lists_all : (s : Stage) (reader : Reader) (bytes : List ℕ) (news : List Na
     → length bytes ≡ 0 → LeadsTo s (more_names reader news) old new
 lists_all s reader bytes news old new before is =
     leads_as s (next_name reader (names_in bytes) news) (more_names reader news) old new before
-    (ap (λ (l : List ℕ). next_name reader (names_in l) news) (empty_is bytes is))
+    (ap (λ (l : List ℕ). next_name reader (names_in l) news) (nil_from_length bytes is))

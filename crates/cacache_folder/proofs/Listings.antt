@@ -81,8 +81,7 @@ proceeds_from s t go r old new same next = subst (λ (x : Stage). Proceeds x go 
 names_same : (result : CallResult) (again : Bool) (r : Reader) (found : List Name)
     → after (reading_names again r found) result ≡ after (reading_names true r found) result
 names_same (Failed why) again r found = refl
-names_same (Bytes bytes) again r found = refl
-names_same _ again r found = refl
+names_same result again r found = refl
 
 reads : (r : Reader) (found : List Name) (result : CallResult) (n : ℕ) (again : Bool)
     → Goes (reading_names again r found) (interrupted (ReadNames r.number 4096) n ++ item (ReadNames r.number 4096) result ∷ []) (after (reading_names true r found) result)

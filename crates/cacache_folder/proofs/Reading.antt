@@ -1,5 +1,5 @@
 -- Files that are read whole, and pieces of open files.
-use Rattle.std.proofs.{Common.{◌≡◌, ◌≢◌, ◌==◌, ◌&&◌, not, ◌⊎◌, ◌<◌, ◌≤◌, ℕ, Bool, true, false, if◌then◌else◌, List, [], ◌∷◌, ◌++◌, take, drop, length, min, refl, sym, ap, subst, ◌∙◌, inl, inr, arith, take-append-drop, ◌+◌, ◌-◌, length-take-le}, lemmas.{Bool.Decides.{eqb_tells}, List.{take-append-le, take-take}}}
+use Rattle.std.proofs.{Common.{◌≡◌, ◌≢◌, ◌==◌, ◌&&◌, not, ◌⊎◌, ◌<◌, ◌≤◌, ℕ, Bool, true, false, if◌then◌else◌, List, [], ◌∷◌, ◌++◌, take, drop, length, min, refl, sym, ap, subst, ◌∙◌, inl, inr, arith, take-append-drop, ◌+◌, ◌-◌, length-take-le}, lemmas.{Bool.Decides.{eqb_tells}, List.{take-append-le, take-take, nil_from_length}}}
 use Rattle.std.specs.{Prelude.{Option, Result, Ok, Err}, Io.{StartsWith, appended_bytes}}
 use Rattle.std_io.specs.declared.io.kind.ErrorKind.{ErrorKind}
 use Rattle.std_io.specs.declared.io.kind.ErrorKind.TheVariants as kind
@@ -45,15 +45,11 @@ front_fails file size why old new insists =
     calls_end (reading_front false size file) (after (reading_front true size file) (Failed why)) (Failed why) old new
     (insists_front file size (Failed why) old new insists) (front_ends file size why (interrupts why) refl)
 
-empty_is : (xs : List ℕ) → length xs ≡ 0 → xs ≡ []
-empty_is [] is = refl
-empty_is (x ∷ xs) is = absurd (omega (arith, is))
-
 -- a file that says it has no bytes
 pub whole_empty : (size file : ℕ) (room : List ℕ) (end : CallResult) (old new : Log) → length room ≡ min size 131072 → size ≡ 0
     → RunLogged (reading_rest room file) end old new → RunLogged (taking_memory (read_whole size file)) end old new
 whole_empty size file room end old new fits is run =
-    let none : room ≡ [] = empty_is room (fits ∙ ap (λ (n : ℕ). min n 131072) is) in
+    let none : room ≡ [] = nil_from_length room (fits ∙ ap (λ (n : ℕ). min n 131072) is) in
     run_took (read_whole size file) end old new
     (run_as (reading_rest room file) (read_whole size file) end old new run
     (ap (λ (xs : List ℕ). reading_rest xs file) none ∙ ap (λ (n : ℕ). read_whole n file) (sym is)))

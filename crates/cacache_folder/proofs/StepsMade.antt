@@ -34,10 +34,9 @@ module _ {Y F D : Type 0} where
 
   gains : (began : Log) (steps : List (StepMade Y F D)) (step : StepOf Y F D) (answer : AnswerOf Y F D)
       → Logs (log_of began steps) (log_of began (steps ++ (step, answer) ∷ [])) (plain_step seen_file seen_temp step) (plain_answer seen_file seen_temp answer)
-  gains None steps step answer = kept_gains steps step answer
-  gains (Some []) steps step answer = kept_gains steps step answer
   gains (Some (call ∷ calls)) steps step answer =
       none_gains (is_no_memory (plain_answer seen_file seen_temp answer)) (Made (plain_step seen_file seen_temp step) (plain_answer seen_file seen_temp answer))
+  gains began steps step answer = kept_gains steps step answer
 
   -- the log gains the step and its answer
   pub log_gains_step : (began : Log) (steps new : List (StepMade Y F D)) (step : StepOf Y F D) (answer : AnswerOf Y F D) → new ≡ steps ++ (step, answer) ∷ []
