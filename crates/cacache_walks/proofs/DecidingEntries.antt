@@ -74,10 +74,9 @@ removed old new es later own text is updates left key =
     at_text old new None own text key is updates ∙ ap (cond (bytes_eq own key) None) (left key) ∙ by (bytes_eq own key) (bytes_eq key own) refl refl
   where
     by : (a b : Bool) → bytes_eq own key ≡ a → bytes_eq key own ≡ b → cond a None (decider_left es later key) ≡ (if b || list_any (bytes_eq key) later then None else decider key es)
-    by true true h i = refl
-    by false false h i = refl
     by true false h i = let no : true ≡ false = sym ((bytes_eq-Decides key own).1 (sym ((bytes_eq-Decides own key).0 h))) ∙ i in absurd cc
     by false true h i = let no : true ≡ false = sym ((bytes_eq-Decides own key).1 (sym ((bytes_eq-Decides key own).0 i))) ∙ h in absurd cc
+    by a b h i = refl
 
 -- a removal returns the decider that was left
 pub found_left : (old : BTreeMap (Bor (List ℕ)) (Bor SerializableMetadata)) (es : List Entry) (later : List (List ℕ)) (own text : List ℕ) (d : Bor SerializableMetadata) → text ≡ own

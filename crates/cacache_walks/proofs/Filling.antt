@@ -112,8 +112,3 @@ module _ {S C N : Type 0} where
       let a : length before.ready.items ≡ length after.ready.items + 1 = ap length is ∙ length-append after.ready.items (x ∷ []) in
       let b : items_left after.visit after.walk ≡ items_left before.visit before.walk = rw (visit, walk) refl in
       omega (arith, a, b, h)
-
--- a list of length 0 has no elements
-pub nothing_in : {X : Type 0} (xs : List X) → length xs ≡ 0 → xs ≡ []
-nothing_in [] e = refl
-nothing_in (x ∷ xs) e = absurd cc

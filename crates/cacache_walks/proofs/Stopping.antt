@@ -3,7 +3,7 @@ use Rattle.std.proofs.{Common.{◌≡◌, ◌≤◌, ◌≢◌, ℕ, List, [], �
 use Rattle.std.specs.Prelude.{IsErrAnd}
 use Rattle.cacache_core.specs.declared.errors.{Error.{Error, TheVariants.{IoError, OutOfMemory}}, Fault.{Fault, TheVariants.{NotFound, TooDeep}}}
 use Rattle.cacache_store.specs.{declared.store.{log.LogItem.{LogItem}, answer.{Name.{Name}, Answer.TheVariants.{Names, Failed, NoMemory}}, step.Step.TheVariants.{ReadDir}}, Plain.{PlainAnswer}, Fits.{Fits, Logs}}
-use Rattle.cacache_calls.specs.{Answers.{names_in}, Runs.{Moves, Gains}, declared.visit.{Task.{Task, TheVariants.{Make}}, Visit.{Visit, TheVariants.{Enter, ReadBucket, RemoveFile, RemoveFolder}}}, Walking.{after_visit, entered, tasks_of, too_many, walk_on}}
+use Rattle.cacache_calls.specs.{Answers.{names_in}, Runs.{Moves, Gains}, declared.visit.{Task.{Task, TheVariants.{Make}}, Visit.{Visit, TheVariants.{Enter, ReadBucket}}}, Walking.{after_visit, entered, tasks_of, too_many, walk_on}}
 use Rattle.cacache_calls.specs.declared.answers.Refusal.TheVariants as refusals
 use Rattle.cacache_walks.specs.declared.walk.Walk as walks
 use Rattle.cacache_walks.specs.{WalkStates.{Counts, WalksAt, pending, walk_of}, Reading.{Folder, HasDeeper, IsErrorOf, IsOwnError, ReadsFolders, StopsWalk, files_shown, folders_in, names_shown}, Listing.{StopsAt}, WalkSteps.{AnswerShows, Answered, GoesFrom, Matches, WalkStands, StopsIn, StopsVisit}}
@@ -47,17 +47,13 @@ stops_behind path t names old new shows left level todo deep =
 pub stops_visit : (v : Visit) (e : Error) (old new : Option (List LogItem)) (w : walks.Walk) (fs : List Folder) → StopsVisit v e old new → WalkStands (Some v) w fs → StopsAt w.left fs e old new
 stops_visit (Enter path level) e old new w [] stops s = absurd s.3
 stops_visit (Enter path level) e old new w (f ∷ fs) stops s = rw s.3.0 (stops w.left level fs s.3.1)
-stops_visit (ReadBucket path) e old new w fs stops s = absurd stops
-stops_visit (RemoveFile path) e old new w fs stops s = absurd stops
-stops_visit (RemoveFolder path) e old new w fs stops s = absurd stops
+stops_visit v e old new w fs stops s = absurd stops
 
 -- after the visit there was no memory left
 pub stops_after : (v : Visit) (t : PlainAnswer) (old new : Option (List LogItem)) (before after : List (List ℕ)) (w : walks.Walk) (fs : List Folder) → Answered v t old new before after → WalkStands (Some v) w fs → StopsAt w.left fs OutOfMemory old new
-stops_after (Enter path level) t old new before after w [] a s = absurd s.3
 stops_after (Enter path level) t old new before after w (f ∷ fs) a s = rw s.3.0 (stops_behind path a.2.0 a.0 old new a.2.1 w.left level fs s.3.1)
 stops_after (ReadBucket path) t old new before after w fs a s = stops_here w.left fs OutOfMemory old new a.1 tt
-stops_after (RemoveFile path) t old new before after w fs a s = absurd s.3
-stops_after (RemoveFolder path) t old new before after w fs a s = absurd s.3
+stops_after v t old new before after w fs a s = absurd s.3
 
 -- ---- too deep
 
@@ -84,14 +80,12 @@ deep_in false tasks path level names u e old new left w next fs is shows deep m 
     ((ReadDir path, u) ∷ [], shows.gained, (refl, shows.fits, deep, inr (refl, inl (names, shows.shown, leb-false (length names) left is, says))))
 
 deep_by : (v : Visit) (t : PlainAnswer) (e : Error) (old new : Option (List LogItem)) (before after : List (List ℕ)) (w0 w1 : walks.Walk) (next : Option Visit) (fs : List Folder) → Answered v t old new before after → Matches (Make v ∷ pending w0.todo.items) fs → WalksAt [] w1 next (after_visit (lists [] w0.left) v (pending w0.todo.items) t) → ¬ (w1.items.items ≡ []) → IsErrorOf (Failed TooDeep) e → StopsAt w0.left fs e old new
-deep_by (Enter path level) t e old new before after w0 w1 next [] a m h some says = absurd m
 deep_by (Enter path level) t e old new before after w0 w1 next (f ∷ fs) a m h some says =
     let entered_so : WalksAt [] w1 next (entered (lists [] w0.left) path level (pending w0.todo.items) a.0) = rw a.1 at h in
     let plain = rw (append-nil (tasks_of false level path a.0)) at entered_so in
     rw m.0 (deep_in (nat_le (length a.0) w0.left) (tasks_of false level path a.0 ++ pending w0.todo.items) path level a.0 a.2.0 e old new w0.left w1 next fs refl a.2.1 m.1 (tasks_match level path a.0 (pending w0.todo.items) fs m.2) plain some says)
 deep_by (ReadBucket path) t e old new before after w0 w1 next fs a m h some says = deep_behind (pending w0.todo.items) e old new w0.left w1 next fs a.1 m (rw a.0 at h) some says
-deep_by (RemoveFile path) t e old new before after w0 w1 next fs a m h some says = absurd m
-deep_by (RemoveFolder path) t e old new before after w0 w1 next fs a m h some says = absurd m
+deep_by v t e old new before after w0 w1 next fs a m h some says = absurd m
 
 -- after a visit the walk has an item
 pub stops_deep : (v : Visit) (t : PlainAnswer) (e : Error) (old new : Option (List LogItem)) (before after : List (List ℕ)) (w0 w1 : walks.Walk) (next : Option Visit) (fs : List Folder) → Answered v t old new before after → WalkStands (Some v) w0 fs → (Counts [] w0 → WalksAt [] w1 next (after_visit (walk_of [] w0) v (pending w0.todo.items) t)) → ¬ (w1.items.items ≡ []) → IsErrorOf (Failed TooDeep) e → StopsAt w0.left fs e old new
@@ -106,9 +100,8 @@ stops_on {old = old} {mid = mid} {new = new} e g s = (g.moves ++ s.0, gains_both
 -- a whole walk may still end out of memory
 reads_stop : (left : ℕ) (fs : List Folder) (moves : Moves) → ReadsFolders fs moves → StopsWalk left fs moves OutOfMemory
 reads_stop left [] [] r = tt
-reads_stop left [] (m ∷ moves) r = absurd r
-reads_stop left (f ∷ fs) [] r = absurd r
 reads_stop left (f ∷ fs) (m ∷ moves) r = (r.0, r.1, r.2, inl (r.3.0, r.3.1, reads_stop (left - length r.3.0) (folders_in f r.3.0 ++ fs) moves r.3.2))
+reads_stop left fs moves r = absurd r
 
 pub stops_whole : (left : ℕ) (fs : List Folder) (files : List (List ℕ)) (old new : Option (List LogItem)) → (moves : Moves) × Gains old new moves × ReadsFolders fs moves × (files ≡ files_shown moves) → StopsAt left fs OutOfMemory old new
 stops_whole left fs files old new whole = (whole.0, whole.1, reads_stop left fs whole.0 whole.2)

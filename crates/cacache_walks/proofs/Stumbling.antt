@@ -26,11 +26,10 @@ given false next items x left some = more_items (take most (items ++ x ∷ [])) 
 
 -- a walk that goes on with items still has items afterwards
 stuck : (todo : List Task) (items : List Item) (left : ℕ) → 0 < length items → 0 < length (items_at (walk_on todo (lists items left)))
-stuck [] items left some = some
-stuck (Make v ∷ todo) items left some = some
 stuck (Stumble fault path ∷ todo) items left some =
     given (nat_le (length items + length (failed fault ∷ [])) most) (walk_on todo) items (failed fault) left
     (stuck todo (items ++ failed fault ∷ []) left (more_items items (failed fault)))
+stuck todo items left some = some
 
 -- a walk that stumbles first has items afterwards
 stumbles : (todo : List Task) (fault : Fault) (path : List ℕ) (left : ℕ) → 0 < length (items_at (walk_on (Stumble fault path ∷ todo) (lists [] left)))
@@ -102,13 +101,7 @@ ended_empty false items e = none_mapped items (ap items_at e)
 pub deeper_or_none : (tasks : List Task) (left : ℕ) (w : walks.Walk) (next : Option Visit) (fs : List Folder) → Matches tasks fs → WalksAt [] w next (walk_on tasks (lists [] left)) → HasDeeper fs ⊎ (w.items.items ≡ [])
 deeper_or_none [] left w None [] m h = inr (ended_empty w.clears w.items.items h.1)
 deeper_or_none [] left w (Some v) [] m h = absurd (let e = h.1 in cc)
-deeper_or_none [] left w next (f ∷ fs) m h = absurd m
 deeper_or_none (Make x ∷ todo) left w (Some v) fs m h = inr (none_mapped w.items.items (ap items_at h.1))
 deeper_or_none (Make x ∷ todo) left w None fs m h = absurd (not_over w.clears (lists [] left) x todo (map plain_item w.items.items) h.1)
-deeper_or_none (Stumble fault path ∷ todo) left w next [] m h = absurd m
 deeper_or_none (Stumble fault path ∷ todo) left w next (f ∷ fs) m h = inl (f, Contains-append_left (f ∷ []) fs f (Contains-push [] f), m.0)
-
--- a list of length 0 has no elements
-pub nothing_in : {X : Type 0} (xs : List X) → length xs ≡ 0 → xs ≡ []
-nothing_in [] e = refl
-nothing_in (x ∷ xs) e = absurd cc
+deeper_or_none tasks left w next fs m h = absurd m

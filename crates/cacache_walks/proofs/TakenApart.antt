@@ -4,39 +4,29 @@ use Rattle.std.specs.Prelude.{IfSome}
 use Rattle.base64.specs.GeneralPurpose.{IsBytes}
 use Rattle.hex.{specs.Hex.{encode_lower, lower_digits, decode_of}, proofs.HexLemmas.{length-encode_with, decode_of-encode_lower}}
 use Rattle.cacache_core.proofs.{PathTexts.{joined_texts_spell}, ProperNames.{proper_content_folder, proper_content}}
-use Rattle.cacache_core.specs.{declared.{integrity.{algorithm.Algorithm.{Algorithm, TheVariants.{Sha1, Sha256, Sha384, Sha512}}, digest.Hash.{Hash}}, errors.Error.{Error, TheVariants.{IntegrityError, OutOfMemory}}}, Integrity.{IsHash, hash_of, address}, Paths.{join, joined, slashed, cut_digits, content_area, content_names}, Texts.{name_of, long_hash}, Refusals.{IsReadFailure}}
+use Rattle.cacache_core.specs.{declared.{integrity.{algorithm.Algorithm.{Algorithm, TheVariants.{Sha1}}, digest.Hash.{Hash}}, errors.Error.{Error, TheVariants.{IntegrityError, OutOfMemory}}}, Integrity.{IsHash, hash_of, address}, Paths.{join, joined, slashed, cut_digits, content_area, content_names}, Texts.{name_of, long_hash}, Refusals.{IsReadFailure}}
 use Rattle.cacache_walks.specs.Addresses.{names_text, by_letter, digits_of}
 
 -- ---- taken apart
 
 letter_of : (a : Algorithm) (t : List ℕ) → by_letter (slice_index (47 ∷ name_of a ++ t) 4) ≡ Some a
 letter_of Sha1 t = refl
-letter_of Sha256 t = refl
-letter_of Sha384 t = refl
-letter_of Sha512 t = refl
+letter_of a t = refl
 
 behind_name : (a : Algorithm) (t : List ℕ) → drop (length (name_of a) + 1) (47 ∷ name_of a ++ t) ≡ t
 behind_name Sha1 t = refl
-behind_name Sha256 t = refl
-behind_name Sha384 t = refl
-behind_name Sha512 t = refl
+behind_name a t = refl
 
 name_length : (a : Algorithm) (t : List ℕ) → length (47 ∷ name_of a ++ t) ≡ length (name_of a) + 1 + length t
 name_length a t = let l = length-append (47 ∷ name_of a) t in omega (arith, l)
 
 digits_of-cut : (d : List ℕ) → 4 < length d → digits_of (slashed (cut_digits d)) ≡ d
 digits_of-cut (a ∷ b ∷ c ∷ e ∷ d) long = ap (λ (t : List ℕ). a ∷ b ∷ c ∷ e ∷ t) (append-nil d)
-digits_of-cut (a ∷ b ∷ c ∷ []) long = absurd (omega arith)
-digits_of-cut (a ∷ b ∷ []) long = absurd (omega arith)
-digits_of-cut (a ∷ []) long = absurd (omega arith)
-digits_of-cut [] long = absurd (omega arith)
+digits_of-cut d long = absurd (omega arith)
 
 cut_length : (d : List ℕ) → 4 < length d → 7 ≤ length (slashed (cut_digits d))
 cut_length (a ∷ b ∷ c ∷ e ∷ d) long = let l = length-append d [] in omega (arith, l)
-cut_length (a ∷ b ∷ c ∷ []) long = absurd (omega arith)
-cut_length (a ∷ b ∷ []) long = absurd (omega arith)
-cut_length (a ∷ []) long = absurd (omega arith)
-cut_length [] long = absurd (omega arith)
+cut_length d long = absurd (omega arith)
 
 -- what is known of a text that is made of a content's names
 pub record Taken (text : List ℕ) (h : Hash) : Type 0 where

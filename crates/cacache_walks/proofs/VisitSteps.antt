@@ -4,7 +4,7 @@ use Rattle.std.specs.List.{cons_option}
 use Rattle.cacache_core.specs.{declared.errors.{Error.{Error}, Fault.TheVariants.{NotFound, TooDeep}}, Paths.{join}, PathNames.{IsProperName}}
 use Rattle.cacache_store.specs.{declared.store.{log.LogItem.{LogItem}, answer.{Kind.{Kind}, Name.{Name}, Answer.TheVariants.{Names, Failed, NoMemory}}, step.Step.TheVariants.{ReadDir}}, Plain.{PlainAnswer}, Fits.{Fits, AreProperNames}}
 use Rattle.cacache_store.specs.declared.store.answer.Kind.TheVariants as kinds
-use Rattle.cacache_calls.specs.{State.{walking}, declared.visit.{Task.{Task, TheVariants.{Make, Stumble}}, Visit.{Visit, TheVariants.{Enter, ReadBucket, RemoveFile, RemoveFolder}}}, Walking.{failed, walk_on, tasks_of, task_for_name, entered, after_visit, too_many, visit_step}, Table.{after}, Runs.{Gains, Moves, effort}}
+use Rattle.cacache_calls.specs.{State.{walking}, declared.visit.{Task.{Task, TheVariants.{Make, Stumble}}, Visit.{Visit, TheVariants.{Enter, ReadBucket}}}, Walking.{failed, walk_on, tasks_of, task_for_name, entered, after_visit, too_many, visit_step}, Table.{after}, Runs.{Gains, Moves, effort}}
 use Rattle.cacache_calls.proofs.Effort.{falls}
 use Rattle.cacache_walks.specs.declared.walk.Walk as walks
 use Rattle.cacache_walks.specs.{WalkStates.{Counts, WalksAt, pending, walk_of}, Reading.{Folder, folder_as, folders_in, file_paths, names_shown, StopsWalk}, WalkSteps.{AnswerShows, Answered, Matches, WalkStands, GoesFrom, steps_left}}
@@ -18,8 +18,7 @@ below_sixteen false path level ts fs is m = let deep : 16 ≤ level = ltb-false 
 
 one_task : (k : Kind) (path : List ℕ) (level : ℕ) (ts : List Task) (xs ys : List Folder) → Matches ts (xs ++ ys) → Matches (task_for_name false level path k ∷ ts) (cons_option (folder_as k path level) xs ++ ys)
 one_task kinds.Folder path level ts xs ys m = below_sixteen (nat_lt level 16) path level ts (xs ++ ys) refl m
-one_task kinds.File path level ts xs ys m = m
-one_task kinds.Link path level ts xs ys m = m
+one_task k path level ts xs ys m = m
 
 pub tasks_match : (level : ℕ) (path : List ℕ) (ns : List Name) (ts : List Task) (fs : List Folder) → Matches ts fs → Matches (tasks_of false level path ns ++ ts) (folders_in (record { path = path; level = level }) ns ++ fs)
 tasks_match level path [] ts fs m = m
@@ -66,11 +65,9 @@ entered_folder path level names u old new before after w0 w1 next f fs shows fou
     }
 
 goes_by : (v : Visit) (t : PlainAnswer) (old new : Option (List LogItem)) (before after : List (List ℕ)) (w0 w1 : walks.Walk) (next : Option Visit) (fs : List Folder) → Answered v t old new before after → Matches (Make v ∷ pending w0.todo.items) fs → WalksAt [] w1 next (after_visit (lists [] w0.left) v (pending w0.todo.items) t) → w1.items.items ≡ [] → GoesFrom w0.left fs next w1 old new before after
-goes_by (Enter path level) t old new before after w0 w1 next [] a m h none = absurd m
 goes_by (Enter path level) t old new before after w0 w1 next (f ∷ fs) a m h none = entered_folder path level a.0 a.2.0 old new before after w0 w1 next f fs a.2.1 a.3 m.0 m.1 m.2 (rw a.1 at h) none
 goes_by (ReadBucket path) t old new before after w0 w1 next fs a m h none = not_entered (ReadBucket path) t old new before after w0 w1 next fs a.0 a.1 a.2 m (rw a.0 at h) none
-goes_by (RemoveFile path) t old new before after w0 w1 next fs a m h none = absurd m
-goes_by (RemoveFolder path) t old new before after w0 w1 next fs a m h none = absurd m
+goes_by v t old new before after w0 w1 next fs a m h none = absurd m
 
 -- the answer to a visit takes the walk on
 pub goes_after : (v : Visit) (t : PlainAnswer) (old new : Option (List LogItem)) (before after : List (List ℕ)) (w0 w1 : walks.Walk) (next : Option Visit) (fs : List Folder) → Answered v t old new before after → WalkStands (Some v) w0 fs → (Counts [] w0 → WalksAt [] w1 next (after_visit (walk_of [] w0) v (pending w0.todo.items) t)) → w1.items.items ≡ [] → GoesFrom w0.left fs next w1 old new before after
@@ -88,9 +85,7 @@ proper_shown path other names fits e = absurd fits
 
 fits_answer : (v : Visit) (t : PlainAnswer) (old new : Option (List LogItem)) (before after : List (List ℕ)) → Answered v t old new before after → Fits (visit_step v) t
 fits_answer (Enter path level) t old new before after a = rw a.1 (proper_shown path a.2.0 a.0 a.2.1.fits a.2.1.shown)
-fits_answer (ReadBucket path) t old new before after a = rw a.0 tt
-fits_answer (RemoveFile path) t old new before after a = rw a.0 tt
-fits_answer (RemoveFolder path) t old new before after a = rw a.0 tt
+fits_answer v t old new before after a = rw a.0 tt
 
 fewer_by : (v : Visit) (t : PlainAnswer) (w0 w1 : walks.Walk) (next : Option Visit) → Fits (visit_step v) t → WalksAt [] w1 next (after_visit (walk_of [] w0) v (pending w0.todo.items) t) → steps_left next w1 < steps_left (Some v) w0
 fewer_by v t w0 w1 (Some u) fits h =

@@ -1,9 +1,9 @@
-use Rattle.std.proofs.{Common.{◌≡◌, ◌==◌, true, false, length, ap, sym, ◌∙◌, []}, lemmas.Bool.{eqb-true}}
-use Rattle.cacache_walks.proofs.{Stopping.{error_as, stops_after, stops_deep, stops_visit}, Stumbling.{nothing_in}, VisitSteps.{goes_after, fewer_after}}
+use Rattle.std.proofs.{Common.{◌≡◌, ◌==◌, true, false, length, ap, sym, ◌∙◌, []}, lemmas.{Bool.{eqb-true}, List.{nil_from_length}}}
+use Rattle.cacache_walks.proofs.{Stopping.{error_as, stops_after, stops_deep, stops_visit}, VisitSteps.{goes_after, fewer_after}}
 use Rattle.cacache_walks.proofs.contents.walk.make.Goals as goal
 
 pub returns-clause-goes : goal.returns-clause-goes
-returns-clause-goes g c = λ fs stands. goes_after c.args.visit _ _ _ _ _ c.args.walk.now c.resume.new.self c.in-Ok.next fs c.in_ok-answer.ensures.answers stands (λ counts. c.in-Ok.ensures [] counts) (nothing_in c.resume.new.self.items.items (sym c.resume.new.self.items.ok.0 ∙ eqb-true c.resume.new.self.items.len 0 (sym c.is_empty.ensures ∙ c.if-not-is_empty.false)))
+returns-clause-goes g c = λ fs stands. goes_after c.args.visit _ _ _ _ _ c.args.walk.now c.resume.new.self c.in-Ok.next fs c.in_ok-answer.ensures.answers stands (λ counts. c.in-Ok.ensures [] counts) (nil_from_length c.resume.new.self.items.items (sym c.resume.new.self.items.ok.0 ∙ eqb-true c.resume.new.self.items.len 0 (sym c.is_empty.ensures ∙ c.if-not-is_empty.false)))
 
 pub returns-clause-smaller : goal.returns-clause-smaller
 returns-clause-smaller g c = λ fs stands. fewer_after c.args.visit _ _ _ _ _ c.args.walk.now c.resume.new.self c.in-Ok.next fs c.in_ok-answer.ensures.answers stands (λ counts. c.in-Ok.ensures [] counts)

@@ -1,5 +1,5 @@
-use Rattle.std.proofs.{Common.{◌∙◌, ◌++◌, sym}, lemmas.Bool.{eqb-true}}
-use Rattle.cacache_walks.{specs.Iterating.{ready}, proofs.Filling.{keeps_on, wants_step, gave_next, fewer_steps_than, fewer_by, nothing_in}}
+use Rattle.std.proofs.{Common.{◌∙◌, ◌++◌, sym}, lemmas.{Bool.{eqb-true}, List.{nil_from_length}}}
+use Rattle.cacache_walks.{specs.Iterating.{ready}, proofs.Filling.{keeps_on, wants_step, gave_next, fewer_steps_than, fewer_by}}
 use Rattle.cacache_walks.proofs.iterator.Ls.fill.Goals as goal
 
 pub visits-smaller : goal.visits-smaller
@@ -15,7 +15,7 @@ visits-preserved g c =
     let is = sym c.in-Some.ensures.value in
     let stands = wants_step g.S.Store.log l.0 l.1 c.visits.self c.in-Some.visit (l.2 ++ ready g.S.Store.log c.visits.self) is l.3 in
     let zero = eqb-true c.visits.self.ready.len 0 (sym c.visits-test.ensures) in
-    let none = nothing_in c.visits.self.ready.items (sym c.visits.self.ready.ok.0 ∙ zero) in
+    let none = nil_from_length c.visits.self.ready.items (sym c.visits.self.ready.ok.0 ∙ zero) in
     record {
       keeps = keeps_on c.args.self.now c.visits.self c.go_on.new.self c.visits.invariant.keeps c.in-Ok.ensures.keeps;
       gave = λ cache old given h. gave_next g.S.Store.log cache old c.visits.self c.go_on.new.self c.in-Some.visit given none is (c.in-Ok.ensures.went cache old) (c.visits.invariant.gave cache old given h);

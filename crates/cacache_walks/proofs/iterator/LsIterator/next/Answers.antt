@@ -1,6 +1,6 @@
-use Rattle.std.proofs.Common.{◌∙◌, ◌++◌, ◌∷◌, [], Err, refl, sym, append-nil}
+use Rattle.std.proofs.{Common.{◌∙◌, ◌++◌, ◌∷◌, [], Err, refl, sym, append-nil}, lemmas.List.{nil_from_length}}
 use Rattle.cacache_core.specs.declared.errors.Error.TheVariants.{OutOfMemory}
-use Rattle.cacache_walks.{specs.Iterating.{IsListing, item_view}, proofs.Filling.{given_one, given_last, given_fewer, all_given, same_gave, nothing_in}}
+use Rattle.cacache_walks.{specs.Iterating.{IsListing, item_view}, proofs.Filling.{given_one, given_last, given_fewer, all_given, same_gave}}
 use Rattle.cacache_walks.proofs.iterator.LsIterator.next.Goals as goal
 
 pub returns-in-Err-clause-goes : goal.returns-in-Err-clause-goes
@@ -35,7 +35,7 @@ returns-in-Some-clause-goes g c =
 
 pub returns-in-None-clause-steps : goal.returns-in-None-clause-steps
 returns-in-None-clause-steps g c =
-    let none = nothing_in c.fill.new.self.ready.items (sym c.fill.new.self.ready.ok.0 ∙ c.in-None.ensures.cases.0) in (
+    let none = nil_from_length c.fill.new.self.ready.items (sym c.fill.new.self.ready.ok.0 ∙ c.in-None.ensures.cases.0) in (
       λ cache old given h.
           let f = c.in_default.ensures.filled cache old given h in (
             all_given g.S.Store.log cache old c.fill.new.self given (f.1 none) none f.0,
