@@ -118,11 +118,12 @@ read_below h bytes left file [] e = omega (arith, heard_below h bytes)
 read_below h bytes left file (b ∷ bs) e = omega arith
 
 -- what a fitting answer says about the open file
-opened : (path : List ℕ) (t : PlainAnswer) (file : PlainFile) → Fits (steps.Open path) t → file_in t ≡ Ok file → file.left < 2 ^ 64
+pub opened : (path : List ℕ) (t : PlainAnswer) (file : PlainFile) → Fits (steps.Open path) t → file_in t ≡ Ok file → file.left < 2 ^ 64
 opened path (answers.File g) file fits e = let same : g ≡ file = cc in rw (← same) fits
 opened path t file fits e = absurd cc
 
-left_after : (old : PlainFile) (t : PlainAnswer) (x : PlainFile × List ℕ) → Fits (steps.Read old piece) t → got_in t ≡ Ok x → x.0.left + length x.1 ≡ old.left
+-- and about what is left of it
+pub left_after : (old : PlainFile) (t : PlainAnswer) (x : PlainFile × List ℕ) → Fits (steps.Read old piece) t → got_in t ≡ Ok x → x.0.left + length x.1 ≡ old.left
 left_after old (answers.Got g b) x fits e = let same : (g, b) ≡ x = cc in rw (← same) fits.1
 left_after old t x fits e = absurd cc
 

@@ -4,7 +4,7 @@ use Rattle.cacache_core.specs.{declared.errors.{Fault.{Fault}, Error.TheVariants
 use Rattle.cacache_core.specs.declared.errors.Fault.TheVariants as faults
 use Rattle.cacache_store.specs.{declared.store.answer.{Kind.{Kind}, Name.{Name}}, Plain.{PlainStep, PlainAnswer}}
 use Rattle.cacache_store.specs.declared.store.answer.Kind.TheVariants as kinds
-use Rattle.cacache_calls.specs.{declared.{answers.Refusal.{Refusal}, reply.Reply.{Reply, TheVariants.{Stored, Read, LookedUp, Exists, Copied, Listed, Done, Refused}}, visit.{Visit.{Visit, TheVariants.{Enter, ReadBucket, RemoveFile, RemoveFolder}}, Task.{Task, TheVariants.{Make, Stumble}}}}, Answers.{bytes_in, names_in}, State.{State, walking, over, Site, Item, Walk}, Common.{fails, go_on}, Walking.{most, failed, give, miss, walk_on, task_for_name, tasks_of, leaving, too_many, entered, unread_bucket, listed, items_in}, Table.{wants, after, opening}, Runs.{Moves, Runs}, ListReplies.{by_bucket, by_folder, given_by, items_given, too_deep, AddsTooDeep, ListsGiven}}
+use Rattle.cacache_calls.specs.{declared.{answers.Refusal.{Refusal}, reply.Reply.{Reply, TheVariants.{Listed, Done, Refused}}, visit.{Visit.{Visit, TheVariants.{Enter, ReadBucket, RemoveFile, RemoveFolder}}, Task.{Task, TheVariants.{Make, Stumble}}}}, Answers.{bytes_in, names_in}, State.{State, walking, over, Site, Item, Walk}, Common.{fails, go_on}, Walking.{most, failed, give, miss, walk_on, task_for_name, tasks_of, leaving, too_many, entered, unread_bucket, listed, items_in}, Table.{wants, after, opening}, Runs.{Moves, Runs}, ListReplies.{by_bucket, by_folder, given_by, items_given, too_deep, AddsTooDeep, ListsGiven}}
 use Rattle.cacache_calls.proofs.Branches.{cond_leads}
 use Rattle.cacache_calls.specs.declared.answers.Refusal.TheVariants as refusals
 use Rattle.cacache_calls.specs.declared.command.Command.TheVariants as commands
@@ -95,12 +95,7 @@ module _ (r : Reply) where
       by_reply (Listed list) (inl long) = inl long
       by_reply (Listed list) (inr h) = inr (front ++ h.0, h.1 ∙ append_assoc w.items front h.0, k h.0 h.2)
       by_reply (Refused e) h = h
-      by_reply (Stored i) h = absurd h
-      by_reply (Read b) h = absurd h
-      by_reply (LookedUp found) h = absurd h
-      by_reply (Exists there) h = absurd h
-      by_reply (Copied n) h = absurd h
-      by_reply Done h = absurd h
+      by_reply r h = absurd h
 
   gives : (w : Walk) (front items more : List Item) (next : Walk → State) → w.clears ≡ false → ((tail : List Item) → AddsTooDeep tail items → AddsTooDeep (front ++ tail) more) → ((v : Walk) → v.clears ≡ false → Given (next v) items r → Gives v items r) → Given (give w front next) items r → Gives w more r
   gives w front items more next e k n h =
@@ -169,10 +164,4 @@ lists_shown site moves r run = by_reply r (runs_give (opening site commands.Ls) 
     by_reply : (r : Reply) → Gives (record { clears = false; items = []; left = most }) (items_given moves) r → ListsGiven (items_given moves) r
     by_reply (Listed list) (inl long) = inl long
     by_reply (Listed list) (inr h) = inr (rw h.1 h.2)
-    by_reply (Refused e) h = h
-    by_reply (Stored i) h = h
-    by_reply (Read b) h = h
-    by_reply (LookedUp found) h = h
-    by_reply (Exists there) h = h
-    by_reply (Copied n) h = h
-    by_reply Done h = h
+    by_reply r h = h

@@ -4,8 +4,8 @@ use Rattle.cacache_core.specs.{declared.{errors.{Fault.{Fault}, SerdeCause.{Serd
 use Rattle.cacache_core.proofs.Meeting.{meets_finds}
 use Rattle.cacache_store.specs.{declared.store.plain.PlainFile.{PlainFile}, Plain.{PlainAnswer}}
 use Rattle.cacache_entry.specs.Latest.{Found}
-use Rattle.cacache_calls.specs.{declared.{command.{Command.{Command}, Export.{Export}, How.{How, TheVariants.{Copy}}}, reply.Reply.{Reply, TheVariants.{Stored, Read, LookedUp, Exists, Copied, Listed, Done, Refused}}, carried.{Commit.{Commit}, Aim.{Aim}, Lookup.{Lookup}, Content.{Content}}, target.Target.{Target}}, StepPaths.{content_path}, State.{State, doing, looking, opening_file, hashing, walking, over, Site, Insertion, Hashing, to_verify, to_link}, Common.{ends_with, fails}, Inserting.{insertion, deletion, unless_refused, refused_cause}, Storing.{insertion_of, indexed, sized, matches, compared, placed}, Exporting.{export_from, export_content, export, verified, copied_count}, Linking.{with_size, commit_for, hashed, after_read}, Looking.{found_content, found_for}, Table.{after, opening}, Runs.{Moves, Runs}, Promises.{Only, OnlyReads, OnlyExists, OnlyCopies, Copies, MadeOf, ReadsMeeting, answered, Suits, StoresIf, StoresSized, Stores, StoresRead, Exports, Aims, Hashes, Walks, Promises, Answers}}
-use Rattle.cacache_calls.proofs.{Branches.{cond_leads}, Closed.{AnyAnswer, ClosedCommit, ClosedReads, ClosedFiles, ClosedWalk, Closed, kept_always}, Visits.{AnyVisit, any_visits}}
+use Rattle.cacache_calls.specs.{declared.{command.{Command.{Command}, Export.{Export}, How.{How, TheVariants.{Copy}}}, reply.Reply.{Reply, TheVariants.{Stored, Read, LookedUp, Exists, Copied, Listed, Done, Refused}}, carried.{Commit.{Commit}, Aim.{Aim}, Lookup.{Lookup}, Content.{Content}}, target.Target.{Target}}, StepPaths.{content_path}, State.{State, doing, looking, opening_file, hashing, walking, over, Site, Insertion, Hashing, to_verify, to_link}, Common.{ends_with, fails}, Inserting.{insertion, deletion, unless_refused, refused_cause}, Storing.{insertion_of, indexed, sized, matches, compared, placed}, Exporting.{export_from, export_content, export, verified, copied_count}, Linking.{with_size, commit_for, hashed, after_read}, Looking.{found_content, found_for}, Table.{after, opening}, Runs.{Moves, Runs}, Promises.{Only, OnlyExists, OnlyCopies, Copies, MadeOf, ReadsMeeting, answered, Suits, StoresIf, StoresSized, Stores, StoresRead, Exports, Aims, Hashes, Walks, Promises, Answers}}
+use Rattle.cacache_calls.proofs.{Branches.{cond_leads}, Closed.{AnyAnswer, ClosedCommit, ClosedReads, ClosedFiles, ClosedWalk, Closed, kept_always}, ReplyKinds.{meeting_only}, Visits.{AnyVisit, any_visits}}
 use Rattle.cacache_calls.specs.declared.command.Command.TheVariants as commands
 use Rattle.cacache_calls.specs.declared.command.Source.TheVariants as sources
 use Rattle.cacache_calls.specs.declared.carried.Aim.TheVariants as aims
@@ -48,19 +48,55 @@ module _ (P : Reply → Type 0) (refuses : (e : Error) → P (Refused e)) (r : R
     where
       by_reply : (r : Reply) → Only reply r → P r
       by_reply (Refused e) h = refuses e
-      by_reply (Stored i) h = rw h k
-      by_reply (Read bytes) h = rw h k
-      by_reply (LookedUp found) h = rw h k
-      by_reply (Exists there) h = rw h k
-      by_reply (Copied n) h = rw h k
-      by_reply (Listed items) h = rw h k
-      by_reply Done h = rw h k
+      by_reply r h = rw h k
 
   pub ends_keeps : (e : Error) → Keeps (ends_with e)
   ends_keeps e = over_keeps (Refused e) (refuses e)
 
   pub fails_keeps : (fault : Fault) → Keeps (fails fault)
   fails_keeps fault = ends_keeps (IoError fault [])
+
+-- ---- what a reply promises, said otherwise
+
+only_stores : (j : List Hash) (P : Type 0) → P → (r : Reply) → Only (Stored j) r → StoresIf j P r
+only_stores j P p (Stored i) h = ((cc), p)
+only_stores j P p (Refused e) h = tt
+only_stores j P p r h = absurd cc
+
+copies_only : (verified : Option ℕ) (r : Reply) → Copies verified r → OnlyCopies r
+copies_only verified (Copied n) h = tt
+copies_only verified (Refused e) h = tt
+copies_only verified r h = h
+
+copy_made : (i : List Hash) (bytes : List ℕ) → Meets i bytes → (r : Reply) → Copies (Some (length bytes)) r → MadeOf i bytes r
+copy_made i bytes m (Copied n) h = ([], rw append-nil m, rw append-nil (h (length bytes) refl))
+copy_made i bytes m (Refused e) h = tt
+copy_made i bytes m r h = absurd h
+
+link_made : (i : List Hash) (bytes : List ℕ) → Meets i bytes → (r : Reply) → Only Done r → MadeOf i bytes r
+link_made i bytes m (Copied n) h = absurd cc
+link_made i bytes m Done h = ([], rw append-nil m)
+link_made i bytes m r h = tt
+
+stores_here : (t : Target ℕ) (bytes : List ℕ) (r : Reply) → Stores (commit_for t bytes) r → StoresRead t bytes r
+stores_here t bytes (Stored i) h = ([], rw append-nil h)
+stores_here t bytes (Refused e) h = tt
+stores_here t bytes r h = absurd h
+
+stores_later : (t : Target ℕ) (bytes more : List ℕ) (r : Reply) → StoresRead t (bytes ++ more) r → StoresRead t bytes r
+stores_later t bytes more (Stored i) h = (more ++ h.0, subst (λ (b : List ℕ). Stores (commit_for t b) (Stored i)) (append_assoc bytes more h.0) h.1)
+stores_later t bytes more (Refused e) h = tt
+stores_later t bytes more r h = absurd h
+
+sizes : (t : Target ℕ) (n : ℕ) (r : Reply) → StoresRead (with_size t n) [] r → StoresSized t r
+sizes t n (Stored i) h = (n, h)
+sizes t n (Refused e) h = tt
+sizes t n r h = absurd h
+
+made_later : (i : List Hash) (bytes more : List ℕ) (r : Reply) → MadeOf i (bytes ++ more) r → MadeOf i bytes r
+made_later i bytes more (Copied n) h = (more ++ h.0, rw (← append_assoc bytes more h.0) h.1, rw (← append_assoc bytes more h.0) h.2)
+made_later i bytes more Done h = (more ++ h.0, rw (← append_assoc bytes more h.0) h.1)
+made_later i bytes more r h = tt
 
 -- ---- commits
 
@@ -73,25 +109,12 @@ module _ (r : Reply) where
   by_key c None h = h
   by_key c (Some key) h = inserts (insertion_of c key) (refused_cause (insertion_of c key)) h
 
-  only_stores : (j : List Hash) (P : Type 0) → P → Only (Stored j) r → StoresIf j P r
-  only_stores j P p = by_reply r
-    where
-      by_reply : (r : Reply) → Only (Stored j) r → StoresIf j P r
-      by_reply (Stored i) h = ((cc), p)
-      by_reply (Refused e) h = tt
-      by_reply (Read bytes) h = absurd cc
-      by_reply (LookedUp found) h = absurd cc
-      by_reply (Exists there) h = absurd cc
-      by_reply (Copied n) h = absurd cc
-      by_reply (Listed items) h = absurd cc
-      by_reply Done h = absurd cc
-
   -- the integrity is compared before the size, so `Suits` holds here
   abbrev IntegritySuits : Commit → Type 0
   IntegritySuits c = (expected : List Hash) → c.options.integrity ≡ Some expected → matches expected c.computed ≡ true
 
   suited : (c : Commit) → Suits c → Promises (indexed c c.key) r → Stores c r
-  suited c suits h = only_stores (answered c.computed c.options.integrity c.key) (Suits c) suits (by_key c c.key h)
+  suited c suits h = only_stores (answered c.computed c.options.integrity c.key) (Suits c) suits r (by_key c c.key h)
 
   by_size : (c : Commit) (size : Option ℕ) → c.options.size ≡ size → IntegritySuits c → Promises (sized c size) r → Stores c r
   by_size c None e i h = suited c (record { integrity = i; size = λ wanted k. absurd cc }) h
@@ -112,120 +135,29 @@ module _ (r : Reply) where
 
   -- ---- files that a call reads to their end
 
-  copies_only : (verified : Option ℕ) → Copies verified r → OnlyCopies r
-  copies_only verified = by_reply r
-    where
-      by_reply : (r : Reply) → Copies verified r → OnlyCopies r
-      by_reply (Copied n) h = tt
-      by_reply (Refused e) h = tt
-      by_reply (Stored i) h = h
-      by_reply (Read bytes) h = h
-      by_reply (LookedUp found) h = h
-      by_reply (Exists there) h = h
-      by_reply (Listed items) h = h
-      by_reply Done h = h
-
   exports_from : (how : How) (from to : List ℕ) (count : Option ℕ) → Promises (export_from how from to count) r → Exports how r
-  exports_from Copy from to count h = copies_only count h
+  exports_from Copy from to count h = copies_only count r h
   exports_from how from to count h = h
 
-  copy_made : (i : List Hash) (bytes : List ℕ) → Meets i bytes → Copies (Some (length bytes)) r → MadeOf i bytes r
-  copy_made i bytes m = by_reply r
-    where
-      by_reply : (r : Reply) → Copies (Some (length bytes)) r → MadeOf i bytes r
-      by_reply (Copied n) h = ([], rw append-nil m, rw append-nil (h (length bytes) refl))
-      by_reply (Refused e) h = tt
-      by_reply (Stored j) h = absurd h
-      by_reply (Read b) h = absurd h
-      by_reply (LookedUp found) h = absurd h
-      by_reply (Exists there) h = absurd h
-      by_reply (Listed items) h = absurd h
-      by_reply Done h = absurd h
-
-  link_made : (i : List Hash) (bytes : List ℕ) → Meets i bytes → Only Done r → MadeOf i bytes r
-  link_made i bytes m = by_reply r
-    where
-      by_reply : (r : Reply) → Only Done r → MadeOf i bytes r
-      by_reply (Copied n) h = absurd cc
-      by_reply (Refused e) h = tt
-      by_reply (Stored j) h = tt
-      by_reply (Read b) h = tt
-      by_reply (LookedUp found) h = tt
-      by_reply (Exists there) h = tt
-      by_reply (Listed items) h = tt
-      by_reply Done h = ([], rw append-nil m)
-
   export_made : (how : How) (i : List Hash) (bytes from to : List ℕ) → Meets i bytes → Promises (export_from how from to (Some (length bytes))) r → Exports how r × MadeOf i bytes r
-  export_made Copy i bytes from to m h = (copies_only (Some (length bytes)) h, copy_made i bytes m h)
-  export_made how i bytes from to m h = (h, link_made i bytes m h)
+  export_made Copy i bytes from to m h = (copies_only (Some (length bytes)) r h, copy_made i bytes m r h)
+  export_made how i bytes from to m h = (h, link_made i bytes m r h)
 
   hash_exports : (k : Content) (e : Export) → Promises (export k e) r → Exports e.how r × (e.checked ≡ true → MadeOf k.integrity [] r)
   hash_exports k e h =
       cond_leads (λ s. Promises s r → Exports e.how r × (e.checked ≡ true → MadeOf k.integrity [] r)) e.checked (opening_file (to_verify k e)) (export_content k e None)
       (λ _ g. (g.0, λ _. g.1)) (λ no g. (exports_from e.how (content_path k.cache k.integrity) e.to None g, λ yes. absurd cc)) h
 
-  stores_here : (t : Target ℕ) (bytes : List ℕ) → Stores (commit_for t bytes) r → StoresRead t bytes r
-  stores_here t bytes = by_reply r
-    where
-      by_reply : (r : Reply) → Stores (commit_for t bytes) r → StoresRead t bytes r
-      by_reply (Stored i) h = ([], rw append-nil h)
-      by_reply (Refused e) h = tt
-      by_reply (Read bytes) h = absurd h
-      by_reply (LookedUp found) h = absurd h
-      by_reply (Exists there) h = absurd h
-      by_reply (Copied n) h = absurd h
-      by_reply (Listed items) h = absurd h
-      by_reply Done h = absurd h
-
-  stores_later : (t : Target ℕ) (bytes more : List ℕ) → StoresRead t (bytes ++ more) r → StoresRead t bytes r
-  stores_later t bytes more = by_reply r
-    where
-      by_reply : (r : Reply) → StoresRead t (bytes ++ more) r → StoresRead t bytes r
-      by_reply (Stored i) h = (more ++ h.0, subst (λ (b : List ℕ). Stores (commit_for t b) (Stored i)) (append_assoc bytes more h.0) h.1)
-      by_reply (Refused e) h = tt
-      by_reply (Read bytes) h = absurd h
-      by_reply (LookedUp found) h = absurd h
-      by_reply (Exists there) h = absurd h
-      by_reply (Copied n) h = absurd h
-      by_reply (Listed items) h = absurd h
-      by_reply Done h = absurd h
-
-  sizes : (t : Target ℕ) (n : ℕ) → StoresRead (with_size t n) [] r → StoresSized t r
-  sizes t n = by_reply r
-    where
-      by_reply : (r : Reply) → StoresRead (with_size t n) [] r → StoresSized t r
-      by_reply (Stored i) h = (n, h)
-      by_reply (Refused e) h = tt
-      by_reply (Read bytes) h = absurd h
-      by_reply (LookedUp found) h = absurd h
-      by_reply (Exists there) h = absurd h
-      by_reply (Copied n) h = absurd h
-      by_reply (Listed items) h = absurd h
-      by_reply Done h = absurd h
-
   hashes : (h : Hashing) (bytes : List ℕ) → Promises (hashed h bytes) r → Hashes h bytes r
   hashes (to_verify k e) bytes g =
       cond_leads (λ s. Promises s r → Exports e.how r × MadeOf k.integrity bytes r) (meets k.integrity bytes) (export_content k e (Some (length bytes))) (ends_with (IntegrityError (Check k.integrity (actual k.integrity bytes))))
       (λ met. export_made e.how k.integrity bytes (content_path k.cache k.integrity) e.to ((meets_finds k.integrity bytes).0 met))
       (λ _. ends_keeps (λ r. Exports e.how r × MadeOf k.integrity bytes r) (λ x. (exports_refused e.how x, tt)) r (IntegrityError (Check k.integrity (actual k.integrity bytes)))) g
-  hashes (to_link t) bytes g = stores_here t bytes g
-
-  made_later : (i : List Hash) (bytes more : List ℕ) → MadeOf i (bytes ++ more) r → MadeOf i bytes r
-  made_later i bytes more = by_reply r
-    where
-      by_reply : (r : Reply) → MadeOf i (bytes ++ more) r → MadeOf i bytes r
-      by_reply (Copied n) h = (more ++ h.0, rw (← append_assoc bytes more h.0) h.1, rw (← append_assoc bytes more h.0) h.2)
-      by_reply Done h = (more ++ h.0, rw (← append_assoc bytes more h.0) h.1)
-      by_reply (Refused e) h = tt
-      by_reply (Stored j) h = tt
-      by_reply (Read b) h = tt
-      by_reply (LookedUp found) h = tt
-      by_reply (Exists there) h = tt
-      by_reply (Listed items) h = tt
+  hashes (to_link t) bytes g = stores_here t bytes r g
 
   hashes_more : (h : Hashing) (bytes more : List ℕ) → Hashes h (bytes ++ more) r → Hashes h bytes r
-  hashes_more (to_verify k e) bytes more g = (g.0, made_later k.integrity bytes more g.1)
-  hashes_more (to_link t) bytes more g = stores_later t bytes more g
+  hashes_more (to_verify k e) bytes more g = (g.0, made_later k.integrity bytes more r g.1)
+  hashes_more (to_link t) bytes more g = stores_later t bytes more r g
 
   reads_on : (h : Hashing) (bytes : List ℕ) (file : PlainFile) (more : List ℕ) → Promises (after_read h bytes (file, more)) r → Hashes h bytes r
   reads_on h bytes file [] g = hashes h bytes g
@@ -233,22 +165,9 @@ module _ (r : Reply) where
 
   -- ---- lookups
 
-  meeting_reads : (i : List Hash) → ReadsMeeting i r → OnlyReads r
-  meeting_reads i = by_reply r
-    where
-      by_reply : (r : Reply) → ReadsMeeting i r → OnlyReads r
-      by_reply (Read bytes) h = tt
-      by_reply (Refused e) h = tt
-      by_reply (Stored j) h = h
-      by_reply (LookedUp found) h = h
-      by_reply (Exists there) h = h
-      by_reply (Copied n) h = h
-      by_reply (Listed items) h = h
-      by_reply Done h = h
-
   founds : (l : Lookup) (aim : Aim) (found : Option Found) → Promises (found_for l aim found) r → Aims aim r
   founds l aims.Report found h = over_keeps (Aims aims.Report) (λ _. tt) r (LookedUp found) tt h
-  founds l aims.Read (Some f) h = meeting_reads f.integrity h
+  founds l aims.Read (Some f) h = meeting_only f.integrity r h
   founds l aims.Read None h = ends_keeps (Aims aims.Read) (λ _. tt) r (EntryNotFound l.cache l.key) h
   founds l (aims.Export e) (Some f) h = (hash_exports (found_content l f) e h).0
   founds l (aims.Export e) None h = ends_keeps (Exports e.how) (exports_refused e.how) r (EntryNotFound l.cache l.key) h
@@ -292,7 +211,7 @@ module _ (r : Reply) where
 
     files_give : ClosedFiles AnyAnswer Gives
     files_give = record {
-      sized = λ t n h p. h (sizes t n p);
+      sized = λ t n h p. h (sizes t n r p);
       opened = λ x file b h. h;
       got = λ x file bytes g b h p. h (reads_on x bytes g.0 g.1 p);
       copied = λ from to count n h p. h (over_keeps (Copies count) (λ _. tt) r (Copied (copied_count count n)) (counts count n) p);
@@ -341,17 +260,7 @@ pub calls_answer : (site : Site) (command : Command) (moves : Moves) (r : Reply)
 calls_answer site command moves r run = opened command (runs_keep (opening site command) moves r run)
   where
     opened : (command : Command) → Promises (opening site command) r → Answers site command r
-    opened (commands.Put p) h = h
-    opened (commands.Link l) h = h
     opened (commands.Insert i) h = inserts r (insertion site.cache i) (refused_cause (insertion site.cache i)) h
     opened (commands.Delete d) h = inserts r (deletion site.cache d) (refused_cause (deletion site.cache d)) h
-    opened (commands.Find key) h = h
-    opened (commands.Get key) h = h
-    opened (commands.GetHash i) h = h
-    opened (commands.Exists i) h = h
-    opened commands.Ls h = h
-    opened (commands.Export (sources.Key key) e) h = h
     opened (commands.Export (sources.Hash i) e) h = hash_exports r (record { cache = site.cache; integrity = i }) e h
-    opened (commands.RemoveHash i) h = h
-    opened (commands.RemoveFully key) h = h
-    opened commands.Clear h = h
+    opened command h = h

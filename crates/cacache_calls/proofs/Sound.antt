@@ -5,8 +5,8 @@ use Rattle.cacache_store.specs.{declared.store.{plain.{PlainTemp.{PlainTemp}, Pl
 use Rattle.cacache_store.specs.declared.store.answer.Answer.TheVariants as answers
 use Rattle.cacache_store.specs.declared.store.step.Step.TheVariants as steps
 use Rattle.cacache_entry.specs.Latest.{Found}
-use Rattle.cacache_calls.specs.{declared.{command.{Command.{Command}, Export.{Export}, How.{How, TheVariants.{Copy}}}, carried.{Commit.{Commit}, Aim.{Aim}, Lookup.{Lookup}, Content.{Content}}, target.Target.{Target}, visit.Visit.{Visit, TheVariants.{RemoveFile, RemoveFolder}}}, Answers.{temp_in, written_in, synced_in, file_in, got_in, names_in}, StepPaths.{temp_path, content_path, content_folder, bucket_path, bucket_folder}, State.{State, doing, creating, writing, syncing, persisting, linking, appending, opening_file, copying, walking, over, Site, Insertion, Hashing, to_verify, to_link}, Common.{ends_with}, Inserting.{insertion, deletion, unless_refused, refused_cause, bucket_line}, Storing.{insertion_of, indexed, sized, matches, compared, placed}, Removing.{remove_found}, Exporting.{export_from, export_content, export}, Linking.{commit_for, hashed_path, hashed, after_read}, Looking.{found_content, found_for}, Walking.{visit_step}, Table.{piece, wants, after, opening}, Sound.{SoundCommit, SoundInsertion, SoundTarget, IsBelow, IsContent, IsFolder, IsLine, SoundVisit, Allowed, SoundAim, SoundHashing, Sound, MayBegin}}
-use Rattle.cacache_calls.proofs.{Closed.{AnyWalk, ClosedCommit, ClosedFiles, ClosedWalk, Closed, kept}, Branches.{cond_leads}, Visits.{MayMeet}}
+use Rattle.cacache_calls.specs.{declared.{command.{Command.{Command}, Export.{Export}, How.{How, TheVariants.{Copy}}}, carried.{Commit.{Commit}, Aim.{Aim}, Lookup.{Lookup}, Content.{Content}}, target.Target.{Target}, visit.Visit.{Visit, TheVariants.{RemoveFile, RemoveFolder}}}, Answers.{temp_in, written_in, synced_in, names_in}, StepPaths.{temp_path, content_path, content_folder, bucket_path, bucket_folder}, State.{State, doing, creating, writing, syncing, persisting, linking, appending, opening_file, copying, walking, over, Site, Insertion, Hashing, to_verify, to_link}, Common.{ends_with}, Inserting.{insertion, deletion, unless_refused, refused_cause, bucket_line}, Storing.{insertion_of, indexed, sized, matches, compared, placed}, Removing.{remove_found}, Exporting.{export_from, export_content, export}, Linking.{commit_for, hashed_path, hashed, after_read}, Looking.{found_content, found_for}, Walking.{visit_step}, Table.{wants, after, opening}, Sound.{SoundCommit, SoundInsertion, SoundTarget, IsBelow, IsContent, IsFolder, IsLine, SoundVisit, Allowed, SoundAim, SoundHashing, Sound, MayBegin}}
+use Rattle.cacache_calls.proofs.{Effort.{opened, left_after}, Closed.{AnyWalk, ClosedCommit, ClosedFiles, ClosedWalk, Closed, kept}, Branches.{cond_leads}, Visits.{MayMeet}}
 use Rattle.cacache_calls.specs.declared.command.Command.TheVariants as commands
 use Rattle.cacache_calls.specs.declared.command.Source.TheVariants as sources
 use Rattle.cacache_calls.specs.declared.carried.Aim.TheVariants as aims
@@ -82,15 +82,6 @@ module _ (site : Site) (apart outside : List ℕ → Bool) where
   reads_on : (h : Hashing) (bytes : List ℕ) (left : ℕ) (file : PlainFile) (more : List ℕ) → SoundHashing site apart outside h → left + length bytes < 2 ^ 64 → file.left + length more ≡ left → Is (after_read h bytes (file, more))
   reads_on h bytes left file [] s lt e = hashes h bytes s (omega arith)
   reads_on h bytes left file (b ∷ bs) s lt e = (s, omega (arith, length-append bytes (b ∷ bs)))
-
-  -- what a fitting answer says about the open file
-  opened : (path : List ℕ) (t : PlainAnswer) (file : PlainFile) → Fits (steps.Open path) t → file_in t ≡ Ok file → file.left < 2 ^ 64
-  opened path (answers.File g) file fits e = let same : g ≡ file = cc in rw (← same) fits
-  opened path t file fits e = absurd cc
-
-  left_after : (old : PlainFile) (t : PlainAnswer) (x : PlainFile × List ℕ) → Fits (steps.Read old piece) t → got_in t ≡ Ok x → x.0.left + length x.1 ≡ old.left
-  left_after old (answers.Got g b) x fits e = let same : (g, b) ≡ x = cc in rw (← same) fits.1
-  left_after old t x fits e = absurd cc
 
   -- ---- lookups
 
