@@ -106,9 +106,8 @@ impl<Y: System + AllocGlobal + Clone + Drop> SystemStore<Y> {
     /// A step that succeeds, or that is refused memory, leaves it. It isn't set by reads and writes of open handles,
     /// nor by an error that a call makes itself, as of a short append.
     ///
-    /// The program `builds` of `uses_programs` asks for it after a hard link failed, and copies instead only if no
-    /// link can be made: the reason is another device (`CrossesDevices`), or a system without hard links
-    /// (`Unsupported`).
+    /// After a hard link failed, for example, a caller may copy instead if no link can be made: the reason is another
+    /// device (`CrossesDevices`), or a system without hard links (`Unsupported`).
     pub fn reason(&self) -> Option<ErrorKind>
         ensures { result ≡ self.now.runner.reason }
     {
