@@ -102,24 +102,13 @@ module _ (s : Setup) (n : ℕ) (apart : LieApart (home s) s.outside) where
   allowed_proper : (step : PlainStep) → calls.Allowed (call_site s n) (may_export s) (is_outside s) step → Proper (home s) step
   allowed_proper (steps.MakeDirs p) a = folder_for p a
   allowed_proper (steps.CreateTemp p) a = temp_of p a
-  allowed_proper (steps.Write file bytes) a = tt
   allowed_proper (steps.Persist file p) a = (temp_of file.path a.0, content_of p a.1)
   allowed_proper (steps.Append p line) a = line_of p line a
   allowed_proper (steps.Symlink target p) a = (content_of p a.1, among_elsewhere (home s) s.outside target apart a.0)
   allowed_proper (steps.Copy p q) a = export_elsewhere s q a
   allowed_proper (steps.Reflink p q) a = export_elsewhere s q a
   allowed_proper (steps.HardLink p q) a = export_elsewhere s q a
-  allowed_proper (steps.ReadAll p) a = tt
-  allowed_proper (steps.Open p) a = tt
-  allowed_proper (steps.Read f max) a = tt
-  allowed_proper (steps.Exists p) a = tt
-  allowed_proper (steps.Size p) a = tt
-  allowed_proper (steps.ReadDir p) a = tt
-  allowed_proper (steps.RemoveFile p) a = tt
-  allowed_proper (steps.RemoveDir p) a = tt
-  allowed_proper (steps.SyncTemp file) a = tt
-  allowed_proper (steps.SyncFile p) a = tt
-  allowed_proper (steps.SyncDir p) a = tt
+  allowed_proper step a = tt
 
   -- the step that a sound state wants
   pub sound_proper : (state : State) (step : PlainStep) → calls.Sound (call_site s n) (may_export s) (is_outside s) state

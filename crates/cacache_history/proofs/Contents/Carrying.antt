@@ -141,11 +141,10 @@ module _ (own : Own) where
       (λ _. exports_from e.how (content_path k.cache k.integrity) e.to (Some (length bytes))) (λ _. tt)
 
   founds : (l : Lookup) (aim : Aim) (found : Option Found) → Carries own (found_for l aim found)
-  founds l aims.Report found = tt
   founds l aims.Remove (Some f) = tt
   founds l aims.Read (Some f) = tt
   founds l (aims.Export e) (Some f) = exports (found_content l f) e
-  founds l aim None = tt
+  founds l aim found = tt
 
   reads_on : (x : Hashing) (file : PlainFile) (bytes : List ℕ) (got : PlainFile × List ℕ) → Carries own (hashing x file bytes) → Carries own (after_read x bytes got)
   reads_on (to_link t) file bytes (rest, []) h = h
@@ -206,5 +205,4 @@ opening_carries site (commands.Link l) = refl
 opening_carries site (commands.Insert i) = inserts (own_bytes [] []) (insertion site.cache i) (refused_cause (insertion site.cache i))
 opening_carries site (commands.Delete d) = inserts (own_bytes [] []) (deletion site.cache d) (refused_cause (deletion site.cache d))
 opening_carries site (commands.Export (sources.Hash i) e) = exports (own_bytes [] []) (record { cache = site.cache; integrity = i }) e
-opening_carries site (commands.Export (sources.Key key) e) = tt
-opening_carries site other = tt
+opening_carries site command = tt

@@ -123,7 +123,6 @@ module _ (own : Own) (t : Tree) (luck : Luck) (es : List Effect) (ds : List Deed
   asks : (path : List ℕ) (a : PlainAnswer) → Goes (steps.Exists path) a
   unfolding Goes
   asks path (answers.There true) = (finds path, ds, refl, refl, h)
-  asks path (answers.There false) = h
   asks path a = h
 
   persists : (file : PlainTemp) (path : List ℕ) (a : PlainAnswer) (r : Result Names Fault) (own_is : Own) → own ≡ own_is → names_of path ≡ r → a ≡ (apply t (steps.Persist file path) luck).0

@@ -71,7 +71,6 @@ module _ (h : History) (legal : IsLegal h) (past : List Record) (caller : ℕ) (
       let k = target_held h legal call reply reaches t.path (LinksTo t call.turns reply) read in
       let place = committed names target (commit_for t k.0) t.path (deeds call.turns) reply k.1.1 among in
       (k.0, put_at h.setup.cache l.options.algorithm k.0 names place a is_hash here, subst (λ p. HeldOnce h h.records p k.0) (sym makes) k.2)
-  by_command call reaches among path (commands.Put p) makes case = absurd makes
   by_command call reaches among path command makes case = absurd makes
 
   put_last : OnceHeld h h.records a target

@@ -150,9 +150,7 @@ not_found key entries found a none e = by a (e ∙ ap (λ es. find_reply key (sh
   where
     by : (a : PlainAnswer) → LookedUp (Some found) ≡ find_reply key (shown_result a (Ok [])) → ⊥
     by (answers.Failed faults.NotFound) e = absurd cc
-    by (answers.Failed fault) e = absurd cc
-    by (answers.NoMemory step) e = absurd cc
-    by other e = absurd cc
+    by a e = absurd cc
 
 lookup_finds_none : (cache key : List ℕ) (luck : Luck) (found : Found) → IsLegal (lookup_alone cache key luck (LookedUp (Some found))) → ⊥
 lookup_finds_none cache key luck found legal =

@@ -45,15 +45,13 @@ folder_high home (suc n) (x ∷ rest) s = omega (arith, folder_high home n rest 
 
 file_bucket : (home : Option Names) (bytes : List ℕ) (n : ℕ) (rest : Names) → MayStand home (Some (File bytes)) (kind_in_area Bucket n rest) → kind_in_area Bucket n rest ≡ Bucket
 file_bucket home bytes zero [] s = refl
-file_bucket home bytes zero (x ∷ rest) s = absurd s
-file_bucket home bytes (suc n) [] s = absurd s
 file_bucket home bytes (suc n) (x ∷ rest) s = file_bucket home bytes n rest s
+file_bucket home bytes n rest s = absurd s
 
 no_link : (home : Option Names) (target : List ℕ) (n : ℕ) (rest : Names) → MayStand home (Some (Link target)) (kind_in_area Bucket n rest) → ⊥
 no_link home target zero [] s = s
-no_link home target zero (x ∷ rest) s = s
-no_link home target (suc n) [] s = s
 no_link home target (suc n) (x ∷ rest) s = no_link home target n rest s
+no_link home target n rest s = s
 
 -- no folder of the index lies deeper
 folder_low : (t : Tree) (home : Option Names) (folder names : Names) → Placed home t → home ≡ Some folder → look t (folder ++ index_area ∷ names) ≡ Some Folder → length names ≤ 2

@@ -32,10 +32,9 @@ TasksAt (Stumble fault path ∷ todo) qs = ⊥
 
 at_append : (a b : List Task) (ps qs : List Names) → TasksAt a ps → TasksAt b qs → TasksAt (a ++ b) (ps ++ qs)
 at_append [] b [] qs h k = k
-at_append [] b (p ∷ ps) qs h k = absurd h
 at_append (Make v ∷ a) b [] qs h k = absurd h
 at_append (Make v ∷ a) b (p ∷ ps) qs h k = (h.0, at_append a b ps qs h.1 k)
-at_append (Stumble fault path ∷ a) b ps qs h k = absurd h
+at_append a b ps qs h k = absurd h
 
 -- a turn's step lies below one of these paths
 Under : List Names → Turn → Type 0

@@ -63,7 +63,6 @@ module _ (home : Option Names) (t : Tree) (placed : Placed home t) (q : Names) (
 
   moves : (step : PlainStep) (answer : PlainAnswer) → Proper home step → moved_to (moves_file step answer) q ≡ false
   moves (Persist f p) Done is = between_false (names_of f.path) (names_of p) q (at_false home Content Temporary q (names_of p) is.1 at (λ e. cc))
-  moves (Persist f p) answer is = refl
   moves step answer is = refl
 
   -- ---- it stays synced
