@@ -1,12 +1,13 @@
 //! What the index says about a key.
-ghost use Rattle.std.specs.{Prelude.{string_bytes, nat_eq}, Cmp.Lexicographic.{pointwise, bytes_decides, nat_list_eq_equiv}, Ordering.{on}};
+ghost use Rattle.std.specs.{Prelude.{◌≡◌, string_bytes, nat_eq}, Cmp.Lexicographic.{pointwise, bytes_decides, nat_list_eq_equiv}, Ordering.{on}};
 ghost use Rattle.std.specs.Cmp;
 ghost use Rattle.std.specs.Hash as fed;
-ghost use Rattle.cacache_entry.specs.declared.metadata.SerializableMetadata.{SerializableMetadata as Said};
+ghost use Rattle.cacache_entry.specs.{View.{found_view}, declared.metadata.SerializableMetadata.{SerializableMetadata as Said}};
 
 use crate::printing::{Numbers, Quoted};
 use cacache_core::integrity::Integrity;
 use serde_json::Value;
+use std::alloc::AllocError;
 use std::fmt;
 use std::hash::{Hash, Hasher};
 
@@ -68,6 +69,21 @@ pub struct Metadata {
     pub metadata: Value,
     /// Any bytes that the writer stored with the content.
     pub raw_metadata: Option<Vec<u8>>,
+}
+
+impl Clone for Metadata {
+    ghost is_clone = { λ metadata copy. found_view copy ≡ found_view metadata };
+
+    fn clone(&self) -> Result<Metadata, AllocError> {
+        Ok(Metadata {
+            key: self.key.clone()?,
+            integrity: self.integrity.clone()?,
+            time: self.time,
+            size: self.size,
+            metadata: self.metadata.clone()?,
+            raw_metadata: self.raw_metadata.clone()?,
+        })
+    }
 }
 
 /// The compact JSON text that an entry with these parts has in its line. Allocates no memory.
