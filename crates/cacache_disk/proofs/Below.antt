@@ -5,7 +5,7 @@ use Rattle.cacache_disk.{specs.{declared.node.Node.{Node}, Tree.{Tree, Names, na
 use Rattle.std.specs.FinMap as map
 use Rattle.std.specs.BTreeMap as btree
 
-name_itself : (a : List ℕ) → slice_cmp nat_cmp a a ≡ Equal
+pub name_itself : (a : List ℕ) → slice_cmp nat_cmp a a ≡ Equal
 name_itself a = is_eq_true _ ((eq_by_cmp_equiv nat_list_cmp_total).refl a)
 
 -- what lies below a folder doesn't come before it

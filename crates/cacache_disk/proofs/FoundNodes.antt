@@ -47,28 +47,21 @@ free_at None old new e = (refl, cc)
 free_at (Some node) old new e = absurd cc
 
 pub no_folder_at : (here : Option Node) (old new : Names) → where_no_folder here old ≡ Ok new → NoFolder here × (old ≡ new)
-no_folder_at None old new e = (refl, cc)
 no_folder_at (Some Folder) old new e = absurd cc
-no_folder_at (Some (File bytes)) old new e = (refl, cc)
-no_folder_at (Some (Link target)) old new e = (refl, cc)
+no_folder_at here old new e = (refl, cc)
 
 removable_at : (here : Option Node) (old new : Names) → where_removable here old ≡ Ok new → NoFolder here × (old ≡ new)
-removable_at None old new e = absurd cc
-removable_at (Some Folder) old new e = absurd cc
 removable_at (Some (File bytes)) old new e = (refl, cc)
 removable_at (Some (Link target)) old new e = (refl, cc)
+removable_at here old new e = absurd cc
 
 file_at : (here : Option Node) (old new : Names) → where_file here old ≡ Ok new → NoFolder here × (old ≡ new)
-file_at None old new e = absurd cc
-file_at (Some Folder) old new e = absurd cc
 file_at (Some (File bytes)) old new e = (refl, cc)
-file_at (Some (Link target)) old new e = absurd cc
+file_at here old new e = absurd cc
 
 folder_at : (here : Option Node) (old new : Names) → where_folder here old ≡ Ok new → (here ≡ Some Folder) × (old ≡ new)
-folder_at None old new e = absurd cc
 folder_at (Some Folder) old new e = (refl, cc)
-folder_at (Some (File bytes)) old new e = absurd cc
-folder_at (Some (Link target)) old new e = absurd cc
+folder_at here old new e = absurd cc
 
 pub free_ok : (t : Tree) (path : List ℕ) (names : Names) → free t path ≡ Ok names → HasNoFolder t path names
 unfolding free

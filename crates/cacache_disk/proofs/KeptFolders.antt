@@ -4,16 +4,14 @@ use Rattle.std.specs.{Prelude.{Result, Err, IfOk, OnOk, OnErr, filter_map, slice
 use Rattle.std.specs.FinMap as map
 use Rattle.cacache_core.specs.{declared.errors.Fault.{Fault}, PathNames.{names_of}}
 use Rattle.cacache_store.specs.{declared.store.step.Step.TheVariants.{MakeDirs, CreateTemp, Persist, Append, Symlink, Copy, Reflink, HardLink, RemoveFile, RemoveDir}, Plain.{PlainStep, PlainAnswer}}
-use Rattle.cacache_disk.specs.{declared.{luck.Luck.{Luck}, node.Node.{Node, TheVariants.{Folder, File, Link}}}, Tree.{Tree, Names, look, put, names_cmp, same_path, listing, child_of, is_child, kind_of}, LedTo.{and_then, or_fault, through, way_fault, place, standing, followed, leads, on_link, where_no_folder, where_there, writable, free, dirs, dirs_fault}, Apply.{apply}, Rooted.{is_folder, Rooted}}
+use Rattle.cacache_disk.specs.{declared.{luck.Luck.{Luck}, node.Node.{Node, TheVariants.{Folder, Link}}}, Tree.{Tree, Names, look, put, names_cmp, same_path, listing, child_of, is_child, kind_of}, LedTo.{and_then, or_fault, through, way_fault, place, standing, followed, leads, on_link, where_no_folder, where_there, writable, free, dirs, dirs_fault}, Apply.{apply}, Rooted.{is_folder, Rooted}}
 use Rattle.cacache_disk.proofs.{Changes.{TreeChange, NoChange, PutNode, MoveFile, MakeFolders, CutNode, Makes, by_changes, made_by}, Maps.{same_path-true}, NameLemmas.{names_proper}, FoundNodes.{and_then_ok, or_fault_none, place_ok, no_folder_at, there_at, free_ok, kept_ok, replaceable_ok, removable_ok, emptied_ok}, Roots.{CanStand, put_rooted, cut_rooted, file_cut, persist_rooted, make_rooted, same_self, IsBare}}
 
 -- ---- the folder of a path
 
 through_none : (here : Option Node) (later : Option Fault) → through here later ≡ None → (here ≡ Some Folder) × (later ≡ None)
-through_none None later e = absurd cc
 through_none (Some Folder) later e = (refl, e)
-through_none (Some (File bytes)) later e = absurd cc
-through_none (Some (Link target)) later e = absurd cc
+through_none here later e = absurd cc
 
 way_folder : (t : Tree) (path more : Names) (name : List ℕ) → look t path ≡ Some Folder → way_fault t path (more ++ name ∷ []) ≡ None
     → look t (path ++ more) ≡ Some Folder
@@ -42,10 +40,8 @@ module _ (t : Tree) (rooted : Rooted t) where
 
   link_folder : (here : Option Node) (names new : Names) (go : List ℕ → Result Names Fault) → CanStand t names
       → ((target : List ℕ) → go target ≡ Ok new → CanStand t new) → on_link here names go ≡ Ok new → CanStand t new
-  link_folder None names new go h on e = let same : names ≡ new = cc in subst (CanStand t) same h
-  link_folder (Some Folder) names new go h on e = let same : names ≡ new = cc in subst (CanStand t) same h
-  link_folder (Some (File bytes)) names new go h on e = let same : names ≡ new = cc in subst (CanStand t) same h
   link_folder (Some (Link target)) names new go h on e = on target e
+  link_folder here names new go h on e = let same : names ≡ new = cc in subst (CanStand t) same h
 
   followed_folder : (n : ℕ) (names new : Names) → CanStand t names → followed n t names ≡ Ok new → CanStand t new
   unfolding followed

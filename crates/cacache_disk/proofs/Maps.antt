@@ -1,6 +1,6 @@
 -- The nodes as a finite map.
 use Rattle.std.proofs.{Common.{◌≡◌, Bool, true, false, cond, List, [], ◌∷◌, refl, sym, ap, ◌∙◌}, lemmas.Cmp.{nat_list_cmp_total, lists_total}}
-use Rattle.std.specs.{Prelude.{◌&&◌, T, None, Some, IsSome, map as keys_of}, List.{AllByRecursion, Sorted.{IsStrictlySortedBy}}, FinMap.{Entries.{below_all}, IsAntisymmetric, nat_cmp-IsAntisymmetric, slice_cmp-IsAntisymmetric}, declared.cmp.Ordering.{Ordering, TheVariants.{Less, Equal, Greater}}, Ordering.{eq_by_cmp, is_eq}, Cmp.{IsTotalOrder, eq_by_cmp_equiv}, BTreeMap.{BTreeMap, is_at}, Map.{lookup}}
+use Rattle.std.specs.{Prelude.{◌&&◌, T, None, Some, IsSome, map as keys_of}, List.{AllByRecursion, Sorted.{IsStrictlySortedBy}}, FinMap.{Entries.{below_all}, IsAntisymmetric, nat_cmp-IsAntisymmetric, slice_cmp-IsAntisymmetric}, declared.cmp.Ordering.{Ordering, TheVariants.{Less, Equal}}, Ordering.{eq_by_cmp, is_eq}, Cmp.{IsTotalOrder, eq_by_cmp_equiv}, BTreeMap.{BTreeMap, is_at}, Map.{lookup}}
 use Rattle.std.specs.FinMap as map
 use Rattle.std.specs.BTreeMap as btree
 use Rattle.cacache_disk.specs.{declared.node.Node.{Node}, Tree.{Tree, Names, names_cmp, same_path}}
@@ -31,15 +31,14 @@ cut_map m n k u = map.same_map total only _ _ (λ q.
     ∙ sym (map.get-remove total (map.from_entries m.entries) k q ∙ ap (cond (eq_by_cmp names_cmp q k) None) (get_map m q)))
 
 pub is_eq_true : (o : Ordering) → is_eq o ≡ true → o ≡ Equal
-is_eq_true Less e = cc
 is_eq_true Equal e = refl
-is_eq_true Greater e = cc
+is_eq_true o e = cc
 
 pub same_path-true : (p q : Names) → same_path p q ≡ true → p ≡ q
 same_path-true p q e = only p q (is_eq_true (names_cmp p q) e)
 
 -- a test and then another
-both : (a b : Bool) → T a → T b → T (a && b)
+pub both : (a b : Bool) → T a → T b → T (a && b)
 both true b x y = y
 both false b x y = absurd x
 

@@ -1,5 +1,5 @@
 -- The names of a path's text, piece by piece.
-use Rattle.std.proofs.{Common.{◌≡◌, ◌<◌, ◌+◌, ◌==◌, ◌||◌, ℕ, zero, suc, Bool, true, false, cond, subst, List, [], ◌∷◌, ◌++◌, length, take, filter, get_or, refl, ap, sym, ◌∙◌, arith, append-nil}, lemmas.List.{take_all, Elements.{filter_more}, Folds.{list_any_more, list_any_at}}}
+use Rattle.std.proofs.{Common.{◌≡◌, ◌<◌, ◌+◌, ◌==◌, ◌||◌, ℕ, zero, suc, Bool, true, false, cond, subst, List, [], ◌∷◌, ◌++◌, length, take, filter, get_or, refl, ap, sym, ◌∙◌, arith, append-nil}, lemmas.{Bool.{or_parts}, List.{take_all, Elements.{filter_more}, Folds.{list_any_more, list_any_at}}}}
 use Rattle.std.specs.{Prelude.{Ok, Err}, List.{list_any, slice_split, onto_first, AllByRecursion}}
 use Rattle.cacache_core.specs.{declared.errors.Fault.{Fault, TheVariants.{NotFound, InvalidInput}}, PathNames.{Names, IsProperName, names_of, pieces, ends_name, is_above, is_name, is_bad}}
 
@@ -63,13 +63,9 @@ neither true y rest e f = absurd cc
 neither false true rest e f = absurd cc
 neither false false rest e f = (refl, f)
 
-or_right : (x y : Bool) → (x || y) ≡ false → y ≡ false
-or_right true y e = absurd cc
-or_right false y e = e
-
 split_at : (b : ℕ) (text : List ℕ) (slash : Bool) → (b == 47) ≡ slash → list_any (λ b. b == 0) (b ∷ text) ≡ false → (list_any (λ b. b == 0) text ≡ false → AreOpen (slice_split (λ b. b == 47) text))
     → AreOpen (cond slash ([] ∷ slice_split (λ b. b == 47) text) (onto_first b (slice_split (λ b. b == 47) text)))
-split_at b text true is nul more = (refl, more (or_right (b == 0) _ nul))
+split_at b text true is nul more = (refl, more (or_parts (b == 0) _ nul).1)
 split_at b text false is nul more =
     let f = neither (b == 47) (b == 0) (list_any (λ b. b == 0) text) is nul in
     onto_open b (slice_split (λ b. b == 47) text) f.0 (more f.1)
@@ -104,19 +100,15 @@ proper_more : (b : Bool) (piece : List ℕ) (rest : Names) → is_name piece ≡
 proper_more true piece rest is above clean more = ((is, above, clean), more)
 proper_more false piece rest is above clean more = more
 
-either_off : (x y : Bool) → (x || y) ≡ false → (x ≡ false) × (y ≡ false)
-either_off true y e = absurd cc
-either_off false y e = (refl, e)
-
 proper_pieces : (parts : Names) → AreOpen parts → list_any is_above parts ≡ false → AllByRecursion IsProperName (filter is_name parts)
 proper_pieces [] clean above = tt
 proper_pieces (part ∷ parts) clean above =
-    let f = either_off (is_above part) (list_any is_above parts) above in
+    let f = or_parts (is_above part) (list_any is_above parts) above in
     proper_more (is_name part) part (filter is_name parts) refl f.0 clean.0 (proper_pieces parts clean.1 f.1)
 
 pub names_proper : (path : List ℕ) (names : Names) → names_of path ≡ Ok names → AllByRecursion IsProperName names
 unfolding names_of pieces
 names_proper path names e =
     let f = neither_stops (length path == 0) (is_bad path) NotFound InvalidInput (filter is_name (pieces path)) names e in
-    let g = either_off (list_any (λ b. b == 0) path) (list_any is_above (pieces path)) f.0 in
+    let g = or_parts (list_any (λ b. b == 0) path) (list_any is_above (pieces path)) f.0 in
     subst (AllByRecursion IsProperName) f.1 (proper_pieces (pieces path) (split_open path g.0) g.1)

@@ -1,7 +1,7 @@
 -- What somebody else plants leaves each node in a folder.
 use Rattle.std.proofs.{Common.{◌≡◌, ◌==◌, ◌-◌, ◌+◌, ◌<◌, ◌≤◌, ℕ, Bool, true, false, cond, List, [], ◌∷◌, ◌++◌, Option, None, Some, Ok, length, refl, sym, ap, ap₂, subst, ◌∙◌, arith, eqb-true, length-append, append_assoc, append-nil}, Math.Seq.{take-append_seam}}
 use Rattle.cacache_core.specs.{declared.errors.Fault.TheVariants.{AlreadyExists, NotADirectory}, PathNames.{names_of}}
-use Rattle.cacache_disk.specs.{declared.node.Node.{Node, TheVariants.{Folder, File, Link}}, Tree.{Tree, Names, look, put, same_path}, LedTo.{or_fault, dirs_fault, is_in_way, where_no_folder}, Apply.{planted, above_last, make_some, if_missing}, Rooted.{is_folder, AreProper, Rooted}}
+use Rattle.cacache_disk.specs.{declared.node.Node.{Node, TheVariants.{Folder, File}}, Tree.{Tree, Names, look, put, same_path}, LedTo.{or_fault, dirs_fault, is_in_way, where_no_folder}, Apply.{planted, above_last, make_some, if_missing}, Rooted.{is_folder, AreProper, Rooted}}
 use Rattle.cacache_disk.proofs.{Maps.{same_path-true}, NameLemmas.{names_proper}, PutNodes.{look-put}, FoundNodes.{and_then_ok, or_fault_none, no_folder_at}, Roots.{put_rooted, make_rooted, front_proper, same_folder, same_self, no_fault, not_true, dirs_fault-put}}
 
 -- ---- the folders above a file
@@ -32,8 +32,7 @@ full_at t p rest None count true e z clear f h l = let none : count ≡ 0 = eqb-
 full_at t p rest None count false e z clear f h l =
     h (put t p Folder) (count - 1) (look-put t p Folder p ∙ ap (λ b. cond b (Some Folder) (look t p)) (same_self p)) (dirs_fault-put t p p rest (ap is_in_way e) ∙ f) (omega arith)
 full_at t p rest (Some Folder) count b e z clear f h l = h t count e f (omega arith)
-full_at t p rest (Some (File bytes)) count b e z clear f h l = absurd cc
-full_at t p rest (Some (Link target)) count b e z clear f h l = absurd cc
+full_at t p rest here count b e z clear f h l = absurd cc
 
 pub full : (t : Tree) (above rest : Names) (count : ℕ) → look t above ≡ Some Folder → dirs_fault t above rest ≡ None → length rest ≤ count
     → look (make_some t above rest count) (above ++ rest) ≡ Some Folder

@@ -3,7 +3,7 @@ use Rattle.std.proofs.Common.{◌≡◌, ◌==◌, ◌-◌, ℕ, Bool, true, fal
 use Rattle.std.specs.{Prelude.{IfSome}, Cmp.{eq_by_cmp_equiv}}
 use Rattle.std.specs.FinMap as map
 use Rattle.cacache_core.specs.{declared.errors.Fault.{Fault, TheVariants.{AlreadyExists, NotADirectory}}, Paths.{folder_names}}
-use Rattle.cacache_disk.specs.{declared.node.Node.{Node, TheVariants.{Folder, File, Link}}, Tree.{Tree, Names, look, put, cut, bare, names_cmp, same_path}, LedTo.{dirs_fault, is_in_way}, Apply.{make_some, if_missing}, Rooted.{is_folder, StandsIn, AreProper, Rooted}}
+use Rattle.cacache_disk.specs.{declared.node.Node.{Node, TheVariants.{Folder, File}}, Tree.{Tree, Names, look, put, cut, bare, names_cmp, same_path}, LedTo.{dirs_fault, is_in_way}, Apply.{make_some, if_missing}, Rooted.{is_folder, StandsIn, AreProper, Rooted}}
 use Rattle.cacache_disk.proofs.{Maps.{total, same_path-true}, PutNodes.{look-put, look-cut, folders-cut}, PathFolders.{make_none}}
 
 -- proper names in a folder that is there
@@ -110,9 +110,8 @@ persist_rooted t old new bytes rooted e stand f =
 -- ---- making folders
 
 pub folder_names-snoc : (a : Names) (x : List ℕ) → folder_names (a ++ x ∷ []) ≡ a
-folder_names-snoc [] x = refl
-folder_names-snoc (n ∷ []) x = refl
 folder_names-snoc (n ∷ m ∷ a) x = ap (λ (l : Names). n ∷ l) (folder_names-snoc (m ∷ a) x)
+folder_names-snoc a x = refl
 
 pub same_folder : (a b : Names) (x y : List ℕ) → a ++ x ∷ [] ≡ b ++ y ∷ [] → a ≡ b
 same_folder a b x y e = sym (folder_names-snoc a x) ∙ ap folder_names e ∙ folder_names-snoc b y
@@ -150,8 +149,7 @@ made_rooted above rest name t None count false is none clear rooted proper upper
     (look-put t (above ++ name ∷ []) Folder (above ++ name ∷ []) ∙ ap (λ b. cond b (Some Folder) (look t (above ++ name ∷ []))) (same_self (above ++ name ∷ [])))
     (dirs_fault-put t (above ++ name ∷ []) (above ++ name ∷ []) rest (ap is_in_way is) ∙ later)
 made_rooted above rest name t (Some Folder) count b is none clear rooted proper upper later more = more t count rooted is later
-made_rooted above rest name t (Some (File bytes)) count b is none clear rooted proper upper later more = absurd cc
-made_rooted above rest name t (Some (Link target)) count b is none clear rooted proper upper later more = absurd cc
+made_rooted above rest name t here count b is none clear rooted proper upper later more = absurd cc
 
 pub make_rooted : (t : Tree) (above rest : Names) (count : ℕ) → Rooted t → AreProper (above ++ rest) → look t above ≡ Some Folder → dirs_fault t above rest ≡ None
     → Rooted (make_some t above rest count)

@@ -1,6 +1,6 @@
 -- What the deepest node on a path says of the whole path.
 use Rattle.std.proofs.{Common.{◌≡◌, ◌<◌, ◌+◌, ◌-◌, ℕ, suc, List, [], ◌∷◌, ◌++◌, Option, None, Some, Ok, length, take, drop, refl, sym, ap, subst, ◌∙◌, arith, append-nil, append_assoc}, lemmas.List.{take-append-drop, length-drop, take-take, length-take-le}}
-use Rattle.cacache_disk.specs.{declared.node.Node.{Node, TheVariants.{Folder, File, Link}}, Tree.{Tree, Names, look}, LedTo.{way_fault, through, dirs_fault, place, or_fault}, Apply.{make_some}, Rooted.{Rooted, StandsIn}, Deepest.{IsMissing, IsDeepest, way_past, dirs_past, MakesFrom}}
+use Rattle.cacache_disk.specs.{declared.node.Node.{Node, TheVariants.{Folder}}, Tree.{Tree, Names, look}, LedTo.{way_fault, through, dirs_fault, place, or_fault}, Apply.{make_some}, Rooted.{Rooted, StandsIn}, Deepest.{IsMissing, IsDeepest, way_past, dirs_past, MakesFrom}}
 use Rattle.cacache_disk.proofs.PathFolders.{drop_here, front_next}
 use Rattle.cacache_core.specs.PathNames.{names_of}
 
@@ -12,11 +12,10 @@ upper_folder t p (m ∷ rest) name node rooted e =
     subst (StandsIn (look t p)) next (rooted.folders p name)
 
 pub way_clear : (t : Tree) (p rest : Names) (node : Node) → Rooted t → look t (p ++ rest) ≡ Some node → way_fault t p rest ≡ None
-way_clear t p [] node rooted e = refl
-way_clear t p (name ∷ []) node rooted e = refl
 way_clear t p (name ∷ m ∷ rest) node rooted e =
     let same = ap (look t) (append_assoc p (name ∷ []) (m ∷ rest)) ∙ e in
     rw (upper_folder t (p ++ name ∷ []) rest m node rooted same) (way_clear t (p ++ name ∷ []) (m ∷ rest) node rooted same)
+way_clear t p rest node rooted e = refl
 
 -- nothing is below a missing node
 missing_child : (upper child : Option Node) → StandsIn upper child → upper ≡ None → child ≡ None
@@ -52,8 +51,7 @@ past : (t : Tree) (above rest : Names) (name : List ℕ) (node : Node) → look 
     → through (Some node) (way_fault t above (name ∷ rest)) ≡ way_past node (suc (length rest))
 past t above [] name Folder none = refl
 past t above (next ∷ rest) name Folder none = rw none refl
-past t above rest name (File bytes) none = refl
-past t above rest name (Link target) none = refl
+past t above rest name node none = refl
 
 way_split : (t : Tree) (above rest : Names) (node : Node) → Rooted t → look t above ≡ Some node → IsMissing t above rest
     → way_fault t [] (above ++ rest) ≡ way_past node (length rest)
@@ -82,8 +80,7 @@ dirs_below t p (name ∷ rest) rooted missing = rw missing (dirs_missing t (p ++
 dirs_last : (t : Tree) (p rest : Names) (name : List ℕ) (node : Node) → Rooted t → look t (p ++ name ∷ []) ≡ Some node → IsMissing t (p ++ name ∷ []) rest
     → dirs_fault t p (name ∷ rest) ≡ dirs_past node (length rest)
 dirs_last t p rest name Folder rooted e missing = rw e (dirs_below t (p ++ name ∷ []) rest rooted missing)
-dirs_last t p rest name (File bytes) rooted e missing = rw e refl
-dirs_last t p rest name (Link target) rooted e missing = rw e refl
+dirs_last t p rest name node rooted e missing = rw e refl
 
 dirs_to : (t : Tree) (p above rest : Names) (node : Node) → Rooted t → look t p ≡ Some Folder → look t (p ++ above) ≡ Some node
     → IsMissing t (p ++ above) rest → dirs_fault t p (above ++ rest) ≡ dirs_past node (length rest)

@@ -1,10 +1,10 @@
 -- The log of all that is on a disk leads to the disk's tree: each node is put once, after its folder.
-use Rattle.std.proofs.{Common.{◌≡◌, ◌==◌, ℕ, Bool, true, false, cond, List, [], ◌∷◌, ◌++◌, length, refl, sym, ap, subst, ◌∙◌}, lemmas.Cmp.{nat_list_cmp_total}}
-use Rattle.std.specs.{Prelude.{◌&&◌, T, Option, None, Some, IfSome, map as each}, FinMap.Entries.{below_all}, List.{AllByRecursion}, declared.cmp.Ordering.{Ordering, TheVariants.{Less, Equal, Greater}}, Ordering.{nat_cmp, is_eq, is_lt}, Cmp.{eq_by_cmp_equiv, Lexicographic.{slice_cmp}}}
+use Rattle.std.proofs.Common.{◌≡◌, ◌==◌, ℕ, Bool, true, false, cond, List, [], ◌∷◌, ◌++◌, length, refl, sym, ap, subst, ◌∙◌}
+use Rattle.std.specs.{Prelude.{◌&&◌, T, Option, None, Some, IfSome, map as each}, FinMap.Entries.{below_all}, List.{AllByRecursion}, declared.cmp.Ordering.{Ordering, TheVariants.{Less}}, Ordering.{is_eq, is_lt}, Cmp.{eq_by_cmp_equiv}}
 use Rattle.std.specs.FinMap as map
 use Rattle.cacache_core.specs.PathNames.{Names}
 use Rattle.cacache_disk.specs.{declared.node.Node.{Node, TheVariants.{Folder}}, AllStanding.{item_of, all_standing}, Rooted.{is_folder, Rooted, AreProper}, Tree.{Tree, bare, look, names_cmp, put, same_path}, memory.{ForeignLog.{logged, foreign_log}, Replay.{replay, IsReplayable}}}
-use Rattle.cacache_disk.proofs.{Maps.{total, only, same_path-true, is_eq_true, put_same}, PutNodes.{look-put}, PlantedNodes.{Ends, ends, empty, last}, Roots.{CanStand, put_rooted, same_folder, same_self, look-bare, bare_below, bare_rooted}, Standing.{upper_folder}, memory.PutItems.{Puts, never_empty, node_puts, top_puts}}
+use Rattle.cacache_disk.proofs.{Below.{name_itself}, Maps.{total, only, same_path-true, both, put_same}, PutNodes.{look-put}, PlantedNodes.{Ends, ends, empty, last}, Roots.{CanStand, put_rooted, same_folder, same_self, look-bare, bare_below, bare_rooted}, Standing.{upper_folder}, memory.PutItems.{Puts, never_empty, node_puts, top_puts}}
 
 -- ---- entries in order
 
@@ -12,14 +12,9 @@ parts : (a b : Bool) → T (a && b) → T a × T b
 parts true b h = (tt, h)
 parts false b h = absurd h
 
-both : (a b : Bool) → T a → T b → T (a && b)
-both true b x y = y
-both false b x y = absurd x
-
 less : (o : Ordering) → T (is_lt o) → o ≡ Less
 less Less h = refl
-less Equal h = absurd h
-less Greater h = absurd h
+less o h = absurd h
 
 -- a path before all of these isn't among them
 none_found : (q : Names) (es : List (Names × Node)) → T (below_all names_cmp q es) → map.find names_cmp q es ≡ None
@@ -34,9 +29,6 @@ below_more p q [] le h = tt
 below_more p q (e ∷ es) le h =
     let f = parts (is_lt (names_cmp q e.0)) (below_all names_cmp q es) h in
     rw (total.trans p q e.0 le (less (names_cmp q e.0) f.0)) (below_more p q es le f.1)
-
-name_itself : (a : List ℕ) → slice_cmp nat_cmp a a ≡ Equal
-name_itself a = is_eq_true _ ((eq_by_cmp_equiv nat_list_cmp_total).refl a)
 
 -- a folder comes before what it holds
 folder_before : (above : Names) (name : List ℕ) → names_cmp above (above ++ name ∷ []) ≡ Less
