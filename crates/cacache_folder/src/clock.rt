@@ -32,6 +32,15 @@ impl<R: SystemTimes + Drop> SystemClock<R> {
     }
 }
 
+impl<R: Copy> SystemClock<R> {
+    /// The runtime whose time it is.
+    pub fn runtime(&self) -> R
+        ensures { result ≡ self.now.rt }
+    {
+        self.rt
+    }
+}
+
 impl<R: SystemTimes + Drop> Clock for SystemClock<R> {
     fn now(&mut self) -> u64 {
         millis_of(self.rt.since_1970())
