@@ -14,7 +14,7 @@ use Rattle.cacache_system.specs.{declared.call.{FileInfo.{FileInfo}, CallResult.
 use Rattle.cacache_system.specs.declared.call.SystemCall.TheVariants as asks
 use Rattle.cacache_system.specs.declared.call.CallResult.TheVariants as says
 use Rattle.cacache_system_model.specs.{Machine.{OpenFile, Machine, SyncedNode, Describes}, Calls.{OccursSomehow}, Laws.{bytes_in, temp_on, step_on, answer_on, Leads}, OneCall.{StillStands}, Syncing.{EndsInNoLink}, Fixing.{with_synced, after_syncs}}
-use Rattle.cacache_system_model.proofs.{Claims.{way_of}, Steps.{Opening.{OpenedOn, Openings, opening_leads}, Looking.{link_there, refused_folder, wanted_file}, Syncing.{WasSynced, sync_leads, refused_other, open_under}}, Views.{nowhere, a_folder, a_file, view, leads_straight}}
+use Rattle.cacache_system_model.proofs.{Claims.{way_of}, Steps.{Opening.{OpenedOn, Openings, opening_leads, file_under}, Looking.{link_there, refused_folder, wanted_file}, Syncing.{WasSynced, sync_leads, refused_other}}, Views.{nowhere, a_folder, a_file, view, leads_straight}}
 
 -- a step fixes what its calls synced, and nothing else
 abbrev pub FixesSynced : Machine → NumberedStep → CallResult → Machine → Type 0
@@ -148,7 +148,7 @@ temp_names file f names is at = let same : Some f.names ≡ Some names = ap (opt
 
 pub sync_temp_fixes : (m : Machine) (hint : Hint) (temp : NumberedTemp) (names : Names) (bytes : List ℕ) → StillStands m temp names bytes → FixesAsTold m hint (steps.SyncTemp temp)
 sync_temp_fixes m hint temp names bytes ready =
-    let file = open_under (m.files temp.number) names ready.opened in
+    let file = file_under (m.files temp.number) names ready.opened in
     let at : file.0.names ≡ names = temp_names (m.files temp.number) file.0 names file.1 ready.opened in
     let held : option_map (bytes_in m) (m.files temp.number) ≡ Some bytes
     = ap (option_map (bytes_in m)) file.1 ∙ ap (λ (n : Names). Some (bytes_of (look m.tree n))) at ∙ ap (λ (o : Option Node). Some (bytes_of o)) ready.stands in

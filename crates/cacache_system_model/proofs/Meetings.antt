@@ -1,8 +1,9 @@
 -- Each call can happen as `GoesWell` says.
-use Rattle.std.proofs.Common.{◌≡◌, ◌+◌, ℕ, List, [], ◌∷◌, ◌++◌, length, take, drop, refl, sym, ap, subst, inr}
-use Rattle.std.specs.Prelude.{Option, None, Some, Result, Ok, Err, IfSome, IfOk, MatchResult}
-use Rattle.cacache_core.specs.{declared.errors.Fault.{Fault, TheVariants.{IsADirectory, InvalidInput}}, PathNames.{Names}}
+use Rattle.std.proofs.Common.{◌≡◌, ◌+◌, ℕ, List, [], ◌∷◌, ◌++◌, length, take, drop, refl, sym, ap, subst, inr, eq-eqb, ne_eqb}
+use Rattle.std.specs.Prelude.{Bool, if◌then◌else◌, ◌==◌, Option, None, Some, is_some, Result, Ok, Err, MatchOption, IfSome, IfNone, IfOk, MatchResult}
+use Rattle.cacache_core.specs.{declared.errors.Fault.{Fault, TheVariants.{Device, IsADirectory, InvalidInput}}, PathNames.{Names}}
 use Rattle.cacache_disk.specs.{declared.node.Node.{Node, TheVariants.{Folder, File, Link}}, Tree.{Tree, look, put, cut, kind_of, listing}, LedTo.{place, standing, found, file_at, writable, free, replaceable, linked, removable, emptied}, Apply.{taken, readable, lengthened}}
+use Rattle.std_io.specs.declared.io.kind.ErrorKind.TheVariants as kind
 use Rattle.cacache_system.specs.declared.call.{FileInfo.{FileInfo}, CallResult.{CallResult}}
 use Rattle.cacache_system.specs.declared.call.SystemCall.TheVariants as asks
 use Rattle.cacache_system.specs.declared.call.CallResult.TheVariants as says
@@ -11,6 +12,9 @@ use Rattle.cacache_system_model.proofs.Saying.{CanSay, a_folder, Sayable, place_
 use Rattle.cacache_store.specs.declared.store.answer.Name.{Name}
 
 -- ---- calls
+
+bad_number : CanSay Device
+bad_number = (kind.PermissionDenied, refl, refl)
 
 abbrev Can : (CallResult → Machine → Type 0) → Type 0
 Can Claim = (said : CallResult) × (after : Machine) × Claim said after
@@ -25,11 +29,11 @@ abbrev open_on : Machine → Tree → ℕ → OpenFile → Machine
 open_on m t number file = record { tree = t; files = with_file m.files number file; synced = m.synced; inodes = m.inodes; folders = m.folders }
 
 can_change : (m : Machine) (ends : Result Names Fault) (new : Names → Tree) → Sayable ends → Can (ChangesTree ends new m)
-can_change m (Ok names) new can = (says.Done, standing_on m (new names), (refl, (refl, refl, refl)))
+can_change m (Ok names) new can = (says.Done, standing_on m (new names), (refl, (refl, refl, refl, λ k. refl)))
 can_change m (Err fault) new can = can_refuse fault m can
 
 can_open : (m : Machine) (ends : Result Names Fault) (new : Names → Tree) → HasRoom m → Sayable ends → Can (OpensIf ends new m)
-can_open m (Ok names) new (number, room) can = (says.Opened number, open_on m (new names) number (unread names), (number, refl, room, (refl, refl, refl)))
+can_open m (Ok names) new (number, room) can = (says.Opened number, open_on m (new names) number (unread names), (number, refl, room, (refl, refl, refl, λ k. refl)))
 can_open m (Err fault) new room can = can_refuse fault m can
 
 abbrev size_of : Option Node → ℕ
@@ -55,15 +59,20 @@ can_show : (m : Machine) (ends : Result Names Fault) → Sayable ends → Can (S
 can_show m (Ok names) can = can_show_node m names (look m.tree names) refl
 can_show m (Err fault) can = can_refuse fault m can
 
-of_open : (o : Option OpenFile) (Claim : OpenFile → CallResult → Machine → Type 0) (m : Machine) → ((file : OpenFile) → Can (Claim file)) → Can (λ said after. IfSome o (λ file. Claim file said after))
-of_open None Claim m can = (says.Done, m, tt)
-of_open (Some file) Claim m can = can file
+can_miss : {A : Type 0} (o : Option A) (m : Machine) → Can (λ said after. IfNone o (IsRefused Device m said after))
+can_miss None m = can_refuse Device m bad_number
+can_miss (Some a) m = (says.Done, m, tt)
+
+of_open : {A B : Type 0} (o : Option A) (p : Option B) (Claim : A → CallResult → Machine → Type 0) (m : Machine) → ((a : A) → Can (Claim a))
+    → Can (λ said after. MatchOption o (IfNone p (IsRefused Device m said after)) (λ a. Claim a said after))
+of_open None p Claim m can = can_miss p m
+of_open (Some a) p Claim m can = can a
 
 can_read : (m : Machine) (pick : List ℕ → List ℕ) (number : ℕ) (file : OpenFile) (here : Option Node) → Can (ReadsFile pick number file here m)
 can_read m pick number file (Some Folder) = can_refuse IsADirectory m a_folder
 can_read m pick number file (Some (File bytes)) =
     let next = pick (drop file.read bytes) in
-    (says.Bytes next, open_on m m.tree number (record { names = file.names; read = file.read + length next }), (refl, (refl, refl, refl)))
+    (says.Bytes next, open_on m m.tree number (record { names = file.names; read = file.read + length next }), (refl, (refl, refl, refl, λ k. refl)))
 can_read m pick number file here = (says.Done, m, tt)
 
 can_move : (m : Machine) (old : Names) (here : Option Node) (ends : Result Names Fault) → Sayable ends → Can (MovesNode old here ends m)
@@ -81,7 +90,7 @@ can_link m (Ok node) ends begin can = can_change m ends (λ names. put m.tree na
 can_link m (Err fault) ends begin can = can_refuse (link_fault fault) m begin
 
 can_copy_to : (m : Machine) (bytes : List ℕ) (ends : Result Names Fault) → Sayable ends → Can (CopiesTo bytes ends m)
-can_copy_to m bytes (Ok names) can = (says.Count (length bytes), standing_on m (put m.tree names (File bytes)), (refl, (refl, refl, refl)))
+can_copy_to m bytes (Ok names) can = (says.Count (length bytes), standing_on m (put m.tree names (File bytes)), (refl, (refl, refl, refl, λ k. refl)))
 can_copy_to m bytes (Err fault) can = can_refuse fault m can
 
 can_copy : (m : Machine) (source : Result (List ℕ) Fault) (ends : Result Names Fault) → Sayable source → Sayable ends → Can (CopiesBytes source ends m)
@@ -98,30 +107,38 @@ gives_all : (es : List Name) → GivesNames (names_given es) es
 gives_all [] = refl
 gives_all (e ∷ es) = inr (e, es, refl, refl, gives_all es)
 
-abbrev folders_on : Machine → List (List ℕ) → Machine
-folders_on m left = record { tree = m.tree; files = m.files; synced = m.synced; inodes = m.inodes; folders = λ number. Some left }
+abbrev with_left : (ℕ → Option (List (List ℕ))) → ℕ → List (List ℕ) → ℕ → Option (List (List ℕ))
+with_left folders number left k = if k == number then Some left else folders k
 
-has_left : (m : Machine) (number : ℕ) (left : List (List ℕ)) → HasLeft number left m (folders_on m left)
-has_left m number left = record { tree = refl; files = refl; synced = refl; left = refl }
+abbrev folders_on : Machine → ℕ → List (List ℕ) → Machine
+folders_on m number left = record { tree = m.tree; files = m.files; synced = m.synced; inodes = m.inodes; folders = with_left m.folders number left }
 
-can_list : (m : Machine) (names : Names) (o : Option Node) → Can (OpensNames names o m)
-can_list m names (Some Folder) =
+has_left : (m : Machine) (number : ℕ) (left : List (List ℕ)) → HasLeft number left m (folders_on m number left)
+has_left m number left = record {
+  tree = refl;
+  files = refl;
+  synced = refl;
+  left = ap (λ (b : Bool). if b then Some left else m.folders number) (eq-eqb number number refl);
+  others = λ k other. ap (λ (b : Bool). is_some (if b then Some left else m.folders k)) (ne_eqb k number other);
+}
+
+can_list : (m : Machine) (names : Names) (o : Option Node) → HasRoom m → Can (OpensNames names o m)
+can_list m names (Some Folder) (number, room) =
     let given = names_given (listing m.tree names) in
-    (says.Opened 0, folders_on m given, (0, given, refl, gives_all (listing m.tree names), has_left m 0 given))
-can_list m names _ = (says.Done, m, tt)
+    (says.Opened number, folders_on m number given, (number, given, refl, room, gives_all (listing m.tree names), has_left m number given))
+can_list m names _ room = (says.Done, m, tt)
 
-can_open_folder : (m : Machine) (ends : Result Names Fault) → Sayable ends → Can (OpensFolder ends m)
-can_open_folder m (Ok names) can = can_list m names (look m.tree names)
-can_open_folder m (Err fault) can = can_refuse fault m can
+can_open_folder : (m : Machine) (ends : Result Names Fault) → HasRoom m → Sayable ends → Can (OpensFolder ends m)
+can_open_folder m (Ok names) room can = can_list m names (look m.tree names) room
+can_open_folder m (Err fault) room can = can_refuse fault m can
 
 append-none : (xs : List (List ℕ)) → xs ≡ xs ++ []
 append-none [] = refl
 append-none (x ∷ xs) = ap (λ l. x ∷ l) (append-none xs)
 
-can_read_names : (m : Machine) (number : ℕ) (o : Option (List (List ℕ))) → Can (λ said after. IfSome o (λ left. ReadsSome number left m said after))
-can_read_names m number None = (says.Done, m, tt)
-can_read_names m number (Some left) =
-    (says.Bytes (ended left), folders_on m [], (left, [], append-none left, (λ _. refl), refl, has_left m number []))
+can_read_names : (m : Machine) (number : ℕ) (left : List (List ℕ)) → Can (ReadsSome number left m)
+can_read_names m number left =
+    (says.Bytes (ended left), folders_on m number [], (left, [], append-none left, (λ _. refl), refl, has_left m number []))
 
 can_spell : (m : Machine) (ends : Result Names Fault) → Sayable ends → IfOk ends (λ names. (text : List ℕ) × Spells m.tree text names) → Can (SpellsEnd ends m)
 can_spell m (Ok names) can (text, spells) = (says.Bytes text, m, (text, refl, spells, refl))
@@ -136,19 +153,20 @@ calls_can_go_well most m (asks.OpenToRead path) room spelt = can_open m (found m
 calls_can_go_well most m (asks.CreateNew path mode) room spelt = can_open m (free m.tree path) (λ names. put m.tree names (File [])) room (free_say m.tree path)
 calls_can_go_well most m (asks.OpenToAppend path) room spelt = can_open m (writable m.tree path) (with_empty m.tree) room (writable_say m.tree path)
 calls_can_go_well most m (asks.Read number size) room spelt =
-    of_open (m.files number) (λ file. ReadsFile (take (readable most size)) number file (look m.tree file.names) m) m (λ file. can_read m (take (readable most size)) number file (look m.tree file.names))
+    of_open (m.files number) (m.folders number) (λ file. ReadsFile (take (readable most size)) number file (look m.tree file.names) m) m (λ file. can_read m (take (readable most size)) number file (look m.tree file.names))
 calls_can_go_well most m (asks.ReadRest number) room spelt =
-    of_open (m.files number) (λ file. ReadsFile (λ bytes. bytes) number file (look m.tree file.names) m) m (λ file. can_read m (λ bytes. bytes) number file (look m.tree file.names))
+    of_open (m.files number) (m.folders number) (λ file. ReadsFile (λ bytes. bytes) number file (look m.tree file.names) m) m (λ file. can_read m (λ bytes. bytes) number file (look m.tree file.names))
 calls_can_go_well most m (asks.Write number bytes) room spelt =
-    of_open (m.files number) (λ file said after. (said ≡ says.Count (taken most bytes)) × Became (lengthened m.tree file.names (take (taken most bytes) bytes)) m.files m.synced after) m
-    (λ file. (says.Count (taken most bytes), standing_on m (lengthened m.tree file.names (take (taken most bytes) bytes)), (refl, (refl, refl, refl))))
+    of_open (m.files number) (m.folders number) (λ file said after. (said ≡ says.Count (taken most bytes)) × Became m (lengthened m.tree file.names (take (taken most bytes) bytes)) m.files m.synced after) m
+    (λ file. (says.Count (taken most bytes), standing_on m (lengthened m.tree file.names (take (taken most bytes) bytes)), (refl, (refl, refl, refl, λ k. refl))))
 calls_can_go_well most m (asks.Sync number) room spelt =
-    of_open (m.files number) (λ file said after. (said ≡ says.Done) × Became m.tree m.files ((file.names, look m.tree file.names) ∷ m.synced) after) m
-    (λ file. (says.Done, record { tree = m.tree; files = m.files; synced = (file.names, look m.tree file.names) ∷ m.synced; inodes = m.inodes; folders = m.folders }, (refl, (refl, refl, refl))))
+    of_open (m.files number) (m.folders number) (λ file said after. (said ≡ says.Done) × Became m m.tree m.files ((file.names, look m.tree file.names) ∷ m.synced) after) m
+    (λ file. (says.Done, record { tree = m.tree; files = m.files; synced = (file.names, look m.tree file.names) ∷ m.synced; inodes = m.inodes; folders = m.folders }, (refl, (refl, refl, refl, λ k. refl))))
 calls_can_go_well most m (asks.SetOwner path owner group) room spelt = can_own m (standing m.tree path) (standing_say m.tree path)
 calls_can_go_well most m (asks.SetMode number mode) room spelt =
-    of_open (m.files number) (λ file said after. (said ≡ says.Done) × (after ≡ m)) m (λ file. (says.Done, m, (refl, refl)))
-calls_can_go_well most m (asks.StatFile number) room spelt = of_open (m.files number) (λ file. ShowsNode file.names m) m (λ file. can_show_node m file.names (look m.tree file.names) refl)
+    of_open (m.files number) (m.folders number) (λ file said after. (said ≡ says.Done) × (after ≡ m)) m (λ file. (says.Done, m, (refl, refl)))
+calls_can_go_well most m (asks.StatFile number) room spelt =
+    of_open (m.files number) (m.folders number) (λ file. ShowsNode file.names m) m (λ file. can_show_node m file.names (look m.tree file.names) refl)
 calls_can_go_well most m (asks.Stat path) room spelt = can_show m (found m.tree path) (found_say m.tree path)
 calls_can_go_well most m (asks.StatLink path) room spelt = can_show m (standing m.tree path) (standing_say m.tree path)
 calls_can_go_well most m (asks.Rename from to) room spelt = can_rename m (place m.tree from) (replaceable m.tree to) (place_say m.tree from) (replaceable_say m.tree to)
@@ -158,6 +176,6 @@ calls_can_go_well most m (asks.RemoveFolder path) room spelt = can_change m (emp
 calls_can_go_well most m (asks.Symlink target path) room spelt = can_change m (free m.tree path) (λ names. put m.tree names (Link target)) (free_say m.tree path)
 calls_can_go_well most m (asks.HardLink from to) room spelt = can_link m (linked m.tree from) (free m.tree to) (linked_say m.tree from) (free_say m.tree to)
 calls_can_go_well most m (asks.CopyFile from to) room spelt = can_copy m (file_at m.tree from InvalidInput) (writable m.tree to) (file_say m.tree from) (writable_say m.tree to)
-calls_can_go_well most m (asks.OpenFolder path) room spelt = can_open_folder m (standing m.tree path) (standing_say m.tree path)
-calls_can_go_well most m (asks.ReadNames number size) room spelt = can_read_names m number (m.folders number)
+calls_can_go_well most m (asks.OpenFolder path) room spelt = can_open_folder m (standing m.tree path) room (standing_say m.tree path)
+calls_can_go_well most m (asks.ReadNames number size) room spelt = of_open (m.folders number) (m.files number) (λ left. ReadsSome number left m) m (can_read_names m number)
 calls_can_go_well most m (asks.RealPath path) room spelt = can_spell m (found m.tree path) (found_say m.tree path) spelt

@@ -1,11 +1,11 @@
 -- Folders that are opened to be listed, and the names that they give.
-use Rattle.std.specs.Prelude.{◌≡◌, ◌⊎◌, ℕ, List, [], ◌∷◌, ◌++◌, Option, Some, IfSome, Result, MatchResult}
-use Rattle.cacache_core.specs.{declared.errors.Fault.{Fault}, PathNames.{Names}}
+use Rattle.std.specs.Prelude.{◌≡◌, ◌⊎◌, ℕ, List, [], ◌∷◌, ◌++◌, Option, Some, MatchOption, IfNone, Result, MatchResult}
+use Rattle.cacache_core.specs.{declared.errors.Fault.{Fault, TheVariants.{Device}}, PathNames.{Names}}
 use Rattle.cacache_store.specs.declared.store.answer.Name.{Name}
 use Rattle.cacache_disk.specs.{declared.node.Node.{Node, TheVariants.{Folder}}, Tree.{look, listing}}
 use Rattle.cacache_system.specs.declared.call.CallResult.{CallResult}
 use Rattle.cacache_system.specs.declared.call.CallResult.TheVariants as says
-use Rattle.cacache_system_model.specs.Machine.{Machine, IsRefused}
+use Rattle.cacache_system_model.specs.Machine.{Machine, IsRefused, IsUnused, StaysFolder}
 
 -- the folder itself, or the one above it
 abbrev pub IsDots : List ℕ → Type 0
@@ -24,17 +24,18 @@ abbrev pub ended : List (List ℕ) → List ℕ
 ended [] = []
 ended (name ∷ names) = name ++ 0 ∷ ended names
 
--- nothing changed, but an open folder has these names left
+-- nothing changed, but an open folder has these names left, and others may have others left
 pub record HasLeft (number : ℕ) (names : List (List ℕ)) (m after : Machine) : Type 0 where
   pub tree : after.tree ≡ m.tree
   pub files : after.files ≡ m.files
   pub synced : after.synced ≡ m.synced
   pub left : after.folders number ≡ Some names
+  pub others : (k : ℕ) → (k ≡ number → ⊥) → StaysFolder m after k
 
 -- a folder is opened; of a file or a link nothing is said
 abbrev pub OpensNames : Names → Option Node → Machine → CallResult → Machine → Type 0
 OpensNames names (Some Folder) m said after =
-    (number : ℕ) × (given : List (List ℕ)) × (said ≡ says.Opened number)
+    (number : ℕ) × (given : List (List ℕ)) × (said ≡ says.Opened number) × IsUnused m number
     × GivesNames given (listing m.tree names) × HasLeft number given m after
 OpensNames names here m said after = Unit {0}
 
@@ -50,7 +51,8 @@ ReadsSome number left m said after =
     (given : List (List ℕ)) × (rest : List (List ℕ)) × (left ≡ given ++ rest)
     × (given ≡ [] → rest ≡ []) × (said ≡ says.Bytes (ended given)) × HasLeft number rest m after
 
--- an open folder is read
+-- An open folder is read. If neither a folder nor a file has the number, it is refused.
 abbrev pub ReadsFolder : ℕ → Machine → CallResult → Machine → Type 0
 ReadsFolder number m said after =
-    IfSome (m.folders number) (λ left. ReadsSome number left m said after)
+    MatchOption (m.folders number) (IfNone (m.files number) (IsRefused Device m said after))
+    (λ left. ReadsSome number left m said after)

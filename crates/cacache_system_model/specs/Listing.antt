@@ -1,5 +1,5 @@
 -- The law on listings.
-use Rattle.std.specs.{Prelude.{◌≡◌, ◌==◌, ℕ, Bool, true, false, List, [], ◌∷◌, ◌++◌, Some, Ok, None, length}, List.{AllByRecursion}, Str.{is_utf8}}
+use Rattle.std.specs.{Prelude.{◌≡◌, ◌==◌, ℕ, true, false, List, [], ◌∷◌, ◌++◌, Some, Ok, None, length}, List.{AllByRecursion}, Str.{is_utf8}}
 use Rattle.std_io.specs.declared.io.kind.ErrorKind.TheVariants as kind
 use Rattle.cacache_core.specs.PathNames.{Names, IsProperName}
 use Rattle.cacache_store.specs.declared.store.step.Step.TheVariants as steps

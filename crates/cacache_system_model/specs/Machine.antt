@@ -1,5 +1,5 @@
 -- A model of the system: what is there, which files are open, and what a call may say and leave.
-use Rattle.std.specs.Prelude.{◌≡◌, suc, Ok, ◌+◌, ◌==◌, ℕ, Bool, true, false, if◌then◌else◌, List, [], ◌∷◌, Option, None, Some, Result, MatchResult, IfSome, length, take, drop}
+use Rattle.std.specs.Prelude.{◌≡◌, suc, Ok, ◌+◌, ◌==◌, ℕ, Bool, true, false, if◌then◌else◌, List, [], ◌∷◌, Option, None, Some, Result, MatchResult, MatchOption, IfSome, IfNone, is_some, length, take, drop}
 use Rattle.std_io.specs.declared.io.kind.ErrorKind.{ErrorKind}
 use Rattle.cacache_core.specs.{Contexts.{fault_of}, declared.errors.Fault.{Fault, TheVariants.{IsADirectory, Device}}, PathNames.{Names, is_name}}
 use Rattle.cacache_disk.specs.{declared.node.Node.{Node, TheVariants.{Folder, File, Link}}, Tree.{Tree, look, put, cut, kind_of}, LedTo.{place}, Apply.{if_missing, taken, lengthened}}
@@ -35,15 +35,20 @@ EndsInName path = is_name (behind_slash (last_slash path (length path)) path) �
 
 -- ---- what a call leaves
 
--- the tree, the open files and what was synced are these; the numbers of what is there may be
--- others
-abbrev pub Became : Tree → (ℕ → Option OpenFile) → List SyncedNode → Machine → Type 0
-Became t files synced after =
+-- a number is that of an open folder if it was before
+abbrev pub StaysFolder : Machine → Machine → ℕ → Type 0
+StaysFolder m after number = is_some (after.folders number) ≡ is_some (m.folders number)
+
+-- The tree, the open files and what was synced are these, and the same folders are open. The numbers of what is there,
+-- and the names that open folders have left, may be others.
+abbrev pub Became : Machine → Tree → (ℕ → Option OpenFile) → List SyncedNode → Machine → Type 0
+Became m t files synced after =
     (after.tree ≡ t) × (after.files ≡ files) × (after.synced ≡ synced)
+    × ((number : ℕ) → StaysFolder m after number)
 
 -- the tree is another
 abbrev pub HasTree : Machine → Tree → Machine → Type 0
-HasTree m t after = Became t m.files m.synced after
+HasTree m t after = Became m t m.files m.synced after
 
 -- the open files with this one under a number
 abbrev pub with_file : (ℕ → Option OpenFile) → ℕ → OpenFile → ℕ → Option OpenFile
@@ -66,11 +71,15 @@ ChangesTree ends new m said after =
 abbrev pub unread : Names → OpenFile
 unread names = record { names = names; read = 0 }
 
+-- neither an open file nor an open folder has the number
+abbrev pub IsUnused : Machine → ℕ → Type 0
+IsUnused m number = (m.files number ≡ None) × (m.folders number ≡ None)
+
 -- a file is opened under a number that no other has, and this is the tree then
 abbrev pub OpensAt : Names → Tree → Machine → CallResult → Machine → Type 0
 OpensAt names t m said after =
-    (number : ℕ) × (said ≡ says.Opened number) × (m.files number ≡ None)
-    × Became t (with_file m.files number (unread names)) m.synced after
+    (number : ℕ) × (said ≡ says.Opened number) × IsUnused m number
+    × Became m t (with_file m.files number (unread names)) m.synced after
 
 -- a file is opened at these names, or it is refused
 abbrev pub OpensIf : Result Names Fault → (Names → Tree) → Machine → CallResult → Machine → Type 0
@@ -114,10 +123,17 @@ abbrev pub ShowsEnd : Result Names Fault → Machine → CallResult → Machine 
 ShowsEnd ends m said after =
     MatchResult ends (λ names. ShowsNode names m said after) (λ fault. IsRefused fault m said after)
 
--- the call says what an open file is; nothing is said if no file has the number
+-- A call on an open file does this. If neither a file nor a folder has the number, it is refused: that number is bad.
+-- Nothing is said if a folder has it.
+abbrev pub OnOpen : ℕ → (OpenFile → CallResult → Machine → Type 0) → Machine → CallResult → Machine
+    → Type 0
+OnOpen number Does m said after =
+    MatchOption (m.files number) (IfNone (m.folders number) (IsRefused Device m said after))
+    (λ file. Does file said after)
+
+-- the call says what an open file is
 abbrev pub ShowsOpen : ℕ → Machine → CallResult → Machine → Type 0
-ShowsOpen number m said after =
-    IfSome (m.files number) (λ file. ShowsNode file.names m said after)
+ShowsOpen number m said after = OnOpen number (λ file. ShowsNode file.names m) m said after
 
 -- a text names a file or folder, and ends with a name
 pub record Spells (t : Tree) (text : List ℕ) (names : Names) : Type 0 where
@@ -137,7 +153,7 @@ SpellsEnd ends m said after =
 abbrev pub Gives : ℕ → OpenFile → List ℕ → Machine → CallResult → Machine → Type 0
 Gives number file next m said after =
     (said ≡ says.Bytes next)
-    × Became m.tree
+    × Became m m.tree
     (with_file m.files number (record { names = file.names; read = file.read + length next }))
     m.synced after
 
@@ -152,22 +168,21 @@ ReadsFile pick number file here m said after = Unit {0}
 -- an open file is read
 abbrev pub ReadsOpen : (List ℕ → List ℕ) → ℕ → Machine → CallResult → Machine → Type 0
 ReadsOpen pick number m said after =
-    IfSome (m.files number) (λ file.
-    ReadsFile pick number file (look m.tree file.names) m said after)
+    OnOpen number (λ file. ReadsFile pick number file (look m.tree file.names) m) m said after
 
 -- an open file takes all the bytes at its end, or at most so many
 abbrev pub WritesOpen : Option ℕ → List ℕ → ℕ → Machine → CallResult → Machine → Type 0
 WritesOpen most bytes number m said after =
-    IfSome (m.files number) (λ file.
+    OnOpen number (λ file said after.
     (said ≡ says.Count (taken most bytes))
-    × HasTree m (lengthened m.tree file.names (take (taken most bytes) bytes)) after)
+    × HasTree m (lengthened m.tree file.names (take (taken most bytes) bytes)) after) m said after
 
 -- an open file or folder is synced
 abbrev pub SyncsOpen : ℕ → Machine → CallResult → Machine → Type 0
 SyncsOpen number m said after =
-    IfSome (m.files number) (λ file.
+    OnOpen number (λ file said after.
     (said ≡ says.Done)
-    × Became m.tree m.files ((file.names, look m.tree file.names) ∷ m.synced) after)
+    × Became m m.tree m.files ((file.names, look m.tree file.names) ∷ m.synced) after) m said after
 
 -- ---- owners and modes
 
@@ -180,7 +195,7 @@ GivesOwner ends m said after =
 -- an open file gets a mode
 abbrev pub GivesMode : ℕ → Machine → CallResult → Machine → Type 0
 GivesMode number m said after =
-    IfSome (m.files number) (λ file. (said ≡ says.Done) × (after ≡ m))
+    OnOpen number (λ file said after. (said ≡ says.Done) × (after ≡ m)) m said after
 
 -- ---- two paths
 

@@ -1,12 +1,12 @@
 -- That the model can be met.
-use Rattle.std.specs.Prelude.{◌≡◌, ℕ, List, Option, None, IfOk}
+use Rattle.std.specs.Prelude.{ℕ, List, Option, IfOk}
 use Rattle.cacache_disk.specs.LedTo.{found}
 use Rattle.cacache_system.specs.declared.call.{SystemCall.{SystemCall, TheVariants.{RealPath}}, CallResult.{CallResult}}
-use Rattle.cacache_system_model.specs.{Machine.{Machine, Spells}, Calls.{GoesWell}}
+use Rattle.cacache_system_model.specs.{Machine.{Machine, IsUnused, Spells}, Calls.{GoesWell}}
 
--- some number has no open file
+-- some number is unused
 abbrev pub HasRoom : Machine → Type 0
-HasRoom m = (number : ℕ) × (m.files number ≡ None)
+HasRoom m = (number : ℕ) × IsUnused m number
 
 -- what a real path is asked for has one
 abbrev pub CanSpell : Machine → SystemCall → Type 0

@@ -3,12 +3,12 @@ use Rattle.std.proofs.{lemmas.List.Elements.{All-head, All-tail}, Common.{◌≡
 use Rattle.std.specs.{Cmp.Lexicographic.{pointwise}, Prelude.{Option, None, Some, Result, Ok, Err}}
 use Rattle.std_io.specs.declared.io.kind.ErrorKind.{ErrorKind}
 use Rattle.std_io.specs.declared.io.kind.ErrorKind.TheVariants as kind
-use Rattle.cacache_core.specs.{Contexts.{fault_of}, declared.errors.Fault.{Fault, TheVariants.{NotFound, NotADirectory, IsADirectory, InvalidInput, AlreadyExists}}, PathNames.{Names, names_of, pieces, is_bad, is_name, IsProperName}, Paths.{temp_area}}
+use Rattle.cacache_core.specs.{Contexts.{fault_of}, declared.errors.Fault.{Fault, TheVariants.{NotFound, IsADirectory, InvalidInput, AlreadyExists}}, PathNames.{Names, names_of, pieces, is_bad, is_name, IsProperName}, Paths.{temp_area}}
 use Rattle.cacache_core.proofs.ProperNames.{names_are_proper}
 use Rattle.cacache_store.specs.declared.store.step.Step.TheVariants as steps
 use Rattle.cacache_store.specs.declared.store.answer.Answer.TheVariants as answers
 use Rattle.cacache_disk.specs.{declared.{luck.Luck.TheVariants.{Plain}, node.Node.{Node, TheVariants.{Folder, File, Link}}}, Tree.{Tree, look, put}, LedTo.{and_then, or_fault, leads, found, file_at, writable, place, standing, where_there, where_no_folder}, Apply.{apply, unless}}
-use Rattle.cacache_system.specs.{declared.call.FileInfo.{FileInfo}, CallsOf.{over, taking_memory, making_fresh, copied, name_taken, already_exists, is_absent, is_same_node, fresh_name}, AnswersOf.{misses}}
+use Rattle.cacache_system.specs.{declared.call.FileInfo.{FileInfo}, CallsOf.{over, taking_memory, making_fresh, name_taken, already_exists, is_absent, is_same_node, fresh_name}, AnswersOf.{misses}}
 use Rattle.cacache_system.specs.declared.call.CallResult.TheVariants as says
 use Rattle.cacache_system_model.specs.{Machine.{Machine, Describes, EndsInName}, Laws.{outcome}}
 use Rattle.cacache_system_model.proofs.Views.{NoLink, nowhere, a_folder, a_file, view, found_at, leads_straight}

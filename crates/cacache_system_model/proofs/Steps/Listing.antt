@@ -1,9 +1,10 @@
 -- A folder is listed call by call.
 use Rattle.std.proofs.{Common.{◌≡◌, ◌≢◌, ◌==◌, ◌||◌, ◌&&◌, not, ◌-◌, ◌^◌, ℕ, zero, suc, Bool, true, false, if◌then◌else◌, List, [], ◌∷◌, ◌++◌, length, refl, sym, ap, subst, ◌∙◌, ⊎_elim, inl, inr, arith, ne_eqb, length-append, append-nil, append_assoc}, lemmas.Bool.{or_parts}}
-use Rattle.std.specs.{Prelude.{Option, Some, Result, Ok}, List.{AllByRecursion, list_any}, Str.{is_utf8}}
+use Rattle.std.specs.{Prelude.{Option, Some, MatchOption, IfNone, Result, Ok}, List.{AllByRecursion, list_any}, Str.{is_utf8}}
 use Rattle.std_io.specs.declared.io.kind.ErrorKind.{ErrorKind}
 use Rattle.std_io.specs.declared.io.kind.ErrorKind.TheVariants as kind
-use Rattle.cacache_core.{proofs.Splits.{split-append, split_none}, specs.{declared.errors.Fault.{Fault}, PathNames.{Names, is_above, ends_name, IsProperName}}}
+use Rattle.cacache_core.proofs.Splits.{split-append, split_none}
+use Rattle.cacache_core.specs.{declared.errors.Fault.{Fault, TheVariants.{Device}}, PathNames.{Names, is_above, ends_name, IsProperName}}
 use Rattle.cacache_store.specs.declared.store.answer.{Kind.{Kind, TheVariants.{File}}, Name.{Name}}
 use Rattle.cacache_store.specs.declared.store.step.Step.TheVariants as steps
 use Rattle.cacache_store.specs.declared.store.answer.Answer.TheVariants as answers
@@ -11,7 +12,7 @@ use Rattle.cacache_disk.specs.{declared.{luck.Luck.TheVariants.{Plain}, node.Nod
 use Rattle.cacache_system.specs.{declared.call.{SystemCall.{SystemCall}, CallItem.{CallItem}, CallResult.{CallResult}}, ListedNames.{text_of, is_proper, is_passed, names_in, with_slash}, CallsOf.{Stage, Reader, over, taking_memory, opening_folder, following, unopened, is_no_folder, interrupts, reading_names, asking_kind, reader, read_once, more_names, entered, ask_kind, next_name, names_read, broken_off, after, Ends, Runs}, AnswersOf.{is_named, list, misses}}
 use Rattle.cacache_system.specs.declared.call.SystemCall.TheVariants as asks
 use Rattle.cacache_system.specs.declared.call.CallResult.TheVariants as says
-use Rattle.cacache_system_model.specs.{Machine.{Machine, ShowsNode, ShowsEnd, Describes}, Folders.{IsDots, GivesNames, ended, OpensNames, OpensFolder, ReadsSome, ReadsFolder}, Calls.{EachCall}, Laws.{outcome, led_to, Leads, IsDone, IsLucky}, Listing.{IsPlainEntry, ListsPlainly, IsListed, ReadDirGoesPlainly, ReadDirBreaks}}
+use Rattle.cacache_system_model.specs.{Machine.{Machine, IsRefused, ShowsNode, ShowsEnd, Describes}, Folders.{IsDots, GivesNames, ended, OpensNames, OpensFolder, ReadsSome, ReadsFolder}, Calls.{EachCall}, Laws.{outcome, led_to, Leads, IsDone, IsLucky}, Listing.{IsPlainEntry, ListsPlainly, IsListed, ReadDirGoesPlainly, ReadDirBreaks}}
 use Rattle.cacache_system_model.proofs.{Leading.{Claim, over_leads, call_leads}, Refused.{broken_agrees}, Claims.{way_of, cases_of, taking_leads}, Steps.{Opening.{of_some}, CopyFacts.{not_absent}}}
 
 -- what a listing's calls come to: if none fails without cause, and if some may
@@ -259,7 +260,7 @@ module _ (b : Bool) (m : Machine) (path : List ℕ) (names : Names) (done : b �
       subst (λ (c : Bool). Goes (if c then over (says.Failed kind.FileTooLarge) else reading_names false r found) n)
       (sym (not_zero r.left (λ none. omega (arith, less, none))))
       (reading_on false r found n (λ e. absurd cc) tree (λ said k happens.
-      let some = of_some (n.folders r.number) left (λ l. ReadsSome r.number l n said k) holds happens in
+      let some = subst (λ (o : Option (List (List ℕ))). MatchOption o (IfNone (n.files r.number) (IsRefused Device n said k)) (λ l. ReadsSome r.number l n said k)) holds happens in
       let given = some.0 in
       let rest = some.1 in
       let has = some.5 in
@@ -279,7 +280,7 @@ module _ (b : Bool) (m : Machine) (path : List ℕ) (p : ListsPlainly m.tree pat
       → (s : Stage) → ((number : ℕ) → after s (says.Opened number) ≡ more_names (reader number path) []) → Goes_on (after s said) k
   opened_leads from said k stands happens s leads =
       let opens : OpensNames p.names (look m.tree p.names) m said k = subst (λ (ends : Result Names Fault). OpensFolder ends m said k) stands happens in
-      let (number, given, told, gives, has) = subst (λ (o : Option Node). OpensNames p.names o m said k) p.there opens in
+      let (number, given, told, unused, gives, has) = subst (λ (o : Option Node). OpensNames p.names o m said k) p.there opens in
       subst (λ (result : CallResult). Goes_on (after s result) k) (sym told)
       (subst (λ (t : Stage). Goes_on t k) (sym (leads number))
       (reads_lead b m path p.names done (2 ^ 64 - 1) (reader number path) given (listing m.tree p.names) [] k p.folder refl refl has.tree has.left gives p.entries refl))

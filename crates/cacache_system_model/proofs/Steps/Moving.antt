@@ -1,6 +1,6 @@
 -- Temporary files that are put, in the place of another or of none.
-use Rattle.std.proofs.Common.{◌≡◌, ℕ, Bool, true, false, if◌then◌else◌, List, [], refl, sym, ap, subst, ◌∙◌, ⊎_elim}
-use Rattle.std.specs.Prelude.{Option, None, Some, Result, Ok, Err, IfSome, MatchResult, option_map}
+use Rattle.std.proofs.Common.{◌≡◌, ℕ, Bool, true, false, if◌then◌else◌, List, [], ◌∷◌, refl, sym, ap, subst, ◌∙◌, ⊎_elim}
+use Rattle.std.specs.Prelude.{Option, Some, Result, Ok, Err, MatchResult, option_map}
 use Rattle.std_io.specs.declared.io.kind.ErrorKind.{ErrorKind}
 use Rattle.cacache_core.specs.{declared.errors.Fault.{Fault, TheVariants.{NotFound}}, PathNames.{Names}}
 use Rattle.cacache_store.specs.declared.store.step.Step.TheVariants as steps
@@ -9,8 +9,8 @@ use Rattle.cacache_disk.specs.{declared.{luck.Luck.TheVariants.{Plain}, node.Nod
 use Rattle.cacache_system.specs.{declared.call.{FileInfo.{FileInfo}, SystemCall.{SystemCall}, CallResult.{CallResult}}, CallsOf.{Stage, over, only, preparing, keeping, give, give_mode, sync_again, after}, Seen.{NumberedTemp}, AnswersOf.{Hint, no_hint, is_missing, was_named, in_walk, rewrites, look_first, persist, misses}}
 use Rattle.cacache_system.specs.declared.call.SystemCall.TheVariants as asks
 use Rattle.cacache_system.specs.declared.call.CallResult.TheVariants as says
-use Rattle.cacache_system_model.specs.{Machine.{OpenFile, Machine, ShowsEnd, GivesOwner}, Calls.{GoesWell, LeavesPart}, Laws.{Leads, IsDone}, OneCall.{StillStands}, Removing.{WalkStands}, Moving.{LeadsOrMisses, MayReplace, PersistAgrees}}
-use Rattle.cacache_system_model.proofs.{Leading.{Claim, over_leads, call_leads, only_leads}, Claims.{way_of, claim_of, cases_of, agrees_of, claim_plain, claim_broken}, Steps.{Opening.{said_leads}, CopyFacts.{not_absent, fault_absent}, Walking.{looks_so}, Changing.{put_away}}, memory.Places.{place_led}}
+use Rattle.cacache_system_model.specs.{Machine.{OpenFile, Machine, Became, ShowsEnd, GivesOwner}, Calls.{GoesWell, LeavesPart}, Laws.{Leads, IsDone}, OneCall.{StillStands}, Removing.{WalkStands}, Moving.{LeadsOrMisses, MayReplace, PersistAgrees}}
+use Rattle.cacache_system_model.proofs.{Leading.{Claim, over_leads, call_leads, only_leads}, Claims.{way_of, claim_of, cases_of, agrees_of, claim_plain, claim_broken}, Steps.{Opening.{said_leads, open_of}, CopyFacts.{not_absent, fault_absent}, Walking.{looks_so}, Changing.{put_away}}, memory.Places.{place_led}}
 
 -- the same stands, and the same files are open
 pub record Same (m n : Machine) : Type 0 where
@@ -30,14 +30,6 @@ stands_at t path names node at is =
     ap (λ (r : Result Names Fault). and_then r (λ n. where_there (look t n) n)) at ∙ there_at (look t names) names node is
 
 -- an open file has what holds of each
-of_named : (o : Option OpenFile) (names : Names) (Q : Type 0) → option_map (λ (f : OpenFile). f.names) o ≡ Some names → IfSome o (λ file. Q) → Q
-of_named None names Q is holds = absurd cc
-of_named (Some file) names Q is holds = holds
-
-of_synced : (o : Option OpenFile) (names : Names) (P : OpenFile → Type 0) (Q : Type 0) → option_map (λ (f : OpenFile). f.names) o ≡ Some names → IfSome o P → ((file : OpenFile) → P file → Q) → Q
-of_synced None names P Q is holds goes = absurd cc
-of_synced (Some file) names P Q is holds goes = goes file holds
-
 -- what the disk answers, and leaves, where a temporary file is put
 abbrev disk_puts : Tree → (ℕ → Option OpenFile) → NumberedTemp → List ℕ → PlainAnswer × Tree
 disk_puts t files temp path =
@@ -110,13 +102,14 @@ module _ (b : Bool) (m : Machine) (temp : NumberedTemp) (path : List ℕ) (names
 
   moded : (mode : ℕ) (n : Machine) → Same m n → (most : Option ℕ) (said : CallResult) (l : Machine) → GoesWell most n (asks.SetMode temp.number mode) said l → (said ≡ says.Done) × Same m l
   moded mode n same most said l well =
-      let given = of_named (n.files temp.number) names ((said ≡ says.Done) × (l ≡ n)) (ready_on n same).opened well in
-      (given.0, still_same m n l same given.1)
+      let given = open_of n l temp.number names said (λ file said l. (said ≡ says.Done) × (l ≡ n)) (ready_on n same).opened well in
+      (given.3.0, still_same m n l same given.3.1)
 
   synced : (n : Machine) → Same m n → (most : Option ℕ) (said : CallResult) (l : Machine) → GoesWell most n (asks.Sync temp.number) said l → (said ≡ says.Done) × Same m l
   synced n same most said l well =
-      of_synced (n.files temp.number) names _ ((said ≡ says.Done) × Same m l) (ready_on n same).opened well
-      (λ file went. (went.0, record { tree = went.1.0 ∙ same.tree; files = went.1.1 ∙ same.files }))
+      let went = open_of n l temp.number names said (λ file said l. (said ≡ says.Done) × Became n n.tree n.files ((file.names, look n.tree file.names) ∷ n.synced) l)
+      (ready_on n same).opened well in
+      (went.3.0, record { tree = went.3.1.0 ∙ same.tree; files = went.3.1.1 ∙ same.files })
 
   syncs : (c : Bool) (s : Stage) (n : Machine) → Same m n → ((l : Machine) → Same m l → Leads (way_of b) s l put_claim) → Leads (way_of b) (sync_again c temp.number s) n put_claim
   syncs true s n same next = prepares (asks.Sync temp.number) s n same (synced n same) (λ why part l left. left) next

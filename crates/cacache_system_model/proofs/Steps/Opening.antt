@@ -1,12 +1,13 @@
 -- Files that are opened, and what is said about them.
-use Rattle.std.{proofs.Common.{◌≡◌, ◌==◌, ℕ, Bool, true, false, cond, List, refl, sym, ap, subst, ◌∙◌, ⊎_elim, eq-eqb}, specs.Prelude.{Option, Some, Result, Ok, Err, IfSome}}
+use Rattle.std.proofs.Common.{◌≡◌, ◌==◌, ℕ, Bool, true, false, cond, List, refl, sym, ap, subst, ◌∙◌, ⊎_elim, eq-eqb}
+use Rattle.std.specs.Prelude.{Option, None, Some, option_map, Result, Ok, Err, MatchOption, IfSome, IfNone}
 use Rattle.std_io.specs.declared.io.kind.ErrorKind.{ErrorKind}
-use Rattle.cacache_core.specs.{Contexts.{fault_of}, declared.errors.Fault.{Fault}, PathNames.{Names}}
+use Rattle.cacache_core.specs.{Contexts.{fault_of}, declared.errors.Fault.{Fault, TheVariants.{Device}}, PathNames.{Names}}
 use Rattle.cacache_disk.specs.{declared.node.Node.{Node, TheVariants.{Folder, File}}, Tree.{Tree, look}, LedTo.{found}}
 use Rattle.cacache_system.specs.{declared.call.{FileInfo.{FileInfo}, CallResult.{CallResult}}, CallsOf.{Stage, Purpose, opening, checking, opened, after}, AnswersOf.{misses, refuses_memory}}
 use Rattle.cacache_system.specs.declared.call.SystemCall.TheVariants as asks
 use Rattle.cacache_system.specs.declared.call.CallResult.TheVariants as says
-use Rattle.cacache_system_model.specs.{Machine.{OpenFile, Machine, Describes, IsRefused, OpensIf, ShowsNode, unread, with_file}, Laws.{Leads}}
+use Rattle.cacache_system_model.specs.{Machine.{OpenFile, Machine, Describes, IsRefused, OpensIf, ShowsNode, OnOpen, unread, with_file}, Laws.{Leads}}
 use Rattle.cacache_system_model.proofs.{Leading.{Claim, over_leads, call_leads}, Claims.{way_of, cases_of}, Views.{View, nowhere, a_folder, a_file, view}}
 
 pub same_number : (number : ℕ) → (number == number) ≡ true
@@ -28,6 +29,23 @@ said_leads b s said is n P same leads = subst (λ (r : CallResult). Leads (way_o
 pub of_some : {A : Type 0} (o : Option A) (a : A) (Q : A → Type 0) → o ≡ Some a → IfSome o Q → Q a
 of_some o a Q is holds = subst (λ (x : Option _). IfSome x Q) is holds
 
+-- what a call does on a file that is open
+pub on_open : (m n : Machine) (number : ℕ) (file : OpenFile) (said : CallResult) (Does : OpenFile → CallResult → Machine → Type 0) → m.files number ≡ Some file
+    → OnOpen number Does m said n → Does file said n
+on_open m n number file said Does is holds =
+    subst (λ (o : Option OpenFile). MatchOption o (IfNone (m.folders number) (IsRefused Device m said n)) (λ f. Does f said n)) is holds
+
+pub file_under : (file : Option OpenFile) (names : Names) → option_map (λ (f : OpenFile). f.names) file ≡ Some names → (f : OpenFile) × (file ≡ Some f) × (f.names ≡ names)
+file_under None names is = absurd cc
+file_under (Some file) names is = (file, refl, cc)
+
+-- what a call does on a file that is open at these names
+pub open_of : (m n : Machine) (number : ℕ) (names : Names) (said : CallResult) (Does : OpenFile → CallResult → Machine → Type 0)
+    → option_map (λ (f : OpenFile). f.names) (m.files number) ≡ Some names → OnOpen number Does m said n
+    → (f : OpenFile) × (m.files number ≡ Some f) × (f.names ≡ names) × Does f said n
+open_of m n number names said Does is holds =
+    let file = file_under (m.files number) names is in (file.0, file.1, file.2, on_open m n number file.0 said Does file.1 holds)
+
 -- What follows when a path's file is opened: it is refused, it breaks, or it is open and what is there is known.
 pub record Openings (b : Bool) (m : Machine) (purpose : Purpose) (path : List ℕ) (P : Claim) : Type 0 where
   pub refuses : (fault : Fault) (why : ErrorKind) → found m.tree path ≡ Err fault → fault_of why ≡ fault → refuses_memory why ≡ false → P (says.Failed why) m
@@ -42,7 +60,7 @@ module _ (b : Bool) (m : Machine) (purpose : Purpose) (path : List ℕ) (P : Cla
       call_leads (way_of b) (checking purpose number) (asks.StatFile number) n P refl (λ end never. absurd never) (λ said l happens.
       ⊎_elim
       (λ (most, all, well).
-      let shown : ShowsNode names n said l = of_some (n.files number) (unread names) (λ file. ShowsNode file.names n said l) open_on.file well in
+      let shown : ShowsNode names n said l = on_open n l number (unread names) said (λ file. ShowsNode file.names n) open_on.file well in
       let here : look n.tree names ≡ Some node = ap (λ (t : Tree). look t names) open_on.tree ∙ stands in
       let described = of_some (look n.tree names) node (λ x. Describes x (n.inodes names) shown.0) here shown.2 in
       said_leads b (checking purpose number) said (says.Info shown.0) l P shown.1

@@ -11,7 +11,7 @@ use Rattle.cacache_system.specs.declared.call.SystemCall.TheVariants as asks
 use Rattle.cacache_system.specs.{declared.call.CallResult.{CallResult}, CallsOf.{over, trying, taking_memory}, Seen.{NumberedFile}, AnswersOf.{read_piece}}
 use Rattle.cacache_system.specs.declared.call.CallResult.TheVariants as says
 use Rattle.cacache_system_model.specs.{Machine.{OpenFile, Machine, ReadsFile, Gives, with_file}, Laws.{left_in, step_on, outcome, led_to, Leads, IsDone}, Reading.{StaysOpen, ReadBreaks, PiecesReadPlainly}}
-use Rattle.cacache_system_model.proofs.{Refused.{same_outcome, broken_agrees}, Leading.{Claim, over_leads, trying_leads}, Claims.{way_of, claim_of, Well, taking_leads, claim_broken, claim_memory}, Trying.{SaidWell, tried_so}, Steps.Opening.{newly_open, of_some, same_number}}
+use Rattle.cacache_system_model.proofs.{Refused.{same_outcome, broken_agrees}, Leading.{Claim, over_leads, trying_leads}, Claims.{way_of, claim_of, Well, taking_leads, claim_broken, claim_memory}, Trying.{SaidWell, tried_so}, Steps.Opening.{newly_open, on_open, same_number}}
 use Rattle.cacache_history.proofs.Contents.OpenedContents.{some_readable}
 
 -- ---- counts
@@ -120,7 +120,7 @@ ReadsWell b m file found bytes max size =
 module _ (b : Bool) (m : Machine) (file : NumberedFile) (found : OpenFile) (bytes : List ℕ) (max size : ℕ) (ready : StaysOpen m file found bytes) (done : b ≡ false → IsDone m (steps.Read file max)) (holds : ReadsWell b m file found bytes max size) where
   read_well : (said : CallResult) (n : Machine) → Well b m (asks.Read file.number size) said n → SaidWell (claim_of b m (steps.Read file max)) said n
   read_well said n (most, all, well) =
-      let reads = of_some (m.files file.number) found (λ f. ReadsFile (take (readable most size)) file.number f (look m.tree f.names) m said n) ready.known well in
+      let reads = on_open m n file.number found said (λ f. ReadsFile (take (readable most size)) file.number f (look m.tree f.names) m) ready.known well in
       let gives : Gives file.number found (take (readable most size) (drop found.read bytes)) m said n
       = subst (λ (o : Option Node). ReadsFile (take (readable most size)) file.number found o m said n) ready.stands reads in
       record {

@@ -1,5 +1,5 @@
 -- Removals, which may be part of a walk.
-use Rattle.std.{proofs.Common.{◌≡◌, ℕ, false, refl, sym, ap, subst, ⊎_elim}, specs.Prelude.{Option}}
+use Rattle.std.{proofs.Common.{◌≡◌, ℕ, refl, sym, ap, subst, ⊎_elim}, specs.Prelude.{Option}}
 use Rattle.std_io.specs.declared.io.kind.ErrorKind.{ErrorKind}
 use Rattle.cacache_store.specs.declared.store.step.Step.TheVariants as steps
 use Rattle.cacache_disk.specs.{declared.luck.Luck.TheVariants.{Plain}, Tree.{cut}, LedTo.{removable, emptied}, Apply.{apply}}

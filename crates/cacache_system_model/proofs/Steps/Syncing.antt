@@ -1,5 +1,5 @@
 -- Steps that sync a file or a folder.
-use Rattle.std.{proofs.Common.{◌≡◌, ℕ, Bool, false, List, ◌∷◌, refl, sym, ap, subst, ◌∙◌, ⊎_elim}, specs.Prelude.{Option, None, Some, Result, Ok, Err, option_map}}
+use Rattle.std.{proofs.Common.{◌≡◌, ℕ, Bool, false, List, ◌∷◌, refl, sym, ap, subst, ◌∙◌, ⊎_elim}, specs.Prelude.{Option, Some, Result, Ok, Err, option_map}}
 use Rattle.std_io.specs.declared.io.kind.ErrorKind.{ErrorKind}
 use Rattle.std_io.specs.declared.io.kind.ErrorKind.TheVariants as kind
 use Rattle.cacache_core.specs.{declared.errors.Fault.{Fault, TheVariants.{IsADirectory, NotADirectory}}, PathNames.{Names}}
@@ -12,7 +12,7 @@ use Rattle.cacache_system.specs.{declared.call.{FileInfo.{FileInfo}, CallResult.
 use Rattle.cacache_system.specs.declared.call.SystemCall.TheVariants as asks
 use Rattle.cacache_system.specs.declared.call.CallResult.TheVariants as says
 use Rattle.cacache_system_model.specs.{Machine.{OpenFile, Machine, Describes, Became}, Laws.{bytes_in, temp_on, step_on, outcome, Leads, IsDone}, Syncing.{EndsInNoLink, SyncTempAgrees, SyncFileAgrees, SyncDirAgrees}}
-use Rattle.cacache_system_model.proofs.{Refused.{same_outcome}, Leading.{Claim, over_leads, only_leads}, Claims.{way_of, claim_of, cases_of, agrees_of, claim_plain, claim_broken}, Steps.{Opening.{OpenedOn, Openings, opening_leads, of_some}, Looking.{table_fails, no_file, file_there, folder_there, link_there, refused_folder, wanted_file}}, Views.{folder_found}}
+use Rattle.cacache_system_model.proofs.{Refused.{same_outcome}, Leading.{Claim, over_leads, only_leads}, Claims.{way_of, claim_of, cases_of, agrees_of, claim_plain, claim_broken}, Steps.{Opening.{OpenedOn, Openings, opening_leads, on_open, file_under}, Looking.{table_fails, no_file, file_there, folder_there, link_there, refused_folder, wanted_file}}, Views.{folder_found}}
 
 -- an open file was synced
 pub record WasSynced (n l : Machine) (names : Names) : Type 0 where
@@ -28,7 +28,7 @@ sync_leads b n number file P is done breaks =
     only_leads (way_of b) (asks.Sync number) n P (λ said l happens.
     ⊎_elim
     (λ (most, all, well).
-    let syncs = of_some (n.files number) file (λ f. (said ≡ says.Done) × Became n.tree n.files ((f.names, look n.tree f.names) ∷ n.synced) l) is well in
+    let syncs = on_open n l number file said (λ f said l. (said ≡ says.Done) × Became n n.tree n.files ((f.names, look n.tree f.names) ∷ n.synced) l) is well in
     subst (λ (r : CallResult). P r l) (sym syncs.0) (done l (record { tree = syncs.1.0; files = syncs.1.1; synced = syncs.1.2 })))
     (λ (broke, why, same, fine, part, left).
     subst (λ (r : CallResult). P r l) (sym same) (breaks why l broke fine left))
@@ -116,10 +116,6 @@ apply_sync_temp m temp = refl
 abbrev synced_temp : NumberedTemp → Option (List ℕ) → PlainAnswer
 synced_temp temp bytes = answers.Synced (record { path = temp.path; bytes = bytes })
 
-pub open_under : (file : Option OpenFile) (names : Names) → option_map (λ (f : OpenFile). f.names) file ≡ Some names → (f : OpenFile) × (file ≡ Some f)
-open_under None names is = absurd cc
-open_under (Some file) names is = (file, refl)
-
 temp_kept : (m l : Machine) (temp : NumberedTemp) → l.tree ≡ m.tree → l.files ≡ m.files → synced_temp temp (option_map (bytes_in l) (l.files temp.number)) ≡ synced_temp temp (option_map (bytes_in m) (m.files temp.number))
 temp_kept m l temp tree files =
     ap (λ (t : Tree). synced_temp temp (option_map (λ (f : OpenFile). bytes_of (look t f.names)) (l.files temp.number))) tree
@@ -127,7 +123,7 @@ temp_kept m l temp tree files =
 
 pub sync_temp_agrees : SyncTempAgrees
 sync_temp_agrees m hint temp names bytes ready = agrees_of m hint (steps.SyncTemp temp) (λ b done.
-    let file = open_under (m.files temp.number) names ready.opened in
+    let file = file_under (m.files temp.number) names ready.opened in
     sync_leads b m temp.number file.0 (claim_of b m (steps.SyncTemp temp)) file.1
     (λ l synced. claim_plain b m (steps.SyncTemp temp) done says.Done l
     (apply_sync_temp m temp

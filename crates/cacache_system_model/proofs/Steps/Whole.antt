@@ -12,7 +12,7 @@ use Rattle.cacache_system.specs.declared.call.SystemCall.TheVariants as asks
 use Rattle.cacache_system.specs.{declared.call.{CallItem.{CallItem}, CallResult.{CallResult}}, CallsOf.{to_read, over, taking_memory, reading_front, reading_rest, read_whole, interrupts, after, Ends, Runs}}
 use Rattle.cacache_system.specs.declared.call.CallResult.TheVariants as says
 use Rattle.cacache_system_model.specs.{Machine.{OpenFile, Machine, IsRefused, ReadsFile, unread}, Calls.{EachCall}, Laws.{outcome, Leads, IsDone}, Reading.{ReadAllAgrees}}
-use Rattle.cacache_system_model.proofs.{Refused.{same_outcome}, Leading.{Way, Claim, over_leads, call_leads}, Claims.{way_of, claim_of, cases_of, agrees_of, taking_leads, claim_plain, claim_broken, claim_memory}, Steps.{Opening.{OpenedOn, Openings, opening_leads, newly_open, said_leads, of_some}, Looking.{table_fails, no_file, file_there, folder_there, link_there}, Reading.{drop_taken}}}
+use Rattle.cacache_system_model.proofs.{Refused.{same_outcome}, Leading.{Way, Claim, over_leads, call_leads}, Claims.{way_of, claim_of, cases_of, agrees_of, taking_leads, claim_plain, claim_broken, claim_memory}, Steps.{Opening.{OpenedOn, Openings, opening_leads, newly_open, said_leads, on_open}, Looking.{table_fails, no_file, file_there, folder_there, link_there}, Reading.{drop_taken}}}
 
 -- What becomes of the first read of a file: it gave the front, it failed, or a signal came and it may be given up.
 abbrev FrontTried : Way → Claim → Machine → ℕ → CallResult → Machine → Type 0
@@ -102,7 +102,7 @@ module _ (b : Bool) (m : Machine) (path : List ℕ) (done : b ≡ false → IsDo
       call_leads (way_of b) (reading_rest front number) (asks.ReadRest number) l (claim_of b m (steps.ReadAll path)) refl (λ end never. absurd never) (λ said n happens.
       ⊎_elim
       (λ (most, all, well).
-      let reads = of_some (l.files number) (record { names = names; read = length front }) (λ f. ReadsFile (λ bytes. bytes) number f (look l.tree f.names) l said n) ready.file well in
+      let reads = on_open l n number (record { names = names; read = length front }) said (λ f. ReadsFile (λ bytes. bytes) number f (look l.tree f.names) l) ready.file well in
       let here : look l.tree names ≡ Some node = ap (λ (t : Tree). look t names) ready.tree ∙ stands in
       rest_read node front l n said stands ready fits (subst (λ (o : Option Node). ReadsFile (λ bytes. bytes) number (record { names = names; read = length front }) o l said n) here reads))
       (λ (broke, why, same, fine, part, left).
@@ -141,7 +141,7 @@ module _ (b : Bool) (m : Machine) (path : List ℕ) (done : b ≡ false → IsDo
       front_leads (way_of b) size number n (claim_of b m (steps.ReadAll path)) false (λ e. absurd cc) (λ said l happens.
       ⊎_elim
       (λ (most, all, well).
-      let reads = of_some (n.files number) (unread names) (λ f. ReadsFile (take (readable most size)) number f (look n.tree f.names) n said l) open_on.file well in
+      let reads = on_open n l number (unread names) said (λ f. ReadsFile (take (readable most size)) number f (look n.tree f.names) n) open_on.file well in
       let here : look n.tree names ≡ Some node = ap (λ (t : Tree). look t names) open_on.tree ∙ stands in
       front_read node size n l said most stands open_on (subst (λ (o : Option Node). ReadsFile (take (readable most size)) number (unread names) o n said l) here reads))
       (λ (broke, why, same, fine, part, left).

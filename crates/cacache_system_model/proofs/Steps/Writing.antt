@@ -14,7 +14,7 @@ use Rattle.cacache_system.specs.declared.call.SystemCall.TheVariants as asks
 use Rattle.cacache_system.specs.{declared.call.CallResult.{CallResult}, CallsOf.{trying, appending, interrupts, was_interrupted, after}, Seen.{NumberedTemp}, AnswersOf.{misses, refuses_memory, leaves_a_part}}
 use Rattle.cacache_system.specs.declared.call.CallResult.TheVariants as says
 use Rattle.cacache_system_model.specs.{Machine.{OpenFile, Machine, HasTree, OpensIf, unread, with_empty}, Calls.{GoesWell, OccursSomehow, did_nothing, part_written, LeavesWritten, LeavesPart}, Laws.{bytes_in, step_on, outcome, led_to, Leads, IsDone}, Writing.{WritesAll, WritesSome, WriteAgrees}, OneCall.{StillStands}, Removing.{AppendAgrees}}
-use Rattle.cacache_system_model.proofs.{Refused.{same_outcome, failed, refused_on, never_missing, failing_apply, broken_part}, Leading.{over_leads, call_leads, trying_leads}, Claims.{way_of, claim_of, luck_of, Well, cases_of, agrees_of, claim_plain, claim_taken, claim_lucky, claim_broken}, Trying.{SaidWell, tried_so}, Steps.{Opening.{newly_open, said_leads, of_some}, Looking.{table_fails}, Walking.{looks_so}}, Views.{leads_no_link}}
+use Rattle.cacache_system_model.proofs.{Refused.{same_outcome, failed, refused_on, never_missing, failing_apply, broken_part}, Leading.{over_leads, call_leads, trying_leads}, Claims.{way_of, claim_of, luck_of, Well, cases_of, agrees_of, claim_plain, claim_taken, claim_lucky, claim_broken}, Trying.{SaidWell, tried_so}, Steps.{Opening.{newly_open, said_leads, on_open, file_under}, Looking.{table_fails}, Walking.{looks_so}}, Views.{leads_no_link}}
 
 -- ---- trees
 
@@ -122,7 +122,7 @@ module _ (b : Bool) (m : Machine) (path bytes : List ℕ) (done : b ≡ false �
   written_well : (number : ℕ) (names : Names) (n : Machine) → writable m.tree path ≡ Ok names → Appending m n number names → (said : CallResult) (l : Machine) → Well b n (asks.Write number bytes) said l
       → SaidWell (claim_of b m (steps.Append path bytes)) said l
   written_well number names n is ready said l (most, all, well) =
-      let writes = of_some (n.files number) (unread names) (λ f. (said ≡ says.Count (taken most bytes)) × HasTree n (lengthened n.tree f.names (take (taken most bytes) bytes)) l) ready.file well in
+      let writes = on_open n l number (unread names) said (λ f said l. (said ≡ says.Count (taken most bytes)) × HasTree n (lengthened n.tree f.names (take (taken most bytes) bytes)) l) ready.file well in
       record {
         is = says.Count (taken most bytes);
         same = writes.0;
@@ -185,10 +185,6 @@ apply_write None t temp held old more is = ap (grown (record { path = temp.path;
 apply_write (Some most) t temp held old more is = ap (grown (record { path = temp.path; bytes = held }) more (taken (Some most) more)) is
 
 -- the file that is open under a number
-file_under : (file : Option OpenFile) (names : Names) → option_map (λ (f : OpenFile). f.names) file ≡ Some names → (f : OpenFile) × (file ≡ Some f) × (f.names ≡ names)
-file_under None names is = absurd cc
-file_under (Some file) names is = (file, refl, cc)
-
 module _ (m : Machine) (temp : NumberedTemp) (names : Names) (bytes more : List ℕ) (ready : StillStands m temp names bytes) where
   temp_file : (f : OpenFile) × (m.files temp.number ≡ Some f) × (f.names ≡ names)
   temp_file = file_under (m.files temp.number) names ready.opened
@@ -220,7 +216,7 @@ module _ (m : Machine) (temp : NumberedTemp) (names : Names) (bytes more : List 
       → (said ≡ says.Count (taken most more)) × HasTree m (lengthened m.tree names (take (taken most more) more)) l
   well_written most said l well =
       subst (λ (n : Names). (said ≡ says.Count (taken most more)) × HasTree m (lengthened m.tree n (take (taken most more) more)) l) temp_file.2
-      (of_some (m.files temp.number) temp_file.0 (λ f. (said ≡ says.Count (taken most more)) × HasTree m (lengthened m.tree f.names (take (taken most more) more)) l) temp_file.1 well)
+      (on_open m l temp.number temp_file.0 said (λ f said l. (said ≡ says.Count (taken most more)) × HasTree m (lengthened m.tree f.names (take (taken most more) more)) l) temp_file.1 well)
 
   write_plainly : Leads (GoesWell None) (trying false (asks.Write temp.number more)) m (WritesAll m temp names more)
   write_plainly =

@@ -1,6 +1,6 @@
 -- Files that are open stay open at their names through a call.
 use Rattle.std.proofs.{Common.{◌≡◌, ◌==◌, ℕ, Bool, true, false, cond, List, ◌∷◌, Option, None, Some, Ok, option_map, take, eq-eqb, refl, sym, ap, subst, ◌∙◌}, lemmas.Bool.{eqb-true}}
-use Rattle.std.specs.Prelude.{Result, Err, IfSome, MatchResult}
+use Rattle.std.specs.Prelude.{Result, Err, MatchResult}
 use Rattle.std_io.specs.declared.io.kind.ErrorKind.{ErrorKind}
 use Rattle.cacache_core.specs.{declared.errors.Fault.{Fault}, PathNames.{Names}}
 use Rattle.cacache_disk.specs.{declared.{luck.Luck.TheVariants.{Plain, Fail, Take}, node.Node.{Node, TheVariants.{Folder, File, Link}}}, Tree.{Tree, look}, LedTo.{standing, leads, found, place, replaceable, removable, writable, free}, Apply.{taken, readable, lengthened}}
@@ -8,7 +8,7 @@ use Rattle.cacache_system.specs.declared.call.{SystemCall.{SystemCall}, CallResu
 use Rattle.cacache_system.specs.declared.call.SystemCall.TheVariants as asks
 use Rattle.cacache_system.specs.declared.call.CallResult.TheVariants as says
 use Rattle.cacache_system_model.specs.{Machine.{OpenFile, Machine, Became, HasTree, IsRefused, ChangesTree, OpensIf, with_file, unread, ShowsNode, ShowsEnd, ShowsOpen, GivesOwner, ReadsFile, ReadsOpen, MovesNode}, Calls.{GoesWell, did_nothing, LeavesWritten, LeavesPart, OccursSomehow}, callers.Opened.{IsOpenAt, KeepsOpen}}
-use Rattle.cacache_system_model.proofs.Views.{View, nowhere, a_folder, a_file, view}
+use Rattle.cacache_system_model.proofs.{Steps.Opening.{open_of}, Views.{View, nowhere, a_folder, a_file, view}}
 
 abbrev pub names_at : OpenFile → Names
 names_at file = file.names
@@ -38,12 +38,12 @@ refused_keeps : (fault : Fault) (m n : Machine) (said : CallResult) → IsRefuse
 refused_keeps fault m n said (why, is_said, is, memory, stays) = keeps_self m n stays
 
 opens_keep : (ends : Result Names Fault) (new : Names → Tree) (m n : Machine) (said : CallResult) → OpensIf ends new m said n → KeepsOpen m n
-opens_keep (Ok names) new m n said (number, is_said, none, (tree, files, synced)) =
-    λ k at is. ap (λ (fs : ℕ → Option OpenFile). option_map names_at (fs k)) files ∙ opened_keeps m.files number k (unread names) at (k == number) refl none is
+opens_keep (Ok names) new m n said (number, is_said, none, (tree, files, synced, folders)) =
+    λ k at is. ap (λ (fs : ℕ → Option OpenFile). option_map names_at (fs k)) files ∙ opened_keeps m.files number k (unread names) at (k == number) refl none.0 is
 opens_keep (Err fault) new m n said h = refused_keeps fault m n said h
 
 changes_keep : (ends : Result Names Fault) (new : Names → Tree) (m n : Machine) (said : CallResult) → ChangesTree ends new m said n → KeepsOpen m n
-changes_keep (Ok names) new m n said (is_said, (tree, files, synced)) = keeps_same m n files
+changes_keep (Ok names) new m n said (is_said, (tree, files, synced, folders)) = keeps_same m n files
 changes_keep (Err fault) new m n said h = refused_keeps fault m n said h
 
 node_keeps : (names : Names) (m n : Machine) (said : CallResult) → ShowsNode names m said n → n ≡ m
@@ -52,11 +52,6 @@ node_keeps names m n said (info, is_said, describes, same) = same
 shows_keep : (ends : Result Names Fault) (m n : Machine) (said : CallResult) → ShowsEnd ends m said n → KeepsOpen m n
 shows_keep (Ok names) m n said h = keeps_self m n (node_keeps names m n said h)
 shows_keep (Err fault) m n said h = refused_keeps fault m n said h
-
--- an open file, by its number
-open_of : (o : Option OpenFile) (names : Names) (P : OpenFile → Type 0) → option_map names_at o ≡ Some names → IfSome o P → (file : OpenFile) × (o ≡ Some file) × (file.names ≡ names) × P file
-open_of None names P e h = let no : None ≡ Some names = e in absurd cc
-open_of (Some file) names P e h = let same : file.names ≡ names = (let is : Some file.names ≡ Some names = e in cc) in (file, refl, same, h)
 
 -- it can be read: no link stands there
 abbrev CanRead : Option Node → Type 0
@@ -72,7 +67,7 @@ ReadLeft m n = KeepsOpen m n × (n.tree ≡ m.tree)
 file_read : (pick : List ℕ → List ℕ) (number : ℕ) (file : OpenFile) (here : Option Node) (m n : Machine) (said : CallResult) → m.files number ≡ Some file → CanRead here
     → ReadsFile pick number file here m said n → ReadLeft m n
 file_read pick number file (Some Folder) m n said is can (why, is_said, of, memory, stays) = (keeps_self m n stays, ap (λ (x : Machine). x.tree) stays)
-file_read pick number file (Some (File bytes)) m n said is can (is_said, (tree, files, synced)) =
+file_read pick number file (Some (File bytes)) m n said is can (is_said, (tree, files, synced, folders)) =
     (λ k at e. ap (λ (fs : ℕ → Option OpenFile). option_map names_at (fs k)) files ∙ read_keeps m.files number k _ file at (k == number) refl is refl e, tree)
 file_read pick number file here m n said is can h = absurd can
 
@@ -85,7 +80,7 @@ IsOpenNumber m number = (names : Names) × IsOpenAt m number names
 
 reads_left : (pick : List ℕ → List ℕ) (number : ℕ) (m n : Machine) (said : CallResult) → Readable m number → ReadsOpen pick number m said n → ReadLeft m n
 reads_left pick number m n said (names, is, can) h =
-    let g = open_of (m.files number) names (λ file. ReadsFile pick number file (look m.tree file.names) m said n) is h in
+    let g = open_of m n number names said (λ file. ReadsFile pick number file (look m.tree file.names) m) is h in
     file_read pick number g.0 (look m.tree g.0.names) m n said g.1 (subst (λ (x : Names). CanRead (look m.tree x)) (sym g.2) can) g.3
 
 -- ---- which calls a step may make so
@@ -120,13 +115,13 @@ abbrev Written : Option ℕ → List ℕ → Machine → Machine → CallResult 
 Written most bytes m n said file = (said ≡ says.Count (taken most bytes)) × HasTree m (lengthened m.tree file.names (take (taken most bytes) bytes)) n
 
 write_keeps : (most : Option ℕ) (bytes : List ℕ) (m n : Machine) (said : CallResult) (file : OpenFile) → Written most bytes m n said file → KeepsOpen m n
-write_keeps most bytes m n said file (is_said, (tree, files, synced)) = keeps_same m n files
+write_keeps most bytes m n said file (is_said, (tree, files, synced, folders)) = keeps_same m n files
 
 abbrev Synced : Machine → Machine → CallResult → OpenFile → Type 0
-Synced m n said file = (said ≡ says.Done) × Became m.tree m.files ((file.names, look m.tree file.names) ∷ m.synced) n
+Synced m n said file = (said ≡ says.Done) × Became m m.tree m.files ((file.names, look m.tree file.names) ∷ m.synced) n
 
 sync_keeps : (m n : Machine) (said : CallResult) (file : OpenFile) → Synced m n said file → KeepsOpen m n
-sync_keeps m n said file (is_said, (tree, files, synced)) = keeps_same m n files
+sync_keeps m n said file (is_said, (tree, files, synced, folders)) = keeps_same m n files
 
 goes_keep : (most : Option ℕ) (call : SystemCall) (m n : Machine) (said : CallResult) → Safe m call → GoesWell most m call said n → KeepsOpen m n
 goes_keep most (asks.OpenToRead path) m n said safe h = opens_keep (found m.tree path) _ m n said h
@@ -135,11 +130,11 @@ goes_keep most (asks.OpenToAppend path) m n said safe h = opens_keep (writable m
 goes_keep most (asks.Read number size) m n said safe h = (reads_left (take (readable most size)) number m n said safe h).0
 goes_keep most (asks.ReadRest number) m n said safe h = (reads_left (λ bytes. bytes) number m n said safe h).0
 goes_keep most (asks.Write number bytes) m n said (names, is) h =
-    let g = open_of (m.files number) names (Written most bytes m n said) is h in write_keeps most bytes m n said g.0 g.3
+    let g = open_of m n number names said (λ file said n. Written most bytes m n said file) is h in write_keeps most bytes m n said g.0 g.3
 goes_keep most (asks.Sync number) m n said (names, is) h =
-    let g = open_of (m.files number) names (Synced m n said) is h in sync_keeps m n said g.0 g.3
+    let g = open_of m n number names said (λ file said n. Synced m n said file) is h in sync_keeps m n said g.0 g.3
 goes_keep most (asks.StatFile number) m n said (names, is) h =
-    let g = open_of (m.files number) names (λ file. ShowsNode file.names m said n) is h in keeps_self m n (node_keeps g.0.names m n said g.3)
+    let g = open_of m n number names said (λ file. ShowsNode file.names m) is h in keeps_self m n (node_keeps g.0.names m n said g.3)
 goes_keep most (asks.Stat path) m n said safe h = shows_keep (found m.tree path) m n said h
 goes_keep most (asks.MakeFolder path) m n said safe h = changes_keep (free m.tree path) _ m n said h
 goes_keep most (asks.RemoveFile path) m n said safe h = changes_keep (removable m.tree path) _ m n said h
@@ -150,7 +145,7 @@ goes_keep most call m n said safe h = absurd safe
 
 leaves_keep : (b : Bool) (number : ℕ) (bytes : List ℕ) (part : Option ℕ) (m n : Machine) → LeavesWritten b number bytes part m n → KeepsOpen m n
 leaves_keep true number bytes part m n h = keeps_self m n h
-leaves_keep false number bytes part m n (tree, files, synced) = keeps_same m n files
+leaves_keep false number bytes part m n (tree, files, synced, folders) = keeps_same m n files
 
 broken_keep : (call : SystemCall) (why : ErrorKind) (part : Option ℕ) (m n : Machine) → Safe m call → LeavesPart m call why part n → KeepsOpen m n
 broken_keep (asks.Write number bytes) why part m n safe h = leaves_keep (did_nothing why) number bytes part m n h
@@ -174,7 +169,7 @@ rest_left number m n said can (Fail fault part, (why, is_said, of, missed, left)
 
 asked_left : (number : ℕ) (m n : Machine) (said : CallResult) (names : Names) → IsOpenAt m number names → ShowsOpen number m said n → n ≡ m
 asked_left number m n said names is h =
-    let g = open_of (m.files number) names (λ file. ShowsNode file.names m said n) is h in node_keeps g.0.names m n said g.3
+    let g = open_of m n number names said (λ file. ShowsNode file.names m) is h in node_keeps g.0.names m n said g.3
 
 pub stat_left : (number : ℕ) (m n : Machine) (said : CallResult) (names : Names) → IsOpenAt m number names → OccursSomehow m (asks.StatFile number) said n → n ≡ m
 stat_left number m n said names is (Plain, h) = asked_left number m n said names is h
@@ -224,14 +219,14 @@ mode_left : (m n : Machine) (said : CallResult) (file : OpenFile) → Moded m n 
 mode_left m n said file (is_said, same) = unchanged_self m n same
 
 sync_left : (m n : Machine) (said : CallResult) (file : OpenFile) → Synced m n said file → Unchanged m n
-sync_left m n said file (is_said, (tree, files, synced)) = (tree, files)
+sync_left m n said file (is_said, (tree, files, synced, folders)) = (tree, files)
 
 ready_left : (most : Option ℕ) (call : SystemCall) (m n : Machine) (said : CallResult) → Readies m call → GoesWell most m call said n → Unchanged m n
 ready_left most (asks.SetOwner path owner group) m n said ready h = owner_left (standing m.tree path) m n said h
 ready_left most (asks.SetMode number mode) m n said (names, is) h =
-    let g = open_of (m.files number) names (Moded m n said) is h in mode_left m n said g.0 g.3
+    let g = open_of m n number names said (λ file said n. Moded m n said file) is h in mode_left m n said g.0 g.3
 ready_left most (asks.Sync number) m n said (names, is) h =
-    let g = open_of (m.files number) names (Synced m n said) is h in sync_left m n said g.0 g.3
+    let g = open_of m n number names said (λ file said n. Synced m n said file) is h in sync_left m n said g.0 g.3
 ready_left most call m n said ready h = absurd ready
 
 ready_failed : (call : SystemCall) (why : ErrorKind) (part : Option ℕ) (m n : Machine) → Readies m call → LeavesPart m call why part n → n ≡ m
@@ -261,7 +256,7 @@ here_opened m n number k names same files =
 
 opens_ready : (r : Result Names Fault) (m n : Machine) (number : ℕ) → ((names : Names) → r ≡ Ok names → CanRead (look m.tree names)) → OpensIf r (λ names. m.tree) m (says.Opened number) n
     → Readable n number
-opens_ready (Ok names) m n number can (k, is_said, none, (tree, files, synced)) =
+opens_ready (Ok names) m n number can (k, is_said, none, (tree, files, synced, folders)) =
     let same : number ≡ k = cc in
     (names, here_opened m n number k names same files, subst (λ (t : Tree). CanRead (look t names)) (sym tree) (can names refl))
 opens_ready (Err fault) m n number can (why, is_said, of, memory, stays) = let no : says.Opened number ≡ says.Failed why = is_said in absurd cc
@@ -272,7 +267,7 @@ open_ready path m n number (Take most, h) = opens_ready (found m.tree path) m n 
 open_ready path m n number (Fail fault part, (why, is_said, of, missed, left)) = let no : says.Opened number ≡ says.Failed why = is_said in absurd cc
 
 pub opens_number : (r : Result Names Fault) (new : Names → Tree) (m n : Machine) (number : ℕ) → OpensIf r new m (says.Opened number) n → (names : Names) × (r ≡ Ok names) × IsOpenAt n number names
-opens_number (Ok names) new m n number (k, is_said, none, (tree, files, synced)) =
+opens_number (Ok names) new m n number (k, is_said, none, (tree, files, synced, folders)) =
     let same : number ≡ k = cc in (names, refl, here_opened m n number k names same files)
 opens_number (Err fault) new m n number (why, is_said, of, memory, stays) = let no : says.Opened number ≡ says.Failed why = is_said in absurd cc
 

@@ -53,7 +53,7 @@ pub goes_changed : (t u : Tree) (files : List OpenFile) (ends : Result Names Fau
     → out ≡ outcome (λ _. says.Done) done → Changed ends new done t u
     → ChangesTree ends new (machine t files) out (machine u files) ⊎ GivesUp kind.OutOfMemory (machine t files) out (machine u files)
 goes_changed t u files ends new (Err stop.OutOfMemory) out can is change = inr (gives_up t u files kind.OutOfMemory out is change)
-goes_changed t u files (Ok names) new (Ok done) out can is change = inl (is, (change, refl, refl))
+goes_changed t u files (Ok names) new (Ok done) out can is change = inl (is, (change, refl, refl, λ k. refl))
 goes_changed t u files (Ok names) new (Err (stop.Fault fault)) out can is change = absurd (apart (Ok names) names fault refl change.0)
 goes_changed t u files (Err own) new (Ok done) out can is change = absurd change
 goes_changed t u files (Err own) new (Err (stop.Fault fault)) out can is change =

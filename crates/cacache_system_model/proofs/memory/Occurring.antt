@@ -15,7 +15,7 @@ none_copied (Err fault) ends t = refl
 -- a call for which memory is refused leaves all as it was
 leaves : (m : Machine) (call : SystemCall) → LeavesPart m call kind.OutOfMemory None m
 leaves m (asks.Write number bytes) = refl
-leaves m (asks.CopyFile from to) = (none_copied (file_at m.tree from InvalidInput) (writable m.tree to) m.tree, refl, refl)
+leaves m (asks.CopyFile from to) = (none_copied (file_at m.tree from InvalidInput) (writable m.tree to) m.tree, refl, refl, λ k. refl)
 leaves m _ = refl
 
 pub goes_occur : GoesOccur
