@@ -1,7 +1,7 @@
 -- Each step's law, if the step has what the law asks.
 use Rattle.cacache_store.specs.declared.store.step.Step.TheVariants as steps
 use Rattle.cacache_system_model.specs.Premises.{EachMayBreak, EachGoesPlainly}
-use Rattle.cacache_system_model.proofs.Steps.{Changing.{create_agrees, exists_agrees, symlink_agrees, hard_link_agrees, reflink_breaks}, Copying.{copy_agrees}, Dirs.{make_dirs_agrees}, Listing.{read_dir_breaks}, Looking.{open_agrees, size_agrees}, Moving.{persist_agrees}, Reading.{read_breaks}, Removing.{remove_file_agrees, remove_dir_agrees}, Syncing.{sync_temp_agrees, sync_file_agrees, sync_dir_agrees}, Whole.{read_all_agrees}, Writing.{append_agrees}}
+use Rattle.cacache_system_model.proofs.Steps.{Changing.{create_agrees, exists_agrees, symlink_agrees, hard_link_agrees, reflink_breaks}, Copying.{copy_agrees}, Dirs.{make_dirs_agrees}, Listing.{read_dir_in_order}, Looking.{open_agrees, size_agrees}, Moving.{persist_agrees}, Reading.{read_breaks}, Removing.{remove_file_agrees, remove_dir_agrees}, Syncing.{sync_temp_agrees, sync_file_agrees, sync_dir_agrees}, Whole.{read_all_agrees}, Writing.{append_agrees}}
 
 pub each_may_break : EachMayBreak
 each_may_break m hint (steps.MakeDirs p) (rooted, link) = (make_dirs_agrees m hint p rooted link).breaking
@@ -18,7 +18,7 @@ each_may_break m hint (steps.Symlink target p) asks = (symlink_agrees m hint tar
 each_may_break m hint (steps.Copy p q) asks = (copy_agrees m hint p q asks).breaking
 each_may_break m hint (steps.Reflink p q) asks = reflink_breaks m hint p q
 each_may_break m hint (steps.HardLink p q) (node, is) = (hard_link_agrees m hint p q node is).breaking
-each_may_break m hint (steps.ReadDir p) (plain, fresh) = read_dir_breaks m hint p plain fresh
+each_may_break m hint (steps.ReadDir p) (plain, fresh, ordered) = read_dir_in_order m hint p plain fresh ordered
 each_may_break m hint (steps.RemoveFile p) asks = (remove_file_agrees m hint p asks).breaking
 each_may_break m hint (steps.RemoveDir p) asks = (remove_dir_agrees m hint p asks).breaking
 each_may_break m hint (steps.SyncTemp t) (names, bytes, stands) = (sync_temp_agrees m hint t names bytes stands).breaking

@@ -1,6 +1,6 @@
 -- Each call can happen as `GoesWell` says.
 use Rattle.std.proofs.Common.{◌≡◌, ◌+◌, ℕ, List, [], ◌∷◌, ◌++◌, length, take, drop, refl, sym, ap, subst, inr, eq-eqb, ne_eqb}
-use Rattle.std.specs.Prelude.{Bool, if◌then◌else◌, ◌==◌, Option, None, Some, is_some, Result, Ok, Err, MatchOption, IfSome, IfNone, IfOk, MatchResult}
+use Rattle.std.specs.Prelude.{Bool, if◌then◌else◌, ◌==◌, Option, None, Some, IsPermutation, is_some, Result, Ok, Err, MatchOption, IfSome, IfNone, IfOk, MatchResult}
 use Rattle.cacache_core.specs.{declared.errors.Fault.{Fault, TheVariants.{Device, IsADirectory, InvalidInput}}, PathNames.{Names}}
 use Rattle.cacache_disk.specs.{declared.node.Node.{Node, TheVariants.{Folder, File, Link}}, Tree.{Tree, look, put, cut, kind_of, listing}, LedTo.{place, standing, found, file_at, writable, free, replaceable, linked, removable, emptied}, Apply.{taken, readable, lengthened}}
 use Rattle.std_io.specs.declared.io.kind.ErrorKind.TheVariants as kind
@@ -23,10 +23,10 @@ can_refuse : (fault : Fault) (m : Machine) → CanSay fault → Can (IsRefused f
 can_refuse fault m (why, is, memory) = (says.Failed why, m, (why, refl, is, memory, refl))
 
 abbrev standing_on : Machine → Tree → Machine
-standing_on m t = record { tree = t; files = m.files; synced = m.synced; inodes = m.inodes; folders = m.folders }
+standing_on m t = record { tree = t; files = m.files; synced = m.synced; inodes = m.inodes; folders = m.folders; order = m.order }
 
 abbrev open_on : Machine → Tree → ℕ → OpenFile → Machine
-open_on m t number file = record { tree = t; files = with_file m.files number file; synced = m.synced; inodes = m.inodes; folders = m.folders }
+open_on m t number file = record { tree = t; files = with_file m.files number file; synced = m.synced; inodes = m.inodes; folders = m.folders; order = m.order }
 
 can_change : (m : Machine) (ends : Result Names Fault) (new : Names → Tree) → Sayable ends → Can (ChangesTree ends new m)
 can_change m (Ok names) new can = (says.Done, standing_on m (new names), (refl, (refl, refl, refl, λ k. refl)))
@@ -111,7 +111,7 @@ abbrev with_left : (ℕ → Option (List (List ℕ))) → ℕ → List (List ℕ
 with_left folders number left k = if k == number then Some left else folders k
 
 abbrev folders_on : Machine → ℕ → List (List ℕ) → Machine
-folders_on m number left = record { tree = m.tree; files = m.files; synced = m.synced; inodes = m.inodes; folders = with_left m.folders number left }
+folders_on m number left = record { tree = m.tree; files = m.files; synced = m.synced; inodes = m.inodes; folders = with_left m.folders number left; order = m.order }
 
 has_left : (m : Machine) (number : ℕ) (left : List (List ℕ)) → HasLeft number left m (folders_on m number left)
 has_left m number left = record {
@@ -122,15 +122,15 @@ has_left m number left = record {
   others = λ k other. ap (λ (b : Bool). is_some (if b then Some left else m.folders k)) (ne_eqb k number other);
 }
 
-can_list : (m : Machine) (names : Names) (o : Option Node) → HasRoom m → Can (OpensNames names o m)
-can_list m names (Some Folder) (number, room) =
-    let given = names_given (listing m.tree names) in
-    (says.Opened number, folders_on m number given, (number, given, refl, room, gives_all (listing m.tree names), has_left m number given))
-can_list m names _ room = (says.Done, m, tt)
+can_list : (m : Machine) (names : Names) (o : Option Node) → HasRoom m → IsPermutation (listing m.tree names) (m.order names) → Can (OpensNames names o m)
+can_list m names (Some Folder) (number, room) order =
+    let given = names_given (m.order names) in
+    (says.Opened number, folders_on m number given, (number, given, refl, room, order, gives_all (m.order names), has_left m number given))
+can_list m names _ room order = (says.Done, m, tt)
 
-can_open_folder : (m : Machine) (ends : Result Names Fault) → HasRoom m → Sayable ends → Can (OpensFolder ends m)
-can_open_folder m (Ok names) room can = can_list m names (look m.tree names) room
-can_open_folder m (Err fault) room can = can_refuse fault m can
+can_open_folder : (m : Machine) (ends : Result Names Fault) → HasRoom m → Sayable ends → IfOk ends (λ names. IsPermutation (listing m.tree names) (m.order names)) → Can (OpensFolder ends m)
+can_open_folder m (Ok names) room can order = can_list m names (look m.tree names) room order
+can_open_folder m (Err fault) room can order = can_refuse fault m can
 
 append-none : (xs : List (List ℕ)) → xs ≡ xs ++ []
 append-none [] = refl
@@ -161,7 +161,7 @@ calls_can_go_well most m (asks.Write number bytes) room spelt =
     (λ file. (says.Count (taken most bytes), standing_on m (lengthened m.tree file.names (take (taken most bytes) bytes)), (refl, (refl, refl, refl, λ k. refl))))
 calls_can_go_well most m (asks.Sync number) room spelt =
     of_open (m.files number) (m.folders number) (λ file said after. (said ≡ says.Done) × Became m m.tree m.files ((file.names, look m.tree file.names) ∷ m.synced) after) m
-    (λ file. (says.Done, record { tree = m.tree; files = m.files; synced = (file.names, look m.tree file.names) ∷ m.synced; inodes = m.inodes; folders = m.folders }, (refl, (refl, refl, refl, λ k. refl))))
+    (λ file. (says.Done, record { tree = m.tree; files = m.files; synced = (file.names, look m.tree file.names) ∷ m.synced; inodes = m.inodes; folders = m.folders; order = m.order }, (refl, (refl, refl, refl, λ k. refl))))
 calls_can_go_well most m (asks.SetOwner path owner group) room spelt = can_own m (standing m.tree path) (standing_say m.tree path)
 calls_can_go_well most m (asks.SetMode number mode) room spelt =
     of_open (m.files number) (m.folders number) (λ file said after. (said ≡ says.Done) × (after ≡ m)) m (λ file. (says.Done, m, (refl, refl)))
@@ -176,6 +176,6 @@ calls_can_go_well most m (asks.RemoveFolder path) room spelt = can_change m (emp
 calls_can_go_well most m (asks.Symlink target path) room spelt = can_change m (free m.tree path) (λ names. put m.tree names (Link target)) (free_say m.tree path)
 calls_can_go_well most m (asks.HardLink from to) room spelt = can_link m (linked m.tree from) (free m.tree to) (linked_say m.tree from) (free_say m.tree to)
 calls_can_go_well most m (asks.CopyFile from to) room spelt = can_copy m (file_at m.tree from InvalidInput) (writable m.tree to) (file_say m.tree from) (writable_say m.tree to)
-calls_can_go_well most m (asks.OpenFolder path) room spelt = can_open_folder m (standing m.tree path) room (standing_say m.tree path)
+calls_can_go_well most m (asks.OpenFolder path) room spelt = can_open_folder m (standing m.tree path) room (standing_say m.tree path) spelt
 calls_can_go_well most m (asks.ReadNames number size) room spelt = of_open (m.folders number) (m.files number) (λ left. ReadsSome number left m) m (can_read_names m number)
 calls_can_go_well most m (asks.RealPath path) room spelt = can_spell m (found m.tree path) (found_say m.tree path) spelt

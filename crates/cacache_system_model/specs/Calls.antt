@@ -9,7 +9,7 @@ use Rattle.cacache_system.specs.declared.call.CallResult.TheVariants as says
 use Rattle.cacache_system_model.specs.{Folders.{OpensFolder, ReadsFolder}, Machine.{OpenFile, Machine, HasTree, IsRefused, ChangesTree, OpensIf, with_empty, ShowsEnd, ShowsOpen, ReadsOpen, WritesOpen, SyncsOpen, GivesOwner, GivesMode, LinksNode, CopiesBytes, MovesNode, SpellsEnd}}
 
 -- What a call says and leaves if it doesn't fail without cause. A read or a write moves all the bytes that it may, or at
--- most so many. A folder gives its names in the order of the tree's.
+-- most so many. A folder gives its names in any order.
 abbrev pub GoesWell : Option ℕ → Machine → SystemCall → CallResult → Machine → Type 0
 GoesWell most m (asks.OpenToRead path) said after =
     OpensIf (found m.tree path) (λ names. m.tree) m said after

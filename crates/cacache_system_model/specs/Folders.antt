@@ -1,5 +1,5 @@
 -- Folders that are opened to be listed, and the names that they give.
-use Rattle.std.specs.Prelude.{◌≡◌, ◌⊎◌, ℕ, List, [], ◌∷◌, ◌++◌, Option, Some, MatchOption, IfNone, Result, MatchResult}
+use Rattle.std.specs.Prelude.{◌≡◌, ◌⊎◌, ℕ, List, [], ◌∷◌, ◌++◌, Option, Some, IsPermutation, MatchOption, IfNone, Result, MatchResult}
 use Rattle.cacache_core.specs.{declared.errors.Fault.{Fault, TheVariants.{Device}}, PathNames.{Names}}
 use Rattle.cacache_store.specs.declared.store.answer.Name.{Name}
 use Rattle.cacache_disk.specs.{declared.node.Node.{Node, TheVariants.{Folder}}, Tree.{look, listing}}
@@ -32,11 +32,12 @@ pub record HasLeft (number : ℕ) (names : List (List ℕ)) (m after : Machine) 
   pub left : after.folders number ≡ Some names
   pub others : (k : ℕ) → (k ≡ number → ⊥) → StaysFolder m after k
 
--- a folder is opened; of a file or a link nothing is said
+-- A folder is opened, and will give each name in it once, in its own order. Of a file or a link nothing is said.
 abbrev pub OpensNames : Names → Option Node → Machine → CallResult → Machine → Type 0
 OpensNames names (Some Folder) m said after =
     (number : ℕ) × (given : List (List ℕ)) × (said ≡ says.Opened number) × IsUnused m number
-    × GivesNames given (listing m.tree names) × HasLeft number given m after
+    × IsPermutation (listing m.tree names) (m.order names) × GivesNames given (m.order names)
+    × HasLeft number given m after
 OpensNames names here m said after = Unit {0}
 
 -- a folder is opened by its path, or it is refused

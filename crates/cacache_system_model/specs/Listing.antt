@@ -1,12 +1,13 @@
--- The law on listings.
-use Rattle.std.specs.{Prelude.{◌≡◌, ◌==◌, ℕ, true, false, List, [], ◌∷◌, ◌++◌, Some, Ok, None, length}, List.{AllByRecursion}, Str.{is_utf8}}
+-- The laws on listings.
+use Rattle.std.specs.{Prelude.{◌≡◌, ◌⊎◌, ◌==◌, ℕ, true, false, List, [], ◌∷◌, ◌++◌, Some, Ok, None, length, IsPermutation}, List.{AllByRecursion}, Str.{is_utf8}}
 use Rattle.std_io.specs.declared.io.kind.ErrorKind.TheVariants as kind
 use Rattle.cacache_core.specs.PathNames.{Names, IsProperName}
 use Rattle.cacache_store.specs.declared.store.step.Step.TheVariants as steps
 use Rattle.cacache_store.specs.declared.store.answer.Name.{Name}
-use Rattle.cacache_disk.specs.{declared.{luck.Luck.TheVariants.{Plain}, node.Node.{Node, TheVariants.{Folder}}}, Tree.{Tree, look, listing, kind_of}, LedTo.{standing, folder}, Apply.{apply}}
+use Rattle.cacache_store.specs.declared.store.answer.Answer.TheVariants as answers
+use Rattle.cacache_disk.specs.{declared.node.Node.{Node, TheVariants.{Folder}}, Tree.{Tree, look, listing, kind_of}, LedTo.{standing, folder}}
 use Rattle.cacache_system.specs.{declared.call.CallResult.{CallResult, TheVariants.{Failed}}, ListedNames.{text_of, with_slash}, AnswersOf.{Hint, is_named, first}}
-use Rattle.cacache_system_model.specs.{Machine.{Machine}, Calls.{GoesWell}, Laws.{step_on, led_to, Leads, MayBreak}}
+use Rattle.cacache_system_model.specs.{Machine.{Machine}, Calls.{GoesWell, OccursSomehow}, Laws.{outcome, led_to, Leads, IsDone, IsLucky, MayBreak}}
 
 -- an entry of a folder: its name is proper and is given as it is, and the entry is under it
 pub record IsPlainEntry (t : Tree) (path : List ℕ) (names : Names) (entry : Name) : Type 0 where
@@ -28,11 +29,19 @@ pub record ListsPlainly (t : Tree) (path : List ℕ) : Type 0 where
   pub there : look t names ≡ Some Folder
   pub entries : AllByRecursion (IsPlainEntry t path names) (listing t names)
 
--- if memory isn't refused, and a folder doesn't give too many names, it is as under plain luck
+-- The names of the folder are answered in its own order, and nothing changed. These are the names of the disk's table, each
+-- once.
+abbrev pub Lists : Machine → List ℕ → CallResult → Machine → Type 0
+Lists m path end after =
+    (names : Names) × (folder m.tree path ≡ Ok names)
+    × IsPermutation (listing m.tree names) (m.order names)
+    × (outcome (answers.Names (m.order names)) m.tree ≡ led_to (steps.ReadDir path) end after)
+
+-- so it is, if memory isn't refused, and the folder doesn't give too many names
 abbrev pub IsListed : Machine → List ℕ → CallResult → Machine → Type 0
 IsListed m path end after =
     (end ≡ Failed kind.OutOfMemory → ⊥) → (end ≡ Failed kind.FileTooLarge → ⊥)
-    → apply m.tree (step_on m (steps.ReadDir path)) Plain ≡ led_to (steps.ReadDir path) end after
+    → Lists m path end after
 
 -- if no call fails without cause, a folder is listed
 abbrev pub ReadDirGoesPlainly : Type 0
@@ -40,8 +49,25 @@ ReadDirGoesPlainly =
     (m : Machine) (hint : Hint) (path : List ℕ) → ListsPlainly m.tree path
     → Leads (GoesWell None) (first hint (steps.ReadDir path)) m (IsListed m path)
 
+-- the folder is listed, or it is as under some luck
+abbrev pub IsListedOrLucky : Machine → List ℕ → CallResult → Machine → Type 0
+IsListedOrLucky m path end after =
+    Lists m path end after ⊎ IsLucky m (steps.ReadDir path) end after
+
 -- any of its calls may fail without cause, if no listing named the folder before
 abbrev pub ReadDirBreaks : Type 0
 ReadDirBreaks =
     (m : Machine) (hint : Hint) (path : List ℕ) → ListsPlainly m.tree path
-    → is_named hint ≡ false → MayBreak m hint (steps.ReadDir path)
+    → is_named hint ≡ false → IsDone m (steps.ReadDir path)
+    → Leads OccursSomehow (first hint (steps.ReadDir path)) m (IsListedOrLucky m path)
+
+-- a folder gives its names in the tree's order
+abbrev pub GivesInOrder : Machine → List ℕ → Type 0
+GivesInOrder m path =
+    (names : Names) → folder m.tree path ≡ Ok names → m.order names ≡ listing m.tree names
+
+-- then it is as under some luck
+abbrev pub ReadDirInOrder : Type 0
+ReadDirInOrder =
+    (m : Machine) (hint : Hint) (path : List ℕ) → ListsPlainly m.tree path
+    → is_named hint ≡ false → GivesInOrder m path → MayBreak m hint (steps.ReadDir path)

@@ -2,6 +2,7 @@
 use Rattle.std.specs.Prelude.{◌≡◌, suc, Ok, ◌+◌, ◌==◌, ℕ, Bool, true, false, if◌then◌else◌, List, [], ◌∷◌, Option, None, Some, Result, MatchResult, MatchOption, IfSome, IfNone, is_some, length, take, drop}
 use Rattle.std_io.specs.declared.io.kind.ErrorKind.{ErrorKind}
 use Rattle.cacache_core.specs.{Contexts.{fault_of}, declared.errors.Fault.{Fault, TheVariants.{IsADirectory, Device}}, PathNames.{Names, is_name}}
+use Rattle.cacache_store.specs.declared.store.answer.Name.{Name}
 use Rattle.cacache_disk.specs.{declared.node.Node.{Node, TheVariants.{Folder, File, Link}}, Tree.{Tree, look, put, cut, kind_of}, LedTo.{place}, Apply.{if_missing, taken, lengthened}}
 use Rattle.cacache_system.specs.{declared.call.{FileInfo.{FileInfo}, CallResult.{CallResult}}, CallsOf.{last_slash}, AnswersOf.{refuses_memory}}
 use Rattle.cacache_system.specs.declared.call.CallResult.TheVariants as says
@@ -15,14 +16,15 @@ pub record OpenFile : Type 0 where
 abbrev pub SyncedNode : Type 0
 SyncedNode = Names × Option Node
 
--- what is there, the open file of each number, what was synced, latest first, the number and device of what is there, and
--- the names that an open folder has left to give
+-- what is there, the open file of each number, what was synced, latest first, the number and device of what is there, the
+-- names that an open folder has left to give, and what is in a folder, in the order in which it gives the names
 pub record Machine : Type 0 where
   pub tree : Tree
   pub files : ℕ → Option OpenFile
   pub synced : List SyncedNode
   pub inodes : Names → ℕ × ℕ
   pub folders : ℕ → Option (List (List ℕ))
+  pub order : Names → List Name
 
 -- what comes after the last `/`, if there is one
 abbrev pub behind_slash : Option ℕ → List ℕ → List ℕ
@@ -40,7 +42,7 @@ abbrev pub StaysFolder : Machine → Machine → ℕ → Type 0
 StaysFolder m after number = is_some (after.folders number) ≡ is_some (m.folders number)
 
 -- The tree, the open files and what was synced are these, and the same folders are open. The numbers of what is there,
--- and the names that open folders have left, may be others.
+-- the names that open folders have left, and the order of names may be others.
 abbrev pub Became : Machine → Tree → (ℕ → Option OpenFile) → List SyncedNode → Machine → Type 0
 Became m t files synced after =
     (after.tree ≡ t) × (after.files ≡ files) × (after.synced ≡ synced)

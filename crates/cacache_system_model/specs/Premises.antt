@@ -4,7 +4,7 @@ use Rattle.cacache_core.specs.PathNames.{Names}
 use Rattle.cacache_store.specs.declared.store.step.Step.TheVariants.{MakeDirs, Write, Persist, Append, Read, Copy, Reflink, HardLink, ReadDir, RemoveFile, RemoveDir, SyncTemp, SyncDir}
 use Rattle.cacache_disk.specs.{declared.node.Node.{Node}, LedTo.{linked}, Rooted.{Rooted}}
 use Rattle.cacache_system.specs.{Seen.{NumberedFile, NumberedTemp, NumberedStep}, AnswersOf.{Hint, is_named}}
-use Rattle.cacache_system_model.specs.{Machine.{OpenFile, Machine}, Laws.{GoesPlainly, MayBreak}, OneCall.{StillStands}, Reading.{StaysOpen}, Writing.{CanCopy}, Making.{HasNoLink}, Listing.{ListsPlainly}, Removing.{WalkStands}, Moving.{MayReplace}, Syncing.{EndsInNoLink}}
+use Rattle.cacache_system_model.specs.{Machine.{OpenFile, Machine}, Laws.{GoesPlainly, MayBreak}, OneCall.{StillStands}, Reading.{StaysOpen}, Writing.{CanCopy}, Making.{HasNoLink}, Listing.{ListsPlainly, GivesInOrder}, Removing.{WalkStands}, Moving.{MayReplace}, Syncing.{EndsInNoLink}}
 
 -- a temporary file is still at its path
 abbrev pub IsStill : Machine → NumberedTemp → Type 0
@@ -27,7 +27,8 @@ Premise m hint (Append p b) = WalkStands m.tree hint
 Premise m hint (Read f max) = IsOpen m f
 Premise m hint (Copy p q) = CanCopy m q
 Premise m hint (HardLink p q) = IsLinked m p
-Premise m hint (ReadDir p) = ListsPlainly m.tree p × (is_named hint ≡ false)
+Premise m hint (ReadDir p) =
+    ListsPlainly m.tree p × (is_named hint ≡ false) × GivesInOrder m p
 Premise m hint (RemoveFile p) = WalkStands m.tree hint
 Premise m hint (RemoveDir p) = WalkStands m.tree hint
 Premise m hint (SyncTemp t) = IsStill m t

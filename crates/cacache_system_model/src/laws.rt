@@ -1,5 +1,5 @@
 //! Laws, on functions that do nothing.
-ghost use Rattle.cacache_system_model.specs.{CallLaws.{CallsByCall}, Chains.{RunsMirror, StepsOnDisk}, Fixing.{LossesMirror}, Listing.{ReadDirBreaks, ReadDirGoesPlainly}, Logged.{LogsAgree}, Making.{MakeDirsAgrees}, Moving.{PersistAgrees}, Meeting.{CallsCanGoWell}, Mirrors.{StepsMirror}, OneCall.{CreateAgrees, ExistsAgrees, HardLinkAgrees, ReflinkBreaks, SymlinkAgrees}, Opening.{OpenAgrees, SizeAgrees}, Premises.{EachGoesPlainly, EachMayBreak}, Reading.{PiecesReadPlainly, ReadAllAgrees, ReadBreaks}, Refusals.{NoAppendThroughLink, NoCallWithoutOwner, NoCopyInPlace, NoFileForFolder, NoMoveWithoutMode, NoOtherMode, NoOtherSync, NoRemovalBeforePut, NoRemovalThroughLink, NoSecondWrite}, Removing.{AppendAgrees, RemoveDirAgrees, RemoveFileAgrees}, Syncing.{SyncDirAgrees, SyncFileAgrees, SyncTempAgrees}, Writing.{CopyAgrees, WriteAgrees}};
+ghost use Rattle.cacache_system_model.specs.{CallLaws.{CallsByCall}, Chains.{RunsMirror, StepsOnDisk}, Fixing.{LossesMirror}, Listing.{ReadDirBreaks, ReadDirGoesPlainly, ReadDirInOrder}, Logged.{LogsAgree}, Making.{MakeDirsAgrees}, Moving.{PersistAgrees}, Meeting.{CallsCanGoWell}, Mirrors.{StepsMirror}, OneCall.{CreateAgrees, ExistsAgrees, HardLinkAgrees, ReflinkBreaks, SymlinkAgrees}, Opening.{OpenAgrees, SizeAgrees}, Premises.{EachGoesPlainly, EachMayBreak}, Reading.{PiecesReadPlainly, ReadAllAgrees, ReadBreaks}, Refusals.{NoAppendThroughLink, NoCallWithoutOwner, NoCopyInPlace, NoFileForFolder, NoMoveWithoutMode, NoOtherMode, NoOtherSync, NoRemovalBeforePut, NoRemovalThroughLink, NoSecondWrite}, Removing.{AppendAgrees, RemoveDirAgrees, RemoveFileAgrees}, Syncing.{SyncDirAgrees, SyncFileAgrees, SyncTempAgrees}, Writing.{CopyAgrees, WriteAgrees}};
 
 use cacache_folder::SystemStore;
 use cacache_system::System;
@@ -23,10 +23,13 @@ pub fn look_laws()
     ensures open { OpenAgrees }
 {}
 
-/// So does a listing of a folder that is there.
+/// So does a listing of a folder that is there, except for the order of the names.
+///
+/// `in_order`: if the folder gives its names in the tree's order, the answer is that of the table.
 pub fn list_laws()
     ensures plainly { ReadDirGoesPlainly }
     ensures breaking { ReadDirBreaks }
+    ensures in_order { ReadDirInOrder }
 {}
 
 /// So does a read: of a whole file, and of a piece of an open one.

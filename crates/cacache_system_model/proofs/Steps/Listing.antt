@@ -1,6 +1,6 @@
 -- A folder is listed call by call.
-use Rattle.std.proofs.{Common.{◌≡◌, ◌≢◌, ◌==◌, ◌||◌, ◌&&◌, not, ◌-◌, ◌^◌, ℕ, zero, suc, Bool, true, false, if◌then◌else◌, List, [], ◌∷◌, ◌++◌, length, refl, sym, ap, subst, ◌∙◌, ⊎_elim, inl, inr, arith, ne_eqb, length-append, append-nil, append_assoc}, lemmas.Bool.{or_parts}}
-use Rattle.std.specs.{Prelude.{Option, Some, MatchOption, IfNone, Result, Ok}, List.{AllByRecursion, list_any}, Str.{is_utf8}}
+use Rattle.std.proofs.{Common.{◌≡◌, ◌≢◌, ◌==◌, ◌||◌, ◌&&◌, not, ◌-◌, ◌^◌, ℕ, zero, suc, Bool, true, false, if◌then◌else◌, List, [], ◌∷◌, ◌++◌, length, refl, sym, ap, subst, ◌∙◌, ⊎_elim, inl, inr, arith, ne_eqb, length-append, append-nil, append_assoc}, lemmas.{Bool.{or_parts}, List.{Elements.{All-from_recursion, recursion_from_All}, Sorted.{All-permutation}}}}
+use Rattle.std.specs.{Prelude.{Option, Some, MatchOption, IfNone, IsPermutation, Result, Ok}, List.{AllByRecursion, list_any}, Str.{is_utf8}}
 use Rattle.std_io.specs.declared.io.kind.ErrorKind.{ErrorKind}
 use Rattle.std_io.specs.declared.io.kind.ErrorKind.TheVariants as kind
 use Rattle.cacache_core.proofs.Splits.{split-append, split_none}
@@ -12,13 +12,13 @@ use Rattle.cacache_disk.specs.{declared.{luck.Luck.TheVariants.{Plain}, node.Nod
 use Rattle.cacache_system.specs.{declared.call.{SystemCall.{SystemCall}, CallItem.{CallItem}, CallResult.{CallResult}}, ListedNames.{text_of, is_proper, is_passed, names_in, with_slash}, CallsOf.{Stage, Reader, over, taking_memory, opening_folder, following, unopened, is_no_folder, interrupts, reading_names, asking_kind, reader, read_once, more_names, entered, ask_kind, next_name, names_read, broken_off, after, Ends, Runs}, AnswersOf.{is_named, list, misses}}
 use Rattle.cacache_system.specs.declared.call.SystemCall.TheVariants as asks
 use Rattle.cacache_system.specs.declared.call.CallResult.TheVariants as says
-use Rattle.cacache_system_model.specs.{Machine.{Machine, IsRefused, ShowsNode, ShowsEnd, Describes}, Folders.{IsDots, GivesNames, ended, OpensNames, OpensFolder, ReadsSome, ReadsFolder}, Calls.{EachCall}, Laws.{outcome, led_to, Leads, IsDone, IsLucky}, Listing.{IsPlainEntry, ListsPlainly, IsListed, ReadDirGoesPlainly, ReadDirBreaks}}
+use Rattle.cacache_system_model.specs.{Machine.{Machine, IsRefused, ShowsNode, ShowsEnd, Describes}, Folders.{IsDots, GivesNames, ended, OpensNames, OpensFolder, ReadsSome, ReadsFolder}, Calls.{EachCall}, Laws.{outcome, Leads, IsDone, IsLucky}, Listing.{IsPlainEntry, ListsPlainly, Lists, IsListed, IsListedOrLucky, GivesInOrder, ReadDirGoesPlainly, ReadDirBreaks, ReadDirInOrder}}
 use Rattle.cacache_system_model.proofs.{Leading.{Claim, over_leads, call_leads}, Refused.{broken_agrees}, Claims.{way_of, cases_of, taking_leads}, Steps.{Opening.{of_some}, CopyFacts.{not_absent}}}
 
 -- what a listing's calls come to: if none fails without cause, and if some may
 abbrev ListClaim : Bool → Machine → List ℕ → Claim
 ListClaim true m path = IsListed m path
-ListClaim false m path = IsLucky m (steps.ReadDir path)
+ListClaim false m path = IsListedOrLucky m path
 
 -- ---- names
 
@@ -74,25 +74,25 @@ module _ (b : Bool) (m : Machine) (path : List ℕ) (names : Names) (done : b �
 
   -- ---- ends
 
-  claim_same : (end : CallResult) (n : Machine) → apply m.tree (steps.ReadDir path) Plain ≡ led_to (steps.ReadDir path) end n → ListClaim b m path end n
-  claim_same end n is = elim b as (λ b. ListClaim b m path end n) [ true ↦ λ enough few. is | false ↦ inl (Plain, is) ]
+  claim_same : (end : CallResult) (n : Machine) → Lists m path end n → ListClaim b m path end n
+  claim_same end n is = elim b as (λ b. ListClaim b m path end n) [ true ↦ λ enough few. is | false ↦ inl is ]
 
   claim_broken : (why : ErrorKind) (n : Machine) → b ≡ false → misses why ≡ false → n.tree ≡ m.tree → ListClaim b m path (says.Failed why) n
   claim_broken why n broke fine tree =
-      subst (λ (c : Bool). ListClaim c m path (says.Failed why) n) (sym broke) (broken_agrees (steps.ReadDir path) why (says.Failed why) m n refl fine tree (done broke))
+      subst (λ (c : Bool). ListClaim c m path (says.Failed why) n) (sym broke) (inr (broken_agrees (steps.ReadDir path) why (says.Failed why) m n refl fine tree (done broke)))
 
   claim_memory : (n : Machine) → n.tree ≡ m.tree → ListClaim b m path (says.Failed kind.OutOfMemory) n
   claim_memory n tree =
       elim b as (λ b. (b ≡ false → IsDone m (steps.ReadDir path)) → ListClaim b m path (says.Failed kind.OutOfMemory) n) [
         | true ↦ λ done enough few. absurd (enough refl)
-        | false ↦ λ done. broken_agrees (steps.ReadDir path) kind.OutOfMemory (says.Failed kind.OutOfMemory) m n refl refl tree (done refl)
+        | false ↦ λ done. inr (broken_agrees (steps.ReadDir path) kind.OutOfMemory (says.Failed kind.OutOfMemory) m n refl refl tree (done refl))
       ] done
 
   claim_large : (n : Machine) → n.tree ≡ m.tree → ListClaim b m path (says.Failed kind.FileTooLarge) n
   claim_large n tree =
       elim b as (λ b. (b ≡ false → IsDone m (steps.ReadDir path)) → ListClaim b m path (says.Failed kind.FileTooLarge) n) [
         | true ↦ λ done enough few. absurd (few refl)
-        | false ↦ λ done. broken_agrees (steps.ReadDir path) kind.FileTooLarge (says.Failed kind.FileTooLarge) m n refl refl tree (done refl)
+        | false ↦ λ done. inr (broken_agrees (steps.ReadDir path) kind.FileTooLarge (says.Failed kind.FileTooLarge) m n refl refl tree (done refl))
       ] done
 
   broken_leads : (why : ErrorKind) (n : Machine) → b ≡ false → misses why ≡ false → n.tree ≡ m.tree → Goes (over (says.Failed why)) n
@@ -184,22 +184,22 @@ module _ (b : Bool) (m : Machine) (path : List ℕ) (names : Names) (done : b �
 
   -- ---- reads
 
-  apply_dir : folder m.tree path ≡ Ok names → apply m.tree (steps.ReadDir path) Plain ≡ outcome (answers.Names (listing m.tree names)) m.tree
-  unfolding apply
-  apply_dir is = ap (λ (r : Result Names Fault). unless r m.tree (λ at. outcome (answers.Names (listing m.tree at)) m.tree)) is
+  -- the folder is there, and has an order of its names
+  abbrev Ordered : Type 0
+  Ordered = (folder m.tree path ≡ Ok names) × IsPermutation (listing m.tree names) (m.order names)
 
-  listed_so : (found : List Name) (n : Machine) → folder m.tree path ≡ Ok names → n.tree ≡ m.tree → found ≡ listing m.tree names → ListClaim b m path (says.Names found) n
-  listed_so found n is tree same =
+  listed_so : (found : List Name) (n : Machine) → Ordered → n.tree ≡ m.tree → found ≡ m.order names → ListClaim b m path (says.Names found) n
+  listed_so found n (is, order) tree same =
       claim_same (says.Names found) n
-      (apply_dir is ∙ ap (λ (l : List Name). outcome (answers.Names l) m.tree) (sym same) ∙ ap (λ (t : Tree). outcome (answers.Names found) t) (sym tree))
+      (names, is, order, ap (λ (l : List Name). outcome (answers.Names l) m.tree) (sym same) ∙ ap (λ (t : Tree). outcome (answers.Names found) t) (sym tree))
 
   abbrev read_if : Bool → Reader → List ℕ → List Name → Stage
   read_if c r bytes found = if c then taking_memory (over (says.Names found)) else next_name (read_once r) (names_in bytes) found
 
   -- names that were read are listed, or there are no more
-  read_leads : (r : Reader) (given rest : List (List ℕ)) (es found : List Name) (k : Machine) → folder m.tree path ≡ Ok names → r.folder ≡ with_slash path
-      → k.tree ≡ m.tree → (given ≡ [] → rest ≡ []) → GivesNames (given ++ rest) es → Entries es → found ++ es ≡ listing m.tree names
-      → ((found_then es_then : List Name) → GivesNames rest es_then → Entries es_then → found_then ++ es_then ≡ listing m.tree names → Goes (more_names (read_once r) found_then) k)
+  read_leads : (r : Reader) (given rest : List (List ℕ)) (es found : List Name) (k : Machine) → Ordered → r.folder ≡ with_slash path
+      → k.tree ≡ m.tree → (given ≡ [] → rest ≡ []) → GivesNames (given ++ rest) es → Entries es → found ++ es ≡ m.order names
+      → ((found_then es_then : List Name) → GivesNames rest es_then → Entries es_then → found_then ++ es_then ≡ m.order names → Goes (more_names (read_once r) found_then) k)
       → Goes (names_read r (ended given) found) k
   read_leads r [] rest es found k is at tree none gives plain sums goes =
       let over_now : es ≡ [] = subst (λ (l : List (List ℕ)). GivesNames l es) (none refl) gives in
@@ -210,7 +210,7 @@ module _ (b : Bool) (m : Machine) (path : List ℕ) (names : Names) (done : b �
       subst (λ (c : Bool). Goes (read_if c r (ended (name ∷ given)) found) k)
       (sym (not_zero (length (ended (name ∷ given))) (λ empty. omega (arith, empty, length-append name (0 ∷ ended given)))))
       (subst (λ (l : List (List ℕ)). Goes (next_name (read_once r) l found) k) (sym (names_split (name ∷ given) rest es gives plain))
-      (names_lead (read_once r) (name ∷ given) rest es found (listing m.tree names) k at tree gives plain sums goes))
+      (names_lead (read_once r) (name ∷ given) rest es found (m.order names) k at tree gives plain sums goes))
 
   broke_on : (c : Bool) (why : ErrorKind) (r : Reader) (found : List Name) (n next last : Machine) (items : List CallItem) (end : CallResult) → interrupts why ≡ c → next ≡ n
       → ListClaim b m path (says.Failed (broken_off why)) next
@@ -251,8 +251,8 @@ module _ (b : Bool) (m : Machine) (path : List ℕ) (names : Names) (done : b �
       (subst (λ (c : SystemCall). way_of b n c item.result next) same_call happens))
 
   -- names are read to their end
-  reads_lead : (f : ℕ) (r : Reader) (left : List (List ℕ)) (es found : List Name) (n : Machine) → folder m.tree path ≡ Ok names → r.left ≡ f → r.folder ≡ with_slash path
-      → n.tree ≡ m.tree → n.folders r.number ≡ Some left → GivesNames left es → Entries es → found ++ es ≡ listing m.tree names → Goes (more_names r found) n
+  reads_lead : (f : ℕ) (r : Reader) (left : List (List ℕ)) (es found : List Name) (n : Machine) → Ordered → r.left ≡ f → r.folder ≡ with_slash path
+      → n.tree ≡ m.tree → n.folders r.number ≡ Some left → GivesNames left es → Entries es → found ++ es ≡ m.order names → Goes (more_names r found) n
   reads_lead zero r left es found n is less at tree holds gives plain sums =
       subst (λ (x : ℕ). Goes (if x == 0 then over (says.Failed kind.FileTooLarge) else reading_names false r found) n) (sym less)
       (over_leads (way_of b) (says.Failed kind.FileTooLarge) n (ListClaim b m path) (claim_large n tree))
@@ -280,10 +280,14 @@ module _ (b : Bool) (m : Machine) (path : List ℕ) (p : ListsPlainly m.tree pat
       → (s : Stage) → ((number : ℕ) → after s (says.Opened number) ≡ more_names (reader number path) []) → Goes_on (after s said) k
   opened_leads from said k stands happens s leads =
       let opens : OpensNames p.names (look m.tree p.names) m said k = subst (λ (ends : Result Names Fault). OpensFolder ends m said k) stands happens in
-      let (number, given, told, unused, gives, has) = subst (λ (o : Option Node). OpensNames p.names o m said k) p.there opens in
+      let (number, given, told, unused, order, gives, has) = subst (λ (o : Option Node). OpensNames p.names o m said k) p.there opens in
       subst (λ (result : CallResult). Goes_on (after s result) k) (sym told)
       (subst (λ (t : Stage). Goes_on t k) (sym (leads number))
-      (reads_lead b m path p.names done (2 ^ 64 - 1) (reader number path) given (listing m.tree p.names) [] k p.folder refl refl has.tree has.left gives p.entries refl))
+      (reads_lead b m path p.names done (2 ^ 64 - 1) (reader number path) given (m.order p.names) [] k (p.folder, order) refl refl has.tree has.left gives
+      (recursion_from_All (IsPlainEntry m.tree path p.names) (m.order p.names)
+      (All-permutation (IsPlainEntry m.tree path p.names) (listing m.tree p.names) (m.order p.names) order
+      (All-from_recursion (IsPlainEntry m.tree path p.names) (listing m.tree p.names) p.entries)))
+      refl))
 
   -- a folder to which a link may lead
   follows : Goes_on (following path) m
@@ -327,3 +331,19 @@ read_dir_goes m hint path p = lists_so true m path p (λ e. absurd cc) (is_named
 
 pub read_dir_breaks : ReadDirBreaks
 read_dir_breaks m hint path p fresh done = lists_so false m path p (λ e. done) (is_named hint) (λ e. fresh)
+
+-- ---- names in the tree's order
+
+ordered_lucky : (m n : Machine) (path : List ℕ) (end : CallResult) → GivesInOrder m path → IsListedOrLucky m path end n → IsLucky m (steps.ReadDir path) end n
+unfolding apply
+ordered_lucky m n path end ordered (inl (names, is, order, listed)) =
+    inl (
+      Plain,
+      ap (λ (r : Result Names Fault). unless r m.tree (λ at. outcome (answers.Names (listing m.tree at)) m.tree)) is
+          ∙ ap (λ (l : List Name). outcome (answers.Names l) m.tree) (sym (ordered names is)) ∙ listed,
+    )
+ordered_lucky m n path end ordered (inr lucky) = lucky
+
+pub read_dir_in_order : ReadDirInOrder
+read_dir_in_order m hint path p fresh ordered done items end n runs each =
+    ordered_lucky m n path end ordered (read_dir_breaks m hint path p fresh done items end n runs each)

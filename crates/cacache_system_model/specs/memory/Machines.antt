@@ -2,7 +2,7 @@
 use Rattle.std.specs.Prelude.{◌≡◌, ◌⊎◌, ℕ, List, [], None, option_map, slice_get}
 use Rattle.std_io.specs.declared.io.kind.ErrorKind.{ErrorKind}
 use Rattle.std_io.specs.declared.io.kind.ErrorKind.TheVariants as kind
-use Rattle.cacache_disk.specs.Tree.{Tree}
+use Rattle.cacache_disk.specs.Tree.{Tree, listing}
 use Rattle.cacache_system.specs.declared.call.{SystemCall.{SystemCall}, CallResult.{CallResult}, CallItem.{CallItem}}
 use Rattle.cacache_system.specs.declared.call.SystemCall.TheVariants as asks
 use Rattle.cacache_system.specs.declared.call.CallResult.TheVariants as says
@@ -17,7 +17,8 @@ calls_of system = items_of system.log
 abbrev pub open_of : OpenFile → model.OpenFile
 open_of file = record { names = file.names; read = file.read }
 
--- this tree with these open files: nothing was synced, nothing has a number, and no folder is open
+-- this tree with these open files: nothing was synced, nothing has a number, no folder is open, and names have the
+-- tree's order
 abbrev pub machine : Tree → List OpenFile → Machine
 machine t files = record {
   tree = t;
@@ -25,6 +26,7 @@ machine t files = record {
   synced = [];
   inodes = λ names. (0, 0);
   folders = λ number. None;
+  order = listing t;
 }
 
 -- the machine that a system is
