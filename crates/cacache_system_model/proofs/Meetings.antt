@@ -2,12 +2,12 @@
 use Rattle.std.proofs.Common.{◌≡◌, ◌+◌, ℕ, List, [], ◌∷◌, ◌++◌, length, take, drop, refl, sym, ap, subst, inr, eq-eqb, ne_eqb}
 use Rattle.std.specs.Prelude.{Bool, if◌then◌else◌, ◌==◌, Option, None, Some, IsPermutation, is_some, Result, Ok, Err, MatchOption, IfSome, IfNone, IfOk, MatchResult}
 use Rattle.cacache_core.specs.{declared.errors.Fault.{Fault, TheVariants.{Device, IsADirectory, InvalidInput}}, PathNames.{Names}}
-use Rattle.cacache_disk.specs.{declared.node.Node.{Node, TheVariants.{Folder, File, Link}}, Tree.{Tree, look, put, cut, kind_of, listing}, LedTo.{place, standing, found, file_at, writable, free, replaceable, linked, removable, emptied}, Apply.{taken, readable, lengthened}}
+use Rattle.cacache_disk.specs.{declared.node.Node.{Node, TheVariants.{Folder, File, Link}}, Tree.{Tree, look, put, cut, kind_of, listing}, LedTo.{place, standing, leads, found, file_at, writable, free, replaceable, linked, removable, emptied}, Apply.{taken, readable, lengthened}}
 use Rattle.std_io.specs.declared.io.kind.ErrorKind.TheVariants as kind
 use Rattle.cacache_system.specs.declared.call.{FileInfo.{FileInfo}, CallResult.{CallResult}}
 use Rattle.cacache_system.specs.declared.call.SystemCall.TheVariants as asks
 use Rattle.cacache_system.specs.declared.call.CallResult.TheVariants as says
-use Rattle.cacache_system_model.specs.{Machine.{OpenFile, Machine, Became, IsRefused, ChangesTree, OpensIf, with_file, unread, is_regular, Describes, ShowsNode, ShowsEnd, ReadsFile, GivesOwner, link_fault, LinksNode, CopiesBytes, CopiesTo, MovesNode, with_empty, Spells, SpellsEnd}, Folders.{GivesNames, ended, HasLeft, OpensNames, OpensFolder, ReadsSome}, Meeting.{HasRoom, CallsCanGoWell}}
+use Rattle.cacache_system_model.specs.{Machine.{OpenFile, Machine, Became, IsRefused, ChangesTree, OpensIf, with_file, unread, is_regular, Describes, ShowsNode, ShowsEnd, ReadsFile, GivesOwner, link_fault, LinksNode, found_bytes, CopiesBytes, CopiesTo, MovesNode, with_empty, Spells, SpellsEnd}, Calls.{brought}, Folders.{GivesNames, ended, HasLeft, OpensNames, OpensFolder, ReadsSome}, Meeting.{HasRoom, CallsCanGoWell}}
 use Rattle.cacache_system_model.proofs.Saying.{CanSay, a_folder, Sayable, place_say, standing_say, found_say, writable_say, free_say, replaceable_say, removable_say, emptied_say, file_say, LinkSayable, linked_say}
 use Rattle.cacache_store.specs.declared.store.answer.Name.{Name}
 
@@ -85,9 +85,9 @@ can_rename : (m : Machine) (from : Result Names Fault) (ends : Result Names Faul
 can_rename m (Ok old) ends begin can = can_move m old (look m.tree old) ends can
 can_rename m (Err fault) ends begin can = can_refuse fault m begin
 
-can_link : (m : Machine) (source : Result Node Fault) (ends : Result Names Fault) → LinkSayable source → Sayable ends → Can (LinksNode source ends m)
+can_link : (m : Machine) (source : Result Node Fault) (ends : Result Names Fault) → LinkSayable source ends → Sayable ends → Can (LinksNode source ends m)
 can_link m (Ok node) ends begin can = can_change m ends (λ names. put m.tree names node) can
-can_link m (Err fault) ends begin can = can_refuse (link_fault fault) m begin
+can_link m (Err fault) ends begin can = can_refuse (link_fault fault ends) m begin
 
 can_copy_to : (m : Machine) (bytes : List ℕ) (ends : Result Names Fault) → Sayable ends → Can (CopiesTo bytes ends m)
 can_copy_to m bytes (Ok names) can = (says.Count (length bytes), standing_on m (put m.tree names (File bytes)), (refl, (refl, refl, refl, λ k. refl)))
@@ -96,6 +96,12 @@ can_copy_to m bytes (Err fault) can = can_refuse fault m can
 can_copy : (m : Machine) (source : Result (List ℕ) Fault) (ends : Result Names Fault) → Sayable source → Sayable ends → Can (CopiesBytes source ends m)
 can_copy m (Ok bytes) ends begin can = can_copy_to m bytes ends can
 can_copy m (Err fault) ends begin can = can_refuse fault m begin
+
+brought_say : (source target : Result Names Fault) (bytes : Result (List ℕ) Fault) → Sayable bytes → Sayable (found_bytes source target bytes)
+brought_say (Ok source) (Ok target) (Ok bytes) can = tt
+brought_say (Ok source) (Ok target) (Err fault) can = can
+brought_say (Ok source) (Err fault) bytes can = can
+brought_say (Err fault) target bytes can = can
 
 -- ---- folders
 
@@ -174,8 +180,8 @@ calls_can_go_well most m (asks.MakeFolder path) room spelt = can_change m (free 
 calls_can_go_well most m (asks.RemoveFile path) room spelt = can_change m (removable m.tree path) (cut m.tree) (removable_say m.tree path)
 calls_can_go_well most m (asks.RemoveFolder path) room spelt = can_change m (emptied m.tree path) (cut m.tree) (emptied_say m.tree path)
 calls_can_go_well most m (asks.Symlink target path) room spelt = can_change m (free m.tree path) (λ names. put m.tree names (Link target)) (free_say m.tree path)
-calls_can_go_well most m (asks.HardLink from to) room spelt = can_link m (linked m.tree from) (free m.tree to) (linked_say m.tree from) (free_say m.tree to)
-calls_can_go_well most m (asks.CopyFile from to) room spelt = can_copy m (file_at m.tree from InvalidInput) (writable m.tree to) (file_say m.tree from) (writable_say m.tree to)
+calls_can_go_well most m (asks.HardLink from to) room spelt = can_link m (linked m.tree from) (free m.tree to) (linked_say m.tree from (free m.tree to) (free_say m.tree to)) (free_say m.tree to)
+calls_can_go_well most m (asks.CopyFile from to) room spelt = can_copy m (brought m.tree from to) (writable m.tree to) (brought_say (leads m.tree from) (writable m.tree to) (file_at m.tree from InvalidInput) (file_say m.tree from)) (writable_say m.tree to)
 calls_can_go_well most m (asks.OpenFolder path) room spelt = can_open_folder m (standing m.tree path) room (standing_say m.tree path) spelt
 calls_can_go_well most m (asks.ReadNames number size) room spelt = of_open (m.folders number) (m.files number) (λ left. ReadsSome number left m) m (can_read_names m number)
 calls_can_go_well most m (asks.RealPath path) room spelt = can_spell m (found m.tree path) (found_say m.tree path) spelt

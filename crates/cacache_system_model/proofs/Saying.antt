@@ -143,54 +143,25 @@ pub file_say : (t : Tree) (path : List ℕ) → Sayable (file_at t path InvalidI
 unfolding file_at
 file_say t path = and_say (leads t path) (λ names. bytes_there InvalidInput (look t names)) (leads_say t path) (λ names. bytes_say (look t names))
 
--- a fault of what is linked can be said
-abbrev pub LinkSayable : Result Node Fault → Type 0
-LinkSayable r = IfErr r (λ fault. CanSay (link_fault fault))
+linked_judge : (o : Option Node) → Sayable (linked_in o)
+linked_judge None = not_found
+linked_judge (Some Folder) = a_folder
+linked_judge o = tt
 
-linked_node : (o : Option Node) → LinkSayable (linked_in o)
-linked_node None = not_found
-linked_node (Some Folder) = (kind.PermissionDenied, refl, refl)
-linked_node o = tt
+-- a fault of what is linked can be said, if one of its new path can
+abbrev pub LinkSayable : {A : Type 0} → Result A Fault → Result Names Fault → Type 0
+LinkSayable r ends = IfErr r (λ fault. CanSay (link_fault fault ends))
 
-link_fault_say : (t : Tree) (r : Result Names Fault) → IfErr r (λ fault. CanSay (link_fault fault)) → LinkSayable (and_then r (λ names. linked_in (look t names)))
-link_fault_say t (Ok names) can = linked_node (look t names)
-link_fault_say t (Err fault) can = can
+fault_says : (fault : Fault) (ends : Result Names Fault) → Sayable ends → CanSay fault → CanSay (link_fault fault ends)
+fault_says IsADirectory (Ok names) new can = (kind.PermissionDenied, refl, refl)
+fault_says IsADirectory (Err why) new can = new
+fault_says fault ends new can = can
 
--- faults of a path's way are said as they are
-abbrev pub LinkSay : Fault → Type 0
-LinkSay fault = CanSay (link_fault fault)
+links_say : {A : Type 0} (r : Result A Fault) (ends : Result Names Fault) → Sayable ends → Sayable r → LinkSayable r ends
+links_say (Ok a) ends new can = tt
+links_say (Err fault) ends new can = fault_says fault ends new can
 
-through_links : (here : Option Node) (later : Option Fault) → IfSome later LinkSay → IfSome (through here later) LinkSay
-through_links None later can = not_found
-through_links (Some Folder) later can = can
-through_links here later can = no_folder
-
-way_links : (t : Tree) (above rest : Names) → IfSome (way_fault t above rest) LinkSay
-way_links t above (name ∷ next ∷ rest) =
-    through_links (look t (above ++ name ∷ [])) (way_fault t (above ++ name ∷ []) (next ∷ rest)) (way_links t (above ++ name ∷ []) (next ∷ rest))
-way_links t above rest = tt
-
-names_links : (path : List ℕ) (x y : Bool) → IfErr (let r : Result Names Fault = if x then Err NotFound else if y then Err InvalidInput else Ok (filter is_name (pieces path)) in r) LinkSay
-names_links path true y = not_found
-names_links path false true = (kind.InvalidInput, refl, refl)
-names_links path false false = tt
-
-names_link : (path : List ℕ) → IfErr (names_of path) LinkSay
-unfolding names_of
-names_link path = names_links path (length path == 0) (is_bad path)
-
-or_links : (o : Option Fault) (a : Names) → IfSome o LinkSay → IfErr (or_fault o a) LinkSay
-or_links None a can = tt
-or_links (Some fault) a can = can
-
-and_links : (r : Result Names Fault) (next : Names → Result Names Fault) → IfErr r LinkSay → ((a : Names) → IfErr (next a) LinkSay) → IfErr (and_then r next) LinkSay
-and_links (Ok a) next r s = s a
-and_links (Err fault) next r s = r
-
-place_links : (t : Tree) (path : List ℕ) → IfErr (place t path) (λ fault. CanSay (link_fault fault))
-unfolding place
-place_links t path = and_links (names_of path) (λ names. or_fault (way_fault t [] names) names) (names_link path) (λ names. or_links (way_fault t [] names) names (way_links t [] names))
-
-pub linked_say : (t : Tree) (path : List ℕ) → LinkSayable (linked t path)
+pub linked_say : (t : Tree) (path : List ℕ) (ends : Result Names Fault) → Sayable ends → LinkSayable (linked t path) ends
 unfolding linked
-linked_say t path = link_fault_say t (place t path) (place_links t path)
+linked_say t path ends new =
+    links_say (and_then (place t path) (λ names. linked_in (look t names))) ends new (and_say (place t path) (λ names. linked_in (look t names)) (place_say t path) (λ names. linked_judge (look t names)))

@@ -2,11 +2,15 @@
 use Rattle.std.specs.Prelude.{◌≡◌, ◌||◌, ℕ, Bool, true, false, List, [], ◌∷◌, Option, None, Some, Result, Ok, MatchResult, take}
 use Rattle.std_io.specs.declared.io.kind.ErrorKind.{ErrorKind}
 use Rattle.cacache_core.specs.{Contexts.{fault_of}, declared.errors.Fault.{Fault, TheVariants.{InvalidInput}}, PathNames.{Names}}
-use Rattle.cacache_disk.specs.{declared.{luck.Luck.{Luck, TheVariants.{Plain, Fail, Take}}, node.Node.TheVariants.{Folder, File, Link}}, Tree.{Tree, look, put, cut}, LedTo.{place, standing, found, writable, free, replaceable, file_at, linked, removable, emptied}, Apply.{taken, readable, lengthened}}
+use Rattle.cacache_disk.specs.{declared.{luck.Luck.{Luck, TheVariants.{Plain, Fail, Take}}, node.Node.TheVariants.{Folder, File, Link}}, Tree.{Tree, look, put, cut}, LedTo.{place, standing, leads, found, writable, free, replaceable, file_at, linked, removable, emptied}, Apply.{taken, readable, lengthened}}
 use Rattle.cacache_system.specs.{declared.call.{SystemCall.{SystemCall}, CallItem.{CallItem}, CallResult.{CallResult}}, CallsOf.{interrupts}, AnswersOf.{misses, refuses_memory}}
 use Rattle.cacache_system.specs.declared.call.SystemCall.TheVariants as asks
 use Rattle.cacache_system.specs.declared.call.CallResult.TheVariants as says
-use Rattle.cacache_system_model.specs.{Folders.{OpensFolder, ReadsFolder}, Machine.{OpenFile, Machine, HasTree, IsRefused, ChangesTree, OpensIf, with_empty, ShowsEnd, ShowsOpen, ReadsOpen, WritesOpen, SyncsOpen, GivesOwner, GivesMode, LinksNode, CopiesBytes, MovesNode, SpellsEnd}}
+use Rattle.cacache_system_model.specs.{Folders.{OpensFolder, ReadsFolder}, Machine.{OpenFile, Machine, HasTree, IsRefused, ChangesTree, OpensIf, with_empty, ShowsEnd, ShowsOpen, ReadsOpen, WritesOpen, SyncsOpen, GivesOwner, GivesMode, LinksNode, found_bytes, CopiesBytes, MovesNode, SpellsEnd}}
+
+-- the bytes that a copy brings, or why it brings none
+abbrev pub brought : Tree → List ℕ → List ℕ → Result (List ℕ) Fault
+brought t from to = found_bytes (leads t from) (writable t to) (file_at t from InvalidInput)
 
 -- What a call says and leaves if it doesn't fail without cause. A read or a write moves all the bytes that it may, or at
 -- most so many. A folder gives its names in any order.
@@ -43,7 +47,7 @@ GoesWell most m (asks.Symlink target path) said after =
 GoesWell most m (asks.HardLink from to) said after =
     LinksNode (linked m.tree from) (free m.tree to) m said after
 GoesWell most m (asks.CopyFile from to) said after =
-    CopiesBytes (file_at m.tree from InvalidInput) (writable m.tree to) m said after
+    CopiesBytes (brought m.tree from to) (writable m.tree to) m said after
 GoesWell most m (asks.RealPath path) said after = SpellsEnd (found m.tree path) m said after
 GoesWell most m (asks.OpenFolder path) said after =
     OpensFolder (standing m.tree path) m said after
@@ -63,6 +67,11 @@ part_copied (Ok bytes) (Ok names) (Some part) t =
     put t names (File (take (taken (Some part) bytes) bytes))
 part_copied source ends part t = t
 
+-- the tree after an opening that did: it may have made the file
+abbrev pub part_opened : Result Names Fault → Option ℕ → Tree → Tree
+part_opened (Ok names) (Some part) t = with_empty t names
+part_opened ends part t = t
+
 -- an error that a call says before it moved a byte: a signal came, or memory was refused
 abbrev pub did_nothing : ErrorKind → Bool
 did_nothing why = interrupts why || refuses_memory why
@@ -73,13 +82,14 @@ LeavesWritten true number bytes part m after = after ≡ m
 LeavesWritten false number bytes part m after =
     HasTree m (part_written (m.files number) bytes part m.tree) after
 
--- what a call that fails without cause leaves, after so many bytes were moved
+-- What a call that fails without cause leaves, after so many bytes were moved. An opening to append may leave a new file.
 abbrev pub LeavesPart : Machine → SystemCall → ErrorKind → Option ℕ → Machine → Type 0
+LeavesPart m (asks.OpenToAppend path) why part after =
+    HasTree m (part_opened (writable m.tree path) part m.tree) after
 LeavesPart m (asks.Write number bytes) why part after =
     LeavesWritten (did_nothing why) number bytes part m after
 LeavesPart m (asks.CopyFile from to) why part after =
-    HasTree m (part_copied (file_at m.tree from InvalidInput) (writable m.tree to) part m.tree)
-    after
+    HasTree m (part_copied (brought m.tree from to) (writable m.tree to) part m.tree) after
 LeavesPart m call why part after = after ≡ m
 
 -- A call fails without cause, with any error. That nothing is there is never made up.

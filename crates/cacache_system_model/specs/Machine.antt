@@ -1,9 +1,9 @@
 -- A model of the system: what is there, which files are open, and what a call may say and leave.
-use Rattle.std.specs.Prelude.{◌≡◌, suc, Ok, ◌+◌, ◌==◌, ℕ, Bool, true, false, if◌then◌else◌, List, [], ◌∷◌, Option, None, Some, Result, MatchResult, MatchOption, IfSome, IfNone, is_some, length, take, drop}
+use Rattle.std.specs.Prelude.{◌≡◌, suc, Ok, Err, ◌+◌, ◌==◌, ℕ, Bool, true, false, if◌then◌else◌, List, [], ◌∷◌, Option, None, Some, Result, MatchResult, MatchOption, IfSome, IfNone, is_some, length, take, drop}
 use Rattle.std_io.specs.declared.io.kind.ErrorKind.{ErrorKind}
 use Rattle.cacache_core.specs.{Contexts.{fault_of}, declared.errors.Fault.{Fault, TheVariants.{IsADirectory, Device}}, PathNames.{Names, is_name}}
 use Rattle.cacache_store.specs.declared.store.answer.Name.{Name}
-use Rattle.cacache_disk.specs.{declared.node.Node.{Node, TheVariants.{Folder, File, Link}}, Tree.{Tree, look, put, cut, kind_of}, LedTo.{place}, Apply.{if_missing, taken, lengthened}}
+use Rattle.cacache_disk.specs.{declared.node.Node.{Node, TheVariants.{Folder, File, Link}}, Tree.{Tree, look, put, cut, kind_of, same_path}, LedTo.{place}, Apply.{if_missing, taken, lengthened}}
 use Rattle.cacache_system.specs.{declared.call.{FileInfo.{FileInfo}, CallResult.{CallResult}}, CallsOf.{last_slash}, AnswersOf.{refuses_memory}}
 use Rattle.cacache_system.specs.declared.call.CallResult.TheVariants as says
 
@@ -201,17 +201,24 @@ GivesMode number m said after =
 
 -- ---- two paths
 
--- a folder can't be linked: that isn't permitted
-abbrev pub link_fault : Fault → Fault
-link_fault IsADirectory = Device
-link_fault fault = fault
+-- why a second name can't be made here: of a folder none is permitted, but its new path is looked at first
+abbrev pub link_fault : Fault → Result Names Fault → Fault
+link_fault IsADirectory (Ok names) = Device
+link_fault IsADirectory (Err why) = why
+link_fault fault ends = fault
 
--- a file or link gets a second name; what is linked is looked at first
+-- A file or link gets a second name. It is found first, and then its new path is.
 abbrev pub LinksNode : Result Node Fault → Result Names Fault → Machine → CallResult → Machine
     → Type 0
 LinksNode source ends m said after =
     MatchResult source (λ node. ChangesTree ends (λ names. put m.tree names node) m said after)
-    (λ fault. IsRefused (link_fault fault) m said after)
+    (λ fault. IsRefused (link_fault fault ends) m said after)
+
+-- the bytes that a copy finds in its source; the copy empties its target first, which may be the source
+abbrev pub found_bytes : Result Names Fault → Result Names Fault → Result (List ℕ) Fault
+    → Result (List ℕ) Fault
+found_bytes (Ok source) (Ok target) (Ok bytes) = Ok (if same_path source target then [] else bytes)
+found_bytes source target bytes = bytes
 
 -- a file is copied to these names, or it is refused
 abbrev pub CopiesTo : List ℕ → Result Names Fault → Machine → CallResult → Machine → Type 0

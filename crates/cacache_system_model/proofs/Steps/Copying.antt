@@ -7,13 +7,19 @@ use Rattle.cacache_core.specs.{Contexts.{fault_of}, declared.errors.Fault.{Fault
 use Rattle.cacache_store.specs.{declared.store.answer.Kind.{Kind}, Plain.{PlainAnswer}}
 use Rattle.cacache_store.specs.declared.store.step.Step.TheVariants as steps
 use Rattle.cacache_store.specs.declared.store.answer.Answer.TheVariants as answers
-use Rattle.cacache_disk.specs.{declared.{luck.Luck.TheVariants.{Plain, Fail}, node.Node.{Node, TheVariants.{Folder, File, Link}}}, Tree.{Tree, look, put, cut}, LedTo.{or_fault, leads, found, file_at, writable, place, standing, removable, replaceable, where_free, where_no_folder}, Apply.{apply, taken, fault_told, made_up}}
-use Rattle.cacache_disk.proofs.{Maps.{put_same}, FoundNodes.{place_ok, or_fault_none}}
+use Rattle.cacache_disk.specs.{declared.{luck.Luck.TheVariants.{Plain, Fail}, node.Node.{Node, TheVariants.{Folder, File, Link}}}, Tree.{Tree, look, put, cut, same_path}, LedTo.{or_fault, leads, found, file_at, writable, place, standing, removable, replaceable, where_free, where_no_folder}, Apply.{apply, taken, fault_told, made_up}}
+use Rattle.cacache_disk.proofs.{Maps.{put_same, same_path-true}, FoundNodes.{place_ok, or_fault_none}}
 use Rattle.cacache_system.specs.{declared.call.{FileInfo.{FileInfo}, CallResult.{CallResult}}, CallsOf.{Stage, over, only, taking_memory, asking_source, asking_target, asking_end, making_end, resolving, making_fresh, filling, replacing, scrapping, place_fresh, source_known, target_known, copied, name_taken, already_exists, is_absent, is_link, is_same_node, fresh_name, fresh_number, fresh_beside, after}, AnswersOf.{answer_of, misses, refuses_memory}}
 use Rattle.cacache_system.specs.declared.call.SystemCall.TheVariants as asks
 use Rattle.cacache_system.specs.declared.call.CallResult.TheVariants as says
-use Rattle.cacache_system_model.specs.{Machine.{Machine, IsRefused, ChangesTree, OpensIf, ShowsEnd, ShowsNode, Describes, CopiesBytes, MovesNode, SpellsEnd, with_empty}, Calls.{part_copied}, Laws.{answer_on, outcome, Leads, IsDone}, Writing.{HasNoFresh, CanCopy, CopyAgrees}}
-use Rattle.cacache_system_model.proofs.{Refused.{same_outcome, failed, failing_apply, never_missing}, Leading.{Claim, over_leads, call_leads}, Claims.{way_of, claim_of, cases_of, taking_leads, claim_plain, claim_lucky, claim_broken, claim_memory}, Steps.{Opening.{said_leads, of_some}, Looking.{refused_folder, wanted_file}, CopyFacts.{either_true, same_text, apply_copy, whole_file, writable_found, Source, Ready, same_node_numbers, writable_at, Stands, no_way, nothing, a_folder_here, a_file_here, a_link_here, stands_so, not_absent, exists_fine, absent_fault, not_taken_fault, not_taken, fault_absent, no_place, unnamed, fresh_proper}}, Views.{View, nowhere, a_folder, a_file, view}, Fresh.{placed_as, placed_beside, look_new, own_place, own_writable, own_removable, replaceable_still, file_still, cut_new, put_new, free_at_place, dangling}}
+use Rattle.cacache_system_model.specs.{Machine.{Machine, IsRefused, ChangesTree, OpensIf, ShowsEnd, ShowsNode, Describes, found_bytes, CopiesBytes, MovesNode, SpellsEnd, with_empty}, Calls.{brought, part_copied, part_opened}, Laws.{answer_on, outcome, Leads, IsDone}, Writing.{HasNoFresh, CanCopy, CopyAgrees}}
+use Rattle.cacache_system_model.proofs.{Refused.{same_outcome, failed, failing_apply, never_missing}, Leading.{Claim, over_leads, call_leads}, Claims.{way_of, claim_of, cases_of, taking_leads, claim_plain, claim_lucky, claim_broken, claim_memory}, Steps.{Opening.{said_leads, of_some}, Looking.{refused_folder, wanted_file}, CopyFacts.{either_true, same_text, apply_copy, whole_file, writable_found, Source, Ready, same_node_numbers, writable_at, Stands, no_way, nothing, a_folder_here, a_file_here, a_link_here, stands_so, not_absent, exists_fine, absent_fault, not_taken_fault, not_taken, fault_absent, no_place, unnamed, fresh_proper}}, Views.{View, nowhere, a_folder, a_file, view}, Fresh.{placed_as, placed_beside, look_new, own_place, own_writable, own_removable, replaceable_still, leads_still, file_still, cut_new, put_new, free_at_place, dangling}}
+
+-- where something is and where nothing is
+other_names : (t : Tree) (source fn : Names) (bytes : List ℕ) (c : Bool) → same_path source fn ≡ c → look t source ≡ Some (File bytes) → look t fn ≡ None → same_path source fn ≡ false
+other_names t source fn bytes false is there none = is
+other_names t source fn bytes true is there none =
+    absurd (let wrong : Some (File bytes) ≡ None = sym there ∙ ap (look t) (same_path-true source fn is) ∙ none in cc)
 
 module _ (b : Bool) (m : Machine) (from to : List ℕ) (can : CanCopy m to) (done : b ≡ false → IsDone m (steps.Copy from to)) (clear : b ≡ true → HasNoFresh m) where
   abbrev P : Claim
@@ -116,8 +122,14 @@ module _ (b : Bool) (m : Machine) (from to : List ℕ) (can : CanCopy m to) (don
 
     fill_leads : (n : Machine) → n.tree ≡ put m.tree fn (File []) → Leads (way_of b) (filling from fresh path) n P
     fill_leads n tree =
-        let source : file_at n.tree from InvalidInput ≡ Ok bytes = ap (λ (t : Tree). file_at t from InvalidInput) tree ∙ file_still m.tree fn [] free_there from InvalidInput ready.source bytes ready.led ready.stands in
+        let held : file_at n.tree from InvalidInput ≡ Ok bytes = ap (λ (t : Tree). file_at t from InvalidInput) tree ∙ file_still m.tree fn [] free_there from InvalidInput ready.source bytes ready.led ready.stands in
+        let led : leads n.tree from ≡ Ok ready.source = ap (λ (t : Tree). leads t from) tree ∙ leads_still m.tree fn [] free_there from ready.source (File bytes) ready.stands ready.led in
         let target : writable n.tree fresh ≡ Ok fn = ap (λ (t : Tree). writable t fresh) tree ∙ own_writable m.tree fn [] free_there fresh placed in
+        let source : brought n.tree from fresh ≡ Ok bytes
+        = ap (λ (r : Result Names Fault). found_bytes r (writable n.tree fresh) (file_at n.tree from InvalidInput)) led
+        ∙ ap (λ (s : Result Names Fault). found_bytes (Ok ready.source) s (file_at n.tree from InvalidInput)) target
+        ∙ ap (found_bytes (Ok ready.source) (Ok fn)) held
+        ∙ ap (λ (c : Bool). let r : Result (List ℕ) Fault = Ok (if c then [] else bytes) in r) (other_names m.tree ready.source fn bytes (same_path ready.source fn) refl ready.stands free_there) in
         call_leads (way_of b) (filling from fresh path) (asks.CopyFile from fresh) n P refl (λ end never. absurd never) (λ said l happens.
         ⊎_elim
         (λ (most, all, well).
@@ -272,7 +284,7 @@ module _ (b : Bool) (m : Machine) (from to : List ℕ) (can : CanCopy m to) (don
       (over_leads (way_of b) (says.Failed is.0) n P (fails_plain fault is.0 n (refused_target bytes fault read refused) is.2 (ap (λ (x : Machine). x.tree) is.4))))
       (λ (broke, why, same, fine, part, left).
       said_leads b (making_end source.inode from to) said (says.Failed why) n P same
-      (over_leads (way_of b) (says.Failed why) n P (broke_same why n broke fine (ap (λ (x : Machine). x.tree) left))))
+      (over_leads (way_of b) (says.Failed why) n P (broke_same why n broke fine (left.0 ∙ ap (λ (r : Result Names Fault). part_opened r part m.tree) refused))))
       (cases_of b m (asks.OpenToAppend to) said n happens))
 
   end_if : (source : FileInfo) (bytes : List ℕ) (fault : Fault) (why : ErrorKind) (c : Bool) → file_at m.tree from InvalidInput ≡ Ok bytes → writable m.tree to ≡ Err fault → P (says.Failed why) m

@@ -13,7 +13,7 @@ use Rattle.cacache_disk.proofs.{Maps.{total, only, put_same}, PutNodes.{look-put
 use Rattle.cacache_system.specs.declared.call.SystemCall.TheVariants as asks
 use Rattle.cacache_system.specs.{declared.call.CallResult.{CallResult}, CallsOf.{trying, appending, interrupts, was_interrupted, after}, Seen.{NumberedTemp}, AnswersOf.{misses, refuses_memory, leaves_a_part}}
 use Rattle.cacache_system.specs.declared.call.CallResult.TheVariants as says
-use Rattle.cacache_system_model.specs.{Machine.{OpenFile, Machine, HasTree, OpensIf, unread, with_empty}, Calls.{GoesWell, OccursSomehow, did_nothing, part_written, LeavesWritten, LeavesPart}, Laws.{bytes_in, step_on, outcome, led_to, Leads, IsDone}, Writing.{WritesAll, WritesSome, WriteAgrees}, OneCall.{StillStands}, Removing.{AppendAgrees}}
+use Rattle.cacache_system_model.specs.{Machine.{OpenFile, Machine, HasTree, OpensIf, unread, with_empty}, Calls.{GoesWell, OccursSomehow, did_nothing, part_written, part_opened, LeavesWritten, LeavesPart}, Laws.{bytes_in, step_on, outcome, led_to, Leads, IsDone}, Writing.{WritesAll, WritesSome, WriteAgrees}, OneCall.{StillStands}, Removing.{AppendAgrees}}
 use Rattle.cacache_system_model.proofs.{Refused.{same_outcome, failed, refused_on, never_missing, failing_apply, broken_part}, Leading.{over_leads, call_leads, trying_leads}, Claims.{way_of, claim_of, luck_of, Well, cases_of, agrees_of, claim_plain, claim_taken, claim_lucky, claim_broken}, Trying.{SaidWell, tried_so}, Steps.{Opening.{newly_open, said_leads, on_open, file_under}, Looking.{table_fails}, Walking.{looks_so}}, Views.{leads_no_link}}
 
 -- ---- trees
@@ -156,6 +156,13 @@ module _ (b : Bool) (m : Machine) (path bytes : List ℕ) (done : b ≡ false �
       (claim_plain b m (steps.Append path bytes) done (says.Failed why) n
       (apply_append None m.tree path bytes (Err fault) is ∙ table_fails (steps.Append path bytes) fault why m n refl of memory (ap (λ (x : Machine). x.tree) stays))))
 
+  -- an opening that failed, and may have made the file
+  broke_opened : (r : Result Names Fault) (why : ErrorKind) (part : Option ℕ) (l : Machine) → writable m.tree path ≡ r → b ≡ false → misses why ≡ false
+      → l.tree ≡ part_opened r part m.tree → claim_of b m (steps.Append path bytes) (says.Failed why) l
+  broke_opened (Ok names) why (Some part) l is broke fine left = none_so names why l is broke fine left
+  broke_opened (Ok names) why None l is broke fine left = claim_broken b m (steps.Append path bytes) done why l broke refl fine left
+  broke_opened (Err fault) why part l is broke fine left = claim_broken b m (steps.Append path bytes) done why l broke refl fine left
+
   append_leads : Leads (way_of b) (appending path bytes) m (claim_of b m (steps.Append path bytes))
   append_leads =
       call_leads (way_of b) (appending path bytes) (asks.OpenToAppend path) m (claim_of b m (steps.Append path bytes)) refl (λ end never. absurd never) (λ said n happens.
@@ -164,7 +171,7 @@ module _ (b : Bool) (m : Machine) (path bytes : List ℕ) (done : b ≡ false �
       (λ (broke, why, same, fine, part, left).
       said_leads b (appending path bytes) said (says.Failed why) n (claim_of b m (steps.Append path bytes)) same
       (over_leads (way_of b) (says.Failed why) n (claim_of b m (steps.Append path bytes))
-      (claim_broken b m (steps.Append path bytes) done why n broke refl fine (ap (λ (x : Machine). x.tree) left))))
+      (broke_opened (writable m.tree path) why part n refl broke fine left.0)))
       (cases_of b m (asks.OpenToAppend path) said n happens))
 
 pub append_agrees : AppendAgrees

@@ -148,6 +148,7 @@ leaves_keep true number bytes part m n h = keeps_self m n h
 leaves_keep false number bytes part m n (tree, files, synced, folders) = keeps_same m n files
 
 broken_keep : (call : SystemCall) (why : ErrorKind) (part : Option ℕ) (m n : Machine) → Safe m call → LeavesPart m call why part n → KeepsOpen m n
+broken_keep (asks.OpenToAppend path) why part m n safe (tree, files, synced, folders) = keeps_same m n files
 broken_keep (asks.Write number bytes) why part m n safe h = leaves_keep (did_nothing why) number bytes part m n h
 broken_keep (asks.CopyFile from to) why part m n safe h = absurd safe
 broken_keep call why part m n safe h = keeps_self m n h
@@ -231,6 +232,7 @@ ready_left most call m n said ready h = absurd ready
 
 ready_failed : (call : SystemCall) (why : ErrorKind) (part : Option ℕ) (m n : Machine) → Readies m call → LeavesPart m call why part n → n ≡ m
 ready_failed (asks.Write number bytes) why part m n ready h = absurd ready
+ready_failed (asks.OpenToAppend path) why part m n ready h = absurd ready
 ready_failed (asks.CopyFile from to) why part m n ready h = absurd ready
 ready_failed call why part m n ready h = h
 

@@ -59,12 +59,12 @@ goes_changed t u files (Err own) new (Ok done) out can is change = absurd change
 goes_changed t u files (Err own) new (Err (stop.Fault fault)) out can is change =
     inl (refused t u files own out can (is ∙ ap (λ fault. says.Failed (kind_for fault)) (same_fault {A = Names} (Err own) own fault refl change.0)) change.1)
 
-pub goes_linked : (t u : Tree) (files : List OpenFile) (source : Result Node Fault) (ends : Result Names Fault) (done : Result ⊤ Stop) (out : CallResult) → LinkSayable source
+pub goes_linked : (t u : Tree) (files : List OpenFile) (source : Result Node Fault) (ends : Result Names Fault) (done : Result ⊤ Stop) (out : CallResult) → LinkSayable source ends
     → Sayable ends → out ≡ outcome (λ _. says.Done) done
-    → MatchResult source (λ node. Changed ends (λ names. put t names node) done t u) (λ fault. Stopped (link_fault fault) done t u)
+    → MatchResult source (λ node. Changed ends (λ names. put t names node) done t u) (λ fault. Stopped (link_fault fault ends) done t u)
     → LinksNode source ends (machine t files) out (machine u files) ⊎ GivesUp kind.OutOfMemory (machine t files) out (machine u files)
 goes_linked t u files (Ok node) ends done out first can is change = goes_changed t u files ends (λ names. put t names node) done out can is change
-goes_linked t u files (Err fault) ends done out first can is change = goes_changed t u files (Err (link_fault fault)) (λ names. t) done out first is change
+goes_linked t u files (Err fault) ends done out first can is change = goes_changed t u files (Err (link_fault fault ends)) (λ names. t) done out first is change
 
 -- a link isn't moved
 kept_link : (t u : Tree) (files : List OpenFile) (done : Result ⊤ Stop) (out : CallResult) → out ≡ outcome (λ _. says.Done) done → Stopped Unsupported done t u

@@ -1,10 +1,10 @@
 -- Hard links and moves, which first look at their source.
 use Rattle.std.{proofs.Common.{◌≡◌, ℕ, List, refl, sym, ap}, specs.Prelude.{⊤, Option, Some, Result, Ok, Err, MatchResult, IsOk, IsOkAnd}}
-use Rattle.cacache_core.specs.{declared.errors.Fault.{Fault}, PathNames.{Names}}
+use Rattle.cacache_core.specs.{declared.errors.Fault.{Fault, TheVariants.{IsADirectory, Device}}, PathNames.{Names}}
 use Rattle.cacache_store.specs.declared.store.step.Step.TheVariants as steps
 use Rattle.cacache_disk.specs.{declared.{node.Node.{Node, TheVariants.{File, Link}}, stop.Stop.{Stop}}, Tree.{Tree, look, put, cut}, LedTo.{place, free, replaceable, kept, linked, linked_in}, Apply.{apply}, Stops.{Stops}}
 use Rattle.cacache_disk.specs.declared.stop.Stop.TheVariants as stop
-use Rattle.cacache_system_model.specs.{memory.Changes.{Does, Changed, Linked, Movable, Moved, MovedNode, IsUnmoved, Stopped, link_stop}, Machine.{link_fault}}
+use Rattle.cacache_system_model.specs.{memory.Changes.{Does, Changed, Linked, Movable, Moved, MovedNode, IsUnmoved, Stopped, Unlinks}, Machine.{link_fault}}
 use Rattle.cacache_system_model.proofs.memory.Steps.{changes, place_parts}
 
 -- ---- hard links
@@ -19,25 +19,41 @@ linked_bad t path (stop.Fault fault) e = rw e refl
 linked_bad t path stop.OutOfMemory e = tt
 
 refused_link : (t : Tree) (to : List ℕ) (source : Result Node Fault)
-    → MatchResult source (λ node. Changed (free t to) (λ names. put t names node) (Err stop.OutOfMemory) t t) (λ fault. Stopped (link_fault fault) (Err stop.OutOfMemory) t t)
+    → MatchResult source (λ node. Changed (free t to) (λ names. put t names node) (Err stop.OutOfMemory) t t) (λ fault. Stopped (link_fault fault (free t to)) (Err stop.OutOfMemory) t t)
 refused_link t to (Ok node) = refl
 refused_link t to (Err fault) = refl
 
 pub links_nothing : (t : Tree) (from to : List ℕ) → Linked t from to (Err stop.OutOfMemory) t
 links_nothing t from to = refused_link t to (linked t from)
 
-pub unlinked : (t : Tree) (from to : List ℕ) (why : Stop) → Stops why (linked t from) → Linked t from to (Err (link_stop why)) t
-unlinked t from to (stop.Fault fault) e = rw e (refl, refl)
-unlinked t from to stop.OutOfMemory e = links_nothing t from to
+-- of a folder the new path is looked at
+pub unlinks_folder : (ends : Result Names Fault) → IsOk ends → Unlinks ends (stop.Fault IsADirectory) (stop.Fault Device)
+unlinks_folder (Ok names) ok = refl
+unlinks_folder (Err fault) ok = absurd cc
+
+pub unlinks_blocked : (ends : Result Names Fault) (why : Stop) → Stops why ends → Unlinks ends (stop.Fault IsADirectory) why
+unlinks_blocked ends (stop.Fault fault) e = ap (link_fault IsADirectory) e
+unlinks_blocked ends stop.OutOfMemory e = tt
+
+pub unlinked : (t : Tree) (from to : List ℕ) (first why : Stop) → Stops first (linked t from) → Unlinks (free t to) first why → Linked t from to (Err why) t
+unlinked t from to (stop.Fault fault) (stop.Fault why) e is = rw e (ap Err is, refl)
+unlinked t from to (stop.Fault fault) stop.OutOfMemory e is = links_nothing t from to
+unlinked t from to stop.OutOfMemory why e is = rw is (links_nothing t from to)
 
 links_node : (t u : Tree) (from to : List ℕ) (done : Result ⊤ Stop) (source : Result Node Fault) → linked t from ≡ source → IsOk source → Does t (steps.HardLink from to) done u
-    → MatchResult source (λ node. Changed (free t to) (λ names. put t names node) done t u) (λ fault. Stopped (link_fault fault) done t u)
+    → MatchResult source (λ node. Changed (free t to) (λ names. put t names node) done t u) (λ fault. Stopped (link_fault fault (free t to)) done t u)
 unfolding apply
 links_node t u from to done (Ok node) is ok does = changes (free t to) (λ names. put t names node) t u (steps.HardLink from to) done (rw is refl) does
 links_node t u from to done (Err fault) is ok does = absurd cc
 
 pub links : (t u : Tree) (from to : List ℕ) (done : Result ⊤ Stop) → IsOk (linked t from) → Does t (steps.HardLink from to) done u → Linked t from to done u
 links t u from to done ok does = links_node t u from to done (linked t from) refl ok does
+
+-- a new path
+pub free_bad : (t : Tree) (path : List ℕ) (why : Stop) → Stops why (place t path) → Stops why (free t path)
+unfolding free
+free_bad t path (stop.Fault fault) e = rw e refl
+free_bad t path stop.OutOfMemory e = tt
 
 -- ---- moves
 

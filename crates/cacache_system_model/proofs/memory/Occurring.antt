@@ -1,21 +1,26 @@
 -- What goes as the model says, or fails for want of memory, happens under some luck.
 use Rattle.std.{proofs.Common.{◌≡◌, ℕ, List, refl, inl, inr}, specs.Prelude.{None, Result, Ok, Err}}
 use Rattle.std_io.specs.declared.io.kind.ErrorKind.TheVariants as kind
-use Rattle.cacache_core.specs.{declared.errors.Fault.{Fault, TheVariants.{Unsupported, Device, InvalidInput}}, PathNames.{Names}}
-use Rattle.cacache_disk.specs.{declared.luck.Luck.TheVariants.{Plain, Fail}, Tree.{Tree}, LedTo.{file_at, writable}}
+use Rattle.cacache_core.specs.{declared.errors.Fault.{Fault, TheVariants.{Unsupported, Device}}, PathNames.{Names}}
+use Rattle.cacache_disk.specs.{declared.luck.Luck.TheVariants.{Plain, Fail}, Tree.{Tree}, LedTo.{writable}}
 use Rattle.cacache_system.specs.declared.call.SystemCall.{SystemCall}
 use Rattle.cacache_system.specs.declared.call.SystemCall.TheVariants as asks
-use Rattle.cacache_system_model.specs.{Machine.{Machine}, Calls.{part_copied, LeavesPart}, memory.Machines.{GoesOccur, MovesOccur}}
+use Rattle.cacache_system_model.specs.{Machine.{Machine}, Calls.{brought, part_copied, part_opened, LeavesPart}, memory.Machines.{GoesOccur, MovesOccur}}
 
 none_copied : (source : Result (List ℕ) Fault) (ends : Result Names Fault) (t : Tree) → t ≡ part_copied source ends None t
 none_copied (Ok bytes) (Ok names) t = refl
 none_copied (Ok bytes) (Err fault) t = refl
 none_copied (Err fault) ends t = refl
 
+none_opened : (ends : Result Names Fault) (t : Tree) → t ≡ part_opened ends None t
+none_opened (Ok names) t = refl
+none_opened (Err fault) t = refl
+
 -- a call for which memory is refused leaves all as it was
 leaves : (m : Machine) (call : SystemCall) → LeavesPart m call kind.OutOfMemory None m
 leaves m (asks.Write number bytes) = refl
-leaves m (asks.CopyFile from to) = (none_copied (file_at m.tree from InvalidInput) (writable m.tree to) m.tree, refl, refl, λ k. refl)
+leaves m (asks.OpenToAppend path) = (none_opened (writable m.tree path) m.tree, refl, refl, λ k. refl)
+leaves m (asks.CopyFile from to) = (none_copied (brought m.tree from to) (writable m.tree to) m.tree, refl, refl, λ k. refl)
 leaves m _ = refl
 
 pub goes_occur : GoesOccur

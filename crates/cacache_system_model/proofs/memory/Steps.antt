@@ -65,7 +65,7 @@ place_parts t path names led =
     let g = or_fault_none (way_fault t [] f.0) f.0 names f.2 in
     (f.1 ∙ ap Ok g.1, subst (λ names. way_fault t [] names ≡ None) g.1 g.0)
 
-free_is : (t : Tree) (path : List ℕ) (names : Names) → place t path ≡ Ok names → None ≡ look t names → free t path ≡ Ok names
+pub free_is : (t : Tree) (path : List ℕ) (names : Names) → place t path ≡ Ok names → None ≡ look t names → free t path ≡ Ok names
 unfolding free
 free_is t path names led missing = rw (led, ← missing) refl
 

@@ -25,16 +25,17 @@ Changed ends new (Err stop.OutOfMemory) t u = u ≡ t
 abbrev pub Stopped : Fault → Result ⊤ Stop → Tree → Tree → Type 0
 Stopped fault done t u = Changed {A = Names} (Err fault) (λ names. t) done t u
 
--- why a link isn't made, if this is why its source can't be linked
-abbrev pub link_stop : Stop → Stop
-link_stop (stop.Fault fault) = stop.Fault (link_fault fault)
-link_stop stop.OutOfMemory = stop.OutOfMemory
+-- why a link isn't made, if this is why its source can't be linked; memory may be refused to a look at its new path
+abbrev pub Unlinks : Result Names Fault → Stop → Stop → Type 0
+Unlinks ends (stop.Fault fault) stop.OutOfMemory = ⊤
+Unlinks ends (stop.Fault fault) (stop.Fault why) = link_fault fault ends ≡ why
+Unlinks ends stop.OutOfMemory why = why ≡ stop.OutOfMemory
 
 -- a file or link got a second name; what is linked is looked at first
 abbrev pub Linked : Tree → List ℕ → List ℕ → Result ⊤ Stop → Tree → Type 0
 Linked t from to done u =
     MatchResult (linked t from) (λ node. Changed (free t to) (λ names. put t names node) done t u)
-    (λ fault. Stopped (link_fault fault) done t u)
+    (λ fault. Stopped (link_fault fault (free t to)) done t u)
 
 -- a file was moved, and a link wasn't
 abbrev pub MovedNode : Names → Option Node → Result Names Fault → Result ⊤ Stop → Tree → Tree

@@ -2,7 +2,7 @@
 ghost use Rattle.std.specs.Prelude.{◌≡◌, [], None, Ok, IfOk, IfErr, IsOk};
 ghost use Rattle.cacache_store.specs.declared.store.step.Step.TheVariants as steps;
 ghost use Rattle.cacache_disk.specs.{declared.node.Node.TheVariants.{Folder, File, Link}, Tree.{look, put, cut}, LedTo.{way_fault, place, found, standing, free, removable, emptied, linked}, Stops.{Stops, Blocks}};
-ghost use Rattle.cacache_system_model.specs.memory.Changes.{Does, Changed, Linked, Movable, Moved, Shown, info_of, link_stop};
+ghost use Rattle.cacache_system_model.specs.memory.Changes.{Does, Changed, Linked, Movable, Moved, Shown, Unlinks, info_of};
 
 use cacache_core::bytes::Bytes;
 use cacache_core::errors::Fault;
@@ -165,12 +165,29 @@ fn linkable(disk: &Disk, path: &str) -> Result<(), Stop>
     }
 }
 
-/// Why a hard link isn't made, if its source is no file or link.
-fn link_stop(stop: Stop) -> Stop
-    ensures { result ≡ link_stop stop }
+/// Whether nothing is at a path yet, and its folder is there.
+#[tactic(auto, using(crate::proofs::memory::Moves::free_bad, crate::proofs::memory::Steps::free_is, crate::proofs::memory::Steps::makes_no_second))]
+fn free(disk: &Disk, path: &str) -> Result<(), Stop>
+    ensures ok { IfOk result (λ _. IsOk (free disk.now path.now)) }
+    ensures err { IfErr result (λ stop. Stops stop (free disk.now path.now)) }
+{
+    let names = place(disk, path)?;
+    match disk.nodes().node(&names) {
+        None => Ok(()),
+        Some(_) => Err(Stop::Fault(Fault::AlreadyExists)),
+    }
+}
+
+/// Why a hard link isn't made, if its source is no file or link. If it is a folder, the new path is looked at first.
+#[tactic(auto, using(crate::proofs::memory::Moves::unlinks_folder, crate::proofs::memory::Moves::unlinks_blocked))]
+fn link_stop(disk: &Disk, to: &str, stop: Stop) -> Stop
+    ensures { Unlinks (free disk.now to.now) stop result }
 {
     match stop {
-        Stop::Fault(Fault::IsADirectory) => Stop::Fault(Fault::Device),
+        Stop::Fault(Fault::IsADirectory) => match free(disk, to) {
+            Ok(()) => Stop::Fault(Fault::Device),
+            Err(blocked) => blocked,
+        },
         other => other,
     }
 }
@@ -181,7 +198,7 @@ pub(crate) fn hard_link(disk: &mut Disk, alloc: Global, from: &str, to: &str) ->
     ensures { Linked disk.old from.now to.now result disk.new }
 {
     if let Err(stop) = linkable(disk, from) {
-        return Err(link_stop(stop));
+        return Err(link_stop(disk, to, stop));
     }
     let from = Text::from_str(alloc, from)?;
     do_step(disk, Step::HardLink(from, Text::from_str(alloc, to)?))
