@@ -1,15 +1,19 @@
 -- Many steps on a system and on a disk that mirrors it.
 use Rattle.std.proofs.Common.{◌≡◌, ◌⊎◌, ℕ, Bool, true, false, cond, if◌then◌else◌, List, [], ◌∷◌, ◌++◌, take, refl, sym, ap, subst, ◌∙◌, inl, inr}
-use Rattle.std.specs.Prelude.{Option, None, Some}
+use Rattle.std.specs.Prelude.{Option, None, Some, Result, Ok, Err}
 use Rattle.cacache_core.specs.{declared.errors.Fault.{Fault}, PathNames.{Names}}
 use Rattle.cacache_store.specs.{declared.store.plain.PlainTemp.{PlainTemp}, Plain.{PlainStep, PlainAnswer}}
 use Rattle.cacache_store.specs.declared.store.step.Step.TheVariants as steps
 use Rattle.cacache_store.specs.declared.store.answer.Answer.TheVariants as answers
-use Rattle.cacache_disk.specs.{declared.{luck.Luck.{Luck, TheVariants.{Plain, Fail}}, node.Node.{Node, TheVariants.{File}}}, Tree.{Tree, look, put, same_path, bytes_of}, Apply.{apply, plain, fails, fault_told, lengthened}}
+use Rattle.cacache_disk.specs.{declared.{luck.Luck.{Luck, TheVariants.{Plain, Fail}}, node.Node.{Node, TheVariants.{File}}}, Tree.{Tree, look, put, same_path, bytes_of, listing}, LedTo.{folder}, Apply.{apply, plain, unless, fails, fault_told, lengthened}}
 use Rattle.cacache_disk.proofs.{Maps.{same_path-true}, PutNodes.{look-put}}
 use Rattle.cacache_system.specs.{declared.call.{CallItem.{CallItem}, CallResult.{CallResult}}, Seen.{NumberedTemp, NumberedStep}, CallsOf.{Runs}, AnswersOf.{Hint, first, answer_of}}
-use Rattle.cacache_system_model.specs.{Machine.{Machine}, Calls.{OccursSomehow, EachCall}, Laws.{temp_on, step_on, answer_on, outcome, LeavesFresh, IsLucky}, Writing.{WritesSome}, Mirrors.{hollow, Mirrors, temps_after, SparesOpen}, Chains.{StepMade, temps_left, HasLaw, WritesTemp, MadePlainly, IsCovered, OnDisk, StepsOnDisk, DiskDoes, RunsMirror}}
-use Rattle.cacache_system_model.proofs.{Refused.{same_outcome}, Steps.Writing.{write_agrees}, Covered.{each_may_break, each_goes_plainly}, Keeping.{steps_mirror}}
+use Rattle.cacache_system_model.specs.{Machine.{Machine}, Calls.{OccursSomehow, EachCall}, Laws.{temp_on, step_on, answer_on, outcome, LeavesFresh, IsLucky}, Listing.{Lists, IsListedOrLucky}, Writing.{WritesSome}, Mirrors.{hollow, Mirrors, temps_after, SparesOpen}, Chains.{StepMade, temps_left, HasLaw, WritesTemp, MadePlainly, IsCovered, OnDisk, StepsOnDisk, IsMade, IsListing, ListsFolder, SameNames, DiskDoes, RunsMirror}}
+use Rattle.cacache_system_model.proofs.{Refused.{same_outcome}, Steps.{Listing.{listed_apply, read_dir_breaks}, Writing.{write_agrees}}, Covered.{each_may_break, each_goes_plainly}, Keeping.{steps_mirror}}
+
+listed_same : (r : Result Names Fault) (d : Tree) → (unless r d (λ names. outcome (answers.Names (listing d names)) d)).1 ≡ d
+listed_same (Ok names) d = refl
+listed_same (Err fault) d = refl
 
 -- ---- steps that came back
 
@@ -125,10 +129,61 @@ goes_on : (temps : Names → Bool) (d : Tree) (s : StepMade) (made : List StepMa
     → ((new : Tree) → Mirrors (temps_left temps s) s.after.tree new → DiskDoes (temps_left temps s) s.after new made) → (m : Machine) → DiskDoes temps m d (s ∷ made)
 goes_on temps d s made (inl (luck, new, is, mirrors)) next m = inl (luck, new, is, next new mirrors)
 goes_on temps d s made (inr (inl (is, mirrors))) next m = inr (inl (is, next d mirrors))
-goes_on temps d s made (inr (inr left)) next m = inr (inr left)
+goes_on temps d s made (inr (inr left)) next m = inr (inr (inr left))
+
+-- ---- listings
+
+pub list_keeps : (d : Tree) (path : List ℕ) → (apply d (steps.ReadDir path) Plain).1 ≡ d
+unfolding apply
+list_keeps d path = listed_same (folder d path) d
+
+-- a listing on a machine, and what a disk that mirrors it answers
+abbrev pub ListedOn : (Names → Bool) → Tree → Machine → NumberedStep → CallResult → Machine → Type 0
+ListedOn temps d m step end n =
+    (told : PlainAnswer) × (apply d (step_on m step) Plain ≡ outcome told d) × SameNames told (answer_on n (answer_of step end))
+    × Mirrors (temps_after temps (step_on m step) (answer_on n (answer_of step end))) n.tree d × (n.tree ≡ m.tree)
+
+lists_on : (temps : Names → Bool) (d : Tree) (m n : Machine) (path : List ℕ) (end : CallResult) → Mirrors temps m.tree d → Lists m path end n → ListedOn temps d m (steps.ReadDir path) end n
+lists_on temps d m n path end mirrors (names, is, order, listed) =
+    let s = steps_mirror temps m.tree d (steps.ReadDir path) Plain mirrors tt in
+    let told = answers.Names (listing m.tree names) in (
+      told,
+      same_outcome (apply d (steps.ReadDir path) Plain).0 told (apply d (steps.ReadDir path) Plain).1 d (s.answers ∙ ap (λ (r : PlainAnswer × Tree). r.0) (listed_apply m.tree path names is)) (list_keeps d path),
+      (listing m.tree names, m.order names, refl, sym (ap (λ (r : PlainAnswer × Tree). r.0) listed), order),
+      subst (λ (t : Tree). Mirrors temps t d) (ap (λ (r : PlainAnswer × Tree). r.1) listed) mirrors,
+      sym (ap (λ (r : PlainAnswer × Tree). r.1) listed),
+    )
+
+pub listing_on : (temps : Names → Bool) (d : Tree) (m n : Machine) (hint : Hint) (step : NumberedStep) (items : List CallItem) (end : CallResult) → Mirrors temps m.tree d
+    → Runs (first hint step) items end → EachCall OccursSomehow m items n → IsListing m hint step → ListedOn temps d m step end n ⊎ IsLucky m step end n
+listing_on temps d m n hint (steps.ReadDir path) items end mirrors runs each (plain, fresh) =
+    either_listed (read_dir_breaks m hint path plain fresh items end n runs each)
+  where
+    either_listed : IsListedOrLucky m path end n → ListedOn temps d m (steps.ReadDir path) end n ⊎ IsLucky m (steps.ReadDir path) end n
+    either_listed (inl lists) = inl (lists_on temps d m n path end mirrors lists)
+    either_listed (inr lucky) = inr lucky
+listing_on temps d m n hint _ items end mirrors runs each is = absurd is
+
+-- a listing spares open temporary files
+pub listing_spares : (temps : Names → Bool) (m : Machine) (hint : Hint) (step : NumberedStep) → IsListing m hint step → SparesOpen temps m.tree (step_on m step)
+listing_spares temps m hint (steps.ReadDir path) is = tt
+listing_spares temps m hint _ is = absurd is
+
+lists_go_on : (temps : Names → Bool) (d : Tree) (s : StepMade) (made : List StepMade) → Mirrors temps s.before.tree d → SparesOpen temps s.before.tree (step_on s.before s.step)
+    → ListedOn temps d s.before s.step s.end s.after ⊎ IsLucky s.before s.step s.end s.after
+    → ((new : Tree) → Mirrors (temps_left temps s) s.after.tree new → DiskDoes (temps_left temps s) s.after new made) → (m : Machine) → DiskDoes temps m d (s ∷ made)
+lists_go_on temps d s made mirrors spares (inl (told, is, same, mirrored, tree)) next m = inr (inr (inl (told, is, same, next d mirrored)))
+lists_go_on temps d s made mirrors spares (inr lucky) next m = goes_on temps d s made (lucky_on temps d s.before s.after s.step s.end mirrors spares lucky) next m
+
+made_goes_on : (temps : Names → Bool) (d : Tree) (s : StepMade) (made : List StepMade) → Mirrors temps s.before.tree d → IsMade temps s ⊎ ListsFolder s
+    → ((new : Tree) → Mirrors (temps_left temps s) s.after.tree new → DiskDoes (temps_left temps s) s.after new made) → (m : Machine) → DiskDoes temps m d (s ∷ made)
+made_goes_on temps d s made mirrors (inl is_made) next m = goes_on temps d s made (steps_on_disk temps d s mirrors is_made) next m
+made_goes_on temps d s made mirrors (inr (runs, each, lists)) next m =
+    lists_go_on temps d s made mirrors (listing_spares temps s.before s.hint s.step lists)
+    (listing_on temps d s.before s.after s.hint s.step s.items s.end mirrors runs each lists) next m
 
 pub runs_mirror : RunsMirror
 runs_mirror temps d m [] mirrors chain = mirrors
 runs_mirror temps d m (s ∷ made) mirrors (begins, is_made, rest) =
     let here : Mirrors temps s.before.tree d = subst (λ (x : Machine). Mirrors temps x.tree d) (sym begins) mirrors in
-    goes_on temps d s made (steps_on_disk temps d s here is_made) (λ new later. runs_mirror (temps_left temps s) new s.after made later rest) m
+    made_goes_on temps d s made here is_made (λ new later. runs_mirror (temps_left temps s) new s.after made later rest) m

@@ -10,8 +10,8 @@ use Rattle.cacache_value.specs.Traces.{Move}
 use Rattle.cacache_loss.specs.{Fixing.{Fixed, all_fixed, is_sync, is_synced, moves_file, rewrites_at, is_at, changed, fixed_after}, Moments.{Moment, next, after, EachMove}, ChangedNames.{opening}}
 use Rattle.cacache_loss.proofs.StepCases.{put_misses}
 use Rattle.cacache_system.specs.{declared.call.{CallItem.{CallItem}, CallResult.{CallResult}}, Seen.{NumberedTemp, NumberedStep}, CallsOf.{Runs}, AnswersOf.{Hint, first, answer_of}}
-use Rattle.cacache_system_model.specs.{Machine.{Machine, SyncedNode}, Calls.{OccursSomehow, EachCall}, Laws.{temp_on, step_on, answer_on, outcome, LeavesFresh, IsLucky}, Premises.{Premise}, Writing.{WritesSome}, Mirrors.{Mirrors, temps_after, SparesOpen}, Chains.{StepMade, temps_left, WritesTemp, IsCovered, AreMade}, Fixing.{after_syncs, synced_since, step_made, answer_made, fixed_by, no_temps, machine_after, fixed_after_all, temps_after_all, was_temp, CopiesNone, IsMoveOf, AreMovesOf, IsAnswered, LossesMirror}}
-use Rattle.cacache_system_model.proofs.{Steps.Writing.{write_agrees}, Covered.{each_may_break, each_goes_plainly}, Keeping.{steps_mirror}, Fixing.{FixesSynced, sync_temp_fixes, sync_file_fixes, sync_dir_fixes}, Chaining.{memory_stay, came_back, write_keeps, written_mirrors}, Alike.{AlikeFixed, lost_alike}, Touching.{Touched, rests, grows, touched}, Changed.{fixed_alike}}
+use Rattle.cacache_system_model.specs.{Machine.{Machine, SyncedNode}, Calls.{OccursSomehow, EachCall}, Laws.{temp_on, step_on, answer_on, outcome, LeavesFresh, IsLucky}, Premises.{Premise}, Writing.{WritesSome}, Mirrors.{Mirrors, temps_after, SparesOpen}, Chains.{StepMade, temps_left, WritesTemp, IsCovered, IsMade, IsListing, ListsFolder, SameNames, AreMade}, Fixing.{after_syncs, synced_since, step_made, answer_made, fixed_by, no_temps, machine_after, fixed_after_all, temps_after_all, was_temp, CopiesNone, IsMoveOf, AreMovesOf, IsAnswered, LossesMirror}}
+use Rattle.cacache_system_model.proofs.{Steps.Writing.{write_agrees}, Covered.{each_may_break, each_goes_plainly}, Keeping.{steps_mirror}, Fixing.{FixesSynced, sync_temp_fixes, sync_file_fixes, sync_dir_fixes}, Chaining.{memory_stay, came_back, write_keeps, written_mirrors, ListedOn, listing_on}, Alike.{AlikeFixed, lost_alike}, Touching.{Touched, rests, grows, touched}, Changed.{fixed_alike}}
 
 -- ---- what a step's syncs fix
 
@@ -82,7 +82,7 @@ pub record Follows (own temps : Names → Bool) (f : Fixed) (now : Moment) (s : 
 module _ (own temps : Names → Bool) (f : Fixed) (now : Moment) (s : StepMade) (before : Mirrors temps s.before.tree now.tree) (keeps : (q : Names) → temps q ≡ true → own q ≡ true)
     (alike : AlikeFixed own f now.fixed) (none : CopiesNone s.step) (syncs : is_sync (step_made s) ≡ true → FixesSynced s.before s.step s.end s.after) where
   follow : (luck : Luck) (answer : PlainAnswer)
-      → ((answer ≡ answer_made s) ⊎ ((answer_of s.step s.end ≡ answers.NoMemory s.step) × (fault : Fault) × (answer ≡ answers.Failed fault)))
+      → ((answer ≡ answer_made s) ⊎ ((answer_of s.step s.end ≡ answers.NoMemory s.step) × (fault : Fault) × (answer ≡ answers.Failed fault)) ⊎ SameNames answer (answer_made s))
       → answer ≡ (apply now.tree (step_made s) luck).0 → Mirrors (temps_left temps s) s.after.tree (apply now.tree (step_made s) luck).1
       → moves_file (step_made s) answer ≡ moves_file (step_made s) (answer_made s) → is_synced answer ≡ is_synced (answer_made s) → SparesOpen temps s.before.tree (step_made s)
       → ((q : Names) → Touched temps (temps_left temps s) s.before.tree s.after.tree (step_made s) (answer_made s) q) → Follows own temps f now s
@@ -112,7 +112,7 @@ module _ (own temps : Names → Bool) (f : Fixed) (now : Moment) (s : StepMade) 
   back_follows spares is tree =
       let failed = failed_apply now.tree (step_made s) in
       let stays : temps_left temps s ≡ temps = ap (λ a. temps_after temps (step_made s) (answer_on s.after a)) is ∙ memory_stay temps (step_made s) (step_on s.after s.step) in
-      follow (Fail Device None) (answers.Failed failed.0) (inr (is, failed.0, refl)) (sym (ap (λ (r : PlainAnswer × Tree). r.0) failed.1))
+      follow (Fail Device None) (answers.Failed failed.0) (inr (inl (is, failed.0, refl))) (sym (ap (λ (r : PlainAnswer × Tree). r.0) failed.1))
       (subst (λ (d : Tree). Mirrors (temps_left temps s) s.after.tree d) (sym (ap (λ (r : PlainAnswer × Tree). r.1) failed.1)) (came_back temps now.tree s.before s.after s.step s.end before is tree))
       (failed_moves (step_made s) failed.0 ∙ sym (ap (λ a. moves_file (step_made s) (answer_on s.after a)) is ∙ memory_moves (step_made s) (step_on s.after s.step)))
       (sym (ap (λ a. is_synced (answer_on s.after a)) is)) spares
@@ -154,6 +154,21 @@ module _ (own temps : Names → Bool) (f : Fixed) (now : Moment) (m n : Machine)
       grown_follows temp more names ready.named is_open ((write_agrees m hint temp names bytes more ready).breaking items end n runs each)
   write_follows _ runs each writing = absurd writing
 
+-- a listing in any order
+lists_follow : (own temps : Names → Bool) (f : Fixed) (now : Moment) (m n : Machine) (hint : Hint) (step : NumberedStep) (items : List CallItem) (end : CallResult) → Mirrors temps m.tree now.tree
+    → ((q : Names) → temps q ≡ true → own q ≡ true) → AlikeFixed own f now.fixed → IsListing m hint step → ListedOn temps now.tree m step end n ⊎ IsLucky m step end n
+    → Follows own temps f now (record { before = m; after = n; step = step; hint = hint; items = items; end = end })
+lists_follow own temps f now m n hint (steps.ReadDir path) items end before keeps alike lists (inr lucky) =
+    lucky_follows own temps f now (record { before = m; after = n; step = steps.ReadDir path; hint = hint; items = items; end = end }) before keeps alike tt (λ is. absurd (let wrong : false ≡ true = is in cc)) tt lucky
+lists_follow own temps f now m n hint (steps.ReadDir path) items end before keeps alike lists (inl (told, is, (shown, given, one, other, order), mirrored, tree)) =
+    follow own temps f now (record { before = m; after = n; step = steps.ReadDir path; hint = hint; items = items; end = end }) before keeps alike tt (λ is. absurd (let wrong : false ≡ true = is in cc))
+    Plain told (inr (inr (shown, given, one, other, order))) (sym (ap (λ (r : PlainAnswer × Tree). r.0) is))
+    (subst (λ (d : Tree). Mirrors temps n.tree d) (sym (ap (λ (r : PlainAnswer × Tree). r.1) is)) mirrored)
+    refl
+    (ap is_synced one ∙ sym (ap is_synced other)) tt
+    (λ q. rests (ap (λ (t : Tree). look t q) tree) refl)
+lists_follow own temps f now m n hint _ items end before keeps alike lists done = absurd lists
+
 pub one_follows : (own temps : Names → Bool) (f : Fixed) (now : Moment) (s : StepMade) → Mirrors temps s.before.tree now.tree → ((q : Names) → temps q ≡ true → own q ≡ true) → AlikeFixed own f now.fixed → CopiesNone s.step
     → Runs (first s.hint s.step) s.items s.end → EachCall OccursSomehow s.before s.items s.after → IsCovered temps s → Follows own temps f now s
 one_follows own temps f now s before keeps alike none runs each (inl law) =
@@ -164,6 +179,13 @@ one_follows own temps f now s before keeps alike none runs each (inr (inl writin
 one_follows own temps f now s before keeps alike none runs each (inr (inr plain)) =
     done_follows own temps f now s before keeps alike none (syncs_fix s.before s.after s.hint s.step s.items s.end plain.premise runs each) Plain plain.spares
     (each_goes_plainly s.before s.hint s.step plain.premise plain.plain s.items s.end s.after runs plain.well plain.memory)
+
+made_follows : (own temps : Names → Bool) (f : Fixed) (now : Moment) (s : StepMade) → Mirrors temps s.before.tree now.tree → ((q : Names) → temps q ≡ true → own q ≡ true) → AlikeFixed own f now.fixed → CopiesNone s.step
+    → IsMade temps s ⊎ ListsFolder s → Follows own temps f now s
+made_follows own temps f now s before keeps alike none (inl (runs, each, covered)) = one_follows own temps f now s before keeps alike none runs each covered
+made_follows own temps f now s before keeps alike none (inr (runs, each, lists)) =
+    lists_follow own temps f now s.before s.after s.hint s.step s.items s.end before keeps alike lists
+    (listing_on temps now.tree s.before s.after s.hint s.step s.items s.end before runs each lists)
 
 -- ---- many steps
 
@@ -183,9 +205,9 @@ lasts : (own temps : Names → Bool) (m : Machine) (f : Fixed) (now : Moment) (m
     → AreMade temps m made → AllByRecursion (λ (s : StepMade). CopiesNone s.step) made → Lasts own temps m f now made
 lasts own temps m f now [] mirrors keeps alike chain none =
     record { moves = []; of_steps = refl; answered = tt; mirrors = mirrors; keeps = keeps; alike = alike }
-lasts own temps m f now (s ∷ made) mirrors keeps alike (begins, (runs, each, covered), chain) none =
+lasts own temps m f now (s ∷ made) mirrors keeps alike (begins, is_made, chain) none =
     let here : Mirrors temps s.before.tree now.tree = subst (λ (x : Machine). Mirrors temps x.tree now.tree) (sym begins) mirrors in
-    let one = one_follows own temps f now s here (λ q is. keeps q (open_first temps (s ∷ made) q is)) alike none.0 runs each covered in
+    let one = made_follows own temps f now s here (λ q is. keeps q (open_first temps (s ∷ made) q is)) alike none.0 is_made in
     let more = lasts own (temps_left temps s) s.after (fixed_by f s) (next now one.move) made one.mirrors
     (λ q is. keeps q (or_right (temps q) (was_temp (temps_left temps s) made q) is)) one.alike chain none.1 in
     record {

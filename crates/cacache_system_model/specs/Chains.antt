@@ -1,12 +1,13 @@
 -- Steps one after the other on a system, and on a disk in memory that mirrors it.
-use Rattle.std.specs.Prelude.{◌≡◌, ◌⊎◌, ℕ, Bool, true, List, [], ◌∷◌, None}
+use Rattle.std.specs.Prelude.{◌≡◌, ◌⊎◌, ℕ, Bool, true, false, List, [], ◌∷◌, None, IsPermutation}
 use Rattle.std_io.specs.declared.io.kind.ErrorKind.TheVariants as kind
 use Rattle.cacache_core.specs.PathNames.{Names}
+use Rattle.cacache_store.specs.{declared.store.answer.Name.{Name}, Plain.{PlainAnswer}}
 use Rattle.cacache_store.specs.declared.store.step.Step.TheVariants as steps
 use Rattle.cacache_store.specs.declared.store.answer.Answer.TheVariants as answers
-use Rattle.cacache_disk.specs.{declared.luck.Luck.{Luck}, Tree.{Tree}, Apply.{apply}}
-use Rattle.cacache_system.specs.{declared.call.{CallItem.{CallItem}, CallResult.{CallResult, TheVariants.{Failed}}}, Seen.{NumberedStep}, CallsOf.{Runs}, AnswersOf.{Hint, first, answer_of}}
-use Rattle.cacache_system_model.specs.{Machine.{Machine}, Calls.{GoesWell, OccursSomehow, EachCall}, Laws.{step_on, answer_on, outcome, LeavesFresh, IsDone}, OneCall.{StillStands}, Premises.{Premise, HasPlainLaw}, Mirrors.{Mirrors, temps_after, SparesOpen}}
+use Rattle.cacache_disk.specs.{declared.luck.Luck.{Luck, TheVariants.{Plain}}, Tree.{Tree}, Apply.{apply}}
+use Rattle.cacache_system.specs.{declared.call.{CallItem.{CallItem}, CallResult.{CallResult, TheVariants.{Failed}}}, Seen.{NumberedStep}, CallsOf.{Runs}, AnswersOf.{Hint, is_named, first, answer_of}}
+use Rattle.cacache_system_model.specs.{Machine.{Machine}, Calls.{GoesWell, OccursSomehow, EachCall}, Laws.{step_on, answer_on, outcome, LeavesFresh, IsDone}, OneCall.{StillStands}, Listing.{ListsPlainly}, Premises.{Premise, HasPlainLaw}, Mirrors.{Mirrors, temps_after, SparesOpen}}
 
 -- a step that was made: the machine before and after it, how its calls began, what they were, and their end
 pub record StepMade : Type 0 where
@@ -73,14 +74,32 @@ StepsOnDisk =
     (temps : Names → Bool) (d : Tree) (s : StepMade) → Mirrors temps s.before.tree d
     → IsMade temps s → OnDisk temps d s
 
+-- a folder is listed, in any order
+abbrev pub IsListing : Machine → Hint → NumberedStep → Type 0
+IsListing m hint (steps.ReadDir p) = ListsPlainly m.tree p × (is_named hint ≡ false)
+IsListing m hint step = ⊥
+
+-- that is done by a run of its calls, some of which may fail
+abbrev pub ListsFolder : StepMade → Type 0
+ListsFolder s =
+    Runs (first s.hint s.step) s.items s.end
+    × EachCall OccursSomehow s.before s.items s.after × IsListing s.before s.hint s.step
+
 -- each step is made where the one before it led
 abbrev pub AreMade : (Names → Bool) → Machine → List StepMade → Type 0
 AreMade temps m [] = Unit {0}
 AreMade temps m (s ∷ made) =
-    (s.before ≡ m) × IsMade temps s × AreMade (temps_left temps s) s.after made
+    (s.before ≡ m) × (IsMade temps s ⊎ ListsFolder s) × AreMade (temps_left temps s) s.after made
+
+-- two listings have the same names, each once, in any order
+abbrev pub SameNames : PlainAnswer → PlainAnswer → Type 0
+SameNames one other =
+    (told given : List Name) × (one ≡ answers.Names told) × (other ≡ answers.Names given)
+    × IsPermutation told given
 
 -- A disk does each of these steps under some luck with the same answer, except those that came back, and mirrors the
--- machine at the end. Nothing is said about what follows a copy that left its fresh file.
+-- machine at the end. It may list names in another order. Nothing is said about what follows a copy that left its fresh
+-- file.
 abbrev pub DiskDoes : (Names → Bool) → Machine → Tree → List StepMade → Type 0
 DiskDoes temps m d [] = Mirrors temps m.tree d
 DiskDoes temps m d (s ∷ made) =
@@ -89,6 +108,9 @@ DiskDoes temps m d (s ∷ made) =
     ≡ outcome (answer_on s.after (answer_of s.step s.end)) new)
     × DiskDoes (temps_left temps s) s.after new made)
     ⊎ ((answer_of s.step s.end ≡ answers.NoMemory s.step)
+    × DiskDoes (temps_left temps s) s.after d made)
+    ⊎ ((told : PlainAnswer) × (apply d (step_on s.before s.step) Plain ≡ outcome told d)
+    × SameNames told (answer_on s.after (answer_of s.step s.end))
     × DiskDoes (temps_left temps s) s.after d made)
     ⊎ LeavesFresh s.before s.step (answer_of s.step s.end) s.after
 

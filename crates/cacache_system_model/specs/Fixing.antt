@@ -7,7 +7,7 @@ use Rattle.cacache_disk.specs.{declared.node.Node.{Node, TheVariants.{Folder, Fi
 use Rattle.cacache_value.specs.Traces.{Move}
 use Rattle.cacache_loss.specs.{Fixing.{Fixed, synced, is_sync, changed, all_fixed}, Loss.{Loss, lost_at}, Moments.{Moment, after, lost_then, EachMove}, ChangedNames.{opening}}
 use Rattle.cacache_system.specs.{Seen.{NumberedStep}, AnswersOf.{answer_of}}
-use Rattle.cacache_system_model.specs.{Machine.{Machine, SyncedNode}, Laws.{step_on, answer_on}, Mirrors.{hollow, Mirrors}, Chains.{StepMade, temps_left, AreMade}}
+use Rattle.cacache_system_model.specs.{Machine.{Machine, SyncedNode}, Laws.{step_on, answer_on}, Mirrors.{hollow, Mirrors}, Chains.{StepMade, temps_left, AreMade, SameNames}}
 
 -- ---- what a step fixes on a machine
 
@@ -80,13 +80,15 @@ CopiesNone step = Unit {0}
 
 -- ---- the same steps on a disk
 
--- a disk's move is this step with its answer, or with a failure if the step came back
+-- A disk's move is this step with its answer, or with a failure if the step came back. A listing's names may be in another
+-- order.
 abbrev pub IsMoveOf : StepMade → Move → Type 0
 IsMoveOf s move =
     (move.step ≡ step_made s)
     × ((move.answer ≡ answer_made s)
     ⊎ ((answer_of s.step s.end ≡ answers.NoMemory s.step)
-    × (fault : Fault) × (move.answer ≡ answers.Failed fault)))
+    × (fault : Fault) × (move.answer ≡ answers.Failed fault))
+    ⊎ SameNames move.answer (answer_made s))
 
 -- one for each step, in their order
 abbrev pub AreMovesOf : List StepMade → List Move → Type 0

@@ -7,7 +7,7 @@ use Rattle.cacache_store.specs.declared.store.answer.Name.{Name}
 use Rattle.cacache_store.specs.declared.store.answer.Answer.TheVariants as answers
 use Rattle.cacache_disk.specs.{declared.node.Node.{Node, TheVariants.{Folder}}, Tree.{Tree, look, listing, kind_of}, LedTo.{standing, folder}}
 use Rattle.cacache_system.specs.{declared.call.CallResult.{CallResult, TheVariants.{Failed}}, ListedNames.{text_of, with_slash}, AnswersOf.{Hint, is_named, first}}
-use Rattle.cacache_system_model.specs.{Machine.{Machine}, Calls.{GoesWell, OccursSomehow}, Laws.{outcome, led_to, Leads, IsDone, IsLucky, MayBreak}}
+use Rattle.cacache_system_model.specs.{Machine.{Machine}, Calls.{GoesWell, OccursSomehow}, Laws.{outcome, led_to, Leads, IsLucky, MayBreak}}
 
 -- an entry of a folder: its name is proper and is given as it is, and the entry is under it
 pub record IsPlainEntry (t : Tree) (path : List ℕ) (names : Names) (entry : Name) : Type 0 where
@@ -58,7 +58,7 @@ IsListedOrLucky m path end after =
 abbrev pub ReadDirBreaks : Type 0
 ReadDirBreaks =
     (m : Machine) (hint : Hint) (path : List ℕ) → ListsPlainly m.tree path
-    → is_named hint ≡ false → IsDone m (steps.ReadDir path)
+    → is_named hint ≡ false
     → Leads OccursSomehow (first hint (steps.ReadDir path)) m (IsListedOrLucky m path)
 
 -- a folder gives its names in the tree's order

@@ -5,10 +5,10 @@ use Rattle.std_io.specs.declared.io.kind.ErrorKind.{ErrorKind}
 use Rattle.std_io.specs.declared.io.kind.ErrorKind.TheVariants as kind
 use Rattle.cacache_core.proofs.Splits.{split-append, split_none}
 use Rattle.cacache_core.specs.{declared.errors.Fault.{Fault, TheVariants.{Device}}, PathNames.{Names, is_above, ends_name, IsProperName}}
-use Rattle.cacache_store.specs.declared.store.answer.{Kind.{Kind, TheVariants.{File}}, Name.{Name}}
+use Rattle.cacache_store.specs.{Plain.{PlainAnswer}, declared.store.answer.{Kind.{Kind, TheVariants.{File}}, Name.{Name}}}
 use Rattle.cacache_store.specs.declared.store.step.Step.TheVariants as steps
 use Rattle.cacache_store.specs.declared.store.answer.Answer.TheVariants as answers
-use Rattle.cacache_disk.specs.{declared.{luck.Luck.TheVariants.{Plain}, node.Node.{Node}}, Tree.{Tree, look, listing}, LedTo.{standing, folder}, Apply.{apply, unless}}
+use Rattle.cacache_disk.specs.{declared.{luck.Luck.TheVariants.{Plain}, node.Node.{Node}}, Tree.{Tree, look, listing}, LedTo.{standing, folder}, Apply.{apply, unless, fault_told}}
 use Rattle.cacache_system.specs.{declared.call.{SystemCall.{SystemCall}, CallItem.{CallItem}, CallResult.{CallResult}}, ListedNames.{text_of, is_proper, is_passed, names_in, with_slash}, CallsOf.{Stage, Reader, over, taking_memory, opening_folder, following, unopened, is_no_folder, interrupts, reading_names, asking_kind, reader, read_once, more_names, entered, ask_kind, next_name, names_read, broken_off, after, Ends, Runs}, AnswersOf.{is_named, list, misses}}
 use Rattle.cacache_system.specs.declared.call.SystemCall.TheVariants as asks
 use Rattle.cacache_system.specs.declared.call.CallResult.TheVariants as says
@@ -326,24 +326,25 @@ module _ (b : Bool) (m : Machine) (path : List ℕ) (p : ListsPlainly m.tree pat
       subst (λ (c : Bool). Goes_on (if c then over (says.Failed kind.NotFound) else taking_memory (opening_folder named path)) m) (sym p.some)
       (taking b m path p.names done (opening_folder named path) m refl (opens_so named fresh))
 
+-- the disk's line of a listing
+pub listed_apply : (t : Tree) (path : List ℕ) (names : Names) → folder t path ≡ Ok names → apply t (steps.ReadDir path) Plain ≡ outcome (answers.Names (listing t names)) t
+unfolding apply
+listed_apply t path names is = ap (λ (r : Result Names Fault). unless r t (λ at. outcome (answers.Names (listing t at)) t)) is
+
 pub read_dir_goes : ReadDirGoesPlainly
 read_dir_goes m hint path p = lists_so true m path p (λ e. absurd cc) (is_named hint) (λ e. absurd cc)
 
 pub read_dir_breaks : ReadDirBreaks
-read_dir_breaks m hint path p fresh done = lists_so false m path p (λ e. done) (is_named hint) (λ e. fresh)
+read_dir_breaks m hint path p fresh =
+    lists_so false m path p (λ e. ap (λ (r : PlainAnswer × Tree). fault_told r.0) (listed_apply m.tree path p.names p.folder)) (is_named hint) (λ e. fresh)
 
 -- ---- names in the tree's order
 
 ordered_lucky : (m n : Machine) (path : List ℕ) (end : CallResult) → GivesInOrder m path → IsListedOrLucky m path end n → IsLucky m (steps.ReadDir path) end n
-unfolding apply
 ordered_lucky m n path end ordered (inl (names, is, order, listed)) =
-    inl (
-      Plain,
-      ap (λ (r : Result Names Fault). unless r m.tree (λ at. outcome (answers.Names (listing m.tree at)) m.tree)) is
-          ∙ ap (λ (l : List Name). outcome (answers.Names l) m.tree) (sym (ordered names is)) ∙ listed,
-    )
+    inl (Plain, listed_apply m.tree path names is ∙ ap (λ (l : List Name). outcome (answers.Names l) m.tree) (sym (ordered names is)) ∙ listed)
 ordered_lucky m n path end ordered (inr lucky) = lucky
 
 pub read_dir_in_order : ReadDirInOrder
 read_dir_in_order m hint path p fresh ordered done items end n runs each =
-    ordered_lucky m n path end ordered (read_dir_breaks m hint path p fresh done items end n runs each)
+    ordered_lucky m n path end ordered (read_dir_breaks m hint path p fresh items end n runs each)
