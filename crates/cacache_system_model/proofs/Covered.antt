@@ -1,7 +1,8 @@
 -- Each step's law, if the step has what the law asks.
+use Rattle.std.proofs.Common.{inl, inr}
 use Rattle.cacache_store.specs.declared.store.step.Step.TheVariants as steps
 use Rattle.cacache_system_model.specs.Premises.{EachMayBreak, EachGoesPlainly}
-use Rattle.cacache_system_model.proofs.Steps.{Changing.{create_agrees, exists_agrees, symlink_agrees, hard_link_agrees, reflink_breaks}, Copying.{copy_agrees}, Dirs.{make_dirs_agrees}, Listing.{read_dir_in_order}, Looking.{open_agrees, size_agrees}, Moving.{persist_agrees}, Reading.{read_breaks}, Removing.{remove_file_agrees, remove_dir_agrees}, Syncing.{sync_temp_agrees, sync_file_agrees, sync_dir_agrees}, Whole.{read_all_agrees}, Writing.{append_agrees}}
+use Rattle.cacache_system_model.proofs.Steps.{Absent.{absent_plainly, absent_breaks}, Changing.{create_agrees, exists_agrees, symlink_agrees, hard_link_agrees, reflink_breaks}, Copying.{copy_agrees}, Dirs.{make_dirs_agrees}, Listing.{read_dir_in_order}, Looking.{open_agrees, size_agrees}, Moving.{persist_agrees}, Reading.{read_breaks, pieces_read_plainly}, Removing.{remove_file_agrees, remove_dir_agrees}, Syncing.{sync_temp_agrees, sync_file_agrees, sync_dir_agrees}, Whole.{read_all_agrees}, Writing.{append_agrees}}
 
 pub each_may_break : EachMayBreak
 each_may_break m hint (steps.MakeDirs p) (rooted, link) = (make_dirs_agrees m hint p rooted link).breaking
@@ -17,8 +18,9 @@ each_may_break m hint (steps.Size p) asks = (size_agrees m hint p).breaking
 each_may_break m hint (steps.Symlink target p) asks = (symlink_agrees m hint target p).breaking
 each_may_break m hint (steps.Copy p q) asks = (copy_agrees m hint p q asks).breaking
 each_may_break m hint (steps.Reflink p q) asks = reflink_breaks m hint p q
-each_may_break m hint (steps.HardLink p q) (node, is) = (hard_link_agrees m hint p q node is).breaking
-each_may_break m hint (steps.ReadDir p) (plain, fresh, ordered) = read_dir_in_order m hint p plain fresh ordered
+each_may_break m hint (steps.HardLink p q) asks = (hard_link_agrees m hint p q).breaking
+each_may_break m hint (steps.ReadDir p) (inl absent) = absent_breaks m p absent hint
+each_may_break m hint (steps.ReadDir p) (inr (plain, fresh, ordered)) = read_dir_in_order m hint p plain fresh ordered
 each_may_break m hint (steps.RemoveFile p) asks = (remove_file_agrees m hint p asks).breaking
 each_may_break m hint (steps.RemoveDir p) asks = (remove_dir_agrees m hint p asks).breaking
 each_may_break m hint (steps.SyncTemp t) (names, bytes, stands) = (sync_temp_agrees m hint t names bytes stands).breaking
@@ -36,7 +38,10 @@ each_goes_plainly m hint (steps.Open p) asks plain = (open_agrees m hint p).plai
 each_goes_plainly m hint (steps.Exists p) asks plain = (exists_agrees m hint p).plainly
 each_goes_plainly m hint (steps.Size p) asks plain = (size_agrees m hint p).plainly
 each_goes_plainly m hint (steps.Symlink target p) asks plain = (symlink_agrees m hint target p).plainly
-each_goes_plainly m hint (steps.HardLink p q) (node, is) plain = (hard_link_agrees m hint p q node is).plainly
+each_goes_plainly m hint (steps.Read f max) (found, bytes, stays) (piece, fits) = pieces_read_plainly m hint f found bytes max stays piece fits
+each_goes_plainly m hint (steps.Copy p q) asks clear = (copy_agrees m hint p q asks).plainly clear
+each_goes_plainly m hint (steps.HardLink p q) asks (node, is) = (hard_link_agrees m hint p q).plainly node is
+each_goes_plainly m hint (steps.ReadDir p) asks absent = absent_plainly m p absent hint
 each_goes_plainly m hint (steps.RemoveFile p) asks plain = (remove_file_agrees m hint p asks).plainly
 each_goes_plainly m hint (steps.RemoveDir p) asks plain = (remove_dir_agrees m hint p asks).plainly
 each_goes_plainly m hint (steps.SyncTemp t) (names, bytes, stands) plain = (sync_temp_agrees m hint t names bytes stands).plainly

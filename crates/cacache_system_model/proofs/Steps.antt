@@ -16,3 +16,4 @@ pub mod Growing
 pub mod Making
 pub mod Dirs
 pub mod Listing
+pub mod Absent

@@ -39,7 +39,7 @@ WritesTemp temps m step = ⊥
 -- none of a step's calls fails without cause or moves only a part, so it is done or refused as the disk's table says
 pub record MadePlainly (temps : Names → Bool) (s : StepMade) : Type 0 where
   pub premise : Premise s.before s.hint s.step
-  pub plain : HasPlainLaw s.step
+  pub plain : HasPlainLaw s.before s.step
   pub well : EachCall (GoesWell None) s.before s.items s.after
   pub memory : s.end ≡ Failed kind.OutOfMemory → ⊥
   pub spares : SparesOpen temps s.before.tree (step_on s.before s.step)

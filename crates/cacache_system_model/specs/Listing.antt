@@ -1,7 +1,7 @@
 -- The laws on listings.
-use Rattle.std.specs.{Prelude.{◌≡◌, ◌⊎◌, ◌==◌, ℕ, true, false, List, [], ◌∷◌, ◌++◌, Some, Ok, None, length, IsPermutation}, List.{AllByRecursion}, Str.{is_utf8}}
+use Rattle.std.specs.{Prelude.{◌≡◌, ◌⊎◌, ◌==◌, ℕ, true, false, List, [], ◌∷◌, ◌++◌, Some, Ok, Err, None, length, IsPermutation}, List.{AllByRecursion}, Str.{is_utf8}}
 use Rattle.std_io.specs.declared.io.kind.ErrorKind.TheVariants as kind
-use Rattle.cacache_core.specs.PathNames.{Names, IsProperName}
+use Rattle.cacache_core.specs.{declared.errors.Fault.TheVariants.{NotFound}, PathNames.{Names, IsProperName}}
 use Rattle.cacache_store.specs.declared.store.step.Step.TheVariants as steps
 use Rattle.cacache_store.specs.declared.store.answer.Name.{Name}
 use Rattle.cacache_store.specs.declared.store.answer.Answer.TheVariants as answers
@@ -28,6 +28,10 @@ pub record ListsPlainly (t : Tree) (path : List ℕ) : Type 0 where
   pub folder : folder t path ≡ Ok names
   pub there : look t names ≡ Some Folder
   pub entries : AllByRecursion (IsPlainEntry t path names) (listing t names)
+
+-- nothing is at a path
+abbrev pub IsAbsent : Tree → List ℕ → Type 0
+IsAbsent t path = standing t path ≡ Err NotFound
 
 -- The names of the folder are answered in its own order, and nothing changed. These are the names of the disk's table, each
 -- once.

@@ -4,7 +4,7 @@ use Rattle.cacache_core.specs.PathNames.{Names, names_of}
 use Rattle.cacache_store.specs.declared.store.step.Step.TheVariants as steps
 use Rattle.cacache_disk.specs.{declared.node.Node.{Node, TheVariants.{File}}, Tree.{look}, LedTo.{way_fault, linked}}
 use Rattle.cacache_system.specs.{Seen.{NumberedTemp}, AnswersOf.{Hint}}
-use Rattle.cacache_system_model.specs.{Machine.{OpenFile, Machine}, Laws.{Agrees, MayBreak}}
+use Rattle.cacache_system_model.specs.{Machine.{OpenFile, Machine}, Laws.{Agrees, GoesPlainly, MayBreak}}
 
 -- a temporary file is made
 abbrev pub CreateAgrees : Type 0
@@ -20,10 +20,14 @@ SymlinkAgrees =
     (m : Machine) (hint : Hint) (target path : List ℕ) → Agrees m hint (steps.Symlink target path)
 
 -- a file or link gets a second name
+pub record HardLinks (m : Machine) (hint : Hint) (from to : List ℕ) : Type 0 where
+  pub plainly : (node : Node) → linked m.tree from ≡ Ok node
+      → GoesPlainly m hint (steps.HardLink from to)
+  pub breaking : MayBreak m hint (steps.HardLink from to)
+
+-- so does each
 abbrev pub HardLinkAgrees : Type 0
-HardLinkAgrees =
-    (m : Machine) (hint : Hint) (from to : List ℕ) (node : Node) → linked m.tree from ≡ Ok node
-    → Agrees m hint (steps.HardLink from to)
+HardLinkAgrees = (m : Machine) (hint : Hint) (from to : List ℕ) → HardLinks m hint from to
 
 -- a reflink is always refused, as under some luck
 abbrev pub ReflinkBreaks : Type 0

@@ -1,10 +1,10 @@
 -- What each step asks of the machine for its law.
-use Rattle.std.specs.Prelude.{◌≡◌, ℕ, false, List, Ok}
+use Rattle.std.specs.Prelude.{◌≡◌, ◌⊎◌, ◌≤◌, ℕ, false, List, Ok}
 use Rattle.cacache_core.specs.PathNames.{Names}
 use Rattle.cacache_store.specs.declared.store.step.Step.TheVariants.{MakeDirs, Write, Persist, Append, Read, Copy, Reflink, HardLink, ReadDir, RemoveFile, RemoveDir, SyncTemp, SyncDir}
 use Rattle.cacache_disk.specs.{declared.node.Node.{Node}, LedTo.{linked}, Rooted.{Rooted}}
 use Rattle.cacache_system.specs.{Seen.{NumberedFile, NumberedTemp, NumberedStep}, AnswersOf.{Hint, is_named}}
-use Rattle.cacache_system_model.specs.{Machine.{OpenFile, Machine}, Laws.{GoesPlainly, MayBreak}, OneCall.{StillStands}, Reading.{StaysOpen}, Writing.{CanCopy}, Making.{HasNoLink}, Listing.{ListsPlainly, GivesInOrder}, Removing.{WalkStands}, Moving.{MayReplace}, Syncing.{EndsInNoLink}}
+use Rattle.cacache_system_model.specs.{Machine.{OpenFile, Machine}, Laws.{GoesPlainly, MayBreak}, OneCall.{StillStands}, Reading.{StaysOpen}, Writing.{HasNoFresh, CanCopy}, Making.{HasNoLink}, Listing.{ListsPlainly, IsAbsent, GivesInOrder}, Removing.{WalkStands}, Moving.{MayReplace}, Syncing.{EndsInNoLink}}
 
 -- a temporary file is still at its path
 abbrev pub IsStill : Machine → NumberedTemp → Type 0
@@ -26,9 +26,8 @@ Premise m hint (Persist t p) = IsStill m t × MayReplace m.tree hint p
 Premise m hint (Append p b) = WalkStands m.tree hint
 Premise m hint (Read f max) = IsOpen m f
 Premise m hint (Copy p q) = CanCopy m q
-Premise m hint (HardLink p q) = IsLinked m p
 Premise m hint (ReadDir p) =
-    ListsPlainly m.tree p × (is_named hint ≡ false) × GivesInOrder m p
+    IsAbsent m.tree p ⊎ (ListsPlainly m.tree p × (is_named hint ≡ false) × GivesInOrder m p)
 Premise m hint (RemoveFile p) = WalkStands m.tree hint
 Premise m hint (RemoveDir p) = WalkStands m.tree hint
 Premise m hint (SyncTemp t) = IsStill m t
@@ -40,16 +39,18 @@ abbrev pub EachMayBreak : Type 0
 EachMayBreak =
     (m : Machine) (hint : Hint) (step : NumberedStep) → Premise m hint step → MayBreak m hint step
 
--- a step's law also says what it answers if no call fails without cause, whether or not the table refuses it
-abbrev pub HasPlainLaw : NumberedStep → Type 0
-HasPlainLaw (Read f max) = ⊥
-HasPlainLaw (Copy p q) = ⊥
-HasPlainLaw (Reflink p q) = ⊥
-HasPlainLaw (ReadDir p) = ⊥
-HasPlainLaw step = Unit {0}
+-- What a step also asks for the law on what it answers if no call fails without cause, whether or not the table refuses it.
+-- A system refuses each reflink, so what it says of one is never what the table says.
+abbrev pub HasPlainLaw : Machine → NumberedStep → Type 0
+HasPlainLaw m (Read f max) = (max ≤ 131072) × (max ≤ f.left)
+HasPlainLaw m (Copy p q) = HasNoFresh m
+HasPlainLaw m (Reflink p q) = ⊥
+HasPlainLaw m (HardLink p q) = IsLinked m p
+HasPlainLaw m (ReadDir p) = IsAbsent m.tree p
+HasPlainLaw m step = Unit {0}
 
 -- each such step is as under plain luck, if none of its calls fails without cause
 abbrev pub EachGoesPlainly : Type 0
 EachGoesPlainly =
     (m : Machine) (hint : Hint) (step : NumberedStep) → Premise m hint step
-    → HasPlainLaw step → GoesPlainly m hint step
+    → HasPlainLaw m step → GoesPlainly m hint step

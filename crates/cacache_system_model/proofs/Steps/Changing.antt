@@ -7,11 +7,11 @@ use Rattle.cacache_core.specs.{Contexts.{fault_of}, declared.errors.Fault.{Fault
 use Rattle.cacache_store.specs.declared.store.step.Step.TheVariants as steps
 use Rattle.cacache_store.specs.declared.store.answer.Answer.TheVariants as answers
 use Rattle.cacache_store.specs.Plain.{PlainAnswer}
-use Rattle.cacache_disk.specs.{declared.{luck.Luck.TheVariants.{Plain}, node.Node.{Node, TheVariants.{File, Link}}}, Tree.{Tree, look, put, cut, bytes_of}, LedTo.{and_then, where_file, kept, known, free, replaceable, found, linked}, Apply.{apply, unless, made_temp, is_there}}
+use Rattle.cacache_disk.specs.{declared.{luck.Luck.TheVariants.{Plain}, node.Node.{Node, TheVariants.{File, Link}}}, Tree.{Tree, look, put, cut, bytes_of}, LedTo.{and_then, where_file, kept, known, free, replaceable, found, linked}, Apply.{apply, unless, made_temp, is_there, fault_told}}
 use Rattle.cacache_system.specs.declared.call.SystemCall.TheVariants as asks
-use Rattle.cacache_system.specs.{declared.call.CallResult.{CallResult}, Seen.{NumberedTemp, NumberedStep}, AnswersOf.{answer_of, failed_with, refuses_memory, misses}}
+use Rattle.cacache_system.specs.{declared.call.CallResult.{CallResult}, Seen.{NumberedTemp, NumberedStep}, AnswersOf.{Hint, answer_of, failed_with, refuses_memory, misses}}
 use Rattle.cacache_system.specs.declared.call.CallResult.TheVariants as says
-use Rattle.cacache_system_model.specs.{Machine.{OpenFile, Machine, IsRefused, ChangesTree, OpensIf, ShowsEnd, LinksNode, MovesNode, unread}, Calls.{GoesWell, OccursSomehow}, Laws.{answer_on, step_on, outcome, led_to, IsLucky}, OneCall.{StillStands, CreateAgrees, ExistsAgrees, SymlinkAgrees, HardLinkAgrees, ReflinkBreaks}}
+use Rattle.cacache_system_model.specs.{Machine.{OpenFile, Machine, IsRefused, ChangesTree, OpensIf, ShowsEnd, LinksNode, MovesNode, unread}, Calls.{GoesWell, OccursSomehow}, Laws.{answer_on, step_on, outcome, led_to, IsDone, IsLucky, Agrees}, OneCall.{StillStands, CreateAgrees, ExistsAgrees, SymlinkAgrees, HardLinkAgrees, ReflinkBreaks}}
 use Rattle.cacache_system_model.proofs.{Refused.{same_outcome, refused_agrees, plainly_refused, broken_agrees}, Steps.{OneCalls.{one_agrees}, Writing.{look_same}, Opening.{same_number}}, Leading.{over_leads}, memory.Places.{place_led}}
 
 -- a step that answers that it is done, if its call changed the tree
@@ -140,8 +140,8 @@ linked_so m from to node is most said n well =
     ∙ changed (free m.tree to) (λ names. put m.tree names node) (steps.HardLink from to) m n said refl (λ why. refl)
     (subst (λ (r : Result Node Fault). LinksNode r (free m.tree to) m said n) is well)
 
-pub hard_link_agrees : HardLinkAgrees
-hard_link_agrees m hint from to node is = one_agrees m hint (steps.HardLink from to) (asks.HardLink from to) (record {
+linked_agrees : (m : Machine) (hint : Hint) (from to : List ℕ) (node : Node) → linked m.tree from ≡ Ok node → Agrees m hint (steps.HardLink from to)
+linked_agrees m hint from to node is = one_agrees m hint (steps.HardLink from to) (asks.HardLink from to) (record {
   wanted = refl;
   leads = λ said. refl;
   memory = λ end never. absurd never;
@@ -149,6 +149,23 @@ hard_link_agrees m hint from to node is = one_agrees m hint (steps.HardLink from
   whole = λ why part n left. left;
   agrees = linked_so m from to node is;
 })
+
+-- the table links only what is there
+done_linked : (t : Tree) (ends : Result Names Fault) (source : Result Node Fault) → fault_told (unless ends t (λ names. unless source t (λ node. outcome answers.Done (put t names node)))).0 ≡ None
+    → (node : Node) × (source ≡ Ok node)
+done_linked t (Ok names) (Ok node) done = (node, refl)
+done_linked t (Ok names) (Err fault) done = absurd cc
+done_linked t (Err fault) source done = absurd cc
+
+link_done : (m : Machine) (from to : List ℕ) → IsDone m (steps.HardLink from to) → (node : Node) × (linked m.tree from ≡ Ok node)
+unfolding apply
+link_done m from to done = done_linked m.tree (free m.tree to) (linked m.tree from) done
+
+pub hard_link_agrees : HardLinkAgrees
+hard_link_agrees m hint from to = record {
+  plainly = λ node is. (linked_agrees m hint from to node is).plainly;
+  breaking = λ done. let g = link_done m from to done in (linked_agrees m hint from to g.0 g.1).breaking done;
+}
 
 pub reflink_breaks : ReflinkBreaks
 reflink_breaks m hint from to done =

@@ -177,12 +177,13 @@ module _ (h : Option Names) (temps : Names → Bool) (are : AreTemps h temps) (m
   has_asked (steps.SyncDir p) stores holds stands is = inl (ends_in_no_link h m.tree d shape placed p stores, tt)
   has_asked step stores holds stands is = absurd stores
 
-pub has_plain_law : (h : Option Names) (step : NumberedStep) → Stores h step → HasPlainLaw step
-has_plain_law h (steps.Read f size) stores = absurd stores
-has_plain_law h (steps.Copy p q) stores = absurd stores
-has_plain_law h (steps.Reflink p q) stores = absurd stores
-has_plain_law h (steps.ReadDir p) stores = absurd stores
-has_plain_law h step stores = tt
+pub has_plain_law : (h : Option Names) (m : Machine) (step : NumberedStep) → Stores h step → HasPlainLaw m step
+has_plain_law h m (steps.Read f size) stores = absurd stores
+has_plain_law h m (steps.Copy p q) stores = absurd stores
+has_plain_law h m (steps.Reflink p q) stores = absurd stores
+has_plain_law h m (steps.HardLink p q) stores = absurd stores
+has_plain_law h m (steps.ReadDir p) stores = absurd stores
+has_plain_law h m step stores = tt
 
 needs_none : (h : Option Names) (m : Machine) (step : NumberedStep) (a : PlainAnswer) → Stores h step → NeedsFit (step_on m step) a
 needs_none h m (steps.Open p) a stores = absurd stores
@@ -199,7 +200,7 @@ made_so : (h : Option Names) (temps : Names → Bool) (made : StepMade) (reply :
 made_so h temps made reply stores runs each luck (inr writes) = inl (runs, each, inr (inl writes))
 made_so h temps made reply stores runs each (inl done) (inl (premise, spares)) = inl (runs, each, inl (record { premise = premise; done = done; spares = spares }))
 made_so h temps made reply stores runs each (inr (inl (well, memory))) (inl (premise, spares)) =
-    inl (runs, each, inr (inr (record { premise = premise; plain = has_plain_law h made.step stores; well = well; memory = memory; spares = spares })))
+    inl (runs, each, inr (inr (record { premise = premise; plain = has_plain_law h made.before made.step stores; well = well; memory = memory; spares = spares })))
 made_so h temps made reply stores runs each (inr (inr failed)) (inl asked) = inr failed
 
 -- ---- acts

@@ -113,4 +113,4 @@ module _ (h : Option Names) (temps : Names → Bool) (m n : Machine) (hint : Hin
       lucky_stays step end stores proper misses (each_may_break m hint step premise done items end n runs each)
   asked_stays step items end stores proper misses runs each (inr (inr same)) (inl asked) = ap (λ (t : Tree). look t q) same
   asked_stays step items end stores proper misses runs each (inr (inl (well, memory))) (inl (premise, spares)) =
-      lucky_stays step end stores proper misses (inl (Plain, each_goes_plainly m hint step premise (has_plain_law h step stores) items end n runs well memory))
+      lucky_stays step end stores proper misses (inl (Plain, each_goes_plainly m hint step premise (has_plain_law h m step stores) items end n runs well memory))
