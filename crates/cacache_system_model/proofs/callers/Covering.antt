@@ -1,16 +1,15 @@
--- Where a machine and a history agree, each step of a call that stores, looks or removes has what its law asks.
+-- Where a machine and a history agree, each step of a call that lists no folder has what its law asks.
 use Rattle.std.proofs.{lemmas.Bool.{false_from_ne_true}, Common.{◌≡◌, ◌⊎◌, inl, inr, ℕ, zero, suc, Bool, false, List, [], ◌∷◌, ◌++◌, Option, None, Some, Ok, refl, sym, ap, subst, ◌∙◌, append-nil}}
 use Rattle.std.specs.Prelude.{Result, Err, IfOk, IfSome}
 use Rattle.cacache_core.specs.{declared.errors.Fault.{Fault}, PathNames.{Names, names_of}}
 use Rattle.cacache_store.specs.declared.store.step.Step.TheVariants as steps
-use Rattle.cacache_store.specs.Plain.{PlainAnswer}
 use Rattle.cacache_disk.specs.{declared.node.Node.{Node, TheVariants.{Folder, File, Link}}, Tree.{Tree, look}, LedTo.{and_then, standing, followed, leads, place, on_link, writable}, Rooted.{StandsIn, AreProper, Rooted}}
 use Rattle.cacache_disk.proofs.{FoundNodes.{and_then_ok, place_ok, standing_ok}, Standing.{way_clear}}
-use Rattle.cacache_system.specs.{Seen.{NumberedTemp, NumberedStep, NumberedAnswer}, CallsOf.{Runs}, AnswersOf.{Hint, first}}
-use Rattle.cacache_system_model.specs.{Machine.{Machine}, Calls.{OccursSomehow, EachCall}, Laws.{step_on, LeavesFresh}, Making.{HasNoLink}, Syncing.{EndsInNoLink}, OneCall.{StillStands}, Premises.{IsStill, Premise, HasPlainLaw}, Mirrors.{hollow, Mirrors, IsNoTemp, SparesOpen}, Chains.{StepMade, WritesTemp, IsMade}, callers.{Acts.{Act, steps as makes, SystemState, EndsFailed, step_of, NeedsFit, MakesStep, MayAct}, Made.{AreTemps}, Storing.{IsNotFor, Stores, IsHeld, HoldsTemp, HintStands, IsExplained, MakesStoringStep, MayStore, StoringMakeHistories}}}
+use Rattle.cacache_system.specs.{Seen.{NumberedTemp, NumberedStep}, CallsOf.{Runs}, AnswersOf.{Hint, first}}
+use Rattle.cacache_system_model.specs.{Machine.{Machine}, Calls.{OccursSomehow, EachCall}, Laws.{step_on}, Making.{HasNoLink}, Syncing.{EndsInNoLink}, OneCall.{StillStands}, Premises.{IsStill, Premise}, Mirrors.{hollow, Mirrors, IsNoTemp, SparesOpen}, Chains.{StepMade, WritesTemp, IsMade}, callers.{Acts.{Act, steps as makes, SystemState, EndsFailed, step_of, MakesStep, MayAct}, Made.{AreTemps}, Storing.{IsNotFor, Stores, IsHeld, HoldsTemp, HintStands, IsExplained, MakesStoringStep, MayStore, StoringMakeHistories}}}
 use Rattle.cacache_system_model.proofs.{Mirroring.{SameShape, shapes, leads_same, writable_same}, callers.Following.{Agree, has_call, make_histories}}
 use Rattle.cacache_value.specs.{Kinds.{PathKind, Content, Bucket, Temporary, Way, Elsewhere, path_kind, is_used, IsFor}, OpeningTrees.{LieApart}, Placed.{MayStand, Placed, Proper}}
-use Rattle.cacache_value.proofs.{KindsApart.{above}, FoundPaths.{of_names, suits, Reaches, found, missing, bucket_reached, unreachable}}
+use Rattle.cacache_value.proofs.{KindsApart.{above}, FoundPaths.{of_names, suits, Reaches, found, missing, bucket_reached, unreachable, writable_out}}
 use Rattle.cacache_calls.specs.{declared.reply.Reply.{Reply}, Table.{wants}}
 use Rattle.cacache_history.{specs.{Setup.{Setup, home}, History.{Now}}, proofs.{Histories.Holding.{of_caller}, Proper.{sound_proper}}}
 
@@ -121,6 +120,13 @@ module _ (h : Option Names) (temps : Names → Bool) (are : AreTemps h temps) wh
       false_from_ne_true (temps new) (λ e. of_names (λ n. path_kind h n ≡ Temporary → ⊥) p names other named (ap (path_kind h) same ∙ are new e))
   led_no_temp p names new named other (inr out) = no_temp new Elsewhere out (λ e. cc)
 
+  linked_spares : (t : Tree) (p : List ℕ) (r : Result Names Fault) → place t p ≡ r → IsNotFor h Temporary p → IsNoTemp temps r
+  linked_spares t p (Ok names) e other = led_no_temp p names names (place_ok t p names e) other (inl refl)
+  linked_spares t p (Err fault) e other = tt
+
+  pub links_spare : (t : Tree) (p : List ℕ) → IsNotFor h Temporary p → IsNoTemp temps (place t p)
+  links_spare t p other = linked_spares t p (place t p) refl other
+
   module _ (t d : Tree) (s : SameShape t d) (placed : Placed h d) where
     spared : (p : List ℕ) (r : Result Names Fault) → leads d p ≡ r → IsNotFor h Temporary p → IsNoTemp temps r
     spared p (Ok new) e other = let f = leads_kind h d p new placed e in led_no_temp p f.0 new f.1 other f.2
@@ -136,6 +142,13 @@ module _ (h : Option Names) (temps : Names → Bool) (are : AreTemps h temps) wh
     bucket_spares : (p : List ℕ) (r : Result Names Fault) → names_of p ≡ r → IfOk r (λ names. path_kind h names ≡ Bucket) → IsNoTemp temps (writable d p)
     bucket_spares p (Ok names) named k = reached_spares p names k (bucket_reached h d p names placed named k)
     bucket_spares p (Err fault) named k = subst (IsNoTemp temps) (sym (unreachable d p fault named)) tt
+
+    copied_spares : (p : List ℕ) (r : Result Names Fault) → writable d p ≡ r → IsFor h Elsewhere p → IsNoTemp temps r
+    copied_spares p (Ok names) e is = no_temp names Elsewhere (writable_out h d p names placed is e).0 (λ same. cc)
+    copied_spares p (Err fault) e is = tt
+
+    pub copies_spare : (p : List ℕ) → IsFor h Elsewhere p → IsNoTemp temps (writable t p)
+    copies_spare p is = subst (IsNoTemp temps) (writable_same t d s p) (copied_spares p (writable d p) refl is)
 
     pub appends_spare : (p : List ℕ) → IsFor h Bucket p → IsNoTemp temps (writable t p)
     appends_spare p is = subst (IsNoTemp temps) (writable_same t d s p) (bucket_spares p (names_of p) refl is)
@@ -162,46 +175,34 @@ module _ (h : Option Names) (temps : Names → Bool) (are : AreTemps h temps) (m
   rooted : Rooted m.tree
   rooted = rooted_same m.tree d shape in_folders
 
-  pub has_asked : (step : NumberedStep) → Stores h step → HoldsTemp temps m step → HintStands m.tree hint step → Proper h (step_on m step) → HasAsked temps m hint step
+  pub has_asked : (step : NumberedStep) → Stores h (step_on m step) → HoldsTemp temps m step → HintStands m hint step → Proper h (step_on m step) → HasAsked temps m hint step
   has_asked (steps.MakeDirs p) stores holds stands is = inl ((rooted, has_no_link h m.tree d shape placed p is), tt)
-  has_asked (steps.CreateTemp p) stores holds stands is = inl (tt, tt)
   has_asked (steps.Write t bytes) stores holds stands is =
       let g = held_there temps m d t mirrors rooted holds in inr (holds.names, g.0, g.1, holds.is_temp)
   has_asked (steps.Persist t p) stores holds stands is = inl ((still_there temps m d t mirrors rooted holds, stands), tt)
   has_asked (steps.Append p bytes) stores holds stands is = inl (stands, appends_spare h temps are m.tree d shape placed p is.0)
   has_asked (steps.ReadAll p) stores holds stands is = inl (tt, reads_spare h temps are m.tree d shape placed p stores)
-  has_asked (steps.Exists p) stores holds stands is = inl (tt, tt)
+  has_asked (steps.Open p) stores holds stands is = inl (tt, reads_spare h temps are m.tree d shape placed p stores)
+  has_asked (steps.Read f size) stores holds stands is = inl (stands, tt)
+  has_asked (steps.Size p) stores holds stands is = inl (tt, reads_spare h temps are m.tree d shape placed p stores)
+  has_asked (steps.Copy p q) stores holds stands is = inl (stands, (reads_spare h temps are m.tree d shape placed p stores, copies_spare h temps are m.tree d shape placed q is))
+  has_asked (steps.Reflink p q) stores holds stands is = inl (tt, reads_spare h temps are m.tree d shape placed p stores)
+  has_asked (steps.HardLink p q) stores holds stands is = inl (tt, links_spare h temps are m.tree p stores)
+  has_asked (steps.ReadDir p) stores holds stands is = absurd stores
   has_asked (steps.RemoveFile p) stores holds stands is = inl (stands, tt)
+  has_asked (steps.RemoveDir p) stores holds stands is = absurd stores
   has_asked (steps.SyncTemp t) stores holds stands is = inl (still_there temps m d t mirrors rooted holds, tt)
   has_asked (steps.SyncFile p) stores holds stands is = inl (tt, reads_spare h temps are m.tree d shape placed p stores)
   has_asked (steps.SyncDir p) stores holds stands is = inl (ends_in_no_link h m.tree d shape placed p stores, tt)
-  has_asked step stores holds stands is = absurd stores
+  has_asked step stores holds stands is = inl (tt, tt)
 
-pub has_plain_law : (h : Option Names) (m : Machine) (step : NumberedStep) → Stores h step → HasPlainLaw m step
-has_plain_law h m (steps.Read f size) stores = absurd stores
-has_plain_law h m (steps.Copy p q) stores = absurd stores
-has_plain_law h m (steps.Reflink p q) stores = absurd stores
-has_plain_law h m (steps.HardLink p q) stores = absurd stores
-has_plain_law h m (steps.ReadDir p) stores = absurd stores
-has_plain_law h m step stores = tt
-
-needs_none : (h : Option Names) (m : Machine) (step : NumberedStep) (a : PlainAnswer) → Stores h step → NeedsFit (step_on m step) a
-needs_none h m (steps.Open p) a stores = absurd stores
-needs_none h m (steps.Read f size) a stores = absurd stores
-needs_none h m (steps.ReadDir p) a stores = absurd stores
-needs_none h m step a stores = tt
-
-pub no_fresh : (h : Option Names) (m : Machine) (step : NumberedStep) (a : NumberedAnswer) (n : Machine) → Stores h step → LeavesFresh m step a n → ⊥
-no_fresh h m (steps.Copy p q) a n stores left = absurd stores
-no_fresh h m step a n stores left = absurd left
-
-made_so : (h : Option Names) (temps : Names → Bool) (made : StepMade) (reply : Option Reply) → Stores h made.step → Runs (first made.hint made.step) made.items made.end
+made_so : (temps : Names → Bool) (made : StepMade) (reply : Option Reply) → Runs (first made.hint made.step) made.items made.end
     → EachCall OccursSomehow made.before made.items made.after → IsExplained made reply → HasAsked temps made.before made.hint made.step → IsMade temps made ⊎ EndsFailed made reply
-made_so h temps made reply stores runs each luck (inr writes) = inl (runs, each, inr (inl writes))
-made_so h temps made reply stores runs each (inl done) (inl (premise, spares)) = inl (runs, each, inl (record { premise = premise; done = done; spares = spares }))
-made_so h temps made reply stores runs each (inr (inl (well, memory))) (inl (premise, spares)) =
-    inl (runs, each, inr (inr (record { premise = premise; plain = has_plain_law h made.before made.step stores; well = well; memory = memory; spares = spares })))
-made_so h temps made reply stores runs each (inr (inr failed)) (inl asked) = inr failed
+made_so temps made reply runs each luck (inr writes) = inl (runs, each, inr (inl writes))
+made_so temps made reply runs each (inl done) (inl (premise, spares)) = inl (runs, each, inl (record { premise = premise; done = done; spares = spares }))
+made_so temps made reply runs each (inr (inl (plain, well, memory))) (inl (premise, spares)) =
+    inl (runs, each, inr (inr (record { premise = premise; plain = plain; well = well; memory = memory; spares = spares })))
+made_so temps made reply runs each (inr (inr failed)) (inl asked) = inr failed
 
 -- ---- acts
 
@@ -217,10 +218,10 @@ module _ (s : Setup) (apart : LieApart (home s) s.outside) (w : SystemState) (no
         stands = m.stands;
         here = m.here;
         wanted = m.wanted;
-        is_made = made_so (home s) w.temps made reply m.stores m.runs m.each m.luck
+        is_made = made_so w.temps made reply m.runs m.each m.luck
             (has_asked (home s) w.temps agree.temps made.before now.tree mirrors agree.all.placed agree.all.rooted made.hint made.step m.stores m.holds m.hint proper);
-        clean = no_fresh (home s) made.before made.step _ made.after m.stores;
-        fits = needs_none (home s) made.before made.step _ m.stores;
+        clean = m.clean;
+        fits = m.fits;
         over = m.over;
       }
 

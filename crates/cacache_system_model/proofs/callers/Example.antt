@@ -82,18 +82,21 @@ questions_can_be s m cache i within integrity fewer =
       asking_step s i m g.0,
       r.0,
       (
-        (within, refl, tt, integrity, tt, few),
+        (within, refl, tt, integrity, few),
         (
           record {
             state = asking (content_of s i);
             stands = refl;
             wanted = refl;
+            kind = tt;
             held = tt;
             here = refl;
             runs = (refl, refl);
             each = (m, (Plain, g.1), refl);
-            luck = inr (inl ((m, g.1, refl), g.2));
+            luck = inr (inl (tt, (m, g.1, refl), g.2));
             hint = tt;
+            clean = λ left. left;
+            fits = tt;
             over = r.1;
           },
           tt,

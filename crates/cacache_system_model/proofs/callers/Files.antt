@@ -1,16 +1,16 @@
--- The temporary file of a state.
-use Rattle.std.proofs.Common.{◌≡◌, ◌⊎◌, inl, inr, ◌==◌, ℕ, List, [], ◌∷◌, Option, None, Some, Ok, length, drop, nat_le, refl, sym, ap}
+-- The temporary file and the open file of a state.
+use Rattle.std.{proofs.Common.{◌≡◌, ◌⊎◌, inl, inr, ◌==◌, ℕ, List, [], ◌∷◌, Option, None, Some, Ok, length, drop, take, nat_le, refl, sym, ap, ◌∙◌}, specs.Prelude.{◌++◌, ◌+◌, ◌-◌}}
 use Rattle.cacache_core.specs.{declared.errors.{Fault.{Fault}, Error.TheVariants.{IntegrityError}, IntegrityFault.TheVariants.{Check}}, Meeting.{meets}, Integrity.{actual}}
 use Rattle.cacache_core.specs.declared.errors.Fault.TheVariants as faults
-use Rattle.cacache_store.specs.{declared.store.plain.PlainTemp.{PlainTemp}, Plain.{PlainStep, PlainAnswer}}
+use Rattle.cacache_store.specs.{declared.store.plain.{PlainFile.{PlainFile}, PlainTemp.{PlainTemp}}, Plain.{PlainStep, PlainAnswer}}
 use Rattle.cacache_store.specs.declared.store.step.Step.TheVariants as steps
 use Rattle.cacache_store.specs.declared.store.answer.Answer.TheVariants as answers
 use Rattle.cacache_entry.specs.Latest.{Found}
-use Rattle.cacache_calls.specs.{declared.{command.Command.{Command}, carried.{Aim.{Aim}, Commit.{Commit}, Lookup.{Lookup}}, reply.Reply.TheVariants.{Read}}, Answers.{done_in, temp_in, written_in, synced_in, there_in, taken_in, bytes_in}, Common.{fails, ends_with}, ContentReads.{checked, answer_there, answer_absent}, Inserting.{insertion, deletion, bucket_line, recorded, after_append, insert, refused_cause}, Looking.{found_in, found_for, after_bucket, no_bucket}, State.{State, doing, creating, writing, syncing, persisting, confirming, appending, looking, reading, asking, over, Site, Insertion, Errand, make_folder, remove, sync_file, sync_dir}, StepPaths.{content_folder, content_path, bucket_path, temp_path}, Storing.{placed, secured, secured_found, write_rest, after_write, after_confirm}, Table.{wants, after, opening}}
+use Rattle.cacache_calls.specs.{declared.{command.{Command.{Command}, Export.{Export}, How.{How, TheVariants.{Copy}}}, carried.{Aim.{Aim}, Commit.{Commit}, Content.{Content}, Lookup.{Lookup}}, reply.Reply.TheVariants.{Copied, Done, Listed, Read}, visit.{Visit.{Visit, TheVariants.{Enter, ReadBucket, RemoveFile, RemoveFolder}}, Task.{Task, TheVariants.{Make, Stumble}}}}, Answers.{done_in, temp_in, written_in, synced_in, there_in, taken_in, bytes_in, file_in as file_answered, got_in, length_in, names_in}, Common.{fails, ends_with, errand_step}, ContentReads.{checked, answer_there, answer_absent}, Exporting.{export_from, export_content, export, copied_count}, Inserting.{insertion, deletion, bucket_line, recorded, after_append, insert, refused_cause}, Linking.{after_size, after_read}, Looking.{found_in, found_for, found_content, after_bucket, no_bucket}, State.{State, doing, creating, writing, syncing, persisting, linking, confirming, appending, looking, reading, asking, sizing, opening_file, hashing, copying, walking, over, Site, Insertion, Errand, Item, Walk, Hashing, to_verify, to_link, make_folder, sync_file, sync_dir}, StepPaths.{content_folder, content_path}, Storing.{placed, secured, secured_found, write_rest, after_write, after_confirm}, Table.{wants, after, opening}, Walking.{most, failed, give, miss, walk_ends, walk_on, too_many, tasks_of, leaving, entered, unread_bucket, listed, items_in, visit_step, after_visit}}
 use Rattle.cacache_calls.proofs.{Branches.{cond_leads, go_on_leads}, Leading.{moves_on, secures, secures_found, records, places, inserts}, Sound.{some_is}}
 use Rattle.cacache_calls.specs.declared.command.Command.TheVariants as commands
+use Rattle.cacache_calls.specs.declared.command.Source.TheVariants as sources
 use Rattle.cacache_calls.specs.declared.carried.Aim.TheVariants as aims
-use Rattle.cacache_system_model.specs.callers.Seen.{StoresLooksOrRemoves}
 
 -- the temporary file that a state is about
 abbrev pub file_in : State → Option PlainTemp
@@ -20,12 +20,23 @@ file_in (syncing c file) = Some file
 file_in (persisting c file) = Some file
 file_in s = None
 
+-- the open file that a state is about
+abbrev pub open_in : State → Option PlainFile
+open_in (doing errand s) = open_in s
+open_in (hashing h file bytes) = Some file
+open_in s = None
+
 -- the temporary file of a step
 abbrev pub file_of : PlainStep → Option PlainTemp
 file_of (steps.Write f bytes) = Some f
 file_of (steps.Persist f p) = Some f
 file_of (steps.SyncTemp f) = Some f
 file_of step = None
+
+-- the open file of a step
+abbrev pub open_of : PlainStep → Option PlainFile
+open_of (steps.Read f max) = Some f
+open_of step = None
 
 -- the temporary file that an answer hands out
 abbrev pub file_given : PlainAnswer → Option PlainTemp
@@ -34,36 +45,19 @@ file_given (answers.Wrote f n) = Some f
 file_given (answers.Synced f) = Some f
 file_given answer = None
 
--- ---- states of storing, looking and removing calls
+-- the open file that an answer hands out
+abbrev pub open_given : PlainAnswer → Option PlainFile
+open_given (answers.File f) = Some f
+open_given (answers.Got f bytes) = Some f
+open_given answer = None
 
--- what such a call looks up a key for
-abbrev pub IsAim : Aim → Type 0
-IsAim (aims.Export x) = ⊥
-IsAim aim = Unit {0}
+-- ---- states without files
 
-abbrev pub IsState : State → Type 0
-IsState (doing (make_folder p) s) = IsState s
-IsState (doing (remove p) s) = IsState s
-IsState (doing (sync_file p) s) = IsState s
-IsState (doing (sync_dir p) s) = IsState s
-IsState (creating number c rest) = Unit {0}
-IsState (writing c file rest) = Unit {0}
-IsState (syncing c file) = Unit {0}
-IsState (persisting c file) = Unit {0}
-IsState (confirming c fault) = Unit {0}
-IsState (appending i) = Unit {0}
-IsState (looking l) = IsAim l.aim
-IsState (reading k) = Unit {0}
-IsState (asking k) = Unit {0}
-IsState (over reply) = Unit {0}
-IsState s = ⊥
-
--- such a state without a temporary file
 abbrev pub IsFree : State → Type 0
-IsFree s = IsState s × (file_in s ≡ None)
+IsFree s = (file_in s ≡ None) × (open_in s ≡ None)
 
 free_places : (c : Commit) → IsFree (placed c)
-free_places c = places IsFree (λ reply. (tt, refl)) (λ folder i. (tt, refl)) c
+free_places c = places IsFree (λ reply. (refl, refl)) (λ folder i. (refl, refl)) c
 
 free_syncs : (p : List ℕ) (s : State) → IsFree s → IsFree (doing (sync_file p) s) × IsFree (doing (sync_dir p) s)
 free_syncs p s h = (h, h)
@@ -72,19 +66,73 @@ free_secured : (c : Commit) → IsFree (secured c)
 free_secured c = secures IsFree free_syncs c (free_places c)
 
 free_inserts : (i : Insertion) → IsFree (insert i)
-free_inserts i = inserts IsFree (λ reply. (tt, refl)) (λ folder j. (tt, refl)) i (refused_cause i)
+free_inserts i = inserts IsFree (λ reply. (refl, refl)) (λ folder j. (refl, refl)) i (refused_cause i)
 
-pub opens_free : (site : Site) (command : Command) → StoresLooksOrRemoves command → IsFree (opening site command)
-opens_free site (commands.Put p) stores = (tt, refl)
-opens_free site (commands.Insert i) stores = free_inserts (insertion site.cache i)
-opens_free site (commands.Delete d) stores = free_inserts (deletion site.cache d)
-opens_free site (commands.Find key) stores = (tt, refl)
-opens_free site (commands.Get key) stores = (tt, refl)
-opens_free site (commands.GetHash i) stores = (tt, refl)
-opens_free site (commands.Exists i) stores = (tt, refl)
-opens_free site (commands.RemoveHash i) stores = (tt, refl)
-opens_free site (commands.RemoveFully key) stores = (tt, refl)
-opens_free site command stores = absurd stores
+free_how : (how : How) (from to : List ℕ) (count : Option ℕ) → IsFree (export_from how from to count)
+free_how Copy from to count = (refl, refl)
+free_how how from to count = (refl, refl)
+
+free_export : (k : Content) (e : Export) → IsFree (export k e)
+free_export k e = cond_leads IsFree e.checked (opening_file (to_verify k e)) (export_content k e None) (λ _. (refl, refl)) (λ _. free_how e.how (content_path k.cache k.integrity) e.to None)
+
+pub opens_free : (site : Site) (command : Command) → IsFree (opening site command)
+opens_free site (commands.Insert i) = free_inserts (insertion site.cache i)
+opens_free site (commands.Delete d) = free_inserts (deletion site.cache d)
+opens_free site (commands.Export (sources.Key key) e) = (refl, refl)
+opens_free site (commands.Export (sources.Hash i) e) = free_export (record { cache = site.cache; integrity = i }) e
+opens_free site command = (refl, refl)
+
+free_found : (l : Lookup) (aim : Aim) (found : Option Found) → IsFree (found_for l aim found)
+free_found l aims.Report found = (refl, refl)
+free_found l aims.Remove None = (refl, refl)
+free_found l aims.Remove (Some f) = (refl, refl)
+free_found l aims.Read (Some f) = (refl, refl)
+free_found l (aims.Export e) (Some f) = free_export (found_content l f) e
+free_found l aim None = (refl, refl)
+
+free_unread : (l : Lookup) (fault : Fault) → IsFree (no_bucket l fault)
+free_unread l faults.NotFound = free_found l l.aim None
+free_unread l fault = (refl, refl)
+
+-- ---- walks
+
+free_ends : (w : Walk) → IsFree (walk_ends w)
+free_ends w = cond_leads IsFree w.clears (over Done) (over (Listed w.items)) (λ _. (refl, refl)) (λ _. (refl, refl))
+
+free_many : (w : Walk) → IsFree (too_many w)
+free_many w = cond_leads IsFree w.clears (fails faults.TooDeep) (over (Listed (w.items ++ failed faults.TooDeep ∷ []))) (λ _. (refl, refl)) (λ _. (refl, refl))
+
+free_gives : (w : Walk) (items : List Item) (next : Walk → State) → ((v : Walk) → IsFree (next v)) → IsFree (give w items next)
+free_gives w items next h =
+    let more : Walk = record w { items = w.items ++ items } in
+    let full : Walk = record w { items = take most (w.items ++ items) } in
+    cond_leads IsFree (nat_le (length w.items + length items) most) (next more) (too_many full) (λ _. h more) (λ _. free_many full)
+
+free_misses : (w : Walk) (next : Walk → State) (fault : Fault) → ((v : Walk) → IsFree (next v)) → IsFree (miss w next fault)
+free_misses w next fault h = cond_leads IsFree w.clears (fails fault) (give w (failed fault ∷ []) next) (λ _. (refl, refl)) (λ _. free_gives w (failed fault ∷ []) next h)
+
+free_walk : (todo : List Task) (w : Walk) → IsFree (walk_on todo w)
+free_walk [] w = free_ends w
+free_walk (Make v ∷ todo) w = (refl, refl)
+free_walk (Stumble fault path ∷ todo) w = free_misses w (walk_on todo) fault (free_walk todo)
+
+free_bucket : (w : Walk) (todo : List Task) (fault : Fault) → IsFree (unread_bucket w todo fault)
+free_bucket w todo faults.NotFound = free_walk todo w
+free_bucket w todo fault = free_misses w (walk_on todo) fault (free_walk todo)
+
+free_visit : (w : Walk) (v : Visit) (todo : List Task) (a : PlainAnswer) → IsFree (after_visit w v todo a)
+free_visit w (Enter p level) todo a =
+    go_on_leads IsFree (names_in a) (miss w (walk_on todo)) (entered w p level todo) (refl, refl) (λ fault. free_misses w (walk_on todo) fault (free_walk todo))
+    (λ names e.
+    let tasks = tasks_of w.clears level p names ++ leaving w.clears level p ++ todo in
+    let less : Walk = record w { left = w.left - length names } in
+    cond_leads IsFree (nat_le (length names) w.left) (walk_on tasks less) (too_many w) (λ _. free_walk tasks less) (λ _. free_many w))
+free_visit w (ReadBucket p) todo a =
+    go_on_leads IsFree (bytes_in a) (unread_bucket w todo) (listed w todo) (refl, refl) (free_bucket w todo) (λ bytes e. free_gives w (items_in bytes) (walk_on todo) (free_walk todo))
+free_visit w (RemoveFile p) todo a =
+    go_on_leads IsFree (done_in a) (miss w (walk_on todo)) (λ _. walk_on todo w) (refl, refl) (λ fault. free_misses w (walk_on todo) fault (free_walk todo)) (λ x e. free_walk todo w)
+free_visit w (RemoveFolder p) todo a =
+    go_on_leads IsFree (done_in a) (miss w (walk_on todo)) (λ _. walk_on todo w) (refl, refl) (λ fault. free_misses w (walk_on todo) fault (free_walk todo)) (λ x e. free_walk todo w)
 
 -- ---- the state behind an answer
 
@@ -93,23 +141,27 @@ abbrev pub IsErrand : State → Type 0
 IsErrand (doing errand s) = Unit {0}
 IsErrand s = ⊥
 
--- Its temporary file is the one that the answer hands out, or there is none; or an errand was done, and it is the one before.
+-- a file is the one that the answer hands out, or there is none; or an errand was done, and it is the one before
+abbrev pub From : {A : Type 0} → Option A → Option A → Option A → State → Type 0
+From new given before old =
+    (new ≡ given) ⊎ ((new ≡ None) ⊎ ((new ≡ before) × (given ≡ None) × IsErrand old))
+
+-- so are the files of the next state
 abbrev pub Follows : State → PlainAnswer → State → Type 0
-Follows old a s =
-    IsState s × ((file_in s ≡ file_given a)
-    ⊎ ((file_in s ≡ None) ⊎ ((file_in s ≡ file_in old) × (file_given a ≡ None) × IsErrand old)))
+Follows old a s = From (file_in s) (file_given a) (file_in old) old × From (open_in s) (open_given a) (open_in old) old
 
 module _ (old : State) (a : PlainAnswer) where
   free_follows : (s : State) → IsFree s → Follows old a s
-  free_follows s h = (h.0, inr (inl h.1))
-
-  done_none : (b : PlainAnswer) (x : Unit {0}) → done_in b ≡ Ok x → file_given b ≡ None
-  done_none answers.Done x e = refl
-  done_none b x e = absurd cc
+  free_follows s h = (inr (inl h.0), inr (inl h.1))
 
   rest_follows : (c : Commit) (file : PlainTemp) (rest : List ℕ) → file_given a ≡ Some file → Follows old a (write_rest c file rest)
-  rest_follows c file [] e = moves_on (λ s. Follows old a (doing (make_folder (content_folder c.cache c.computed)) s)) c file (tt, inl (sym e)) (tt, inl (sym e))
-  rest_follows c file (b ∷ bs) e = (tt, inl (sym e))
+  rest_follows c file [] e =
+      moves_on (λ s. Follows old a (doing (make_folder (content_folder c.cache c.computed)) s)) c file (inl (sym e), inr (inl refl)) (inl (sym e), inr (inl refl))
+  rest_follows c file (b ∷ bs) e = (inl (sym e), inr (inl refl))
+
+done_none : (a : PlainAnswer) (x : Unit {0}) → done_in a ≡ Ok x → (file_given a ≡ None) × (open_given a ≡ None)
+done_none answers.Done x e = (refl, refl)
+done_none a x e = absurd cc
 
 temp_given : (a : PlainAnswer) (file : PlainTemp) → temp_in a ≡ Ok file → file_given a ≡ Some file
 temp_given (answers.Temp f) file e = let same : f ≡ file = cc in ap Some same
@@ -123,80 +175,113 @@ synced_given : (a : PlainAnswer) (file : PlainTemp) → synced_in a ≡ Ok file 
 synced_given (answers.Synced f) file e = let same : f ≡ file = cc in ap Some same
 synced_given a file e = absurd cc
 
-found_free : (l : Lookup) (aim : Aim) (found : Option Found) → IsAim aim → IsFree (found_for l aim found)
-found_free l aims.Report found is = (tt, refl)
-found_free l aims.Read (Some f) is = (tt, refl)
-found_free l aims.Remove (Some f) is = (tt, refl)
-found_free l (aims.Export x) found is = absurd is
-found_free l aim None is = (tt, refl)
+opened_given : (a : PlainAnswer) (file : PlainFile) → file_answered a ≡ Ok file → open_given a ≡ Some file
+opened_given (answers.File f) file e = let same : f ≡ file = cc in ap Some same
+opened_given a file e = absurd cc
 
-unread_free : (l : Lookup) (fault : Fault) → IsAim l.aim → IsFree (no_bucket l fault)
-unread_free l faults.NotFound is = found_free l l.aim None is
-unread_free l fault is = (tt, refl)
+got_given : (a : PlainAnswer) (g : PlainFile × List ℕ) → got_in a ≡ Ok g → open_given a ≡ Some g.0
+got_given (answers.Got f bytes) g e = let pair : ◌≡◌ {A = PlainFile × List ℕ} (f, bytes) g = cc in ap (λ (x : PlainFile × List ℕ). Some x.0) pair
+got_given a g e = absurd cc
 
-errand_follows : (errand : Errand) (s : State) (a : PlainAnswer) → IsState s → Follows (doing errand s) a (after (doing errand s) a)
-errand_follows errand s a h =
-    go_on_leads (Follows (doing errand s) a) (done_in a) fails (λ _. s) (tt, inr (inl refl)) (λ fault. (tt, inr (inl refl)))
-    (λ x e. (h, inr (inr (refl, done_none (doing errand s) a a x e, tt))))
+free_hashed : (h : Hashing) (bytes : List ℕ) (file : PlainFile) → IsFree (after_read h bytes (file, []))
+free_hashed (to_link t) bytes file = (refl, refl)
+free_hashed (to_verify k e) bytes file =
+    cond_leads IsFree (meets k.integrity bytes) (export_content k e (Some (length bytes))) (ends_with (IntegrityError (Check k.integrity (actual k.integrity bytes))))
+    (λ _. free_how e.how (content_path k.cache k.integrity) e.to (Some (length bytes))) (λ _. (refl, refl))
 
-pub follows_after : (s : State) (a : PlainAnswer) → IsState s → Follows s a (after s a)
-follows_after (doing (make_folder p) s) a h = errand_follows (make_folder p) s a h
-follows_after (doing (remove p) s) a h = errand_follows (remove p) s a h
-follows_after (doing (sync_file p) s) a h = errand_follows (sync_file p) s a h
-follows_after (doing (sync_dir p) s) a h = errand_follows (sync_dir p) s a h
-follows_after (creating number c rest) a h =
-    go_on_leads (Follows (creating number c rest) a) (temp_in a) fails (λ file. write_rest c file rest) (tt, inr (inl refl)) (λ fault. (tt, inr (inl refl)))
+read_follows : (old : State) (a : PlainAnswer) (h : Hashing) (bytes : List ℕ) (g : PlainFile × List ℕ) → open_given a ≡ Some g.0 → Follows old a (after_read h bytes g)
+read_follows old a h bytes (file, []) e = free_follows old a (after_read h bytes (file, [])) (free_hashed h bytes file)
+read_follows old a h bytes (file, b ∷ bs) e = (inr (inl refl), inl (sym e))
+
+pub follows_after : (s : State) (a : PlainAnswer) → Follows s a (after s a)
+follows_after (doing errand s) a =
+    go_on_leads (Follows (doing errand s) a) (done_in a) fails (λ _. s) (inr (inl refl), inr (inl refl)) (λ fault. (inr (inl refl), inr (inl refl)))
+    (λ x e. let none = done_none a x e in (inr (inr (refl, none.0, tt)), inr (inr (refl, none.1, tt))))
+follows_after (creating number c rest) a =
+    go_on_leads (Follows (creating number c rest) a) (temp_in a) fails (λ file. write_rest c file rest) (inr (inl refl), inr (inl refl)) (λ fault. (inr (inl refl), inr (inl refl)))
     (λ file e. rest_follows (creating number c rest) a c file rest (temp_given a file e))
-follows_after (writing c file rest) a h =
-    go_on_leads (Follows (writing c file rest) a) (written_in a) fails (after_write c rest) (tt, inr (inl refl)) (λ fault. (tt, inr (inl refl)))
-    (λ w e. cond_leads (Follows (writing c file rest) a) (w.1 == 0) (fails faults.WriteZero) (write_rest c w.0 (drop w.1 rest)) (λ _. (tt, inr (inl refl)))
+follows_after (writing c file rest) a =
+    go_on_leads (Follows (writing c file rest) a) (written_in a) fails (after_write c rest) (inr (inl refl), inr (inl refl)) (λ fault. (inr (inl refl), inr (inl refl)))
+    (λ w e. cond_leads (Follows (writing c file rest) a) (w.1 == 0) (fails faults.WriteZero) (write_rest c w.0 (drop w.1 rest)) (λ _. (inr (inl refl), inr (inl refl)))
     (λ _. rest_follows (writing c file rest) a c w.0 (drop w.1 rest) (written_given a w e)))
-follows_after (syncing c file) a h =
-    go_on_leads (Follows (syncing c file) a) (synced_in a) fails (persisting c) (tt, inr (inl refl)) (λ fault. (tt, inr (inl refl))) (λ new e. (tt, inl (sym (synced_given a new e))))
-follows_after (persisting c file) a h =
-    go_on_leads (Follows (persisting c file) a) (done_in a) (confirming c) (λ _. secured c) (tt, inr (inl refl)) (λ fault. (tt, inr (inl refl)))
-    (λ x e. free_follows (persisting c file) a (secured c) (free_secured c))
-follows_after (confirming c fault) a h =
-    free_follows (confirming c fault) a (after (confirming c fault) a) (go_on_leads IsFree (there_in a) (λ _. fails fault) (after_confirm c fault) (tt, refl) (λ other. (tt, refl))
-    (λ there e. cond_leads IsFree there (secured_found c) (fails fault) (λ _. secures_found IsFree free_syncs c (free_places c)) (λ _. (tt, refl))))
-follows_after (appending i) a h =
-    free_follows (appending i) a (after (appending i) a) (go_on_leads IsFree (taken_in a) fails (after_append i) (tt, refl) (λ fault. (tt, refl))
-    (λ n e. cond_leads IsFree (nat_le (length (bucket_line i)) n) (recorded i) (fails faults.ShortAppend) (λ _. records IsFree free_syncs i (tt, refl)) (λ _. (tt, refl))))
-follows_after (looking l) a h =
-    free_follows (looking l) a (after (looking l) a) (go_on_leads IsFree (bytes_in a) (no_bucket l) (after_bucket l) (tt, refl) (λ fault. unread_free l fault h) (λ bytes e. found_free l l.aim (found_in l.key bytes) h))
-follows_after (reading k) a h =
-    free_follows (reading k) a (after (reading k) a) (go_on_leads IsFree (bytes_in a) fails (checked k) (tt, refl) (λ fault. (tt, refl))
-    (λ bytes e. cond_leads IsFree (meets k.integrity bytes) (over (Read bytes)) (ends_with (IntegrityError (Check k.integrity (actual k.integrity bytes)))) (λ _. (tt, refl)) (λ _. (tt, refl))))
-follows_after (asking k) a h = free_follows (asking k) a (after (asking k) a) (go_on_leads IsFree (there_in a) answer_absent answer_there (tt, refl) (λ fault. (tt, refl)) (λ there e. (tt, refl)))
-follows_after (over reply) a h = (tt, inr (inl refl))
-follows_after s a h = absurd h
+follows_after (syncing c file) a =
+    go_on_leads (Follows (syncing c file) a) (synced_in a) fails (persisting c) (inr (inl refl), inr (inl refl)) (λ fault. (inr (inl refl), inr (inl refl)))
+    (λ new e. (inl (sym (synced_given a new e)), inr (inl refl)))
+follows_after (persisting c file) a =
+    free_follows (persisting c file) a (after (persisting c file) a) (go_on_leads IsFree (done_in a) (confirming c) (λ _. secured c) (refl, refl) (λ fault. (refl, refl)) (λ x e. free_secured c))
+follows_after (linking c target) a =
+    free_follows (linking c target) a (after (linking c target) a) (go_on_leads IsFree (done_in a) (confirming c) (λ _. secured c) (refl, refl) (λ fault. (refl, refl)) (λ x e. free_secured c))
+follows_after (confirming c fault) a =
+    free_follows (confirming c fault) a (after (confirming c fault) a) (go_on_leads IsFree (there_in a) (λ _. fails fault) (after_confirm c fault) (refl, refl) (λ other. (refl, refl))
+    (λ there e. cond_leads IsFree there (secured_found c) (fails fault) (λ _. secures_found IsFree free_syncs c (free_places c)) (λ _. (refl, refl))))
+follows_after (appending i) a =
+    free_follows (appending i) a (after (appending i) a) (go_on_leads IsFree (taken_in a) fails (after_append i) (refl, refl) (λ fault. (refl, refl))
+    (λ n e. cond_leads IsFree (nat_le (length (bucket_line i)) n) (recorded i) (fails faults.ShortAppend) (λ _. records IsFree free_syncs i (refl, refl)) (λ _. (refl, refl))))
+follows_after (looking l) a =
+    free_follows (looking l) a (after (looking l) a) (go_on_leads IsFree (bytes_in a) (no_bucket l) (after_bucket l) (refl, refl) (free_unread l) (λ bytes e. free_found l l.aim (found_in l.key bytes)))
+follows_after (reading k) a =
+    free_follows (reading k) a (after (reading k) a) (go_on_leads IsFree (bytes_in a) fails (checked k) (refl, refl) (λ fault. (refl, refl))
+    (λ bytes e. cond_leads IsFree (meets k.integrity bytes) (over (Read bytes)) (ends_with (IntegrityError (Check k.integrity (actual k.integrity bytes)))) (λ _. (refl, refl)) (λ _. (refl, refl))))
+follows_after (asking k) a = free_follows (asking k) a (after (asking k) a) (go_on_leads IsFree (there_in a) answer_absent answer_there (refl, refl) (λ fault. (refl, refl)) (λ there e. (refl, refl)))
+follows_after (sizing t) a = free_follows (sizing t) a (after (sizing t) a) (go_on_leads IsFree (length_in a) fails (after_size t) (refl, refl) (λ fault. (refl, refl)) (λ n e. (refl, refl)))
+follows_after (opening_file h) a =
+    go_on_leads (Follows (opening_file h) a) (file_answered a) fails (λ file. hashing h file []) (inr (inl refl), inr (inl refl)) (λ fault. (inr (inl refl), inr (inl refl)))
+    (λ file e. (inr (inl refl), inl (sym (opened_given a file e))))
+follows_after (hashing h file bytes) a =
+    go_on_leads (Follows (hashing h file bytes) a) (got_in a) fails (after_read h bytes) (inr (inl refl), inr (inl refl)) (λ fault. (inr (inl refl), inr (inl refl)))
+    (λ g e. read_follows (hashing h file bytes) a h bytes g (got_given a g e))
+follows_after (copying from to count) a =
+    free_follows (copying from to count) a (after (copying from to count) a) (go_on_leads IsFree (taken_in a) fails (λ n. over (Copied (copied_count count n))) (refl, refl) (λ fault. (refl, refl)) (λ n e. (refl, refl)))
+follows_after (walking w v todo) a = free_follows (walking w v todo) a (after_visit w v todo a) (free_visit w v todo a)
+follows_after (over reply) a = (inr (inl refl), inr (inl refl))
 
 -- ---- the step of a state
 
--- a step's temporary file is the state's
-pub wants_file : (s : State) (step : PlainStep) (f : PlainTemp) → IsState s → wants s ≡ Some step → file_of step ≡ Some f → file_in s ≡ Some f
-wants_file (doing (make_folder p) s) step f h w = some_is (λ x. file_of x ≡ Some f → file_in (doing (make_folder p) s) ≡ Some f) (steps.MakeDirs p) step w (λ e. absurd cc)
-wants_file (doing (remove p) s) step f h w = some_is (λ x. file_of x ≡ Some f → file_in (doing (remove p) s) ≡ Some f) (steps.RemoveFile p) step w (λ e. absurd cc)
-wants_file (doing (sync_file p) s) step f h w = some_is (λ x. file_of x ≡ Some f → file_in (doing (sync_file p) s) ≡ Some f) (steps.SyncFile p) step w (λ e. absurd cc)
-wants_file (doing (sync_dir p) s) step f h w = some_is (λ x. file_of x ≡ Some f → file_in (doing (sync_dir p) s) ≡ Some f) (steps.SyncDir p) step w (λ e. absurd cc)
-wants_file (creating number c rest) step f h w = some_is (λ x. file_of x ≡ Some f → file_in (creating number c rest) ≡ Some f) (steps.CreateTemp (temp_path c.cache number)) step w (λ e. absurd cc)
-wants_file (writing c file rest) step f h w = some_is (λ x. file_of x ≡ Some f → file_in (writing c file rest) ≡ Some f) (steps.Write file rest) step w (λ e. e)
-wants_file (syncing c file) step f h w = some_is (λ x. file_of x ≡ Some f → file_in (syncing c file) ≡ Some f) (steps.SyncTemp file) step w (λ e. e)
-wants_file (persisting c file) step f h w = some_is (λ x. file_of x ≡ Some f → file_in (persisting c file) ≡ Some f) (steps.Persist file (content_path c.cache c.computed)) step w (λ e. e)
-wants_file (confirming c fault) step f h w = some_is (λ x. file_of x ≡ Some f → file_in (confirming c fault) ≡ Some f) (steps.Exists (content_path c.cache c.computed)) step w (λ e. absurd cc)
-wants_file (appending i) step f h w = some_is (λ x. file_of x ≡ Some f → file_in (appending i) ≡ Some f) (steps.Append (bucket_path i.cache i.entry.key) (bucket_line i)) step w (λ e. absurd cc)
-wants_file (looking l) step f h w = some_is (λ x. file_of x ≡ Some f → file_in (looking l) ≡ Some f) (steps.ReadAll (bucket_path l.cache l.key)) step w (λ e. absurd cc)
-wants_file (reading k) step f h w = some_is (λ x. file_of x ≡ Some f → file_in (reading k) ≡ Some f) (steps.ReadAll (content_path k.cache k.integrity)) step w (λ e. absurd cc)
-wants_file (asking k) step f h w = some_is (λ x. file_of x ≡ Some f → file_in (asking k) ≡ Some f) (steps.Exists (content_path k.cache k.integrity)) step w (λ e. absurd cc)
-wants_file (over reply) step f h w = λ e. let no : None ≡ Some step = w in absurd cc
-wants_file s step f h w = absurd h
+-- a step's file is the state's, if it has one
+abbrev Keeps : {A : Type 0} → Option A → Option A → Type 0
+Keeps {A} mine own = (file : A) → mine ≡ Some file → own ≡ Some file
 
--- an errand moves no temporary file
-pub errand_steps : (s : State) (step : PlainStep) (P : PlainStep → Type 0) → IsState s → IsErrand s → wants s ≡ Some step → ((p : List ℕ) → P (steps.MakeDirs p) × (P (steps.SyncFile p) × P (steps.SyncDir p)))
-    → ((p : List ℕ) → wants s ≡ Some (steps.RemoveFile p) → P (steps.RemoveFile p)) → P step
-errand_steps (doing (make_folder p) s) step P h e w all removes = some_is P (steps.MakeDirs p) step w (all p).0
-errand_steps (doing (remove p) s) step P h e w all removes = some_is P (steps.RemoveFile p) step w (removes p refl)
-errand_steps (doing (sync_file p) s) step P h e w all removes = some_is P (steps.SyncFile p) step w (all p).1.0
-errand_steps (doing (sync_dir p) s) step P h e w all removes = some_is P (steps.SyncDir p) step w (all p).1.1
-errand_steps (doing errand s) step P h e w all removes = absurd h
-errand_steps s step P h e w all removes = absurd e
+abbrev Has : State → PlainStep → Type 0
+Has s step = Keeps (file_of step) (file_in s) × Keeps (open_of step) (open_in s)
+
+has_none : (s : State) (step : PlainStep) → file_of step ≡ None → open_of step ≡ None → Has s step
+has_none s step none no_open = (λ file e. let no : None ≡ Some file = sym none ∙ e in absurd cc, λ file e. let no : None ≡ Some file = sym no_open ∙ e in absurd cc)
+
+errand_has : (s : State) (errand : Errand) → Has s (errand_step errand)
+errand_has s (make_folder p) = has_none s (steps.MakeDirs p) refl refl
+errand_has s errand = has_none s (errand_step errand) refl refl
+
+visit_has : (s : State) (v : Visit) → Has s (visit_step v)
+visit_has s (Enter p level) = has_none s (steps.ReadDir p) refl refl
+visit_has s v = has_none s (visit_step v) refl refl
+
+abbrev wanted_file : Option PlainStep → Option PlainTemp
+wanted_file None = None
+wanted_file (Some step) = file_of step
+
+abbrev wanted_open : Option PlainStep → Option PlainFile
+wanted_open None = None
+wanted_open (Some step) = open_of step
+
+state_has : (s : State) (step : PlainStep) → wants s ≡ Some step → Has s step
+state_has (doing errand s) step w = some_is (Has (doing errand s)) (errand_step errand) step w (errand_has (doing errand s) errand)
+state_has (writing c file rest) step w = some_is (Has (writing c file rest)) (steps.Write file rest) step w (λ f e. e, λ f e. absurd cc)
+state_has (syncing c file) step w = some_is (Has (syncing c file)) (steps.SyncTemp file) step w (λ f e. e, λ f e. absurd cc)
+state_has (persisting c file) step w = some_is (Has (persisting c file)) _ step w (λ f e. e, λ f e. absurd cc)
+state_has (hashing h file bytes) step w = some_is (Has (hashing h file bytes)) _ step w (λ f e. absurd cc, λ f e. e)
+state_has (walking v visit todo) step w = some_is (Has (walking v visit todo)) (visit_step visit) step w (visit_has (walking v visit todo) visit)
+state_has (over reply) step w = let no : None ≡ Some step = w in absurd cc
+state_has s step w = has_none s step (sym (ap wanted_file w)) (sym (ap wanted_open w))
+
+-- a step's temporary file is the state's
+pub wants_file : (s : State) (step : PlainStep) (f : PlainTemp) → wants s ≡ Some step → file_of step ≡ Some f → file_in s ≡ Some f
+wants_file s step f w e = (state_has s step w).0 f e
+
+-- so is its open file
+pub wants_open : (s : State) (step : PlainStep) (f : PlainFile) → wants s ≡ Some step → open_of step ≡ Some f → open_in s ≡ Some f
+wants_open s step f w e = (state_has s step w).1 f e
+
+-- what holds of the errands that a state wants holds of its step
+pub errand_steps : (s : State) (step : PlainStep) (P : PlainStep → Type 0) → IsErrand s → wants s ≡ Some step → ((errand : Errand) → wants s ≡ Some (errand_step errand) → P (errand_step errand)) → P step
+errand_steps (doing errand s) step P e w all = some_is P (errand_step errand) step w (all errand refl)
+errand_steps s step P e w all = absurd e

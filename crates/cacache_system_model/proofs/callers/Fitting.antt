@@ -1,10 +1,12 @@
 -- The disk's answers fit their steps.
-use Rattle.std.{proofs.Common.{◌≡◌, ◌≤◌, ℕ, List, Option, None, Some, length, refl, sym, subst, arith}, specs.Prelude.{Result, Ok, Err}}
+use Rattle.std.proofs.{Common.{◌≡◌, ◌≤◌, ◌==◌, ℕ, Bool, true, false, cond, List, Option, None, Some, length, take, min, length-take, refl, sym, subst, arith}, lemmas.Bool.{eqb-true}}
+use Rattle.std.specs.Prelude.{Result, Ok, Err}
 use Rattle.cacache_core.specs.{declared.errors.Fault.{Fault}, PathNames.{Names}}
 use Rattle.cacache_core.specs.declared.errors.Fault.TheVariants as fault
-use Rattle.cacache_store.specs.{declared.store.plain.PlainTemp.{PlainTemp}, Plain.{PlainStep, PlainAnswer}, Fits.{Fits}}
+use Rattle.cacache_store.specs.{declared.store.plain.{PlainFile.{PlainFile}, PlainTemp.{PlainTemp}}, Plain.{PlainStep, PlainAnswer}, Fits.{Fits}}
 use Rattle.cacache_store.specs.declared.store.step.Step.TheVariants as steps
-use Rattle.cacache_disk.specs.{declared.luck.Luck.{Luck}, Tree.{Tree}, LedTo.{free, known, kept, replaceable, writable, file_at, found, linked, folder, removable, emptied, dirs}, Apply.{apply, plain, unless, taken, grown, is_there}}
+use Rattle.cacache_store.specs.declared.store.answer.Answer.TheVariants as answers
+use Rattle.cacache_disk.specs.{declared.luck.Luck.{Luck}, Tree.{Tree}, LedTo.{free, known, kept, replaceable, writable, file_at, found, linked, folder, removable, emptied, dirs}, Apply.{apply, plain, unless, taken, readable, grown, rest_of, given, is_there}}
 use Rattle.cacache_value.proofs.Shows.{apply_answer}
 use Rattle.cacache_system_model.specs.callers.Acts.{NeedsFit}
 
@@ -24,6 +26,22 @@ there_fits : (p : List ℕ) (r : Result Names Fault) → Fits (steps.Exists p) (
 there_fits p (Ok names) = tt
 there_fits p (Err why) = elim why as (λ f. Fits (steps.Exists p) (is_there (Err f))) [ fault.NotFound ↦ tt | fault.NotADirectory ↦ tt | _ ↦ tt ]
 
+-- bytes of an open file, no more than are asked for
+given_fits : (f : PlainFile) (most size : ℕ) (o : Option (List ℕ)) → size ≤ most → Fits (steps.Read f most) (given f size o)
+given_fits f most size None below = tt
+given_fits f most size (Some bytes) below = by (f.left == length bytes) refl
+  where
+    by : (b : Bool) → (f.left == length bytes) ≡ b → Fits (steps.Read f most) (cond b (answers.Got (rest_of bytes size) (take size bytes)) (answers.Failed fault.Closed))
+    by true same =
+        let all : f.left ≡ length bytes = eqb-true f.left (length bytes) same in
+        let some : length (take size bytes) ≡ min size (length bytes) = length-take size bytes in
+        (omega (arith, some, below), omega (arith, some, all))
+    by false same = tt
+
+read_below : (most : Option ℕ) (size : ℕ) → readable most size ≤ size
+read_below None size = omega arith
+read_below (Some m) size = omega arith
+
 plain_fits : (t : Tree) (step : PlainStep) (luck : Luck) → ((most : Option ℕ) → Fits step (plain t step most).0) → Fits step (apply t step luck).0
 plain_fits t step luck h = apply_answer (Fits step) (λ why. tt) t step luck h
 
@@ -37,6 +55,7 @@ apply_fits t (steps.Persist f p) luck n =
     unless_fits (steps.Persist f p) t (kept t f.path) _ (λ y. unless_fits (steps.Persist f p) t (replaceable t p) _ (λ z. tt))))
 apply_fits t (steps.Append p bytes) luck n = plain_fits t (steps.Append p bytes) luck (λ most. unless_fits (steps.Append p bytes) t (writable t p) _ (λ x. taken_below most bytes))
 apply_fits t (steps.ReadAll p) luck n = plain_fits t (steps.ReadAll p) luck (λ most. unless_fits (steps.ReadAll p) t (file_at t p fault.IsADirectory) _ (λ x. tt))
+apply_fits t (steps.Read f size) luck n = plain_fits t (steps.Read f size) luck (λ most. given_fits f size (readable most size) f.bytes (read_below most size))
 apply_fits t (steps.Exists p) luck n = plain_fits t (steps.Exists p) luck (λ most. there_fits p (found t p))
 apply_fits t (steps.Size p) luck n = plain_fits t (steps.Size p) luck (λ most. unless_fits (steps.Size p) t (file_at t p fault.IsADirectory) _ (λ x. tt))
 apply_fits t (steps.Symlink target p) luck n = plain_fits t (steps.Symlink target p) luck (λ most. unless_fits (steps.Symlink target p) t (free t p) _ (λ x. tt))

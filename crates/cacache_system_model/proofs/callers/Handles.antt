@@ -1,16 +1,16 @@
 -- A caller's temporary file is open, and holds on the machine what the call's state says.
 use Rattle.std.{proofs.Common.{◌≡◌, ◌&&◌, not, ℕ, Bool, true, false, List, [], Option, None, Some, Ok, option_map, refl, sym, ap, subst, ◌∙◌}, specs.Prelude.{Result, Err}}
 use Rattle.cacache_core.specs.{Contexts.{fault_of}, declared.errors.Fault.{Fault}, PathNames.{Names, names_of}}
-use Rattle.cacache_store.specs.{declared.store.plain.PlainTemp.{PlainTemp}, Plain.{PlainStep}, Fits.{Fits}}
+use Rattle.cacache_store.specs.{declared.store.plain.{PlainFile.{PlainFile}, PlainTemp.{PlainTemp}}, Plain.{PlainStep}, Fits.{Fits}}
 use Rattle.cacache_store.specs.declared.store.step.Step.TheVariants as steps
 use Rattle.cacache_store.specs.declared.store.answer.Answer.TheVariants as answers
 use Rattle.cacache_disk.specs.{declared.{luck.Luck.{Luck}, node.Node.{Node, TheVariants.{File}}}, Tree.{Tree, look, put, bytes_of}, LedTo.{free}, Apply.{apply, unless, made_temp}, Rooted.{Rooted}}
 use Rattle.cacache_disk.proofs.FoundNodes.{free_ok}
 use Rattle.cacache_value.proofs.Shows.{apply_answer}
-use Rattle.cacache_system.specs.{declared.call.CallResult.{CallResult}, Seen.{NumberedTemp, NumberedStep, NumberedAnswer}, AnswersOf.{answer_of, refuses_memory}}
+use Rattle.cacache_system.specs.{declared.call.CallResult.{CallResult}, Seen.{NumberedFile, NumberedTemp, NumberedStep, NumberedAnswer}, AnswersOf.{Hint, answer_of, refuses_memory}}
 use Rattle.cacache_system.specs.declared.call.CallResult.TheVariants as says
-use Rattle.cacache_system_model.specs.{Machine.{OpenFile, Machine}, Laws.{bytes_in, temp_on, step_on, answer_on}, Mirrors.{Mirrors, temps_after}, callers.{Storing.{Stores, IsHeld, HoldsTemp}, Opened.{IsOpenAt, KeepsOpen, StillStores}, Seen.{step_seen, handed, IsOnHeld}}}
-use Rattle.cacache_system_model.proofs.callers.{WithoutBytes.{step_without}, TreeKept.{IsStoring}, Failing.{answer_if}, Covering.{still_there}, Files.{file_of, file_given}, PathsOf.{StepApart}, OpenTemps.{with_new_here}, OpenCalls.{names_at}}
+use Rattle.cacache_system_model.specs.{Machine.{OpenFile, Machine}, Laws.{bytes_in, temp_on, file_on, step_on, answer_on}, Mirrors.{Mirrors, temps_after}, callers.{Storing.{Stores, IsHeld, HoldsTemp, HintStands}, Opened.{IsOpenAt, KeepsOpen, StillStores}, Seen.{step_seen, handed, handed_open, IsOnHeld}}}
+use Rattle.cacache_system_model.proofs.callers.{WithoutBytes.{step_without}, Failing.{answer_if}, Covering.{still_there}, Files.{file_of, open_of, file_given, open_given}, OpenTemps.{with_new_here}, OpenCalls.{names_at}}
 use Rattle.cacache_folder.proofs.Answering.{temp_of}
 
 -- ---- handles
@@ -53,62 +53,56 @@ same_temp o a b e f = let is : Some a ≡ Some b = sym e ∙ f in cc
 
 -- ---- the next step, with its handle
 
-module _ (temps : Names → Bool) (m : Machine) (o : Option NumberedTemp) where
+-- a caller was handed an open file that held this then
+abbrev pub IsHanded : Option (NumberedFile × PlainFile) → PlainFile → Type 0
+IsHanded opened file = (f : NumberedFile) × (opened ≡ Some (f, file))
+
+module _ (temps : Names → Bool) (m : Machine) (o : Option NumberedTemp) (opened : Option (NumberedFile × PlainFile)) where
+  on_open : (f : PlainFile) (g : NumberedFile) → IsHanded opened f → opened ≡ Some (g, file_on m g) → f ≡ file_on m g
+  on_open f g (own, is) held = let same : Some f ≡ Some (file_on m g) = ap (option_map (λ (x : NumberedFile × PlainFile). x.1)) (sym is ∙ held) in cc
+
   on_handle : (f : PlainTemp) (t : NumberedTemp) → Handle temps m o f → o ≡ Some t → f ≡ temp_on m t
   on_handle f t g is = sym g.same ∙ ap (temp_on m) (same_temp o g.temp t g.is is)
 
   is_held : (f : PlainTemp) (t : NumberedTemp) → Handle temps m o f → o ≡ Some t → IsHeld temps m t
   is_held f t g is = subst (IsHeld temps m) (same_temp o g.temp t g.is is) g.held
 
-  -- a wanted step that is the store's, but for the bytes that handles hold, is the store's with its handles as they are here
-  pub next_on : (plain : PlainStep) (step : NumberedStep) → step_without plain ≡ step_seen step → IsStoring plain → IsOnHeld o step → ((f : PlainTemp) → file_of plain ≡ Some f → Handle temps m o f)
-      → plain ≡ step_on m step
-  next_on (steps.MakeDirs p) (steps.MakeDirs q) e is held h = e
-  next_on (steps.CreateTemp p) (steps.CreateTemp q) e is held h = e
-  next_on (steps.Write f bytes) (steps.Write t more) e is held h =
+  -- a wanted step that is the store's, but for what handles hold, is the store's with its handles as they are here
+  pub next_on : (plain : PlainStep) (step : NumberedStep) → step_without plain ≡ step_without (step_seen step) → IsOnHeld m o opened step
+      → ((f : PlainTemp) → file_of plain ≡ Some f → Handle temps m o f) → ((f : PlainFile) → open_of plain ≡ Some f → IsHanded opened f) → plain ≡ step_on m step
+  next_on (steps.MakeDirs p) (steps.MakeDirs q) e held h k = e
+  next_on (steps.CreateTemp p) (steps.CreateTemp q) e held h k = e
+  next_on (steps.Write f bytes) (steps.Write t more) e held h k =
       let same : bytes ≡ more = cc in
       ap (λ (x : PlainTemp). steps.Write x bytes) (on_handle f t (h f refl) held) ∙ ap (λ (x : List ℕ). steps.Write (temp_on m t) x) same
-  next_on (steps.Persist f p) (steps.Persist t q) e is held h =
+  next_on (steps.Persist f p) (steps.Persist t q) e held h k =
       let same : p ≡ q = cc in
       ap (λ (x : PlainTemp). steps.Persist x p) (on_handle f t (h f refl) held) ∙ ap (λ (x : List ℕ). steps.Persist (temp_on m t) x) same
-  next_on (steps.Append p bytes) (steps.Append q more) e is held h = e
-  next_on (steps.ReadAll p) (steps.ReadAll q) e is held h = e
-  next_on (steps.Exists p) (steps.Exists q) e is held h = e
-  next_on (steps.RemoveFile p) (steps.RemoveFile q) e is held h = e
-  next_on (steps.SyncTemp f) (steps.SyncTemp t) e is held h = ap (λ (x : PlainTemp). steps.SyncTemp x) (on_handle f t (h f refl) held)
-  next_on (steps.SyncFile p) (steps.SyncFile q) e is held h = e
-  next_on (steps.SyncDir p) (steps.SyncDir q) e is held h = e
-  next_on (steps.Open p) step e is held h = absurd is
-  next_on (steps.Read f size) step e is held h = absurd is
-  next_on (steps.Size p) step e is held h = absurd is
-  next_on (steps.Symlink target p) step e is held h = absurd is
-  next_on (steps.Copy p q) step e is held h = absurd is
-  next_on (steps.Reflink p q) step e is held h = absurd is
-  next_on (steps.HardLink p q) step e is held h = absurd is
-  next_on (steps.ReadDir p) step e is held h = absurd is
-  next_on (steps.RemoveDir p) step e is held h = absurd is
-  next_on plain step e is held h = absurd cc
+  next_on (steps.Append p bytes) (steps.Append q more) e held h k = e
+  next_on (steps.ReadAll p) (steps.ReadAll q) e held h k = e
+  next_on (steps.Open p) (steps.Open q) e held h k = e
+  next_on (steps.Read f size) (steps.Read g most) e held h k =
+      let same : size ≡ most = cc in
+      ap (λ (x : PlainFile). steps.Read x size) (on_open f g (k f refl) held) ∙ ap (λ (x : ℕ). steps.Read (file_on m g) x) same
+  next_on (steps.Exists p) (steps.Exists q) e held h k = e
+  next_on (steps.Size p) (steps.Size q) e held h k = e
+  next_on (steps.Symlink target p) (steps.Symlink other q) e held h k = e
+  next_on (steps.Copy p q) (steps.Copy from to) e held h k = e
+  next_on (steps.Reflink p q) (steps.Reflink from to) e held h k = e
+  next_on (steps.HardLink p q) (steps.HardLink from to) e held h k = e
+  next_on (steps.ReadDir p) (steps.ReadDir q) e held h k = e
+  next_on (steps.RemoveFile p) (steps.RemoveFile q) e held h k = e
+  next_on (steps.RemoveDir p) (steps.RemoveDir q) e held h k = e
+  next_on (steps.SyncTemp f) (steps.SyncTemp t) e held h k = ap (λ (x : PlainTemp). steps.SyncTemp x) (on_handle f t (h f refl) held)
+  next_on (steps.SyncFile p) (steps.SyncFile q) e held h k = e
+  next_on (steps.SyncDir p) (steps.SyncDir q) e held h k = e
+  next_on plain step e held h k = absurd cc
 
-  pub holds_on : (step : NumberedStep) → IsOnHeld o step → ((f : PlainTemp) → file_of (step_on m step) ≡ Some f → Handle temps m o f) → HoldsTemp temps m step
+  pub holds_on : (step : NumberedStep) → IsOnHeld m o opened step → ((f : PlainTemp) → file_of (step_on m step) ≡ Some f → Handle temps m o f) → HoldsTemp temps m step
   holds_on (steps.Write t bytes) held h = is_held (temp_on m t) t (h (temp_on m t) refl) held
   holds_on (steps.Persist t p) held h = is_held (temp_on m t) t (h (temp_on m t) refl) held
   holds_on (steps.SyncTemp t) held h = is_held (temp_on m t) t (h (temp_on m t) refl) held
   holds_on step held h = tt
-
--- it is of one of the kinds that storing, looking and removing calls make
-pub stores_on : (h : Option Names) (m : Machine) (step : NumberedStep) → IsStoring (step_on m step) → StepApart h (step_on m step) → Stores h step
-stores_on h m (steps.MakeDirs p) is apart = tt
-stores_on h m (steps.CreateTemp p) is apart = tt
-stores_on h m (steps.Write t more) is apart = tt
-stores_on h m (steps.Persist t p) is apart = tt
-stores_on h m (steps.Append p bytes) is apart = tt
-stores_on h m (steps.ReadAll p) is apart = apart
-stores_on h m (steps.Exists p) is apart = tt
-stores_on h m (steps.RemoveFile p) is apart = apart
-stores_on h m (steps.SyncTemp t) is apart = tt
-stores_on h m (steps.SyncFile p) is apart = apart
-stores_on h m (steps.SyncDir p) is apart = apart
-stores_on h m step is apart = absurd is
 
 -- ---- the handle that an answer hands out
 
@@ -174,6 +168,17 @@ handed_none n (answers.Wrote u k) o e = let no : Some (temp_on n u) ≡ None = e
 handed_none n (answers.Synced u) o e = let no : Some (temp_on n u) ≡ None = e in absurd cc
 handed_none n answer o e = refl
 
+-- the open file that an answer hands out
+pub handed_file : (n : Machine) (answer : NumberedAnswer) (old : Option (NumberedFile × PlainFile)) (file : PlainFile) → open_given (answer_on n answer) ≡ Some file → IsHanded (handed_open n answer old) file
+handed_file n (answers.File f) old file e = let same : file_on n f ≡ file = cc in (f, ap (λ (x : PlainFile). Some (f, x)) same)
+handed_file n (answers.Got f bytes) old file e = let same : file_on n f ≡ file = cc in (f, ap (λ (x : PlainFile). Some (f, x)) same)
+handed_file n answer old file e = let no : None ≡ Some file = e in absurd cc
+
+pub handed_no_file : (n : Machine) (answer : NumberedAnswer) (old : Option (NumberedFile × PlainFile)) → open_given (answer_on n answer) ≡ None → handed_open n answer old ≡ old
+handed_no_file n (answers.File f) old e = let no : Some (file_on n f) ≡ None = e in absurd cc
+handed_no_file n (answers.Got f bytes) old e = let no : Some (file_on n f) ≡ None = e in absurd cc
+handed_no_file n answer old e = refl
+
 never_temp : (step : NumberedStep) (fault : Fault) (b : Bool) (u : NumberedTemp) → answer_if step fault b ≡ answers.Temp u → ⊥
 never_temp step fault true u e = cc
 never_temp step fault false u e = cc
@@ -184,17 +189,12 @@ temp_answer p u (says.Opened k) e =
 temp_answer p u (says.Failed why) e = absurd (never_temp (steps.CreateTemp p) (fault_of why) (refuses_memory why && not true) u e)
 temp_answer p u end e = absurd cc
 
--- a step's temporary file still stands
-pub still_stores : (h : Option Names) (temps : Names → Bool) (m : Machine) (d : Tree) → Mirrors temps m.tree d → Rooted m.tree → (step : NumberedStep) → Stores h step → HoldsTemp temps m step → StillStores m step
-still_stores h temps m d mirrors rooted (steps.MakeDirs p) stores holds = tt
-still_stores h temps m d mirrors rooted (steps.CreateTemp p) stores holds = tt
-still_stores h temps m d mirrors rooted (steps.Write t bytes) stores holds = still_there temps m d t mirrors rooted holds
-still_stores h temps m d mirrors rooted (steps.Persist t p) stores holds = still_there temps m d t mirrors rooted holds
-still_stores h temps m d mirrors rooted (steps.Append p bytes) stores holds = tt
-still_stores h temps m d mirrors rooted (steps.ReadAll p) stores holds = tt
-still_stores h temps m d mirrors rooted (steps.Exists p) stores holds = tt
-still_stores h temps m d mirrors rooted (steps.RemoveFile p) stores holds = tt
-still_stores h temps m d mirrors rooted (steps.SyncTemp t) stores holds = still_there temps m d t mirrors rooted holds
-still_stores h temps m d mirrors rooted (steps.SyncFile p) stores holds = tt
-still_stores h temps m d mirrors rooted (steps.SyncDir p) stores holds = tt
-still_stores h temps m d mirrors rooted step stores holds = absurd stores
+-- a step's file still stands
+pub still_stores : (h : Option Names) (temps : Names → Bool) (m : Machine) (d : Tree) → Mirrors temps m.tree d → Rooted m.tree → (hint : Hint) (step : NumberedStep) → Stores h (step_on m step) → HoldsTemp temps m step
+    → HintStands m hint step → StillStores m step
+still_stores h temps m d mirrors rooted hint (steps.Write t bytes) stores holds stands = still_there temps m d t mirrors rooted holds
+still_stores h temps m d mirrors rooted hint (steps.Persist t p) stores holds stands = still_there temps m d t mirrors rooted holds
+still_stores h temps m d mirrors rooted hint (steps.Read f size) stores holds stands = stands
+still_stores h temps m d mirrors rooted hint (steps.ReadDir p) stores holds stands = absurd stores
+still_stores h temps m d mirrors rooted hint (steps.SyncTemp t) stores holds stands = still_there temps m d t mirrors rooted holds
+still_stores h temps m d mirrors rooted hint step stores holds stands = tt

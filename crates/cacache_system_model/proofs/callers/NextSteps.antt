@@ -2,19 +2,19 @@
 use Rattle.std.proofs.{Common.{◌≡◌, ◌⊎◌, inl, inr, ◌≤◌, ◌<◌, ◌^◌, ◌==◌, ℕ, Bool, true, false, cond, List, Option, None, Some, Ok, option_map, refl, sym, ap, subst, ◌∙◌, arith}, lemmas.Bool.{eqb-true, eqb-false}}
 use Rattle.std.specs.Prelude.{Err}
 use Rattle.cacache_core.specs.PathNames.{Names, names_of}
-use Rattle.cacache_store.specs.{declared.store.plain.PlainTemp.{PlainTemp}, Plain.{PlainStep, PlainAnswer}, Fits.{Fits}}
+use Rattle.cacache_store.specs.{declared.store.plain.{PlainFile.{PlainFile}, PlainTemp.{PlainTemp}}, Plain.{PlainStep, PlainAnswer}, Fits.{Fits}}
 use Rattle.cacache_store.specs.declared.store.step.Step.TheVariants as steps
 use Rattle.cacache_store.specs.declared.store.answer.Answer.TheVariants as answers
 use Rattle.cacache_disk.specs.{declared.luck.Luck.{Luck}, Apply.{apply}}
 use Rattle.cacache_value.specs.{Kinds.{Temporary, path_kind}, OpeningTrees.{LieApart}, Placed.{Placed, Proper}}
-use Rattle.cacache_calls.specs.{declared.{reply.Reply.{Reply}, carried.Lookup.{Lookup}}, Answers.{bytes_in as bytes_answered}, Looking.{found_in}, State.{State, doing, writing, syncing, persisting, looking, Site}, StepPaths.{temp_path, bucket_path}, Sound.{IsTemp, Allowed, Sound}, Table.{wants, after}}
+use Rattle.cacache_calls.specs.{declared.{reply.Reply.{Reply}, carried.Lookup.{Lookup}}, Answers.{bytes_in as bytes_answered}, Looking.{found_in}, Common.{errand_step}, State.{State, doing, writing, syncing, persisting, looking, Site, Errand, remove}, StepPaths.{temp_path, bucket_path}, Sound.{IsTemp, Allowed, Sound}, Table.{wants, after}}
 use Rattle.cacache_calls.proofs.Sound.{steps_allowed}
 use Rattle.cacache_calls.specs.declared.answers.Refusal.TheVariants as refusals
 use Rattle.cacache_history.specs.{declared.record.Record.{Record, TheVariants.{Moved}}, Setup.{Setup, call_site, home, may_export, is_outside}, History.{Call, Now, now_after, MayMove, MayCome}}
 use Rattle.cacache_history.proofs.{Histories.Holding.{CallHolds, of_caller}, Entries.Spelled.{HasIntegrity}, Proper.{sound_proper}, durable.CallNumbers.{Numbered, next_numbered, number_below, numbers_apart, temps_apart}}
-use Rattle.cacache_system.specs.{declared.call.CallResult.{CallResult}, Seen.{NumberedTemp, NumberedStep, NumberedAnswer}, CallsOf.{Runs}, AnswersOf.{first, answer_of}}
-use Rattle.cacache_system_model.specs.{Machine.{Machine}, Laws.{answer_on}, Mirrors.{Mirrors}, Chains.{StepMade, temps_left}, callers.{Acts.{IsRecordOf, steps as makes, SystemState, step_of, answer_in, set_state, unless_ended}, Storing.{Stores, HoldsTemp, MakesStoringStep}, Opened.{IsOpenAt, KeepsOpen}, Seen.{handed, held_after}}}
-use Rattle.cacache_system_model.proofs.{Mirroring.{shapes}, callers.{NextActs.{NumberedState, numbered_after, MakesNextStep}, WithoutBytes.{is_storing}, Failing.{failed_none, failed_bytes}, OtherTemps.{explained, placed_same, asked_stays, storing_on}, Covering.{rooted_same, has_asked}, Following.{Agree, has_call, Follows}, Files.{file_in, file_of, file_given, IsState, IsErrand, Follows as StateFollows, follows_after, wants_file, errand_steps}, StayingOpen.{runs_keep_open, made_open}, PathsOf.{HasPaths, StepApart, wants_apart, paths_after, bucket_has}, TreeKept.{Misses, is_elsewhere}, Handles.{Handle, next_on, holds_on, stores_on, handle_kept, wrote_same, synced_same, handed_handle, handed_none, temp_answer, still_stores}, OpenTemps.{temps_spare}}}
+use Rattle.cacache_system.specs.{declared.call.CallResult.{CallResult}, Seen.{NumberedFile, NumberedTemp, NumberedStep, NumberedAnswer}, CallsOf.{Runs}, AnswersOf.{first, answer_of}}
+use Rattle.cacache_system_model.specs.{Machine.{Machine}, Laws.{step_on, answer_on}, Mirrors.{Mirrors}, Chains.{StepMade, temps_left}, callers.{Acts.{IsRecordOf, steps as makes, SystemState, step_of, answer_in, set_state, unless_ended}, Storing.{Stores, HoldsTemp, MakesStoringStep}, Opened.{IsOpenAt, KeepsOpen}, Seen.{handed, handed_open, held_after, open_after, KeepsFolders}}}
+use Rattle.cacache_system_model.proofs.{Mirroring.{shapes}, callers.{NextActs.{NumberedState, numbered_after, MakesNextStep}, Failing.{failed_none, failed_bytes}, OtherTemps.{explained, placed_same, asked_stays}, Covering.{rooted_same, has_asked}, Following.{Agree, has_call, Follows}, Files.{file_in, open_in, file_of, open_of, file_given, open_given, IsErrand, From, Follows as StateFollows, follows_after, wants_file, wants_open, errand_steps}, StayingOpen.{runs_keep_open, made_open}, PathsOf.{HasPaths, wants_apart, paths_after, bucket_has}, TreeKept.{Misses, is_elsewhere}, Handles.{Handle, IsHanded, next_on, holds_on, handle_kept, wrote_same, synced_same, handed_handle, handed_none, handed_file, handed_no_file, temp_answer, still_stores}, OpenTemps.{temps_spare}}}
 
 -- ---- whose a temporary file is
 
@@ -28,18 +28,23 @@ sound_file site may outside s file sound e = let no : None ≡ Some file = e in 
 
 -- a step of another call isn't about it
 others_miss : (s : Setup) (a b : ℕ) (file : List ℕ) (q : Names) → a < 2 ^ 64 → b < 2 ^ 64 → (a ≡ b → ⊥) → file ≡ temp_path s.cache a → names_of file ≡ Ok q → path_kind (home s) q ≡ Temporary
-    → (step : PlainStep) → Allowed (call_site s b) (may_export s) (is_outside s) step → StepApart (home s) step → Misses q step
+    → (step : PlainStep) → Allowed (call_site s b) (may_export s) (is_outside s) step → Stores (home s) step → Misses q step
 others_miss s a b file q few less differ own named at (steps.CreateTemp p) allowed other = temps_apart s.cache a b file p q few less differ own allowed named
 others_miss s a b file q few less differ own named at (steps.Write f bytes) allowed other = temps_apart s.cache a b file f.path q few less differ own allowed named
 others_miss s a b file q few less differ own named at (steps.Persist f p) allowed other = temps_apart s.cache a b file f.path q few less differ own allowed.0 named
 others_miss s a b file q few less differ own named at (steps.RemoveFile p) allowed other = is_elsewhere (home s) q (names_of p) at other
+others_miss s a b file q few less differ own named at (steps.RemoveDir p) allowed other = absurd other
 others_miss s a b file q few less differ own named at step allowed other = tt
 
 -- ---- many acts
 
 -- what is known of a caller's call
 abbrev pub HasHandle : (Names → Bool) → Machine → Option NumberedTemp → Option State → Type 0
-HasHandle temps m o x = (state : State) → x ≡ Some state → IsState state × ((file : PlainTemp) → file_in state ≡ Some file → Handle temps m o file)
+HasHandle temps m o x = (state : State) → x ≡ Some state → (file : PlainTemp) → file_in state ≡ Some file → Handle temps m o file
+
+-- of the open file that it reads
+abbrev pub HasOpen : Option (NumberedFile × PlainFile) → Option State → Type 0
+HasOpen o x = (state : State) → x ≡ Some state → (file : PlainFile) → open_in state ≡ Some file → IsHanded o file
 
 -- and of the paths that it reads and syncs
 abbrev pub PathsAt : Option Names → Option State → Type 0
@@ -51,6 +56,7 @@ pub record Holds (s : Setup) (f : NumberedState) (now : Now) : Type 0 where
   pub numbered : Numbered now
   pub few : now.begun ≤ 2 ^ 64
   pub handles : (k : ℕ) → HasHandle f.system.temps f.system.machine (f.held k) (f.system.states k)
+  pub opens : (k : ℕ) → HasOpen (f.opened k) (f.system.states k)
   pub paths : (k : ℕ) → PathsAt (home s) (f.system.states k)
 
 ended_some : (reply : Option Reply) (x : Option State) (old new : State) (a : PlainAnswer) → x ≡ Some old → unless_ended reply (option_map (λ (state : State). after state a) x) ≡ Some new → after old a ≡ new
@@ -61,7 +67,7 @@ ended_some None (Some state) old new a is e =
     let there : after state a ≡ new = (let both : Some (after state a) ≡ Some new = e in cc) in
     ap (λ (x : State). after x a) (sym same) ∙ there
 
-at_caller : (P : Option NumberedTemp → Option State → Type 0) (k caller : ℕ) (ox oy : Option NumberedTemp) (x y : Option State) → (k ≡ caller → P ox x) → ((k ≡ caller → ⊥) → P oy y)
+at_caller : {A : Type 0} (P : Option A → Option State → Type 0) (k caller : ℕ) (ox oy : Option A) (x y : Option State) → (k ≡ caller → P ox x) → ((k ≡ caller → ⊥) → P oy y)
     → P (cond (k == caller) ox oy) (cond (k == caller) x y)
 at_caller P k caller ox oy x y here there = by (k == caller) refl
   where
@@ -82,6 +88,14 @@ no_paths h state e = let no : None ≡ Some state = e in absurd cc
 pub no_state : (temps : Names → Bool) (m : Machine) (o : Option NumberedTemp) → HasHandle temps m o None
 no_state temps m o state e = let no : None ≡ Some state = e in absurd cc
 
+pub no_open : (o : Option (NumberedFile × PlainFile)) → HasOpen o None
+no_open o state e = let no : None ≡ Some state = e in absurd cc
+
+folders_on : (m : Machine) (step : NumberedStep) → KeepsFolders step → KeepsFolders (step_on m step)
+folders_on m (steps.ReadDir p) kind = absurd kind
+folders_on m (steps.RemoveDir p) kind = absurd kind
+folders_on m step kind = tt
+
 module _ (s : Setup) (apart : LieApart (home s) s.outside) (f : NumberedState) (now : Now) (all : Holds s f now) where
   abbrev w : SystemState
   w = f.system
@@ -91,7 +105,10 @@ module _ (s : Setup) (apart : LieApart (home s) s.outside) (f : NumberedState) (
     handles_of = subst (λ (x : Machine). HasHandle w.temps x (f.held caller) (w.states caller)) (sym m.here) (all.handles caller)
 
     of_step : (file : PlainTemp) → file_of m.plain ≡ Some file → Handle w.temps made.before (f.held caller) file
-    of_step file e = let g = handles_of m.state m.stands in g.1 file (wants_file m.state m.plain file g.0 m.wanted e)
+    of_step file e = handles_of m.state m.stands file (wants_file m.state m.plain file m.wanted e)
+
+    of_open : (file : PlainFile) → open_of m.plain ≡ Some file → IsHanded (f.opened caller) file
+    of_open file e = all.opens caller m.state m.stands file (wants_open m.state m.plain file m.wanted e)
 
     own : (call : Call) × (now.calls caller ≡ Some call) × (call.state ≡ m.state)
     own = has_call (now.calls caller) (w.states caller) m.state (all.agree.states caller) m.stands
@@ -102,26 +119,29 @@ module _ (s : Setup) (apart : LieApart (home s) s.outside) (f : NumberedState) (
     sound : Sound (call_site s own.0.number) (may_export s) (is_outside s) m.state
     sound = subst (Sound (call_site s own.0.number) (may_export s) (is_outside s)) own.2 mine.sound
 
-    is_state : IsState m.state
-    is_state = (all.handles caller m.state m.stands).0
-
     has_paths : HasPaths (home s) m.state
     has_paths = all.paths caller m.state m.stands
 
-    apart_of : (step : PlainStep) → wants m.state ≡ Some step → StepApart (home s) step
-    apart_of step wanted = wants_apart (call_site s own.0.number) (may_export s) (is_outside s) m.state step is_state sound has_paths wanted
-
     asks_same : m.plain ≡ step_of made
-    asks_same = next_on w.temps made.before (f.held caller) m.plain made.step m.same (is_storing m.state m.plain is_state m.wanted) m.held of_step
+    asks_same = next_on w.temps made.before (f.held caller) (f.opened caller) m.plain made.step m.same m.held of_step of_open
 
     wants_asked : wants m.state ≡ Some (step_of made)
     wants_asked = m.wanted ∙ ap Some asks_same
 
-    holds : HoldsTemp w.temps made.before made.step
-    holds = holds_on w.temps made.before (f.held caller) made.step m.held (λ file e. of_step file (ap file_of asks_same ∙ e))
+    keeps_folders : KeepsFolders (step_of made)
+    keeps_folders = folders_on made.before made.step m.kind
 
-    stores : Stores (home s) made.step
-    stores = stores_on (home s) made.before made.step (is_storing m.state (step_of made) is_state wants_asked) (apart_of (step_of made) wants_asked)
+    wants_kept : (step : PlainStep) → wants m.state ≡ Some step → KeepsFolders step
+    wants_kept step wanted = let both : Some (step_of made) ≡ Some step = sym wants_asked ∙ wanted in let same : step_of made ≡ step = cc in subst (λ (x : PlainStep). KeepsFolders x) same keeps_folders
+
+    holds : HoldsTemp w.temps made.before made.step
+    holds = holds_on w.temps made.before (f.held caller) (f.opened caller) made.step m.held (λ file e. of_step file (ap file_of asks_same ∙ e))
+
+    apart_of : (step : PlainStep) → wants m.state ≡ Some step → Stores (home s) step
+    apart_of step wanted = wants_apart (call_site s own.0.number) (may_export s) (is_outside s) m.state step (wants_kept step wanted) sound has_paths wanted
+
+    stores : Stores (home s) (step_of made)
+    stores = apart_of (step_of made) wants_asked
 
     pub makes_storing_step : MakesStoringStep (home s) w caller made reply
     makes_storing_step = record {
@@ -135,6 +155,8 @@ module _ (s : Setup) (apart : LieApart (home s) s.outside) (f : NumberedState) (
       each = m.each;
       luck = m.luck;
       hint = m.hint;
+      clean = m.clean;
+      fits = m.fits;
       over = m.over;
     }
 
@@ -156,7 +178,7 @@ module _ (s : Setup) (apart : LieApart (home s) s.outside) (f : NumberedState) (
     keeps : KeepsOpen made.before made.after
     keeps =
         runs_keep_open made.before made.after made.hint made.step made.items made.end
-        (still_stores (home s) w.temps made.before now.tree mirrors (rooted_same made.before.tree now.tree (shapes w.temps made.before.tree now.tree mirrors) all.agree.all.rooted) made.step stores holds)
+        (still_stores (home s) w.temps made.before now.tree mirrors (rooted_same made.before.tree now.tree (shapes w.temps made.before.tree now.tree mirrors) all.agree.all.rooted) made.hint made.step stores holds m.hint)
         m.runs m.each
 
     opens : (p : List ℕ) (u : NumberedTemp) (names : Names) → made.step ≡ steps.CreateTemp p → answer_of made.step made.end ≡ answers.Temp u → names_of u.path ≡ Ok names → IsOpenAt made.after u.number names
@@ -171,8 +193,8 @@ module _ (s : Setup) (apart : LieApart (home s) s.outside) (f : NumberedState) (
     handle_stays o new file same g misses =
         let at = all.agree.temps g.held.names g.held.is_temp in
         handle_kept w.temps (temps_left w.temps made) made.before made.after o new file keeps same g
-        (temps_spare (home s) w.temps (step_of made) (answer_in made) g.held.names at (storing_on (home s) made.before made.step stores) proper misses g.held.is_temp)
-        (asked_stays (home s) w.temps made.before made.after made.hint placed g.held.names at made.step made.items made.end stores proper misses m.runs m.each (explained made reply m.luck)
+        (temps_spare (home s) w.temps (step_of made) (answer_in made) g.held.names at proper misses g.held.is_temp)
+        (asked_stays (home s) w.temps made.before made.after made.hint placed g.held.names at made.step made.items made.end m.clean proper misses m.runs m.each (explained made reply m.luck)
         (has_asked (home s) w.temps all.agree.temps made.before now.tree mirrors all.agree.all.placed all.agree.all.rooted made.hint made.step stores holds m.hint proper))
 
     -- the call itself
@@ -184,45 +206,60 @@ module _ (s : Setup) (apart : LieApart (home s) s.outside) (f : NumberedState) (
         (λ v u step_is answer_is. synced_same v u made.end (ap (λ (x : NumberedStep). answer_of x made.end) (sym step_is) ∙ answer_is))
         fits answered e
 
+    errand_misses : (q : Names) → path_kind (home s) q ≡ Temporary → (errand : Errand) → wants m.state ≡ Some (errand_step errand) → Misses q (errand_step errand)
+    errand_misses q at (remove p) wanted = is_elsewhere (home s) q (names_of p) at (apart_of (steps.RemoveFile p) wanted)
+    errand_misses q at errand wanted = tt
+
     stayed_own : (file : PlainTemp) → file_in m.state ≡ Some file → file_given (answer_in made) ≡ None → IsErrand m.state
         → Handle (temps_left w.temps made) made.after (handed (answer_of made.step made.end) (f.held caller)) file
     stayed_own file e none errand =
-        let g = handles_of m.state m.stands in
-        let old = (g.1 file e).held in
-        handle_stays (f.held caller) _ file (handed_none made.after (answer_of made.step made.end) (f.held caller) none) (g.1 file e)
-        (errand_steps m.state (step_of made) (Misses old.names) g.0 errand wants_asked (λ p. (tt, (tt, tt)))
-        (λ p wanted. is_elsewhere (home s) old.names (names_of p) (all.agree.temps old.names old.is_temp) (apart_of (steps.RemoveFile p) wanted)))
+        let handle = handles_of m.state m.stands file e in
+        let old = handle.held in
+        handle_stays (f.held caller) _ file (handed_none made.after (answer_of made.step made.end) (f.held caller) none) handle
+        (errand_steps m.state (step_of made) (Misses old.names) errand wants_asked (errand_misses old.names (all.agree.temps old.names old.is_temp)))
 
-    own_given : (new : State) → StateFollows m.state (answer_in made) new → ((file : PlainTemp) → file_given (answer_in made) ≡ Some file
-        → Handle (temps_left w.temps made) made.after (handed (answer_of made.step made.end) (f.held caller)) file)
-        → IsState new × ((file : PlainTemp) → file_in new ≡ Some file → Handle (temps_left w.temps made) made.after (handed (answer_of made.step made.end) (f.held caller)) file)
-    own_given new (is, inl same) given = (is, λ file e. given file (sym same ∙ e))
-    own_given new (is, inr (inl none)) given = (is, λ file e. let no : None ≡ Some file = sym none ∙ e in absurd cc)
-    own_given new (is, inr (inr (same, none, errand))) given = (is, λ file e. stayed_own file (sym same ∙ e) none errand)
+    -- a file of the state behind the answer, which was handed out or stayed
+    own_file : {A : Type 0} (Good : A → Type 0) (new given before : Option A) → From new given before m.state → ((file : A) → given ≡ Some file → Good file)
+        → ((file : A) → before ≡ Some file → given ≡ None → IsErrand m.state → Good file) → (file : A) → new ≡ Some file → Good file
+    own_file Good new given before (inl same) gave stayed file e = gave file (sym same ∙ e)
+    own_file Good new given before (inr (inl none)) gave stayed file e = let no : None ≡ Some file = sym none ∙ e in absurd cc
+    own_file Good new given before (inr (inr (same, none, errand))) gave stayed file e = stayed file (sym same ∙ e) none errand
+
+    new_follows : (new : State) → unless_ended reply (option_map (λ (state : State). after state (answer_in made)) (w.states caller)) ≡ Some new → StateFollows m.state (answer_in made) new
+    new_follows new e = subst (StateFollows m.state (answer_in made)) (ended_some reply (w.states caller) m.state new (answer_in made) m.stands e) (follows_after m.state (answer_in made))
 
     own_handles : ((file : PlainTemp) → file_given (answer_in made) ≡ Some file → Handle (temps_left w.temps made) made.after (handed (answer_of made.step made.end) (f.held caller)) file)
         → HasHandle (temps_left w.temps made) made.after (handed (answer_of made.step made.end) (f.held caller)) (unless_ended reply (option_map (λ (state : State). after state (answer_in made)) (w.states caller)))
-    own_handles given new e =
-        let g = handles_of m.state m.stands in
-        own_given new (subst (StateFollows m.state (answer_in made)) (ended_some reply (w.states caller) m.state new (answer_in made) m.stands e) (follows_after m.state (answer_in made) g.0)) given
+    own_handles given new e file is =
+        own_file (Handle (temps_left w.temps made) made.after (handed (answer_of made.step made.end) (f.held caller))) (file_in new) (file_given (answer_in made)) (file_in m.state) (new_follows new e).0
+        given stayed_own file is
+
+    own_open : HasOpen (handed_open made.after (answer_of made.step made.end) (f.opened caller)) (unless_ended reply (option_map (λ (state : State). after state (answer_in made)) (w.states caller)))
+    own_open new e file is =
+        own_file (IsHanded (handed_open made.after (answer_of made.step made.end) (f.opened caller))) (open_in new) (open_given (answer_in made)) (open_in m.state) (new_follows new e).1
+        (handed_file made.after (answer_of made.step made.end) (f.opened caller))
+        (λ old before none errand. subst (λ (o : Option (NumberedFile × PlainFile)). IsHanded o old) (sym (handed_no_file made.after (answer_of made.step made.end) (f.opened caller) none))
+        (all.opens caller m.state m.stands old before)) file is
+
+    moved_open : (k : ℕ) → HasOpen (open_after f.opened (makes caller made reply) k) (set_state caller (unless_ended reply (option_map (λ (state : State). after state (answer_in made)) (w.states caller))) w.states k)
+    moved_open k =
+        at_caller HasOpen k caller (handed_open made.after (answer_of made.step made.end) (f.opened caller)) (f.opened k)
+        (unless_ended reply (option_map (λ (state : State). after state (answer_in made)) (w.states caller))) (w.states k)
+        (λ same. own_open) (λ differ. all.opens k)
 
     -- other calls
     other_handles : (k : ℕ) → (k ≡ caller → ⊥) → HasHandle (temps_left w.temps made) made.after (f.held k) (w.states k)
-    other_handles k differ state e =
+    other_handles k differ state e file is =
         let g : HasHandle w.temps made.before (f.held k) (w.states k) = subst (λ (x : Machine). HasHandle w.temps x (f.held k) (w.states k)) (sym m.here) (all.handles k) in
-        let old = g state e in
+        let handle = g state e file is in
         let c = has_call (now.calls k) (w.states k) state (all.agree.states k) e in
-        let theirs = of_caller s c.0 _ c.1 (all.agree.all.calls k) in (
-          old.0,
-          λ file is.
-              let handle = old.1 file is in
-              let its : IsTemp (call_site s c.0.number) file = sound_file (call_site s c.0.number) (may_export s) (is_outside s) c.0.state file theirs.sound (ap file_in c.2 ∙ is) in
-              let named : names_of file.path ≡ Ok handle.held.names = ap (λ (x : PlainTemp). names_of x.path) (sym handle.same) ∙ handle.held.named in
-              handle_stays (f.held k) (f.held k) file refl handle
-              (others_miss s c.0.number own.0.number file.path handle.held.names (small k c.0 c.1) (small caller own.0 own.1)
-              (numbers_apart now all.numbered k caller c.0 own.0 differ c.1 own.1) its named (all.agree.temps handle.held.names handle.held.is_temp)
-              (step_of made) allowed (apart_of (step_of made) wants_asked)),
-        )
+        let theirs = of_caller s c.0 _ c.1 (all.agree.all.calls k) in
+        let its : IsTemp (call_site s c.0.number) file = sound_file (call_site s c.0.number) (may_export s) (is_outside s) c.0.state file theirs.sound (ap file_in c.2 ∙ is) in
+        let named : names_of file.path ≡ Ok handle.held.names = ap (λ (x : PlainTemp). names_of x.path) (sym handle.same) ∙ handle.held.named in
+        handle_stays (f.held k) (f.held k) file refl handle
+        (others_miss s c.0.number own.0.number file.path handle.held.names (small k c.0 c.1) (small caller own.0 own.1)
+        (numbers_apart now all.numbered k caller c.0 own.0 differ c.1 own.1) its named (all.agree.temps handle.held.names handle.held.is_temp)
+        (step_of made) allowed (apart_of (step_of made) wants_asked))
       where
         small : (j : ℕ) (a : Call) → now.calls j ≡ Some a → a.number < 2 ^ 64
         small j a here = omega (arith, number_below now all.numbered j a here, all.few)
@@ -270,7 +307,7 @@ module _ (s : Setup) (apart : LieApart (home s) s.outside) (f : NumberedState) (
     moved_paths has k =
         at_state (PathsAt (home s)) k caller (unless_ended reply (option_map (λ (state : State). after state (answer_in made)) (w.states caller))) (w.states k)
         (λ same new e. subst (HasPaths (home s)) (ended_some reply (w.states caller) m.state new (answer_in made) m.stands e)
-        (paths_after (call_site s own.0.number) (may_export s) (is_outside s) (answer_in made) m.state is_state sound has_paths has))
+        (paths_after (call_site s own.0.number) (may_export s) (is_outside s) (answer_in made) m.state wants_kept sound has_paths has))
         (λ differ. all.paths k)
 
     may_of : (r : Record) (luck : Luck) (answer : PlainAnswer) → MayCome s now r → r ≡ Moved caller luck (Some (step_of made, answer)) reply → MayMove now.tree own.0.state luck (Some (step_of made, answer)) reply
@@ -286,6 +323,7 @@ module _ (s : Setup) (apart : LieApart (home s) s.outside) (f : NumberedState) (
       numbered = next_numbered s now g.r all.numbered;
       few = subst (λ (x : Record). (now_after s now x).begun ≤ 2 ^ 64) (sym is) all.few;
       handles = moved_handles (answer_given luck answer (may_of g.r luck answer g.may is) given);
+      opens = moved_open;
       paths = moved_paths (finds_has luck answer (may_of g.r luck answer g.may is) given);
     }
     step_so g (inr (is, failed)) = record {
@@ -293,6 +331,7 @@ module _ (s : Setup) (apart : LieApart (home s) s.outside) (f : NumberedState) (
       numbered = next_numbered s now g.r all.numbered;
       few = subst (λ (x : Record). (now_after s now x).begun ≤ 2 ^ 64) (sym is) all.few;
       handles = moved_handles (λ file e. let no : None ≡ Some file = sym (failed_none made failed.why failed.failed) ∙ e in absurd cc);
+      opens = moved_open;
       paths = moved_paths (λ l bytes looks e. absurd (failed_bytes made failed.why failed.failed bytes e));
     }
 

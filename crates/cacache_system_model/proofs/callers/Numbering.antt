@@ -1,36 +1,43 @@
 -- Callers as a store of real folders has them, on one machine: their temporary files hold there what their states say.
 use Rattle.std.proofs.Common.{◌≡◌, ◌≤◌, ◌^◌, ◌+◌, ℕ, List, [], ◌∷◌, Option, None, Some, sym, ap, subst, ◌∙◌}
 use Rattle.cacache_value.specs.OpeningTrees.{LieApart}
-use Rattle.cacache_calls.specs.{declared.{command.Command.{Command}, reply.Reply.{Reply}}, Table.{opening}}
-use Rattle.cacache_history.specs.{declared.record.Record.{Record}, Setup.{Setup, call_site, home}, History.{Now, now_after, replayed, NamesIntegrity, initial}}
+use Rattle.cacache_calls.specs.{declared.{command.Command.{Command}, reply.Reply.{Reply}}, Table.{opening}, Sound.{MayBegin}}
+use Rattle.cacache_history.specs.{declared.record.Record.{Record}, Setup.{Setup, call_site, home, may_export, is_outside}, History.{Now, now_after, replayed, NamesIntegrity, initial}}
 use Rattle.cacache_history.proofs.durable.CallNumbers.{Numbered, next_numbered, first_numbered}
-use Rattle.cacache_system.specs.Seen.{NumberedTemp}
-use Rattle.cacache_system_model.specs.{Machine.{Machine}, callers.{Acts.{Act, begins, steps as makes, ends, stops, SystemState}, Made.{now_left, CacheOn, system_at}, Seen.{StoresLooksOrRemoves}}}
-use Rattle.cacache_system_model.proofs.callers.{NextActs.{NumberedState, numbered_after, MayNext}, Covering.{may_act}, Following.{Follows, act_follows, first_agree}, Files.{file_in, IsState, opens_free}, PathsOf.{HasPaths, opens_paths}, NextSteps.{HasHandle, PathsAt, Holds, at_state, no_paths, no_state, makes_storing_step, step_holds}}
+use Rattle.cacache_system.specs.Seen.{NumberedFile, NumberedTemp}
+use Rattle.cacache_store.specs.declared.store.plain.PlainFile.{PlainFile}
+use Rattle.cacache_system_model.specs.{Machine.{Machine}, callers.{Acts.{Act, begins, steps as makes, ends, stops, SystemState}, Made.{now_left, CacheOn, system_at}}}
+use Rattle.cacache_system_model.proofs.callers.{NextActs.{NumberedState, numbered_after, MayNext}, Covering.{may_act}, Following.{Follows, act_follows, first_agree}, Files.{file_in, open_in, opens_free}, PathsOf.{HasPaths, opens_paths}, NextSteps.{HasHandle, HasOpen, PathsAt, Holds, at_state, no_paths, no_state, no_open, makes_storing_step, step_holds}}
 
 module _ (s : Setup) (apart : LieApart (home s) s.outside) (f : NumberedState) (now : Now) (all : Holds s f now) where
   abbrev w : SystemState
   w = f.system
 
-  begin_holds : (caller : ℕ) (command : Command) → StoresLooksOrRemoves command → NamesIntegrity command → w.begun + 1 ≤ 2 ^ 64 → (g : Follows s w now (begins caller command)) → Holds s (numbered_after s f (begins caller command)) (now_after s now g.r)
-  begin_holds caller command stores named few g = record {
+  begin_holds : (caller : ℕ) (command : Command) → MayBegin (call_site s w.begun) (may_export s) (is_outside s) command → NamesIntegrity command → w.begun + 1 ≤ 2 ^ 64 → (g : Follows s w now (begins caller command)) → Holds s (numbered_after s f (begins caller command)) (now_after s now g.r)
+  begin_holds caller command may named few g = record {
     agree = g.agree;
     numbered = next_numbered s now g.r all.numbered;
     few = subst (λ (n : ℕ). n ≤ 2 ^ 64) g.agree.begun few;
     handles = λ k.
         at_state (HasHandle w.temps w.machine (f.held k)) k caller (Some (opening (call_site s w.begun) command)) (w.states k)
         (λ same. begun_handle (f.held k)) (λ differ. all.handles k);
+    opens = λ k.
+        at_state (HasOpen (f.opened k)) k caller (Some (opening (call_site s w.begun) command)) (w.states k) (λ same. begun_open (f.opened k)) (λ differ. all.opens k);
     paths = λ k.
         at_state (PathsAt (home s)) k caller (Some (opening (call_site s w.begun) command)) (w.states k)
         (λ same state e. let begun : opening (call_site s w.begun) command ≡ state = cc in
-        subst (HasPaths (home s)) begun (opens_paths (call_site s w.begun) command stores named)) (λ differ. all.paths k);
+        subst (HasPaths (home s)) begun (opens_paths s w.begun command apart may named)) (λ differ. all.paths k);
   }
     where
       begun_handle : (o : Option NumberedTemp) → HasHandle w.temps w.machine o (Some (opening (call_site s w.begun) command))
-      begun_handle o state e =
+      begun_handle o state e file is =
           let same : opening (call_site s w.begun) command ≡ state = cc in
-          let free = opens_free (call_site s w.begun) command stores in
-          (subst IsState same free.0, λ file is. let no : None ≡ Some file = sym free.1 ∙ ap file_in same ∙ is in absurd cc)
+          let no : None ≡ Some file = sym (opens_free (call_site s w.begun) command).0 ∙ ap file_in same ∙ is in absurd cc
+
+      begun_open : (o : Option (NumberedFile × PlainFile)) → HasOpen o (Some (opening (call_site s w.begun) command))
+      begun_open o state e file is =
+          let same : opening (call_site s w.begun) command ≡ state = cc in
+          let no : None ≡ Some file = sym (opens_free (call_site s w.begun) command).1 ∙ ap open_in same ∙ is in absurd cc
 
   few_now : w.begun ≤ 2 ^ 64
   few_now = subst (λ (n : ℕ). n ≤ 2 ^ 64) (sym all.agree.begun) all.few
@@ -41,6 +48,7 @@ module _ (s : Setup) (apart : LieApart (home s) s.outside) (f : NumberedState) (
     numbered = next_numbered s now g.r all.numbered;
     few = subst (λ (n : ℕ). n ≤ 2 ^ 64) g.agree.begun few_now;
     handles = λ k. at_state (HasHandle w.temps w.machine (f.held k)) k caller None (w.states k) (λ same. no_state w.temps w.machine (f.held k)) (λ differ. all.handles k);
+    opens = λ k. at_state (HasOpen (f.opened k)) k caller None (w.states k) (λ same. no_open (f.opened k)) (λ differ. all.opens k);
     paths = λ k. at_state (PathsAt (home s)) k caller None (w.states k) (λ same. no_paths (home s)) (λ differ. all.paths k);
   }
 
@@ -50,12 +58,13 @@ module _ (s : Setup) (apart : LieApart (home s) s.outside) (f : NumberedState) (
     numbered = next_numbered s now g.r all.numbered;
     few = subst (λ (n : ℕ). n ≤ 2 ^ 64) g.agree.begun few_now;
     handles = λ k. at_state (HasHandle w.temps w.machine (f.held k)) k caller None (w.states k) (λ same. no_state w.temps w.machine (f.held k)) (λ differ. all.handles k);
+    opens = λ k. at_state (HasOpen (f.opened k)) k caller None (w.states k) (λ same. no_open (f.opened k)) (λ differ. all.opens k);
     paths = λ k. at_state (PathsAt (home s)) k caller None (w.states k) (λ same. no_paths (home s)) (λ differ. all.paths k);
   }
 
   pub next_act : (act : Act) → MayNext s f act → (g : Follows s w now act) × Holds s (numbered_after s f act) (now_after s now g.r)
-  next_act (begins caller command) (may, stores, few) =
-      let g = act_follows s apart w now all.agree (begins caller command) may in (g, begin_holds caller command stores may.3 few g)
+  next_act (begins caller command) (may, few) =
+      let g = act_follows s apart w now all.agree (begins caller command) may in (g, begin_holds caller command may.2 may.3 few g)
   next_act (makes caller made reply) m =
       let g = act_follows s apart w now all.agree (makes caller made reply) (may_act s apart w now all.agree (makes caller made reply) (makes_storing_step s apart f now all caller made reply m)) in
       (g, step_holds s apart f now all caller made reply m g)
@@ -66,11 +75,12 @@ all_numbered : (s : Setup) (now : Now) (records : List Record) → Numbered now 
 all_numbered s now [] h = h
 all_numbered s now (r ∷ records) h = all_numbered s (now_after s now r) records (next_numbered s now r h)
 
-pub first_holds : (s : Setup) (m : Machine) (cache : CacheOn s m) → Holds s (record { system = system_at s m cache; held = λ caller. None }) (now_left s cache.past)
+pub first_holds : (s : Setup) (m : Machine) (cache : CacheOn s m) → Holds s (record { system = system_at s m cache; held = λ caller. None; opened = λ caller. None }) (now_left s cache.past)
 first_holds s m cache = record {
   agree = first_agree s m cache;
   numbered = all_numbered s (initial s) cache.past (first_numbered s);
   few = cache.few;
   handles = λ k. no_state cache.temps m None;
+  opens = λ k. no_open None;
   paths = λ k. no_paths (home s);
 }

@@ -2,12 +2,12 @@
 use Rattle.std.proofs.{Common.{◌≡◌, ◌==◌, ℕ, Bool, true, false, cond, List, ◌∷◌, Option, None, Some, Ok, option_map, take, eq-eqb, refl, sym, ap, subst, ◌∙◌}, lemmas.Bool.{eqb-true}}
 use Rattle.std.specs.Prelude.{Result, Err, MatchResult}
 use Rattle.std_io.specs.declared.io.kind.ErrorKind.{ErrorKind}
-use Rattle.cacache_core.specs.{declared.errors.Fault.{Fault}, PathNames.{Names}}
-use Rattle.cacache_disk.specs.{declared.{luck.Luck.TheVariants.{Plain, Fail, Take}, node.Node.{Node, TheVariants.{Folder, File, Link}}}, Tree.{Tree, look}, LedTo.{standing, leads, found, place, replaceable, removable, writable, free}, Apply.{taken, readable, lengthened}}
+use Rattle.cacache_core.specs.{declared.errors.Fault.{Fault, TheVariants.{InvalidInput}}, PathNames.{Names}}
+use Rattle.cacache_disk.specs.{declared.{luck.Luck.TheVariants.{Plain, Fail, Take}, node.Node.{Node, TheVariants.{Folder, File, Link}}}, Tree.{Tree, look}, LedTo.{standing, leads, found, place, replaceable, removable, emptied, linked, file_at, writable, free}, Apply.{taken, readable, lengthened}}
 use Rattle.cacache_system.specs.declared.call.{SystemCall.{SystemCall}, CallResult.{CallResult}}
 use Rattle.cacache_system.specs.declared.call.SystemCall.TheVariants as asks
 use Rattle.cacache_system.specs.declared.call.CallResult.TheVariants as says
-use Rattle.cacache_system_model.specs.{Machine.{OpenFile, Machine, Became, HasTree, IsRefused, ChangesTree, OpensIf, with_file, unread, ShowsNode, ShowsEnd, ShowsOpen, GivesOwner, ReadsFile, ReadsOpen, MovesNode}, Calls.{GoesWell, did_nothing, LeavesWritten, LeavesPart, OccursSomehow}, callers.Opened.{IsOpenAt, KeepsOpen}}
+use Rattle.cacache_system_model.specs.{Machine.{OpenFile, Machine, Became, HasTree, IsRefused, ChangesTree, OpensIf, with_file, unread, ShowsNode, ShowsEnd, ShowsOpen, GivesOwner, ReadsFile, ReadsOpen, LinksNode, CopiesBytes, SpellsEnd, MovesNode}, Calls.{GoesWell, did_nothing, LeavesWritten, LeavesPart, OccursSomehow}, callers.Opened.{IsOpenAt, KeepsOpen}}
 use Rattle.cacache_system_model.proofs.{Steps.Opening.{open_of}, Views.{View, nowhere, a_folder, a_file, view}}
 
 abbrev pub names_at : OpenFile → Names
@@ -54,7 +54,7 @@ shows_keep (Ok names) m n said h = keeps_self m n (node_keeps names m n said h)
 shows_keep (Err fault) m n said h = refused_keeps fault m n said h
 
 -- it can be read: no link stands there
-abbrev CanRead : Option Node → Type 0
+abbrev pub CanRead : Option Node → Type 0
 CanRead None = ⊥
 CanRead (Some Folder) = Unit {0}
 CanRead (Some (File bytes)) = Unit {0}
@@ -99,8 +99,14 @@ Safe m (asks.Write number bytes) = IsOpenNumber m number
 Safe m (asks.Sync number) = IsOpenNumber m number
 Safe m (asks.StatFile number) = IsOpenNumber m number
 Safe m (asks.Stat path) = Unit {0}
+Safe m (asks.StatLink path) = Unit {0}
+Safe m (asks.RealPath path) = Unit {0}
 Safe m (asks.MakeFolder path) = Unit {0}
 Safe m (asks.RemoveFile path) = Unit {0}
+Safe m (asks.RemoveFolder path) = Unit {0}
+Safe m (asks.Symlink target path) = Unit {0}
+Safe m (asks.HardLink from to) = Unit {0}
+Safe m (asks.CopyFile from to) = Unit {0}
 Safe m (asks.Rename from to) = Moves m.tree from
 Safe m call = ⊥
 
@@ -110,6 +116,19 @@ moves_keep (Ok old) ends m n said names bytes e here h =
     let same : old ≡ names = cc in
     changes_keep ends _ m n said (subst (λ (o : Option Node). MovesNode old o ends m said n) (ap (look m.tree) same ∙ here) h)
 moves_keep (Err fault) ends m n said names bytes e here h = absurd cc
+
+links_keep : (source : Result Node Fault) (ends : Result Names Fault) (m n : Machine) (said : CallResult) → LinksNode source ends m said n → KeepsOpen m n
+links_keep (Ok node) ends m n said h = changes_keep ends _ m n said h
+links_keep (Err fault) ends m n said h = refused_keeps _ m n said h
+
+copies_keep : (source : Result (List ℕ) Fault) (ends : Result Names Fault) (m n : Machine) (said : CallResult) → CopiesBytes source ends m said n → KeepsOpen m n
+copies_keep (Ok bytes) (Ok names) m n said (is_said, (tree, files, synced, folders)) = keeps_same m n files
+copies_keep (Ok bytes) (Err fault) m n said h = refused_keeps fault m n said h
+copies_keep (Err fault) ends m n said h = refused_keeps fault m n said h
+
+spells_keep : (ends : Result Names Fault) (m n : Machine) (said : CallResult) → SpellsEnd ends m said n → KeepsOpen m n
+spells_keep (Ok names) m n said (text, is_said, spells, same) = keeps_self m n same
+spells_keep (Err fault) m n said h = refused_keeps fault m n said h
 
 abbrev Written : Option ℕ → List ℕ → Machine → Machine → CallResult → OpenFile → Type 0
 Written most bytes m n said file = (said ≡ says.Count (taken most bytes)) × HasTree m (lengthened m.tree file.names (take (taken most bytes) bytes)) n
@@ -136,6 +155,12 @@ goes_keep most (asks.Sync number) m n said (names, is) h =
 goes_keep most (asks.StatFile number) m n said (names, is) h =
     let g = open_of m n number names said (λ file. ShowsNode file.names m) is h in keeps_self m n (node_keeps g.0.names m n said g.3)
 goes_keep most (asks.Stat path) m n said safe h = shows_keep (found m.tree path) m n said h
+goes_keep most (asks.StatLink path) m n said safe h = shows_keep (standing m.tree path) m n said h
+goes_keep most (asks.RealPath path) m n said safe h = spells_keep (found m.tree path) m n said h
+goes_keep most (asks.RemoveFolder path) m n said safe h = changes_keep (emptied m.tree path) _ m n said h
+goes_keep most (asks.Symlink target path) m n said safe h = changes_keep (free m.tree path) _ m n said h
+goes_keep most (asks.HardLink from to) m n said safe h = links_keep (linked m.tree from) (free m.tree to) m n said h
+goes_keep most (asks.CopyFile from to) m n said safe h = copies_keep (file_at m.tree from InvalidInput) (writable m.tree to) m n said h
 goes_keep most (asks.MakeFolder path) m n said safe h = changes_keep (free m.tree path) _ m n said h
 goes_keep most (asks.RemoveFile path) m n said safe h = changes_keep (removable m.tree path) _ m n said h
 goes_keep most (asks.Rename from to) m n said (names, bytes, is, here) h = moves_keep (place m.tree from) (replaceable m.tree to) m n said names bytes is here h
@@ -150,7 +175,7 @@ leaves_keep false number bytes part m n (tree, files, synced, folders) = keeps_s
 broken_keep : (call : SystemCall) (why : ErrorKind) (part : Option ℕ) (m n : Machine) → Safe m call → LeavesPart m call why part n → KeepsOpen m n
 broken_keep (asks.OpenToAppend path) why part m n safe (tree, files, synced, folders) = keeps_same m n files
 broken_keep (asks.Write number bytes) why part m n safe h = leaves_keep (did_nothing why) number bytes part m n h
-broken_keep (asks.CopyFile from to) why part m n safe h = absurd safe
+broken_keep (asks.CopyFile from to) why part m n safe (tree, files, synced, folders) = keeps_same m n files
 broken_keep call why part m n safe h = keeps_self m n h
 
 pub occurs_keep : (call : SystemCall) (m n : Machine) (said : CallResult) → Safe m call → OccursSomehow m call said n → KeepsOpen m n

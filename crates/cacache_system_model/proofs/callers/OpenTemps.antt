@@ -6,7 +6,7 @@ use Rattle.cacache_store.specs.declared.store.answer.Answer.TheVariants as answe
 use Rattle.cacache_store.specs.Plain.{PlainStep, PlainAnswer}
 use Rattle.cacache_disk.{specs.Tree.{same_path}, proofs.{Maps.{same_path-true}, Roots.{same_self}}}
 use Rattle.cacache_value.specs.{Kinds.{Temporary, path_kind, Content}, Placed.{Proper}}
-use Rattle.cacache_system_model.{specs.{Mirrors.{without, with_new, temps_after}, callers.Made.{AreTemps}}, proofs.callers.TreeKept.{Misses, IsStoring}}
+use Rattle.cacache_system_model.{specs.{Mirrors.{without, with_new, temps_after}, callers.Made.{AreTemps}}, proofs.callers.TreeKept.{Misses}}
 use Rattle.cacache_loss.{specs.Fixing.{is_at}, proofs.UnchangedPaths.{at_false}}
 
 new_kind : (h : Option Names) (temps : Names → Bool) (r : Result Names Fault) → IfOk r (λ names. path_kind h names ≡ Temporary) → AreTemps h temps → AreTemps h (with_new temps r)
@@ -50,13 +50,13 @@ without_same : (temps : Names → Bool) (r : Result Names Fault) (q : Names) →
 without_same temps (Ok names) q e = ap (λ (b : Bool). cond b false (temps q)) e
 without_same temps (Err fault) q e = refl
 
-pub temps_spare : (h : Option Names) (temps : Names → Bool) (step : PlainStep) (a : PlainAnswer) (q : Names) → path_kind h q ≡ Temporary → IsStoring step → Proper h step → Misses q step → temps q ≡ true
+pub temps_spare : (h : Option Names) (temps : Names → Bool) (step : PlainStep) (a : PlainAnswer) (q : Names) → path_kind h q ≡ Temporary → Proper h step → Misses q step → temps q ≡ true
     → temps_after temps step a q ≡ true
-temps_spare h temps (steps.CreateTemp p) (answers.Temp f) q at stores is misses e = with_new_keeps temps (names_of p) q e
-temps_spare h temps (steps.CreateTemp p) a q at stores is misses e = e
-temps_spare h temps (steps.Persist f p) answers.Done q at stores is misses e =
+temps_spare h temps (steps.CreateTemp p) (answers.Temp f) q at is misses e = with_new_keeps temps (names_of p) q e
+temps_spare h temps (steps.CreateTemp p) a q at is misses e = e
+temps_spare h temps (steps.Persist f p) answers.Done q at is misses e =
     without_same (without temps (names_of f.path)) (names_of p) q (at_false h Content Temporary q (names_of p) is.1 at (λ s. cc)) ∙ without_same temps (names_of f.path) q misses ∙ e
-temps_spare h temps (steps.Persist f p) a q at stores is misses e = e
-temps_spare h temps (steps.RemoveFile p) answers.Done q at stores is misses e = without_same temps (names_of p) q misses ∙ e
-temps_spare h temps (steps.RemoveFile p) a q at stores is misses e = e
-temps_spare h temps step a q at stores is misses e = e
+temps_spare h temps (steps.Persist f p) a q at is misses e = e
+temps_spare h temps (steps.RemoveFile p) answers.Done q at is misses e = without_same temps (names_of p) q misses ∙ e
+temps_spare h temps (steps.RemoveFile p) a q at is misses e = e
+temps_spare h temps step a q at is misses e = e

@@ -1,4 +1,4 @@
--- What a storing step leaves at a temporary file that it isn't about.
+-- What a step leaves at a temporary file that it isn't about.
 use Rattle.std.{proofs.Common.{◌≡◌, ◌⊎◌, inl, inr, ℕ, Bool, true, false, cond, List, [], Option, None, Some, refl, sym, ap, subst, ◌∙◌}, specs.Prelude.{if◌then◌else◌}}
 use Rattle.cacache_core.specs.PathNames.{Names}
 use Rattle.cacache_store.specs.declared.store.step.Step.TheVariants as steps
@@ -11,8 +11,8 @@ use Rattle.cacache_calls.specs.declared.reply.Reply.{Reply}
 use Rattle.cacache_system.specs.{declared.call.{CallResult.{CallResult}, CallItem.{CallItem}}, Seen.{NumberedTemp, NumberedStep}, CallsOf.{Runs}, AnswersOf.{Hint, first, answer_of}}
 use Rattle.cacache_system.specs.declared.call.CallResult.TheVariants as says
 use Rattle.std_io.specs.declared.io.kind.ErrorKind.TheVariants as kind
-use Rattle.cacache_system_model.specs.{Machine.{Machine}, Calls.{GoesWell, OccursSomehow, EachCall}, Laws.{IsDone, temp_on, step_on, IsLucky}, Mirrors.{hollow, Mirrors}, Chains.{WritesTemp, OnDisk, StepMade}, callers.Storing.{IsExplained, Stores}}
-use Rattle.cacache_system_model.proofs.{Covered.{each_may_break, each_goes_plainly}, Mirroring.{SameShape}, Chaining.{steps_on_disk}, callers.{Covering.{hollow_folder, hollow_link, hollow_file, HasAsked, has_plain_law, no_fresh}, TreeKept.{Misses, IsStoring, look_kept}}}
+use Rattle.cacache_system_model.specs.{Machine.{Machine}, Calls.{GoesWell, OccursSomehow, EachCall}, Laws.{LeavesFresh, IsDone, temp_on, step_on, IsLucky}, Premises.{HasPlainLaw}, Mirrors.{hollow, Mirrors}, Chains.{WritesTemp, OnDisk, StepMade}, callers.Storing.{IsExplained}}
+use Rattle.cacache_system_model.proofs.{Covered.{each_may_break, each_goes_plainly}, Mirroring.{SameShape}, Chaining.{steps_on_disk}, callers.{Covering.{hollow_folder, hollow_link, hollow_file, HasAsked}, TreeKept.{Misses, look_kept}}}
 
 -- ---- the machine's tree is one of the cache's too
 
@@ -33,23 +33,9 @@ placed_same h t d s placed q = same_stand h (path_kind h q) (look t q) (look d q
 
 -- ---- what a step leaves at a temporary file that it isn't about
 
-pub storing_on : (h : Option Names) (m : Machine) (step : NumberedStep) → Stores h step → IsStoring (step_on m step)
-storing_on h m (steps.MakeDirs p) stores = tt
-storing_on h m (steps.CreateTemp p) stores = tt
-storing_on h m (steps.Write t bytes) stores = tt
-storing_on h m (steps.Persist t p) stores = tt
-storing_on h m (steps.Append p bytes) stores = tt
-storing_on h m (steps.ReadAll p) stores = tt
-storing_on h m (steps.Exists p) stores = tt
-storing_on h m (steps.RemoveFile p) stores = tt
-storing_on h m (steps.SyncTemp t) stores = tt
-storing_on h m (steps.SyncFile p) stores = tt
-storing_on h m (steps.SyncDir p) stores = tt
-storing_on h m step stores = absurd stores
-
 -- why a step's run may be as it is: the table does the step, no call fails without cause, or the tree stays
 abbrev Explained : Machine → NumberedStep → List CallItem → CallResult → Machine → Type 0
-Explained m step items end n = IsDone m step ⊎ ((EachCall (GoesWell None) m items n × (end ≡ says.Failed kind.OutOfMemory → ⊥)) ⊎ (n.tree ≡ m.tree))
+Explained m step items end n = IsDone m step ⊎ ((HasPlainLaw m step × EachCall (GoesWell None) m items n × (end ≡ says.Failed kind.OutOfMemory → ⊥)) ⊎ (n.tree ≡ m.tree))
 
 pub explained : (made : StepMade) (reply : Option Reply) → IsExplained made reply → Explained made.before made.step made.items made.end made.after
 explained made reply (inl done) = inl done
@@ -60,11 +46,11 @@ module _ (h : Option Names) (temps : Names → Bool) (m n : Machine) (hint : Hin
   abbrev Stays : Type 0
   Stays = look n.tree q ≡ look m.tree q
 
-  lucky_stays : (step : NumberedStep) (end : CallResult) → Stores h step → Proper h (step_on m step) → Misses q (step_on m step) → IsLucky m step end n → Stays
-  lucky_stays step end stores proper misses (inl (luck, is)) =
-      ap (λ (t : Tree). look t q) (sym (ap (λ (r : PlainAnswer × Tree). r.1) is)) ∙ look_kept h m.tree placed q at (step_on m step) luck (storing_on h m step stores) proper misses
-  lucky_stays step end stores proper misses (inr (inl (is, same))) = ap (λ (t : Tree). look t q) same
-  lucky_stays step end stores proper misses (inr (inr left)) = absurd (no_fresh h m step (answer_of step end) n stores left)
+  lucky_stays : (step : NumberedStep) (end : CallResult) → (LeavesFresh m step (answer_of step end) n → ⊥) → Proper h (step_on m step) → Misses q (step_on m step) → IsLucky m step end n → Stays
+  lucky_stays step end clean proper misses (inl (luck, is)) =
+      ap (λ (t : Tree). look t q) (sym (ap (λ (r : PlainAnswer × Tree). r.1) is)) ∙ look_kept h m.tree placed q at (step_on m step) luck proper misses
+  lucky_stays step end clean proper misses (inr (inl (is, same))) = ap (λ (t : Tree). look t q) same
+  lucky_stays step end clean proper misses (inr (inr left)) = absurd (clean left)
 
   -- the file that a write is about, alone
   abbrev Only : Names → Names → Bool
@@ -106,11 +92,11 @@ module _ (h : Option Names) (temps : Names → Bool) (m n : Machine) (hint : Hin
       (only_mirrors names bytes ready.stands) (runs, each, inr (inl (names, bytes, ready, same_self names))))
   writes_stay _ items end writes misses runs each = absurd writes
 
-  pub asked_stays : (step : NumberedStep) (items : List CallItem) (end : CallResult) → Stores h step → Proper h (step_on m step) → Misses q (step_on m step)
+  pub asked_stays : (step : NumberedStep) (items : List CallItem) (end : CallResult) → (LeavesFresh m step (answer_of step end) n → ⊥) → Proper h (step_on m step) → Misses q (step_on m step)
       → Runs (first hint step) items end → EachCall OccursSomehow m items n → Explained m step items end n → HasAsked temps m hint step → Stays
-  asked_stays step items end stores proper misses runs each luck (inr writes) = writes_stay step items end writes misses runs each
-  asked_stays step items end stores proper misses runs each (inl done) (inl (premise, spares)) =
-      lucky_stays step end stores proper misses (each_may_break m hint step premise done items end n runs each)
-  asked_stays step items end stores proper misses runs each (inr (inr same)) (inl asked) = ap (λ (t : Tree). look t q) same
-  asked_stays step items end stores proper misses runs each (inr (inl (well, memory))) (inl (premise, spares)) =
-      lucky_stays step end stores proper misses (inl (Plain, each_goes_plainly m hint step premise (has_plain_law h m step stores) items end n runs well memory))
+  asked_stays step items end clean proper misses runs each luck (inr writes) = writes_stay step items end writes misses runs each
+  asked_stays step items end clean proper misses runs each (inl done) (inl (premise, spares)) =
+      lucky_stays step end clean proper misses (each_may_break m hint step premise done items end n runs each)
+  asked_stays step items end clean proper misses runs each (inr (inr same)) (inl asked) = ap (λ (t : Tree). look t q) same
+  asked_stays step items end clean proper misses runs each (inr (inl (plain, well, memory))) (inl (premise, spares)) =
+      lucky_stays step end clean proper misses (inl (Plain, each_goes_plainly m hint step premise plain items end n runs well memory))

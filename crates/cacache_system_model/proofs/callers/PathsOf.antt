@@ -1,24 +1,25 @@
--- The paths that storing, looking and removing calls read, sync and remove.
-use Rattle.std.proofs.{Common.{◌≡◌, ◌==◌, ℕ, Bool, true, false, cond, List, [], ◌∷◌, ◌++◌, Option, None, Some, Result, Ok, Err, length, drop, nat_le, refl, sym, ap, subst, ◌∙◌, arith, append-nil, append_assoc}, lemmas.List.Elements.{All-head, All-tail, All-append, All-nil, All-cons}}
+-- The paths that calls read, link, sync and remove, if they list no folder.
+use Rattle.std.proofs.{Common.{◌≡◌, ◌==◌, ◌<◌, ◌^◌, ℕ, Bool, true, false, cond, List, [], ◌∷◌, ◌++◌, Option, None, Some, Result, Ok, Err, length, drop, nat_le, refl, sym, ap, subst, ◌∙◌, arith, append-nil, append_assoc}, lemmas.List.Elements.{All-head, All-tail, All-append, All-nil, All-cons}}
 use Rattle.std.specs.Prelude.{All, IfOk, filter}
-use Rattle.cacache_history.proofs.{Listings.ListingWalks.{joined_more}, Entries.{Formed.{TreeFormed}, Spelled.{HasIntegrity, latest_has}}, Histories.ShownTurns.{bucket_below}, Contents.Digests.{digest_hash}}
-use Rattle.cacache_history.specs.{Setup.{Setup, home}, History.{NamesIntegrity}}
+use Rattle.cacache_history.proofs.{Proper.{sound_proper}, Listings.ListingWalks.{joined_more}, Entries.{Formed.{TreeFormed}, Spelled.{HasIntegrity, latest_has}}, Histories.ShownTurns.{bucket_below}, Contents.Digests.{digest_hash}}
+use Rattle.cacache_history.specs.{Setup.{Setup, call_site, home, may_export, is_outside}, History.{NamesIntegrity}}
 use Rattle.sha1.specs.Sha1.{sha1}
 use Rattle.cacache_core.specs.{declared.{errors.{Fault.{Fault}, Error.TheVariants.{IntegrityError}, IntegrityFault.TheVariants.{Check}}, integrity.{digest.Hash.{Hash}, algorithm.Algorithm.{Algorithm}}}, Digests.{digest}, Integrity.{IsHash, IsIntegrity, integrity_under, hash_of, actual}, Meeting.{meets}, PathNames.{Names, names_of, names_below, home_of, is_bad, is_name, pieces, IsProperName}, Paths.{joined, content_names, bucket_names, folders_to}}
 use Rattle.cacache_core.proofs.{JoinedNames.{joined_texts_name}, PathLemmas.{keys_have_digests}, ProperNames.{names_are_proper}}
 use Rattle.cacache_core.specs.declared.errors.Fault.TheVariants as faults
-use Rattle.cacache_store.specs.{declared.store.plain.PlainTemp.{PlainTemp}, Plain.{PlainStep, PlainAnswer}}
+use Rattle.cacache_store.specs.{declared.store.plain.{PlainFile.{PlainFile}, PlainTemp.{PlainTemp}}, Plain.{PlainStep, PlainAnswer}}
 use Rattle.cacache_store.specs.declared.store.step.Step.TheVariants as steps
 use Rattle.cacache_entry.specs.{Latest.{Found}, Bucket.{entries_of}, FittingEntries.{IsEntry}}
-use Rattle.cacache_calls.specs.{declared.{carried.{Aim.{Aim}, Commit.{Commit}, Lookup.{Lookup}}, command.Command.{Command}, reply.Reply.TheVariants.{Read}}, Answers.{done_in, temp_in, written_in, synced_in, there_in, taken_in, bytes_in}, Common.{fails, ends_with, sync_up}, ContentReads.{checked, answer_there, answer_absent}, Inserting.{insertion, deletion, bucket_line, recorded, after_append, insert, refused_cause}, Looking.{found_in, found_for, after_bucket, no_bucket}, Sound.{SoundCommit, Sound}, State.{State, doing, creating, writing, syncing, persisting, confirming, appending, looking, reading, asking, over, Site, Insertion, make_folder, remove, sync_file, sync_dir}, StepPaths.{content_folder, content_path, content_folders, bucket_path, bucket_folders, temp_path}, Storing.{placed, secured, secured_found, write_rest, after_write, after_confirm}, Table.{wants, after, opening}}
+use Rattle.cacache_calls.specs.{declared.{carried.{Aim.{Aim}, Commit.{Commit}, Content.{Content as Stored}, Lookup.{Lookup}}, command.{Command.{Command}, Export.{Export}, How.{How, TheVariants.{Copy, Reflink, HardLink}}}, reply.Reply.TheVariants.{Copied, Read}, target.Target.{Target}, visit.Visit.{Visit, TheVariants.{Enter}}}, Answers.{done_in, temp_in, written_in, synced_in, there_in, taken_in, bytes_in, file_in, got_in, length_in}, Common.{fails, ends_with, sync_up}, ContentReads.{checked, answer_there, answer_absent}, Exporting.{export_from, export_content, export, copied_count}, Inserting.{insertion, deletion, bucket_line, recorded, after_append, insert, refused_cause}, Linking.{link_target, commit_for, hashed_path, after_size, after_read}, Looking.{found_in, found_for, found_content, after_bucket, no_bucket}, Sound.{SoundCommit, SoundTarget, Sound, MayBegin}, State.{State, doing, creating, writing, syncing, persisting, linking, confirming, appending, looking, reading, asking, sizing, opening_file, hashing, copying, walking, over, Site, Insertion, Hashing, to_verify, to_link, make_folder, remove, reflink, hard_link, sync_file, sync_dir}, StepPaths.{content_folder, content_path, content_folders, bucket_path, bucket_folders}, Storing.{placed, secured, secured_found, write_rest, after_write, after_confirm}, Table.{wants, after, opening}}
 use Rattle.cacache_calls.proofs.{Branches.{cond_leads, go_on_leads}, Leading.{moves_on, places, inserts}, Sound.{some_is}}
 use Rattle.cacache_calls.specs.declared.carried.Aim.TheVariants as aims
 use Rattle.cacache_calls.specs.declared.command.Command.TheVariants as commands
-use Rattle.cacache_value.specs.{Kinds.{PathKind, Content, Bucket, Temporary, Way, path_kind, kind_below, is_used, IsFor}, Acts.{list_of}, Placed.{Placed}, Shows.{ShowsBucket}, Value.{value_of_tree}}
+use Rattle.cacache_calls.specs.declared.command.Source.TheVariants as sources
+use Rattle.cacache_value.specs.{Kinds.{PathKind, Content, Bucket, Temporary, Way, Elsewhere, path_kind, kind_below, is_used, IsFor}, Acts.{list_of}, Placed.{Placed, Proper}, OpeningTrees.{LieApart}, Shows.{ShowsBucket}, Value.{value_of_tree}}
 use Rattle.cacache_value.proofs.{KindsApart.{above, kind-below}, PathKinds.{paths_are_for}, Shows.{trees_show}}
 use Rattle.cacache_store.specs.declared.store.answer.Answer.TheVariants as answers
 use Rattle.cacache_disk.specs.{declared.luck.Luck.{Luck}, Tree.{Tree}, Apply.{apply}, Rooted.{Rooted}}
-use Rattle.cacache_system_model.{specs.callers.{Storing.{IsNotFor}, Seen.{StoresLooksOrRemoves}}, proofs.callers.Files.{IsAim, IsState}}
+use Rattle.cacache_system_model.specs.callers.{Storing.{IsNotFor, Stores}, Seen.{KeepsFolders}}
 
 -- ---- the folders that lead to a path are ways
 
@@ -85,13 +86,25 @@ bucket_apart cache key = not_temporary (home_of cache) Bucket (names_of (joined 
 
 -- ---- states
 
--- the paths that a state reads, removes and syncs, there and behind it
+-- a walk begins by listing a folder
+abbrev Begins : Visit → Type 0
+Begins (Enter p level) = Unit {0}
+Begins v = ⊥
+
+-- the paths that a state reads, links, removes and syncs, there and behind it
 abbrev pub HasPaths : Option Names → State → Type 0
 HasPaths h (doing (remove p) s) = IsNotFor h Temporary p × HasPaths h s
+HasPaths h (doing (reflink p q) s) = IsNotFor h Temporary p × HasPaths h s
+HasPaths h (doing (hard_link p q) s) = IsNotFor h Temporary p × HasPaths h s
 HasPaths h (doing (sync_file p) s) = IsNotFor h Temporary p × HasPaths h s
 HasPaths h (doing (sync_dir p) s) = IsFor h Way p × HasPaths h s
 HasPaths h (doing errand s) = HasPaths h s
 HasPaths h (reading k) = IsIntegrity k.integrity
+HasPaths h (sizing t) = IsNotFor h Temporary t.path
+HasPaths h (opening_file x) = IsNotFor h Temporary (hashed_path x)
+HasPaths h (hashing x file bytes) = IsNotFor h Temporary (hashed_path x)
+HasPaths h (copying from to count) = IsNotFor h Temporary from
+HasPaths h (walking w v todo) = Begins v
 HasPaths h s = Unit {0}
 
 module _ (h : Option Names) where
@@ -122,17 +135,28 @@ module _ (h : Option Names) where
   rest_paths c file [] = moves_on (λ s. HasPaths h (doing (make_folder (content_folder c.cache c.computed)) s)) c file tt tt
   rest_paths c file (b ∷ bs) = tt
 
-look_paths : (l : Lookup) (aim : Aim) (found : Option Found) → IsAim aim → HasIntegrity found → HasPaths (home_of l.cache) (found_for l aim found)
-look_paths l aims.Report found is has = tt
-look_paths l aims.Read None is has = tt
-look_paths l aims.Read (Some f) is has = has
-look_paths l aims.Remove None is has = (bucket_apart l.cache l.key, tt)
-look_paths l aims.Remove (Some f) is has = (content_apart l.cache f.integrity has, (bucket_apart l.cache l.key, tt))
-look_paths l (aims.Export x) found is has = absurd is
+how_paths : (h : Option Names) (how : How) (from to : List ℕ) (count : Option ℕ) → IsNotFor h Temporary from → HasPaths h (export_from how from to count)
+how_paths h Copy from to count other = other
+how_paths h Reflink from to count other = (other, tt)
+how_paths h HardLink from to count other = (other, tt)
 
-unread_paths : (l : Lookup) (fault : Fault) → IsAim l.aim → HasPaths (home_of l.cache) (no_bucket l fault)
-unread_paths l faults.NotFound is = look_paths l l.aim None is tt
-unread_paths l fault is = tt
+export_paths : (k : Stored) (e : Export) → IsIntegrity k.integrity → HasPaths (home_of k.cache) (export k e)
+export_paths k e is =
+    cond_leads (HasPaths (home_of k.cache)) e.checked (opening_file (to_verify k e)) (export_content k e None) (λ _. content_apart k.cache k.integrity is)
+    (λ _. how_paths (home_of k.cache) e.how (content_path k.cache k.integrity) e.to None (content_apart k.cache k.integrity is))
+
+look_paths : (l : Lookup) (aim : Aim) (found : Option Found) → HasIntegrity found → HasPaths (home_of l.cache) (found_for l aim found)
+look_paths l aims.Report found has = tt
+look_paths l aims.Read None has = tt
+look_paths l aims.Read (Some f) has = has
+look_paths l aims.Remove None has = (bucket_apart l.cache l.key, tt)
+look_paths l aims.Remove (Some f) has = (content_apart l.cache f.integrity has, (bucket_apart l.cache l.key, tt))
+look_paths l (aims.Export e) None has = tt
+look_paths l (aims.Export e) (Some f) has = export_paths (found_content l f) e has
+
+unread_paths : (l : Lookup) (fault : Fault) → HasPaths (home_of l.cache) (no_bucket l fault)
+unread_paths l faults.NotFound = look_paths l l.aim None tt
+unread_paths l fault = tt
 
 -- a sound commit's content
 commit_ways : (site : Site) (c : Commit) → SoundCommit site c → AllWays (home_of site.cache) (content_folders c.cache c.computed)
@@ -145,89 +169,113 @@ commit_apart site c sound =
     subst (λ (x : List ℕ). IsNotFor (home_of site.cache) Temporary (content_path x c.computed)) (sym sound.here)
     (subst (λ (i : List Hash). IsNotFor (home_of site.cache) Temporary (content_path site.cache i)) (sym sound.computed_of) (own_content_apart site.cache c.options.algorithm sound.bytes))
 
-module _ (site : Site) (may outside : List ℕ → Bool) (a : PlainAnswer) where
+module _ (site : Site) (may outside : List ℕ → Bool) where
+  abbrev h : Option Names
+  h = home_of site.cache
+
   abbrev P : State → Type 0
-  P s = HasPaths (home_of site.cache) s
+  P s = HasPaths h s
+
+  -- of a file that was read
+  read_paths : (x : Hashing) (bytes : List ℕ) (g : PlainFile × List ℕ) → IsNotFor h Temporary (hashed_path x) → P (after_read x bytes g)
+  read_paths x bytes (file, b ∷ bs) other = other
+  read_paths (to_link t) bytes (file, []) other = tt
+  read_paths (to_verify k e) bytes (file, []) other =
+      cond_leads P (meets k.integrity bytes) (export_content k e (Some (length bytes))) (ends_with (IntegrityError (Check k.integrity (actual k.integrity bytes))))
+      (λ _. how_paths h e.how (content_path k.cache k.integrity) e.to (Some (length bytes)) other) (λ _. tt)
 
   -- behind an answer, by which what was found has an integrity
-  pub paths_after : (s : State) → IsState s → Sound site may outside s → P s → ((l : Lookup) (bytes : List ℕ) → s ≡ looking l → bytes_in a ≡ Ok bytes → HasIntegrity (found_in l.key bytes)) → P (after s a)
-  paths_after (doing (make_folder p) s) is sound h has = go_on_leads P (done_in a) fails (λ _. s) tt (λ fault. tt) (λ x e. h)
-  paths_after (doing (remove p) s) is sound h has = go_on_leads P (done_in a) fails (λ _. s) tt (λ fault. tt) (λ x e. h.1)
-  paths_after (doing (sync_file p) s) is sound h has = go_on_leads P (done_in a) fails (λ _. s) tt (λ fault. tt) (λ x e. h.1)
-  paths_after (doing (sync_dir p) s) is sound h has = go_on_leads P (done_in a) fails (λ _. s) tt (λ fault. tt) (λ x e. h.1)
-  paths_after (creating number c rest) is sound h has = go_on_leads P (temp_in a) fails (λ file. write_rest c file rest) tt (λ fault. tt) (λ file e. rest_paths (home_of site.cache) c file rest)
-  paths_after (writing c file rest) is sound h has =
+  pub paths_after : (a : PlainAnswer) (s : State) → ((step : PlainStep) → wants s ≡ Some step → KeepsFolders step) → Sound site may outside s → P s
+      → ((l : Lookup) (bytes : List ℕ) → s ≡ looking l → bytes_in a ≡ Ok bytes → HasIntegrity (found_in l.key bytes)) → P (after s a)
+  paths_after a (doing (make_folder p) s) kind sound paths has = go_on_leads P (done_in a) fails (λ _. s) tt (λ fault. tt) (λ x e. paths)
+  paths_after a (doing errand s) kind sound paths has = go_on_leads P (done_in a) fails (λ _. s) tt (λ fault. tt) (λ x e. paths.1)
+  paths_after a (creating number c rest) kind sound paths has = go_on_leads P (temp_in a) fails (λ file. write_rest c file rest) tt (λ fault. tt) (λ file e. rest_paths h c file rest)
+  paths_after a (writing c file rest) kind sound paths has =
       go_on_leads P (written_in a) fails (after_write c rest) tt (λ fault. tt)
-      (λ w e. cond_leads P (w.1 == 0) (fails faults.WriteZero) (write_rest c w.0 (drop w.1 rest)) (λ _. tt) (λ _. rest_paths (home_of site.cache) c w.0 (drop w.1 rest)))
-  paths_after (syncing c file) is sound h has = go_on_leads P (synced_in a) fails (persisting c) tt (λ fault. tt) (λ new e. tt)
-  paths_after (persisting c file) is sound h has =
-      go_on_leads P (done_in a) (confirming c) (λ _. secured c) tt (λ fault. tt) (λ x e. secured_paths (home_of site.cache) c (commit_ways site c sound.0))
-  paths_after (confirming c fault) is sound h has =
+      (λ w e. cond_leads P (w.1 == 0) (fails faults.WriteZero) (write_rest c w.0 (drop w.1 rest)) (λ _. tt) (λ _. rest_paths h c w.0 (drop w.1 rest)))
+  paths_after a (syncing c file) kind sound paths has = go_on_leads P (synced_in a) fails (persisting c) tt (λ fault. tt) (λ new e. tt)
+  paths_after a (persisting c file) kind sound paths has =
+      go_on_leads P (done_in a) (confirming c) (λ _. secured c) tt (λ fault. tt) (λ x e. secured_paths h c (commit_ways site c sound.0))
+  paths_after a (linking c target) kind sound paths has =
+      go_on_leads P (done_in a) (confirming c) (λ _. secured c) tt (λ fault. tt) (λ x e. secured_paths h c (commit_ways site c sound.0))
+  paths_after a (confirming c fault) kind sound paths has =
       go_on_leads P (there_in a) (λ _. fails fault) (after_confirm c fault) tt (λ is_said. tt)
-      (λ there e. cond_leads P there (secured_found c) (fails fault) (λ _. found_paths (home_of site.cache) c (commit_ways site c sound) (commit_apart site c sound)) (λ _. tt))
-  paths_after (appending i) is sound h has =
+      (λ there e. cond_leads P there (secured_found c) (fails fault) (λ _. found_paths h c (commit_ways site c sound) (commit_apart site c sound)) (λ _. tt))
+  paths_after a (appending i) kind sound paths has =
       go_on_leads P (taken_in a) fails (after_append i) tt (λ fault. tt)
       (λ n e. cond_leads P (nat_le (length (bucket_line i)) n) (recorded i) (fails faults.ShortAppend)
-      (λ _. recorded_paths (home_of site.cache) i
-      (subst (λ (x : List ℕ). IsNotFor (home_of site.cache) Temporary (bucket_path x i.entry.key)) (sym sound.0.here) (bucket_apart site.cache i.entry.key))
-      (subst (λ (x : List ℕ). AllWays (home_of site.cache) (bucket_folders x i.entry.key)) (sym sound.0.here) (bucket_ways site.cache i.entry.key)))
+      (λ _. recorded_paths h i
+      (subst (λ (x : List ℕ). IsNotFor h Temporary (bucket_path x i.entry.key)) (sym sound.0.here) (bucket_apart site.cache i.entry.key))
+      (subst (λ (x : List ℕ). AllWays h (bucket_folders x i.entry.key)) (sym sound.0.here) (bucket_ways site.cache i.entry.key)))
       (λ _. tt))
-  paths_after (looking l) is sound h has =
+  paths_after a (looking l) kind sound paths has =
       subst (λ (x : List ℕ). HasPaths (home_of x) (after (looking l) a)) sound.0
-      (go_on_leads (HasPaths (home_of l.cache)) (bytes_in a) (no_bucket l) (after_bucket l) tt (λ fault. unread_paths l fault is)
-      (λ bytes e. look_paths l l.aim (found_in l.key bytes) is (has l bytes refl e)))
-  paths_after (reading k) is sound h has =
+      (go_on_leads (HasPaths (home_of l.cache)) (bytes_in a) (no_bucket l) (after_bucket l) tt (unread_paths l)
+      (λ bytes e. look_paths l l.aim (found_in l.key bytes) (has l bytes refl e)))
+  paths_after a (reading k) kind sound paths has =
       go_on_leads P (bytes_in a) fails (checked k) tt (λ fault. tt)
       (λ bytes e. cond_leads P (meets k.integrity bytes) (over (Read bytes)) (ends_with (IntegrityError (Check k.integrity (actual k.integrity bytes)))) (λ _. tt) (λ _. tt))
-  paths_after (asking k) is sound h has = go_on_leads P (there_in a) answer_absent answer_there tt (λ fault. tt) (λ there e. tt)
-  paths_after (over reply) is sound h has = tt
-  paths_after s is sound h has = absurd is
+  paths_after a (asking k) kind sound paths has = go_on_leads P (there_in a) answer_absent answer_there tt (λ fault. tt) (λ there e. tt)
+  paths_after a (sizing t) kind sound paths has = go_on_leads P (length_in a) fails (after_size t) tt (λ fault. tt) (λ n e. paths)
+  paths_after a (opening_file x) kind sound paths has = go_on_leads P (file_in a) fails (λ file. hashing x file []) tt (λ fault. tt) (λ file e. paths)
+  paths_after a (hashing x file bytes) kind sound paths has = go_on_leads P (got_in a) fails (after_read x bytes) tt (λ fault. tt) (λ g e. read_paths x bytes g paths)
+  paths_after a (copying from to count) kind sound paths has = go_on_leads P (taken_in a) fails (λ n. over (Copied (copied_count count n))) tt (λ fault. tt) (λ n e. tt)
+  paths_after a (walking w (Enter p level) todo) kind sound paths has = absurd (kind (steps.ReadDir p) refl)
+  paths_after a (walking w v todo) kind sound paths has = absurd paths
+  paths_after a (over reply) kind sound paths has = tt
+
+  -- ---- steps
+
+  abbrev WantedStores : Option PlainStep → Type 0
+  WantedStores None = Unit {0}
+  WantedStores (Some step) = Stores h step
+
+  pub wants_apart : (s : State) (step : PlainStep) → KeepsFolders step → Sound site may outside s → P s → wants s ≡ Some step → Stores h step
+  wants_apart (doing (make_folder p) s) step kind sound paths w = some_is (Stores h) (steps.MakeDirs p) step w tt
+  wants_apart (doing (remove p) s) step kind sound paths w = some_is (Stores h) (steps.RemoveFile p) step w paths.0
+  wants_apart (doing (reflink p q) s) step kind sound paths w = some_is (Stores h) (steps.Reflink p q) step w paths.0
+  wants_apart (doing (hard_link p q) s) step kind sound paths w = some_is (Stores h) (steps.HardLink p q) step w paths.0
+  wants_apart (doing (sync_file p) s) step kind sound paths w = some_is (Stores h) (steps.SyncFile p) step w paths.0
+  wants_apart (doing (sync_dir p) s) step kind sound paths w = some_is (Stores h) (steps.SyncDir p) step w paths.0
+  wants_apart (looking l) step kind sound paths w =
+      some_is (Stores h) (steps.ReadAll (bucket_path l.cache l.key)) step w
+      (subst (λ (x : List ℕ). IsNotFor h Temporary (bucket_path x l.key)) (sym sound.0) (bucket_apart site.cache l.key))
+  wants_apart (reading k) step kind sound paths w =
+      some_is (Stores h) (steps.ReadAll (content_path k.cache k.integrity)) step w
+      (subst (λ (x : List ℕ). IsNotFor h Temporary (content_path x k.integrity)) (sym sound) (content_apart site.cache k.integrity paths))
+  wants_apart (sizing t) step kind sound paths w = some_is (Stores h) (steps.Size t.path) step w paths
+  wants_apart (opening_file x) step kind sound paths w = some_is (Stores h) (steps.Open (hashed_path x)) step w paths
+  wants_apart (copying from to count) step kind sound paths w = some_is (Stores h) (steps.Copy from to) step w paths
+  wants_apart (walking v (Enter p level) todo) step kind sound paths w = absurd (some_is (λ x. KeepsFolders x → ⊥) (steps.ReadDir p) step w (λ k. k) kind)
+  wants_apart (walking v visit todo) step kind sound paths w = absurd paths
+  wants_apart (over reply) step kind sound paths w = let no : None ≡ Some step = w in absurd cc
+  wants_apart s step kind sound paths w = subst WantedStores w tt
+
+-- ---- where calls begin
 
 insert_paths : (h : Option Names) (i : Insertion) → HasPaths h (insert i)
 insert_paths h i = inserts (HasPaths h) (λ reply. tt) (λ folder j. tt) i (refused_cause i)
 
-pub opens_paths : (site : Site) (command : Command) → StoresLooksOrRemoves command → NamesIntegrity command → HasPaths (home_of site.cache) (opening site command)
-opens_paths site (commands.Put p) stores named = tt
-opens_paths site (commands.Insert i) stores named = insert_paths (home_of site.cache) (insertion site.cache i)
-opens_paths site (commands.Delete d) stores named = insert_paths (home_of site.cache) (deletion site.cache d)
-opens_paths site (commands.Find key) stores named = tt
-opens_paths site (commands.Get key) stores named = tt
-opens_paths site (commands.GetHash i) stores named = named
-opens_paths site (commands.Exists i) stores named = tt
-opens_paths site (commands.RemoveHash i) stores named = (content_apart site.cache i named, tt)
-opens_paths site (commands.RemoveFully key) stores named = tt
-opens_paths site command stores named = absurd stores
+-- a target outside is apart from the temporary files
+target_apart : (s : Setup) (n : ℕ) (t : Target ℕ) → LieApart (home s) s.outside → SoundTarget (call_site s n) t → is_outside s t.path ≡ true → IsNotFor (home s) Temporary t.path
+target_apart s n t apart sound outside =
+    let c = commit_for t [] in
+    let few : 0 < 2 ^ 64 = omega arith in
+    let commit : SoundCommit (call_site s n) c = record { here = sound.here; bytes = []; computed_of = refl; formed = sound.formed [] few } in
+    let proper : Proper (home s) (steps.Symlink t.path (content_path c.cache c.computed))
+    = sound_proper s n apart (linking c t.path) (steps.Symlink t.path (content_path c.cache c.computed)) (commit, outside) refl in
+    not_temporary (home s) Elsewhere (names_of t.path) (λ e. cc) proper.1
 
--- ---- steps
-
-abbrev pub StepApart : Option Names → PlainStep → Type 0
-StepApart h (steps.ReadAll p) = IsNotFor h Temporary p
-StepApart h (steps.RemoveFile p) = IsNotFor h Temporary p
-StepApart h (steps.SyncFile p) = IsNotFor h Temporary p
-StepApart h (steps.SyncDir p) = IsFor h Way p
-StepApart h step = Unit {0}
-
-pub wants_apart : (site : Site) (may outside : List ℕ → Bool) (s : State) (step : PlainStep) → IsState s → Sound site may outside s → HasPaths (home_of site.cache) s → wants s ≡ Some step
-    → StepApart (home_of site.cache) step
-wants_apart site may outside (doing (make_folder p) s) step is sound h w = some_is (StepApart (home_of site.cache)) (steps.MakeDirs p) step w tt
-wants_apart site may outside (doing (remove p) s) step is sound h w = some_is (StepApart (home_of site.cache)) (steps.RemoveFile p) step w h.0
-wants_apart site may outside (doing (sync_file p) s) step is sound h w = some_is (StepApart (home_of site.cache)) (steps.SyncFile p) step w h.0
-wants_apart site may outside (doing (sync_dir p) s) step is sound h w = some_is (StepApart (home_of site.cache)) (steps.SyncDir p) step w h.0
-wants_apart site may outside (creating number c rest) step is sound h w = some_is (StepApart (home_of site.cache)) (steps.CreateTemp (temp_path c.cache number)) step w tt
-wants_apart site may outside (writing c file rest) step is sound h w = some_is (StepApart (home_of site.cache)) (steps.Write file rest) step w tt
-wants_apart site may outside (syncing c file) step is sound h w = some_is (StepApart (home_of site.cache)) (steps.SyncTemp file) step w tt
-wants_apart site may outside (persisting c file) step is sound h w = some_is (StepApart (home_of site.cache)) (steps.Persist file (content_path c.cache c.computed)) step w tt
-wants_apart site may outside (confirming c fault) step is sound h w = some_is (StepApart (home_of site.cache)) (steps.Exists (content_path c.cache c.computed)) step w tt
-wants_apart site may outside (appending i) step is sound h w = some_is (StepApart (home_of site.cache)) (steps.Append (bucket_path i.cache i.entry.key) (bucket_line i)) step w tt
-wants_apart site may outside (looking l) step is sound h w =
-    some_is (StepApart (home_of site.cache)) (steps.ReadAll (bucket_path l.cache l.key)) step w
-    (subst (λ (x : List ℕ). IsNotFor (home_of site.cache) Temporary (bucket_path x l.key)) (sym sound.0) (bucket_apart site.cache l.key))
-wants_apart site may outside (reading k) step is sound h w =
-    some_is (StepApart (home_of site.cache)) (steps.ReadAll (content_path k.cache k.integrity)) step w
-    (subst (λ (x : List ℕ). IsNotFor (home_of site.cache) Temporary (content_path x k.integrity)) (sym sound) (content_apart site.cache k.integrity h))
-wants_apart site may outside (asking k) step is sound h w = some_is (StepApart (home_of site.cache)) (steps.Exists (content_path k.cache k.integrity)) step w tt
-wants_apart site may outside (over reply) step is sound h w = let no : None ≡ Some step = w in absurd cc
-wants_apart site may outside s step is sound h w = absurd is
+pub opens_paths : (s : Setup) (n : ℕ) (command : Command) → LieApart (home s) s.outside → MayBegin (call_site s n) (may_export s) (is_outside s) command → NamesIntegrity command
+    → HasPaths (home s) (opening (call_site s n) command)
+opens_paths s n (commands.Link l) apart may named = target_apart s n (link_target (call_site s n) l) apart may.0 may.1
+opens_paths s n (commands.Insert i) apart may named = insert_paths (home s) (insertion s.cache i)
+opens_paths s n (commands.Delete d) apart may named = insert_paths (home s) (deletion s.cache d)
+opens_paths s n (commands.GetHash i) apart may named = named
+opens_paths s n (commands.Export (sources.Key key) e) apart may named = tt
+opens_paths s n (commands.Export (sources.Hash i) e) apart may named = export_paths (record { cache = s.cache; integrity = i }) e named
+opens_paths s n (commands.RemoveHash i) apart may named = (content_apart s.cache i named, tt)
+opens_paths s n command apart may named = tt
 
 -- ---- what a lookup finds
 

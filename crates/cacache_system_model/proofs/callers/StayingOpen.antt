@@ -1,5 +1,6 @@
 -- Files that are open stay open at their names through the calls of a step.
-use Rattle.std.proofs.Common.{◌≡◌, ◌==◌, ℕ, Bool, true, false, cond, List, [], ◌∷◌, ◌++◌, Option, None, Some, Ok, inl, inr, min, refl, sym, subst, ◌∙◌}
+use Rattle.std.proofs.Common.{◌≡◌, ◌==◌, ◌||◌, ◌&&◌, not, ℕ, zero, suc, Bool, true, false, cond, List, [], ◌∷◌, ◌++◌, Option, None, Some, Ok, option_map, inl, inr, min, refl, sym, ap, subst, ◌∙◌}
+use Rattle.std.specs.{Bool.{nat_eq}, Cmp.Lexicographic.{pointwise}}
 use Rattle.std_io.specs.declared.io.kind.ErrorKind.{ErrorKind}
 use Rattle.std_io.specs.declared.io.kind.ErrorKind.TheVariants as kind
 use Rattle.cacache_core.specs.PathNames.{Names, names_of}
@@ -7,11 +8,11 @@ use Rattle.cacache_store.specs.declared.store.answer.Kind.{Kind}
 use Rattle.cacache_store.specs.declared.store.answer.Kind.TheVariants as kinds
 use Rattle.cacache_store.specs.declared.store.step.Step.TheVariants as steps
 use Rattle.cacache_disk.{specs.{declared.{luck.Luck.TheVariants.{Plain, Fail, Take}, node.Node.TheVariants.{File}}, Tree.{Tree, put}, LedTo.{free}}, proofs.FoundNodes.{free_ok}}
-use Rattle.cacache_system.specs.{declared.call.{FileInfo.{FileInfo}, SystemCall.{SystemCall}, CallItem.{CallItem}, CallResult.{CallResult}}, Seen.{NumberedTemp, NumberedStep}, CallsOf.{Stage, Purpose, to_give, to_sync, to_sync_folder, to_read, over, only, trying, taking_memory, opening, checking, reading_front, reading_rest, appending, standing as asking_folder, making, confirming, wants, after, was_interrupted, interrupts, is_absent, is_same_node, unless_folder, if_folder, opened, below, climb, unmade, above_of, keeping, preparing, comparing, descending, sync_again, give, descend, compared, Runs}, AnswersOf.{Hint, no_hint, is_missing, was_named, in_walk, rewrites, look_first, persist, first}}
+use Rattle.cacache_system.specs.{declared.call.{FileInfo.{FileInfo}, SystemCall.{SystemCall}, CallItem.{CallItem}, CallResult.{CallResult}}, Seen.{NumberedTemp, NumberedStep}, CallsOf.{Stage, Purpose, to_give, to_sync, to_sync_folder, to_read, over, only, trying, taking_memory, opening, checking, reading_front, reading_rest, appending, standing as asking_folder, making, confirming, sizing, asking_source, asking_target, asking_end, making_end, resolving, making_fresh, filling, replacing, scrapping, copied, place_fresh, fresh_beside, fresh_number, name_taken, already_exists, is_link, wants, after, was_interrupted, interrupts, is_absent, is_same_node, unless_folder, if_folder, opened, below, climb, unmade, above_of, keeping, preparing, comparing, descending, sync_again, give, descend, compared, Runs}, AnswersOf.{Hint, no_hint, is_missing, was_named, in_walk, rewrites, look_first, persist, first}}
 use Rattle.cacache_system.specs.declared.call.SystemCall.TheVariants as asks
 use Rattle.cacache_system.specs.declared.call.CallResult.TheVariants as says
 use Rattle.cacache_system_model.specs.{Machine.{Machine, OpensIf}, Calls.{OccursSomehow, EachCall}, callers.Opened.{IsOpenAt, KeepsOpen, StillStores, RunsKeepOpen}}
-use Rattle.cacache_system_model.proofs.{callers.OpenCalls.{Moves, keeps_same, keeps_self, Readable, IsOpenNumber, Safe, occurs_keep, front_left, rest_left, stat_left, readable_on, Unchanged, look_left, link_look_left, Readies, readied, open_ready, append_ready, opens_number}, memory.Places.{place_led}}
+use Rattle.cacache_system_model.proofs.{callers.{FreshFiles.{IsNew, new_moves, made_new, filled_new}, OpenCalls.{Moves, names_at, CanRead, keeps_same, keeps_self, Readable, IsOpenNumber, Safe, occurs_keep, front_left, rest_left, stat_left, readable_on, Unchanged, look_left, link_look_left, Readies, readied, open_ready, append_ready, opens_number}}, memory.Places.{place_led}}
 
 -- ---- stages
 
@@ -20,6 +21,7 @@ abbrev IsSafe : Stage → Machine → Type 0
 IsSafe (over r) m = Unit {0}
 IsSafe (only call) m = Safe m call
 IsSafe (trying again (asks.Write number bytes)) m = IsOpenNumber m number
+IsSafe (trying again (asks.Read number size)) m = Readable m number
 IsSafe (taking_memory s) m = IsSafe s m
 IsSafe (opening purpose path) m = Unit {0}
 IsSafe (checking purpose number) m = Readable m number
@@ -31,6 +33,16 @@ IsSafe (making again path todo) m = Unit {0}
 IsSafe (confirming why path todo) m = Unit {0}
 IsSafe (keeping number temp synced path s) m = IsOpenNumber m number × ((n : Machine) → Unchanged m n → IsSafe s n)
 IsSafe (preparing call s) m = Readies m call × ((n : Machine) → Unchanged m n → IsSafe s n)
+IsSafe (sizing path) m = Unit {0}
+IsSafe (asking_source from to) m = Unit {0}
+IsSafe (asking_target source from to) m = Unit {0}
+IsSafe (asking_end source from to) m = Unit {0}
+IsSafe (making_end number from to) m = Unit {0}
+IsSafe (resolving number from to) m = Unit {0}
+IsSafe (making_fresh left number from path) m = Unit {0}
+IsSafe (filling from fresh path) m = IsNew m.tree fresh
+IsSafe (replacing count fresh path) m = Moves m.tree fresh
+IsSafe (scrapping why fresh) m = Unit {0}
 IsSafe (comparing node path entered s) m = IsSafe s m
 IsSafe (descending path entered s) m = IsSafe s m
 IsSafe s m = ⊥
@@ -152,6 +164,60 @@ line_safe : (path bytes : List ℕ) (said : CallResult) (m n : Machine) → Occu
 line_safe path bytes (says.Opened number) m n h = append_ready path m n number h
 line_safe path bytes said m n h = tt
 
+-- ---- copies
+
+size_safe : (path : List ℕ) (said : CallResult) (m : Machine) → IsSafe (after (sizing path) said) m
+size_safe path (says.Info info) m = unless_safe info.kind (over (says.Info info)) m tt
+size_safe path said m = tt
+
+source_safe : (from to : List ℕ) (said : CallResult) (m : Machine) → IsSafe (after (asking_source from to) said) m
+source_safe from to (says.Info source) m = cond_safe source.regular (asking_target source from to) _ m tt tt
+source_safe from to said m = tt
+
+copied_safe : (through : Bool) (source target : FileInfo) (from to : List ℕ) (m : Machine) → IsSafe (copied through source target from to) m
+copied_safe through source target from to m =
+    unless_safe target.kind _ m
+    (cond_safe (pointwise nat_eq from to || is_same_node source target) _ _ m tt
+    (cond_safe (not target.regular) _ _ m tt (cond_safe through (resolving source.inode from to) (place_fresh source.inode from to) m tt tt)))
+
+target_safe : (source : FileInfo) (from to : List ℕ) (said : CallResult) (m : Machine) → IsSafe (after (asking_target source from to) said) m
+target_safe source from to (says.Info target) m = cond_safe (is_link target.kind) (asking_end source from to) (copied false source target from to) m tt (copied_safe false source target from to m)
+target_safe source from to (says.Failed why) m = cond_safe (is_absent why) (place_fresh source.inode from to) (over (says.Failed why)) m tt tt
+target_safe source from to said m = tt
+
+end_safe : (source : FileInfo) (from to : List ℕ) (said : CallResult) (m : Machine) → IsSafe (after (asking_end source from to) said) m
+end_safe source from to (says.Info target) m = copied_safe true source target from to m
+end_safe source from to (says.Failed why) m = cond_safe (is_absent why) (making_end source.inode from to) (over (says.Failed why)) m tt tt
+end_safe source from to said m = tt
+
+made_end_safe : (number : ℕ) (from to : List ℕ) (said : CallResult) (m : Machine) → IsSafe (after (making_end number from to) said) m
+made_end_safe number from to (says.Opened file) m = tt
+made_end_safe number from to said m = tt
+
+resolved_safe : (number : ℕ) (from to : List ℕ) (said : CallResult) (m : Machine) → IsSafe (after (resolving number from to) said) m
+resolved_safe number from to (says.Bytes path) m = tt
+resolved_safe number from to said m = tt
+
+taken_safe : (left number : ℕ) (why : ErrorKind) (from path : List ℕ) (m : Machine) → IsSafe (name_taken left number why from path) m
+taken_safe zero number why from path m = tt
+taken_safe (suc left) number why from path m = cond_safe (already_exists why) (taking_memory (making_fresh left number from path)) (over (says.Failed why)) m tt tt
+
+fresh_safe : (left number : ℕ) (from path : List ℕ) (said : CallResult) (m n : Machine) → OccursSomehow m (asks.CreateNew (fresh_beside path (fresh_number left number)) 384) said n
+    → IsSafe (after (making_fresh left number from path) said) n
+fresh_safe left number from path (says.Opened file) m n h = made_new (fresh_beside path (fresh_number left number)) 384 m n file h
+fresh_safe left number from path (says.Failed why) m n h = taken_safe left number why from path n
+fresh_safe left number from path said m n h = tt
+
+filled_safe : (from fresh path : List ℕ) (said : CallResult) (m n : Machine) → IsNew m.tree fresh → OccursSomehow m (asks.CopyFile from fresh) said n → IsSafe (after (filling from fresh path) said) n
+filled_safe from fresh path (says.Count size) m n new h = new_moves n.tree fresh (filled_new from fresh m n size new h)
+filled_safe from fresh path (says.Failed why) m n new h = tt
+filled_safe from fresh path said m n new h = tt
+
+replaced_safe : (count : ℕ) (fresh path : List ℕ) (said : CallResult) (m : Machine) → IsSafe (after (replacing count fresh path) said) m
+replaced_safe count fresh path says.Done m = tt
+replaced_safe count fresh path (says.Failed why) m = tt
+replaced_safe count fresh path said m = tt
+
 at_call : (a call : SystemCall) (m n : Machine) (said : CallResult) → Some a ≡ Some call → OccursSomehow m call said n → OccursSomehow m a said n
 at_call a call m n said w h = let same : a ≡ call = cc in subst (λ (x : SystemCall). OccursSomehow m x said n) (sym same) h
 
@@ -161,7 +227,24 @@ goes_safe (only c) m n call said safe w h = (occurs_keep c m n said safe (at_cal
 goes_safe (trying again (asks.Write number bytes)) m n call said safe w h =
     let keeps = occurs_keep (asks.Write number bytes) m n said safe (at_call (asks.Write number bytes) call m n said w h) in
     (keeps, cond_safe (was_interrupted said) (trying true (asks.Write number bytes)) (over said) n (safe.0, keeps number safe.0 safe.1) tt)
+goes_safe (trying again (asks.Read number size)) m n call said safe w h =
+    let left = front_left number size m n said safe (at_call (asks.Read number size) call m n said w h) in
+    (left.0, cond_safe (was_interrupted said) (trying true (asks.Read number size)) (over said) n (readable_on number m n safe left) tt)
 goes_safe (trying again c) m n call said safe w h = absurd safe
+goes_safe (sizing path) m n call said safe w h = (occurs_keep (asks.Stat path) m n said tt (at_call (asks.Stat path) call m n said w h), size_safe path said n)
+goes_safe (asking_source from to) m n call said safe w h = (occurs_keep (asks.Stat from) m n said tt (at_call (asks.Stat from) call m n said w h), source_safe from to said n)
+goes_safe (asking_target source from to) m n call said safe w h = (occurs_keep (asks.StatLink to) m n said tt (at_call (asks.StatLink to) call m n said w h), target_safe source from to said n)
+goes_safe (asking_end source from to) m n call said safe w h = (occurs_keep (asks.Stat to) m n said tt (at_call (asks.Stat to) call m n said w h), end_safe source from to said n)
+goes_safe (making_end number from to) m n call said safe w h = (occurs_keep (asks.OpenToAppend to) m n said tt (at_call (asks.OpenToAppend to) call m n said w h), made_end_safe number from to said n)
+goes_safe (resolving number from to) m n call said safe w h = (occurs_keep (asks.RealPath to) m n said tt (at_call (asks.RealPath to) call m n said w h), resolved_safe number from to said n)
+goes_safe (making_fresh left number from path) m n call said safe w h =
+    let fresh = asks.CreateNew (fresh_beside path (fresh_number left number)) 384 in
+    let happens = at_call fresh call m n said w h in (occurs_keep fresh m n said tt happens, fresh_safe left number from path said m n happens)
+goes_safe (filling from fresh path) m n call said safe w h =
+    let happens = at_call (asks.CopyFile from fresh) call m n said w h in (occurs_keep (asks.CopyFile from fresh) m n said tt happens, filled_safe from fresh path said m n safe happens)
+goes_safe (replacing count fresh path) m n call said safe w h =
+    (occurs_keep (asks.Rename fresh path) m n said safe (at_call (asks.Rename fresh path) call m n said w h), replaced_safe count fresh path said n)
+goes_safe (scrapping why fresh) m n call said safe w h = (occurs_keep (asks.RemoveFile fresh) m n said tt (at_call (asks.RemoveFile fresh) call m n said w h), tt)
 goes_safe (taking_memory s) m n call said safe w h = goes_safe s m n call said safe w h
 goes_safe (opening purpose path) m n call said safe w h =
     let happens = at_call (asks.OpenToRead path) call m n said w h in (occurs_keep (asks.OpenToRead path) m n said tt happens, file_safe purpose path said m n happens)
@@ -224,19 +307,19 @@ persist_safe (rewrites synced hint) temp path m open_file later = (open_file, λ
 
 first_safe : (hint : Hint) (step : NumberedStep) (m : Machine) → StillStores m step → IsSafe (first hint step) m
 first_safe hint (steps.MakeDirs p) m h = dirs_safe hint p m
-first_safe hint (steps.CreateTemp p) m h = tt
 first_safe hint (steps.Write t bytes) m (names, old, still) = (names, still.opened)
 first_safe hint (steps.Persist t p) m (names, old, still) =
     persist_safe hint t p m (names, still.opened)
     (λ n same. subst (λ (x : Tree). Moves x t.path) (sym same.0) (names, old, place_led m.tree t.path names still.named still.way, still.stands))
 first_safe hint (steps.Append p bytes) m h = look_safe hint (appending p bytes) m tt
-first_safe hint (steps.ReadAll p) m h = tt
-first_safe hint (steps.Exists p) m h = tt
+first_safe hint (steps.Read f most) m (found, bytes, stays) =
+    cond_safe (f.left == 0 && not (min most 131072 == 0)) (over (says.Failed kind.FileTooLarge)) (taking_memory (trying false (asks.Read f.number (min (min most 131072) f.left)))) m tt
+    (found.names, ap (option_map names_at) stays.known, subst CanRead (sym stays.stands) tt)
+first_safe hint (steps.ReadDir p) m h = absurd h
 first_safe hint (steps.RemoveFile p) m h = look_safe hint (only (asks.RemoveFile p)) m tt
+first_safe hint (steps.RemoveDir p) m h = look_safe hint (only (asks.RemoveFolder p)) m tt
 first_safe hint (steps.SyncTemp t) m (names, old, still) = (names, still.opened)
-first_safe hint (steps.SyncFile p) m h = tt
-first_safe hint (steps.SyncDir p) m h = tt
-first_safe hint step m h = absurd h
+first_safe hint step m h = tt
 
 pub runs_keep_open : RunsKeepOpen
 runs_keep_open m n hint step items end still runs each = runs_keep (first hint step) items end m n (first_safe hint step m still) runs each

@@ -87,7 +87,6 @@ after_acts s w (act ∷ acts) = after_acts s (after_act s w act) acts
 -- an answer fits its step, if the step is of a kind for which that doesn't follow from the disk's table
 abbrev pub NeedsFit : PlainStep → PlainAnswer → Type 0
 NeedsFit (store.Open p) a = Fits (store.Open p) a
-NeedsFit (store.Read f size) a = Fits (store.Read f size) a
 NeedsFit (store.ReadDir p) a = Fits (store.ReadDir p) a
 NeedsFit step a = Unit {0}
 

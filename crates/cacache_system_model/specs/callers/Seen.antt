@@ -1,12 +1,11 @@
 -- Callers over stores of real folders, as the contracts of these stores see them: with handles that have no bytes.
 use Rattle.std.specs.Prelude.{◌≡◌, ◌≤◌, ◌<◌, ◌+◌, ◌^◌, ◌==◌, ℕ, List, [], ◌∷◌, ◌++◌, Option, None, Some, option_map, if◌then◌else◌}
-use Rattle.cacache_store.specs.{declared.store.plain.{PlainFile.{PlainFile}, PlainTemp.{PlainTemp}}, Plain.{PlainStep, PlainAnswer}}
+use Rattle.cacache_store.specs.{declared.store.{plain.{PlainFile.{PlainFile}, PlainTemp.{PlainTemp}}, step.Step.{Step}}, Plain.{PlainStep, PlainAnswer}}
 use Rattle.cacache_store.specs.declared.store.step.Step.TheVariants as store
 use Rattle.cacache_store.specs.declared.store.answer.Answer.TheVariants as answers
 use Rattle.cacache_system.specs.{Seen.{NumberedFile, NumberedTemp, NumberedStep, NumberedAnswer, step_as, answer_as}, CallsOf.{Runs}, AnswersOf.{first, answer_of}}
-use Rattle.cacache_system_model.specs.{Machine.{Machine}, Calls.{OccursSomehow, EachCall}, Chains.{StepMade}, callers.{Acts.{Act, begins, steps, ends, stops, set_state, unless_ended, after_acts, AreRecordsOf}, Made.{history_of, now_left, CacheOn, system_at, MakesHistory}, Storing.{HintStands, IsExplained}}}
-use Rattle.cacache_calls.specs.declared.command.Command.TheVariants as commands
-use Rattle.cacache_calls.specs.{declared.{command.Command.{Command}, reply.Reply.{Reply}}, State.{State}, Table.{wants, after, opening}, Sound.{MayBegin}}
+use Rattle.cacache_system_model.specs.{Machine.{Machine}, Calls.{OccursSomehow, EachCall}, Laws.{file_on}, Chains.{StepMade}, callers.{Acts.{Act, begins, steps, ends, stops, step_of, answer_in, NeedsFit, set_state, unless_ended, after_acts, AreRecordsOf}, Made.{history_of, now_left, CacheOn, system_at, MakesHistory}, Storing.{HintStands, IsExplained, IsClean}}}
+use Rattle.cacache_calls.specs.{declared.reply.Reply.{Reply}, State.{State}, Table.{wants, after, opening}, Sound.{MayBegin}}
 use Rattle.cacache_history.specs.{declared.record.Record.{Record}, Setup.{Setup, call_site, may_export, is_outside}, History.{History, Ends, NamesIntegrity}}
 
 -- an open file of a store of real folders, as contracts see it
@@ -32,18 +31,34 @@ handed (answers.Wrote t n) old = Some t
 handed (answers.Synced t) old = Some t
 handed answer old = old
 
--- what each caller was handed last, after an act
+-- the open file that an answer hands out with what it has left then, or the one before it
+abbrev pub handed_open : Machine → NumberedAnswer → Option (NumberedFile × PlainFile)
+    → Option (NumberedFile × PlainFile)
+handed_open m (answers.File f) old = Some (f, file_on m f)
+handed_open m (answers.Got f bytes) old = Some (f, file_on m f)
+handed_open m answer old = old
+
+-- the temporary file that each caller was handed last, after an act
 abbrev pub held_after : (ℕ → Option NumberedTemp) → Act → ℕ → Option NumberedTemp
 held_after held (steps caller made reply) k =
     if k == caller then handed (answer_of made.step made.end) (held caller) else held k
 held_after held act k = held k
 
--- the machine, the state of each caller's call as contracts see it, the temporary file that it was handed last, and how
--- many calls have begun
+-- the open file that each caller was handed last, after an act
+abbrev pub open_after : (ℕ → Option (NumberedFile × PlainFile)) → Act → ℕ
+    → Option (NumberedFile × PlainFile)
+open_after opened (steps caller made reply) k =
+    if k == caller then handed_open made.after (answer_of made.step made.end) (opened caller)
+    else opened k
+open_after opened act k = opened k
+
+-- the machine, the state of each caller's call as contracts see it, the temporary and the open file that it was handed
+-- last, and how many calls have begun
 pub record SeenState : Type 0 where
   pub machine : Machine
   pub states : ℕ → Option State
   pub held : ℕ → Option NumberedTemp
+  pub opened : ℕ → Option (NumberedFile × PlainFile)
   pub begun : ℕ
 
 -- a caller has no call any more
@@ -52,6 +67,7 @@ without_call caller f = record {
   machine = f.machine;
   states = set_state caller None f.states;
   held = f.held;
+  opened = f.opened;
   begun = f.begun;
 }
 
@@ -61,6 +77,7 @@ after_seen s f (begins caller command) = record {
   machine = f.machine;
   states = set_state caller (Some (opening (call_site s f.begun) command)) f.states;
   held = f.held;
+  opened = f.opened;
   begun = f.begun + 1;
 }
 after_seen s f (steps caller made reply) = record {
@@ -69,17 +86,27 @@ after_seen s f (steps caller made reply) = record {
       (unless_ended reply (option_map (λ state. after state (answer_seen (answer_of made.step made.end))) (f.states caller)))
       f.states;
   held = held_after f.held (steps caller made reply);
+  opened = open_after f.opened (steps caller made reply);
   begun = f.begun;
 }
 after_seen s f (ends caller reply) = without_call caller f
 after_seen s f (stops caller) = without_call caller f
 
--- a step on a temporary file is on the one that its caller was handed last
-abbrev pub IsOnHeld : Option NumberedTemp → NumberedStep → Type 0
-IsOnHeld held (store.Write t bytes) = held ≡ Some t
-IsOnHeld held (store.Persist t p) = held ≡ Some t
-IsOnHeld held (store.SyncTemp t) = held ≡ Some t
-IsOnHeld held step = Unit {0}
+-- A step on a temporary file is on the one that its caller was handed last. So is a step on an open file, which has as much
+-- left as it had then.
+abbrev pub IsOnHeld : Machine → Option NumberedTemp → Option (NumberedFile × PlainFile)
+    → NumberedStep → Type 0
+IsOnHeld m held opened (store.Write t bytes) = held ≡ Some t
+IsOnHeld m held opened (store.Persist t p) = held ≡ Some t
+IsOnHeld m held opened (store.Read f max) = opened ≡ Some (f, file_on m f)
+IsOnHeld m held opened (store.SyncTemp t) = held ≡ Some t
+IsOnHeld m held opened step = Unit {0}
+
+-- a step lists and removes no folder
+abbrev pub KeepsFolders : {F T : Type 0} → Step F T → Type 0
+KeepsFolders (store.ReadDir p) = ⊥
+KeepsFolders (store.RemoveDir p) = ⊥
+KeepsFolders step = Unit {0}
 
 -- A call makes the step that its state wants, as contracts see it, and the answer ends the call or not. The step's system
 -- calls are a run, and happened where the calls before them ended.
@@ -87,33 +114,23 @@ pub record MakesSeenStep (f : SeenState) (caller : ℕ) (made : StepMade) (reply
   pub state : State
   pub stands : f.states caller ≡ Some state
   pub wanted : wants state ≡ Some (step_seen made.step)
-  pub held : IsOnHeld (f.held caller) made.step
+  pub kind : KeepsFolders made.step
+  pub held : IsOnHeld made.before (f.held caller) (f.opened caller) made.step
   pub here : made.before ≡ f.machine
   pub runs : Runs (first made.hint made.step) made.items made.end
   pub each : EachCall OccursSomehow made.before made.items made.after
   pub luck : IsExplained made reply
-  pub hint : HintStands made.before.tree made.hint made.step
+  pub hint : HintStands made.before made.hint made.step
+  pub clean : IsClean made
+  pub fits : NeedsFit (step_of made) (answer_in made)
   pub over : Ends (after state (answer_seen (answer_of made.step made.end))) reply
 
--- a call that stores, looks, or removes by an address or a key
-abbrev pub StoresLooksOrRemoves : Command → Type 0
-StoresLooksOrRemoves (commands.Put p) = Unit {0}
-StoresLooksOrRemoves (commands.Insert i) = Unit {0}
-StoresLooksOrRemoves (commands.Delete d) = Unit {0}
-StoresLooksOrRemoves (commands.Find key) = Unit {0}
-StoresLooksOrRemoves (commands.Get key) = Unit {0}
-StoresLooksOrRemoves (commands.GetHash i) = Unit {0}
-StoresLooksOrRemoves (commands.Exists i) = Unit {0}
-StoresLooksOrRemoves (commands.RemoveHash i) = Unit {0}
-StoresLooksOrRemoves (commands.RemoveFully key) = Unit {0}
-StoresLooksOrRemoves command = ⊥
-
--- an act of calls that store, look or remove
+-- an act of calls of any commands
 abbrev pub MayActSeen : Setup → SeenState → Act → Type 0
 MayActSeen s f (begins caller command) =
     (caller < s.callers) × (f.states caller ≡ None)
     × MayBegin (call_site s f.begun) (may_export s) (is_outside s) command × NamesIntegrity command
-    × StoresLooksOrRemoves command × (f.begun + 1 ≤ 2 ^ 64)
+    × (f.begun + 1 ≤ 2 ^ 64)
 MayActSeen s f (steps caller made reply) = MakesSeenStep f caller made reply
 MayActSeen s f (ends caller reply) =
     (state : State) × (f.states caller ≡ Some state) × (wants state ≡ None) × Ends state (Some reply)
@@ -130,6 +147,7 @@ seen_at s m cache = record {
   machine = m;
   states = λ caller. None;
   held = λ caller. None;
+  opened = λ caller. None;
   begun = (now_left s cache.past).begun;
 }
 

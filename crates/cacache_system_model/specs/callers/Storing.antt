@@ -1,11 +1,11 @@
--- Steps of calls that store, look or remove. What their laws ask of the machine's tree follows from the acts before them.
+-- Steps of calls that list no folder. Most of what their laws ask of the machine's tree follows from the acts before them.
 use Rattle.std.specs.Prelude.{◌≡◌, ◌⊎◌, ℕ, Bool, true, List, Option, None, Some, Ok, IfOk, option_map}
 use Rattle.std_io.specs.declared.io.kind.ErrorKind.TheVariants as kind
 use Rattle.cacache_core.specs.PathNames.{Names, names_of}
+use Rattle.cacache_store.specs.Plain.{PlainStep}
 use Rattle.cacache_store.specs.declared.store.step.Step.TheVariants as steps
-use Rattle.cacache_system.specs.{declared.call.CallResult.TheVariants.{Failed}, Seen.{NumberedTemp, NumberedStep}, CallsOf.{Runs}, AnswersOf.{Hint, first}}
-use Rattle.cacache_system_model.specs.{Machine.{OpenFile, Machine}, Calls.{GoesWell, OccursSomehow, EachCall}, Laws.{IsDone}, Removing.{WalkStands}, Moving.{MayReplace}, Chains.{StepMade}, callers.{Acts.{Act, begins, steps as makes, ends, stops, SystemState, EndsFailed, step_of, answer_in, MayAct}, Made.{MakeHistories}}}
-use Rattle.cacache_disk.specs.Tree.{Tree}
+use Rattle.cacache_system.specs.{declared.call.CallResult.TheVariants.{Failed}, Seen.{NumberedTemp, NumberedStep}, CallsOf.{Runs}, AnswersOf.{Hint, first, answer_of}}
+use Rattle.cacache_system_model.specs.{Machine.{OpenFile, Machine}, Calls.{GoesWell, OccursSomehow, EachCall}, Laws.{LeavesFresh, IsDone}, Removing.{WalkStands}, Moving.{MayReplace}, Writing.{CanCopy}, Premises.{IsOpen, HasPlainLaw}, Chains.{StepMade}, callers.{Acts.{Act, begins, steps as makes, ends, stops, SystemState, EndsFailed, step_of, answer_in, NeedsFit, MayAct}, Made.{MakeHistories}}}
 use Rattle.cacache_calls.specs.{declared.reply.Reply.{Reply}, State.{State}, Table.{wants, after}}
 use Rattle.cacache_value.specs.Kinds.{PathKind, Temporary, Way, path_kind, IsFor}
 use Rattle.cacache_history.specs.{Setup.{Setup, home}, History.{Ends}}
@@ -14,20 +14,20 @@ use Rattle.cacache_history.specs.{Setup.{Setup, home}, History.{Ends}}
 abbrev pub IsNotFor : Option Names → PathKind → List ℕ → Type 0
 IsNotFor h k path = IfOk (names_of path) (λ names. path_kind h names ≡ k → ⊥)
 
--- the kinds of steps of such calls, which read, remove and sync no temporary file by its path
-abbrev pub Stores : Option Names → NumberedStep → Type 0
-Stores h (steps.MakeDirs p) = Unit {0}
-Stores h (steps.CreateTemp p) = Unit {0}
-Stores h (steps.Write t bytes) = Unit {0}
-Stores h (steps.Persist t p) = Unit {0}
-Stores h (steps.Append p bytes) = Unit {0}
+-- a step lists and removes no folder, and reads, links, removes and syncs no temporary file by its path
+abbrev pub Stores : Option Names → PlainStep → Type 0
 Stores h (steps.ReadAll p) = IsNotFor h Temporary p
-Stores h (steps.Exists p) = Unit {0}
+Stores h (steps.Open p) = IsNotFor h Temporary p
+Stores h (steps.Size p) = IsNotFor h Temporary p
+Stores h (steps.Copy p q) = IsNotFor h Temporary p
+Stores h (steps.Reflink p q) = IsNotFor h Temporary p
+Stores h (steps.HardLink p q) = IsNotFor h Temporary p
+Stores h (steps.ReadDir p) = ⊥
 Stores h (steps.RemoveFile p) = IsNotFor h Temporary p
-Stores h (steps.SyncTemp t) = Unit {0}
+Stores h (steps.RemoveDir p) = ⊥
 Stores h (steps.SyncFile p) = IsNotFor h Temporary p
 Stores h (steps.SyncDir p) = IsFor h Way p
-Stores h step = ⊥
+Stores h step = Unit {0}
 
 -- a temporary file is open under its number, at the names where it was made
 pub record IsHeld (temps : Names → Bool) (m : Machine) (temp : NumberedTemp) : Type 0 where
@@ -43,21 +43,32 @@ HoldsTemp temps m (steps.Persist t p) = IsHeld temps m t
 HoldsTemp temps m (steps.SyncTemp t) = IsHeld temps m t
 HoldsTemp temps m step = Unit {0}
 
--- the folders of a step's walk stand, and the file that it replaces, if that was read, can be looked at
-abbrev pub HintStands : Tree → Hint → NumberedStep → Type 0
-HintStands t hint (steps.Persist temp p) = MayReplace t hint p
-HintStands t hint (steps.Append p bytes) = WalkStands t hint
-HintStands t hint (steps.RemoveFile p) = WalkStands t hint
-HintStands t hint step = Unit {0}
+-- What doesn't follow from the acts before a step. The folders of its walk stand, and the file that it replaces, if that was
+-- read, can be looked at. An open file that it reads is still at its names. A copy can be made.
+abbrev pub HintStands : Machine → Hint → NumberedStep → Type 0
+HintStands m hint (steps.Persist temp p) = MayReplace m.tree hint p
+HintStands m hint (steps.Append p bytes) = WalkStands m.tree hint
+HintStands m hint (steps.Read f max) = IsOpen m f
+HintStands m hint (steps.Copy p q) = CanCopy m q
+HintStands m hint (steps.RemoveFile p) = WalkStands m.tree hint
+HintStands m hint step = Unit {0}
+
+-- none of a step's calls fails without cause, and it has what its law then asks
+abbrev pub GoesByLaw : StepMade → Type 0
+GoesByLaw made =
+    HasPlainLaw made.before made.step
+    × EachCall (GoesWell None) made.before made.items made.after
+    × (made.end ≡ Failed kind.OutOfMemory → ⊥)
 
 -- The disk's table does the step. Or none of its calls fails without cause, and the table may refuse it. Or it fails,
 -- leaves the tree as it was, and ends its call.
 abbrev pub IsExplained : StepMade → Option Reply → Type 0
 IsExplained made reply =
-    IsDone made.before made.step
-    ⊎ ((EachCall (GoesWell None) made.before made.items made.after
-    × (made.end ≡ Failed kind.OutOfMemory → ⊥))
-    ⊎ EndsFailed made reply)
+    IsDone made.before made.step ⊎ (GoesByLaw made ⊎ EndsFailed made reply)
+
+-- it isn't a copy that left its fresh file
+abbrev pub IsClean : StepMade → Type 0
+IsClean made = LeavesFresh made.before made.step (answer_of made.step made.end) made.after → ⊥
 
 -- a call makes such a step, by system calls that happened on the machine
 pub record MakesStoringStep (h : Option Names) (w : SystemState) (caller : ℕ) (made : StepMade)
@@ -67,17 +78,20 @@ pub record MakesStoringStep (h : Option Names) (w : SystemState) (caller : ℕ) 
   pub stands : w.states caller ≡ Some state
   pub here : made.before ≡ w.machine
   pub wanted : wants state ≡ Some (step_of made)
-  pub stores : Stores h made.step
+  pub stores : Stores h (step_of made)
   pub holds : HoldsTemp w.temps made.before made.step
   -- its system calls are a run, and happened under any luck
   pub runs : Runs (first made.hint made.step) made.items made.end
   pub each : EachCall OccursSomehow made.before made.items made.after
   pub luck : IsExplained made reply
-  pub hint : HintStands made.before.tree made.hint made.step
+  pub hint : HintStands made.before made.hint made.step
+  pub clean : IsClean made
+  -- a file that it opens has fewer than 2^64 bytes
+  pub fits : NeedsFit (step_of made) (answer_in made)
   -- its answer ends the call or not
   pub over : Ends (after state (answer_in made)) reply
 
--- an act of calls that store, look or remove
+-- an act of such calls
 abbrev pub MayStore : Setup → SystemState → Act → Type 0
 MayStore s w (begins caller command) = MayAct s w (begins caller command)
 MayStore s w (makes caller made reply) = MakesStoringStep (home s) w caller made reply
