@@ -30,7 +30,7 @@ pub mod store;
 pub mod text;
 pub mod world;
 
-pub use errors::{Error, Result};
+pub use errors::{Error, Fault, Result};
 pub use get::{
     Reader, SyncReader, copy, copy_hash, copy_hash_sync, copy_hash_unchecked,
     copy_hash_unchecked_sync, copy_sync, copy_unchecked, copy_unchecked_sync, exists, exists_sync,
@@ -40,7 +40,7 @@ pub use get::{
     reflink_hash_unchecked_sync, reflink_sync, reflink_unchecked, reflink_unchecked_sync,
 };
 pub use index::{Metadata, RemoveOpts};
-pub use integrity::{Algorithm, Integrity};
+pub use integrity::{Algorithm, Integrity, IntegrityOpts};
 pub use linkto::{SyncToLinker, ToLinker, link_to, link_to_hash, link_to_hash_sync, link_to_sync};
 pub use ls::list_sync;
 pub use put::{

@@ -28,10 +28,11 @@ use std::thread::Threads;
 use std::time::Clock;
 
 /// The calls that aren't futures, in the order in which they are made.
-const CALLS: [&str; 43] = [
+const CALLS: [&str; 44] = [
     "Integrity::parse",
     "Integrity::check",
     "env::folders",
+    "env::another",
     "env::memory",
     "write_sync",
     "write_sync_with_algo",
@@ -123,6 +124,7 @@ fn came(rt: HostRuntime, name: &str) -> Result<String> {
         "Integrity::parse" => integrity::parse(rt),
         "Integrity::check" => integrity::check(rt),
         "env::folders" => env::folders(rt),
+        "env::another" => env::another(rt),
         "env::memory" => env::memory(rt),
         "list_sync" => index::list_sync(rt),
         _ => in_memory(rt, name),

@@ -41,3 +41,22 @@ pub fn folders(rt: HostRuntime, base: &str) -> Result<Folders>
     let names = ProcessNames::new(rt);
     Ok(Env::new(rt.alloc(), store, clock, names, base)?)
 }
+
+/// Another environment of the same folders, with the same base. Numbers for temporary files are its own. In it, calls can
+/// be made while a future or a listing borrows the first one: a second read, or the removal of a listed key.
+///
+/// ```
+/// let env = cacache::env::folders(rt, "/home/me")?;
+/// let other = cacache::env::another(&env)?;
+/// let base = other.base.as_str(); // "/home/me"
+/// ```
+///
+/// `OutOfMemory` is the only error. No folder is touched.
+pub fn another(env: &Folders) -> Result<Folders>
+    ensures store { IfOk result (λ other. other.store.runner.system.rt ≡ env.now.clock.rt) }
+    ensures clock { IfOk result (λ other. other.clock.rt ≡ env.now.clock.rt) }
+    ensures base { IfOk result (λ other. other.base ≡ env.now.base) }
+    ensures err { IfErr result (λ e. e ≡ OutOfMemory) }
+{
+    folders(env.clock.runtime(), env.base.as_str())
+}

@@ -9,6 +9,14 @@ pub(crate) fn folders(rt: HostRuntime) -> Result<String> {
     shown(rt.alloc(), base.as_bytes())
 }
 
+/// A second one of the same folders.
+pub(crate) fn another(rt: HostRuntime) -> Result<String> {
+    let env = cacache::env::folders(rt, "/home/me")?;
+    let other = cacache::env::another(&env)?;
+    let base = other.base.as_str(); // "/home/me"
+    shown(rt.alloc(), base.as_bytes())
+}
+
 /// That of a disk in memory.
 pub(crate) fn memory(rt: HostRuntime) -> Result<String> {
     let mut env = cacache::env::memory(rt, "/")?;
