@@ -83,8 +83,9 @@ pub(crate) fn contents(alloc: Global, answer: Answered<Contents>) -> Result<Stri
     Ok(line)
 }
 
-/// The line on an entry: its key, integrity, time, size, metadata and raw metadata.
+/// The line on an entry, from a copy of it: its key, integrity, time, size, metadata and raw metadata.
 fn shown_entry(alloc: Global, entry: &Metadata) -> Result<String, AllocError> {
+    let entry = entry.clone()?;
     let metadata = entry.metadata.to_string(alloc)?;
     let raw = &entry.raw_metadata;
     let (key, integrity) = (&entry.key, &entry.integrity);
