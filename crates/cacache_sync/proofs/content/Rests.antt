@@ -2,8 +2,8 @@
 use Rattle.std.specs.{Prelude.{Option, Some, Result, Ok, Err, IfSome, IfOk, IfErr, IsOk}, Io.KnownBytes.{Appends, Consumes, IsAtEnd, Keeps}}
 use Rattle.std.proofs.{Common.{◌≡◌, ◌≤◌, ◌^◌, ◌-◌, ◌+◌, ℕ, List, [], ◌++◌, min, length, take, refl, sym, ap, subst, append-nil, append_assoc, length-append, arith}, KnownBytes.{Appends-nil, Appends-trans, Consumes-nil, Consumes-trans, Consumes-kept, Consumes-whole}}
 use Rattle.cacache_store.specs.declared.store.plain.PlainFile.{PlainFile}
-use Rattle.cacache_core.specs.{declared.{errors.Error.{Error, TheVariants.{IoError, IntegrityError, OutOfMemory}}, integrity.{algorithm.Algorithm.{Algorithm}, digest.Hash.{Hash}}}, Integrity.{Meets, strongest, actual}, Refusals.{IsCheckFailure}}
-use Rattle.cacache_sync.specs.{declared.content.reader.SyncReader.{SyncReader}, content.{OpenReads.{HasRead, ReadsMore}, OpenWrites.{counted_bytes}, Rests.{AreLeft, CopiesTo, FailsToEnd, Finishes, IsUnread, PassesOn, counted_if}}}
+use Rattle.cacache_core.specs.{declared.{errors.Error.{Error, TheVariants.{IntegrityError, OutOfMemory}}, integrity.{algorithm.Algorithm.{Algorithm}, digest.Hash.{Hash}}}, Integrity.{Meets, strongest, actual}, Refusals.{IsCheckFailure}}
+use Rattle.cacache_sync.specs.{declared.content.reader.SyncReader.{SyncReader}, content.{OpenReads.{HasRead, ReadsMore}, OpenWrites.{counted_bytes}, Rests.{AreLeft, FailsToEnd, Finishes, PassesOn}}}
 
 module _ {F : Type 0} (file : F → PlainFile) where
   -- some bytes left the reader and went to the writer, and they are counted
@@ -49,19 +49,14 @@ not_ok : (e : Error) → IsOk {T = Algorithm} {E = Error} (Err e) → ⊥
 not_ok e is = absurd cc
 
 module _ (file : PlainFile) (i : List Hash) (bytes : List ℕ) where
-  pub unread_fails : (e : Error) → IsUnread e → FailsToEnd file i bytes e
-  unread_fails OutOfMemory is = tt
-  unread_fails (IoError fault message) is = tt
-  unread_fails e is = absurd is
-
   module _ (rest : List ℕ) (left : AreLeft file rest) where
     -- what a check of all bytes answers
-    abbrev Checked : Result Algorithm Error → Type 0
+    abbrev pub Checked : Result Algorithm Error → Type 0
     Checked r =
         IfOk r (λ a. Meets i (bytes ++ rest) × (strongest i ≡ Some a))
         × (Meets i (bytes ++ rest) → IsOk r) × IfErr r (IsCheckFailure i (actual i (bytes ++ rest)))
 
-    check_fails : (e : Error) → Checked (Err e) → FailsToEnd file i bytes e
+    pub check_fails : (e : Error) → Checked (Err e) → FailsToEnd file i bytes e
     check_fails OutOfMemory is = tt
     check_fails (IntegrityError fault) is = (rest, (left, λ meets. not_ok (IntegrityError fault) (is.1 meets), ap IntegrityError is.2))
     check_fails e is = absurd is.2
@@ -69,7 +64,3 @@ module _ (file : PlainFile) (i : List Hash) (bytes : List ℕ) where
     pub finished : (r : Result Algorithm Error) → Checked r → Finishes file i bytes r
     finished (Ok a) is = ((rest, (left, is.0.0)), is.0.1)
     finished (Err e) is = check_fails e is
-
-    pub copied : (before after : Option (List ℕ)) (count : ℕ) (r : Result Algorithm Error) → Appends before after rest → count ≡ counted_bytes rest → Checked r → CopiesTo file i bytes before after (counted_if count r)
-    copied before after count (Ok a) appends counts is = (rest, (left, is.0.0), appends, counts)
-    copied before after count (Err e) appends counts is = check_fails e is

@@ -22,11 +22,6 @@ IsUnread OutOfMemory = Unit {0}
 IsUnread (IoError fault message) = Unit {0}
 IsUnread e = ⊥
 
--- so many bytes, if a check was Ok
-abbrev pub counted_if : ℕ → Result Algorithm Error → Result ℕ Error
-counted_if count (Ok a) = Ok count
-counted_if count (Err e) = Err e
-
 module _ (file : PlainFile) (i : List Hash) (bytes : List ℕ) where
   -- after these bytes the file gave its rest, and both together meet the integrity
   abbrev pub MeetsWith : List ℕ → Type 0

@@ -1,10 +1,9 @@
 //! The rest of a content, which is read to its end in pieces.
-ghost use Rattle.std.specs.Prelude.{◌≡◌, IfOk};
-ghost use Rattle.cacache_sync.specs.content.Rests.{IsUnread, PassesOn, counted_if};
+ghost use Rattle.std.specs.Prelude.{IfErr, IfOk};
+ghost use Rattle.cacache_sync.specs.content.Rests.{IsUnread, PassesOn};
 
 use crate::content::reader::SyncReader;
 use cacache_core::errors::{Error, Fault, Result};
-use cacache_core::integrity::Algorithm;
 use cacache_core::text::Text;
 use cacache_jobs::PIECE;
 use cacache_store::store::OpenedFile;
@@ -15,51 +14,43 @@ use std::io::{ErrorKind, Read, Write};
 /// Reads the rest of the content, writes it to `out`, and returns how many bytes that were. A read that was interrupted
 /// is tried again.
 ///
-/// An error is that of a read or of a write. Then a beginning of the rest was read, and `out` may have a beginning of
-/// that.
+/// An error is that of a read or of a write, and its text says which. Then a beginning of the rest was read, and `out` may
+/// have a beginning of that.
 pub(crate) fn drain<F: OpenedFile, W: Write>(
+    alloc: Global,
     reader: &mut SyncReader<F>,
     out: &mut W,
-) -> io::Result<u64>
-    ensures { IfOk result (PassesOn F.seen reader.old reader.new
+) -> Result<u64>
+    ensures passes { IfOk result (PassesOn F.seen reader.old reader.new
         (W.contents out.old) (W.contents out.new)) }
+    ensures unread { IfErr result IsUnread }
 {
     let mut count: u64 = 0;
+    let mut piece = [0; PIECE];
     for _tries in 0..u64::MAX {
-        let mut piece = [0; PIECE];
         match reader.read(&mut piece) {
             Ok(0) => return Ok(count),
-            Ok(size) => {
-                out.write_all(&piece[..size])?;
-                count = count.saturating_add(size as u64);
-            }
+            Ok(size) => match out.write_all(&piece[..size]) {
+                Ok(()) => count = count.saturating_add(size as u64),
+                Err(error) => {
+                    return Err(unread(alloc, error, "Failed to write the rest of a content"));
+                }
+            },
             Err(error) if error.kind() == ErrorKind::Interrupted => {}
-            Err(error) => return Err(error),
+            Err(error) => return Err(unread(alloc, error, "Failed to read the rest of a content")),
         }
     }
-    Err(ErrorKind::TimedOut.into())
+    let error = ErrorKind::TimedOut.into();
+    Err(unread(alloc, error, "Failed to read the rest of a content"))
 }
 
-/// Why the rest of a content wasn't passed on.
-pub(crate) fn unread(alloc: Global, error: io::Error) -> Error
+/// Why the rest of a content wasn't passed on, with this text.
+fn unread(alloc: Global, error: io::Error, text: &str) -> Error
     ensures { IsUnread result }
 {
     let fault = Fault::from(error.kind());
-    match Text::from_str(
-        alloc,
-        "Failed to read the rest of a content, or to write it",
-    ) {
+    match Text::from_str(alloc, text) {
         Ok(text) => Error::IoError(fault, text),
         Err(_) => Error::OutOfMemory,
-    }
-}
-
-/// How many bytes were passed on, if the check found all bytes right.
-pub(crate) fn once_checked(count: u64, checked: Result<Algorithm>) -> Result<u64>
-    ensures { result ≡ counted_if count checked }
-{
-    match checked {
-        Ok(_algorithm) => Ok(count),
-        Err(error) => Err(error),
     }
 }

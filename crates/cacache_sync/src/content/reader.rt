@@ -5,7 +5,7 @@ ghost use Rattle.cacache_core.specs.{declared.integrity.digest.Hash.{Hash}, Inte
 ghost use Rattle.cacache_store.specs.Handles.{LeftFalls};
 ghost use Rattle.cacache_sync.specs.content.{OpenReads.{HasRead, OpensHash, OpensKey, ReadsMore, ReadsPart}, OpenWrites.{IsRetried}, Passed.{passed}, Rests.{CopiesTo, Finishes}};
 
-use crate::content::draining::{drain, once_checked, unread};
+use crate::content::draining::drain;
 use crate::content::filling::{Pieces, fill};
 use cacache_calls::Command;
 use cacache_calls::answers::file_of;
@@ -168,10 +168,8 @@ impl<F: OpenedFile> SyncReader<F> {
     {
         let alloc = self.alloc;
         let mut reader = self;
-        match drain(&mut reader, &mut io::sink()) {
-            Ok(_count) => reader.check(),
-            Err(error) => Err(unread(alloc, error)),
-        }
+        drain(alloc, &mut reader, &mut io::sink())?;
+        reader.check()
     }
 
     /// Reads the rest of the content in pieces of 8192 bytes, writes each to `out`, and checks all bytes as `finish` does.
@@ -179,7 +177,7 @@ impl<F: OpenedFile> SyncReader<F> {
     /// the check and aren't written. `out` isn't flushed.
     ///
     /// `out` gets bytes before they are checked: after an error use none of them. `IoError` says that a read or a write
-    /// failed. `IntegrityError` comes as from `finish`; then `out` has all bytes that were left.
+    /// failed, and its text which of the two. `IntegrityError` comes as from `finish`; then `out` has all bytes that were left.
     pub fn copy_to<W: Write>(self, out: &mut W) -> Result<u64>
         ensures copies { (i : List Hash) (bytes : List ℕ) → HasRead self i bytes
             → CopiesTo (F.seen self.file) i bytes
@@ -187,10 +185,9 @@ impl<F: OpenedFile> SyncReader<F> {
     {
         let alloc = self.alloc;
         let mut reader = self;
-        match drain(&mut reader, out) {
-            Ok(count) => once_checked(count, reader.check()),
-            Err(error) => Err(unread(alloc, error)),
-        }
+        let count = drain(alloc, &mut reader, out)?;
+        reader.check()?;
+        Ok(count)
     }
 }
 

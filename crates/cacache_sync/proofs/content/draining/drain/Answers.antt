@@ -1,10 +1,10 @@
 use Rattle.std.proofs.Common.{rules, ◌≡◌, ◌<◌, refl, length, take, length-take-le}
-use Rattle.cacache_sync.proofs.content.{Fills.{consumes_nothing}, Rests.{all_passed, kept_passed, more_passed}, draining.drain.Goals.{in-Ok+in_ok-write_all-in-Ok, in-Err}}
+use Rattle.cacache_sync.proofs.content.{Fills.{consumes_nothing}, Rests.{all_passed, kept_passed, more_passed}, draining.drain.Goals.{in-Ok+in-Ok-write_all, in-Err}}
 use Rattle.cacache_sync.proofs.content.draining.drain.Goals as goal
 
 -- the read that gave nothing, into a piece that has room
-pub returns-in-Ok-eq0 : goal.returns-in-Ok-eq0
-returns-in-Ok-eq0 g c =
+pub returns-in-Ok-eq0-clause-passes : goal.returns-in-Ok-eq0-clause-passes
+returns-in-Ok-eq0-clause-passes g c =
     let file = g.F.FileHandle.seen in
     let held = g.W.Write.contents in
     let bytes = rw c.in-Ok-eq0.field-0-test at rw c.in-Ok-eq0.is at c.read.ensures.bytes in
@@ -19,10 +19,10 @@ loop-tries-preserved g c =
     let file = g.F.FileHandle.seen in
     let held = g.W.Write.contents in
     elim c.match-read.branch [
-      | in-Ok+in_ok-write_all-in-Ok w ↦
+      | in-Ok+in-Ok-write_all w ↦
           let piece = take w.in-Ok.size c.read.new.buf in
           let long : length piece ≡ w.in-Ok.size = length-take-le w.in-Ok.size c.read.new.buf w.in-Ok.ensures.bound.0 in
-          let written = w.in_ok-write_all-in-Ok.ensures in
+          let written = w.in-Ok-write_all.ensures in
           let counted = w.saturating_add-count.ensures in
           rw (w.out-is, w.count-is) (more_passed file c.args.reader.now c.loop-tries.reader c.read.new.self (held c.args.out.now) (held c.loop-tries.out) _ c.loop-tries.count _ piece x w.in-Ok.ensures.bytes.0 w.in-Ok.ensures.so_far written.bytes (rw long counted))
       | in-Err w ↦

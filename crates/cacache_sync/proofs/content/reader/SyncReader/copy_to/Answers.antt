@@ -1,19 +1,14 @@
-use Rattle.std.proofs.Common.{subst, sym}
-use Rattle.cacache_sync.{specs.content.Rests.{CopiesTo}, proofs.content.Rests.{copied, unread_fails}}
+use Rattle.std.proofs.lemmas.Result.{err_from_is_err_and}
+use Rattle.cacache_sync.proofs.content.Rests.{check_fails}
 use Rattle.cacache_sync.proofs.content.reader.SyncReader.copy_to.Goals as goal
 
-pub returns-in-Ok : goal.returns-in-Ok
-returns-in-Ok g c =
-    let x = c.in-Ok.ensures in
-    let held = g.W.Write.contents in
-    let file = g.F.FileHandle.seen c.args.self.file in
+pub returns-in_err-check : goal.returns-in_err-check
+returns-in_err-check g c =
+    let x = c.in_ok-count.ensures.passes in
+    let is = c.in_err-check.ensures in
+    let same = err_from_is_err_and c.from_residual-in_err-check.result c.from_residual-in_err-check.ensures.1 in
     record {
       copies = λ i bytes had.
           let all = x.2 i bytes had in
-          subst (CopiesTo file i bytes (held c.args.out.now) (held c.drain.new.out)) (sym c.once_checked.ensures)
-          (copied file i bytes x.0 x.1 (held c.args.out.now) (held c.drain.new.out) c.in-Ok.count c.check.result x.3 x.4 (c.check.ensures.ok i _ all, c.check.ensures.met i _ all, c.check.ensures.err i _ all));
+          rw (same.1, same.2) (check_fails (g.F.FileHandle.seen c.args.self.file) i bytes x.0 x.1 c.in_err-check.field-0.0 (is.ok i _ all, is.met i _ all, is.err i _ all));
     }
-
-pub returns-in-Err : goal.returns-in-Err
-returns-in-Err g c =
-    record { copies = λ i bytes had. unread_fails (g.F.FileHandle.seen c.args.self.file) i bytes c.unread.result c.unread.ensures }
