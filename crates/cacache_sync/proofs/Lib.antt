@@ -2,3 +2,4 @@ pub mod Lookups
 pub mod Texts
 mod Asking
 mod ExportReplies
+mod ExportWays

@@ -2,6 +2,7 @@ pub mod Lookups
 pub mod Printing
 pub mod Reads
 pub mod Exports
+pub mod Ways
 pub mod Damage
 pub mod GetOrPut
 pub mod content

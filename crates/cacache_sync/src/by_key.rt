@@ -1,10 +1,11 @@
 //! Exports of the content that a key names.
-ghost use Rattle.std.specs.Prelude.{IfOk};
+ghost use Rattle.std.specs.Prelude.{◌≡◌, ◌≢◌, IfOk};
 ghost use Rattle.cacache_calls.specs.{declared.{command.{How.TheVariants.{Copy, Reflink, HardLink}, Source.TheVariants.{Key}}, reply.Reply.TheVariants.{Copied, Done}}, Runs.{reply_of}, Replies.{done}};
-ghost use Rattle.cacache_sync.specs.Exports.{checked_export, unchecked_export};
+ghost use Rattle.cacache_sync.specs.{Exports.{checked_export, unchecked_export}, Ways.{Tries, ways}};
 ghost use Rattle.cacache_jobs.specs.{ReadFirst.{Verified}, Environment.{Calls}};
 
 use crate::exporting::{Named, copy_content, link_content};
+use crate::ways::{ExportMode, Exported, export_content};
 use cacache_calls::How;
 use cacache_core::errors::Result;
 use cacache_store::env::{Clock, Env, Names};
@@ -166,4 +167,29 @@ pub fn hard_link_unchecked_sync<S: Store, C: Clock, N: Names>(
         (unchecked_export HardLink (Key key.now) to.now) (reply_of done result) }
 {
     link_content(env, cache, Named::Key(key), How::HardLink, false, to)
+}
+
+/// Exports the content that a lookup of the key finds to this path, the cheapest way that is open there, and answers
+/// which way that was. The ways are tried in order: a reflink, then, if the mode is `Shared`, a hard link, and at last a
+/// copy. A way is closed if it fails with `Unsupported` or with `Device`, which is also the fault of a path on another
+/// device. With `Own` the path never becomes a name of the cache's file.
+///
+/// Each way reads the content to its end first, and goes on only if it meets the integrity that the lookup gives. Nothing
+/// should be at the path: a copy overwrites a file there, and the other two ways fail with `AlreadyExists`.
+///
+/// An error is that of the first way that isn't closed, or else that of the copy: `EntryNotFound`, `IntegrityError` and
+/// `IoError` come as from `copy_sync`, which also says what a copy that failed may leave. Other ways that fail change
+/// nothing. `OutOfMemory` may come after the last step.
+pub fn export_sync<S: Store, C: Clock, N: Names>(
+    env: &mut Env<S, C, N>,
+    cache: &str,
+    key: &str,
+    to: &str,
+    mode: ExportMode,
+) -> Result<Exported>
+    ensures tries { Tries S.log cache.now (Key key.now) to.now (ways mode)
+        env.old env.new result }
+    ensures own { mode ≡ ExportMode.Own → IfOk result (λ e. e ≢ Exported.HardLinked) }
+{
+    export_content(env, cache, Named::Key(key), to, mode)
 }

@@ -12,6 +12,7 @@
 //! - `put`: calls that write bytes and links into a cache, and entries into its index
 //! - `reading`: contents that are read at once, and the question whether one is there
 //! - `rm`: calls that remove
+//! - `ways`: exports that go the cheapest way that is open
 #![tactic(auto)]
 
 mod by_hash;
@@ -25,16 +26,18 @@ pub mod index;
 pub mod put;
 mod reading;
 pub mod rm;
+mod ways;
 
 pub use by_hash::{
-    copy_hash_sync, copy_hash_unchecked_sync, hard_link_hash_sync, hard_link_hash_unchecked_sync,
-    reflink_hash_sync, reflink_hash_unchecked_sync,
+    copy_hash_sync, copy_hash_unchecked_sync, export_hash_sync, hard_link_hash_sync,
+    hard_link_hash_unchecked_sync, reflink_hash_sync, reflink_hash_unchecked_sync,
 };
 pub use by_key::{
-    copy_sync, copy_unchecked_sync, hard_link_sync, hard_link_unchecked_sync, reflink_sync,
-    reflink_unchecked_sync,
+    copy_sync, copy_unchecked_sync, export_sync, hard_link_sync, hard_link_unchecked_sync,
+    reflink_sync, reflink_unchecked_sync,
 };
 pub use damage::is_damage;
 pub use exporting::{Named, copy_content, link_content};
 pub use get_or_put::get_or_put_sync;
 pub use reading::{exists_sync, has_content, read_hash_sync, read_sync};
+pub use ways::{ExportMode, Exported, export_content};
