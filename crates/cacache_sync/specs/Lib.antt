@@ -3,6 +3,7 @@ pub mod Printing
 pub mod Reads
 pub mod Exports
 pub mod Ways
+pub mod Layers
 pub mod Damage
 pub mod GetOrPut
 pub mod content

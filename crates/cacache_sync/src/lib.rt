@@ -9,6 +9,7 @@
 //! - `exporting`: exports: a content is copied, shares its storage, or has one more name
 //! - `get_or_put`: bytes that are read, or fetched from elsewhere and stored
 //! - `index`: keys are found and deleted
+//! - `layers`: a cache over another one, which is only read
 //! - `put`: calls that write bytes and links into a cache, and entries into its index
 //! - `reading`: contents that are read at once, and the question whether one is there
 //! - `rm`: calls that remove
@@ -23,6 +24,7 @@ pub mod entries;
 mod exporting;
 mod get_or_put;
 pub mod index;
+mod layers;
 pub mod put;
 mod reading;
 pub mod rm;
@@ -39,5 +41,6 @@ pub use by_key::{
 pub use damage::is_damage;
 pub use exporting::{Named, copy_content, link_content};
 pub use get_or_put::get_or_put_sync;
+pub use layers::Layered;
 pub use reading::{exists_sync, has_content, read_hash_sync, read_sync};
 pub use ways::{ExportMode, Exported, export_content};
