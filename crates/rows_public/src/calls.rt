@@ -7,16 +7,18 @@ use crate::words::bytes_of;
 use cacache::content::path::content_path;
 use cacache::content::read::{has_content, list};
 use cacache::content::rm::rm;
+use cacache::errors::Fault;
 use cacache::index::{delete, find, insert, ls};
 use cacache::store::Store;
-use cacache::{Algorithm, Integrity, RemoveOpts, WriteOpts};
+use cacache::text::Text;
+use cacache::{Algorithm, Error, Integrity, RemoveOpts, WriteOpts};
 use cacache_core::keeping::let_go;
 use row_places::On;
 use rows::Flaw;
 use rows::answers::stored;
 use rows::parts::{algorithm_of, integrity_of};
 use rows::words::{cut, string_of};
-use std::alloc::AllocError;
+use std::alloc::{AllocError, Global};
 
 /// The line on a removal by integrity.
 fn removed_by_hash<S: Store>(
@@ -158,12 +160,25 @@ fn removed<S: Store>(
     Ok(done(env.alloc, answer)?)
 }
 
+/// What somebody else has for a key: these bytes, or an error if the word is `lost`.
+fn fetched(alloc: Global, input: &str) -> cacache::Result<Vec<u8>> {
+    if input == "lost" {
+        let text = Text::from_str(alloc, "Lost")?;
+        return Err(Error::IoError(Fault::Cancelled, text));
+    }
+    Ok(bytes_of(alloc, input)?)
+}
+
 /// The line on a call by key.
 fn by_key<S: Store>(env: &mut On<S>, name: &str, words: &str, input: &str) -> Result<String, Flaw> {
     let alloc = env.alloc;
     let (cache, key) = cut(words);
     let line = match name {
         "read_sync" => read(alloc, cacache::read_sync(env, cache, key)),
+        "get_or_put_sync" => {
+            let bytes = cacache::get_or_put_sync(env, cache, key, || fetched(alloc, input));
+            read(alloc, bytes)
+        }
         "find" => found(alloc, find(env, cache, key)),
         "metadata_sync" => found(alloc, cacache::metadata_sync(env, cache, key)),
         _ => return removed(env, name, words, input),
