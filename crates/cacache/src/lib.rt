@@ -32,12 +32,13 @@ pub mod world;
 
 pub use errors::{Error, Fault, Result};
 pub use get::{
-    Reader, SyncReader, copy, copy_hash, copy_hash_sync, copy_hash_unchecked,
-    copy_hash_unchecked_sync, copy_sync, copy_unchecked, copy_unchecked_sync, exists, exists_sync,
-    get_or_put_sync, hard_link, hard_link_hash, hard_link_hash_sync, hard_link_hash_unchecked_sync,
-    hard_link_sync, hard_link_unchecked_sync, metadata, metadata_sync, read, read_hash,
-    read_hash_sync, read_sync, reflink, reflink_hash, reflink_hash_sync,
-    reflink_hash_unchecked_sync, reflink_sync, reflink_unchecked, reflink_unchecked_sync,
+    ExportMode, Exported, Layered, Reader, SyncReader, copy, copy_hash, copy_hash_sync,
+    copy_hash_unchecked, copy_hash_unchecked_sync, copy_sync, copy_unchecked, copy_unchecked_sync,
+    exists, exists_sync, export, export_hash, export_hash_sync, export_sync, get_or_put_sync,
+    hard_link, hard_link_hash, hard_link_hash_sync, hard_link_hash_unchecked_sync, hard_link_sync,
+    hard_link_unchecked_sync, metadata, metadata_sync, read, read_hash, read_hash_sync, read_sync,
+    reflink, reflink_hash, reflink_hash_sync, reflink_hash_unchecked_sync, reflink_sync,
+    reflink_unchecked, reflink_unchecked_sync,
 };
 pub use index::{Metadata, RemoveOpts};
 pub use integrity::{Algorithm, Integrity, IntegrityOpts};

@@ -12,6 +12,7 @@
 //! - `read`: futures of the calls that read contents at once, and of the question whether one is there
 //! - `reader`: open contents that are read by polls
 //! - `rm`: futures of the calls that remove
+//! - `ways`: futures of exports that go the cheapest way that is open
 #![tactic(auto)]
 
 mod call;
@@ -25,6 +26,7 @@ pub mod put;
 pub mod read;
 pub mod reader;
 pub mod rm;
+pub mod ways;
 
 pub use call::Call;
 pub use future::{CallFuture, polling};

@@ -1,6 +1,7 @@
 //! What a row does: a public call, or something that somebody else does.
 use crate::calls::called;
 use crate::exports::exported;
+use crate::layers::layered;
 use crate::linkers::linked;
 use crate::program::{ended, without};
 use crate::puts::{driven, put};
@@ -86,7 +87,7 @@ fn made_or_called<S: Store>(env: &mut On<S>, row: Row<'_>) -> Result<String, Fla
     }
 }
 
-/// What is given by calls that a row writes out: writers, readers, linkers, exports and puts.
+/// What is given by calls that a row writes out: writers, readers, linkers, exports, layers and puts.
 fn made_of<S: Store>(env: &mut On<S>, row: Row<'_>) -> Result<String, Flaw> {
     let Row { act, input, .. } = row;
     let (name, act) = cut(act);
@@ -97,6 +98,7 @@ fn made_of<S: Store>(env: &mut On<S>, row: Row<'_>) -> Result<String, Flaw> {
         "reader" => read(env, act, input),
         "linker" => linked(env, act),
         "export" => exported(env, act),
+        "layers" => layered(env, act),
         _ => made_or_called(env, row),
     }
 }

@@ -1,9 +1,9 @@
-//! Exports: a call's name, the cache, the key or the integrity's text, and the path that the content gets. Each function
-//! knows some of the names and hands on the others.
-use crate::lines::{copied, done};
-use cacache::Integrity;
+//! Exports: a call's name, the cache, the key or the integrity's text, and the path that the content gets; `export_sync` and
+//! `export_hash_sync` have their mode before the path. Each function knows some of the names and hands on the others.
+use crate::lines::{copied, done, sent};
 use cacache::content::read;
 use cacache::store::Store;
+use cacache::{ExportMode, Integrity};
 use row_places::On;
 use rows::Flaw;
 use rows::parts::integrity_of;
@@ -100,6 +100,50 @@ fn linked_by_key<S: Store>(
     Ok(done(env.alloc, answer)?)
 }
 
+/// The mode that a word names.
+pub(crate) fn mode_of(word: &str) -> Result<ExportMode, Flaw> {
+    match word {
+        "shared" => Ok(ExportMode::Shared),
+        "own" => Ok(ExportMode::Own),
+        _ => Err(Flaw::NotRead),
+    }
+}
+
+/// The line on an export by integrity that goes the cheapest way, which is given a mode and a path.
+fn sent_by_hash<S: Store>(
+    env: &mut On<S>,
+    cache: &str,
+    what: &str,
+    words: &str,
+) -> Result<String, Flaw> {
+    let (mode, to) = cut(words);
+    let mode = mode_of(mode)?;
+    let sri = integrity_of(env.alloc, what)?;
+    Ok(sent(
+        env.alloc,
+        cacache::export_hash_sync(env, cache, &sri, to, mode),
+    )?)
+}
+
+/// The line on an export that goes the cheapest way, which is given a mode and a path.
+fn sent_cheapest<S: Store>(
+    env: &mut On<S>,
+    name: &str,
+    cache: &str,
+    what: &str,
+    words: &str,
+) -> Result<String, Flaw> {
+    match name {
+        "export_sync" => {
+            let (mode, to) = cut(words);
+            let mode = mode_of(mode)?;
+            Ok(sent(env.alloc, cacache::export_sync(env, cache, what, to, mode))?)
+        }
+        "export_hash_sync" => sent_by_hash(env, cache, what, words),
+        _ => linked_by_key(env, name, cache, what, words),
+    }
+}
+
 /// The line on an export.
 pub(crate) fn exported<S: Store>(env: &mut On<S>, act: &str) -> Result<String, Flaw> {
     let (name, words) = cut(act);
@@ -108,7 +152,7 @@ pub(crate) fn exported<S: Store>(env: &mut On<S>, act: &str) -> Result<String, F
     let answer = match name {
         "copy_sync" => cacache::copy_sync(env, cache, what, to),
         "copy_unchecked_sync" => cacache::copy_unchecked_sync(env, cache, what, to),
-        _ => return linked_by_key(env, name, cache, what, to),
+        _ => return sent_cheapest(env, name, cache, what, to),
     };
     Ok(copied(env.alloc, answer)?)
 }

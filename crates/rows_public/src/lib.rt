@@ -15,6 +15,7 @@ mod calls;
 mod exports;
 mod failing;
 pub mod keep;
+mod layers;
 mod lines;
 mod linkers;
 mod options;

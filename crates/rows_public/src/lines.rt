@@ -6,7 +6,7 @@ use crate::words::shown;
 use cacache::content::read::Contents;
 use cacache::ls::Ls;
 use cacache::store::Store;
-use cacache::{Integrity, Metadata, Result as Answered};
+use cacache::{Exported, Integrity, Metadata, Result as Answered};
 use rows::answers::refused;
 use std::alloc::{AllocError, Global};
 
@@ -41,6 +41,16 @@ pub(crate) fn done(alloc: Global, answer: Answered<()>) -> Result<String, AllocE
 pub(crate) fn copied(alloc: Global, answer: Answered<u64>) -> Result<String, AllocError> {
     match answer {
         Ok(count) => format!(in alloc; "Copied {count}"),
+        Err(error) => refused(alloc, error),
+    }
+}
+
+/// The line on an export that goes the cheapest way.
+pub(crate) fn sent(alloc: Global, answer: Answered<Exported>) -> Result<String, AllocError> {
+    match answer {
+        Ok(Exported::Reflinked) => String::from_str(alloc, "Reflinked"),
+        Ok(Exported::HardLinked) => String::from_str(alloc, "Hard-linked"),
+        Ok(Exported::Copied(count)) => copied(alloc, Ok(count)),
         Err(error) => refused(alloc, error),
     }
 }

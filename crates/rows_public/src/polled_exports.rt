@@ -1,6 +1,7 @@
 //! Exports as futures, each under the name of the call that it makes.
 use crate::awaited::awaited;
-use crate::lines::{copied, done};
+use crate::exports::mode_of;
+use crate::lines::{copied, done, sent};
 use crate::polled::Told;
 use cacache::Integrity;
 use cacache::content::read::copy_async;
@@ -73,6 +74,31 @@ fn linked<R: Wait + RandomSource + AllocGlobal, S: Store>(
     Ok(Some(done(alloc, answer)?))
 }
 
+/// The line on an export that goes the cheapest way, which is given a mode and a path.
+fn sent_cheapest<R: Wait + RandomSource + AllocGlobal, S: Store>(
+    rt: &R,
+    env: &mut On<S>,
+    name: &str,
+    cache: &str,
+    what: &str,
+    words: &str,
+) -> Told {
+    let alloc = env.alloc;
+    let (mode, to) = cut(words);
+    let answer = match name {
+        "export_sync" => awaited(rt, cacache::export(env, cache, what, to, mode_of(mode)?))?,
+        "export_hash_sync" => {
+            let sri = integrity_of(alloc, what)?;
+            awaited(
+                rt,
+                cacache::export_hash(env, cache, &sri, to, mode_of(mode)?),
+            )?
+        }
+        _ => return linked(rt, env, name, cache, what, words),
+    };
+    Ok(Some(sent(alloc, answer)?))
+}
+
 /// The line on an export.
 pub(crate) fn exported<R: Wait + RandomSource + AllocGlobal, S: Store>(
     rt: &R,
@@ -86,7 +112,7 @@ pub(crate) fn exported<R: Wait + RandomSource + AllocGlobal, S: Store>(
     let answer = match name {
         "copy_sync" => awaited(rt, cacache::copy(env, cache, what, to))?,
         "copy_unchecked_sync" => awaited(rt, cacache::copy_unchecked(env, cache, what, to))?,
-        _ => return linked(rt, env, name, cache, what, to),
+        _ => return sent_cheapest(rt, env, name, cache, what, to),
     };
     Ok(Some(copied(alloc, answer)?))
 }
