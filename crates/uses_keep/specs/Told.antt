@@ -10,7 +10,7 @@ use Rattle.cacache_calls.specs.State.{Site}
 use Rattle.cacache_value.specs.Placed.{Placed}
 use Rattle.cacache_jobs.specs.Sites.{site_of}
 use Rattle.cacache_laws.specs.{Caches.{HasKey, IsCache}, ExportEffects.{IsApart}, Standing.{IsStanding}, trees.{Answers.{AnswersOn}, Collecting.{LeavesLive, LinksLeadOut}, Contents.{content_in}, Housed.{Housed}, Idle.{Removed}, Mending.{found_in}, Verifying.{Judges}}}
-use Rattle.cacache_keep.specs.{declared.{collecting.Collected.{Collected}, repairing.Repaired.{Repaired}, verifying.Verdict.{Verdict}}, Kept.{LeadsToGood, MendsCache}}
+use Rattle.cacache_keep.specs.{declared.{collecting.Collected.{Collected}, pruning.Pruned.{Pruned}, repairing.Repaired.{Repaired}, verifying.Verdict.{Verdict}}, Kept.{LeadsToGood, MendsCache}, Sparing.{HasKeyAmong}}
 
 -- ---- verdicts
 
@@ -78,6 +78,16 @@ ReadsSpared cache gone key result old =
     (home : Names) (bytes : List ℕ) (i : List Hash) → home_of cache ≡ Some home
     → IsStanding cache old → HasKey cache key i bytes old → (gone ≡ key → ⊥)
     → IfOk result (λ v. v.items ≡ bytes)
+
+-- In any store that stands a read gives the bytes that the key led to on the older log, unless an entry that was
+-- dropped since then has the key
+abbrev pub ReadsPruned : {A : Type 0} → List ℕ → List ℕ → Result (Pruned × Vec ℕ A) Error
+    → List LogItem → Type 0
+ReadsPruned cache key result old =
+    (home : Names) (bytes : List ℕ) (i : List Hash) → home_of cache ≡ Some home
+    → IsStanding cache old → HasKey cache key i bytes old
+    → IfOk result (λ r. (HasKeyAmong (map found_view r.0.dropped.items) key → ⊥)
+    → r.1.items ≡ bytes)
 
 -- ---- compactions
 

@@ -1,6 +1,6 @@
-//! Functions of a caller's own that verify a cache in memory, sweep, repair, collect and compact it. Their contracts
-//! are proved from clauses alone: those of the calls, of `keep_laws`, `later_laws`, `spared_laws`, `answer_laws` and
-//! `cache_laws`. They say what is so if all calls answer Ok, and `tidied` and `read_tidied` also what is so otherwise. Of other
+//! Functions of a caller's own that verify a cache in memory, sweep, repair, collect, prune and compact it. Their contracts
+//! are proved from clauses alone: those of the calls, of `keep_laws`, `later_laws`, `prune_laws`, `spared_laws`,
+//! `standing_laws`, `answer_laws` and `cache_laws`. They say what is so if all calls answer Ok, and `tidied` and `read_tidied` also what is so otherwise. Of other
 //! errors they say nothing: those are the calls' own.
 #![tactic(auto)]
 
@@ -9,19 +9,19 @@ ghost use Rattle.cacache_core.specs.PathNames.{Names as PathNames, home_of};
 ghost use Rattle.cacache_disk.specs.memory.Replay.{tree_of};
 ghost use Rattle.cacache_jobs.specs.Sites.{site_of};
 ghost use Rattle.cacache_laws.specs.{Caches.{IsCache}, Succeeds.{NamesFolder}, trees.{Collecting.{LinksLeadOut}, Housed.{Housed}, Temporary.{LeavesUntemporary}}};
-ghost use Rattle.cacache_keep.specs.Behind.{KeepsKeys};
-ghost use Rattle.uses_keep.specs.Told.{IsMended, JudgesAs, LeavesAs, MendsPlaced, ReadsBeside, ReadsHoused, ReadsSpared, ReadsStill, ReadsAsRemoved, ReadsTended, ReadsTidied};
+ghost use Rattle.cacache_keep.specs.{Behind.{KeepsKeys}, Limits.{IsWithin}};
+ghost use Rattle.uses_keep.specs.Told.{IsMended, JudgesAs, LeavesAs, MendsPlaced, ReadsBeside, ReadsHoused, ReadsPruned, ReadsSpared, ReadsStill, ReadsAsRemoved, ReadsTended, ReadsTidied};
 
 use cacache_core::errors::Result;
 use cacache_core::keeping::let_go;
 use cacache_disk::memory::MemStore;
 use cacache_keep::{
-    Collected, Planned, Repaired, Swept, Verdict, collect, compact, keep_laws, later_laws, plan,
-    repair, sweep, verify,
+    Collected, Limits, Planned, Pruned, Repaired, Swept, Verdict, collect, compact, keep_laws,
+    later_laws, plan, prune, prune_laws, repair, sweep, verify,
 };
 use cacache_laws::results::after_read;
 use cacache_laws::trees::{answer_laws, spared_laws};
-use cacache_laws::{cache_laws, success_laws};
+use cacache_laws::{cache_laws, standing_laws, success_laws};
 use cacache_store::env::{Clock, Env, Names};
 use cacache_sync::put::bytes::write_sync;
 use cacache_sync::rm::RemoveOpts;
@@ -161,6 +161,26 @@ pub fn read_spared<C: Clock, N: Names>(
     later_laws();
     spared_laws();
     Ok(bytes)
+}
+
+/// Prunes a store in memory where everything stands where it may, and reads a key. The entries that are kept have no more
+/// bytes than the limit. If no entry that was dropped has the key, it reads the bytes that the key led to.
+pub fn read_pruned<C: Clock, N: Names>(
+    env: &mut Env<MemStore, C, N>,
+    cache: &str,
+    limits: Limits,
+    key: &str,
+) -> Result<(Pruned, Vec<u8>)>
+    ensures fits { IfOk result (λ r. IsWithin limits.bytes r.0.bytes_after) }
+    ensures reads { ReadsPruned cache.now key.now result env.old.store }
+{
+    let pruned = prune(env, cache, limits)?;
+    keep_laws(&env.store);
+    prune_laws();
+    let bytes = read_sync(env, cache, key)?;
+    keep_laws(&env.store);
+    standing_laws();
+    Ok((pruned, bytes))
 }
 
 /// Sweeps a cache in memory: its temporary files are gone, and all else is as it was.
