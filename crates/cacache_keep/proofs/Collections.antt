@@ -10,3 +10,4 @@ pub mod Sizes
 pub mod Tidying
 pub mod Settled
 pub mod LaterCalls
+pub mod Led

@@ -35,9 +35,9 @@ split_views entries k m below is =
     ∙ map-append found_view (take k entries) (m ∷ drop (k + 1) entries)
 
 -- the next one was refused
-pub not_entombed : (site : Site) (entries : List Metadata) (k : ℕ) (m : Metadata) (key : List ℕ) (moment : ℕ) (e : Error) (old mid new : Option (List LogItem)) → k < length entries → m ≡ get_or entries k m → key ≡ string_bytes m.key
+pub not_entombed : (site : Site) (entries : List Metadata) (k : ℕ) (m : Metadata) (key : List ℕ) (moment : ℕ) (e : Error) (old mid new : Option (List LogItem)) → k < length entries → m ≡ get_or entries k m → key ≡ string_bytes m.key → IsUtf8 key → moment < 2 ^ 64
     → Entombs site (map found_view (take k entries)) old mid → Ran (opening site (tombstone key moment).0) (replies.Refused (without_message e)) mid new → StopsEntombing site (map found_view entries) e old new
-not_entombed site entries k m key moment e old mid new below is same done ran = record {
+not_entombed site entries k m key moment e old mid new below is same utf8 early done ran = record {
   done = map found_view (take k entries);
   next = found_view m;
   rest = map found_view (drop (k + 1) entries);
@@ -45,5 +45,6 @@ not_entombed site entries k m key moment e old mid new below is same done ran = 
   between = mid;
   entombs = done;
   moment = moment;
+  formed = (subst IsUtf8 same utf8, early);
   refused = subst (λ (l : List ℕ). Ran (opening site (tombstone l moment).0) (replies.Refused (without_message e)) mid new) same ran;
 }

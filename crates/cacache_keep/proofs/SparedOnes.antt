@@ -1,18 +1,18 @@
--- A pruning leaves each key that led to bytes where it led, unless an entry that is dropped has it.
-use Rattle.std.proofs.{Common.{◌≡◌, ◌⊎◌, ◌<◌, inl, inr, ℕ, List, [], ◌∷◌, ◌++◌, Option, Some, refl, ap, subst, ◌∙◌, map, arith}, lemmas.List.Elements.{All-head, All-tail, Contains-append_left, Contains-append_right, Contains-push}}
-use Rattle.std.specs.Prelude.{All, Contains, filter_map}
-use Rattle.cacache_core.specs.{declared.integrity.digest.Hash.{Hash}, PathNames.{Names, home_of}}
+-- A pruning leaves each key that led to bytes where it led, unless an entry has it whose key got a tombstone.
+use Rattle.std.proofs.{Common.{◌≡◌, inl, inr, ℕ, List, [], ◌∷◌, ◌++◌, Option, Some, refl, sym, ap, subst, ◌∙◌, map}, lemmas.List.Elements.{All-head, All-tail, Contains-append_left, Contains-append_right, Contains-push}}
+use Rattle.std.specs.Prelude.{All, Contains}
+use Rattle.cacache_core.specs.{declared.{errors.Error.{Error}, integrity.digest.Hash.{Hash}}, PathNames.{Names, home_of}}
 use Rattle.cacache_store.specs.declared.store.log.LogItem.{LogItem, TheVariants.{Made}}
 use Rattle.cacache_disk.specs.memory.Replay.{IsLog, tree_of}
 use Rattle.cacache_entry.specs.Latest.{Found}
 use Rattle.cacache_calls.specs.declared.command.Command.TheVariants as commands
 use Rattle.cacache_calls.specs.declared.reply.Reply.TheVariants as replies
-use Rattle.cacache_calls.specs.{Runs.{Gains, Moves}, State.{Site}}
-use Rattle.cacache_laws.specs.{Caches.{Called, HasKey}, Standing.{IsStanding}, trees.Later.{AllSpare, Later, SparingCall, calls, looks, written}}
-use Rattle.cacache_laws.proofs.{Calls.InParts.{logs_lead}, Readings.OpenReaders.{log_front}, trees.{Logged.{gains_join, log_rooted}, Spared.SparedKeys.{spared_keys_stay, tombstones_fit}}}
+use Rattle.cacache_calls.specs.{declared.reply.Reply.{Reply}, Runs.{Gains, Moves, Ran, without_message}, State.{Site}, Table.{opening}}
+use Rattle.cacache_laws.specs.{Caches.{Called, HasKey}, Standing.{IsStanding}, trees.Later.{SparingCall}}
+use Rattle.cacache_laws.proofs.{Calls.{InParts.{logs_lead}, Messages.{plain_error}}, Readings.OpenReaders.{log_front}, trees.{Logged.{gains_join, log_rooted}, Spared.SparedKeys.{tombstones_fit}}}
 use Rattle.cacache_sync.specs.Lookups.{delete_of}
-use Rattle.cacache_keep.specs.{declared.{checking.OddLines.TheVariants.{Refuse}, limits.Limits.{Limits}}, Calls.{MadeCalls, removal}, Keeping.{CollectsFrom, CollectsWith}, Pruning.{IsTomb, PlansPrune, Tomb, entombing}, Sparing.{PrunePlansLeave, PrunesSpareKeys, StaysLed}}
-use Rattle.cacache_keep.proofs.{Collections.LaterCalls.{collections_keep_led}, Parts.{calls_gain}, Indexes.StandingIndexes.{index_looked}}
+use Rattle.cacache_keep.specs.{declared.{checking.OddLines.TheVariants.{Refuse}, limits.Limits.{Limits}}, Calls.{MadeCalls, removal}, Keeping.{CollectsFrom, CollectsWith, StopsCollecting}, Pruning.{Entombs, IsTomb, PlansPrune, Tomb, entombing}, Sparing.{HasKeyAmong, PrunePlansLeave, PrunesSpareKeys, StaysLed, StoppedPrunesSpareKeys}}
+use Rattle.cacache_keep.proofs.{Collections.{LaterCalls.{collections_keep_led}, Led.{call_led, keeps_led, same_led, then_led}, StoppedKeys.{listing_keeps, stop_gains, stopped_led}}, Parts.{Keeps, calls_gain, ends_look, gained}, Indexes.StandingIndexes.{index_looked}}
 
 -- ---- logs
 
@@ -36,45 +36,34 @@ prune_plans_leave limits site home entries dropped kept odd old new is logged p 
 
 -- ---- tombstones
 
-abbrev tomb_call : Tomb → Later
-tomb_call t = calls (commands.Delete (delete_of t.0 t.1))
+first_among : (k key : List ℕ) (keys : List (List ℕ)) → k ≡ key → Contains (k ∷ keys) key
+first_among k key keys same = subst (Contains (k ∷ keys)) same (Contains-append_left (k ∷ []) keys k (Contains-push [] k))
 
-first_among : (t : Tomb) (tombs : List Tomb) (key : List ℕ) → t.0 ≡ key → Contains (map (λ (x : Tomb). x.0) (t ∷ tombs)) key
-first_among t tombs key same = subst (Contains (t.0 ∷ map (λ (x : Tomb). x.0) tombs)) same (Contains-append_left (t.0 ∷ []) (map (λ (x : Tomb). x.0) tombs) t.0 (Contains-push [] t.0))
+rest_among : (k key : List ℕ) (keys : List (List ℕ)) → Contains keys key → Contains (k ∷ keys) key
+rest_among k key keys c = Contains-append_right (k ∷ []) keys key c
 
-rest_among : (t : Tomb) (tombs : List Tomb) (key : List ℕ) → Contains (map (λ (x : Tomb). x.0) tombs) key → Contains (map (λ (x : Tomb). x.0) (t ∷ tombs)) key
-rest_among t tombs key c = Contains-append_right (t.0 ∷ []) (map (λ (x : Tomb). x.0) tombs) key c
+module _ (site : Site) (key bytes : List ℕ) (i : List Hash) where
+  -- the call of one of another key, whatever it was answered
+  tomb_led : (t : Tomb) (reply : Reply) (old new : List LogItem) → IsTomb t → (t.0 ≡ key → ⊥) → IsLog new → Called site.cache (commands.Delete (delete_of t.0 t.1)) reply old new → IsStanding site.cache old → HasKey site.cache key i bytes old → StaysLed site.cache key i bytes old new
+  tomb_led t reply old new tomb other logged called =
+      let spares : SparingCall site.cache key i (commands.Delete (delete_of t.0 t.1)) old new
+      = record { reply = reply; called = called; may = tombstones_fit site.cache (delete_of t.0 t.1) tomb.0 tomb.1; key_spared = other; content_spared = tt } in
+      call_led site.cache key bytes i (commands.Delete (delete_of t.0 t.1)) old new refl logged spares
 
-module _ (site : Site) (key : List ℕ) (i : List Hash) where
-  tombs_spare : (tombs : List Tomb) (old new : List LogItem) → IsLog new → All IsTomb tombs → (Contains (map (λ (x : Tomb). x.0) tombs) key → ⊥) → MadeCalls site (map entombing tombs) (Some old) (Some new)
-      → AllSpare site.cache key i (map tomb_call tombs) old new
-  tombs_spare [] old new logged formed other made = (let same : new ≡ old = cc in ap tree_of same)
-  tombs_spare (t ∷ tombs) old new logged formed other made =
+  tombs_led : (tombs : List Tomb) (old new : List LogItem) → IsLog new → All IsTomb tombs → (Contains (map (λ (x : Tomb). x.0) tombs) key → ⊥) → MadeCalls site (map entombing tombs) (Some old) (Some new)
+      → IsStanding site.cache old → HasKey site.cache key i bytes old → StaysLed site.cache key i bytes old new
+  tombs_led [] old new logged formed other made = (let same : new ≡ old = cc in same_led site.cache key bytes i old new (ap tree_of same))
+  tombs_led (t ∷ tombs) old new logged formed other made = λ standing has.
       let ran = made.1 in
       let log = longer old ran.0 in
       let rest : MadeCalls site (map entombing tombs) (Some (longer old made.1.0)) (Some new) = subst (λ (x : Option (List LogItem)). MadeCalls site (map entombing tombs) x (Some new)) ran.2 made.2 in
       let more = calls_gain site (map entombing tombs) (Some log) (Some new) rest in
       let is_log = front_logged log new more.0 more.1 logged in
-      let own = All-head IsTomb t tombs formed in
       let called : Called site.cache (commands.Delete (delete_of t.0 t.1)) replies.Done old (longer old made.1.0)
       = record { base = site.base; number = site.number; ran = (ran.0, ran.1, refl); plain = refl; logged = is_log } in
-      let spares : SparingCall site.cache key i (commands.Delete (delete_of t.0 t.1)) old (longer old made.1.0)
-      = record {
-        reply = replies.Done;
-        called = called;
-        may = tombstones_fit site.cache (delete_of t.0 t.1) own.0 own.1;
-        key_spared = λ same. other (first_among t tombs key same);
-        content_spared = tt;
-      } in
-      (log, is_log, spares, tombs_spare tombs log new logged (All-tail IsTomb t tombs formed) (λ c. other (rest_among t tombs key c)) rest)
-
-none_written : (tombs : List Tomb) → filter_map written (map tomb_call tombs) ≡ []
-none_written [] = refl
-none_written (t ∷ tombs) = none_written tombs
-
-held_same : (bytes held : List ℕ) (texts : List (List ℕ)) → texts ≡ [] → (held ≡ bytes) ⊎ Contains texts held → held ≡ bytes
-held_same bytes held texts none (inl same) = same
-held_same bytes held texts none (inr c) = absurd (let no : Contains [] held = subst (λ (l : List (List ℕ)). Contains l held) none c in let low : no.0 < 0 = no.1 in omega (arith, low))
+      let keys = map (λ (x : Tomb). x.0) tombs in
+      let first = tomb_led t replies.Done old log (All-head IsTomb t tombs formed) (λ same. other (first_among t.0 key keys same)) is_log called standing has in
+      then_led site.cache key bytes i old log new first (tombs_led tombs log new logged (All-tail IsTomb t tombs formed) (λ c. other (rest_among t.0 key keys c)) rest first.standing first.has)
 
 -- ---- a collection
 
@@ -85,38 +74,78 @@ collect_gains site left gone old new it =
     let removed = calls_gain site (map removal gone) it.0 new it.2 in
     (c.contents.0 ++ (listed.0 ++ removed.0), gains_join old c.found new c.contents.0 (listed.0 ++ removed.0) c.contents.1 (gains_join c.found it.0 new listed.0 removed.0 listed.2 removed.1))
 
--- ---- a pruning
+-- ---- parts of a pruning, with moves after them
 
-module _ (site : Site) (home : Names) (entries dropped kept : List Found) (left : ℕ) (gone : List (List Hash)) (key bytes : List ℕ) (i : List Hash) (is : home_of site.cache ≡ Some home) where
-  spared : (limits : Limits) (tombs : List Tomb) (old listed buried new : List LogItem) → IsLog new → IsStanding site.cache old → PlansPrune limits site entries dropped kept [] (Some old) (Some listed)
-      → All IsTomb tombs → (Contains (map (λ (x : Tomb). x.0) tombs) key → ⊥) → MadeCalls site (map entombing tombs) (Some listed) (Some buried) → CollectsWith Refuse site left gone (Some buried) (Some new)
-      → HasKey site.cache key i bytes old → StaysLed site.cache key i bytes old new
-  spared limits tombs old listed buried new logged standing plan formed other made collects has =
-      let late = collect_gains site left gone (Some buried) (Some new) collects.0 in
-      let logged_buried = front_logged buried new late.0 late.1 logged in
-      let marks = calls_gain site (map entombing tombs) (Some listed) (Some buried) made in
-      let logged_listed = front_logged listed buried marks.0 marks.1 logged_buried in
-      let stays = prune_plans_leave limits site home entries dropped kept [] old listed is logged_listed plan in
-      let s = spared_keys_stay site.cache key i bytes (looks ∷ map tomb_call tombs) old buried standing has (listed, logged_listed, stays, tombs_spare site key i tombs listed buried logged_buried formed other made) in
-      let k = collections_keep_led site home buried new is logged s.standing (left, gone, (Refuse, collects)) in
-      let same = held_same bytes s.held (filter_map written (looks ∷ map tomb_call tombs)) (none_written tombs) s.which in
-      let still = subst (λ (b : List ℕ). HasKey site.cache key i b buried) same s.has in
-      record { standing = k.standing; finds = k.finds key ∙ s.finds; has = k.key key bytes i still }
+module _ (site : Site) (home : Names) (key bytes : List ℕ) (i : List Hash) (is : home_of site.cache ≡ Some home) where
+  -- the log that was reached, to which the key led as before
+  record Reached (old : List LogItem) (there : Option (List LogItem)) : Type 0 where
+    log : List LogItem
+    same : there ≡ Some log
+    led : StaysLed site.cache key i bytes old log
 
-  -- the same at the logs that the moves lead to
-  at_logs : (limits : Limits) (tombs : List Tomb) (old : List LogItem) (listed buried : Option (List LogItem)) (new : List LogItem) → IsLog new → IsStanding site.cache old → PlansPrune limits site entries dropped kept [] (Some old) listed
-      → All IsTomb tombs → (Contains (map (λ (x : Tomb). x.0) tombs) key → ⊥) → MadeCalls site (map entombing tombs) listed buried → CollectsWith Refuse site left gone buried (Some new)
-      → HasKey site.cache key i bytes old → StaysLed site.cache key i bytes old new
-  at_logs limits tombs old listed buried new logged standing plan formed other made collects has =
+  planned : (limits : Limits) (entries dropped kept : List Found) (odd : List (List ℕ)) (old : List LogItem) (listed : Option (List LogItem)) (new : List LogItem) (more : Moves) → IsLog new → PlansPrune limits site entries dropped kept odd (Some old) listed → Gains listed (Some new) more
+      → IsStanding site.cache old → HasKey site.cache key i bytes old → Reached old listed
+  planned limits entries dropped kept odd old listed new more logged plan gains standing has =
       let first = plan.listing.0.2 in
       let log = longer old first.0 in
-      let made_on = subst (λ (x : Option (List LogItem)). MadeCalls site (map entombing tombs) x buried) first.2 made in
-      let marks = calls_gain site (map entombing tombs) (Some log) buried made_on in
-      let late = longer log marks.0 in
-      spared limits tombs old log late new logged standing (subst (λ (x : Option (List LogItem)). PlansPrune limits site entries dropped kept [] (Some old) x) first.2 plan) formed other
-      (subst (λ (x : Option (List LogItem)). MadeCalls site (map entombing tombs) (Some log) x) marks.1 made_on) (subst (λ (x : Option (List LogItem)). CollectsWith Refuse site left gone x (Some new)) marks.1 collects) has
+      let is_log = front_logged log new more (subst (λ (x : Option (List LogItem)). Gains x (Some new) more) first.2 gains) logged in
+      let stays = prune_plans_leave limits site home entries dropped kept odd old log is is_log (subst (λ (x : Option (List LogItem)). PlansPrune limits site entries dropped kept odd (Some old) x) first.2 plan) in
+      record { log = log; same = first.2; led = same_led site.cache key bytes i old log stays standing has }
+
+  -- at the log that was reached, tombstones of these entries' keys were added
+  marked : (dropped : List Found) (old : List LogItem) (listed buried : Option (List LogItem)) (new : List LogItem) (more : Moves) → IsLog new → (reached : Reached old listed) → Entombs site dropped listed buried → Gains buried (Some new) more
+      → (HasKeyAmong dropped key → ⊥) → Reached old buried
+  marked dropped old listed buried new more logged reached e gains other =
+      let made = subst (λ (x : Option (List LogItem)). MadeCalls site (map entombing e.tombs) x buried) reached.same e.calls in
+      let marks = calls_gain site (map entombing e.tombs) (Some reached.log) buried made in
+      let log = longer reached.log marks.0 in
+      let is_log = front_logged log new more (subst (λ (x : Option (List LogItem)). Gains x (Some new) more) marks.1 gains) logged in
+      let late = tombs_led site key bytes i e.tombs reached.log log is_log e.formed (λ c. other (subst (λ (l : List (List ℕ)). Contains l key) e.each c)) (subst (λ (x : Option (List LogItem)). MadeCalls site (map entombing e.tombs) (Some reached.log) x) marks.1 made) reached.led.standing reached.led.has in
+      record { log = log; same = marks.1; led = then_led site.cache key bytes i old reached.log log reached.led late }
+
+  -- the moves of the tombstones come before others
+  marks_first : (dropped : List Found) (listed buried new : Option (List LogItem)) (more : Moves) → Entombs site dropped listed buried → Gains buried new more → (moves : Moves) × Gains listed new moves
+  marks_first dropped listed buried new more e gains =
+      let marks = calls_gain site (map entombing e.tombs) listed buried e.calls in
+      (marks.0 ++ more, gains_join listed buried new marks.0 more marks.1 gains)
+
+  -- a plan and the tombstones of these entries
+  begun : (limits : Limits) (entries dropped kept done : List Found) (odd : List (List ℕ)) (old : List LogItem) (listed buried : Option (List LogItem)) (new : List LogItem) (more : Moves) → IsLog new → PlansPrune limits site entries dropped kept odd (Some old) listed
+      → Entombs site done listed buried → Gains buried (Some new) more → (HasKeyAmong done key → ⊥) → IsStanding site.cache old → HasKey site.cache key i bytes old → Reached old buried
+  begun limits entries dropped kept done odd old listed buried new more logged plan e gains other standing has =
+      let all = marks_first done listed buried (Some new) more e gains in
+      marked done old listed buried new more logged (planned limits entries dropped kept odd old listed new all.0 logged plan all.1 standing has) e gains other
 
 pub prunes_spare_keys : PrunesSpareKeys
 prunes_spare_keys limits site home entries dropped kept left gone key bytes i old new is logged standing p other has =
-    let e = p.entombs in
-    at_logs site home entries dropped kept left gone key bytes i is limits e.tombs old p.listed p.buried new logged standing p.planning e.formed (λ c. other (subst (λ (l : List (List ℕ)). Contains l key) e.each c)) e.calls p.collects has
+    let late = collect_gains site left gone p.buried (Some new) p.collects.0 in
+    let reached = begun site home key bytes i is limits entries dropped kept dropped [] old p.listed p.buried new late.0 logged p.planning p.entombs late.1 other standing has in
+    let k = collections_keep_led site home reached.log new is logged reached.led.standing (left, gone, (Refuse, subst (λ (x : Option (List LogItem)). CollectsWith Refuse site left gone x (Some new)) reached.same p.collects)) in
+    then_led site.cache key bytes i old reached.log new reached.led (record { standing = k.standing; finds = k.finds key; has = k.key key bytes i reached.led.has })
+
+-- ---- one that an error ended
+
+pub stopped_prunes_spare_keys : StoppedPrunesSpareKeys
+stopped_prunes_spare_keys limits site home e key bytes i old new is logged standing (inl (inl (moves, ends, gains))) other has =
+    keeps_led site.cache key bytes i old new (gained (Some old) (Some new) moves gains (ends_look site e moves ends)) logged standing has
+stopped_prunes_spare_keys limits site home e key bytes i old new is logged standing (inl (inr (entries, odd, reads, memory))) other has =
+    keeps_led site.cache key bytes i old new (listing_keeps site entries (Some old) (Some new) reads.0) logged standing has
+stopped_prunes_spare_keys limits site home e key bytes i old new is logged standing (inr (entries, dropped, kept, odd, listed, plan, inl (refuses, same))) other has =
+    keeps_led site.cache key bytes i old new (subst (Keeps (Some old)) (sym same) (listing_keeps site entries (Some old) listed plan.listing.0)) logged standing has
+stopped_prunes_spare_keys limits site home e key bytes i old new is logged standing (inr (entries, dropped, kept, odd, listed, plan, inr (none, inl stop))) other has =
+    let keys = map (λ (f : Found). f.key) stop.done in
+    let reached = begun site home key bytes i is limits entries dropped kept stop.done odd old listed stop.between new stop.refused.0 logged plan stop.entombs stop.refused.2 (λ c. other (rest_among stop.next.key key keys c)) standing has in
+    let t : Tomb = (stop.next.key, stop.moment) in
+    let called : Called site.cache (commands.Delete (delete_of stop.next.key stop.moment)) (replies.Refused (without_message e)) reached.log new
+    = record {
+      base = site.base;
+      number = site.number;
+      ran = subst (λ (x : Option (List LogItem)). Ran (opening site (commands.Delete (delete_of stop.next.key stop.moment))) (replies.Refused (without_message e)) x (Some new)) reached.same stop.refused;
+      plain = ap (λ (x : Error). replies.Refused x) (plain_error e);
+      logged = logged;
+    } in
+    then_led site.cache key bytes i old reached.log new reached.led (tomb_led site key bytes i t (replies.Refused (without_message e)) reached.log new stop.formed (λ same. other (first_among stop.next.key key keys same)) logged called reached.led.standing reached.led.has)
+stopped_prunes_spare_keys limits site home e key bytes i old new is logged standing (inr (entries, dropped, kept, odd, listed, plan, inr (none, inr (buried, entombs, stops)))) other has =
+    let late = stop_gains Refuse site e buried (Some new) stops in
+    let reached = begun site home key bytes i is limits entries dropped kept dropped odd old listed buried new late.0 logged plan entombs late.1 other standing has in
+    then_led site.cache key bytes i old reached.log new reached.led (stopped_led Refuse site home e key bytes i reached.log new is logged (subst (λ (x : Option (List LogItem)). StopsCollecting Refuse site e x (Some new)) reached.same stops) reached.led.standing reached.led.has)

@@ -22,3 +22,4 @@ pub mod Later
 pub mod Limits
 pub mod Pruning
 pub mod Sparing
+pub mod Touching

@@ -1,4 +1,5 @@
 -- What a pruning does, over any store.
+use mathlib.Core.Logic.{inl, inr}
 use Rattle.std.specs.Prelude.{◌≡◌, ◌⊎◌, ◌++◌, ◌<◌, ◌^◌, All, IsUtf8, ℕ, List, [], ◌∷◌, Option, map}
 use Rattle.cacache_core.specs.declared.{errors.Error.{Error, TheVariants.{OutOfMemory}}, integrity.digest.Hash.{Hash}}
 use Rattle.cacache_store.specs.declared.store.log.LogItem.{LogItem}
@@ -45,6 +46,7 @@ pub record StopsEntombing
   pub between : Option (List LogItem)
   pub entombs : Entombs site done old between
   pub moment : ℕ
+  pub formed : IsTomb (next.key, moment)
   pub refused :
       Ran (opening site (tombstone next.key moment).0) (replies.Refused (without_message e))
       between new
@@ -125,3 +127,14 @@ StopsPruning limits site e old new =
     × (listed : Option (List LogItem))
     × PlansPrune limits site entries dropped kept odd old listed
     × StopsPruningAfter site dropped odd e listed new)
+
+-- the entries whose keys got tombstones before that, or may have got one
+abbrev pub marked_in : (limits : Limits) (site : Site) (e : Error)
+    (old new : Option (List LogItem)) → StopsPruning limits site e old new → List Found
+marked_in limits site e old new (inl plan) = []
+marked_in limits site e old new
+    (inr (entries, dropped, kept, odd, listed, plan, inl refused)) = []
+marked_in limits site e old new
+    (inr (entries, dropped, kept, odd, listed, plan, inr (none, inl stop))) = stop.next ∷ stop.done
+marked_in limits site e old new
+    (inr (entries, dropped, kept, odd, listed, plan, inr (none, inr collecting))) = dropped

@@ -1,12 +1,12 @@
 -- Where a key leads after a pruning of any store in memory that stands.
 use Rattle.std.specs.Prelude.{◌≡◌, ℕ, List, Some, Contains, map}
-use Rattle.cacache_core.specs.{declared.integrity.digest.Hash.{Hash}, PathNames.{Names, home_of}}
+use Rattle.cacache_core.specs.{declared.{errors.Error.{Error}, integrity.digest.Hash.{Hash}}, PathNames.{Names, home_of}}
 use Rattle.cacache_store.specs.declared.store.log.LogItem.{LogItem}
 use Rattle.cacache_disk.specs.memory.Replay.{IsLog}
 use Rattle.cacache_entry.specs.Latest.{Found}
 use Rattle.cacache_calls.specs.State.{Site}
 use Rattle.cacache_laws.specs.{Caches.{HasKey}, Keeping.{found_under}, Standing.{IsStanding}}
-use Rattle.cacache_keep.specs.{declared.limits.Limits.{Limits}, Kept.{LeavesTree}, Pruning.{PlansPrune, PrunesCache}}
+use Rattle.cacache_keep.specs.{declared.limits.Limits.{Limits}, Kept.{LeavesTree}, Pruning.{PlansPrune, PrunesCache, StopsPruning, marked_in}}
 
 -- everything stands where it may still; the key leads to the entry that it led to, and to the same
 -- bytes
@@ -36,3 +36,13 @@ PrunesSpareKeys =
     → PrunesCache limits site entries dropped kept left gone (Some old) (Some new)
     → (HasKeyAmong dropped key → ⊥) → HasKey site.cache key i bytes old
     → StaysLed site.cache key i bytes old new
+
+-- and after one that an error ended, unless its key got a tombstone, or may have got one
+abbrev pub StoppedPrunesSpareKeys : Type 0
+StoppedPrunesSpareKeys =
+    (limits : Limits) (site : Site) (home : Names) (e : Error) (key bytes : List ℕ)
+    (i : List Hash) (old new : List LogItem)
+    → home_of site.cache ≡ Some home → IsLog new → IsStanding site.cache old
+    → (stop : StopsPruning limits site e (Some old) (Some new))
+    → (HasKeyAmong (marked_in limits site e (Some old) (Some new) stop) key → ⊥)
+    → HasKey site.cache key i bytes old → StaysLed site.cache key i bytes old new

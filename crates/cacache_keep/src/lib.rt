@@ -25,6 +25,7 @@ mod settling;
 mod sparing;
 mod sweeping;
 mod syncing;
+mod touching;
 mod verifying;
 mod walking;
 
@@ -39,4 +40,5 @@ pub use pruning::{PrunePlan, Pruned, plan_prune, prune};
 pub use repairing::{Repaired, repair, repair_with};
 pub use sparing::prune_laws;
 pub use sweeping::{Swept, sweep};
+pub use touching::touch;
 pub use verifying::{Verdict, verify};

@@ -10,7 +10,7 @@ use Rattle.cacache_laws.{proofs.trees.Spared.SparedKeys.{spared_keys_stay}, spec
 use Rattle.cacache_keep.{specs.Later.{CollectedKeysStay, CollectionsKeepLed}, proofs.Collections.{Behind.{found_same, key_same}, Leaving.{leaves_live, steps_done, unused}}}
 
 -- removals leave everything where it may stand
-removals_stand : (cache : List ℕ) (dropped : List Hash) (t new : Tree) → Removes cache dropped t new → Placed (home_of cache) t → Rooted t → Placed (home_of cache) new × Rooted new
+pub removals_stand : (cache : List ℕ) (dropped : List Hash) (t new : Tree) → Removes cache dropped t new → Placed (home_of cache) t → Rooted t → Placed (home_of cache) new × Rooted new
 removals_stand cache [] t new r placed rooted = (subst (Placed (home_of cache)) (sym r) placed, subst Rooted (sym r) rooted)
 removals_stand cache (h ∷ hs) t new r placed rooted =
     let step = RemoveFile (joined cache (content_names h)) in

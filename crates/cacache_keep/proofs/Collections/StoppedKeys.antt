@@ -12,10 +12,10 @@ use Rattle.cacache_calls.specs.declared.reply.Reply.TheVariants as replies
 use Rattle.cacache_calls.specs.{declared.{command.Command.{Command}, reply.Reply.{Reply}}, Runs.{Gains, Moves, Ran, without_message}, State.{Site}, Table.{opening}, Walking.{most}}
 use Rattle.cacache_value.specs.Value.{value_of_tree}
 use Rattle.cacache_walks.specs.{Listing.{ListsContents, content_area_in}, Reading.{top_folder}}
-use Rattle.cacache_laws.specs.{Beside.{ShareAddress}, Caches.{Called, HasKey, IsCache}, Looks.{OnlyLooks}, ReadAnswers.{entries_on}, Sequence.{IsSound}, trees.{Collecting.{IsCollected, Removes, is_live}, Contents.{content_in}, Mending.{found_in}}}
+use Rattle.cacache_laws.specs.{Beside.{ShareAddress}, Caches.{Called, HasKey, IsCache}, Keeping.{found_under}, Looks.{OnlyLooks}, ReadAnswers.{entries_on}, Sequence.{IsSound}, Standing.{IsStanding}, trees.{Collecting.{IsCollected, Removes, is_live}, Contents.{content_in}, Later.{SparingCall}, Mending.{found_in}}}
 use Rattle.cacache_laws.proofs.{Calls.{InParts.{logs_lead}, Logs.{some_same}, Messages.{plain_error}}, Readings.{Looked.{same_stays_known}, OpenReaders.{log_front}}, Removing.Removed.{contents_go}, trees.{Collected.{from_kept, live_so}, Keeping.{removals_leave}, Led.{found_listed}, Logged.{gains_join, log_rooted}, Members.{Member, contains_member, member_contains}, SoundRemovals.{removals_leave_sound}}}
-use Rattle.cacache_keep.specs.{Behind.{KeepsKeys, StoppedKeepKeys}, Calls.{Asks, ListsEntries, MadeCalls, StopsReading, StopsRemoving, has_entry, removal}, Keeping.{Chooses, StopsEarly}}
-use Rattle.cacache_keep.proofs.{Collections.{Behind.{found_same, key_same}, Chosen.{Choice, choice}, Leaving.{removals, removals_gain, removed_by, unused_ones}}, Parts.{AllLook, index_look, ends_look, folders_look, stops_look, gained, then_keeps, Keeps, made_looks}}
+use Rattle.cacache_keep.specs.{declared.checking.OddLines.{OddLines}, Behind.{KeepsKeys, StoppedKeepKeys}, Calls.{Asks, ListsEntries, MadeCalls, StopsReading, StopsRemoving, has_entry, removal}, Keeping.{Chooses, StopsCollecting, StopsEarly}, Sparing.{StaysLed}}
+use Rattle.cacache_keep.proofs.{Collections.{Behind.{found_same, key_same}, Chosen.{Choice, choice}, LaterCalls.{removals_stand}, Leaving.{removals, removals_gain, removed_by, unused_ones}, Led.{call_led, keeps_led, then_led}}, Parts.{AllLook, calls_gain, index_look, ends_look, folders_look, stops_look, gained, then_keeps, Keeps, made_looks}}
 
 -- ---- moves that only look
 
@@ -28,7 +28,7 @@ all_look [] h = tt
 all_look (c ∷ calls) h = (asks_look c.0 (All-head (λ (c : Command × Reply). Asks c.0) c calls h), all_look calls (All-tail (λ (c : Command × Reply). Asks c.0) c calls h))
 
 module _ (site : Site) where
-  listing_keeps : (entries : List Found) (old new : Option (List LogItem)) → ListsEntries site entries old new → Keeps old new
+  pub listing_keeps : (entries : List Found) (old new : Option (List LogItem)) → ListsEntries site entries old new → Keeps old new
   listing_keeps entries old new (items, parts, (moves, i, gains)) = gained old new moves gains (index_look site items parts entries moves i)
 
   reading_keeps : (e : Error) (old new : Option (List LogItem)) → StopsReading site e old new → Keeps old new
@@ -88,7 +88,7 @@ parts (g ∷ gone) next rest (u ∷ us) e =
     }
 
 module _ (site : Site) (home : Names) (kept : ℕ) (dropped : List (List Hash)) (e : Error) (old new : List LogItem) (chosen : Option (List LogItem))
-    (is : home_of site.cache ≡ Some home) (logged : IsLog new) (sound : IsCache site.cache old)
+    (is : home_of site.cache ≡ Some home) (logged : IsLog new)
     (c : Chooses site kept dropped (Some old) chosen) (s : StopsRemoving site dropped e chosen (Some new)) where
   abbrev t : Tree
   t = tree_of old
@@ -155,19 +155,55 @@ module _ (site : Site) (home : Names) (kept : ℕ) (dropped : List (List Hash)) 
       let listed = found_listed site home (tree_of old) is (log_rooted old) c.entries key has.found shown.index led in
       dead split.hash (live_so c.entries has.found split.hash (member_contains has.found c.entries listed) (ap address has.integrity ∙ share)) split.one
 
-  removals_stopped : KeepsKeys site.cache old new
-  removals_stopped =
-      let called : Called site.cache (commands.RemoveHash (split.hash ∷ [])) (replies.Refused (without_message e)) mid new
-      = record { base = site.base; number = site.number; ran = refused; plain = ap (λ x. replies.Refused x) (plain_error e); logged = logged } in
-      let last = contents_go site.cache (split.hash ∷ []) (replies.Refused (without_message e)) mid new (single split.hash (hash_of split.hash split.one)) (removals_leave_sound site.cache gone t (tree_of mid) removes sound) called in
+  called : Called site.cache (commands.RemoveHash (split.hash ∷ [])) (replies.Refused (without_message e)) mid new
+  called = record { base = site.base; number = site.number; ran = refused; plain = ap (λ x. replies.Refused x) (plain_error e); logged = logged }
+
+  whole : IsIntegrity (split.hash ∷ [])
+  whole = single split.hash (hash_of split.hash split.one)
+
+  finds_same : (key : List ℕ) → found_under site.cache key mid ≡ found_under site.cache key old
+  finds_same key = found_same site home old mid is key (collected.buckets (sha1 key) (keys_have_digests key))
+
+  keys_same : (key bytes : List ℕ) (i : List Hash) → HasKey site.cache key i bytes old → HasKey site.cache key i bytes mid
+  keys_same = key_same site home old mid is c.entries shown.index left collected.buckets
+
+  removals_stopped : IsCache site.cache old → KeepsKeys site.cache old new
+  removals_stopped sound =
+      let last = contents_go site.cache (split.hash ∷ []) (replies.Refused (without_message e)) mid new whole (removals_leave_sound site.cache gone t (tree_of mid) removes sound) called in
       record {
         sound = last.0;
-        finds = λ key. last.2.finds key ∙ found_same site home old mid is key (collected.buckets (sha1 key) (keys_have_digests key));
-        key = λ key bytes i has. last.2.key key bytes i (apart key bytes i has) (key_same site home old mid is c.entries shown.index left collected.buckets key bytes i has);
+        finds = λ key. last.2.finds key ∙ finds_same key;
+        key = λ key bytes i has. last.2.key key bytes i (apart key bytes i has) (keys_same key bytes i has);
       }
+
+  removals_led : (key bytes : List ℕ) (i : List Hash) → IsStanding site.cache old → HasKey site.cache key i bytes old → StaysLed site.cache key i bytes old new
+  removals_led key bytes i standing has =
+      let stands = removals_stand site.cache gone t (tree_of mid) removes standing.placed standing.rooted in
+      let first : StaysLed site.cache key i bytes old mid = record { standing = record { placed = stands.0; rooted = stands.1 }; finds = finds_same key; has = keys_same key bytes i has } in
+      let spares : SparingCall site.cache key i (commands.RemoveHash (split.hash ∷ [])) mid new
+      = record { reply = replies.Refused (without_message e); called = called; may = tt; key_spared = tt; content_spared = (whole, apart key bytes i has) } in
+      then_led site.cache key bytes i old mid new first (call_led site.cache key bytes i (commands.RemoveHash (split.hash ∷ [])) mid new refl logged spares first.standing first.has)
 
 pub stopped_keep_keys : StoppedKeepKeys
 stopped_keep_keys odd site home e old new is logged sound (inl early) = kept_cache site old new logged sound (early_keeps site e (Some old) (Some new) early)
 stopped_keep_keys odd site home e old new is logged sound (inr (kept, dropped, chosen, c, inl (refuses, same))) =
     kept_cache site old new logged sound (subst (λ l. Keeps (Some old) l) (sym same) (chooses_keep site kept dropped (Some old) chosen c))
-stopped_keep_keys odd site home e old new is logged sound (inr (kept, dropped, chosen, c, inr (allows, s))) = removals_stopped site home kept dropped e old new chosen is logged sound c s
+stopped_keep_keys odd site home e old new is logged sound (inr (kept, dropped, chosen, c, inr (allows, s))) = removals_stopped site home kept dropped e old new chosen is logged c s sound
+
+-- so each key that led to bytes stays led to them in any store that stands
+pub stopped_led : (choice : OddLines) (site : Site) (home : Names) (e : Error) (key bytes : List ℕ) (i : List Hash) (old new : List LogItem) → home_of site.cache ≡ Some home → IsLog new
+    → StopsCollecting choice site e (Some old) (Some new) → IsStanding site.cache old → HasKey site.cache key i bytes old → StaysLed site.cache key i bytes old new
+stopped_led odd site home e key bytes i old new is logged (inl early) = keeps_led site.cache key bytes i old new (early_keeps site e (Some old) (Some new) early) logged
+stopped_led odd site home e key bytes i old new is logged (inr (kept, dropped, chosen, c, inl (refuses, same))) =
+    keeps_led site.cache key bytes i old new (subst (λ l. Keeps (Some old) l) (sym same) (chooses_keep site kept dropped (Some old) chosen c)) logged
+stopped_led odd site home e key bytes i old new is logged (inr (kept, dropped, chosen, c, inr (allows, s))) = removals_led site home kept dropped e old new chosen is logged c s key bytes i
+
+-- the moves of such a collection
+pub stop_gains : (choice : OddLines) (site : Site) (e : Error) (old new : Option (List LogItem)) → StopsCollecting choice site e old new → (moves : Moves) × Gains old new moves
+stop_gains odd site e old new (inl early) = (let k = early_keeps site e old new early in (k.moves, k.gains))
+stop_gains odd site e old new (inr (kept, dropped, chosen, c, inl (refuses, same))) = (let k = chooses_keep site kept dropped old chosen c in (k.moves, subst (λ l. Gains old l k.moves) (sym same) k.gains))
+stop_gains odd site e old new (inr (kept, dropped, chosen, c, inr (allows, s))) =
+    let k = chooses_keep site kept dropped old chosen c in
+    let gone = calls_gain site (map removal s.gone) chosen s.between s.removing in
+    let last = s.refused in
+    (k.moves ++ (gone.0 ++ last.0), gains_join old chosen new k.moves (gone.0 ++ last.0) k.gains (gains_join chosen s.between new gone.0 last.0 gone.1 last.2))

@@ -44,6 +44,7 @@ returns-in_err-delete-clause-stops g c =
     let e = c.in_err-delete.field-0.0 in
     let run = c.in_err-delete.ensures.ran in
     let same : c.as_str.result.now ≡ string_bytes c.entry-item.result.key = search rules in
+    let utf8 : IsUtf8 c.as_str.result.now = search rules in
     let ran = ran_at cache base c.loop-entry.env.base (tombstone key run.0).0 _ (replies.Refused (without_message e)) _ mid new i.1 refl refl run.2.0 in
     error_as (λ x. StopsEntombing site (map found_view c.args.entries.now) x old new) c.from_residual.result e c.from_residual.ensures.1
-    (not_entombed site c.args.entries.now c.loop-entry.entry-index m key run.0 e old mid new c.loop-entry-test.true c.entry-item.is same i.2 ran)
+    (not_entombed site c.args.entries.now c.loop-entry.entry-index m key run.0 e old mid new c.loop-entry-test.true c.entry-item.is same utf8 run.1.1 i.2 ran)

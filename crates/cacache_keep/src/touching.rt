@@ -1,0 +1,62 @@
+//! The call that makes a key's entry a new one.
+ghost use Rattle.std.specs.Prelude.{◌≡◌, IfOk, IfErr};
+ghost use Rattle.cacache_entry.specs.View.{found_view};
+ghost use Rattle.cacache_jobs.specs.Sites.{site_of};
+ghost use Rattle.cacache_keep.specs.Touching.{StopsTouching, Touches, said_of};
+
+use cacache_core::errors::Result;
+use cacache_entry::Metadata;
+use cacache_store::env::{Clock, Env, Names};
+use cacache_store::store::Store;
+use cacache_sync::index::find;
+use cacache_sync::put::index::insert;
+use cacache_sync::put::opts::WriteOpts;
+
+/// What the entry says of its content, as options of another entry.
+fn opts_of(found: Metadata) -> WriteOpts
+    ensures { result ≡ said_of (found_view found) }
+{
+    let Metadata {
+        key: _key,
+        integrity,
+        time: _,
+        size,
+        metadata,
+        raw_metadata,
+    } = found;
+    let opts = WriteOpts::new()
+        .integrity(integrity)
+        .size(size)
+        .metadata(metadata);
+    match raw_metadata {
+        Some(bytes) => opts.raw_metadata(bytes),
+        None => opts,
+    }
+}
+
+/// Marks a key as used now, so that `prune` counts it as new: it adds an entry with the clock's time that says of the
+/// content what the key's entry says, with the same size and metadata. Returns whether the key has an entry; if it has
+/// none, nothing changes. The content isn't asked for. The line isn't synced: a loss of power may leave the old entry.
+///
+/// If the key is written by somebody else between the lookup and the new entry, that one hides what was written.
+///
+/// Errors are those of `metadata_sync`, with which nothing changes, and then those of `index::insert`, with which the key
+/// still leads where it led unless the whole line was appended.
+pub fn touch<S: Store, C: Clock, N: Names>(
+    env: &mut Env<S, C, N>,
+    cache: &str,
+    key: &str,
+) -> Result<bool>
+    ensures touches { IfOk result (λ touched. Touches S.log C.given cache.now key.now touched
+        env.old env.new) }
+    ensures stops { IfErr result (λ e. StopsTouching (site_of cache.now env.old.base 0) key.now e
+        (S.log env.old.store) (S.log env.new.store)) }
+    ensures names { env.new.names ≡ env.old.names }
+    ensures base { env.new.base ≡ env.old.base }
+{
+    let Some(found) = find(env, cache, key)? else {
+        return Ok(false);
+    };
+    let _integrity = insert(env, cache, key, opts_of(found))?;
+    Ok(true)
+}
