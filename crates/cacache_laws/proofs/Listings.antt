@@ -1,3 +1,2 @@
-pub mod ListedItems
 pub mod ListedTurns
 pub mod ListedKeys

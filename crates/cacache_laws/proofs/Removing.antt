@@ -3,4 +3,3 @@ pub mod Removals
 pub mod Removed
 pub mod RemovedKeys
 pub mod Sheds
-pub mod ShedFolders

@@ -1,4 +1,3 @@
-pub mod Planted
 pub mod PlantedFiles
 pub mod GivenUp
 pub mod Unused

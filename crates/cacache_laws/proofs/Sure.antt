@@ -1,6 +1,7 @@
 pub mod SureSteps
 pub mod SureSpares
 pub mod SureRuns
+pub mod SurePlays
 pub mod SureInserts
 pub mod SureTemps
 pub mod SureCommits

@@ -11,7 +11,7 @@ use Rattle.cacache_calls.specs.declared.reply.Reply.TheVariants as replies
 use Rattle.cacache_history.specs.{History.{Turn}, ListingTurns.{NoKeyTwice, is_past, listing_of, ListsHeld}, TurnReplies.{ReadsValue}, Turns.{made_in, EachTurn}}
 use Rattle.cacache_history.proofs.Histories.Holding.{TurnsHold}
 use Rattle.cacache_laws.specs.{Sequence.{turns_on}, Caches.{AStepFailed, IsCache, setup_at}, ListedKeys.{IsShown, AreAllFound, AllListed, ListsKeys, GivesKeys, ListingsGive}}
-use Rattle.cacache_laws.proofs.{Readings.{Known.{Known, known}, Looks.{moves_place, run_turns}}, Calls.Sequence.{turns_made}, Listings.{ListedItems.{both_all, once_front}, ListedTurns.{Explained, turns_explained, Leads, turns_lead, has_bucket, turns_list}}}
+use Rattle.cacache_laws.proofs.{Readings.{Known.{Known, known}, Looks.{moves_place, run_turns}}, Calls.Sequence.{turns_made}, Listings.ListedTurns.{both_all, once_front, Explained, turns_explained, Leads, turns_lead, has_bucket, turns_list}}
 
 module _ (cache base : List ℕ) (old new : List LogItem) where
   shown_item : (Why : Fault → Type 0) → ((fault : Fault) → Why fault → AStepFailed old new) → (item : Item) → Leads (setup_at cache base) (tree_of old) item → Explained Why item → IsShown cache old new item

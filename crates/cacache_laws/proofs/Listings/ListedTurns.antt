@@ -1,21 +1,81 @@
--- The turns of a listing that finds one tree at all of them: what they give, and that they find all.
-use Rattle.std.proofs.{Common.{◌≡◌, ◌⊎◌, inl, inr, ℕ, List, [], ◌∷◌, Option, None, Some, Result, Ok, Err, refl, sym, ap, subst, ◌∙◌}, lemmas.List.Elements.{All-nil, All-cons, All-append, All-weaker}}
-use Rattle.std.specs.Prelude.{All}
+-- The items of a listing, if all of its turns find one tree.
+use Rattle.std.proofs.{Common.{◌≡◌, ◌⊎◌, inl, inr, ℕ, zero, suc, Bool, true, false, cond, List, [], ◌∷◌, ◌++◌, Option, None, Some, Ok, Err, option_map, map, take, fold, refl, sym, ap, Result, subst, ◌∙◌}, lemmas.{List.Elements.{All-nil, All-cons, All-head, All-tail, All-append, All-take, All-weaker}, Slice.Eq.{bytes_eq-Decides}}}
+use Rattle.std.specs.{Prelude.{All, bytes_eq, unwrap_or}, List.{filter_map, cons_option}}
+use Rattle.cacache_entry.specs.{Entry.{Entry}, Latest.{Found, answer_of, after_entry, latest}}
+use Rattle.cacache_calls.specs.{ListReplies.{In, keys_of, too_deep, by_folder}, State.{Item}, Walking.{once, items_of, failed}, declared.answers.Refusal.{Refusal}, Answers.{names_in}, Causes.{Faults, Faulted}, StepPaths.{bucket_path}}
+use Rattle.cacache_calls.proofs.Keys.{each_key_once}
+use Rattle.cacache_history.specs.{ListingTurns.{OtherKey, NoKeyTwice, IsFound, TurnGives, TurnsGive, AnyTurn, HasBucket, TurnReadsBucket, FailsAbove}, Setup.{Setup, home}, History.{Turn}, ShownTurns.{entries_at, shown_result, bucket_read, by_entries}, Turns.{made_in, EachTurn}}
+use Rattle.cacache_history.proofs.Histories.{Holding.{TurnHolds, TurnsHold}, ShownTurns.{bucket_below, bucket_at_turn}}
+use Rattle.cacache_laws.{specs.{ListedKeys.{AreAllFound}, ReadAnswers.{entries_on}}, proofs.{trees.Members.{mapped, in_left, in_right}, Readings.ReadAnswers.{is_shown}}}
 use Rattle.sha1.specs.Sha1.{sha1}
 use Rattle.cacache_core.specs.{declared.errors.Fault.{Fault}, Paths.{bucket_names_of}}
-use Rattle.cacache_core.specs.declared.errors.Fault.TheVariants as faults
 use Rattle.cacache_store.specs.{declared.store.answer.Name.{Name}, Plain.{PlainStep, PlainAnswer}, Fits.{Fits}}
+use Rattle.cacache_disk.specs.{Tree.{Tree, listing}, LedTo.{file_at, folder}, Apply.{apply, unless}}
+use Rattle.cacache_value.{specs.{Acts.{list_of}, Kinds.{NamesBelow}, Value.{value_of_tree}}, proofs.Shows.{apply_answer}}
+use Rattle.cacache_core.specs.declared.errors.Fault.TheVariants as faults
 use Rattle.cacache_store.specs.declared.store.answer.Answer.TheVariants as answers
 use Rattle.cacache_store.specs.declared.store.step.Step.TheVariants as steps
-use Rattle.cacache_disk.specs.{Tree.{Tree, listing}, LedTo.{file_at, folder}, Apply.{apply, unless}}
-use Rattle.cacache_entry.specs.{Entry.{Entry}, Latest.{Found, latest}}
-use Rattle.cacache_calls.specs.{declared.answers.Refusal.{Refusal}, Answers.{names_in}, Causes.{Faults, Faulted}, ListReplies.{by_folder, In}, StepPaths.{bucket_path}, State.{Item}, Walking.{failed}}
 use Rattle.cacache_calls.specs.declared.answers.Refusal.TheVariants as refusals
-use Rattle.cacache_value.{specs.{Acts.{list_of}, Kinds.{NamesBelow}, Value.{value_of_tree}}, proofs.Shows.{apply_answer}}
-use Rattle.cacache_history.specs.{Setup.{Setup, home}, History.{Turn}, ShownTurns.{entries_at, shown_result, bucket_read, by_entries}, Turns.{made_in, EachTurn}, ListingTurns.{IsFound, TurnGives, TurnsGive, AnyTurn, HasBucket, TurnReadsBucket, FailsAbove}}
-use Rattle.cacache_history.proofs.Histories.{Holding.{TurnHolds, TurnsHold}, ShownTurns.{bucket_below, bucket_at_turn}}
-use Rattle.cacache_laws.specs.{ReadAnswers.{entries_on}, ListedKeys.{AreAllFound}}
-use Rattle.cacache_laws.proofs.{Readings.ReadAnswers.{is_shown}, Listings.ListedItems.{entries_left, entries_right, lists_entries, lists_found}, trees.Members.{in_left, in_right}}
+
+-- ---- lists
+
+pub both_all : {X : Type 0} (P Q R : X → Type 0) → ((x : X) → P x → Q x → R x) → (xs : List X) → All P xs → All Q xs → All R xs
+both_all P Q R f [] p q = All-nil R
+both_all P Q R f (x ∷ xs) p q = All-cons R x xs (f x (All-head P x xs p) (All-head Q x xs q)) (both_all P Q R f xs (All-tail P x xs p) (All-tail Q x xs q))
+
+-- ---- lists without errors
+
+pub entries_left : (xs ys : List Item) → AreAllFound (xs ++ ys) → AreAllFound xs
+entries_left [] ys h = tt
+entries_left (Ok f ∷ xs) ys h = entries_left xs ys h
+entries_left (Err e ∷ xs) ys h = absurd h
+
+pub entries_right : (xs ys : List Item) → AreAllFound (xs ++ ys) → AreAllFound ys
+entries_right [] ys h = h
+entries_right (Ok f ∷ xs) ys h = entries_right xs ys h
+entries_right (Err e ∷ xs) ys h = absurd h
+
+-- the first items and an error have no key twice
+pub once_front : (n : ℕ) (items : List Item) → NoKeyTwice items → NoKeyTwice (take n items ++ too_deep ∷ [])
+once_front (suc n) (Ok f ∷ items) h =
+    (All-append (OtherKey f.key) (take n items) (too_deep ∷ []) (All-take (OtherKey f.key) n items h.0) (All-cons (OtherKey f.key) too_deep [] tt (All-nil (OtherKey f.key))), once_front n items h.1)
+once_front (suc n) (Err e ∷ items) h = once_front n items h
+once_front n items h = tt
+
+-- ---- what a bucket lists
+
+module _ (P : Item → Type 0) (entry : (f : Found) → P (Ok f)) (es : List Entry) where
+  one_entry : (o : Option Found) (rest : List Item) → All P rest → All P (cons_option (option_map Ok o) rest)
+  one_entry None rest h = h
+  one_entry (Some f) rest h = All-cons P (Ok f) rest (entry f) h
+
+  each_entry : (ks : List (List ℕ)) → All P (filter_map (λ key. option_map Ok (latest key es)) ks)
+  each_entry [] = All-nil P
+  each_entry (k ∷ ks) = one_entry (latest k es) (filter_map (λ key. option_map Ok (latest key es)) ks) (each_entry ks)
+
+  -- entries alone
+  pub lists_entries : All P (items_of es)
+  lists_entries = each_entry (once (map (λ e. e.key) es))
+
+-- what is found is an entry of the key
+fold_in : (key : List ℕ) (found : Option Found) (es : List Entry) (f : Found) → fold (after_entry key) found es ≡ Some f → (found ≡ Some f) ⊎ In key (keys_of es)
+fold_in key found [] f is = inl is
+fold_in key found (e ∷ es) f is =
+    elim (fold_in key (after_entry key found e) es f is) [
+      | inl here ↦ by (bytes_eq e.key key) refl here
+      | inr later ↦ inr (inr later)
+    ]
+  where
+    by : (b : Bool) → bytes_eq e.key key ≡ b → unwrap_or (cond b (answer_of e e.integrity) None) found ≡ Some f → (found ≡ Some f) ⊎ In key (keys_of (e ∷ es))
+    by true same here = inr (inl (sym ((bytes_eq-Decides e.key key).0 same)))
+    by false same here = inl here
+
+pub found_in : (key : List ℕ) (es : List Entry) (f : Found) → latest key es ≡ Some f → In key (keys_of es)
+found_in key es f is = elim (fold_in key None es f is) [ inl e ↦ absurd cc | inr i ↦ i ]
+
+-- and it is listed
+pub lists_found : (key : List ℕ) (es : List Entry) (f : Found) → latest key es ≡ Some f → In (Ok f) (items_of es)
+lists_found key es f is = mapped (λ k. option_map Ok (latest k es)) key (Ok f) (once (keys_of es)) (((each_key_once es).1 key).1 (found_in key es f is)) (ap (option_map Ok) is)
 
 -- ---- errors come from steps
 

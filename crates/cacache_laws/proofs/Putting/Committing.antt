@@ -11,7 +11,7 @@ use Rattle.cacache_value.specs.{Acts.{PutBytes}, Value.{value_of_tree}}
 use Rattle.cacache_history.specs.{Setup.{call_site}, History.{Turn}, Commits.{Deed, finds, deeds_of, deeds, CommitsAs}, Values.{IsThere}}
 use Rattle.cacache_history.proofs.durable.CommitPlaces.{goes_runs}
 use Rattle.cacache_laws.specs.{Sequence.{tree_on, turns_on, Alike, after_deeds, IsSound}, InParts.{moves_in, Begun, with_part, IsOnItsWay}, Caches.{IsCache, setup_at}, OpenWriters.{make_folder, make_file, IsOpened, CommitsBytes, CommitsLast}}
-use Rattle.cacache_laws.proofs.{Calls.{Logs.{some_same}, InParts.{logs_lead, calls_begin, parts_go_on, parts_answer}, Handed.{writes_are_parts}}, Putting.OpenWriters.{gains_join, gains_grow, folder_first}}
+use Rattle.cacache_laws.proofs.{Calls.{Logs.{some_same}, InParts.{logs_lead, calls_begin, parts_go_on, parts_answer}, Handed.{writes_are_parts}}, Putting.OpenWriters.{gains_grow, folder_first}, trees.Logged.{gains_join}}
 
 deeds_through : (xs ys : List Turn) → deeds (xs ++ ys) ≡ deeds xs ++ deeds ys
 deeds_through [] ys = refl
@@ -65,7 +65,7 @@ module _ (cache : List ℕ) (p : Put) (number : ℕ) (may : (key : List ℕ) →
   pub is_opened : IsOnItsWay (setup_at cache []) opened (write_rest (put_commit cache p) (made_temp (temp_path cache number)) p.data)
   is_opened =
       let s = setup_at cache [] in
-      let gains = gains_join o.old o.new o.opens.0 ((make_folder cache number, answers.Done) ∷ []) ((make_file cache number, answers.Temp (made_temp (temp_path cache number))) ∷ []) o.opens.1 o.opens.2 in
+      let gains = gains_join (Some o.old) o.opens.0 (Some o.new) ((make_folder cache number, answers.Done) ∷ []) ((make_file cache number, answers.Temp (made_temp (temp_path cache number))) ∷ []) o.opens.1 o.opens.2 in
       let lead = logs_lead o.old o.new opened_by gains o.logged in
       let way = calls_begin s (commands.Put p) number may tt in
       (parts_go_on s started (opening (call_site s number) (commands.Put p)) (write_rest (put_commit cache p) (made_temp (temp_path cache number)) p.data) (tree_of o.old) opened_by tt way o.sound

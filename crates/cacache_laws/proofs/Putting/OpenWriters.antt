@@ -1,5 +1,5 @@
 -- What the opening of a writer leaves in a cache.
-use Rattle.std.proofs.Common.{◌≡◌, ◌⊎◌, inl, inr, ℕ, false, List, [], ◌∷◌, ◌++◌, Option, None, Some, option_map, Result, Ok, Err, map, refl, sym, ap, subst, ◌∙◌, append-nil}
+use Rattle.std.proofs.Common.{◌≡◌, ◌⊎◌, inl, inr, ℕ, false, List, [], ◌∷◌, ◌++◌, Option, None, Some, Result, Ok, Err, map, refl, sym, ap, subst, ◌∙◌, append-nil}
 use Rattle.serde_json.specs.Data.{null}
 use Rattle.cacache_core.specs.{declared.{errors.{Error.{Error, TheVariants.{EntryNotFound, SizeMismatch, IoError, SerdeError, IntegrityError, OutOfMemory}}, Fault.{Fault}}, integrity.algorithm.Algorithm.TheVariants.{Sha256}}, PathNames.{Names, names_of, home_of}}
 use Rattle.cacache_store.specs.declared.store.answer.Answer.TheVariants as answers
@@ -11,22 +11,13 @@ use Rattle.cacache_calls.specs.{declared.command.Put.{Put}, Causes.{Faulted}, Co
 use Rattle.cacache_value.specs.{Acts.{MakeFolders, act_at, act_with, folders_left}, Value.{value_of_tree}}
 use Rattle.cacache_history.specs.{Setup.{call_site}, Commits.{deeds_of_act, deeds}}
 use Rattle.cacache_laws.specs.{Sequence.{tree_on, turns_on, Alike, after_deeds, IsSound}, InParts.{Begun}, Caches.{IsCache, Grows, IsExcused, setup_at}, OpenWriters.{LeavesKnownCache, make_folder, make_file, OpensWriter, HasOpened, WritersOpen}}
-use Rattle.cacache_laws.proofs.{Putting.KeptKeys.{stays_known}, Calls.{Logs.{some_same, joined}, InParts.{logs_lead, calls_begin, parts_go_on}}}
+use Rattle.cacache_laws.proofs.{Putting.KeptKeys.{stays_known}, Calls.{Logs.{some_same}, InParts.{logs_lead, calls_begin, parts_go_on}}, trees.Logged.{gains_join}}
 
 -- ---- logs
 
-pub gains_join : (old new : List LogItem) (mid : Option (List LogItem)) (xs ys : Moves) → Gains (Some old) mid xs → Gains mid (Some new) ys → Gains (Some old) (Some new) (xs ++ ys)
-gains_join old new mid xs ys g h =
-    let between = old ++ map (λ m. Made m.0 m.1) xs in
-    ap Some (joined old between new xs ys refl
-    (some_same new (between ++ map (λ m. Made m.0 m.1) ys) (h ∙ ap (option_map (λ log. log ++ map (λ m. Made m.0 m.1) ys)) g)))
-
 pub gains_none : (old : Option (List LogItem)) (new : List LogItem) → Some new ≡ old → Gains old (Some new) []
-gains_none old new same = by old same
-  where
-    by : (old : Option (List LogItem)) → Some new ≡ old → Gains old (Some new) []
-    by None e = absurd cc
-    by (Some log) e = e ∙ ap Some (sym (append-nil log))
+gains_none None new same = absurd cc
+gains_none (Some log) new same = same ∙ ap Some (sym (append-nil log))
 
 pub gains_grow : (old new : List LogItem) (moves : Moves) → Gains (Some old) (Some new) moves → Grows old new
 gains_grow old new moves g = (moves, some_same new (old ++ map (λ m. Made m.0 m.1) moves) g)
@@ -121,7 +112,7 @@ module _ (cache : List ℕ) (number : ℕ) (old new : List LogItem) (sound : IsC
     file_fails : (e : Error) (fault : Fault) → (e ≡ OutOfMemory) ⊎ ((message : List ℕ) × (e ≡ IoError fault message)) → Does (make_file cache number) (answers.Failed fault) mid (Some new) → KeptWith e
     file_fails e fault is g =
         let moves : Moves = (make_folder cache number, answers.Done) ∷ (make_file cache number, answers.Failed fault) ∷ [] in
-        let gains = gains_join old new mid ((make_folder cache number, answers.Done) ∷ []) ((make_file cache number, answers.Failed fault) ∷ []) made g in (
+        let gains = gains_join (Some old) mid (Some new) ((make_folder cache number, answers.Done) ∷ []) ((make_file cache number, answers.Failed fault) ∷ []) made g in (
           part_keeps moves (fails fault) (refl, tt, (refl, tt, refl)) (folder_first (tree_of old) (temp_folder cache) answers.Done ((make_file cache number, answers.Failed fault) ∷ []) refl) gains,
           excused_step old new moves gains e fault (inr (inl refl)) is,
         )
@@ -130,7 +121,7 @@ module _ (cache : List ℕ) (number : ℕ) (old new : List LogItem) (sound : IsC
     file_errs (IoError fault message) h = file_fails (IoError fault message) fault (inr (message, refl)) h
     file_errs OutOfMemory (inl same) = (
       part_keeps ((make_folder cache number, answers.Done) ∷ []) _ (refl, tt, refl) (folder_first (tree_of old) (temp_folder cache) answers.Done [] refl)
-          (gains_join old new mid ((make_folder cache number, answers.Done) ∷ []) [] made (gains_none mid new same)),
+          (gains_join (Some old) mid (Some new) ((make_folder cache number, answers.Done) ∷ []) [] made (gains_none mid new same)),
       inl refl,
     )
     file_errs OutOfMemory (inr h) = file_fails OutOfMemory h.0 (inl refl) h.1
@@ -142,7 +133,7 @@ module _ (cache : List ℕ) (number : ℕ) (old new : List LogItem) (sound : IsC
   opens (Ok file) h =
       let path = temp_path cache number in
       let moves : Moves = (make_folder cache number, answers.Done) ∷ (make_file cache number, answers.Temp file) ∷ [] in
-      let gains = gains_join old new h.0 ((make_folder cache number, answers.Done) ∷ []) ((make_file cache number, answers.Temp file) ∷ []) h.1 h.2 in
+      let gains = gains_join (Some old) h.0 (Some new) ((make_folder cache number, answers.Done) ∷ []) ((make_file cache number, answers.Temp file) ∷ []) h.1 h.2 in
       let lead = logs_lead old new moves gains logged in
       let same = temp_made (apply (tree_of old) (make_folder cache number) Plain).1 path file lead.0.1.0 in (
         part_keeps moves (persist (put_commit cache put_nothing) file) (refl, tt, (refl, ap (λ (f : PlainTemp). f.path) same, refl))

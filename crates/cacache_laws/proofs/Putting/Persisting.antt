@@ -10,8 +10,8 @@ use Rattle.cacache_store.specs.declared.store.step.Step.TheVariants as steps
 use Rattle.cacache_store.specs.declared.store.answer.Answer.TheVariants as answers
 use Rattle.cacache_disk.specs.{declared.luck.Luck.TheVariants.{Plain}, Tree.{Tree}, LedTo.{place, file_at, folder}, Rooted.{Rooted}, Apply.{apply, plain}}
 use Rattle.cacache_disk.proofs.{Changes.{apply_tree, unless_tree}, FoundNodes.{place_ok}, KeptFolders.{steps_keep_rooted}}
-use Rattle.cacache_calls.specs.{declared.{command.Put.{Put}, reply.Reply.{Reply}, carried.Commit.{Commit}}, Answers.{done_in, temp_in, written_in, synced_in, taken_in}, Common.{fails, errand_step}, Inserting.{unless_refused, bucket_line, recorded, after_append, refused_cause}, StepPaths.{content_path, content_folder, temp_path, bucket_path}, Runs.{Moves, Runs}, State.{State, doing, creating, writing, syncing, persisting, appending, over, Site, Insertion, make_folder, sync_file, sync_dir, Errand}, Storing.{insertion_of, indexed, sized, compared, matches, write_rest, after_write, put_commit}, Table.{wants, after, opening}}
-use Rattle.cacache_calls.proofs.{Branches.{cond_leads, go_on_leads}, Leading.{moves_on, secures, records}}
+use Rattle.cacache_calls.specs.{declared.{command.Put.{Put}, reply.Reply.{Reply}, carried.Commit.{Commit}}, Answers.{done_in, temp_in, written_in, synced_in, taken_in}, Common.{fails, errand_step}, Inserting.{unless_refused, bucket_line, recorded, after_append, refused_cause}, StepPaths.{content_path, content_folder, temp_path}, Runs.{Moves, Runs}, State.{State, asking, confirming, walking, doing, creating, writing, syncing, persisting, appending, over, Site, Insertion, make_folder, sync_file, sync_dir, Errand}, Storing.{insertion_of, indexed, sized, compared, matches, write_rest, after_write, put_commit}, Table.{wants, after, opening}}
+use Rattle.cacache_calls.proofs.{Branches.{cond_leads, go_on_leads}, Leading.{moves_on, secures, records}, Sound.{some_is}}
 use Rattle.cacache_calls.specs.declared.command.Command.TheVariants as commands
 use Rattle.cacache_value.specs.{Acts.{Act, Nothing, PutBytes, PutLink, AddEntries, Drop, MakeFolders, DropFolder, act_of}, Kinds.{Content, IsFor, path_kind}, Placed.{Placed, Proper}, Traces.{IsTrace}}
 use Rattle.cacache_value.proofs.{FoundPaths.{of_names, suits}, Traces.{steps_keep_placed}}
@@ -139,37 +139,29 @@ module _ (home : Option Names) (t : Tree) (rooted : Rooted t) (is_placed : Place
 
   goes : (s : State) (step : PlainStep) → Ready t s → wants s ≡ Some step → Proper home step → Goes s step
   goes (doing (make_folder p) (creating number c rest)) step ready want proper =
-      let same : steps.MakeDirs p ≡ step = cc in
       go_on_leads (Ready (apply t step Plain).1) (done_in (apply t step Plain).0) fails (λ _. creating number c rest) tt (λ fault. tt) (λ u e. ready)
   goes (doing (make_folder p) (appending i)) step ready want proper =
       go_on_leads (Ready (apply t step Plain).1) (done_in (apply t step Plain).0) fails (λ _. appending i) tt (λ fault. tt) (λ u e. tt)
   goes (doing (make_folder p) (syncing c file)) step ready want proper =
-      let same : steps.MakeDirs p ≡ step = cc in
-      subst (Goes (doing (make_folder p) (syncing c file))) same (into_folder c file p (syncing c file) (λ new h. h) ready)
+      some_is (Goes (doing (make_folder p) (syncing c file))) _ step want (into_folder c file p (syncing c file) (λ new h. h) ready)
   goes (doing (make_folder p) (persisting c file)) step ready want proper =
-      let same : steps.MakeDirs p ≡ step = cc in
-      subst (Goes (doing (make_folder p) (persisting c file))) same (into_folder c file p (persisting c file) (λ new h. h) ready)
+      some_is (Goes (doing (make_folder p) (persisting c file))) _ step want (into_folder c file p (persisting c file) (λ new h. h) ready)
   goes (doing (sync_file p) s) step ready want proper =
-      let same : steps.SyncFile p ≡ step = cc in
-      subst (Goes (doing (sync_file p) s)) same (syncs (sync_file p) s ready (λ most. unless_tree (λ new. Ready new s) (file_at t p faults.IsADirectory) t _ ready (λ _ _. ready)))
+      some_is (Goes (doing (sync_file p) s)) _ step want (syncs (sync_file p) s ready (λ most. unless_tree (λ new. Ready new s) (file_at t p faults.IsADirectory) t _ ready (λ _ _. ready)))
   goes (doing (sync_dir p) s) step ready want proper =
-      let same : steps.SyncDir p ≡ step = cc in
-      subst (Goes (doing (sync_dir p) s)) same (syncs (sync_dir p) s ready (λ most. unless_tree (λ new. Ready new s) (folder t p) t _ ready (λ _ _. ready)))
+      some_is (Goes (doing (sync_dir p) s)) _ step want (syncs (sync_dir p) s ready (λ most. unless_tree (λ new. Ready new s) (folder t p) t _ ready (λ _ _. ready)))
   goes (syncing c file) step ready want proper =
-      let same : steps.SyncTemp file ≡ step = cc in
-      subst (Goes (syncing c file)) same
+      some_is (Goes (syncing c file)) _ step want
       (go_on_leads (Ready (apply t (steps.SyncTemp file) Plain).1) (synced_in (apply t (steps.SyncTemp file) Plain).0) fails (persisting c) tt (λ fault. tt)
       (λ new e. subst (λ f. Ready (apply t (steps.SyncTemp file) Plain).1 (persisting c f)) (temp_synced t file new Plain e)
       (apply_tree (λ new. Ready new (persisting c file)) t (steps.SyncTemp file) Plain ready (λ most. ready))))
   goes (creating number c rest) step ready want proper =
       let path = temp_path c.cache number in
-      let same : steps.CreateTemp (temp_path c.cache number) ≡ step = cc in
-      subst (Goes (creating number c rest)) same
+      some_is (Goes (creating number c rest)) _ step want
       (go_on_leads (Ready (apply t (steps.CreateTemp path) Plain).1) (temp_in (apply t (steps.CreateTemp path) Plain).0) fails (λ file. write_rest c file rest) tt (λ fault. tt)
       (λ file e. writes_rest (apply t (steps.CreateTemp path) Plain).1 c file rest ready (created_so t path file (temp_is (apply t (steps.CreateTemp path) Plain).0 file e))))
   goes (writing c file rest) step ready want proper =
-      let same : steps.Write file rest ≡ step = cc in
-      subst (Goes (writing c file rest)) same
+      some_is (Goes (writing c file rest)) _ step want
       (go_on_leads (Ready (apply t (steps.Write file rest) Plain).1) (written_in (apply t (steps.Write file rest) Plain).0) fails (after_write c rest) tt (λ fault. tt)
       (λ w e. writes (apply t (steps.Write file rest) Plain).1 c rest w ready.0 (wrote_so t file w.0 rest w.1 ready.1 (written_is (apply t (steps.Write file rest) Plain).0 w e))))
   goes (persisting c file) step ready want proper =
@@ -193,18 +185,12 @@ Quiet [] = Unit {0}
 Quiet (m ∷ moves) = IsNoQuestion m.0 × Quiet moves
 
 no_question : (t : Tree) (s : State) (step : PlainStep) → Ready t s → wants s ≡ Some step → IsNoQuestion step
-no_question t (doing (make_folder p) next) step ready want = let same : steps.MakeDirs p ≡ step = cc in subst IsNoQuestion same tt
-no_question t (doing (sync_file p) next) step ready want = let same : steps.SyncFile p ≡ step = cc in subst IsNoQuestion same tt
-no_question t (doing (sync_dir p) next) step ready want = let same : steps.SyncDir p ≡ step = cc in subst IsNoQuestion same tt
-no_question t (creating number c rest) step ready want =
-    let same : steps.CreateTemp (temp_path c.cache number) ≡ step = cc in subst IsNoQuestion same tt
-no_question t (writing c file rest) step ready want = let same : steps.Write file rest ≡ step = cc in subst IsNoQuestion same tt
-no_question t (syncing c file) step ready want = let same : steps.SyncTemp file ≡ step = cc in subst IsNoQuestion same tt
-no_question t (persisting c file) step ready want = let same : steps.Persist file (content_path c.cache c.computed) ≡ step = cc in subst IsNoQuestion same tt
-no_question t (appending i) step ready want =
-    let same : steps.Append (bucket_path i.cache i.entry.key) (bucket_line i) ≡ step = cc in subst IsNoQuestion same tt
+no_question t (doing (make_folder p) next) step ready want = some_is IsNoQuestion _ step want tt
+no_question t (confirming c fault) step ready want = absurd ready
+no_question t (asking k) step ready want = absurd ready
+no_question t (walking w v todo) step ready want = absurd ready
 no_question t (over r) step ready want = absurd cc
-no_question t other step ready want = absurd ready
+no_question t s step ready want = some_is IsNoQuestion _ step want tt
 
 quiet : (home : Option Names) (t : Tree) (s : State) (moves : Moves) (r : Reply) → Rooted t → Placed home t → Ready t s → IsTrace home t (plain_moves moves) → Runs s moves r → Quiet moves
 quiet home t s [] r rooted is_placed ready trace run = tt

@@ -6,7 +6,7 @@ use Rattle.cacache_calls.specs.declared.command.Command.TheVariants as commands
 use Rattle.cacache_calls.specs.{declared.reply.Reply.TheVariants.{Done}, Walking.{walk}, Runs.{Moves, Runs}}
 use Rattle.cacache_value.{specs.Value.{blob_in, bucket_in, folders_below, empty_value, value_of_tree}, proofs.PutValues.{same_value}}
 use Rattle.cacache_laws.specs.{Sequence.{tree_on, AreAnswered}, trees.Idle.{BreaksOff}}
-use Rattle.cacache_laws.proofs.{Removing.{Sheds.{ShedAll}, ShedFolders.{child_gone}}, trees.{Twins.Cleared.{Cleared, cleared, kept, swept}, Covering.{home_named}}}
+use Rattle.cacache_laws.proofs.{Removing.Sheds.{ShedAll, child_gone}, trees.{Twins.Cleared.{Cleared, cleared, kept, swept}, Covering.{home_named}}}
 
 -- ---- an empty folder
 

@@ -11,7 +11,7 @@ use Rattle.cacache_calls.specs.declared.command.Command.TheVariants as commands
 use Rattle.cacache_value.specs.{Kinds.{node_below}, Placed.{Placed}, Shows.{blob_there}, Value.{Blob, value_of_tree}}
 use Rattle.cacache_history.{specs.ShownTurns.{blob_at}, proofs.Entries.Spelled.{HasIntegrity, latest_has}}
 use Rattle.cacache_laws.specs.{Caches.{Called, setup_at}, Keeping.{found_under}, ReadAnswers.{entries_on, get_on, read_on}, Standing.{IsStanding}, Succeeds.{NamesFolder, insertion_reply, put_reply, is_yes, removal_reply, PutsAnswer, InsertionsAnswer, DeletionsAnswer, LookupsAnswer, ContentReadsAnswer, KeyReadsAnswer, QuestionsAnswer, RemovalsAnswer}}
-use Rattle.cacache_laws.proofs.{Readings.Standing.{caches_stand}, Sure.{SureInserts.{Inserted, inserts_so}, SurePuts.{PutSo, puts_so}, SureTemps.{own_temporary_at}, SureReads.{looks_so, reads_so, asks_so, removes_so}, SureRuns.{EndsSo, ends, of_log}, SureSteps.{Ground}}, trees.Covering.{home_named}}
+use Rattle.cacache_laws.proofs.{Readings.Standing.{caches_stand}, Sure.{SureInserts.{Inserted, inserts_so}, SurePuts.{PutSo, puts_so}, SureTemps.{own_temporary_at}, SureReads.{looks_so, reads_so, asks_so, removes_so}, SurePlays.{Plays, of_plays}, SureRuns.{EndsSo, ends, of_log}, SureSteps.{Ground}}, trees.Covering.{home_named}}
 
 -- ---- a store on which no step fails
 
@@ -39,7 +39,7 @@ puts_answer cache p r old new c folder standing unused =
     let home = folder.0 in
     let none = subst (λ h. node_below h (tree_of old) (temp_names c.number) ≡ None) (home_named cache home folder.1) unused in
     back cache home folder.1 (λ h. OrMemory ((r ≡ put_reply cache p) × (node_below h (tree_of new) (temp_names c.number) ≡ None)) r)
-    (of_log (PutSo cache home folder.1 p (home ++ temp_names c.number) (own_temporary_at cache home folder.1 c.number) (put_reply cache p)) (opening (record { cache = cache; base = c.base; number = c.number }) (commands.Put p)) r old new
+    (of_plays (PutSo cache home folder.1 p (home ++ temp_names c.number) (own_temporary_at cache home folder.1 c.number) (put_reply cache p)) (opening (record { cache = cache; base = c.base; number = c.number }) (commands.Put p)) r old new
     (puts_so cache home folder.1 p c.number c.base (tree_of old) (ground cache old home folder.1 standing) none) c.ran c.logged)
 
 -- an insertion at this cache
@@ -51,8 +51,8 @@ inserted cache i command r old new c here begins folder standing =
     let g = ground cache old home folder.1 standing in
     let Q = Inserted i home is (tree_of old) g (insertion_reply i) in
     either r (λ h. h.0)
-    (of_log (Inserted i home (ap names_of here ∙ folder.1) (tree_of old) (ground cache old home folder.1 standing) (insertion_reply i)) (opening (record { cache = cache; base = c.base; number = c.number }) command) r old new
-    (subst (EndsSo Q (tree_of old)) (sym begins) (inserts_so i home is (tree_of old) g)) c.ran c.logged)
+    (of_plays (Inserted i home (ap names_of here ∙ folder.1) (tree_of old) (ground cache old home folder.1 standing) (insertion_reply i)) (opening (record { cache = cache; base = c.base; number = c.number }) command) r old new
+    (subst (Plays Q (tree_of old)) (sym begins) (inserts_so i home is (tree_of old) g)) c.ran c.logged)
 
 pub insertions_answer : InsertionsAnswer
 insertions_answer cache i r old new folder standing c = inserted cache (insertion cache i) (commands.Insert i) r old new c refl refl folder standing

@@ -6,7 +6,7 @@ use Rattle.cacache_disk.specs.{Tree.{Tree}, LedTo.{place}, Apply.{make_some}}
 use Rattle.cacache_calls.specs.{declared.{carried.Commit.{Commit}, reply.Reply.{Reply, TheVariants.{Stored, Refused}}}, Common.{ends_with}, Inserting.{insert}, State.{State}, StepPaths.{content_path, content_folder}, Storing.{insertion_of, indexed, sized, compared, placed, matches}}
 use Rattle.cacache_value.specs.Kinds.{Content, Way}
 use Rattle.cacache_laws.specs.Succeeds.{keyed_reply, sized_reply, compared_reply}
-use Rattle.cacache_laws.proofs.{Sure.{SureInserts.{Inserted, Spares, inserts_so, one_behind}, SureRuns.{EndsSo, ends, ends_too, both}, SureSteps.{Ground, Lies, dirs_ground, dirs_stand, place_in}, SureTemps.{content_folder_lies, content_lies}}, trees.Covering.{home_named}}
+use Rattle.cacache_laws.proofs.{Sure.{SureInserts.{Inserted, Spares, inserts_so, one_behind}, SurePlays.{Plays, ends, ends_too}, SureRuns.{both}, SureSteps.{Ground, Lies, dirs_ground, dirs_stand, place_in}, SureTemps.{content_folder_lies, content_lies}}, trees.Covering.{home_named}}
 
 -- ---- its reply, and something of the tree that an insertion keeps
 
@@ -17,7 +17,7 @@ module _ (c : Commit) (home : Names) (is : names_of c.cache ≡ Ok home) (Kept :
   module _ (t : Tree) (g : Ground home t) (kept : Kept t) where
     -- the state leads to this reply
     abbrev Leads : Reply → State → Type 0
-    Leads wanted s = EndsSo (CommitSo wanted) t s
+    Leads wanted s = Plays (CommitSo wanted) t s
 
     by_key : (key : Option (List ℕ)) → Leads (keyed_reply c key) (indexed c key)
     by_key None = ends (CommitSo (Stored c.computed)) t (Stored c.computed) (refl, kept)

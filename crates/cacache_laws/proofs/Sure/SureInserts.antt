@@ -15,7 +15,7 @@ use Rattle.cacache_calls.specs.{declared.reply.Reply.{Reply, TheVariants.{Refuse
 use Rattle.cacache_calls.proofs.Branches.{cond_leads}
 use Rattle.cacache_value.{specs.Kinds.{Bucket, Temporary, Way, path_kind}, proofs.{FoundPaths.{suits}, PathKinds.{proper_folder}}}
 use Rattle.cacache_laws.specs.Succeeds.{insertion_reply, unless_unwritable}
-use Rattle.cacache_laws.proofs.{Sure.{SureRuns.{EndsSo, ends, goes, syncs}, SureSpares.{dirs_spare, put_other}, SureSteps.{Ground, Lies, SyncsAll, joined_lies, is_for, place_at, place_in, makes_dirs, dirs_ground, dirs_stand, syncs_folders, look_own, appends, syncs_file}}, trees.Covering.{home_named}}
+use Rattle.cacache_laws.proofs.{Sure.{SurePlays.{Plays, ends, goes, syncs}, SureSpares.{dirs_spare, put_other}, SureSteps.{Ground, Lies, SyncsAll, joined_lies, is_for, place_at, place_in, makes_dirs, dirs_ground, dirs_stand, syncs_folders, look_own, appends, syncs_file}}, trees.Covering.{home_named}}
 
 -- no temporary file is at a place that had none
 abbrev pub Spares : Names → Tree → Tree → Type 0
@@ -93,34 +93,34 @@ module _ (i : Insertion) (home : Names) (is : names_of i.cache ≡ Ok home) (t :
       let same = ap (λ (r : PlainAnswer × Tree). r.1) (makes_dirs home t g (bucket_folder i.cache i.entry.key) front folder_lies) in
       put_other (Some home) q temporary made Bucket (home ++ bucket_names i.entry.key) _ lies.kind (λ differ. absurd cc) (ap (λ x. look x q) (sym same) ∙ folders)
 
-  is_recorded : EndsSo (Inserted i.reply) done (recorded i)
+  is_recorded : Plays (Inserted i.reply) done (recorded i)
   is_recorded =
       let path = bucket_path i.cache i.entry.key in
       let names = home ++ bucket_names i.entry.key in
       let bytes = bytes_of (look made (home ++ bucket_names i.entry.key)) ++ take (length (bucket_line i)) (bucket_line i) in
       let there : look done (home ++ bucket_names i.entry.key) ≡ Some (File bytes) = look_own made (home ++ bucket_names i.entry.key) (File bytes) in
       let over_now = ends (Inserted i.reply) done i.reply (refl, spares) in
-      cond_leads (EndsSo (Inserted i.reply) done) i.durable _ _
+      cond_leads (Plays (Inserted i.reply) done) i.durable _ _
       (λ durable.
       goes (Inserted i.reply) done done (doing (sync_file path) (sync_up (bucket_folders i.cache i.entry.key) (over i.reply))) (steps.SyncFile path) answers.Done refl
-      (syncs_file done path names bytes (place_at done path names (File bytes) done_rooted lies.named there) there)
+      (syncs_file done path names bytes (place_at done path names (File bytes) done_rooted lies.named there) there) tt
       (syncs (Inserted i.reply) done (over i.reply) (bucket_folders i.cache i.entry.key) (synced_folders i.cache home is i.entry.key done (File bytes) done_rooted there) over_now))
       (λ plain. over_now)
 
-  pub insertion_ends : EndsSo (Inserted i.reply) t (doing (make_folder (bucket_folder i.cache i.entry.key)) (appending i))
+  pub insertion_ends : Plays (Inserted i.reply) t (doing (make_folder (bucket_folder i.cache i.entry.key)) (appending i))
   insertion_ends =
       let path = bucket_path i.cache i.entry.key in
       goes (Inserted i.reply) t made (doing (make_folder (bucket_folder i.cache i.entry.key)) (appending i)) (steps.MakeDirs (bucket_folder i.cache i.entry.key)) answers.Done refl
-      (makes_dirs home t g (bucket_folder i.cache i.entry.key) front folder_lies)
-      (goes (Inserted i.reply) made done (appending i) (steps.Append path (bucket_line i)) (answers.Took (length (bucket_line i))) refl appended
-      (cond_leads (EndsSo (Inserted i.reply) done) (nat_le (length (bucket_line i)) (length (bucket_line i))) (recorded i) (fails faults.ShortAppend)
+      (makes_dirs home t g (bucket_folder i.cache i.entry.key) front folder_lies) tt
+      (goes (Inserted i.reply) made done (appending i) (steps.Append path (bucket_line i)) (answers.Took (length (bucket_line i))) refl appended (omega arith)
+      (cond_leads (Plays (Inserted i.reply) done) (nat_le (length (bucket_line i)) (length (bucket_line i))) (recorded i) (fails faults.ShortAppend)
       (λ whole. is_recorded)
       (λ short. let differ : true ≡ false = sym (le-leb (length (bucket_line i)) (length (bucket_line i)) (omega arith)) ∙ short in absurd cc)))
 
-  by_cause : (cause : Option SerdeCause) → EndsSo (Inserted (unless_unwritable i.reply cause)) t (unless_refused i cause)
+  by_cause : (cause : Option SerdeCause) → Plays (Inserted (unless_unwritable i.reply cause)) t (unless_refused i cause)
   by_cause None = insertion_ends
   by_cause (Some cause) = ends (Inserted (unless_unwritable i.reply (Some cause))) t (Refused (SerdeError cause [])) (refl, λ q temporary e. e)
 
   -- so does an insertion, or its entry can't be written
-  pub inserts_so : EndsSo (Inserted (insertion_reply i)) t (insert i)
+  pub inserts_so : Plays (Inserted (insertion_reply i)) t (insert i)
   inserts_so = by_cause (refused_cause i)

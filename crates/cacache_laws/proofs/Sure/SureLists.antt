@@ -17,7 +17,7 @@ use Rattle.cacache_calls.specs.{declared.{reply.Reply.{Reply, TheVariants.{Liste
 use Rattle.cacache_value.{specs.{Kinds.{Bucket, Way, kind_in_area, node_below, path_kind, is_used}, Placed.{MayStand}}, proofs.{FoundPaths.{suits}, KindsApart.{kind-below}}}
 use Rattle.cacache_history.proofs.{Listings.ToldFolders.{Told, listing_told}, Each.{Each}}
 use Rattle.cacache_laws.specs.{Sequence.{AreAnswered}, Succeeds.{IsItemOrTooDeep, ListsAll, ListingsAnswer}}
-use Rattle.cacache_laws.proofs.{trees.{Children.{proper_child}, Listing.{lists}, Covering.{named_on}}, Sure.{Succeeds.{back, ground}, SureRuns.{EndsSo, ends, goes, of_log}, SureSteps.{Ground, Reached, arrives, missing, file_so, place_at, reached}}, Removing.ShedFolders.{lists_folder}}
+use Rattle.cacache_laws.proofs.{trees.{Children.{proper_child}, Listing.{lists}, Covering.{named_on}}, Sure.{Succeeds.{back, ground}, SureRuns.{EndsSo, ends, goes, of_log}, SureSteps.{Ground, Reached, arrives, missing, file_so, place_at, reached}}, Removing.Sheds.{lists_folder}}
 
 -- ---- items
 

@@ -13,7 +13,7 @@ use Rattle.cacache_calls.proofs.Branches.{cond_leads}
 use Rattle.cacache_value.{specs.{Kinds.{Content, Temporary, Way, path_kind, IsFor}, Placed.{Proper}}, proofs.FoundPaths.{suits}}
 use Rattle.cacache_history.proofs.Contents.Digests.{digest_hash}
 use Rattle.cacache_laws.specs.Succeeds.{put_reply}
-use Rattle.cacache_laws.proofs.{Putting.MadeNodes.{Stands}, Sure.{SureCommits.{placed_ends as commit_ends}, SureRuns.{EndsSo, goes, syncs}, SureSpares.{put_other}, SureTemps.{temp_lies, temp_folder_lies, content_synced, own_temporary_at, with_folder, with_file, made_file, file_ground, stands}, SureSteps.{Ground, Lies, goes_to, is_for, makes_dirs, dirs_keep, persists, look_own}}}
+use Rattle.cacache_laws.proofs.{Putting.MadeNodes.{Stands}, Sure.{SureCommits.{placed_ends as commit_ends}, SurePlays.{Plays, goes, syncs}, SureSpares.{put_other}, SureTemps.{temp_lies, temp_folder_lies, content_synced, own_temporary_at, with_folder, with_file, made_file, file_ground, stands}, SureSteps.{Ground, Lies, goes_to, is_for, makes_dirs, dirs_keep, persists, look_own}}}
 use Rattle.cacache_laws.proofs.Sure.SureCommits as commits
 
 -- ---- once the content is there
@@ -24,7 +24,7 @@ module _ (cache : List ℕ) (home : Names) (is : names_of cache ≡ Ok home) (p 
   PutSo wanted t r = (r ≡ wanted) × (look t q ≡ None)
 
   module _ (t : Tree) (g : Ground home t) (none : look t q ≡ None) where
-    pub placed_ends : EndsSo (PutSo (put_reply cache p)) t (placed (put_commit cache p))
+    pub placed_ends : Plays (PutSo (put_reply cache p)) t (placed (put_commit cache p))
     placed_ends = commit_ends (put_commit cache p) home is (λ x. look x q ≡ None) (λ old new spares. spares q temporary) t g none
 
 -- ---- from a full temporary file on
@@ -105,32 +105,32 @@ module _ (cache : List ℕ) (home : Names) (is : names_of cache ≡ Ok home) (p 
       put_other (Some home) own (own_temporary_at cache home is number) (cut made s.names) Content (home ++ content_names h) (File s.bytes) lies.kind (λ differ. absurd cc)
       (ap (λ n. look (cut made n) own) own_names ∙ look-cut made own own ∙ ap (λ b. cond b None (look made own)) (same_self own))
 
-  secured_ends : EndsSo (Ended (put_reply cache p)) stored (secured (put_commit cache p))
+  secured_ends : Plays (Ended (put_reply cache p)) stored (secured (put_commit cache p))
   secured_ends =
       let Q = Ended (put_reply cache p) in
       let placed_now = placed_ends cache home is p own (own_temporary_at cache home is number) stored stored_ground gone in
-      cond_leads (EndsSo (Ended (put_reply cache p)) stored) p.options.durable _ _
+      cond_leads (Plays (Ended (put_reply cache p)) stored) p.options.durable _ _
       (λ durable.
       syncs Q stored (placed (put_commit cache p)) (content_folders cache (put_commit cache p).computed)
       (content_synced cache home is h [] hash stored (File s.bytes) stored_ground.rooted (look_own (cut made s.names) (home ++ content_names h) (File s.bytes))) placed_now)
       (λ plain. placed_now)
 
-  moved_in : EndsSo (Ended (put_reply cache p)) made (persisting (put_commit cache p) file)
+  moved_in : Plays (Ended (put_reply cache p)) made (persisting (put_commit cache p) file)
   moved_in =
-      goes (Ended (put_reply cache p)) made stored (persisting (put_commit cache p) file) (steps.Persist file (content_path cache (put_commit cache p).computed)) answers.Done refl persisted secured_ends
+      goes (Ended (put_reply cache p)) made stored (persisting (put_commit cache p) file) (steps.Persist file (content_path cache (put_commit cache p).computed)) answers.Done refl persisted tt secured_ends
 
   synced : apply made (steps.SyncTemp file) Plain ≡ (answers.Synced file, made)
   unfolding apply
   synced = refl
 
-  pub persist_ends : EndsSo (Ended (put_reply cache p)) t (persist (put_commit cache p) file)
+  pub persist_ends : Plays (Ended (put_reply cache p)) t (persist (put_commit cache p) file)
   persist_ends =
       let Q = Ended (put_reply cache p) in
       let folder = content_folder cache (put_commit cache p).computed in
       goes Q t made (doing (make_folder folder) (move_in (put_commit cache p) file)) (steps.MakeDirs folder) answers.Done refl
-      (makes_dirs home t g folder front folder_lies)
-      (cond_leads (EndsSo (Ended (put_reply cache p)) made) p.options.durable _ _
-      (λ durable. goes Q made made (syncing (put_commit cache p) file) (steps.SyncTemp file) (answers.Synced file) refl synced moved_in)
+      (makes_dirs home t g folder front folder_lies) tt
+      (cond_leads (Plays (Ended (put_reply cache p)) made) p.options.durable _ _
+      (λ durable. goes Q made made (syncing (put_commit cache p) file) (steps.SyncTemp file) (answers.Synced file) refl synced refl moved_in)
       (λ plain. moved_in))
 
 -- ---- from the opening on
@@ -150,25 +150,25 @@ module _ (cache : List ℕ) (home : Names) (is : names_of cache ≡ Ok home) (p 
   abbrev full : List ℕ → PlainTemp
   full bytes = record { path = temp_path cache number; bytes = Some bytes }
 
-  from_full : (bytes : List ℕ) → EndsSo Opened two (persist (put_commit cache p) (full bytes))
+  from_full : (bytes : List ℕ) → Plays Opened two (persist (put_commit cache p) (full bytes))
   from_full bytes = persist_ends cache home is p number two (file_ground cache home is number t g none) (full bytes) (stands cache home is number t g none bytes) refl
 
   wrote : (b : ℕ) (bs : List ℕ) → apply two (steps.Write (full []) (b ∷ bs)) Plain ≡ (answers.Wrote (full (take (length (b ∷ bs)) (b ∷ bs))) (length (b ∷ bs)), two)
   unfolding apply
   wrote b bs = refl
 
-  from_file : (bytes : List ℕ) → EndsSo Opened two (write_rest (put_commit cache p) (full []) bytes)
+  from_file : (bytes : List ℕ) → Plays Opened two (write_rest (put_commit cache p) (full []) bytes)
   from_file [] = from_full []
   from_file (b ∷ bs) =
       let n = length (b ∷ bs) in
       let now = full (take (length (b ∷ bs)) (b ∷ bs)) in
-      goes Opened two two (writing (put_commit cache p) (full []) (b ∷ bs)) (steps.Write (full []) (b ∷ bs)) (answers.Wrote now n) refl (wrote b bs)
-      (cond_leads (EndsSo Opened two) (length (b ∷ bs) == 0) (fails faults.WriteZero) (write_rest (put_commit cache p) now (drop n (b ∷ bs)))
+      goes Opened two two (writing (put_commit cache p) (full []) (b ∷ bs)) (steps.Write (full []) (b ∷ bs)) (answers.Wrote now n) refl (wrote b bs) (omega arith, refl)
+      (cond_leads (Plays Opened two) (length (b ∷ bs) == 0) (fails faults.WriteZero) (write_rest (put_commit cache p) now (drop n (b ∷ bs)))
       (λ zero. let differ : true ≡ false = sym zero ∙ ne_eqb (length (b ∷ bs)) 0 (λ e. absurd (omega arith)) in absurd cc)
-      (λ some. subst (λ rest. EndsSo Opened two (write_rest (put_commit cache p) now rest)) (sym (drop_all n (b ∷ bs) (omega arith))) (from_full (take (length (b ∷ bs)) (b ∷ bs)))))
+      (λ some. subst (λ rest. Plays Opened two (write_rest (put_commit cache p) now rest)) (sym (drop_all n (b ∷ bs) (omega arith))) (from_full (take (length (b ∷ bs)) (b ∷ bs)))))
 
-  pub puts_so : EndsSo Opened t (opening (record { cache = cache; base = base; number = number }) (commands.Put p))
+  pub puts_so : Plays Opened t (opening (record { cache = cache; base = base; number = number }) (commands.Put p))
   puts_so =
       goes Opened t one (doing (make_folder (temp_folder cache)) (creating number (put_commit cache p) p.data)) (steps.MakeDirs (temp_folder cache)) answers.Done refl
-      (makes_dirs home t g (temp_folder cache) (folder_names (temp_names 0)) (temp_folder_lies cache home is))
-      (goes Opened one two (creating number (put_commit cache p) p.data) (steps.CreateTemp (temp_path cache number)) (answers.Temp (full [])) refl (made_file cache home is number t g none) (from_file p.data))
+      (makes_dirs home t g (temp_folder cache) (folder_names (temp_names 0)) (temp_folder_lies cache home is)) tt
+      (goes Opened one two (creating number (put_commit cache p) p.data) (steps.CreateTemp (temp_path cache number)) (answers.Temp (full [])) refl (made_file cache home is number t g none) refl (from_file p.data))

@@ -1,11 +1,9 @@
 -- How a call ends if all of its steps succeed, step by step.
-use Rattle.std.proofs.Common.{◌≡◌, inl, inr, ℕ, Bool, true, false, cond, List, [], ◌∷◌, None, Some, refl, sym, ap, subst, ◌∙◌}
+use Rattle.std.proofs.Common.{◌≡◌, inl, inr, Bool, true, false, cond, List, [], ◌∷◌, None, Some, sym, ap, subst, ◌∙◌}
 use Rattle.cacache_store.specs.{declared.store.log.LogItem.{LogItem}, Plain.{PlainStep, PlainAnswer}}
-use Rattle.cacache_store.specs.declared.store.step.Step.TheVariants as steps
-use Rattle.cacache_store.specs.declared.store.answer.Answer.TheVariants as answers
 use Rattle.cacache_disk.specs.{declared.luck.Luck.TheVariants.{Plain}, Tree.{Tree}, Apply.{apply}, memory.Replay.{tree_of, IsLog}}
-use Rattle.cacache_calls.specs.{declared.reply.Reply.{Reply}, Common.{sync_up}, Replies.{OrMemory}, Runs.{Moves, Runs, Ran}, State.{State, doing, over, sync_dir}, Table.{wants, after}}
-use Rattle.cacache_laws.{specs.Sequence.{tree_on, AreAnswered}, proofs.{Calls.InParts.{logs_lead}, Sure.SureSteps.{SyncsAll}}}
+use Rattle.cacache_calls.specs.{declared.reply.Reply.{Reply}, Replies.{OrMemory}, Runs.{Moves, Runs, Ran}, State.{State, over}, Table.{wants, after}}
+use Rattle.cacache_laws.{specs.Sequence.{tree_on, AreAnswered}, proofs.Calls.InParts.{logs_lead}}
 
 -- from this state on this tree a call ends so, or memory is refused
 abbrev pub EndsSo : (Tree → Reply → Type 0) → Tree → State → Type 0
@@ -28,16 +26,6 @@ module _ (Q : Tree → Reply → Type 0) where
       let answer : m.1 ≡ a = answered.0 ∙ ap (λ (x : PlainAnswer × Tree). x.0) result in
       subst (λ x. OrMemory (Q (tree_on x moves) r) r) (sym tree)
       (next moves r (subst (λ x. Runs (after s x) moves r) answer run.2) (subst (λ x. AreAnswered x moves) tree answered.1))
-
-  -- folders that are synced, and then what follows
-  pub syncs : (t : Tree) (s : State) (folders : List (List ℕ)) → SyncsAll t folders → EndsSo Q t s → EndsSo Q t (sync_up folders s)
-  syncs t s [] all next = next
-  syncs t s (folder ∷ deeper) all next =
-      syncs t (doing (sync_dir folder) s) deeper all.1 (goes t t (doing (sync_dir folder) s) (steps.SyncDir folder) answers.Done refl all.0 next)
-
--- what ends so ends so too
-pub ends_too : (Q P : Tree → Reply → Type 0) → ((t : Tree) (r : Reply) → Q t r → P t r) → (t : Tree) (s : State) → EndsSo Q t s → EndsSo P t s
-ends_too Q P leads t s ends moves r run answered = elim (ends moves r run answered) [ inl e ↦ inl e | inr q ↦ inr (leads (tree_on t moves) r q) ]
 
 -- a reply and a state that are chosen by the same test
 pub both : (P : Reply → State → Type 0) (b : Bool) (x y : Reply) (u v : State) → P x u → P y v → P (cond b x y) (cond b u v)

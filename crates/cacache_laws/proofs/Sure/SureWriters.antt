@@ -7,7 +7,7 @@ use Rattle.cacache_disk.specs.{declared.luck.Luck.TheVariants.{Plain}, Tree.{Tre
 use Rattle.cacache_calls.specs.{Replies.{OrMemory}, Runs.{Gains, Moves}, StepPaths.{temp_folder, temp_path}, Storing.{persist, put_commit}}
 use Rattle.cacache_value.specs.Kinds.{node_below}
 use Rattle.cacache_laws.specs.{OpenSucceeds.{FileAt, OpeningsSucceed, CommitsAnswer}, OpenWriters.{make_file, make_folder}, Succeeds.{NamesFolder, IsUnused, put_reply}, Standing.{IsStanding}}
-use Rattle.cacache_laws.proofs.{Calls.InParts.{logs_lead}, Putting.{MadeNodes.{Stands, created_so}, OpenWriters.{gains_join}}, Sure.{Succeeds.{back, ground}, SurePuts.{PutSo, persist_ends}, SureTemps.{made_file, own_temporary_at, temp_folder_lies, with_folder}, SureRuns.{of_log}, SureSteps.{Ground, makes_dirs}}, trees.Covering.{home_named}}
+use Rattle.cacache_laws.proofs.{Calls.InParts.{logs_lead}, Putting.MadeNodes.{Stands, created_so}, Sure.{Succeeds.{back, ground}, SurePuts.{PutSo, persist_ends}, SureTemps.{made_file, own_temporary_at, temp_folder_lies, with_folder}, SurePlays.{of_plays}, SureSteps.{Ground, makes_dirs}}, trees.{Covering.{home_named}, Logged.{gains_join}}}
 
 -- ---- openings
 
@@ -22,7 +22,7 @@ module _ (cache : List ℕ) (number : ℕ) (old new : List LogItem) (logged : Is
 
   opened_file : (file : PlainTemp) (mid : Option (List LogItem)) → Gains (Some old) mid ((make_folder cache number, answers.Done) ∷ []) → Gains mid (Some new) ((make_file cache number, answers.Temp file) ∷ []) → FileAt file.path new
   opened_file file mid first second =
-      let lead = logs_lead old new (two (answers.Temp file)) (gains_join old new mid ((make_folder cache number, answers.Done) ∷ []) ((make_file cache number, answers.Temp file) ∷ []) first second) logged in
+      let lead = logs_lead old new (two (answers.Temp file)) (gains_join (Some old) mid (Some new) ((make_folder cache number, answers.Done) ∷ []) ((make_file cache number, answers.Temp file) ∷ []) first second) logged in
       let s = created_so made (temp_path cache number) file (sym lead.0.1.0) in
       (s.names, s.was, s.named, ap (λ t. look t s.names) lead.1 ∙ s.there)
 
@@ -35,7 +35,7 @@ module _ (cache : List ℕ) (number : ℕ) (old new : List LogItem) (logged : Is
   file_not : (fault : Fault) (mid : Option (List LogItem)) → Gains (Some old) mid ((make_folder cache number, answers.Done) ∷ []) → Gains mid (Some new) ((make_file cache number, answers.Failed fault) ∷ [])
       → (apply made (make_file cache number) Plain).0 ≡ answers.Temp (made_temp (temp_path cache number)) → ⊥
   file_not fault mid first second is =
-      let lead = logs_lead old new (two (answers.Failed fault)) (gains_join old new mid ((make_folder cache number, answers.Done) ∷ []) ((make_file cache number, answers.Failed fault) ∷ []) first second) logged in
+      let lead = logs_lead old new (two (answers.Failed fault)) (gains_join (Some old) mid (Some new) ((make_folder cache number, answers.Done) ∷ []) ((make_file cache number, answers.Failed fault) ∷ []) first second) logged in
       let both : answers.Failed fault ≡ answers.Temp (made_temp (temp_path cache number)) = lead.0.1.0 ∙ is in cc
 
   -- on such a store
@@ -85,5 +85,5 @@ commits_answer cache p number r old new folder standing file c =
       there = file.3;
     } in
     back cache home folder.1 (λ h. OrMemory ((r ≡ put_reply cache p) × (node_below h (tree_of new) (temp_names number) ≡ None)) r)
-    (of_log (PutSo cache home folder.1 p (home ++ temp_names number) (own_temporary_at cache home folder.1 number) (put_reply cache p)) (persist (put_commit cache p) c.file) r old new
+    (of_plays (PutSo cache home folder.1 p (home ++ temp_names number) (own_temporary_at cache home folder.1 number) (put_reply cache p)) (persist (put_commit cache p) c.file) r old new
     (persist_ends cache home folder.1 p number t (ground cache old home folder.1 standing) c.file s c.path_is) c.ran c.logged)

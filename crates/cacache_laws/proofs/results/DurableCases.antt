@@ -1,27 +1,29 @@
 -- Histories of one durable commit, on a disk that holds nothing.
-use Rattle.std.proofs.Common.{◌≡◌, ℕ, true, List, [], ◌∷◌, ◌++◌, None, Some, Ok, append-nil, codes, refl, sym, ap, subst, ◌∙◌, arith}
-use Rattle.cacache_core.specs.{PathNames.{Names, names_of}, Paths.{bucket_names, content_names}, declared.integrity.digest.Hash.{Hash}}
+use Rattle.std.proofs.Common.{◌≡◌, ℕ, true, List, [], ◌∷◌, ◌++◌, Option, None, Some, Ok, append-nil, codes, refl, sym, ap, subst, ◌∙◌, arith}
+use Rattle.cacache_core.specs.{PathNames.{Names, names_of}, Paths.{bucket_names, content_names, temp_names}, declared.integrity.digest.Hash.{Hash}}
 use Rattle.cacache_store.specs.Plain.{PlainStep}
 use Rattle.cacache_store.specs.declared.store.step.Step.TheVariants as steps
-use Rattle.cacache_disk.{specs.Tree.{bare}, proofs.Roots.{bare_below}}
+use Rattle.cacache_disk.{specs.Tree.{Tree, bare}, proofs.Roots.{bare_below}}
 use Rattle.cacache_entry.proofs.EntryCauses.{no_cause_is_fit}
-use Rattle.cacache_calls.specs.{Inserting.{insert, insertion, refused_cause, unless_refused}, Runs.{Moves}, State.{State, creating, doing, Insertion, make_folder}, StepPaths.{bucket_folder, temp_folder}, Storing.{insertion_of, put_commit}, Sound.{MayBegin}, Table.{opening, wants}, declared.{command.{Command.{Command}, Insert.{Insert}, Put.{Put}}, reply.Reply.{Reply, TheVariants.{Stored}}}}
+use Rattle.cacache_calls.specs.{Effects.{effects_of}, Inserting.{insert, insertion, refused_cause, unless_refused}, Runs.{Moves, Goes}, State.{State, over, Insertion}, StepPaths.{bucket_folder, temp_folder}, Storing.{insertion_of, put_commit}, Sound.{MayBegin}, Table.{opening, wants}, declared.{command.{Command.{Command}, Insert.{Insert}, Put.{Put}}, reply.Reply.{Reply, TheVariants.{Stored}}}}
+use Rattle.cacache_calls.proofs.{Effects.{puts_commit}, Going.{goes_over}}
 use Rattle.cacache_calls.specs.declared.command.Command.TheVariants as commands
 use Rattle.cacache_value.{specs.{OpeningTrees.{IsOpening}, Placed.{Placed}, Value.{AtLink, Value}}, proofs.OpeningTrees.{files_open}}
 use Rattle.cacache_history.specs.{AddedEntries.{address_of_put}, declared.record.Record.{Record, TheVariants.{Began}}, History.{Call, History, IsLegal, Made, NamesIntegrity, Now, initial, new_call, replayed}, Setup.{Setup, call_site, home, is_outside, may_export}, Values.{value_at}, durable.{Ending.{CallEndsWith, EndsFrom}, Outlasting.{DurablePut, IsNoLink}, QuietMoves.{AreQuiet, IsQuietMove, PutsDurably}}}
-use Rattle.cacache_laws.specs.{Sequence.{AreAnswered}, results.{DurableCases.{CanBeWritten, GoElsewhere, InsertsStandInOne, IsLastPut, PutsStandInOne, PutsStandLast, StandsIn, StoresDurably}, Losses.{entry_written}}}
-use Rattle.cacache_laws.proofs.{Sure.SureSteps.{Ground}, results.{LastPuts.{none_last}, PlainRecords.{quiet_more, records_end, records_legal, records_of, records_quiet}, PlainRuns.{Plays, Reaches, inserts_play}, PlainPuts.{put_plays}}, trees.Covering.{home_named}}
+use Rattle.cacache_laws.specs.{Sequence.{AreAnswered}, Succeeds.{compared_reply, insertion_reply, keyed_reply, put_reply, sized_reply, unless_unwritable}, results.{DurableCases.{CanBeWritten, GoElsewhere, InsertsStandInOne, IsLastPut, PutsStandInOne, PutsStandLast, StandsIn, StoresDurably}, Losses.{entry_written}}}
+use Rattle.cacache_laws.proofs.{Sure.{SureInserts.{Inserted, inserts_so}, SurePlays.{Plays}, SurePuts.{PutSo, puts_so}, SureSteps.{Ground}, SureTemps.{own_temporary_at}}, results.{LastPuts.{commits_last, none_last}, PlainRecords.{quiet_more, records_end, records_legal, records_of, records_quiet}}, trees.Covering.{home_named}}
 
 -- the moves of a call that makes one
 record Moving (s : State) (r : Reply) : Type 0 where
   first : Made
   more : Moves
-  run : Reaches s (first ∷ more) r
+  run : Goes s (first ∷ more) (over r)
   answered : AreAnswered bare (first ∷ more)
 
-moving : (s : State) (r : Reply) (step : PlainStep) → wants s ≡ Some step → Plays r bare s → Moving s r
-moving s r step want ([], run, answered) = let no : Some step ≡ None = sym want ∙ ap wants run in absurd cc
-moving s r step want (m ∷ more, run, answered) = record { first = m; more = more; run = run; answered = answered }
+moving : (Q : Tree → Reply → Type 0) (s : State) (r : Reply) (step : PlainStep) → wants s ≡ Some step → ((t : Tree) (x : Reply) → Q t x → x ≡ r) → Plays Q bare s → Moving s r
+moving Q s r step want says ([], x, run, answered, q) = let no : Some step ≡ None = sym want ∙ ap wants run in absurd cc
+moving Q s r step want says (m ∷ more, x, run, answered, q) =
+    record { first = m; more = more; run = subst (λ (y : Reply). Goes s (m ∷ more) (over y)) (says _ x q) run; answered = answered }
 
 abbrev setup_of : List ℕ → Setup
 setup_of cache = record { cache = cache; base = codes "/"; outside = []; callers = 1 }
@@ -81,14 +83,21 @@ puts_durably content p step durable = tt
 put_quiet : (path : Names) (p : Put) → p.options.durable ≡ true → (call : Call) (m : Made) → call.command ≡ commands.Put p → IsQuietMove path (Some call) (Some m)
 put_quiet path p durable call m e = rw e (refl, puts_durably path p m.0 durable)
 
-wants_some : (j : Insertion) → CanBeWritten j.entry → wants (insert j) ≡ Some (steps.MakeDirs (bucket_folder j.cache j.entry.key))
+no_cause : (j : Insertion) → CanBeWritten j.entry → refused_cause j ≡ None
 unfolding refused_cause
-wants_some j can = ap (λ o. wants (unless_refused j o)) ((no_cause_is_fit j.entry can.0).1 can.1)
+no_cause j can = (no_cause_is_fit j.entry can.0).1 can.1
+
+wants_some : (j : Insertion) → CanBeWritten j.entry → wants (insert j) ≡ Some (steps.MakeDirs (bucket_folder j.cache j.entry.key))
+wants_some j can = ap (λ o. wants (unless_refused j o)) (no_cause j can)
+
+is_done : (j : Insertion) → CanBeWritten j.entry → insertion_reply j ≡ j.reply
+is_done j can = ap (unless_unwritable j.reply) (no_cause j can)
 
 pub inserts_stand : InsertsStandInOne
 inserts_stand cache folder n is durable can =
     let j = insertion cache n in
-    let m = moving (insert (insertion cache n)) j.reply _ (wants_some j can) (inserts_play folder j is durable bare (ground cache folder is) can) in (
+    let Q = Inserted j folder is bare (ground cache folder is) (insertion_reply j) in
+    let m = moving Q (insert (insertion cache n)) j.reply _ (wants_some j can) (λ t x h. h.0 ∙ is_done j can) (inserts_so j folder is bare (ground cache folder is)) in (
       begins_with cache _ (commands.Insert n) m (rest cache _ (commands.Insert n) m),
       refl,
       alone_legal cache _ (commands.Insert n) m (λ written. can.0) tt,
@@ -113,10 +122,19 @@ module _ (cache : List ℕ) (folder : Names) (p : Put) (is : names_of cache ≡ 
   abbrev path : Names
   path = folder ++ content_names (address_of_put p)
 
+  keyed : (key : Option (List ℕ)) → p.key ≡ key → keyed_reply (put_commit cache p) key ≡ Stored own
+  keyed None e = refl
+  keyed (Some key) e = is_done (insertion_of (put_commit cache p) key) (writable key e) ∙ rw no_integrity refl
+
+  -- it is stored
+  is_stored : put_reply cache p ≡ Stored own
+  is_stored = ap (compared_reply (put_commit cache p)) no_integrity ∙ ap (sized_reply (put_commit cache p)) no_size ∙ keyed p.key refl
+
   put_moves : Moving (opening (call_site (setup_of cache) 0) (commands.Put p)) (Stored own)
   put_moves =
-      let plays = put_plays cache folder is p durable no_integrity no_size writable bare (ground cache folder is) (bare_below folder _ _) in
-      moving (doing (make_folder (temp_folder cache)) (creating 0 (put_commit cache p) p.data)) (Stored own) (steps.MakeDirs (temp_folder cache)) refl plays
+      let Q = PutSo cache folder is p (folder ++ temp_names 0) (own_temporary_at cache folder is 0) (put_reply cache p) in
+      let plays = puts_so cache folder is p 0 (codes "/") bare (ground cache folder is) (bare_below folder _ _) in
+      moving Q (opening (call_site (setup_of cache) 0) (commands.Put p)) (Stored own) (steps.MakeDirs (temp_folder cache)) refl (λ t x h. h.0 ∙ is_stored) plays
 
   abbrev put_rest : List Record
   put_rest = rest cache own (commands.Put p) put_moves
@@ -152,11 +170,14 @@ module _ (cache : List ℕ) (folder : Names) (p : Put) (is : names_of cache ≡ 
   put_last key stores more elsewhere =
       let ends = ends_in cache own (commands.Put p) put_moves (put_rest ++ more) (records_end (setup_of cache) own put_moves.first put_moves.more more) in
       let quiet = quiet_more (setup_of cache) path (begun cache own (commands.Put p) put_moves) put_rest more put_alone_quiet elsewhere.quiet in
+      let site = call_site (setup_of cache) 0 in
+      let moves = put_moves.first ∷ put_moves.more in
+      let commits = puts_commit site p moves (Stored own) (goes_over (opening site (commands.Put p)) moves (Stored own) put_moves.run) in
       record {
         here = home_named cache folder is;
         stores = stores;
         put = put_in (put_rest ++ more) ends quiet;
-        last = none_last (folder ++ bucket_names key) more elsewhere.none (opening (call_site (setup_of cache) 0) (commands.Put p)) put_moves.first put_moves.more (Stored own) (Stored own) _ cache key (entry_written cache key p) tt put_moves.run;
+        last = none_last (folder ++ bucket_names key) more elsewhere.none put_moves.first put_moves.more (Stored own) _ cache key (entry_written cache key p) (commits_last (put_commit cache p) (effects_of moves) (Stored own) commits);
       }
 
 pub puts_stand : PutsStandInOne

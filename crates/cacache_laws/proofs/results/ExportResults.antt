@@ -1,14 +1,201 @@
--- What exports gave and left.
-use Rattle.std.{proofs.Common.{◌≡◌, ℕ, Bool, List, Some, Result, Ok, Err, length, refl, sym, ap, ◌∙◌}, specs.Prelude.{IfOk, MatchResult}}
-use Rattle.cacache_core.specs.declared.{errors.Error.{Error}, integrity.digest.Hash.{Hash}}
-use Rattle.cacache_store.specs.declared.{env.Env.{Env}, store.log.LogItem.{LogItem}}
-use Rattle.cacache_disk.specs.memory.Replay.{IsLog, shown, tree_of}
-use Rattle.cacache_calls.specs.{declared.{command.{How.{How, TheVariants.{Copy, HardLink}}, Source.{Source}}, reply.Reply.{Reply, TheVariants.{Copied}}}, Replies.{done}, Runs.{reply_of}}
-use Rattle.cacache_calls.specs.declared.command.Source.TheVariants as sources
+-- Why an export fails, and what exports gave and left.
+use Rattle.std.proofs.Common.{◌≡◌, ◌⊎◌, inl, inr, ℕ, Bool, true, false, cond, List, [], Option, None, Some, option_map, Result, Ok, Err, length, refl, sym, ap, subst, ◌∙◌}
+use Rattle.std.specs.Prelude.{IfErr, IfOk, MatchResult}
+use Rattle.cacache_core.specs.{declared.{errors.{Error.{Error, TheVariants.{EntryNotFound, IoError, IntegrityError}}, Fault.{Fault}, IntegrityFault.{IntegrityFault, TheVariants.{Check}}}, integrity.digest.Hash.{Hash}}, Integrity.{Meets, actual}, Meeting.{meets}, PathNames.{Names}}
+use Rattle.cacache_core.proofs.Meeting.{meets_finds}
+use Rattle.cacache_store.specs.declared.{store.log.LogItem.{LogItem}, env.Env.{Env}}
+use Rattle.cacache_disk.specs.{declared.node.Node.{Node, TheVariants.{Folder, File}}, LedTo.{and_then, bytes_there, free, writable}, Tree.{Tree, look}, memory.Replay.{tree_of, IsLog, shown}}
+use Rattle.cacache_entry.specs.Latest.{Found}
+use Rattle.cacache_calls.specs.{declared.{command.{Export.{Export}, How.{How, TheVariants.{Copy, HardLink, Reflink}}, Source.{Source}}, reply.Reply.{Reply, TheVariants.{Copied, Done, Refused}}}, Replies.{OrMemory, done}, Runs.{reply_of, without_message}}
+use Rattle.cacache_value.specs.{Shows.{blob_bytes, link_end}, Value.{AtLink, Blob, InFile}}
+use Rattle.cacache_laws.specs.{Caches.{LacksKey, lies_under, Called, IsCache, IsExcused}, ExportAnswers.{StaysIfRefused, blob_named, blob_read, export_reply, exported_reply, led_reply, made_reply, or_told, verified_reply}, Keeping.{found_under}, Looks.{IsDamaged, bytes_under}, results.{Exports.{FailsExport, NamesHeld, RefusesSource, TellsPath, TellsSource, made_at, CopyMeans, HasArrived, SharingMeans}, Success.{FailsAs, FailsFor}, Reads.{LinksToFile}}, Exported.{Arrives, export_by}, ExportEffects.{IsApart}, OpenWriters.{LeavesKnownCache}, OpenSucceeds.{MayTake, exported}, Succeeds.{NamesFolder}}
+use Rattle.cacache_laws.proofs.{Sure.{SureExports.{by_held, exports_answer}, SureCopies.{exports_succeed}}, results.{SureResults.{IsGiven, fails_for, fails_too, of_refused, for_memory}, Told.{called}}, Links.LinkedReads.{links_show}, Readings.Standing.{caches_stand}, Exports.{Arriving.{has_arrived}, Exported.{exports_arrive}, ExportEffects.{exports_keep}, Sharing.{free_writable}}, Calls.{Logs.{calls_grow}, Messages.{excused_error}}}
 use Rattle.cacache_sync.specs.Exports.{exporting}
 use Rattle.cacache_history.specs.History.{NamesSource}
-use Rattle.cacache_laws.specs.{Caches.{Called, IsCache, IsExcused}, Exported.{Arrives, export_by}, ExportEffects.{IsApart}, Looks.{bytes_under}, OpenWriters.{LeavesKnownCache}, OpenSucceeds.{MayTake, exported}, Succeeds.{NamesFolder}, results.{Exports.{CopyMeans, HasArrived, NamesHeld, SharingMeans}, Reads.{LinksToFile}}}
-use Rattle.cacache_laws.proofs.{Links.LinkedReads.{links_show}, Readings.Standing.{caches_stand}, Sure.{SureExports.{exports_answer}, SureCopies.{exports_succeed}}, Exports.{Arriving.{has_arrived}, Exported.{exports_arrive}, ExportEffects.{exports_keep}, Sharing.{free_writable}}, Calls.{Logs.{calls_grow}, Messages.{excused_error}}, results.{ExportErrors.{Answered, copy_missing, fails_so, missing_fails, refuses_so}, SureResults.{IsGiven, for_memory}, Told.{called}}}
+use Rattle.cacache_core.specs.declared.errors.Fault.TheVariants as faults
+use Rattle.cacache_calls.specs.declared.command.Source.TheVariants as sources
+
+-- ---- what lies there can't be read
+
+no_node : (here : Option Node) (fault : Fault) → bytes_there faults.InvalidInput here ≡ Err fault
+    → (bytes_there faults.IsADirectory here ≡ Err fault) ⊎ ((bytes_there faults.IsADirectory here ≡ Err faults.IsADirectory) × (fault ≡ faults.InvalidInput))
+no_node (Some Folder) fault e = inr (refl, cc)
+no_node (Some (File bytes)) fault e = absurd cc
+no_node here fault e = inl e
+
+no_end : (t : Tree) (end : Result Names Fault) (fault : Fault) → and_then end (λ names. bytes_there faults.InvalidInput (look t names)) ≡ Err fault
+    → (and_then end (λ names. bytes_there faults.IsADirectory (look t names)) ≡ Err fault)
+    ⊎ ((and_then end (λ names. bytes_there faults.IsADirectory (look t names)) ≡ Err faults.IsADirectory) × (fault ≡ faults.InvalidInput))
+no_end t (Ok names) fault e = no_node (look t names) fault e
+no_end t (Err other) fault e = inl e
+
+no_bytes : (t : Tree) (blob : Option Blob) (fault : Fault) → blob_read faults.InvalidInput t blob ≡ Err fault
+    → (blob_bytes t blob ≡ Err fault) ⊎ ((blob_bytes t blob ≡ Err faults.IsADirectory) × (fault ≡ faults.InvalidInput))
+no_bytes t None fault e = inl e
+no_bytes t (Some (InFile bytes)) fault e = absurd cc
+no_bytes t (Some (AtLink target)) fault e = no_end t (link_end t target) fault e
+
+-- ---- a refusal says what is wrong
+
+module _ (cache : List ℕ) (source : Source) (checked : Bool) (to : List ℕ) (old : List LogItem) where
+  abbrev Tells : How → Reply → Type 0
+  Tells how (Refused e) = TellsSource cache source checked e old ⊎ TellsPath how to e old
+  Tells how r = Unit {0}
+
+  abbrev t : Tree
+  t = tree_of old
+
+  module _ (i : List Hash) (leads : NamesHeld cache source i old) where
+    copy_tells : (r : Result (List ℕ) Fault) (w : Result Names Fault) → blob_read faults.InvalidInput t (lies_under cache i old) ≡ r → writable t to ≡ w
+        → Tells Copy (or_told r (λ bytes. or_told w (λ q. Copied (length bytes))))
+    copy_tells (Err fault) w from into = inl (i, leads, no_bytes t (lies_under cache i old) fault from)
+    copy_tells (Ok bytes) (Err fault) from into = inr into
+    copy_tells (Ok bytes) (Ok q) from into = tt
+
+    reflink_tells : (w : Result Names Fault) (r : Result (List ℕ) Fault) → free t to ≡ w → bytes_under cache i old ≡ r → Tells Reflink (or_told w (λ q. or_told r (λ bytes. Done)))
+    reflink_tells (Err fault) r into from = inr into
+    reflink_tells (Ok q) (Err fault) into from = inl (i, leads, inl from)
+    reflink_tells (Ok q) (Ok bytes) into from = tt
+
+    hard_link_tells : (w : Result Names Fault) (blob : Option Blob) → free t to ≡ w → lies_under cache i old ≡ blob → Tells HardLink (or_told w (λ q. or_told (blob_named blob) (λ named. Done)))
+    hard_link_tells (Err fault) blob into from = inr into
+    hard_link_tells (Ok q) None into from = inl (i, leads, inl (ap (blob_bytes t) from))
+    hard_link_tells (Ok q) (Some blob) into from = tt
+
+    made_tells : (how : How) → Tells how (made_reply how to t (lies_under cache i old))
+    made_tells Copy = copy_tells (blob_read faults.InvalidInput t (lies_under cache i old)) (writable t to) refl refl
+    made_tells Reflink = reflink_tells (free t to) (bytes_under cache i old) refl refl
+    made_tells HardLink = hard_link_tells (free t to) (lies_under cache i old) refl refl
+
+    by_meeting : (how : How) (bytes : List ℕ) → checked ≡ true → bytes_under cache i old ≡ Ok bytes → (b : Bool) → meets i bytes ≡ b
+        → Tells how (cond b (made_reply how to t (lies_under cache i old)) (Refused (IntegrityError (Check i (actual i bytes)))))
+    by_meeting how bytes first from true met = made_tells how
+    by_meeting how bytes first from false unmet =
+        inl (first, (i, leads, (bytes, from, λ meets_it. (let no : true ≡ false = sym ((meets_finds i bytes).1 meets_it) ∙ unmet in absurd cc), refl)))
+
+    by_bytes : (how : How) (r : Result (List ℕ) Fault) → checked ≡ true → bytes_under cache i old ≡ r → Tells how (or_told r (verified_reply i (made_reply how to t (lies_under cache i old))))
+    by_bytes how (Err fault) first from = inl (i, leads, inl from)
+    by_bytes how (Ok bytes) first from = by_meeting how bytes first from (meets i bytes) refl
+
+    by_check : (how : How) (b : Bool) → checked ≡ b
+        → Tells how (cond b (or_told (bytes_under cache i old) (verified_reply i (made_reply how to t (lies_under cache i old)))) (made_reply how to t (lies_under cache i old)))
+    by_check how true first = by_bytes how (bytes_under cache i old) first refl
+    by_check how false first = made_tells how
+
+  exported_tells : (how : How) (i : List Hash) → NamesHeld cache source i old → Tells how (exported_reply i (record { how = how; checked = checked; to = to }) t (lies_under cache i old))
+  exported_tells how i leads = by_check i leads how checked refl
+
+  -- what a reply says without its message, its error says
+  plain_tells : (how : How) (e : Error) → Tells how (Refused (without_message e)) → TellsSource cache source checked e old ⊎ TellsPath how to e old
+  plain_tells how (EntryNotFound c key) h = h
+  plain_tells how e h = h
+
+export_tells : (cache : List ℕ) (source : Source) (how : How) (checked : Bool) (to : List ℕ) (old : List LogItem)
+    → Tells cache source checked to old how (export_reply cache source (record { how = how; checked = checked; to = to }) old)
+export_tells cache (sources.Hash i) how checked to old = exported_tells cache (sources.Hash i) checked to old how i refl
+export_tells cache (sources.Key key) how checked to old = by (found_under cache key old) refl
+  where
+    by : (found : Option Found) → found_under cache key old ≡ found → Tells cache (sources.Key key) checked to old how (led_reply cache key (record { how = how; checked = checked; to = to }) old found)
+    by None none = inl (refl, refl, none)
+    by (Some f) finds = exported_tells cache (sources.Key key) checked to old how f.integrity (ap (option_map (λ (x : Found). x.integrity)) finds)
+
+-- ---- results
+
+-- it answers so, and leaves the tree if it is refused
+abbrev pub Answered : List ℕ → Source → How → Bool → List ℕ → Reply → List LogItem → List LogItem → Type 0
+Answered cache source how checked to r old new =
+    OrMemory ((r ≡ export_reply cache source (record { how = how; checked = checked; to = to }) old) × StaysIfRefused r (tree_of old) (tree_of new)) r
+
+pub fails_so : {X : Type 0} (answer : X → Reply) (r : Result X Error) (cache : List ℕ) (source : Source) (how : How) (checked : Bool) (to : List ℕ) (old new : List LogItem)
+    → Answered cache source how checked to (reply_of answer r) old new → IfErr r (λ e. FailsExport cache source how checked to e old new)
+fails_so answer (Ok x) cache source how checked to old new h = tt
+fails_so answer (Err e) cache source how checked to old new (inl m) = inl (of_refused e m)
+fails_so answer (Err e) cache source how checked to old new (inr h) =
+    inr (h.1, plain_tells cache source checked to old how e (subst (Tells cache source checked to old how) (sym h.0) (export_tells cache source how checked to old)))
+
+module _ {X : Type 0} (answer : X → Reply) (gives : (x : X) → IsGiven (answer x)) (r : Result X Error) (cache : List ℕ) (source : Source) (how : How) (checked : Bool) (to : List ℕ) (old new : List LogItem)
+    (h : Answered cache source how checked to (reply_of answer r) old new) where
+  abbrev e : Export
+  e = record { how = how; checked = checked; to = to }
+
+  so_fails : (wanted : Error) → export_reply cache source e old ≡ Refused wanted → FailsFor wanted r
+  so_fails wanted is = fails_for answer gives r wanted (elim h [ inl m ↦ inl m | inr same ↦ inr (same.0 ∙ is) ])
+
+by_key : (cache : List ℕ) (source : Source) (key : List ℕ) (e : Export) (old : List LogItem) → source ≡ sources.Key key → LacksKey cache key old → export_reply cache source e old ≡ Refused (EntryNotFound cache key)
+by_key cache source key e old is lacks = ap (λ s. export_reply cache s e old) is ∙ ap (led_reply cache key e old) lacks
+
+unmet_so : (made : Reply) (i : List Hash) (bytes : List ℕ) → (Meets i bytes → ⊥) → (b : Bool) → meets i bytes ≡ b
+    → cond b made (Refused (IntegrityError (Check i (actual i bytes)))) ≡ Refused (IntegrityError (Check i (actual i bytes)))
+unmet_so made i bytes unmet true is = absurd (unmet ((meets_finds i bytes).0 is))
+unmet_so made i bytes unmet false is = refl
+
+damaged_so : (cache to : List ℕ) (how : How) (checked : Bool) (i : List Hash) (fault : IntegrityFault) (old : List LogItem) → checked ≡ true → IsDamaged cache i fault old
+    → exported_reply i (record { how = how; checked = checked; to = to }) (tree_of old) (lies_under cache i old) ≡ Refused (IntegrityError fault)
+damaged_so cache to how false i fault old first d = absurd cc
+damaged_so cache to how true i fault old first d =
+    let made = made_reply how to (tree_of old) (lies_under cache i old) in
+    ap (λ b. or_told b (verified_reply i made)) d.1 ∙ unmet_so made i d.0 d.2 (meets i d.0) refl ∙ ap (λ f. Refused (IntegrityError f)) (sym d.3)
+
+-- nothing lies there
+missing_so : (to : List ℕ) (checked : Bool) (i : List Hash) (t : Tree) → exported_reply i (record { how = Copy; checked = checked; to = to }) t None ≡ Refused (IoError faults.NotFound [])
+missing_so to true i t = refl
+missing_so to false i t = refl
+
+-- or nothing can be made at the path
+abbrev IsMissingOr : How → List ℕ → Tree → Reply → Type 0
+IsMissingOr how to t r = (r ≡ Refused (IoError faults.NotFound [])) ⊎ ((fault : Fault) × (r ≡ Refused (IoError fault [])) × (made_at how t to ≡ Err fault))
+
+by_path : (how : How) (to : List ℕ) (t : Tree) (w : Result Names Fault) → made_at how t to ≡ w → IsMissingOr how to t (or_told w (λ q. Refused (IoError faults.NotFound [])))
+by_path how to t (Ok q) is = inl refl
+by_path how to t (Err fault) is = inr (fault, refl, is)
+
+missing_or : (to : List ℕ) (how : How) (checked : Bool) (i : List Hash) (t : Tree) → IsMissingOr how to t (exported_reply i (record { how = how; checked = checked; to = to }) t None)
+missing_or to how true i t = inl refl
+missing_or to Copy false i t = inl refl
+missing_or to Reflink false i t = by_path Reflink to t (free t to) refl
+missing_or to HardLink false i t = by_path HardLink to t (free t to) refl
+
+-- an error with this fault gives it
+path_told : (how : How) (to : List ℕ) (e : Error) (fault : Fault) (old : List LogItem) → without_message e ≡ IoError fault [] → made_at how (tree_of old) to ≡ Err fault → TellsPath how to e old
+path_told how to (IoError other message) fault old same is = let one : fault ≡ other = cc in is ∙ ap Err one
+path_told how to e fault old same is = absurd cc
+
+module _ {X : Type 0} (answer : X → Reply) (gives : (x : X) → IsGiven (answer x)) (r : Result X Error) (cache : List ℕ) (source : Source) (how : How) (checked : Bool) (to : List ℕ) (old new : List LogItem)
+    (h : Answered cache source how checked to (reply_of answer r) old new) where
+  abbrev asked : Export
+  asked = record { how = how; checked = checked; to = to }
+
+  pub refuses_so : RefusesSource cache source checked r old
+  refuses_so = record {
+    damaged = λ i fault first leads d.
+        so_fails answer gives r cache source how checked to old new h (IntegrityError fault) (by_held cache source i asked old leads ∙ damaged_so cache to how checked i fault old first d);
+    lacks = λ key is lacks. so_fails answer gives r cache source how checked to old new h (EntryNotFound cache key) (by_key cache source key asked old is lacks);
+  }
+
+  -- what is answered for a content that is missing
+  missing_reply : (i : List Hash) → NamesHeld cache source i old → lies_under cache i old ≡ None → export_reply cache source asked old ≡ exported_reply i asked (tree_of old) None
+  missing_reply i leads none = by_held cache source i asked old leads ∙ ap (exported_reply i asked (tree_of old)) none
+
+  pub missing_fails : (i : List Hash) → NamesHeld cache source i old → lies_under cache i old ≡ None → FailsAs (λ e. (without_message e ≡ IoError faults.NotFound []) ⊎ TellsPath how to e old) r
+  missing_fails i leads none =
+      elim (missing_or to how checked i (tree_of old)) [
+        | inl is ↦
+            fails_too (IoError faults.NotFound []) (λ e. (without_message e ≡ IoError faults.NotFound []) ⊎ TellsPath how to e old) (λ e same. inl same) r
+            (so_fails answer gives r cache source how checked to old new h (IoError faults.NotFound []) (missing_reply i leads none ∙ is))
+        | inr f ↦
+            fails_too (IoError f.0 []) (λ e. (without_message e ≡ IoError faults.NotFound []) ⊎ TellsPath how to e old) (λ e same. inr (path_told how to e f.0 old same f.2)) r
+            (so_fails answer gives r cache source how checked to old new h (IoError f.0 []) (missing_reply i leads none ∙ f.1))
+      ]
+
+-- a copy asks first what lies there
+pub copy_missing : {X : Type 0} (answer : X → Reply) → ((x : X) → IsGiven (answer x)) → (r : Result X Error) (cache : List ℕ) (source : Source) (checked : Bool) (to : List ℕ) (old new : List LogItem)
+    → Answered cache source Copy checked to (reply_of answer r) old new → (i : List Hash) → NamesHeld cache source i old → lies_under cache i old ≡ None → FailsFor (IoError faults.NotFound []) r
+copy_missing answer gives r cache source checked to old new h i leads none =
+    let asked : Export = record { how = Copy; checked = checked; to = to } in
+    so_fails answer gives r cache source Copy checked to old new h (IoError faults.NotFound [])
+    (by_held cache source i asked old leads ∙ ap (exported_reply i asked (tree_of old)) none ∙ missing_so to checked i (tree_of old))
+
+-- ---- what exports gave and left
 
 leaves : (cache : List ℕ) (source : Source) (how : How) (checked : Bool) (to : List ℕ) (r : Reply) (old new : List LogItem) → IsApart cache to → NamesSource source → IsCache cache old
     → Called cache (export_by how source checked to) r old new → LeavesKnownCache cache old new

@@ -10,7 +10,7 @@ use Rattle.cacache_history.proofs.{Contents.{Digests.{digest_hash}, LinkedConten
 use Rattle.cacache_loss.specs.{Loss.{Loss}, LostTrees.{OfCache, StoodWell}, LostValues.{HoldsContent, LeftOf}, Moments.{EachMove, Moment, next}, Syncs.{Leaves}}
 use Rattle.cacache_loss.proofs.LostTrees.{losses_leave_trees}
 use Rattle.cacache_laws.specs.results.FoundLinks.{GivesDigest, HistoriesKeepLinks, LeadsUnchanged, PutsOrLinksGive, StaysUnchanged, UnchangedFilesStay}
-use Rattle.cacache_laws.proofs.results.{OutsideFiles.{links_lead_unchanged}, UnchangedFiles.{Holds, file_left, holds_after, holds_first}}
+use Rattle.cacache_laws.proofs.results.{OutsideSteps.{links_lead_unchanged}, UnchangedFiles.{Holds, file_left, holds_after, holds_first}}
 
 -- ---- files that no step changed
 

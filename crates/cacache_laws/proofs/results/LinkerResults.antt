@@ -13,7 +13,7 @@ use Rattle.cacache_calls.specs.{declared.{command.Link.{Link}, reply.Reply.TheVa
 use Rattle.cacache_calls.proofs.IntegrityUtf8.{integrity_utf8}
 use Rattle.cacache_sync.specs.{content.Passed.{passed}, put.{OpenLinkers.{HasHashed, LinkTarget, OpensLinker, OpensSized, OpensTarget, asks_file, asks_size, stands_at}, Options.{Said, options_of}}}
 use Rattle.cacache_laws.specs.{Caches.{Grows, IsCache, IsExcused}, ExportEffects.{IsApart}, LinkAnswers.{OpensAs, target_bytes}, Links.{FitsLink, HasLinked, LeavesLink, put_like}, OpenLinkers.{CanWrite, CommitsRest, SuitsSize, TargetOpened}, OpenWriters.{LeavesKnownCache}, Puts.{entry_of_put}, Succeeds.{NamesFolder}, results.{Handles.{IsText, LeadsToEntry, PlainSaysFit, SaysFit, said_integrity}, Writes.{SaysPlain}, Linkers.{IsLinking, LinkCommitsMean, LinkOpeningsMean, LinkedBytes, LinkersGoOn, MemLinker, OpenedLinker, SizedOpeningsMean}, Links.{LeadsOn}, Success.{FailsForMemory}}}
-use Rattle.cacache_laws.proofs.{Putting.{Forms.{bare_written}, OpenWriters.{gains_join}}, Calls.{Logs.{some_same}, Messages.{excused_error}}, Links.{OpenLinkers.{linkers_commit, linkers_fail}, TargetBytes.{linkers_open, linkers_open_sized}}, Readings.Standing.{caches_stand}, Sure.{SureLinks.{linkers_answer}, SureReaders.{linker_openings_answer, sized_openings_answer}}, results.{LinkResults.{lies_so}, SureLinkResults.{commit_succeeds, shown_read}, Told.{plain_result}, WriteResults.{early_of}, WriterResults.{fits}}}
+use Rattle.cacache_laws.proofs.{Putting.Forms.{bare_written}, Calls.{Logs.{some_same}, Messages.{excused_error}}, Links.{OpenLinkers.{linkers_commit, linkers_fail}, TargetBytes.{linkers_open, linkers_open_sized}}, Readings.Standing.{caches_stand}, Sure.{SureLinks.{linkers_answer}, SureReaders.{linker_openings_answer, sized_openings_answer}}, results.{LinkResults.{lies_so}, SureLinkResults.{commit_succeeds, shown_read}, Told.{plain_result}, WriteResults.{early_of}, WriterResults.{fits}}, trees.Logged.{gains_join}}
 
 -- ---- the moves of an opening
 
@@ -120,7 +120,7 @@ module _ (cache : List ℕ) (key : Option (List ℕ)) (base target : List ℕ) (
       fails_so e o.0 o.1 (sized_openings_answer target_path (Err e) old new opens logged)
   opened_sized (Ok w) opens begins =
       let o = linkers_open_sized cache target_path (Ok (opens.0, w.file)) old new sound (opens.1, opens.2, opens.3.1) logged in
-      let gained = gains_join old new opens.1 ((steps.Size target_path, answers.Length opens.0) ∷ []) ((steps.Open target_path, answers.File w.file) ∷ []) opens.2 opens.3.1 in
+      let gained = gains_join (Some old) opens.1 (Some new) ((steps.Size target_path, answers.Length opens.0) ∷ []) ((steps.Open target_path, answers.File w.file) ∷ []) opens.2 opens.3.1 in
       let small = small_sized linked w old new opens.0 gained (begins.2 0) in
       let g = o.1 in
       opens_so w o.0 (is_linking w (Some opens.0) g.0 g.1 g.2 (g.4 small) (inr (ap Some g.3)) opens.3.0.linked_is opens.3.0.empty small)

@@ -2,9 +2,9 @@
 use Rattle.std.proofs.Common.{◌≡◌, inl, List, [], ◌∷◌, ◌++◌, Some, None, option_map, refl, sym, ap, subst}
 use Rattle.cacache_core.specs.{PathNames.{Names}, declared.integrity.digest.Hash.{Hash}}
 use Rattle.cacache_disk.specs.declared.luck.Luck.TheVariants.{Plain}
-use Rattle.cacache_calls.specs.{Runs.{Moves}, declared.{command.Command.{Command}, reply.Reply.{Reply, TheVariants.{Stored}}}}
+use Rattle.cacache_calls.specs.{Runs.{Moves, Goes}, State.{over}, declared.{command.Command.{Command}, reply.Reply.{Reply, TheVariants.{Stored}}}}
 use Rattle.cacache_history.specs.{declared.record.Record.{Record, TheVariants.{Moved}}, History.{Call, Legal, Made, Now, call_after, now_after, replayed}, Setup.{Setup}, durable.{Ending.{CallEndsWith}, QuietMoves.{AreQuiet, IsQuietMove}}}
-use Rattle.cacache_laws.{specs.Sequence.{AreAnswered}, proofs.results.PlainRuns.{Reaches}}
+use Rattle.cacache_laws.specs.Sequence.{AreAnswered}
 
 -- a first move and those after it, the last with this reply
 abbrev pub records_of : Made → Moves → Reply → List Record
@@ -12,7 +12,7 @@ records_of m [] reply = Moved 0 Plain (Some m) (Some reply) ∷ []
 records_of m (n ∷ more) reply = Moved 0 Plain (Some m) None ∷ records_of n more reply
 
 module _ (s : Setup) (i : List Hash) where
-  pub records_legal : (w : Now) (call : Call) (m : Made) (more : Moves) → w.calls 0 ≡ Some call → Reaches call.state (m ∷ more) (Stored i) → AreAnswered w.tree (m ∷ more)
+  pub records_legal : (w : Now) (call : Call) (m : Made) (more : Moves) → w.calls 0 ≡ Some call → Goes call.state (m ∷ more) (over (Stored i)) → AreAnswered w.tree (m ∷ more)
       → Legal s w (records_of m more (Stored i))
   records_legal w call m [] is run answered = ((call, is, (run.0, answered.0, run.1, inl run.2)), tt)
   records_legal w call m (n ∷ more) is run answered = (

@@ -6,13 +6,13 @@ use Rattle.cacache_core.specs.{declared.{errors.Error.{Error, TheVariants.{Entry
 use Rattle.cacache_store.specs.declared.{env.Env.{Env}, store.log.LogItem.{LogItem}}
 use Rattle.cacache_disk.specs.memory.Replay.{IsLog}
 use Rattle.cacache_entry.specs.{Entry.{Entry}, Latest.{Found}}
-use Rattle.cacache_calls.specs.declared.command.Command.TheVariants as commands
 use Rattle.cacache_calls.specs.{declared.{command.Insert.{Insert}, reply.Reply.TheVariants.{Refused, Stored}}, Inserting.{entry_of, given_size, given_text, insertion, refused_cause}, Runs.{reply_of, without_message}, Storing.{insertion_of, put_commit}}
 use Rattle.cacache_calls.proofs.IntegrityUtf8.{integrity_utf8}
 use Rattle.cacache_jobs.specs.{Environment.{HasMoment}, Sites.{site_of}}
 use Rattle.cacache_sync.specs.put.{Options.{Said, options_of}, Puts.{insert_of, unkeyed_put}}
-use Rattle.cacache_laws.specs.{Beside.{FitsEntry, KeepsBeside}, Caches.{Called, IsCache, HasContent, HasKey, IsExcused, WritesKey, plain_put}, Inserts.{InsertsKey, leads_to}, Keeping.{found_under}, Puts.{MayLeadToPut}, Standing.{IsStanding}, Succeeds.{NamesFolder, IsReady, put_reply, unless_unwritable}, results.{Success.{FailsForMemory}, Writes.{ContentWriteMeans, InsertionMeans, KeepsUntouched, SaysPlain, WriteMeans}}}
-use Rattle.cacache_laws.proofs.{Putting.{Beside.{plain_writes_fit, writes_keep}, Forms.{Written, bare_written}, Inserting.{inserts_last, given_utf8}, StandingPuts.{puts_leave, puts_may_lead}, WritesLast.{writes_last}}, Calls.{CallErrors.{contents_fail}, Logs.{calls_grow}, Messages.{excused_error}}, Readings.{Known.{excuse, known}, Standing.{caches_stand}}, Sure.Succeeds.{puts_answer, insertions_answer}, Spares.Unused.{others_leave_none, puts_leave_tidy, stays_ready}, results.{SureResults.{for_memory, so_ready}, Told.{called}}}
+use Rattle.cacache_laws.specs.{Beside.{FitsEntry, KeepsBeside}, Caches.{Called, IsCache, HasContent, HasKey, IsExcused, WritesKey, plain_put}, Inserts.{InsertsKey, leads_to}, Keeping.{found_under}, Puts.{MayLeadToPut}, Standing.{IsStanding, PutStands}, Succeeds.{NamesFolder, IsReady, put_reply, unless_unwritable}, results.{Success.{FailsForMemory}, Writes.{ContentWriteMeans, InsertionMeans, KeepsUntouched, SaysPlain, WriteMeans}, Losses.{LeftWriteMeans}}, CallErrors.{IsPlainPut}}
+use Rattle.cacache_laws.proofs.{Putting.{Beside.{plain_writes_fit, writes_keep}, Forms.{Written, bare_written, has_key}, Inserting.{inserts_last, given_utf8}, StandingPuts.{puts_leave, puts_may_lead, standing_writes}, WritesLast.{writes_last}}, Calls.{CallErrors.{contents_fail}, Logs.{calls_grow}, Messages.{excused_error}}, Readings.{Known.{excuse, known}, Standing.{caches_stand}}, Sure.Succeeds.{puts_answer, insertions_answer}, Spares.Unused.{others_leave_none, puts_leave_tidy, stays_ready}, results.{SureResults.{for_memory, so_ready}, Told.{called}}}
+use Rattle.cacache_calls.specs.declared.command.Command.TheVariants as commands
 
 -- ---- what stays
 
@@ -175,4 +175,32 @@ insertion_means moments numbers cache key said r new utf8 logged old plain sound
       fails = told.1;
       succeeds = λ folder. insertion_succeeds cache i r old.store new.store w.no_cause folder sound c;
       ready = stays_ready cache old.store new.store (others_leave_none cache (commands.Insert i) (reply_of Stored r) old.store new.store c (λ none. w.formed) tt tt sound);
+    }
+
+-- ---- what a write gave and left on a standing store
+
+left_told : (a : Algorithm) (cache key bytes : List ℕ) (moment : ℕ) (r : Result (List Hash) Error) (old new : List LogItem) → PutStands cache (plain_put a key bytes moment) (reply_of Stored r) old new
+    → IsPlainPut cache key (plain_put a key bytes moment)
+    → IfOk r (λ i. (i ≡ integrity_under a bytes) × HasKey cache key i bytes new) × IfErr r (λ e. IsExcused e old new)
+left_told a cache key bytes moment (Ok i) old new k plain =
+    let h = k.stored i refl in
+    ((h.stored, has_key a cache key bytes moment i new h.stored (h.entry key refl) h.content), tt)
+left_told a cache key bytes moment (Err e) old new k plain = (tt, excused_error e old new (k.fails key (without_message e) plain refl))
+
+pub left_write_means : {C N : Type 0} (moments : C → Option (List ℕ)) (numbers : N → Option (List ℕ)) (a : Algorithm) (cache key bytes : List ℕ) (r : Result (List Hash) Error) (new : Env (List LogItem) C N)
+    → IsUtf8 key → length bytes < 2 ^ 64 → IsLog new.store → LeftWriteMeans moments numbers a cache key bytes r new
+unfolding refused_cause
+left_write_means moments numbers a cache key bytes r new utf8 small logged old standing ran =
+    let p = plain_put a key bytes ran.0 in
+    let c = called Stored (λ i. refl) r cache old.base ran.1 (commands.Put (plain_put a key bytes ran.0)) old.store new.store ran.4.0 logged in
+    let w = bare_written key (Some (integrity_text (integrity_under a bytes))) ran.0 (length bytes) utf8 (integrity_utf8 (integrity_under a bytes)) ran.2.1 small in
+    let k = standing_writes cache p (reply_of Stored r) old.store new.store (plain_writes_fit a cache key bytes ran.0 utf8 small ran.2.1) tt standing c in
+    let told = left_told a cache key bytes ran.0 r old.store new.store k (record { key_is = refl; no_integrity = refl; no_size = refl; written = w.no_cause }) in
+    record {
+      standing = k.standing;
+      stored = told.0;
+      leads = leads_so cache key a bytes ran.0 old.store new.store k.may_lead;
+      keeps = k.keeps;
+      fails = told.1;
+      succeeds = λ ready. keyed_succeeds a cache key bytes ran.0 r old.store new.store utf8 small ran.2.1 ready standing c;
     }

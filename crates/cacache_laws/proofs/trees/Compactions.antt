@@ -1,10 +1,8 @@
 pub mod CompactLines
 pub mod KeptLines
 pub mod CompactTwice
-pub mod CompactFound
 pub mod CompactAnswers
 pub mod CompactTexts
-pub mod Shapes
 pub mod LeanTrees
 pub mod LeanReads
 pub mod LeanCalls

@@ -11,7 +11,7 @@ use Rattle.cacache_entry.specs.{Bucket.{entries_of}, Latest.{Found, latest}}
 use Rattle.cacache_calls.specs.{State.{Item, Site}, declared.visit.{Task.{Task, TheVariants.{Make, Stumble}}, Visit.TheVariants.{Enter, ReadBucket}}, Walking.{task_for_name, tasks_of, items_in}, Runs.{Moves}, ListReplies.{items_given, given_by}, StepPaths.{bucket_path}}
 use Rattle.cacache_walks.specs.Reading.{names_shown}
 use Rattle.cacache_laws.specs.trees.{Walks.{is_leaf}, Answers.{AnsweredBy}, Index.{ListsEachKey}}
-use Rattle.cacache_laws.proofs.{trees.{Members.{Member, contains_member, in_left, in_right}, Children.{child_listed, none_below, proper_child, FolderShows, listed, missing, folder_shown}, Covering.{named_on}, Listing.{ReadsAll, Good, listing_runs}}, Listings.ListedItems.{lists_found}}
+use Rattle.cacache_laws.proofs.{trees.{Members.{Member, contains_member, in_left, in_right}, Children.{child_listed, none_below, proper_child, FolderShows, listed, missing, folder_shown}, Covering.{named_on}, Listing.{ReadsAll, Good, listing_runs}}, Listings.ListedTurns.{lists_found}}
 
 -- ---- tasks
 

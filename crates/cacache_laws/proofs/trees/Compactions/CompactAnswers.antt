@@ -4,7 +4,7 @@ use Rattle.std.specs.{Prelude.{is_some, option_and_then, unwrap_or}, List.{cons_
 use Rattle.cacache_entry.specs.{Entry.{Entry}, EntryTexts.{read_entry}, Bucket.{cut, without_cr, entry_of_parts, entry_of_piece, entries_of}, Latest.{Found, answer_of, after_entry, latest}}
 use Rattle.cacache_calls.specs.{State.{Item}, Walking.{once}}
 use Rattle.cacache_laws.specs.trees.Compacting.{Decision, Line, ReadsLines, compact_text, decided, decision, decision_of, found_at, found_by, is_line, kept, line_of_piece, lines_of, signed_parts}
-use Rattle.cacache_laws.proofs.trees.Compactions.{CompactLines.{ArePieces, texts}, CompactFound.{after, compact_texts_keep_found, next}}
+use Rattle.cacache_laws.proofs.trees.Compactions.{CompactLines.{ArePieces, texts}, CompactTwice.{after, compact_texts_keep_found, next}}
 
 -- ---- we are such a reader
 

@@ -1,5 +1,5 @@
 -- The lines of a text of lines.
-use Rattle.std.proofs.{Common.{◌≡◌, ℕ, List, [], ◌∷◌, ◌++◌, Bool, true, false, cond, not, ◌==◌, Option, Some, None, fold, map, filter_map, refl, sym, ap, ◌∙◌, append-nil, append_assoc}, lemmas.{Bool.{and_from, and_parts}, List.Sums.{fold-append}}}
+use Rattle.std.proofs.{Common.{◌≡◌, ℕ, List, [], ◌∷◌, ◌++◌, Bool, true, false, cond, not, ◌==◌, Option, Some, None, fold, map, filter_map, refl, sym, ap, ◌∙◌, append-nil, append_assoc}, lemmas.{Bool.{and_from, and_parts, not-true}, List.Sums.{fold-append}}}
 use Rattle.std.specs.List.{cons_option, onto_first}
 use Rattle.cacache_entry.{specs.{Bucket.{cut}, Entry.{closing}}, proofs.Cuts.{lacks, cut-append, cut-lacks}}
 use Rattle.cacache_laws.specs.trees.Compacting.{Line, decision, is_closed, is_line, line_of_piece, lines_of, text_of}
@@ -86,11 +86,7 @@ lacks_end : (xs : List ℕ) → lacks 10 xs ≡ true → fold ends false xs ≡ 
 lacks_end [] h = refl
 lacks_end (x ∷ xs) h =
     let parts = and_parts _ _ h in
-    ap (λ (b : Bool). fold ends b xs) (other (x == 10) parts.0) ∙ lacks_end xs parts.1
-  where
-    other : (b : Bool) → not b ≡ true → b ≡ false
-    other false e = refl
-    other true e = absurd cc
+    ap (λ (b : Bool). fold ends b xs) (not-true (x == 10) parts.0) ∙ lacks_end xs parts.1
 
 -- a line is more than nothing
 line_end : (closed : Bool) (p : List ℕ) → is_line p ≡ true → lacks 10 p ≡ true → fold ends closed p ≡ false

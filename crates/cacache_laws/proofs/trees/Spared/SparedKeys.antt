@@ -13,7 +13,7 @@ use Rattle.cacache_calls.specs.declared.reply.Reply.TheVariants as replies
 use Rattle.cacache_value.{specs.{Placed.{Placed}, Value.{value_of_tree}}, proofs.Traces.{steps_keep_placed}}
 use Rattle.cacache_history.specs.{Commits.{deeds}, Setup.{call_site}}
 use Rattle.cacache_laws.specs.{Caches.{Called, HasKey, setup_at}, GivenUp.{GivesUpTemp, drop_temp}, Keeping.{found_under}, OpenWriters.{OpensWriter, make_file, make_folder}, Sequence.{Alike, after_deeds, turns_on}, Standing.{IsStanding}, trees.Later.{AllSpare, Later, ReadsOf, Spares, SparedKeysStay, StaysRead, TombstonesFit, calls, commits, gives_up, looks, opens, written}}
-use Rattle.cacache_laws.proofs.{Calls.{InParts.{logs_lead}, Logs.{some_same}}, Putting.{Forms.{bare_written}, KeptKeys.{stays_known}, OpenWriters.{folder_first, gains_join, gains_none, put_nothing, temp_made}}, Readings.{Looked.{same_stays_known}, Standing.{standing_reads}}, Spares.GivenUp.{still_alike, temp_for}, trees.{Members.{contains_member, member_contains}, Spared.{SparedCalls.{Left, call_left, idle, known_left, stands}, SparedCommits.{commit_left}}}}
+use Rattle.cacache_laws.proofs.{Calls.{InParts.{logs_lead}, Logs.{some_same}}, Putting.{Forms.{bare_written}, KeptKeys.{stays_known}, OpenWriters.{folder_first, put_nothing, temp_made, gains_none}}, Readings.{Looked.{same_stays_known}, Standing.{standing_reads}}, Spares.GivenUp.{still_alike, temp_for}, trees.{Members.{contains_member, member_contains}, Spared.{SparedCalls.{Left, call_left, idle, known_left, stands}, SparedCommits.{commit_left}}, Logged.{gains_join}}}
 
 -- ---- the tree as it was
 
@@ -52,13 +52,13 @@ module _ (cache : List ℕ) (number : ℕ) (old new : List LogItem) (logged : Is
     file_failed fault g =
         broken ((make_folder cache number, answers.Done) ∷ (make_file cache number, answers.Failed fault) ∷ []) (fails fault) (refl, tt, (refl, tt, refl))
         (folder_first (tree_of old) (temp_folder cache) answers.Done ((make_file cache number, answers.Failed fault) ∷ []) refl)
-        (gains_join old new mid ((make_folder cache number, answers.Done) ∷ []) ((make_file cache number, answers.Failed fault) ∷ []) made g)
+        (gains_join (Some old) mid (Some new) ((make_folder cache number, answers.Done) ∷ []) ((make_file cache number, answers.Failed fault) ∷ []) made g)
 
     file_errs : (e : Error) → FailsAt (make_file cache number) e mid (Some new) → Broken
     file_errs (IoError fault message) h = file_failed fault h
     file_errs OutOfMemory (inl same) =
         broken ((make_folder cache number, answers.Done) ∷ []) _ (refl, tt, refl) (folder_first (tree_of old) (temp_folder cache) answers.Done [] refl)
-        (gains_join old new mid ((make_folder cache number, answers.Done) ∷ []) [] made (gains_none mid new same))
+        (gains_join (Some old) mid (Some new) ((make_folder cache number, answers.Done) ∷ []) [] made (gains_none mid new same))
     file_errs OutOfMemory (inr h) = file_failed h.0 h.1
     file_errs e h = absurd h
 
@@ -67,7 +67,7 @@ module _ (cache : List ℕ) (number : ℕ) (old new : List LogItem) (logged : Is
   opened_broken (Err e) (inr h) = file_errs h.0 h.1 e h.2
   opened_broken (Ok file) h =
       let moves : Moves = (make_folder cache number, answers.Done) ∷ (make_file cache number, answers.Temp file) ∷ [] in
-      let gains = gains_join old new h.0 ((make_folder cache number, answers.Done) ∷ []) ((make_file cache number, answers.Temp file) ∷ []) h.1 h.2 in
+      let gains = gains_join (Some old) h.0 (Some new) ((make_folder cache number, answers.Done) ∷ []) ((make_file cache number, answers.Temp file) ∷ []) h.1 h.2 in
       let lead = logs_lead old new moves gains logged in
       let same = temp_made (apply (tree_of old) (make_folder cache number) Plain).1 (temp_path cache number) file lead.0.1.0 in
       broken moves (persist (put_commit cache put_nothing) file) (refl, tt, (refl, ap (λ (f : PlainTemp). f.path) same, refl))

@@ -12,7 +12,7 @@ use Rattle.cacache_calls.specs.declared.command.Command.TheVariants as commands
 use Rattle.cacache_calls.specs.{declared.{reply.Reply.{Reply, TheVariants.{Listed, Done, Refused}}, visit.{Task.{Task}, Visit.TheVariants.{Enter, RemoveFile}}}, Common.{fails}, State.{over, Walk}, Walking.{most, failed, give, miss, walk_on, walk_ends, task_for_name, tasks_of, too_many, walk}, Runs.{Moves, Runs}}
 use Rattle.cacache_value.{specs.Kinds.{Content, Way, Stray, path_kind}, proofs.KindsApart.{kind-below}}
 use Rattle.cacache_laws.specs.{Sequence.{tree_on}, trees.{Walks.{is_leaf}, Idle.{BreaksOff, LacksIdle}}}
-use Rattle.cacache_laws.proofs.{Removing.{Sheds.{Shed, ShedAll, among, sheds_more}, ShedFolders.{lists_folder, told_still, long_names}}, trees.{Children.{child_path, folder_found, folder_there, proper_child}, Covering.{home_named, named_on}, Twins.{Idle.{Follows, lacks_still, same_node}, Fully.{lacks_at}}, SameListing.{same_listing}, Stepping.{MadeOn, goes, over_stays, said_over}, Swept.{Swept, alive, never_too_many, visited}}}
+use Rattle.cacache_laws.proofs.{Removing.Sheds.{Shed, ShedAll, among, sheds_more, lists_folder, told_still, long_names}, trees.{Children.{child_path, folder_found, folder_there, proper_child}, Covering.{home_named, named_on}, Twins.{Idle.{Follows, lacks_still, same_node}, Fully.{lacks_at}}, SameListing.{same_listing}, Stepping.{MadeOn, goes, over_stays, said_over}, Swept.{Swept, alive, never_too_many, visited}}}
 use Rattle.cacache_history.proofs.{Listings.ToldFolders.{Told, AreDistinct, listing_told, listing_distinct}, Each.{Each}}
 
 -- ---- the top folder

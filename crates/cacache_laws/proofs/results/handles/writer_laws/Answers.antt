@@ -1,4 +1,4 @@
-use Rattle.cacache_laws.proofs.results.{LinkerResults.{plain_says_fit}, WriterErrors.{commits_tell}, WriterResults.{commits_mean, commits_succeed, failed_writes_mean, giving_up_means, openings_mean, writers_go_on}}
+use Rattle.cacache_laws.proofs.results.{LinkerResults.{plain_says_fit}, WriterResults.{commits_tell, commits_mean, commits_succeed, failed_writes_mean, giving_up_means, openings_mean, writers_go_on}}
 use Rattle.cacache_laws.proofs.results.handles.writer_laws.Goals as goal
 
 pub returns : goal.returns

@@ -1,5 +1,5 @@
 use Rattle.std.proofs.Common.{arith}
-use Rattle.cacache_laws.proofs.results.LeftWrites.{left_write_means}
+use Rattle.cacache_laws.proofs.results.WriteResults.{left_write_means}
 use Rattle.cacache_laws.proofs.results.losses.after_write_left.Goals as goal
 
 pub returns : goal.returns
