@@ -5,3 +5,4 @@ pub mod Removing
 pub mod Sharing
 pub mod Turning
 pub mod Working
+pub mod Writing

@@ -20,7 +20,7 @@ use std::sync::{Arc, Mutex, Wait};
 pub struct PolledFile<T> {
     /// What it shares with its workers: the core, the temporary file, and the work that is out.
     pub shared: Arc<Shared<T>, Global>,
-    alloc: Global,
+    pub(crate) alloc: Global,
 }
 
 impl<T: Drop> Drop for PolledFile<T> {

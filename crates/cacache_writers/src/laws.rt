@@ -1,6 +1,6 @@
-//! Laws of a polled file that one worker alone writes.
+//! Laws of a polled file that one worker alone writes, and of a whole write.
 ghost use Rattle.std.specs.Prelude.{◌≡◌, ℕ, List};
-ghost use Rattle.cacache_writers.specs.Alone.{NewIsWhole, PollKeeps, TakeBrings, EndRestores, WholeHolds};
+ghost use Rattle.cacache_writers.specs.{Alone.{NewIsWhole, PollKeeps, TakeBrings, EndRestores, WholeHolds}, Writing.{AllTaken}};
 
 use crate::removal::RemovableTemp;
 
@@ -14,4 +14,9 @@ pub fn file_laws<T: RemovableTemp>()
     ensures ends { (start : List ℕ) → ((file : T) → T.contents file ≡ (T.seen file).bytes)
         → EndRestores T.seen start T.contents T.writes T.removes }
     ensures holds { (start : List ℕ) → WholeHolds T.seen start }
+{}
+
+/// A whole write, over every list of the writer's answers: once nothing is left, each byte was taken once, in order.
+pub fn write_laws()
+    ensures all { AllTaken }
 {}

@@ -7,13 +7,15 @@
 //! - `creating`: futures that open polled writers
 //! - `file`: a temporary file that is written by polls
 //! - `kept`: what lies under the lock of a polled file
-//! - `laws`: laws of a polled file that one worker alone writes
+//! - `laws`: laws of a polled file that one worker alone writes, and of a whole write
 //! - `opening`: how polled writers are opened
 //! - `removal`: temporary files that are removed without a store
 //! - `shared`: what a polled file and its workers share
 //! - `work`: work that is done with a temporary file
 //! - `worker`: the worker of a polled file
+//! - `workers`: threads that do the work of many polled writers
 //! - `writer`: contents that are written by polls
+//! - `writing`: bytes that are written by polls, piece by piece
 #![tactic(auto)]
 
 mod about;
@@ -28,7 +30,9 @@ mod removal;
 mod shared;
 mod work;
 mod worker;
+mod workers;
 mod writer;
+mod writing;
 
 pub use about::About;
 pub use commit::commit_held;
@@ -39,8 +43,10 @@ pub use creating::{
 };
 pub use file::PolledFile;
 pub use kept::{Kept, Told};
-pub use laws::file_laws;
+pub use laws::{file_laws, write_laws};
 pub use removal::RemovableTemp;
 pub use shared::Shared;
 pub use worker::{Turned, Worker};
+pub use workers::Workers;
 pub use writer::Writer;
+pub use writing::{PollWrite, WriteAllFuture};

@@ -123,7 +123,7 @@ fn turn_by<
 }
 
 /// Takes turns until one is over, and waits a millisecond after each that had nothing to do.
-fn run_by<R: Wait + Clock, Turn: FnMut() -> Turned>(rt: &R, mut turn: Turn)
+pub(crate) fn run_by<R: Wait + Clock, Turn: FnMut() -> Turned>(rt: &R, mut turn: Turn)
     requires turn { Turn.IsAlwaysCallable turn }
     ensures over { (before after : Turn) × Turn.step before Over after }
 {

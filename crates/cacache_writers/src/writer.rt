@@ -13,6 +13,7 @@ use crate::creating::{
 };
 use crate::file::PolledFile;
 use crate::worker::Worker;
+use crate::writing::{PollWrite, WriteAllFuture};
 use cacache_async::CallFuture;
 use cacache_core::errors::Result;
 use cacache_core::integrity::Algorithm;
@@ -121,6 +122,24 @@ impl<T: Drop> Writer<T> {
         self.file.poll_write(rt, cx, data)
     }
 
+    /// Writes all of these bytes, as a future: Ok exactly if all were taken. It asks `poll_write` about a piece at a time,
+    /// of 64 KiB at most. If it is dropped before it is ready, a piece may be out or unanswered.
+    ///
+    /// `IoError` with `WriteZero` if the worker takes none of a piece; other errors are those of `poll_write`. After an
+    /// error the file has a beginning of the bytes.
+    pub fn write_all<'a, R: Wait>(
+        &'a mut self,
+        rt: &'a R,
+        data: &'a [u8],
+    ) -> WriteAllFuture<'a, R, Writer<T>>
+        ensures lent { (result.writer.ghost_name ≡ self.entry.ghost_name)
+            × (result.writer.now ≡ self.entry.now) }
+        ensures waits { result.rest ≡ data.entry }
+    {
+        let alloc = self.file.alloc;
+        WriteAllFuture::new(rt, alloc, self, data)
+    }
+
     /// Has a worker hand on what is buffered. A write that isn't answered yet stays.
     ///
     /// `IoError` has the worker's fault.
@@ -170,5 +189,16 @@ impl<T: Drop> Writer<T> {
         ensures waits { (result.file ≡ self.file) × (result.about ≡ Some self.about) }
     {
         self.commit(rt, env)
+    }
+}
+
+impl<T: Drop> PollWrite for Writer<T> {
+    fn poll_write<R: Wait>(
+        &mut self,
+        rt: &R,
+        cx: &mut Context<'_>,
+        data: &[u8],
+    ) -> Poll<Result<usize>> {
+        self.file.poll_write(rt, cx, data)
     }
 }
