@@ -25,6 +25,13 @@ pub(crate) enum Odd {
     TempShows,
     TempGone,
     OpenFile,
+    ByName,
+    Access,
+    OwnPlace,
+    CopySelf,
+    ListOrder,
+    ListLate,
+    Lacking,
 }
 
 impl Odd {
@@ -56,7 +63,23 @@ impl Odd {
             Odd::Shared => "shared",
             Odd::TempShows => "temp-shows",
             Odd::TempGone => "temp-gone",
-            _ => "open-file",
+            Odd::OpenFile => "open-file",
+            other => other.name_in_calls(),
+        }
+    }
+}
+
+impl Odd {
+    /// The name of a kind that only single calls have.
+    fn name_in_calls(self) -> &'static str {
+        match self {
+            Odd::ByName => "by-name",
+            Odd::Access => "access",
+            Odd::OwnPlace => "own-place",
+            Odd::CopySelf => "copy-self",
+            Odd::ListOrder => "list-order",
+            Odd::ListLate => "list-late",
+            _ => "lacking",
         }
     }
 }

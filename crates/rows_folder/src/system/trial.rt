@@ -1,5 +1,6 @@
 //! What a row asks for, and what came.
 use crate::system::acts::{Act, Deed};
+use crate::system::calls::trying::Calls;
 use crate::system::draws::{CHAIN, Draws};
 use crate::system::inodes::Inodes;
 use crate::system::making::put;
@@ -10,6 +11,7 @@ use cacache_disk::Disk;
 use cacache_folder::FolderStore;
 use rows::words::{cut, number_of};
 use rows::{Flaw, Outcome, Trial};
+use std::alloc::AllocError;
 use std::fs;
 
 /// After so many steps a new folder is begun.
@@ -24,11 +26,31 @@ pub(crate) struct Steps {
     rt: HostRuntime,
 }
 
+/// What is tried at random in a world, one event after another.
+pub(crate) trait Play {
+    /// The world.
+    fn world(&mut self) -> &mut World;
+
+    /// Lets all go that is open, and begins in a new folder.
+    fn begin(&mut self) -> Result<(), Bad>;
+
+    /// A random event.
+    fn event(&mut self, draws: &mut Draws) -> Result<(), Bad>;
+
+    /// Compares all that is there.
+    fn look(&mut self) -> Result<(), Bad>;
+}
+
 impl World {
-    /// Lets the folder go and begins with another one, in both empty.
-    fn renew(&mut self, root: &str) -> Result<(), Bad> {
+    /// Lets the folder go.
+    fn end(&mut self) {
         self.close();
         let_go(fs::remove_dir_all(&self.rt, self.top.as_str()));
+    }
+
+    /// Begins with another folder, in both empty.
+    fn renew(&mut self, root: &str) -> Result<(), Bad> {
+        self.end();
         fs::create_dir(&self.rt, self.top.as_str())?;
         fs::create_dir(&self.rt, root)?;
         set(&mut self.system, FolderStore::new(self.rt));
@@ -93,81 +115,113 @@ impl World {
         }
     }
 
-    /// Says that a difference came from this step.
-    fn differs_at(&mut self, deed: &Deed) -> Result<(), Bad> {
+    /// Says that a difference came from this step or call.
+    pub(crate) fn differs_at(&mut self, what: String) -> Result<(), AllocError> {
         let how = self.difference.take().unwrap_or(String::new(self.alloc));
-        let how = format!(in self.alloc;
-            "{:?} {:?} {:?}: {how}",
-            deed.act,
-            deed.one.as_str(),
-            deed.two.as_str()
-        )?;
-        Err(self.differs(how))
+        let how = format!(in self.alloc; "{what}: {how}")?;
+        set(&mut self.difference, Some(how));
+        Ok(())
     }
 
-    /// A random step.
+    /// A step that has only paths.
+    fn on_paths(&mut self, draws: &mut Draws) -> Result<(), Bad> {
+        let deed = draws.deed()?;
+        let done = self.deed(&deed);
+        if let Err(Bad::Differs) = done {
+            let what = format!(in self.alloc;
+                "{:?} {:?} {:?}",
+                deed.act,
+                deed.one.as_str(),
+                deed.two.as_str()
+            )?;
+            self.differs_at(what)?;
+        }
+        done
+    }
+}
+
+impl Play for World {
+    fn world(&mut self) -> &mut World {
+        self
+    }
+
+    fn begin(&mut self) -> Result<(), Bad> {
+        Ok(())
+    }
+
     fn event(&mut self, draws: &mut Draws) -> Result<(), Bad> {
         match draws.random.below(100) {
             0..=9 => self.on_file(draws),
             10..=24 => self.on_temp(draws),
-            _ => {
-                let deed = draws.deed()?;
-                match self.deed(&deed) {
-                    Err(Bad::Differs) => self.differs_at(&deed),
-                    done => done,
-                }
-            }
+            _ => self.on_paths(draws),
         }
     }
 
-    /// So many random steps in a new folder.
-    fn play(&mut self, draws: &mut Draws, count: usize) -> Result<(), Bad> {
-        let root = draws.root.clone()?;
-        self.renew(root.as_str())?;
-        if draws.random.below(4) == 0 {
-            self.chain(root.as_str())?;
-        }
-        for _ in 0..count {
-            self.event(draws)?;
-            if self.is_over {
-                return Ok(());
-            }
-        }
+    fn look(&mut self) -> Result<(), Bad> {
         self.compare_all()
     }
-
-    /// So many random steps, some in each folder.
-    fn play_all(&mut self, draws: &mut Draws, count: usize) -> Result<(), Bad> {
-        let mut left = count;
-        for _ in 0..count {
-            if left == 0 {
-                break;
-            }
-            let some = left.min(PER_FOLDER);
-            self.play(draws, some)?;
-            left -= some;
-        }
-        self.close();
-        let_go(fs::remove_dir_all(&self.rt, self.top.as_str()));
-        Ok(())
-    }
 }
 
-/// So many steps in a world, and how often each known difference was met.
-fn tallied(world: &mut World, seed: usize, count: usize) -> Result<String, Bad> {
+/// So many random events in a new folder.
+fn play<P: Play>(tried: &mut P, draws: &mut Draws, count: usize) -> Result<(), Bad> {
+    let root = draws.root.clone()?;
+    tried.world().renew(root.as_str())?;
+    if draws.random.below(4) == 0 {
+        tried.world().chain(root.as_str())?;
+    }
+    tried.begin()?;
+    for _ in 0..count {
+        tried.event(draws)?;
+        if tried.world().is_over {
+            return Ok(());
+        }
+    }
+    tried.look()
+}
+
+/// So many random events, some in each folder.
+fn play_all<P: Play>(tried: &mut P, draws: &mut Draws, count: usize) -> Result<(), Bad> {
+    let mut left = count;
+    for _ in 0..count {
+        if left == 0 {
+            break;
+        }
+        let some = left.min(PER_FOLDER);
+        play(tried, draws, some)?;
+        left -= some;
+    }
+    tried.world().end();
+    Ok(())
+}
+
+/// So many events, and how often each known difference was met.
+fn tallied<P: Play>(tried: &mut P, seed: usize, count: usize) -> Result<String, Bad> {
+    let world = tried.world();
     let root = format!(in world.alloc; "{}/w", world.top.as_str())?;
     let mut draws = Draws::new(world.alloc, seed as u64, root);
-    world.play_all(&mut draws, count)?;
-    Ok(world.tally.text()?)
+    play_all(tried, &mut draws, count)?;
+    Ok(tried.world().tally.text()?)
 }
 
-/// How the steps of a row go: how often each known difference was met, or what the first other one is.
-fn counted(rt: HostRuntime, seed: usize, count: usize) -> Result<String, Bad> {
-    let mut world = World::new(rt)?;
-    match tallied(&mut world, seed, count) {
-        Err(Bad::Differs) => Ok(world.difference.take().unwrap_or(String::new(world.alloc))),
+/// How the events of a row go: how often each known difference was met, or what the first other one is.
+fn counted<P: Play + Drop>(mut tried: P, seed: usize, count: usize) -> Result<String, Bad> {
+    match tallied(&mut tried, seed, count) {
+        Err(Bad::Differs) => {
+            let world = tried.world();
+            Ok(world.difference.take().unwrap_or(String::new(world.alloc)))
+        }
         came => came,
     }
+}
+
+/// The same of the row's words, which are of calls or of steps.
+fn came_of(rt: HostRuntime, words: &str) -> Result<String, Bad> {
+    let (first, rest) = cut(words);
+    if first == "calls" {
+        let (seed, count) = cut(rest);
+        return counted(Calls::new(rt)?, number_of(seed)?, number_of(count)?);
+    }
+    counted(World::new(rt)?, number_of(first)?, number_of(rest)?)
 }
 
 impl Steps {
@@ -183,8 +237,7 @@ impl Trial for Steps {
             return Err(Flaw::NotRead);
         };
         let wanted = String::from_str(self.rt.alloc(), wanted)?;
-        let (seed, count) = cut(words);
-        match counted(self.rt, number_of(seed)?, number_of(count)?) {
+        match came_of(self.rt, words) {
             Ok(got) => Ok(Outcome { wanted, got }),
             Err(Bad::Flaw(flaw)) => Err(flaw),
             Err(Bad::Differs) => Err(Flaw::Unfit),
