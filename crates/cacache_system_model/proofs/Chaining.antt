@@ -156,8 +156,8 @@ lists_on temps d m n path end mirrors (names, is, order, listed) =
 
 pub listing_on : (temps : Names → Bool) (d : Tree) (m n : Machine) (hint : Hint) (step : NumberedStep) (items : List CallItem) (end : CallResult) → Mirrors temps m.tree d
     → Runs (first hint step) items end → EachCall OccursSomehow m items n → IsListing m hint step → ListedOn temps d m step end n ⊎ IsLucky m step end n
-listing_on temps d m n hint (steps.ReadDir path) items end mirrors runs each (plain, fresh) =
-    either_listed (read_dir_breaks m hint path plain fresh items end n runs each)
+listing_on temps d m n hint (steps.ReadDir path) items end mirrors runs each plain =
+    either_listed (read_dir_breaks m hint path plain items end n runs each)
   where
     either_listed : IsListedOrLucky m path end n → ListedOn temps d m (steps.ReadDir path) end n ⊎ IsLucky m (steps.ReadDir path) end n
     either_listed (inl lists) = inl (lists_on temps d m n path end mirrors lists)

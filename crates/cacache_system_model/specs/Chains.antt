@@ -6,7 +6,7 @@ use Rattle.cacache_store.specs.{declared.store.answer.Name.{Name}, Plain.{PlainA
 use Rattle.cacache_store.specs.declared.store.step.Step.TheVariants as steps
 use Rattle.cacache_store.specs.declared.store.answer.Answer.TheVariants as answers
 use Rattle.cacache_disk.specs.{declared.luck.Luck.{Luck, TheVariants.{Plain}}, Tree.{Tree}, Apply.{apply}}
-use Rattle.cacache_system.specs.{declared.call.{CallItem.{CallItem}, CallResult.{CallResult, TheVariants.{Failed}}}, Seen.{NumberedStep}, CallsOf.{Runs}, AnswersOf.{Hint, is_named, first, answer_of}}
+use Rattle.cacache_system.specs.{declared.call.{CallItem.{CallItem}, CallResult.{CallResult, TheVariants.{Failed}}}, Seen.{NumberedStep}, CallsOf.{Runs}, AnswersOf.{Hint, first, answer_of}}
 use Rattle.cacache_system_model.specs.{Machine.{Machine}, Calls.{GoesWell, OccursSomehow, EachCall}, Laws.{step_on, answer_on, outcome, LeavesFresh, IsDone}, OneCall.{StillStands}, Listing.{ListsPlainly}, Premises.{Premise, HasPlainLaw}, Mirrors.{Mirrors, temps_after, SparesOpen}}
 
 -- a step that was made: the machine before and after it, how its calls began, what they were, and their end
@@ -76,7 +76,7 @@ StepsOnDisk =
 
 -- a folder is listed, in any order
 abbrev pub IsListing : Machine → Hint → NumberedStep → Type 0
-IsListing m hint (steps.ReadDir p) = ListsPlainly m.tree p × (is_named hint ≡ false)
+IsListing m hint (steps.ReadDir p) = ListsPlainly m.tree p
 IsListing m hint step = ⊥
 
 -- that is done by a run of its calls, some of which may fail

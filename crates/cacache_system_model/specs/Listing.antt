@@ -6,7 +6,7 @@ use Rattle.cacache_store.specs.declared.store.step.Step.TheVariants as steps
 use Rattle.cacache_store.specs.declared.store.answer.Name.{Name}
 use Rattle.cacache_store.specs.declared.store.answer.Answer.TheVariants as answers
 use Rattle.cacache_disk.specs.{declared.node.Node.{Node, TheVariants.{Folder}}, Tree.{Tree, look, listing, kind_of}, LedTo.{standing, folder}}
-use Rattle.cacache_system.specs.{declared.call.CallResult.{CallResult, TheVariants.{Failed}}, ListedNames.{text_of, with_slash}, AnswersOf.{Hint, is_named, first}}
+use Rattle.cacache_system.specs.{declared.call.CallResult.{CallResult, TheVariants.{Failed}}, ListedNames.{text_of, with_slash}, AnswersOf.{Hint, first}}
 use Rattle.cacache_system_model.specs.{Machine.{Machine}, Calls.{GoesWell, OccursSomehow}, Laws.{outcome, led_to, Leads, IsLucky, MayBreak}}
 
 -- an entry of a folder: its name is proper and is given as it is, and the entry is under it
@@ -58,11 +58,10 @@ abbrev pub IsListedOrLucky : Machine → List ℕ → CallResult → Machine →
 IsListedOrLucky m path end after =
     Lists m path end after ⊎ IsLucky m (steps.ReadDir path) end after
 
--- any of its calls may fail without cause, if no listing named the folder before
+-- any of its calls may fail without cause, whether or not a listing named the folder before
 abbrev pub ReadDirBreaks : Type 0
 ReadDirBreaks =
     (m : Machine) (hint : Hint) (path : List ℕ) → ListsPlainly m.tree path
-    → is_named hint ≡ false
     → Leads OccursSomehow (first hint (steps.ReadDir path)) m (IsListedOrLucky m path)
 
 -- a folder gives its names in the tree's order
@@ -70,8 +69,14 @@ abbrev pub GivesInOrder : Machine → List ℕ → Type 0
 GivesInOrder m path =
     (names : Names) → folder m.tree path ≡ Ok names → m.order names ≡ listing m.tree names
 
+-- a folder with such entries, which gives its names in order, is at a path; or nothing is, nor with a `/` after it
+abbrev pub CanList : Machine → List ℕ → Type 0
+CanList m path =
+    (IsAbsent m.tree path × IsAbsent m.tree (with_slash path))
+    ⊎ (ListsPlainly m.tree path × GivesInOrder m path)
+
 -- then it is as under some luck
 abbrev pub ReadDirInOrder : Type 0
 ReadDirInOrder =
     (m : Machine) (hint : Hint) (path : List ℕ) → ListsPlainly m.tree path
-    → is_named hint ≡ false → GivesInOrder m path → MayBreak m hint (steps.ReadDir path)
+    → GivesInOrder m path → MayBreak m hint (steps.ReadDir path)

@@ -8,8 +8,8 @@ ghost use Rattle.cacache_system_model.specs.callers.{Example.{QuestionsCanBe}, M
 /// - `begin`: a machine that holds only the outside files has a cache without a past.
 /// - `goes_on`: once no call is on its way, what acts left is a cache for further acts.
 /// - `made` is about any commands, and asks of each step what the step's law asks.
-/// - `storing` is about steps that list and remove no folder. It asks that their temporary files are open and hold what their
-///   states say.
+/// - `storing` is about steps that remove no folder. It asks that their temporary files are open and hold what their states
+///   say.
 /// - `seen` doesn't ask that: it is about callers as the contracts of their stores see them, whose files are numbers and
 ///   paths.
 /// - `keep`: the system calls of a step of these calls keep open files open.

@@ -188,7 +188,8 @@ module _ (h : Option Names) (temps : Names → Bool) (are : AreTemps h temps) (m
   has_asked (steps.Copy p q) stores holds stands is = inl (stands, (reads_spare h temps are m.tree d shape placed p stores, copies_spare h temps are m.tree d shape placed q is))
   has_asked (steps.Reflink p q) stores holds stands is = inl (tt, reads_spare h temps are m.tree d shape placed p stores)
   has_asked (steps.HardLink p q) stores holds stands is = inl (tt, links_spare h temps are m.tree p stores)
-  has_asked (steps.ReadDir p) stores holds stands is = absurd stores
+  has_asked (steps.ReadDir p) stores holds (inl (absent, slashed)) is = inl (inl absent, tt)
+  has_asked (steps.ReadDir p) stores holds (inr plain) is = inl (inr plain, tt)
   has_asked (steps.RemoveFile p) stores holds stands is = inl (stands, tt)
   has_asked (steps.RemoveDir p) stores holds stands is = absurd stores
   has_asked (steps.SyncTemp t) stores holds stands is = inl (still_there temps m d t mirrors rooted holds, tt)

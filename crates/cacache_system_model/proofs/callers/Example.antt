@@ -82,13 +82,12 @@ questions_can_be s m cache i within integrity fewer =
       asking_step s i m g.0,
       r.0,
       (
-        (within, refl, tt, integrity, few),
+        (within, refl, tt, integrity, λ e. absurd cc, few),
         (
           record {
             state = asking (content_of s i);
             stands = refl;
             wanted = refl;
-            kind = tt;
             held = tt;
             here = refl;
             runs = (refl, refl);

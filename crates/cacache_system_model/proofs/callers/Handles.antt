@@ -195,6 +195,6 @@ pub still_stores : (h : Option Names) (temps : Names → Bool) (m : Machine) (d 
 still_stores h temps m d mirrors rooted hint (steps.Write t bytes) stores holds stands = still_there temps m d t mirrors rooted holds
 still_stores h temps m d mirrors rooted hint (steps.Persist t p) stores holds stands = still_there temps m d t mirrors rooted holds
 still_stores h temps m d mirrors rooted hint (steps.Read f size) stores holds stands = stands
-still_stores h temps m d mirrors rooted hint (steps.ReadDir p) stores holds stands = absurd stores
+still_stores h temps m d mirrors rooted hint (steps.ReadDir p) stores holds stands = stands
 still_stores h temps m d mirrors rooted hint (steps.SyncTemp t) stores holds stands = still_there temps m d t mirrors rooted holds
 still_stores h temps m d mirrors rooted hint step stores holds stands = tt

@@ -2,18 +2,18 @@
 use Rattle.std.proofs.{Common.{◌≡◌, ◌⊎◌, inl, inr, ◌≤◌, ◌<◌, ◌^◌, ◌==◌, ℕ, Bool, true, false, cond, List, Option, None, Some, Ok, option_map, refl, sym, ap, subst, ◌∙◌, arith}, lemmas.Bool.{eqb-true, eqb-false}}
 use Rattle.std.specs.Prelude.{Err}
 use Rattle.cacache_core.specs.PathNames.{Names, names_of}
-use Rattle.cacache_store.specs.{declared.store.plain.{PlainFile.{PlainFile}, PlainTemp.{PlainTemp}}, Plain.{PlainStep, PlainAnswer}, Fits.{Fits}}
+use Rattle.cacache_store.specs.{declared.store.{plain.{PlainFile.{PlainFile}, PlainTemp.{PlainTemp}}, answer.Name.{Name}}, Plain.{PlainStep, PlainAnswer}, Fits.{Fits, AreProperNames}}
 use Rattle.cacache_store.specs.declared.store.step.Step.TheVariants as steps
 use Rattle.cacache_store.specs.declared.store.answer.Answer.TheVariants as answers
 use Rattle.cacache_disk.specs.{declared.luck.Luck.{Luck}, Apply.{apply}}
 use Rattle.cacache_value.specs.{Kinds.{Temporary, path_kind}, OpeningTrees.{LieApart}, Placed.{Placed, Proper}}
-use Rattle.cacache_calls.specs.{declared.{reply.Reply.{Reply}, carried.Lookup.{Lookup}}, Answers.{bytes_in as bytes_answered}, Looking.{found_in}, Common.{errand_step}, State.{State, doing, writing, syncing, persisting, looking, Site, Errand, remove}, StepPaths.{temp_path, bucket_path}, Sound.{IsTemp, Allowed, Sound}, Table.{wants, after}}
+use Rattle.cacache_calls.specs.{declared.{reply.Reply.{Reply}, carried.Lookup.{Lookup}}, Answers.{bytes_in as bytes_answered, names_in}, Looking.{found_in}, Common.{errand_step}, State.{State, doing, writing, syncing, persisting, looking, Site, Errand, remove}, StepPaths.{temp_path, bucket_path}, Sound.{IsTemp, Allowed, Sound}, Table.{wants, after}}
 use Rattle.cacache_calls.proofs.Sound.{steps_allowed}
 use Rattle.cacache_calls.specs.declared.answers.Refusal.TheVariants as refusals
 use Rattle.cacache_history.specs.{declared.record.Record.{Record, TheVariants.{Moved}}, Setup.{Setup, call_site, home, may_export, is_outside}, History.{Call, Now, now_after, MayMove, MayCome}}
-use Rattle.cacache_history.proofs.{Histories.Holding.{CallHolds, of_caller}, Entries.Spelled.{HasIntegrity}, Proper.{sound_proper}, durable.CallNumbers.{Numbered, next_numbered, number_below, numbers_apart, temps_apart}}
+use Rattle.cacache_history.proofs.{Histories.Holding.{CallHolds, of_caller}, Entries.Spelled.{HasIntegrity}, Proper.{sound_proper}, Listings.ListingWalks.{proper_names}, durable.CallNumbers.{Numbered, next_numbered, number_below, numbers_apart, temps_apart}}
 use Rattle.cacache_system.specs.{declared.call.CallResult.{CallResult}, Seen.{NumberedFile, NumberedTemp, NumberedStep, NumberedAnswer}, CallsOf.{Runs}, AnswersOf.{first, answer_of}}
-use Rattle.cacache_system_model.specs.{Machine.{Machine}, Laws.{step_on, answer_on}, Mirrors.{Mirrors}, Chains.{StepMade, temps_left}, callers.{Acts.{IsRecordOf, steps as makes, SystemState, step_of, answer_in, set_state, unless_ended}, Storing.{Stores, HoldsTemp, MakesStoringStep}, Opened.{IsOpenAt, KeepsOpen}, Seen.{handed, handed_open, held_after, open_after, KeepsFolders}}}
+use Rattle.cacache_system_model.specs.{Machine.{Machine}, Laws.{answer_on}, Mirrors.{Mirrors}, Chains.{StepMade, temps_left}, callers.{Acts.{IsRecordOf, steps as makes, SystemState, step_of, answer_in, NeedsFit, set_state, unless_ended}, Storing.{Stores, HoldsTemp, MakesStoringStep}, Opened.{IsOpenAt, KeepsOpen}, Seen.{handed, handed_open, held_after, open_after}}}
 use Rattle.cacache_system_model.proofs.{Mirroring.{shapes}, callers.{NextActs.{NumberedState, numbered_after, MakesNextStep}, Failing.{failed_none, failed_bytes}, OtherTemps.{explained, placed_same, asked_stays}, Covering.{rooted_same, has_asked}, Following.{Agree, has_call, Follows}, Files.{file_in, open_in, file_of, open_of, file_given, open_given, IsErrand, From, Follows as StateFollows, follows_after, wants_file, wants_open, errand_steps}, StayingOpen.{runs_keep_open, made_open}, PathsOf.{HasPaths, wants_apart, paths_after, bucket_has}, TreeKept.{Misses, is_elsewhere}, Handles.{Handle, IsHanded, next_on, holds_on, handle_kept, wrote_same, synced_same, handed_handle, handed_none, handed_file, handed_no_file, temp_answer, still_stores}, OpenTemps.{temps_spare}}}
 
 -- ---- whose a temporary file is
@@ -91,10 +91,8 @@ no_state temps m o state e = let no : None ≡ Some state = e in absurd cc
 pub no_open : (o : Option (NumberedFile × PlainFile)) → HasOpen o None
 no_open o state e = let no : None ≡ Some state = e in absurd cc
 
-folders_on : (m : Machine) (step : NumberedStep) → KeepsFolders step → KeepsFolders (step_on m step)
-folders_on m (steps.ReadDir p) kind = absurd kind
-folders_on m (steps.RemoveDir p) kind = absurd kind
-folders_on m step kind = tt
+listed_proper : (p : List ℕ) (a : PlainAnswer) (names : List Name) → NeedsFit (steps.ReadDir p) a → names_in a ≡ Ok names → AreProperNames names
+listed_proper p a names fits listed = proper_names p a names fits listed
 
 module _ (s : Setup) (apart : LieApart (home s) s.outside) (f : NumberedState) (now : Now) (all : Holds s f now) where
   abbrev w : SystemState
@@ -128,17 +126,17 @@ module _ (s : Setup) (apart : LieApart (home s) s.outside) (f : NumberedState) (
     wants_asked : wants m.state ≡ Some (step_of made)
     wants_asked = m.wanted ∙ ap Some asks_same
 
-    keeps_folders : KeepsFolders (step_of made)
-    keeps_folders = folders_on made.before made.step m.kind
-
-    wants_kept : (step : PlainStep) → wants m.state ≡ Some step → KeepsFolders step
-    wants_kept step wanted = let both : Some (step_of made) ≡ Some step = sym wants_asked ∙ wanted in let same : step_of made ≡ step = cc in subst (λ (x : PlainStep). KeepsFolders x) same keeps_folders
-
     holds : HoldsTemp w.temps made.before made.step
     holds = holds_on w.temps made.before (f.held caller) (f.opened caller) made.step m.held (λ file e. of_step file (ap file_of asks_same ∙ e))
 
+    wants_proper : (p : List ℕ) (names : List Name) → wants m.state ≡ Some (steps.ReadDir p) → names_in (answer_in made) ≡ Ok names → AreProperNames names
+    wants_proper p names wanted listed =
+        let both : Some (step_of made) ≡ Some (steps.ReadDir p) = sym wants_asked ∙ wanted in
+        let same : step_of made ≡ steps.ReadDir p = cc in
+        listed_proper p (answer_in made) names (subst (λ (x : PlainStep). NeedsFit x (answer_in made)) same m.fits) listed
+
     apart_of : (step : PlainStep) → wants m.state ≡ Some step → Stores (home s) step
-    apart_of step wanted = wants_apart (call_site s own.0.number) (may_export s) (is_outside s) m.state step (wants_kept step wanted) sound has_paths wanted
+    apart_of step wanted = wants_apart (call_site s own.0.number) (may_export s) (is_outside s) m.state step sound has_paths wanted
 
     stores : Stores (home s) (step_of made)
     stores = apart_of (step_of made) wants_asked
@@ -307,7 +305,7 @@ module _ (s : Setup) (apart : LieApart (home s) s.outside) (f : NumberedState) (
     moved_paths has k =
         at_state (PathsAt (home s)) k caller (unless_ended reply (option_map (λ (state : State). after state (answer_in made)) (w.states caller))) (w.states k)
         (λ same new e. subst (HasPaths (home s)) (ended_some reply (w.states caller) m.state new (answer_in made) m.stands e)
-        (paths_after (call_site s own.0.number) (may_export s) (is_outside s) (answer_in made) m.state wants_kept sound has_paths has))
+        (paths_after (call_site s own.0.number) (may_export s) (is_outside s) (answer_in made) m.state wants_proper sound has_paths has))
         (λ differ. all.paths k)
 
     may_of : (r : Record) (luck : Luck) (answer : PlainAnswer) → MayCome s now r → r ≡ Moved caller luck (Some (step_of made, answer)) reply → MayMove now.tree own.0.state luck (Some (step_of made, answer)) reply

@@ -1,25 +1,25 @@
--- The paths that calls read, link, sync and remove, if they list no folder.
-use Rattle.std.proofs.{Common.{◌≡◌, ◌==◌, ◌<◌, ◌^◌, ℕ, Bool, true, false, cond, List, [], ◌∷◌, ◌++◌, Option, None, Some, Result, Ok, Err, length, drop, nat_le, refl, sym, ap, subst, ◌∙◌, arith, append-nil, append_assoc}, lemmas.List.Elements.{All-head, All-tail, All-append, All-nil, All-cons}}
+-- The paths that calls read, link, sync and remove.
+use Rattle.std.proofs.{Common.{◌≡◌, ◌==◌, ◌<◌, ◌^◌, ◌+◌, ◌-◌, ℕ, zero, suc, Bool, true, false, cond, List, [], ◌∷◌, ◌++◌, Option, None, Some, Result, Ok, Err, length, drop, take, nat_le, refl, sym, ap, subst, ◌∙◌, arith, append-nil, append_assoc}, lemmas.List.Elements.{All-head, All-tail, All-append, All-nil, All-cons, All-weaker}}
 use Rattle.std.specs.Prelude.{All, IfOk, filter}
 use Rattle.cacache_history.proofs.{Proper.{sound_proper}, Listings.ListingWalks.{joined_more}, Entries.{Formed.{TreeFormed}, Spelled.{HasIntegrity, latest_has}}, Histories.ShownTurns.{bucket_below}, Contents.Digests.{digest_hash}}
 use Rattle.cacache_history.specs.{Setup.{Setup, call_site, home, may_export, is_outside}, History.{NamesIntegrity}}
 use Rattle.sha1.specs.Sha1.{sha1}
-use Rattle.cacache_core.specs.{declared.{errors.{Fault.{Fault}, Error.TheVariants.{IntegrityError}, IntegrityFault.TheVariants.{Check}}, integrity.{digest.Hash.{Hash}, algorithm.Algorithm.{Algorithm}}}, Digests.{digest}, Integrity.{IsHash, IsIntegrity, integrity_under, hash_of, actual}, Meeting.{meets}, PathNames.{Names, names_of, names_below, home_of, is_bad, is_name, pieces, IsProperName}, Paths.{joined, content_names, bucket_names, folders_to}}
+use Rattle.cacache_core.specs.{declared.{errors.{Fault.{Fault}, Error.TheVariants.{IntegrityError}, IntegrityFault.TheVariants.{Check}}, integrity.{digest.Hash.{Hash}, algorithm.Algorithm.{Algorithm}}}, Digests.{digest}, Integrity.{IsHash, IsIntegrity, integrity_under, hash_of, actual}, Meeting.{meets}, PathNames.{Names, names_of, names_below, home_of, is_bad, is_name, pieces, IsProperName}, Paths.{join, joined, index_area, content_names, bucket_names, folders_to}}
 use Rattle.cacache_core.proofs.{JoinedNames.{joined_texts_name}, PathLemmas.{keys_have_digests}, ProperNames.{names_are_proper}}
 use Rattle.cacache_core.specs.declared.errors.Fault.TheVariants as faults
-use Rattle.cacache_store.specs.{declared.store.plain.{PlainFile.{PlainFile}, PlainTemp.{PlainTemp}}, Plain.{PlainStep, PlainAnswer}}
+use Rattle.cacache_store.specs.{declared.store.{plain.{PlainFile.{PlainFile}, PlainTemp.{PlainTemp}}, answer.Name.{Name}}, Plain.{PlainStep, PlainAnswer}, Fits.{AreProperNames}}
 use Rattle.cacache_store.specs.declared.store.step.Step.TheVariants as steps
 use Rattle.cacache_entry.specs.{Latest.{Found}, Bucket.{entries_of}, FittingEntries.{IsEntry}}
-use Rattle.cacache_calls.specs.{declared.{carried.{Aim.{Aim}, Commit.{Commit}, Content.{Content as Stored}, Lookup.{Lookup}}, command.{Command.{Command}, Export.{Export}, How.{How, TheVariants.{Copy, Reflink, HardLink}}}, reply.Reply.TheVariants.{Copied, Read}, target.Target.{Target}, visit.Visit.{Visit, TheVariants.{Enter}}}, Answers.{done_in, temp_in, written_in, synced_in, there_in, taken_in, bytes_in, file_in, got_in, length_in}, Common.{fails, ends_with, sync_up}, ContentReads.{checked, answer_there, answer_absent}, Exporting.{export_from, export_content, export, copied_count}, Inserting.{insertion, deletion, bucket_line, recorded, after_append, insert, refused_cause}, Linking.{link_target, commit_for, hashed_path, after_size, after_read}, Looking.{found_in, found_for, found_content, after_bucket, no_bucket}, Sound.{SoundCommit, SoundTarget, Sound, MayBegin}, State.{State, doing, creating, writing, syncing, persisting, linking, confirming, appending, looking, reading, asking, sizing, opening_file, hashing, copying, walking, over, Site, Insertion, Hashing, to_verify, to_link, make_folder, remove, reflink, hard_link, sync_file, sync_dir}, StepPaths.{content_folder, content_path, content_folders, bucket_path, bucket_folders}, Storing.{placed, secured, secured_found, write_rest, after_write, after_confirm}, Table.{wants, after, opening}}
-use Rattle.cacache_calls.proofs.{Branches.{cond_leads, go_on_leads}, Leading.{moves_on, places, inserts}, Sound.{some_is}}
+use Rattle.cacache_calls.specs.{declared.{carried.{Aim.{Aim}, Commit.{Commit}, Content.{Content as Stored}, Lookup.{Lookup}}, command.{Command.{Command}, Export.{Export}, How.{How, TheVariants.{Copy, Reflink, HardLink}}}, reply.Reply.TheVariants.{Copied, Done, Listed, Read}, target.Target.{Target}, visit.{Visit.{Visit, TheVariants.{Enter, ReadBucket}}, Task.{Task, TheVariants.{Make, Stumble}}}}, Answers.{done_in, temp_in, written_in, synced_in, there_in, taken_in, bytes_in, file_in, got_in, length_in, names_in}, Common.{fails, ends_with, sync_up}, ContentReads.{checked, answer_there, answer_absent}, Exporting.{export_from, export_content, export, copied_count}, Inserting.{insertion, deletion, bucket_line, recorded, after_append, insert, refused_cause}, Linking.{link_target, commit_for, hashed_path, after_size, after_read}, Looking.{found_in, found_for, found_content, after_bucket, no_bucket}, Sound.{SoundCommit, SoundTarget, Sound, MayBegin}, State.{State, doing, creating, writing, syncing, persisting, linking, confirming, appending, looking, reading, asking, sizing, opening_file, hashing, copying, walking, over, Site, Insertion, Item, Walk, Hashing, to_verify, to_link, make_folder, remove, reflink, hard_link, sync_file, sync_dir}, StepPaths.{content_folder, content_path, content_folders, bucket_path, bucket_folders}, Storing.{placed, secured, secured_found, write_rest, after_write, after_confirm}, Table.{wants, after, opening}, Walking.{EachVisit, most, failed, give, miss, walk_ends, walk_on, too_many, tasks_of, leaving, entered, unread_bucket, listed, items_in}}
+use Rattle.cacache_calls.proofs.{Visits.{MayMeet, each_append, each_name}, Branches.{cond_leads, go_on_leads}, Leading.{moves_on, places, inserts}, Sound.{some_is}}
 use Rattle.cacache_calls.specs.declared.carried.Aim.TheVariants as aims
 use Rattle.cacache_calls.specs.declared.command.Command.TheVariants as commands
 use Rattle.cacache_calls.specs.declared.command.Source.TheVariants as sources
-use Rattle.cacache_value.specs.{Kinds.{PathKind, Content, Bucket, Temporary, Way, Elsewhere, path_kind, kind_below, is_used, IsFor}, Acts.{list_of}, Placed.{Placed, Proper}, OpeningTrees.{LieApart}, Shows.{ShowsBucket}, Value.{value_of_tree}}
+use Rattle.cacache_value.specs.{Kinds.{PathKind, Content, Bucket, Temporary, Way, Elsewhere, path_kind, kind_in_area, kind_below, is_used, IsFor}, Acts.{list_of}, Placed.{Placed, Proper}, OpeningTrees.{LieApart}, Shows.{ShowsBucket}, Value.{value_of_tree}}
 use Rattle.cacache_value.proofs.{KindsApart.{above, kind-below}, PathKinds.{paths_are_for}, Shows.{trees_show}}
 use Rattle.cacache_store.specs.declared.store.answer.Answer.TheVariants as answers
 use Rattle.cacache_disk.specs.{declared.luck.Luck.{Luck}, Tree.{Tree}, Apply.{apply}, Rooted.{Rooted}}
-use Rattle.cacache_system_model.specs.callers.{Storing.{IsNotFor, Stores}, Seen.{KeepsFolders}}
+use Rattle.cacache_system_model.specs.callers.Storing.{IsNotFor, Stores}
 
 -- ---- the folders that lead to a path are ways
 
@@ -86,10 +86,15 @@ bucket_apart cache key = not_temporary (home_of cache) Bucket (names_of (joined 
 
 -- ---- states
 
--- a walk begins by listing a folder
-abbrev Begins : Visit → Type 0
-Begins (Enter p level) = Unit {0}
-Begins v = ⊥
+-- the folder of the index, or a path below it
+abbrev InIndex : Option Names → List ℕ → Type 0
+InIndex h p = (cache : List ℕ) × (names : Names) × (home_of cache ≡ h) × All IsProperName (index_area ∷ names) × (p ≡ joined cache (index_area ∷ names))
+
+-- a listing visits those
+abbrev Lists : Option Names → Visit → Type 0
+Lists h (Enter p level) = InIndex h p
+Lists h (ReadBucket p) = InIndex h p
+Lists h v = ⊥
 
 -- the paths that a state reads, links, removes and syncs, there and behind it
 abbrev pub HasPaths : Option Names → State → Type 0
@@ -104,7 +109,7 @@ HasPaths h (sizing t) = IsNotFor h Temporary t.path
 HasPaths h (opening_file x) = IsNotFor h Temporary (hashed_path x)
 HasPaths h (hashing x file bytes) = IsNotFor h Temporary (hashed_path x)
 HasPaths h (copying from to count) = IsNotFor h Temporary from
-HasPaths h (walking w v todo) = Begins v
+HasPaths h (walking w v todo) = (w.clears ≡ false) × (Lists h v × EachVisit (Lists h) todo)
 HasPaths h s = Unit {0}
 
 module _ (h : Option Names) where
@@ -158,6 +163,74 @@ unread_paths : (l : Lookup) (fault : Fault) → HasPaths (home_of l.cache) (no_b
 unread_paths l faults.NotFound = look_paths l l.aim None tt
 unread_paths l fault = tt
 
+-- ---- listings
+
+no_temporary : (n : ℕ) (rest : Names) → kind_in_area Bucket n rest ≡ Temporary → ⊥
+no_temporary zero [] e = cc
+no_temporary zero (name ∷ rest) e = cc
+no_temporary (suc n) [] e = cc
+no_temporary (suc n) (name ∷ rest) e = no_temporary n rest e
+
+index_below : (h : Option Names) (names : Names) → IfOk (names_below h (index_area ∷ names)) (λ all. path_kind h all ≡ Temporary → ⊥)
+index_below None names = tt
+index_below (Some folder) names = λ e. no_temporary 3 names (sym (kind-below folder (index_area ∷ names)) ∙ e)
+
+index_apart : (h : Option Names) (p : List ℕ) → InIndex h p → IsNotFor h Temporary p
+index_apart h p (cache, names, own, all, is) =
+    let named : names_of p ≡ names_below h (index_area ∷ names)
+    = ap names_of is ∙ joined_texts_name cache (index_area ∷ names) all (omega arith) ∙ ap (λ (o : Option Names). names_below o (index_area ∷ names)) own in
+    subst (λ (r : Result Names Fault). IfOk r (λ all. path_kind h all ≡ Temporary → ⊥)) (sym named) (index_below h names)
+
+index_deeper : (h : Option Names) (p n : List ℕ) → InIndex h p → IsProperName n → InIndex h (join p n)
+index_deeper h p n (cache, names, own, all, is) proper =
+    let more : All IsProperName ((index_area ∷ names) ++ n ∷ []) = All-append IsProperName (index_area ∷ names) (n ∷ []) all (All-cons IsProperName n [] proper (All-nil IsProperName)) in
+    (cache, names ++ n ∷ [], own, more, ap (λ (q : List ℕ). join q n) is ∙ sym (joined_more cache (index_area ∷ names) n))
+
+module _ (h : Option Names) where
+  ends_paths : (w : Walk) → HasPaths h (walk_ends w)
+  ends_paths w = cond_leads (HasPaths h) w.clears (over Done) (over (Listed w.items)) (λ _. tt) (λ _. tt)
+
+  many_paths : (w : Walk) → HasPaths h (too_many w)
+  many_paths w = cond_leads (HasPaths h) w.clears (fails faults.TooDeep) (over (Listed (w.items ++ failed faults.TooDeep ∷ []))) (λ _. tt) (λ _. tt)
+
+  gives_paths : (w : Walk) (items : List Item) (next : Walk → State) → w.clears ≡ false → ((v : Walk) → v.clears ≡ false → HasPaths h (next v)) → HasPaths h (give w items next)
+  gives_paths w items next kept goes =
+      let more : Walk = record w { items = w.items ++ items } in
+      let full : Walk = record w { items = take most (w.items ++ items) } in
+      cond_leads (HasPaths h) (nat_le (length w.items + length items) most) (next more) (too_many full) (λ _. goes more kept) (λ _. many_paths full)
+
+  misses_paths : (w : Walk) (next : Walk → State) (fault : Fault) → w.clears ≡ false → ((v : Walk) → v.clears ≡ false → HasPaths h (next v)) → HasPaths h (miss w next fault)
+  misses_paths w next fault kept goes = cond_leads (HasPaths h) w.clears (fails fault) (give w (failed fault ∷ []) next) (λ _. tt) (λ _. gives_paths w (failed fault ∷ []) next kept goes)
+
+  walk_paths : (todo : List Task) → EachVisit (Lists h) todo → (w : Walk) → w.clears ≡ false → HasPaths h (walk_on todo w)
+  walk_paths [] each w kept = ends_paths w
+  walk_paths (Make v ∷ todo) each w kept = (kept, each)
+  walk_paths (Stumble fault path ∷ todo) each w kept = misses_paths w (walk_on todo) fault kept (walk_paths todo each)
+
+  bucket_paths : (w : Walk) (todo : List Task) (fault : Fault) → EachVisit (Lists h) todo → w.clears ≡ false → HasPaths h (unread_bucket w todo fault)
+  bucket_paths w todo faults.NotFound each kept = walk_paths todo each w kept
+  bucket_paths w todo fault each kept = misses_paths w (walk_on todo) fault kept (walk_paths todo each)
+
+  may_meet : (b : Bool) (level : ℕ) (p : List ℕ) (n : Name) → b ≡ false → InIndex h p → IsProperName n.name → MayMeet (Lists h) level p b n
+  may_meet true level p n kept is proper = absurd cc
+  may_meet false level p n kept is proper = (index_deeper h p n.name is proper, index_deeper h p n.name is proper)
+
+  none_left : (b : Bool) (level : ℕ) (p : List ℕ) → b ≡ false → EachVisit (Lists h) (leaving b level p)
+  none_left true level p kept = absurd cc
+  none_left false level p kept = tt
+
+  entered_paths : (w : Walk) (p : List ℕ) (level : ℕ) (todo : List Task) (names : List Name) → AreProperNames names → w.clears ≡ false → InIndex h p → EachVisit (Lists h) todo
+      → HasPaths h (entered w p level todo names)
+  entered_paths w p level todo names proper kept is each =
+      let tasks = tasks_of w.clears level p names ++ leaving w.clears level p ++ todo in
+      let less : Walk = record w { left = w.left - length names } in
+      let own : EachVisit (Lists h) (tasks_of w.clears level p names)
+      = each_name (Lists h) level p w.clears names (All-weaker (λ (n : Name). IsProperName n.name) (MayMeet (Lists h) level p w.clears) (λ n is_proper. may_meet w.clears level p n kept is is_proper) names proper) in
+      let all : EachVisit (Lists h) tasks
+      = each_append (Lists h) (tasks_of w.clears level p names ++ leaving w.clears level p) todo
+      (each_append (Lists h) (tasks_of w.clears level p names) (leaving w.clears level p) own (none_left w.clears level p kept)) each in
+      cond_leads (HasPaths h) (nat_le (length names) w.left) (walk_on tasks less) (too_many w) (λ _. walk_paths tasks all less kept) (λ _. many_paths w)
+
 -- a sound commit's content
 commit_ways : (site : Site) (c : Commit) → SoundCommit site c → AllWays (home_of site.cache) (content_folders c.cache c.computed)
 commit_ways site c sound =
@@ -185,7 +258,7 @@ module _ (site : Site) (may outside : List ℕ → Bool) where
       (λ _. how_paths h e.how (content_path k.cache k.integrity) e.to (Some (length bytes)) other) (λ _. tt)
 
   -- behind an answer, by which what was found has an integrity
-  pub paths_after : (a : PlainAnswer) (s : State) → ((step : PlainStep) → wants s ≡ Some step → KeepsFolders step) → Sound site may outside s → P s
+  pub paths_after : (a : PlainAnswer) (s : State) → ((p : List ℕ) (names : List Name) → wants s ≡ Some (steps.ReadDir p) → names_in a ≡ Ok names → AreProperNames names) → Sound site may outside s → P s
       → ((l : Lookup) (bytes : List ℕ) → s ≡ looking l → bytes_in a ≡ Ok bytes → HasIntegrity (found_in l.key bytes)) → P (after s a)
   paths_after a (doing (make_folder p) s) kind sound paths has = go_on_leads P (done_in a) fails (λ _. s) tt (λ fault. tt) (λ x e. paths)
   paths_after a (doing errand s) kind sound paths has = go_on_leads P (done_in a) fails (λ _. s) tt (λ fault. tt) (λ x e. paths.1)
@@ -220,8 +293,12 @@ module _ (site : Site) (may outside : List ℕ → Bool) where
   paths_after a (opening_file x) kind sound paths has = go_on_leads P (file_in a) fails (λ file. hashing x file []) tt (λ fault. tt) (λ file e. paths)
   paths_after a (hashing x file bytes) kind sound paths has = go_on_leads P (got_in a) fails (after_read x bytes) tt (λ fault. tt) (λ g e. read_paths x bytes g paths)
   paths_after a (copying from to count) kind sound paths has = go_on_leads P (taken_in a) fails (λ n. over (Copied (copied_count count n))) tt (λ fault. tt) (λ n e. tt)
-  paths_after a (walking w (Enter p level) todo) kind sound paths has = absurd (kind (steps.ReadDir p) refl)
-  paths_after a (walking w v todo) kind sound paths has = absurd paths
+  paths_after a (walking w (Enter p level) todo) kind sound (kept, (is, each)) has =
+      go_on_leads P (names_in a) (miss w (walk_on todo)) (entered w p level todo) tt (λ fault. misses_paths h w (walk_on todo) fault kept (walk_paths h todo each))
+      (λ names e. entered_paths h w p level todo names (kind p names refl e) kept is each)
+  paths_after a (walking w (ReadBucket p) todo) kind sound (kept, (is, each)) has =
+      go_on_leads P (bytes_in a) (unread_bucket w todo) (listed w todo) tt (λ fault. bucket_paths h w todo fault each kept) (λ bytes e. gives_paths h w (items_in bytes) (walk_on todo) kept (walk_paths h todo each))
+  paths_after a (walking w v todo) kind sound (kept, (is, each)) has = absurd is
   paths_after a (over reply) kind sound paths has = tt
 
   -- ---- steps
@@ -230,26 +307,27 @@ module _ (site : Site) (may outside : List ℕ → Bool) where
   WantedStores None = Unit {0}
   WantedStores (Some step) = Stores h step
 
-  pub wants_apart : (s : State) (step : PlainStep) → KeepsFolders step → Sound site may outside s → P s → wants s ≡ Some step → Stores h step
-  wants_apart (doing (make_folder p) s) step kind sound paths w = some_is (Stores h) (steps.MakeDirs p) step w tt
-  wants_apart (doing (remove p) s) step kind sound paths w = some_is (Stores h) (steps.RemoveFile p) step w paths.0
-  wants_apart (doing (reflink p q) s) step kind sound paths w = some_is (Stores h) (steps.Reflink p q) step w paths.0
-  wants_apart (doing (hard_link p q) s) step kind sound paths w = some_is (Stores h) (steps.HardLink p q) step w paths.0
-  wants_apart (doing (sync_file p) s) step kind sound paths w = some_is (Stores h) (steps.SyncFile p) step w paths.0
-  wants_apart (doing (sync_dir p) s) step kind sound paths w = some_is (Stores h) (steps.SyncDir p) step w paths.0
-  wants_apart (looking l) step kind sound paths w =
+  pub wants_apart : (s : State) (step : PlainStep) → Sound site may outside s → P s → wants s ≡ Some step → Stores h step
+  wants_apart (doing (make_folder p) s) step sound paths w = some_is (Stores h) (steps.MakeDirs p) step w tt
+  wants_apart (doing (remove p) s) step sound paths w = some_is (Stores h) (steps.RemoveFile p) step w paths.0
+  wants_apart (doing (reflink p q) s) step sound paths w = some_is (Stores h) (steps.Reflink p q) step w paths.0
+  wants_apart (doing (hard_link p q) s) step sound paths w = some_is (Stores h) (steps.HardLink p q) step w paths.0
+  wants_apart (doing (sync_file p) s) step sound paths w = some_is (Stores h) (steps.SyncFile p) step w paths.0
+  wants_apart (doing (sync_dir p) s) step sound paths w = some_is (Stores h) (steps.SyncDir p) step w paths.0
+  wants_apart (looking l) step sound paths w =
       some_is (Stores h) (steps.ReadAll (bucket_path l.cache l.key)) step w
       (subst (λ (x : List ℕ). IsNotFor h Temporary (bucket_path x l.key)) (sym sound.0) (bucket_apart site.cache l.key))
-  wants_apart (reading k) step kind sound paths w =
+  wants_apart (reading k) step sound paths w =
       some_is (Stores h) (steps.ReadAll (content_path k.cache k.integrity)) step w
       (subst (λ (x : List ℕ). IsNotFor h Temporary (content_path x k.integrity)) (sym sound) (content_apart site.cache k.integrity paths))
-  wants_apart (sizing t) step kind sound paths w = some_is (Stores h) (steps.Size t.path) step w paths
-  wants_apart (opening_file x) step kind sound paths w = some_is (Stores h) (steps.Open (hashed_path x)) step w paths
-  wants_apart (copying from to count) step kind sound paths w = some_is (Stores h) (steps.Copy from to) step w paths
-  wants_apart (walking v (Enter p level) todo) step kind sound paths w = absurd (some_is (λ x. KeepsFolders x → ⊥) (steps.ReadDir p) step w (λ k. k) kind)
-  wants_apart (walking v visit todo) step kind sound paths w = absurd paths
-  wants_apart (over reply) step kind sound paths w = let no : None ≡ Some step = w in absurd cc
-  wants_apart s step kind sound paths w = subst WantedStores w tt
+  wants_apart (sizing t) step sound paths w = some_is (Stores h) (steps.Size t.path) step w paths
+  wants_apart (opening_file x) step sound paths w = some_is (Stores h) (steps.Open (hashed_path x)) step w paths
+  wants_apart (copying from to count) step sound paths w = some_is (Stores h) (steps.Copy from to) step w paths
+  wants_apart (walking v (Enter p level) todo) step sound paths w = some_is (Stores h) (steps.ReadDir p) step w tt
+  wants_apart (walking v (ReadBucket p) todo) step sound paths w = some_is (Stores h) (steps.ReadAll p) step w (index_apart h p paths.1.0)
+  wants_apart (walking v visit todo) step sound paths w = absurd paths.1.0
+  wants_apart (over reply) step sound paths w = let no : None ≡ Some step = w in absurd cc
+  wants_apart s step sound paths w = subst WantedStores w tt
 
 -- ---- where calls begin
 
@@ -267,15 +345,17 @@ target_apart s n t apart sound outside =
     not_temporary (home s) Elsewhere (names_of t.path) (λ e. cc) proper.1
 
 pub opens_paths : (s : Setup) (n : ℕ) (command : Command) → LieApart (home s) s.outside → MayBegin (call_site s n) (may_export s) (is_outside s) command → NamesIntegrity command
-    → HasPaths (home s) (opening (call_site s n) command)
-opens_paths s n (commands.Link l) apart may named = target_apart s n (link_target (call_site s n) l) apart may.0 may.1
-opens_paths s n (commands.Insert i) apart may named = insert_paths (home s) (insertion s.cache i)
-opens_paths s n (commands.Delete d) apart may named = insert_paths (home s) (deletion s.cache d)
-opens_paths s n (commands.GetHash i) apart may named = named
-opens_paths s n (commands.Export (sources.Key key) e) apart may named = tt
-opens_paths s n (commands.Export (sources.Hash i) e) apart may named = export_paths (record { cache = s.cache; integrity = i }) e named
-opens_paths s n (commands.RemoveHash i) apart may named = (content_apart s.cache i named, tt)
-opens_paths s n command apart may named = tt
+    → (command ≡ commands.Clear → ⊥) → HasPaths (home s) (opening (call_site s n) command)
+opens_paths s n (commands.Link l) apart may named kept = target_apart s n (link_target (call_site s n) l) apart may.0 may.1
+opens_paths s n (commands.Insert i) apart may named kept = insert_paths (home s) (insertion s.cache i)
+opens_paths s n (commands.Delete d) apart may named kept = insert_paths (home s) (deletion s.cache d)
+opens_paths s n (commands.GetHash i) apart may named kept = named
+opens_paths s n (commands.Export (sources.Key key) e) apart may named kept = tt
+opens_paths s n (commands.Export (sources.Hash i) e) apart may named kept = export_paths (record { cache = s.cache; integrity = i }) e named
+opens_paths s n (commands.RemoveHash i) apart may named kept = (content_apart s.cache i named, tt)
+opens_paths s n commands.Ls apart may named kept = (refl, ((s.cache, [], refl, All-cons IsProperName index_area [] (refl, refl, refl) (All-nil IsProperName), refl), tt))
+opens_paths s n commands.Clear apart may named kept = absurd (kept refl)
+opens_paths s n command apart may named kept = tt
 
 -- ---- what a lookup finds
 

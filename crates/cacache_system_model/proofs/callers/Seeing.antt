@@ -59,7 +59,6 @@ module _ (s : Setup) (c : SeenState) (f : NumberedState) (now : Now) (all : Hold
         plain = w.0;
         wanted = w.1;
         same = w.2;
-        kind = m.kind;
         held = subst (λ (o : Option NumberedTemp). IsOnHeld made.before o (f.opened caller) made.step) (sees.held caller)
             (subst (λ (o : Option (NumberedFile × PlainFile)). IsOnHeld made.before (c.held caller) o made.step) (sees.opened caller) m.held);
         here = m.here ∙ sees.machine;
@@ -73,8 +72,9 @@ module _ (s : Setup) (c : SeenState) (f : NumberedState) (now : Now) (all : Hold
       }
 
   may_next : (act : Act) → MayActSeen s c act → MayNext s f act
-  may_next (begins caller command) (within, free, may, named, few) = (
+  may_next (begins caller command) (within, free, may, named, kept, few) = (
     (within, no_state (f.system.states caller) (c.states caller) (sees.states caller) free, subst (λ n. MayBegin (call_site s n) (may_export s) (is_outside s) command) sees.begun may, named),
+    kept,
     subst (λ (n : ℕ). n + 1 ≤ 2 ^ 64) sees.begun few,
   )
   may_next (makes caller made reply) m = makes_next caller made reply m
@@ -85,7 +85,7 @@ module _ (s : Setup) (c : SeenState) (f : NumberedState) (now : Now) (all : Hold
       let g = has_state (f.system.states caller) (c.states caller) state (sees.states caller) stands in (g.0, g.1)
 
   sees_next : (act : Act) → MayActSeen s c act → Sees (after_seen s c act) (numbered_after s f act)
-  sees_next (begins caller command) (within, free, may, named, few) = record {
+  sees_next (begins caller command) (within, free, may, named, kept, few) = record {
     machine = sees.machine;
     states = λ k. set_alike (k == caller) (Some (opening (call_site s c.begun) command)) (c.states k) (Some (opening (call_site s f.system.begun) command)) (f.system.states k)
         (ap (λ n. Some (without_bytes (opening (call_site s n) command))) (sym sees.begun)) (sees.states k);

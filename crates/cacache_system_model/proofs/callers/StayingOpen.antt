@@ -1,18 +1,18 @@
 -- Files that are open stay open at their names through the calls of a step.
-use Rattle.std.proofs.Common.{◌≡◌, ◌==◌, ◌||◌, ◌&&◌, not, ℕ, zero, suc, Bool, true, false, cond, List, [], ◌∷◌, ◌++◌, Option, None, Some, Ok, option_map, inl, inr, min, refl, sym, ap, subst, ◌∙◌}
-use Rattle.std.specs.{Bool.{nat_eq}, Cmp.Lexicographic.{pointwise}}
+use Rattle.std.proofs.Common.{◌≡◌, length, if◌then◌else◌, ◌==◌, ◌||◌, ◌&&◌, not, ℕ, zero, suc, Bool, true, false, cond, List, [], ◌∷◌, ◌++◌, Option, None, Some, Ok, option_map, inl, inr, min, refl, sym, ap, subst, ◌∙◌}
+use Rattle.std.specs.{Bool.{nat_eq}, Cmp.Lexicographic.{pointwise}, Str.{is_utf8}}
 use Rattle.std_io.specs.declared.io.kind.ErrorKind.{ErrorKind}
 use Rattle.std_io.specs.declared.io.kind.ErrorKind.TheVariants as kind
 use Rattle.cacache_core.specs.PathNames.{Names, names_of}
-use Rattle.cacache_store.specs.declared.store.answer.Kind.{Kind}
+use Rattle.cacache_store.specs.declared.store.answer.{Kind.{Kind}, Name.{Name}}
 use Rattle.cacache_store.specs.declared.store.answer.Kind.TheVariants as kinds
 use Rattle.cacache_store.specs.declared.store.step.Step.TheVariants as steps
 use Rattle.cacache_disk.{specs.{declared.{luck.Luck.TheVariants.{Plain, Fail, Take}, node.Node.TheVariants.{File}}, Tree.{Tree, put}, LedTo.{free}}, proofs.FoundNodes.{free_ok}}
-use Rattle.cacache_system.specs.{declared.call.{FileInfo.{FileInfo}, SystemCall.{SystemCall}, CallItem.{CallItem}, CallResult.{CallResult}}, Seen.{NumberedTemp, NumberedStep}, CallsOf.{Stage, Purpose, to_give, to_sync, to_sync_folder, to_read, over, only, trying, taking_memory, opening, checking, reading_front, reading_rest, appending, standing as asking_folder, making, confirming, sizing, asking_source, asking_target, asking_end, making_end, resolving, making_fresh, filling, replacing, scrapping, copied, place_fresh, fresh_beside, fresh_number, name_taken, already_exists, is_link, wants, after, was_interrupted, interrupts, is_absent, is_same_node, unless_folder, if_folder, opened, below, climb, unmade, above_of, keeping, preparing, comparing, descending, sync_again, give, descend, compared, Runs}, AnswersOf.{Hint, no_hint, is_missing, was_named, in_walk, rewrites, look_first, persist, first}}
+use Rattle.cacache_system.specs.{declared.call.{FileInfo.{FileInfo}, SystemCall.{SystemCall}, CallItem.{CallItem}, CallResult.{CallResult}}, Seen.{NumberedTemp, NumberedStep}, ListedNames.{text_of, is_proper, is_passed, names_in, with_slash}, CallsOf.{Stage, Reader, reader, read_once, more_names, entered as entered_name, ask_kind, next_name, broken_off, is_no_folder, opening_folder, following, reading_names, asking_kind, Purpose, to_give, to_sync, to_sync_folder, to_read, over, only, trying, taking_memory, opening, checking, reading_front, reading_rest, appending, standing as asking_folder, making, confirming, sizing, asking_source, asking_target, asking_end, making_end, resolving, making_fresh, filling, replacing, scrapping, copied, place_fresh, fresh_beside, fresh_number, name_taken, already_exists, is_link, wants, after, was_interrupted, interrupts, is_absent, is_same_node, unless_folder, if_folder, opened, below, climb, unmade, above_of, keeping, preparing, comparing, descending, sync_again, give, descend, compared, Runs}, AnswersOf.{Hint, no_hint, is_missing, was_named, in_walk, rewrites, look_first, persist, is_named, first}}
 use Rattle.cacache_system.specs.declared.call.SystemCall.TheVariants as asks
 use Rattle.cacache_system.specs.declared.call.CallResult.TheVariants as says
 use Rattle.cacache_system_model.specs.{Machine.{Machine, OpensIf}, Calls.{OccursSomehow, EachCall}, callers.Opened.{IsOpenAt, KeepsOpen, StillStores, RunsKeepOpen}}
-use Rattle.cacache_system_model.proofs.{callers.{FreshFiles.{IsNew, new_moves, made_new, filled_new}, OpenCalls.{Moves, names_at, CanRead, keeps_same, keeps_self, Readable, IsOpenNumber, Safe, occurs_keep, front_left, rest_left, stat_left, readable_on, Unchanged, look_left, link_look_left, Readies, readied, open_ready, append_ready, opens_number}}, memory.Places.{place_led}}
+use Rattle.cacache_system_model.proofs.{callers.{ListCalls.{CanOpen, can_open, IsListing, FolderLeft, folder_left, names_left}, FreshFiles.{IsNew, new_moves, made_new, filled_new}, OpenCalls.{Moves, names_at, CanRead, keeps_same, keeps_self, Readable, IsOpenNumber, Safe, occurs_keep, front_left, rest_left, stat_left, readable_on, Unchanged, look_left, link_look_left, Readies, readied, open_ready, append_ready, opens_number}}, memory.Places.{place_led}}
 
 -- ---- stages
 
@@ -43,6 +43,10 @@ IsSafe (making_fresh left number from path) m = Unit {0}
 IsSafe (filling from fresh path) m = IsNew m.tree fresh
 IsSafe (replacing count fresh path) m = Moves m.tree fresh
 IsSafe (scrapping why fresh) m = Unit {0}
+IsSafe (opening_folder named path) m = CanOpen m.tree path × CanOpen m.tree (with_slash path)
+IsSafe (following path) m = CanOpen m.tree (with_slash path)
+IsSafe (reading_names again r found) m = IsListing m r.number
+IsSafe (asking_kind r name names found) m = IsListing m r.number
 IsSafe (comparing node path entered s) m = IsSafe s m
 IsSafe (descending path entered s) m = IsSafe s m
 IsSafe s m = ⊥
@@ -164,6 +168,46 @@ line_safe : (path bytes : List ℕ) (said : CallResult) (m n : Machine) → Occu
 line_safe path bytes (says.Opened number) m n h = append_ready path m n number h
 line_safe path bytes said m n h = tt
 
+-- ---- listings
+
+more_safe : (r : Reader) (found : List Name) (m : Machine) → IsListing m r.number → IsSafe (more_names r found) m
+more_safe r found m h = cond_safe (r.left == 0) (over (says.Failed kind.FileTooLarge)) (reading_names false r found) m tt h
+
+entered_safe : (name : List ℕ) (what : Kind) (go : Name → Stage) (m : Machine) → ((entry : Name) → IsSafe (go entry) m) → IsSafe (entered_name name what go) m
+entered_safe name what go m h =
+    let entry : Name = record { name = text_of name; kind = what } in cond_safe (is_proper (text_of name)) (go entry) (over (says.Failed kind.InvalidFilename)) m (h entry) tt
+
+next_safe : (names : List (List ℕ)) (r : Reader) (found : List Name) (m : Machine) → IsListing m r.number → IsSafe (next_name r names found) m
+next_safe [] r found m h = more_safe r found m h
+next_safe (name ∷ names) r found m h =
+    let go : Name → Stage = λ (entry : Name). next_name r names (found ++ entry ∷ []) in
+    cond_safe (is_passed name) (next_name r names found) (taking_memory (ask_kind r name names found go)) m (next_safe names r found m h)
+    (cond_safe (is_utf8 (r.folder ++ name)) (asking_kind r name names found) (entered_name name kinds.File go) m h
+    (entered_safe name kinds.File go m (λ entry. next_safe names r (found ++ entry ∷ []) m h)))
+
+listed_safe : (again : Bool) (r : Reader) (found : List Name) (said : CallResult) (m : Machine) → IsListing m r.number → IsSafe (after (reading_names again r found) said) m
+listed_safe again r found (says.Bytes bytes) m h =
+    cond_safe (length bytes == 0) (taking_memory (over (says.Names found))) (next_name (read_once r) (names_in bytes) found) m tt (next_safe (names_in bytes) (read_once r) found m h)
+listed_safe again r found (says.Failed why) m h = cond_safe (interrupts why) (reading_names true r found) (over (says.Failed (broken_off why))) m h tt
+listed_safe again r found said m h = tt
+
+kind_safe : (r : Reader) (name : List ℕ) (names : List (List ℕ)) (found : List Name) (said : CallResult) (m : Machine) → IsListing m r.number → IsSafe (after (asking_kind r name names found) said) m
+kind_safe r name names found (says.Info info) m h = entered_safe name info.kind (λ (entry : Name). next_name r names (found ++ entry ∷ [])) m (λ entry. next_safe names r (found ++ entry ∷ []) m h)
+kind_safe r name names found (says.Failed why) m h = cond_safe (is_absent why) (next_name r names found) (over (says.Failed why)) m (next_safe names r found m h) tt
+kind_safe r name names found said m h = tt
+
+opened_safe_folder : (named : Bool) (path : List ℕ) (said : CallResult) (m n : Machine) → CanOpen m.tree (with_slash path) → FolderLeft m said n → IsSafe (after (opening_folder named path) said) n
+opened_safe_folder named path (says.Opened number) m n can left = more_safe (reader number path) [] n (left.2 number refl)
+opened_safe_folder named path (says.Failed why) m n can left =
+    cond_safe (is_no_folder why) (if named then over (says.Failed kind.NotADirectory) else following path) (over (says.Failed why)) n
+    (cond_safe named (over (says.Failed kind.NotADirectory)) (following path) n tt (subst (λ (t : Tree). CanOpen t (with_slash path)) (sym left.1) can)) tt
+opened_safe_folder named path said m n can left = tt
+
+followed_safe : (path : List ℕ) (said : CallResult) (m n : Machine) → FolderLeft m said n → IsSafe (after (following path) said) n
+followed_safe path (says.Opened number) m n left = more_safe (reader number path) [] n (left.2 number refl)
+followed_safe path (says.Failed why) m n left = tt
+followed_safe path said m n left = tt
+
 -- ---- copies
 
 size_safe : (path : List ℕ) (said : CallResult) (m : Machine) → IsSafe (after (sizing path) said) m
@@ -273,7 +317,15 @@ goes_safe (comparing node path entered s) m n call said safe w h =
 goes_safe (descending path entered s) m n call said safe w h =
     let same = link_look_left path m n said (at_call (asks.StatLink path) call m n said w h) in
     (keeps_self m n same, subst (λ (x : Machine). IsSafe (after (descending path entered s) said) x) (sym same) (descending_safe path entered s said m safe))
-goes_safe s m n call said safe w h = absurd safe
+goes_safe (opening_folder named path) m n call said safe w h =
+    let left = folder_left path m n said safe.0 (at_call (asks.OpenFolder path) call m n said w h) in (left.0, opened_safe_folder named path said m n safe.1 left)
+goes_safe (following path) m n call said safe w h =
+    let left = folder_left (with_slash path) m n said safe (at_call (asks.OpenFolder (with_slash path)) call m n said w h) in (left.0, followed_safe path said m n left)
+goes_safe (reading_names again r found) m n call said safe w h =
+    let left = names_left r.number 4096 m n said safe (at_call (asks.ReadNames r.number 4096) call m n said w h) in (left.0, listed_safe again r found said n left.1)
+goes_safe (asking_kind r name names found) m n call said safe w h =
+    let same = link_look_left (r.folder ++ name) m n said (at_call (asks.StatLink (r.folder ++ name)) call m n said w h) in
+    (keeps_self m n same, kind_safe r name names found said n (subst (λ (x : Machine). IsListing x r.number) (sym same) safe))
 
 -- ---- runs
 
@@ -315,7 +367,7 @@ first_safe hint (steps.Append p bytes) m h = look_safe hint (appending p bytes) 
 first_safe hint (steps.Read f most) m (found, bytes, stays) =
     cond_safe (f.left == 0 && not (min most 131072 == 0)) (over (says.Failed kind.FileTooLarge)) (taking_memory (trying false (asks.Read f.number (min (min most 131072) f.left)))) m tt
     (found.names, ap (option_map names_at) stays.known, subst CanRead (sym stays.stands) tt)
-first_safe hint (steps.ReadDir p) m h = absurd h
+first_safe hint (steps.ReadDir p) m h = cond_safe (length p == 0) (over (says.Failed kind.NotFound)) (taking_memory (opening_folder (is_named hint) p)) m tt (can_open m p h)
 first_safe hint (steps.RemoveFile p) m h = look_safe hint (only (asks.RemoveFile p)) m tt
 first_safe hint (steps.RemoveDir p) m h = look_safe hint (only (asks.RemoveFolder p)) m tt
 first_safe hint (steps.SyncTemp t) m (names, old, still) = (names, still.opened)

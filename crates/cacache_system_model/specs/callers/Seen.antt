@@ -1,11 +1,11 @@
 -- Callers over stores of real folders, as the contracts of these stores see them: with handles that have no bytes.
 use Rattle.std.specs.Prelude.{◌≡◌, ◌≤◌, ◌<◌, ◌+◌, ◌^◌, ◌==◌, ℕ, List, [], ◌∷◌, ◌++◌, Option, None, Some, option_map, if◌then◌else◌}
-use Rattle.cacache_store.specs.{declared.store.{plain.{PlainFile.{PlainFile}, PlainTemp.{PlainTemp}}, step.Step.{Step}}, Plain.{PlainStep, PlainAnswer}}
+use Rattle.cacache_store.specs.{declared.store.plain.{PlainFile.{PlainFile}, PlainTemp.{PlainTemp}}, Plain.{PlainStep, PlainAnswer}}
 use Rattle.cacache_store.specs.declared.store.step.Step.TheVariants as store
 use Rattle.cacache_store.specs.declared.store.answer.Answer.TheVariants as answers
 use Rattle.cacache_system.specs.{Seen.{NumberedFile, NumberedTemp, NumberedStep, NumberedAnswer, step_as, answer_as}, CallsOf.{Runs}, AnswersOf.{first, answer_of}}
 use Rattle.cacache_system_model.specs.{Machine.{Machine}, Calls.{OccursSomehow, EachCall}, Laws.{file_on}, Chains.{StepMade}, callers.{Acts.{Act, begins, steps, ends, stops, step_of, answer_in, NeedsFit, set_state, unless_ended, after_acts, AreRecordsOf}, Made.{history_of, now_left, CacheOn, system_at, MakesHistory}, Storing.{HintStands, IsExplained, IsClean}}}
-use Rattle.cacache_calls.specs.{declared.reply.Reply.{Reply}, State.{State}, Table.{wants, after, opening}, Sound.{MayBegin}}
+use Rattle.cacache_calls.specs.{declared.{command.Command.TheVariants.{Clear}, reply.Reply.{Reply}}, State.{State}, Table.{wants, after, opening}, Sound.{MayBegin}}
 use Rattle.cacache_history.specs.{declared.record.Record.{Record}, Setup.{Setup, call_site, may_export, is_outside}, History.{History, Ends, NamesIntegrity}}
 
 -- an open file of a store of real folders, as contracts see it
@@ -92,8 +92,8 @@ after_seen s f (steps caller made reply) = record {
 after_seen s f (ends caller reply) = without_call caller f
 after_seen s f (stops caller) = without_call caller f
 
--- A step on a temporary file is on the one that its caller was handed last. So is a step on an open file, which has as much
--- left as it had then.
+-- A step on a temporary file is on the one that its caller was handed last. So is a step on an open file, which has the same
+-- bytes left as it had then.
 abbrev pub IsOnHeld : Machine → Option NumberedTemp → Option (NumberedFile × PlainFile)
     → NumberedStep → Type 0
 IsOnHeld m held opened (store.Write t bytes) = held ≡ Some t
@@ -102,19 +102,12 @@ IsOnHeld m held opened (store.Read f max) = opened ≡ Some (f, file_on m f)
 IsOnHeld m held opened (store.SyncTemp t) = held ≡ Some t
 IsOnHeld m held opened step = Unit {0}
 
--- a step lists and removes no folder
-abbrev pub KeepsFolders : {F T : Type 0} → Step F T → Type 0
-KeepsFolders (store.ReadDir p) = ⊥
-KeepsFolders (store.RemoveDir p) = ⊥
-KeepsFolders step = Unit {0}
-
 -- A call makes the step that its state wants, as contracts see it, and the answer ends the call or not. The step's system
 -- calls are a run, and happened where the calls before them ended.
 pub record MakesSeenStep (f : SeenState) (caller : ℕ) (made : StepMade) (reply : Option Reply) : Type 0 where
   pub state : State
   pub stands : f.states caller ≡ Some state
   pub wanted : wants state ≡ Some (step_seen made.step)
-  pub kind : KeepsFolders made.step
   pub held : IsOnHeld made.before (f.held caller) (f.opened caller) made.step
   pub here : made.before ≡ f.machine
   pub runs : Runs (first made.hint made.step) made.items made.end
@@ -125,12 +118,12 @@ pub record MakesSeenStep (f : SeenState) (caller : ℕ) (made : StepMade) (reply
   pub fits : NeedsFit (step_of made) (answer_in made)
   pub over : Ends (after state (answer_seen (answer_of made.step made.end))) reply
 
--- an act of calls of any commands
+-- an act of calls of any command but `Clear`
 abbrev pub MayActSeen : Setup → SeenState → Act → Type 0
 MayActSeen s f (begins caller command) =
     (caller < s.callers) × (f.states caller ≡ None)
     × MayBegin (call_site s f.begun) (may_export s) (is_outside s) command × NamesIntegrity command
-    × (f.begun + 1 ≤ 2 ^ 64)
+    × (command ≡ Clear → ⊥) × (f.begun + 1 ≤ 2 ^ 64)
 MayActSeen s f (steps caller made reply) = MakesSeenStep f caller made reply
 MayActSeen s f (ends caller reply) =
     (state : State) × (f.states caller ≡ Some state) × (wants state ≡ None) × Ends state (Some reply)

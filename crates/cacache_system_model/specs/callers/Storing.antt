@@ -1,11 +1,11 @@
--- Steps of calls that list no folder. Most of what their laws ask of the machine's tree follows from the acts before them.
+-- Steps of calls that remove no folder. Most of what their laws ask of the machine's tree follows from the acts before them.
 use Rattle.std.specs.Prelude.{◌≡◌, ◌⊎◌, ℕ, Bool, true, List, Option, None, Some, Ok, IfOk, option_map}
 use Rattle.std_io.specs.declared.io.kind.ErrorKind.TheVariants as kind
 use Rattle.cacache_core.specs.PathNames.{Names, names_of}
 use Rattle.cacache_store.specs.Plain.{PlainStep}
 use Rattle.cacache_store.specs.declared.store.step.Step.TheVariants as steps
 use Rattle.cacache_system.specs.{declared.call.CallResult.TheVariants.{Failed}, Seen.{NumberedTemp, NumberedStep}, CallsOf.{Runs}, AnswersOf.{Hint, first, answer_of}}
-use Rattle.cacache_system_model.specs.{Machine.{OpenFile, Machine}, Calls.{GoesWell, OccursSomehow, EachCall}, Laws.{LeavesFresh, IsDone}, Removing.{WalkStands}, Moving.{MayReplace}, Writing.{CanCopy}, Premises.{IsOpen, HasPlainLaw}, Chains.{StepMade}, callers.{Acts.{Act, begins, steps as makes, ends, stops, SystemState, EndsFailed, step_of, answer_in, NeedsFit, MayAct}, Made.{MakeHistories}}}
+use Rattle.cacache_system_model.specs.{Machine.{OpenFile, Machine}, Calls.{GoesWell, OccursSomehow, EachCall}, Laws.{LeavesFresh, IsDone}, Removing.{WalkStands}, Moving.{MayReplace}, Writing.{CanCopy}, Listing.{CanList}, Premises.{IsOpen, HasPlainLaw}, Chains.{StepMade}, callers.{Acts.{Act, begins, steps as makes, ends, stops, SystemState, EndsFailed, step_of, answer_in, NeedsFit, MayAct}, Made.{MakeHistories}}}
 use Rattle.cacache_calls.specs.{declared.reply.Reply.{Reply}, State.{State}, Table.{wants, after}}
 use Rattle.cacache_value.specs.Kinds.{PathKind, Temporary, Way, path_kind, IsFor}
 use Rattle.cacache_history.specs.{Setup.{Setup, home}, History.{Ends}}
@@ -14,7 +14,7 @@ use Rattle.cacache_history.specs.{Setup.{Setup, home}, History.{Ends}}
 abbrev pub IsNotFor : Option Names → PathKind → List ℕ → Type 0
 IsNotFor h k path = IfOk (names_of path) (λ names. path_kind h names ≡ k → ⊥)
 
--- a step lists and removes no folder, and reads, links, removes and syncs no temporary file by its path
+-- a step removes no folder, and reads, links, removes and syncs no temporary file by its path
 abbrev pub Stores : Option Names → PlainStep → Type 0
 Stores h (steps.ReadAll p) = IsNotFor h Temporary p
 Stores h (steps.Open p) = IsNotFor h Temporary p
@@ -22,7 +22,6 @@ Stores h (steps.Size p) = IsNotFor h Temporary p
 Stores h (steps.Copy p q) = IsNotFor h Temporary p
 Stores h (steps.Reflink p q) = IsNotFor h Temporary p
 Stores h (steps.HardLink p q) = IsNotFor h Temporary p
-Stores h (steps.ReadDir p) = ⊥
 Stores h (steps.RemoveFile p) = IsNotFor h Temporary p
 Stores h (steps.RemoveDir p) = ⊥
 Stores h (steps.SyncFile p) = IsNotFor h Temporary p
@@ -44,12 +43,13 @@ HoldsTemp temps m (steps.SyncTemp t) = IsHeld temps m t
 HoldsTemp temps m step = Unit {0}
 
 -- What doesn't follow from the acts before a step. The folders of its walk stand, and the file that it replaces, if that was
--- read, can be looked at. An open file that it reads is still at its names. A copy can be made.
+-- read, can be looked at. An open file that it reads is still at its names. A copy can be made, and a folder can be listed.
 abbrev pub HintStands : Machine → Hint → NumberedStep → Type 0
 HintStands m hint (steps.Persist temp p) = MayReplace m.tree hint p
 HintStands m hint (steps.Append p bytes) = WalkStands m.tree hint
 HintStands m hint (steps.Read f max) = IsOpen m f
 HintStands m hint (steps.Copy p q) = CanCopy m q
+HintStands m hint (steps.ReadDir p) = CanList m p
 HintStands m hint (steps.RemoveFile p) = WalkStands m.tree hint
 HintStands m hint step = Unit {0}
 
@@ -86,7 +86,7 @@ pub record MakesStoringStep (h : Option Names) (w : SystemState) (caller : ℕ) 
   pub luck : IsExplained made reply
   pub hint : HintStands made.before made.hint made.step
   pub clean : IsClean made
-  -- a file that it opens has fewer than 2^64 bytes
+  -- a file that it opens has fewer than 2^64 bytes, and each name that it lists is proper
   pub fits : NeedsFit (step_of made) (answer_in made)
   -- its answer ends the call or not
   pub over : Ends (after state (answer_in made)) reply
