@@ -10,7 +10,7 @@ use Rattle.cacache_value.specs.Traces.{Move}
 use Rattle.cacache_loss.specs.{Fixing.{Fixed, all_fixed, is_sync, is_synced, moves_file, rewrites_at, is_at, changed, fixed_after}, Moments.{Moment, next, after, EachMove}, ChangedNames.{opening}}
 use Rattle.cacache_loss.proofs.StepCases.{put_misses}
 use Rattle.cacache_system.specs.{declared.call.{CallItem.{CallItem}, CallResult.{CallResult}}, Seen.{NumberedTemp, NumberedStep}, CallsOf.{Runs}, AnswersOf.{Hint, first, answer_of}}
-use Rattle.cacache_system_model.specs.{Machine.{Machine, SyncedNode}, Calls.{OccursSomehow, EachCall}, Laws.{temp_on, step_on, answer_on, outcome, LeavesFresh, IsLucky}, Premises.{Premise}, Writing.{WritesSome}, Mirrors.{Mirrors, temps_after, SparesOpen}, Chains.{StepMade, temps_left, WritesTemp, IsCovered, IsMade, IsListing, ListsFolder, SameNames, AreMade}, Fixing.{after_syncs, synced_since, step_made, answer_made, fixed_by, no_temps, machine_after, fixed_after_all, temps_after_all, was_temp, CopiesNone, IsMoveOf, AreMovesOf, IsAnswered, LossesMirror}}
+use Rattle.cacache_system_model.specs.{Machine.{Machine, SyncedNode}, Calls.{OccursSomehow, EachCall}, Laws.{temp_on, step_on, answer_on, outcome, LeavesFresh, IsLucky}, Premises.{Premise}, Writing.{WritesSome}, Mirrors.{Mirrors, temps_after, SparesOpen}, Chains.{StepMade, temps_left, WritesTemp, IsCovered, IsMade, IsListing, ListsFolder, SameNames, AreMade}, Fixing.{after_syncs, synced_since, step_made, answer_made, fixed_by, no_temps, machine_after, fixed_after_all, temps_after_all, was_temp, CopiesNone, NoDoubt, LosesAsTold, IsMoveOf, AreMovesOf, IsAnswered, LossesMirror}}
 use Rattle.cacache_system_model.proofs.{Steps.Writing.{write_agrees}, Covered.{each_may_break, each_goes_plainly}, Keeping.{steps_mirror}, Fixing.{FixesSynced, sync_temp_fixes, sync_file_fixes, sync_dir_fixes}, Chaining.{memory_stay, came_back, write_keeps, written_mirrors, ListedOn, listing_on}, Alike.{AlikeFixed, lost_alike}, Touching.{Touched, rests, grows, touched}, Changed.{fixed_alike}}
 
 -- ---- what a step's syncs fix
@@ -35,12 +35,12 @@ made_fixed true f m n step end is syncs =
     let s = syncs refl in ap (λ (nodes : List SyncedNode). after_syncs nodes f) (since_is m n s.0 s.1) ∙ sym (s.2 f)
 made_fixed false f m n step end is syncs = sym (no_sync f m.tree n.tree (step_on m step) (answer_on n (answer_of step end)) is)
 
-syncs_fix : (m n : Machine) (hint : Hint) (step : NumberedStep) (items : List CallItem) (end : CallResult) → Premise m hint step
+syncs_fix : (m n : Machine) (hint : Hint) (step : NumberedStep) (items : List CallItem) (end : CallResult) → Premise m hint step → NoDoubt m
     → Runs (first hint step) items end → EachCall OccursSomehow m items n → is_sync (step_on m step) ≡ true → FixesSynced m step end n
-syncs_fix m n hint (steps.SyncTemp temp) items end (names, bytes, ready) runs each is = sync_temp_fixes m hint temp names bytes ready items end n runs each
-syncs_fix m n hint (steps.SyncFile p) items end premise runs each is = sync_file_fixes m hint p items end n runs each
-syncs_fix m n hint (steps.SyncDir p) items end premise runs each is = sync_dir_fixes m hint p premise items end n runs each
-syncs_fix m n hint step items end premise runs each is = absurd (let wrong : false ≡ true = is in cc)
+syncs_fix m n hint (steps.SyncTemp temp) items end (names, bytes, ready) sure runs each is = sync_temp_fixes m hint temp names bytes ready sure items end n runs each
+syncs_fix m n hint (steps.SyncFile p) items end premise sure runs each is = sync_file_fixes m hint p sure items end n runs each
+syncs_fix m n hint (steps.SyncDir p) items end premise sure runs each is = sync_dir_fixes m hint p premise sure items end n runs each
+syncs_fix m n hint step items end premise sure runs each is = absurd (let wrong : false ≡ true = is in cc)
 
 -- ---- kinds of steps
 
@@ -169,18 +169,18 @@ lists_follow own temps f now m n hint (steps.ReadDir path) items end before keep
     (λ q. rests (ap (λ (t : Tree). look t q) tree) refl)
 lists_follow own temps f now m n hint _ items end before keeps alike lists done = absurd lists
 
-pub one_follows : (own temps : Names → Bool) (f : Fixed) (now : Moment) (s : StepMade) → Mirrors temps s.before.tree now.tree → ((q : Names) → temps q ≡ true → own q ≡ true) → AlikeFixed own f now.fixed → CopiesNone s.step
+pub one_follows : (own temps : Names → Bool) (f : Fixed) (now : Moment) (s : StepMade) → Mirrors temps s.before.tree now.tree → ((q : Names) → temps q ≡ true → own q ≡ true) → AlikeFixed own f now.fixed → LosesAsTold s
     → Runs (first s.hint s.step) s.items s.end → EachCall OccursSomehow s.before s.items s.after → IsCovered temps s → Follows own temps f now s
 one_follows own temps f now s before keeps alike none runs each (inl law) =
-    lucky_follows own temps f now s before keeps alike none (syncs_fix s.before s.after s.hint s.step s.items s.end law.premise runs each) law.spares
+    lucky_follows own temps f now s before keeps alike none.0 (syncs_fix s.before s.after s.hint s.step s.items s.end law.premise none.1 runs each) law.spares
     (each_may_break s.before s.hint s.step law.premise law.done s.items s.end s.after runs each)
 one_follows own temps f now s before keeps alike none runs each (inr (inl writing)) =
     write_follows own temps f now s.before s.after s.hint s.items s.end keeps alike before s.step runs each writing
 one_follows own temps f now s before keeps alike none runs each (inr (inr plain)) =
-    done_follows own temps f now s before keeps alike none (syncs_fix s.before s.after s.hint s.step s.items s.end plain.premise runs each) Plain plain.spares
+    done_follows own temps f now s before keeps alike none.0 (syncs_fix s.before s.after s.hint s.step s.items s.end plain.premise none.1 runs each) Plain plain.spares
     (each_goes_plainly s.before s.hint s.step plain.premise plain.plain s.items s.end s.after runs plain.well plain.memory)
 
-made_follows : (own temps : Names → Bool) (f : Fixed) (now : Moment) (s : StepMade) → Mirrors temps s.before.tree now.tree → ((q : Names) → temps q ≡ true → own q ≡ true) → AlikeFixed own f now.fixed → CopiesNone s.step
+made_follows : (own temps : Names → Bool) (f : Fixed) (now : Moment) (s : StepMade) → Mirrors temps s.before.tree now.tree → ((q : Names) → temps q ≡ true → own q ≡ true) → AlikeFixed own f now.fixed → LosesAsTold s
     → IsMade temps s ⊎ ListsFolder s → Follows own temps f now s
 made_follows own temps f now s before keeps alike none (inl (runs, each, covered)) = one_follows own temps f now s before keeps alike none runs each covered
 made_follows own temps f now s before keeps alike none (inr (runs, each, lists)) =
@@ -202,7 +202,7 @@ open_first temps [] q is = is
 open_first temps (s ∷ made) q is = ap (λ (b : Bool). b || was_temp (temps_left temps s) made q) is
 
 lasts : (own temps : Names → Bool) (m : Machine) (f : Fixed) (now : Moment) (made : List StepMade) → Mirrors temps m.tree now.tree → ((q : Names) → was_temp temps made q ≡ true → own q ≡ true) → AlikeFixed own f now.fixed
-    → AreMade temps m made → AllByRecursion (λ (s : StepMade). CopiesNone s.step) made → Lasts own temps m f now made
+    → AreMade temps m made → AllByRecursion LosesAsTold made → Lasts own temps m f now made
 lasts own temps m f now [] mirrors keeps alike chain none =
     record { moves = []; of_steps = refl; answered = tt; mirrors = mirrors; keeps = keeps; alike = alike }
 lasts own temps m f now (s ∷ made) mirrors keeps alike (begins, is_made, chain) none =

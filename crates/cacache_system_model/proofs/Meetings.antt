@@ -7,7 +7,7 @@ use Rattle.std_io.specs.declared.io.kind.ErrorKind.TheVariants as kind
 use Rattle.cacache_system.specs.declared.call.{FileInfo.{FileInfo}, CallResult.{CallResult}}
 use Rattle.cacache_system.specs.declared.call.SystemCall.TheVariants as asks
 use Rattle.cacache_system.specs.declared.call.CallResult.TheVariants as says
-use Rattle.cacache_system_model.specs.{Machine.{OpenFile, Machine, Became, IsRefused, ChangesTree, OpensIf, with_file, unread, is_regular, Describes, ShowsNode, ShowsEnd, ReadsFile, GivesOwner, link_fault, LinksNode, found_bytes, CopiesBytes, CopiesTo, MovesNode, with_empty, Spells, SpellsEnd}, Calls.{brought}, Folders.{GivesNames, ended, HasLeft, OpensNames, OpensFolder, ReadsSome}, Meeting.{HasRoom, CallsCanGoWell}}
+use Rattle.cacache_system_model.specs.{Machine.{OpenFile, Machine, fixes, Became, IsRefused, ChangesTree, OpensIf, with_file, unread, is_regular, Describes, ShowsNode, ShowsEnd, ReadsFile, GivesOwner, link_fault, LinksNode, found_bytes, CopiesBytes, CopiesTo, MovesNode, with_empty, Spells, SpellsEnd}, Calls.{brought}, Folders.{GivesNames, ended, HasLeft, OpensNames, OpensFolder, ReadsSome}, Meeting.{HasRoom, CallsCanGoWell}}
 use Rattle.cacache_system_model.proofs.Saying.{CanSay, a_folder, Sayable, place_say, standing_say, found_say, writable_say, free_say, replaceable_say, removable_say, emptied_say, file_say, LinkSayable, linked_say}
 use Rattle.cacache_store.specs.declared.store.answer.Name.{Name}
 
@@ -166,8 +166,8 @@ calls_can_go_well most m (asks.Write number bytes) room spelt =
     of_open (m.files number) (m.folders number) (λ file said after. (said ≡ says.Count (taken most bytes)) × Became m (lengthened m.tree file.names (take (taken most bytes) bytes)) m.files m.synced after) m
     (λ file. (says.Count (taken most bytes), standing_on m (lengthened m.tree file.names (take (taken most bytes) bytes)), (refl, (refl, refl, refl, λ k. refl))))
 calls_can_go_well most m (asks.Sync number) room spelt =
-    of_open (m.files number) (m.folders number) (λ file said after. (said ≡ says.Done) × Became m m.tree m.files ((file.names, look m.tree file.names) ∷ m.synced) after) m
-    (λ file. (says.Done, record { tree = m.tree; files = m.files; synced = (file.names, look m.tree file.names) ∷ m.synced; inodes = m.inodes; folders = m.folders; order = m.order }, (refl, (refl, refl, refl, λ k. refl))))
+    of_open (m.files number) (m.folders number) (λ file said after. (said ≡ says.Done) × Became m m.tree m.files ((file.names, fixes m.synced (look m.tree file.names)) ∷ m.synced) after) m
+    (λ file. (says.Done, record { tree = m.tree; files = m.files; synced = (file.names, fixes m.synced (look m.tree file.names)) ∷ m.synced; inodes = m.inodes; folders = m.folders; order = m.order }, (refl, (refl, refl, refl, λ k. refl))))
 calls_can_go_well most m (asks.SetOwner path owner group) room spelt = can_own m (standing m.tree path) (standing_say m.tree path)
 calls_can_go_well most m (asks.SetMode number mode) room spelt =
     of_open (m.files number) (m.folders number) (λ file said after. (said ≡ says.Done) × (after ≡ m)) m (λ file. (says.Done, m, (refl, refl)))

@@ -6,7 +6,7 @@ use Rattle.cacache_disk.specs.{declared.{luck.Luck.{Luck, TheVariants.{Plain, Fa
 use Rattle.cacache_system.specs.{declared.call.{SystemCall.{SystemCall}, CallItem.{CallItem}, CallResult.{CallResult}}, CallsOf.{interrupts}, AnswersOf.{misses, refuses_memory}}
 use Rattle.cacache_system.specs.declared.call.SystemCall.TheVariants as asks
 use Rattle.cacache_system.specs.declared.call.CallResult.TheVariants as says
-use Rattle.cacache_system_model.specs.{Folders.{OpensFolder, ReadsFolder}, Machine.{OpenFile, Machine, HasTree, IsRefused, ChangesTree, OpensIf, with_empty, ShowsEnd, ShowsOpen, ReadsOpen, WritesOpen, SyncsOpen, GivesOwner, GivesMode, LinksNode, found_bytes, CopiesBytes, MovesNode, SpellsEnd}}
+use Rattle.cacache_system_model.specs.{Folders.{OpensFolder, ReadsFolder}, Machine.{OpenFile, SyncedNode, Machine, Became, HasTree, IsRefused, ChangesTree, OpensIf, with_empty, ShowsEnd, ShowsOpen, ReadsOpen, WritesOpen, SyncsOpen, GivesOwner, GivesMode, LinksNode, found_bytes, CopiesBytes, MovesNode, SpellsEnd}}
 
 -- the bytes that a copy brings, or why it brings none
 abbrev pub brought : Tree → List ℕ → List ℕ → Result (List ℕ) Fault
@@ -72,6 +72,11 @@ abbrev pub part_opened : Result Names Fault → Option ℕ → Tree → Tree
 part_opened (Ok names) (Some part) t = with_empty t names
 part_opened ends part t = t
 
+-- what is synced after a sync that fails, and may leave its file in doubt
+abbrev pub part_synced : Option OpenFile → Option ℕ → List SyncedNode → List SyncedNode
+part_synced (Some file) (Some part) syncs = (file.names, None) ∷ syncs
+part_synced file part syncs = syncs
+
 -- an error that a call says before it moved a byte: a signal came, or memory was refused
 abbrev pub did_nothing : ErrorKind → Bool
 did_nothing why = interrupts why || refuses_memory why
@@ -82,10 +87,13 @@ LeavesWritten true number bytes part m after = after ≡ m
 LeavesWritten false number bytes part m after =
     HasTree m (part_written (m.files number) bytes part m.tree) after
 
--- What a call that fails without cause leaves, after so many bytes were moved. An opening to append may leave a new file.
+-- What a call that fails without cause leaves, after so many bytes were moved. An opening to append may leave a new file,
+-- and a sync what it couldn't write.
 abbrev pub LeavesPart : Machine → SystemCall → ErrorKind → Option ℕ → Machine → Type 0
 LeavesPart m (asks.OpenToAppend path) why part after =
     HasTree m (part_opened (writable m.tree path) part m.tree) after
+LeavesPart m (asks.Sync number) why part after =
+    Became m m.tree m.files (part_synced (m.files number) part m.synced) after
 LeavesPart m (asks.Write number bytes) why part after =
     LeavesWritten (did_nothing why) number bytes part m after
 LeavesPart m (asks.CopyFile from to) why part after =

@@ -7,7 +7,7 @@ use Rattle.cacache_disk.specs.{declared.node.Node.{Node, TheVariants.{Folder, Fi
 use Rattle.cacache_value.specs.Traces.{Move}
 use Rattle.cacache_loss.specs.{Fixing.{Fixed, synced, is_sync, changed, all_fixed}, Loss.{Loss, lost_at}, Moments.{Moment, after, lost_then, EachMove}, ChangedNames.{opening}}
 use Rattle.cacache_system.specs.{Seen.{NumberedStep}, AnswersOf.{answer_of}}
-use Rattle.cacache_system_model.specs.{Machine.{Machine, SyncedNode}, Laws.{step_on, answer_on}, Mirrors.{hollow, Mirrors}, Chains.{StepMade, temps_left, AreMade, SameNames}}
+use Rattle.cacache_system_model.specs.{Machine.{Machine, SyncedNode, in_doubt}, Laws.{step_on, answer_on}, Mirrors.{hollow, Mirrors}, Chains.{StepMade, temps_left, AreMade, SameNames}}
 
 -- ---- what a step fixes on a machine
 
@@ -78,6 +78,14 @@ abbrev pub CopiesNone : NumberedStep → Type 0
 CopiesNone (Copy from to) = ⊥
 CopiesNone step = Unit {0}
 
+-- no sync failed before
+abbrev pub NoDoubt : Machine → Type 0
+NoDoubt m = in_doubt m.synced ≡ false
+
+-- a step copies no file, and no sync failed before it
+abbrev pub LosesAsTold : StepMade → Type 0
+LosesAsTold s = CopiesNone s.step × NoDoubt s.before
+
 -- ---- the same steps on a disk
 
 -- A disk's move is this step with its answer, or with a failure if the step came back. A listing's names may be in another
@@ -118,8 +126,9 @@ pub record LosesSame (m : Machine) (made : List StepMade) : Type 0 where
       (lost_at home (machine_after m made).tree (fixed_after_all (all_fixed m.tree) made) loss path)
       (lost_then home (after (opening m.tree) moves) loss path)
 
--- So it is of any steps without copies, from a machine on which all is fixed and no temporary file is open.
+-- So it is of any steps without copies, if only the last sync fails, from a machine on which all is fixed and no temporary
+-- file is open.
 abbrev pub LossesMirror : Type 0
 LossesMirror =
     (m : Machine) (made : List StepMade) → AreMade no_temps m made
-    → AllByRecursion (λ (s : StepMade). CopiesNone s.step) made → LosesSame m made
+    → AllByRecursion LosesAsTold made → LosesSame m made

@@ -1,5 +1,5 @@
 -- A model of the system: what is there, which files are open, and what a call may say and leave.
-use Rattle.std.specs.Prelude.{◌≡◌, suc, Ok, Err, ◌+◌, ◌==◌, ℕ, Bool, true, false, if◌then◌else◌, List, [], ◌∷◌, Option, None, Some, Result, MatchResult, MatchOption, IfSome, IfNone, is_some, length, take, drop}
+use Rattle.std.specs.{Prelude.{◌≡◌, suc, Ok, Err, ◌+◌, ◌==◌, ℕ, Bool, true, false, if◌then◌else◌, List, [], ◌∷◌, Option, None, Some, Result, MatchResult, MatchOption, IfSome, IfNone, is_some, is_none, length, take, drop}, List.{list_any}}
 use Rattle.std_io.specs.declared.io.kind.ErrorKind.{ErrorKind}
 use Rattle.cacache_core.specs.{Contexts.{fault_of}, declared.errors.Fault.{Fault, TheVariants.{IsADirectory, Device}}, PathNames.{Names, is_name}}
 use Rattle.cacache_store.specs.declared.store.answer.Name.{Name}
@@ -12,7 +12,7 @@ pub record OpenFile : Type 0 where
   pub names : Names
   pub read : ℕ
 
--- the names of a file or folder that was synced, and what was there
+-- the names of a file or folder that was synced, and what that fixed: nothing, if it failed or is in doubt
 abbrev pub SyncedNode : Type 0
 SyncedNode = Names × Option Node
 
@@ -179,12 +179,21 @@ WritesOpen most bytes number m said after =
     (said ≡ says.Count (taken most bytes))
     × HasTree m (lengthened m.tree file.names (take (taken most bytes) bytes)) after) m said after
 
+-- a sync failed before: what it couldn't write may be lost, whatever a later one says, and may have another name by then
+abbrev pub in_doubt : List SyncedNode → Bool
+in_doubt syncs = list_any (λ (s : SyncedNode). is_none s.1) syncs
+
+-- what a sync that is done fixes for certain
+abbrev pub fixes : List SyncedNode → Option Node → Option Node
+fixes syncs here = if in_doubt syncs then None else here
+
 -- an open file or folder is synced
 abbrev pub SyncsOpen : ℕ → Machine → CallResult → Machine → Type 0
 SyncsOpen number m said after =
     OnOpen number (λ file said after.
     (said ≡ says.Done)
-    × Became m m.tree m.files ((file.names, look m.tree file.names) ∷ m.synced) after) m said after
+    × Became m m.tree m.files
+    ((file.names, fixes m.synced (look m.tree file.names)) ∷ m.synced) after) m said after
 
 -- ---- owners and modes
 

@@ -81,8 +81,8 @@ pub fn logged_laws()
 
 /// A disk in memory that has the bytes of open temporary files in their handles does what many steps do on a system.
 ///
-/// `losses`: what the syncs among them fix is also the same. So what a loss of power leaves of the system it leaves of the
-/// disk, except for the bytes of temporary files.
+/// `losses`: what the syncs among them fix is also the same, as long as none failed before. So what a loss of power leaves of
+/// the system it leaves of the disk, except for the bytes of temporary files.
 pub fn mirror_laws()
     ensures step { StepsMirror }
     ensures one { StepsOnDisk }

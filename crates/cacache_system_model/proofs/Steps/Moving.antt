@@ -9,7 +9,7 @@ use Rattle.cacache_disk.specs.{declared.{luck.Luck.TheVariants.{Plain}, node.Nod
 use Rattle.cacache_system.specs.{declared.call.{FileInfo.{FileInfo}, SystemCall.{SystemCall}, CallResult.{CallResult}}, CallsOf.{Stage, over, only, preparing, keeping, give, give_mode, sync_again, after}, Seen.{NumberedTemp}, AnswersOf.{Hint, no_hint, is_missing, was_named, in_walk, rewrites, look_first, persist, misses}}
 use Rattle.cacache_system.specs.declared.call.SystemCall.TheVariants as asks
 use Rattle.cacache_system.specs.declared.call.CallResult.TheVariants as says
-use Rattle.cacache_system_model.specs.{Machine.{OpenFile, Machine, Became, ShowsEnd, GivesOwner}, Calls.{GoesWell, LeavesPart}, Laws.{Leads, IsDone}, OneCall.{StillStands}, Removing.{WalkStands}, Moving.{LeadsOrMisses, MayReplace, PersistAgrees}}
+use Rattle.cacache_system_model.specs.{Machine.{OpenFile, Machine, fixes, Became, ShowsEnd, GivesOwner}, Calls.{GoesWell, LeavesPart}, Laws.{Leads, IsDone}, OneCall.{StillStands}, Removing.{WalkStands}, Moving.{LeadsOrMisses, MayReplace, PersistAgrees}}
 use Rattle.cacache_system_model.proofs.{Leading.{Claim, over_leads, call_leads, only_leads}, Claims.{way_of, claim_of, cases_of, agrees_of, claim_plain, claim_broken}, Steps.{Opening.{said_leads, open_of}, CopyFacts.{not_absent, fault_absent}, Walking.{looks_so}, Changing.{put_away}}, memory.Places.{place_led}}
 
 -- the same stands, and the same files are open
@@ -80,7 +80,7 @@ module _ (b : Bool) (m : Machine) (temp : NumberedTemp) (path : List ℕ) (names
 
   -- a call that goes before a stage
   prepares : (call : SystemCall) (s : Stage) (n : Machine) → Same m n → ((most : Option ℕ) (said : CallResult) (l : Machine) → GoesWell most n call said l → (said ≡ says.Done) × Same m l)
-      → ((why : ErrorKind) (part : Option ℕ) (l : Machine) → LeavesPart n call why part l → l ≡ n)
+      → ((why : ErrorKind) (part : Option ℕ) (l : Machine) → LeavesPart n call why part l → l.tree ≡ n.tree)
       → ((l : Machine) → Same m l → Leads (way_of b) s l put_claim) → Leads (way_of b) (preparing call s) n put_claim
   prepares call s n same goes whole next =
       call_leads (way_of b) (preparing call s) call n put_claim refl (λ end never. absurd never) (λ said l happens.
@@ -90,7 +90,7 @@ module _ (b : Bool) (m : Machine) (temp : NumberedTemp) (path : List ℕ) (names
       said_leads b (preparing call s) said says.Done l put_claim went.0 (next l went.1))
       (λ (broke, why, is, fine, part, left).
       said_leads b (preparing call s) said (says.Failed why) l put_claim is
-      (over_leads (way_of b) (says.Failed why) l put_claim (breaks why n l same broke fine (whole why part l left))))
+      (over_leads (way_of b) (says.Failed why) l put_claim (claim_broken b m (steps.Persist temp path) done why l broke refl fine (whole why part l left ∙ same.tree))))
       (cases_of b n call said l happens))
 
   owned : (owner group : ℕ) (n : Machine) → Same m n → (most : Option ℕ) (said : CallResult) (l : Machine) → GoesWell most n (asks.SetOwner temp.path owner group) said l → (said ≡ says.Done) × Same m l
@@ -107,20 +107,20 @@ module _ (b : Bool) (m : Machine) (temp : NumberedTemp) (path : List ℕ) (names
 
   synced : (n : Machine) → Same m n → (most : Option ℕ) (said : CallResult) (l : Machine) → GoesWell most n (asks.Sync temp.number) said l → (said ≡ says.Done) × Same m l
   synced n same most said l well =
-      let went = open_of n l temp.number names said (λ file said l. (said ≡ says.Done) × Became n n.tree n.files ((file.names, look n.tree file.names) ∷ n.synced) l)
+      let went = open_of n l temp.number names said (λ file said l. (said ≡ says.Done) × Became n n.tree n.files ((file.names, fixes n.synced (look n.tree file.names)) ∷ n.synced) l)
       (ready_on n same).opened well in
       (went.3.0, record { tree = went.3.1.0 ∙ same.tree; files = went.3.1.1 ∙ same.files })
 
   syncs : (c : Bool) (s : Stage) (n : Machine) → Same m n → ((l : Machine) → Same m l → Leads (way_of b) s l put_claim) → Leads (way_of b) (sync_again c temp.number s) n put_claim
-  syncs true s n same next = prepares (asks.Sync temp.number) s n same (synced n same) (λ why part l left. left) next
+  syncs true s n same next = prepares (asks.Sync temp.number) s n same (synced n same) (λ why part l left. left.0) next
   syncs false s n same next = next n same
 
   -- it gets the owner, the group and the mode
   gives : (c : Bool) (info : FileInfo) (s : Stage) (n : Machine) → Same m n → ((l : Machine) → Same m l → Leads (way_of b) s l put_claim)
       → Leads (way_of b) (give temp.number temp.path c info s) n put_claim
   gives c info s n same next =
-      prepares (asks.SetOwner temp.path info.owner info.group) (give_mode temp.number c info.mode s) n same (owned info.owner info.group n same) (λ why part l left. left) (λ l is.
-      prepares (asks.SetMode temp.number info.mode) (sync_again c temp.number s) l is (moded info.mode l is) (λ why part k left. left) (λ k so. syncs c s k so next))
+      prepares (asks.SetOwner temp.path info.owner info.group) (give_mode temp.number c info.mode s) n same (owned info.owner info.group n same) (λ why part l left. ap (λ (x : Machine). x.tree) left) (λ l is.
+      prepares (asks.SetMode temp.number info.mode) (sync_again c temp.number s) l is (moded info.mode l is) (λ why part k left. ap (λ (x : Machine). x.tree) left) (λ k so. syncs c s k so next))
 
   -- the file that it replaces is looked at
   keeps_at : (c : Bool) (s : Stage) (ends : Result Names Fault) (said : CallResult) (n : Machine) → MatchResult ends (λ names. Unit {0}) (λ fault. fault ≡ NotFound) → ((l : Machine) → Same m l → Leads (way_of b) s l put_claim)

@@ -1,5 +1,5 @@
 -- Steps that sync a file or a folder.
-use Rattle.std.{proofs.Common.{◌≡◌, ℕ, Bool, false, List, ◌∷◌, refl, sym, ap, subst, ◌∙◌, ⊎_elim}, specs.Prelude.{Option, Some, Result, Ok, Err, option_map}}
+use Rattle.std.{proofs.Common.{◌≡◌, ◌⊎◌, ℕ, Bool, false, List, ◌∷◌, refl, sym, ap, subst, ◌∙◌, ⊎_elim, inl, inr}, specs.Prelude.{Option, None, Some, Result, Ok, Err, option_map}}
 use Rattle.std_io.specs.declared.io.kind.ErrorKind.{ErrorKind}
 use Rattle.std_io.specs.declared.io.kind.ErrorKind.TheVariants as kind
 use Rattle.cacache_core.specs.{declared.errors.Fault.{Fault, TheVariants.{IsADirectory, NotADirectory}}, PathNames.{Names}}
@@ -11,27 +11,39 @@ use Rattle.cacache_disk.specs.{declared.{luck.Luck.TheVariants.{Plain}, node.Nod
 use Rattle.cacache_system.specs.{declared.call.{FileInfo.{FileInfo}, CallResult.{CallResult}}, CallsOf.{Stage, to_sync, to_sync_folder, only, if_folder, opened}, Seen.{NumberedTemp}, AnswersOf.{misses}}
 use Rattle.cacache_system.specs.declared.call.SystemCall.TheVariants as asks
 use Rattle.cacache_system.specs.declared.call.CallResult.TheVariants as says
-use Rattle.cacache_system_model.specs.{Machine.{OpenFile, Machine, Describes, Became}, Laws.{bytes_in, temp_on, step_on, outcome, Leads, IsDone}, Syncing.{EndsInNoLink, SyncTempAgrees, SyncFileAgrees, SyncDirAgrees}}
+use Rattle.cacache_system_model.specs.{Machine.{OpenFile, SyncedNode, Machine, fixes, Describes, Became}, Calls.{part_synced}, Laws.{bytes_in, temp_on, step_on, outcome, Leads, IsDone}, Syncing.{EndsInNoLink, SyncTempAgrees, SyncFileAgrees, SyncDirAgrees}}
 use Rattle.cacache_system_model.proofs.{Refused.{same_outcome}, Leading.{Claim, over_leads, only_leads}, Claims.{way_of, claim_of, cases_of, agrees_of, claim_plain, claim_broken}, Steps.{Opening.{OpenedOn, Openings, opening_leads, on_open, file_under}, Looking.{table_fails, no_file, file_there, folder_there, link_there, refused_folder, wanted_file}}, Views.{folder_found}}
 
 -- an open file was synced
 pub record WasSynced (n l : Machine) (names : Names) : Type 0 where
   pub tree : l.tree ≡ n.tree
   pub files : l.files ≡ n.files
-  pub synced : l.synced ≡ (names, look n.tree names) ∷ n.synced
+  pub synced : l.synced ≡ (names, fixes n.synced (look n.tree names)) ∷ n.synced
+
+-- its sync failed, and what it couldn't write may be in doubt
+pub record WasNotSynced (n l : Machine) (names : Names) : Type 0 where
+  pub tree : l.tree ≡ n.tree
+  pub synced : (l.synced ≡ n.synced) ⊎ (l.synced ≡ (names, None) ∷ n.synced)
+
+not_synced : (n l : Machine) (o : Option OpenFile) (file : OpenFile) (part : Option ℕ) → o ≡ Some file → Became n n.tree n.files (part_synced o part n.synced) l → WasNotSynced n l file.names
+not_synced n l None file part is left = absurd cc
+not_synced n l (Some f) file None is left = record { tree = left.0; synced = inl left.2 }
+not_synced n l (Some f) file (Some part) is left =
+    let same : f ≡ file = cc in
+    record { tree = left.0; synced = inr (left.2 ∙ ap (λ (x : OpenFile). let s : List SyncedNode = (x.names, None) ∷ n.synced in s) same) }
 
 -- the sync of an open file ends the step
 pub sync_leads : (b : Bool) (n : Machine) (number : ℕ) (file : OpenFile) (P : Claim) → n.files number ≡ Some file
     → ((l : Machine) → WasSynced n l file.names → P says.Done l)
-    → ((why : ErrorKind) (l : Machine) → b ≡ false → misses why ≡ false → l ≡ n → P (says.Failed why) l) → Leads (way_of b) (only (asks.Sync number)) n P
+    → ((why : ErrorKind) (l : Machine) → b ≡ false → misses why ≡ false → WasNotSynced n l file.names → P (says.Failed why) l) → Leads (way_of b) (only (asks.Sync number)) n P
 sync_leads b n number file P is done breaks =
     only_leads (way_of b) (asks.Sync number) n P (λ said l happens.
     ⊎_elim
     (λ (most, all, well).
-    let syncs = on_open n l number file said (λ f said l. (said ≡ says.Done) × Became n n.tree n.files ((f.names, look n.tree f.names) ∷ n.synced) l) is well in
+    let syncs = on_open n l number file said (λ f said l. (said ≡ says.Done) × Became n n.tree n.files ((f.names, fixes n.synced (look n.tree f.names)) ∷ n.synced) l) is well in
     subst (λ (r : CallResult). P r l) (sym syncs.0) (done l (record { tree = syncs.1.0; files = syncs.1.1; synced = syncs.1.2 })))
     (λ (broke, why, same, fine, part, left).
-    subst (λ (r : CallResult). P r l) (sym same) (breaks why l broke fine left))
+    subst (λ (r : CallResult). P r l) (sym same) (breaks why l broke fine (not_synced n l (n.files number) file part is left)))
     (cases_of b n (asks.Sync number) said l happens))
 
 -- ---- a file
@@ -52,7 +64,7 @@ module _ (b : Bool) (m : Machine) (path : List ℕ) (done : b ≡ false → IsDo
       (sync_leads b n number _ (claim_of b m (steps.SyncFile path)) open_on.file
       (λ l synced. claim_plain b m (steps.SyncFile path) done says.Done l
       (apply_sync m.tree path (Ok bytes) (file_there m.tree path IsADirectory names bytes is stands) ∙ ap (outcome answers.Done) (sym (synced.tree ∙ open_on.tree))))
-      (λ why l broke fine stays. claim_broken b m (steps.SyncFile path) done why l broke refl fine (ap (λ (x : Machine). x.tree) stays ∙ open_on.tree)))
+      (λ why l broke fine stays. claim_broken b m (steps.SyncFile path) done why l broke refl fine (stays.tree ∙ open_on.tree)))
   file_synced_so number names (Link target) info n inode is stands open_on described = absurd (link_there m.tree path names target is stands)
 
   file_openings : Openings b m to_sync path (claim_of b m (steps.SyncFile path))
@@ -88,7 +100,7 @@ module _ (b : Bool) (m : Machine) (path : List ℕ) (none : EndsInNoLink m.tree 
       (sync_leads b n number _ (claim_of b m (steps.SyncDir path)) open_on.file
       (λ l synced. claim_plain b m (steps.SyncDir path) done says.Done l
       (apply_sync_dir m.tree path (Ok names) (folder_of m.tree path names Folder none is stands) ∙ ap (outcome answers.Done) (sym (synced.tree ∙ open_on.tree))))
-      (λ why l broke fine stays. claim_broken b m (steps.SyncDir path) done why l broke refl fine (ap (λ (x : Machine). x.tree) stays ∙ open_on.tree)))
+      (λ why l broke fine stays. claim_broken b m (steps.SyncDir path) done why l broke refl fine (stays.tree ∙ open_on.tree)))
   folder_synced_so number names (File bytes) info n inode is stands open_on described =
       refused_other b info.kind kind.NotADirectory (only (asks.Sync number)) n (claim_of b m (steps.SyncDir path)) described.kind
       (claim_plain b m (steps.SyncDir path) done (says.Failed kind.NotADirectory) n
@@ -129,4 +141,4 @@ sync_temp_agrees m hint temp names bytes ready = agrees_of m hint (steps.SyncTem
     (apply_sync_temp m temp
     ∙ sym (same_outcome (synced_temp temp (option_map (bytes_in l) (l.files temp.number))) (synced_temp temp (option_map (bytes_in m) (m.files temp.number))) l.tree m.tree
     (temp_kept m l temp synced.tree synced.files) synced.tree)))
-    (λ why l broke fine stays. claim_broken b m (steps.SyncTemp temp) done why l broke refl fine (ap (λ (x : Machine). x.tree) stays)))
+    (λ why l broke fine stays. claim_broken b m (steps.SyncTemp temp) done why l broke refl fine stays.tree))

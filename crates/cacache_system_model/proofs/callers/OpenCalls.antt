@@ -7,7 +7,7 @@ use Rattle.cacache_disk.specs.{declared.{luck.Luck.TheVariants.{Plain, Fail, Tak
 use Rattle.cacache_system.specs.declared.call.{SystemCall.{SystemCall}, CallResult.{CallResult}}
 use Rattle.cacache_system.specs.declared.call.SystemCall.TheVariants as asks
 use Rattle.cacache_system.specs.declared.call.CallResult.TheVariants as says
-use Rattle.cacache_system_model.specs.{Machine.{OpenFile, Machine, Became, HasTree, IsRefused, ChangesTree, OpensIf, with_file, unread, ShowsNode, ShowsEnd, ShowsOpen, GivesOwner, ReadsFile, ReadsOpen, LinksNode, CopiesBytes, SpellsEnd, MovesNode}, Calls.{GoesWell, did_nothing, LeavesWritten, LeavesPart, OccursSomehow}, callers.Opened.{IsOpenAt, KeepsOpen}}
+use Rattle.cacache_system_model.specs.{Machine.{OpenFile, Machine, fixes, Became, HasTree, IsRefused, ChangesTree, OpensIf, with_file, unread, ShowsNode, ShowsEnd, ShowsOpen, GivesOwner, ReadsFile, ReadsOpen, LinksNode, CopiesBytes, SpellsEnd, MovesNode}, Calls.{GoesWell, did_nothing, LeavesWritten, LeavesPart, OccursSomehow}, callers.Opened.{IsOpenAt, KeepsOpen}}
 use Rattle.cacache_system_model.proofs.{Steps.Opening.{open_of}, Views.{View, nowhere, a_folder, a_file, view}}
 
 abbrev pub names_at : OpenFile → Names
@@ -137,7 +137,7 @@ write_keeps : (most : Option ℕ) (bytes : List ℕ) (m n : Machine) (said : Cal
 write_keeps most bytes m n said file (is_said, (tree, files, synced, folders)) = keeps_same m n files
 
 abbrev Synced : Machine → Machine → CallResult → OpenFile → Type 0
-Synced m n said file = (said ≡ says.Done) × Became m m.tree m.files ((file.names, look m.tree file.names) ∷ m.synced) n
+Synced m n said file = (said ≡ says.Done) × Became m m.tree m.files ((file.names, fixes m.synced (look m.tree file.names)) ∷ m.synced) n
 
 sync_keeps : (m n : Machine) (said : CallResult) (file : OpenFile) → Synced m n said file → KeepsOpen m n
 sync_keeps m n said file (is_said, (tree, files, synced, folders)) = keeps_same m n files
@@ -174,6 +174,7 @@ leaves_keep false number bytes part m n (tree, files, synced, folders) = keeps_s
 
 broken_keep : (call : SystemCall) (why : ErrorKind) (part : Option ℕ) (m n : Machine) → Safe m call → LeavesPart m call why part n → KeepsOpen m n
 broken_keep (asks.OpenToAppend path) why part m n safe (tree, files, synced, folders) = keeps_same m n files
+broken_keep (asks.Sync number) why part m n safe (tree, files, synced, folders) = keeps_same m n files
 broken_keep (asks.Write number bytes) why part m n safe h = leaves_keep (did_nothing why) number bytes part m n h
 broken_keep (asks.CopyFile from to) why part m n safe (tree, files, synced, folders) = keeps_same m n files
 broken_keep call why part m n safe h = keeps_self m n h
@@ -255,16 +256,17 @@ ready_left most (asks.Sync number) m n said (names, is) h =
     let g = open_of m n number names said (λ file said n. Synced m n said file) is h in sync_left m n said g.0 g.3
 ready_left most call m n said ready h = absurd ready
 
-ready_failed : (call : SystemCall) (why : ErrorKind) (part : Option ℕ) (m n : Machine) → Readies m call → LeavesPart m call why part n → n ≡ m
+ready_failed : (call : SystemCall) (why : ErrorKind) (part : Option ℕ) (m n : Machine) → Readies m call → LeavesPart m call why part n → Unchanged m n
 ready_failed (asks.Write number bytes) why part m n ready h = absurd ready
 ready_failed (asks.OpenToAppend path) why part m n ready h = absurd ready
 ready_failed (asks.CopyFile from to) why part m n ready h = absurd ready
-ready_failed call why part m n ready h = h
+ready_failed (asks.Sync number) why part m n ready (tree, files, synced, folders) = (tree, files)
+ready_failed call why part m n ready h = unchanged_self m n h
 
 pub readied : (call : SystemCall) (m n : Machine) (said : CallResult) → Readies m call → OccursSomehow m call said n → Unchanged m n
 readied call m n said ready (Plain, h) = ready_left None call m n said ready h
 readied call m n said ready (Take most, h) = ready_left (Some most) call m n said ready h
-readied call m n said ready (Fail fault part, (why, is_said, of, missed, left)) = unchanged_self m n (ready_failed call why part m n ready left)
+readied call m n said ready (Fail fault part, (why, is_said, of, missed, left)) = ready_failed call why part m n ready left
 
 -- ---- files that are opened
 
