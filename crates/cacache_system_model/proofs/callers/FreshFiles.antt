@@ -1,10 +1,10 @@
 -- The fresh file of a copy, from call to call.
 use Rattle.std.{proofs.Common.{◌≡◌, ℕ, List, [], refl, sym, ap, subst, ◌∙◌}, specs.Prelude.{Option, None, Some, Result, Ok, Err}}
 use Rattle.cacache_core.specs.{declared.errors.Fault.{Fault, TheVariants.{InvalidInput}}, PathNames.{Names}}
-use Rattle.cacache_disk.specs.{declared.{luck.Luck.TheVariants.{Plain, Fail, Take}, node.Node.{Node, TheVariants.{File}}}, Tree.{Tree, look, put}, LedTo.{and_then, place, where_free, free, writable, file_at}}
+use Rattle.cacache_disk.specs.{declared.{luck.Luck.TheVariants.{Plain, Fail, Take}, node.Node.{Node, TheVariants.{File}}}, Tree.{Tree, look, put}, LedTo.{and_then, place, where_free, free, leads, writable, file_at}}
 use Rattle.cacache_system.specs.declared.call.SystemCall.TheVariants as asks
 use Rattle.cacache_system.specs.declared.call.CallResult.TheVariants as says
-use Rattle.cacache_system_model.specs.{Machine.{Machine, OpensIf, CopiesBytes}, Calls.{OccursSomehow}}
+use Rattle.cacache_system_model.specs.{Machine.{Machine, OpensIf, CopiesBytes, found_bytes}, Calls.{OccursSomehow}}
 use Rattle.cacache_system_model.proofs.{Fresh.{look_new, own_place, own_writable, put_new, free_at_place}, callers.OpenCalls.{Moves}}
 
 -- a file was put where nothing was
@@ -46,6 +46,6 @@ copied_new path (Ok more) m n count (old, names, bytes, none, placed, is) h =
 copied_new path (Err fault) m n count new (why, is_said, of, memory, stays) = let no : says.Count count ≡ says.Failed why = is_said in absurd cc
 
 pub filled_new : (from path : List ℕ) (m n : Machine) (count : ℕ) → IsNew m.tree path → OccursSomehow m (asks.CopyFile from path) (says.Count count) n → IsNew n.tree path
-filled_new from path m n count new (Plain, h) = copied_new path (file_at m.tree from InvalidInput) m n count new h
-filled_new from path m n count new (Take most, h) = copied_new path (file_at m.tree from InvalidInput) m n count new h
+filled_new from path m n count new (Plain, h) = copied_new path (found_bytes (leads m.tree from) (writable m.tree path) (file_at m.tree from InvalidInput)) m n count new h
+filled_new from path m n count new (Take most, h) = copied_new path (found_bytes (leads m.tree from) (writable m.tree path) (file_at m.tree from InvalidInput)) m n count new h
 filled_new from path m n count new (Fail fault part, (why, is_said, of, missed, left)) = let no : says.Count count ≡ says.Failed why = is_said in absurd cc

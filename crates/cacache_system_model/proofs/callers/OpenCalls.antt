@@ -7,7 +7,7 @@ use Rattle.cacache_disk.specs.{declared.{luck.Luck.TheVariants.{Plain, Fail, Tak
 use Rattle.cacache_system.specs.declared.call.{SystemCall.{SystemCall}, CallResult.{CallResult}}
 use Rattle.cacache_system.specs.declared.call.SystemCall.TheVariants as asks
 use Rattle.cacache_system.specs.declared.call.CallResult.TheVariants as says
-use Rattle.cacache_system_model.specs.{Machine.{OpenFile, Machine, fixes, Became, HasTree, IsRefused, ChangesTree, OpensIf, with_file, unread, ShowsNode, ShowsEnd, ShowsOpen, GivesOwner, ReadsFile, ReadsOpen, LinksNode, CopiesBytes, SpellsEnd, MovesNode}, Calls.{GoesWell, did_nothing, LeavesWritten, LeavesPart, OccursSomehow}, callers.Opened.{IsOpenAt, KeepsOpen}}
+use Rattle.cacache_system_model.specs.{Machine.{OpenFile, Machine, fixes, Became, HasTree, IsRefused, ChangesTree, OpensIf, with_file, unread, ShowsNode, ShowsEnd, ShowsOpen, GivesOwner, ReadsFile, ReadsOpen, LinksNode, CopiesBytes, found_bytes, SpellsEnd, MovesNode}, Calls.{GoesWell, did_nothing, LeavesWritten, LeavesPart, OccursSomehow}, callers.Opened.{IsOpenAt, KeepsOpen}}
 use Rattle.cacache_system_model.proofs.{Steps.Opening.{open_of}, Views.{View, nowhere, a_folder, a_file, view}}
 
 abbrev pub names_at : OpenFile → Names
@@ -160,7 +160,7 @@ goes_keep most (asks.RealPath path) m n said safe h = spells_keep (found m.tree 
 goes_keep most (asks.RemoveFolder path) m n said safe h = changes_keep (emptied m.tree path) _ m n said h
 goes_keep most (asks.Symlink target path) m n said safe h = changes_keep (free m.tree path) _ m n said h
 goes_keep most (asks.HardLink from to) m n said safe h = links_keep (linked m.tree from) (free m.tree to) m n said h
-goes_keep most (asks.CopyFile from to) m n said safe h = copies_keep (file_at m.tree from InvalidInput) (writable m.tree to) m n said h
+goes_keep most (asks.CopyFile from to) m n said safe h = copies_keep (found_bytes (leads m.tree from) (writable m.tree to) (file_at m.tree from InvalidInput)) (writable m.tree to) m n said h
 goes_keep most (asks.MakeFolder path) m n said safe h = changes_keep (free m.tree path) _ m n said h
 goes_keep most (asks.RemoveFile path) m n said safe h = changes_keep (removable m.tree path) _ m n said h
 goes_keep most (asks.Rename from to) m n said (names, bytes, is, here) h = moves_keep (place m.tree from) (replaceable m.tree to) m n said names bytes is here h
