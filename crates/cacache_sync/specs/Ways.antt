@@ -1,5 +1,5 @@
 -- Exports that go the cheapest way: which ways a mode allows, and what comes of trying them in order.
-use Rattle.std.specs.Prelude.{◌≡◌, ℕ, Bool, true, false, MatchBool, List, [], ◌∷◌, Option, Result, Ok, Err, IfOk}
+use Rattle.std.specs.Prelude.{◌≡◌, ℕ, Bool, true, false, MatchBool, List, [], ◌∷◌, Option, Result, Err, IfOk}
 use Rattle.cacache_core.specs.declared.errors.{Error.{Error, TheVariants.{IoError}}, Fault.TheVariants.{Unsupported, Device}}
 use Rattle.cacache_store.specs.declared.{env.Env.{Env}, store.log.LogItem.{LogItem}}
 use Rattle.cacache_calls.specs.{declared.{command.{Source.{Source}, How.{How, TheVariants.{Copy, Reflink, HardLink}}}, reply.Reply.{Reply, TheVariants.{Copied, Done}}}, Runs.{reply_of}}

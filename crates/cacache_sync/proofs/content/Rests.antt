@@ -1,6 +1,6 @@
 -- The rest of a content, piece by piece.
-use Rattle.std.specs.{Prelude.{Option, Some, Result, Ok, Err, IfSome, IfOk, IfErr, IsOk}, Io.KnownBytes.{Appends, Consumes, IsAtEnd, Keeps}}
-use Rattle.std.proofs.{Common.{◌≡◌, ◌≤◌, ◌^◌, ◌-◌, ◌+◌, ℕ, List, [], ◌++◌, min, length, take, refl, sym, ap, subst, append-nil, append_assoc, length-append, arith}, KnownBytes.{Appends-nil, Appends-trans, Consumes-nil, Consumes-trans, Consumes-kept, Consumes-whole}}
+use Rattle.std.specs.{Prelude.{Option, Some, Result, Ok, Err, IfOk, IfErr, IsOk}, Io.KnownBytes.{Appends, Consumes, IsAtEnd, Keeps}}
+use Rattle.std.proofs.{Common.{◌≡◌, ◌≤◌, ◌^◌, ◌-◌, ◌+◌, ℕ, List, [], ◌++◌, min, length, refl, sym, ap, subst, append-nil, append_assoc, length-append, arith}, KnownBytes.{Appends-nil, Appends-trans, Consumes-nil, Consumes-trans, Consumes-kept, Consumes-whole}}
 use Rattle.cacache_store.specs.declared.store.plain.PlainFile.{PlainFile}
 use Rattle.cacache_core.specs.{declared.{errors.Error.{Error, TheVariants.{IntegrityError, OutOfMemory}}, integrity.{algorithm.Algorithm.{Algorithm}, digest.Hash.{Hash}}}, Integrity.{Meets, strongest, actual}, Refusals.{IsCheckFailure}}
 use Rattle.cacache_sync.specs.{declared.content.reader.SyncReader.{SyncReader}, content.{OpenReads.{HasRead, ReadsMore}, OpenWrites.{counted_bytes}, Rests.{AreLeft, FailsToEnd, Finishes, PassesOn}}}
