@@ -6,5 +6,7 @@ mod reasons;
 pub use cacache_folder::{ProcessNames, SystemClock};
 pub use cacache_store::env::{Clock, CountNames, Env, Names};
 pub use in_memory::{Memory, MemoryLinker, MemoryReader, MemoryWriter, memory};
-pub use on_folders::{FolderLinker, FolderReader, FolderWriter, Folders, another, folders};
+pub use on_folders::{
+    FolderLinker, FolderPolledWriter, FolderReader, FolderWriter, Folders, another, folders,
+};
 pub use reasons::Reasons;

@@ -2,4 +2,6 @@
 //! workers.
 pub use cacache_async::{Call, CallFuture};
 pub use cacache_polled::{Completion, Finish, Polled, Request, Work, WriterCore};
-pub use cacache_writers::{PolledFile, RemovableTemp, Turned, Worker};
+pub use cacache_writers::{
+    PollWrite, PolledFile, RemovableTemp, Turned, Worker, Workers, WriteAllFuture,
+};

@@ -21,11 +21,10 @@ use std::thread::Threads;
 /// Runs the program of this name. `rt` waits and starts threads, and `host` is the same runtime.
 fn run<R>(rt: &R, host: HostRuntime, name: &str) -> Result<()>
 where
-    R: Threads + Wait + RandomSource + Print + AllocGlobal + Sync,
+    R: Threads + Sync,
 {
     match name {
         "packages" => packages::run(host),
-        "downloads" => downloads::run(rt, host),
         "responses" => responses::run(host),
         "builds" => builds::run(host),
         "threads" => threads::run(rt, host),
@@ -40,6 +39,7 @@ fn main(rt: HostRuntime) -> anyhow::Result<()> {
     for name in args(&rt)?.skip(1) {
         match name.as_str() {
             "calls" => calls::run(rt, rt)?,
+            "downloads" => downloads::run(rt, rt)?,
             name => run(&rt, rt, name)?,
         }
     }

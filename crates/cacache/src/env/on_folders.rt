@@ -8,6 +8,7 @@ use cacache_store::env::Env;
 use cacache_sync::content::reader::SyncReader;
 use cacache_sync::put::linker::SyncToLinker;
 use cacache_sync::put::writer::SyncWriter;
+use cacache_writers::Writer;
 
 /// The environment of caches in real folders.
 pub type Folders = Env<FolderStore<HostRuntime>, SystemClock<HostRuntime>, ProcessNames>;
@@ -17,6 +18,9 @@ pub type FolderReader = SyncReader<FolderFile<HostRuntime>>;
 
 /// A content that is being written into a cache in real folders.
 pub type FolderWriter = SyncWriter<FolderTemp<HostRuntime>>;
+
+/// A content that is being written by polls into a cache in real folders.
+pub type FolderPolledWriter = Writer<FolderTemp<HostRuntime>>;
 
 /// An open file that is to become a content of a cache in real folders by a link.
 pub type FolderLinker = SyncToLinker<FolderFile<HostRuntime>>;
