@@ -3,5 +3,5 @@
 pub use cacache_async::{Call, CallFuture};
 pub use cacache_polled::{Completion, Finish, Polled, Request, Work, WriterCore};
 pub use cacache_writers::{
-    PollWrite, PolledFile, RemovableTemp, Turned, Worker, Workers, WriteAllFuture,
+    CopyFuture, PollWrite, PolledFile, RemovableTemp, Turned, Worker, Workers, WriteAllFuture,
 };

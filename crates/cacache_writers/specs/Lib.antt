@@ -1,5 +1,6 @@
 pub mod Alone
 pub mod Committing
+pub mod Copying
 pub mod Opening
 pub mod Removing
 pub mod Sharing

@@ -4,6 +4,7 @@
 //! - `about`: what the caller says about a content that is written by polls
 //! - `commit`: what the commit of a polled writer does with the core and the temporary file, which are lent to it
 //! - `committing`: the commit of a polled writer as a future
+//! - `copying`: readers that are copied by polls
 //! - `creating`: futures that open polled writers
 //! - `file`: a temporary file that is written by polls
 //! - `kept`: what lies under the lock of a polled file
@@ -21,6 +22,7 @@
 mod about;
 mod commit;
 mod committing;
+mod copying;
 mod creating;
 mod file;
 mod kept;
@@ -37,6 +39,7 @@ mod writing;
 pub use about::About;
 pub use commit::commit_held;
 pub use committing::{AsyncWriterCloseFuture, WriterCommitFuture};
+pub use copying::CopyFuture;
 pub use creating::{
     AsyncWriterNewFuture, OpenAsync, WriteOptsOpenFuture, WriteOptsOpenHashFuture,
     WriterCreateFuture, WriterCreateWithAlgoFuture, WriterOpenCall,

@@ -1,5 +1,5 @@
 //! Contents that are written by polls.
-ghost use Rattle.std.specs.{Prelude.{◌≡◌, None, Some, IfOk, IfErr}, Arc.{arc_value}};
+ghost use Rattle.std.specs.{Prelude.{◌≡◌, None, Some, IfOk, IfErr, vec_len}, Arc.{arc_value}};
 ghost use Rattle.futures.specs.{Poll.{OnPending}, Task.{IsArmed, Keeps}};
 ghost use Rattle.cacache_core.specs.declared.errors.Error.TheVariants.{OutOfMemory};
 ghost use Rattle.cacache_sync.specs.put.Options.{nothing_said, saying};
@@ -8,6 +8,7 @@ ghost use Rattle.cacache_writers.specs.Turning.{IsWorkerOf};
 
 use crate::about::About;
 use crate::committing::{AsyncWriterCloseFuture, WriterCommitFuture};
+use crate::copying::CopyFuture;
 use crate::creating::{
     AsyncWriterNewFuture, WriterCreateFuture, WriterCreateWithAlgoFuture, WriterOpenCall,
 };
@@ -21,6 +22,7 @@ use cacache_store::env::{Clock, Env, Names};
 use cacache_store::store::Store;
 use cacache_sync::put::opts::WriteOpts;
 use futures::task::{Context, Poll};
+use std::io::Read;
 use std::sync::Wait;
 
 /// A content that is written by polls: a worker writes its temporary file, and nothing is saved before the commit. A
@@ -138,6 +140,24 @@ impl<T: Drop> Writer<T> {
     {
         let alloc = self.file.alloc;
         WriteAllFuture::new(rt, alloc, self, data)
+    }
+
+    /// Writes all that the reader gives, as a future, and answers how many bytes that were. A poll reads 64 KiB at most,
+    /// and waits for the reader.
+    ///
+    /// `IoError` has the fault of a read; a read that was interrupted is tried again. Other errors are those of
+    /// `write_all`. After an error the file has a beginning of the bytes.
+    pub fn copy_from<'a, R: Wait, F: Read + Drop>(
+        &'a mut self,
+        rt: &'a R,
+        reader: F,
+    ) -> CopyFuture<'a, R, Writer<T>, F>
+        ensures lent { (result.writer.ghost_name ≡ self.entry.ghost_name)
+            × (result.writer.now ≡ self.entry.now) }
+        ensures waits { (result.reader ≡ reader) × (vec_len result.held ≡ 0) }
+    {
+        let alloc = self.file.alloc;
+        CopyFuture::new(rt, alloc, self, reader)
     }
 
     /// Has a worker hand on what is buffered. A write that isn't answered yet stays.
