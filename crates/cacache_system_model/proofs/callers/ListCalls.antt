@@ -1,6 +1,6 @@
 -- What the calls of a listing leave: each open file stays open, and an open folder is one still.
-use Rattle.std.{proofs.Common.{◌≡◌, ◌⊎◌, inl, inr, ℕ, List, sym, ap, subst, ◌∙◌}, specs.Prelude.{Option, Some, Result, Ok, IfSome}}
-use Rattle.cacache_core.specs.{declared.errors.Fault.{Fault, TheVariants.{NotFound}}, PathNames.{Names}}
+use Rattle.std.{proofs.Common.{◌≡◌, ◌⊎◌, inl, inr, ℕ, List, sym, ap, subst, ◌∙◌}, specs.Prelude.{Option, Some, Result, Ok, IfNone, MatchOption}}
+use Rattle.cacache_core.specs.{declared.errors.Fault.{Fault, TheVariants.{NotFound, Device}}, PathNames.{Names}}
 use Rattle.cacache_disk.specs.{declared.{luck.Luck.TheVariants.{Plain, Fail, Take}, node.Node.{Node, TheVariants.{Folder}}}, Tree.{Tree, look}, LedTo.{standing}}
 use Rattle.cacache_system.specs.{declared.call.CallResult.{CallResult}, ListedNames.{with_slash}}
 use Rattle.cacache_system.specs.declared.call.SystemCall.TheVariants as asks
@@ -29,7 +29,7 @@ nothing_opened fault m n said (why, is_said, of, memory, stays) =
     (keeps_self m n stays, ap (λ (x : Machine). x.tree) stays, λ number opened. let no : says.Failed why ≡ says.Opened number = sym is_said ∙ opened in absurd cc)
 
 names_opened : (names : Names) (m n : Machine) (said : CallResult) → OpensNames names (Some Folder) m said n → FolderLeft m said n
-names_opened names m n said (k, given, is_said, gives, has) = (
+names_opened names m n said (k, given, is_said, unused, order, gives, has) = (
   keeps_same m n has.files,
   has.tree,
   λ number opened.
@@ -51,7 +51,7 @@ folder_left path m n said can (Fail fault part, (why, is_said, of, missed, left)
 
 names_read : (number : ℕ) (m n : Machine) (said : CallResult) → IsListing m number → ReadsFolder number m said n → KeepsOpen m n × IsListing n number
 names_read number m n said (left, is) h =
-    let (given, rest, split, some, is_said, has) = subst (λ (o : Option (List (List ℕ))). IfSome o (λ left. ReadsSome number left m said n)) is h in
+    let (given, rest, split, some, is_said, has) = subst (λ (o : Option (List (List ℕ))). MatchOption o (IfNone (m.files number) (IsRefused Device m said n)) (λ left. ReadsSome number left m said n)) is h in
     (keeps_same m n has.files, (rest, has.left))
 
 pub names_left : (number size : ℕ) (m n : Machine) (said : CallResult) → IsListing m number → OccursSomehow m (asks.ReadNames number size) said n → KeepsOpen m n × IsListing n number
