@@ -44,7 +44,10 @@ where
     for (writer, (key, _)) in writers.into_iter().zip(BODIES) {
         let integrity = block_on(&rt, writer.commit(&rt, &mut env))??;
         let body = block_on(&rt, read(&mut env, CACHE, key))??;
-        print!(rt; "{key} {integrity}: {}", str::from_utf8(&body).unwrap_or("no text\n"))?;
+        print!(rt;
+            "{key} {integrity}: {}",
+            str::from_utf8(&body).unwrap_or("no text\n")
+        )?;
     }
     Ok(())
 }

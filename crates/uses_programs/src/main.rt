@@ -1,46 +1,35 @@
-//! Five programs to read, each a file of its own next to this one, and the examples of the public calls, `calls`.
-//! Each word of the command line names one, and they run in the order of the words.
+//! Five programs to read, each a file of its own next to this one, and the examples of the public calls, `calls`. Each line of
+//! standard input is a command: the name of a program, and its words.
 #![tactic(auto)]
 
-mod builds;
 mod calls;
+mod ccache;
 mod downloads;
-mod packages;
+mod fetch;
 mod responses;
 mod threads;
 
-use cacache::errors::Fault;
-use cacache::text::Text;
-use cacache::{Error, Result};
-use std::alloc::AllocGlobal;
-use std::env::args;
-use std::random::RandomSource;
-use std::sync::Wait;
+use anyhow::{Result, bail};
 use std::thread::Threads;
 
-/// Runs the program of this name. `rt` waits and starts threads, and `host` is the same runtime.
-fn run<R>(rt: &R, host: HostRuntime, name: &str) -> Result<()>
-where
-    R: Threads + Sync,
-{
-    match name {
-        "packages" => packages::run(host),
-        "responses" => responses::run(host),
-        "builds" => builds::run(host),
-        "threads" => threads::run(rt, host),
-        _ => {
-            let message = format!(in host.alloc(); "There is no program {name}")?;
-            Err(Error::IoError(Fault::NotFound, Text::new(message)))
-        }
+/// Runs a command. `rt` starts threads, and `host` is the same runtime.
+fn run<R: Threads + Sync>(rt: &R, host: HostRuntime, command: &str) -> Result<()> {
+    let words: Vec<&str> = command.split_whitespace().collect(host.alloc())?;
+    match words.as_slice() {
+        ["fetch", words @ ..] => fetch::run(host, words),
+        ["ccache", words @ ..] => ccache::run(host, words),
+        ["responses"] => Ok(responses::run(host)?),
+        ["threads"] => Ok(threads::run(rt, host)?),
+        _ => bail!("There is no program {command}"),
     }
 }
 
-fn main(rt: HostRuntime) -> anyhow::Result<()> {
-    for name in args(&rt)?.skip(1) {
-        match name.as_str() {
+fn main(rt: HostRuntime) -> Result<()> {
+    for line in rt.lines(rt.alloc()) {
+        match line?.as_str() {
             "calls" => calls::run(rt, rt)?,
             "downloads" => downloads::run(rt, rt)?,
-            name => run(&rt, rt, name)?,
+            command => run(&rt, rt, command)?,
         }
     }
     Ok(())
