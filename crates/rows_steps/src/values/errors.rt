@@ -41,10 +41,7 @@ fn made(alloc: Global, columns: &str) -> Result<Error, Flaw> {
         "SizeMismatch" => sizes(more),
         "Check" => unmet(alloc, more),
         "BadText" => Ok(Error::from(IntegrityFault::BadText)),
-        "NotWhole" => Ok(Error::SerdeError(
-            SerdeCause::NotWhole,
-            Text::from_str(alloc, more)?,
-        )),
+        "NotWhole" => Ok(Error::SerdeError(SerdeCause::NotWhole, Text::from_str(alloc, more)?)),
         "AllocError" => Ok(Error::from(AllocError)),
         _ => Ok(Error::IoError(fault_of(name)?, Text::from_str(alloc, more)?)),
     }
