@@ -20,9 +20,9 @@ still_at_end : {W : Type 0} (polls : W → List ℕ → Poll (Result ℕ Error) 
 still_at_end polls old new t held after r (inl w) =
     subst (λ x. drop (length held - length x) held ≡ x) (sym w.2) (at_end t held)
 still_at_end polls old new t held after r (inr w) =
-    let n = took (drop t held) w.1 in
+    let n = took (drop t held) w.1.0 in
     let moved : drop n (drop t held) ≡ drop (t + n) held = drop-drop n t held in
-    subst (λ x. drop (length held - length x) held ≡ x) (sym (w.3 ∙ moved)) (at_end (t + n) held)
+    subst (λ x. drop (length held - length x) held ≡ x) (sym (w.1.2 ∙ moved)) (at_end (t + n) held)
 
 pub returns-clause-writes : goal.returns-clause-writes
 returns-clause-writes g c =
