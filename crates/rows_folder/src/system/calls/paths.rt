@@ -263,11 +263,8 @@ impl Calls {
         answers: &Answers,
     ) -> Result<(), Bad> {
         let is_odd = self.compare(answers, odds)?;
-        match fate {
-            Fate::Does(path, _) if answers.came.as_str() == "Opened" => {
-                self.keep_opened(call, path.as_str())?;
-            }
-            _ => {}
+        if let (Fate::Does(path, _), "Opened") = (fate, answers.came.as_str()) {
+            self.keep_opened(call, path.as_str())?;
         }
         self.changes = self.changes.saturating_add(1);
         self.go_on(is_odd)
