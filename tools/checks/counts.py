@@ -77,7 +77,7 @@ def words():
     wrong = compared("docs/PROGRAMS.md", "words of cacache", stated, helped("about.rt"))
     shown = told("docs/PROGRAMS.md", r"(?s)In `crates/cacache_keep_cli`.*?\n\n(.*?)\n\n")
     names = [it.split()[0] for it in usage("keep/about.rt")]
-    return wrong + compared("docs/PROGRAMS.md", "words of cacache-keep", re.findall(r"rt try -- (\w+)", shown), names)
+    return wrong + compared("docs/PROGRAMS.md", "words of cacache-keep", re.findall(r"rt try -- ([\w-]+)", shown), names)
 
 
 def documents():

@@ -6,3 +6,4 @@ pub mod Naming
 pub mod FurtherAsked
 pub mod TakenFiles
 pub mod Missing
+pub mod PruneAsked

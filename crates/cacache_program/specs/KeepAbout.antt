@@ -3,7 +3,7 @@ use Rattle.std.specs.Prelude.{ℕ, List, ◌++◌, codes}
 
 -- what is said to wrong words
 abbrev pub usage_text : List ℕ
-usage_text = codes "usage: cacache-keep verify [--list]|collect [--anyway]|plan|sweep|repair [--anyway]|compact [--durable] CACHE\n"
+usage_text = codes "usage: cacache-keep verify [--list]|collect [--anyway]|plan|sweep|repair [--anyway]|compact [--durable] CACHE | prune|plan-prune BYTES SECONDS CACHE\n"
 
 -- a line for each word
 abbrev pub words_text : List ℕ
@@ -26,6 +26,13 @@ words_text =
     ++ codes "  compact CACHE  writes the index anew without old lines, and counts the buckets and bytes saved\n"
     ++ codes "  compact --durable CACHE\n"
     ++ codes "                 the same, and syncs what it leaves, so that it outlasts a loss of power\n"
+    ++ codes "  prune BYTES SECONDS CACHE\n"
+    ++ codes "                 drops the oldest entries, until the others have at most so many bytes and none\n"
+    ++ codes "                 is older than so many seconds, or - for no limit, and collects the cache;\n"
+    ++ codes "                 it says how many bytes the entries had and have, and names those that are dropped\n"
+    ++ codes "  plan-prune BYTES SECONDS CACHE\n"
+    ++ codes "                 says what prune would drop, and changes nothing; it also names each bucket with\n"
+    ++ codes "                 lines that only other readers can read\n"
     ++ codes "  --why          before these words: says in brackets why a call failed\n"
     ++ codes "  --help, -h     prints this\n"
     ++ codes "  --version, -V  prints the version\n"

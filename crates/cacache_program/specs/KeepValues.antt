@@ -1,8 +1,8 @@
 -- What is printed for the values that the calls of `cacache-keep` give.
-use Rattle.std.specs.Prelude.{ℕ, List, Option, length, map, string_bytes}
+use Rattle.std.specs.Prelude.{ℕ, List, [], Option, length, map, string_bytes}
 use Rattle.cacache.specs.Entries.{found_view}
-use Rattle.cacache_keep.specs.declared.{collecting.Collected.{Collected}, compacting.Compacted.{Compacted}, planning.Planned.{Planned}, repairing.Repaired.{Repaired}, sweeping.Swept.{Swept}, verifying.Verdict.{Verdict}}
-use Rattle.cacache_program.specs.{WordCollect.{collected_text}, WordCompact.{compacted_text}, WordList.{TellsList, listed_text}, WordPlan.{planned_counts, planned_text}, WordRepair.{repaired_text}, WordSweep.{swept_text}, WordVerify.{Findings, TellsVerdict, verdict_status, verdict_text}}
+use Rattle.cacache_keep.specs.declared.{collecting.Collected.{Collected}, compacting.Compacted.{Compacted}, planning.Planned.{Planned}, pruning.{PrunePlan.{PrunePlan}, Pruned.{Pruned}}, repairing.Repaired.{Repaired}, sweeping.Swept.{Swept}, verifying.Verdict.{Verdict}}
+use Rattle.cacache_program.specs.{WordCollect.{collected_text}, WordCompact.{compacted_text}, WordList.{TellsList, listed_text}, WordPlan.{planned_counts, planned_text}, WordPrune.{prune_text}, WordRepair.{repaired_text}, WordSweep.{swept_text}, WordVerify.{Findings, TellsVerdict, verdict_status, verdict_text}}
 
 -- ---- a verification
 
@@ -65,3 +65,12 @@ text_of_repaired r = repaired_text (length r.damaged.items) (length r.dangling.i
 -- those of a compaction
 abbrev pub text_of_compacted : Compacted → List ℕ
 text_of_compacted c = compacted_text c.buckets c.bytes
+
+-- those of a plan of a pruning, and its entries and buckets
+abbrev pub text_of_prune_plan : PrunePlan → List ℕ
+text_of_prune_plan p =
+    prune_text p.bytes_before p.bytes_after (map found_view p.dropped.items) p.odd.items
+
+-- those of a pruning, and its entries
+abbrev pub text_of_pruned : Pruned → List ℕ
+text_of_pruned p = prune_text p.bytes_before p.bytes_after (map found_view p.dropped.items) []

@@ -30,3 +30,5 @@ pub mod WordReadHash
 pub mod WordStore
 pub mod WordWriteHash
 pub mod FurtherWords
+pub mod WordPrune
+pub mod PruneWords

@@ -8,9 +8,9 @@ use Rattle.cacache_program.specs.{Escaping.{escaped}, Output.{PutsOutWith}, Prin
 abbrev pub damaged_line : List Hash → List ℕ
 damaged_line i = codes "damaged " ++ (integrity_text i ++ 10 ∷ [])
 
--- the line of an entry without its content: its text, as `ls` prints it
-abbrev pub dangling_line : Found → List ℕ
-dangling_line f = codes "dangling " ++ (entry_text f ++ 10 ∷ [])
+-- a word and an entry in a line: its text, as `ls` prints it
+abbrev pub entry_line : List ℕ → Found → List ℕ
+entry_line word f = word ++ (entry_text f ++ 10 ∷ [])
 
 -- the line of what else lies among the contents: its path, escaped
 abbrev pub strange_line : List ℕ → List ℕ
@@ -24,7 +24,7 @@ odd_line path = codes "odd " ++ (escaped path ++ 10 ∷ [])
 abbrev pub list_text : Findings → List ℕ
 list_text (good, damaged, dangling, strange, odd) =
     flat_map damaged_line damaged
-    ++ (flat_map dangling_line dangling
+    ++ (flat_map (entry_line (codes "dangling ")) dangling
     ++ (flat_map strange_line strange ++ flat_map odd_line odd))
 
 -- what `verify` prints, and the list after it

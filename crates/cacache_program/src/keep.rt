@@ -6,12 +6,14 @@
 //! - `naming`: the list of what a verification found
 //! - `output`: what goes to the output
 //! - `program`: what the program does with its words
+//! - `pruning`: the words that drop the oldest entries
 mod about;
 mod escaping;
 mod missing;
 mod naming;
 mod output;
 mod program;
+mod pruning;
 
 pub use about::{HELP, USAGE, VERSION, said};
 pub use missing::tell_missing;

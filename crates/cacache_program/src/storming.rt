@@ -28,7 +28,7 @@ fn are_digits(bytes: &[u8]) -> bool
 }
 
 /// The number that decimal digits alone give, if it has 64 bits.
-fn number_of(word: &str) -> Option<u64>
+pub(crate) fn number_of(word: &str) -> Option<u64>
     ensures digits { IfSome result (λ n. all_ascii_digits word.now ≡ true) }
     ensures value { IfSome result (λ n. n ≡ digits_value 10 word.now) }
 {

@@ -6,11 +6,11 @@ use crate::about::About;
 
 /// What the program says to wrong words.
 pub const USAGE: &str =
-    "usage: cacache-keep verify [--list]|collect [--anyway]|plan|sweep|repair [--anyway]|compact [--durable] CACHE\n";
+    "usage: cacache-keep verify [--list]|collect [--anyway]|plan|sweep|repair [--anyway]|compact [--durable] CACHE | prune|plan-prune BYTES SECONDS CACHE\n";
 
 /// What the program says to `--help`: the usage, and a line for each word.
 pub const HELP: &str =
-    "usage: cacache-keep verify [--list]|collect [--anyway]|plan|sweep|repair [--anyway]|compact [--durable] CACHE
+    "usage: cacache-keep verify [--list]|collect [--anyway]|plan|sweep|repair [--anyway]|compact [--durable] CACHE | prune|plan-prune BYTES SECONDS CACHE
   verify CACHE   counts good and damaged contents, entries without one, and other files;
                  the status is 3 if there are any but good contents
   verify --list CACHE
@@ -29,6 +29,13 @@ pub const HELP: &str =
   compact CACHE  writes the index anew without old lines, and counts the buckets and bytes saved
   compact --durable CACHE
                  the same, and syncs what it leaves, so that it outlasts a loss of power
+  prune BYTES SECONDS CACHE
+                 drops the oldest entries, until the others have at most so many bytes and none
+                 is older than so many seconds, or - for no limit, and collects the cache;
+                 it says how many bytes the entries had and have, and names those that are dropped
+  plan-prune BYTES SECONDS CACHE
+                 says what prune would drop, and changes nothing; it also names each bucket with
+                 lines that only other readers can read
   --why          before these words: says in brackets why a call failed
   --help, -h     prints this
   --version, -V  prints the version

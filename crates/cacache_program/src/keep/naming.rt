@@ -1,7 +1,7 @@
 //! Lines that name what a verification found, and buckets with odd lines.
 ghost use Rattle.std.specs.{Prelude.{◌≡◌, ◌⊎◌, IfOk, map, string_bytes}, List.{flat_map}};
 ghost use Rattle.cacache.specs.Entries.{found_view};
-ghost use Rattle.cacache_program.specs.{WordList.{damaged_line as line_of_damaged, dangling_line as line_of_dangling, odd_line as line_of_odd, strange_line as line_of_strange}, KeepValues.{PutsList, list_of_verdict}};
+ghost use Rattle.cacache_program.specs.{WordList.{damaged_line as line_of_damaged, entry_line as line_of_entry, odd_line as line_of_odd, strange_line as line_of_strange}, KeepValues.{PutsList, list_of_verdict}};
 
 use crate::entries::entry_text;
 use crate::errors::{Errors, tell_failed_call};
@@ -32,25 +32,25 @@ fn damaged_lines(alloc: Global, damaged: Vec<Integrity>) -> std::result::Result<
     Ok(text)
 }
 
-/// The line of an entry without its content. Memory alone can fail.
-fn dangling_line(alloc: Global, entry: Metadata) -> Result<Vec<u8>>
-    ensures { IfOk result (λ line. line.items ≡ line_of_dangling (found_view entry)) }
+/// The line of an entry, after a word. Memory alone can fail.
+fn entry_line(alloc: Global, word: &str, entry: Metadata) -> Result<Vec<u8>>
+    ensures { IfOk result (λ line. line.items ≡ line_of_entry word.now (found_view entry)) }
 {
     let text = entry_text(alloc, entry)?;
-    let mut line = Vec::from_slice(alloc, b"dangling ")?;
+    let mut line = Vec::from_slice(alloc, word.as_bytes())?;
     line.extend_from_slice(&text)?;
     line.push(b'\n')?;
     Ok(line)
 }
 
-/// A line for each of these entries. Memory alone can fail.
-fn dangling_lines(alloc: Global, dangling: Vec<Metadata>) -> Result<Vec<u8>>
+/// A line for each of these entries, after a word. Memory alone can fail.
+pub(crate) fn entry_lines(alloc: Global, word: &str, entries: Vec<Metadata>) -> Result<Vec<u8>>
     ensures { IfOk result
-        (λ text. text.items ≡ flat_map line_of_dangling (map found_view dangling.items)) }
+        (λ text. text.items ≡ flat_map (line_of_entry word.now) (map found_view entries.items)) }
 {
     let mut text = Vec::new(alloc);
-    for entry in dangling {
-        text.extend_from_slice(&dangling_line(alloc, entry)?)?;
+    for entry in entries {
+        text.extend_from_slice(&entry_line(alloc, word, entry)?)?;
     }
     Ok(text)
 }
@@ -113,7 +113,7 @@ fn listed_text(alloc: Global, verdict: Verdict) -> Result<Vec<u8>>
         odd,
     } = verdict;
     text.extend_from_slice(&damaged_lines(alloc, damaged)?)?;
-    text.extend_from_slice(&dangling_lines(alloc, dangling)?)?;
+    text.extend_from_slice(&entry_lines(alloc, "dangling ", dangling)?)?;
     text.extend_from_slice(&strange_lines(alloc, strange)?)?;
     text.extend_from_slice(&odd_lines(alloc, odd)?)?;
     Ok(text)

@@ -1,12 +1,16 @@
 //! What goes to the output.
-ghost use Rattle.std.specs.Prelude.{◌≡◌, ◌⊎◌, IfOk, string_bytes};
-ghost use Rattle.cacache_program.specs.{Output.{PutsOut}, KeepValues.{PutsVerdict, counts_of_planned, status_of_verdict, text_of_collected, text_of_compacted, text_of_planned, text_of_repaired, text_of_swept, text_of_verdict}};
+ghost use Rattle.std.specs.Prelude.{◌≡◌, ◌⊎◌, [], IfOk, map, string_bytes};
+ghost use Rattle.cacache.specs.Entries.{found_view};
+ghost use Rattle.cacache_program.specs.{Output.{PutsOut}, WordPrune.{prune_counts as counts_of_prune, prune_text as text_of_prune}, KeepValues.{PutsVerdict, counts_of_planned, status_of_verdict, text_of_collected, text_of_compacted, text_of_planned, text_of_prune_plan, text_of_pruned, text_of_repaired, text_of_swept, text_of_verdict}};
 
 use crate::errors::{Errors, tell_failed_call};
-use crate::keep::naming::odd_lines;
+use crate::keep::naming::{entry_lines, odd_lines};
 use crate::output::{put_out, put_out_with};
 use cacache::errors::Error;
-use cacache_keep::{Collected, Compacted, Planned, Repaired, Swept, Verdict};
+use cacache::{Metadata, Result as Answered};
+use cacache_core::keeping::let_go;
+use cacache_core::text::Text;
+use cacache_keep::{Collected, Compacted, Planned, PrunePlan, Pruned, Repaired, Swept, Verdict};
 use std::alloc::{AllocError, Global};
 use std::io::Write;
 
@@ -185,5 +189,84 @@ pub(crate) fn print_compacted<W: Write, E: Write>(
     match compacted_text(alloc, compacted) {
         Ok(text) => put_out(output, text.as_bytes(), errors),
         Err(_) => tell_failed_call(errors, &Error::OutOfMemory, None),
+    }
+}
+
+/// The counts of a pruning.
+fn prune_counts(
+    alloc: Global,
+    before: u64,
+    after: u64,
+    dropped: usize,
+) -> Result<String, AllocError>
+    ensures { IfOk result (λ text. string_bytes text ≡ counts_of_prune before after dropped) }
+{
+    format!(in alloc; "before {before}\nafter {after}\ndropped {dropped}\n")
+}
+
+/// What is printed of a pruning: its counts, a line for each entry that is dropped, and one for each bucket with an odd
+/// line. Memory alone can fail.
+fn prune_text(
+    alloc: Global,
+    before: u64,
+    after: u64,
+    dropped: Vec<Metadata>,
+    odd: Vec<Text>,
+) -> Answered<Vec<u8>>
+    ensures { IfOk result (λ text. text.items
+        ≡ text_of_prune before after (map found_view dropped.items) odd.items) }
+{
+    let mut text = prune_counts(alloc, before, after, dropped.len())?.into_bytes();
+    text.extend_from_slice(&entry_lines(alloc, "dropped ", dropped)?)?;
+    text.extend_from_slice(&odd_lines(alloc, odd)?)?;
+    Ok(text)
+}
+
+/// Prints what a pruning would do, and returns the status: 0, or 1 if the text can't be had or printed.
+pub(crate) fn print_prune_plan<W: Write, E: Write>(
+    alloc: Global,
+    plan: PrunePlan,
+    output: &mut W,
+    errors: &mut Errors<E>,
+) -> u8
+    ensures tells { PutsOut (text_of_prune_plan plan)
+        (W.contents output.old) (W.contents output.new) result }
+    ensures quiet { result ≡ 0 → errors.new ≡ errors.old }
+{
+    let PrunePlan {
+        dropped,
+        kept,
+        bytes_before,
+        bytes_after,
+        odd,
+    } = plan;
+    let_go(kept);
+    match prune_text(alloc, bytes_before, bytes_after, dropped, odd) {
+        Ok(text) => put_out(output, &text, errors),
+        Err(error) => tell_failed_call(errors, &error, None),
+    }
+}
+
+/// Prints what a pruning did, and returns the status: 0, or 1 if the text can't be had or printed.
+pub(crate) fn print_pruned<W: Write, E: Write>(
+    alloc: Global,
+    pruned: Pruned,
+    output: &mut W,
+    errors: &mut Errors<E>,
+) -> u8
+    ensures tells { PutsOut (text_of_pruned pruned)
+        (W.contents output.old) (W.contents output.new) result }
+    ensures quiet { result ≡ 0 → errors.new ≡ errors.old }
+{
+    let Pruned {
+        dropped,
+        bytes_before,
+        bytes_after,
+        collected,
+    } = pruned;
+    let_go(collected);
+    match prune_text(alloc, bytes_before, bytes_after, dropped, Vec::new(alloc)) {
+        Ok(text) => put_out(output, &text, errors),
+        Err(error) => tell_failed_call(errors, &error, None),
     }
 }

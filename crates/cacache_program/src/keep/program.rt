@@ -1,14 +1,14 @@
 //! What the program does with its words.
 ghost use Rattle.std.specs.Prelude.{◌≡◌, ◌≢◌, ◌≤◌, false, true, codes};
 ghost use Rattle.cacache_keep.specs.declared.checking.OddLines.TheVariants.{Ignore, Refuse};
-ghost use Rattle.cacache_program.specs.{Words.{UnkeyedDoes, asked_of}, KeepWords.{IsWrong, OptionDoes}, WordVerify.{Verifies}, WordList.{ListsVerdict}, WordCollect.{CollectsUnused}, WordCompact.{Compacts}, WordPlan.{Plans}, WordRepair.{Repairs}, WordSweep.{Sweeps}};
+ghost use Rattle.cacache_program.specs.{Words.{UnkeyedDoes, asked_of}, KeepWords.{OptionDoes}, PruneWords.{AreWrong, DoesPruning}, WordVerify.{Verifies}, WordList.{ListsVerdict}, WordCollect.{CollectsUnused}, WordCompact.{Compacts}, WordPlan.{Plans}, WordRepair.{Repairs}, WordSweep.{Sweeps}};
 
-use crate::errors::{Errors, tell_failed_call, tell_misuse};
-use crate::keep::about::USAGE;
+use crate::errors::{Errors, tell_failed_call};
 use crate::keep::naming::print_list;
 use crate::keep::output::{
     print_collected, print_compacted, print_planned, print_repaired, print_swept, print_verdict,
 };
+use crate::keep::pruning::run_pruning;
 use crate::words::parse_words;
 use cacache::env::{Clock, Env, Names, Reasons};
 use cacache_keep::{CompactOpts, OddLines, collect_with, plan, repair_with, sweep, verify};
@@ -151,7 +151,7 @@ pub fn run<S: Reasons, C: Clock, N: Names, W: Write, E: Write>(
     errors: &mut Errors<E>,
 ) -> u8
     ensures status { result ≤ 3 }
-    ensures wrong { IsWrong (asked_of words.now) → result ≡ 2 }
+    ensures wrong { AreWrong words.now → result ≡ 2 }
     ensures nothing_done { result ≡ 2 → (env.new ≡ env.old) × (output.new ≡ output.old) }
     ensures quiet { result ≡ 0 → errors.new ≡ errors.old }
     ensures verifies { UnkeyedDoes (asked_of words.now) (codes "verify") (Verifies S.log)
@@ -179,6 +179,8 @@ pub fn run<S: Reasons, C: Clock, N: Names, W: Write, E: Write>(
     ensures compacts_durably { OptionDoes (asked_of words.now)
         (codes "compact") (codes "--durable") (Compacts S.log true)
         env.old env.new (W.contents output.old) (W.contents output.new) result }
+    ensures prunes { DoesPruning S.log C.given words.now env.old env.new
+        (W.contents output.old) (W.contents output.new) result }
 {
     match parse_words(words) {
         ("verify", cache, None) => verify_and_print(env, cache, output, errors),
@@ -197,6 +199,6 @@ pub fn run<S: Reasons, C: Clock, N: Names, W: Write, E: Write>(
         ("compact", "--durable", Some(cache)) => {
             compact_and_print(env, cache, true, output, errors)
         }
-        _ => tell_misuse(USAGE, errors),
+        _ => run_pruning(env, words, output, errors),
     }
 }

@@ -6,7 +6,8 @@ use cacache::env::{Clock, Env, Names, Reasons};
 use cacache::store::Store;
 use cacache::{Integrity, Result as Answered, WriteOpts};
 use cacache_keep::{
-    CompactOpts, OddLines, collect, collect_with, compact, plan, repair, repair_with, sweep, verify,
+    CompactOpts, OddLines, collect, collect_with, compact, plan, repair, repair_with, sweep, touch,
+    verify,
 };
 use cacache_program::keep::{run, said, tell_missing};
 use cacache_program::{Errors, asks_why, tell};
@@ -137,6 +138,7 @@ fn called<S: Store>(
         "read_sync" => told(alloc, cacache::read_sync(env, cache, words)),
         "remove_sync" => told(alloc, cacache::remove_sync(env, cache, words)),
         "remove_hash_sync" => removed(env, cache, words),
+        "touch" => told(alloc, touch(env, cache, words)),
         "write_each" => told(alloc, written_each(env, cache, number_of(words)?)),
         _ => kept(env, name, cache),
     }

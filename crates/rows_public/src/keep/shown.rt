@@ -26,6 +26,13 @@ impl Shown for Integrity {
     }
 }
 
+/// Whether a key that was touched has an entry.
+impl Shown for bool {
+    fn shown(&self, alloc: Global) -> Result<String, AllocError> {
+        format!(in alloc; "{self}")
+    }
+}
+
 /// The text of what a key leads to.
 impl Shown for Vec<u8> {
     fn shown(&self, alloc: Global) -> Result<String, AllocError> {

@@ -2,7 +2,7 @@
 use Rattle.std.{proofs.Common.{◌≡◌, ap, codes, false, true, refl, subst}, specs.Prelude.{option_map}}
 use Rattle.cacache_keep.specs.declared.checking.OddLines.TheVariants.{Ignore, Refuse}
 use Rattle.cacache_program.specs.{Words.{asked_of}, KeepWords.{IsWrong}, WordVerify.{Verifies}, WordCollect.{CollectsUnused}, WordCompact.{Compacts}, WordPlan.{Plans}, WordRepair.{Repairs}, WordSweep.{Sweeps}, WordList.{ListsVerdict}}
-use Rattle.cacache_program.proofs.{Asking.{asked_as, keyed_by, not_keyed, not_unkeyed, other_keyed, other_option, other_unkeyed, unkeyed_holds, unnamed_keyed}, keep.program.run.Goals.{in_default-via-in-verify-0+in-Some+in_default, in_default-via-in-collect-0+in-Some+in_default, in_default-via-in-plan-0+in-Some, in_default-via-in-sweep-0+in-Some, in_default-via-in-repair-0+in-Some+in_default, in_default-via-in-compact-0+in-Some+in_default, in_default-via-in_default}}
+use Rattle.cacache_program.proofs.{PruneAsked.{not_pruning}, Asking.{asked_as, keyed_by, not_keyed, not_unkeyed, other_keyed, other_option, other_unkeyed, unkeyed_holds, unnamed_keyed}, keep.program.run.Goals.{in_default-via-in-verify-0+in-Some+in_default, in_default-via-in-collect-0+in-Some+in_default, in_default-via-in-plan-0+in-Some, in_default-via-in-sweep-0+in-Some, in_default-via-in-repair-0+in-Some+in_default, in_default-via-in-compact-0+in-Some+in_default, in_default-via-in_default}}
 use Rattle.cacache_program.proofs.keep.program.run.Goals as goal
 
 pub returns-in-verify-default-None-clause-verifies : goal.returns-in-verify-default-None-clause-verifies
@@ -83,7 +83,7 @@ pub returns-in-verify-default-None-clause-compacts_durably : goal.returns-in-ver
 returns-in-verify-default-None-clause-compacts_durably g c = not_keyed _ c.parse_words.ensures (ap (option_map (λ k. k.now)) c.in-verify-default-None.is-2)
 
 pub returns-in-verify-default-None-clause-wrong : goal.returns-in-verify-default-None-clause-wrong
-returns-in-verify-default-None-clause-wrong g c = λ wrong. absurd ((subst IsWrong (asked_as c.parse_words.ensures c.in-verify-default-None.is-verify-0 (ap (option_map (λ k. k.now)) c.in-verify-default-None.is-2)) wrong).0 refl)
+returns-in-verify-default-None-clause-wrong g c = λ wrong. absurd ((subst IsWrong (asked_as c.parse_words.ensures c.in-verify-default-None.is-verify-0 (ap (option_map (λ k. k.now)) c.in-verify-default-None.is-2)) wrong.0).0 refl)
 
 -- ---- of `collect`
 
@@ -115,7 +115,7 @@ pub returns-in-collect-default-None-clause-compacts_durably : goal.returns-in-co
 returns-in-collect-default-None-clause-compacts_durably g c = not_keyed _ c.parse_words.ensures (ap (option_map (λ k. k.now)) c.in-collect-default-None.is-2)
 
 pub returns-in-collect-default-None-clause-wrong : goal.returns-in-collect-default-None-clause-wrong
-returns-in-collect-default-None-clause-wrong g c = λ wrong. absurd ((subst IsWrong (asked_as c.parse_words.ensures c.in-collect-default-None.is-collect-0 (ap (option_map (λ k. k.now)) c.in-collect-default-None.is-2)) wrong).1 refl)
+returns-in-collect-default-None-clause-wrong g c = λ wrong. absurd ((subst IsWrong (asked_as c.parse_words.ensures c.in-collect-default-None.is-collect-0 (ap (option_map (λ k. k.now)) c.in-collect-default-None.is-2)) wrong.0).1 refl)
 
 -- ---- of `plan`
 
@@ -147,7 +147,7 @@ pub returns-in-plan-default-None-clause-compacts_durably : goal.returns-in-plan-
 returns-in-plan-default-None-clause-compacts_durably g c = not_keyed _ c.parse_words.ensures (ap (option_map (λ k. k.now)) c.in-plan-default-None.is-2)
 
 pub returns-in-plan-default-None-clause-wrong : goal.returns-in-plan-default-None-clause-wrong
-returns-in-plan-default-None-clause-wrong g c = λ wrong. absurd ((subst IsWrong (asked_as c.parse_words.ensures c.in-plan-default-None.is-plan-0 (ap (option_map (λ k. k.now)) c.in-plan-default-None.is-2)) wrong).2 refl)
+returns-in-plan-default-None-clause-wrong g c = λ wrong. absurd ((subst IsWrong (asked_as c.parse_words.ensures c.in-plan-default-None.is-plan-0 (ap (option_map (λ k. k.now)) c.in-plan-default-None.is-2)) wrong.0).2 refl)
 
 -- ---- of `sweep`
 
@@ -179,7 +179,7 @@ pub returns-in-sweep-default-None-clause-compacts_durably : goal.returns-in-swee
 returns-in-sweep-default-None-clause-compacts_durably g c = not_keyed _ c.parse_words.ensures (ap (option_map (λ k. k.now)) c.in-sweep-default-None.is-2)
 
 pub returns-in-sweep-default-None-clause-wrong : goal.returns-in-sweep-default-None-clause-wrong
-returns-in-sweep-default-None-clause-wrong g c = λ wrong. absurd ((subst IsWrong (asked_as c.parse_words.ensures c.in-sweep-default-None.is-sweep-0 (ap (option_map (λ k. k.now)) c.in-sweep-default-None.is-2)) wrong).3 refl)
+returns-in-sweep-default-None-clause-wrong g c = λ wrong. absurd ((subst IsWrong (asked_as c.parse_words.ensures c.in-sweep-default-None.is-sweep-0 (ap (option_map (λ k. k.now)) c.in-sweep-default-None.is-2)) wrong.0).3 refl)
 
 -- ---- of `repair`
 
@@ -211,7 +211,7 @@ pub returns-in-repair-default-None-clause-compacts_durably : goal.returns-in-rep
 returns-in-repair-default-None-clause-compacts_durably g c = not_keyed _ c.parse_words.ensures (ap (option_map (λ k. k.now)) c.in-repair-default-None.is-2)
 
 pub returns-in-repair-default-None-clause-wrong : goal.returns-in-repair-default-None-clause-wrong
-returns-in-repair-default-None-clause-wrong g c = λ wrong. absurd ((subst IsWrong (asked_as c.parse_words.ensures c.in-repair-default-None.is-repair-0 (ap (option_map (λ k. k.now)) c.in-repair-default-None.is-2)) wrong).4 refl)
+returns-in-repair-default-None-clause-wrong g c = λ wrong. absurd ((subst IsWrong (asked_as c.parse_words.ensures c.in-repair-default-None.is-repair-0 (ap (option_map (λ k. k.now)) c.in-repair-default-None.is-2)) wrong.0).4 refl)
 
 -- ---- of `compact`
 
@@ -243,7 +243,7 @@ pub returns-in-compact-default-None-clause-compacts_durably : goal.returns-in-co
 returns-in-compact-default-None-clause-compacts_durably g c = not_keyed _ c.parse_words.ensures (ap (option_map (λ k. k.now)) c.in-compact-default-None.is-2)
 
 pub returns-in-compact-default-None-clause-wrong : goal.returns-in-compact-default-None-clause-wrong
-returns-in-compact-default-None-clause-wrong g c = λ wrong. absurd ((subst IsWrong (asked_as c.parse_words.ensures c.in-compact-default-None.is-compact-0 (ap (option_map (λ k. k.now)) c.in-compact-default-None.is-2)) wrong).5 refl)
+returns-in-compact-default-None-clause-wrong g c = λ wrong. absurd ((subst IsWrong (asked_as c.parse_words.ensures c.in-compact-default-None.is-compact-0 (ap (option_map (λ k. k.now)) c.in-compact-default-None.is-2)) wrong.0).5 refl)
 
 -- ---- of `verify --list`
 
@@ -374,3 +374,35 @@ returns-in_default-clause-compacts_durably g c =
       | in_default-via-in-compact-0+in-Some+in_default w ↦ other_option (codes "compact") (codes "--durable") _ c.parse_words.ensures (search)
       | in_default-via-in_default w ↦ unnamed_keyed (codes "compact") _ c.parse_words.ensures (search)
     ]
+
+-- ---- of `prune` and `plan-prune`
+
+pub returns-in-verify-default-None-clause-prunes : goal.returns-in-verify-default-None-clause-prunes
+returns-in-verify-default-None-clause-prunes g c = not_pruning c.args.words.now c.parse_words.ensures c.in-verify-default-None.is-verify-0 refl
+
+pub returns-in-collect-default-None-clause-prunes : goal.returns-in-collect-default-None-clause-prunes
+returns-in-collect-default-None-clause-prunes g c = not_pruning c.args.words.now c.parse_words.ensures c.in-collect-default-None.is-collect-0 refl
+
+pub returns-in-plan-default-None-clause-prunes : goal.returns-in-plan-default-None-clause-prunes
+returns-in-plan-default-None-clause-prunes g c = not_pruning c.args.words.now c.parse_words.ensures c.in-plan-default-None.is-plan-0 refl
+
+pub returns-in-sweep-default-None-clause-prunes : goal.returns-in-sweep-default-None-clause-prunes
+returns-in-sweep-default-None-clause-prunes g c = not_pruning c.args.words.now c.parse_words.ensures c.in-sweep-default-None.is-sweep-0 refl
+
+pub returns-in-repair-default-None-clause-prunes : goal.returns-in-repair-default-None-clause-prunes
+returns-in-repair-default-None-clause-prunes g c = not_pruning c.args.words.now c.parse_words.ensures c.in-repair-default-None.is-repair-0 refl
+
+pub returns-in-compact-default-None-clause-prunes : goal.returns-in-compact-default-None-clause-prunes
+returns-in-compact-default-None-clause-prunes g c = not_pruning c.args.words.now c.parse_words.ensures c.in-compact-default-None.is-compact-0 refl
+
+pub returns-in-verify-text-Some-clause-prunes : goal.returns-in-verify-text-Some-clause-prunes
+returns-in-verify-text-Some-clause-prunes g c = not_pruning c.args.words.now c.parse_words.ensures c.in-verify-text-Some.is-verify-0 refl
+
+pub returns-in-collect-text-Some-clause-prunes : goal.returns-in-collect-text-Some-clause-prunes
+returns-in-collect-text-Some-clause-prunes g c = not_pruning c.args.words.now c.parse_words.ensures c.in-collect-text-Some.is-collect-0 refl
+
+pub returns-in-repair-text-Some-clause-prunes : goal.returns-in-repair-text-Some-clause-prunes
+returns-in-repair-text-Some-clause-prunes g c = not_pruning c.args.words.now c.parse_words.ensures c.in-repair-text-Some.is-repair-0 refl
+
+pub returns-in-compact-text-Some-clause-prunes : goal.returns-in-compact-text-Some-clause-prunes
+returns-in-compact-text-Some-clause-prunes g c = not_pruning c.args.words.now c.parse_words.ensures c.in-compact-text-Some.is-compact-0 refl
