@@ -10,14 +10,21 @@ mod responses;
 mod threads;
 
 use anyhow::{Result, bail};
+use std::alloc::AllocGlobal;
+use std::random::RandomSource;
+use std::sync::Wait;
 use std::thread::Threads;
 
-/// Runs a command. `rt` starts threads, and `host` is the same runtime.
-fn run<R: Threads + Sync>(rt: &R, host: HostRuntime, command: &str) -> Result<()> {
+/// Runs a command. `rt` waits and starts threads, and `host` is the same runtime.
+fn run<R>(rt: &R, host: HostRuntime, command: &str) -> Result<()>
+where
+    R: Threads + Wait + RandomSource + Print + AllocGlobal + Sync,
+{
     let words: Vec<&str> = command.split_whitespace().collect(host.alloc())?;
     match words.as_slice() {
         ["fetch", words @ ..] => fetch::run(host, words),
         ["ccache", words @ ..] => ccache::run(host, words),
+        ["downloads"] => Ok(downloads::run(rt, host)?),
         ["responses"] => Ok(responses::run(host)?),
         ["threads"] => Ok(threads::run(rt, host)?),
         _ => bail!("There is no program {command}"),
@@ -28,7 +35,6 @@ fn main(rt: HostRuntime) -> Result<()> {
     for line in rt.lines(rt.alloc()) {
         match line?.as_str() {
             "calls" => calls::run(rt, rt)?,
-            "downloads" => downloads::run(rt, rt)?,
             command => run(&rt, rt, command)?,
         }
     }
