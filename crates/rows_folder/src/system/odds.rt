@@ -29,8 +29,6 @@ pub(crate) enum Odd {
     Access,
     OwnPlace,
     CopySelf,
-    ListOrder,
-    ListLate,
     Lacking,
 }
 
@@ -77,8 +75,6 @@ impl Odd {
             Odd::Access => "access",
             Odd::OwnPlace => "own-place",
             Odd::CopySelf => "copy-self",
-            Odd::ListOrder => "list-order",
-            Odd::ListLate => "list-late",
             _ => "lacking",
         }
     }

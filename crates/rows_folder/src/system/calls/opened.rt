@@ -1,13 +1,15 @@
 //! Calls on open files, and on folders that are listed.
 use crate::system::calls::ask::{Ask, Call};
-use crate::system::calls::side::{read_text, shown};
+use crate::system::calls::side::{Side, read_text, shown};
 use crate::system::calls::trying::{Answers, Calls};
+use crate::system::inodes::Inodes;
 use crate::system::look::What;
 use crate::system::odds::Odd;
 use crate::system::told::failure;
 use crate::system::world::{Bad, World};
 use cacache_core::keeping::{beside, set};
 use cacache_store::store::Kind;
+use cacache_system_model::memory::MemorySystem;
 use std::alloc::AllocError;
 use std::io::ErrorKind;
 
@@ -26,6 +28,41 @@ pub(crate) struct Open {
     pub(crate) path: String,
     pub(crate) way: Way,
     pub(crate) offset: usize,
+}
+
+impl Open {
+    /// Finds it by a name that it has now. Whether it has one.
+    fn follow(&mut self, inodes: &Inodes) -> Result<bool, AllocError> {
+        let Some(number) = self.number else {
+            return Ok(true);
+        };
+        let Some(name) = inodes.names(number).first() else {
+            return Ok(false);
+        };
+        set(&mut self.path, name.clone()?);
+        Ok(true)
+    }
+}
+
+/// Opens a file once more in memory, by a name that it has now, if it has one.
+fn reopen_in(
+    memory: &mut Side<MemorySystem>,
+    inodes: &Inodes,
+    place: usize,
+    kept: &mut Option<Open>,
+) -> Result<(), AllocError> {
+    let Some(open) = kept else {
+        return Ok(());
+    };
+    if !open.follow(inodes)? {
+        return Ok(());
+    }
+    let read = if open.way == Way::Read {
+        open.offset
+    } else {
+        0
+    };
+    memory.reopen(place, open.path.as_str(), read)
 }
 
 /// A folder that is listed: the names that it had when it was opened, those that it gave, and how many calls on paths came
@@ -171,8 +208,40 @@ impl Calls {
         Ok(true)
     }
 
+    /// Opens the file of a place once more in memory.
+    pub(crate) fn reopen(&mut self, place: usize) -> Result<(), AllocError> {
+        self.memory.keep(place, None);
+        match self.open.get_mut(place) {
+            Some(kept) => reopen_in(&mut self.memory, &self.world.inodes, place, kept),
+            None => Ok(()),
+        }
+    }
+
+    /// Keeps a file or folder that was opened at a path without links.
+    pub(crate) fn keep_opened(&mut self, call: &Call, path: &str) -> Result<(), Bad> {
+        let way = match call.ask {
+            Ask::OpenToRead => Way::Read,
+            Ask::CreateNew => Way::Own,
+            Ask::OpenToAppend => Way::End,
+            _ => return Ok(self.keep_list(call.place, path)?),
+        };
+        let open = Open {
+            number: self.world.inodes.number_of(path),
+            path: String::from_str(self.world.alloc, path)?,
+            way,
+            offset: 0,
+        };
+        if let Some(kept) = self.open.get_mut(call.place) {
+            set(kept, Some(open));
+        }
+        if call.one.as_str() != path {
+            self.reopen(call.place)?;
+        }
+        Ok(())
+    }
+
     /// Keeps a folder that was opened.
-    pub(crate) fn keep_list(&mut self, place: usize, folder: &str) -> Result<(), AllocError> {
+    fn keep_list(&mut self, place: usize, folder: &str) -> Result<(), AllocError> {
         let names = self.world.names_in(folder)?;
         let given = Vec::new(self.world.alloc);
         let changes = self.changes;
@@ -189,22 +258,16 @@ impl Calls {
         Ok(())
     }
 
-    /// How the names of a listing that ended differ from those that there were at its beginning.
-    fn odd_list(&mut self, mut list: List) -> Result<(), Bad> {
-        let is_in_order = list.given == list.names;
+    /// Fails if a listing that ended gave other names than there were at its beginning. Their order may be any, and if calls on
+    /// paths came meanwhile, the names may be others.
+    fn check_list(&mut self, mut list: List) -> Result<(), Bad> {
         list.given.sort()?;
         list.names.sort()?;
-        let is_same = list.given == list.names;
-        if is_in_order {
-            Ok(())
-        } else if is_same {
-            Ok(self.world.tally.add(Odd::ListOrder)?)
-        } else if list.changes != self.changes {
-            Ok(self.world.tally.add(Odd::ListLate)?)
-        } else {
-            let how = String::from_str(self.world.alloc, "a folder has other names")?;
-            Err(self.world.differs(how))
+        if list.given == list.names || list.changes != self.changes {
+            return Ok(());
         }
+        let how = String::from_str(self.world.alloc, "a folder has other names")?;
+        Err(self.world.differs(how))
     }
 
     /// Reads names of the folder at its place; whether there is one.
@@ -227,7 +290,7 @@ impl Calls {
             }
         }
         if came.as_str() == "Bytes " {
-            self.odd_list(list)?;
+            self.check_list(list)?;
         } else {
             set(kept, Some(list));
         }

@@ -1,7 +1,6 @@
 //! Calls on paths.
 use crate::system::acts::{Act, Deed};
 use crate::system::calls::ask::{Ask, Call};
-use crate::system::calls::opened::{Open, Way};
 use crate::system::calls::side::shown;
 use crate::system::calls::trying::{Answers, Calls};
 use crate::system::fates::Fate;
@@ -14,7 +13,7 @@ use crate::system::odds::Odd;
 use crate::system::told::failure;
 use crate::system::world::{Bad, World, applied};
 use cacache_core::bytes::Bytes;
-use cacache_core::keeping::{beside, let_go, set};
+use cacache_core::keeping::{beside, let_go};
 use cacache_core::text::Text;
 use cacache_disk::Path;
 use cacache_store::store::{Kind, PlainTemp, Step};
@@ -61,6 +60,15 @@ impl<'a> Look<'a> {
             (_, act) => self.place(act, one)?,
         };
         Ok((path, String::new(self.alloc)))
+    }
+
+    /// The same, without the kinds of difference that are of a store's steps alone.
+    fn ends_of(&mut self, inodes: &Inodes, call: &Call) -> Result<(String, String), Halt> {
+        let ends = self.ends(inodes, call);
+        if matches!(self.odds.own, Some(Odd::Replaced | Odd::LinkedFolder)) {
+            self.odds.own = None;
+        }
+        ends
     }
 }
 
@@ -163,16 +171,12 @@ impl Calls {
     fn fate_of(&self, call: &Call) -> Result<Option<(Fate, Option<Odd>)>, Bad> {
         let inodes = &self.world.inodes;
         let mut look = self.world.look();
-        let fate = match look.ends(inodes, call) {
+        let fate = match look.ends_of(inodes, call) {
             Ok((one, two)) => Fate::Does(one, two),
             Err(Halt::Fails(kind)) => Fate::Fails(kind),
             Err(Halt::Outside) => return Ok(None),
             Err(Halt::NoMemory) => return Err(Bad::Flaw(Flaw::NoMemory)),
         };
-        // kinds of a store's steps alone
-        if matches!(look.odds.own, Some(Odd::Replaced | Odd::LinkedFolder)) {
-            look.odds.own = None;
-        }
         let odd = match (&fate, look.odds.kind(Some(call.ask.act()))) {
             (Fate::Does(one, two), None)
                 if call.ask == Ask::CopyFile && inodes.number_of(one) == inodes.number_of(two) => {
@@ -229,29 +233,6 @@ impl Calls {
             Ask::CopyFile => Ok((self.world.drawn(&deed_of(self.world.alloc, call)?)?, true)),
             ask => Ok((self.memory.ask(ask, call)?, false)),
         }
-    }
-
-    /// Keeps a file or folder that was opened at a path without links.
-    fn keep_opened(&mut self, call: &Call, path: &str) -> Result<(), Bad> {
-        let way = match call.ask {
-            Ask::OpenToRead => Way::Read,
-            Ask::CreateNew => Way::Own,
-            Ask::OpenToAppend => Way::End,
-            _ => return Ok(self.keep_list(call.place, path)?),
-        };
-        let open = Open {
-            number: self.world.inodes.number_of(path),
-            path: String::from_str(self.world.alloc, path)?,
-            way,
-            offset: 0,
-        };
-        if let Some(kept) = self.open.get_mut(call.place) {
-            set(kept, Some(open));
-        }
-        if call.one.as_str() != path {
-            self.reopen(call.place)?;
-        }
-        Ok(())
     }
 
     /// Compares the answers to a call, and keeps what it opened.

@@ -1,6 +1,6 @@
 //! A real folder and a system in memory on which the same calls are made.
 use crate::system::calls::ask::{Ask, Call, PLACES};
-use crate::system::calls::opened::{List, Open, Way};
+use crate::system::calls::opened::{List, Open};
 use crate::system::calls::side::Side;
 use crate::system::draws::Draws;
 use crate::system::odds::Odd;
@@ -84,26 +84,6 @@ impl Calls {
             _ => {}
         }
         Ok(effect.is_some() || drawn != came)
-    }
-
-    /// Opens a file once more in memory, by a name that it has now, if it has one.
-    pub(crate) fn reopen(&mut self, place: usize) -> Result<(), AllocError> {
-        self.memory.keep(place, None);
-        let Some(Some(open)) = self.open.get_mut(place) else {
-            return Ok(());
-        };
-        if let Some(number) = open.number {
-            let Some(name) = self.world.inodes.names(number).first() else {
-                return Ok(());
-            };
-            set(&mut open.path, name.clone()?);
-        }
-        let read = if open.way == Way::Read {
-            open.offset
-        } else {
-            0
-        };
-        self.memory.reopen(place, open.path.as_str(), read)
     }
 
     /// Begins anew in memory with what Linux has, if both differ.
