@@ -13,7 +13,7 @@ use Rattle.cacache_loss.specs.Fixing.{Fixed, fixed_after, synced, is_at, is_chil
 use Rattle.cacache_system.specs.{declared.call.{FileInfo.{FileInfo}, CallResult.{CallResult}}, CallsOf.{to_sync, to_sync_folder, only, if_folder, opened}, Seen.{NumberedTemp, NumberedStep}, AnswersOf.{Hint, first, answer_of, failed_with, refuses_memory, leaves_a_part}}
 use Rattle.cacache_system.specs.declared.call.SystemCall.TheVariants as asks
 use Rattle.cacache_system.specs.declared.call.CallResult.TheVariants as says
-use Rattle.cacache_system_model.specs.{Machine.{OpenFile, Machine, SyncedNode, in_doubt, Describes}, Calls.{OccursSomehow}, Laws.{bytes_in, temp_on, step_on, answer_on, Leads}, OneCall.{StillStands}, Syncing.{EndsInNoLink}, Fixing.{with_synced, after_syncs, NoDoubt}}
+use Rattle.cacache_system_model.specs.{Machine.{Place, under, nameless, node_of, Machine, SyncedNode, with_sync, in_doubt, Describes}, Calls.{OccursSomehow}, Laws.{bytes_in, temp_on, step_on, answer_on, Leads}, OneCall.{StillStands}, Syncing.{EndsInNoLink}, Fixing.{with_synced, after_syncs, NoDoubt}}
 use Rattle.cacache_system_model.proofs.{Claims.{way_of}, Steps.{Opening.{OpenedOn, Openings, opening_leads, file_under}, Looking.{link_there, refused_folder, wanted_file}, Syncing.{WasSynced, sync_leads, refused_other}}, Views.{nowhere, a_folder, a_file, view, leads_straight}}
 
 -- a step fixes what its calls synced, and nothing else
@@ -43,9 +43,10 @@ FixesNone m n = (nodes : List SyncedNode) × (n.synced ≡ nodes ++ m.synced) ×
 no_syncs : (m n : Machine) → n.synced ≡ m.synced → FixesNone m n
 no_syncs m n same = ([], same, λ fixed. refl)
 
-failed_syncs : (m n l : Machine) (names : Names) → n.synced ≡ m.synced → (l.synced ≡ n.synced) ⊎ (l.synced ≡ (names, None) ∷ n.synced) → FixesNone m l
-failed_syncs m n l names same (inl stays) = no_syncs m l (stays ∙ same)
-failed_syncs m n l names same (inr doubt) =
+failed_syncs : (m n l : Machine) (place : Place) → n.synced ≡ m.synced → (l.synced ≡ n.synced) ⊎ (l.synced ≡ with_sync place None n.synced) → FixesNone m l
+failed_syncs m n l place same (inl stays) = no_syncs m l (stays ∙ same)
+failed_syncs m n l (nameless mark here) same (inr doubt) = no_syncs m l (doubt ∙ same)
+failed_syncs m n l (under names) same (inr doubt) =
     ((names, None) ∷ [], doubt ∙ ap (λ (s : List SyncedNode). let r : List SyncedNode = (names, None) ∷ s in r) same, λ fixed. refl)
 
 file_failed : (m n : Machine) (path : List ℕ) (why : ErrorKind) → FixesNone m n → FixesSynced m (steps.SyncFile path) (says.Failed why) n
@@ -82,7 +83,7 @@ file_fixed fixed t path names bytes is stands =
     ∙ same_bytes fixed (λ q. same_path q names) (λ q. bytes_of (look t q)) (λ q. bytes)
     (λ q same. ap (λ (n : Names). bytes_of (look t n)) (same_path-true q names same) ∙ ap bytes_of stands)
 
-synced_more : (m n l : Machine) (names : Names) (node : Node) → WasSynced n l names → n.synced ≡ m.synced → n.tree ≡ m.tree → look m.tree names ≡ Some node → NoDoubt m
+synced_more : (m n l : Machine) (names : Names) (node : Node) → WasSynced n l (under names) → n.synced ≡ m.synced → n.tree ≡ m.tree → look m.tree names ≡ Some node → NoDoubt m
     → l.synced ≡ (names, Some node) ∷ m.synced
 synced_more m n l names node was same tree stands sure =
     was.synced
@@ -100,7 +101,7 @@ module _ (m : Machine) (path : List ℕ) (sure : NoDoubt m) where
       wanted_file false info.kind (only (asks.Sync number)) n (FixesSynced m (steps.SyncFile path)) described.kind
       (sync_leads false n number _ (FixesSynced m (steps.SyncFile path)) open_on.file
       (λ l was. ((names, Some (File bytes)) ∷ [], synced_more m n l names (File bytes) was open_on.synced open_on.tree stands sure, λ fixed. file_fixed fixed m.tree path names bytes (leads_found m.tree path names is) stands))
-      (λ why l broke fine stays. file_failed m l path why (failed_syncs m n l names open_on.synced stays.synced)))
+      (λ why l broke fine stays. file_failed m l path why (failed_syncs m n l (under names) open_on.synced stays.synced)))
   file_opens number names (Link target) info n inode is stands open_on described = absurd (link_there m.tree path names target is stands)
 
   file_fixes : Openings false m to_sync path (FixesSynced m (steps.SyncFile path))
@@ -129,7 +130,7 @@ module _ (m : Machine) (path : List ℕ) (none : EndsInNoLink m.tree path) (sure
         synced_more m n l names Folder was open_on.synced open_on.tree stands sure,
         λ fixed. folder_fixed fixed path names (place_ok m.tree path names (sym (leads_straight m.tree path none) ∙ leads_found m.tree path names is)),
       ))
-      (λ why l broke fine stays. folder_failed m l path why (failed_syncs m n l names open_on.synced stays.synced)))
+      (λ why l broke fine stays. folder_failed m l path why (failed_syncs m n l (under names) open_on.synced stays.synced)))
   folder_opens number names (File bytes) info n inode is stands open_on described =
       refused_other false info.kind kind.NotADirectory (only (asks.Sync number)) n (FixesSynced m (steps.SyncDir path)) described.kind (folder_failed m n path kind.NotADirectory (no_syncs m n open_on.synced))
   folder_opens number names (Link target) info n inode is stands open_on described = absurd (link_there m.tree path names target is stands)
@@ -156,19 +157,15 @@ temp_fixed fixed path held names bytes named is =
     ap (λ (r : Result Names Fault). with_bytes fixed (is_at r) (λ q. unwrap_or held [])) named
     ∙ ap (λ (o : Option (List ℕ)). with_bytes fixed (λ q. same_path q names) (λ q. unwrap_or o [])) is
 
-temp_names : (file : Option OpenFile) (f : OpenFile) (names : Names) → file ≡ Some f → option_map (λ (g : OpenFile). g.names) file ≡ Some names → f.names ≡ names
-temp_names file f names is at = let same : Some f.names ≡ Some names = ap (option_map (λ (g : OpenFile). g.names)) (sym is) ∙ at in cc
-
 pub sync_temp_fixes : (m : Machine) (hint : Hint) (temp : NumberedTemp) (names : Names) (bytes : List ℕ) → StillStands m temp names bytes → NoDoubt m → FixesAsTold m hint (steps.SyncTemp temp)
 sync_temp_fixes m hint temp names bytes ready sure =
-    let file = file_under (m.files temp.number) names ready.opened in
-    let at : file.0.names ≡ names = temp_names (m.files temp.number) file.0 names file.1 ready.opened in
+    let file = file_under (m.files temp.number) (under names) ready.opened in
     let held : option_map (bytes_in m) (m.files temp.number) ≡ Some bytes
-    = ap (option_map (bytes_in m)) file.1 ∙ ap (λ (n : Names). Some (bytes_of (look m.tree n))) at ∙ ap (λ (o : Option Node). Some (bytes_of o)) ready.stands in
+    = ap (option_map (bytes_in m)) file.1 ∙ ap (λ (p : Place). Some (bytes_of (node_of m.tree p))) file.2 ∙ ap (λ (o : Option Node). Some (bytes_of o)) ready.stands in
     sync_leads false m temp.number file.0 (FixesSynced m (steps.SyncTemp temp)) file.1
     (λ l was. (
       (names, Some (File bytes)) ∷ [],
-      synced_more m m l names (File bytes) (subst (λ (n : Names). WasSynced m l n) at was) refl refl ready.stands sure,
+      synced_more m m l names (File bytes) (subst (λ (p : Place). WasSynced m l p) file.2 was) refl refl ready.stands sure,
       λ fixed. temp_fixed fixed temp.path (option_map (bytes_in m) (m.files temp.number)) names bytes ready.named held,
     ))
-    (λ why l broke fine stays. temp_failed m l temp why (failed_syncs m m l file.0.names refl stays.synced))
+    (λ why l broke fine stays. temp_failed m l temp why (failed_syncs m m l file.0.place refl stays.synced))

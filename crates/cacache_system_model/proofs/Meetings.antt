@@ -7,7 +7,7 @@ use Rattle.std_io.specs.declared.io.kind.ErrorKind.TheVariants as kind
 use Rattle.cacache_system.specs.declared.call.{FileInfo.{FileInfo}, CallResult.{CallResult}}
 use Rattle.cacache_system.specs.declared.call.SystemCall.TheVariants as asks
 use Rattle.cacache_system.specs.declared.call.CallResult.TheVariants as says
-use Rattle.cacache_system_model.specs.{Machine.{OpenFile, Machine, fixes, Became, IsRefused, ChangesTree, OpensIf, with_file, unread, is_regular, Describes, ShowsNode, ShowsEnd, ReadsFile, GivesOwner, link_fault, LinksNode, found_bytes, CopiesBytes, CopiesTo, MovesNode, with_empty, Spells, SpellsEnd}, Calls.{brought}, Folders.{GivesNames, ended, HasLeft, OpensNames, OpensFolder, ReadsSome}, Meeting.{HasRoom, CallsCanGoWell}}
+use Rattle.cacache_system_model.specs.{Machine.{Place, under, nameless, OpenFile, node_of, SyncedNode, Machine, gone, moved, grown, placed, ChangesPlaces, Grows, ShowsPlace, with_sync, fixes, Became, IsRefused, ChangesTree, OpensIf, with_file, unread, is_regular, Describes, ShowsNode, ShowsEnd, ReadsFile, GivesOwner, link_fault, LinksNode, found_bytes, CopiesBytes, CopiesTo, MovesNode, with_empty, Spells, SpellsEnd}, Calls.{brought}, Folders.{GivesNames, ended, HasLeft, OpensNames, OpensFolder, ReadsSome}, Meeting.{HasRoom, CallsCanGoWell}}
 use Rattle.cacache_system_model.proofs.Saying.{CanSay, a_folder, Sayable, place_say, standing_say, found_say, writable_say, free_say, replaceable_say, removable_say, emptied_say, file_say, LinkSayable, linked_say}
 use Rattle.cacache_store.specs.declared.store.answer.Name.{Name}
 
@@ -22,15 +22,27 @@ Can Claim = (said : CallResult) × (after : Machine) × Claim said after
 can_refuse : (fault : Fault) (m : Machine) → CanSay fault → Can (IsRefused fault m)
 can_refuse fault m (why, is, memory) = (says.Failed why, m, (why, refl, is, memory, refl))
 
+-- the machine with another tree, other open files and other syncs
+abbrev becoming : Machine → Tree → (ℕ → Option OpenFile) → List SyncedNode → Machine
+becoming m t files synced = record { tree = t; files = files; synced = synced; inodes = m.inodes; folders = m.folders; order = m.order }
+
 abbrev standing_on : Machine → Tree → Machine
-standing_on m t = record { tree = t; files = m.files; synced = m.synced; inodes = m.inodes; folders = m.folders; order = m.order }
+standing_on m t = becoming m t m.files m.synced
 
 abbrev open_on : Machine → Tree → ℕ → OpenFile → Machine
-open_on m t number file = record { tree = t; files = with_file m.files number file; synced = m.synced; inodes = m.inodes; folders = m.folders; order = m.order }
+open_on m t number file = becoming m t (with_file m.files number file) m.synced
 
 can_change : (m : Machine) (ends : Result Names Fault) (new : Names → Tree) → Sayable ends → Can (ChangesTree ends new m)
 can_change m (Ok names) new can = (says.Done, standing_on m (new names), (refl, (refl, refl, refl, λ k. refl)))
 can_change m (Err fault) new can = can_refuse fault m can
+
+can_replace : (m : Machine) (ends : Result Names Fault) (new : Names → Tree) (places : Names → ℕ → Place → Place) → Sayable ends → Can (ChangesPlaces ends new places m)
+can_replace m (Ok names) new places can = (says.Done, becoming m (new names) (placed (places names 0) m.files) m.synced, (0, refl, (refl, refl, refl, λ k. refl)))
+can_replace m (Err fault) new places can = can_refuse fault m can
+
+can_grow : (m : Machine) (place : Place) (count : ℕ) (more : List ℕ) → Can (λ said after. (said ≡ says.Count count) × Grows place more m after)
+can_grow m (under names) count more = (says.Count count, standing_on m (lengthened m.tree names more), (refl, (refl, refl, refl, λ k. refl)))
+can_grow m (nameless mark here) count more = (says.Count count, becoming m m.tree (placed (grown mark more) m.files) m.synced, (refl, (refl, refl, refl, λ k. refl)))
 
 can_open : (m : Machine) (ends : Result Names Fault) (new : Names → Tree) → HasRoom m → Sayable ends → Can (OpensIf ends new m)
 can_open m (Ok names) new (number, room) can = (says.Opened number, open_on m (new names) number (unread names), (number, refl, room, (refl, refl, refl, λ k. refl)))
@@ -55,6 +67,11 @@ can_show_node m names None is =
 can_show_node m names (Some node) is =
     (says.Info (info_of node (m.inodes names)), m, (info_of node (m.inodes names), refl, subst (λ (o : Option Node). IfSome o (λ x. Describes x (m.inodes names) (info_of node (m.inodes names)))) (sym is) (described node (m.inodes names)), refl))
 
+can_show_place : (m : Machine) (place : Place) → Can (ShowsPlace place m)
+can_show_place m (under names) = can_show_node m names (look m.tree names) refl
+can_show_place m (nameless mark None) = (says.Info (info_of Folder (0, 0)), m, (info_of Folder (0, 0), refl, tt, refl))
+can_show_place m (nameless mark (Some node)) = (says.Info (info_of node (0, 0)), m, (info_of node (0, 0), refl, ((0, 0), described node (0, 0)), refl))
+
 can_show : (m : Machine) (ends : Result Names Fault) → Sayable ends → Can (ShowsEnd ends m)
 can_show m (Ok names) can = can_show_node m names (look m.tree names) refl
 can_show m (Err fault) can = can_refuse fault m can
@@ -72,12 +89,12 @@ can_read : (m : Machine) (pick : List ℕ → List ℕ) (number : ℕ) (file : O
 can_read m pick number file (Some Folder) = can_refuse IsADirectory m a_folder
 can_read m pick number file (Some (File bytes)) =
     let next = pick (drop file.read bytes) in
-    (says.Bytes next, open_on m m.tree number (record { names = file.names; read = file.read + length next }), (refl, (refl, refl, refl, λ k. refl)))
+    (says.Bytes next, open_on m m.tree number (record { place = file.place; read = file.read + length next }), (refl, (refl, refl, refl, λ k. refl)))
 can_read m pick number file here = (says.Done, m, tt)
 
 can_move : (m : Machine) (old : Names) (here : Option Node) (ends : Result Names Fault) → Sayable ends → Can (MovesNode old here ends m)
-can_move m old (Some (File bytes)) ends can = can_change m ends (λ new. put (cut m.tree old) new (File bytes)) can
-can_move m old (Some (Link target)) ends can = can_change m ends (λ new. put (cut m.tree old) new (Link target)) can
+can_move m old (Some (File bytes)) ends can = can_replace m ends (λ new. put (cut m.tree old) new (File bytes)) (moved m.tree old) can
+can_move m old (Some (Link target)) ends can = can_replace m ends (λ new. put (cut m.tree old) new (Link target)) (moved m.tree old) can
 can_move m old here ends can = (says.Done, m, tt)
 
 can_rename : (m : Machine) (from : Result Names Fault) (ends : Result Names Fault) → Sayable from → Sayable ends
@@ -159,26 +176,26 @@ calls_can_go_well most m (asks.OpenToRead path) room spelt = can_open m (found m
 calls_can_go_well most m (asks.CreateNew path mode) room spelt = can_open m (free m.tree path) (λ names. put m.tree names (File [])) room (free_say m.tree path)
 calls_can_go_well most m (asks.OpenToAppend path) room spelt = can_open m (writable m.tree path) (with_empty m.tree) room (writable_say m.tree path)
 calls_can_go_well most m (asks.Read number size) room spelt =
-    of_open (m.files number) (m.folders number) (λ file. ReadsFile (take (readable most size)) number file (look m.tree file.names) m) m (λ file. can_read m (take (readable most size)) number file (look m.tree file.names))
+    of_open (m.files number) (m.folders number) (λ file. ReadsFile (take (readable most size)) number file (node_of m.tree file.place) m) m (λ file. can_read m (take (readable most size)) number file (node_of m.tree file.place))
 calls_can_go_well most m (asks.ReadRest number) room spelt =
-    of_open (m.files number) (m.folders number) (λ file. ReadsFile (λ bytes. bytes) number file (look m.tree file.names) m) m (λ file. can_read m (λ bytes. bytes) number file (look m.tree file.names))
+    of_open (m.files number) (m.folders number) (λ file. ReadsFile (λ bytes. bytes) number file (node_of m.tree file.place) m) m (λ file. can_read m (λ bytes. bytes) number file (node_of m.tree file.place))
 calls_can_go_well most m (asks.Write number bytes) room spelt =
-    of_open (m.files number) (m.folders number) (λ file said after. (said ≡ says.Count (taken most bytes)) × Became m (lengthened m.tree file.names (take (taken most bytes) bytes)) m.files m.synced after) m
-    (λ file. (says.Count (taken most bytes), standing_on m (lengthened m.tree file.names (take (taken most bytes) bytes)), (refl, (refl, refl, refl, λ k. refl))))
+    of_open (m.files number) (m.folders number) (λ file said after. (said ≡ says.Count (taken most bytes)) × Grows file.place (take (taken most bytes) bytes) m after) m
+    (λ file. can_grow m file.place (taken most bytes) (take (taken most bytes) bytes))
 calls_can_go_well most m (asks.Sync number) room spelt =
-    of_open (m.files number) (m.folders number) (λ file said after. (said ≡ says.Done) × Became m m.tree m.files ((file.names, fixes m.synced (look m.tree file.names)) ∷ m.synced) after) m
-    (λ file. (says.Done, record { tree = m.tree; files = m.files; synced = (file.names, fixes m.synced (look m.tree file.names)) ∷ m.synced; inodes = m.inodes; folders = m.folders; order = m.order }, (refl, (refl, refl, refl, λ k. refl))))
+    of_open (m.files number) (m.folders number) (λ file said after. (said ≡ says.Done) × Became m m.tree m.files (with_sync file.place (fixes m.synced (node_of m.tree file.place)) m.synced) after) m
+    (λ file. (says.Done, becoming m m.tree m.files (with_sync file.place (fixes m.synced (node_of m.tree file.place)) m.synced), (refl, (refl, refl, refl, λ k. refl))))
 calls_can_go_well most m (asks.SetOwner path owner group) room spelt = can_own m (standing m.tree path) (standing_say m.tree path)
 calls_can_go_well most m (asks.SetMode number mode) room spelt =
     of_open (m.files number) (m.folders number) (λ file said after. (said ≡ says.Done) × (after ≡ m)) m (λ file. (says.Done, m, (refl, refl)))
 calls_can_go_well most m (asks.StatFile number) room spelt =
-    of_open (m.files number) (m.folders number) (λ file. ShowsNode file.names m) m (λ file. can_show_node m file.names (look m.tree file.names) refl)
+    of_open (m.files number) (m.folders number) (λ file. ShowsPlace file.place m) m (λ file. can_show_place m file.place)
 calls_can_go_well most m (asks.Stat path) room spelt = can_show m (found m.tree path) (found_say m.tree path)
 calls_can_go_well most m (asks.StatLink path) room spelt = can_show m (standing m.tree path) (standing_say m.tree path)
 calls_can_go_well most m (asks.Rename from to) room spelt = can_rename m (place m.tree from) (replaceable m.tree to) (place_say m.tree from) (replaceable_say m.tree to)
 calls_can_go_well most m (asks.MakeFolder path) room spelt = can_change m (free m.tree path) (λ names. put m.tree names Folder) (free_say m.tree path)
-calls_can_go_well most m (asks.RemoveFile path) room spelt = can_change m (removable m.tree path) (cut m.tree) (removable_say m.tree path)
-calls_can_go_well most m (asks.RemoveFolder path) room spelt = can_change m (emptied m.tree path) (cut m.tree) (emptied_say m.tree path)
+calls_can_go_well most m (asks.RemoveFile path) room spelt = can_replace m (removable m.tree path) (cut m.tree) (gone m.tree) (removable_say m.tree path)
+calls_can_go_well most m (asks.RemoveFolder path) room spelt = can_replace m (emptied m.tree path) (cut m.tree) (gone m.tree) (emptied_say m.tree path)
 calls_can_go_well most m (asks.Symlink target path) room spelt = can_change m (free m.tree path) (λ names. put m.tree names (Link target)) (free_say m.tree path)
 calls_can_go_well most m (asks.HardLink from to) room spelt = can_link m (linked m.tree from) (free m.tree to) (linked_say m.tree from (free m.tree to) (free_say m.tree to)) (free_say m.tree to)
 calls_can_go_well most m (asks.CopyFile from to) room spelt = can_copy m (brought m.tree from to) (writable m.tree to) (brought_say (leads m.tree from) (writable m.tree to) (file_at m.tree from InvalidInput) (file_say m.tree from)) (writable_say m.tree to)

@@ -6,6 +6,7 @@ pub mod OpenTemps
 pub mod Following
 pub mod Covering
 pub mod OpenCalls
+pub mod CopyTargets
 pub mod ListCalls
 pub mod FreshFiles
 pub mod StayingOpen

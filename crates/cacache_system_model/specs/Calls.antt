@@ -2,11 +2,11 @@
 use Rattle.std.specs.Prelude.{◌≡◌, ◌||◌, ℕ, Bool, true, false, List, [], ◌∷◌, Option, None, Some, Result, Ok, MatchResult, take}
 use Rattle.std_io.specs.declared.io.kind.ErrorKind.{ErrorKind}
 use Rattle.cacache_core.specs.{Contexts.{fault_of}, declared.errors.Fault.{Fault, TheVariants.{InvalidInput}}, PathNames.{Names}}
-use Rattle.cacache_disk.specs.{declared.{luck.Luck.{Luck, TheVariants.{Plain, Fail, Take}}, node.Node.TheVariants.{Folder, File, Link}}, Tree.{Tree, look, put, cut}, LedTo.{place, standing, leads, found, writable, free, replaceable, file_at, linked, removable, emptied}, Apply.{taken, readable, lengthened}}
+use Rattle.cacache_disk.specs.{declared.{luck.Luck.{Luck, TheVariants.{Plain, Fail, Take}}, node.Node.TheVariants.{Folder, File, Link}}, Tree.{Tree, look, put}, LedTo.{place, standing, leads, found, writable, free, replaceable, file_at, linked, removable, emptied}, Apply.{taken, readable}}
 use Rattle.cacache_system.specs.{declared.call.{SystemCall.{SystemCall}, CallItem.{CallItem}, CallResult.{CallResult}}, CallsOf.{interrupts}, AnswersOf.{misses, refuses_memory}}
 use Rattle.cacache_system.specs.declared.call.SystemCall.TheVariants as asks
 use Rattle.cacache_system.specs.declared.call.CallResult.TheVariants as says
-use Rattle.cacache_system_model.specs.{Folders.{OpensFolder, ReadsFolder}, Machine.{OpenFile, SyncedNode, Machine, Became, HasTree, IsRefused, ChangesTree, OpensIf, with_empty, ShowsEnd, ShowsOpen, ReadsOpen, WritesOpen, SyncsOpen, GivesOwner, GivesMode, LinksNode, found_bytes, CopiesBytes, MovesNode, SpellsEnd}}
+use Rattle.cacache_system_model.specs.{Folders.{OpensFolder, ReadsFolder}, Machine.{OpenFile, SyncedNode, Machine, Became, HasTree, IsRefused, ChangesTree, RemovesNode, OpensIf, with_empty, ShowsEnd, ShowsOpen, ReadsOpen, Grows, WritesOpen, with_sync, SyncsOpen, GivesOwner, GivesMode, LinksNode, found_bytes, CopiesBytes, MovesNode, SpellsEnd}}
 
 -- the bytes that a copy brings, or why it brings none
 abbrev pub brought : Tree → List ℕ → List ℕ → Result (List ℕ) Fault
@@ -39,9 +39,9 @@ GoesWell most m (asks.Rename from to) said after =
 GoesWell most m (asks.MakeFolder path) said after =
     ChangesTree (free m.tree path) (λ names. put m.tree names Folder) m said after
 GoesWell most m (asks.RemoveFile path) said after =
-    ChangesTree (removable m.tree path) (cut m.tree) m said after
+    RemovesNode (removable m.tree path) m said after
 GoesWell most m (asks.RemoveFolder path) said after =
-    ChangesTree (emptied m.tree path) (cut m.tree) m said after
+    RemovesNode (emptied m.tree path) m said after
 GoesWell most m (asks.Symlink target path) said after =
     ChangesTree (free m.tree path) (λ names. put m.tree names (Link target)) m said after
 GoesWell most m (asks.HardLink from to) said after =
@@ -55,11 +55,11 @@ GoesWell most m (asks.ReadNames number size) said after = ReadsFolder number m s
 
 -- ---- failures without cause
 
--- the tree after a write that left so many bytes done
-abbrev pub part_written : Option OpenFile → List ℕ → Option ℕ → Tree → Tree
-part_written (Some file) bytes (Some part) t =
-    lengthened t file.names (take (taken (Some part) bytes) bytes)
-part_written file bytes part t = t
+-- what a write leaves that did so many bytes of an open file
+abbrev pub PartWritten : Option OpenFile → List ℕ → Option ℕ → Machine → Machine → Type 0
+PartWritten (Some file) bytes (Some part) m after =
+    Grows file.place (take (taken (Some part) bytes) bytes) m after
+PartWritten file bytes part m after = HasTree m m.tree after
 
 -- the tree after a copy that did
 abbrev pub part_copied : Result (List ℕ) Fault → Result Names Fault → Option ℕ → Tree → Tree
@@ -74,7 +74,7 @@ part_opened ends part t = t
 
 -- what is synced after a sync that fails, and may leave its file in doubt
 abbrev pub part_synced : Option OpenFile → Option ℕ → List SyncedNode → List SyncedNode
-part_synced (Some file) (Some part) syncs = (file.names, None) ∷ syncs
+part_synced (Some file) (Some part) syncs = with_sync file.place None syncs
 part_synced file part syncs = syncs
 
 -- an error that a call says before it moved a byte: a signal came, or memory was refused
@@ -85,7 +85,7 @@ did_nothing why = interrupts why || refuses_memory why
 abbrev pub LeavesWritten : Bool → ℕ → List ℕ → Option ℕ → Machine → Machine → Type 0
 LeavesWritten true number bytes part m after = after ≡ m
 LeavesWritten false number bytes part m after =
-    HasTree m (part_written (m.files number) bytes part m.tree) after
+    PartWritten (m.files number) bytes part m after
 
 -- What a call that fails without cause leaves, after so many bytes were moved. An opening to append may leave a new file,
 -- and a sync what it couldn't write.

@@ -7,15 +7,15 @@ use Rattle.cacache_store.specs.declared.store.step.Step.TheVariants as steps
 use Rattle.cacache_core.specs.PathNames.{Names}
 use Rattle.cacache_disk.specs.{declared.{luck.Luck.{Luck, TheVariants.{Plain}}, node.Node.TheVariants.{File}}, Tree.{Tree, look, put, bytes_of}, Apply.{apply, fault_told}}
 use Rattle.cacache_system.specs.{declared.call.{SystemCall.{SystemCall}, CallItem.{CallItem}, CallResult.{CallResult, TheVariants.{Failed}}}, Seen.{NumberedFile, NumberedTemp, NumberedStep, NumberedAnswer, step_as, answer_as}, CallsOf.{Stage, Runs, fresh_name}, AnswersOf.{Hint, first, answer_of}}
-use Rattle.cacache_system_model.specs.{Machine.{OpenFile, Machine}, Calls.{GoesWell, OccursSomehow, EachCall}}
+use Rattle.cacache_system_model.specs.{Machine.{OpenFile, node_of, Machine}, Calls.{GoesWell, OccursSomehow, EachCall}}
 
 -- ---- handles on a machine
 
--- the bytes that are where a file was opened
+-- the bytes of an open file
 abbrev pub bytes_in : Machine → OpenFile → List ℕ
-bytes_in m file = bytes_of (look m.tree file.names)
+bytes_in m file = bytes_of (node_of m.tree file.place)
 
--- a temporary file has the bytes that are where it was made
+-- a temporary file has these bytes
 abbrev pub temp_on : Machine → NumberedTemp → PlainTemp
 temp_on m temp = record {
   path = temp.path;

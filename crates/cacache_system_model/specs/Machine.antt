@@ -1,16 +1,27 @@
 -- A model of the system: what is there, which files are open, and what a call may say and leave.
-use Rattle.std.specs.{Prelude.{◌≡◌, suc, Ok, Err, ◌+◌, ◌==◌, ℕ, Bool, true, false, if◌then◌else◌, List, [], ◌∷◌, Option, None, Some, Result, MatchResult, MatchOption, IfSome, IfNone, is_some, is_none, length, take, drop}, List.{list_any}}
+use Rattle.std.specs.{Prelude.{◌≡◌, suc, Ok, Err, ◌+◌, ◌++◌, ◌==◌, ℕ, Bool, true, false, if◌then◌else◌, List, [], ◌∷◌, Option, None, Some, Result, MatchResult, MatchOption, IfSome, IfNone, is_some, is_none, option_map, length, take, drop}, List.{list_any}}
 use Rattle.std_io.specs.declared.io.kind.ErrorKind.{ErrorKind}
 use Rattle.cacache_core.specs.{Contexts.{fault_of}, declared.errors.Fault.{Fault, TheVariants.{IsADirectory, Device}}, PathNames.{Names, is_name}}
 use Rattle.cacache_store.specs.declared.store.answer.Name.{Name}
-use Rattle.cacache_disk.specs.{declared.node.Node.{Node, TheVariants.{Folder, File, Link}}, Tree.{Tree, look, put, cut, kind_of, same_path}, LedTo.{place}, Apply.{if_missing, taken, lengthened}}
+use Rattle.cacache_disk.specs.{declared.node.Node.{Node, TheVariants.{Folder, File, Link}}, Tree.{Tree, look, put, cut, kind_of, same_path, bytes_of}, LedTo.{place}, Apply.{if_missing, taken, lengthened}}
 use Rattle.cacache_system.specs.{declared.call.{FileInfo.{FileInfo}, CallResult.{CallResult}}, CallsOf.{last_slash}, AnswersOf.{refuses_memory}}
 use Rattle.cacache_system.specs.declared.call.CallResult.TheVariants as says
 
--- an open file: the names at which it was found, and how many bytes were read from it
+-- Where an open file is: at these names. Or it has none any more, since it was removed or another took its place: then it
+-- has a mark, which is the same under each number of this file, and holds what it held.
+pub data Place : Type 0 where
+  under : Names → Place
+  nameless : ℕ → Option Node → Place
+
+-- an open file, and how many bytes were read from it
 pub record OpenFile : Type 0 where
-  pub names : Names
+  pub place : Place
   pub read : ℕ
+
+-- what an open file is
+abbrev pub node_of : Tree → Place → Option Node
+node_of t (under names) = look t names
+node_of t (nameless mark here) = here
 
 -- the names of a file or folder that was synced, and what that fixed: nothing, if it failed or is in doubt
 abbrev pub SyncedNode : Type 0
@@ -48,7 +59,7 @@ Became m t files synced after =
     (after.tree ≡ t) × (after.files ≡ files) × (after.synced ≡ synced)
     × ((number : ℕ) → StaysFolder m after number)
 
--- the tree is another
+-- the tree is another, and each open file is at its names
 abbrev pub HasTree : Machine → Tree → Machine → Type 0
 HasTree m t after = Became m t m.files m.synced after
 
@@ -69,9 +80,51 @@ ChangesTree ends new m said after =
     MatchResult ends (λ names. (said ≡ says.Done) × HasTree m (new names) after)
     (λ fault. IsRefused fault m said after)
 
+-- ---- open files without a name
+
+-- where an open file is once what is at these names has gone from there
+abbrev pub gone : Tree → Names → ℕ → Place → Place
+gone t names mark (under here) =
+    if same_path here names then nameless mark (look t names) else under here
+gone t names mark (nameless other here) = nameless other here
+
+-- where it is once what is at the old names has come to the new ones, and what was there has gone
+abbrev pub moved : Tree → Names → Names → ℕ → Place → Place
+moved t old new mark (under here) =
+    if same_path here old then under new else gone t new mark (under here)
+moved t old new mark (nameless other here) = nameless other here
+
+-- a file with more bytes at its end
+abbrev pub longer : List ℕ → Option Node → Option Node
+longer more here = Some (File (bytes_of here ++ more))
+
+-- where an open file is once the nameless one with this mark got more bytes
+abbrev pub grown : ℕ → List ℕ → Place → Place
+grown mark more (under here) = under here
+grown mark more (nameless other here) =
+    nameless other (if other == mark then longer more here else here)
+
+-- the open files, each at another place
+abbrev pub placed : (Place → Place) → (ℕ → Option OpenFile) → ℕ → Option OpenFile
+placed place files number =
+    option_map (λ (file : OpenFile). let other : OpenFile = record { place = place file.place; read = file.read } in other)
+    (files number)
+
+-- What is at some names changes: the tree is another, and so is each open file's place. Or it is refused.
+abbrev pub ChangesPlaces : Result Names Fault → (Names → Tree) → (Names → ℕ → Place → Place)
+    → Machine → CallResult → Machine → Type 0
+ChangesPlaces ends new place m said after =
+    MatchResult ends (λ names. (mark : ℕ) × (said ≡ says.Done)
+    × Became m (new names) (placed (place names mark) m.files) m.synced after)
+    (λ fault. IsRefused fault m said after)
+
+-- what is at these names is removed, or it is refused
+abbrev pub RemovesNode : Result Names Fault → Machine → CallResult → Machine → Type 0
+RemovesNode ends m = ChangesPlaces ends (cut m.tree) (gone m.tree) m
+
 -- an open file from which nothing was read
 abbrev pub unread : Names → OpenFile
-unread names = record { names = names; read = 0 }
+unread names = record { place = under names; read = 0 }
 
 -- neither an open file nor an open folder has the number
 abbrev pub IsUnused : Machine → ℕ → Type 0
@@ -133,9 +186,16 @@ OnOpen number Does m said after =
     MatchOption (m.files number) (IfNone (m.folders number) (IsRefused Device m said after))
     (λ file. Does file said after)
 
--- the call says what an open file is
+-- the call says what an open file is; a nameless one has any number
+abbrev pub ShowsPlace : Place → Machine → CallResult → Machine → Type 0
+ShowsPlace (under names) m said after = ShowsNode names m said after
+ShowsPlace (nameless mark here) m said after =
+    (info : FileInfo) × (said ≡ says.Info info)
+    × IfSome here (λ node. (inode : ℕ × ℕ) × Describes node inode info) × (after ≡ m)
+
+-- the call says what the file of a number is
 abbrev pub ShowsOpen : ℕ → Machine → CallResult → Machine → Type 0
-ShowsOpen number m said after = OnOpen number (λ file. ShowsNode file.names m) m said after
+ShowsOpen number m said after = OnOpen number (λ file. ShowsPlace file.place m) m said after
 
 -- a text names a file or folder, and ends with a name
 pub record Spells (t : Tree) (text : List ℕ) (names : Names) : Type 0 where
@@ -156,7 +216,7 @@ abbrev pub Gives : ℕ → OpenFile → List ℕ → Machine → CallResult → 
 Gives number file next m said after =
     (said ≡ says.Bytes next)
     × Became m m.tree
-    (with_file m.files number (record { names = file.names; read = file.read + length next }))
+    (with_file m.files number (record { place = file.place; read = file.read + length next }))
     m.synced after
 
 -- of the bytes that it has left an open file gives those that are picked; a folder can't be read
@@ -170,14 +230,20 @@ ReadsFile pick number file here m said after = Unit {0}
 -- an open file is read
 abbrev pub ReadsOpen : (List ℕ → List ℕ) → ℕ → Machine → CallResult → Machine → Type 0
 ReadsOpen pick number m said after =
-    OnOpen number (λ file. ReadsFile pick number file (look m.tree file.names) m) m said after
+    OnOpen number (λ file. ReadsFile pick number file (node_of m.tree file.place) m) m said after
+
+-- an open file gets more bytes
+abbrev pub Grows : Place → List ℕ → Machine → Machine → Type 0
+Grows (under names) more m after = HasTree m (lengthened m.tree names more) after
+Grows (nameless mark here) more m after =
+    Became m m.tree (placed (grown mark more) m.files) m.synced after
 
 -- an open file takes all the bytes at its end, or at most so many
 abbrev pub WritesOpen : Option ℕ → List ℕ → ℕ → Machine → CallResult → Machine → Type 0
 WritesOpen most bytes number m said after =
     OnOpen number (λ file said after.
     (said ≡ says.Count (taken most bytes))
-    × HasTree m (lengthened m.tree file.names (take (taken most bytes) bytes)) after) m said after
+    × Grows file.place (take (taken most bytes) bytes) m after) m said after
 
 -- a sync failed before: what it couldn't write may be lost, whatever a later one says, and may have another name by then
 abbrev pub in_doubt : List SyncedNode → Bool
@@ -187,13 +253,18 @@ in_doubt syncs = list_any (λ (s : SyncedNode). is_none s.1) syncs
 abbrev pub fixes : List SyncedNode → Option Node → Option Node
 fixes syncs here = if in_doubt syncs then None else here
 
+-- what was synced, with this of an open file; nothing that has a name is fixed by a sync of a nameless one
+abbrev pub with_sync : Place → Option Node → List SyncedNode → List SyncedNode
+with_sync (under names) here syncs = (names, here) ∷ syncs
+with_sync (nameless mark old) here syncs = syncs
+
 -- an open file or folder is synced
 abbrev pub SyncsOpen : ℕ → Machine → CallResult → Machine → Type 0
 SyncsOpen number m said after =
     OnOpen number (λ file said after.
     (said ≡ says.Done)
     × Became m m.tree m.files
-    ((file.names, fixes m.synced (look m.tree file.names)) ∷ m.synced) after) m said after
+    (with_sync file.place (fixes m.synced (node_of m.tree file.place)) m.synced) after) m said after
 
 -- ---- owners and modes
 
@@ -249,4 +320,4 @@ abbrev pub MovesNode : Names → Option Node → Result Names Fault → Machine 
 MovesNode old None ends m said after = Unit {0}
 MovesNode old (Some Folder) ends m said after = Unit {0}
 MovesNode old (Some node) ends m said after =
-    ChangesTree ends (λ new. put (cut m.tree old) new node) m said after
+    ChangesPlaces ends (λ new. put (cut m.tree old) new node) (moved m.tree old) m said after

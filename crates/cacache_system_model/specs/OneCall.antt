@@ -4,7 +4,7 @@ use Rattle.cacache_core.specs.PathNames.{Names, names_of}
 use Rattle.cacache_store.specs.declared.store.step.Step.TheVariants as steps
 use Rattle.cacache_disk.specs.{declared.node.Node.{Node, TheVariants.{File}}, Tree.{look}, LedTo.{way_fault, linked}}
 use Rattle.cacache_system.specs.{Seen.{NumberedTemp}, AnswersOf.{Hint}}
-use Rattle.cacache_system_model.specs.{Machine.{OpenFile, Machine}, Laws.{Agrees, GoesPlainly, MayBreak}}
+use Rattle.cacache_system_model.specs.{Machine.{under, OpenFile, Machine}, Laws.{Agrees, GoesPlainly, MayBreak}}
 
 -- a temporary file is made
 abbrev pub CreateAgrees : Type 0
@@ -34,10 +34,15 @@ abbrev pub ReflinkBreaks : Type 0
 ReflinkBreaks =
     (m : Machine) (hint : Hint) (from to : List ℕ) → MayBreak m hint (steps.Reflink from to)
 
+-- the file of a number is open at these names
+abbrev pub IsOpenAt : Machine → ℕ → Names → Type 0
+IsOpenAt m number names =
+    option_map (λ (file : OpenFile). file.place) (m.files number) ≡ Some (under names)
+
 -- a temporary file that is still at its path
 pub record StillStands (m : Machine) (temp : NumberedTemp) (names : Names) (bytes : List ℕ)
     : Type 0 where
   pub named : names_of temp.path ≡ Ok names
   pub way : way_fault m.tree [] names ≡ None
   pub stands : look m.tree names ≡ Some (File bytes)
-  pub opened : option_map (λ (file : OpenFile). file.names) (m.files temp.number) ≡ Some names
+  pub opened : IsOpenAt m temp.number names

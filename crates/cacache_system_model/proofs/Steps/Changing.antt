@@ -11,18 +11,26 @@ use Rattle.cacache_disk.specs.{declared.{luck.Luck.TheVariants.{Plain}, node.Nod
 use Rattle.cacache_system.specs.declared.call.SystemCall.TheVariants as asks
 use Rattle.cacache_system.specs.{declared.call.CallResult.{CallResult}, Seen.{NumberedTemp, NumberedStep}, AnswersOf.{Hint, answer_of, failed_with, refuses_memory, misses}}
 use Rattle.cacache_system.specs.declared.call.CallResult.TheVariants as says
-use Rattle.cacache_system_model.specs.{Machine.{OpenFile, Machine, IsRefused, ChangesTree, OpensIf, ShowsEnd, LinksNode, MovesNode, unread}, Calls.{GoesWell, OccursSomehow}, Laws.{answer_on, step_on, outcome, led_to, IsDone, IsLucky, Agrees}, OneCall.{StillStands, CreateAgrees, ExistsAgrees, SymlinkAgrees, HardLinkAgrees, ReflinkBreaks}}
+use Rattle.cacache_system_model.specs.{Machine.{Place, under, OpenFile, node_of, Machine, IsRefused, moved, ChangesPlaces, ChangesTree, OpensIf, ShowsEnd, LinksNode, MovesNode, unread}, Calls.{GoesWell, OccursSomehow}, Laws.{answer_on, step_on, outcome, led_to, IsDone, IsLucky, Agrees}, OneCall.{StillStands, CreateAgrees, ExistsAgrees, SymlinkAgrees, HardLinkAgrees, ReflinkBreaks}}
 use Rattle.cacache_system_model.proofs.{Refused.{same_outcome, refused_agrees, plainly_refused, broken_agrees}, Steps.{OneCalls.{one_agrees}, Writing.{look_same}, Opening.{same_number}}, Leading.{over_leads}, memory.Places.{place_led}}
 
 -- a step that answers that it is done, if its call changed the tree
-pub changed : (ends : Result Names Fault) (new : Names → Tree) (step : NumberedStep) (m n : Machine) (end : CallResult) → answer_of step says.Done ≡ answers.Done
-    → ((why : ErrorKind) → answer_of step (says.Failed why) ≡ failed_with step why)
-    → ChangesTree ends new m end n
-    → unless ends m.tree (λ names. outcome answers.Done (new names)) ≡ led_to step end n
-changed (Ok names) new step m n end done fails (said, left) =
-    sym (same_outcome (answer_on n (answer_of step end)) answers.Done n.tree (new names)
-    (ap (λ (e : CallResult). answer_on n (answer_of step e)) said ∙ ap (answer_on n) done) left.0)
-changed (Err fault) new step m n end done fails refuses = refused_agrees step fault end m n (plainly_refused step fault n fails) refuses
+module _ (new : Names → Tree) (step : NumberedStep) (m n : Machine) (end : CallResult) (done : answer_of step says.Done ≡ answers.Done)
+    (fails : (why : ErrorKind) → answer_of step (says.Failed why) ≡ failed_with step why) where
+  answers_done : (names : Names) → end ≡ says.Done → n.tree ≡ new names → outcome answers.Done (new names) ≡ led_to step end n
+  answers_done names said tree =
+      sym (same_outcome (answer_on n (answer_of step end)) answers.Done n.tree (new names)
+      (ap (λ (e : CallResult). answer_on n (answer_of step e)) said ∙ ap (answer_on n) done) tree)
+
+  pub changed : (ends : Result Names Fault) → ChangesTree ends new m end n → unless ends m.tree (λ names. outcome answers.Done (new names)) ≡ led_to step end n
+  changed (Ok names) (said, left) = answers_done names said left.0
+  changed (Err fault) refuses = refused_agrees step fault end m n (plainly_refused step fault n fails) refuses
+
+  -- and open files' places
+  pub changed_places : (ends : Result Names Fault) (places : Names → ℕ → Place → Place) → ChangesPlaces ends new places m end n
+      → unless ends m.tree (λ names. outcome answers.Done (new names)) ≡ led_to step end n
+  changed_places (Ok names) places (mark, said, left) = answers_done names said left.0
+  changed_places (Err fault) places refuses = refused_agrees step fault end m n (plainly_refused step fault n fails) refuses
 
 -- ---- a temporary file is made
 
@@ -30,7 +38,7 @@ abbrev temp_of : List ℕ → Option (List ℕ) → PlainAnswer
 temp_of path bytes = answers.Temp (record { path = path; bytes = bytes })
 
 abbrev held_at : Tree → Option OpenFile → Option (List ℕ)
-held_at t file = option_map (λ (f : OpenFile). bytes_of (look t f.names)) file
+held_at t file = option_map (λ (f : OpenFile). bytes_of (node_of t f.place)) file
 
 created : (ends : Result Names Fault) (m n : Machine) (path : List ℕ) (end : CallResult)
     → OpensIf ends (λ names. put m.tree names (File [])) m end n
@@ -102,22 +110,22 @@ apply_persist t path to held names bytes h k =
     ap (λ (b : Option (List ℕ)). unless (known b) t (λ x. unless (kept t path) t (λ old. unless (replaceable t to) t (λ new. outcome answers.Done (put (cut t old) new (File x)))))) h
     ∙ ap (λ (r : Result Names Fault). unless r t (λ old. unless (replaceable t to) t (λ new. outcome answers.Done (put (cut t old) new (File bytes))))) k
 
-held_names : (t : Tree) (file : Option OpenFile) (names : Names) → option_map (λ (f : OpenFile). f.names) file ≡ Some names → held_at t file ≡ Some (bytes_of (look t names))
+held_names : (t : Tree) (file : Option OpenFile) (names : Names) → option_map (λ (f : OpenFile). f.place) file ≡ Some (under names) → held_at t file ≡ Some (bytes_of (look t names))
 held_names t None names is = absurd cc
-held_names t (Some file) names is = let same : file.names ≡ names = cc in ap (λ (n : Names). Some (bytes_of (look t n))) same
+held_names t (Some file) names is = let same : file.place ≡ under names = cc in ap (λ (p : Place). Some (bytes_of (node_of t p))) same
 
 -- the move of a temporary file that still stands
 pub put_away : (m : Machine) (temp : NumberedTemp) (path : List ℕ) (names : Names) (bytes : List ℕ) → StillStands m temp names bytes
     → (most : Option ℕ) (said : CallResult) (n : Machine) → GoesWell most m (asks.Rename temp.path path) said n
     → apply m.tree (step_on m (steps.Persist temp path)) Plain ≡ led_to (steps.Persist temp path) said n
 put_away m temp path names bytes ready most said n well =
-    let moved = subst (λ (r : Result Names Fault). MatchResult r (λ old. MovesNode old (look m.tree old) (replaceable m.tree path) m said n) (λ fault. IsRefused fault m said n))
+    let goes = subst (λ (r : Result Names Fault). MatchResult r (λ old. MovesNode old (look m.tree old) (replaceable m.tree path) m said n) (λ fault. IsRefused fault m said n))
     (place_led m.tree temp.path names ready.named ready.way) well in
-    let moves = subst (λ (o : Option Node). MovesNode names o (replaceable m.tree path) m said n) ready.stands moved in
+    let moves = subst (λ (o : Option Node). MovesNode names o (replaceable m.tree path) m said n) ready.stands goes in
     apply_persist m.tree temp.path path _ names bytes
     (held_names m.tree (m.files temp.number) names ready.opened ∙ ap (λ (o : Option Node). Some (bytes_of o)) ready.stands)
     (still_kept m.tree temp.path names bytes ready.named ready.stands)
-    ∙ changed (replaceable m.tree path) (λ new. put (cut m.tree names) new (File bytes)) (steps.Persist temp path) m n said refl (λ why. refl) moves
+    ∙ changed_places (λ new. put (cut m.tree names) new (File bytes)) (steps.Persist temp path) m n said refl (λ why. refl) (replaceable m.tree path) (moved m.tree names) moves
 
 -- ---- links
 
@@ -129,7 +137,7 @@ symlink_agrees m hint target path = one_agrees m hint (steps.Symlink target path
   memory = λ end never. absurd never;
   answers = λ why fine. refl;
   whole = λ why part n left. left;
-  agrees = λ most said n well. changed (free m.tree path) (λ names. put m.tree names (Link target)) (steps.Symlink target path) m n said refl (λ why. refl) well;
+  agrees = λ most said n well. changed (λ names. put m.tree names (Link target)) (steps.Symlink target path) m n said refl (λ why. refl) (free m.tree path) well;
 })
 
 linked_so : (m : Machine) (from to : List ℕ) (node : Node) → linked m.tree from ≡ Ok node → (most : Option ℕ) (said : CallResult) (n : Machine) → GoesWell most m (asks.HardLink from to) said n
@@ -137,7 +145,7 @@ linked_so : (m : Machine) (from to : List ℕ) (node : Node) → linked m.tree f
 unfolding apply
 linked_so m from to node is most said n well =
     ap (λ (r : Result Node Fault). unless (free m.tree to) m.tree (λ names. unless r m.tree (λ x. outcome answers.Done (put m.tree names x)))) is
-    ∙ changed (free m.tree to) (λ names. put m.tree names node) (steps.HardLink from to) m n said refl (λ why. refl)
+    ∙ changed (λ names. put m.tree names node) (steps.HardLink from to) m n said refl (λ why. refl) (free m.tree to)
     (subst (λ (r : Result Node Fault). LinksNode r (free m.tree to) m said n) is well)
 
 linked_agrees : (m : Machine) (hint : Hint) (from to : List ℕ) (node : Node) → linked m.tree from ≡ Ok node → Agrees m hint (steps.HardLink from to)

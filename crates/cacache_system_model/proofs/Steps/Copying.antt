@@ -12,7 +12,7 @@ use Rattle.cacache_disk.proofs.{Maps.{put_same, same_path-true}, FoundNodes.{pla
 use Rattle.cacache_system.specs.{declared.call.{FileInfo.{FileInfo}, CallResult.{CallResult}}, CallsOf.{Stage, over, only, taking_memory, asking_source, asking_target, asking_end, making_end, resolving, making_fresh, filling, replacing, scrapping, place_fresh, source_known, target_known, copied, name_taken, already_exists, is_absent, is_link, is_same_node, fresh_name, fresh_number, fresh_beside, after}, AnswersOf.{answer_of, misses, refuses_memory}}
 use Rattle.cacache_system.specs.declared.call.SystemCall.TheVariants as asks
 use Rattle.cacache_system.specs.declared.call.CallResult.TheVariants as says
-use Rattle.cacache_system_model.specs.{Machine.{Machine, IsRefused, ChangesTree, OpensIf, ShowsEnd, ShowsNode, Describes, found_bytes, CopiesBytes, MovesNode, SpellsEnd, with_empty}, Calls.{brought, part_copied, part_opened}, Laws.{answer_on, outcome, Leads, IsDone}, Writing.{HasNoFresh, CanCopy, CopyAgrees}}
+use Rattle.cacache_system_model.specs.{Machine.{Machine, IsRefused, moved, ChangesPlaces, RemovesNode, ChangesTree, OpensIf, ShowsEnd, ShowsNode, Describes, found_bytes, CopiesBytes, MovesNode, SpellsEnd, with_empty}, Calls.{brought, part_copied, part_opened}, Laws.{answer_on, outcome, Leads, IsDone}, Writing.{HasNoFresh, CanCopy, CopyAgrees}}
 use Rattle.cacache_system_model.proofs.{Refused.{same_outcome, failed, failing_apply, never_missing}, Leading.{Claim, over_leads, call_leads}, Claims.{way_of, claim_of, cases_of, taking_leads, claim_plain, claim_lucky, claim_broken, claim_memory}, Steps.{Opening.{said_leads, of_some}, Looking.{refused_folder, wanted_file}, CopyFacts.{either_true, same_text, apply_copy, whole_file, writable_found, Source, Ready, same_node_numbers, writable_at, Stands, no_way, nothing, a_folder_here, a_file_here, a_link_here, stands_so, not_absent, exists_fine, absent_fault, not_taken_fault, not_taken, fault_absent, no_place, unnamed, fresh_proper}}, Views.{View, nowhere, a_folder, a_file, view}, Fresh.{placed_as, placed_beside, look_new, own_place, own_writable, own_removable, replaceable_still, leads_still, file_still, cut_new, put_new, free_at_place, dangling}}
 
 -- where something is and where nothing is
@@ -76,9 +76,9 @@ module _ (b : Bool) (m : Machine) (from to : List ℕ) (can : CanCopy m to) (don
       over_leads (way_of b) (says.Failed why) k P
       (⊎_elim
       (λ (most, all, well).
-      let removed : ChangesTree (Ok fn) (cut l.tree) l said k
-      = subst (λ (r : Result Names Fault). ChangesTree r (cut l.tree) l said k) (ap (λ (t : Tree). removable t fresh) tree ∙ own_removable m.tree fn bytes free_there fresh placed) well in
-      broke_same why k broke fine (removed.1.0 ∙ ap (λ (t : Tree). cut t fn) tree ∙ cut_new m.tree fn bytes free_there))
+      let removed : RemovesNode (Ok fn) l said k
+      = subst (λ (r : Result Names Fault). RemovesNode r l said k) (ap (λ (t : Tree). removable t fresh) tree ∙ own_removable m.tree fn bytes free_there fresh placed) well in
+      broke_same why k broke fine (removed.2.0 ∙ ap (λ (t : Tree). cut t fn) tree ∙ cut_new m.tree fn bytes free_there))
       (λ (broke, other, same, fair, part, left).
       let stays : k ≡ l = left in
       fresh_stays why k above number bytes broke fine free_there (ap (λ (x : Machine). x.tree) stays ∙ tree))
@@ -96,18 +96,18 @@ module _ (b : Bool) (m : Machine) (from to : List ℕ) (can : CanCopy m to) (don
         call_leads (way_of b) (replacing (length bytes) fresh path) (asks.Rename fresh path) l P refl (λ end never. absurd never) (λ said k happens.
         ⊎_elim
         (λ (most, all, well).
-        let moved : MovesNode fn (look l.tree fn) (replaceable l.tree path) l said k
+        let goes : MovesNode fn (look l.tree fn) (replaceable l.tree path) l said k
         = subst (λ (r : Result Names Fault). MatchResult r (λ old. MovesNode old (look l.tree old) (replaceable l.tree path) l said k) (λ fault. IsRefused fault l said k))
         (ap (λ (t : Tree). place t fresh) tree ∙ own_place m.tree fn bytes free_there fresh placed) well in
         let moves : MovesNode fn (Some (File bytes)) (replaceable l.tree path) l said k
-        = subst (λ (o : Option Node). MovesNode fn o (replaceable l.tree path) l said k) (ap (λ (t : Tree). look t fn) tree ∙ look_new m.tree fn bytes free_there) moved in
-        let ends : ChangesTree (Ok names) (λ new. put (cut l.tree fn) new (File bytes)) l said k
-        = subst (λ (r : Result Names Fault). ChangesTree r (λ new. put (cut l.tree fn) new (File bytes)) l said k)
+        = subst (λ (o : Option Node). MovesNode fn o (replaceable l.tree path) l said k) (ap (λ (t : Tree). look t fn) tree ∙ look_new m.tree fn bytes free_there) goes in
+        let ends : ChangesPlaces (Ok names) (λ new. put (cut l.tree fn) new (File bytes)) (moved l.tree fn) l said k
+        = subst (λ (r : Result Names Fault). ChangesPlaces r (λ new. put (cut l.tree fn) new (File bytes)) (moved l.tree fn) l said k)
         (ap (λ (t : Tree). replaceable t path) tree ∙ replaceable_still m.tree fn bytes free_there path names ready.placed ready.replaced) moves in
-        said_leads b (replacing (length bytes) fresh path) said says.Done k P ends.0
+        said_leads b (replacing (length bytes) fresh path) said says.Done k P ends.1
         (over_leads (way_of b) (says.Count (length bytes)) k P
         (the_copy bytes names k ready.read ready.target
-        (ends.1.0 ∙ ap (λ (t : Tree). put (cut t fn) names (File bytes)) tree ∙ ap (λ (t : Tree). put t names (File bytes)) (cut_new m.tree fn bytes free_there)))))
+        (ends.2.0 ∙ ap (λ (t : Tree). put (cut t fn) names (File bytes)) tree ∙ ap (λ (t : Tree). put t names (File bytes)) (cut_new m.tree fn bytes free_there)))))
         (λ (broke, why, same, fine, part, left).
         let stays : k ≡ l = left in
         said_leads b (replacing (length bytes) fresh path) said (says.Failed why) k P same

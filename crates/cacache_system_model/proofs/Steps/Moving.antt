@@ -9,7 +9,7 @@ use Rattle.cacache_disk.specs.{declared.{luck.Luck.TheVariants.{Plain}, node.Nod
 use Rattle.cacache_system.specs.{declared.call.{FileInfo.{FileInfo}, SystemCall.{SystemCall}, CallResult.{CallResult}}, CallsOf.{Stage, over, only, preparing, keeping, give, give_mode, sync_again, after}, Seen.{NumberedTemp}, AnswersOf.{Hint, no_hint, is_missing, was_named, in_walk, rewrites, look_first, persist, misses}}
 use Rattle.cacache_system.specs.declared.call.SystemCall.TheVariants as asks
 use Rattle.cacache_system.specs.declared.call.CallResult.TheVariants as says
-use Rattle.cacache_system_model.specs.{Machine.{OpenFile, Machine, fixes, Became, ShowsEnd, GivesOwner}, Calls.{GoesWell, LeavesPart}, Laws.{Leads, IsDone}, OneCall.{StillStands}, Removing.{WalkStands}, Moving.{LeadsOrMisses, MayReplace, PersistAgrees}}
+use Rattle.cacache_system_model.specs.{Machine.{under, OpenFile, node_of, Machine, with_sync, fixes, Became, ShowsEnd, GivesOwner}, Calls.{GoesWell, LeavesPart}, Laws.{Leads, IsDone}, OneCall.{StillStands}, Removing.{WalkStands}, Moving.{LeadsOrMisses, MayReplace, PersistAgrees}}
 use Rattle.cacache_system_model.proofs.{Leading.{Claim, over_leads, call_leads, only_leads}, Claims.{way_of, claim_of, cases_of, agrees_of, claim_plain, claim_broken}, Steps.{Opening.{said_leads, open_of}, CopyFacts.{not_absent, fault_absent}, Walking.{looks_so}, Changing.{put_away}}, memory.Places.{place_led}}
 
 -- the same stands, and the same files are open
@@ -33,7 +33,7 @@ stands_at t path names node at is =
 -- what the disk answers, and leaves, where a temporary file is put
 abbrev disk_puts : Tree → (ℕ → Option OpenFile) → NumberedTemp → List ℕ → PlainAnswer × Tree
 disk_puts t files temp path =
-    apply t (steps.Persist (record { path = temp.path; bytes = option_map (λ (f : OpenFile). bytes_of (look t f.names)) (files temp.number) }) path) Plain
+    apply t (steps.Persist (record { path = temp.path; bytes = option_map (λ (f : OpenFile). bytes_of (node_of t f.place)) (files temp.number) }) path) Plain
 
 module _ (b : Bool) (m : Machine) (temp : NumberedTemp) (path : List ℕ) (names : Names) (bytes : List ℕ) (ready : StillStands m temp names bytes)
     (done : b ≡ false → IsDone m (steps.Persist temp path)) where
@@ -45,7 +45,7 @@ module _ (b : Bool) (m : Machine) (temp : NumberedTemp) (path : List ℕ) (names
     named = ready.named;
     way = ap (λ (t : Tree). way_fault t [] names) same.tree ∙ ready.way;
     stands = ap (λ (t : Tree). look t names) same.tree ∙ ready.stands;
-    opened = ap (λ (files : ℕ → Option OpenFile). option_map (λ (f : OpenFile). f.names) (files temp.number)) same.files ∙ ready.opened;
+    opened = ap (λ (files : ℕ → Option OpenFile). option_map (λ (f : OpenFile). f.place) (files temp.number)) same.files ∙ ready.opened;
   }
 
   same_puts : (n : Machine) → Same m n → disk_puts m.tree m.files temp path ≡ disk_puts n.tree n.files temp path
@@ -102,12 +102,12 @@ module _ (b : Bool) (m : Machine) (temp : NumberedTemp) (path : List ℕ) (names
 
   moded : (mode : ℕ) (n : Machine) → Same m n → (most : Option ℕ) (said : CallResult) (l : Machine) → GoesWell most n (asks.SetMode temp.number mode) said l → (said ≡ says.Done) × Same m l
   moded mode n same most said l well =
-      let given = open_of n l temp.number names said (λ file said l. (said ≡ says.Done) × (l ≡ n)) (ready_on n same).opened well in
+      let given = open_of n l temp.number (under names) said (λ file said l. (said ≡ says.Done) × (l ≡ n)) (ready_on n same).opened well in
       (given.3.0, still_same m n l same given.3.1)
 
   synced : (n : Machine) → Same m n → (most : Option ℕ) (said : CallResult) (l : Machine) → GoesWell most n (asks.Sync temp.number) said l → (said ≡ says.Done) × Same m l
   synced n same most said l well =
-      let went = open_of n l temp.number names said (λ file said l. (said ≡ says.Done) × Became n n.tree n.files ((file.names, fixes n.synced (look n.tree file.names)) ∷ n.synced) l)
+      let went = open_of n l temp.number (under names) said (λ file said l. (said ≡ says.Done) × Became n n.tree n.files (with_sync file.place (fixes n.synced (node_of n.tree file.place)) n.synced) l)
       (ready_on n same).opened well in
       (went.3.0, record { tree = went.3.1.0 ∙ same.tree; files = went.3.1.1 ∙ same.files })
 

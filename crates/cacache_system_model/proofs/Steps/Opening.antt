@@ -7,7 +7,7 @@ use Rattle.cacache_disk.specs.{declared.node.Node.{Node, TheVariants.{Folder, Fi
 use Rattle.cacache_system.specs.{declared.call.{FileInfo.{FileInfo}, CallResult.{CallResult}}, CallsOf.{Stage, Purpose, opening, checking, opened, after}, AnswersOf.{misses, refuses_memory}}
 use Rattle.cacache_system.specs.declared.call.SystemCall.TheVariants as asks
 use Rattle.cacache_system.specs.declared.call.CallResult.TheVariants as says
-use Rattle.cacache_system_model.specs.{Machine.{OpenFile, Machine, Describes, IsRefused, OpensIf, ShowsNode, OnOpen, unread, with_file}, Laws.{Leads}}
+use Rattle.cacache_system_model.specs.{Machine.{Place, OpenFile, Machine, Describes, IsRefused, OpensIf, ShowsNode, ShowsPlace, OnOpen, unread, with_file}, Laws.{Leads}}
 use Rattle.cacache_system_model.proofs.{Leading.{Claim, over_leads, call_leads}, Claims.{way_of, cases_of}, Views.{View, nowhere, a_folder, a_file, view}}
 
 pub same_number : (number : ℕ) → (number == number) ≡ true
@@ -35,16 +35,16 @@ pub on_open : (m n : Machine) (number : ℕ) (file : OpenFile) (said : CallResul
 on_open m n number file said Does is holds =
     subst (λ (o : Option OpenFile). MatchOption o (IfNone (m.folders number) (IsRefused Device m said n)) (λ f. Does f said n)) is holds
 
-pub file_under : (file : Option OpenFile) (names : Names) → option_map (λ (f : OpenFile). f.names) file ≡ Some names → (f : OpenFile) × (file ≡ Some f) × (f.names ≡ names)
-file_under None names is = absurd cc
-file_under (Some file) names is = (file, refl, cc)
+pub file_under : (file : Option OpenFile) (place : Place) → option_map (λ (f : OpenFile). f.place) file ≡ Some place → (f : OpenFile) × (file ≡ Some f) × (f.place ≡ place)
+file_under None place is = absurd cc
+file_under (Some file) place is = (file, refl, cc)
 
--- what a call does on a file that is open at these names
-pub open_of : (m n : Machine) (number : ℕ) (names : Names) (said : CallResult) (Does : OpenFile → CallResult → Machine → Type 0)
-    → option_map (λ (f : OpenFile). f.names) (m.files number) ≡ Some names → OnOpen number Does m said n
-    → (f : OpenFile) × (m.files number ≡ Some f) × (f.names ≡ names) × Does f said n
-open_of m n number names said Does is holds =
-    let file = file_under (m.files number) names is in (file.0, file.1, file.2, on_open m n number file.0 said Does file.1 holds)
+-- what a call does on a file that is open at this place
+pub open_of : (m n : Machine) (number : ℕ) (place : Place) (said : CallResult) (Does : OpenFile → CallResult → Machine → Type 0)
+    → option_map (λ (f : OpenFile). f.place) (m.files number) ≡ Some place → OnOpen number Does m said n
+    → (f : OpenFile) × (m.files number ≡ Some f) × (f.place ≡ place) × Does f said n
+open_of m n number place said Does is holds =
+    let file = file_under (m.files number) place is in (file.0, file.1, file.2, on_open m n number file.0 said Does file.1 holds)
 
 -- What follows when a path's file is opened: it is refused, it breaks, or it is open and what is there is known.
 pub record Openings (b : Bool) (m : Machine) (purpose : Purpose) (path : List ℕ) (P : Claim) : Type 0 where
@@ -60,7 +60,7 @@ module _ (b : Bool) (m : Machine) (purpose : Purpose) (path : List ℕ) (P : Cla
       call_leads (way_of b) (checking purpose number) (asks.StatFile number) n P refl (λ end never. absurd never) (λ said l happens.
       ⊎_elim
       (λ (most, all, well).
-      let shown : ShowsNode names n said l = on_open n l number (unread names) said (λ file. ShowsNode file.names n) open_on.file well in
+      let shown : ShowsNode names n said l = on_open n l number (unread names) said (λ file. ShowsPlace file.place n) open_on.file well in
       let here : look n.tree names ≡ Some node = ap (λ (t : Tree). look t names) open_on.tree ∙ stands in
       let described = of_some (look n.tree names) node (λ x. Describes x (n.inodes names) shown.0) here shown.2 in
       said_leads b (checking purpose number) said (says.Info shown.0) l P shown.1

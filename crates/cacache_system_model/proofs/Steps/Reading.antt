@@ -10,7 +10,7 @@ use Rattle.cacache_disk.specs.{declared.{luck.Luck.TheVariants.{Plain, Take}, no
 use Rattle.cacache_system.specs.declared.call.SystemCall.TheVariants as asks
 use Rattle.cacache_system.specs.{declared.call.CallResult.{CallResult}, CallsOf.{over, trying, taking_memory}, Seen.{NumberedFile}, AnswersOf.{read_piece}}
 use Rattle.cacache_system.specs.declared.call.CallResult.TheVariants as says
-use Rattle.cacache_system_model.specs.{Machine.{OpenFile, Machine, ReadsFile, Gives, with_file}, Laws.{left_in, step_on, outcome, led_to, Leads, IsDone}, Reading.{StaysOpen, ReadBreaks, PiecesReadPlainly}}
+use Rattle.cacache_system_model.specs.{Machine.{OpenFile, node_of, Machine, ReadsFile, Gives, with_file}, Laws.{left_in, step_on, outcome, led_to, Leads, IsDone}, Reading.{StaysOpen, ReadBreaks, PiecesReadPlainly}}
 use Rattle.cacache_system_model.proofs.{Refused.{same_outcome, broken_agrees}, Leading.{Claim, over_leads, trying_leads}, Claims.{way_of, claim_of, Well, taking_leads, claim_broken, claim_memory}, Trying.{SaidWell, tried_so}, Steps.Opening.{newly_open, on_open, same_number}}
 use Rattle.cacache_history.proofs.Contents.OpenedContents.{some_readable}
 
@@ -71,11 +71,11 @@ unfolding apply
 apply_take t bytes max most = refl
 
 module _ (m : Machine) (file : NumberedFile) (found : OpenFile) (bytes : List ℕ) (max : ℕ) (ready : StaysOpen m file found bytes) where
-  file_after : (n : Machine) (next : List ℕ) → n.tree ≡ m.tree → n.files ≡ with_file m.files file.number (record { names = found.names; read = found.read + length next })
+  file_after : (n : Machine) (next : List ℕ) → n.tree ≡ m.tree → n.files ≡ with_file m.files file.number (record { place = found.place; read = found.read + length next })
       → option_map (left_in n) (n.files file.number) ≡ Some (drop (length next) (drop found.read bytes))
   file_after n next tree files =
-      ap (option_map (left_in n)) (ap (λ (f : ℕ → Option OpenFile). f file.number) files ∙ newly_open m.files file.number (record { names = found.names; read = found.read + length next }))
-      ∙ ap (λ (t : Tree). Some (drop (found.read + length next) (bytes_of (look t found.names)))) tree
+      ap (option_map (left_in n)) (ap (λ (f : ℕ → Option OpenFile). f file.number) files ∙ newly_open m.files file.number (record { place = found.place; read = found.read + length next }))
+      ∙ ap (λ (t : Tree). Some (drop (found.read + length next) (bytes_of (node_of t found.place)))) tree
       ∙ ap (λ (o : Option Node). Some (drop (found.read + length next) (bytes_of o))) ready.stands
       ∙ ap Some (sym (drop-drop (length next) found.read bytes))
 
@@ -120,7 +120,7 @@ ReadsWell b m file found bytes max size =
 module _ (b : Bool) (m : Machine) (file : NumberedFile) (found : OpenFile) (bytes : List ℕ) (max size : ℕ) (ready : StaysOpen m file found bytes) (done : b ≡ false → IsDone m (steps.Read file max)) (holds : ReadsWell b m file found bytes max size) where
   read_well : (said : CallResult) (n : Machine) → Well b m (asks.Read file.number size) said n → SaidWell (claim_of b m (steps.Read file max)) said n
   read_well said n (most, all, well) =
-      let reads = on_open m n file.number found said (λ f. ReadsFile (take (readable most size)) file.number f (look m.tree f.names) m) ready.known well in
+      let reads = on_open m n file.number found said (λ f. ReadsFile (take (readable most size)) file.number f (node_of m.tree f.place) m) ready.known well in
       let gives : Gives file.number found (take (readable most size) (drop found.read bytes)) m said n
       = subst (λ (o : Option Node). ReadsFile (take (readable most size)) file.number found o m said n) ready.stands reads in
       record {

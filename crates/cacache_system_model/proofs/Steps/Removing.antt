@@ -6,8 +6,8 @@ use Rattle.cacache_disk.specs.{declared.luck.Luck.TheVariants.{Plain}, Tree.{cut
 use Rattle.cacache_system.specs.{declared.call.{SystemCall.{SystemCall}, CallResult.{CallResult}}, CallsOf.{Stage, only}, Seen.{NumberedStep}, AnswersOf.{Hint, look_first, first, answer_of, failed_with}}
 use Rattle.cacache_system.specs.declared.call.SystemCall.TheVariants as asks
 use Rattle.cacache_system.specs.declared.call.CallResult.TheVariants as says
-use Rattle.cacache_system_model.specs.{Machine.{Machine}, Laws.{step_on, led_to, Leads, Agrees}, Calls.{GoesWell, LeavesPart}, Removing.{WalkStands, RemoveFileAgrees, RemoveDirAgrees}}
-use Rattle.cacache_system_model.proofs.{Leading.{only_leads}, Claims.{way_of, claim_of, cases_of, agrees_of, claim_plain, claim_broken}, Steps.{Walking.{looks_so}, Changing.{changed}}}
+use Rattle.cacache_system_model.specs.{Machine.{Machine, gone}, Laws.{step_on, led_to, Leads, Agrees}, Calls.{GoesWell, LeavesPart}, Removing.{WalkStands, RemoveFileAgrees, RemoveDirAgrees}}
+use Rattle.cacache_system_model.proofs.{Leading.{only_leads}, Claims.{way_of, claim_of, cases_of, agrees_of, claim_plain, claim_broken}, Steps.{Walking.{looks_so}, Changing.{changed_places}}}
 
 -- a removal of this kind
 removal : (m : Machine) (hint : Hint) (step : NumberedStep) (call : SystemCall) → first hint step ≡ look_first hint (only call) → WalkStands m.tree hint
@@ -30,10 +30,10 @@ pub remove_file_agrees : RemoveFileAgrees
 unfolding apply
 remove_file_agrees m hint path walk =
     removal m hint (steps.RemoveFile path) (asks.RemoveFile path) refl walk (λ why. refl) (λ why part n left. left)
-    (λ most said n well. changed (removable m.tree path) (cut m.tree) (steps.RemoveFile path) m n said refl (λ why. refl) well)
+    (λ most said n well. changed_places (cut m.tree) (steps.RemoveFile path) m n said refl (λ why. refl) (removable m.tree path) (gone m.tree) well)
 
 pub remove_dir_agrees : RemoveDirAgrees
 unfolding apply
 remove_dir_agrees m hint path walk =
     removal m hint (steps.RemoveDir path) (asks.RemoveFolder path) refl walk (λ why. refl) (λ why part n left. left)
-    (λ most said n well. changed (emptied m.tree path) (cut m.tree) (steps.RemoveDir path) m n said refl (λ why. refl) well)
+    (λ most said n well. changed_places (cut m.tree) (steps.RemoveDir path) m n said refl (λ why. refl) (emptied m.tree path) (gone m.tree) well)

@@ -11,36 +11,36 @@ use Rattle.cacache_disk.specs.{declared.{luck.Luck.TheVariants.{Plain}, node.Nod
 use Rattle.cacache_system.specs.{declared.call.{FileInfo.{FileInfo}, CallResult.{CallResult}}, CallsOf.{Stage, to_sync, to_sync_folder, only, if_folder, opened}, Seen.{NumberedTemp}, AnswersOf.{misses}}
 use Rattle.cacache_system.specs.declared.call.SystemCall.TheVariants as asks
 use Rattle.cacache_system.specs.declared.call.CallResult.TheVariants as says
-use Rattle.cacache_system_model.specs.{Machine.{OpenFile, SyncedNode, Machine, fixes, Describes, Became}, Calls.{part_synced}, Laws.{bytes_in, temp_on, step_on, outcome, Leads, IsDone}, Syncing.{EndsInNoLink, SyncTempAgrees, SyncFileAgrees, SyncDirAgrees}}
+use Rattle.cacache_system_model.specs.{Machine.{Place, under, OpenFile, node_of, with_sync, Machine, fixes, Describes, Became}, Calls.{part_synced}, Laws.{bytes_in, temp_on, step_on, outcome, Leads, IsDone}, Syncing.{EndsInNoLink, SyncTempAgrees, SyncFileAgrees, SyncDirAgrees}}
 use Rattle.cacache_system_model.proofs.{Refused.{same_outcome}, Leading.{Claim, over_leads, only_leads}, Claims.{way_of, claim_of, cases_of, agrees_of, claim_plain, claim_broken}, Steps.{Opening.{OpenedOn, Openings, opening_leads, on_open, file_under}, Looking.{table_fails, no_file, file_there, folder_there, link_there, refused_folder, wanted_file}}, Views.{folder_found}}
 
 -- an open file was synced
-pub record WasSynced (n l : Machine) (names : Names) : Type 0 where
+pub record WasSynced (n l : Machine) (place : Place) : Type 0 where
   pub tree : l.tree ≡ n.tree
   pub files : l.files ≡ n.files
-  pub synced : l.synced ≡ (names, fixes n.synced (look n.tree names)) ∷ n.synced
+  pub synced : l.synced ≡ with_sync place (fixes n.synced (node_of n.tree place)) n.synced
 
 -- its sync failed, and what it couldn't write may be in doubt
-pub record WasNotSynced (n l : Machine) (names : Names) : Type 0 where
+pub record WasNotSynced (n l : Machine) (place : Place) : Type 0 where
   pub tree : l.tree ≡ n.tree
-  pub synced : (l.synced ≡ n.synced) ⊎ (l.synced ≡ (names, None) ∷ n.synced)
+  pub synced : (l.synced ≡ n.synced) ⊎ (l.synced ≡ with_sync place None n.synced)
 
-not_synced : (n l : Machine) (o : Option OpenFile) (file : OpenFile) (part : Option ℕ) → o ≡ Some file → Became n n.tree n.files (part_synced o part n.synced) l → WasNotSynced n l file.names
+not_synced : (n l : Machine) (o : Option OpenFile) (file : OpenFile) (part : Option ℕ) → o ≡ Some file → Became n n.tree n.files (part_synced o part n.synced) l → WasNotSynced n l file.place
 not_synced n l None file part is left = absurd cc
 not_synced n l (Some f) file None is left = record { tree = left.0; synced = inl left.2 }
 not_synced n l (Some f) file (Some part) is left =
     let same : f ≡ file = cc in
-    record { tree = left.0; synced = inr (left.2 ∙ ap (λ (x : OpenFile). let s : List SyncedNode = (x.names, None) ∷ n.synced in s) same) }
+    record { tree = left.0; synced = inr (left.2 ∙ ap (λ (x : OpenFile). with_sync x.place None n.synced) same) }
 
 -- the sync of an open file ends the step
 pub sync_leads : (b : Bool) (n : Machine) (number : ℕ) (file : OpenFile) (P : Claim) → n.files number ≡ Some file
-    → ((l : Machine) → WasSynced n l file.names → P says.Done l)
-    → ((why : ErrorKind) (l : Machine) → b ≡ false → misses why ≡ false → WasNotSynced n l file.names → P (says.Failed why) l) → Leads (way_of b) (only (asks.Sync number)) n P
+    → ((l : Machine) → WasSynced n l file.place → P says.Done l)
+    → ((why : ErrorKind) (l : Machine) → b ≡ false → misses why ≡ false → WasNotSynced n l file.place → P (says.Failed why) l) → Leads (way_of b) (only (asks.Sync number)) n P
 sync_leads b n number file P is done breaks =
     only_leads (way_of b) (asks.Sync number) n P (λ said l happens.
     ⊎_elim
     (λ (most, all, well).
-    let syncs = on_open n l number file said (λ f said l. (said ≡ says.Done) × Became n n.tree n.files ((f.names, fixes n.synced (look n.tree f.names)) ∷ n.synced) l) is well in
+    let syncs = on_open n l number file said (λ f said l. (said ≡ says.Done) × Became n n.tree n.files (with_sync f.place (fixes n.synced (node_of n.tree f.place)) n.synced) l) is well in
     subst (λ (r : CallResult). P r l) (sym syncs.0) (done l (record { tree = syncs.1.0; files = syncs.1.1; synced = syncs.1.2 })))
     (λ (broke, why, same, fine, part, left).
     subst (λ (r : CallResult). P r l) (sym same) (breaks why l broke fine (not_synced n l (n.files number) file part is left)))
@@ -130,12 +130,12 @@ synced_temp temp bytes = answers.Synced (record { path = temp.path; bytes = byte
 
 temp_kept : (m l : Machine) (temp : NumberedTemp) → l.tree ≡ m.tree → l.files ≡ m.files → synced_temp temp (option_map (bytes_in l) (l.files temp.number)) ≡ synced_temp temp (option_map (bytes_in m) (m.files temp.number))
 temp_kept m l temp tree files =
-    ap (λ (t : Tree). synced_temp temp (option_map (λ (f : OpenFile). bytes_of (look t f.names)) (l.files temp.number))) tree
+    ap (λ (t : Tree). synced_temp temp (option_map (λ (f : OpenFile). bytes_of (node_of t f.place)) (l.files temp.number))) tree
     ∙ ap (λ (g : ℕ → Option OpenFile). synced_temp temp (option_map (bytes_in m) (g temp.number))) files
 
 pub sync_temp_agrees : SyncTempAgrees
 sync_temp_agrees m hint temp names bytes ready = agrees_of m hint (steps.SyncTemp temp) (λ b done.
-    let file = file_under (m.files temp.number) names ready.opened in
+    let file = file_under (m.files temp.number) (under names) ready.opened in
     sync_leads b m temp.number file.0 (claim_of b m (steps.SyncTemp temp)) file.1
     (λ l synced. claim_plain b m (steps.SyncTemp temp) done says.Done l
     (apply_sync_temp m temp

@@ -11,7 +11,7 @@ use Rattle.cacache_disk.specs.{declared.{luck.Luck.TheVariants.{Plain}, node.Nod
 use Rattle.cacache_system.specs.declared.call.SystemCall.TheVariants as asks
 use Rattle.cacache_system.specs.{declared.call.{CallItem.{CallItem}, CallResult.{CallResult}}, CallsOf.{to_read, over, taking_memory, reading_front, reading_rest, read_whole, interrupts, after, Ends, Runs}}
 use Rattle.cacache_system.specs.declared.call.CallResult.TheVariants as says
-use Rattle.cacache_system_model.specs.{Machine.{OpenFile, Machine, IsRefused, ReadsFile, unread}, Calls.{EachCall}, Laws.{outcome, Leads, IsDone}, Reading.{ReadAllAgrees}}
+use Rattle.cacache_system_model.specs.{Machine.{under, OpenFile, node_of, Machine, IsRefused, ReadsFile, unread}, Calls.{EachCall}, Laws.{outcome, Leads, IsDone}, Reading.{ReadAllAgrees}}
 use Rattle.cacache_system_model.proofs.{Refused.{same_outcome}, Leading.{Way, Claim, over_leads, call_leads}, Claims.{way_of, claim_of, cases_of, agrees_of, taking_leads, claim_plain, claim_broken, claim_memory}, Steps.{Opening.{OpenedOn, Openings, opening_leads, newly_open, said_leads, on_open}, Looking.{table_fails, no_file, file_there, folder_there, link_there}, Reading.{drop_taken}}}
 
 -- What becomes of the first read of a file: it gave the front, it failed, or a signal came and it may be given up.
@@ -54,7 +54,7 @@ apply_all t path r is = ap (λ (x : Result (List ℕ) Fault). unless x t (λ byt
 -- a file of a machine is open, and so many bytes were read from it
 record ReadSoFar (m l : Machine) (number : ℕ) (names : Names) (read : ℕ) : Type 0 where
   pub tree : l.tree ≡ m.tree
-  pub file : l.files number ≡ Some (record { names = names; read = read })
+  pub file : l.files number ≡ Some (record { place = under names; read = read })
 
 -- no signal has the kind of a tree's fault
 never_interrupted : (why : ErrorKind) (fault : Fault) → fault_of why ≡ fault → fault ≡ IsADirectory → interrupts why ≡ false
@@ -84,7 +84,7 @@ module _ (b : Bool) (m : Machine) (path : List ℕ) (done : b ≡ false → IsDo
 
   rest_read : (node : Node) (front : List ℕ) (l n : Machine) (said : CallResult) → look m.tree names ≡ Some node → ReadSoFar m l number names (length front)
       → ((bytes : List ℕ) → node ≡ File bytes → front ++ drop (length front) bytes ≡ bytes)
-      → ReadsFile (λ bytes. bytes) number (record { names = names; read = length front }) (Some node) l said n
+      → ReadsFile (λ bytes. bytes) number (record { place = under names; read = length front }) (Some node) l said n
       → Leads (way_of b) (after (reading_rest front number) said) n (claim_of b m (steps.ReadAll path))
   rest_read Folder front l n said stands ready fits reads =
       let refused = folder_refused l n said stands ready.tree reads in
@@ -102,9 +102,9 @@ module _ (b : Bool) (m : Machine) (path : List ℕ) (done : b ≡ false → IsDo
       call_leads (way_of b) (reading_rest front number) (asks.ReadRest number) l (claim_of b m (steps.ReadAll path)) refl (λ end never. absurd never) (λ said n happens.
       ⊎_elim
       (λ (most, all, well).
-      let reads = on_open l n number (record { names = names; read = length front }) said (λ f. ReadsFile (λ bytes. bytes) number f (look l.tree f.names) l) ready.file well in
+      let reads = on_open l n number (record { place = under names; read = length front }) said (λ f. ReadsFile (λ bytes. bytes) number f (node_of l.tree f.place) l) ready.file well in
       let here : look l.tree names ≡ Some node = ap (λ (t : Tree). look t names) ready.tree ∙ stands in
-      rest_read node front l n said stands ready fits (subst (λ (o : Option Node). ReadsFile (λ bytes. bytes) number (record { names = names; read = length front }) o l said n) here reads))
+      rest_read node front l n said stands ready fits (subst (λ (o : Option Node). ReadsFile (λ bytes. bytes) number (record { place = under names; read = length front }) o l said n) here reads))
       (λ (broke, why, same, fine, part, left).
       said_leads b (reading_rest front number) said (says.Failed why) n (claim_of b m (steps.ReadAll path)) same
       (over_leads (way_of b) (says.Failed why) n (claim_of b m (steps.ReadAll path))
@@ -125,7 +125,7 @@ module _ (b : Bool) (m : Machine) (path : List ℕ) (done : b ≡ false → IsDo
         rest_leads (File bytes) front l stands
             (record {
               tree = became.0 ∙ open_on.tree;
-              file = ap (λ (f : ℕ → Option OpenFile). f number) became.1 ∙ newly_open n.files number (record { names = names; read = 0 + length front }) ∙ ap (λ (k : ℕ). Some (record { names = names; read = k })) (zero-add (length front));
+              file = ap (λ (f : ℕ → Option OpenFile). f number) became.1 ∙ newly_open n.files number (record { place = under names; read = 0 + length front }) ∙ ap (λ (k : ℕ). Some (record { place = under names; read = k })) (zero-add (length front));
             })
             (λ other same. let e : bytes ≡ other = cc in ap (λ (x : List ℕ). front ++ x) (ap (drop (length front)) (sym e) ∙ drop_taken bytes (readable most size)) ∙ take-append-drop (readable most size) bytes ∙ e),
       )
@@ -141,7 +141,7 @@ module _ (b : Bool) (m : Machine) (path : List ℕ) (done : b ≡ false → IsDo
       front_leads (way_of b) size number n (claim_of b m (steps.ReadAll path)) false (λ e. absurd cc) (λ said l happens.
       ⊎_elim
       (λ (most, all, well).
-      let reads = on_open n l number (unread names) said (λ f. ReadsFile (take (readable most size)) number f (look n.tree f.names) n) open_on.file well in
+      let reads = on_open n l number (unread names) said (λ f. ReadsFile (take (readable most size)) number f (node_of n.tree f.place) n) open_on.file well in
       let here : look n.tree names ≡ Some node = ap (λ (t : Tree). look t names) open_on.tree ∙ stands in
       front_read node size n l said most stands open_on (subst (λ (o : Option Node). ReadsFile (take (readable most size)) number (unread names) o n said l) here reads))
       (λ (broke, why, same, fine, part, left).

@@ -13,7 +13,7 @@ use Rattle.cacache_disk.proofs.{Maps.{total, only, put_same}, PutNodes.{look-put
 use Rattle.cacache_system.specs.declared.call.SystemCall.TheVariants as asks
 use Rattle.cacache_system.specs.{declared.call.CallResult.{CallResult}, CallsOf.{trying, appending, interrupts, was_interrupted, after}, Seen.{NumberedTemp}, AnswersOf.{misses, refuses_memory, leaves_a_part}}
 use Rattle.cacache_system.specs.declared.call.CallResult.TheVariants as says
-use Rattle.cacache_system_model.specs.{Machine.{OpenFile, Machine, HasTree, OpensIf, unread, with_empty}, Calls.{GoesWell, OccursSomehow, did_nothing, part_written, part_opened, LeavesWritten, LeavesPart}, Laws.{bytes_in, step_on, outcome, led_to, Leads, IsDone}, Writing.{WritesAll, WritesSome, WriteAgrees}, OneCall.{StillStands}, Removing.{AppendAgrees}}
+use Rattle.cacache_system_model.specs.{Machine.{Place, under, OpenFile, node_of, Machine, HasTree, Grows, OpensIf, unread, with_empty}, Calls.{GoesWell, OccursSomehow, did_nothing, PartWritten, part_opened, LeavesWritten, LeavesPart}, Laws.{bytes_in, step_on, outcome, led_to, Leads, IsDone}, Writing.{WritesAll, WritesSome, WriteAgrees}, OneCall.{StillStands}, Removing.{AppendAgrees}}
 use Rattle.cacache_system_model.proofs.{Refused.{same_outcome, failed, refused_on, never_missing, failing_apply, broken_part}, Leading.{over_leads, call_leads, trying_leads}, Claims.{way_of, claim_of, luck_of, Well, cases_of, agrees_of, claim_plain, claim_taken, claim_lucky, claim_broken}, Trying.{SaidWell, tried_so}, Steps.{Opening.{newly_open, said_leads, on_open, file_under}, Looking.{table_fails}, Walking.{looks_so}}, Views.{leads_no_link}}
 
 -- ---- trees
@@ -112,17 +112,17 @@ module _ (b : Bool) (m : Machine) (path bytes : List ℕ) (done : b ≡ false �
       → LeavesWritten c number bytes part n l → claim_of b m (steps.Append path bytes) (says.Failed why) l
   broke_written true number names why part n l is ready broke fine left = none_so names why l is broke fine (ap (λ (x : Machine). x.tree) left ∙ ready.tree)
   broke_written false number names why None n l is ready broke fine left =
-      none_so names why l is broke fine (left.0 ∙ ap (λ (o : Option OpenFile). part_written o bytes None n.tree) ready.file ∙ ready.tree)
+      none_so names why l is broke fine ((subst (λ (o : Option OpenFile). PartWritten o bytes None n l) ready.file left).0 ∙ ready.tree)
   broke_written false number names why (Some part) n l is ready broke fine left =
       part_so names why l part is broke fine
-      (left.0 ∙ ap (λ (o : Option OpenFile). part_written o bytes (Some part) n.tree) ready.file
+      ((subst (λ (o : Option OpenFile). PartWritten o bytes (Some part) n l) ready.file left).0
       ∙ ap (λ (t : Tree). lengthened t names (take (taken (Some part) bytes) bytes)) ready.tree
       ∙ lengthened_empty m.tree names (take (taken (Some part) bytes) bytes) (look m.tree names) refl)
 
   written_well : (number : ℕ) (names : Names) (n : Machine) → writable m.tree path ≡ Ok names → Appending m n number names → (said : CallResult) (l : Machine) → Well b n (asks.Write number bytes) said l
       → SaidWell (claim_of b m (steps.Append path bytes)) said l
   written_well number names n is ready said l (most, all, well) =
-      let writes = on_open n l number (unread names) said (λ f said l. (said ≡ says.Count (taken most bytes)) × HasTree n (lengthened n.tree f.names (take (taken most bytes) bytes)) l) ready.file well in
+      let writes = on_open n l number (unread names) said (λ f said l. (said ≡ says.Count (taken most bytes)) × Grows f.place (take (taken most bytes) bytes) n l) ready.file well in
       record {
         is = says.Count (taken most bytes);
         same = writes.0;
@@ -193,17 +193,17 @@ apply_write (Some most) t temp held old more is = ap (grown (record { path = tem
 
 -- the file that is open under a number
 module _ (m : Machine) (temp : NumberedTemp) (names : Names) (bytes more : List ℕ) (ready : StillStands m temp names bytes) where
-  temp_file : (f : OpenFile) × (m.files temp.number ≡ Some f) × (f.names ≡ names)
-  temp_file = file_under (m.files temp.number) names ready.opened
+  temp_file : (f : OpenFile) × (m.files temp.number ≡ Some f) × (f.place ≡ under names)
+  temp_file = file_under (m.files temp.number) (under names) ready.opened
 
   held : option_map (bytes_in m) (m.files temp.number) ≡ Some bytes
   held =
-      ap (option_map (bytes_in m)) temp_file.1 ∙ ap (λ (n : Names). Some (bytes_of (look m.tree n))) temp_file.2 ∙ ap (λ (o : Option Node). Some (bytes_of o)) ready.stands
+      ap (option_map (bytes_in m)) temp_file.1 ∙ ap (λ (p : Place). Some (bytes_of (node_of m.tree p))) temp_file.2 ∙ ap (λ (o : Option Node). Some (bytes_of o)) ready.stands
 
   held_after : (l : Machine) (part : List ℕ) → l.tree ≡ lengthened m.tree names part → l.files ≡ m.files → option_map (bytes_in l) (l.files temp.number) ≡ Some (bytes ++ part)
   held_after l part tree files =
       ap (λ (g : ℕ → Option OpenFile). option_map (bytes_in l) (g temp.number)) files ∙ ap (option_map (bytes_in l)) temp_file.1
-      ∙ ap (λ (n : Names). Some (bytes_of (look l.tree n))) temp_file.2
+      ∙ ap (λ (p : Place). Some (bytes_of (node_of l.tree p))) temp_file.2
       ∙ ap (λ (t : Tree). Some (bytes_of (look t names))) tree
       ∙ ap (λ (o : Option Node). Some (bytes_of o)) (look_same m.tree names (File (bytes_of (look m.tree names) ++ part)))
       ∙ ap (λ (o : Option Node). Some (bytes_of o ++ part)) ready.stands
@@ -222,8 +222,8 @@ module _ (m : Machine) (temp : NumberedTemp) (names : Names) (bytes more : List 
   well_written : (most : Option ℕ) (said : CallResult) (l : Machine) → GoesWell most m (asks.Write temp.number more) said l
       → (said ≡ says.Count (taken most more)) × HasTree m (lengthened m.tree names (take (taken most more) more)) l
   well_written most said l well =
-      subst (λ (n : Names). (said ≡ says.Count (taken most more)) × HasTree m (lengthened m.tree n (take (taken most more) more)) l) temp_file.2
-      (on_open m l temp.number temp_file.0 said (λ f said l. (said ≡ says.Count (taken most more)) × HasTree m (lengthened m.tree f.names (take (taken most more) more)) l) temp_file.1 well)
+      subst (λ (p : Place). (said ≡ says.Count (taken most more)) × Grows p (take (taken most more) more) m l) temp_file.2
+      (on_open m l temp.number temp_file.0 said (λ f said l. (said ≡ says.Count (taken most more)) × Grows f.place (take (taken most more) more) m l) temp_file.1 well)
 
   write_plainly : Leads (GoesWell None) (trying false (asks.Write temp.number more)) m (WritesAll m temp names more)
   write_plainly =
@@ -252,10 +252,11 @@ module _ (m : Machine) (temp : NumberedTemp) (names : Names) (bytes more : List 
   nothing_written why true l fine memory stays = inr (ap (λ (c : Bool). if c && not (leaves_a_part (steps.Write temp more)) then answers.NoMemory (steps.Write temp more) else answers.Failed (fault_of why)) memory, stays)
 
   part_failed : (why : ErrorKind) (part : Option ℕ) (l : Machine) → misses why ≡ false → refuses_memory why ≡ false → LeavesWritten false temp.number more part m l → WritesSome m temp names more (says.Failed why) l
-  part_failed why None l fine memory left = nothing_written why false l fine memory (left.0 ∙ ap (λ (o : Option OpenFile). part_written o more None m.tree) temp_file.1)
+  part_failed why None l fine memory left = nothing_written why false l fine memory (subst (λ (o : Option OpenFile). PartWritten o more None m l) temp_file.1 left).0
   part_failed why (Some part) l fine memory left =
       failed_write why (taken (Some part) more) l fine memory
-      (left.0 ∙ ap (λ (o : Option OpenFile). part_written o more (Some part) m.tree) temp_file.1 ∙ ap (λ (n : Names). lengthened m.tree n (take (taken (Some part) more) more)) temp_file.2)
+      (subst (λ (p : Place). Grows p (take (taken (Some part) more) more) m l) temp_file.2
+      (subst (λ (o : Option OpenFile). PartWritten o more (Some part) m l) temp_file.1 left)).0
 
   broke_write : (why : ErrorKind) (i c : Bool) (part : Option ℕ) (l : Machine) → misses why ≡ false → interrupts why ≡ i → refuses_memory why ≡ c → LeavesWritten (i || c) temp.number more part m l
       → WritesSome m temp names more (says.Failed why) l

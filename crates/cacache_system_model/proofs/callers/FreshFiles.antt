@@ -21,7 +21,7 @@ free_at : (here : Option Node) (old names : Names) → where_free here old ≡ O
 free_at None old names e = (refl, cc)
 free_at (Some node) old names e = absurd cc
 
-free_so : (t : Tree) (r : Result Names Fault) (names : Names) → and_then r (λ x. where_free (look t x) x) ≡ Ok names → (r ≡ Ok names) × (look t names ≡ None)
+pub free_so : (t : Tree) (r : Result Names Fault) (names : Names) → and_then r (λ x. where_free (look t x) x) ≡ Ok names → (r ≡ Ok names) × (look t names ≡ None)
 free_so t (Ok old) names e = let f = free_at (look t old) old names e in (ap Ok f.1, sym (ap (look t) f.1) ∙ f.0)
 free_so t (Err fault) names e = absurd cc
 

@@ -1,16 +1,16 @@
 -- A caller's temporary file is open, and holds on the machine what the call's state says.
-use Rattle.std.{proofs.Common.{◌≡◌, ◌&&◌, not, ℕ, Bool, true, false, List, [], Option, None, Some, Ok, option_map, refl, sym, ap, subst, ◌∙◌}, specs.Prelude.{Result, Err}}
+use Rattle.std.{proofs.{lemmas.Bool.{false_from_ne_true}, Common.{◌≡◌, ◌&&◌, not, ℕ, Bool, true, false, List, [], Option, None, Some, Ok, option_map, refl, sym, ap, subst, ◌∙◌}}, specs.Prelude.{Result, Err, IfOk}}
 use Rattle.cacache_core.specs.{Contexts.{fault_of}, declared.errors.Fault.{Fault}, PathNames.{Names, names_of}}
 use Rattle.cacache_store.specs.{declared.store.plain.{PlainFile.{PlainFile}, PlainTemp.{PlainTemp}}, Plain.{PlainStep}, Fits.{Fits}}
 use Rattle.cacache_store.specs.declared.store.step.Step.TheVariants as steps
 use Rattle.cacache_store.specs.declared.store.answer.Answer.TheVariants as answers
-use Rattle.cacache_disk.specs.{declared.{luck.Luck.{Luck}, node.Node.{Node, TheVariants.{File}}}, Tree.{Tree, look, put, bytes_of}, LedTo.{free}, Apply.{apply, unless, made_temp}, Rooted.{Rooted}}
-use Rattle.cacache_disk.proofs.FoundNodes.{free_ok}
-use Rattle.cacache_value.proofs.Shows.{apply_answer}
+use Rattle.cacache_disk.specs.{declared.{luck.Luck.{Luck}, node.Node.{Node, TheVariants.{File}}}, Tree.{Tree, look, put, same_path, bytes_of}, LedTo.{free}, Apply.{apply, unless, made_temp}, Rooted.{Rooted}}
+use Rattle.cacache_disk.proofs.{Maps.{same_path-true}, FoundNodes.{free_ok}}
+use Rattle.cacache_value.{specs.{Kinds.{PathKind, Content, Temporary, Elsewhere, path_kind, IsFor}, Placed.{Placed, Proper}}, proofs.{FoundPaths.{writable_out}, Shows.{apply_answer}}}
 use Rattle.cacache_system.specs.{declared.call.CallResult.{CallResult}, Seen.{NumberedFile, NumberedTemp, NumberedStep, NumberedAnswer}, AnswersOf.{Hint, answer_of, refuses_memory}}
 use Rattle.cacache_system.specs.declared.call.CallResult.TheVariants as says
-use Rattle.cacache_system_model.specs.{Machine.{OpenFile, Machine}, Laws.{bytes_in, temp_on, file_on, step_on, answer_on}, Mirrors.{Mirrors, temps_after}, callers.{Storing.{Stores, IsHeld, HoldsTemp, HintStands}, Opened.{IsOpenAt, KeepsOpen, StillStores}, Seen.{step_seen, handed, handed_open, IsOnHeld}}}
-use Rattle.cacache_system_model.proofs.callers.{WithoutBytes.{step_without}, Failing.{answer_if}, Covering.{still_there}, Files.{file_of, open_of, file_given, open_given}, OpenTemps.{with_new_here}, OpenCalls.{names_at}}
+use Rattle.cacache_system_model.specs.{Machine.{Place, under, OpenFile, node_of, Machine}, OneCall.{IsOpenAt}, Laws.{bytes_in, temp_on, file_on, step_on, answer_on}, Mirrors.{Mirrors, temps_after}, callers.{Storing.{IsHeld, HoldsTemp, HintStands}, Opened.{KeepsOpen, Avoids, IsApart, StillStores}, Seen.{step_seen, handed, handed_open, IsOnHeld}}}
+use Rattle.cacache_system_model.proofs.{Steps.Opening.{file_under}, callers.{WithoutBytes.{step_without}, Failing.{answer_if}, Covering.{still_there, hollow_file}, TreeKept.{Misses, is_elsewhere}, Files.{file_of, open_of, file_given, open_given}, OpenTemps.{with_new_here}, OpenCalls.{place_at}}}
 use Rattle.cacache_folder.proofs.Answering.{temp_of}
 
 -- ---- handles
@@ -22,23 +22,22 @@ pub record Handle (temps : Names → Bool) (m : Machine) (o : Option NumberedTem
   pub held : IsHeld temps m temp
   pub same : temp_on m temp ≡ file
 
-bytes_same : (m n : Machine) (o p : Option OpenFile) (q : Names) → option_map names_at o ≡ Some q → option_map names_at p ≡ Some q → look n.tree q ≡ look m.tree q
+bytes_same : (m n : Machine) (o p : Option OpenFile) (q : Names) → option_map place_at o ≡ Some (under q) → option_map place_at p ≡ Some (under q) → look n.tree q ≡ look m.tree q
     → option_map (bytes_in n) p ≡ option_map (bytes_in m) o
-bytes_same m n None p q e f same = let no : None ≡ Some q = e in absurd cc
-bytes_same m n (Some a) None q e f same = let no : None ≡ Some q = f in absurd cc
-bytes_same m n (Some a) (Some b) q e f same =
-    let one : a.names ≡ q = (let is : Some a.names ≡ Some q = e in cc) in
-    let two : b.names ≡ q = (let is : Some b.names ≡ Some q = f in cc) in
-    ap (λ (x : Names). Some (bytes_of (look n.tree x))) two ∙ ap (λ (x : Option Node). Some (bytes_of x)) same ∙ ap (λ (x : Names). Some (bytes_of (look m.tree x))) (sym one)
+bytes_same m n o p q e f same =
+    let one = file_under o (under q) e in
+    let two = file_under p (under q) f in
+    ap (option_map (bytes_in n)) two.1 ∙ ap (λ (x : Place). Some (bytes_of (node_of n.tree x))) two.2 ∙ ap (λ (x : Option Node). Some (bytes_of x)) same
+    ∙ ap (λ (x : Place). Some (bytes_of (node_of m.tree x))) (sym one.2) ∙ ap (option_map (bytes_in m)) (sym one.1)
 
 abbrev with_bytes : List ℕ → Option (List ℕ) → PlainTemp
 with_bytes path bytes = record { path = path; bytes = bytes }
 
 -- it still does, where its file stayed as it was
-pub handle_kept : (temps later : Names → Bool) (m n : Machine) (o new : Option NumberedTemp) (file : PlainTemp) → KeepsOpen m n → new ≡ o → (g : Handle temps m o file)
-    → later g.held.names ≡ true → look n.tree g.held.names ≡ look m.tree g.held.names → Handle later n new file
-handle_kept temps later m n o new file keeps same g is_temp stays =
-    let opened = keeps g.temp.number g.held.names g.held.opened in
+pub handle_kept : (temps later : Names → Bool) (m n : Machine) (o new : Option NumberedTemp) (file : PlainTemp) → new ≡ o → (g : Handle temps m o file)
+    → KeepsOpen g.held.names m n → later g.held.names ≡ true → look n.tree g.held.names ≡ look m.tree g.held.names → Handle later n new file
+handle_kept temps later m n o new file same g keeps is_temp stays =
+    let opened = keeps g.temp.number g.held.opened in
     record {
       temp = g.temp;
       is = same ∙ g.is;
@@ -135,11 +134,17 @@ temp_named t p luck f =
     apply_answer (λ a. a ≡ answers.Temp f → (names : Names) × (names_of p ≡ Ok names)) (λ fault e. absurd cc) t (steps.CreateTemp p) luck
     (λ most. temp_there p t (free t p) f (λ names is. (free_ok t p names is).0) (λ names. put t names (File [])))
 
-stays_held : (temps : Names → Bool) (m n : Machine) (u : NumberedTemp) → KeepsOpen m n → IsHeld temps m u → IsHeld temps n u
-stays_held temps m n u keeps g = record { names = g.names; named = g.named; is_temp = g.is_temp; opened = keeps u.number g.names g.opened }
+stays_held : (temps : Names → Bool) (m n : Machine) (u : NumberedTemp) → ((q : Names) → KeepsOpen q m n) → IsHeld temps m u → IsHeld temps n u
+stays_held temps m n u keeps g = record { names = g.names; named = g.named; is_temp = g.is_temp; opened = keeps g.names u.number g.opened }
+
+-- a step that hands a temporary file back
+abbrev pub HandsOut : NumberedStep → Type 0
+HandsOut (steps.Write t bytes) = Unit {0}
+HandsOut (steps.SyncTemp t) = Unit {0}
+HandsOut step = ⊥
 
 -- the handle behind a step, where the answer hands one out
-pub handed_handle : (temps : Names → Bool) (m n : Machine) (step : NumberedStep) (answer : NumberedAnswer) (o : Option NumberedTemp) (file : PlainTemp) (t : Tree) (luck : Luck) → KeepsOpen m n
+pub handed_handle : (temps : Names → Bool) (m n : Machine) (step : NumberedStep) (answer : NumberedAnswer) (o : Option NumberedTemp) (file : PlainTemp) (t : Tree) (luck : Luck) → ((q : Names) → HandsOut step → KeepsOpen q m n)
     → ((p : List ℕ) (u : NumberedTemp) (names : Names) → step ≡ steps.CreateTemp p → answer ≡ answers.Temp u → names_of u.path ≡ Ok names → IsOpenAt n u.number names)
     → HoldsTemp temps m step
     → ((v u : NumberedTemp) (bytes : List ℕ) (k : ℕ) → step ≡ steps.Write v bytes → answer ≡ answers.Wrote u k → v ≡ u)
@@ -153,10 +158,10 @@ handed_handle temps m n (steps.CreateTemp p) (answers.Temp u) o file t luck keep
     record { temp = u; is = refl; held = record { names = g.0; named = named; is_temp = with_new_here temps (names_of p) g.0 g.1; opened = opens p u g.0 refl refl named }; same = same }
 handed_handle temps m n (steps.Write v bytes) (answers.Wrote u k) o file t luck keeps opens holds wrote synced fits answered e =
     let same : temp_on n u ≡ file = cc in
-    record { temp = u; is = refl; held = stays_held temps m n u keeps (subst (IsHeld temps m) (wrote v u bytes k refl refl) holds); same = same }
+    record { temp = u; is = refl; held = stays_held temps m n u (λ q. keeps q tt) (subst (IsHeld temps m) (wrote v u bytes k refl refl) holds); same = same }
 handed_handle temps m n (steps.SyncTemp v) (answers.Synced u) o file t luck keeps opens holds wrote synced fits answered e =
     let same : temp_on n u ≡ file = cc in
-    record { temp = u; is = refl; held = stays_held temps m n u keeps (subst (IsHeld temps m) (synced v u refl refl) holds); same = same }
+    record { temp = u; is = refl; held = stays_held temps m n u (λ q. keeps q tt) (subst (IsHeld temps m) (synced v u refl refl) holds); same = same }
 handed_handle temps m n step (answers.Temp u) o file t luck keeps opens holds wrote synced fits answered e = absurd fits
 handed_handle temps m n step (answers.Wrote u k) o file t luck keeps opens holds wrote synced fits answered e = absurd fits
 handed_handle temps m n step (answers.Synced u) o file t luck keeps opens holds wrote synced fits answered e = absurd fits
@@ -189,12 +194,43 @@ temp_answer p u (says.Opened k) e =
 temp_answer p u (says.Failed why) e = absurd (never_temp (steps.CreateTemp p) (fault_of why) (refuses_memory why && not true) u e)
 temp_answer p u end e = absurd cc
 
--- a step's file still stands
-pub still_stores : (h : Option Names) (temps : Names → Bool) (m : Machine) (d : Tree) → Mirrors temps m.tree d → Rooted m.tree → (hint : Hint) (step : NumberedStep) → Stores h (step_on m step) → HoldsTemp temps m step
-    → HintStands m hint step → StillStores m step
-still_stores h temps m d mirrors rooted hint (steps.Write t bytes) stores holds stands = still_there temps m d t mirrors rooted holds
-still_stores h temps m d mirrors rooted hint (steps.Persist t p) stores holds stands = still_there temps m d t mirrors rooted holds
-still_stores h temps m d mirrors rooted hint (steps.Read f size) stores holds stands = stands
-still_stores h temps m d mirrors rooted hint (steps.ReadDir p) stores holds stands = stands
-still_stores h temps m d mirrors rooted hint (steps.SyncTemp t) stores holds stands = still_there temps m d t mirrors rooted holds
-still_stores h temps m d mirrors rooted hint step stores holds stands = tt
+kind_differs : (h : Option Names) (k : PathKind) (r : Result Names Fault) → (Temporary ≡ k → ⊥) → IfOk r (λ names. path_kind h names ≡ k) → IfOk r (λ names. path_kind h names ≡ Temporary → ⊥)
+kind_differs h k (Ok names) other is = λ e. other (sym e ∙ is)
+kind_differs h k (Err fault) other is = tt
+
+-- what is for something else is no path of a temporary file
+apart_from : (h : Option Names) (q : Names) (k : PathKind) (p : List ℕ) → path_kind h q ≡ Temporary → (Temporary ≡ k → ⊥) → IsFor h k p → Avoids q p
+apart_from h q k p at other is = is_elsewhere h q (names_of p) at (kind_differs h k (names_of p) other is)
+
+-- the target of a copy is outside
+copies_outside : (h : Option Names) (t : Tree) (q : Names) (bytes to : List ℕ) → Placed h t → path_kind h q ≡ Temporary → look t q ≡ Some (File bytes) → IsFor h Elsewhere to → IsApart q t to
+copies_outside h t q bytes to placed at here out = record {
+  bytes = bytes;
+  stands = here;
+  avoids = apart_from h q Elsewhere to at (λ e. cc) out;
+  leads = λ end leads.
+      false_from_ne_true (same_path q end)
+      (λ e. let no : Temporary ≡ Elsewhere = sym at ∙ ap (path_kind h) (same_path-true q end e) ∙ (writable_out h t to end placed out leads).0 in cc);
+}
+
+module _ (h : Option Names) (temps : Names → Bool) (m : Machine) (d : Tree) (mirrors : Mirrors temps m.tree d) (rooted : Rooted m.tree) where
+  -- a step that hands its file back moves and removes nothing
+  pub hands_back : (q : Names) (step : NumberedStep) → HoldsTemp temps m step → HandsOut step → StillStores q m step
+  hands_back q (steps.Write t bytes) holds hands = still_there temps m d t mirrors rooted holds
+  hands_back q (steps.SyncTemp t) holds hands = still_there temps m d t mirrors rooted holds
+  hands_back q step holds hands = absurd hands
+
+  -- nor does any step at another's temporary file
+  pub still_stores : (q : Names) (hint : Hint) (step : NumberedStep) → HoldsTemp temps m step → HintStands m hint step → Placed h m.tree → path_kind h q ≡ Temporary → temps q ≡ true
+      → Proper h (step_on m step) → Misses q (step_on m step) → StillStores q m step
+  still_stores q hint (steps.Write t bytes) holds stands placed at is_temp proper misses = still_there temps m d t mirrors rooted holds
+  still_stores q hint (steps.Persist t p) holds stands placed at is_temp proper misses =
+      (still_there temps m d t mirrors rooted holds, misses, apart_from h q Content p at (λ e. cc) proper.1)
+  still_stores q hint (steps.Read f size) holds stands placed at is_temp proper misses = stands
+  still_stores q hint (steps.Copy p to) holds stands placed at is_temp proper misses =
+      let file = hollow_file (look m.tree q) (mirrors.files q is_temp) in copies_outside h m.tree q file.0 to placed at file.1 proper
+  still_stores q hint (steps.ReadDir p) holds stands placed at is_temp proper misses = stands
+  still_stores q hint (steps.RemoveFile p) holds stands placed at is_temp proper misses = misses
+  still_stores q hint (steps.RemoveDir p) holds stands placed at is_temp proper misses = misses
+  still_stores q hint (steps.SyncTemp t) holds stands placed at is_temp proper misses = still_there temps m d t mirrors rooted holds
+  still_stores q hint step holds stands placed at is_temp proper misses = tt

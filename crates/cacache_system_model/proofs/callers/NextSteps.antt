@@ -5,7 +5,7 @@ use Rattle.cacache_core.specs.PathNames.{Names, names_of}
 use Rattle.cacache_store.specs.{declared.store.{plain.{PlainFile.{PlainFile}, PlainTemp.{PlainTemp}}, answer.Name.{Name}}, Plain.{PlainStep, PlainAnswer}, Fits.{Fits, AreProperNames}}
 use Rattle.cacache_store.specs.declared.store.step.Step.TheVariants as steps
 use Rattle.cacache_store.specs.declared.store.answer.Answer.TheVariants as answers
-use Rattle.cacache_disk.specs.{declared.luck.Luck.{Luck}, Apply.{apply}}
+use Rattle.cacache_disk.specs.{declared.luck.Luck.{Luck}, Apply.{apply}, Rooted.{Rooted}}
 use Rattle.cacache_value.specs.{Kinds.{Temporary, path_kind}, OpeningTrees.{LieApart}, Placed.{Placed, Proper}}
 use Rattle.cacache_calls.specs.{declared.{reply.Reply.{Reply}, carried.Lookup.{Lookup}}, Answers.{bytes_in as bytes_answered, names_in}, Looking.{found_in}, Common.{errand_step}, State.{State, doing, writing, syncing, persisting, looking, Site, Errand, remove}, StepPaths.{temp_path, bucket_path}, Sound.{IsTemp, Allowed, Sound}, Table.{wants, after}}
 use Rattle.cacache_calls.proofs.Sound.{steps_allowed}
@@ -13,8 +13,8 @@ use Rattle.cacache_calls.specs.declared.answers.Refusal.TheVariants as refusals
 use Rattle.cacache_history.specs.{declared.record.Record.{Record, TheVariants.{Moved}}, Setup.{Setup, call_site, home, may_export, is_outside}, History.{Call, Now, now_after, MayMove, MayCome}}
 use Rattle.cacache_history.proofs.{Histories.Holding.{CallHolds, of_caller}, Entries.Spelled.{HasIntegrity}, Proper.{sound_proper}, Listings.ListingWalks.{proper_names}, durable.CallNumbers.{Numbered, next_numbered, number_below, numbers_apart, temps_apart}}
 use Rattle.cacache_system.specs.{declared.call.CallResult.{CallResult}, Seen.{NumberedFile, NumberedTemp, NumberedStep, NumberedAnswer}, CallsOf.{Runs}, AnswersOf.{first, answer_of}}
-use Rattle.cacache_system_model.specs.{Machine.{Machine}, Laws.{answer_on}, Mirrors.{Mirrors}, Chains.{StepMade, temps_left}, callers.{Acts.{IsRecordOf, steps as makes, SystemState, step_of, answer_in, NeedsFit, set_state, unless_ended}, Storing.{Stores, HoldsTemp, MakesStoringStep}, Opened.{IsOpenAt, KeepsOpen}, Seen.{handed, handed_open, held_after, open_after}}}
-use Rattle.cacache_system_model.proofs.{Mirroring.{shapes}, callers.{NextActs.{NumberedState, numbered_after, MakesNextStep}, Failing.{failed_none, failed_bytes}, OtherTemps.{explained, placed_same, asked_stays}, Covering.{rooted_same, has_asked}, Following.{Agree, has_call, Follows}, Files.{file_in, open_in, file_of, open_of, file_given, open_given, IsErrand, From, Follows as StateFollows, follows_after, wants_file, wants_open, errand_steps}, StayingOpen.{runs_keep_open, made_open}, PathsOf.{HasPaths, wants_apart, paths_after, bucket_has}, TreeKept.{Misses, is_elsewhere}, Handles.{Handle, IsHanded, next_on, holds_on, handle_kept, wrote_same, synced_same, handed_handle, handed_none, handed_file, handed_no_file, temp_answer, still_stores}, OpenTemps.{temps_spare}}}
+use Rattle.cacache_system_model.specs.{Machine.{Machine}, OneCall.{IsOpenAt}, Laws.{answer_on}, Mirrors.{Mirrors}, Chains.{StepMade, temps_left}, callers.{Acts.{IsRecordOf, steps as makes, SystemState, step_of, answer_in, NeedsFit, set_state, unless_ended}, Storing.{Stores, HoldsTemp, MakesStoringStep}, Opened.{KeepsOpen, StillStores}, Seen.{handed, handed_open, held_after, open_after}}}
+use Rattle.cacache_system_model.proofs.{Mirroring.{shapes}, callers.{NextActs.{NumberedState, numbered_after, MakesNextStep}, Failing.{failed_none, failed_bytes}, OtherTemps.{explained, placed_same, asked_stays}, Covering.{rooted_same, has_asked}, Following.{Agree, has_call, Follows}, Files.{file_in, open_in, file_of, open_of, file_given, open_given, IsErrand, From, Follows as StateFollows, follows_after, wants_file, wants_open, errand_steps}, StayingOpen.{runs_keep_open, made_open}, PathsOf.{HasPaths, wants_apart, paths_after, bucket_has}, TreeKept.{Misses, is_elsewhere}, Handles.{Handle, IsHanded, next_on, holds_on, handle_kept, wrote_same, synced_same, handed_handle, handed_none, handed_file, handed_no_file, temp_answer, hands_back, still_stores}, OpenTemps.{temps_spare}}}
 
 -- ---- whose a temporary file is
 
@@ -173,11 +173,11 @@ module _ (s : Setup) (apart : LieApart (home s) s.outside) (f : NumberedState) (
     placed : Placed (home s) made.before.tree
     placed = placed_same (home s) made.before.tree now.tree (shapes w.temps made.before.tree now.tree mirrors) all.agree.all.placed
 
-    keeps : KeepsOpen made.before made.after
-    keeps =
-        runs_keep_open made.before made.after made.hint made.step made.items made.end
-        (still_stores (home s) w.temps made.before now.tree mirrors (rooted_same made.before.tree now.tree (shapes w.temps made.before.tree now.tree mirrors) all.agree.all.rooted) made.hint made.step stores holds m.hint)
-        m.runs m.each
+    rooted : Rooted made.before.tree
+    rooted = rooted_same made.before.tree now.tree (shapes w.temps made.before.tree now.tree mirrors) all.agree.all.rooted
+
+    keeps : (q : Names) → StillStores q made.before made.step → KeepsOpen q made.before made.after
+    keeps q still = runs_keep_open q made.before made.after made.hint made.step made.items made.end still m.runs m.each
 
     opens : (p : List ℕ) (u : NumberedTemp) (names : Names) → made.step ≡ steps.CreateTemp p → answer_of made.step made.end ≡ answers.Temp u → names_of u.path ≡ Ok names → IsOpenAt made.after u.number names
     opens p u names step_is answer_is named =
@@ -190,7 +190,8 @@ module _ (s : Setup) (apart : LieApart (home s) s.outside) (f : NumberedState) (
         → Handle (temps_left w.temps made) made.after new file
     handle_stays o new file same g misses =
         let at = all.agree.temps g.held.names g.held.is_temp in
-        handle_kept w.temps (temps_left w.temps made) made.before made.after o new file keeps same g
+        handle_kept w.temps (temps_left w.temps made) made.before made.after o new file same g
+        (keeps g.held.names (still_stores (home s) w.temps made.before now.tree mirrors rooted g.held.names made.hint made.step holds m.hint placed at g.held.is_temp proper misses))
         (temps_spare (home s) w.temps (step_of made) (answer_in made) g.held.names at proper misses g.held.is_temp)
         (asked_stays (home s) w.temps made.before made.after made.hint placed g.held.names at made.step made.items made.end m.clean proper misses m.runs m.each (explained made reply m.luck)
         (has_asked (home s) w.temps all.agree.temps made.before now.tree mirrors all.agree.all.placed all.agree.all.rooted made.hint made.step stores holds m.hint proper))
@@ -199,7 +200,7 @@ module _ (s : Setup) (apart : LieApart (home s) s.outside) (f : NumberedState) (
     handed_own : (luck : Luck) → Fits (step_of made) (answer_in made) → answer_in made ≡ (apply now.tree (step_of made) luck).0 → (file : PlainTemp) → file_given (answer_in made) ≡ Some file
         → Handle (temps_left w.temps made) made.after (handed (answer_of made.step made.end) (f.held caller)) file
     handed_own luck fits answered file e =
-        handed_handle w.temps made.before made.after made.step (answer_of made.step made.end) (f.held caller) file now.tree luck keeps opens holds
+        handed_handle w.temps made.before made.after made.step (answer_of made.step made.end) (f.held caller) file now.tree luck (λ q hands. keeps q (hands_back (home s) w.temps made.before now.tree mirrors rooted q made.step holds hands)) opens holds
         (λ v u bytes k step_is answer_is. wrote_same v u bytes made.end k (ap (λ (x : NumberedStep). answer_of x made.end) (sym step_is) ∙ answer_is))
         (λ v u step_is answer_is. synced_same v u made.end (ap (λ (x : NumberedStep). answer_of x made.end) (sym step_is) ∙ answer_is))
         fits answered e

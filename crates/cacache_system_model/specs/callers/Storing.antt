@@ -1,11 +1,11 @@
 -- Steps of calls that remove no folder. Most of what their laws ask of the machine's tree follows from the acts before them.
-use Rattle.std.specs.Prelude.{◌≡◌, ◌⊎◌, ℕ, Bool, true, List, Option, None, Some, Ok, IfOk, option_map}
+use Rattle.std.specs.Prelude.{◌≡◌, ◌⊎◌, ℕ, Bool, true, List, Option, None, Some, Ok, IfOk}
 use Rattle.std_io.specs.declared.io.kind.ErrorKind.TheVariants as kind
 use Rattle.cacache_core.specs.PathNames.{Names, names_of}
 use Rattle.cacache_store.specs.Plain.{PlainStep}
 use Rattle.cacache_store.specs.declared.store.step.Step.TheVariants as steps
 use Rattle.cacache_system.specs.{declared.call.CallResult.TheVariants.{Failed}, Seen.{NumberedTemp, NumberedStep}, CallsOf.{Runs}, AnswersOf.{Hint, first, answer_of}}
-use Rattle.cacache_system_model.specs.{Machine.{OpenFile, Machine}, Calls.{GoesWell, OccursSomehow, EachCall}, Laws.{LeavesFresh, IsDone}, Removing.{WalkStands}, Moving.{MayReplace}, Writing.{CanCopy}, Listing.{CanList}, Premises.{IsOpen, HasPlainLaw}, Chains.{StepMade}, callers.{Acts.{Act, begins, steps as makes, ends, stops, SystemState, EndsFailed, step_of, answer_in, NeedsFit, MayAct}, Made.{MakeHistories}}}
+use Rattle.cacache_system_model.specs.{Machine.{Machine}, Calls.{GoesWell, OccursSomehow, EachCall}, Laws.{LeavesFresh, IsDone}, OneCall.{IsOpenAt}, Removing.{WalkStands}, Moving.{MayReplace}, Writing.{CanCopy}, Listing.{CanList}, Premises.{IsOpen, HasPlainLaw}, Chains.{StepMade}, callers.{Acts.{Act, begins, steps as makes, ends, stops, SystemState, EndsFailed, step_of, answer_in, NeedsFit, MayAct}, Made.{MakeHistories}}}
 use Rattle.cacache_calls.specs.{declared.reply.Reply.{Reply}, State.{State}, Table.{wants, after}}
 use Rattle.cacache_value.specs.Kinds.{PathKind, Temporary, Way, path_kind, IsFor}
 use Rattle.cacache_history.specs.{Setup.{Setup, home}, History.{Ends}}
@@ -33,7 +33,7 @@ pub record IsHeld (temps : Names → Bool) (m : Machine) (temp : NumberedTemp) :
   pub names : Names
   pub named : names_of temp.path ≡ Ok names
   pub is_temp : temps names ≡ true
-  pub opened : option_map (λ (file : OpenFile). file.names) (m.files temp.number) ≡ Some names
+  pub opened : IsOpenAt m temp.number names
 
 -- the temporary file of a step is open so
 abbrev pub HoldsTemp : (Names → Bool) → Machine → NumberedStep → Type 0
