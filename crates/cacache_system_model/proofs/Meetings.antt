@@ -36,9 +36,9 @@ can_change : (m : Machine) (ends : Result Names Fault) (new : Names → Tree) �
 can_change m (Ok names) new can = (says.Done, standing_on m (new names), (refl, (refl, refl, refl, λ k. refl)))
 can_change m (Err fault) new can = can_refuse fault m can
 
-can_replace : (m : Machine) (ends : Result Names Fault) (new : Names → Tree) (places : Names → ℕ → Place → Place) → Sayable ends → Can (ChangesPlaces ends new places m)
-can_replace m (Ok names) new places can = (says.Done, becoming m (new names) (placed (places names 0) m.files) m.synced, (0, refl, (refl, refl, refl, λ k. refl)))
-can_replace m (Err fault) new places can = can_refuse fault m can
+can_replace : (m : Machine) (ends : Result Names Fault) (new : Names → Tree) (other : Option Node → Names → ℕ → Place → Place) → Sayable ends → Can (ChangesPlaces ends new other m)
+can_replace m (Ok names) new other can = (says.Done, becoming m (new names) (placed (other (look m.tree names) names 0) m.files) m.synced, (0, refl, (refl, refl, refl, λ k. refl)))
+can_replace m (Err fault) new other can = can_refuse fault m can
 
 can_grow : (m : Machine) (place : Place) (count : ℕ) (more : List ℕ) → Can (λ said after. (said ≡ says.Count count) × Grows place more m after)
 can_grow m (under names) count more = (says.Count count, standing_on m (lengthened m.tree names more), (refl, (refl, refl, refl, λ k. refl)))
@@ -93,8 +93,8 @@ can_read m pick number file (Some (File bytes)) =
 can_read m pick number file here = (says.Done, m, tt)
 
 can_move : (m : Machine) (old : Names) (here : Option Node) (ends : Result Names Fault) → Sayable ends → Can (MovesNode old here ends m)
-can_move m old (Some (File bytes)) ends can = can_replace m ends (λ new. put (cut m.tree old) new (File bytes)) (moved m.tree old) can
-can_move m old (Some (Link target)) ends can = can_replace m ends (λ new. put (cut m.tree old) new (Link target)) (moved m.tree old) can
+can_move m old (Some (File bytes)) ends can = can_replace m ends (λ new. put (cut m.tree old) new (File bytes)) (λ was. moved was old) can
+can_move m old (Some (Link target)) ends can = can_replace m ends (λ new. put (cut m.tree old) new (Link target)) (λ was. moved was old) can
 can_move m old here ends can = (says.Done, m, tt)
 
 can_rename : (m : Machine) (from : Result Names Fault) (ends : Result Names Fault) → Sayable from → Sayable ends
@@ -194,8 +194,8 @@ calls_can_go_well most m (asks.Stat path) room spelt = can_show m (found m.tree 
 calls_can_go_well most m (asks.StatLink path) room spelt = can_show m (standing m.tree path) (standing_say m.tree path)
 calls_can_go_well most m (asks.Rename from to) room spelt = can_rename m (place m.tree from) (replaceable m.tree to) (place_say m.tree from) (replaceable_say m.tree to)
 calls_can_go_well most m (asks.MakeFolder path) room spelt = can_change m (free m.tree path) (λ names. put m.tree names Folder) (free_say m.tree path)
-calls_can_go_well most m (asks.RemoveFile path) room spelt = can_replace m (removable m.tree path) (cut m.tree) (gone m.tree) (removable_say m.tree path)
-calls_can_go_well most m (asks.RemoveFolder path) room spelt = can_replace m (emptied m.tree path) (cut m.tree) (gone m.tree) (emptied_say m.tree path)
+calls_can_go_well most m (asks.RemoveFile path) room spelt = can_replace m (removable m.tree path) (cut m.tree) gone (removable_say m.tree path)
+calls_can_go_well most m (asks.RemoveFolder path) room spelt = can_replace m (emptied m.tree path) (cut m.tree) gone (emptied_say m.tree path)
 calls_can_go_well most m (asks.Symlink target path) room spelt = can_change m (free m.tree path) (λ names. put m.tree names (Link target)) (free_say m.tree path)
 calls_can_go_well most m (asks.HardLink from to) room spelt = can_link m (linked m.tree from) (free m.tree to) (linked_say m.tree from (free m.tree to) (free_say m.tree to)) (free_say m.tree to)
 calls_can_go_well most m (asks.CopyFile from to) room spelt = can_copy m (brought m.tree from to) (writable m.tree to) (brought_say (leads m.tree from) (writable m.tree to) (file_at m.tree from InvalidInput) (file_say m.tree from)) (writable_say m.tree to)

@@ -82,17 +82,18 @@ ChangesTree ends new m said after =
 
 -- ---- open files without a name
 
--- where an open file is once what is at these names has gone from there
-abbrev pub gone : Tree → Names → ℕ → Place → Place
-gone t names mark (under here) =
-    if same_path here names then nameless mark (look t names) else under here
-gone t names mark (nameless other here) = nameless other here
+-- whether a place is at these names
+abbrev pub is_under : Names → Place → Bool
+is_under names (under path) = same_path path names
+is_under names (nameless mark here) = false
 
--- where it is once what is at the old names has come to the new ones, and what was there has gone
-abbrev pub moved : Tree → Names → Names → ℕ → Place → Place
-moved t old new mark (under here) =
-    if same_path here old then under new else gone t new mark (under here)
-moved t old new mark (nameless other here) = nameless other here
+-- where an open file is once what was at these names has gone from there
+abbrev pub gone : Option Node → Names → ℕ → Place → Place
+gone was names mark place = if is_under names place then nameless mark was else place
+
+-- where it is once what was at the old names has come to the new ones, and what was there has gone
+abbrev pub moved : Option Node → Names → Names → ℕ → Place → Place
+moved was old new mark place = if is_under old place then under new else gone was new mark place
 
 -- a file with more bytes at its end
 abbrev pub longer : List ℕ → Option Node → Option Node
@@ -100,27 +101,29 @@ longer more here = Some (File (bytes_of here ++ more))
 
 -- where an open file is once the nameless one with this mark got more bytes
 abbrev pub grown : ℕ → List ℕ → Place → Place
-grown mark more (under here) = under here
+grown mark more (under path) = under path
 grown mark more (nameless other here) =
     nameless other (if other == mark then longer more here else here)
 
+-- an open file at another place
+abbrev pub with_place : (Place → Place) → OpenFile → OpenFile
+with_place other file = record { place = other file.place; read = file.read }
+
 -- the open files, each at another place
 abbrev pub placed : (Place → Place) → (ℕ → Option OpenFile) → ℕ → Option OpenFile
-placed place files number =
-    option_map (λ (file : OpenFile). let other : OpenFile = record { place = place file.place; read = file.read } in other)
-    (files number)
+placed other files number = option_map (with_place other) (files number)
 
 -- What is at some names changes: the tree is another, and so is each open file's place. Or it is refused.
-abbrev pub ChangesPlaces : Result Names Fault → (Names → Tree) → (Names → ℕ → Place → Place)
-    → Machine → CallResult → Machine → Type 0
-ChangesPlaces ends new place m said after =
+abbrev pub ChangesPlaces : Result Names Fault → (Names → Tree)
+    → (Option Node → Names → ℕ → Place → Place) → Machine → CallResult → Machine → Type 0
+ChangesPlaces ends new other m said after =
     MatchResult ends (λ names. (mark : ℕ) × (said ≡ says.Done)
-    × Became m (new names) (placed (place names mark) m.files) m.synced after)
+    × Became m (new names) (placed (other (look m.tree names) names mark) m.files) m.synced after)
     (λ fault. IsRefused fault m said after)
 
 -- what is at these names is removed, or it is refused
 abbrev pub RemovesNode : Result Names Fault → Machine → CallResult → Machine → Type 0
-RemovesNode ends m = ChangesPlaces ends (cut m.tree) (gone m.tree) m
+RemovesNode ends m = ChangesPlaces ends (cut m.tree) gone m
 
 -- an open file from which nothing was read
 abbrev pub unread : Names → OpenFile
@@ -320,4 +323,4 @@ abbrev pub MovesNode : Names → Option Node → Result Names Fault → Machine 
 MovesNode old None ends m said after = Unit {0}
 MovesNode old (Some Folder) ends m said after = Unit {0}
 MovesNode old (Some node) ends m said after =
-    ChangesPlaces ends (λ new. put (cut m.tree old) new node) (moved m.tree old) m said after
+    ChangesPlaces ends (λ new. put (cut m.tree old) new node) (λ was. moved was old) m said after

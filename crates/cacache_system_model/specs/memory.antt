@@ -1,5 +1,6 @@
 pub mod Noted
 pub mod Stopping
 pub mod Changes
+pub mod Files
 pub mod Machines
 pub mod Runs

@@ -1,5 +1,6 @@
 //! A system in memory that keeps a log of its calls.
 
+mod files;
 mod laws;
 mod log;
 mod runs;

@@ -27,10 +27,10 @@ module _ (new : Names → Tree) (step : NumberedStep) (m n : Machine) (end : Cal
   changed (Err fault) refuses = refused_agrees step fault end m n (plainly_refused step fault n fails) refuses
 
   -- and open files' places
-  pub changed_places : (ends : Result Names Fault) (places : Names → ℕ → Place → Place) → ChangesPlaces ends new places m end n
+  pub changed_places : (ends : Result Names Fault) (other : Option Node → Names → ℕ → Place → Place) → ChangesPlaces ends new other m end n
       → unless ends m.tree (λ names. outcome answers.Done (new names)) ≡ led_to step end n
-  changed_places (Ok names) places (mark, said, left) = answers_done names said left.0
-  changed_places (Err fault) places refuses = refused_agrees step fault end m n (plainly_refused step fault n fails) refuses
+  changed_places (Ok names) other (mark, said, left) = answers_done names said left.0
+  changed_places (Err fault) other refuses = refused_agrees step fault end m n (plainly_refused step fault n fails) refuses
 
 -- ---- a temporary file is made
 
@@ -125,7 +125,7 @@ put_away m temp path names bytes ready most said n well =
     apply_persist m.tree temp.path path _ names bytes
     (held_names m.tree (m.files temp.number) names ready.opened ∙ ap (λ (o : Option Node). Some (bytes_of o)) ready.stands)
     (still_kept m.tree temp.path names bytes ready.named ready.stands)
-    ∙ changed_places (λ new. put (cut m.tree names) new (File bytes)) (steps.Persist temp path) m n said refl (λ why. refl) (replaceable m.tree path) (moved m.tree names) moves
+    ∙ changed_places (λ new. put (cut m.tree names) new (File bytes)) (steps.Persist temp path) m n said refl (λ why. refl) (replaceable m.tree path) (λ was. moved was names) moves
 
 -- ---- links
 

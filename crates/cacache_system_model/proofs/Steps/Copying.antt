@@ -101,8 +101,8 @@ module _ (b : Bool) (m : Machine) (from to : List ℕ) (can : CanCopy m to) (don
         (ap (λ (t : Tree). place t fresh) tree ∙ own_place m.tree fn bytes free_there fresh placed) well in
         let moves : MovesNode fn (Some (File bytes)) (replaceable l.tree path) l said k
         = subst (λ (o : Option Node). MovesNode fn o (replaceable l.tree path) l said k) (ap (λ (t : Tree). look t fn) tree ∙ look_new m.tree fn bytes free_there) goes in
-        let ends : ChangesPlaces (Ok names) (λ new. put (cut l.tree fn) new (File bytes)) (moved l.tree fn) l said k
-        = subst (λ (r : Result Names Fault). ChangesPlaces r (λ new. put (cut l.tree fn) new (File bytes)) (moved l.tree fn) l said k)
+        let ends : ChangesPlaces (Ok names) (λ new. put (cut l.tree fn) new (File bytes)) (λ was. moved was fn) l said k
+        = subst (λ (r : Result Names Fault). ChangesPlaces r (λ new. put (cut l.tree fn) new (File bytes)) (λ was. moved was fn) l said k)
         (ap (λ (t : Tree). replaceable t path) tree ∙ replaceable_still m.tree fn bytes free_there path names ready.placed ready.replaced) moves in
         said_leads b (replacing (length bytes) fresh path) said says.Done k P ends.1
         (over_leads (way_of b) (says.Count (length bytes)) k P

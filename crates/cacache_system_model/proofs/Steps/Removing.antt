@@ -30,10 +30,10 @@ pub remove_file_agrees : RemoveFileAgrees
 unfolding apply
 remove_file_agrees m hint path walk =
     removal m hint (steps.RemoveFile path) (asks.RemoveFile path) refl walk (λ why. refl) (λ why part n left. left)
-    (λ most said n well. changed_places (cut m.tree) (steps.RemoveFile path) m n said refl (λ why. refl) (removable m.tree path) (gone m.tree) well)
+    (λ most said n well. changed_places (cut m.tree) (steps.RemoveFile path) m n said refl (λ why. refl) (removable m.tree path) gone well)
 
 pub remove_dir_agrees : RemoveDirAgrees
 unfolding apply
 remove_dir_agrees m hint path walk =
     removal m hint (steps.RemoveDir path) (asks.RemoveFolder path) refl walk (λ why. refl) (λ why part n left. left)
-    (λ most said n well. changed_places (cut m.tree) (steps.RemoveDir path) m n said refl (λ why. refl) (emptied m.tree path) (gone m.tree) well)
+    (λ most said n well. changed_places (cut m.tree) (steps.RemoveDir path) m n said refl (λ why. refl) (emptied m.tree path) gone well)

@@ -9,7 +9,7 @@ use Rattle.cacache_loss.proofs.UnchangedPaths.{at_names}
 use Rattle.cacache_system.specs.declared.call.{SystemCall.{SystemCall}, CallResult.{CallResult}}
 use Rattle.cacache_system.specs.declared.call.SystemCall.TheVariants as asks
 use Rattle.cacache_system.specs.declared.call.CallResult.TheVariants as says
-use Rattle.cacache_system_model.specs.{Machine.{Place, under, nameless, OpenFile, node_of, Machine, gone, moved, grown, placed, fixes, Became, IsRefused, ChangesTree, ChangesPlaces, OpensIf, with_file, with_sync, unread, ShowsNode, ShowsEnd, ShowsPlace, ShowsOpen, GivesOwner, ReadsFile, ReadsOpen, Grows, LinksNode, CopiesBytes, found_bytes, SpellsEnd, MovesNode}, Calls.{GoesWell, did_nothing, PartWritten, LeavesWritten, LeavesPart, OccursSomehow}, OneCall.{IsOpenAt}, callers.Opened.{KeepsOpen, Avoids}}
+use Rattle.cacache_system_model.specs.{Machine.{Place, under, nameless, OpenFile, node_of, Machine, gone, moved, grown, with_place, placed, fixes, Became, IsRefused, ChangesTree, ChangesPlaces, OpensIf, with_file, with_sync, unread, ShowsNode, ShowsEnd, ShowsPlace, ShowsOpen, GivesOwner, ReadsFile, ReadsOpen, Grows, LinksNode, CopiesBytes, found_bytes, SpellsEnd, MovesNode}, Calls.{GoesWell, did_nothing, PartWritten, LeavesWritten, LeavesPart, OccursSomehow}, OneCall.{IsOpenAt}, callers.Opened.{KeepsOpen, Avoids}}
 use Rattle.cacache_system_model.proofs.{Steps.Opening.{open_of}, Views.{View, nowhere, a_folder, a_file, view}}
 
 abbrev pub place_at : OpenFile → Place
@@ -41,7 +41,7 @@ read_keeps files number k file old place false e here same is = is
 -- ---- places that others may have afterwards
 
 placed_keeps : (other : Place → Place) (place : Place) (o : Option OpenFile) → other place ≡ place → option_map place_at o ≡ Some place
-    → option_map place_at (option_map (λ (file : OpenFile). let moved : OpenFile = record { place = other file.place; read = file.read } in moved) o) ≡ Some place
+    → option_map place_at (option_map (with_place other) o) ≡ Some place
 placed_keeps other place None same is = absurd cc
 placed_keeps other place (Some file) same is = let here : file.place ≡ place = cc in ap (λ (p : Place). Some (other p)) here ∙ ap Some same
 
@@ -50,11 +50,11 @@ others_placed : (other : Place → Place) (place : Place) (m n : Machine) → ot
 others_placed other place m n same files number is =
     ap (λ (fs : ℕ → Option OpenFile). option_map place_at (fs number)) files ∙ placed_keeps other place (m.files number) same is
 
-gone_elsewhere : (t : Tree) (names q : Names) (mark : ℕ) → same_path q names ≡ false → gone t names mark (under q) ≡ under q
-gone_elsewhere t names q mark apart = ap (λ (b : Bool). if b then nameless mark (look t names) else under q) apart
+gone_elsewhere : (was : Option Node) (names q : Names) (mark : ℕ) → same_path q names ≡ false → gone was names mark (under q) ≡ under q
+gone_elsewhere was names q mark apart = ap (λ (b : Bool). if b then nameless mark was else under q) apart
 
-moved_elsewhere : (t : Tree) (old new q : Names) (mark : ℕ) → same_path q old ≡ false → same_path q new ≡ false → moved t old new mark (under q) ≡ under q
-moved_elsewhere t old new q mark from to = ap (λ (b : Bool). if b then under new else gone t new mark (under q)) from ∙ gone_elsewhere t new q mark to
+moved_elsewhere : (was : Option Node) (old new q : Names) (mark : ℕ) → same_path q old ≡ false → same_path q new ≡ false → moved was old new mark (under q) ≡ under q
+moved_elsewhere was old new q mark from to = ap (λ (b : Bool). if b then under new else gone was new mark (under q)) from ∙ gone_elsewhere was new q mark to
 
 -- ---- calls
 
@@ -70,10 +70,10 @@ changes_keep : (ends : Result Names Fault) (new : Names → Tree) (place : Place
 changes_keep (Ok names) new place m n said (is_said, (tree, files, synced, folders)) = keeps_same place m n files
 changes_keep (Err fault) new place m n said h = refused_keeps fault place m n said h
 
-places_keep : (ends : Result Names Fault) (new : Names → Tree) (places : Names → ℕ → Place → Place) (place : Place) (m n : Machine) (said : CallResult)
-    → ((names : Names) (mark : ℕ) → ends ≡ Ok names → places names mark place ≡ place) → ChangesPlaces ends new places m said n → Keeps place m n
-places_keep (Ok names) new places place m n said stays (mark, is_said, (tree, files, synced, folders)) = others_placed (places names mark) place m n (stays names mark refl) files
-places_keep (Err fault) new places place m n said stays h = refused_keeps fault place m n said h
+places_keep : (ends : Result Names Fault) (new : Names → Tree) (other : Option Node → Names → ℕ → Place → Place) (place : Place) (m n : Machine) (said : CallResult)
+    → ((names : Names) (mark : ℕ) → ends ≡ Ok names → other (look m.tree names) names mark place ≡ place) → ChangesPlaces ends new other m said n → Keeps place m n
+places_keep (Ok names) new other place m n said stays (mark, is_said, (tree, files, synced, folders)) = others_placed (other (look m.tree names) names mark) place m n (stays names mark refl) files
+places_keep (Err fault) new other place m n said stays h = refused_keeps fault place m n said h
 
 node_keeps : (names : Names) (m n : Machine) (said : CallResult) → ShowsNode names m said n → n ≡ m
 node_keeps names m n said (info, is_said, describes, same) = same
@@ -152,11 +152,11 @@ Safe q m (asks.Rename from to) = Moves m.tree from × Avoids q from × Avoids q 
 Safe q m call = ⊥
 
 moves_keep : (r ends : Result Names Fault) (place : Place) (m n : Machine) (said : CallResult) (names : Names) (bytes : List ℕ) → r ≡ Ok names → look m.tree names ≡ Some (File bytes)
-    → ((new : Names) (mark : ℕ) → ends ≡ Ok new → moved m.tree names new mark place ≡ place)
+    → ((new : Names) (mark : ℕ) → ends ≡ Ok new → moved (look m.tree new) names new mark place ≡ place)
     → MatchResult r (λ old. MovesNode old (look m.tree old) ends m said n) (λ fault. IsRefused fault m said n) → Keeps place m n
 moves_keep (Ok old) ends place m n said names bytes e here stays h =
     let same : old ≡ names = cc in
-    places_keep ends _ (moved m.tree old) place m n said (λ new mark is. ap (λ (x : Names). moved m.tree x new mark place) same ∙ stays new mark is)
+    places_keep ends _ (λ was. moved was old) place m n said (λ new mark is. ap (λ (x : Names). moved (look m.tree new) x new mark place) same ∙ stays new mark is)
     (subst (λ (o : Option Node). MovesNode old o ends m said n) (ap (look m.tree) same ∙ here) h)
 moves_keep (Err fault) ends place m n said names bytes e here stays h = absurd cc
 
@@ -203,18 +203,18 @@ goes_keep most (asks.Stat path) q m n said safe h = shows_keep (found m.tree pat
 goes_keep most (asks.StatLink path) q m n said safe h = shows_keep (standing m.tree path) (under q) m n said h
 goes_keep most (asks.RealPath path) q m n said safe h = spells_keep (found m.tree path) (under q) m n said h
 goes_keep most (asks.RemoveFolder path) q m n said safe h =
-    places_keep (emptied m.tree path) _ (gone m.tree) (under q) m n said
-    (λ names mark is. gone_elsewhere m.tree names q mark (at_names path names q safe (emptied_ok m.tree path names is).0)) h
+    places_keep (emptied m.tree path) _ gone (under q) m n said
+    (λ names mark is. gone_elsewhere (look m.tree names) names q mark (at_names path names q safe (emptied_ok m.tree path names is).0)) h
 goes_keep most (asks.Symlink target path) q m n said safe h = changes_keep (free m.tree path) _ (under q) m n said h
 goes_keep most (asks.HardLink from to) q m n said safe h = links_keep (linked m.tree from) (free m.tree to) (under q) m n said h
 goes_keep most (asks.CopyFile from to) q m n said safe h = copies_keep (found_bytes (leads m.tree from) (writable m.tree to) (file_at m.tree from InvalidInput)) (writable m.tree to) (under q) m n said h
 goes_keep most (asks.MakeFolder path) q m n said safe h = changes_keep (free m.tree path) _ (under q) m n said h
 goes_keep most (asks.RemoveFile path) q m n said safe h =
-    places_keep (removable m.tree path) _ (gone m.tree) (under q) m n said
-    (λ names mark is. gone_elsewhere m.tree names q mark (at_names path names q safe (removable_ok m.tree path names is).0)) h
+    places_keep (removable m.tree path) _ gone (under q) m n said
+    (λ names mark is. gone_elsewhere (look m.tree names) names q mark (at_names path names q safe (removable_ok m.tree path names is).0)) h
 goes_keep most (asks.Rename from to) q m n said ((names, bytes, is, here), old, new) h =
     moves_keep (place m.tree from) (replaceable m.tree to) (under q) m n said names bytes is here
-    (λ other mark at. moved_elsewhere m.tree names other q mark (at_names from names q old (place_ok m.tree from names is)) (at_names to other q new (replaceable_ok m.tree to other at).0)) h
+    (λ other mark at. moved_elsewhere (look m.tree other) names other q mark (at_names from names q old (place_ok m.tree from names is)) (at_names to other q new (replaceable_ok m.tree to other at).0)) h
 goes_keep most call q m n said safe h = absurd safe
 
 -- ---- failures without cause

@@ -1,14 +1,16 @@
 -- That what the calls do to the tree is what the model says.
-use Rattle.std.proofs.Common.{◌≡◌, ◌∙◌, Bool, true, false, List, refl, sym, ap, inl, inr}
+use Rattle.std.proofs.{lemmas.Option.{slice_get-map}, Common.{◌≡◌, ◌∙◌, ℕ, Bool, true, false, List, option_map, slice_get, refl, sym, ap, inl, inr}}
 use Rattle.std.specs.Prelude.{◌⊎◌, ⊤, Option, None, Some, Result, Ok, Err, IfSome, IsSomeAnd, MatchResult}
 use Rattle.std_io.specs.declared.io.kind.ErrorKind.{ErrorKind}
 use Rattle.std_io.specs.declared.io.kind.ErrorKind.TheVariants as kind
 use Rattle.cacache_core.specs.{Contexts.{fault_of}, declared.errors.Fault.{Fault, TheVariants.{Unsupported, ShortAppend, Closed, OtherBytes, Cancelled}}, PathNames.{Names}}
-use Rattle.cacache_disk.specs.{declared.{node.Node.{Node, TheVariants.{File, Link}}, stop.Stop.{Stop}}, Tree.{Tree, look, put, cut}}
+use Rattle.cacache_disk.specs.{declared.{node.Node.{Node, TheVariants.{File, Link}}, stop.Stop.{Stop}}, Tree.{Tree, look, put, cut}, LedTo.{place, replaceable}}
 use Rattle.cacache_disk.specs.declared.stop.Stop.TheVariants as stop
 use Rattle.cacache_system.specs.{declared.call.{FileInfo.{FileInfo}, CallResult.{CallResult}}, AnswersOf.{refuses_memory}}
+use Rattle.cacache_system.specs.declared.call.SystemCall.TheVariants as asks
 use Rattle.cacache_system.specs.declared.call.CallResult.TheVariants as says
-use Rattle.cacache_system_model.specs.{Machine.{link_fault, IsRefused, ChangesTree, Describes, ShowsEnd, LinksNode, MovesNode}, declared.memory.state.OpenFile.{OpenFile}, memory.{Stopping.{kind_for, outcome}, Changes.{Changed, Stopped, MovedNode, Shown, info_of}, Machines.{machine, GivesUp}}}
+use Rattle.cacache_system_model.specs.{Machine.{Place, with_place, placed, link_fault, IsRefused, ChangesTree, ChangesPlaces, Describes, ShowsEnd, LinksNode, MovesNode}, Calls.{GoesWell}, declared.memory.{files.OpenFile.{OpenFile}, state.Memory.{Memory}}, memory.{Stopping.{kind_for, outcome}, Changes.{Changed, Stopped, Shown, info_of}, Files.{open_of, left, ArePlaced, IsSame, Displaces, MovesFile, MovesPath}, Machines.{machine, GivesUp}}}
+use Rattle.cacache_system_model.specs.Machine as model
 use Rattle.cacache_system_model.proofs.Saying.{CanSay, Sayable, LinkSayable}
 
 -- ---- faults
@@ -66,34 +68,78 @@ pub goes_linked : (t u : Tree) (files : List OpenFile) (source : Result Node Fau
 goes_linked t u files (Ok node) ends done out first can is change = goes_changed t u files ends (λ names. put t names node) done out can is change
 goes_linked t u files (Err fault) ends done out first can is change = goes_changed t u files (Err (link_fault fault ends)) (λ names. t) done out first is change
 
+-- ---- removals and moves
+
+-- open files that are placed anew, as the model has them
+placed_anew : (other : Place → Place) (t u : Tree) (old new : List OpenFile) → ArePlaced other old new → (machine u new).files ≡ placed other (machine t old).files
+placed_anew other t u old new are = λ i. λ number. at number i
+  where
+    at : (number : ℕ) → option_map open_of (slice_get new number) ≡ option_map (with_place other) (option_map open_of (slice_get old number))
+    at number =
+        sym (slice_get-map open_of new number) ∙ ap (λ (files : List model.OpenFile). slice_get files number) are
+        ∙ slice_get-map (λ file. with_place other (open_of file)) old number ∙ twice (slice_get old number)
+      where
+        twice : (o : Option OpenFile) → option_map (λ file. with_place other (open_of file)) o ≡ option_map (with_place other) (option_map open_of o)
+        twice None = refl
+        twice (Some file) = refl
+
+-- the tree and the open files are the same
+same_machine : (m n : Memory) → IsSame m n → machine n.disk n.files.items ≡ machine m.disk m.files.items
+same_machine m n (disk, files) = ap (λ t. machine t n.files.items) disk ∙ ap (λ (files : List OpenFile). machine m.disk files) files
+
+kept_so : (m n : Memory) (why : ErrorKind) (out : CallResult) → out ≡ says.Failed why → IsSame m n → GivesUp why (machine m.disk m.files.items) out (machine n.disk n.files.items)
+kept_so m n why out is same = (is, same_machine m n same)
+
+refused_so : (m n : Memory) (fault own : Fault) (out : CallResult) → CanSay own → out ≡ says.Failed (kind_for fault) → ◌≡◌ {A = Result Names Fault} (Err own) (Err fault) → IsSame m n
+    → IsRefused own (machine m.disk m.files.items) out (machine n.disk n.files.items)
+refused_so m n fault own out (why, can, memory) is same stays =
+    let said = kinds_say own (ap is_unsaid (sym can) ∙ errors_say why) in
+    (kind_for own, is ∙ ap (λ fault. says.Failed (kind_for fault)) (same_fault {A = Names} (Err own) own fault refl same), said.0, said.1, same_machine m n stays)
+
+pub goes_displaced : (ends : Result Names Fault) (tree : Names → Tree) (from : Option Names) (m n : Memory) (done : Result ⊤ Stop) (out : CallResult) → Sayable ends
+    → out ≡ outcome (λ _. says.Done) done → Displaces ends tree from m done n
+    → ChangesPlaces ends tree (left from) (machine m.disk m.files.items) out (machine n.disk n.files.items) ⊎ GivesUp kind.OutOfMemory (machine m.disk m.files.items) out (machine n.disk n.files.items)
+goes_displaced ends tree from m n (Err stop.OutOfMemory) out can is same = inr (kept_so m n kind.OutOfMemory out is same)
+goes_displaced (Ok names) tree from m n (Ok done) out can is (disk, placed) =
+    inl (m.marks, is, (disk, placed_anew (left from (look m.disk names) names m.marks) m.disk n.disk m.files.items n.files.items placed, refl, λ k. refl))
+goes_displaced (Ok names) tree from m n (Err (stop.Fault fault)) out can is change = absurd (apart (Ok names) names fault refl change.0)
+goes_displaced (Err own) tree from m n (Ok done) out can is change = absurd change
+goes_displaced (Err own) tree from m n (Err (stop.Fault fault)) out can is (same, stays) = inl (refused_so m n fault own out can is same stays)
+
 -- a link isn't moved
-kept_link : (t u : Tree) (files : List OpenFile) (done : Result ⊤ Stop) (out : CallResult) → out ≡ outcome (λ _. says.Done) done → Stopped Unsupported done t u
-    → GivesUp kind.OutOfMemory (machine t files) out (machine u files) ⊎ GivesUp kind.Unsupported (machine t files) out (machine u files)
-kept_link t u files (Ok done) out is change = absurd change
-kept_link t u files (Err (stop.Fault fault)) out is change =
-    inr (gives_up t u files kind.Unsupported out (is ∙ ap (λ fault. says.Failed (kind_for fault)) (same_fault {A = Names} (Err Unsupported) Unsupported fault refl change.0)) change.1)
-kept_link t u files (Err stop.OutOfMemory) out is change = inl (gives_up t u files kind.OutOfMemory out is change)
+kept_link : (m n : Memory) (done : Result ⊤ Stop) (out : CallResult) → out ≡ outcome (λ _. says.Done) done → Displaces (Err Unsupported) (λ names. m.disk) None m done n
+    → GivesUp kind.OutOfMemory (machine m.disk m.files.items) out (machine n.disk n.files.items) ⊎ GivesUp kind.Unsupported (machine m.disk m.files.items) out (machine n.disk n.files.items)
+kept_link m n (Ok done) out is change = absurd change
+kept_link m n (Err (stop.Fault fault)) out is (same, stays) =
+    inr (kept_so m n kind.Unsupported out (is ∙ ap (λ fault. says.Failed (kind_for fault)) (same_fault {A = Names} (Err Unsupported) Unsupported fault refl same)) stays)
+kept_link m n (Err stop.OutOfMemory) out is stays = inl (kept_so m n kind.OutOfMemory out is stays)
 
 nested : {A B C : Type 0} → B ⊎ C → (A ⊎ B) ⊎ C
 nested (inl b) = inl (inr b)
 nested (inr c) = inr c
 
-goes_from : (t u : Tree) (files : List OpenFile) (old : Names) (here : Option Node) (ends : Result Names Fault) (done : Result ⊤ Stop) (out : CallResult) → Sayable ends
-    → out ≡ outcome (λ _. says.Done) done → MovedNode old here ends done t u
-    → (MovesNode old here ends (machine t files) out (machine u files) ⊎ GivesUp kind.OutOfMemory (machine t files) out (machine u files))
-    ⊎ GivesUp kind.Unsupported (machine t files) out (machine u files)
-goes_from t u files old (Some (File bytes)) ends done out can is change = inl (goes_changed t u files ends (λ new. put (cut t old) new (File bytes)) done out can is change)
-goes_from t u files old (Some (Link target)) ends done out can is change = nested (kept_link t u files done out is change)
-goes_from t u files old here ends done out can is change = inl (inl tt)
+goes_from : (m n : Memory) (old : Names) (here : Option Node) (ends : Result Names Fault) (done : Result ⊤ Stop) (out : CallResult) → Sayable ends → out ≡ outcome (λ _. says.Done) done
+    → MovesFile old here ends m done n
+    → (MovesNode old here ends (machine m.disk m.files.items) out (machine n.disk n.files.items) ⊎ GivesUp kind.OutOfMemory (machine m.disk m.files.items) out (machine n.disk n.files.items))
+    ⊎ GivesUp kind.Unsupported (machine m.disk m.files.items) out (machine n.disk n.files.items)
+goes_from m n old (Some (File bytes)) ends done out can is change = inl (goes_displaced ends (λ new. put (cut m.disk old) new (File bytes)) (Some old) m n done out can is change)
+goes_from m n old (Some (Link target)) ends done out can is change = nested (kept_link m n done out is change)
+goes_from m n old here ends done out can is change = inl (inl tt)
 
-pub goes_moved : (t u : Tree) (files : List OpenFile) (from : Result Names Fault) (ends : Result Names Fault) (done : Result ⊤ Stop) (out : CallResult) → Sayable from → Sayable ends
-    → out ≡ outcome (λ _. says.Done) done
-    → MatchResult from (λ old. MovedNode old (look t old) ends done t u) (λ fault. Stopped fault done t u)
-    → (MatchResult from (λ old. MovesNode old (look t old) ends (machine t files) out (machine u files)) (λ fault. IsRefused fault (machine t files) out (machine u files))
-    ⊎ GivesUp kind.OutOfMemory (machine t files) out (machine u files))
-    ⊎ GivesUp kind.Unsupported (machine t files) out (machine u files)
-goes_moved t u files (Ok old) ends done out first can is change = goes_from t u files old (look t old) ends done out can is change
-goes_moved t u files (Err fault) ends done out first can is change = inl (goes_changed t u files (Err fault) (λ names. t) done out first is change)
+moved_from : (m n : Memory) (to : List ℕ) (from : Result Names Fault) (done : Result ⊤ Stop) (out : CallResult) → Sayable from → Sayable (replaceable m.disk to) → out ≡ outcome (λ _. says.Done) done
+    → MatchResult from (λ old. MovesFile old (look m.disk old) (replaceable m.disk to) m done n) (λ fault. Displaces (Err fault) (λ names. m.disk) None m done n)
+    → (MatchResult from (λ old. MovesNode old (look m.disk old) (replaceable m.disk to) (machine m.disk m.files.items) out (machine n.disk n.files.items))
+    (λ fault. IsRefused fault (machine m.disk m.files.items) out (machine n.disk n.files.items))
+    ⊎ GivesUp kind.OutOfMemory (machine m.disk m.files.items) out (machine n.disk n.files.items))
+    ⊎ GivesUp kind.Unsupported (machine m.disk m.files.items) out (machine n.disk n.files.items)
+moved_from m n to (Ok old) done out first can is change = goes_from m n old (look m.disk old) (replaceable m.disk to) done out can is change
+moved_from m n to (Err fault) done out first can is change = inl (goes_displaced (Err fault) (λ names. m.disk) None m n done out first is change)
+
+pub goes_moved : (m n : Memory) (from to : List ℕ) (done : Result ⊤ Stop) (out : CallResult) → Sayable (place m.disk from) → Sayable (replaceable m.disk to) → out ≡ outcome (λ _. says.Done) done
+    → MovesPath from to m done n
+    → (GoesWell None (machine m.disk m.files.items) (asks.Rename from to) out (machine n.disk n.files.items) ⊎ GivesUp kind.OutOfMemory (machine m.disk m.files.items) out (machine n.disk n.files.items))
+    ⊎ GivesUp kind.Unsupported (machine m.disk m.files.items) out (machine n.disk n.files.items)
+goes_moved m n from to done out first can is change = moved_from m n to (place m.disk from) done out first can is change
 
 described : (node : Node) → Describes node (0, 0) (info_of node)
 described (File bytes) = record { kind = refl; regular = refl; size = refl; number = refl }

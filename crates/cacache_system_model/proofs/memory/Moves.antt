@@ -4,7 +4,7 @@ use Rattle.cacache_core.specs.{declared.errors.Fault.{Fault, TheVariants.{IsADir
 use Rattle.cacache_store.specs.declared.store.step.Step.TheVariants as steps
 use Rattle.cacache_disk.specs.{declared.{node.Node.{Node, TheVariants.{File, Link}}, stop.Stop.{Stop}}, Tree.{Tree, look, put, cut}, LedTo.{place, free, replaceable, kept, linked, linked_in}, Apply.{apply}, Stops.{Stops}}
 use Rattle.cacache_disk.specs.declared.stop.Stop.TheVariants as stop
-use Rattle.cacache_system_model.specs.{memory.Changes.{Does, Changed, Linked, Movable, Moved, MovedNode, IsUnmoved, Stopped, Unlinks}, Machine.{link_fault}}
+use Rattle.cacache_system_model.specs.{memory.Changes.{Does, Changed, Linked, Movable, IsUnmoved, Stopped, Unlinks}, Machine.{link_fault}}
 use Rattle.cacache_system_model.proofs.memory.Steps.{changes, place_parts}
 
 -- ---- hard links
@@ -57,53 +57,15 @@ free_bad t path stop.OutOfMemory e = tt
 
 -- ---- moves
 
-refused_move : (t : Tree) (old : Names) (here : Option Node) (ends : Result Names Fault) → MovedNode old here ends (Err stop.OutOfMemory) t t
-refused_move t old (Some (File bytes)) ends = refl
-refused_move t old (Some (Link target)) ends = refl
-refused_move t old here ends = tt
-
-unmoved_at : (t : Tree) (old : Names) (here : Option Node) (ends : Result Names Fault) (fault : Fault) → IsUnmoved here fault → MovedNode old here ends (Err (stop.Fault fault)) t t
-unmoved_at t old (Some (File bytes)) ends fault e = absurd e
-unmoved_at t old (Some (Link target)) ends fault e = (ap Err (sym e), refl)
-unmoved_at t old here ends fault e = tt
-
-moves_none : (t : Tree) (to : List ℕ) (from : Result Names Fault)
-    → MatchResult from (λ old. MovedNode old (look t old) (replaceable t to) (Err stop.OutOfMemory) t t) (λ fault. Stopped fault (Err stop.OutOfMemory) t t)
-moves_none t to (Ok old) = refused_move t old (look t old) (replaceable t to)
-moves_none t to (Err fault) = refl
-
-unmoved_from : (t : Tree) (to : List ℕ) (from : Result Names Fault) (fault : Fault)
-    → MatchResult from (λ names. IsUnmoved (look t names) fault) (λ why. why ≡ fault)
-    → MatchResult from (λ old. MovedNode old (look t old) (replaceable t to) (Err (stop.Fault fault)) t t) (λ why. Stopped why (Err (stop.Fault fault)) t t)
-unmoved_from t to (Ok old) fault e = unmoved_at t old (look t old) (replaceable t to) fault e
-unmoved_from t to (Err why) fault e = (ap Err e, refl)
-
-pub moves_nothing : (t : Tree) (from to : List ℕ) → Moved t from to (Err stop.OutOfMemory) t
-moves_nothing t from to = moves_none t to (place t from)
-
-pub unmoved : (t : Tree) (from to : List ℕ) (why : Stop) → Movable t from (Err why) → Moved t from to (Err why) t
-unmoved t from to (stop.Fault fault) e = unmoved_from t to (place t from) fault e
-unmoved t from to stop.OutOfMemory e = moves_nothing t from to
-
 kept_is : (t : Tree) (path : List ℕ) (names : Names) (bytes : List ℕ) → place t path ≡ Ok names → look t names ≡ Some (File bytes) → kept t path ≡ Ok names
 unfolding kept
 kept_is t path names bytes led is = rw ((place_parts t path names led).0, is) refl
 
-moves_file : (t u : Tree) (from to : List ℕ) (bytes : List ℕ) (done : Result ⊤ Stop) (old : Names) → place t from ≡ Ok old → look t old ≡ Some (File bytes)
+pub moves_file : (t u : Tree) (from to : List ℕ) (bytes : List ℕ) (done : Result ⊤ Stop) (old : Names) → place t from ≡ Ok old → look t old ≡ Some (File bytes)
     → Does t (steps.Persist (record { path = from; bytes = Some bytes }) to) done u → Changed (replaceable t to) (λ new. put (cut t old) new (File bytes)) done t u
 unfolding apply
 moves_file t u from to bytes done old led is does =
     changes (replaceable t to) (λ new. put (cut t old) new (File bytes)) t u (steps.Persist (record { path = from; bytes = Some bytes }) to) done (rw (kept_is t from old bytes led is) refl) does
-
-moves_from : (t u : Tree) (from to : List ℕ) (bytes : List ℕ) (done : Result ⊤ Stop) (r : Result Names Fault) → place t from ≡ r
-    → IsOkAnd r (λ names. look t names ≡ Some (File bytes)) → Does t (steps.Persist (record { path = from; bytes = Some bytes }) to) done u
-    → MatchResult r (λ old. MovedNode old (look t old) (replaceable t to) done t u) (λ fault. Stopped fault done t u)
-moves_from t u from to bytes done (Ok old) led is does = rw is (moves_file t u from to bytes done old led is does)
-moves_from t u from to bytes done (Err fault) led is does = absurd is
-
-pub moves : (t u : Tree) (from to : List ℕ) (bytes : List ℕ) (done : Result ⊤ Stop) → Movable t from (Ok bytes)
-    → Does t (steps.Persist (record { path = from; bytes = Some bytes }) to) done u → Moved t from to done u
-moves t u from to bytes done is does = moves_from t u from to bytes done (place t from) refl is does
 
 -- ---- a source that is looked at
 

@@ -37,21 +37,6 @@ Linked t from to done u =
     MatchResult (linked t from) (λ node. Changed (free t to) (λ names. put t names node) done t u)
     (λ fault. Stopped (link_fault fault (free t to)) done t u)
 
--- a file was moved, and a link wasn't
-abbrev pub MovedNode : Names → Option Node → Result Names Fault → Result ⊤ Stop → Tree → Tree
-    → Type 0
-MovedNode old None ends done t u = ⊤
-MovedNode old (Some Folder) ends done t u = ⊤
-MovedNode old (Some (File bytes)) ends done t u =
-    Changed ends (λ new. put (cut t old) new (File bytes)) done t u
-MovedNode old (Some (Link target)) ends done t u = Stopped Unsupported done t u
-
--- the same for what is at a path
-abbrev pub Moved : Tree → List ℕ → List ℕ → Result ⊤ Stop → Tree → Type 0
-Moved t from to done u =
-    MatchResult (place t from) (λ old. MovedNode old (look t old) (replaceable t to) done t u)
-    (λ fault. Stopped fault done t u)
-
 -- why what is somewhere isn't moved
 abbrev pub IsUnmoved : Option Node → Fault → Type 0
 IsUnmoved None fault = ⊤

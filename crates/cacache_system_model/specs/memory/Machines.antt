@@ -6,16 +6,11 @@ use Rattle.cacache_disk.specs.Tree.{Tree, listing}
 use Rattle.cacache_system.specs.declared.call.{SystemCall.{SystemCall}, CallResult.{CallResult}, CallItem.{CallItem}}
 use Rattle.cacache_system.specs.declared.call.SystemCall.TheVariants as asks
 use Rattle.cacache_system.specs.declared.call.CallResult.TheVariants as says
-use Rattle.cacache_system_model.specs.Machine as model
-use Rattle.cacache_system_model.specs.{Machine.{Machine}, Calls.{GoesWell, OccursSomehow}, declared.memory.{state.OpenFile.{OpenFile}, system.MemorySystem.{MemorySystem}}, memory.Noted.{items_of}}
+use Rattle.cacache_system_model.specs.{Machine.{Machine}, Calls.{GoesWell, OccursSomehow}, declared.memory.{files.OpenFile.{OpenFile}, system.MemorySystem.{MemorySystem}}, memory.{Files.{open_of}, Noted.{items_of}}}
 
 -- all calls so far, oldest first
 abbrev pub calls_of : MemorySystem → List CallItem
 calls_of system = items_of system.log
-
--- an open file as the model has it
-abbrev pub open_of : OpenFile → model.OpenFile
-open_of file = record { names = file.names; read = file.read }
 
 -- this tree with these open files: nothing was synced, nothing has a number, no folder is open, and names have the
 -- tree's order

@@ -1,12 +1,15 @@
 //! What a system in memory holds: a disk, and the files that are open.
-ghost use Rattle.std.specs.{Prelude.{◌≤◌, ◌<◌, ◌+◌, ◌^◌, IfOk, length}, Counts.{IsPrefixLen}, Io.{StartsWith}};
+ghost use Rattle.std.specs.{Prelude.{◌≡◌, ◌≤◌, None, Ok, IfOk, IfErr, length}, Counts.{IsPrefixLen}, Io.{StartsWith}};
+ghost use Rattle.cacache_disk.specs.{Tree.{cut}, LedTo.{place, removable, emptied}, Stops.{Stops}};
+ghost use Rattle.cacache_system_model.specs.memory.Files.{Displaces, MovesPath};
 
-use crate::memory::tree::{do_step, info_of, place};
+use crate::memory::files::{displaced, grown, OpenFile, Place, Spot};
+use crate::memory::tree::{do_step, info_of, movable, place, put_moved, remove_file, remove_folder};
 use cacache_core::bytes::Bytes;
 use cacache_core::errors::Fault;
 use cacache_core::keeping::let_go;
 use cacache_core::text::Text;
-use cacache_disk::{Disk, Node, Path, Stop};
+use cacache_disk::{Disk, Path, Stop};
 use cacache_store::store::Step;
 use cacache_system::FileInfo;
 use std::alloc::Global;
@@ -17,45 +20,47 @@ pub struct MemoryFile {
     pub(crate) number: u64,
 }
 
-/// An open file: its path, the names that it was found at, and how many bytes were read from it.
-#[derive(Clone, Drop)]
-pub(crate) struct OpenFile {
-    path: Text,
-    names: Path,
-    read: usize,
-}
-
-/// The bytes of an open file after those that were read from it.
-fn rest_of<'a>(disk: &'a Disk, file: &OpenFile) -> Result<&'a [u8], Stop>
-    ensures { IfOk result (λ rest. file.now.read + length rest.now < 2 ^ 64) }
-{
-    match disk.nodes().node(&file.names) {
-        Some(Node::File(contents)) => {
-            let all = contents.as_slice();
-            Ok(&all[file.read.min(all.len())..])
-        }
-        _ => Err(Stop::Fault(Fault::IsADirectory)),
-    }
-}
-
-/// A disk, and the files that are open, by their numbers.
+/// A disk, the files that are open, by their numbers, and the mark of the next file that loses its name.
 #[derive(Clone, Drop)]
 pub struct Memory {
     pub(crate) alloc: Global,
     pub(crate) disk: Disk,
     pub(crate) files: Vec<OpenFile>,
+    pub(crate) marks: u64,
 }
 
 impl Memory {
-    /// Opens a file that is there.
-    fn open(&mut self, path: &str, names: Path) -> Result<u64, Stop> {
-        let number = self.files.len() as u64;
+    /// The names of a path, if its folder is there.
+    fn spot(&self, path: &str) -> Result<Spot, Stop>
+        ensures ok { IfOk result (λ spot. place self.now.disk path.now ≡ Ok spot.names) }
+        ensures path { IfOk result (λ spot. spot.path ≡ path.now) }
+        ensures err { IfErr result (λ stop. Stops stop (place self.now.disk path.now)) }
+    {
+        let names = place(&self.disk, path)?;
         let path = Text::from_str(self.alloc, path)?;
-        self.files.push(OpenFile {
-            path,
-            names,
-            read: 0,
-        })?;
+        Ok(Spot { names, path })
+    }
+
+    /// Where a path led: the path itself, unless it is one of a link.
+    fn spot_of(&self, path: &str, names: Path) -> Result<Spot, Stop> {
+        if Path::of(self.alloc, path)? == names {
+            let path = Text::from_str(self.alloc, path)?;
+            return Ok(Spot { names, path });
+        }
+        for item in self.disk.standing()? {
+            if Path::of(self.alloc, item.path.as_str())? == names {
+                let path = item.path.clone()?;
+                return Ok(Spot { names, path });
+            }
+        }
+        Err(Stop::Fault(Fault::NotFound))
+    }
+
+    /// Opens a file that is there.
+    fn open(&mut self, spot: Spot) -> Result<u64, Stop> {
+        let number = self.files.len() as u64;
+        let place = Place::Under(spot);
+        self.files.push(OpenFile { place, read: 0 })?;
         Ok(number)
     }
 
@@ -65,14 +70,15 @@ impl Memory {
         if node.is_none() {
             return Err(Stop::Fault(Fault::NotFound));
         }
-        self.open(path, names)
+        let spot = self.spot_of(path, names)?;
+        self.open(spot)
     }
 
     /// Makes an empty file and opens it. If memory is refused, it isn't made.
     pub(crate) fn create(&mut self, path: &str) -> Result<u64, Stop> {
-        let names = place(&self.disk, path)?;
+        let spot = self.spot(path)?;
         let step = Step::CreateTemp(Text::from_str(self.alloc, path)?);
-        let number = self.open(path, names)?;
+        let number = self.open(spot)?;
         match do_step(&mut self.disk, step) {
             Ok(()) => Ok(number),
             Err(stop) => {
@@ -86,7 +92,8 @@ impl Memory {
     pub(crate) fn open_written(&mut self, path: &str) -> Result<u64, Stop> {
         let names = self.disk.writable(path)?;
         if self.disk.nodes().node(&names).is_some() {
-            return self.open(path, names);
+            let spot = self.spot_of(path, names)?;
+            return self.open(spot);
         }
         self.create(path)
     }
@@ -98,7 +105,7 @@ impl Memory {
         let Some(file) = self.files.get_mut(number as usize) else {
             return Err(Stop::Fault(Fault::InvalidInput));
         };
-        let rest = rest_of(&self.disk, file)?;
+        let rest = file.rest(&self.disk)?;
         let count = buf.len().min(rest.len());
         buf[..count].copy_from_slice(&rest[..count]);
         file.read += count;
@@ -112,25 +119,31 @@ impl Memory {
         let Some(file) = self.files.get_mut(number as usize) else {
             return Err(Stop::Fault(Fault::InvalidInput));
         };
-        let rest = rest_of(&self.disk, file)?;
+        let rest = file.rest(&self.disk)?;
+        let count = rest.len();
         bytes.extend_from_slice(rest)?;
-        file.read += rest.len();
-        Ok(rest.len())
+        file.read += count;
+        Ok(count)
     }
 
-    /// Puts bytes at the end of an open file, if that is still where it was found.
+    /// Puts bytes at the end of an open file.
     pub(crate) fn append(&mut self, number: u64, buf: &[u8]) -> Result<usize, Stop>
         ensures { IfOk result (λ count. count ≤ length buf.now) }
     {
         let Some(file) = self.files.get(number as usize) else {
             return Err(Stop::Fault(Fault::InvalidInput));
         };
-        if self.disk.writable(file.path.as_str())? != file.names {
-            return Err(Stop::Fault(Fault::Device));
+        match &file.place {
+            Place::Under(spot) => {
+                let bytes = Bytes::new(self.alloc, Vec::from_slice(self.alloc, buf)?)?;
+                let step = Step::Append(spot.path.clone()?, bytes);
+                do_step(&mut self.disk, step)?;
+            }
+            Place::Nameless(mark, _) => {
+                let mark = *mark;
+                self.files = grown(self.alloc, &self.files, mark, buf)?;
+            }
         }
-        let bytes = Bytes::new(self.alloc, Vec::from_slice(self.alloc, buf)?)?;
-        let step = Step::Append(file.path.clone()?, bytes);
-        do_step(&mut self.disk, step)?;
         Ok(buf.len())
     }
 
@@ -147,9 +160,53 @@ impl Memory {
         let Some(file) = self.files.get(number as usize) else {
             return Err(Stop::Fault(Fault::InvalidInput));
         };
-        match self.disk.nodes().node(&file.names) {
+        match file.node(&self.disk) {
             None => Err(Stop::Fault(Fault::NotFound)),
             Some(node) => Ok(info_of(node)),
         }
+    }
+
+    /// Removes a file or a link.
+    #[tactic(auto, using(crate::proofs::memory::Displacing::stays, crate::proofs::memory::Displacing::removable_bad))]
+    pub(crate) fn remove_file(&mut self, path: &str) -> Result<(), Stop>
+        ensures { Displaces (removable self.old.disk path.now) (cut self.old.disk) None self.old
+            result self.new }
+    {
+        let spot = self.spot(path)?;
+        let files = displaced(self.alloc, &self.files, &self.disk, None, &spot, self.marks)?;
+        remove_file(&mut self.disk, self.alloc, path)?;
+        self.files = files;
+        self.marks = self.marks.wrapping_add(1);
+        Ok(())
+    }
+
+    /// Removes an empty folder.
+    #[tactic(auto, using(crate::proofs::memory::Displacing::stays, crate::proofs::memory::Displacing::emptied_bad))]
+    pub(crate) fn remove_folder(&mut self, path: &str) -> Result<(), Stop>
+        ensures { Displaces (emptied self.old.disk path.now) (cut self.old.disk) None self.old
+            result self.new }
+    {
+        let spot = self.spot(path)?;
+        let files = displaced(self.alloc, &self.files, &self.disk, None, &spot, self.marks)?;
+        remove_folder(&mut self.disk, self.alloc, path)?;
+        self.files = files;
+        self.marks = self.marks.wrapping_add(1);
+        Ok(())
+    }
+
+    /// Moves a file. A folder or a link isn't moved.
+    #[tactic(auto, using(crate::proofs::memory::Displacing::moves_nothing, crate::proofs::memory::Displacing::unmoved))]
+    pub(crate) fn rename(&mut self, from: &str, to: &str) -> Result<(), Stop>
+        ensures { MovesPath from.now to.now self.old result self.new }
+    {
+        let bytes = movable(&self.disk, from)?;
+        let old = self.spot(from)?;
+        let new = self.spot(to)?;
+        let from = Some(&old.names);
+        let files = displaced(self.alloc, &self.files, &self.disk, from, &new, self.marks)?;
+        put_moved(&mut self.disk, old.path, bytes, new.path)?;
+        self.files = files;
+        self.marks = self.marks.wrapping_add(1);
+        Ok(())
     }
 }

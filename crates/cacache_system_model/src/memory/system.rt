@@ -8,7 +8,7 @@ ghost use Rattle.cacache_system.specs.CallLog.{MakesCall, said};
 use crate::memory::log::{Asked, Log, Said};
 use crate::memory::state::{Memory, MemoryFile};
 use crate::memory::tree::{
-    hard_link, make_folder, own, remove_file, remove_folder, rename, shown, shown_link, symlink,
+    hard_link, make_folder, own, shown, shown_link, symlink,
 };
 use cacache_core::errors::Fault;
 use cacache_core::text::Text;
@@ -23,9 +23,9 @@ const UNSUPPORTED: Stop = Stop::Fault(Fault::Unsupported);
 /// A system of folders, files and links in memory, which keeps a log of its calls. Contracts see the log and the tree.
 ///
 /// It lists no folder, syncs nothing, moves no folder or link, and copies no file: such calls fail with `Unsupported`. A
-/// file is never closed, and no number is used again. What is read and written by an open file is what stands at its
-/// names, and contracts say nothing of that but the log. It keeps no owner and no mode: a call that sets one is logged, and
-/// fails if nothing stands there.
+/// file is never closed, and no number is used again. It keeps what it holds if its name is removed or taken by another
+/// file. Contracts say nothing of what is read and written but the log. It keeps no owner and no mode: a call that sets
+/// one is logged, and fails if nothing stands there.
 #[derive(Drop)]
 pub struct MemorySystem {
     memory: Memory,
@@ -44,6 +44,7 @@ impl MemorySystem {
             alloc,
             disk: Disk::new(alloc)?,
             files: Vec::new(alloc),
+            marks: 0,
         };
         Ok(MemorySystem {
             memory,
@@ -185,7 +186,7 @@ impl System for MemorySystem {
         ensures goes { GoesUnlessLink self.old (asks.Rename from.now to.now)
             (said (λ _. says.Done) result) self.new }
     {
-        let done = rename(&mut self.memory.disk, self.memory.alloc, from, to);
+        let done = self.memory.rename(from, to);
         self.log.end(Asked::Rename(from, to), done)
     }
 
@@ -205,7 +206,7 @@ impl System for MemorySystem {
         ensures goes { Goes self.old (asks.RemoveFile path.now) (said (λ _. says.Done) result)
             self.new }
     {
-        let done = remove_file(&mut self.memory.disk, self.memory.alloc, path);
+        let done = self.memory.remove_file(path);
         self.log.end(Asked::RemoveFile(path), done)
     }
 
@@ -215,7 +216,7 @@ impl System for MemorySystem {
         ensures goes { Goes self.old (asks.RemoveFolder path.now) (said (λ _. says.Done) result)
             self.new }
     {
-        let done = remove_folder(&mut self.memory.disk, self.memory.alloc, path);
+        let done = self.memory.remove_folder(path);
         self.log.end(Asked::RemoveFolder(path), done)
     }
 

@@ -2,7 +2,7 @@
 ghost use Rattle.std.specs.Prelude.{◌≡◌, [], None, Ok, IfOk, IfErr, IsOk};
 ghost use Rattle.cacache_store.specs.declared.store.step.Step.TheVariants as steps;
 ghost use Rattle.cacache_disk.specs.{declared.node.Node.TheVariants.{Folder, File, Link}, Tree.{look, put, cut}, LedTo.{way_fault, place, found, standing, free, removable, emptied, linked}, Stops.{Stops, Blocks}};
-ghost use Rattle.cacache_system_model.specs.memory.Changes.{Does, Changed, Linked, Movable, Moved, Shown, Unlinks, info_of};
+ghost use Rattle.cacache_system_model.specs.memory.Changes.{Does, Changed, Linked, Movable, Shown, Unlinks, info_of};
 
 use cacache_core::bytes::Bytes;
 use cacache_core::errors::Fault;
@@ -206,7 +206,7 @@ pub(crate) fn hard_link(disk: &mut Disk, alloc: Global, from: &str, to: &str) ->
 
 /// The bytes of a file that is to be moved. A folder or a link isn't moved.
 #[tactic(auto, using(crate::proofs::memory::Moves::movable_bad, crate::proofs::memory::Moves::movable_file, crate::proofs::memory::Moves::unmovable))]
-fn movable(disk: &Disk, path: &str) -> Result<Bytes, Stop>
+pub(crate) fn movable(disk: &Disk, path: &str) -> Result<Bytes, Stop>
     ensures { Movable disk.now path.now result }
 {
     let names = place(disk, path)?;
@@ -217,15 +217,14 @@ fn movable(disk: &Disk, path: &str) -> Result<Bytes, Stop>
     }
 }
 
-/// Moves a file.
-#[tactic(auto, using(crate::proofs::memory::Moves::moves_nothing, crate::proofs::memory::Moves::unmoved, crate::proofs::memory::Moves::moves))]
-pub(crate) fn rename(disk: &mut Disk, alloc: Global, from: &str, to: &str) -> Result<(), Stop>
-    ensures { Moved disk.old from.now to.now result disk.new }
+/// Puts a file with these bytes at a new path in the place of the one at its old path.
+pub(crate) fn put_moved(disk: &mut Disk, from: Text, bytes: Bytes, to: Text) -> Result<(), Stop>
+    ensures { Does disk.old (steps.Persist (record { path = from; bytes = Some bytes }) to) result
+        disk.new }
 {
-    let bytes = movable(disk, from)?;
     let temp = PlainTemp {
-        path: Text::from_str(alloc, from)?,
+        path: from,
         bytes: Some(bytes),
     };
-    do_step(disk, Step::Persist(temp, Text::from_str(alloc, to)?))
+    do_step(disk, Step::Persist(temp, to))
 }
