@@ -3,8 +3,10 @@ ghost use Rattle.std.specs.{Prelude.{◌≡◌, ◌≤◌, None, Ok, IfOk, IfErr
 ghost use Rattle.cacache_disk.specs.{Tree.{cut}, LedTo.{place, removable, emptied}, Stops.{Stops}};
 ghost use Rattle.cacache_system_model.specs.memory.Files.{Displaces, MovesPath};
 
-use crate::memory::files::{displaced, grown, OpenFile, Place, Spot};
-use crate::memory::tree::{do_step, info_of, movable, place, put_moved, remove_file, remove_folder};
+use crate::memory::files::{OpenFile, Place, Spot, displaced, grown};
+use crate::memory::tree::{
+    do_step, info_of, movable, place, put_moved, remove_file, remove_folder,
+};
 use cacache_core::bytes::Bytes;
 use cacache_core::errors::Fault;
 use cacache_core::keeping::let_go;

@@ -7,9 +7,7 @@ ghost use Rattle.cacache_system.specs.CallLog.{MakesCall, said};
 
 use crate::memory::log::{Asked, Log, Said};
 use crate::memory::state::{Memory, MemoryFile};
-use crate::memory::tree::{
-    hard_link, make_folder, own, shown, shown_link, symlink,
-};
+use crate::memory::tree::{hard_link, make_folder, own, shown, shown_link, symlink};
 use cacache_core::errors::Fault;
 use cacache_core::text::Text;
 use cacache_disk::{Disk, Stop};

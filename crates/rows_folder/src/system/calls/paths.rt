@@ -247,6 +247,9 @@ impl Calls {
         if let (Fate::Does(path, _), "Opened") = (fate, answers.came.as_str()) {
             self.keep_opened(call, path.as_str())?;
         }
+        if let (Fate::Does(one, two), "Done") = (fate, answers.came.as_str()) {
+            self.follow(call.ask, one.as_str(), two.as_str())?;
+        }
         self.changes = self.changes.saturating_add(1);
         self.go_on(is_odd)
     }
