@@ -48,10 +48,6 @@ none_anew : (m : Machine) (step : NumberedStep) → CopiesNone step → (t : Tre
 none_anew m (steps.Copy from to) none t q = absurd none
 none_anew m step none t q = refl
 
-none_fresh : (m n : Machine) (step : NumberedStep) (end : CallResult) → CopiesNone step → LeavesFresh m step (answer_of step end) n → ⊥
-none_fresh m n (steps.Copy from to) end none left = none
-none_fresh m n step end none left = left
-
 failed_moves : (step : PlainStep) (fault : Fault) → moves_file step (answers.Failed fault) ≡ None
 failed_moves (steps.Persist temp p) fault = refl
 failed_moves step fault = refl
@@ -118,10 +114,10 @@ module _ (own temps : Names → Bool) (f : Fixed) (now : Moment) (s : StepMade) 
       (sym (ap (λ a. is_synced (answer_on s.after a)) is)) spares
       (λ q. rests (ap (λ (t : Tree). look t q) tree) (ap (λ (x : Names → Bool). x q) stays))
 
-  lucky_follows : SparesOpen temps s.before.tree (step_made s) → IsLucky s.before s.step s.end s.after → Follows own temps f now s
-  lucky_follows spares (inl (luck, is)) = done_follows luck spares is
-  lucky_follows spares (inr (inl (is, tree))) = back_follows spares is tree
-  lucky_follows spares (inr (inr left)) = absurd (none_fresh s.before s.after s.step s.end none left)
+  lucky_follows : SparesOpen temps s.before.tree (step_made s) → (LeavesFresh s.before s.step (answer_of s.step s.end) s.after → ⊥) → IsLucky s.before s.step s.end s.after → Follows own temps f now s
+  lucky_follows spares clean (inl (luck, is)) = done_follows luck spares is
+  lucky_follows spares clean (inr (inl (is, tree))) = back_follows spares is tree
+  lucky_follows spares clean (inr (inr left)) = absurd (clean left)
 
 -- an open temporary file that is written
 write_touched : (temps : Names → Bool) (m n : Machine) (temp : NumberedTemp) (more bytes : List ℕ) (names : Names) (answer : PlainAnswer) → names_of temp.path ≡ Ok names → put m.tree names (File bytes) ≡ n.tree
@@ -159,7 +155,7 @@ lists_follow : (own temps : Names → Bool) (f : Fixed) (now : Moment) (m n : Ma
     → ((q : Names) → temps q ≡ true → own q ≡ true) → AlikeFixed own f now.fixed → IsListing m hint step → ListedOn temps now.tree m step end n ⊎ IsLucky m step end n
     → Follows own temps f now (record { before = m; after = n; step = step; hint = hint; items = items; end = end })
 lists_follow own temps f now m n hint (steps.ReadDir path) items end before keeps alike lists (inr lucky) =
-    lucky_follows own temps f now (record { before = m; after = n; step = steps.ReadDir path; hint = hint; items = items; end = end }) before keeps alike tt (λ is. absurd (let wrong : false ≡ true = is in cc)) tt lucky
+    lucky_follows own temps f now (record { before = m; after = n; step = steps.ReadDir path; hint = hint; items = items; end = end }) before keeps alike tt (λ is. absurd (let wrong : false ≡ true = is in cc)) tt (λ left. left) lucky
 lists_follow own temps f now m n hint (steps.ReadDir path) items end before keeps alike lists (inl (told, is, (shown, given, one, other, order), mirrored, tree)) =
     follow own temps f now (record { before = m; after = n; step = steps.ReadDir path; hint = hint; items = items; end = end }) before keeps alike tt (λ is. absurd (let wrong : false ≡ true = is in cc))
     Plain told (inr (inr (shown, given, one, other, order))) (sym (ap (λ (r : PlainAnswer × Tree). r.0) is))
@@ -172,7 +168,7 @@ lists_follow own temps f now m n hint _ items end before keeps alike lists done 
 pub one_follows : (own temps : Names → Bool) (f : Fixed) (now : Moment) (s : StepMade) → Mirrors temps s.before.tree now.tree → ((q : Names) → temps q ≡ true → own q ≡ true) → AlikeFixed own f now.fixed → LosesAsTold s
     → Runs (first s.hint s.step) s.items s.end → EachCall OccursSomehow s.before s.items s.after → IsCovered temps s → Follows own temps f now s
 one_follows own temps f now s before keeps alike none runs each (inl law) =
-    lucky_follows own temps f now s before keeps alike none.0 (syncs_fix s.before s.after s.hint s.step s.items s.end law.premise none.1 runs each) law.spares
+    lucky_follows own temps f now s before keeps alike none.0 (syncs_fix s.before s.after s.hint s.step s.items s.end law.premise none.1 runs each) law.spares none.2
     (each_may_break s.before s.hint s.step law.premise law.done s.items s.end s.after runs each)
 one_follows own temps f now s before keeps alike none runs each (inr (inl writing)) =
     write_follows own temps f now s.before s.after s.hint s.items s.end keeps alike before s.step runs each writing

@@ -3,7 +3,7 @@ use Rattle.std.specs.Prelude.{◌≡◌, ◌||◌, ℕ, Bool, true, false, List,
 use Rattle.std_io.specs.declared.io.kind.ErrorKind.{ErrorKind}
 use Rattle.cacache_core.specs.{Contexts.{fault_of}, declared.errors.Fault.{Fault, TheVariants.{InvalidInput}}, PathNames.{Names}}
 use Rattle.cacache_disk.specs.{declared.{luck.Luck.{Luck, TheVariants.{Plain, Fail, Take}}, node.Node.TheVariants.{Folder, File, Link}}, Tree.{Tree, look, put}, LedTo.{place, standing, leads, found, writable, free, replaceable, file_at, linked, removable, emptied}, Apply.{taken, readable}}
-use Rattle.cacache_system.specs.{declared.call.{SystemCall.{SystemCall}, CallItem.{CallItem}, CallResult.{CallResult}}, CallsOf.{interrupts}, AnswersOf.{misses, refuses_memory}}
+use Rattle.cacache_system.specs.{declared.call.{SystemCall.{SystemCall}, CallItem.{CallItem}, CallResult.{CallResult}}, CallsOf.{already_exists, interrupts}, AnswersOf.{misses, refuses_memory}}
 use Rattle.cacache_system.specs.declared.call.SystemCall.TheVariants as asks
 use Rattle.cacache_system.specs.declared.call.CallResult.TheVariants as says
 use Rattle.cacache_system_model.specs.{Folders.{OpensFolder, ReadsFolder}, Machine.{OpenFile, SyncedNode, Machine, Became, HasTree, IsRefused, ChangesTree, RemovesNode, OpensIf, with_empty, ShowsEnd, ShowsOpen, ReadsOpen, Grows, WritesOpen, with_sync, SyncsOpen, GivesOwner, GivesMode, LinksNode, found_bytes, CopiesBytes, MovesNode, SpellsEnd}}
@@ -87,9 +87,17 @@ LeavesWritten true number bytes part m after = after ≡ m
 LeavesWritten false number bytes part m after =
     PartWritten (m.files number) bytes part m after
 
--- What a call that fails without cause leaves, after so many bytes were moved. An opening to append may leave a new file,
--- and a sync what it couldn't write.
+-- what an opening leaves that fails to make a new file: it may have made it, unless it says that something is there
+abbrev pub LeavesCreated : Bool → List ℕ → Option ℕ → Machine → Machine → Type 0
+LeavesCreated true path part m after = after ≡ m
+LeavesCreated false path part m after =
+    HasTree m (part_opened (free m.tree path) part m.tree) after
+
+-- What a call that fails without cause leaves, after so many bytes were moved. An opening may leave a new file, and a sync
+-- what it couldn't write.
 abbrev pub LeavesPart : Machine → SystemCall → ErrorKind → Option ℕ → Machine → Type 0
+LeavesPart m (asks.CreateNew path mode) why part after =
+    LeavesCreated (already_exists why) path part m after
 LeavesPart m (asks.OpenToAppend path) why part after =
     HasTree m (part_opened (writable m.tree path) part m.tree) after
 LeavesPart m (asks.Sync number) why part after =

@@ -7,7 +7,7 @@ use Rattle.cacache_disk.specs.{declared.node.Node.{Node, TheVariants.{Folder, Fi
 use Rattle.cacache_value.specs.Traces.{Move}
 use Rattle.cacache_loss.specs.{Fixing.{Fixed, synced, is_sync, changed, all_fixed}, Loss.{Loss, lost_at}, Moments.{Moment, after, lost_then, EachMove}, ChangedNames.{opening}}
 use Rattle.cacache_system.specs.{Seen.{NumberedStep}, AnswersOf.{answer_of}}
-use Rattle.cacache_system_model.specs.{Machine.{Machine, SyncedNode, in_doubt}, Laws.{step_on, answer_on}, Mirrors.{hollow, Mirrors}, Chains.{StepMade, temps_left, AreMade, SameNames}}
+use Rattle.cacache_system_model.specs.{Machine.{Machine, SyncedNode, in_doubt}, Laws.{step_on, answer_on, LeavesFresh}, Mirrors.{hollow, Mirrors}, Chains.{StepMade, temps_left, AreMade, SameNames}}
 
 -- ---- what a step fixes on a machine
 
@@ -82,9 +82,11 @@ CopiesNone step = Unit {0}
 abbrev pub NoDoubt : Machine → Type 0
 NoDoubt m = in_doubt m.synced ≡ false
 
--- a step copies no file, and no sync failed before it
+-- A step copies no file, and leaves none that it failed to open. No sync failed before it.
 abbrev pub LosesAsTold : StepMade → Type 0
-LosesAsTold s = CopiesNone s.step × NoDoubt s.before
+LosesAsTold s =
+    CopiesNone s.step × NoDoubt s.before
+    × (LeavesFresh s.before s.step (answer_of s.step s.end) s.after → ⊥)
 
 -- ---- the same steps on a disk
 

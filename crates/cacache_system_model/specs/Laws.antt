@@ -1,13 +1,13 @@
 -- That the calls of a step answer and leave what the disk's table of steps says.
-use Rattle.std.specs.{Prelude.{◌≡◌, ◌⊎◌, ◌++◌, ◌∷◌, ℕ, List, [], None, option_map, length, drop}, Option.{unwrap_or}}
+use Rattle.std.specs.{Prelude.{◌≡◌, ◌⊎◌, ◌++◌, ◌∷◌, ℕ, List, [], None, Ok, option_map, length, drop}, Option.{unwrap_or}}
 use Rattle.std_io.specs.declared.io.kind.ErrorKind.TheVariants as kind
 use Rattle.cacache_store.specs.{declared.store.plain.{PlainTemp.{PlainTemp}, PlainFile.{PlainFile}}, Plain.{PlainStep, PlainAnswer}}
 use Rattle.cacache_store.specs.declared.store.answer.Answer.TheVariants as answers
 use Rattle.cacache_store.specs.declared.store.step.Step.TheVariants as steps
-use Rattle.cacache_core.specs.PathNames.{Names}
-use Rattle.cacache_disk.specs.{declared.{luck.Luck.{Luck, TheVariants.{Plain}}, node.Node.TheVariants.{File}}, Tree.{Tree, look, put, bytes_of}, Apply.{apply, fault_told}}
+use Rattle.cacache_core.specs.{declared.errors.Fault.{Fault}, PathNames.{Names}}
+use Rattle.cacache_disk.specs.{declared.{luck.Luck.{Luck, TheVariants.{Plain}}, node.Node.TheVariants.{File}}, Tree.{Tree, look, put, bytes_of}, LedTo.{free}, Apply.{apply, fault_told}}
 use Rattle.cacache_system.specs.{declared.call.{SystemCall.{SystemCall}, CallItem.{CallItem}, CallResult.{CallResult, TheVariants.{Failed}}}, Seen.{NumberedFile, NumberedTemp, NumberedStep, NumberedAnswer, step_as, answer_as}, CallsOf.{Stage, Runs, fresh_name}, AnswersOf.{Hint, first, answer_of}}
-use Rattle.cacache_system_model.specs.{Machine.{OpenFile, node_of, Machine}, Calls.{GoesWell, OccursSomehow, EachCall}}
+use Rattle.cacache_system_model.specs.{Machine.{OpenFile, node_of, Machine, with_empty}, Calls.{GoesWell, OccursSomehow, EachCall}}
 
 -- ---- handles on a machine
 
@@ -64,13 +64,17 @@ IsPlain m step end after =
     (end ≡ Failed kind.OutOfMemory → ⊥)
     → apply m.tree (step_on m step) Plain ≡ led_to step end after
 
--- a copy fails, and leaves the fresh file that it made, since that can't be removed either
+-- A copy fails, and leaves the fresh file that it made, since that can't be removed either. Or a temporary file can't be
+-- opened, but was made.
 abbrev pub LeavesFresh : Machine → NumberedStep → NumberedAnswer → Machine → Type 0
 LeavesFresh m (steps.Copy from to) answer after =
     (luck : Luck) × (above : Names) × (number : ℕ) × (bytes : List ℕ)
     × (look m.tree (above ++ fresh_name number ∷ []) ≡ None)
     × (apply m.tree (steps.Copy from to) luck ≡ outcome (answer_on after answer) m.tree)
     × (after.tree ≡ put m.tree (above ++ fresh_name number ∷ []) (File bytes))
+LeavesFresh m (steps.CreateTemp path) answer after =
+    (names : Names) × (free m.tree path ≡ Ok names) × (after.tree ≡ with_empty m.tree names)
+    × (fault : Fault) × (answer ≡ answers.Failed fault)
 LeavesFresh m step answer after = ⊥
 
 -- It is as under some luck, or the step comes back for want of memory and nothing changed, or it is a copy that leaves

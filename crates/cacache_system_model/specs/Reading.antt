@@ -1,7 +1,7 @@
 -- Laws on reads.
 use Rattle.std.specs.Prelude.{◌≡◌, ◌≤◌, ℕ, List, Some}
 use Rattle.cacache_store.specs.declared.store.step.Step.TheVariants as steps
-use Rattle.cacache_disk.specs.{declared.node.Node.TheVariants.{File}}
+use Rattle.cacache_disk.specs.declared.node.Node.TheVariants.{File}
 use Rattle.cacache_system.specs.{Seen.{NumberedFile}, AnswersOf.{Hint}}
 use Rattle.cacache_system_model.specs.{Machine.{OpenFile, node_of, Machine}, Laws.{Agrees, GoesPlainly, MayBreak}}
 

@@ -1,6 +1,6 @@
 -- Steps with one call, which changes the tree.
-use Rattle.std.proofs.Common.{◌≡◌, ℕ, Bool, true, false, cond, List, [], refl, sym, ap, subst, ◌∙◌, ⊎_elim}
-use Rattle.std.specs.Prelude.{Option, None, Some, Result, Ok, Err, MatchResult, option_map}
+use Rattle.std.proofs.Common.{◌≡◌, ◌⊎◌, ◌&&◌, ℕ, Bool, true, false, cond, List, [], refl, sym, ap, subst, ◌∙◌, ⊎_elim, inl, inr}
+use Rattle.std.specs.Prelude.{if◌then◌else◌, Option, None, Some, Result, Ok, Err, MatchResult, option_map}
 use Rattle.std_io.specs.declared.io.kind.ErrorKind.{ErrorKind}
 use Rattle.std_io.specs.declared.io.kind.ErrorKind.TheVariants as kind
 use Rattle.cacache_core.specs.{Contexts.{fault_of}, declared.errors.Fault.{Fault}, PathNames.{Names, names_of}}
@@ -9,9 +9,9 @@ use Rattle.cacache_store.specs.declared.store.answer.Answer.TheVariants as answe
 use Rattle.cacache_store.specs.Plain.{PlainAnswer}
 use Rattle.cacache_disk.specs.{declared.{luck.Luck.TheVariants.{Plain}, node.Node.{Node, TheVariants.{File, Link}}}, Tree.{Tree, look, put, cut, bytes_of}, LedTo.{and_then, where_file, kept, known, free, replaceable, found, linked}, Apply.{apply, unless, made_temp, is_there, fault_told}}
 use Rattle.cacache_system.specs.declared.call.SystemCall.TheVariants as asks
-use Rattle.cacache_system.specs.{declared.call.CallResult.{CallResult}, Seen.{NumberedTemp, NumberedStep}, AnswersOf.{Hint, answer_of, failed_with, refuses_memory, misses}}
+use Rattle.cacache_system.specs.{declared.call.CallResult.{CallResult}, CallsOf.{already_exists}, Seen.{NumberedTemp, NumberedStep, NumberedAnswer}, AnswersOf.{Hint, answer_of, failed_with, refuses_memory, misses}}
 use Rattle.cacache_system.specs.declared.call.CallResult.TheVariants as says
-use Rattle.cacache_system_model.specs.{Machine.{Place, under, OpenFile, node_of, Machine, IsRefused, moved, ChangesPlaces, ChangesTree, OpensIf, ShowsEnd, LinksNode, MovesNode, unread}, Calls.{GoesWell, OccursSomehow}, Laws.{answer_on, step_on, outcome, led_to, IsDone, IsLucky, Agrees}, OneCall.{StillStands, CreateAgrees, ExistsAgrees, SymlinkAgrees, HardLinkAgrees, ReflinkBreaks}}
+use Rattle.cacache_system_model.specs.{Machine.{Place, under, OpenFile, node_of, Machine, IsRefused, moved, ChangesPlaces, ChangesTree, OpensIf, ShowsEnd, LinksNode, MovesNode, unread}, Calls.{GoesWell, OccursSomehow, part_opened, LeavesCreated}, Laws.{answer_on, LeavesFresh, step_on, outcome, led_to, IsDone, IsLucky, Agrees}, OneCall.{StillStands, CreateAgrees, ExistsAgrees, SymlinkAgrees, HardLinkAgrees, ReflinkBreaks}}
 use Rattle.cacache_system_model.proofs.{Refused.{same_outcome, refused_agrees, plainly_refused, broken_agrees}, Steps.{OneCalls.{one_agrees}, Writing.{look_same}, Opening.{same_number}}, Leading.{over_leads}, memory.Places.{place_led}}
 
 -- a step that answers that it is done, if its call changed the tree
@@ -53,6 +53,22 @@ created (Ok names) m n path end (number, said, fresh, left) =
     (ap (λ (e : CallResult). answer_on n (answer_of (steps.CreateTemp path) e)) said ∙ ap (temp_of path) bytes) tree)
 created (Err fault) m n path end refuses = refused_agrees (steps.CreateTemp path) fault end m n (plainly_refused (steps.CreateTemp path) fault n (λ why. refl)) refuses
 
+-- a creation that failed leaves nothing, or the file
+failed_so : (step : NumberedStep) (why : ErrorKind) (b : Bool) → (if b && false then answers.NoMemory step else answers.Failed (fault_of why)) ≡ answers.Failed (fault_of why)
+failed_so step why true = refl
+failed_so step why false = refl
+
+created_part : (m n : Machine) (path : List ℕ) (why : ErrorKind) (part : Option ℕ) (r : Result Names Fault) → free m.tree path ≡ r → n.tree ≡ part_opened r part m.tree
+    → (n.tree ≡ m.tree) ⊎ LeavesFresh m (steps.CreateTemp path) (answer_of (steps.CreateTemp path) (says.Failed why)) n
+created_part m n path why (Some part) (Ok names) is tree = inr (names, is, tree, fault_of why, failed_so (steps.CreateTemp path) why (refuses_memory why))
+created_part m n path why None (Ok names) is tree = inl tree
+created_part m n path why part (Err fault) is tree = inl tree
+
+created_or_not : (m n : Machine) (path : List ℕ) (why : ErrorKind) (c : Bool) (part : Option ℕ) → LeavesCreated c path part m n
+    → (n.tree ≡ m.tree) ⊎ LeavesFresh m (steps.CreateTemp path) (answer_of (steps.CreateTemp path) (says.Failed why)) n
+created_or_not m n path why true part same = inl (ap (λ (x : Machine). x.tree) same)
+created_or_not m n path why false part left = created_part m n path why part (free m.tree path) refl left.0
+
 pub create_agrees : CreateAgrees
 unfolding apply
 create_agrees m hint path = one_agrees m hint (steps.CreateTemp path) (asks.CreateNew path 384) (record {
@@ -60,7 +76,7 @@ create_agrees m hint path = one_agrees m hint (steps.CreateTemp path) (asks.Crea
   leads = λ said. refl;
   memory = λ end ends. ⊎_elim (λ e. e) (λ never. absurd never) ends;
   answers = λ why fine. refl;
-  whole = λ why part n left. left;
+  whole = λ why part n left. created_or_not m n path why (already_exists why) part left;
   agrees = λ most said n well. created (free m.tree path) m n path said well;
 })
 
@@ -92,7 +108,7 @@ exists_agrees m hint path = one_agrees m hint (steps.Exists path) (asks.Stat pat
   leads = λ said. refl;
   memory = λ end never. absurd never;
   answers = not_missing path;
-  whole = λ why part n left. left;
+  whole = λ why part n left. inl (ap (λ (x : Machine). x.tree) left);
   agrees = λ most said n well. there (found m.tree path) m n path said well;
 })
 
@@ -136,7 +152,7 @@ symlink_agrees m hint target path = one_agrees m hint (steps.Symlink target path
   leads = λ said. refl;
   memory = λ end never. absurd never;
   answers = λ why fine. refl;
-  whole = λ why part n left. left;
+  whole = λ why part n left. inl (ap (λ (x : Machine). x.tree) left);
   agrees = λ most said n well. changed (λ names. put m.tree names (Link target)) (steps.Symlink target path) m n said refl (λ why. refl) (free m.tree path) well;
 })
 
@@ -154,7 +170,7 @@ linked_agrees m hint from to node is = one_agrees m hint (steps.HardLink from to
   leads = λ said. refl;
   memory = λ end never. absurd never;
   answers = λ why fine. refl;
-  whole = λ why part n left. left;
+  whole = λ why part n left. inl (ap (λ (x : Machine). x.tree) left);
   agrees = linked_so m from to node is;
 })
 

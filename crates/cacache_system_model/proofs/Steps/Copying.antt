@@ -7,12 +7,12 @@ use Rattle.cacache_core.specs.{Contexts.{fault_of}, declared.errors.Fault.{Fault
 use Rattle.cacache_store.specs.{declared.store.answer.Kind.{Kind}, Plain.{PlainAnswer}}
 use Rattle.cacache_store.specs.declared.store.step.Step.TheVariants as steps
 use Rattle.cacache_store.specs.declared.store.answer.Answer.TheVariants as answers
-use Rattle.cacache_disk.specs.{declared.{luck.Luck.TheVariants.{Plain, Fail}, node.Node.{Node, TheVariants.{Folder, File, Link}}}, Tree.{Tree, look, put, cut, same_path}, LedTo.{or_fault, leads, found, file_at, writable, place, standing, removable, replaceable, where_free, where_no_folder}, Apply.{apply, taken, fault_told, made_up}}
+use Rattle.cacache_disk.specs.{declared.{luck.Luck.TheVariants.{Plain, Fail}, node.Node.{Node, TheVariants.{Folder, File, Link}}}, Tree.{Tree, look, put, cut, same_path}, LedTo.{or_fault, leads, found, file_at, writable, place, standing, removable, replaceable, where_free, where_no_folder}, Apply.{if_missing, apply, taken, fault_told, made_up}}
 use Rattle.cacache_disk.proofs.{Maps.{put_same, same_path-true}, FoundNodes.{place_ok, or_fault_none}}
 use Rattle.cacache_system.specs.{declared.call.{FileInfo.{FileInfo}, CallResult.{CallResult}}, CallsOf.{Stage, over, only, taking_memory, asking_source, asking_target, asking_end, making_end, resolving, making_fresh, filling, replacing, scrapping, place_fresh, source_known, target_known, copied, name_taken, already_exists, is_absent, is_link, is_same_node, fresh_name, fresh_number, fresh_beside, after}, AnswersOf.{answer_of, misses, refuses_memory}}
 use Rattle.cacache_system.specs.declared.call.SystemCall.TheVariants as asks
 use Rattle.cacache_system.specs.declared.call.CallResult.TheVariants as says
-use Rattle.cacache_system_model.specs.{Machine.{Machine, IsRefused, moved, ChangesPlaces, RemovesNode, ChangesTree, OpensIf, ShowsEnd, ShowsNode, Describes, found_bytes, CopiesBytes, MovesNode, SpellsEnd, with_empty}, Calls.{brought, part_copied, part_opened}, Laws.{answer_on, outcome, Leads, IsDone}, Writing.{HasNoFresh, CanCopy, CopyAgrees}}
+use Rattle.cacache_system_model.specs.{Machine.{Machine, IsRefused, moved, ChangesPlaces, RemovesNode, ChangesTree, OpensIf, ShowsEnd, ShowsNode, Describes, found_bytes, CopiesBytes, MovesNode, SpellsEnd, with_empty}, Calls.{LeavesCreated, brought, part_copied, part_opened}, Laws.{answer_on, outcome, Leads, IsDone}, Writing.{HasNoFresh, CanCopy, CopyAgrees}}
 use Rattle.cacache_system_model.proofs.{Refused.{same_outcome, failed, failing_apply, never_missing}, Leading.{Claim, over_leads, call_leads}, Claims.{way_of, claim_of, cases_of, taking_leads, claim_plain, claim_lucky, claim_broken, claim_memory}, Steps.{Opening.{said_leads, of_some}, Looking.{refused_folder, wanted_file}, CopyFacts.{either_true, same_text, apply_copy, whole_file, writable_found, Source, Ready, same_node_numbers, writable_at, Stands, no_way, nothing, a_folder_here, a_file_here, a_link_here, stands_so, not_absent, exists_fine, absent_fault, not_taken_fault, not_taken, fault_absent, no_place, unnamed, fresh_proper}}, Views.{View, nowhere, a_folder, a_file, view}, Fresh.{placed_as, placed_beside, look_new, own_place, own_writable, own_removable, replaceable_still, leads_still, file_still, cut_new, put_new, free_at_place, dangling}}
 
 -- where something is and where nothing is
@@ -167,6 +167,27 @@ module _ (b : Bool) (m : Machine) (from to : List ℕ) (can : CanCopy m to) (don
         (fill_leads path bytes names ready (fresh_beside path (fresh_number left number)) above (fresh_number left number) placed at n became.0)
     made_so left above said n (Some node) taken placed at refused = exists_so left above node said n b refl taken at refused
 
+    -- a fresh file that wasn't opened, and may be there
+    part_made : (left : ℕ) (above : Names) (why : ErrorKind) (part : Option ℕ) (n : Machine) (o : Option Node) → b ≡ false → misses why ≡ false → look m.tree (above ++ fresh_name (fresh_number left number) ∷ []) ≡ o
+        → n.tree ≡ part_opened (where_free o (above ++ fresh_name (fresh_number left number) ∷ [])) part m.tree → P (says.Failed why) n
+    part_made left above why (Some part) n None broke fine at tree =
+        let fn = above ++ fresh_name (fresh_number left number) ∷ [] in
+        fresh_stays why n above (fresh_number left number) [] broke fine at (tree ∙ ap (λ (o : Option Node). if_missing o (put m.tree fn (File [])) m.tree) at)
+    part_made left above why None n None broke fine at tree = broke_same why n broke fine tree
+    part_made left above why part n (Some node) broke fine at tree = broke_same why n broke fine tree
+
+    not_made : (left : ℕ) (above : Names) (why : ErrorKind) (part : Option ℕ) (n : Machine) (c : Bool) → b ≡ false → misses why ≡ false → already_exists why ≡ c → Taken left
+        → place m.tree (fresh_beside path (fresh_number left number)) ≡ Ok (above ++ fresh_name (fresh_number left number) ∷ [])
+        → LeavesCreated c (fresh_beside path (fresh_number left number)) part m n → Leads (way_of b) (name_taken left number why from path) n P
+    not_made left above why part n true broke fine is taken placed same =
+        subst (λ (x : Machine). Leads (way_of b) (name_taken left number why from path) x P) (sym same) (taken why broke fine)
+    not_made left above why part n false broke fine is taken placed made =
+        let fn = above ++ fresh_name (fresh_number left number) ∷ [] in
+        subst (λ (s : Stage). Leads (way_of b) s n P) (sym (not_taken left number why from path is))
+        (over_leads (way_of b) (says.Failed why) n P
+        (part_made left above why part n (look m.tree fn) broke fine refl
+        (made.0 ∙ ap (λ (r : Result Names Fault). part_opened r part m.tree) (free_at_place m.tree (fresh_beside path (fresh_number left number)) (Ok fn) placed))))
+
     fresh_from : (left : ℕ) → Taken left → Leads (way_of b) (making_fresh left number from path) m P
     fresh_from left taken =
         let k = fresh_number left number in
@@ -181,7 +202,7 @@ module _ (b : Bool) (m : Machine) (from to : List ℕ) (can : CanCopy m to) (don
         (subst (λ (r : Result Names Fault). OpensIf r (λ x. put m.tree x (File [])) m said n) (free_at_place m.tree (fresh_beside path k) (Ok (side.front ++ fresh_name k ∷ [])) placed) well))
         (λ (broke, why, same, fine, part, left_there).
         said_leads b (making_fresh left number from path) said (says.Failed why) n P same
-        (subst (λ (x : Machine). Leads (way_of b) (name_taken left number why from path) x P) (sym left_there) (taken why broke fine)))
+        (not_made left side.front why part n (already_exists why) broke fine refl taken placed left_there))
         (cases_of b m (asks.CreateNew (fresh_beside path k) 384) said n happens))
 
     taken_if : (left : ℕ) (why : ErrorKind) (c : Bool) → Leads (way_of b) (making_fresh left number from path) m P → b ≡ false → misses why ≡ false

@@ -7,10 +7,10 @@ use Rattle.cacache_store.specs.declared.store.answer.Kind.{Kind}
 use Rattle.cacache_disk.specs.{declared.{luck.Luck.TheVariants.{Plain, Fail, Take}, node.Node.{Node, TheVariants.{Folder, File, Link}}}, Tree.{Tree, look, kind_of, same_path}, LedTo.{place, standing, found, writable, free}}
 use Rattle.cacache_disk.proofs.{Maps.{same_path-true}, FoundNodes.{place_ok}}
 use Rattle.cacache_loss.specs.Fixing.{is_at}
-use Rattle.cacache_system.specs.{declared.call.{FileInfo.{FileInfo}, CallResult.{CallResult}}, CallsOf.{is_link, is_absent}}
+use Rattle.cacache_system.specs.{declared.call.{FileInfo.{FileInfo}, CallResult.{CallResult}}, CallsOf.{is_link, is_absent, already_exists}}
 use Rattle.cacache_system.specs.declared.call.SystemCall.TheVariants as asks
 use Rattle.cacache_system.specs.declared.call.CallResult.TheVariants as says
-use Rattle.cacache_system_model.specs.{Machine.{Machine, IsRefused, Describes, OpensIf, ShowsNode, ShowsEnd, SpellsEnd, with_empty}, Calls.{OccursSomehow}, callers.Opened.{Avoids, IsApart}}
+use Rattle.cacache_system_model.specs.{Machine.{Machine, IsRefused, Describes, OpensIf, ShowsNode, ShowsEnd, SpellsEnd, with_empty}, Calls.{LeavesCreated, OccursSomehow}, callers.Opened.{Avoids, IsApart}}
 use Rattle.cacache_system_model.proofs.{Fresh.{free_at_place, dangling}, Steps.{Opening.{of_some}, CopyFacts.{writable_found, Stands, no_way, nothing, a_folder_here, a_file_here, a_link_here, stands_so, not_absent}}, Views.{View, nowhere, a_folder, a_file, view}, callers.{FreshFiles.{free_so}, OpenCalls.{opens_number}}}
 
 -- where different things are, names differ
@@ -132,10 +132,15 @@ fresh_apart q bytes path mode m n number here (Fail fault part, (why, is_said, o
 
 created_left : (r : Result Names Fault) (new : Names → Tree) (m n : Machine) (why : ErrorKind) → OpensIf r new m (says.Failed why) n → n ≡ m
 created_left (Ok names) new m n why (number, is_said, unused, became) = let no : says.Failed why ≡ says.Opened number = is_said in absurd cc
-created_left (Err fault) new m n why (other, is_said, of, memory, stays) = stays
+created_left (Err fault) new m n why (_, is_said, of, memory, stays) = stays
 
--- nothing is made if it fails
-pub not_made : (path : List ℕ) (mode : ℕ) (m n : Machine) (why : ErrorKind) → OccursSomehow m (asks.CreateNew path mode) (says.Failed why) n → n ≡ m
-not_made path mode m n why (Plain, h) = created_left (free m.tree path) _ m n why h
-not_made path mode m n why (Take most, h) = created_left (free m.tree path) _ m n why h
-not_made path mode m n why (Fail fault part, (other, is_said, of, missed, left)) = left
+left_taken : (path : List ℕ) (why own : ErrorKind) (part : Option ℕ) (m n : Machine) → already_exists why ≡ true → why ≡ own → LeavesCreated (already_exists own) path part m n → n ≡ m
+left_taken path why own part m n taken same left =
+    subst (λ (c : Bool). LeavesCreated c path part m n) (ap already_exists (sym same) ∙ taken) left
+
+-- nothing is made if something is there
+pub not_made : (path : List ℕ) (mode : ℕ) (m n : Machine) (why : ErrorKind) → already_exists why ≡ true → OccursSomehow m (asks.CreateNew path mode) (says.Failed why) n → n ≡ m
+not_made path mode m n why taken (Plain, h) = created_left (free m.tree path) _ m n why h
+not_made path mode m n why taken (Take most, h) = created_left (free m.tree path) _ m n why h
+not_made path mode m n why taken (Fail fault part, (own, is_said, of, missed, left)) =
+    let same : why ≡ own = cc in left_taken path why own part m n taken same left

@@ -1,12 +1,14 @@
 -- A caller's temporary file is open, and holds on the machine what the call's state says.
-use Rattle.std.{proofs.{lemmas.Bool.{false_from_ne_true}, Common.{◌≡◌, ◌&&◌, not, ℕ, Bool, true, false, List, [], Option, None, Some, Ok, option_map, refl, sym, ap, subst, ◌∙◌}}, specs.Prelude.{Result, Err, IfOk}}
+use Rattle.std.proofs.{lemmas.Bool.{false_from_ne_true}, Common.{◌≡◌, ◌&&◌, not, ℕ, Bool, true, false, List, [], Option, None, Some, Ok, option_map, refl, sym, ap, subst, ◌∙◌}}
+use Rattle.std.specs.Prelude.{Result, Err, IfOk}
 use Rattle.cacache_core.specs.{Contexts.{fault_of}, declared.errors.Fault.{Fault}, PathNames.{Names, names_of}}
 use Rattle.cacache_store.specs.{declared.store.plain.{PlainFile.{PlainFile}, PlainTemp.{PlainTemp}}, Plain.{PlainStep}, Fits.{Fits}}
 use Rattle.cacache_store.specs.declared.store.step.Step.TheVariants as steps
 use Rattle.cacache_store.specs.declared.store.answer.Answer.TheVariants as answers
 use Rattle.cacache_disk.specs.{declared.{luck.Luck.{Luck}, node.Node.{Node, TheVariants.{File}}}, Tree.{Tree, look, put, same_path, bytes_of}, LedTo.{free}, Apply.{apply, unless, made_temp}, Rooted.{Rooted}}
 use Rattle.cacache_disk.proofs.{Maps.{same_path-true}, FoundNodes.{free_ok}}
-use Rattle.cacache_value.{specs.{Kinds.{PathKind, Content, Temporary, Elsewhere, path_kind, IsFor}, Placed.{Placed, Proper}}, proofs.{FoundPaths.{writable_out}, Shows.{apply_answer}}}
+use Rattle.cacache_value.specs.{Kinds.{PathKind, Content, Temporary, Elsewhere, path_kind, IsFor}, Placed.{Placed, Proper}}
+use Rattle.cacache_value.proofs.{FoundPaths.{writable_out}, Shows.{apply_answer}}
 use Rattle.cacache_system.specs.{declared.call.CallResult.{CallResult}, Seen.{NumberedFile, NumberedTemp, NumberedStep, NumberedAnswer}, AnswersOf.{Hint, answer_of, refuses_memory}}
 use Rattle.cacache_system.specs.declared.call.CallResult.TheVariants as says
 use Rattle.cacache_system_model.specs.{Machine.{Place, under, OpenFile, node_of, Machine}, OneCall.{IsOpenAt}, Laws.{bytes_in, temp_on, file_on, step_on, answer_on}, Mirrors.{Mirrors, temps_after}, callers.{Storing.{IsHeld, HoldsTemp, HintStands}, Opened.{KeepsOpen, Avoids, IsApart, StillStores}, Seen.{step_seen, handed, handed_open, IsOnHeld}}}

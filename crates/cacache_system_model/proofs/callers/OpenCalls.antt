@@ -6,10 +6,10 @@ use Rattle.cacache_core.specs.{declared.errors.Fault.{Fault, TheVariants.{Invali
 use Rattle.cacache_disk.specs.{declared.{luck.Luck.TheVariants.{Plain, Fail, Take}, node.Node.{Node, TheVariants.{Folder, File, Link}}}, Tree.{Tree, look, same_path}, LedTo.{standing, leads, found, place, replaceable, removable, emptied, linked, file_at, writable, free}, Apply.{taken, readable}}
 use Rattle.cacache_disk.proofs.FoundNodes.{place_ok, replaceable_ok, removable_ok, emptied_ok}
 use Rattle.cacache_loss.proofs.UnchangedPaths.{at_names}
-use Rattle.cacache_system.specs.declared.call.{SystemCall.{SystemCall}, CallResult.{CallResult}}
+use Rattle.cacache_system.specs.{declared.call.{SystemCall.{SystemCall}, CallResult.{CallResult}}, CallsOf.{already_exists}}
 use Rattle.cacache_system.specs.declared.call.SystemCall.TheVariants as asks
 use Rattle.cacache_system.specs.declared.call.CallResult.TheVariants as says
-use Rattle.cacache_system_model.specs.{Machine.{Place, under, nameless, OpenFile, node_of, Machine, gone, moved, grown, with_place, placed, fixes, Became, IsRefused, ChangesTree, ChangesPlaces, OpensIf, with_file, with_sync, unread, ShowsNode, ShowsEnd, ShowsPlace, ShowsOpen, GivesOwner, ReadsFile, ReadsOpen, Grows, LinksNode, CopiesBytes, found_bytes, SpellsEnd, MovesNode}, Calls.{GoesWell, did_nothing, PartWritten, LeavesWritten, LeavesPart, OccursSomehow}, OneCall.{IsOpenAt}, callers.Opened.{KeepsOpen, Avoids}}
+use Rattle.cacache_system_model.specs.{Machine.{Place, under, nameless, OpenFile, node_of, Machine, gone, moved, grown, with_place, placed, fixes, Became, IsRefused, ChangesTree, ChangesPlaces, OpensIf, with_file, with_sync, unread, ShowsNode, ShowsEnd, ShowsPlace, ShowsOpen, GivesOwner, ReadsFile, ReadsOpen, Grows, LinksNode, CopiesBytes, found_bytes, SpellsEnd, MovesNode}, Calls.{GoesWell, did_nothing, PartWritten, LeavesWritten, LeavesCreated, LeavesPart, OccursSomehow}, OneCall.{IsOpenAt}, callers.Opened.{KeepsOpen, Avoids}}
 use Rattle.cacache_system_model.proofs.{Steps.Opening.{open_of}, Views.{View, nowhere, a_folder, a_file, view}}
 
 abbrev pub place_at : OpenFile → Place
@@ -228,8 +228,13 @@ leaves_keep : (b : Bool) (number : ℕ) (bytes : List ℕ) (part : Option ℕ) (
 leaves_keep true number bytes part q m n h = keeps_self (under q) m n h
 leaves_keep false number bytes part q m n h = part_keeps (m.files number) bytes part q m n h
 
+created_keeps : (b : Bool) (path : List ℕ) (part : Option ℕ) (q : Names) (m n : Machine) → LeavesCreated b path part m n → Keeps (under q) m n
+created_keeps true path part q m n h = keeps_self (under q) m n h
+created_keeps false path part q m n (tree, files, synced, folders) = keeps_same (under q) m n files
+
 broken_keep : (call : SystemCall) (why : ErrorKind) (part : Option ℕ) (q : Names) (m n : Machine) → Safe q m call → LeavesPart m call why part n → Keeps (under q) m n
 broken_keep (asks.OpenToAppend path) why part q m n safe (tree, files, synced, folders) = keeps_same (under q) m n files
+broken_keep (asks.CreateNew path mode) why part q m n safe h = created_keeps (already_exists why) path part q m n h
 broken_keep (asks.Sync number) why part q m n safe (tree, files, synced, folders) = keeps_same (under q) m n files
 broken_keep (asks.Write number bytes) why part q m n safe h = leaves_keep (did_nothing why) number bytes part q m n h
 broken_keep (asks.CopyFile from to) why part q m n safe (tree, files, synced, folders) = keeps_same (under q) m n files
@@ -311,6 +316,7 @@ ready_left most call m n said ready h = absurd ready
 ready_failed : (call : SystemCall) (why : ErrorKind) (part : Option ℕ) (m n : Machine) → Readies m call → LeavesPart m call why part n → Unchanged m n
 ready_failed (asks.Write number bytes) why part m n ready h = absurd ready
 ready_failed (asks.OpenToAppend path) why part m n ready h = absurd ready
+ready_failed (asks.CreateNew path mode) why part m n ready h = absurd ready
 ready_failed (asks.CopyFile from to) why part m n ready h = absurd ready
 ready_failed (asks.Sync number) why part m n ready (tree, files, synced, folders) = (tree, files)
 ready_failed call why part m n ready h = unchanged_self m n h

@@ -7,7 +7,8 @@ use Rattle.cacache_core.specs.PathNames.{Names, names_of}
 use Rattle.cacache_store.specs.declared.store.answer.{Kind.{Kind}, Name.{Name}}
 use Rattle.cacache_store.specs.declared.store.answer.Kind.TheVariants as kinds
 use Rattle.cacache_store.specs.declared.store.step.Step.TheVariants as steps
-use Rattle.cacache_disk.{specs.{declared.{luck.Luck.TheVariants.{Plain, Fail, Take}, node.Node.TheVariants.{File}}, Tree.{Tree, look, put}, LedTo.{free}}, proofs.FoundNodes.{free_ok}}
+use Rattle.cacache_disk.specs.{declared.{luck.Luck.TheVariants.{Plain, Fail, Take}, node.Node.TheVariants.{File}}, Tree.{Tree, look, put}, LedTo.{free}}
+use Rattle.cacache_disk.proofs.FoundNodes.{free_ok}
 use Rattle.cacache_system.specs.{declared.call.{FileInfo.{FileInfo}, SystemCall.{SystemCall}, CallItem.{CallItem}, CallResult.{CallResult}}, Seen.{NumberedTemp, NumberedStep}, ListedNames.{text_of, is_proper, is_passed, names_in, with_slash}, CallsOf.{Stage, Reader, reader, read_once, more_names, entered as entered_name, ask_kind, next_name, broken_off, is_no_folder, opening_folder, following, reading_names, asking_kind, Purpose, to_give, to_sync, to_sync_folder, to_read, over, only, trying, taking_memory, opening, checking, reading_front, reading_rest, appending, standing as asking_folder, making, confirming, sizing, asking_source, asking_target, asking_end, making_end, resolving, making_fresh, filling, replacing, scrapping, copied, place_fresh, fresh_beside, fresh_number, name_taken, already_exists, is_link, wants, after, was_interrupted, interrupts, is_absent, is_same_node, unless_folder, if_folder, opened, below, climb, unmade, above_of, keeping, preparing, comparing, descending, sync_again, give, descend, compared, Runs}, AnswersOf.{Hint, no_hint, is_missing, was_named, in_walk, rewrites, look_first, persist, is_named, first}}
 use Rattle.cacache_system.specs.declared.call.SystemCall.TheVariants as asks
 use Rattle.cacache_system.specs.declared.call.CallResult.TheVariants as says
@@ -267,9 +268,9 @@ module _ (q : Names) where
       (subst (λ (x : Machine). IsFile x.tree) (sym same) (apart.bytes, apart.stands), end_apart q m.tree to path at.0 apart at.1 at.2)
   resolved_safe number from to said m n apart same h = tt
 
-  taken_safe : (left number : ℕ) (why : ErrorKind) (from path : List ℕ) (m : Machine) → IsFile m.tree × Avoids q path → IsSafe (name_taken left number why from path) m
+  taken_safe : (left number : ℕ) (why : ErrorKind) (from path : List ℕ) (m : Machine) → (already_exists why ≡ true → IsFile m.tree × Avoids q path) → IsSafe (name_taken left number why from path) m
   taken_safe zero number why from path m there = tt
-  taken_safe (suc left) number why from path m there = cond_safe (already_exists why) (taking_memory (making_fresh left number from path)) (over (says.Failed why)) m there tt
+  taken_safe (suc left) number why from path m there = cond_so (already_exists why) (taking_memory (making_fresh left number from path)) (over (says.Failed why)) m there (λ other. tt)
 
   fresh_safe : (left number : ℕ) (from path : List ℕ) (said : CallResult) (m n : Machine) → IsFile m.tree × Avoids q path
       → OccursSomehow m (asks.CreateNew (fresh_beside path (fresh_number left number)) 384) said n → IsSafe (after (making_fresh left number from path) said) n
@@ -277,7 +278,8 @@ module _ (q : Names) where
       let fresh = fresh_beside path (fresh_number left number) in
       (made_new fresh 384 m n file h, fresh_apart q there.0 fresh 384 m n file there.1 h, avoids)
   fresh_safe left number from path (says.Failed why) m n there h =
-      taken_safe left number why from path n (subst (λ (x : Machine). IsFile x.tree × Avoids q path) (sym (not_made (fresh_beside path (fresh_number left number)) 384 m n why h)) there)
+      taken_safe left number why from path n
+      (λ taken. subst (λ (x : Machine). IsFile x.tree × Avoids q path) (sym (not_made (fresh_beside path (fresh_number left number)) 384 m n why taken h)) there)
   fresh_safe left number from path said m n there h = tt
 
   filled_safe : (from fresh path : List ℕ) (said : CallResult) (m n : Machine) → IsNew m.tree fresh × Avoids q fresh × Avoids q path → OccursSomehow m (asks.CopyFile from fresh) said n

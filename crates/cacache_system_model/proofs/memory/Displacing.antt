@@ -1,13 +1,14 @@
 -- What removals and moves leave of a system in memory: its tree and its open files.
-use Rattle.std.{proofs.{lemmas.List.{map-append, map_more}, Common.{◌≡◌, ℕ, ◌+◌, ◌<◌, List, [], ◌∷◌, ◌++◌, map, take, length, get_or, refl, sym, ap, subst, ◌∙◌}}, specs.{Prelude.{⊤, Option, None, Some, Result, Ok, Err, MatchResult, IsOkAnd, IsErrAnd}, Bool.{nat_eq}, Ordering.{nat_cmp}, Cmp.Lexicographic.{pointwise, slice_cmp, lists_ties, texts_ties}}}
+use Rattle.std.proofs.{lemmas.List.{map-append, map_more}, Common.{◌≡◌, ℕ, ◌+◌, ◌<◌, List, [], ◌∷◌, ◌++◌, map, take, length, get_or, refl, sym, ap, subst, ◌∙◌}}
+use Rattle.std.specs.{Prelude.{⊤, Option, None, Some, Result, Ok, Err, MatchResult, IsOkAnd, IsErrAnd}, Bool.{nat_eq}, Ordering.{nat_cmp}, Cmp.Lexicographic.{pointwise, slice_cmp, lists_ties, texts_ties}}
 use Rattle.cacache_core.specs.{declared.errors.Fault.{Fault}, PathNames.{Names}}
 use Rattle.cacache_store.specs.declared.store.step.Step.TheVariants as steps
 use Rattle.cacache_disk.specs.{declared.{node.Node.{Node, TheVariants.{Folder, File, Link}}, stop.Stop.{Stop}}, Tree.{Tree, look, put, cut, same_path}, LedTo.{place, replaceable, removable, emptied, folder}, Stops.{Stops}}
-use Rattle.cacache_disk.specs.declared.stop.Stop.TheVariants as stop
 use Rattle.cacache_disk.proofs.FoundNodes.{place_ok, removable_ok, emptied_ok, replaceable_ok}
+use Rattle.cacache_disk.specs.declared.stop.Stop.TheVariants as stop
 use Rattle.cacache_system_model.specs.{declared.memory.{files.OpenFile.{OpenFile}, state.Memory.{Memory}}, memory.{Changes.{Does, Changed, Movable, IsUnmoved}, Files.{place_of, open_of, left, ArePlaced, Displaces, MovesFile, MovesPath}}, Machine.{with_place}}
-use Rattle.cacache_system_model.specs.Machine as model
 use Rattle.cacache_system_model.proofs.memory.Moves.{moves_file}
+use Rattle.cacache_system_model.specs.Machine as model
 
 -- two texts of names are compared name by name
 pub same_names : (p q : Names) → pointwise (pointwise nat_eq) p q ≡ same_path p q

@@ -10,8 +10,8 @@ use Rattle.cacache_system.specs.{declared.call.{FileInfo.{FileInfo}, CallResult.
 use Rattle.cacache_system.specs.declared.call.SystemCall.TheVariants as asks
 use Rattle.cacache_system.specs.declared.call.CallResult.TheVariants as says
 use Rattle.cacache_system_model.specs.{Machine.{Place, with_place, placed, link_fault, IsRefused, ChangesTree, ChangesPlaces, Describes, ShowsEnd, LinksNode, MovesNode}, Calls.{GoesWell}, declared.memory.{files.OpenFile.{OpenFile}, state.Memory.{Memory}}, memory.{Stopping.{kind_for, outcome}, Changes.{Changed, Stopped, Shown, info_of}, Files.{open_of, left, ArePlaced, IsSame, Displaces, MovesFile, MovesPath}, Machines.{machine, GivesUp}}}
-use Rattle.cacache_system_model.specs.Machine as model
 use Rattle.cacache_system_model.proofs.Saying.{CanSay, Sayable, LinkSayable}
+use Rattle.cacache_system_model.specs.Machine as model
 
 -- ---- faults
 

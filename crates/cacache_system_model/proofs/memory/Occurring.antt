@@ -2,7 +2,7 @@
 use Rattle.std.{proofs.Common.{◌≡◌, ℕ, List, refl, inl, inr}, specs.Prelude.{Option, None, Some, Result, Ok, Err}}
 use Rattle.std_io.specs.declared.io.kind.ErrorKind.TheVariants as kind
 use Rattle.cacache_core.specs.{declared.errors.Fault.{Fault, TheVariants.{Unsupported, Device}}, PathNames.{Names}}
-use Rattle.cacache_disk.specs.{declared.luck.Luck.TheVariants.{Plain, Fail}, Tree.{Tree}, LedTo.{writable}}
+use Rattle.cacache_disk.specs.{declared.luck.Luck.TheVariants.{Plain, Fail}, Tree.{Tree}, LedTo.{writable, free}}
 use Rattle.cacache_system.specs.declared.call.SystemCall.{SystemCall}
 use Rattle.cacache_system.specs.declared.call.SystemCall.TheVariants as asks
 use Rattle.cacache_system_model.specs.{Machine.{OpenFile, SyncedNode, Machine}, Calls.{brought, part_copied, part_opened, part_synced, LeavesPart}, memory.Machines.{GoesOccur, MovesOccur}}
@@ -23,6 +23,7 @@ none_synced (Some file) syncs = refl
 -- a call for which memory is refused leaves all as it was
 leaves : (m : Machine) (call : SystemCall) → LeavesPart m call kind.OutOfMemory None m
 leaves m (asks.Write number bytes) = refl
+leaves m (asks.CreateNew path mode) = (none_opened (free m.tree path) m.tree, refl, refl, λ k. refl)
 leaves m (asks.OpenToAppend path) = (none_opened (writable m.tree path) m.tree, refl, refl, λ k. refl)
 leaves m (asks.Sync number) = (refl, refl, none_synced (m.files number) m.synced, λ k. refl)
 leaves m (asks.CopyFile from to) = (none_copied (brought m.tree from to) (writable m.tree to) m.tree, refl, refl, λ k. refl)

@@ -1,8 +1,7 @@
 //! The open files of a system in memory, which keep what they hold if their names go.
 ghost use Rattle.std.specs.Prelude.{◌≡◌, ◌<◌, ◌+◌, ◌^◌, IfOk, length, option_copied};
 ghost use Rattle.cacache_disk.specs.Tree.{look};
-ghost use Rattle.cacache_system_model.specs.memory.Files.{place_of, left, ArePlaced};
-ghost use Rattle.cacache_system_model.specs.Machine.{is_under, gone};
+ghost use Rattle.cacache_system_model.specs.{memory.Files.{place_of, left, ArePlaced}, Machine.{is_under, gone}};
 
 use cacache_core::bytes::Bytes;
 use cacache_core::errors::Fault;

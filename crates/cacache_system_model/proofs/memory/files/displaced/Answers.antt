@@ -1,9 +1,7 @@
 -- One open file more is at its place.
-use Rattle.std.proofs.Common.{◌≡◌, ℕ, refl, sym, ap, ◌∙◌, subst, List, map, take, ◌+◌}
-use Rattle.std.specs.Prelude.{option_copied, Option}
+use Rattle.std.{proofs.Common.{◌≡◌, ℕ, refl, sym, ap, ◌∙◌, subst, List, map, take, ◌+◌}, specs.Prelude.{option_copied, Option}}
 use Rattle.cacache_disk.specs.{declared.node.Node.{Node}, Tree.{look}}
-use Rattle.cacache_system_model.specs.memory.Files.{left, place_of}
-use Rattle.cacache_system_model.proofs.memory.Displacing.{one_more}
+use Rattle.cacache_system_model.{specs.memory.Files.{left, place_of}, proofs.memory.Displacing.{one_more}}
 use Rattle.cacache_system_model.proofs.memory.files.displaced.Goals as goal
 
 pub loop-file-preserved : goal.loop-file-preserved

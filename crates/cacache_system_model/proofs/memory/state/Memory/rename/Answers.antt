@@ -1,6 +1,5 @@
 use Rattle.std.proofs.Common.{ℕ, ◌+◌, ◌%◌, refl}
-use Rattle.cacache_system_model.specs.memory.Files.{MovesPath}
-use Rattle.cacache_system_model.proofs.memory.Displacing.{no_target, not_put, put_there, failed_as}
+use Rattle.cacache_system_model.{specs.memory.Files.{MovesPath}, proofs.memory.Displacing.{no_target, not_put, put_there, failed_as}}
 use Rattle.cacache_system_model.proofs.memory.state.Memory.rename.Goals as goal
 
 pub returns-in_err-new : goal.returns-in_err-new
