@@ -11,6 +11,7 @@ pub mod ListCalls
 pub mod FreshFiles
 pub mod StayingOpen
 pub mod PathsOf
+pub mod Removals
 pub mod OtherTemps
 pub mod NextActs
 pub mod Handles

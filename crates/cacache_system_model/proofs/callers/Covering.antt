@@ -1,4 +1,4 @@
--- Where a machine and a history agree, each step of a call that lists no folder has what its law asks.
+-- Where a machine and a history agree, each step of a call has what its law asks.
 use Rattle.std.proofs.{lemmas.Bool.{false_from_ne_true}, Common.{◌≡◌, ◌⊎◌, inl, inr, ℕ, zero, suc, Bool, false, List, [], ◌∷◌, ◌++◌, Option, None, Some, Ok, refl, sym, ap, subst, ◌∙◌, append-nil}}
 use Rattle.std.specs.Prelude.{Result, Err, IfOk, IfSome}
 use Rattle.cacache_core.specs.{declared.errors.Fault.{Fault}, PathNames.{Names, names_of}}
@@ -191,7 +191,7 @@ module _ (h : Option Names) (temps : Names → Bool) (are : AreTemps h temps) (m
   has_asked (steps.ReadDir p) stores holds (inl (absent, slashed)) is = inl (inl absent, tt)
   has_asked (steps.ReadDir p) stores holds (inr plain) is = inl (inr plain, tt)
   has_asked (steps.RemoveFile p) stores holds stands is = inl (stands, tt)
-  has_asked (steps.RemoveDir p) stores holds stands is = absurd stores
+  has_asked (steps.RemoveDir p) stores holds stands is = inl (stands, tt)
   has_asked (steps.SyncTemp t) stores holds stands is = inl (still_there temps m d t mirrors rooted holds, tt)
   has_asked (steps.SyncFile p) stores holds stands is = inl (tt, reads_spare h temps are m.tree d shape placed p stores)
   has_asked (steps.SyncDir p) stores holds stands is = inl (ends_in_no_link h m.tree d shape placed p stores, tt)

@@ -2,9 +2,9 @@
 use Rattle.std.proofs.Common.{◌≡◌, ◌≤◌, ◌+◌, ◌^◌, ℕ, Option, Some}
 use Rattle.cacache_store.specs.{declared.store.plain.PlainFile.{PlainFile}, Plain.{PlainStep}}
 use Rattle.cacache_system.specs.{Seen.{NumberedFile, NumberedTemp}, CallsOf.{Runs}, AnswersOf.{first}}
-use Rattle.cacache_system_model.specs.{Calls.{OccursSomehow, EachCall}, Chains.{StepMade}, callers.{Acts.{Act, begins, steps as makes, ends, stops, SystemState, step_of, answer_in, NeedsFit, after_act, MayAct}, Storing.{HintStands, IsExplained, IsClean}, Seen.{step_seen, held_after, open_after, IsOnHeld}}}
+use Rattle.cacache_system_model.specs.{Calls.{OccursSomehow, EachCall}, Chains.{StepMade}, callers.{Acts.{Act, begins, steps as makes, ends, stops, SystemState, step_of, answer_in, NeedsFit, after_act, MayAct}, Storing.{HintStands, IsExplained, IsClean}, Seen.{step_seen, held_after, open_after, IsOnHeld, SparesTemps}}}
 use Rattle.cacache_system_model.proofs.callers.WithoutBytes.{step_without}
-use Rattle.cacache_calls.specs.{declared.{command.Command.TheVariants.{Clear}, reply.Reply.{Reply}}, State.{State}, Table.{wants, after}}
+use Rattle.cacache_calls.specs.{declared.reply.Reply.{Reply}, State.{State}, Table.{wants, after}}
 use Rattle.cacache_history.specs.{Setup.{Setup}, History.{Ends}}
 
 -- the state of the system, and the temporary and the open file that each caller was handed last
@@ -31,6 +31,7 @@ pub record MakesNextStep (f : NumberedState) (caller : ℕ) (made : StepMade)
   pub wanted : wants state ≡ Some plain
   pub same : step_without plain ≡ step_without (step_seen made.step)
   pub held : IsOnHeld made.before (f.held caller) (f.opened caller) made.step
+  pub spares : SparesTemps f.system.states state
   -- its system calls are a run, and happened under any luck where the calls before them ended
   pub here : made.before ≡ f.system.machine
   pub runs : Runs (first made.hint made.step) made.items made.end
@@ -45,7 +46,7 @@ pub record MakesNextStep (f : NumberedState) (caller : ℕ) (made : StepMade)
 -- an act of such calls, each of which has a number, and so a temporary file, of its own
 abbrev pub MayNext : Setup → NumberedState → Act → Type 0
 MayNext s f (begins caller command) =
-    MayAct s f.system (begins caller command) × (command ≡ Clear → ⊥) × (f.system.begun + 1 ≤ 2 ^ 64)
+    MayAct s f.system (begins caller command) × (f.system.begun + 1 ≤ 2 ^ 64)
 MayNext s f (makes caller made reply) = MakesNextStep f caller made reply
 MayNext s f (ends caller reply) = MayAct s f.system (ends caller reply)
 MayNext s f (stops caller) = MayAct s f.system (stops caller)

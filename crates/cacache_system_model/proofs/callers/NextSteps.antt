@@ -1,11 +1,12 @@
 -- What a step leaves of the handles and paths of all callers.
-use Rattle.std.proofs.{Common.{◌≡◌, ◌⊎◌, inl, inr, ◌≤◌, ◌<◌, ◌^◌, ◌==◌, ℕ, Bool, true, false, cond, List, Option, None, Some, Ok, option_map, refl, sym, ap, subst, ◌∙◌, arith}, lemmas.Bool.{eqb-true, eqb-false}}
+use Rattle.std.proofs.{Common.{◌≡◌, ◌⊎◌, inl, inr, ◌≤◌, ◌<◌, ◌^◌, ◌==◌, ℕ, Bool, true, false, cond, List, [], Option, None, Some, Ok, option_map, refl, sym, ap, subst, ◌∙◌, arith}, lemmas.Bool.{eqb-true, eqb-false}}
 use Rattle.std.specs.Prelude.{Err}
 use Rattle.cacache_core.specs.PathNames.{Names, names_of}
 use Rattle.cacache_store.specs.{declared.store.{plain.{PlainFile.{PlainFile}, PlainTemp.{PlainTemp}}, answer.Name.{Name}}, Plain.{PlainStep, PlainAnswer}, Fits.{Fits, AreProperNames}}
 use Rattle.cacache_store.specs.declared.store.step.Step.TheVariants as steps
 use Rattle.cacache_store.specs.declared.store.answer.Answer.TheVariants as answers
-use Rattle.cacache_disk.specs.{declared.luck.Luck.{Luck}, Apply.{apply}, Rooted.{Rooted}}
+use Rattle.cacache_disk.specs.{declared.{luck.Luck.{Luck}, node.Node.TheVariants.{Folder, File}}, Tree.{look}, Apply.{apply}, Rooted.{Rooted}}
+use Rattle.cacache_loss.specs.Fixing.{is_at}
 use Rattle.cacache_value.specs.{Kinds.{Temporary, path_kind}, OpeningTrees.{LieApart}, Placed.{Placed, Proper}}
 use Rattle.cacache_calls.specs.{declared.{reply.Reply.{Reply}, carried.Lookup.{Lookup}}, Answers.{bytes_in as bytes_answered, names_in}, Looking.{found_in}, Common.{errand_step}, State.{State, doing, writing, syncing, persisting, looking, Site, Errand, remove}, StepPaths.{temp_path, bucket_path}, Sound.{IsTemp, Allowed, Sound}, Table.{wants, after}}
 use Rattle.cacache_calls.proofs.Sound.{steps_allowed}
@@ -13,8 +14,8 @@ use Rattle.cacache_calls.specs.declared.answers.Refusal.TheVariants as refusals
 use Rattle.cacache_history.specs.{declared.record.Record.{Record, TheVariants.{Moved}}, Setup.{Setup, call_site, home, may_export, is_outside}, History.{Call, Now, now_after, MayMove, MayCome}}
 use Rattle.cacache_history.proofs.{Histories.Holding.{CallHolds, of_caller}, Entries.Spelled.{HasIntegrity}, Proper.{sound_proper}, Listings.ListingWalks.{proper_names}, durable.CallNumbers.{Numbered, next_numbered, number_below, numbers_apart, temps_apart}}
 use Rattle.cacache_system.specs.{declared.call.CallResult.{CallResult}, Seen.{NumberedFile, NumberedTemp, NumberedStep, NumberedAnswer}, CallsOf.{Runs}, AnswersOf.{first, answer_of}}
-use Rattle.cacache_system_model.specs.{Machine.{Machine}, OneCall.{IsOpenAt}, Laws.{answer_on}, Mirrors.{Mirrors}, Chains.{StepMade, temps_left}, callers.{Acts.{IsRecordOf, steps as makes, SystemState, step_of, answer_in, NeedsFit, set_state, unless_ended}, Storing.{Stores, HoldsTemp, MakesStoringStep}, Opened.{KeepsOpen, StillStores}, Seen.{handed, handed_open, held_after, open_after}}}
-use Rattle.cacache_system_model.proofs.{Mirroring.{shapes}, callers.{NextActs.{NumberedState, numbered_after, MakesNextStep}, Failing.{failed_none, failed_bytes}, OtherTemps.{explained, placed_same, asked_stays}, Covering.{rooted_same, has_asked}, Following.{Agree, has_call, Follows}, Files.{file_in, open_in, file_of, open_of, file_given, open_given, IsErrand, From, Follows as StateFollows, follows_after, wants_file, wants_open, errand_steps}, StayingOpen.{runs_keep_open, made_open}, PathsOf.{HasPaths, wants_apart, paths_after, bucket_has}, TreeKept.{Misses, is_elsewhere}, Handles.{Handle, IsHanded, next_on, holds_on, handle_kept, wrote_same, synced_same, handed_handle, handed_none, handed_file, handed_no_file, temp_answer, hands_back, still_stores}, OpenTemps.{temps_spare}}}
+use Rattle.cacache_system_model.specs.{Machine.{Machine}, OneCall.{IsOpenAt}, Laws.{answer_on}, Mirrors.{hollow, Mirrors}, Chains.{StepMade, temps_left}, callers.{Acts.{IsRecordOf, steps as makes, SystemState, step_of, answer_in, NeedsFit, set_state, unless_ended}, Storing.{Stores, HoldsTemp, MakesStoringStep}, Opened.{KeepsOpen, StillStores}, Seen.{handed, handed_open, held_after, open_after}}}
+use Rattle.cacache_system_model.proofs.{Mirroring.{shapes}, callers.{NextActs.{NumberedState, numbered_after, MakesNextStep}, Failing.{failed_none, failed_bytes}, OtherTemps.{explained, placed_same, asked_stays}, Covering.{rooted_same, has_asked}, Following.{Agree, has_call, Follows}, Files.{file_in, open_in, file_of, open_of, file_given, open_given, IsErrand, From, Follows as StateFollows, follows_after, wants_file, wants_open, errand_steps}, StayingOpen.{runs_keep_open, made_open}, PathsOf.{HasPaths, wants_apart, paths_after, bucket_has}, TreeKept.{Misses}, Removals.{removes_miss}, Handles.{Handle, IsHanded, next_on, holds_on, handle_kept, wrote_same, synced_same, handed_handle, handed_none, handed_file, handed_no_file, temp_answer, hands_back, still_stores}, OpenTemps.{temps_spare}}}
 
 -- ---- whose a temporary file is
 
@@ -28,13 +29,15 @@ sound_file site may outside s file sound e = let no : None ≡ Some file = e in 
 
 -- a step of another call isn't about it
 others_miss : (s : Setup) (a b : ℕ) (file : List ℕ) (q : Names) → a < 2 ^ 64 → b < 2 ^ 64 → (a ≡ b → ⊥) → file ≡ temp_path s.cache a → names_of file ≡ Ok q → path_kind (home s) q ≡ Temporary
-    → (step : PlainStep) → Allowed (call_site s b) (may_export s) (is_outside s) step → Stores (home s) step → Misses q step
-others_miss s a b file q few less differ own named at (steps.CreateTemp p) allowed other = temps_apart s.cache a b file p q few less differ own allowed named
-others_miss s a b file q few less differ own named at (steps.Write f bytes) allowed other = temps_apart s.cache a b file f.path q few less differ own allowed named
-others_miss s a b file q few less differ own named at (steps.Persist f p) allowed other = temps_apart s.cache a b file f.path q few less differ own allowed.0 named
-others_miss s a b file q few less differ own named at (steps.RemoveFile p) allowed other = is_elsewhere (home s) q (names_of p) at other
-others_miss s a b file q few less differ own named at (steps.RemoveDir p) allowed other = absurd other
-others_miss s a b file q few less differ own named at step allowed other = tt
+    → (step : PlainStep) → Allowed (call_site s b) (may_export s) (is_outside s) step → ((p : List ℕ) → step ≡ steps.RemoveFile p → is_at (names_of p) q ≡ false) → Misses q step
+others_miss s a b file q few less differ own named at (steps.CreateTemp p) allowed removes = temps_apart s.cache a b file p q few less differ own allowed named
+others_miss s a b file q few less differ own named at (steps.Write f bytes) allowed removes = temps_apart s.cache a b file f.path q few less differ own allowed named
+others_miss s a b file q few less differ own named at (steps.Persist f p) allowed removes = temps_apart s.cache a b file f.path q few less differ own allowed.0 named
+others_miss s a b file q few less differ own named at (steps.RemoveFile p) allowed removes = removes p refl
+others_miss s a b file q few less differ own named at step allowed removes = tt
+
+handle_named : (temps : Names → Bool) (m : Machine) (o : Option NumberedTemp) (file : PlainTemp) → (g : Handle temps m o file) → names_of file.path ≡ Ok g.held.names
+handle_named temps m o file g = ap (λ (x : PlainTemp). names_of x.path) (sym g.same) ∙ g.held.named
 
 -- ---- many acts
 
@@ -190,10 +193,11 @@ module _ (s : Setup) (apart : LieApart (home s) s.outside) (f : NumberedState) (
         → Handle (temps_left w.temps made) made.after new file
     handle_stays o new file same g misses =
         let at = all.agree.temps g.held.names g.held.is_temp in
+        let no_folder : look made.before.tree g.held.names ≡ Some Folder → ⊥ = (λ e. let no : Some Folder ≡ Some (File []) = sym (ap hollow e) ∙ mirrors.files g.held.names g.held.is_temp in absurd cc) in
         handle_kept w.temps (temps_left w.temps made) made.before made.after o new file same g
-        (keeps g.held.names (still_stores (home s) w.temps made.before now.tree mirrors rooted g.held.names made.hint made.step holds m.hint placed at g.held.is_temp proper misses))
+        (keeps g.held.names (still_stores (home s) w.temps made.before now.tree mirrors rooted g.held.names made.hint made.step holds m.hint placed at g.held.is_temp no_folder proper misses))
         (temps_spare (home s) w.temps (step_of made) (answer_in made) g.held.names at proper misses g.held.is_temp)
-        (asked_stays (home s) w.temps made.before made.after made.hint placed g.held.names at made.step made.items made.end m.clean proper misses m.runs m.each (explained made reply m.luck)
+        (asked_stays (home s) w.temps made.before made.after made.hint placed g.held.names at no_folder made.step made.items made.end m.clean proper misses m.runs m.each (explained made reply m.luck)
         (has_asked (home s) w.temps all.agree.temps made.before now.tree mirrors all.agree.all.placed all.agree.all.rooted made.hint made.step stores holds m.hint proper))
 
     -- the call itself
@@ -205,9 +209,17 @@ module _ (s : Setup) (apart : LieApart (home s) s.outside) (f : NumberedState) (
         (λ v u step_is answer_is. synced_same v u made.end (ap (λ (x : NumberedStep). answer_of x made.end) (sym step_is) ∙ answer_is))
         fits answered e
 
-    errand_misses : (q : Names) → path_kind (home s) q ≡ Temporary → (errand : Errand) → wants m.state ≡ Some (errand_step errand) → Misses q (errand_step errand)
-    errand_misses q at (remove p) wanted = is_elsewhere (home s) q (names_of p) at (apart_of (steps.RemoveFile p) wanted)
-    errand_misses q at errand wanted = tt
+    -- its removals miss the temporary files of all calls
+    removal_misses : (k : ℕ) (other : State) (file : PlainTemp) → w.states k ≡ Some other → file_in other ≡ Some file → (g : Handle w.temps made.before (f.held k) file)
+        → (p : List ℕ) → wants m.state ≡ Some (steps.RemoveFile p) → is_at (names_of p) g.held.names ≡ false
+    removal_misses k other file stands own g p wanted =
+        removes_miss (home s) w.states k other file g.held.names stands own (handle_named w.temps made.before (f.held k) file g) (all.agree.temps g.held.names g.held.is_temp)
+        m.state p has_paths m.spares wanted
+
+    errand_misses : (q : Names) → ((p : List ℕ) → wants m.state ≡ Some (steps.RemoveFile p) → is_at (names_of p) q ≡ false) → (errand : Errand) → wants m.state ≡ Some (errand_step errand)
+        → Misses q (errand_step errand)
+    errand_misses q removes (remove p) wanted = removes p wanted
+    errand_misses q removes errand wanted = tt
 
     stayed_own : (file : PlainTemp) → file_in m.state ≡ Some file → file_given (answer_in made) ≡ None → IsErrand m.state
         → Handle (temps_left w.temps made) made.after (handed (answer_of made.step made.end) (f.held caller)) file
@@ -215,7 +227,7 @@ module _ (s : Setup) (apart : LieApart (home s) s.outside) (f : NumberedState) (
         let handle = handles_of m.state m.stands file e in
         let old = handle.held in
         handle_stays (f.held caller) _ file (handed_none made.after (answer_of made.step made.end) (f.held caller) none) handle
-        (errand_steps m.state (step_of made) (Misses old.names) errand wants_asked (errand_misses old.names (all.agree.temps old.names old.is_temp)))
+        (errand_steps m.state (step_of made) (Misses old.names) errand wants_asked (errand_misses old.names (removal_misses caller m.state file m.stands e handle)))
 
     -- a file of the state behind the answer, which was handed out or stayed
     own_file : {A : Type 0} (Good : A → Type 0) (new given before : Option A) → From new given before m.state → ((file : A) → given ≡ Some file → Good file)
@@ -254,11 +266,10 @@ module _ (s : Setup) (apart : LieApart (home s) s.outside) (f : NumberedState) (
         let c = has_call (now.calls k) (w.states k) state (all.agree.states k) e in
         let theirs = of_caller s c.0 _ c.1 (all.agree.all.calls k) in
         let its : IsTemp (call_site s c.0.number) file = sound_file (call_site s c.0.number) (may_export s) (is_outside s) c.0.state file theirs.sound (ap file_in c.2 ∙ is) in
-        let named : names_of file.path ≡ Ok handle.held.names = ap (λ (x : PlainTemp). names_of x.path) (sym handle.same) ∙ handle.held.named in
         handle_stays (f.held k) (f.held k) file refl handle
         (others_miss s c.0.number own.0.number file.path handle.held.names (small k c.0 c.1) (small caller own.0 own.1)
-        (numbers_apart now all.numbered k caller c.0 own.0 differ c.1 own.1) its named (all.agree.temps handle.held.names handle.held.is_temp)
-        (step_of made) allowed (apart_of (step_of made) wants_asked))
+        (numbers_apart now all.numbered k caller c.0 own.0 differ c.1 own.1) its (handle_named w.temps made.before (f.held k) file handle) (all.agree.temps handle.held.names handle.held.is_temp)
+        (step_of made) allowed (λ p step_is. removal_misses k state file e is handle p (wants_asked ∙ ap Some step_is)))
       where
         small : (j : ℕ) (a : Call) → now.calls j ≡ Some a → a.number < 2 ^ 64
         small j a here = omega (arith, number_below now all.numbered j a here, all.few)

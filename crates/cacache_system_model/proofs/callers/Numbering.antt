@@ -1,7 +1,7 @@
 -- Callers as a store of real folders has them, on one machine: their temporary files hold there what their states say.
 use Rattle.std.proofs.Common.{◌≡◌, ◌≤◌, ◌^◌, ◌+◌, ℕ, List, [], ◌∷◌, Option, None, Some, sym, ap, subst, ◌∙◌}
 use Rattle.cacache_value.specs.OpeningTrees.{LieApart}
-use Rattle.cacache_calls.specs.{declared.{command.Command.{Command, TheVariants.{Clear}}, reply.Reply.{Reply}}, Table.{opening}, Sound.{MayBegin}}
+use Rattle.cacache_calls.specs.{declared.{command.Command.{Command}, reply.Reply.{Reply}}, Table.{opening}, Sound.{MayBegin}}
 use Rattle.cacache_history.specs.{declared.record.Record.{Record}, Setup.{Setup, call_site, home, may_export, is_outside}, History.{Now, now_after, replayed, NamesIntegrity, initial}}
 use Rattle.cacache_history.proofs.durable.CallNumbers.{Numbered, next_numbered, first_numbered}
 use Rattle.cacache_system.specs.Seen.{NumberedFile, NumberedTemp}
@@ -13,8 +13,8 @@ module _ (s : Setup) (apart : LieApart (home s) s.outside) (f : NumberedState) (
   abbrev w : SystemState
   w = f.system
 
-  begin_holds : (caller : ℕ) (command : Command) → MayBegin (call_site s w.begun) (may_export s) (is_outside s) command → NamesIntegrity command → (command ≡ Clear → ⊥) → w.begun + 1 ≤ 2 ^ 64 → (g : Follows s w now (begins caller command)) → Holds s (numbered_after s f (begins caller command)) (now_after s now g.r)
-  begin_holds caller command may named kept few g = record {
+  begin_holds : (caller : ℕ) (command : Command) → MayBegin (call_site s w.begun) (may_export s) (is_outside s) command → NamesIntegrity command → w.begun + 1 ≤ 2 ^ 64 → (g : Follows s w now (begins caller command)) → Holds s (numbered_after s f (begins caller command)) (now_after s now g.r)
+  begin_holds caller command may named few g = record {
     agree = g.agree;
     numbered = next_numbered s now g.r all.numbered;
     few = subst (λ (n : ℕ). n ≤ 2 ^ 64) g.agree.begun few;
@@ -26,7 +26,7 @@ module _ (s : Setup) (apart : LieApart (home s) s.outside) (f : NumberedState) (
     paths = λ k.
         at_state (PathsAt (home s)) k caller (Some (opening (call_site s w.begun) command)) (w.states k)
         (λ same state e. let begun : opening (call_site s w.begun) command ≡ state = cc in
-        subst (HasPaths (home s)) begun (opens_paths s w.begun command apart may named kept)) (λ differ. all.paths k);
+        subst (HasPaths (home s)) begun (opens_paths s w.begun command apart may named)) (λ differ. all.paths k);
   }
     where
       begun_handle : (o : Option NumberedTemp) → HasHandle w.temps w.machine o (Some (opening (call_site s w.begun) command))
@@ -63,8 +63,8 @@ module _ (s : Setup) (apart : LieApart (home s) s.outside) (f : NumberedState) (
   }
 
   pub next_act : (act : Act) → MayNext s f act → (g : Follows s w now act) × Holds s (numbered_after s f act) (now_after s now g.r)
-  next_act (begins caller command) (may, kept, few) =
-      let g = act_follows s apart w now all.agree (begins caller command) may in (g, begin_holds caller command may.2 may.3 kept few g)
+  next_act (begins caller command) (may, few) =
+      let g = act_follows s apart w now all.agree (begins caller command) may in (g, begin_holds caller command may.2 may.3 few g)
   next_act (makes caller made reply) m =
       let g = act_follows s apart w now all.agree (makes caller made reply) (may_act s apart w now all.agree (makes caller made reply) (makes_storing_step s apart f now all caller made reply m)) in
       (g, step_holds s apart f now all caller made reply m g)

@@ -42,13 +42,13 @@ explained made reply (inl done) = inl done
 explained made reply (inr (inl plain)) = inr (inl plain)
 explained made reply (inr (inr failed)) = inr (inr failed.same)
 
-module _ (h : Option Names) (temps : Names → Bool) (m n : Machine) (hint : Hint) (placed : Placed h m.tree) (q : Names) (at : path_kind h q ≡ Temporary) where
+module _ (h : Option Names) (temps : Names → Bool) (m n : Machine) (hint : Hint) (placed : Placed h m.tree) (q : Names) (at : path_kind h q ≡ Temporary) (no_folder : look m.tree q ≡ Some Folder → ⊥) where
   abbrev Stays : Type 0
   Stays = look n.tree q ≡ look m.tree q
 
   lucky_stays : (step : NumberedStep) (end : CallResult) → (LeavesFresh m step (answer_of step end) n → ⊥) → Proper h (step_on m step) → Misses q (step_on m step) → IsLucky m step end n → Stays
   lucky_stays step end clean proper misses (inl (luck, is)) =
-      ap (λ (t : Tree). look t q) (sym (ap (λ (r : PlainAnswer × Tree). r.1) is)) ∙ look_kept h m.tree placed q at (step_on m step) luck proper misses
+      ap (λ (t : Tree). look t q) (sym (ap (λ (r : PlainAnswer × Tree). r.1) is)) ∙ look_kept h m.tree placed q at no_folder (step_on m step) luck proper misses
   lucky_stays step end clean proper misses (inr (inl (is, same))) = ap (λ (t : Tree). look t q) same
   lucky_stays step end clean proper misses (inr (inr left)) = absurd (clean left)
 

@@ -10,8 +10,8 @@ use Rattle.cacache_core.specs.declared.errors.Fault.TheVariants as faults
 use Rattle.cacache_store.specs.{declared.store.{plain.{PlainFile.{PlainFile}, PlainTemp.{PlainTemp}}, answer.Name.{Name}}, Plain.{PlainStep, PlainAnswer}, Fits.{AreProperNames}}
 use Rattle.cacache_store.specs.declared.store.step.Step.TheVariants as steps
 use Rattle.cacache_entry.specs.{Latest.{Found}, Bucket.{entries_of}, FittingEntries.{IsEntry}}
-use Rattle.cacache_calls.specs.{declared.{carried.{Aim.{Aim}, Commit.{Commit}, Content.{Content as Stored}, Lookup.{Lookup}}, command.{Command.{Command}, Export.{Export}, How.{How, TheVariants.{Copy, Reflink, HardLink}}}, reply.Reply.TheVariants.{Copied, Done, Listed, Read}, target.Target.{Target}, visit.{Visit.{Visit, TheVariants.{Enter, ReadBucket}}, Task.{Task, TheVariants.{Make, Stumble}}}}, Answers.{done_in, temp_in, written_in, synced_in, there_in, taken_in, bytes_in, file_in, got_in, length_in, names_in}, Common.{fails, ends_with, sync_up}, ContentReads.{checked, answer_there, answer_absent}, Exporting.{export_from, export_content, export, copied_count}, Inserting.{insertion, deletion, bucket_line, recorded, after_append, insert, refused_cause}, Linking.{link_target, commit_for, hashed_path, after_size, after_read}, Looking.{found_in, found_for, found_content, after_bucket, no_bucket}, Sound.{SoundCommit, SoundTarget, Sound, MayBegin}, State.{State, doing, creating, writing, syncing, persisting, linking, confirming, appending, looking, reading, asking, sizing, opening_file, hashing, copying, walking, over, Site, Insertion, Item, Walk, Hashing, to_verify, to_link, make_folder, remove, reflink, hard_link, sync_file, sync_dir}, StepPaths.{content_folder, content_path, content_folders, bucket_path, bucket_folders}, Storing.{placed, secured, secured_found, write_rest, after_write, after_confirm}, Table.{wants, after, opening}, Walking.{EachVisit, most, failed, give, miss, walk_ends, walk_on, too_many, tasks_of, leaving, entered, unread_bucket, listed, items_in}}
-use Rattle.cacache_calls.proofs.{Visits.{MayMeet, each_append, each_name}, Branches.{cond_leads, go_on_leads}, Leading.{moves_on, places, inserts}, Sound.{some_is}}
+use Rattle.cacache_calls.specs.{declared.{carried.{Aim.{Aim}, Commit.{Commit}, Content.{Content as Stored}, Lookup.{Lookup}}, command.{Command.{Command}, Export.{Export}, How.{How, TheVariants.{Copy, Reflink, HardLink}}}, reply.Reply.TheVariants.{Copied, Done, Listed, Read}, target.Target.{Target}, visit.{Visit.{Visit, TheVariants.{Enter, ReadBucket, RemoveFile, RemoveFolder}}, Task.{Task, TheVariants.{Make, Stumble}}}}, Answers.{done_in, temp_in, written_in, synced_in, there_in, taken_in, bytes_in, file_in, got_in, length_in, names_in}, Common.{fails, ends_with, go_on, sync_up}, ContentReads.{checked, answer_there, answer_absent}, Exporting.{export_from, export_content, export, copied_count}, Inserting.{insertion, deletion, bucket_line, recorded, after_append, insert, refused_cause}, Linking.{link_target, commit_for, hashed_path, after_size, after_read}, Looking.{found_in, found_for, found_content, after_bucket, no_bucket}, Sound.{SoundCommit, SoundTarget, Sound, MayBegin}, State.{State, doing, creating, writing, syncing, persisting, linking, confirming, appending, looking, reading, asking, sizing, opening_file, hashing, copying, walking, over, Site, Insertion, Item, Walk, Hashing, to_verify, to_link, make_folder, remove, reflink, hard_link, sync_file, sync_dir}, StepPaths.{content_folder, content_path, content_folders, bucket_path, bucket_folders}, Storing.{placed, secured, secured_found, write_rest, after_write, after_confirm}, Table.{wants, after, opening}, Walking.{EachVisit, most, failed, give, miss, walk_ends, walk_on, too_many, tasks_of, leaving, entered, unread_bucket, listed, items_in}}
+use Rattle.cacache_calls.proofs.{Visits.{MayMeet, each_append, each_name, each_leaving}, Branches.{cond_leads, go_on_leads}, Leading.{moves_on, places, inserts}, Sound.{some_is}}
 use Rattle.cacache_calls.specs.declared.carried.Aim.TheVariants as aims
 use Rattle.cacache_calls.specs.declared.command.Command.TheVariants as commands
 use Rattle.cacache_calls.specs.declared.command.Source.TheVariants as sources
@@ -90,11 +90,12 @@ bucket_apart cache key = not_temporary (home_of cache) Bucket (names_of (joined 
 abbrev InIndex : Option Names → List ℕ → Type 0
 InIndex h p = (cache : List ℕ) × (names : Names) × (home_of cache ≡ h) × All IsProperName (index_area ∷ names) × (p ≡ joined cache (index_area ∷ names))
 
--- a listing visits those
-abbrev Lists : Option Names → Visit → Type 0
-Lists h (Enter p level) = InIndex h p
-Lists h (ReadBucket p) = InIndex h p
-Lists h v = ⊥
+-- a listing visits those, and a clear reads no bucket
+abbrev Visits : Bool → Option Names → Visit → Type 0
+Visits false h (Enter p level) = InIndex h p
+Visits false h (ReadBucket p) = InIndex h p
+Visits true h (ReadBucket p) = ⊥
+Visits clears h v = Unit {0}
 
 -- the paths that a state reads, links, removes and syncs, there and behind it
 abbrev pub HasPaths : Option Names → State → Type 0
@@ -109,7 +110,7 @@ HasPaths h (sizing t) = IsNotFor h Temporary t.path
 HasPaths h (opening_file x) = IsNotFor h Temporary (hashed_path x)
 HasPaths h (hashing x file bytes) = IsNotFor h Temporary (hashed_path x)
 HasPaths h (copying from to count) = IsNotFor h Temporary from
-HasPaths h (walking w v todo) = (w.clears ≡ false) × (Lists h v × EachVisit (Lists h) todo)
+HasPaths h (walking w v todo) = Visits w.clears h v × EachVisit (Visits w.clears h) todo
 HasPaths h s = Unit {0}
 
 module _ (h : Option Names) where
@@ -181,6 +182,10 @@ index_apart h p (cache, names, own, all, is) =
     = ap names_of is ∙ joined_texts_name cache (index_area ∷ names) all (omega arith) ∙ ap (λ (o : Option Names). names_below o (index_area ∷ names)) own in
     subst (λ (r : Result Names Fault). IfOk r (λ all. path_kind h all ≡ Temporary → ⊥)) (sym named) (index_below h names)
 
+visited_apart : (b : Bool) (h : Option Names) (p : List ℕ) → Visits b h (ReadBucket p) → IsNotFor h Temporary p
+visited_apart false h p is = index_apart h p is
+visited_apart true h p is = absurd is
+
 index_deeper : (h : Option Names) (p n : List ℕ) → InIndex h p → IsProperName n → InIndex h (join p n)
 index_deeper h p n (cache, names, own, all, is) proper =
     let more : All IsProperName ((index_area ∷ names) ++ n ∷ []) = All-append IsProperName (index_area ∷ names) (n ∷ []) all (All-cons IsProperName n [] proper (All-nil IsProperName)) in
@@ -193,43 +198,49 @@ module _ (h : Option Names) where
   many_paths : (w : Walk) → HasPaths h (too_many w)
   many_paths w = cond_leads (HasPaths h) w.clears (fails faults.TooDeep) (over (Listed (w.items ++ failed faults.TooDeep ∷ []))) (λ _. tt) (λ _. tt)
 
-  gives_paths : (w : Walk) (items : List Item) (next : Walk → State) → w.clears ≡ false → ((v : Walk) → v.clears ≡ false → HasPaths h (next v)) → HasPaths h (give w items next)
-  gives_paths w items next kept goes =
+  gives_paths : (w : Walk) (items : List Item) (next : Walk → State) → ((v : Walk) → v.clears ≡ w.clears → HasPaths h (next v)) → HasPaths h (give w items next)
+  gives_paths w items next goes =
       let more : Walk = record w { items = w.items ++ items } in
       let full : Walk = record w { items = take most (w.items ++ items) } in
-      cond_leads (HasPaths h) (nat_le (length w.items + length items) most) (next more) (too_many full) (λ _. goes more kept) (λ _. many_paths full)
+      cond_leads (HasPaths h) (nat_le (length w.items + length items) most) (next more) (too_many full) (λ _. goes more refl) (λ _. many_paths full)
 
-  misses_paths : (w : Walk) (next : Walk → State) (fault : Fault) → w.clears ≡ false → ((v : Walk) → v.clears ≡ false → HasPaths h (next v)) → HasPaths h (miss w next fault)
-  misses_paths w next fault kept goes = cond_leads (HasPaths h) w.clears (fails fault) (give w (failed fault ∷ []) next) (λ _. tt) (λ _. gives_paths w (failed fault ∷ []) next kept goes)
+  misses_paths : (w : Walk) (next : Walk → State) (fault : Fault) → ((v : Walk) → v.clears ≡ w.clears → HasPaths h (next v)) → HasPaths h (miss w next fault)
+  misses_paths w next fault goes = cond_leads (HasPaths h) w.clears (fails fault) (give w (failed fault ∷ []) next) (λ _. tt) (λ _. gives_paths w (failed fault ∷ []) next goes)
 
-  walk_paths : (todo : List Task) → EachVisit (Lists h) todo → (w : Walk) → w.clears ≡ false → HasPaths h (walk_on todo w)
-  walk_paths [] each w kept = ends_paths w
-  walk_paths (Make v ∷ todo) each w kept = (kept, each)
-  walk_paths (Stumble fault path ∷ todo) each w kept = misses_paths w (walk_on todo) fault kept (walk_paths todo each)
+  walk_paths : (b : Bool) (todo : List Task) → EachVisit (Visits b h) todo → (w : Walk) → w.clears ≡ b → HasPaths h (walk_on todo w)
+  walk_paths b [] each w same = ends_paths w
+  walk_paths b (Make v ∷ todo) each w same = subst (λ (c : Bool). Visits c h v × EachVisit (Visits c h) todo) (sym same) each
+  walk_paths b (Stumble fault path ∷ todo) each w same = misses_paths w (walk_on todo) fault (λ v e. walk_paths b todo each v (e ∙ same))
 
-  bucket_paths : (w : Walk) (todo : List Task) (fault : Fault) → EachVisit (Lists h) todo → w.clears ≡ false → HasPaths h (unread_bucket w todo fault)
-  bucket_paths w todo faults.NotFound each kept = walk_paths todo each w kept
-  bucket_paths w todo fault each kept = misses_paths w (walk_on todo) fault kept (walk_paths todo each)
+  bucket_paths : (w : Walk) (todo : List Task) (fault : Fault) → EachVisit (Visits w.clears h) todo → HasPaths h (unread_bucket w todo fault)
+  bucket_paths w todo faults.NotFound each = walk_paths w.clears todo each w refl
+  bucket_paths w todo fault each = misses_paths w (walk_on todo) fault (walk_paths w.clears todo each)
 
-  may_meet : (b : Bool) (level : ℕ) (p : List ℕ) (n : Name) → b ≡ false → InIndex h p → IsProperName n.name → MayMeet (Lists h) level p b n
-  may_meet true level p n kept is proper = absurd cc
-  may_meet false level p n kept is proper = (index_deeper h p n.name is proper, index_deeper h p n.name is proper)
+  may_meet : (b : Bool) (level : ℕ) (p : List ℕ) (n : Name) → Visits b h (Enter p level) → IsProperName n.name → MayMeet (Visits b h) level p b n
+  may_meet true level p n is proper = (tt, tt)
+  may_meet false level p n is proper = (index_deeper h p n.name is proper, index_deeper h p n.name is proper)
 
-  none_left : (b : Bool) (level : ℕ) (p : List ℕ) → b ≡ false → EachVisit (Lists h) (leaving b level p)
-  none_left true level p kept = absurd cc
-  none_left false level p kept = tt
+  each_left : (b : Bool) (level : ℕ) (p : List ℕ) → EachVisit (Visits b h) (leaving b level p)
+  each_left true level p = each_leaving (Visits true h) level p tt
+  each_left false level p = tt
 
-  entered_paths : (w : Walk) (p : List ℕ) (level : ℕ) (todo : List Task) (names : List Name) → AreProperNames names → w.clears ≡ false → InIndex h p → EachVisit (Lists h) todo
+  entered_paths : (w : Walk) (p : List ℕ) (level : ℕ) (todo : List Task) (names : List Name) → AreProperNames names → Visits w.clears h (Enter p level) → EachVisit (Visits w.clears h) todo
       → HasPaths h (entered w p level todo names)
-  entered_paths w p level todo names proper kept is each =
+  entered_paths w p level todo names proper is each =
       let tasks = tasks_of w.clears level p names ++ leaving w.clears level p ++ todo in
       let less : Walk = record w { left = w.left - length names } in
-      let own : EachVisit (Lists h) (tasks_of w.clears level p names)
-      = each_name (Lists h) level p w.clears names (All-weaker (λ (n : Name). IsProperName n.name) (MayMeet (Lists h) level p w.clears) (λ n is_proper. may_meet w.clears level p n kept is is_proper) names proper) in
-      let all : EachVisit (Lists h) tasks
-      = each_append (Lists h) (tasks_of w.clears level p names ++ leaving w.clears level p) todo
-      (each_append (Lists h) (tasks_of w.clears level p names) (leaving w.clears level p) own (none_left w.clears level p kept)) each in
-      cond_leads (HasPaths h) (nat_le (length names) w.left) (walk_on tasks less) (too_many w) (λ _. walk_paths tasks all less kept) (λ _. many_paths w)
+      let V : Visit → Type 0 = Visits w.clears h in
+      let own : EachVisit V (tasks_of w.clears level p names)
+      = each_name V level p w.clears names (All-weaker (λ (n : Name). IsProperName n.name) (MayMeet V level p w.clears) (λ n is_proper. may_meet w.clears level p n is is_proper) names proper) in
+      let all : EachVisit V tasks
+      = each_append V (tasks_of w.clears level p names ++ leaving w.clears level p) todo
+      (each_append V (tasks_of w.clears level p names) (leaving w.clears level p) own (each_left w.clears level p)) each in
+      cond_leads (HasPaths h) (nat_le (length names) w.left) (walk_on tasks less) (too_many w) (λ _. walk_paths w.clears tasks all less refl) (λ _. many_paths w)
+
+  removed_paths : (a : PlainAnswer) (w : Walk) (todo : List Task) → EachVisit (Visits w.clears h) todo → HasPaths h (go_on (done_in a) (miss w (walk_on todo)) (λ _. walk_on todo w))
+  removed_paths a w todo each =
+      go_on_leads (HasPaths h) (done_in a) (miss w (walk_on todo)) (λ _. walk_on todo w) tt (λ fault. misses_paths w (walk_on todo) fault (walk_paths w.clears todo each))
+      (λ x e. walk_paths w.clears todo each w refl)
 
 -- a sound commit's content
 commit_ways : (site : Site) (c : Commit) → SoundCommit site c → AllWays (home_of site.cache) (content_folders c.cache c.computed)
@@ -293,12 +304,13 @@ module _ (site : Site) (may outside : List ℕ → Bool) where
   paths_after a (opening_file x) kind sound paths has = go_on_leads P (file_in a) fails (λ file. hashing x file []) tt (λ fault. tt) (λ file e. paths)
   paths_after a (hashing x file bytes) kind sound paths has = go_on_leads P (got_in a) fails (after_read x bytes) tt (λ fault. tt) (λ g e. read_paths x bytes g paths)
   paths_after a (copying from to count) kind sound paths has = go_on_leads P (taken_in a) fails (λ n. over (Copied (copied_count count n))) tt (λ fault. tt) (λ n e. tt)
-  paths_after a (walking w (Enter p level) todo) kind sound (kept, (is, each)) has =
-      go_on_leads P (names_in a) (miss w (walk_on todo)) (entered w p level todo) tt (λ fault. misses_paths h w (walk_on todo) fault kept (walk_paths h todo each))
-      (λ names e. entered_paths h w p level todo names (kind p names refl e) kept is each)
-  paths_after a (walking w (ReadBucket p) todo) kind sound (kept, (is, each)) has =
-      go_on_leads P (bytes_in a) (unread_bucket w todo) (listed w todo) tt (λ fault. bucket_paths h w todo fault each kept) (λ bytes e. gives_paths h w (items_in bytes) (walk_on todo) kept (walk_paths h todo each))
-  paths_after a (walking w v todo) kind sound (kept, (is, each)) has = absurd is
+  paths_after a (walking w (Enter p level) todo) kind sound (is, each) has =
+      go_on_leads P (names_in a) (miss w (walk_on todo)) (entered w p level todo) tt (λ fault. misses_paths h w (walk_on todo) fault (walk_paths h w.clears todo each))
+      (λ names e. entered_paths h w p level todo names (kind p names refl e) is each)
+  paths_after a (walking w (ReadBucket p) todo) kind sound (is, each) has =
+      go_on_leads P (bytes_in a) (unread_bucket w todo) (listed w todo) tt (λ fault. bucket_paths h w todo fault each) (λ bytes e. gives_paths h w (items_in bytes) (walk_on todo) (walk_paths h w.clears todo each))
+  paths_after a (walking w (RemoveFile p) todo) kind sound (is, each) has = removed_paths h a w todo each
+  paths_after a (walking w (RemoveFolder p) todo) kind sound (is, each) has = removed_paths h a w todo each
   paths_after a (over reply) kind sound paths has = tt
 
   -- ---- steps
@@ -309,7 +321,7 @@ module _ (site : Site) (may outside : List ℕ → Bool) where
 
   pub wants_apart : (s : State) (step : PlainStep) → Sound site may outside s → P s → wants s ≡ Some step → Stores h step
   wants_apart (doing (make_folder p) s) step sound paths w = some_is (Stores h) (steps.MakeDirs p) step w tt
-  wants_apart (doing (remove p) s) step sound paths w = some_is (Stores h) (steps.RemoveFile p) step w paths.0
+  wants_apart (doing (remove p) s) step sound paths w = some_is (Stores h) (steps.RemoveFile p) step w tt
   wants_apart (doing (reflink p q) s) step sound paths w = some_is (Stores h) (steps.Reflink p q) step w paths.0
   wants_apart (doing (hard_link p q) s) step sound paths w = some_is (Stores h) (steps.HardLink p q) step w paths.0
   wants_apart (doing (sync_file p) s) step sound paths w = some_is (Stores h) (steps.SyncFile p) step w paths.0
@@ -324,8 +336,9 @@ module _ (site : Site) (may outside : List ℕ → Bool) where
   wants_apart (opening_file x) step sound paths w = some_is (Stores h) (steps.Open (hashed_path x)) step w paths
   wants_apart (copying from to count) step sound paths w = some_is (Stores h) (steps.Copy from to) step w paths
   wants_apart (walking v (Enter p level) todo) step sound paths w = some_is (Stores h) (steps.ReadDir p) step w tt
-  wants_apart (walking v (ReadBucket p) todo) step sound paths w = some_is (Stores h) (steps.ReadAll p) step w (index_apart h p paths.1.0)
-  wants_apart (walking v visit todo) step sound paths w = absurd paths.1.0
+  wants_apart (walking v (ReadBucket p) todo) step sound paths w = some_is (Stores h) (steps.ReadAll p) step w (visited_apart v.clears h p paths.0)
+  wants_apart (walking v (RemoveFile p) todo) step sound paths w = some_is (Stores h) (steps.RemoveFile p) step w tt
+  wants_apart (walking v (RemoveFolder p) todo) step sound paths w = some_is (Stores h) (steps.RemoveDir p) step w tt
   wants_apart (over reply) step sound paths w = let no : None ≡ Some step = w in absurd cc
   wants_apart s step sound paths w = subst WantedStores w tt
 
@@ -344,18 +357,17 @@ target_apart s n t apart sound outside =
     = sound_proper s n apart (linking c t.path) (steps.Symlink t.path (content_path c.cache c.computed)) (commit, outside) refl in
     not_temporary (home s) Elsewhere (names_of t.path) (λ e. cc) proper.1
 
-pub opens_paths : (s : Setup) (n : ℕ) (command : Command) → LieApart (home s) s.outside → MayBegin (call_site s n) (may_export s) (is_outside s) command → NamesIntegrity command
-    → (command ≡ commands.Clear → ⊥) → HasPaths (home s) (opening (call_site s n) command)
-opens_paths s n (commands.Link l) apart may named kept = target_apart s n (link_target (call_site s n) l) apart may.0 may.1
-opens_paths s n (commands.Insert i) apart may named kept = insert_paths (home s) (insertion s.cache i)
-opens_paths s n (commands.Delete d) apart may named kept = insert_paths (home s) (deletion s.cache d)
-opens_paths s n (commands.GetHash i) apart may named kept = named
-opens_paths s n (commands.Export (sources.Key key) e) apart may named kept = tt
-opens_paths s n (commands.Export (sources.Hash i) e) apart may named kept = export_paths (record { cache = s.cache; integrity = i }) e named
-opens_paths s n (commands.RemoveHash i) apart may named kept = (content_apart s.cache i named, tt)
-opens_paths s n commands.Ls apart may named kept = (refl, ((s.cache, [], refl, All-cons IsProperName index_area [] (refl, refl, refl) (All-nil IsProperName), refl), tt))
-opens_paths s n commands.Clear apart may named kept = absurd (kept refl)
-opens_paths s n command apart may named kept = tt
+pub opens_paths : (s : Setup) (n : ℕ) (command : Command) → LieApart (home s) s.outside → MayBegin (call_site s n) (may_export s) (is_outside s) command → NamesIntegrity command → HasPaths (home s) (opening (call_site s n) command)
+opens_paths s n (commands.Link l) apart may named = target_apart s n (link_target (call_site s n) l) apart may.0 may.1
+opens_paths s n (commands.Insert i) apart may named = insert_paths (home s) (insertion s.cache i)
+opens_paths s n (commands.Delete d) apart may named = insert_paths (home s) (deletion s.cache d)
+opens_paths s n (commands.GetHash i) apart may named = named
+opens_paths s n (commands.Export (sources.Key key) e) apart may named = tt
+opens_paths s n (commands.Export (sources.Hash i) e) apart may named = export_paths (record { cache = s.cache; integrity = i }) e named
+opens_paths s n (commands.RemoveHash i) apart may named = (content_apart s.cache i named, tt)
+opens_paths s n commands.Ls apart may named = ((s.cache, [], refl, All-cons IsProperName index_area [] (refl, refl, refl) (All-nil IsProperName), refl), tt)
+opens_paths s n commands.Clear apart may named = (tt, tt)
+opens_paths s n command apart may named = tt
 
 -- ---- what a lookup finds
 

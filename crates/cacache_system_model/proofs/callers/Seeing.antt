@@ -3,9 +3,9 @@ use Rattle.std.proofs.Common.{◌≡◌, ◌≤◌, ◌^◌, ◌+◌, ◌==◌, 
 use Rattle.cacache_store.specs.declared.store.plain.PlainFile.{PlainFile}
 use Rattle.cacache_value.specs.OpeningTrees.{LieApart}
 use Rattle.cacache_system.specs.{Seen.{NumberedFile, NumberedTemp, NumberedAnswer}, AnswersOf.{answer_of}}
-use Rattle.cacache_system_model.specs.{Machine.{Machine}, Laws.{answer_on}, Chains.{StepMade}, callers.{Acts.{Act, begins, steps as makes, ends, stops, answer_in, unless_ended}, Made.{now_left, system_at}, Seen.{SeenState, handed, handed_open, answer_seen, step_seen, after_seen, IsOnHeld, MakesSeenStep, MayActSeen, EachSeen, seen_at, SeenMakeHistories}}}
-use Rattle.cacache_system_model.proofs.callers.{NextActs.{NumberedState, numbered_after, MakesNextStep, MayNext}, WithoutBytes.{without_bytes, Alike, alike_after, wanted_plain, none_plain, ends_plain}, Following.{FollowAll, makes_history}, NextSteps.{Holds}, Numbering.{next_act, first_holds}}
-use Rattle.cacache_calls.specs.{declared.reply.Reply.{Reply}, State.{State}, Table.{after, opening}, Sound.{MayBegin}}
+use Rattle.cacache_system_model.specs.{Machine.{Machine}, Laws.{answer_on}, Chains.{StepMade}, callers.{Acts.{Act, begins, steps as makes, ends, stops, answer_in, unless_ended}, Made.{now_left, system_at}, Seen.{SeenState, handed, handed_open, answer_seen, step_seen, after_seen, IsOnHeld, SparesTemps, MakesSeenStep, MayActSeen, EachSeen, seen_at, SeenMakeHistories}}}
+use Rattle.cacache_system_model.proofs.callers.{NextActs.{NumberedState, numbered_after, MakesNextStep, MayNext}, WithoutBytes.{without_bytes, Alike, alike_after, wanted_plain, none_plain, ends_plain, walking_without, temp_alike}, Following.{FollowAll, makes_history}, NextSteps.{Holds}, Numbering.{next_act, first_holds}}
+use Rattle.cacache_calls.specs.{declared.{reply.Reply.{Reply}, visit.Visit.TheVariants.{RemoveFile}}, State.{State, walking}, Table.{after, opening}, Sound.{MayBegin}}
 use Rattle.cacache_history.specs.{Setup.{Setup, call_site, home, may_export, is_outside}, History.{Now, now_after}}
 
 -- there is a call in both, in states that are alike, or in neither
@@ -31,6 +31,15 @@ has_state o None state same is = (let no : None ≡ Some state = is in absurd cc
 no_state : (o x : Option State) → AreAlike o x → x ≡ None → o ≡ None
 no_state None x same is = refl
 no_state (Some s) x same is = let no : Some (without_bytes s) ≡ None = same ∙ ap (option_map without_bytes) is in absurd cc
+
+-- what a clear spares, it spares whatever handles hold
+spares_alike : (states others : ℕ → Option State) → ((k : ℕ) → AreAlike (states k) (others k)) → (s c : State) → Alike s c → SparesTemps others c → SparesTemps states s
+spares_alike states others same (walking w (RemoveFile p) todo) c alike spares =
+    let are : c ≡ walking w (RemoveFile p) todo = walking_without c w (RemoveFile p) todo (sym alike) in
+    λ k state path stands at.
+    let g = has_state (others k) (states k) state (sym (same k)) stands in
+    subst (SparesTemps others) are spares k g.0 path g.1 (temp_alike g.0 state g.2 ∙ at)
+spares_alike states others same s c alike spares = tt
 
 set_alike : (b : Bool) (x a y o : Option State) → AreAlike y x → AreAlike o a → AreAlike (cond b y o) (cond b x a)
 set_alike true x a y o h k = h
@@ -61,6 +70,7 @@ module _ (s : Setup) (c : SeenState) (f : NumberedState) (now : Now) (all : Hold
         same = w.2;
         held = subst (λ (o : Option NumberedTemp). IsOnHeld made.before o (f.opened caller) made.step) (sees.held caller)
             (subst (λ (o : Option (NumberedFile × PlainFile)). IsOnHeld made.before (c.held caller) o made.step) (sees.opened caller) m.held);
+        spares = spares_alike f.system.states c.states sees.states g.0 m.state g.2 m.spares;
         here = m.here ∙ sees.machine;
         runs = m.runs;
         each = m.each;
@@ -72,9 +82,8 @@ module _ (s : Setup) (c : SeenState) (f : NumberedState) (now : Now) (all : Hold
       }
 
   may_next : (act : Act) → MayActSeen s c act → MayNext s f act
-  may_next (begins caller command) (within, free, may, named, kept, few) = (
+  may_next (begins caller command) (within, free, may, named, few) = (
     (within, no_state (f.system.states caller) (c.states caller) (sees.states caller) free, subst (λ n. MayBegin (call_site s n) (may_export s) (is_outside s) command) sees.begun may, named),
-    kept,
     subst (λ (n : ℕ). n + 1 ≤ 2 ^ 64) sees.begun few,
   )
   may_next (makes caller made reply) m = makes_next caller made reply m
@@ -85,7 +94,7 @@ module _ (s : Setup) (c : SeenState) (f : NumberedState) (now : Now) (all : Hold
       let g = has_state (f.system.states caller) (c.states caller) state (sees.states caller) stands in (g.0, g.1)
 
   sees_next : (act : Act) → MayActSeen s c act → Sees (after_seen s c act) (numbered_after s f act)
-  sees_next (begins caller command) (within, free, may, named, kept, few) = record {
+  sees_next (begins caller command) (within, free, may, named, few) = record {
     machine = sees.machine;
     states = λ k. set_alike (k == caller) (Some (opening (call_site s c.begun) command)) (c.states k) (Some (opening (call_site s f.system.begun) command)) (f.system.states k)
         (ap (λ n. Some (without_bytes (opening (call_site s n) command))) (sym sees.begun)) (sees.states k);

@@ -1,21 +1,20 @@
 -- What the steps of calls leave at a path of a temporary file.
-use Rattle.std.{proofs.{lemmas.Bool.{false_from_ne_true}, Common.{◌≡◌, ℕ, false, List, [], Option, Ok, refl, sym, ap, ◌∙◌}}, specs.Prelude.{Result, Err, IfOk}}
+use Rattle.std.{proofs.{lemmas.Bool.{false_from_ne_true}, Common.{◌≡◌, ℕ, false, List, [], Option, Some, Ok, refl, sym, ap, ◌∙◌}}, specs.Prelude.{Result, Err, IfOk}}
 use Rattle.cacache_core.specs.{declared.errors.Fault.{Fault}, PathNames.{Names, names_of}}
 use Rattle.cacache_store.specs.Plain.{PlainStep}
 use Rattle.cacache_store.specs.declared.store.step.Step.TheVariants as steps
-use Rattle.cacache_disk.specs.{declared.{luck.Luck.{Luck}, node.Node.{Node, TheVariants.{File}}}, Tree.{Tree, look, put, cut, same_path}, Apply.{apply}}
+use Rattle.cacache_disk.specs.{declared.{luck.Luck.{Luck}, node.Node.{Node, TheVariants.{Folder, File}}}, Tree.{Tree, look, put, cut, same_path}, Apply.{apply}}
 use Rattle.cacache_disk.proofs.{Maps.{same_path-true}, Changes.{TreeChange, NoChange, PutNode, MoveFile, MakeFolders, CutNode, Makes, made_by, by_changes}, FoundNodes.{dirs_ok, free_ok, kept_ok, replaceable_ok, removable_ok, emptied_ok}}
 use Rattle.cacache_loss.{specs.Fixing.{is_at}, proofs.{StepCases.{make_apart, put_misses, cut_misses}, UnchangedPaths.{at_names}}}
 use Rattle.cacache_value.specs.{Kinds.{PathKind, Content, Bucket, Temporary, Way, Elsewhere, path_kind, IsFor}, Placed.{Placed, Proper}}
 use Rattle.cacache_value.proofs.{FoundPaths.{of_names, writable_out}, Temps.{written}}
 
--- a step that makes, writes, moves and removes no temporary file at this path
+-- a step that makes, writes, moves and removes no file at this path of a temporary one
 abbrev pub Misses : Names → PlainStep → Type 0
 Misses q (steps.CreateTemp p) = is_at (names_of p) q ≡ false
 Misses q (steps.Write f bytes) = is_at (names_of f.path) q ≡ false
 Misses q (steps.Persist f p) = is_at (names_of f.path) q ≡ false
 Misses q (steps.RemoveFile p) = is_at (names_of p) q ≡ false
-Misses q (steps.RemoveDir p) = is_at (names_of p) q ≡ false
 Misses q step = Unit {0}
 
 -- what isn't for temporary files is no path of one
@@ -23,7 +22,7 @@ pub is_elsewhere : (h : Option Names) (q : Names) (r : Result Names Fault) → p
 is_elsewhere h q (Ok names) at other = false_from_ne_true (same_path q names) (λ e. other (ap (path_kind h) (sym (same_path-true q names e)) ∙ at))
 is_elsewhere h q (Err fault) at other = refl
 
-module _ (h : Option Names) (t : Tree) (placed : Placed h t) (q : Names) (at : path_kind h q ≡ Temporary) where
+module _ (h : Option Names) (t : Tree) (placed : Placed h t) (q : Names) (at : path_kind h q ≡ Temporary) (no_folder : look t q ≡ Some Folder → ⊥) where
   other : (k : PathKind) (names : Names) → path_kind h names ≡ k → (Temporary ≡ k → ⊥) → same_path q names ≡ false
   other k names is apart = false_from_ne_true (same_path q names) (λ e. apart (sym at ∙ ap (path_kind h) (same_path-true q names e) ∙ is))
 
@@ -45,7 +44,8 @@ module _ (h : Option Names) (t : Tree) (placed : Placed h t) (q : Names) (at : p
   change_keeps (steps.Reflink p r) (PutNode names node) is misses m = puts_apart Elsewhere r names node is (λ s. cc) (free_ok t r names m).0
   change_keeps (steps.HardLink p r) (PutNode names node) is misses m = puts_apart Elsewhere r names node is (λ s. cc) (free_ok t r names m.0).0
   change_keeps (steps.RemoveFile p) (CutNode names) is misses m = cut_misses t names q (at_names p names q misses (removable_ok t p names m).0)
-  change_keeps (steps.RemoveDir p) (CutNode names) is misses m = cut_misses t names q (at_names p names q misses (emptied_ok t p names m).0)
+  change_keeps (steps.RemoveDir p) (CutNode names) is misses m =
+      cut_misses t names q (false_from_ne_true (same_path q names) (λ e. no_folder (ap (look t) (same_path-true q names e) ∙ (emptied_ok t p names m).1)))
   change_keeps step NoChange is misses m = refl
   change_keeps step c is misses m = absurd m
 

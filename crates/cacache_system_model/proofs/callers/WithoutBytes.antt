@@ -5,7 +5,7 @@ use Rattle.cacache_store.specs.{declared.store.plain.{PlainFile.{PlainFile}, Pla
 use Rattle.cacache_store.specs.declared.store.step.Step.TheVariants as steps
 use Rattle.cacache_store.specs.declared.store.answer.Answer.TheVariants as answers
 use Rattle.cacache_system.specs.Seen.{NumberedStep, NumberedAnswer, step_as, answer_as}
-use Rattle.cacache_system_model.specs.{Machine.{Machine}, Laws.{step_on, answer_on}, callers.Seen.{step_seen, answer_seen}}
+use Rattle.cacache_system_model.specs.{Machine.{Machine}, Laws.{step_on, answer_on}, callers.Seen.{step_seen, answer_seen, temp_of}}
 use Rattle.cacache_calls.specs.{declared.{carried.Commit.{Commit}, reply.Reply.{Reply}, visit.{Visit.{Visit, TheVariants.{Enter, ReadBucket, RemoveFile, RemoveFolder}}, Task.{Task}}}, Common.{fails, errand_step}, Runs.{plain_reply}, State.{State, doing, creating, writing, syncing, persisting, linking, confirming, appending, looking, reading, asking, sizing, opening_file, hashing, copying, walking, over, Errand, Hashing, Walk, make_folder}, StepPaths.{content_folder}, Storing.{write_rest}, Table.{wants, after}, Walking.{visit_step, after_visit}}
 use Rattle.cacache_history.specs.History.{Ends}
 
@@ -42,6 +42,14 @@ pub without_twice : (s : State) → Alike s (without_bytes s)
 without_twice (doing errand s) = ap (doing errand) (without_twice s)
 without_twice (writing c file rest) = refl
 without_twice s = refl
+
+temp_without_bytes : (s : State) → temp_of (without_bytes s) ≡ temp_of s
+temp_without_bytes (doing errand s) = temp_without_bytes s
+temp_without_bytes s = refl
+
+-- states that are alike are about a temporary file at the same path
+pub temp_alike : (s c : State) → Alike s c → temp_of s ≡ temp_of c
+temp_alike s c same = sym (temp_without_bytes s) ∙ ap temp_of same ∙ temp_without_bytes c
 
 -- ---- the state behind an answer
 
@@ -155,6 +163,11 @@ wants_none (Some step) e = let no : Some (step_without step) ≡ None = e in abs
 
 pub none_plain : (s c : State) → Alike s c → wants c ≡ None → wants s ≡ None
 none_plain s c same e = wants_none (wants s) (wants_alike s c same ∙ ap (option_map step_without) e)
+
+-- a state that walks without what handles hold walks so
+pub walking_without : (s : State) (w : Walk) (v : Visit) (todo : List Task) → without_bytes s ≡ walking w v todo → s ≡ walking w v todo
+walking_without (walking own visit tasks) w v todo e = e
+walking_without s w v todo e = absurd cc
 
 -- a state that is over without what handles hold is over
 over_without : (s : State) (reply : Reply) → without_bytes s ≡ over reply → s ≡ over reply

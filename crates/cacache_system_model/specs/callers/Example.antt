@@ -1,10 +1,12 @@
--- The premises can be met: a call that asks whether a content is there, on any machine with a cache.
-use Rattle.std.specs.Prelude.{◌<◌, ◌^◌, List, [], ◌∷◌, Option}
+-- The premises can be met: by a call that asks whether a content is there, on any machine with a cache, and by a clear's
+-- removals.
+use Rattle.std.specs.Prelude.{◌≡◌, ◌<◌, ◌^◌, ℕ, List, [], ◌∷◌, Option, None, Some}
 use Rattle.cacache_core.specs.{declared.integrity.digest.Hash.{Hash}, Integrity.{IsIntegrity}}
-use Rattle.cacache_system_model.specs.{Machine.{Machine}, Chains.{StepMade}, callers.{Acts.{begins, steps}, Made.{now_left, CacheOn}, Seen.{EachSeen, seen_at}}}
+use Rattle.cacache_system.specs.AnswersOf.{answer_of}
+use Rattle.cacache_system_model.specs.{Machine.{Machine}, Chains.{StepMade}, callers.{Acts.{begins, steps}, Made.{now_left, CacheOn}, Seen.{SeenState, answer_seen, MakesSeenStep, EachSeen, seen_at}}}
 use Rattle.cacache_calls.specs.declared.command.Command.TheVariants as commands
-use Rattle.cacache_calls.specs.declared.reply.Reply.{Reply}
-use Rattle.cacache_history.specs.Setup.{Setup}
+use Rattle.cacache_calls.specs.{declared.{reply.Reply.{Reply}, visit.{Visit.{Visit, TheVariants.{RemoveFile, RemoveFolder}}, Task.{Task}}}, State.{Walk, walking}, Table.{after}}
+use Rattle.cacache_history.specs.{Setup.{Setup}, History.{Ends}}
 
 -- a caller begins such a call and makes its step
 abbrev pub QuestionsCanBe : Type 0
@@ -13,3 +15,20 @@ QuestionsCanBe =
     → (now_left s cache.past).begun < 2 ^ 64
     → (made : StepMade) × (reply : Option Reply)
     × EachSeen s (seen_at s m cache) (begins 0 (commands.Exists i) ∷ steps 0 made reply ∷ [])
+
+-- a clear's visit that removes something
+abbrev pub Removes : Visit → Type 0
+Removes (RemoveFile p) = Unit {0}
+Removes (RemoveFolder p) = Unit {0}
+Removes visit = ⊥
+
+-- if no other call is on its way, a clear can make each of its removals, and ends after it or not
+abbrev pub ClearsCanRemove : Type 0
+ClearsCanRemove =
+    (f : SeenState) (caller : ℕ) (w : Walk) (visit : Visit) (todo : List Task) → Removes visit
+    → f.states caller ≡ Some (walking w visit todo)
+    → ((k : ℕ) → (k ≡ caller → ⊥) → f.states k ≡ None)
+    → (made : StepMade)
+    × ((reply : Option Reply)
+    → Ends (after (walking w visit todo) (answer_seen (answer_of made.step made.end))) reply
+    → MakesSeenStep f caller made reply)

@@ -1,11 +1,12 @@
 -- Callers over stores of real folders, as the contracts of these stores see them: with handles that have no bytes.
 use Rattle.std.specs.Prelude.{◌≡◌, ◌≤◌, ◌<◌, ◌+◌, ◌^◌, ◌==◌, ℕ, List, [], ◌∷◌, ◌++◌, Option, None, Some, option_map, if◌then◌else◌}
+use Rattle.cacache_core.specs.PathNames.{names_of}
 use Rattle.cacache_store.specs.{declared.store.plain.{PlainFile.{PlainFile}, PlainTemp.{PlainTemp}}, Plain.{PlainStep, PlainAnswer}}
 use Rattle.cacache_store.specs.declared.store.step.Step.TheVariants as store
 use Rattle.cacache_store.specs.declared.store.answer.Answer.TheVariants as answers
 use Rattle.cacache_system.specs.{Seen.{NumberedFile, NumberedTemp, NumberedStep, NumberedAnswer, step_as, answer_as}, CallsOf.{Runs}, AnswersOf.{first, answer_of}}
 use Rattle.cacache_system_model.specs.{Machine.{Machine}, Calls.{OccursSomehow, EachCall}, Laws.{file_on}, Chains.{StepMade}, callers.{Acts.{Act, begins, steps, ends, stops, step_of, answer_in, NeedsFit, set_state, unless_ended, after_acts, AreRecordsOf}, Made.{history_of, now_left, CacheOn, system_at, MakesHistory}, Storing.{HintStands, IsExplained, IsClean}}}
-use Rattle.cacache_calls.specs.{declared.{command.Command.TheVariants.{Clear}, reply.Reply.{Reply}}, State.{State}, Table.{wants, after, opening}, Sound.{MayBegin}}
+use Rattle.cacache_calls.specs.{declared.{reply.Reply.{Reply}, visit.Visit.TheVariants.{RemoveFile}}, State.{State, doing, writing, syncing, persisting, walking}, Table.{wants, after, opening}, Sound.{MayBegin}}
 use Rattle.cacache_history.specs.{declared.record.Record.{Record}, Setup.{Setup, call_site, may_export, is_outside}, History.{History, Ends, NamesIntegrity}}
 
 -- an open file of a store of real folders, as contracts see it
@@ -102,6 +103,22 @@ IsOnHeld m held opened (store.Read f max) = opened ≡ Some (f, file_on m f)
 IsOnHeld m held opened (store.SyncTemp t) = held ≡ Some t
 IsOnHeld m held opened step = Unit {0}
 
+-- the path of the temporary file that a state is about
+abbrev pub temp_of : State → Option (List ℕ)
+temp_of (doing errand s) = temp_of s
+temp_of (writing c file rest) = Some file.path
+temp_of (syncing c file) = Some file.path
+temp_of (persisting c file) = Some file.path
+temp_of state = None
+
+-- A clear removes no temporary file of a call that is on its way. After that the disk's table would refuse this call's next
+-- write, and a system wouldn't.
+abbrev pub SparesTemps : (ℕ → Option State) → State → Type 0
+SparesTemps states (walking w (RemoveFile p) todo) =
+    (caller : ℕ) (state : State) (path : List ℕ) → states caller ≡ Some state
+    → temp_of state ≡ Some path → names_of p ≡ names_of path → ⊥
+SparesTemps states state = Unit {0}
+
 -- A call makes the step that its state wants, as contracts see it, and the answer ends the call or not. The step's system
 -- calls are a run, and happened where the calls before them ended.
 pub record MakesSeenStep (f : SeenState) (caller : ℕ) (made : StepMade) (reply : Option Reply) : Type 0 where
@@ -109,6 +126,7 @@ pub record MakesSeenStep (f : SeenState) (caller : ℕ) (made : StepMade) (reply
   pub stands : f.states caller ≡ Some state
   pub wanted : wants state ≡ Some (step_seen made.step)
   pub held : IsOnHeld made.before (f.held caller) (f.opened caller) made.step
+  pub spares : SparesTemps f.states state
   pub here : made.before ≡ f.machine
   pub runs : Runs (first made.hint made.step) made.items made.end
   pub each : EachCall OccursSomehow made.before made.items made.after
@@ -118,12 +136,12 @@ pub record MakesSeenStep (f : SeenState) (caller : ℕ) (made : StepMade) (reply
   pub fits : NeedsFit (step_of made) (answer_in made)
   pub over : Ends (after state (answer_seen (answer_of made.step made.end))) reply
 
--- an act of calls of any command but `Clear`
+-- an act of calls of any command
 abbrev pub MayActSeen : Setup → SeenState → Act → Type 0
 MayActSeen s f (begins caller command) =
     (caller < s.callers) × (f.states caller ≡ None)
     × MayBegin (call_site s f.begun) (may_export s) (is_outside s) command × NamesIntegrity command
-    × (command ≡ Clear → ⊥) × (f.begun + 1 ≤ 2 ^ 64)
+    × (f.begun + 1 ≤ 2 ^ 64)
 MayActSeen s f (steps caller made reply) = MakesSeenStep f caller made reply
 MayActSeen s f (ends caller reply) =
     (state : State) × (f.states caller ≡ Some state) × (wants state ≡ None) × Ends state (Some reply)

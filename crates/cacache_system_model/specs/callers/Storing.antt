@@ -1,4 +1,4 @@
--- Steps of calls that remove no folder. Most of what their laws ask of the machine's tree follows from the acts before them.
+-- Steps of calls. Most of what their laws ask of the machine's tree follows from the acts before them.
 use Rattle.std.specs.Prelude.{◌≡◌, ◌⊎◌, ℕ, Bool, true, List, Option, None, Some, Ok, IfOk}
 use Rattle.std_io.specs.declared.io.kind.ErrorKind.TheVariants as kind
 use Rattle.cacache_core.specs.PathNames.{Names, names_of}
@@ -14,7 +14,7 @@ use Rattle.cacache_history.specs.{Setup.{Setup, home}, History.{Ends}}
 abbrev pub IsNotFor : Option Names → PathKind → List ℕ → Type 0
 IsNotFor h k path = IfOk (names_of path) (λ names. path_kind h names ≡ k → ⊥)
 
--- a step removes no folder, and reads, links, removes and syncs no temporary file by its path
+-- a step reads, links and syncs no temporary file by its path
 abbrev pub Stores : Option Names → PlainStep → Type 0
 Stores h (steps.ReadAll p) = IsNotFor h Temporary p
 Stores h (steps.Open p) = IsNotFor h Temporary p
@@ -22,8 +22,6 @@ Stores h (steps.Size p) = IsNotFor h Temporary p
 Stores h (steps.Copy p q) = IsNotFor h Temporary p
 Stores h (steps.Reflink p q) = IsNotFor h Temporary p
 Stores h (steps.HardLink p q) = IsNotFor h Temporary p
-Stores h (steps.RemoveFile p) = IsNotFor h Temporary p
-Stores h (steps.RemoveDir p) = ⊥
 Stores h (steps.SyncFile p) = IsNotFor h Temporary p
 Stores h (steps.SyncDir p) = IsFor h Way p
 Stores h step = Unit {0}
@@ -51,6 +49,7 @@ HintStands m hint (steps.Read f max) = IsOpen m f
 HintStands m hint (steps.Copy p q) = CanCopy m q
 HintStands m hint (steps.ReadDir p) = CanList m p
 HintStands m hint (steps.RemoveFile p) = WalkStands m.tree hint
+HintStands m hint (steps.RemoveDir p) = WalkStands m.tree hint
 HintStands m hint step = Unit {0}
 
 -- none of a step's calls fails without cause, and it has what its law then asks
