@@ -60,7 +60,7 @@ folder_shape : (o : Option Node) → is_folder (hollow o) ≡ is_folder o
 folder_shape (Some Folder) = refl
 folder_shape o = refl
 
-folder_alike : (o : Bool) (a b : Option Node) → LeavesSame o a b → is_folder b ≡ is_folder a
+pub folder_alike : (o : Bool) (a b : Option Node) → LeavesSame o a b → is_folder b ≡ is_folder a
 folder_alike o a b same = sym (folder_shape b) ∙ ap is_folder (shape_left o a b same) ∙ folder_shape a
 
 none_alike : (o : Bool) → LeavesSame o None None

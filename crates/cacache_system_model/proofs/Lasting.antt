@@ -28,14 +28,14 @@ no_sync f t new (steps.SyncFile p) answer is = absurd (let wrong : true ≡ fals
 no_sync f t new (steps.SyncDir p) answer is = absurd (let wrong : true ≡ false = is in cc)
 no_sync f t new step answer is = refl
 
-made_fixed : (c : Bool) (f : Fixed) (m n : Machine) (step : NumberedStep) (end : CallResult) → is_sync (step_on m step) ≡ c → (c ≡ true → FixesSynced m step end n)
+pub made_fixed : (c : Bool) (f : Fixed) (m n : Machine) (step : NumberedStep) (end : CallResult) → is_sync (step_on m step) ≡ c → (c ≡ true → FixesSynced m step end n)
     → cond c (after_syncs (synced_since m n) f) (changed f m.tree n.tree (step_on m step) (answer_on n (answer_of step end)))
     ≡ fixed_after f m.tree n.tree (step_on m step) (answer_on n (answer_of step end))
 made_fixed true f m n step end is syncs =
     let s = syncs refl in ap (λ (nodes : List SyncedNode). after_syncs nodes f) (since_is m n s.0 s.1) ∙ sym (s.2 f)
 made_fixed false f m n step end is syncs = sym (no_sync f m.tree n.tree (step_on m step) (answer_on n (answer_of step end)) is)
 
-syncs_fix : (m n : Machine) (hint : Hint) (step : NumberedStep) (items : List CallItem) (end : CallResult) → Premise m hint step → NoDoubt m
+pub syncs_fix : (m n : Machine) (hint : Hint) (step : NumberedStep) (items : List CallItem) (end : CallResult) → Premise m hint step → NoDoubt m
     → Runs (first hint step) items end → EachCall OccursSomehow m items n → is_sync (step_on m step) ≡ true → FixesSynced m step end n
 syncs_fix m n hint (steps.SyncTemp temp) items end (names, bytes, ready) sure runs each is = sync_temp_fixes m hint temp names bytes ready sure items end n runs each
 syncs_fix m n hint (steps.SyncFile p) items end premise sure runs each is = sync_file_fixes m hint p sure items end n runs each
@@ -44,15 +44,15 @@ syncs_fix m n hint step items end premise sure runs each is = absurd (let wrong 
 
 -- ---- kinds of steps
 
-none_anew : (m : Machine) (step : NumberedStep) → CopiesNone step → (t : Tree) (q : Names) → rewrites_at t (step_on m step) q ≡ false
+pub none_anew : (m : Machine) (step : NumberedStep) → CopiesNone step → (t : Tree) (q : Names) → rewrites_at t (step_on m step) q ≡ false
 none_anew m (steps.Copy from to) none t q = absurd none
 none_anew m step none t q = refl
 
-failed_moves : (step : PlainStep) (fault : Fault) → moves_file step (answers.Failed fault) ≡ None
+pub failed_moves : (step : PlainStep) (fault : Fault) → moves_file step (answers.Failed fault) ≡ None
 failed_moves (steps.Persist temp p) fault = refl
 failed_moves step fault = refl
 
-memory_moves : (step other : PlainStep) → moves_file step (answers.NoMemory other) ≡ None
+pub memory_moves : (step other : PlainStep) → moves_file step (answers.NoMemory other) ≡ None
 memory_moves (steps.Persist temp p) other = refl
 memory_moves step other = refl
 
@@ -61,7 +61,7 @@ failed_so : (o : Option Fault) (d : Tree) → (fault : Fault) × (fails o Device
 failed_so None d = (made_up Device, refl)
 failed_so (Some own) d = (own, refl)
 
-failed_apply : (d : Tree) (step : PlainStep) → (fault : Fault) × (apply d step (Fail Device None) ≡ outcome (answers.Failed fault) d)
+pub failed_apply : (d : Tree) (step : PlainStep) → (fault : Fault) × (apply d step (Fail Device None) ≡ outcome (answers.Failed fault) d)
 unfolding apply
 failed_apply d step = failed_so (fault_told (plain d step None).0) d
 
@@ -120,7 +120,7 @@ module _ (own temps : Names → Bool) (f : Fixed) (now : Moment) (s : StepMade) 
   lucky_follows spares clean (inr (inr left)) = absurd (clean left)
 
 -- an open temporary file that is written
-write_touched : (temps : Names → Bool) (m n : Machine) (temp : NumberedTemp) (more bytes : List ℕ) (names : Names) (answer : PlainAnswer) → names_of temp.path ≡ Ok names → put m.tree names (File bytes) ≡ n.tree
+pub write_touched : (temps : Names → Bool) (m n : Machine) (temp : NumberedTemp) (more bytes : List ℕ) (names : Names) (answer : PlainAnswer) → names_of temp.path ≡ Ok names → put m.tree names (File bytes) ≡ n.tree
     → (q : Names) (c : Bool) → same_path q names ≡ c → Touched temps temps m.tree n.tree (steps.Write (temp_on m temp) more) answer q
 write_touched temps m n temp more bytes names answer named tree q true at = grows (ap (λ (r : Result Names Fault). is_at r q) named ∙ at)
 write_touched temps m n temp more bytes names answer named tree q false at = rests (ap (λ (t : Tree). look t q) (sym tree) ∙ put_misses m.tree names q (File bytes) at) refl

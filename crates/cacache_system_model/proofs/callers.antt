@@ -19,4 +19,6 @@ pub mod NextSteps
 pub mod Numbering
 pub mod WithoutBytes
 pub mod Seeing
+pub mod FixedSteps
+pub mod Losing
 pub mod Example

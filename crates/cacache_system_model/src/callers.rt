@@ -1,5 +1,5 @@
 //! Callers' store steps, made by system calls on one machine, as a history of many callers.
-ghost use Rattle.cacache_system_model.specs.callers.{Example.{ClearsCanRemove, QuestionsCanBe}, Made.{CachesBegin, CachesGoOn, SystemsMakeHistories}, Opened.{RunsKeepOpen}, Seen.{SeenMakeHistories}, Storing.{StoringMakeHistories}};
+ghost use Rattle.cacache_system_model.specs.callers.{Example.{ClearsCanRemove, QuestionsCanBe}, Losing.{SeenLose, StoringLose}, Made.{CachesBegin, CachesGoOn, SystemsMakeHistories}, Opened.{RunsKeepOpen}, Seen.{SeenMakeHistories}, Storing.{StoringMakeHistories}};
 
 /// What callers do on one machine goes on with the legal history that left its cache, with their replies, if the system
 /// calls of each store step follow one another. The history's last tree mirrors the machine's. If a step failed and ended
@@ -12,6 +12,8 @@ ghost use Rattle.cacache_system_model.specs.callers.{Example.{ClearsCanRemove, Q
 /// - `seen` doesn't ask that: it is about callers as the contracts of their stores see them, whose files are numbers and
 ///   paths. A clear removes no temporary file of a call that is on its way.
 /// - `keep`: the system calls of a step of these calls keep open files open.
+/// - `losses` is about the acts of `seen`, and `storing_losses` about those of `storing`, if all is fixed at first, none copies
+///   a file, and no sync failed: a loss of power leaves of the machine what it leaves of the history.
 /// - `example`: what `seen` asks can be met; `clears`: by a clear's removals too, if no other call is on its way.
 pub fn system_history_laws()
     ensures begin { CachesBegin }
@@ -22,4 +24,6 @@ pub fn system_history_laws()
     ensures keep { RunsKeepOpen }
     ensures example { QuestionsCanBe }
     ensures clears { ClearsCanRemove }
+    ensures storing_losses { StoringLose }
+    ensures losses { SeenLose }
 {}

@@ -198,36 +198,50 @@ module _ (h : Option Names) (temps : Names → Bool) (are : AreTemps h temps) (m
   has_asked step stores holds stands is = inl (tt, tt)
 
 made_so : (temps : Names → Bool) (made : StepMade) (reply : Option Reply) → Runs (first made.hint made.step) made.items made.end
-    → EachCall OccursSomehow made.before made.items made.after → IsExplained made reply → HasAsked temps made.before made.hint made.step → IsMade temps made ⊎ EndsFailed made reply
+    → EachCall OccursSomehow made.before made.items made.after → IsExplained made reply → HasAsked temps made.before made.hint made.step
+    → IsMade temps made ⊎ (EndsFailed made reply × Premise made.before made.hint made.step)
 made_so temps made reply runs each luck (inr writes) = inl (runs, each, inr (inl writes))
 made_so temps made reply runs each (inl done) (inl (premise, spares)) = inl (runs, each, inl (record { premise = premise; done = done; spares = spares }))
 made_so temps made reply runs each (inr (inl (plain, well, memory))) (inl (premise, spares)) =
     inl (runs, each, inr (inr (record { premise = premise; plain = plain; well = well; memory = memory; spares = spares })))
-made_so temps made reply runs each (inr (inr failed)) (inl asked) = inr failed
+made_so temps made reply runs each (inr (inr failed)) (inl (premise, spares)) = inr (failed, premise)
+
+abbrev forgotten : {A B C : Type 0} → A ⊎ (B × C) → A ⊎ B
+forgotten (inl a) = inl a
+forgotten (inr (b, c)) = inr b
 
 -- ---- acts
 
 module _ (s : Setup) (apart : LieApart (home s) s.outside) (w : SystemState) (now : Now) (agree : Agree s w now) where
-  makes_step : (caller : ℕ) (made : StepMade) (reply : Option Reply) → MakesStoringStep (home s) w caller made reply → MakesStep w caller made reply
-  makes_step caller made reply m =
-      let c = has_call (now.calls caller) (w.states caller) m.state (agree.states caller) m.stands in
-      let mine = of_caller s c.0 _ c.1 (agree.all.calls caller) in
-      let proper : Proper (home s) (step_of made) = sound_proper s c.0.number apart c.0.state (step_of made) mine.sound (ap wants c.2 ∙ m.wanted) in
-      let mirrors : Mirrors w.temps made.before.tree now.tree = subst (λ (x : Machine). Mirrors w.temps x.tree now.tree) (sym m.here) agree.mirrors in
-      record {
-        state = m.state;
-        stands = m.stands;
-        here = m.here;
-        wanted = m.wanted;
-        is_made = made_so w.temps made reply m.runs m.each m.luck
-            (has_asked (home s) w.temps agree.temps made.before now.tree mirrors agree.all.placed agree.all.rooted made.hint made.step m.stores m.holds m.hint proper);
-        clean = m.clean;
-        fits = m.fits;
-        over = m.over;
-      }
+  module _ (caller : ℕ) (made : StepMade) (reply : Option Reply) (m : MakesStoringStep (home s) w caller made reply) where
+    pub before_mirrors : Mirrors w.temps made.before.tree now.tree
+    before_mirrors = subst (λ (x : Machine). Mirrors w.temps x.tree now.tree) (sym m.here) agree.mirrors
+
+    pub step_asked : HasAsked w.temps made.before made.hint made.step
+    step_asked =
+        let c = has_call (now.calls caller) (w.states caller) m.state (agree.states caller) m.stands in
+        let mine = of_caller s c.0 _ c.1 (agree.all.calls caller) in
+        let proper : Proper (home s) (step_of made) = sound_proper s c.0.number apart c.0.state (step_of made) mine.sound (ap wants c.2 ∙ m.wanted) in
+        has_asked (home s) w.temps agree.temps made.before now.tree before_mirrors agree.all.placed agree.all.rooted made.hint made.step m.stores m.holds m.hint proper
+
+    pub step_so : IsMade w.temps made ⊎ (EndsFailed made reply × Premise made.before made.hint made.step)
+    step_so = made_so w.temps made reply m.runs m.each m.luck step_asked
+
+    -- the step as its law has it
+    abbrev pub lawful : IsMade w.temps made ⊎ EndsFailed made reply → MakesStep w caller made reply
+    lawful so = record {
+      state = m.state;
+      stands = m.stands;
+      here = m.here;
+      wanted = m.wanted;
+      is_made = so;
+      clean = m.clean;
+      fits = m.fits;
+      over = m.over;
+    }
 
   pub may_act : (act : Act) → MayStore s w act → MayAct s w act
-  may_act (makes caller made reply) may = makes_step caller made reply may
+  may_act (makes caller made reply) m = lawful caller made reply m (forgotten (step_so caller made reply m))
   may_act act may = may
 
 pub storing_makes_histories : StoringMakeHistories

@@ -2,12 +2,12 @@
 use Rattle.std.proofs.Common.{◌≡◌, ◌⊎◌, inl, inr, ◌≤◌, ◌+◌, ◌^◌, ◌==◌, ℕ, Bool, true, false, cond, List, [], ◌∷◌, ◌++◌, Option, None, Some, Ok, option_map, refl, sym, ap, subst, ◌∙◌, arith}
 use Rattle.cacache_core.specs.{declared.errors.{Fault.{Fault, TheVariants.{Device}}, Error.TheVariants.{OutOfMemory}}, PathNames.{Names}}
 use Rattle.cacache_store.specs.declared.store.answer.Answer.TheVariants as answers
-use Rattle.cacache_store.specs.{Plain.{PlainStep, PlainAnswer}, Fits.{Fits}}
-use Rattle.cacache_disk.specs.{declared.luck.Luck.{Luck, TheVariants.{Plain, Fail}}, Tree.{Tree, look}, Apply.{apply, plain, fails, fault_told}}
+use Rattle.cacache_store.specs.Plain.{PlainStep, PlainAnswer}
+use Rattle.cacache_disk.specs.{declared.luck.Luck.{Luck, TheVariants.{Plain, Fail}}, Tree.{Tree, look}, Apply.{apply}}
 use Rattle.cacache_value.specs.OpeningTrees.{LieApart}
 use Rattle.cacache_system.specs.AnswersOf.{answer_of}
-use Rattle.cacache_system_model.specs.{Machine.{Machine}, Laws.{step_on, answer_on, outcome, LeavesFresh}, Mirrors.{Mirrors}, Chains.{StepMade, temps_left, IsMade, OnDisk}, callers.{Acts.{Act, begins, steps as makes, ends, stops, SystemState, EndsFailed, step_of, answer_in, NeedsFit, unless_ended, after_act, after_acts, MakesStep, MayAct, EachMay, IsRecordOf, AreRecordsOf}, Made.{history_of, now_left, AreTemps, CacheOn, CachesBegin, CachesGoOn, system_at, MakesHistory, MakeHistories, SystemsMakeHistories}}}
-use Rattle.cacache_system_model.proofs.{Chaining.{steps_on_disk}, callers.{OpenTemps.{temps_kept}, Fitting.{fits_so}, Failing.{failed_temps}}}
+use Rattle.cacache_system_model.specs.{Machine.{Machine}, Laws.{step_on, answer_on, outcome, LeavesFresh}, Mirrors.{Mirrors}, Chains.{StepMade, temps_left, IsMade, OnDisk}, callers.{Acts.{Act, begins, steps as makes, ends, stops, SystemState, EndsFailed, step_of, answer_in, NeedsFit, unless_ended, after_act, after_acts, MakesStep, MayAct, EachMay, IsMoved, IsRecordOf, AreRecordsOf}, Made.{history_of, now_left, AreTemps, CacheOn, CachesBegin, CachesGoOn, system_at, MakesHistory, MakeHistories, SystemsMakeHistories}}}
+use Rattle.cacache_system_model.proofs.{Chaining.{steps_on_disk}, Lasting.{failed_apply}, callers.{OpenTemps.{temps_kept}, Fitting.{fits_so}, Failing.{failed_temps}}}
 use Rattle.cacache_calls.specs.{declared.{command.Command.{Command}, reply.Reply.{Reply, TheVariants.{Refused}}}, State.{State, over}, Table.{wants, after, opening}, Runs.{plain_reply}, Sound.{MayBegin}}
 use Rattle.cacache_calls.proofs.Memory.{no_memory_after}
 use Rattle.cacache_history.specs.{declared.record.Record.{Record, TheVariants.{Began, Moved, Stopped}}, Setup.{Setup, call_site, home, may_export, is_outside}, History.{Call, Now, tree_in, initial, new_call, call_after, unless_over, moved_call, now_after, replayed, Ends, MayMove, MayCome, Legal}}
@@ -30,7 +30,7 @@ pub has_call : (o : Option Call) (x : Option State) (state : State) → x ≡ op
 has_call None x state e is = let no : None ≡ Some state = sym e ∙ is in absurd cc
 has_call (Some call) x state e is = let same : Some call.state ≡ Some state = sym e ∙ is in (call, refl, cc)
 
-no_call : (o : Option Call) (x : Option State) → x ≡ option_map state_of o → x ≡ None → o ≡ None
+pub no_call : (o : Option Call) (x : Option State) → x ≡ option_map state_of o → x ≡ None → o ≡ None
 no_call None x e is = refl
 no_call (Some call) x e is = let no : Some call.state ≡ None = sym e ∙ is in absurd cc
 
@@ -49,13 +49,8 @@ moved_same None t luck step a (Some call) x e = ap (option_map (λ (state : Stat
 abbrev back : Luck
 back = Fail Device None
 
-failed_fits : (step : PlainStep) (o : Option Fault) (t : Tree) → Fits step (fails o Device t t).0 × ((fails o Device t t).1 ≡ t)
-failed_fits step None t = (tt, refl)
-failed_fits step (Some own) t = (tt, refl)
-
-back_fails : (t : Tree) (step : PlainStep) → Fits step (apply t step back).0 × ((apply t step back).1 ≡ t)
-unfolding apply
-back_fails t step = failed_fits step (fault_told (plain t step None).0) t
+back_fails : (t : Tree) (step : PlainStep) → (fault : Fault) × ((apply t step back).0 ≡ answers.Failed fault) × ((apply t step back).1 ≡ t)
+back_fails t step = let f = failed_apply t step in (f.0, ap (λ (r : PlainAnswer × Tree). r.0) f.1, ap (λ (r : PlainAnswer × Tree). r.1) f.1)
 
 memory_over : (reply : Option Reply) → Ends (over (Refused OutOfMemory)) reply → reply ≡ Some (Refused OutOfMemory)
 memory_over None (step, e) = let no : None ≡ Some step = e in absurd cc
@@ -70,6 +65,11 @@ back_reply state made reply wanted is ended =
     memory_over reply (subst (λ (x : State). Ends x reply) lost ended)
 
 -- ---- one act
+
+-- a step that was made is recorded as a move, and one that failed by the caller giving its call up
+abbrev pub Told : {A B : Type 0} → ℕ → StepMade → Option Reply → A ⊎ B → Record → Type 0
+Told caller made reply (inl is_made) r = IsMoved caller made reply r
+Told caller made reply (inr failed) r = r ≡ Stopped caller
 
 -- an act's record may come, and what it leaves agrees with what the act leaves
 pub record Follows (s : Setup) (w : SystemState) (now : Now) (act : Act) : Type 0 where
@@ -147,66 +147,78 @@ module _ (s : Setup) (apart : LieApart (home s) s.outside) (w : SystemState) (no
           (made_proper s apart now.tree luck (step_of made, answer) reply call (of_caller s call _ is (agree.all.calls caller)) may) agree.temps;
     }
 
+    abbrev Moves : Option Reply → Type 0
+    Moves reply = (g : Follows s w now (makes caller made reply)) × IsMoved caller made reply g.r
+
     done_follows : (reply : Option Reply) (luck : Luck) (new : Tree) → wants call.state ≡ Some (step_of made) → NeedsFit (step_of made) (answer_in made) → Ends (after call.state (answer_in made)) reply
         → apply now.tree (step_of made) luck ≡ outcome (answer_in made) new → Mirrors (temps_left w.temps made) made.after.tree new
-        → Follows s w now (makes caller made reply)
+        → Moves reply
     done_follows reply luck new wanted fits ended done mirrors =
         let answer : answer_in made ≡ (apply now.tree (step_of made) luck).0 = sym (ap (λ (r : PlainAnswer × Tree). r.0) done) in
         let tree : new ≡ (apply now.tree (step_of made) luck).1 = sym (ap (λ (r : PlainAnswer × Tree). r.1) done) in
         let may : MayMove now.tree call.state luck (Some (step_of made, answer_in made)) reply = (wanted, answer, fits_so now.tree (step_of made) luck (answer_in made) answer fits, ended) in
-        record {
-          r = Moved caller luck (Some (step_of made, answer_in made)) reply;
-          of_act = inl (luck, answer_in made, refl, inl refl);
-          may = (call, is, may);
-          agree = moved_agree luck (answer_in made) reply may (subst (λ (t : Tree). Mirrors (temps_left w.temps made) made.after.tree t) tree mirrors)
-              (moved_same reply now.tree luck (step_of made) (answer_in made) (now.calls caller) (w.states caller) (agree.states caller));
-        }
+        let moved : IsMoved caller made reply (Moved caller luck (Some (step_of made, answer_in made)) reply) = (luck, answer_in made, refl, inl refl) in (
+          record {
+            r = Moved caller luck (Some (step_of made, answer_in made)) reply;
+            of_act = inl moved;
+            may = (call, is, may);
+            agree = moved_agree luck (answer_in made) reply may (subst (λ (t : Tree). Mirrors (temps_left w.temps made) made.after.tree t) tree mirrors)
+                (moved_same reply now.tree luck (step_of made) (answer_in made) (now.calls caller) (w.states caller) (agree.states caller));
+          },
+          moved,
+        )
 
     back_follows : answer_of made.step made.end ≡ answers.NoMemory made.step → wants call.state ≡ Some (step_of made) → Mirrors (temps_left w.temps made) made.after.tree now.tree
-        → Follows s w now (makes caller made (Some (Refused OutOfMemory)))
+        → Moves (Some (Refused OutOfMemory))
     back_follows lost wanted mirrors =
         let f = back_fails now.tree (step_of made) in
-        let answer : PlainAnswer = (apply now.tree (step_of made) back).0 in
-        let may : MayMove now.tree call.state back (Some (step_of made, answer)) (Some (Refused OutOfMemory)) = (wanted, refl, f.0, inr refl) in
-        record {
-          r = Moved caller back (Some (step_of made, answer)) (Some (Refused OutOfMemory));
-          of_act = inl (back, answer, refl, inr lost);
-          may = (call, is, may);
-          agree = moved_agree back answer (Some (Refused OutOfMemory)) may (subst (λ (t : Tree). Mirrors (temps_left w.temps made) made.after.tree t) (sym f.1) mirrors) refl;
-        }
+        let reply : Option Reply = Some (Refused OutOfMemory) in
+        let answer : PlainAnswer = answers.Failed f.0 in
+        let may : MayMove now.tree call.state back (Some (step_of made, answer)) reply = (wanted, sym f.1, tt, inr refl) in
+        let moved : IsMoved caller made reply (Moved caller back (Some (step_of made, answer)) reply) = (back, answer, refl, inr (lost, f.0, refl)) in (
+          record {
+            r = Moved caller back (Some (step_of made, answer)) reply;
+            of_act = inl moved;
+            may = (call, is, may);
+            agree = moved_agree back answer reply may (subst (λ (t : Tree). Mirrors (temps_left w.temps made) made.after.tree t) (sym f.2) mirrors) refl;
+          },
+          moved,
+        )
 
     on_disk_follows : (reply : Option Reply) → wants call.state ≡ Some (step_of made) → NeedsFit (step_of made) (answer_in made) → Ends (after call.state (answer_in made)) reply
-        → (LeavesFresh made.before made.step (answer_of made.step made.end) made.after → ⊥) → OnDisk w.temps now.tree made → Follows s w now (makes caller made reply)
+        → (LeavesFresh made.before made.step (answer_of made.step made.end) made.after → ⊥) → OnDisk w.temps now.tree made → Moves reply
     on_disk_follows reply wanted fits ended clean (inl (luck, new, done, mirrors)) = done_follows reply luck new wanted fits ended done mirrors
     on_disk_follows reply wanted fits ended clean (inr (inr left)) = absurd (clean left)
     on_disk_follows reply wanted fits ended clean (inr (inl (lost, mirrors))) =
-        subst (λ (q : Option Reply). Follows s w now (makes caller made q)) (sym (back_reply call.state made reply wanted lost ended)) (back_follows lost wanted mirrors)
+        subst Moves (sym (back_reply call.state made reply wanted lost ended)) (back_follows lost wanted mirrors)
 
     -- a step that failed, and whose caller gives its call up
-    failed_follows : (reply : Option Reply) → Mirrors w.temps made.before.tree now.tree → EndsFailed made reply → Follows s w now (makes caller made reply)
+    failed_follows : (reply : Option Reply) → Mirrors w.temps made.before.tree now.tree → EndsFailed made reply → (g : Follows s w now (makes caller made reply)) × (g.r ≡ Stopped caller)
     failed_follows reply mirrors f =
-        let temps : temps_left w.temps made ≡ w.temps = failed_temps made f.why f.failed w.temps in
-        record {
-          r = Stopped caller;
-          of_act = inr (refl, f);
-          may = (call, is);
-          agree = record {
-            mirrors = subst (λ (x : Names → Bool). Mirrors x made.after.tree now.tree) (sym temps) (subst (λ (t : Tree). Mirrors w.temps t now.tree) (sym f.same) mirrors);
-            states = λ k. set_same (k == caller) (unless_ended reply (option_map (λ (state : State). after state (answer_in made)) (w.states caller))) (w.states k) None (now.calls k)
-                (ap (λ (q : Option Reply). unless_ended q (option_map (λ (state : State). after state (answer_in made)) (w.states caller))) f.over) (agree.states k);
-            begun = agree.begun;
-            all = next_holds s apart now (Stopped caller) (call, is) agree.all;
-            temps = subst (AreTemps (home s)) (sym temps) agree.temps;
-          };
-        }
+        let temps : temps_left w.temps made ≡ w.temps = failed_temps made f.why f.failed w.temps in (
+          record {
+            r = Stopped caller;
+            of_act = inr (refl, f);
+            may = (call, is);
+            agree = record {
+              mirrors = subst (λ (x : Names → Bool). Mirrors x made.after.tree now.tree) (sym temps) (subst (λ (t : Tree). Mirrors w.temps t now.tree) (sym f.same) mirrors);
+              states = λ k. set_same (k == caller) (unless_ended reply (option_map (λ (state : State). after state (answer_in made)) (w.states caller))) (w.states k) None (now.calls k)
+                  (ap (λ (q : Option Reply). unless_ended q (option_map (λ (state : State). after state (answer_in made)) (w.states caller))) f.over) (agree.states k);
+              begun = agree.begun;
+              all = next_holds s apart now (Stopped caller) (call, is) agree.all;
+              temps = subst (AreTemps (home s)) (sym temps) agree.temps;
+            };
+          },
+          refl,
+        )
 
     made_follows : (reply : Option Reply) → wants call.state ≡ Some (step_of made) → NeedsFit (step_of made) (answer_in made) → Ends (after call.state (answer_in made)) reply
         → (LeavesFresh made.before made.step (answer_of made.step made.end) made.after → ⊥) → Mirrors w.temps made.before.tree now.tree
-        → IsMade w.temps made ⊎ EndsFailed made reply → Follows s w now (makes caller made reply)
+        → (so : IsMade w.temps made ⊎ EndsFailed made reply) → (g : Follows s w now (makes caller made reply)) × Told caller made reply so g.r
     made_follows reply wanted fits ended clean mirrors (inl is_made) = on_disk_follows reply wanted fits ended clean (steps_on_disk w.temps now.tree made mirrors is_made)
     made_follows reply wanted fits ended clean mirrors (inr failed) = failed_follows reply mirrors failed
 
-  step_follows : (caller : ℕ) (made : StepMade) (reply : Option Reply) → MakesStep w caller made reply → Follows s w now (makes caller made reply)
+  pub step_follows : (caller : ℕ) (made : StepMade) (reply : Option Reply) → (m : MakesStep w caller made reply) → (g : Follows s w now (makes caller made reply)) × Told caller made reply m.is_made g.r
   step_follows caller made reply m =
       let c = has_call (now.calls caller) (w.states caller) m.state (agree.states caller) m.stands in
       made_follows caller made c.0 c.1 reply (ap wants c.2 ∙ m.wanted) m.fits (subst (λ (x : State). Ends (after x (answer_in made)) reply) (sym c.2) m.over) m.clean
@@ -214,7 +226,7 @@ module _ (s : Setup) (apart : LieApart (home s) s.outside) (w : SystemState) (no
 
   pub act_follows : (act : Act) → MayAct s w act → Follows s w now act
   act_follows (begins caller command) may = begin_follows caller command may
-  act_follows (makes caller made reply) may = step_follows caller made reply may
+  act_follows (makes caller made reply) may = (step_follows caller made reply may).0
   act_follows (ends caller reply) may = over_follows caller reply may
   act_follows (stops caller) may = stop_follows caller may
 
@@ -226,19 +238,22 @@ pub record FollowAll (s : Setup) (w : SystemState) (now : Now) (acts : List Act)
   pub legal : Legal s now records
   pub agree : Agree s (after_acts s w acts) (replayed s now records)
 
+-- what follows an act and those after it
+abbrev pub then_all : (s : Setup) (w : SystemState) (now : Now) (act : Act) (acts : List Act) → (f : Follows s w now act) → FollowAll s (after_act s w act) (now_after s now f.r) acts → FollowAll s w now (act ∷ acts)
+then_all s w now act acts f g = record {
+  records = f.r ∷ g.records;
+  of_acts = (f.r, g.records, refl, f.of_act, g.of_acts);
+  legal = (f.may, g.legal);
+  agree = g.agree;
+}
+
 -- acts that may be by a rule, which may be wherever the two agree
 module _ (s : Setup) (apart : LieApart (home s) s.outside) (May : SystemState → Act → Type 0) (may_act : (w : SystemState) (now : Now) → Agree s w now → (act : Act) → May w act → MayAct s w act) where
   acts_follow : (acts : List Act) (w : SystemState) (now : Now) → Agree s w now → EachMay May s w acts → FollowAll s w now acts
   acts_follow [] w now agree may = record { records = []; of_acts = refl; legal = tt; agree = agree }
   acts_follow (act ∷ acts) w now agree (may, later) =
       let f = act_follows s apart w now agree act (may_act w now agree act may) in
-      let g = acts_follow acts (after_act s w act) (now_after s now f.r) f.agree later in
-      record {
-        records = f.r ∷ g.records;
-        of_acts = (f.r, g.records, refl, f.of_act, g.of_acts);
-        legal = (f.may, g.legal);
-        agree = g.agree;
-      }
+      then_all s w now act acts f (acts_follow acts (after_act s w act) (now_after s now f.r) f.agree later)
 
 -- ---- from a cache on
 
@@ -255,9 +270,10 @@ caches_begin s m apart is =
         are_temps = λ q e. absurd cc;
       },
       refl,
+      λ q. refl,
     )
 
-legal_join : (s : Setup) (now : Now) (past records : List Record) → Legal s now past → Legal s (replayed s now past) records → Legal s now (past ++ records)
+pub legal_join : (s : Setup) (now : Now) (past records : List Record) → Legal s now past → Legal s (replayed s now past) records → Legal s now (past ++ records)
 legal_join s now [] records old legal = legal
 legal_join s now (r ∷ past) records old legal = (old.0, legal_join s (now_after s now r) past records old.1 legal)
 
@@ -272,7 +288,7 @@ module _ (s : Setup) (m : Machine) (cache : CacheOn s m) where
   }
 
   -- acts that a history follows from there
-  pub makes_history : (acts : List Act) → FollowAll s (system_at s m cache) (now_left s cache.past) acts → MakesHistory s cache.past acts (after_acts s (system_at s m cache) acts)
+  abbrev pub makes_history : (acts : List Act) → FollowAll s (system_at s m cache) (now_left s cache.past) acts → MakesHistory s cache.past acts (after_acts s (system_at s m cache) acts)
   makes_history acts f =
       let last = after_acts s (system_at s m cache) acts in
       let agree : Agree s last (now_left s (cache.past ++ f.records)) = subst (Agree s last) (sym (replay_more s (initial s) cache.past f.records)) f.agree in

@@ -1,7 +1,7 @@
 -- What a step leaves of the handles and paths of all callers.
 use Rattle.std.proofs.{Common.{◌≡◌, ◌⊎◌, inl, inr, ◌≤◌, ◌<◌, ◌^◌, ◌==◌, ℕ, Bool, true, false, cond, List, [], Option, None, Some, Ok, option_map, refl, sym, ap, subst, ◌∙◌, arith}, lemmas.Bool.{eqb-true, eqb-false}}
 use Rattle.std.specs.Prelude.{Err}
-use Rattle.cacache_core.specs.PathNames.{Names, names_of}
+use Rattle.cacache_core.specs.{declared.errors.Fault.{Fault}, PathNames.{Names, names_of}}
 use Rattle.cacache_store.specs.{declared.store.{plain.{PlainFile.{PlainFile}, PlainTemp.{PlainTemp}}, answer.Name.{Name}}, Plain.{PlainStep, PlainAnswer}, Fits.{Fits, AreProperNames}}
 use Rattle.cacache_store.specs.declared.store.step.Step.TheVariants as steps
 use Rattle.cacache_store.specs.declared.store.answer.Answer.TheVariants as answers
@@ -286,11 +286,11 @@ module _ (s : Setup) (apart : LieApart (home s) s.outside) (f : NumberedState) (
 
     -- what the record says of the answer
     answer_given : (luck : Luck) (answer : PlainAnswer) → MayMove now.tree own.0.state luck (Some (step_of made, answer)) reply
-        → (answer ≡ answer_in made) ⊎ (answer_of made.step made.end ≡ answers.NoMemory made.step)
+        → (answer ≡ answer_in made) ⊎ ((answer_of made.step made.end ≡ answers.NoMemory made.step) × (fault : Fault) × (answer ≡ answers.Failed fault))
         → (file : PlainTemp) → file_given (answer_in made) ≡ Some file → Handle (temps_left w.temps made) made.after (handed (answer_of made.step made.end) (f.held caller)) file
     answer_given luck answer may (inl same) file e =
         handed_own luck (subst (Fits (step_of made)) same may.2) (sym same ∙ may.1) file e
-    answer_given luck answer may (inr lost) file e = let no : None ≡ Some file = sym (lost_none lost) ∙ e in absurd cc
+    answer_given luck answer may (inr (lost, fault, failed)) file e = let no : None ≡ Some file = sym (lost_none lost) ∙ e in absurd cc
 
     -- what a lookup finds has an integrity
     looks_has : (luck : Luck) (answer : PlainAnswer) → MayMove now.tree own.0.state luck (Some (step_of made, answer)) reply → answer ≡ answer_in made
@@ -307,10 +307,10 @@ module _ (s : Setup) (apart : LieApart (home s) s.outside) (f : NumberedState) (
         let no : Err refusals.Memory ≡ Ok bytes = sym (ap (λ (a : NumberedAnswer). bytes_answered (answer_on made.after a)) lost) ∙ e in cc
 
     finds_has : (luck : Luck) (answer : PlainAnswer) → MayMove now.tree own.0.state luck (Some (step_of made, answer)) reply
-        → (answer ≡ answer_in made) ⊎ (answer_of made.step made.end ≡ answers.NoMemory made.step)
+        → (answer ≡ answer_in made) ⊎ ((answer_of made.step made.end ≡ answers.NoMemory made.step) × (fault : Fault) × (answer ≡ answers.Failed fault))
         → (l : Lookup) (bytes : List ℕ) → m.state ≡ looking l → bytes_answered (answer_in made) ≡ Ok bytes → HasIntegrity (found_in l.key bytes)
     finds_has luck answer may (inl same) l bytes looks e = looks_has luck answer may same l bytes looks e
-    finds_has luck answer may (inr lost) l bytes looks e = absurd (lost_bytes lost bytes e)
+    finds_has luck answer may (inr (lost, fault, failed)) l bytes looks e = absurd (lost_bytes lost bytes e)
 
     moved_paths : ((l : Lookup) (bytes : List ℕ) → m.state ≡ looking l → bytes_answered (answer_in made) ≡ Ok bytes → HasIntegrity (found_in l.key bytes))
         → (k : ℕ) → PathsAt (home s) (set_state caller (unless_ended reply (option_map (λ (state : State). after state (answer_in made)) (w.states caller))) w.states k)

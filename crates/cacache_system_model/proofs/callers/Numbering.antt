@@ -6,7 +6,7 @@ use Rattle.cacache_history.specs.{declared.record.Record.{Record}, Setup.{Setup,
 use Rattle.cacache_history.proofs.durable.CallNumbers.{Numbered, next_numbered, first_numbered}
 use Rattle.cacache_system.specs.Seen.{NumberedFile, NumberedTemp}
 use Rattle.cacache_store.specs.declared.store.plain.PlainFile.{PlainFile}
-use Rattle.cacache_system_model.specs.{Machine.{Machine}, callers.{Acts.{Act, begins, steps as makes, ends, stops, SystemState}, Made.{now_left, CacheOn, system_at}}}
+use Rattle.cacache_system_model.specs.{Machine.{Machine}, callers.{Acts.{Act, begins, steps as makes, ends, stops, SystemState}, Made.{now_left, CacheOn, system_at}, Storing.{MayStore}}}
 use Rattle.cacache_system_model.proofs.callers.{NextActs.{NumberedState, numbered_after, MayNext}, Covering.{may_act}, Following.{Follows, act_follows, first_agree}, Files.{file_in, open_in, opens_free}, PathsOf.{HasPaths, opens_paths}, NextSteps.{HasHandle, HasOpen, PathsAt, Holds, at_state, no_paths, no_state, no_open, makes_storing_step, step_holds}}
 
 module _ (s : Setup) (apart : LieApart (home s) s.outside) (f : NumberedState) (now : Now) (all : Holds s f now) where
@@ -62,11 +62,18 @@ module _ (s : Setup) (apart : LieApart (home s) s.outside) (f : NumberedState) (
     paths = λ k. at_state (PathsAt (home s)) k caller None (w.states k) (λ same. no_paths (home s)) (λ differ. all.paths k);
   }
 
+  -- an act is one whose steps have what `MayStore` asks
+  pub may_store : (act : Act) → MayNext s f act → MayStore s w act
+  may_store (begins caller command) (may, few) = may
+  may_store (makes caller made reply) m = makes_storing_step s apart f now all caller made reply m
+  may_store (ends caller reply) may = may
+  may_store (stops caller) may = may
+
   pub next_act : (act : Act) → MayNext s f act → (g : Follows s w now act) × Holds s (numbered_after s f act) (now_after s now g.r)
   next_act (begins caller command) (may, few) =
       let g = act_follows s apart w now all.agree (begins caller command) may in (g, begin_holds caller command may.2 may.3 few g)
   next_act (makes caller made reply) m =
-      let g = act_follows s apart w now all.agree (makes caller made reply) (may_act s apart w now all.agree (makes caller made reply) (makes_storing_step s apart f now all caller made reply m)) in
+      let g = act_follows s apart w now all.agree (makes caller made reply) (may_act s apart w now all.agree (makes caller made reply) (may_store (makes caller made reply) m)) in
       (g, step_holds s apart f now all caller made reply m g)
   next_act (ends caller reply) may = let g = act_follows s apart w now all.agree (ends caller reply) may in (g, over_holds caller reply g)
   next_act (stops caller) may = let g = act_follows s apart w now all.agree (stops caller) may in (g, stop_holds caller g)

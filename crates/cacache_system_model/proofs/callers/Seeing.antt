@@ -3,8 +3,8 @@ use Rattle.std.proofs.Common.{◌≡◌, ◌≤◌, ◌^◌, ◌+◌, ◌==◌, 
 use Rattle.cacache_store.specs.declared.store.plain.PlainFile.{PlainFile}
 use Rattle.cacache_value.specs.OpeningTrees.{LieApart}
 use Rattle.cacache_system.specs.{Seen.{NumberedFile, NumberedTemp, NumberedAnswer}, AnswersOf.{answer_of}}
-use Rattle.cacache_system_model.specs.{Machine.{Machine}, Laws.{answer_on}, Chains.{StepMade}, callers.{Acts.{Act, begins, steps as makes, ends, stops, answer_in, unless_ended}, Made.{now_left, system_at}, Seen.{SeenState, handed, handed_open, answer_seen, step_seen, after_seen, IsOnHeld, SparesTemps, MakesSeenStep, MayActSeen, EachSeen, seen_at, SeenMakeHistories}}}
-use Rattle.cacache_system_model.proofs.callers.{NextActs.{NumberedState, numbered_after, MakesNextStep, MayNext}, WithoutBytes.{without_bytes, Alike, alike_after, wanted_plain, none_plain, ends_plain, walking_without, temp_alike}, Following.{FollowAll, makes_history}, NextSteps.{Holds}, Numbering.{next_act, first_holds}}
+use Rattle.cacache_system_model.specs.{Machine.{Machine}, Laws.{answer_on}, Chains.{StepMade}, callers.{Acts.{Act, begins, steps as makes, ends, stops, answer_in, unless_ended, EachMay}, Made.{now_left, CacheOn, system_at}, Storing.{MayStore}, Seen.{SeenState, handed, handed_open, answer_seen, step_seen, after_seen, IsOnHeld, SparesTemps, MakesSeenStep, MayActSeen, EachSeen, seen_at, SeenMakeHistories}}}
+use Rattle.cacache_system_model.proofs.callers.{NextActs.{NumberedState, numbered_after, MakesNextStep, MayNext}, WithoutBytes.{without_bytes, Alike, alike_after, wanted_plain, none_plain, ends_plain, walking_without, temp_alike}, Covering.{storing_makes_histories}, NextSteps.{Holds}, Numbering.{may_store, next_act, first_holds}}
 use Rattle.cacache_calls.specs.{declared.{reply.Reply.{Reply}, visit.Visit.TheVariants.{RemoveFile}}, State.{State, walking}, Table.{after, opening}, Sound.{MayBegin}}
 use Rattle.cacache_history.specs.{Setup.{Setup, call_site, home, may_export, is_outside}, History.{Now, now_after}}
 
@@ -127,20 +127,21 @@ module _ (s : Setup) (c : SeenState) (f : NumberedState) (now : Now) (all : Hold
     begun = sees.begun;
   }
 
-seen_follows : (s : Setup) (apart : LieApart (home s) s.outside) (acts : List Act) (c : SeenState) (f : NumberedState) (now : Now) → Holds s f now → Sees c f → EachSeen s c acts → FollowAll s f.system now acts
-seen_follows s apart [] c f now all sees each = record { records = []; of_acts = refl; legal = tt; agree = all.agree }
-seen_follows s apart (act ∷ acts) c f now all sees (may, later) =
-    let g = next_act s apart f now all act (may_next s c f now all sees act may) in
-    let rest = seen_follows s apart acts (after_seen s c act) (numbered_after s f act) (now_after s now g.0.r) g.1 (sees_next s c f now all sees act may) later in
-    record {
-      records = g.0.r ∷ rest.records;
-      of_acts = (g.0.r, rest.records, refl, g.0.of_act, rest.of_acts);
-      legal = (g.0.may, rest.legal);
-      agree = rest.agree;
-    }
+seen_stores : (s : Setup) (apart : LieApart (home s) s.outside) (acts : List Act) (c : SeenState) (f : NumberedState) (now : Now) → Holds s f now → Sees c f → EachSeen s c acts → EachMay (MayStore s) s f.system acts
+seen_stores s apart [] c f now all sees each = tt
+seen_stores s apart (act ∷ acts) c f now all sees (may, later) =
+    let next = may_next s c f now all sees act may in
+    let g = next_act s apart f now all act next in (
+      may_store s apart f now all act next,
+      seen_stores s apart acts (after_seen s c act) (numbered_after s f act) (now_after s now g.0.r) g.1 (sees_next s c f now all sees act may) later,
+    )
 
-pub seen_make_histories : SeenMakeHistories
-seen_make_histories s m cache acts each =
+-- such acts have what `MayStore` asks of each
+pub seen_acts_store : (s : Setup) (m : Machine) (cache : CacheOn s m) (acts : List Act) → EachSeen s (seen_at s m cache) acts → EachMay (MayStore s) s (system_at s m cache) acts
+seen_acts_store s m cache acts each =
     let f : NumberedState = record { system = system_at s m cache; held = λ caller. None; opened = λ caller. None } in
     let sees : Sees (seen_at s m cache) f = record { machine = refl; states = λ k. refl; held = λ k. refl; opened = λ k. refl; begun = refl } in
-    makes_history s m cache acts (seen_follows s cache.legal.apart acts (seen_at s m cache) f (now_left s cache.past) (first_holds s m cache) sees each)
+    seen_stores s cache.legal.apart acts (seen_at s m cache) f (now_left s cache.past) (first_holds s m cache) sees each
+
+pub seen_make_histories : SeenMakeHistories
+seen_make_histories s m cache acts each = storing_makes_histories s m cache acts (seen_acts_store s m cache acts each)

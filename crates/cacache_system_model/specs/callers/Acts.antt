@@ -1,7 +1,7 @@
 -- What callers do on one machine, act by act. System calls make each store step whole before the next act.
 use Rattle.std.specs.Prelude.{◌≡◌, ◌⊎◌, ◌<◌, ◌+◌, ◌==◌, ℕ, Bool, List, [], ◌∷◌, Option, None, Some, option_map, if◌then◌else◌}
 use Rattle.std_io.specs.declared.io.kind.ErrorKind.{ErrorKind}
-use Rattle.cacache_core.specs.PathNames.{Names}
+use Rattle.cacache_core.specs.{declared.errors.Fault.{Fault}, PathNames.{Names}}
 use Rattle.cacache_store.specs.declared.store.step.Step.TheVariants as store
 use Rattle.cacache_store.specs.declared.store.answer.Answer.TheVariants as answers
 use Rattle.cacache_store.specs.{Plain.{PlainStep, PlainAnswer}, Fits.{Fits}}
@@ -121,14 +121,20 @@ EachMay May s w (act ∷ acts) = May w act × EachMay May s (after_act s w act) 
 -- ---- as records
 
 -- The record of a step has its answer and the call's reply. A step that came back for want of memory is recorded as one
--- that failed and changed nothing. If a step failed and ended its call, the caller may be recorded as giving the call up.
+-- that failed.
+abbrev pub IsMoved : ℕ → StepMade → Option Reply → Record → Type 0
+IsMoved caller made reply r =
+    (luck : Luck) × (answer : PlainAnswer)
+    × (r ≡ Moved caller luck (Some (step_of made, answer)) reply)
+    × ((answer ≡ answer_in made)
+    ⊎ ((answer_of made.step made.end ≡ answers.NoMemory made.step)
+    × (fault : Fault) × (answer ≡ answers.Failed fault)))
+
+-- if a step failed and ended its call, the caller may be recorded as giving the call up
 abbrev pub IsRecordOf : Act → Record → Type 0
 IsRecordOf (begins caller command) r = r ≡ Began caller command
 IsRecordOf (steps caller made reply) r =
-    ((luck : Luck) × (answer : PlainAnswer)
-    × (r ≡ Moved caller luck (Some (step_of made, answer)) reply)
-    × ((answer ≡ answer_in made) ⊎ (answer_of made.step made.end ≡ answers.NoMemory made.step)))
-    ⊎ ((r ≡ Stopped caller) × EndsFailed made reply)
+    IsMoved caller made reply r ⊎ ((r ≡ Stopped caller) × EndsFailed made reply)
 IsRecordOf (ends caller reply) r = (luck : Luck) × (r ≡ Moved caller luck None (Some reply))
 IsRecordOf (stops caller) r = r ≡ Stopped caller
 

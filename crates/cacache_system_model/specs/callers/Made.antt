@@ -1,5 +1,5 @@
 -- What callers do on one machine makes a legal history.
-use Rattle.std.specs.Prelude.{◌≡◌, ◌≤◌, ◌^◌, ℕ, Bool, true, List, [], ◌++◌, Option, None, Ok}
+use Rattle.std.specs.Prelude.{◌≡◌, ◌≤◌, ◌^◌, ℕ, Bool, true, false, List, [], ◌++◌, Option, None, Ok}
 use Rattle.cacache_core.specs.PathNames.{Names}
 use Rattle.cacache_disk.specs.Tree.{bare}
 use Rattle.cacache_value.specs.{Kinds.{Temporary, path_kind}, OpeningTrees.{with_files, LieApart}}
@@ -29,11 +29,11 @@ pub record CacheOn (s : Setup) (m : Machine) : Type 0 where
   pub mirrors : Mirrors temps m.tree (now_left s past).tree
   pub are_temps : AreTemps (home s) temps
 
--- a machine that holds only the outside files is one on which nothing happened
+-- a machine that holds only the outside files is one on which nothing happened, and no temporary file is open
 abbrev pub CachesBegin : Type 0
 CachesBegin =
     (s : Setup) (m : Machine) → LieApart (home s) s.outside → with_files bare s.outside ≡ Ok m.tree
-    → (cache : CacheOn s m) × (cache.past ≡ [])
+    → (cache : CacheOn s m) × (cache.past ≡ []) × ((names : Names) → cache.temps names ≡ false)
 
 -- before any act no call is on its way
 abbrev pub system_at : (s : Setup) (m : Machine) → CacheOn s m → SystemState
