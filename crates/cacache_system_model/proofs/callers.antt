@@ -21,4 +21,5 @@ pub mod WithoutBytes
 pub mod Seeing
 pub mod FixedSteps
 pub mod Losing
+pub mod AnyNumbers
 pub mod Example

@@ -1,5 +1,5 @@
 //! Callers' store steps, made by system calls on one machine, as a history of many callers.
-ghost use Rattle.cacache_system_model.specs.callers.{Example.{ClearsCanRemove, QuestionsCanBe}, Losing.{SeenLose, StoringLose}, Made.{CachesBegin, CachesGoOn, SystemsMakeHistories}, Opened.{RunsKeepOpen}, Seen.{SeenMakeHistories}, Storing.{StoringMakeHistories}};
+ghost use Rattle.cacache_system_model.specs.callers.{Example.{ClearsCanRemove, QuestionsCanBe}, Losing.{SeenLose, StoringLose}, Made.{CachesBegin, CachesGoOn, SystemsMakeHistories}, Numbers.{NumbersDiffer}, Opened.{RunsKeepOpen}, Seen.{SeenMakeHistories}, Storing.{StoringMakeHistories}};
 
 /// What callers do on one machine goes on with the legal history that left its cache, with their replies, if the system
 /// calls of each store step follow one another. The history's last tree mirrors the machine's. If a step failed and ended
@@ -14,6 +14,7 @@ ghost use Rattle.cacache_system_model.specs.callers.{Example.{ClearsCanRemove, Q
 /// - `keep`: the system calls of a step of these calls keep open files open.
 /// - `losses` is about the acts of `seen`, and `storing_losses` about those of `storing`, if all is fixed at first, none copies
 ///   a file, and no sync failed: a loss of power leaves of the machine what it leaves of the history.
+/// - `numbers`: acts of calls with any numbers that differ are acts of `seen`, once all calls begin before any step.
 /// - `example`: what `seen` asks can be met; `clears`: by a clear's removals too, if no other call is on its way.
 pub fn system_history_laws()
     ensures begin { CachesBegin }
@@ -26,4 +27,5 @@ pub fn system_history_laws()
     ensures clears { ClearsCanRemove }
     ensures storing_losses { StoringLose }
     ensures losses { SeenLose }
+    ensures numbers { NumbersDiffer }
 {}

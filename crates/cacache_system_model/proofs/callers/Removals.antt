@@ -7,19 +7,16 @@ use Rattle.cacache_store.specs.declared.store.step.Step.TheVariants as steps
 use Rattle.cacache_disk.{specs.Tree.{same_path}, proofs.Maps.{same_path-true}}
 use Rattle.cacache_loss.specs.Fixing.{is_at}
 use Rattle.cacache_value.specs.Kinds.{Temporary, path_kind}
-use Rattle.cacache_calls.specs.{declared.visit.Visit.TheVariants.{RemoveFile}, State.{State, doing, writing, syncing, persisting, walking, remove}, Table.{wants}}
+use Rattle.cacache_calls.specs.{declared.visit.Visit.TheVariants.{RemoveFile}, State.{State, doing, walking, remove}, Table.{wants}}
 use Rattle.cacache_system_model.{specs.callers.{Storing.{IsNotFor}, Seen.{temp_of, SparesTemps}}, proofs.callers.{Files.{file_in}, PathsOf.{HasPaths}, TreeKept.{is_elsewhere}}}
 
-abbrev path_of : PlainTemp → List ℕ
+abbrev pub path_of : PlainTemp → List ℕ
 path_of file = file.path
 
 -- the path of a state's temporary file
-temp_in : (s : State) (file : PlainTemp) → file_in s ≡ Some file → temp_of s ≡ Some file.path
-temp_in (doing errand s) file e = temp_in s file e
-temp_in (writing c f rest) file e = ap (option_map path_of) e
-temp_in (syncing c f) file e = ap (option_map path_of) e
-temp_in (persisting c f) file e = ap (option_map path_of) e
-temp_in s file e = let no : None ≡ Some file = e in absurd cc
+pub temp_so : (s : State) → temp_of s ≡ option_map path_of (file_in s)
+temp_so (doing errand s) = temp_so s
+temp_so s = refl
 
 -- what a step removes by its path, if that is a file
 abbrev removed : Option PlainStep → Option (List ℕ)
@@ -37,5 +34,5 @@ removes_miss h states k other file q stands own named at (doing (remove r) s) p 
     let same : r ≡ p = cc in is_elsewhere h q (names_of p) at (subst (IsNotFor h Temporary) same paths.0)
 removes_miss h states k other file q stands own named at (walking v (RemoveFile r) todo) p paths spares w =
     let same : r ≡ p = cc in
-    apart_at (names_of p) q (λ e. spares k other file.path stands (temp_in other file own) (ap names_of same ∙ e ∙ sym named))
+    apart_at (names_of p) q (λ e. spares k other file.path stands (temp_so other ∙ ap (option_map path_of) own) (ap names_of same ∙ e ∙ sym named))
 removes_miss h states k other file q stands own named at s p paths spares w = let no : None ≡ Some p = ap removed w in absurd cc
