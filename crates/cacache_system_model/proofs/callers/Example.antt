@@ -10,7 +10,7 @@ use Rattle.cacache_disk.specs.{declared.{luck.Luck.TheVariants.{Plain}, node.Nod
 use Rattle.cacache_system.specs.{declared.call.{FileInfo.{FileInfo}, CallResult.{CallResult}}, CallLog.{item}, AnswersOf.{no_hint, answer_of, refuses_memory}}
 use Rattle.cacache_system.specs.declared.call.SystemCall.TheVariants as asks
 use Rattle.cacache_system.specs.declared.call.CallResult.TheVariants as says
-use Rattle.cacache_system_model.specs.{Machine.{Machine, is_regular, Describes, ShowsEnd, ChangesTree}, Chains.{StepMade}, callers.{Made.{now_left}, Seen.{answer_seen, temp_of}, Example.{QuestionsCanBe, ClearsCanRemove}}}
+use Rattle.cacache_system_model.specs.{Machine.{Machine, is_regular, Describes, ShowsEnd, gone, placed, RemovesNode}, Chains.{StepMade}, callers.{Made.{now_left}, Seen.{answer_seen, temp_of}, Example.{QuestionsCanBe, ClearsCanRemove}}}
 use Rattle.cacache_system_model.proofs.Saying.{Sayable, found_say, removable_say, emptied_say}
 use Rattle.cacache_calls.specs.{declared.{carried.Content.{Content}, reply.Reply.{Reply, TheVariants.{Exists, Refused}}, visit.Visit.TheVariants.{RemoveFile, RemoveFolder}}, State.{State, asking, walking}, StepPaths.{content_path}, Table.{after}}
 use Rattle.cacache_history.specs.{Setup.{Setup}, History.{Ends}}
@@ -106,12 +106,17 @@ questions_can_be s m cache i within integrity fewer =
 
 -- ---- what a clear removes
 
-abbrev Removed : Result Names Fault → (Names → Tree) → Machine → Type 0
-Removed r new m = (said : CallResult) × (after : Machine) × ChangesTree r new m said after × (said ≡ says.Failed kind.OutOfMemory → ⊥)
+abbrev Removed : Result Names Fault → Machine → Type 0
+Removed r m = (said : CallResult) × (after : Machine) × RemovesNode r m said after × (said ≡ says.Failed kind.OutOfMemory → ⊥)
 
-removal_said : (m : Machine) (r : Result Names Fault) (new : Names → Tree) → Sayable r → Removed r new m
-removal_said m (Ok names) new can = (says.Done, record m { tree = new names }, (refl, (refl, refl, refl, λ k. refl)), λ e. absurd cc)
-removal_said m (Err fault) new (why, is, memory) = (
+removal_said : (m : Machine) (r : Result Names Fault) → Sayable r → Removed r m
+removal_said m (Ok names) can = (
+  says.Done,
+  record m { tree = cut m.tree names; files = placed (gone (look m.tree names) names 0) m.files },
+  (0, refl, (refl, refl, refl, λ k. refl)),
+  λ e. absurd cc,
+)
+removal_said m (Err fault) (why, is, memory) = (
   says.Failed why,
   m,
   (why, refl, is, memory, refl),
@@ -136,7 +141,7 @@ none_spared states caller own stands free alone k state path is at = by (k == ca
 
 pub clears_can_remove : ClearsCanRemove
 clears_can_remove f caller w (RemoveFile p) todo removes stands alone =
-    let g = removal_said f.machine (removable f.machine.tree p) (cut f.machine.tree) (removable_say f.machine.tree p) in (
+    let g = removal_said f.machine (removable f.machine.tree p) (removable_say f.machine.tree p) in (
       record { before = f.machine; after = g.1; step = store.RemoveFile p; hint = no_hint; items = item (asks.RemoveFile p) g.0 ∷ []; end = g.0 },
       λ reply ended. record {
         state = walking w (RemoveFile p) todo;
@@ -155,7 +160,7 @@ clears_can_remove f caller w (RemoveFile p) todo removes stands alone =
       },
     )
 clears_can_remove f caller w (RemoveFolder p) todo removes stands alone =
-    let g = removal_said f.machine (emptied f.machine.tree p) (cut f.machine.tree) (emptied_say f.machine.tree p) in (
+    let g = removal_said f.machine (emptied f.machine.tree p) (emptied_say f.machine.tree p) in (
       record { before = f.machine; after = g.1; step = store.RemoveDir p; hint = no_hint; items = item (asks.RemoveFolder p) g.0 ∷ []; end = g.0 },
       λ reply ended. record {
         state = walking w (RemoveFolder p) todo;

@@ -10,7 +10,7 @@ use Rattle.cacache_loss.proofs.UnchangedPaths.{file_kept, name_kept}
 use Rattle.cacache_calls.specs.declared.reply.Reply.{Reply}
 use Rattle.cacache_system.specs.{declared.call.{CallItem.{CallItem}, CallResult.{CallResult}}, Seen.{NumberedStep}, CallsOf.{Runs}, AnswersOf.{Hint, first, answer_of}}
 use Rattle.cacache_system_model.specs.{Machine.{Machine}, Calls.{OccursSomehow, EachCall}, Laws.{step_on, answer_on, IsLucky}, Premises.{Premise}, Mirrors.{Mirrors, temps_after, SparesOpen}, Chains.{StepMade, temps_left, WritesTemp}, Fixing.{step_made, answer_made, fixed_by, CopiesNone, LosesAsTold}, Writing.{WritesSome}, callers.{Acts.{EndsFailed}, Storing.{IsExplained}}}
-use Rattle.cacache_system_model.proofs.{Covered.{each_may_break, each_goes_plainly}, Steps.Writing.{write_agrees}, Chaining.{memory_stay}, Fixing.{FixesSynced}, Lasting.{made_fixed, syncs_fix, none_anew, none_fresh, failed_moves, memory_moves, write_touched}, Alike.{AlikeWas, AlikeFixed}, Changed.{fixed_alike}, Touching.{Touched, rests, touched}, callers.{Covering.{HasAsked}, Failing.{failed_answer, failed_temps}}}
+use Rattle.cacache_system_model.proofs.{Covered.{each_may_break, each_goes_plainly}, Steps.Writing.{write_agrees}, Chaining.{memory_stay}, Fixing.{FixesSynced}, Lasting.{made_fixed, syncs_fix, none_anew, failed_moves, memory_moves, write_touched}, Alike.{AlikeWas, AlikeFixed}, Changed.{fixed_alike}, Touching.{Touched, rests, touched}, callers.{Covering.{HasAsked}, Failing.{failed_answer, failed_temps}}}
 
 -- what a step reads, changes and syncs
 pub record StepFacts (temps : Names → Bool) (made : StepMade) : Type 0 where
@@ -41,7 +41,7 @@ module _ (temps : Names → Bool) where
     lucky_touched spares (inr (inl (is, tree))) q =
         rests (ap (λ (t : Tree). look t q) tree)
         (ap (λ (x : Names → Bool). x q) (ap (λ a. temps_after temps (step_made made) (answer_on made.after a)) is ∙ memory_stay temps (step_made made) (step_on made.after made.step)))
-    lucky_touched spares (inr (inr left)) q = absurd (none_fresh made.before made.after made.step made.end none.0 left)
+    lucky_touched spares (inr (inr left)) q = absurd (none.2 left)
 
     module _ (reply : Option Reply) (runs : Runs (first made.hint made.step) made.items made.end) (each : EachCall OccursSomehow made.before made.items made.after) where
       syncs_so : Premise made.before made.hint made.step → is_sync (step_made made) ≡ true → FixesSynced made.before made.step made.end made.after

@@ -5,7 +5,7 @@ use Rattle.cacache_core.specs.{Contexts.{fault_of}, declared.errors.Fault.{Fault
 use Rattle.cacache_store.specs.{declared.store.plain.{PlainFile.{PlainFile}, PlainTemp.{PlainTemp}}, Plain.{PlainStep}, Fits.{Fits}}
 use Rattle.cacache_store.specs.declared.store.step.Step.TheVariants as steps
 use Rattle.cacache_store.specs.declared.store.answer.Answer.TheVariants as answers
-use Rattle.cacache_disk.specs.{declared.{luck.Luck.{Luck}, node.Node.{Node, TheVariants.{File}}}, Tree.{Tree, look, put, same_path, bytes_of}, LedTo.{free}, Apply.{apply, unless, made_temp}, Rooted.{Rooted}}
+use Rattle.cacache_disk.specs.{declared.{luck.Luck.{Luck}, node.Node.{Node, TheVariants.{Folder, File}}}, Tree.{Tree, look, put, same_path, bytes_of}, LedTo.{free}, Apply.{apply, unless, made_temp}, Rooted.{Rooted}}
 use Rattle.cacache_disk.proofs.{Maps.{same_path-true}, FoundNodes.{free_ok}}
 use Rattle.cacache_value.specs.{Kinds.{PathKind, Content, Temporary, Elsewhere, path_kind, IsFor}, Placed.{Placed, Proper}}
 use Rattle.cacache_value.proofs.{FoundPaths.{writable_out}, Shows.{apply_answer}}
@@ -224,15 +224,15 @@ module _ (h : Option Names) (temps : Names → Bool) (m : Machine) (d : Tree) (m
 
   -- nor does any step at another's temporary file
   pub still_stores : (q : Names) (hint : Hint) (step : NumberedStep) → HoldsTemp temps m step → HintStands m hint step → Placed h m.tree → path_kind h q ≡ Temporary → temps q ≡ true
-      → Proper h (step_on m step) → Misses q (step_on m step) → StillStores q m step
-  still_stores q hint (steps.Write t bytes) holds stands placed at is_temp proper misses = still_there temps m d t mirrors rooted holds
-  still_stores q hint (steps.Persist t p) holds stands placed at is_temp proper misses =
+      → (look m.tree q ≡ Some Folder → ⊥) → Proper h (step_on m step) → Misses q (step_on m step) → StillStores q m step
+  still_stores q hint (steps.Write t bytes) holds stands placed at is_temp no_folder proper misses = still_there temps m d t mirrors rooted holds
+  still_stores q hint (steps.Persist t p) holds stands placed at is_temp no_folder proper misses =
       (still_there temps m d t mirrors rooted holds, misses, apart_from h q Content p at (λ e. cc) proper.1)
-  still_stores q hint (steps.Read f size) holds stands placed at is_temp proper misses = stands
-  still_stores q hint (steps.Copy p to) holds stands placed at is_temp proper misses =
+  still_stores q hint (steps.Read f size) holds stands placed at is_temp no_folder proper misses = stands
+  still_stores q hint (steps.Copy p to) holds stands placed at is_temp no_folder proper misses =
       let file = hollow_file (look m.tree q) (mirrors.files q is_temp) in copies_outside h m.tree q file.0 to placed at file.1 proper
-  still_stores q hint (steps.ReadDir p) holds stands placed at is_temp proper misses = stands
-  still_stores q hint (steps.RemoveFile p) holds stands placed at is_temp proper misses = misses
-  still_stores q hint (steps.RemoveDir p) holds stands placed at is_temp proper misses = misses
-  still_stores q hint (steps.SyncTemp t) holds stands placed at is_temp proper misses = still_there temps m d t mirrors rooted holds
-  still_stores q hint step holds stands placed at is_temp proper misses = tt
+  still_stores q hint (steps.ReadDir p) holds stands placed at is_temp no_folder proper misses = stands
+  still_stores q hint (steps.RemoveFile p) holds stands placed at is_temp no_folder proper misses = misses
+  still_stores q hint (steps.RemoveDir p) holds stands placed at is_temp no_folder proper misses = no_folder
+  still_stores q hint (steps.SyncTemp t) holds stands placed at is_temp no_folder proper misses = still_there temps m d t mirrors rooted holds
+  still_stores q hint step holds stands placed at is_temp no_folder proper misses = tt

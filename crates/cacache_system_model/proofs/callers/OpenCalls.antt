@@ -1,10 +1,10 @@
 -- Files that are open stay open at their names through a call.
-use Rattle.std.proofs.{Common.{◌≡◌, ◌==◌, ℕ, Bool, true, false, cond, List, ◌∷◌, Option, None, Some, Ok, option_map, take, eq-eqb, refl, sym, ap, subst, ◌∙◌}, lemmas.Bool.{eqb-true}}
+use Rattle.std.proofs.{Common.{◌≡◌, ◌==◌, ℕ, Bool, true, false, cond, List, ◌∷◌, Option, None, Some, Ok, option_map, take, eq-eqb, refl, sym, ap, subst, ◌∙◌}, lemmas.Bool.{eqb-true, false_from_ne_true}}
 use Rattle.std.specs.Prelude.{Result, Err, MatchResult, if◌then◌else◌}
 use Rattle.std_io.specs.declared.io.kind.ErrorKind.{ErrorKind}
 use Rattle.cacache_core.specs.{declared.errors.Fault.{Fault, TheVariants.{InvalidInput}}, PathNames.{Names}}
 use Rattle.cacache_disk.specs.{declared.{luck.Luck.TheVariants.{Plain, Fail, Take}, node.Node.{Node, TheVariants.{Folder, File, Link}}}, Tree.{Tree, look, same_path}, LedTo.{standing, leads, found, place, replaceable, removable, emptied, linked, file_at, writable, free}, Apply.{taken, readable}}
-use Rattle.cacache_disk.proofs.FoundNodes.{place_ok, replaceable_ok, removable_ok, emptied_ok}
+use Rattle.cacache_disk.proofs.{Maps.{same_path-true}, FoundNodes.{place_ok, replaceable_ok, removable_ok, emptied_ok}}
 use Rattle.cacache_loss.proofs.UnchangedPaths.{at_names}
 use Rattle.cacache_system.specs.{declared.call.{SystemCall.{SystemCall}, CallResult.{CallResult}}, CallsOf.{already_exists}}
 use Rattle.cacache_system.specs.declared.call.SystemCall.TheVariants as asks
@@ -144,7 +144,7 @@ Safe q m (asks.StatLink path) = Unit {0}
 Safe q m (asks.RealPath path) = Unit {0}
 Safe q m (asks.MakeFolder path) = Unit {0}
 Safe q m (asks.RemoveFile path) = Avoids q path
-Safe q m (asks.RemoveFolder path) = Avoids q path
+Safe q m (asks.RemoveFolder path) = look m.tree q ≡ Some Folder → ⊥
 Safe q m (asks.Symlink target path) = Unit {0}
 Safe q m (asks.HardLink from to) = Unit {0}
 Safe q m (asks.CopyFile from to) = Unit {0}
@@ -204,7 +204,7 @@ goes_keep most (asks.StatLink path) q m n said safe h = shows_keep (standing m.t
 goes_keep most (asks.RealPath path) q m n said safe h = spells_keep (found m.tree path) (under q) m n said h
 goes_keep most (asks.RemoveFolder path) q m n said safe h =
     places_keep (emptied m.tree path) _ gone (under q) m n said
-    (λ names mark is. gone_elsewhere (look m.tree names) names q mark (at_names path names q safe (emptied_ok m.tree path names is).0)) h
+    (λ names mark is. gone_elsewhere (look m.tree names) names q mark (false_from_ne_true (same_path q names) (λ e. safe (ap (look m.tree) (same_path-true q names e) ∙ (emptied_ok m.tree path names is).1)))) h
 goes_keep most (asks.Symlink target path) q m n said safe h = changes_keep (free m.tree path) _ (under q) m n said h
 goes_keep most (asks.HardLink from to) q m n said safe h = links_keep (linked m.tree from) (free m.tree to) (under q) m n said h
 goes_keep most (asks.CopyFile from to) q m n said safe h = copies_keep (found_bytes (leads m.tree from) (writable m.tree to) (file_at m.tree from InvalidInput)) (writable m.tree to) (under q) m n said h

@@ -2,7 +2,7 @@
 use Rattle.std.specs.Prelude.{◌≡◌, ℕ, false, List, Some, Ok}
 use Rattle.cacache_core.specs.PathNames.{Names, names_of}
 use Rattle.cacache_store.specs.declared.store.step.Step.TheVariants as steps
-use Rattle.cacache_disk.specs.{declared.node.Node.TheVariants.{File}, Tree.{Tree, look, same_path}, LedTo.{writable}}
+use Rattle.cacache_disk.specs.{declared.node.Node.TheVariants.{Folder, File}, Tree.{Tree, look, same_path}, LedTo.{writable}}
 use Rattle.cacache_loss.specs.Fixing.{is_at}
 use Rattle.cacache_system.specs.{declared.call.{CallItem.{CallItem}, CallResult.{CallResult}}, Seen.{NumberedStep}, CallsOf.{Runs}, AnswersOf.{Hint, first}}
 use Rattle.cacache_system_model.specs.{Machine.{Machine}, Calls.{OccursSomehow, EachCall}, OneCall.{IsOpenAt}, Listing.{CanList}, Premises.{IsStill, IsOpen}}
@@ -31,7 +31,7 @@ StillStores names m (steps.Read f max) = IsOpen m f
 StillStores names m (steps.Copy p q) = IsApart names m.tree q
 StillStores names m (steps.ReadDir p) = CanList m p
 StillStores names m (steps.RemoveFile p) = Avoids names p
-StillStores names m (steps.RemoveDir p) = Avoids names p
+StillStores names m (steps.RemoveDir p) = look m.tree names ≡ Some Folder → ⊥
 StillStores names m (steps.SyncTemp t) = IsStill m t
 StillStores names m step = Unit {0}
 
