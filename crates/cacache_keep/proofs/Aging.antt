@@ -1,5 +1,5 @@
 -- Entries in the order of their ages, and how many of the newest keep within limits.
-use Rattle.std.proofs.{Common.{◌≡◌, Bool, true, false, ◌+◌, ◌-◌, ◌<◌, ◌≤◌, ℕ, List, [], ◌∷◌, ◌++◌, Option, None, Some, refl, sym, ap, ap₂, subst, ◌∙◌, map, length, drop, take, get_or, option_map, append_assoc, length-append, arith}, lemmas.List.{drop-map, drop_at, drop_more, get_or-map, length-map, length-take-le, map-append, take-append-drop, Elements.{All-cons, All-head, All-nil}, Sums.{sum_by-cons}}}
+use Rattle.std.proofs.{Common.{◌≡◌, Bool, true, false, ◌+◌, ◌<◌, ◌≤◌, ℕ, List, [], ◌∷◌, ◌++◌, Option, None, Some, refl, sym, ap, ap₂, subst, ◌∙◌, map, length, drop, take, get_or, append_assoc, length-append, arith}, lemmas.List.{drop-map, drop_at, drop_more, get_or-map, length-map, length-take-le, map-append, take-append-drop, Elements.{All-head}, Sums.{sum_by-cons}}}
 use Rattle.std.specs.{Prelude.{All, IsTrue, ◌↔◌}, List.Sorted.{IsPermutation, IsSorted, IsSortedBy}, declared.cmp.Ordering.{Ordering}, Ordering.{is_lt}, Cmp.{IsTotalOrder, then_total, on_total, nat_cmp_total, Lexicographic.{nat_list_cmp_total}}}
 use Rattle.cacache_entry.specs.{Latest.{Found}, View.{found_view}, declared.metadata.Metadata.{Metadata}}
 use Rattle.cacache_keep.specs.{declared.limits.Limits.{Limits}, Limits.{DropsOldest, IsSince, IsWithin, Keeps, age_cmp, bytes_in}}
@@ -30,27 +30,10 @@ IsLeft None None bytes = Unit {0}
 IsLeft (Some most) (Some left) bytes = left + bytes ≡ most
 IsLeft most left bytes = ⊥
 
-whole_left : (most : Option ℕ) (bytes : ℕ) → bytes ≡ 0 → IsLeft most most bytes
-whole_left None bytes none = tt
-whole_left (Some most) bytes none = omega (arith, none)
-
-within_so : (most left : Option ℕ) (bytes : ℕ) → IsLeft most left bytes → IsWithin most bytes
-within_so None None bytes r = tt
-within_so None (Some left) bytes r = absurd r
-within_so (Some most) None bytes r = absurd r
-within_so (Some most) (Some left) bytes r = omega (arith, r)
-
-less_left : (most left : Option ℕ) (bytes size more : ℕ) → more ≡ size + bytes → IsLeft most left bytes → IsWithin left size → IsLeft most (option_map (λ n. n - size) left) more
-less_left None None bytes size more e r fits = tt
-less_left None (Some left) bytes size more e r fits = absurd r
-less_left (Some most) None bytes size more e r fits = absurd r
-less_left (Some most) (Some left) bytes size more e r fits = omega (arith, e, r, fits)
-
 too_many : (most left : Option ℕ) (bytes size more : ℕ) → more ≡ size + bytes → IsLeft most left bytes → (IsWithin left size → ⊥) → IsWithin most more → ⊥
 too_many None None bytes size more e r full fits = full tt
-too_many None (Some left) bytes size more e r full fits = absurd r
-too_many (Some most) None bytes size more e r full fits = absurd r
 too_many (Some most) (Some left) bytes size more e r full fits = full (omega (arith, e, r, fits))
+too_many _ _ bytes size more e r full fits = absurd r
 
 -- ---- entries that are kept
 
@@ -58,21 +41,6 @@ too_many (Some most) (Some left) bytes size more e r full fits = full (omega (ar
 pub record Holds (limits : Limits) (room : Option ℕ) (kept : List Found) : Type 0 where
   pub left : IsLeft limits.bytes room (bytes_in kept)
   pub since : All (IsSince limits.since) kept
-
-pub none_held : (limits : Limits) (kept : List Found) → kept ≡ [] → Holds limits limits.bytes kept
-none_held limits kept nothing = record {
-  left = whole_left limits.bytes (bytes_in kept) (ap bytes_in nothing);
-  since = subst (All (IsSince limits.since)) (sym nothing) (All-nil (IsSince limits.since));
-}
-
-pub keeps_so : (limits : Limits) (room : Option ℕ) (kept : List Found) → Holds limits room kept → Keeps limits kept
-keeps_so limits room kept h = record { bytes = within_so limits.bytes room (bytes_in kept) h.left; since = h.since }
-
-pub one_held : (limits : Limits) (room : Option ℕ) (kept more : List Found) (f : Found) → more ≡ f ∷ kept → Holds limits room kept → IsSince limits.since f → IsWithin room f.size → Holds limits (option_map (λ left. left - f.size) room) more
-one_held limits room kept more f is h late fits = record {
-  left = less_left limits.bytes room (bytes_in kept) f.size (bytes_in more) (ap bytes_in is ∙ bytes_cons f kept) h.left fits;
-  since = subst (All (IsSince limits.since)) (sym is) (All-cons (IsSince limits.since) f kept late h.since);
-}
 
 pub not_since : (limits : Limits) (kept more : List Found) (f : Found) → more ≡ f ∷ kept → (IsSince limits.since f → ⊥) → Keeps limits more → ⊥
 not_since limits kept more f is old k = old (All-head (IsSince limits.since) f kept (subst (All (IsSince limits.since)) is k.since))

@@ -1,13 +1,7 @@
-pub mod Removed
 pub mod Searching
-pub mod Chosen
 pub mod Leaving
 pub mod Behind
 pub mod StoppedKeys
 pub mod Sweeps
-pub mod SweptCaches
 pub mod Sizes
 pub mod Tidying
-pub mod Settled
-pub mod LaterCalls
-pub mod Led

@@ -1,11 +1,7 @@
 pub mod IndexParts
 pub mod FoundBuckets
-pub mod Listings
 pub mod IndexWalks
 pub mod LinkedFolders
-pub mod ReadIndexes
 pub mod StandingIndexes
-pub mod ListedLogs
-pub mod HexNames
 pub mod ParentTexts
 pub mod FoundFolders

@@ -1,12 +1,10 @@
 mod Asked
 mod Collections
 mod Stopped
-mod Parts
 mod Repairs
 mod NewBuckets
 mod Indexes
 mod TreeRuns
 mod Losses
 mod Aging
-mod Entombed
 mod SparedOnes

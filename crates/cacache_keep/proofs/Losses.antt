@@ -1,6 +1,4 @@
-pub mod SyncedTrees
 pub mod SyncedFolders
-pub mod MomentRuns
 pub mod ApartSteps
 pub mod ApartBuckets
 pub mod ApartCompactions
@@ -9,5 +7,4 @@ pub mod SafeBuckets
 pub mod FixedFolders
 pub mod LeanLosses
 pub mod SparedLosses
-pub mod LaterLosses
 pub mod GrownLosses

@@ -1,10 +1,7 @@
 pub mod Judged
-pub mod Verdicts
-pub mod Gives
 pub mod InTurn
 pub mod Tombs
 pub mod Shown
 pub mod Buried
-pub mod Mends
 pub mod Whole
 pub mod Houses

@@ -1,18 +1,19 @@
 -- A pruning leaves each key that led to bytes where it led, unless an entry has it whose key got a tombstone.
-use Rattle.std.proofs.{Common.{◌≡◌, inl, inr, ℕ, List, [], ◌∷◌, ◌++◌, Option, Some, refl, sym, ap, subst, ◌∙◌, map}, lemmas.List.Elements.{All-head, All-tail, Contains-append_left, Contains-append_right, Contains-push}}
-use Rattle.std.specs.Prelude.{All, Contains}
+-- Keys of entries that get tombstones, one after another.
+use Rattle.std.proofs.{Common.{◌≡◌, inl, inr, ℕ, List, [], ◌∷◌, ◌++◌, Option, Some, refl, sym, ap, subst, ◌∙◌, map, ◌+◌, ◌<◌, ◌^◌, ap₂, length, get_or, take, drop, string_bytes}, lemmas.List.{Elements.{All-head, All-tail, Contains-append_left, Contains-append_right, Contains-push, All-nil, All-push}, drop_more, map-append, take-append-drop, take_more}}
+use Rattle.std.specs.Prelude.{All, Contains, IsUtf8}
 use Rattle.cacache_core.specs.{declared.{errors.Error.{Error}, integrity.digest.Hash.{Hash}}, PathNames.{Names, home_of}}
 use Rattle.cacache_store.specs.declared.store.log.LogItem.{LogItem, TheVariants.{Made}}
 use Rattle.cacache_disk.specs.memory.Replay.{IsLog, tree_of}
-use Rattle.cacache_entry.specs.Latest.{Found}
-use Rattle.cacache_calls.specs.declared.command.Command.TheVariants as commands
-use Rattle.cacache_calls.specs.declared.reply.Reply.TheVariants as replies
+use Rattle.cacache_entry.specs.{Latest.{Found}, View.{found_view}, declared.metadata.Metadata.{Metadata}}
 use Rattle.cacache_calls.specs.{declared.reply.Reply.{Reply}, Runs.{Gains, Moves, Ran, without_message}, State.{Site}, Table.{opening}}
 use Rattle.cacache_laws.specs.{Caches.{Called, HasKey}, Standing.{IsStanding}, trees.Later.{SparingCall}}
-use Rattle.cacache_laws.proofs.{Calls.{InParts.{logs_lead}, Messages.{plain_error}}, Readings.OpenReaders.{log_front}, trees.{Logged.{gains_join, log_rooted}, Spared.SparedKeys.{tombstones_fit}}}
+use Rattle.cacache_laws.proofs.{Calls.{InParts.{logs_lead}, CallErrors.{plain_error}}, Readings.OpenReaders.{log_front}, trees.{Logged.{gains_join, log_rooted}, Spared.SparedKeys.{tombstones_fit}}}
 use Rattle.cacache_sync.specs.Lookups.{delete_of}
-use Rattle.cacache_keep.specs.{declared.{checking.OddLines.TheVariants.{Refuse}, limits.Limits.{Limits}}, Calls.{MadeCalls, removal}, Keeping.{CollectsFrom, CollectsWith, StopsCollecting}, Pruning.{Entombs, IsTomb, PlansPrune, Tomb, entombing}, Sparing.{HasKeyAmong, PrunePlansLeave, PrunesSpareKeys, StaysLed, StoppedPrunesSpareKeys}}
-use Rattle.cacache_keep.proofs.{Collections.{LaterCalls.{collections_keep_led}, Led.{call_led, keeps_led, same_led, then_led}, StoppedKeys.{listing_keeps, stop_gains, stopped_led}}, Parts.{Keeps, calls_gain, ends_look, gained}, Indexes.StandingIndexes.{index_looked}}
+use Rattle.cacache_keep.specs.{declared.{checking.OddLines.TheVariants.{Refuse}, limits.Limits.{Limits}}, Calls.{MadeCalls, removal}, Keeping.{CollectsFrom, CollectsWith, StopsCollecting}, Pruning.{Entombs, IsTomb, PlansPrune, Tomb, entombing, StopsEntombing}, Sparing.{HasKeyAmong, PrunePlansLeave, PrunesSpareKeys, StaysLed, StoppedPrunesSpareKeys}, Repairing.{tombstone}}
+use Rattle.cacache_keep.proofs.{Collections.{Behind.{collections_keep_led}, Leaving.{call_led, keeps_led, same_led, then_led}, StoppedKeys.{listing_keeps, stop_gains, stopped_led}}, Stopped.{Keeps, calls_gain, ends_look, gained}, Indexes.StandingIndexes.{index_looked}, Asked.{mapped_on}}
+use Rattle.cacache_calls.specs.declared.command.Command.TheVariants as commands
+use Rattle.cacache_calls.specs.declared.reply.Reply.TheVariants as replies
 
 -- ---- logs
 
@@ -149,3 +150,44 @@ stopped_prunes_spare_keys limits site home e key bytes i old new is logged stand
     let late = stop_gains Refuse site e buried (Some new) stops in
     let reached = begun site home key bytes i is limits entries dropped kept dropped odd old listed buried new late.0 logged plan entombs late.1 other standing has in
     then_led site.cache key bytes i old reached.log new reached.led (stopped_led Refuse site home e key bytes i reached.log new is logged (subst (λ (x : Option (List LogItem)). StopsCollecting Refuse site e x (Some new)) reached.same stops) reached.led.standing reached.led.has)
+
+pub none_entombed : (site : Site) (log : Option (List LogItem)) → Entombs site [] log log
+none_entombed site log = record { tombs = []; each = refl; formed = All-nil IsTomb; calls = refl }
+
+keys_more : (entries : List Metadata) (k : ℕ) (m : Metadata) → k < length entries → m ≡ get_or entries k m
+    → map (λ (f : Found). f.key) (map found_view (take (k + 1) entries)) ≡ map (λ (f : Found). f.key) (map found_view (take k entries)) ++ string_bytes m.key ∷ []
+keys_more entries k m below is =
+    let front : take (k + 1) entries ≡ take k entries ++ m ∷ [] = take_more entries k m below ∙ ap (λ (x : Metadata). take k entries ++ x ∷ []) (sym is) in
+    ap (λ (l : List Metadata). map (λ (f : Found). f.key) (map found_view l)) front ∙ ap (map (λ (f : Found). f.key)) (map-append found_view (take k entries) (m ∷ []))
+    ∙ map-append (λ (f : Found). f.key) (map found_view (take k entries)) (found_view m ∷ [])
+
+pub one_entombed : (site : Site) (entries : List Metadata) (k : ℕ) (m : Metadata) (key : List ℕ) (moment : ℕ) (old mid new : Option (List LogItem)) → k < length entries → m ≡ get_or entries k m → key ≡ string_bytes m.key → IsUtf8 key → moment < 2 ^ 64
+    → Entombs site (map found_view (take k entries)) old mid → Ran (opening site (tombstone key moment).0) replies.Done mid new → Entombs site (map found_view (take (k + 1) entries)) old new
+one_entombed site entries k m key moment old mid new below is same utf8 early done ran =
+    let t : Tomb = (key, moment) in
+    record {
+      tombs = done.tombs ++ t ∷ [];
+      each = map-append (λ (x : Tomb). x.0) done.tombs (t ∷ []) ∙ ap₂ (λ (l : List (List ℕ)) (x : List ℕ). l ++ x ∷ []) done.each same ∙ sym (keys_more entries k m below is);
+      formed = All-push IsTomb done.tombs t done.formed (utf8, early);
+      calls = mapped_on site entombing done.tombs t old mid new done.calls ran;
+    }
+
+split_views : (entries : List Metadata) (k : ℕ) (m : Metadata) → k < length entries → m ≡ get_or entries k m → map found_view entries ≡ map found_view (take k entries) ++ found_view m ∷ map found_view (drop (k + 1) entries)
+split_views entries k m below is =
+    ap (map found_view) (sym (take-append-drop k entries) ∙ ap (λ (l : List Metadata). take k entries ++ l) (drop_more entries k m below ∙ ap (λ (x : Metadata). x ∷ drop (k + 1) entries) (sym is)))
+    ∙ map-append found_view (take k entries) (m ∷ drop (k + 1) entries)
+
+-- the next one was refused
+pub not_entombed : (site : Site) (entries : List Metadata) (k : ℕ) (m : Metadata) (key : List ℕ) (moment : ℕ) (e : Error) (old mid new : Option (List LogItem)) → k < length entries → m ≡ get_or entries k m → key ≡ string_bytes m.key → IsUtf8 key → moment < 2 ^ 64
+    → Entombs site (map found_view (take k entries)) old mid → Ran (opening site (tombstone key moment).0) (replies.Refused (without_message e)) mid new → StopsEntombing site (map found_view entries) e old new
+not_entombed site entries k m key moment e old mid new below is same utf8 early done ran = record {
+  done = map found_view (take k entries);
+  next = found_view m;
+  rest = map found_view (drop (k + 1) entries);
+  split = split_views entries k m below is;
+  between = mid;
+  entombs = done;
+  moment = moment;
+  formed = (subst IsUtf8 same utf8, early);
+  refused = subst (λ (l : List ℕ). Ran (opening site (tombstone l moment).0) (replies.Refused (without_message e)) mid new) same ran;
+}

@@ -7,7 +7,7 @@ use Rattle.cacache_disk.specs.{declared.luck.Luck.TheVariants.{Plain}, Tree.{Tre
 use Rattle.cacache_disk.proofs.KeptFolders.{steps_keep_rooted}
 use Rattle.cacache_calls.specs.{Runs.{Gains, Moves}, SingleSteps.{Does, FailsAt}}
 use Rattle.cacache_laws.{specs.Sequence.{tree_on, AreAnswered}, proofs.{Calls.InParts.{logs_lead}, trees.Logged.{answered_split, gains_join, log_rooted, tree_split}}}
-use Rattle.cacache_keep.proofs.Parts.{gains_none}
+use Rattle.cacache_keep.proofs.Stopped.{gains_none}
 
 pub moves_rooted : (t : Tree) (moves : Moves) → Rooted t → Rooted (tree_on t moves)
 moves_rooted t [] rooted = rooted

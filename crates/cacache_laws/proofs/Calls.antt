@@ -4,5 +4,3 @@ pub mod Sequence
 pub mod CallErrors
 pub mod Logs
 pub mod InParts
-pub mod Handed
-pub mod Messages

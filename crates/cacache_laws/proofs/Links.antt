@@ -1,4 +1,3 @@
-pub mod LinkedReads
 pub mod Linking
 pub mod TargetBytes
 pub mod ExpectedSizes

@@ -1,14 +1,8 @@
-pub mod MadeNodes
 pub mod Persisting
 pub mod Stored
 pub mod Forms
-pub mod WritesLast
-pub mod KeptKeys
-pub mod Inserting
 pub mod Deeds
-pub mod Beside
 pub mod OpenWriters
-pub mod Committing
 pub mod Puts
 pub mod WrittenFiles
 pub mod StandingPuts

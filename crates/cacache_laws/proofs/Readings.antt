@@ -1,12 +1,7 @@
-pub mod Found
-pub mod ReadsStay
 pub mod ReadAnswers
 pub mod Known
 pub mod Looking
-pub mod ReadsKeep
-pub mod AskedContents
 pub mod Looks
-pub mod Looked
 pub mod GivenReads
 pub mod OpenReaders
 pub mod Standing

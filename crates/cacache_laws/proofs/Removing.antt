@@ -1,5 +1,4 @@
 pub mod Emptied
-pub mod Removals
 pub mod Removed
 pub mod RemovedKeys
 pub mod Sheds

@@ -1,3 +1,2 @@
 pub mod PlantedFiles
-pub mod GivenUp
 pub mod Unused

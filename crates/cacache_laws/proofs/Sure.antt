@@ -10,10 +10,7 @@ pub mod SureReads
 pub mod Succeeds
 pub mod SureRemovals
 pub mod SureLists
-pub mod SureClears
-pub mod SureWriters
 pub mod SureStays
-pub mod SureFiles
 pub mod SureExports
 pub mod SureCopies
 pub mod SureLinks

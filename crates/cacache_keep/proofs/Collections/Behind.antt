@@ -1,18 +1,23 @@
 -- A collection leaves a cache in which each key leads where it led, and so do exports and writes of other keys.
-use Rattle.std.proofs.Common.{◌≡◌, ◌⊎◌, inl, inr, ℕ, List, [], ◌∷◌, true, Option, Some, filter_map, refl, sym, ap, subst, ◌∙◌}
+-- After a collection of a store that stands each key leads where it led, and so after later calls that spare it.
+-- A sweep leaves all but the temporary files in the tree of the log.
+use Rattle.std.proofs.Common.{◌≡◌, ◌⊎◌, inl, inr, ℕ, List, [], ◌∷◌, true, Option, Some, filter_map, refl, sym, ap, subst, ◌∙◌, ◌++◌, Ok, filter, length}
 use Rattle.sha1.specs.Sha1.{sha1}
-use Rattle.cacache_core.specs.{declared.integrity.digest.Hash.{Hash}, Integrity.{IsHash, address}, PathLaws.{IsKeyDigest}, PathNames.{Names, home_of}}
+use Rattle.cacache_core.specs.{declared.integrity.digest.Hash.{Hash}, Integrity.{IsHash, address}, PathLaws.{IsKeyDigest}, PathNames.{Names, home_of, names_of}, Paths.{joined, content_names, temp_area}}
 use Rattle.cacache_core.proofs.PathLemmas.{keys_have_digests}
-use Rattle.cacache_store.specs.declared.store.log.LogItem.{LogItem}
-use Rattle.cacache_disk.specs.memory.Replay.{tree_of, IsLog}
+use Rattle.cacache_store.specs.{declared.store.{log.LogItem.{LogItem}, step.Step.TheVariants.{RemoveFile, ReadDir}, answer.{Kind.{Kind}, Name.{Name}}}, Plain.{PlainAnswer}}
+use Rattle.cacache_disk.specs.{memory.Replay.{tree_of, IsLog}, declared.luck.Luck.TheVariants.{Plain}, Apply.{apply}, Rooted.{Rooted}, Tree.{Tree, listing}}
+use Rattle.cacache_disk.proofs.KeptFolders.{steps_keep_rooted}
 use Rattle.cacache_entry.specs.Latest.{Found, latest}
-use Rattle.cacache_calls.specs.State.{Site}
-use Rattle.cacache_value.specs.{Acts.{list_of}, Value.{value_of_tree}}
+use Rattle.cacache_calls.specs.{State.{Site}, Runs.{Gains, Moves}}
+use Rattle.cacache_value.{specs.{Acts.{list_of}, Value.{value_of_tree}, Placed.{Placed}}, proofs.Traces.{steps_keep_placed}}
 use Rattle.cacache_history.specs.ShownTurns.{blob_at}
-use Rattle.cacache_laws.specs.{Beside.{IsOther, KeepsBeside, own_integrity}, Caches.{IsCache, HasKey, lies_under}, Keeping.{found_under, KeepsOthers, StaysKnown}, ReadAnswers.{entries_on}, Sequence.{IsSound}, trees.{Collecting.{is_live}, Contents.{bucket_in, content_in}, Index.{IndexLists}, Mending.{found_in}}}
-use Rattle.cacache_laws.proofs.{Putting.{Beside.{removals_keep, writes_keep}, Committing.{commits_last}, Inserting.{inserts_last}, OpenWriters.{writers_open}, Puts.{commits_keep}}, Exports.ExportEffects.{exports_keep}, Spares.GivenUp.{giving_up_lasts}, Readings.Looked.{same_stays_known}, Removing.Removals.{removals_last}, trees.{Collected.{live_so}, Twins.Idle.{address_is}, Led.{found_listed}, Logged.{log_rooted}, Members.{member_contains}, SoundRemovals.{removals_leave_sound}, Spared.SparedKeys.{more_texts, first_text}}}
-use Rattle.cacache_keep.specs.{Behind.{CollectionsKeepKeys, Event, Happen, Happens, KeepsKey, LaterKeysStay, LeadsOn, collects, commits, deletes, exports, gives_up, inserts, looks, opens, puts, text_of}, Kept.{LeavesTree}}
+use Rattle.cacache_laws.specs.{Beside.{IsOther, KeepsBeside, own_integrity}, Caches.{IsCache, HasKey, lies_under}, Keeping.{found_under, KeepsOthers, StaysKnown}, ReadAnswers.{entries_on}, Sequence.{IsSound, tree_on, AreAnswered}, trees.{Collecting.{is_live, Removes}, Contents.{bucket_in, content_in}, Index.{IndexLists}, Mending.{found_in}, Temporary.{LeavesUntemporary, area_of, cache_folder, is_temporary, sized_removals}}}
+use Rattle.cacache_laws.proofs.{Putting.{Puts.{removals_keep, writes_keep, commits_keep, inserts_last}, OpenWriters.{commits_last, writers_open}}, Exports.ExportEffects.{exports_keep}, Spares.Unused.{giving_up_lasts}, Readings.{GivenReads.{same_stays_known}, ReadAnswers.{listing_keeps}}, Removing.RemovedKeys.{removals_last}, trees.{Collected.{live_so}, Twins.Twice.{address_is}, Led.{found_listed}, Logged.{log_rooted, gains_join}, Members.{member_contains}, SoundRemovals.{removals_leave_sound}, Spared.SparedKeys.{more_texts, first_text, spared_keys_stay}, Children.{NoFolder}, Temporary.{AreaStands, area_empty, area_stands, cache_named, names_listed, sweeps_leave, temp_area_named}}, Calls.InParts.{logs_lead}}
+use Rattle.cacache_keep.specs.{Behind.{CollectionsKeepKeys, Event, Happen, Happens, KeepsKey, LaterKeysStay, LeadsOn, collects, commits, deletes, exports, gives_up, inserts, looks, opens, puts, text_of}, Kept.{LeavesTree, CachesAreSwept}, Later.{CollectedKeysStay, CollectionsKeepLed}, Sweeping.{ListsArea, SweepsCache, swept_folder}}
 use Rattle.cacache_keep.proofs.Collections.Leaving.{leaves_live, steps_done, unused}
+use Rattle.cacache_walks.specs.{Reading.{names_shown}, WalkSteps.{AnswerShows}}
+use Rattle.cacache_store.specs.declared.store.answer.Kind.TheVariants as kinds
 
 -- ---- a collection
 
@@ -168,3 +173,93 @@ module _ (site : Site) (home : Names) (is : home_of site.cache ≡ Some home) (k
 
 pub later_keys_stay : LaterKeysStay
 later_keys_stay site home key events old new is sound happen = later site home is key events old new sound happen
+
+-- removals leave everything where it may stand
+pub removals_stand : (cache : List ℕ) (dropped : List Hash) (t new : Tree) → Removes cache dropped t new → Placed (home_of cache) t → Rooted t → Placed (home_of cache) new × Rooted new
+removals_stand cache [] t new r placed rooted = (subst (Placed (home_of cache)) (sym r) placed, subst Rooted (sym r) rooted)
+removals_stand cache (h ∷ hs) t new r placed rooted =
+    let step = RemoveFile (joined cache (content_names h)) in
+    removals_stand cache hs (apply t (RemoveFile (joined cache (content_names h))) Plain).1 new r.1 (steps_keep_placed (home_of cache) t step Plain placed tt) (steps_keep_rooted t step Plain rooted)
+
+pub collections_keep_led : CollectionsKeepLed
+collections_keep_led site home old new is logged standing (kept, dropped, c) =
+    let done = steps_done site home kept dropped old new is logged c.1.0 in
+    let live = leaves_live site home kept dropped old new is logged c.1.0 in
+    let stands = removals_stand site.cache (unused site home kept dropped old new is logged c.1.0) (tree_of old) (tree_of new) done.removes standing.placed standing.rooted in
+    record {
+      standing = record { placed = stands.0; rooted = stands.1 };
+      finds = λ key. found_same site home old new is key (live.buckets (sha1 key) (keys_have_digests key));
+      key = key_same site home old new is live.entries live.index live.left live.buckets;
+    }
+
+pub collected_keys_stay : CollectedKeysStay
+collected_keys_stay site home key i bytes later old mid new is logged standing has collected spares =
+    let k = collections_keep_led site home old mid is logged standing collected in
+    let s = spared_keys_stay site.cache key i bytes later mid new k.standing (k.key key bytes i has) spares in
+    record { standing = s.standing; finds = s.finds ∙ k.finds key; held = s.held; which = s.which; has = s.has; reads = s.reads }
+
+-- a listing leaves the tree to the moves after it
+listing_first : (t : Tree) (path : List ℕ) (a : PlainAnswer) (rest : Moves) (names : List Name) → names_shown a ≡ Some names → AreAnswered t ((ReadDir path, a) ∷ rest)
+    → (names_shown (apply t (ReadDir path) Plain).0 ≡ Some names) × AreAnswered t rest × (tree_on t ((ReadDir path, a) ∷ rest) ≡ tree_on t rest)
+listing_first t path a rest names shown answered =
+    let stays = listing_keeps t path in
+    (ap names_shown (sym answered.0) ∙ shown, subst (λ x. AreAnswered x rest) stays answered.1, ap (λ x. tree_on x rest) stays)
+
+module _ (cache : List ℕ) (home : Names) (files bytes : ℕ) (strange : List (List ℕ)) (old new : List LogItem)
+    (is : home_of cache ≡ Some home) (logged : IsLog new) (s : SweepsCache cache files bytes strange (Some old) (Some new)) where
+  abbrev t : Tree
+  t = tree_of old
+
+  abbrev p : Names
+  p = home ++ temp_area ∷ []
+
+  abbrev removals : Moves
+  removals = sized_removals (swept_folder cache) s.removed
+
+  abbrev Leaves : Type 0
+  Leaves = LeavesUntemporary home (tree_of old) (tree_of new) files
+
+  abbrev named : names_of (cache_folder cache) ≡ Ok home
+  named = (cache_named cache home is).0
+
+  -- the listings are over
+  then_leaves : (names : List Name) → names ≡ listing t p → s.found ≡ filter is_temporary names → AreAnswered t removals → tree_of new ≡ tree_on t removals → Leaves
+  then_leaves names listed found answered leads =
+      subst (λ (n : ℕ). LeavesUntemporary home t (tree_of new) n) (sym s.counted)
+      (subst (λ (x : Tree). LeavesUntemporary home t x (length s.removed)) (sym leads)
+      (sweeps_leave (cache_folder cache) home t names s.removed (cache_named cache home is).1 (log_rooted old) listed (s.each ∙ found) answered))
+
+  module _ (around : List Name) (looked : Option (List LogItem)) (a : PlainAnswer) (shows : AnswerShows a around (cache_folder cache) (Some old) looked) where
+    abbrev first : Moves → Moves
+    first rest = (ReadDir (cache_folder cache), a) ∷ rest
+
+    -- no folder is there
+    none_swept : s.found ≡ [] → s.listed ≡ looked → (AreaStands t p (area_of around) → NoFolder t p) → Leaves
+    none_swept none same apart =
+        let gains = gains_join (Some old) looked (Some new) (first []) removals shows.gained (subst (λ (l : Option (List LogItem)). Gains l (Some new) removals) same s.removing) in
+        let lead = logs_lead old new (first removals) gains logged in
+        let one = listing_first t (cache_folder cache) a removals around shows.shown lead.0 in
+        let stands = area_stands t home around (names_listed t (cache_folder cache) home around (log_rooted old) named one.0) in
+        then_leaves [] (area_empty t home (log_rooted old) (apart stands)) none one.1 (lead.1 ∙ one.2)
+
+    -- one does
+    all_swept : ListsArea (Some kinds.Folder) (swept_folder cache) s.found strange looked s.listed → Leaves
+    all_swept (names, (b, shown), found, others) =
+        let second : Moves = (ReadDir (swept_folder cache), b) ∷ removals in
+        let later = gains_join looked s.listed (Some new) ((ReadDir (swept_folder cache), b) ∷ []) removals shown.gained s.removing in
+        let gains = gains_join (Some old) looked (Some new) (first []) second shows.gained later in
+        let lead = logs_lead old new (first second) gains logged in
+        let one = listing_first t (cache_folder cache) a second around shows.shown lead.0 in
+        let two = listing_first t (swept_folder cache) b removals names shown.shown one.1 in
+        then_leaves names (names_listed t (swept_folder cache) p names (log_rooted old) (temp_area_named (cache_folder cache) home (cache_named cache home is).1) two.0)
+        found two.1 (lead.1 ∙ one.2 ∙ two.2)
+
+    area_swept : (here : Option Kind) → area_of around ≡ here → ListsArea here (swept_folder cache) s.found strange looked s.listed → Leaves
+    area_swept (Some kinds.Folder) at lists = all_swept lists
+    area_swept here at lists = none_swept lists.0 lists.2 (λ stands. subst (AreaStands t p) at stands)
+
+  leaves : Leaves
+  leaves = let (around, looked, (a, shows), lists) = s.listing in area_swept around looked a shows (area_of around) refl lists
+
+pub caches_are_swept : CachesAreSwept
+caches_are_swept cache home files bytes strange old new is logged s = leaves cache home files bytes strange old new is logged s

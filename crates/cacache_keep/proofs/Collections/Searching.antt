@@ -1,12 +1,17 @@
 -- Addresses in order, and which of them entries have.
-use Rattle.std.proofs.{Common.{◌≡◌, ◌+◌, ◌<◌, ◌≤◌, ℕ, List, [], ◌∷◌, ◌++◌, Bool, true, false, cond, Option, Some, Ok, Err, Result, refl, sym, ap, ap₂, subst, ◌∙◌, map, length, length-append, arith, get_or, take}, lemmas.List.{map-append, take_more, Elements.{All-append, All-cons, All-nil}, Sorted.{searchable_from_sorted}}}
+-- Contents that are removed, one after another.
+use Rattle.std.proofs.{Common.{◌≡◌, ◌+◌, ◌<◌, ◌≤◌, ℕ, List, [], ◌∷◌, ◌++◌, Bool, true, false, cond, Option, Some, Ok, Err, Result, refl, sym, ap, ap₂, subst, ◌∙◌, map, length, length-append, arith, get_or, take, drop}, lemmas.List.{map-append, take_more, drop_more, take-append-drop, Elements.{All-append, All-cons, All-nil}, Sorted.{searchable_from_sorted}}}
 use Rattle.std.specs.{Prelude.{All, Contains, IsTrue, ◌↔◌, ◌||◌, is_ok, not}, List.{filter, Sorted.{IsBinarySearchResult, IsSearchInRange, IsSorted}}, declared.cmp.Ordering.TheVariants.{Equal}, Ordering.{eq_by_cmp, is_eq}, Cmp.{IsTotalOrder, then_total, on_total, nat_cmp_total, unsigned_ties, both_tied, Lexicographic.{nat_list_cmp_total, texts_ties}}}
-use Rattle.cacache_core.specs.{declared.integrity.digest.Hash.{Hash}, Integrity.{IsIntegrity, address, rank}, Meeting.{lists}, Same.{same_hash, same_hash-Decides}}
+use Rattle.cacache_core.specs.{declared.{integrity.digest.Hash.{Hash}, errors.Error.{Error}}, Integrity.{IsIntegrity, address, rank}, Meeting.{lists}, Same.{same_hash, same_hash-Decides}}
 use Rattle.cacache_core.proofs.Meeting.{lists_finds}
 use Rattle.cacache_entry.specs.Latest.{Found}
 use Rattle.cacache_walks.specs.Listing.{hash_cmp}
 use Rattle.cacache_laws.specs.trees.Collecting.{is_address, is_live}
-use Rattle.cacache_keep.{specs.Calls.{AreOthers, AreUnused, has_address_in, has_entry}, proofs.Asked.{kept, passed}}
+use Rattle.cacache_keep.{specs.Calls.{AreOthers, AreUnused, has_address_in, has_entry, MadeCalls, StopsRemoving, removal}, proofs.Asked.{kept, passed, mapped_on}}
+use Rattle.cacache_store.specs.declared.store.log.LogItem.{LogItem}
+use Rattle.cacache_calls.specs.{State.{Site}, Table.{opening}, Runs.{Ran, without_message}}
+use Rattle.cacache_calls.specs.declared.command.Command.TheVariants as commands
+use Rattle.cacache_calls.specs.declared.reply.Reply.TheVariants as replies
 
 -- ---- the order
 
@@ -75,12 +80,11 @@ other_taken live yielded unused i r none = record {
 -- what a list of addresses lists is live
 live_listed : (entries : List Found) (live : List Hash) (h : Hash) → map Some live ≡ map (λ (f : Found). address f.integrity) entries → lists live h ≡ is_live entries h
 live_listed [] [] h of = refl
-live_listed [] (g ∷ live) h of = absurd cc
-live_listed (f ∷ entries) [] h of = absurd cc
 live_listed (f ∷ entries) (g ∷ live) h of =
     let first : Some g ≡ address f.integrity = cc in
     let rest : map Some live ≡ map (λ (x : Found). address x.integrity) entries = cc in
     ap₂ (λ a b. a || b) (ap (λ o. is_address o h) first) (live_listed entries live h rest)
+live_listed _ _ h of = absurd cc
 
 lists_same : (a b : List Hash) (h : Hash) → Contains a h ↔ Contains b h → lists a h ≡ lists b h
 lists_same a b h same = same_bool (lists a h) (lists b h) (λ e. (lists_finds b h).1 (same.0 ((lists_finds a h).0 e))) (λ e. (lists_finds a h).1 (same.1 ((lists_finds b h).0 e)))
@@ -112,3 +116,20 @@ pub live_more : {X : Type 0} (of : X → Option Hash) (xs : List X) (k : ℕ) (x
 live_more {X} of xs k x h live more low is at grown so_far =
     let front : take (k + 1) xs ≡ take k xs ++ x ∷ [] = take_more xs k x low ∙ ap (λ (y : X). take k xs ++ y ∷ []) (sym is) in
     ap (map Some) grown ∙ map-append Some live (h ∷ []) ∙ ap₂ (λ a o. a ++ o ∷ []) so_far (sym at) ∙ sym (map-append of (take k xs) (x ∷ [])) ∙ ap (map of) (sym front)
+
+pub one_removed : (site : Site) (addresses : List (List Hash)) (k : ℕ) (i : List Hash) (old mid new : Option (List LogItem)) → k < length addresses → i ≡ get_or addresses k i → MadeCalls site (map removal (take k addresses)) old mid → Ran (opening site (removal i).0) (removal i).1 mid new → MadeCalls site (map removal (take (k + 1) addresses)) old new
+one_removed site addresses k i old mid new below is made ran =
+    let more : take (k + 1) addresses ≡ take k addresses ++ i ∷ [] = take_more addresses k i below ∙ ap (λ (h : List Hash). take k addresses ++ h ∷ []) (sym is) in
+    subst (λ (l : List (List Hash)). MadeCalls site (map removal l) old new) (sym more) (mapped_on site removal (take k addresses) i old mid new made ran)
+
+-- the next one was refused
+pub one_refused : (site : Site) (addresses : List (List Hash)) (k : ℕ) (i : List Hash) (e : Error) (old mid new : Option (List LogItem)) → k < length addresses → i ≡ get_or addresses k i → MadeCalls site (map removal (take k addresses)) old mid → Ran (opening site (commands.RemoveHash i)) (replies.Refused (without_message e)) mid new → StopsRemoving site addresses e old new
+one_refused site addresses k i e old mid new below is made ran = record {
+  gone = take k addresses;
+  next = i;
+  rest = drop (k + 1) addresses;
+  split = sym (take-append-drop k addresses) ∙ ap (λ (l : List (List Hash)). take k addresses ++ l) (drop_more addresses k i below ∙ ap (λ (h : List Hash). h ∷ drop (k + 1) addresses) (sym is));
+  between = mid;
+  removing = made;
+  refused = ran;
+}

@@ -13,9 +13,9 @@ use Rattle.cacache_calls.specs.{declared.{command.Command.{Command}, reply.Reply
 use Rattle.cacache_value.specs.Value.{value_of_tree}
 use Rattle.cacache_walks.specs.{Listing.{ListsContents, content_area_in}, Reading.{top_folder}}
 use Rattle.cacache_laws.specs.{Beside.{ShareAddress}, Caches.{Called, HasKey, IsCache}, Keeping.{found_under}, Looks.{OnlyLooks}, ReadAnswers.{entries_on}, Sequence.{IsSound}, Standing.{IsStanding}, trees.{Collecting.{IsCollected, Removes, is_live}, Contents.{content_in}, Later.{SparingCall}, Mending.{found_in}}}
-use Rattle.cacache_laws.proofs.{Calls.{InParts.{logs_lead}, Logs.{some_same}, Messages.{plain_error}}, Readings.{Looked.{same_stays_known}, OpenReaders.{log_front}}, Removing.Removed.{contents_go}, trees.{Collected.{from_kept, live_so}, Keeping.{removals_leave}, Led.{found_listed}, Logged.{gains_join, log_rooted}, Members.{Member, contains_member, member_contains}, SoundRemovals.{removals_leave_sound}}}
+use Rattle.cacache_laws.proofs.{Calls.{InParts.{logs_lead}, Logs.{some_same}, CallErrors.{plain_error}}, Readings.{GivenReads.{same_stays_known}, OpenReaders.{log_front}}, Removing.Removed.{contents_go}, trees.{Collected.{from_kept, live_so}, Keeping.{removals_leave}, Led.{found_listed}, Logged.{gains_join, log_rooted}, Members.{Member, contains_member, member_contains}, SoundRemovals.{removals_leave_sound}}}
 use Rattle.cacache_keep.specs.{declared.checking.OddLines.{OddLines}, Behind.{KeepsKeys, StoppedKeepKeys}, Calls.{Asks, ListsEntries, MadeCalls, StopsReading, StopsRemoving, has_entry, removal}, Keeping.{Chooses, StopsCollecting, StopsEarly}, Sparing.{StaysLed}}
-use Rattle.cacache_keep.proofs.{Collections.{Behind.{found_same, key_same}, Chosen.{Choice, choice}, LaterCalls.{removals_stand}, Leaving.{removals, removals_gain, removed_by, unused_ones}, Led.{call_led, keeps_led, then_led}}, Parts.{AllLook, calls_gain, index_look, ends_look, folders_look, stops_look, gained, then_keeps, Keeps, made_looks}}
+use Rattle.cacache_keep.proofs.{Collections.{Behind.{found_same, key_same, removals_stand}, Leaving.{Choice, choice, removals, removals_gain, removed_by, unused_ones, call_led, keeps_led, then_led}}, Stopped.{AllLook, calls_gain, index_look, ends_look, folders_look, stops_look, gained, then_keeps, Keeps, made_looks}}
 
 -- ---- moves that only look
 
@@ -71,8 +71,6 @@ record Parts (gone : List (List Hash)) (next : List Hash) (us : List Hash) : Typ
   one : Member hash us
 
 parts : (gone : List (List Hash)) (next : List Hash) (rest : List (List Hash)) (us : List Hash) → map (λ h. h ∷ []) us ≡ gone ++ next ∷ rest → Parts gone next us
-parts [] next rest [] e = absurd cc
-parts (g ∷ gone) next rest [] e = absurd cc
 parts [] next rest (u ∷ us) e = record { hashes = []; hash = u; gone_are = refl; next_is = cc; first = λ x m. absurd m; one = inl refl }
 parts (g ∷ gone) next rest (u ∷ us) e =
     let tail : map (λ h. h ∷ []) us ≡ gone ++ next ∷ rest = cc in
@@ -86,6 +84,7 @@ parts (g ∷ gone) next rest (u ∷ us) e =
       first = λ x m. elim m [ inl is ↦ inl is | inr more ↦ inr (p.first x more) ];
       one = inr p.one;
     }
+parts _ next rest _ e = absurd cc
 
 module _ (site : Site) (home : Names) (kept : ℕ) (dropped : List (List Hash)) (e : Error) (old new : List LogItem) (chosen : Option (List LogItem))
     (is : home_of site.cache ≡ Some home) (logged : IsLog new)

@@ -7,7 +7,7 @@ use Rattle.cacache_store.specs.{declared.store.{answer.Name.{Name}, log.LogItem.
 use Rattle.cacache_store.specs.declared.store.step.Step.TheVariants as steps
 use Rattle.cacache_calls.specs.{declared.answers.Refusal.{Refusal}, Answers.{length_in, names_in}, Common.{fails, refuse}, Runs.{EndsAs, Gains, Moves}, SingleSteps.{Does, FailsAt}}
 use Rattle.cacache_laws.{proofs.trees.Logged.{gains_join}, specs.trees.Temporary.{sized_removals, total}}
-use Rattle.cacache_keep.{specs.{Reading.{finds_none, is_gone}, Sweeping.{RemovesSized, StopsRemoval, StopsSized}}, proofs.Repairs.Gives.{not_gone}}
+use Rattle.cacache_keep.{specs.{Reading.{finds_none, is_gone}, Sweeping.{RemovesSized, StopsRemoval, StopsSized}}, proofs.Repairs.Shown.{not_gone}}
 pub use Rattle.cacache_sync.proofs.content.StepAnswers.{Refuses, refused_fails, folder_refused, removal_refused, size_refused, temp_refused}
 
 -- ---- a step that was refused

@@ -4,7 +4,7 @@ use Rattle.cacache_core.specs.PathNames.{Names, home_of}
 use Rattle.cacache_store.specs.declared.store.log.LogItem.{LogItem}
 use Rattle.cacache_disk.specs.{declared.node.Node.TheVariants.{Link}, Tree.{Tree, look}, memory.Replay.{tree_of}}
 use Rattle.cacache_calls.specs.{declared.command.Command.{Command}, State.{Site}}
-use Rattle.cacache_laws.proofs.{Readings.Looks.{tree_stays}, trees.Twins.{BothLogs.{still_lacks_idle}, Fully.{lacks_at}, Idle.{bucket_read}, Unseen.{idle_is_unseen}}}
+use Rattle.cacache_laws.proofs.{Readings.Looks.{tree_stays}, trees.Twins.{Cleared.{still_lacks_idle}, Fully.{lacks_at}, Twice.{bucket_read}, Follows.{idle_is_unseen}}}
 use Rattle.cacache_laws.specs.trees.{Collecting.{LinksLeadOut}, Idle.{IsIdle, IsNeeded, LacksIdle}, Walks.{is_leaf}}
 use Rattle.cacache_keep.{specs.Kept.{Cleaned, LaterReadsStay, LooksStay, Tidied}, proofs.Collections.Leaving.{collections_lack_idle}}
 

@@ -8,7 +8,7 @@ use Rattle.cacache_store.specs.declared.store.answer.Kind.TheVariants as kinds
 use Rattle.cacache_store.specs.declared.store.step.Step.TheVariants as steps
 use Rattle.cacache_disk.specs.{declared.{luck.Luck.TheVariants.{Plain}, node.Node.{Node, TheVariants.{Folder, File}}}, Tree.{Tree, kind_of, look}, Apply.{apply}, Rooted.{Rooted}}
 use Rattle.cacache_disk.proofs.Standing.{upper_folder}
-use Rattle.cacache_laws.proofs.{Readings.ReadsStay.{listing_keeps}, trees.{Children.{FolderShows, Stands, child_listed, folder_shown, listed, listed_child, missing, proper_child}, Covering.{named_on}, Collected.{kept_in}, Members.{Member, in_left, in_right}, Temporary.{file_node}}}
+use Rattle.cacache_laws.proofs.{Readings.ReadAnswers.{listing_keeps}, trees.{Children.{FolderShows, Stands, child_listed, folder_shown, listed, listed_child, missing, proper_child}, Covering.{named_on}, Collected.{kept_in}, Members.{Member, in_left, in_right}, Temporary.{file_node}}}
 use Rattle.cacache_laws.specs.trees.Temporary.{is_file}
 use Rattle.cacache_walks.specs.Reading.{names_shown}
 use Rattle.cacache_value.{specs.Kinds.{Bucket, path_kind}, proofs.KindsApart.{kind-below}}

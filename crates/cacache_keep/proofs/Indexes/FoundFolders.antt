@@ -1,13 +1,16 @@
 -- The folders that hold the paths of buckets, by their texts.
-use Rattle.std.proofs.{Common.{◌≡◌, ℕ, suc, List, [], ◌∷◌, ◌++◌, Bool, true, false, cond, Option, Some, Ok, length, map, filter, refl, sym, ap, subst, ◌∙◌, arith, append_assoc, eqb-true}, lemmas.Bool.{and_parts}}
-use Rattle.std.specs.{List.{AllByRecursion, flat_map, list_all}, Prelude.{IfOk}}
-use Rattle.cacache_core.specs.{PathNames.{Names, names_of, home_of, IsProperName}, Paths.{index_area, join}}
+-- The names of a key's bucket are hex digits.
+use Rattle.std.proofs.{Common.{◌≡◌, ℕ, suc, List, [], ◌∷◌, ◌++◌, Bool, true, false, cond, Option, Some, Ok, length, map, filter, refl, sym, ap, subst, ◌∙◌, arith, append_assoc, eqb-true, ◌<◌, ◌/◌, ◌%◌, zero, take, drop, slice_index, length-drop}, lemmas.{Bool.{and_parts, and_from, eq-eqb}, List.{length-take-le, Folds.{list_any_at}}}}
+use Rattle.std.specs.{List.{AllByRecursion, flat_map, list_all, list_any}, Prelude.{IfOk, not}}
+use Rattle.cacache_core.specs.{PathNames.{Names, names_of, home_of, IsProperName}, Paths.{index_area, join}, PathLaws.{IsKeyDigest}}
 use Rattle.cacache_store.specs.declared.store.{answer.Name.{Name}, log.LogItem.{LogItem}}
 use Rattle.cacache_value.specs.Kinds.{Bucket, path_kind}
 use Rattle.cacache_laws.{specs.trees.Temporary.{is_file}, proofs.trees.Covering.{named_on}}
 use Rattle.cacache_keep.specs.{Buckets.{FindsBuckets, Listed, ListsParts, belongs, index_area_in, is_folder, is_hex_digit, is_hex_name, parts_in}, Rewriting.{folder_of}}
-use Rattle.cacache_keep.proofs.Indexes.{FoundBuckets.{InIndex, area_named, bucket_kind, longer}, ParentTexts.{EndsHex, digits_end, digits_proper, folder_is, joined_ends}}
+use Rattle.cacache_keep.proofs.Indexes.{FoundBuckets.{InIndex, area_named, bucket_kind, longer, AreBucketNames}, ParentTexts.{EndsHex, digits_end, digits_proper, folder_is, joined_ends}}
 use Rattle.cacache_disk.proofs.Roots.{same_folder}
+use Rattle.base64.specs.GeneralPurpose.{IsBytes}
+use Rattle.hex.{specs.Hex.{encode_with, encode_lower, lower_digits}, proofs.HexLemmas.{length-encode_with}}
 
 -- ---- hex names
 
@@ -99,3 +102,42 @@ pub paths_lie : (cache : List ℕ) (home : Names) (tops paths : List (List ℕ))
 paths_lie cache home tops paths old new is finds =
     each_of (IsBucketPath home) (HasBucketName home)
     (λ p both. subst (λ r. IfOk r (λ names. path_kind (Some home) names ≡ Bucket)) (sym both.1.1) (bucket_kind home both.1.0 both.1.2)) paths (paths_are home cache tops paths old new is finds)
+
+-- ---- digits
+
+digit_is : (d : ℕ) → d < 16 → is_hex_digit (slice_index lower_digits d) ≡ true
+digit_is d small = by (is_hex_digit (slice_index lower_digits d)) (λ e. list_any_at (λ c. not (is_hex_digit c)) lower_digits d 0 small e)
+  where
+    by : (b : Bool) → (not b ≡ true → list_any (λ c. not (is_hex_digit c)) lower_digits ≡ true) → b ≡ true
+    by true h = refl
+    by false h = absurd (let wrong : false ≡ true = h refl in cc)
+
+digits_are : (d : List ℕ) → IsBytes d → list_all is_hex_digit (encode_lower d) ≡ true
+unfolding encode_with
+digits_are [] bytes = refl
+digits_are (b ∷ d) bytes = and_from _ _ (digit_is (b / 16) (omega (arith, bytes 0))) (and_from _ _ (digit_is (b % 16) (omega arith)) (digits_are d (λ k. bytes (suc k))))
+
+take_digits : (n : ℕ) (x : List ℕ) → list_all is_hex_digit x ≡ true → list_all is_hex_digit (take n x) ≡ true
+take_digits (suc n) (c ∷ x) h = let p = and_parts _ _ h in and_from _ _ p.0 (take_digits n x p.1)
+take_digits _ x h = refl
+
+drop_digits : (n : ℕ) (x : List ℕ) → list_all is_hex_digit x ≡ true → list_all is_hex_digit (drop n x) ≡ true
+drop_digits zero x h = h
+drop_digits (suc n) [] h = refl
+drop_digits (suc n) (c ∷ x) h = drop_digits n x (and_parts _ _ h).1
+
+-- ---- names
+
+pub bucket_names_hex : (digest : List ℕ) → IsKeyDigest digest → AreBucketNames (take 2 (encode_lower digest)) (take 2 (drop 2 (encode_lower digest))) (drop 4 (encode_lower digest))
+bucket_names_hex digest d =
+    let x = encode_lower digest in
+    let all = digits_are digest d.bytes in
+    let size : length (encode_lower digest) ≡ 40 = omega (arith, length-encode_with lower_digits digest, d.size) in
+    let rest : length (drop 2 (encode_lower digest)) ≡ 38 = omega (arith, length-drop 2 (encode_lower digest), size) in
+    let one : length (take 2 (encode_lower digest)) ≡ 2 = length-take-le 2 (encode_lower digest) (omega (arith, size)) in
+    let two : length (take 2 (drop 2 (encode_lower digest))) ≡ 2 = length-take-le 2 (drop 2 (encode_lower digest)) (omega (arith, rest)) in
+    let three : length (drop 4 (encode_lower digest)) ≡ 36 = omega (arith, length-drop 4 (encode_lower digest), size) in (
+      and_from _ _ (eq-eqb (length (take 2 (encode_lower digest))) 2 one) (take_digits 2 (encode_lower digest) all),
+      and_from _ _ (eq-eqb (length (take 2 (drop 2 (encode_lower digest)))) 2 two) (take_digits 2 (drop 2 (encode_lower digest)) (drop_digits 2 (encode_lower digest) all)),
+      and_from _ _ (eq-eqb (length (drop 4 (encode_lower digest))) 36 three) (drop_digits 4 (encode_lower digest) all),
+    )

@@ -9,7 +9,7 @@ use Rattle.cacache_calls.specs.{declared.{reply.Reply.TheVariants.{Done, Listed,
 use Rattle.cacache_calls.proofs.{Effort.{falls}, Going.{answer_cases, gains_one, goes_lost, goes_on, goes_over, no_gain, unmoved}, Memory.{memory_said, no_memory_after}}
 use Rattle.cacache_walks.specs.{declared.walk.Walk.{Walk}, Iterating.{steps_left}, WalkStates.{GoesOn, WalkLeads, WalksAt, walk_of}}
 use Rattle.cacache_keep.specs.{Checking.{odd_in, odd_read}, Linked.{as_walked, linked_in, linked_read, taken_as}, Walking.{LosesIndex, MeetsIndex, Notes, VisitGoes, VisitStops, WalksIndex}}
-use Rattle.cacache_keep.proofs.Indexes.Listings.{listing_replies}
+use Rattle.cacache_keep.proofs.Indexes.StandingIndexes.{listing_replies}
 
 -- ---- the buckets of moves
 

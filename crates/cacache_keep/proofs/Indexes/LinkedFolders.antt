@@ -1,21 +1,23 @@
 -- Folders that links in the index lead to, listed one after another.
-use Rattle.std.proofs.{Common.{◌≡◌, ◌⊎◌, inl, inr, List, [], ◌∷◌, ◌++◌, ℕ, Option, None, Ok, refl, sym, ap, subst, ◌∙◌, map, append_assoc, append-nil}, lemmas.List.{Concat.{flat_map-append}, Elements.{filter_map-append}}}
-use Rattle.std.specs.Prelude.{slice_get}
-use Rattle.cacache_core.specs.declared.errors.Error.{Error, TheVariants.{OutOfMemory}}
-use Rattle.cacache_store.specs.{declared.store.log.LogItem.{LogItem}, Plain.{PlainStep, PlainAnswer}}
+-- The log on which a repair goes on after its listing of the index leads to the same tree.
+-- The index read as a whole: a walk through it, and then one through each folder that a link in it leads to.
+use Rattle.std.proofs.{Common.{◌≡◌, ◌⊎◌, inl, inr, List, [], ◌∷◌, ◌++◌, ℕ, Option, None, Ok, refl, sym, ap, subst, ◌∙◌, map, append_assoc, append-nil, Some}, lemmas.List.{Concat.{flat_map-append}, Elements.{filter_map-append}}}
+use Rattle.std.specs.{Prelude.{slice_get}, List.{flat_map}}
+use Rattle.cacache_core.specs.{declared.{errors.Error.{Error, TheVariants.{OutOfMemory}}, integrity.digest.Hash.{Hash}}, PathNames.{Names, home_of}}
+use Rattle.cacache_store.specs.{declared.store.log.LogItem.{LogItem, TheVariants.{Made}}, Plain.{PlainStep, PlainAnswer}}
 use Rattle.cacache_entry.specs.Latest.{Found}
-use Rattle.cacache_calls.{specs.{declared.reply.Reply.TheVariants.{Listed}, Runs.{Gains, Moves, plain_item}, State.{Item}}, proofs.Going.{no_gain}}
-use Rattle.cacache_laws.proofs.trees.Logged.{gains_join}
-use Rattle.cacache_keep.specs.{Calls.{IsFirstError}, Checking.{AddsFolders, ReadsFolder, StopsFolder, StopsFolders, odd_in, odd_read}, Linked.{ListsEach, Part, entries_in, moves_in}, Walking.{MeetsIndex}}
-use Rattle.cacache_keep.proofs.{Asked.{plain_entries}, Stopped.{first_plain}}
+use Rattle.cacache_calls.{specs.{declared.reply.Reply.TheVariants.{Listed}, Runs.{Gains, Moves, plain_item}, State.{Item, Site}}, proofs.Going.{no_gain}}
+use Rattle.cacache_laws.{proofs.{trees.Logged.{gains_join, log_rooted}, Calls.InParts.{logs_lead}, Readings.OpenReaders.{log_front}}, specs.trees.Index.{IndexLists}}
+use Rattle.cacache_keep.specs.{Calls.{IsFirstError, question_of, removal, AreEntries, EndsLinked, StopsIndex, index_of}, Checking.{AddsFolders, ReadsFolder, StopsFolder, StopsFolders, odd_in, odd_read, ReadsIndex}, Linked.{ListsEach, Part, entries_in, moves_in}, Walking.{MeetsIndex}, Kept.{LeavesTree}, Repairing.{Fate, RepairsCache, RepairsFrom, calls_for}}
+use Rattle.cacache_keep.proofs.{Asked.{plain_entries, plain_are}, Stopped.{first_plain, calls_gain}, Repairs.{Judged.{reads_judged}, Shown.{burial_of}}, Indexes.StandingIndexes.{index_looked}}
+use Rattle.cacache_disk.specs.memory.Replay.{tree_of, IsLog}
 
 -- ---- parts
 
 each_on : (tops : List (List ℕ)) (parts : List Part) (top : List ℕ) (part : Part) → ListsEach tops parts → ListsEach (top ∷ []) (part ∷ []) → ListsEach (tops ++ top ∷ []) (parts ++ part ∷ [])
 each_on [] [] top part each one = one
-each_on [] (p ∷ parts) top part each one = absurd each
-each_on (t ∷ tops) [] top part each one = absurd each
 each_on (t ∷ tops) (p ∷ parts) top part each one = (each.0, each.1, each_on tops parts top part each.2 one)
+each_on _ _ top part each one = absurd each
 
 moves_on : (parts : List Part) (part : Part) → moves_in (parts ++ part ∷ []) ≡ moves_in parts ++ part.1
 moves_on parts part = flat_map-append (λ (p : Part). p.1) parts (part ∷ []) ∙ ap (λ (l : Moves). moves_in parts ++ l) (append-nil part.1)
@@ -78,3 +80,84 @@ next_stops tops seen rest top own before odd met e old mid new split adds stop =
   record { done = seen; rest = top ∷ rest; split = split; parts = adds.parts; listed = adds.listed; last = stop.0; stop = stop.1; all = refl },
   gains_join old mid new (moves_in adds.parts) stop.0 adds.gains stop.2,
 )
+
+-- the index has these entries, and the repair goes on from a log that leads to the same tree
+pub record OnListed (site : Site) (damaged : List (List Hash)) (buried : List Found) (old new : List LogItem) : Type 0 where
+  pub entries : List Found
+  pub log : List LogItem
+  pub stays : LeavesTree old log
+  pub index : IndexLists site (tree_of log) entries
+  pub so : RepairsFrom site entries damaged buried (Some log) (Some new)
+
+repair_gains : (site : Site) (home : Names) (entries : List Found) (t : List LogItem) (damaged : List (List Hash)) (buried : List Found) (old new : Option (List LogItem)) → home_of site.cache ≡ Some home → RepairsFrom site entries damaged buried old new → (moves : Moves) × Gains old new moves
+repair_gains site home entries t damaged buried old new is v =
+    let c = v.contents in
+    let r = reads_judged site home (tree_of t) is (log_rooted t) v.order.hashes v.reading.reads v.found v.read (v.reading.each ∙ v.order.single) v.reading.reading in
+    let gone = calls_gain site (map removal damaged) v.read v.removed v.removing in
+    let a = calls_gain site (map question_of v.asking.asks) v.removed v.asked v.asking.asking in
+    let w = burial_of v in
+    let b = calls_gain site (flat_map (λ (f : Found × Fate). calls_for f.1) w.each.fates) w.looked new w.each.calls in
+    let last = w.moves ++ b.0 in
+    let late = a.0 ++ last in (
+      c.0 ++ (r.moves ++ (gone.0 ++ late)),
+      gains_join old v.found new c.0 (r.moves ++ (gone.0 ++ late)) c.1
+          (gains_join v.found v.read new r.moves (gone.0 ++ late) r.gains
+          (gains_join v.read v.removed new gone.0 late gone.1
+          (gains_join v.removed v.asked new a.0 last a.1
+          (gains_join v.asked w.looked new w.moves b.0 w.gains b.1)))),
+    )
+
+front_is : (log new : List LogItem) (moves : Moves) → Gains (Some log) (Some new) moves → new ≡ log ++ map (λ m. Made m.0 m.1) moves
+front_is log new moves gains = cc
+
+pub repaired_on : (site : Site) (home : Names) (damaged : List (List Hash)) (buried : List Found) (old new : List LogItem) → home_of site.cache ≡ Some home → IsLog new → RepairsCache site damaged buried (Some old) (Some new) → OnListed site damaged buried old new
+repaired_on site home damaged buried old new is logged (choice, (entries, odd, listed, reads, allows, v)) =
+    let l = reads.0 in
+    let moves : Moves = l.2.0 in
+    let log = old ++ map (λ m. Made m.0 m.1) moves in
+    let so : RepairsFrom site entries damaged buried (Some log) (Some new) = subst (λ (x : Option (List LogItem)). RepairsFrom site entries damaged buried x (Some new)) l.2.2 v in
+    let more = repair_gains site home entries old damaged buried (Some log) (Some new) is so in
+    let is_log = log_front log new (map (λ m. Made m.0 m.1) more.0) (front_is log new more.0 more.1) logged in
+    let lead = logs_lead old log moves refl is_log in
+    let index = index_looked site home (tree_of old) l.0 l.1 entries moves is (log_rooted old) l.2.1 lead.0 in
+    let stays : tree_of log ≡ tree_of old = lead.1 ∙ index.1 in
+    record {
+      entries = entries;
+      log = log;
+      stays = stays;
+      index = subst (λ t. IndexLists site t entries) (sym stays) index.0;
+      so = so;
+    }
+
+module _ (site : Site) (items : List Item) (own : List Found) (odd linked : List (List ℕ)) (old mid new : Option (List LogItem)) (met : MeetsIndex (index_of site) (map plain_item items) odd linked old mid) (are : AreEntries items own) where
+  -- its own entries, and then those below its links
+  pub index_read : (entries : List Found) (more : List (List ℕ)) → AddsFolders linked own odd entries more mid new → ReadsIndex site entries more old new
+  index_read entries more adds =
+      let behind = moves_in adds.parts in (
+        (
+          map plain_item items,
+          adds.parts,
+          (
+            met.moves ++ behind,
+            record {
+              own = own;
+              are = plain_are items own are;
+              main = met.moves;
+              listing = met.lists;
+              linked = subst (λ (tops : List (List ℕ)). ListsEach tops adds.parts) met.notes.led adds.listed;
+              all = refl;
+              both = adds.both;
+            },
+            gains_join old mid new met.moves behind met.gains adds.gains,
+          ),
+        ),
+        adds.met ∙ ap (λ (l : List (List ℕ)). l ++ odd_in behind) met.notes.met ∙ sym (odd_both met.moves behind),
+      )
+
+  -- the error ended it below a link
+  pub linked_stops : (e : Error) → StopsFolders linked e mid new → StopsIndex site e old new
+  linked_stops e stop = (
+    met.moves ++ stop.0,
+    inr (map plain_item items, own, plain_are items own are, met.moves, met.lists, stop.0, subst (λ (tops : List (List ℕ)). EndsLinked tops e stop.0) met.notes.led stop.1, refl),
+    gains_join old mid new met.moves stop.0 met.gains stop.2,
+  )

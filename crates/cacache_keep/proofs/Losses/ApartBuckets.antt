@@ -8,10 +8,10 @@ use Rattle.cacache_store.specs.declared.store.step.Step.TheVariants as steps
 use Rattle.cacache_disk.specs.Tree.{Tree}
 use Rattle.cacache_calls.specs.{Runs.{Moves}, SingleSteps.{Does, FailsAt}, StepPaths.{temp_folder, temp_path}}
 use Rattle.cacache_value.{specs.Kinds.{PathKind, Temporary, path_kind}, proofs.KindsApart.{kind-below}}
-use Rattle.cacache_laws.{specs.{Sequence.{AreAnswered}, trees.Compacting.{compact_text}}, proofs.Calls.Handed.{writing_keeps}}
+use Rattle.cacache_laws.{specs.{Sequence.{AreAnswered}, trees.Compacting.{compact_text}}, proofs.Calls.InParts.{writing_keeps}}
 use Rattle.cacache_loss.{specs.{Fixing.{is_at}, Moments.{Moment}}, proofs.UnchangedPaths.{at_false}}
 use Rattle.cacache_keep.specs.{Compacting.{Bucket, CompactsBucket, RewritesIf, StopsBucket, StopsUnchanged, is_loose}, Rewriting.{MakesTemp, Rewrites, StopsMaking, StopsMoving, StopsRewriting, StopsSyncingBucket, StopsWriting, SyncsBucket, Takes, TakesNone, Took, folder_of}}
-use Rattle.cacache_keep.proofs.{Losses.{ApartSteps.{Apart, EachApart, apart_join}, MomentRuns.{Fixes, fixes_failed, fixes_step, fixes_then}}, NewBuckets.Rewritten.{Has, temp_made, temp_path_named, wrote_has, writes_take}}
+use Rattle.cacache_keep.proofs.{Losses.ApartSteps.{Apart, EachApart, apart_join, Fixes, fixes_failed, fixes_step, fixes_then}, NewBuckets.Rewritten.{Has, temp_made, temp_path_named, wrote_has, writes_take}}
 
 module _ (cache : List ℕ) (home : Names) (is : home_of cache ≡ Some home) (q : Names) (k : PathKind) (kind : path_kind (Some home) q ≡ k) (other : k ≡ Temporary → ⊥) where
   -- the text leads elsewhere

@@ -8,7 +8,7 @@ use Rattle.cacache_store.specs.declared.store.step.Step.TheVariants as steps
 use Rattle.cacache_value.specs.Kinds.{Bucket as IsBucket, Way, path_kind}
 use Rattle.cacache_loss.proofs.UnchangedPaths.{at_false}
 use Rattle.cacache_keep.specs.{Buckets.{FindsBuckets, Listed, ListsInTurn, StopsFinding, StopsNextPart, StopsParts, index_area_in}, Compacting.{Bucket, CompactsAll, CompactsCache, CompactsEach, StopsCompactingEach}, Losses.{CompactsDurably}, Syncing.{StopsInTurn, StopsNextSync, SyncsInTurn, folders_above}}
-use Rattle.cacache_keep.proofs.{Losses.{ApartSteps.{Apart, EachApart, apart_join}, ApartBuckets.{bucket_apart, bucket_stops}, MomentRuns.{Fixes, fixes_failed, fixes_none, fixes_step, fixes_then}}, Indexes.FoundFolders.{HasBucketName, paths_lie}}
+use Rattle.cacache_keep.proofs.{Losses.{ApartSteps.{Apart, EachApart, apart_join, Fixes, fixes_failed, fixes_none, fixes_step, fixes_then}, ApartBuckets.{bucket_apart, bucket_stops}}, Indexes.FoundFolders.{HasBucketName, paths_lie}}
 
 -- ---- steps that look or sync
 

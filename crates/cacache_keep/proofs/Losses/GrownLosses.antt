@@ -16,7 +16,7 @@ use Rattle.cacache_loss.proofs.{KeptPaths.{cond_none, each_calm, fixed_next}, Sy
 use Rattle.cacache_history.proofs.durable.{GrownBuckets.{Stands, grown_after}, LineParts.{HoldsFirst, none_first}}
 use Rattle.cacache_laws.{specs.trees.Compacting.{compact_text, kept, lines_of, text_of}, proofs.trees.Compactions.CompactTexts.{compact_texts_answer}}
 use Rattle.cacache_keep.specs.Losses.{CompactionsGrow, IsFixedAt, WayFixed, moment_after}
-use Rattle.cacache_keep.proofs.{Losses.{FixedFolders.{node_lost}, LeanLosses.{lean_now, synced_now}, MomentRuns.{tree_then}}, Indexes.{FoundBuckets.{AreBucketNames}, HexNames.{bucket_names_hex}}}
+use Rattle.cacache_keep.proofs.{Losses.{FixedFolders.{node_lost}, LeanLosses.{lean_now, synced_now}, ApartSteps.{tree_then}}, Indexes.{FoundBuckets.{AreBucketNames}, FoundFolders.{bucket_names_hex}}}
 
 -- ---- one calm move
 

@@ -11,7 +11,7 @@ use Rattle.cacache_value.specs.Kinds.{Bucket as IsBucket, path_kind}
 use Rattle.cacache_loss.{specs.{declared.fixing.Place.{Place}, Fixing.{is_at, place_now}, Moments.{Moment, next}}, proofs.UnchangedPaths.{file_kept, name_kept}}
 use Rattle.cacache_laws.{specs.trees.Compacting.{compact_text}, proofs.trees.{Compactions.CompactTwice.{compact_again}, Led.{file_shown}}}
 use Rattle.cacache_keep.specs.{Compacting.{Bucket, CompactsBucket, CompactsEach, RewritesIf, StopsBucket, StopsUnchanged, is_loose}, Losses.{CompactsDurably}, Rewriting.{MakesTemp, Rewrites, StopsMoving, StopsRewriting, Took, folder_of}, Syncing.{folders_above}}
-use Rattle.cacache_keep.proofs.{Losses.{ApartSteps.{EachApart, IsWhole, Kept, named_there, step_kept, whole_still}, ApartBuckets.{Full, IfSpared, bucket_apart, bucket_stops, early_stops, full_apart, making_stops, sync_apart, sync_stops, temp_sync_apart, unread_stops, unsecured_stops, writing_stops}, ApartCompactions.{finding_apart, finding_stops, syncs_apart, syncs_stop}, MomentRuns.{Fixes, fixes_as, fixes_failed, fixes_none, fixes_step, fixes_then, later}}, NewBuckets.MovedFiles.{moved, unmoved}}
+use Rattle.cacache_keep.proofs.{Losses.{ApartSteps.{EachApart, IsWhole, Kept, named_there, step_kept, whole_still, Fixes, fixes_as, fixes_failed, fixes_none, fixes_step, fixes_then, later}, ApartBuckets.{Full, IfSpared, bucket_apart, bucket_stops, early_stops, full_apart, making_stops, sync_apart, sync_stops, temp_sync_apart, unread_stops, unsecured_stops, writing_stops}, ApartCompactions.{finding_apart, finding_stops, syncs_apart, syncs_stop}}, NewBuckets.MovedFiles.{moved, unmoved}}
 
 module _ (cache : List ℕ) (home : Names) (is : home_of cache ≡ Some home) (q : Names) (kind : path_kind (Some home) q ≡ IsBucket) (bytes : List ℕ) where
   -- the bucket's bytes, or the compacted ones

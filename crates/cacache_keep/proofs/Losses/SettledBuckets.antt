@@ -11,7 +11,7 @@ use Rattle.cacache_value.specs.Kinds.{Bucket as IsBucket, path_kind}
 use Rattle.cacache_loss.{specs.{Fixing.{is_at, synced}, Moments.{Moment}}, proofs.{Buckets.{leads_file}, KeptPaths.{sync_fixes}}}
 use Rattle.cacache_laws.{specs.trees.Compacting.{compact_text}, proofs.trees.Members.{Member}}
 use Rattle.cacache_keep.specs.{Compacting.{Bucket, CompactsBucket, CompactsEach, RewritesIf, is_loose}, Rewriting.{Rewrites, SyncsBucket, folder_of}}
-use Rattle.cacache_keep.proofs.{Losses.{ApartSteps.{EachApart, moves_kept, named_there, name_still, synced_still}, ApartBuckets.{AllApart, Full, bucket_apart, full_apart}, MomentRuns.{Fixes, fixes_as, fixes_none, fixes_step, fixes_then, later, later_split}}, Indexes.FoundFolders.{FolderNamed}, NewBuckets.MovedFiles.{moved}}
+use Rattle.cacache_keep.proofs.{Losses.{ApartSteps.{EachApart, moves_kept, named_there, name_still, synced_still, Fixes, fixes_as, fixes_none, fixes_step, fixes_then, later, later_split}, ApartBuckets.{AllApart, Full, bucket_apart, full_apart}}, Indexes.FoundFolders.{FolderNamed}, NewBuckets.MovedFiles.{moved}}
 
 -- a file is there
 abbrev pub Held : Moment → Names → Type 0

@@ -10,7 +10,7 @@ use Rattle.cacache_loss.specs.{declared.fixing.Place.{Place}, Fixing.{Fixed}, Lo
 use Rattle.cacache_loss.proofs.SyncedFolders.{left_was}
 use Rattle.cacache_laws.proofs.trees.Logged.{log_rooted}
 use Rattle.cacache_keep.specs.Losses.{BucketsFixed, CompactionsSpare, CompactsDurably, IsFixedAt, WayFixed, moment_after}
-use Rattle.cacache_keep.proofs.Losses.{ApartSteps.{EachApart, moves_kept, name_still}, ApartCompactions.{compaction_apart}, FixedFolders.{node_lost}, LeanLosses.{IsEither, keys_keep}, MomentRuns.{fixes_on, later, later_rooted}, SafeBuckets.{Good, GoodPlace, Safe, StaysSafe, WasGood, compaction_safe, front_safe}}
+use Rattle.cacache_keep.proofs.Losses.{ApartSteps.{EachApart, moves_kept, name_still, fixes_on, later, later_rooted}, ApartCompactions.{compaction_apart}, FixedFolders.{node_lost}, LeanLosses.{IsEither, keys_keep}, SafeBuckets.{Good, GoodPlace, Safe, StaysSafe, WasGood, compaction_safe, front_safe}}
 
 apart_front : (q : Names) (one two : Moves) → EachApart q (one ++ two) → EachApart q one
 apart_front q [] two apart = tt

@@ -1,18 +1,42 @@
+-- Buckets that a compaction doesn't change.
 -- What compactions of buckets leave of a tree, also if an error ends them.
-use Rattle.std.proofs.Common.{◌≡◌, inl, inr, ℕ, List, [], ◌∷◌, ◌++◌, Bool, true, false, Option, None, Some, Ok, map, refl, sym, ap, subst, ◌∙◌, append-nil}
-use Rattle.std.specs.List.{AllByRecursion}
-use Rattle.cacache_core.specs.{declared.errors.Error.{Error}, PathNames.{Names, home_of}, Paths.{index_area}}
-use Rattle.cacache_store.specs.declared.store.answer.Answer.TheVariants as answers
-use Rattle.cacache_store.specs.declared.store.{log.LogItem.{LogItem}, plain.PlainTemp.{PlainTemp}}
-use Rattle.cacache_store.specs.declared.store.step.Step.TheVariants as steps
-use Rattle.cacache_disk.specs.{declared.{luck.Luck.TheVariants.{Plain}, node.Node.TheVariants.{Folder, File}}, Tree.{Tree, look, same_path}, Apply.{apply}, Rooted.{Rooted}}
+use Rattle.std.proofs.{Common.{◌≡◌, inl, inr, ℕ, List, Bool, true, false, None, Some, Ok, refl, sym, ap, ◌∙◌, [], ◌∷◌, ◌++◌, Option, map, subst, append-nil}, lemmas.{Bool.Decides.{Decides-eqb}, Slice.Eq.{slice_eq-Decides}}}
+use Rattle.std.specs.{Prelude.{not}, List.{AllByRecursion}}
+use Rattle.cacache_core.specs.{PathNames.{Names, names_of, home_of}, declared.errors.Error.{Error}, Paths.{index_area}}
+use Rattle.cacache_disk.specs.{declared.{node.Node.TheVariants.{File, Folder}, luck.Luck.TheVariants.{Plain}}, Tree.{Tree, look, same_path}, Apply.{apply}, Rooted.{Rooted}}
 use Rattle.cacache_disk.proofs.{Maps.{same_path-true}, Roots.{same_self}, Standing.{upper_folder}}
+use Rattle.cacache_laws.specs.trees.{Compacting.{compact_text}, Compacted.{Compacted, CutShort}}
+use Rattle.cacache_laws.proofs.{trees.{Compactions.{LeanTrees.{Becomes, same_bytes as same_file, compacted_more, compacted_none, cut_later, cut_short}, CompactTwice.{compact_again}}, Led.{file_shown}}, Readings.ReadAnswers.{reading_keeps}, Calls.InParts.{writing_keeps}}
+use Rattle.cacache_keep.specs.{Compacting.{Bucket, is_loose, same_bytes, CompactsBucket, CompactsEach, RewritesIf, StopsBucket, StopsCompactingEach}, Rewriting.{MakesTemp, Rewrites, StopsMaking, StopsRewriting, StopsWriting, SyncsTemp, Took}}
+use Rattle.cacache_keep.proofs.{Indexes.FoundBuckets.{IsBucketFile, Stays, stays_on}, NewBuckets.{MovedFiles.{MovedTo, moved, unmoved}, Rewritten.{Has, HasTemp, IsRewritten, TookSo, folder_made, left_over, rewritten, temp_failed, temp_made, writes_stay, writes_take}}, Losses.FixedFolders.{bucket_synced, bucket_unsynced, folder_synced, folder_unsynced, temp_synced, temp_unsynced}, TreeRuns.{Leads, leads_as, leads_failed, leads_none, leads_step, leads_then}}
+use Rattle.cacache_store.specs.declared.store.{log.LogItem.{LogItem}, plain.PlainTemp.{PlainTemp}}
 use Rattle.cacache_calls.specs.{SingleSteps.{Does}, StepPaths.{temp_folder, temp_path}}
 use Rattle.cacache_value.specs.Kinds.{path_kind}
-use Rattle.cacache_laws.proofs.{Readings.ReadsStay.{reading_keeps}, trees.{Compactions.{CompactTwice.{compact_again}, LeanTrees.{Becomes, compacted_more, compacted_none, cut_later, cut_short}}, Led.{file_shown}}, Calls.Handed.{writing_keeps}}
-use Rattle.cacache_laws.specs.trees.{Compacted.{Compacted, CutShort}, Compacting.{compact_text}}
-use Rattle.cacache_keep.specs.{Compacting.{Bucket, CompactsBucket, CompactsEach, RewritesIf, StopsBucket, StopsCompactingEach, is_loose}, Rewriting.{MakesTemp, Rewrites, StopsMaking, StopsRewriting, StopsWriting, SyncsTemp, Took}}
-use Rattle.cacache_keep.proofs.{Indexes.FoundBuckets.{IsBucketFile, Stays, stays_on}, NewBuckets.{MovedFiles.{MovedTo, moved, unmoved}, Rewritten.{Has, HasTemp, IsRewritten, TookSo, folder_made, left_over, rewritten, temp_failed, temp_made, writes_stay, writes_take}, TightBuckets.{IsTight, not_loose, tight_still}}, Losses.SyncedTrees.{bucket_synced, bucket_unsynced, folder_synced, folder_unsynced, temp_synced, temp_unsynced}, TreeRuns.{Leads, leads_as, leads_failed, leads_none, leads_step, leads_then}}
+use Rattle.cacache_store.specs.declared.store.answer.Answer.TheVariants as answers
+use Rattle.cacache_store.specs.declared.store.step.Step.TheVariants as steps
+
+-- the file at the path has bytes that a compaction, durable or not, leaves
+pub record IsTight (durable : Bool) (path : List ℕ) (t : Tree) : Type 0 where
+  pub names : Names
+  pub named : names_of path ≡ Ok names
+  pub bytes : List ℕ
+  pub stands : look t names ≡ Some (File bytes)
+  pub tight : compact_text durable bytes ≡ bytes
+
+pub tight_still : (durable : Bool) (home : Names) (path : List ℕ) (t u : Tree) (k : IsTight durable path t) → Becomes durable home k.names (look t k.names) (look u k.names) → IsTight durable path u
+tight_still durable home path t u k (inl same) = record { names = k.names; named = k.named; bytes = k.bytes; stands = same ∙ k.stands; tight = k.tight }
+tight_still durable home path t u k (inr (inl lean)) =
+    let same : compact_text durable lean.1 ≡ k.bytes = ap (compact_text durable) (same_file lean.1 k.bytes (look t k.names) lean.2 k.stands) ∙ k.tight in
+    record { names = k.names; named = k.named; bytes = k.bytes; stands = lean.3 ∙ ap (λ (l : List ℕ). Some (File l)) same; tight = k.tight }
+tight_still durable home path t u k (inr (inr made)) = absurd (let wrong : None ≡ Some (File k.bytes) = sym made.1 ∙ k.stands in cc)
+
+-- what a compaction doesn't change is tight
+pub not_loose : (durable : Bool) (b : Bucket) → is_loose durable b ≡ false → compact_text durable b.1 ≡ b.1
+not_loose durable b is = (slice_eq-Decides Decides-eqb (compact_text durable b.1) b.1 (same_bytes (compact_text durable b.1) b.1) refl).0 (by (same_bytes (compact_text durable b.1) b.1) is)
+  where
+    by : (c : Bool) → not c ≡ false → c ≡ true
+    by true e = refl
+    by false e = absurd cc
 
 -- ---- one bucket is written anew
 

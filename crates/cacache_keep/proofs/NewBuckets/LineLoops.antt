@@ -1,6 +1,6 @@
 -- How the lines of a bucket come together, and which are chosen.
 use Rattle.std.proofs.{Common.{◌≡◌, ◌+◌, ℕ, List, [], ◌∷◌, ◌++◌, Bool, true, false, cond, not, ◌&&◌, ◌||◌, Option, Some, None, map, filter_map, drop, take, refl, sym, ap, subst, ◌∙◌, bytes_eq}, lemmas.{List.{reverse-append}, Map.Text.{btree_map_updates_str}, Bool.{or_right}}}
-use Rattle.std.specs.{Prelude.{Result, Ok, Err, OnOk, is_some}, List.{cons_option, list_any}, Option.{option_to_list}, BTreeMap.{BTreeMap, UpdatesBy, get_by}, Borrow.{Bor}, Cmp.Lexicographic.{slice_cmp}, Ordering.{nat_cmp}}
+use Rattle.std.specs.{Prelude.{is_some}, List.{cons_option, list_any}, Option.{option_to_list}, BTreeMap.{BTreeMap, UpdatesBy, get_by}, Borrow.{Bor}, Cmp.Lexicographic.{slice_cmp}, Ordering.{nat_cmp}}
 use Rattle.cacache_entry.specs.Bucket.{CutsAt}
 use Rattle.cacache_laws.{specs.trees.Compacting.{Decision, Line, decided, kept, line_of_piece, lines_of}, proofs.trees.Compactions.CompactAnswers.{same_key}}
 use Rattle.cacache_keep.specs.{Lines.{HasKeys, has_key, in_order, last_lines, line_view, without_tombstones}, declared.lines.Line.{Line as Held}}
@@ -13,11 +13,6 @@ onto (Some l) ls = refl
 -- the line of the first piece, and those of what follows it
 pub lines_first : (bs : List ℕ) (i : ℕ) → CutsAt 10 bs i → lines_of bs ≡ option_to_list (line_of_piece (take i bs)) ++ lines_of (drop (i + 1) bs)
 lines_first bs i h = ap (filter_map line_of_piece) h.2 ∙ onto (line_of_piece (take i bs)) (lines_of (drop (i + 1) bs))
-
--- what holds on success holds of what follows from it
-pub on_ok : {T E : Type 0} (r : Result T E) (P Q : Type 0) → (P → Q) → OnOk r P → OnOk r Q
-on_ok (Ok x) P Q f p = f p
-on_ok (Err e) P Q f p = tt
 
 -- ---- two passes
 

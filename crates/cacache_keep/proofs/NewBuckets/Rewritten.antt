@@ -9,7 +9,7 @@ use Rattle.cacache_disk.specs.{declared.{luck.Luck.TheVariants.{Plain}, node.Nod
 use Rattle.cacache_disk.proofs.{FoundNodes.{and_then_ok, place_ok}, Maps.{same_path-true}, PutNodes.{look-cut, look-put}, Roots.{same_self}, Standing.{upper_folder}}
 use Rattle.cacache_calls.specs.{Runs.{Moves}, StepPaths.{temp_folder, temp_path}}
 use Rattle.cacache_laws.specs.{Sequence.{tree_on, AreAnswered}, trees.{Compacted.{Compacted}, Temporary.{is_temp_name, temp_at}}}
-use Rattle.cacache_laws.proofs.{trees.Compactions.LeanTrees.{Becomes, EndsUp, compacted_none, ends}, Calls.Handed.{writing_keeps}, Sure.SureLinks.{make_step}}
+use Rattle.cacache_laws.proofs.{trees.Compactions.LeanTrees.{Becomes, EndsUp, compacted_none, ends}, Calls.InParts.{writing_keeps}, Sure.SureLinks.{make_step}}
 use Rattle.cacache_keep.{specs.Rewriting.{Takes}, proofs.NewBuckets.MovedFiles.{MovedTo}}
 
 -- ---- the folder of temporary files is made

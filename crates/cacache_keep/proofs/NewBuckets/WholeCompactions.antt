@@ -4,9 +4,9 @@ use Rattle.cacache_core.specs.{PathNames.{Names, home_of, names_of}, Paths.{inde
 use Rattle.cacache_store.specs.declared.store.log.LogItem.{LogItem}
 use Rattle.cacache_disk.specs.{declared.node.Node.TheVariants.{File}, Tree.{Tree, look}, memory.Replay.{IsLog, tree_of}}
 use Rattle.cacache_laws.specs.trees.{Compacted.{Compacted, CutShort}, Compacting.{compact_text}}
-use Rattle.cacache_laws.proofs.trees.{Compactions.{LeanCalls.{compactions_answer}, LeanTrees.{compactions_keep, Becomes, compacted_none, cut_short, same_bytes}}, Led.{houses_are_fit}, Logged.{log_rooted}, Members.{Member}}
+use Rattle.cacache_laws.proofs.trees.{Compactions.LeanTrees.{compactions_answer, compactions_keep, Becomes, compacted_none, cut_short, same_bytes}, Led.{houses_are_fit}, Logged.{log_rooted}, Members.{Member}}
 use Rattle.cacache_keep.specs.{Compacting.{CompactsAll, CompactsCache, StopsAfterAll, StopsCompactingEach}, Syncing.{SyncsAbove}, Kept.{CompactionsAreUnseen, CompactionsLeave, CompactionsStop, MayCompact}}
-use Rattle.cacache_keep.proofs.{Indexes.{FoundBuckets.{AreBucketNames, FindsFiles, IsBucketFile, Stays, buckets_found, finding_stays}, HexNames.{bucket_names_hex}}, TreeRuns.{Leads, leads_as, leads_on, leads_then}, NewBuckets.{CompactedTrees.{CompactsThese, each_leads, stop_leads}, TightBuckets.{IsTight}}, Losses.SyncedTrees.{above_synced, above_unsynced}}
+use Rattle.cacache_keep.proofs.{Indexes.{FoundBuckets.{AreBucketNames, FindsFiles, IsBucketFile, Stays, buckets_found, finding_stays}, FoundFolders.{bucket_names_hex}}, TreeRuns.{Leads, leads_as, leads_on, leads_then}, NewBuckets.CompactedTrees.{CompactsThese, each_leads, stop_leads, IsTight}, Losses.FixedFolders.{above_synced, above_unsynced}}
 
 -- ---- what a whole one leaves
 

@@ -11,10 +11,10 @@ use Rattle.cacache_calls.specs.declared.command.Command.TheVariants as commands
 use Rattle.cacache_calls.specs.declared.reply.Reply.TheVariants as replies
 use Rattle.cacache_value.specs.Placed.{Placed}
 use Rattle.cacache_laws.specs.{Sequence.{tree_on, AreAnswered}, trees.{Contents.{content_in}, Housed.{Housed, Still}, Mending.{KeepsContents, found_in}, Verifying.{has_content}}}
-use Rattle.cacache_laws.proofs.{Putting.Forms.{bare_written}, Readings.Looks.{moves_keep}, trees.{HiddenKeys.{tombstones_hide}, Housed.{moves_rooted, tombstones_house}, Led.{finds_led, found_integrity}, Logged.{answered_rest, answered_split, gains_join, looked, tree_rest, tree_split}, Members.{Member}, Spared.StillThere.{has_still}, Tombstones.{tombstones_keep_contents}}}
+use Rattle.cacache_laws.proofs.{Putting.Forms.{bare_written}, Readings.Looks.{moves_keep}, trees.{HiddenKeys.{tombstones_hide, moves_rooted, tombstones_house}, Led.{finds_led, found_integrity}, Logged.{answered_rest, answered_split, gains_join, looked, tree_rest, tree_split}, Members.{Member}, Spared.StillThere.{has_still}, Keeping.{tombstones_keep_contents}}}
 use Rattle.cacache_sync.specs.Lookups.{delete_of}
 use Rattle.cacache_keep.specs.{Calls.{MadeCalls}, Repairing.{Fate, IsFateOf, Led, calls_for, is_buried, leads_nowhere, looks_of, tombstone}}
-use Rattle.cacache_keep.proofs.{Repairs.Judged.{there_told}, Parts.{gains_none}}
+use Rattle.cacache_keep.proofs.{Repairs.Judged.{there_told}, Stopped.{gains_none}}
 
 formed : (cache key : List ℕ) (moment : ℕ) → IsUtf8 key → moment < 2 ^ 64 → FormedIfWritten (deletion cache (delete_of key moment))
 unfolding refused_cause

@@ -1,6 +1,6 @@
 -- Contents that are read one after another.
-use Rattle.std.proofs.{Common.{◌≡◌, ◌+◌, ◌-◌, ◌^◌, ◌<◌, ℕ, List, [], ◌∷◌, ◌++◌, Bool, true, false, Option, inl, refl, sym, ap, subst, ◌∙◌, map, length, take, drop, get_or, length-append, take-append-drop, arith}, lemmas.List.{drop_more, map-append}}
-use Rattle.std.specs.{List.{filter}, Prelude.{min, not}}
+use Rattle.std.proofs.{Common.{◌≡◌, ◌+◌, ◌-◌, ◌^◌, ◌<◌, ℕ, List, [], ◌∷◌, ◌++◌, Bool, true, false, Option, Some, inl, refl, sym, ap, subst, ◌∙◌, map, length, take, drop, get_or, length-append, take-append-drop, arith}, lemmas.{List.{drop_more, map-append, map-id}, Iterator.{YieldsList, Consumers.{YieldsList-so_far, YieldsList-turn}}}}
+use Rattle.std.specs.{List.{filter}, Iterator.{Yields}, Prelude.{min, not}}
 use Rattle.cacache_core.specs.declared.{errors.Error.{Error, TheVariants.{OutOfMemory}}, integrity.digest.Hash.{Hash}}
 use Rattle.cacache_store.specs.declared.store.log.LogItem.{LogItem}
 use Rattle.cacache_laws.specs.trees.Temporary.{total}
@@ -67,11 +67,18 @@ damaged_read cache addresses good_bytes damaged damaged_bytes more i size old mi
 -- ---- an error that ends it
 
 -- what is still to come after the first so many
-pub split_at : {X : Type 0} (addresses seen : List X) (i : X) (k : ℕ) → k < length addresses → seen ≡ take k addresses → i ≡ get_or addresses k i → addresses ≡ seen ++ i ∷ drop (k + 1) addresses
+split_at : {X : Type 0} (addresses seen : List X) (i : X) (k : ℕ) → k < length addresses → seen ≡ take k addresses → i ≡ get_or addresses k i → addresses ≡ seen ++ i ∷ drop (k + 1) addresses
 split_at {X} addresses seen i k below before is =
     sym (take-append-drop k addresses)
     ∙ ap (λ (l : List X). take k addresses ++ l) (drop_more addresses k i below ∙ ap (λ (x : X). x ∷ drop (k + 1) addresses) (sym is))
     ∙ ap (λ (l : List X). l ++ i ∷ drop (k + 1) addresses) (sym before)
+
+-- the same of the item that a loop has in hand, after those that it has had
+pub split_turn : {S X : Type 0} {steps : S → Option X → S → Type 0} {s : S} {all : List X} (road : YieldsList steps (λ y. y) s all) (seen : List X) (now next : S) → Yields steps s seen now → (r : Option X) (x : X)
+    → r ≡ Some x → steps now r next → all ≡ seen ++ x ∷ drop (length seen + 1) all
+split_turn {S} {X} {steps} {s} {all} road seen now next by r x is step =
+    let turn = YieldsList-turn road seen now by r next x is step in
+    split_at all seen x (length seen) turn.0 (sym (map-id seen) ∙ YieldsList-so_far road seen now by) turn.1
 
 -- the next one couldn't be read
 pub next_stops : (cache : List ℕ) (addresses seen damaged : List (List Hash)) (good_bytes damaged_bytes : ℕ) (i : List Hash) (rest : List (List Hash)) (e : Error) (old mid new : Option (List LogItem)) → addresses ≡ seen ++ i ∷ rest → WeighsOthers cache seen good_bytes damaged damaged_bytes old mid → StopsContent cache i e mid new

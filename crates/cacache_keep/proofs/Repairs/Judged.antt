@@ -13,9 +13,9 @@ use Rattle.cacache_calls.specs.declared.reply.Reply.TheVariants as replies
 use Rattle.cacache_calls.specs.{Answers.{there_in}, Replies.{there_reply}, Runs.{Moves, Gains}, State.{Site, Item}, StepPaths.{content_path}, Table.{piece}}
 use Rattle.cacache_calls.proofs.Replies.{exists_shown}
 use Rattle.cacache_laws.specs.{Sequence.{AreAnswered, tree_on}, trees.{Contents.{IsHeld, content_in}, Answers.{AnsweredBy, AnswersOn}, Index.{IndexLists, entries_in, is_failure}, Verifying.{is_good, is_met, says_yes, has_content}}}
-use Rattle.cacache_laws.proofs.{trees.{Logged.{answered_rest, answered_split, gains_join, tree_rest}, Members.{Member, member_contains}, Verified.{content_file}}, Readings.ReadsStay.{opening_keeps, piece_keeps}}
+use Rattle.cacache_laws.proofs.{trees.{Logged.{answered_rest, answered_split, gains_join, tree_rest}, Members.{Member, member_contains}, Verified.{content_file}}, Readings.ReadAnswers.{opening_keeps, piece_keeps}}
 use Rattle.cacache_value.specs.Shows.{blob_bytes}
-use Rattle.cacache_keep.{specs.{Calls.{AreEntries, question_of}, Reading.{Judged, Pieces, SaysGood, SaysOfEach}}, proofs.Parts.{EachOn, gains_none}}
+use Rattle.cacache_keep.{specs.{Calls.{AreEntries, question_of}, Reading.{Judged, Pieces, SaysGood, SaysOfEach}}, proofs.Stopped.{EachOn, gains_none}}
 
 -- ---- reads of an open file
 
@@ -163,8 +163,6 @@ module _ (site : Site) (home : Names) (t : Tree) (is : home_of site.cache ≡ So
 
   pub reads_judged : (hs : List Hash) (reads : List Judged) (old new : Option (List LogItem)) → map (λ r. r.0) reads ≡ map (λ h. h ∷ []) hs → SaysOfEach site.cache reads old new → JudgesEach hs reads old new
   reads_judged [] [] old new each says = record { moves = []; gains = gains_none old new says; tells = λ held a. (refl, refl) }
-  reads_judged [] (r ∷ rs) old new each says = absurd cc
-  reads_judged (h ∷ hs) [] old new each says = absurd cc
   reads_judged (h ∷ hs) (r ∷ rs) old new each says =
       let first : r.0 ≡ h ∷ [] = cc in
       let later : map (λ (x : Judged). x.0) rs ≡ map (λ (x : Hash). x ∷ []) hs = cc in
@@ -180,6 +178,7 @@ module _ (site : Site) (home : Names) (t : Tree) (is : home_of site.cache ≡ So
               tree_rest t one.moves more.moves told.2 ∙ rest.1,
             );
       }
+  reads_judged _ _ old new each says = absurd cc
 
   -- ---- the good ones are counted, and the others are named
 
@@ -221,8 +220,7 @@ module _ (site : Site) (t : Tree) where
       told_on : (b c : Bool) (F : List (Found × Bool)) (G : List Found) → b ≡ c → map (λ (x : Found × Bool). x.0) F ≡ G → map (λ (x : Found × Bool). x.0) (cond b (a ∷ F) F) ≡ cond c (a.0 ∷ G) G
       told_on true true F G e h = ap (λ l. a.0 ∷ l) h
       told_on false false F G e h = h
-      told_on true false F G e h = absurd cc
-      told_on false true F G e h = absurd cc
+      told_on _ _ _ _ e h = absurd cc
 
 -- ---- the index
 

@@ -1,18 +1,155 @@
+-- A repair leaves the good contents, and hides the keys that led to none.
 -- A verification after a repair finds nothing damaged and nothing that dangles, and good keys stay.
-use Rattle.std.proofs.{Common.{◌≡◌, inl, inr, ℕ, Bool, true, false, cond, List, [], ◌∷◌, None, Some, map, filter, refl, sym, ap, subst, ◌∙◌}, lemmas.List.Elements.{All-head}}
+use Rattle.std.proofs.{Common.{◌≡◌, inl, inr, ℕ, Bool, true, false, cond, List, [], ◌∷◌, ◌++◌, Some, map, filter, refl, sym, ap, ap₂, subst, ◌∙◌, None}, lemmas.List.Elements.{All-head}}
 use Rattle.std.specs.Prelude.{not}
 use Rattle.sha1.specs.Sha1.{sha1}
-use Rattle.cacache_core.specs.{declared.integrity.digest.Hash.{Hash}, Integrity.{IsHash, IsIntegrity, address}, PathNames.{Names, home_of}}
+use Rattle.cacache_core.specs.{declared.integrity.digest.Hash.{Hash}, PathNames.{Names, home_of}, Paths.{joined, content_names}, Integrity.{IsHash, IsIntegrity, address}}
 use Rattle.cacache_core.proofs.PathLemmas.{keys_have_digests}
-use Rattle.cacache_store.specs.declared.store.{log.LogItem.{LogItem}, step.Step.TheVariants.{Exists}}
-use Rattle.cacache_disk.specs.{declared.luck.Luck.TheVariants.{Plain}, Apply.{apply}, Rooted.{Rooted}, Tree.{Tree}, memory.Replay.{tree_of, IsLog}}
+use Rattle.cacache_store.specs.declared.store.{log.LogItem.{LogItem}, step.Step.TheVariants.{RemoveFile, Exists}}
+use Rattle.cacache_disk.specs.{declared.luck.Luck.TheVariants.{Plain}, Tree.{Tree}, Apply.{apply}, memory.Replay.{tree_of, IsLog}, Rooted.{Rooted}}
 use Rattle.cacache_entry.specs.Latest.{Found, latest}
 use Rattle.cacache_calls.specs.{State.{Site}, StepPaths.{content_path}}
-use Rattle.cacache_value.specs.Acts.{list_of}
-use Rattle.cacache_laws.specs.trees.{Contents.{content_in}, Housed.{Housed, Still}, Index.{IndexLists}, Mending.{LeavesGood, found_in}, Verifying.{Judges, has_content, is_good, says_yes}}
-use Rattle.cacache_laws.proofs.trees.{Collected.{dropped_hash, kept_in, leaves, picked_left}, Housed.{removes_house, removes_root, removes_still}, Led.{found_integrity, found_listed, indexes_lead}, Logged.{log_rooted}, Members.{Member, contains_member, member_contains}, Spared.StillThere.{good_still, good_there, has_still}}
-use Rattle.cacache_keep.specs.{Kept.{LeadsToGood, RepairsKeepGood, RepairsVerify}, Repairing.{Fate, RepairsFrom}}
-use Rattle.cacache_keep.proofs.{Indexes.ListedLogs.{repaired_on}, Repairs.{Buried.{Whole}, Mends.{Repaired, map_from, repaired, steps_done}, Shown.{burial_of}, Verdicts.{verdicts_judge}}}
+use Rattle.cacache_value.{specs.{Placed.{Placed}, Acts.{list_of}}, proofs.Traces.{steps_keep_placed}}
+use Rattle.cacache_laws.specs.{Sequence.{tree_on}, trees.{Collecting.{Removes}, Contents.{HoldsJust, content_in}, Mending.{found_in, LeavesGood}, Verifying.{has_content, is_good, Judges, says_yes}, Housed.{Housed, Still}, Index.{IndexLists}}}
+use Rattle.cacache_laws.proofs.{Calls.InParts.{logs_lead}, trees.{Collected.{from_kept, kept_in, leaves, repairs_leave, dropped_hash, picked_left}, Indexed.{holds_just}, Logged.{answered_rest, answered_split, gains_join, log_rooted, tree_rest, tree_split, walked}, Members.{Member, contains_member, member_contains}, HiddenKeys.{removes_house, removes_root, removes_still}, Led.{found_integrity, found_listed, indexes_lead}, Spared.StillThere.{good_still, good_there, has_still}}}
+use Rattle.cacache_walks.specs.{Listing.{content_area_in}, Reading.{top_folder}}
+use Rattle.cacache_keep.specs.{Calls.{MadeCalls, question_of, removal}, Kept.{IsKeyOf, MendsCache, RepairsMend, LeadsToGood, RepairsKeepGood, RepairsVerify}, Reading.{Judged}, Repairing.{Fate, RepairsFrom, is_buried}}
+use Rattle.cacache_keep.proofs.{Indexes.{LinkedFolders.{repaired_on}, FoundBuckets.{in_map}}, Repairs.{Buried.{After, all_told, Whole}, Judged.{asks_told, others_named, reads_judged}, Shown.{burial_of, all_questions, verdicts_judge}}, Collections.Leaving.{removals, removals_gain, removed_by}, Stopped.{made_looks}}
+
+pub map_from : {X Y : Type 0} (f : X → Y) (y : Y) (xs : List X) → Member y (map f xs) → (x : X) × Member x xs × (f x ≡ y)
+map_from f y [] m = absurd m
+map_from f y (x ∷ xs) (inl same) = (x, inl refl, sym same)
+map_from f y (x ∷ xs) (inr m) = let k = map_from f y xs m in (k.0, inr k.1, k.2)
+
+-- what a filter leaves of reads at addresses of one hash
+singles : (p : Judged → Bool) (reads : List Judged) (hs : List Hash) → map (λ r. r.0) reads ≡ map (λ h. h ∷ []) hs → (gone : List Hash) × (map (λ r. r.0) (filter p reads) ≡ map (λ h. h ∷ []) gone)
+singles p [] hs e = ([], refl)
+singles p (r ∷ reads) [] e = absurd cc
+singles p (r ∷ reads) (h ∷ hs) e =
+    let first : r.0 ≡ h ∷ [] = cc in
+    let later : map (λ (x : Judged). x.0) reads ≡ map (λ (x : Hash). x ∷ []) hs = cc in
+    let rest = singles p reads hs later in
+    by (p r) rest first
+  where
+    by : (b : Bool) → (gone : List Hash) × (map (λ (x : Judged). x.0) (filter p reads) ≡ map (λ h. h ∷ []) gone) → r.0 ≡ h ∷ [] → (gone : List Hash) × (map (λ (x : Judged). x.0) (cond b (r ∷ filter p reads) (filter p reads)) ≡ map (λ h. h ∷ []) gone)
+    by true rest first = (h ∷ rest.0, ap₂ (λ (i : List Hash) (l : List (List Hash)). i ∷ l) first rest.1)
+    by false rest first = rest
+
+same_singles : (xs ys : List Hash) → map (λ h. h ∷ []) xs ≡ map (λ h. h ∷ []) ys → xs ≡ ys
+same_singles [] [] e = refl
+same_singles (x ∷ xs) (y ∷ ys) e =
+    let first : x ≡ y = cc in
+    let later : map (λ (h : Hash). h ∷ []) xs ≡ map (λ h. h ∷ []) ys = cc in
+    ap₂ (λ (h : Hash) (l : List Hash). h ∷ l) first (same_singles xs ys later)
+same_singles _ _ e = absurd cc
+
+module _ (site : Site) (home : Names) (is : home_of site.cache ≡ Some home) where
+  -- removals leave all else in its place
+  removals_placed : (hs : List Hash) (t : Tree) → Placed (Some home) t → Placed (Some home) (tree_on t (removals site.cache hs))
+  removals_placed [] t placed = placed
+  removals_placed (h ∷ hs) t placed = removals_placed hs (apply t (RemoveFile (joined site.cache (content_names h))) Plain).1 (steps_keep_placed (Some home) t (RemoveFile (joined site.cache (content_names h))) Plain placed tt)
+
+  -- ---- a repair
+
+  module _ (entries : List Found) (damaged : List (List Hash)) (buried : List Found) (old new : List LogItem)
+      (logged : IsLog new) (placed : Placed (Some home) (tree_of old)) (v : RepairsFrom site entries damaged buried (Some old) (Some new)) where
+    abbrev t : Tree
+    t = tree_of old
+
+    abbrev hashes : List Hash
+    hashes = v.order.hashes
+
+    abbrev bad : List Hash
+    bad = filter (λ h. not (is_good home (tree_of old) h)) hashes
+
+    -- what its steps come to
+    pub record Repaired : Type 0 where
+      pub holds : HoldsJust site.cache home (tree_of old) hashes v.strange
+      pub broken : damaged ≡ map (λ h. h ∷ []) bad
+      pub mid : Tree
+      pub removes : Removes site.cache bad (tree_of old) mid
+      pub absent : v.dangling ≡ filter (λ f. not (has_content site.cache mid f)) entries
+      pub after : After site home is (burial_of v).each.fates mid (tree_of new)
+
+    pub steps_done : Repaired
+    steps_done =
+        let c = v.contents in
+        let r = reads_judged site home (tree_of old) is (log_rooted old) hashes v.reading.reads v.found v.read (v.reading.each ∙ v.order.single) v.reading.reading in
+        let gone = singles (λ (x : Judged). not x.1) v.reading.reads hashes (v.reading.each ∙ v.order.single) in
+        let ones : damaged ≡ map (λ h. h ∷ []) gone.0 = v.reading.broken ∙ gone.1 in
+        let rem = removals_gain site gone.0 v.read v.removed (subst (λ d. MadeCalls site (map removal d) v.read v.removed) ones v.removing) in
+        let cut = removals site.cache gone.0 in
+        let mid = tree_on (tree_of old) cut in
+        let a = made_looks site (map question_of v.asking.asks) v.removed v.asked (all_questions v.asking.asks) v.asking.asking in
+        let w = burial_of v in
+        let b = all_told site home is w.each.fates w.looked (Some new) w.each.keys w.each.calls in
+        let last = w.moves ++ b.moves in
+        let late = a.keeps.moves ++ last in
+        let gains = gains_join (Some old) v.found (Some new) c.0 (r.moves ++ (cut ++ late)) c.1
+        (gains_join v.found v.read (Some new) r.moves (cut ++ late) r.gains
+        (gains_join v.read v.removed (Some new) cut late rem
+        (gains_join v.removed v.asked (Some new) a.keeps.moves last a.keeps.gains
+        (gains_join v.asked w.looked (Some new) w.moves b.moves w.gains b.gains)))) in
+        let lead = logs_lead old new (c.0 ++ (r.moves ++ (cut ++ late))) gains logged in
+        let walk = walked (tree_of old) c.0 (top_folder (content_area_in site.cache) ∷ []) c.2 (answered_split (tree_of old) c.0 (r.moves ++ (cut ++ late)) lead.0).0 in
+        let after_walk = answered_rest (tree_of old) c.0 (r.moves ++ (cut ++ late)) walk.1 lead.0 in
+        let holds : HoldsJust site.cache home (tree_of old) hashes v.strange = holds_just site.cache home (tree_of old) c.0 is (log_rooted old) c.2 walk.0 v.addresses v.strange c.3 v.order in
+        let reads = r.tells (λ h m. let k = contains_member h hashes m in (holds.formed h k, (holds.held h (holds.formed h k)).0 k)) (answered_split (tree_of old) r.moves (cut ++ late) after_walk).0 in
+        let after_reads = answered_rest (tree_of old) r.moves (cut ++ late) reads.1 after_walk in
+        let broken : damaged ≡ map (λ h. h ∷ []) bad
+        = v.reading.broken ∙ ap (λ (l : List Judged). map (λ (x : Judged). x.0) (filter (λ (x : Judged). not x.1) l)) reads.0 ∙ others_named site home (tree_of old) is (log_rooted old) hashes in
+        let same : gone.0 ≡ bad = same_singles gone.0 bad (sym ones ∙ broken) in
+        let split = answered_split (tree_of old) cut late after_reads in
+        let placed_mid = removals_placed gone.0 (tree_of old) placed in
+        let questions = a.tells mid (answered_split mid a.keeps.moves last split.1).0 in
+        let looking = answered_rest mid a.keeps.moves last (a.keeps.stays mid) split.1 in
+        let stays = w.stays mid (answered_split mid w.moves b.moves looking).0 in
+        let told = b.tells mid placed_mid (answered_rest mid w.moves b.moves stays looking) in
+        let leads : tree_of new ≡ tree_on mid b.moves
+        = lead.1 ∙ tree_rest (tree_of old) c.0 (r.moves ++ (cut ++ late)) walk.1 ∙ tree_rest (tree_of old) r.moves (cut ++ late) reads.1 ∙ tree_split (tree_of old) cut late
+        ∙ tree_rest mid a.keeps.moves last (a.keeps.stays mid) ∙ tree_rest mid w.moves b.moves stays in
+        record {
+          holds = holds;
+          broken = broken;
+          mid = mid;
+          removes = subst (λ (hs : List Hash). Removes site.cache hs (tree_of old) mid) same (removed_by site.cache gone.0 (tree_of old) split.0);
+          absent = v.asking.absent ∙ asks_told site mid v.asking.asks questions ∙ ap (λ l. filter (λ f. not (has_content site.cache mid f)) l) v.asking.each;
+          after = subst (After site home is (burial_of v).each.fates mid) (sym leads) told;
+        }
+
+    -- the key of an entry that is reported is that of a fate that was buried
+    buried_key : (key : List ℕ) → IsKeyOf buried key → (f : Found × Fate) × Member f (burial_of v).each.fates × (is_buried f.1 ≡ true) × (f.0.key ≡ key)
+    buried_key key (f, c, e) =
+        let m = map_from (λ (x : Found × Fate). x.0) f (filter (λ (x : Found × Fate). is_buried x.1) (burial_of v).each.fates) (subst (Member f) (burial_of v).each.which (member_contains f buried c)) in
+        let k = from_kept (λ (x : Found × Fate). is_buried x.1) m.0 (burial_of v).each.fates m.1 in
+        (m.0, k.0, k.1, ap (λ (x : Found). x.key) m.2 ∙ e)
+
+    fate_told : (key : List ℕ) (f : Found × Fate) → Member f (burial_of v).each.fates → is_buried f.1 ≡ true → key ≡ f.0.key → IsKeyOf buried key
+    fate_told key f m b e =
+        let k = in_map (λ (x : Found × Fate). x.0) f (filter (λ (x : Found × Fate). is_buried x.1) (burial_of v).each.fates) (kept_in (λ (x : Found × Fate). is_buried x.1) f (burial_of v).each.fates b m) in
+        (f.0, contains_member f.0 buried (subst (Member f.0) (sym (burial_of v).each.which) k), sym e)
+
+    pub repaired : MendsCache site home (tree_of old) (tree_of new) damaged buried
+    repaired =
+        let d = steps_done in
+        let removed = leaves site home (tree_of old) d.mid hashes v.strange (is_good home (tree_of old)) is d.holds d.removes in
+        let same : (key : List ℕ) → found_in home d.mid key ≡ found_in home (tree_of old) key
+        = λ key. ap (λ o. latest key (list_of o)) (removed.buckets (sha1 key) (keys_have_digests key)) in
+        record {
+          hashes = hashes;
+          strange = v.strange;
+          contents = d.holds;
+          broken = d.broken;
+          leaves = repairs_leave site home (tree_of old) d.mid (tree_of new) hashes v.strange is d.holds d.removes d.after.keeps;
+          hidden = λ key of. let k = buried_key key of in ap (found_in home (tree_of new)) (sym k.3) ∙ d.after.hidden k.0 k.1 k.2;
+          keys = λ key apart. d.after.keys key (λ f m b e. apart (fate_told key f m b e)) ∙ same key;
+        }
+
+pub repairs_mend : RepairsMend
+repairs_mend site home damaged buried old new is logged placed v =
+    let k = repaired_on site home damaged buried old new is logged v in
+    let placed_there = subst (Placed (Some home)) (sym k.stays) placed in
+    subst (λ (t : Tree). MendsCache site home t (tree_of new) damaged buried) k.stays (repaired site home is k.entries damaged buried k.log new logged placed_there k.so)
 
 -- a filter that takes none
 none_kept : {X : Type 0} (p : X → Bool) (xs : List X) → ((x : X) → Member x xs → p x ≡ false) → filter p xs ≡ []
@@ -29,9 +166,6 @@ first_hash (g ∷ hs) h e = (hs, ap (λ (x : Hash). x ∷ hs) cc)
 
 module _ (site : Site) (home : Names) (entries : List Found) (damaged : List (List Hash)) (hidden : List Found) (old new : List LogItem)
     (is : home_of site.cache ≡ Some home) (logged : IsLog new) (housed : Housed (Some home) (tree_of old)) (index : IndexLists site (tree_of old) entries) (v : RepairsFrom site entries damaged hidden (Some old) (Some new)) where
-  abbrev t : Tree
-  t = tree_of old
-
   done : Repaired site home is entries damaged hidden old new logged housed.placed v
   done = steps_done site home is entries damaged hidden old new logged housed.placed v
 

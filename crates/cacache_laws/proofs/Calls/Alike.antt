@@ -7,7 +7,7 @@ use Rattle.cacache_store.specs.Plain.{PlainStep, PlainAnswer}
 use Rattle.cacache_disk.specs.{declared.luck.Luck.TheVariants.{Plain}, Tree.{Tree}, Apply.{apply}}
 use Rattle.cacache_entry.specs.Entry.{Entry}
 use Rattle.cacache_calls.specs.Runs.{Moves}
-use Rattle.cacache_value.specs.{Kinds.{is_path_of}, Value.{InFile, AtLink, Value}, Acts.{Act, Nothing, PutBytes, PutLink, AddEntries, Drop, MakeFolders, DropFolder, act_of, change, list_of}, Traces.{acts}}
+use Rattle.cacache_value.specs.{Kinds.{is_path_of}, Value.{InFile, AtLink, Value}, Acts.{Act, Nothing, PutBytes, PutLink, AddEntries, Drop, act_of, change, list_of}, Traces.{acts}}
 use Rattle.cacache_history.specs.Commits.{Deed, does, finds, deeds_of_act, finds_in, deeds}
 use Rattle.cacache_laws.specs.Sequence.{turns_on, plain_moves, Alike, after_deeds}
 

@@ -1,11 +1,12 @@
 -- Calls that store, remove or clear give no error except that of a step, or out of memory.
+-- Errors without their messages, as laws tell them.
 use Rattle.std.proofs.Common.{◌≡◌, ◌⊎◌, inl, inr, ℕ, Bool, true, List, [], ◌∷◌, Option, None, Some, get_or, refl, sym, subst, ◌∙◌}
-use Rattle.cacache_core.specs.declared.{errors.{SerdeCause.{SerdeCause}, Error.TheVariants.{SerdeError}}, integrity.digest.Hash.{Hash}}
-use Rattle.cacache_store.specs.Plain.{PlainAnswer}
-use Rattle.cacache_calls.specs.declared.command.Command.TheVariants as commands
-use Rattle.cacache_calls.specs.{Walking.{EachVisit}, declared.{visit.Visit.{Visit, TheVariants.{ReadBucket}}, command.{Insert.{Insert}, Put.{Put}}, reply.Reply.{Reply, TheVariants.{Refused}}, carried.Commit.{Commit}}, Inserting.{unless_refused, insertion, deletion, refused_cause}, State.{State, Site, doing, creating, writing, syncing, persisting, linking, confirming, appending, walking, over, Insertion}, Storing.{insertion_of, indexed, sized, compared, placed, put_commit}, Table.{after, opening}, Runs.{Moves, Runs}}
+use Rattle.cacache_core.specs.declared.{errors.{SerdeCause.{SerdeCause}, Error.{TheVariants.{SerdeError, EntryNotFound, OutOfMemory}, Error}}, integrity.digest.Hash.{Hash}}
+use Rattle.cacache_store.specs.{Plain.{PlainAnswer}, declared.store.log.LogItem.{LogItem}}
+use Rattle.cacache_calls.specs.{Walking.{EachVisit}, declared.{visit.Visit.{Visit, TheVariants.{ReadBucket}}, command.{Insert.{Insert}, Put.{Put}}, reply.Reply.{Reply, TheVariants.{Refused}}, carried.Commit.{Commit}}, Inserting.{unless_refused, insertion, deletion, refused_cause}, State.{State, Site, doing, creating, writing, syncing, persisting, linking, confirming, appending, walking, over, Insertion}, Storing.{insertion_of, indexed, sized, compared, placed, put_commit}, Table.{after, opening}, Runs.{Moves, Runs, without_message}}
 use Rattle.cacache_calls.proofs.{Closed.{AnyAnswer, ClosedCommit, ClosedWalk, Closed, kept_always}, Visits.{MayMeet}}
-use Rattle.cacache_laws.specs.CallErrors.{FailsOnly, CallsFailOnly}
+use Rattle.cacache_laws.specs.{CallErrors.{FailsOnly, CallsFailOnly}, Caches.{IsExcused}}
+use Rattle.cacache_calls.specs.declared.command.Command.TheVariants as commands
 
 -- a commit that expects no integrity and no size, and has an entry that can be written
 pub record Plain (c : Commit) : Type 0 where
@@ -135,3 +136,21 @@ inserts_fail site i moves r run = by (refused_cause (insertion site.cache i)) re
     by (Some cause) some [] (inl e) = inr (cause, some, cc)
     by (Some cause) some [] (inr e) = inl (subst FailsOnly (sym e) tt)
     by (Some cause) some (m ∷ moves) run = absurd cc
+
+pub plain_error : (e : Error) → without_message (without_message e) ≡ without_message e
+plain_error (EntryNotFound c k) = refl
+plain_error e = refl
+
+-- an error that has no message is told as it is
+pub memory_error : (e : Error) → without_message e ≡ OutOfMemory → e ≡ OutOfMemory
+memory_error OutOfMemory h = refl
+memory_error e h = absurd cc
+
+pub missing_error : (e : Error) (cache key : List ℕ) → without_message e ≡ EntryNotFound cache key → e ≡ EntryNotFound cache key
+missing_error (EntryNotFound c k) cache key h = h
+missing_error e cache key h = absurd cc
+
+-- what excuses an error without its message excuses it
+pub excused_error : (e : Error) (old new : List LogItem) → IsExcused (without_message e) old new → IsExcused e old new
+excused_error e old new (inl m) = inl (memory_error e m)
+excused_error e old new (inr h) = inr h

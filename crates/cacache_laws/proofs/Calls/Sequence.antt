@@ -10,7 +10,7 @@ use Rattle.cacache_history.specs.{Setup.{Setup, call_site, home, may_export, is_
 use Rattle.cacache_history.proofs.{Entries.{Bucketed.{Keeps, KeyedTurn, move_keyed}, Formed.{opening_formed}, Keyed.{opening_keyed}, Owned.{opening_own}}, Histories.{Holding.{AllHold, CallHolds, TurnsHold, begins_hold, moved_holds, made_proper, tree_holds}, Runs.{memory_plain}, TurnReplies.{reads_value}}, Contents.{Carrying.{own_of, Makes}, Righted.{opening_right}, Commits.{cases, plain_refused}}}
 use Rattle.cacache_history.specs.History as histories
 use Rattle.cacache_laws.specs.Sequence.{SequenceCall, AreMade, MayBeMade, planted_log, tree_on, turns_on, AreAnswered, plain_moves, Alike, after_deeds, CallIsAnswered, IsSound, AllAnswer, RunsAreCalls, OpeningsAreSound, CallsAreAnswered, SequencesAnswer}
-use Rattle.cacache_laws.proofs.{Calls.{Alike.{moves_alike}, Replays.{replay_more, replayable_rest, moves_lead, moves_answered, files_lead, calls_lengthen}}, Readings.Found.{found_before}, Putting.Persisting.{puts_find_nothing}}
+use Rattle.cacache_laws.proofs.{Calls.{Alike.{moves_alike}, Replays.{replay_more, replayable_rest, moves_lead, moves_answered, files_lead, calls_lengthen}}, Readings.Looks.{found_before}, Putting.Persisting.{puts_find_nothing}}
 
 -- the moves of a run, as those of a call
 pub runs_are_calls : RunsAreCalls

@@ -16,7 +16,7 @@ use Rattle.cacache_calls.proofs.Branches.{cond_leads}
 use Rattle.cacache_value.specs.{Shows.{blob_bytes}, Value.{Blob}}
 use Rattle.cacache_history.{specs.History.{NamesSource}, proofs.Histories.ShownTurns.{bucket_below, content_below}}
 use Rattle.cacache_laws.specs.{Caches.{Called, IsCache, lies_under, setup_at}, ExportAnswers.{blob_read, export_reply, exported_reply, led_reply, made_reply, or_told, verified_reply}, ExportEffects.{copy_from}, Keeping.{found_under}, results.Exports.{HasArrived, NamesHeld}}
-use Rattle.cacache_laws.proofs.{Links.Linking.{nowhere}, Sure.{SureExports.{exports_told, read_too}, SureFiles.{opens_as}, SureReads.{told_all}, SureRuns.{EndsSo, ends, goes, of_log}}}
+use Rattle.cacache_laws.proofs.{Links.Linking.{nowhere}, Sure.{SureExports.{exports_told, read_too}, SureReads.{opens_as, told_all}, SureRuns.{EndsSo, ends, goes, of_log}}}
 
 -- ---- what a count says
 
@@ -25,9 +25,8 @@ counted : (to : List ℕ) (t : Tree) (blob : Option Blob) (n : ℕ) → made_rep
 counted to t blob n = by (blob_read faults.InvalidInput t blob) (writable t to)
   where
     by : (r : Result (List ℕ) Fault) (w : Result Names Fault) → or_told r (λ bytes. or_told w (λ names. Copied (length bytes))) ≡ Copied n → (bytes : List ℕ) × (r ≡ Ok bytes) × (n ≡ length bytes)
-    by (Err fault) w is = absurd cc
-    by (Ok bytes) (Err fault) is = absurd cc
     by (Ok bytes) (Ok names) is = (bytes, refl, cc)
+    by _ w is = absurd cc
 
 module _ (to : List ℕ) (i : List Hash) (t : Tree) (blob : Option Blob) (n : ℕ) where
   -- so is the count of a copy that is verified first, and the bytes meet the integrity

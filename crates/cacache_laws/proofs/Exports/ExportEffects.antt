@@ -13,7 +13,7 @@ use Rattle.cacache_value.proofs.KindsApart.{kind_in_used}
 use Rattle.cacache_history.specs.{Setup.{may_export, call_site, apart_from_home, are_apart, may_take}, History.{Turn}, Turns.{EachTurn, made_in}, Commits.{Deed, deeds, deeds_of_act, finds_in}, ReadingCalls.{TurnDoesNothing}}
 use Rattle.cacache_history.proofs.Histories.ReadingCalls.{readings_do_nothing}
 use Rattle.cacache_laws.specs.{Sequence.{Alike, turns_on, after_deeds}, Caches.{setup_at}, ExportEffects.{ExportsKeep}}
-use Rattle.cacache_laws.proofs.{Putting.KeptKeys.{stays_known}, Readings.Known.{known}, Calls.{InParts.{run_goes}, Sequence.{turns_made}}}
+use Rattle.cacache_laws.proofs.{Putting.Deeds.{stays_known}, Readings.Known.{known}, Calls.{InParts.{run_goes}, Sequence.{turns_made}}}
 
 -- ---- turns that do nothing
 
@@ -41,10 +41,9 @@ beside_by true kind apart h e = h e
 beside_by false kind apart h e = refl
 
 beside : (folder path : Names) → kind_beside folder path ≡ Elsewhere → are_apart folder path ≡ true
-beside [] [] e = absurd cc
 beside [] (area ∷ rest) e = absurd (below_kind (bytes_eq area content_area) (bytes_eq area index_area) (bytes_eq area temp_area) rest e)
-beside (n ∷ ns) [] e = absurd cc
 beside (n ∷ ns) (m ∷ ms) e = beside_by (bytes_eq n m) (kind_beside ns ms) (are_apart ns ms) (beside ns ms) e
+beside _ _ e = absurd cc
 
 home_apart : (folder : Option Names) (path : Names) → path_kind folder path ≡ Elsewhere → apart_from_home folder path ≡ true
 home_apart None path e = refl

@@ -1,5 +1,5 @@
 -- A link's commit that expects no size goes on as one that expects the size of its bytes; and how it fails.
-use Rattle.std.proofs.{Common.{◌≡◌, ◌⊎◌, inl, inr, ◌==◌, ℕ, true, false, cond, List, [], ◌∷◌, ◌++◌, Option, None, Some, length, refl, sym, ap, subst, ◌∙◌, append-nil, append_assoc}, lemmas.Bool.{eq-eqb, cond-true}}
+use Rattle.std.proofs.{Common.{◌≡◌, ◌⊎◌, inl, inr, ◌==◌, ℕ, true, cond, List, [], ◌∷◌, ◌++◌, Option, None, Some, length, refl, sym, ap, subst, ◌∙◌, append-nil, append_assoc}, lemmas.Bool.{eq-eqb, cond-true}}
 use Rattle.cacache_core.specs.declared.{errors.{Error.{Error, TheVariants.{IntegrityError, IoError, OutOfMemory, SizeMismatch}}, Fault.{Fault}, IntegrityFault.TheVariants.{Check}}, integrity.digest.Hash.{Hash}}
 use Rattle.cacache_core.specs.declared.errors.Fault.TheVariants as faults
 use Rattle.cacache_store.specs.declared.store.answer.Answer.TheVariants as answers

@@ -15,7 +15,7 @@ use Rattle.cacache_value.specs.{Acts.{PutLink}, Value.{AtLink, value_of_tree}}
 use Rattle.cacache_history.specs.{Commits.{CommitsAs, Deed, IsNotOk, LinksTo, ReadsTarget, deeds, finds}, Setup.{Setup, call_site, same_place}, Values.{IsThere}}
 use Rattle.cacache_history.proofs.Contents.{Digests.{digest_hash}, OpenedContents.{EachAsks, OnDisks, gives_all, run_asks}}
 use Rattle.cacache_laws.specs.{Beside.{ShareAddress, own_integrity}, Caches.{Called, HasContent, IsCache, lies_under}, ExportEffects.{IsApart}, Links.{FitsLink, KeepsBesideLink, LeavesLink, LinksLast, put_like}, Puts.{ExpectsIntegrity, stored_as}, Sequence.{Alike, AreAnswered, CallIsAnswered, IsMadeOn, IsSound, SequenceCall, after_deeds, tree_on, turns_on}, Stored.{own_hash}}
-use Rattle.cacache_laws.proofs.{Putting.Deeds.{commit_leads, finds_so, lies_or_found, lies_so, may_lead}, Calls.{Logs.{some_same}, InParts.{logs_lead}, Sequence.{calls_answer_alone, turns_made}}, Readings.ReadsStay.{sizing_keeps}, Removing.Removed.{over_run}}
+use Rattle.cacache_laws.proofs.{Putting.Deeds.{commit_leads, finds_so, lies_or_found, lies_so, may_lead}, Calls.{Logs.{some_same}, InParts.{logs_lead}, Sequence.{calls_answer_alone, turns_made}}, Readings.ReadAnswers.{sizing_keeps}, Removing.Removed.{over_run}}
 
 -- ---- the bytes that the target shows
 

@@ -13,7 +13,7 @@ use Rattle.cacache_value.specs.{Acts.{PutLink}, OpeningTrees.{LieApart}, Value.{
 use Rattle.cacache_history.specs.{Commits.{CommitsAs, DidNothing, LinksTo, ReadsTarget, deeds}, Setup.{Setup, home}}
 use Rattle.cacache_history.proofs.{Contents.{Digests.{digest_hash}, OpenedContents.{run_asks}}, durable.CommitPlaces.{goes_runs}}
 use Rattle.cacache_laws.specs.{Caches.{IsCache, IsExcused, Grows}, ExportEffects.{IsApart}, InParts.{Begun, Changes, AnswersInParts, IsOnItsWay, Part, made, moves_in, turns_in, with_part}, Links.{FitsLink, LeavesLink, put_like}, OpenLinkers.{LinkersFail, CommitsRest, LinkersCommit, TargetOpened}, Puts.{ExpectsIntegrity, stored_as}, Sequence.{Alike, AreAnswered, IsSound, after_deeds, tree_on, turns_on}, Stored.{own_hash}}
-use Rattle.cacache_laws.proofs.{Putting.{Committing.{cause_later, deeds_later}, OpenWriters.{gains_grow}}, Calls.{Handed.{bytes_taken}, InParts.{all_made, calls_begin, logs_lead, moves_then, parts_answer, parts_go_on, run_goes}, Logs.{some_same}}, Readings.{Known.{excused_by}, ReadsStay.{sizing_keeps}}, Links.{Linking.{is_there, leaves_by, nothing_shown, on_disks, setup_to}, TargetBytes.{ReadOf, file_held, held_of, parts_on_disks, told_held, turns_more}, ExpectedSizes.{fails_only, suited_run}}}
+use Rattle.cacache_laws.proofs.{Putting.OpenWriters.{cause_later, deeds_later, gains_grow}, Calls.{InParts.{bytes_taken, all_made, calls_begin, logs_lead, moves_then, parts_answer, parts_go_on, run_goes}, Logs.{some_same}}, Readings.{Known.{excused_by}, ReadAnswers.{sizing_keeps}}, Links.{Linking.{is_there, leaves_by, nothing_shown, on_disks, setup_to}, TargetBytes.{ReadOf, file_held, held_of, parts_on_disks, told_held, turns_more}, ExpectedSizes.{fails_only, suited_run}}}
 
 -- ---- a commit, as the last part of a link
 

@@ -9,7 +9,7 @@ use Rattle.cacache_disk.specs.{declared.luck.Luck.TheVariants.{Plain}, Apply.{ap
 use Rattle.cacache_calls.specs.{declared.{carried.Commit.{Commit}, command.Link.{Link}, reply.Reply.{Reply}, target.Target.{Target}}, Common.{ends_with}, Linking.{after_read, commit_for, link_target}, Runs.{Moves, Runs}, State.{State, confirming, hashing, linking, over, to_link}, Storing.{compared, indexed, link, matches, placed, sized}, Table.{after, piece}, Effects.{IsRefused}}
 use Rattle.cacache_calls.specs.declared.reply.Reply.TheVariants as replies
 use Rattle.cacache_laws.specs.{OpenLinkers.{CommitsRest, LinkersRefuse}, Sequence.{AreAnswered}}
-use Rattle.cacache_laws.proofs.{Calls.InParts.{logs_lead}, Links.OpenLinkers.{linkers_commit}, Removing.Removed.{over_run}, Sure.SureFiles.{reads}}
+use Rattle.cacache_laws.proofs.{Calls.InParts.{logs_lead}, Links.OpenLinkers.{linkers_commit}, Removing.Removed.{over_run}, Sure.SureReads.{reads}}
 
 -- ---- a commit that is refused once its content is there
 

@@ -13,12 +13,12 @@ use Rattle.cacache_disk.proofs.{Changes.{apply_tree, unless_tree}, FoundNodes.{p
 use Rattle.cacache_calls.specs.{declared.{command.Put.{Put}, reply.Reply.{Reply}, carried.Commit.{Commit}}, Answers.{done_in, temp_in, written_in, synced_in, taken_in}, Common.{fails, errand_step}, Inserting.{unless_refused, bucket_line, recorded, after_append, refused_cause}, StepPaths.{content_path, content_folder, temp_path}, Runs.{Moves, Runs}, State.{State, asking, confirming, walking, doing, creating, writing, syncing, persisting, appending, over, Site, Insertion, make_folder, sync_file, sync_dir, Errand}, Storing.{insertion_of, indexed, sized, compared, matches, write_rest, after_write, put_commit}, Table.{wants, after, opening}}
 use Rattle.cacache_calls.proofs.{Branches.{cond_leads, go_on_leads}, Leading.{moves_on, secures, records}, Sound.{some_is}}
 use Rattle.cacache_calls.specs.declared.command.Command.TheVariants as commands
-use Rattle.cacache_value.specs.{Acts.{Act, Nothing, PutBytes, PutLink, AddEntries, Drop, MakeFolders, DropFolder, act_of}, Kinds.{Content, IsFor, path_kind}, Placed.{Placed, Proper}, Traces.{IsTrace}}
+use Rattle.cacache_value.specs.{Acts.{act_of}, Kinds.{Content, IsFor, path_kind}, Placed.{Placed, Proper}, Traces.{IsTrace}}
 use Rattle.cacache_value.proofs.{FoundPaths.{of_names, suits}, Traces.{steps_keep_placed}}
 use Rattle.cacache_history.specs.Commits.{Deed, finds, deeds_of_act, finds_in, deeds}
 use Rattle.cacache_history.proofs.{Contents.Digests.{digest_hash}, Syncing.{temp_synced}, durable.CommitMoves.{done_is}}
 use Rattle.cacache_laws.specs.Sequence.{turns_on, plain_moves}
-use Rattle.cacache_laws.proofs.Putting.MadeNodes.{FoldersMade, made_so, made_place, Stands, created_so, wrote_so, still_stands, persisted_so}
+use Rattle.cacache_laws.proofs.{Readings.Looks.{no_deeds}, Putting.WrittenFiles.{FoldersMade, made_so, made_place, Stands, created_so, wrote_so, still_stands, persisted_so}}
 
 -- ---- the path of a content and its folder
 
@@ -205,24 +205,17 @@ finds_nothing : (step : PlainStep) (a : PlainAnswer) → IsNoQuestion step → f
 finds_nothing (steps.Exists path) a other = absurd other
 finds_nothing step a other = refl
 
-module _ (path : List ℕ) (more : List Deed) where
-  acts_first : (act : Act) (rest : List Deed) → deeds_of_act act ++ rest ≡ finds path ∷ more → rest ≡ finds path ∷ more
-  acts_first (PutBytes names bytes) rest e = absurd cc
-  acts_first (PutLink names target) rest e = absurd cc
-  acts_first (AddEntries names (x ∷ xs)) rest e = absurd cc
-  acts_first (Drop names) rest e = absurd cc
-  acts_first act rest e = e
-
+module _ (home : Option Names) (path : List ℕ) (more : List Deed) where
   quiet_deeds : (t : Tree) (moves : Moves) → Quiet moves → deeds (turns_on t moves) ≡ finds path ∷ more → ⊥
   quiet_deeds t [] asks e = absurd cc
   quiet_deeds t (m ∷ moves) asks e =
       let act = act_of m.0 Plain m.1 in
       let rest = deeds (turns_on (apply t m.0 Plain).1 moves) in
       let whole = sym (append_assoc (deeds_of_act (act_of m.0 Plain m.1)) (finds_in m.0 m.1) (deeds (turns_on (apply t m.0 Plain).1 moves))) ∙ e in
-      quiet_deeds (apply t m.0 Plain).1 moves asks.1 (ap (λ x. x ++ deeds (turns_on (apply t m.0 Plain).1 moves)) (sym (finds_nothing m.0 m.1 asks.0)) ∙ acts_first act (finds_in m.0 m.1 ++ rest) whole)
+      quiet_deeds (apply t m.0 Plain).1 moves asks.1 (ap (λ x. x ++ deeds (turns_on (apply t m.0 Plain).1 moves)) (sym (finds_nothing m.0 m.1 asks.0)) ∙ (no_deeds home path more act (finds_in m.0 m.1 ++ rest) whole).0)
 
 -- no put finds that its content is there: it puts it
 pub puts_find_nothing : (home : Option Names) (site : Site) (p : Put) (t : Tree) (moves : Moves) (r : Reply) (path : List ℕ) (more : List Deed) → Rooted t → Placed home t
     → IsTrace home t (plain_moves moves) → Runs (opening site (commands.Put p)) moves r → deeds (turns_on t moves) ≡ finds path ∷ more → ⊥
 puts_find_nothing home site p t moves r path more rooted is_placed trace run e =
-    quiet_deeds path more t moves (quiet home t (opening site (commands.Put p)) moves r rooted is_placed (has_place site.cache p) trace run) e
+    quiet_deeds home path more t moves (quiet home t (opening site (commands.Put p)) moves r rooted is_placed (has_place site.cache p) trace run) e

@@ -1,17 +1,93 @@
+-- What a put leaves apart from its key and its bytes.
 -- What a put and a writer's commit leave, with any options.
-use Rattle.std.proofs.Common.{None, refl, ◌∙◌, length, ◌≡◌, ◌⊎◌, inl, inr, ℕ, List, [], ◌∷◌, Option, Some, sym, subst}
-use Rattle.cacache_core.specs.{declared.integrity.algorithm.Algorithm.{Algorithm}, Integrity.{integrity_under}, Texts.{integrity_text}, PathNames.{home_of}}
-use Rattle.cacache_core.proofs.Meeting.{own_is_met}
-use Rattle.cacache_calls.specs.{Causes.{own_of}, Inserting.{refused_cause}, Storing.{insertion_of, put_commit}, declared.{command.Put.{Put}, reply.Reply.{Reply}}, StepPaths.{content_path}}
-use Rattle.cacache_calls.proofs.{IntegrityUtf8.{integrity_utf8}, Promises.{calls_answer}}
-use Rattle.cacache_history.{specs.{Values.{IsThere}, Commits.{Deed, finds, deeds, IsNotOk}, Setup.{call_site}}, proofs.Contents.Digests.{digest_hash, own_integrity as own_formed}}
-use Rattle.cacache_laws.specs.{Beside.{FitsEntry, own_integrity}, Caches.{IsCache, WritesKey, plain_put, HasContent, lies_under, setup_at}, OpenWriters.{CommitsBytes, CommitsStore, IsOpened, NothingElse}, Puts.{CommitsLeave, CommitsKeep}, Sequence.{Alike, after_deeds, turns_on}, Stored.{own_hash}}
-use Rattle.cacache_laws.proofs.{Calls.CallErrors.{calls_fail_only}, Putting.{Beside.{plain_writes_fit, put_keeps}, Forms.{bare_written, has_key}, OpenWriters.{gains_grow}, Committing.{Ended, ended}, Deeds.{PutsIt, commit_leads, lies_or_found, may_lead}}, Readings.Known.{excused_by}}
+-- What an insertion leaves in a cache.
+use Rattle.std.{proofs.Common.{◌≡◌, ◌⊎◌, inl, inr, ℕ, List, [], ◌∷◌, Option, None, Some, length, refl, sym, subst, ◌∙◌, arith, ◌++◌, option_map, ap}, specs.Prelude.{IfSome}}
+use Rattle.cacache_core.specs.{declared.{integrity.{digest.Hash.{Hash}, algorithm.Algorithm.{Algorithm}}, errors.{Error.{Error, TheVariants.{EntryNotFound, SizeMismatch, IoError, SerdeError, IntegrityError, OutOfMemory}}, SerdeCause.{SerdeCause}}}, Integrity.{Meets, integrity_under, IsIntegrity}, PathNames.{home_of}, Texts.{integrity_text}}
+use Rattle.cacache_core.proofs.{Meeting.{own_is_met}, Printed.{printed}}
 use Rattle.cacache_store.specs.declared.store.log.LogItem.{LogItem}
+use Rattle.sha1.specs.Sha1.{sha1}
 use Rattle.cacache_disk.specs.memory.Replay.{tree_of}
+use Rattle.cacache_entry.specs.{FittingEntries.{IsEntry, IsUtf8IfAny}, Latest.{Found, found_of, answer_read, answer_of}}
+use Rattle.cacache_calls.specs.{declared.{command.{Command.{Command}, Delete.{Delete}, Put.{Put}, Insert.{Insert}}, reply.Reply.{Reply}}, Inserting.{deletion, refused_cause, insertion, given_or, given_text, no_integrity}, Storing.{insertion_of, put_commit}, Causes.{own_of}, StepPaths.{content_path}, Promises.{Only}}
+use Rattle.cacache_calls.proofs.{IntegrityUtf8.{integrity_utf8}, Promises.{calls_answer}}
+use Rattle.cacache_value.specs.{Acts.{PutBytes}, Value.{InFile, value_of_tree}}
+use Rattle.cacache_history.specs.{Commits.{Deed, finds, deeds, CommitsAs, IsCase, IsNotOk, InsertionAdds}, Setup.{call_site, home}, Values.{IsThere}}
+use Rattle.cacache_history.proofs.Contents.Digests.{digest_hash, own_integrity as own_formed}
+use Rattle.cacache_laws.specs.{Beside.{ShareAddress, KeepsBeside, own_integrity, WritesKeep, PlainWritesFit, RemovalsKeep, FitsEntry}, Caches.{HasContent, HasKey, plain_put, setup_at, IsCache, WritesKey, lies_under}, Keeping.{found_under}, Sequence.{Alike, after_deeds, turns_on}, Stored.{own_hash, PutsStore}, OpenWriters.{CommitsBytes, CommitsStore, IsOpened, NothingElse}, Puts.{CommitsLeave, CommitsKeep}, ReadAnswers.{entries_on}, CallErrors.{FailsOnly}, Inserts.{leads_to, InsertsKey, InsertsLast, PlainInsertsFit, KeysJoin, NoneLacks}}
+use Rattle.cacache_laws.proofs.{Putting.{Deeds.{bucket_entries, put_or_found, finds_so, lies_so, adds_keep, PutsIt, commit_leads, lies_or_found, may_lead}, Forms.{bare_written, keyed_formed, has_key}, OpenWriters.{gains_grow, Ended, ended}, Stored.{inserts_add}}, Readings.{Known.{Known, known, excused_by, excuse}, Looking.{finds_last}}, Calls.CallErrors.{calls_fail_only, inserts_fail}}
 use Rattle.cacache_calls.specs.declared.command.Command.TheVariants as commands
 use Rattle.cacache_calls.specs.declared.reply.Reply.TheVariants as replies
-use Rattle.cacache_value.specs.Value.{InFile, value_of_tree}
+
+-- ---- logs
+
+-- bytes meet each integrity that has their address
+met_there : (p : Put) (i : List Hash) → ShareAddress i (own_integrity p) → Meets i p.data
+met_there p [] same = absurd cc
+met_there p (a ∷ hs) same =
+    let is : a ≡ own_hash p = cc in
+    subst (λ x. Meets (x ∷ hs) p.data) (sym is) (0, omega arith, refl)
+
+module _ (cache : List ℕ) (p : Put) (old new : List LogItem) (ds : List Deed) (reply : Option Reply)
+    (commits : CommitsAs (put_commit cache p) (λ names. PutBytes names p.data) ds reply)
+    (follows : Alike (value_of_tree (home_of cache) (tree_of new)) (after_deeds (home_of cache) ds (value_of_tree (home_of cache) (tree_of old)))) where
+  content_so : (i : List Hash) (bytes : List ℕ) → HasContent cache i bytes old → HasContent cache i bytes new ⊎ (ShareAddress i (own_integrity p) × HasContent cache i p.data new)
+  content_so i bytes h =
+      elim (lies_so cache p (InFile p.data) old new ds reply commits follows i h.formed) [
+        | inl same ↦ inl (record { content = same ∙ h.content; formed = h.formed; meets = h.meets })
+        | inr at ↦ inr (at.0, record { content = at.1; formed = h.formed; meets = met_there p i at.0 })
+      ]
+
+  keyed : (other bytes : List ℕ) (i : List Hash) → found_under cache other new ≡ found_under cache other old → HasKey cache other i bytes old → HasContent cache i p.data new
+      → HasKey cache other i p.data new
+  keyed other bytes i same h content = record { found = h.found; finds = same ∙ h.finds; integrity = h.integrity; content = content }
+
+  pub put_keeps : KeepsBeside cache p.key (own_integrity p) p.data old new
+  put_keeps = record {
+    finds = finds_so cache p (InFile p.data) old new ds reply commits follows;
+    lies = lies_so cache p (InFile p.data) old new ds reply commits follows;
+    content = content_so;
+    key = λ other bytes i differ h. elim (content_so i bytes h.content) [
+      | inl stays ↦ inl (record { found = h.found; finds = finds_so cache p (InFile p.data) old new ds reply commits follows other differ ∙ h.finds; integrity = h.integrity; content = stays })
+      | inr at ↦ inr (at.0, keyed other bytes i (finds_so cache p (InFile p.data) old new ds reply commits follows other differ) h at.1)
+    ];
+  }
+
+-- ---- calls
+
+module _ (cache base : List ℕ) (command : Command) (r : Reply) (old new : List LogItem) (k : Known cache base command r old new) where
+  -- what it did is one of the cases of its command
+  pub case_of : IsCase (call_site (setup_at cache base) k.call.number) command (turns_on (tree_of old) k.call.moves) (Some r)
+  case_of =
+      subst (λ x. IsCase (call_site (setup_at cache base) k.call.number) command (turns_on (tree_of old) k.call.moves) (Some x)) k.reply_is
+      (subst (λ c. IsCase (call_site (setup_at cache base) k.call.number) c (turns_on (tree_of old) k.call.moves) (Some k.call.reply)) k.command_is k.answers.commits)
+
+  -- the value that it left follows its deeds
+  pub follows_of : Alike (value_of_tree (home_of cache) (tree_of new)) (after_deeds (home_of cache) (deeds (turns_on (tree_of old) k.call.moves)) (value_of_tree (home_of cache) (tree_of old)))
+  follows_of =
+      subst (λ t. Alike (value_of_tree (home_of cache) t) (after_deeds (home_of cache) (deeds (turns_on (tree_of old) k.call.moves)) (value_of_tree (home_of cache) (tree_of old)))) (sym k.leads)
+      k.answers.follows
+
+pub writes_keep : WritesKeep
+writes_keep cache p r old new fits sound c =
+    let k = known cache (commands.Put p) r old new c fits tt sound in (
+      k.sound,
+      put_keeps cache p old new (deeds (turns_on (tree_of old) k.call.moves)) (Some r) (case_of cache c.base (commands.Put p) r old new k) (follows_of cache c.base (commands.Put p) r old new k),
+    )
+
+pub plain_writes_fit : PlainWritesFit
+unfolding refused_cause
+plain_writes_fit a cache key bytes moment utf8 small early k e none =
+    let w = bare_written key (Some (integrity_text (integrity_under a bytes))) moment (length bytes) utf8 (integrity_utf8 (integrity_under a bytes)) early small in
+    keyed_formed (λ k. IsEntry (insertion_of (put_commit cache (plain_put a key bytes moment)) k).entry) key k e w.formed
+
+pub removals_keep : RemovalsKeep
+unfolding refused_cause
+removals_keep cache key moment r old new utf8 early sound c =
+    let d : Delete = record { key = key; moment = moment } in
+    let w = bare_written key None moment 0 utf8 tt early (omega arith) in
+    let k = known cache (commands.Delete (record { key = key; moment = moment })) r old new c (λ none. w.formed) tt sound in
+    adds_keep cache (deletion cache (record { key = key; moment = moment })) old new (deeds (turns_on (tree_of old) k.call.moves)) (Some r) (case_of cache c.base (commands.Delete d) r old new k)
+    (follows_of cache c.base (commands.Delete d) r old new k)
 
 -- ---- logs
 
@@ -25,6 +101,26 @@ has_or_found cache p old new ds reply commits follows ok =
       | inl put ↦ inl (record { content = put; formed = own_formed p.options.algorithm p.data; meets = own_is_met p.options.algorithm p.data })
       | inr found ↦ inr found
     ]
+
+-- a put that is done has its entry after the others, and its content
+pub puts_store : PutsStore
+puts_store s t call p key i command keyed reply answers =
+    let ds = deeds (turns_on t call.moves) in
+    let v = value_of_tree (home s) t in
+    let commits : PutsIt s.cache p (InFile p.data) (deeds (turns_on t call.moves)) (Some (replies.Stored i))
+    = subst (λ r. IsCase (call_site s call.number) (commands.Put p) (turns_on t call.moves) (Some r)) reply
+    (subst (λ c. IsCase (call_site s call.number) c (turns_on t call.moves) (Some call.reply)) command answers.commits) in
+    record {
+      entries =
+          answers.follows.lists (sha1 key)
+          ∙ elim (bucket_entries s.cache p (InFile p.data) ds (Some (replies.Stored i)) v key keyed commits) [ inl same ↦ absurd same.1 | inr more ↦ more ];
+      content =
+          answers.follows.contents (own_hash p)
+          ∙ elim (put_or_found s.cache p (InFile p.data) ds (Some (replies.Stored i)) v (λ no. no) commits) [
+            | inl put ↦ put
+            | inr found ↦ absurd (answers.puts p (content_path s.cache (own_integrity p)) found.0 command found.1)
+          ];
+    }
 
 -- ---- commits
 
@@ -88,3 +184,88 @@ commits_store a cache key bytes moment number r old new utf8 small early o sound
     let w = bare_written key (Some (integrity_text (integrity_under a bytes))) moment (length bytes) utf8 (integrity_utf8 (integrity_under a bytes)) early small in
     let e = ended cache (plain_put a key bytes moment) number fits o r old new sound c in
     (e.sound, gains_grow old new c.ran.0 c.ran.2, stores a cache key bytes moment number old new free fits o sound w.no_cause r c)
+
+-- the entry that is added last is found
+leads : (cache : List ℕ) (i : Insert) (old new : List LogItem) → (given : Option (List Hash)) → i.options.integrity ≡ given → IfSome given IsIntegrity
+    → entries_on (home_of cache) (tree_of new) i.key ≡ entries_on (home_of cache) (tree_of old) i.key ++ (insertion cache i).entry ∷ [] → leads_to cache i.key new ≡ given
+leads cache i old new None none formed entries =
+    let e = (insertion cache i).entry in
+    ap (option_map (λ (found : Found). found.integrity))
+    (finds_last i.key e None (entries_on (home_of cache) (tree_of old) i.key) (entries_on (home_of cache) (tree_of new) i.key) refl (ap (λ g. answer_of (insertion cache i).entry (given_text g)) none) entries)
+leads cache i old new (Some j) some formed entries =
+    let e = (insertion cache i).entry in
+    let answer : answer_of e e.integrity ≡ Some (Some (found_of e j))
+    = ap (λ g. answer_of (insertion cache i).entry (given_text g)) some ∙ ap (λ r. option_map (option_map (found_of (insertion cache i).entry)) (answer_read r)) (printed j formed) in
+    ap (option_map (λ (found : Found). found.integrity))
+    (finds_last i.key e (Some (found_of e j)) (entries_on (home_of cache) (tree_of old) i.key) (entries_on (home_of cache) (tree_of new) i.key) refl answer entries)
+
+module _ (cache base : List ℕ) (i : Insert) (old new : List LogItem) where
+  only : (r : Reply) → Known cache base (commands.Insert i) r old new → Only (replies.Stored (given_or no_integrity i.options.integrity)) r
+  only r k = calls_answer (call_site (setup_at cache base) k.call.number) (commands.Insert i) k.call.moves r k.run
+
+  -- an error of a step or of memory, or why the entry can't be written
+  failed : (e : Error) → Known cache base (commands.Insert i) (replies.Refused e) old new
+      → FailsOnly (replies.Refused e) ⊎ ((cause : SerdeCause) × (refused_cause (insertion cache i) ≡ Some cause) × (replies.Refused e ≡ replies.Refused (SerdeError cause [])))
+  failed e k = inserts_fail (call_site (setup_at cache base) k.call.number) i k.call.moves (replies.Refused e) k.run
+
+  serde : (cause : SerdeCause) (message : List ℕ) → Known cache base (commands.Insert i) (replies.Refused (SerdeError cause message)) old new → refused_cause (insertion cache i) ≡ Some cause
+  serde cause message k =
+      elim (failed (SerdeError cause message) k) [
+        | inl h ↦ absurd h
+        | inr h ↦ let same : h.0 ≡ cause = cc in h.1 ∙ ap Some same
+      ]
+
+  no_other : (e : Error) → Known cache base (commands.Insert i) (replies.Refused e) old new → (FailsOnly (replies.Refused e) → ⊥)
+      → ((cause : SerdeCause) → replies.Refused e ≡ replies.Refused (SerdeError cause []) → ⊥) → ⊥
+  no_other e k fails serde = elim (failed e k) [ inl h ↦ fails h | inr h ↦ serde h.0 h.2 ]
+
+module _ (cache base : List ℕ) (i : Insert) (old new : List LogItem) (formed : IfSome i.options.integrity IsIntegrity) where
+  inserts : (r : Reply) → Known cache base (commands.Insert i) r old new → InsertsKey cache i r old new
+  inserts (replies.Stored j) k =
+      leads cache i old new i.options.integrity refl formed
+      (ap (λ x. entries_on (home_of cache) x i.key) k.leads ∙ inserts_add (setup_at cache base) (tree_of old) k.call i j k.command_is k.reply_is k.answers)
+  inserts (replies.Refused OutOfMemory) k = inl refl
+  inserts (replies.Refused (IoError fault message)) k = excuse cache base (commands.Insert i) old new (λ fault none. none) (IoError fault message) k tt
+  inserts (replies.Refused (SerdeError cause message)) k = serde cache base i old new cause message k
+  inserts (replies.Refused (EntryNotFound c l)) k = absurd (no_other cache base i old new (EntryNotFound c l) k (λ h. h) (λ cause e. absurd cc))
+  inserts (replies.Refused (SizeMismatch wanted actual)) k = absurd (no_other cache base i old new (SizeMismatch wanted actual) k (λ h. h) (λ cause e. absurd cc))
+  inserts (replies.Refused (IntegrityError fault)) k = absurd (no_other cache base i old new (IntegrityError fault) k (λ h. h) (λ cause e. absurd cc))
+  inserts r k = let no = only cache base i old new r k in absurd cc
+
+pub inserts_last : InsertsLast
+inserts_last cache i r old new formed written sound c =
+    let k = known cache (commands.Insert i) r old new c written tt sound in
+    let case : InsertionAdds (insertion cache i) (deeds (turns_on (tree_of old) k.call.moves)) (Some k.call.reply)
+    = subst (λ x. IsCase (call_site (setup_at cache c.base) k.call.number) x (turns_on (tree_of old) k.call.moves) (Some k.call.reply)) k.command_is k.answers.commits in
+    let follows = subst (λ t. Alike (value_of_tree (home_of cache) t) (after_deeds (home_of cache) (deeds (turns_on (tree_of old) k.call.moves)) (value_of_tree (home_of cache) (tree_of old)))) (sym k.leads) k.answers.follows in
+    (k.sound, inserts cache c.base i old new formed r k, adds_keep cache (insertion cache i) old new (deeds (turns_on (tree_of old) k.call.moves)) (Some k.call.reply) case follows)
+
+-- ---- plain insertions
+
+pub given_utf8 : (integrity : Option (List Hash)) → IsUtf8IfAny (given_text integrity)
+given_utf8 None = tt
+given_utf8 (Some i) = integrity_utf8 i
+
+pub plain_inserts_fit : PlainInsertsFit
+unfolding refused_cause
+plain_inserts_fit a cache key integrity moment utf8 early =
+    let w = bare_written key (given_text integrity) moment 0 utf8 (given_utf8 integrity) early (omega arith) in
+    (λ none. w.formed, w.no_cause)
+
+-- ---- what comes of it
+
+joined : (cache key bytes : List ℕ) (i : List Hash) (log : List LogItem) (o : Option Found) → found_under cache key log ≡ o → option_map (λ (found : Found). found.integrity) o ≡ Some i → HasContent cache i bytes log
+    → HasKey cache key i bytes log
+joined cache key bytes i log None leads is h = absurd cc
+joined cache key bytes i log (Some found) leads is h = record { found = found; finds = leads; integrity = cc; content = h }
+
+pub keys_join : KeysJoin
+keys_join cache key bytes i log leads h =
+    joined cache key bytes i log (found_under cache key log) refl leads h
+
+lacks : (o : Option Found) → option_map (λ (found : Found). found.integrity) o ≡ None → o ≡ None
+lacks None e = refl
+lacks (Some found) e = absurd cc
+
+pub none_lacks : NoneLacks
+none_lacks cache key log e = lacks (found_under cache key log) e

@@ -1,14 +1,17 @@
 -- What is known of a call that was made on a cache in a store in memory.
-use Rattle.std.proofs.Common.{◌≡◌, inl, inr, ℕ, List, [], ◌++◌, map, refl, sym, subst}
-use Rattle.cacache_core.specs.{declared.errors.{Error.{Error, TheVariants.{EntryNotFound, SizeMismatch, IoError, SerdeError, IntegrityError, OutOfMemory}}, Fault.{Fault}}, PathNames.{home_of}}
+-- What reads answer by what a cache has, and that it stays.
+use Rattle.std.proofs.Common.{◌≡◌, inl, inr, ℕ, List, [], ◌++◌, map, refl, sym, subst, Some, ap, ◌∙◌}
+use Rattle.cacache_core.specs.{declared.{errors.{Error.{Error, TheVariants.{IoError, OutOfMemory}}, Fault.{Fault}}, integrity.digest.Hash.{Hash}}, PathNames.{home_of}, Integrity.{address}}
 use Rattle.cacache_store.specs.declared.store.log.LogItem.{LogItem, TheVariants.{Made}}
 use Rattle.cacache_disk.specs.{Tree.{bare}, memory.Replay.{tree_of}}
 use Rattle.cacache_calls.specs.{declared.{command.Command.{Command}, reply.Reply.{Reply}}, Causes.{HasCause, own_of}, Runs.{Moves, Runs, plain_reply}, Sound.{MayBegin}, Table.{opening}}
+use Rattle.cacache_value.{proofs.OpeningTrees.{files_open}, specs.Acts.{list_of}}
+use Rattle.cacache_history.specs.{Setup.{call_site, may_export, is_outside}, History.{NamesIntegrity}, ShownTurns.{blob_at}}
+use Rattle.cacache_laws.specs.{Sequence.{SequenceCall, IsMadeOn, tree_on, CallIsAnswered}, CallErrors.{FailsOnly}, Caches.{IsCache, IsExcused, Called, setup_at, FreshIsEmpty, CachesLast, HasContent, HasKey}, ReadAnswers.{reply_on, UnlessFailed}, Looks.{HoldsSame}}
+use Rattle.cacache_laws.proofs.{Calls.Sequence.{openings_are_sound, calls_answer_alone}, Readings.ReadAnswers.{replies_follow}}
+use Rattle.sha1.specs.Sha1.{sha1}
+use Rattle.cacache_entry.specs.Latest.{latest}
 use Rattle.cacache_calls.specs.declared.reply.Reply.TheVariants as replies
-use Rattle.cacache_value.proofs.OpeningTrees.{files_open}
-use Rattle.cacache_history.specs.{Setup.{call_site, may_export, is_outside}, History.{NamesIntegrity}}
-use Rattle.cacache_laws.specs.{Sequence.{SequenceCall, IsMadeOn, tree_on, CallIsAnswered}, CallErrors.{FailsOnly}, Caches.{IsCache, IsExcused, Called, setup_at, FreshIsEmpty, CachesLast}}
-use Rattle.cacache_laws.proofs.Calls.Sequence.{openings_are_sound, calls_answer_alone}
 
 pub fresh_is_empty : FreshIsEmpty
 unfolding tree_of
@@ -69,3 +72,26 @@ excuse cache base command old new none e k h =
     (subst (λ c. HasCause (own_of c) k.call.moves (plain_reply (replies.Refused e))) k.command_is
     (subst (λ r. HasCause (own_of k.call.command) k.call.moves (plain_reply r)) k.reply_is k.answers.causes))
     h
+
+pub content_stays : (cache bytes : List ℕ) (i : List Hash) (old new : List LogItem) → HoldsSame cache old new → HasContent cache i bytes old → HasContent cache i bytes new
+content_stays cache bytes i old new same h = record {
+  content = ap (λ v. blob_at v (address i)) same ∙ h.content;
+  formed = h.formed;
+  meets = h.meets;
+}
+
+pub key_stays : (cache key bytes : List ℕ) (i : List Hash) (old new : List LogItem) → HoldsSame cache old new → HasKey cache key i bytes old → HasKey cache key i bytes new
+key_stays cache key bytes i old new same h = record {
+  found = h.found;
+  finds = ap (λ v. latest key (list_of (v.buckets (sha1 key)))) same ∙ h.finds;
+  integrity = h.integrity;
+  content = content_stays cache bytes i old new same h.content;
+}
+
+module _ (cache base : List ℕ) (command : Command) (expected r : Reply) (old new : List LogItem) (k : Known cache base command r old new)
+    (is : reply_on (setup_at cache base) (tree_of old) command ≡ Some expected) where
+  of_call : reply_on (setup_at cache base) (tree_of old) k.call.command ≡ Some expected
+  of_call = ap (reply_on (setup_at cache base) (tree_of old)) k.command_is ∙ is
+
+  pub answered : UnlessFailed expected (plain_reply r)
+  answered = subst (λ x. UnlessFailed expected (plain_reply x)) k.reply_is (replies_follow (setup_at cache base) (tree_of old) k.call expected of_call k.answers)

@@ -1,15 +1,19 @@
 -- Calls that only look leave the tree.
-use Rattle.std.{proofs.Common.{◌≡◌, [], ◌∷◌, ◌++◌, refl, sym, ap, subst, ◌∙◌}, specs.Prelude.{map}}
-use Rattle.cacache_core.specs.PathNames.{home_of}
-use Rattle.cacache_store.specs.{declared.store.log.LogItem.TheVariants.{Made}, Plain.{PlainStep}}
-use Rattle.cacache_store.specs.declared.store.step.Step.TheVariants as steps
+-- What the first deed of a call finds was there before the call.
+use Rattle.std.{proofs.Common.{◌≡◌, ℕ, [], ◌∷◌, ◌++◌, Option, refl, sym, ap, subst, ◌∙◌, true, List, append_assoc}, specs.Prelude.{map}}
+use Rattle.cacache_core.specs.{PathNames.{Names, home_of}, declared.integrity.digest.Hash.{Hash}, Integrity.{IsHash}}
+use Rattle.cacache_store.specs.{declared.store.log.LogItem.TheVariants.{Made}, Plain.{PlainStep, PlainAnswer}}
 use Rattle.cacache_disk.specs.{declared.luck.Luck.TheVariants.{Plain}, Tree.{Tree, bare}, Apply.{apply}, memory.Replay.{replay, tree_of}}
-use Rattle.cacache_calls.specs.{declared.reply.Reply.{Reply}, Runs.{Moves, Runs}, State.{State, Site}, Table.{after}, Licence.{May, allows, looking_on, AllMay}}
+use Rattle.cacache_calls.specs.{declared.reply.Reply.{Reply}, Runs.{Moves, Runs}, State.{State, Site}, Table.{after}, Licence.{May, allows, looking_on, AllMay}, StepPaths.{content_path}}
 use Rattle.cacache_calls.proofs.Within.{calls_keep_to}
-use Rattle.cacache_value.specs.Value.{value_of_tree}
-use Rattle.cacache_history.{specs.{Setup.{Setup, home}, Turns.{EachTurn}}, proofs.Histories.Holding.{TurnsHold}}
-use Rattle.cacache_laws.specs.{Sequence.{tree_on, turns_on, AreAnswered, IsSound}, Looks.{LooksKeep, LooksLeave}}
-use Rattle.cacache_laws.proofs.{Readings.ReadsStay.{reading_keeps, listing_keeps, asking_keeps, opening_keeps, piece_keeps, sizing_keeps}, Calls.{Logs.{some_same}, Replays.{replay_more, moves_lead}}}
+use Rattle.cacache_value.specs.{Value.{value_of_tree, Value, wide_value}, Acts.{Act, PutBytes, PutLink, AddEntries, Drop, act_of, change}, Placed.{Placed}, Traces.{IsTrace}}
+use Rattle.cacache_value.proofs.Traces.{steps_act, steps_keep_placed}
+use Rattle.cacache_history.specs.{Setup.{Setup, home}, Turns.{EachTurn}, History.{turn_of}, Commits.{Deed, finds, deeds_of_act, finds_in, deeds}, Values.{IsThere}}
+use Rattle.cacache_history.proofs.{Histories.{Holding.{TurnsHold, TurnHolds}, ShownTurns.{there_at}}, Entries.AddedEntries.{blob_is}}
+use Rattle.cacache_laws.specs.{Sequence.{tree_on, turns_on, AreAnswered, IsSound, plain_moves}, Looks.{LooksKeep, LooksLeave}}
+use Rattle.cacache_laws.proofs.{Readings.ReadAnswers.{reading_keeps, listing_keeps, asking_keeps, opening_keeps, piece_keeps, sizing_keeps}, Calls.{Logs.{some_same}, Replays.{replay_more, moves_lead}}}
+use Rattle.cacache_store.specs.declared.store.step.Step.TheVariants as steps
+use Rattle.cacache_store.specs.declared.store.answer.Answer.TheVariants as answers
 
 -- ---- steps that leave the tree
 
@@ -51,3 +55,39 @@ tree_stays cache command r old new looks c =
 
 pub looks_keep : LooksKeep
 looks_keep cache command r old new looks c = ap (value_of_tree (home_of cache)) (tree_stays cache command r old new looks c)
+
+-- an act whose deeds aren't first leaves contents
+pub no_deeds : (home : Option Names) (path : List ℕ) (more : List Deed) (act : Act) (rest : List Deed) → deeds_of_act act ++ rest ≡ finds path ∷ more
+    → (rest ≡ finds path ∷ more) × ((v : Value) (a : Hash) → (change home act v).contents a ≡ v.contents a)
+no_deeds home path more (PutBytes names bytes) rest e = absurd cc
+no_deeds home path more (PutLink names target) rest e = absurd cc
+no_deeds home path more (AddEntries names (x ∷ xs)) rest e = absurd cc
+no_deeds home path more (Drop names) rest e = absurd cc
+no_deeds home path more act rest e = (e, λ v a. refl)
+
+module _ (s : Setup) (a : Hash) (is : IsHash a) (more : List Deed) where
+  -- a question that is answered yes, or otherwise what comes later
+  asked : (t : Tree) (step : PlainStep) (answer : PlainAnswer) (rest : List Deed) → finds_in step answer ++ rest ≡ finds (content_path s.cache (a ∷ [])) ∷ more
+      → TurnHolds s (turn_of t Plain (step, answer))
+      → (rest ≡ finds (content_path s.cache (a ∷ [])) ∷ more → IsThere ((value_of_tree (home s) t).contents a))
+      → IsThere ((value_of_tree (home s) t).contents a)
+  asked t (steps.Exists p) (answers.There true) rest e holds later =
+      let same : p ≡ content_path s.cache (a ∷ []) = cc in
+      let seen = there_at s (turn_of t Plain (steps.Exists p, answers.There true)) holds a [] is (ap steps.Exists same) in
+      blob_is t ((value_of_tree (home s) t).contents a) (sym seen)
+  asked t step answer rest e holds later = later e
+
+  pub found_before : (t : Tree) (moves : Moves) → Placed (home s) t → IsTrace (home s) t (plain_moves moves) → TurnsHold s (turns_on t moves)
+      → deeds (turns_on t moves) ≡ finds (content_path s.cache (a ∷ [])) ∷ more → IsThere ((value_of_tree (home s) t).contents a)
+  found_before t [] placed trace hold e = absurd cc
+  found_before t (m ∷ moves) placed trace hold e =
+      let rest = deeds (turns_on (apply t m.0 Plain).1 moves) in
+      let act = act_of m.0 Plain m.1 in
+      let whole : deeds_of_act (act_of m.0 Plain m.1) ++ (finds_in m.0 m.1 ++ deeds (turns_on (apply t m.0 Plain).1 moves)) ≡ finds (content_path s.cache (a ∷ [])) ∷ more
+      = sym (append_assoc (deeds_of_act (act_of m.0 Plain m.1)) (finds_in m.0 m.1) (deeds (turns_on (apply t m.0 Plain).1 moves))) ∙ e in
+      let n = no_deeds (home s) (content_path s.cache (a ∷ [])) more act (finds_in m.0 m.1 ++ rest) whole in
+      let same : (wide_value (home s) (apply t m.0 Plain).1).contents a ≡ (wide_value (home s) t).contents a
+      = ap (λ (v : Value). v.contents a) (steps_act (home s) t m.0 Plain placed trace.0)
+      ∙ ap (λ x. (change (home s) (act_of m.0 Plain x) (wide_value (home s) t)).contents a) (sym trace.1) ∙ n.1 (wide_value (home s) t) a in
+      asked t m.0 m.1 rest n.0 hold.0
+      (λ later. subst IsThere same (found_before (apply t m.0 Plain).1 moves (steps_keep_placed (home s) t m.0 Plain placed trace.0) trace.2 hold.1 later))

@@ -16,7 +16,7 @@ use Rattle.cacache_calls.specs.Table as table
 use Rattle.cacache_value.{specs.{Shows.{blob_bytes, ShowsContent}, Value.{value_of_tree}}, proofs.Shows.{trees_show}}
 use Rattle.cacache_history.proofs.Histories.ShownTurns.{content_below}
 use Rattle.cacache_laws.specs.{Sequence.{tree_on, IsSound}, ReadAnswers.{entries_on, UnlessFailed}, CallErrors.{FailsOnly}, Caches.{IsCache, HasContent, HasKey, LacksKey, Grows, IsExcused, Called, setup_at}, OpenWriters.{LeavesKnownCache}, OpenReaders.{OpensContent, LookupRan, OpensWhatWasFound, OpensByKey, GivesFile, ReadersOpen, GivesNone, ReadersOpenKey}}
-use Rattle.cacache_laws.proofs.{Readings.{ReadsStay.{reading_keeps, opening_keeps, opened_so}, Known.{Known, known, excuse}, Looked.{same_stays_known}, ReadsKeep.{content_stays, answered}}, Calls.{Logs.{some_same, growths_join, excuses_last}, InParts.{logs_lead}, Messages.{plain_error, excused_error}}, Putting.OpenWriters.{gains_grow, excused_step, gains_none}}
+use Rattle.cacache_laws.proofs.{Readings.{ReadAnswers.{reading_keeps, opening_keeps, opened_so}, Known.{Known, known, excuse, content_stays, answered}, GivenReads.{same_stays_known}}, Calls.{Logs.{some_same, growths_join, excuses_last}, InParts.{logs_lead}, CallErrors.{plain_error, excused_error}}, Putting.OpenWriters.{gains_grow, excused_step, gains_none}}
 
 -- ---- a tree that stays
 

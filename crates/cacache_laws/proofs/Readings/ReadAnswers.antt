@@ -1,21 +1,59 @@
+-- Steps that read leave the tree.
 -- A lookup and a read answer by what the cache held, and leave the tree.
-use Rattle.std.proofs.Common.{◌≡◌, ◌⊎◌, inl, inr, ℕ, List, [], ◌∷◌, Option, None, Some, Result, Ok, Err, refl, sym, ap, subst, ◌∙◌}
+use Rattle.std.proofs.Common.{◌≡◌, ℕ, List, Result, Ok, Err, length, refl, ◌⊎◌, inl, inr, [], ◌∷◌, Option, None, Some, sym, ap, subst, ◌∙◌}
+use Rattle.cacache_core.specs.declared.{errors.{Fault.{Fault}, Error.TheVariants.{IoError, OutOfMemory}}, integrity.digest.Hash.{Hash}}
+use Rattle.cacache_store.specs.{declared.store.plain.PlainFile.{PlainFile}, Plain.{PlainAnswer, PlainStep}}
+use Rattle.cacache_disk.specs.{declared.luck.Luck.TheVariants.{Plain}, Tree.{Tree, listing}, LedTo.{file_at, folder}, Apply.{apply, unless, opened}}
 use Rattle.sha1.specs.Sha1.{sha1}
-use Rattle.cacache_core.specs.declared.errors.Fault.TheVariants as faults
-use Rattle.cacache_core.specs.declared.{errors.Error.TheVariants.{IoError, OutOfMemory}, integrity.digest.Hash.{Hash}}
-use Rattle.cacache_store.specs.declared.store.step.Step.TheVariants as steps
-use Rattle.cacache_store.specs.declared.store.answer.Answer.TheVariants as answers
-use Rattle.cacache_store.specs.Plain.{PlainStep, PlainAnswer}
-use Rattle.cacache_disk.specs.{declared.luck.Luck.TheVariants.{Plain}, Tree.{Tree}, Apply.{apply}}
 use Rattle.cacache_entry.specs.Latest.{Found, latest}
 use Rattle.cacache_calls.specs.{declared.{answers.Refusal.{Refusal}, command.Command.{Command}, reply.Reply.{Reply}}, StepPaths.{bucket_path, content_path}, Replies.{find_reply, content_reply, refusal_reply, lookup}, Runs.{Moves, plain_reply}}
-use Rattle.cacache_calls.specs.declared.answers.Refusal.TheVariants as refusals
-use Rattle.cacache_calls.specs.declared.command.Command.TheVariants as commands
-use Rattle.cacache_calls.specs.declared.reply.Reply.TheVariants as replies
 use Rattle.cacache_value.specs.Shows.{blob_bytes}
 use Rattle.cacache_history.specs.{Setup.{Setup, home}, History.{Turn, turn_of}, ShownTurns.{shown_result, as_refusal, content_at, bucket_read, content_read}, TurnReplies.{FindsHeld, ReadsHeld, ReadsNext, GetsHeld, ReadsValue}}
 use Rattle.cacache_laws.specs.{Sequence.{turns_on, tree_on}, ReadAnswers.{entries_on, read_on, get_on, reply_on, UnlessFailed, RepliesFollow, ReadsKeep}}
-use Rattle.cacache_laws.proofs.Readings.ReadsStay.{reading_keeps}
+use Rattle.cacache_core.specs.declared.errors.Fault.TheVariants as faults
+use Rattle.cacache_store.specs.declared.store.step.Step.TheVariants as steps
+use Rattle.cacache_store.specs.declared.store.answer.Answer.TheVariants as answers
+use Rattle.cacache_calls.specs.declared.answers.Refusal.TheVariants as refusals
+use Rattle.cacache_calls.specs.declared.command.Command.TheVariants as commands
+use Rattle.cacache_calls.specs.declared.reply.Reply.TheVariants as replies
+
+-- a step that answers a value or a fault, and leaves the tree
+unless_keeps : {A : Type 0} (r : Result A Fault) (t : Tree) (answer : A → PlainAnswer) → (unless r t (λ x. (answer x, t))).1 ≡ t
+unless_keeps (Ok x) t answer = refl
+unless_keeps (Err fault) t answer = refl
+
+pub reading_keeps : (t : Tree) (path : List ℕ) → (apply t (steps.ReadAll path) Plain).1 ≡ t
+unfolding apply
+reading_keeps t path = unless_keeps (file_at t path faults.IsADirectory) t answers.Bytes
+
+pub listing_keeps : (t : Tree) (path : List ℕ) → (apply t (steps.ReadDir path) Plain).1 ≡ t
+unfolding apply
+listing_keeps t path = unless_keeps (folder t path) t (λ names. answers.Names (listing t names))
+
+pub asking_keeps : (t : Tree) (path : List ℕ) → (apply t (steps.Exists path) Plain).1 ≡ t
+unfolding apply
+asking_keeps t path = refl
+
+pub opening_keeps : (t : Tree) (path : List ℕ) → (apply t (steps.Open path) Plain).1 ≡ t
+unfolding apply
+opening_keeps t path = unless_keeps (file_at t path faults.IsADirectory) t (λ bytes. answers.File (opened bytes))
+
+pub piece_keeps : (t : Tree) (file : PlainFile) (max : ℕ) → (apply t (steps.Read file max) Plain).1 ≡ t
+unfolding apply
+piece_keeps t file max = refl
+
+pub sizing_keeps : (t : Tree) (path : List ℕ) → (apply t (steps.Size path) Plain).1 ≡ t
+unfolding apply
+sizing_keeps t path = unless_keeps (file_at t path faults.IsADirectory) t (λ bytes. answers.Length (length bytes))
+
+-- a file that was opened is one of some bytes
+pub opened_so : (t : Tree) (path : List ℕ) (file : PlainFile) → answers.File file ≡ (apply t (steps.Open path) Plain).0 → (bytes : List ℕ) × (file ≡ opened bytes)
+unfolding apply
+opened_so t path file e = by (file_at t path faults.IsADirectory) e
+  where
+    by : (r : Result (List ℕ) Fault) → answers.File file ≡ (unless r t (λ bytes. (answers.File (opened bytes), t))).0 → (bytes : List ℕ) × (file ≡ opened bytes)
+    by (Ok bytes) is = (bytes, cc)
+    by (Err fault) is = absurd cc
 
 -- ---- what is shown, unless a step failed
 

@@ -18,7 +18,7 @@ use Rattle.cacache_value.specs.{Acts.{list_of}, Placed.{Placed}, Shows.{ReadsSho
 use Rattle.cacache_value.proofs.Shows.{trees_show}
 use Rattle.cacache_history.{specs.ShownTurns.{blob_at}, proofs.Histories.ShownTurns.{bucket_below, content_below}}
 use Rattle.cacache_laws.specs.{Caches.{HasKey, Called, GivesBytes, IsExcused, setup_at}, Inserts.{leads_to}, Keeping.{found_under}, Looks.{GivesFound, bytes_under}, Sequence.{AreAnswered}, Standing.{IsStanding, CachesStand, LooksLeaveStanding, StandingFinds, StandingReads}}
-use Rattle.cacache_laws.proofs.{Calls.{InParts.{logs_lead}, Logs.{some_same}}, Readings.{Known.{excused_by}, Looks.{looks_keep, tree_stays}, ReadsKeep.{key_stays}, ReadsStay.{reading_keeps}}}
+use Rattle.cacache_laws.proofs.{Calls.{InParts.{logs_lead}, Logs.{some_same}}, Readings.{Known.{excused_by, key_stays}, Looks.{looks_keep, tree_stays}, ReadAnswers.{reading_keeps}}}
 
 pub caches_stand : CachesStand
 caches_stand cache log sound = record { placed = sound.placed; rooted = sound.rooted }

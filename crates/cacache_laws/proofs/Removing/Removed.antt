@@ -16,7 +16,7 @@ use Rattle.cacache_value.specs.{Acts.{Drop, act_at, act_if_done, act_of, list_of
 use Rattle.cacache_history.specs.Commits.{Deed, deeds, deeds_of_act, finds_in}
 use Rattle.cacache_history.proofs.{Contents.Righted.{one_address}, Histories.ShownTurns.{content_below}, Entries.Writes.{one_path}}
 use Rattle.cacache_laws.specs.{Beside.{ShareAddress}, CallErrors.{FailsOnly}, Caches.{HasContent, IsExcused, lies_under, setup_at}, Keeping.{found_under}, Removed.{KeepsApart, RemovesContent, ContentsGo}, Sequence.{after_deeds, turns_on}}
-use Rattle.cacache_laws.proofs.{Putting.{Beside.{follows_of}, KeptKeys.{alike_lookup}}, Readings.Known.{Known, known, excuse}}
+use Rattle.cacache_laws.proofs.{Putting.{Puts.{follows_of}, Deeds.{alike_lookup}}, Readings.Known.{Known, known, excuse}}
 
 -- ---- runs of removals
 

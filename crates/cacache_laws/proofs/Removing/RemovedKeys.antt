@@ -1,22 +1,24 @@
 -- What the removal of a key with its content leaves in a cache.
+-- What removals and clearings leave.
 use Rattle.std.proofs.{Common.{◌≡◌, ◌⊎◌, inl, inr, ℕ, List, [], ◌∷◌, ◌++◌, Option, None, Some, option_map, refl, sym, ap, subst, ◌∙◌, arith}, lemmas.List.Elements.{All-head}}
 use Rattle.std.specs.Prelude.{IfSome}
 use Rattle.sha1.specs.Sha1.{sha1}
-use Rattle.cacache_core.specs.{declared.{errors.Error.TheVariants.{IoError, OutOfMemory}, integrity.digest.Hash.{Hash}}, Integrity.{IsHash, IsIntegrity, address}, PathNames.{names_of, names_below, home_of}, Paths.{content_names, bucket_names_of}}
-use Rattle.cacache_core.specs.declared.errors.Fault.TheVariants as faults
-use Rattle.cacache_store.specs.declared.store.answer.Answer.TheVariants as answers
+use Rattle.cacache_core.specs.{declared.{errors.Error.{TheVariants.{IoError, OutOfMemory, EntryNotFound, SizeMismatch, SerdeError, IntegrityError}, Error}, integrity.digest.Hash.{Hash}}, Integrity.{IsHash, IsIntegrity, address}, PathNames.{names_of, names_below, home_of}, Paths.{content_names, bucket_names_of}}
 use Rattle.cacache_store.specs.{declared.store.log.LogItem.{LogItem}, Plain.{PlainStep, PlainAnswer}}
-use Rattle.cacache_store.specs.declared.store.step.Step.TheVariants as steps
-use Rattle.cacache_disk.specs.{declared.luck.Luck.TheVariants.{Plain}, Apply.{apply}, Tree.{Tree}, memory.Replay.{tree_of}}
+use Rattle.cacache_disk.specs.{declared.luck.Luck.TheVariants.{Plain}, Apply.{apply}, Tree.{Tree}, memory.Replay.{tree_of}, Rooted.{Rooted}}
 use Rattle.cacache_entry.specs.{Bucket.{entries_of}, Latest.{Found, latest}}
-use Rattle.cacache_calls.specs.declared.command.Command.TheVariants as commands
-use Rattle.cacache_calls.specs.{declared.reply.Reply.{Reply}, Looking.{found_in}, Removing.{remove_bucket, remove_found}, Replies.{bucket_shown}, Runs.{Moves, Runs}, State.{over}, StepPaths.{bucket_path, content_path}, Table.{opening}}
-use Rattle.cacache_calls.specs.declared.reply.Reply.TheVariants as replies
+use Rattle.cacache_calls.specs.{declared.{reply.Reply.{Reply}, command.Delete.{Delete}}, Looking.{found_in}, Removing.{remove_bucket, remove_found}, Replies.{bucket_shown}, Runs.{Moves, Runs, plain_reply}, State.{over}, StepPaths.{bucket_path, content_path}, Table.{opening}, Causes.{HasCause, own_of, OfWalk, Faulted}, Inserting.{deletion, refused_cause}, Promises.{Only}}
+use Rattle.cacache_calls.proofs.Promises.{calls_answer}
 use Rattle.cacache_value.specs.{Acts.{act_of, list_of}, Value.{Value, value_of_tree}}
 use Rattle.cacache_history.specs.{Commits.{deeds, deeds_of_act, finds_in}, History.{turn_of}, Setup.{call_site}, ShownTurns.{bucket_read}}
 use Rattle.cacache_history.proofs.{Histories.{Holding.{TurnHolds}, ShownTurns.{bucket_at_turn, bucket_below, content_below}}, Entries.Spelled.{latest_has}}
-use Rattle.cacache_laws.specs.{Caches.{IsCache, LacksKey, RemovesKey, lies_under, setup_at}, Keeping.{found_under}, ReadAnswers.{entries_on}, Removed.{LeadsThere, KeepsApartFrom, KeysGo}, Sequence.{AreAnswered, after_deeds, turns_on}}
-use Rattle.cacache_laws.proofs.{Putting.Beside.{follows_of}, Readings.{Known.{Known, known}, ReadsStay.{reading_keeps}}, Removing.Removed.{IsRefused, LastRemoval, Ends, Says, removed_at, refused_run, removal, last_removal, then_deeds, cut_contents, uncut_buckets, cut_buckets, uncut_contents, bucket_gone, nowhere, says}}
+use Rattle.cacache_laws.specs.{Caches.{IsCache, LacksKey, RemovesKey, lies_under, setup_at, RemovalsLast, Empties, ClearingsEmpty}, Keeping.{found_under}, ReadAnswers.{entries_on}, Removed.{LeadsThere, KeepsApartFrom, KeysGo}, Sequence.{AreAnswered, after_deeds, turns_on}}
+use Rattle.cacache_laws.proofs.{Putting.{Puts.{follows_of}, Stored.{deletes_add}, Forms.{bare_written}}, Readings.{Known.{Known, known, excuse}, ReadAnswers.{reading_keeps}, Looking.{finds_last}}, Removing.{Removed.{IsRefused, LastRemoval, Ends, Says, removed_at, refused_run, removal, last_removal, then_deeds, cut_contents, uncut_buckets, cut_buckets, uncut_contents, bucket_gone, nowhere, says}, Emptied.{clears_all}}, Calls.CallErrors.{calls_fail_only}}
+use Rattle.cacache_core.specs.declared.errors.Fault.TheVariants as faults
+use Rattle.cacache_store.specs.declared.store.answer.Answer.TheVariants as answers
+use Rattle.cacache_store.specs.declared.store.step.Step.TheVariants as steps
+use Rattle.cacache_calls.specs.declared.command.Command.TheVariants as commands
+use Rattle.cacache_calls.specs.declared.reply.Reply.TheVariants as replies
 
 -- ---- values
 
@@ -238,3 +240,55 @@ keys_go cache key r old new sound c =
     said replies.Done h = h
     said (replies.Refused e) h = h
     said other h = absurd h
+
+removes : (cache base key : List ℕ) (moment : ℕ) (old new : List LogItem) → refused_cause (deletion cache (record { key = key; moment = moment })) ≡ None → (r : Reply)
+    → Known cache base (commands.Delete (record { key = key; moment = moment })) r old new → Only replies.Done r → RemovesKey cache key r old new
+removes cache base key moment old new written replies.Done k h =
+    let d : Delete = record { key = key; moment = moment } in
+    let e = (deletion cache (record { key = key; moment = moment })).entry in
+    finds_last key e None (entries_on (home_of cache) (tree_of old) key) (entries_on (home_of cache) (tree_of new) key) refl refl
+    (ap (λ x. entries_on (home_of cache) x key) k.leads ∙ deletes_add (setup_at cache base) (tree_of old) k.call d k.command_is k.reply_is k.answers)
+removes cache base key moment old new written (replies.Refused e) k h =
+    let d : Delete = record { key = key; moment = moment } in
+    excuse cache base (commands.Delete (record { key = key; moment = moment })) old new (λ fault none. none) e k
+    (calls_fail_only.deletes (call_site (setup_at cache base) k.call.number) d k.call.moves (replies.Refused e) written k.run)
+removes cache base key moment old new written other k h = absurd cc
+
+pub removals_last : RemovalsLast
+unfolding refused_cause
+removals_last cache key moment r old new utf8 early sound c =
+    let d : Delete = record { key = key; moment = moment } in
+    let w = bare_written key None moment 0 utf8 tt early (omega arith) in
+    let k = known cache (commands.Delete (record { key = key; moment = moment })) r old new c (λ none. w.formed) tt sound in
+    (k.sound, removes cache c.base key moment old new w.no_cause r k (calls_answer (call_site (setup_at cache c.base) k.call.number) (commands.Delete d) k.call.moves r k.run))
+
+-- ---- clearings
+
+cleared : (cache base : List ℕ) (old new : List LogItem) → IsCache cache old → (r : Reply) → plain_reply r ≡ r → Known cache base commands.Clear r old new → Only replies.Done r → Empties cache r old new
+cleared cache base old new sound replies.Done plain k h =
+    record {
+      sound = k.sound;
+      nothing =
+          ap (value_of_tree (home_of cache)) k.leads
+          ∙ clears_all cache (tree_of old) k.call.moves sound.rooted k.run k.answers.disk (subst Rooted k.leads k.sound.rooted);
+    }
+cleared cache base old new sound (replies.Refused OutOfMemory) plain k h = inl (inl refl)
+cleared cache base old new sound (replies.Refused (IoError fault message)) plain k h =
+    let cause : OfWalk fault ⊎ Faulted k.call.moves fault
+    = subst (λ c. own_of c fault ⊎ Faulted k.call.moves fault) k.command_is
+    (subst (λ r. HasCause (own_of k.call.command) k.call.moves (plain_reply r)) k.reply_is k.answers.causes) in
+    let bare : ◌≡◌ {A = Error} (IoError fault []) (IoError fault message) = cc in
+    elim cause [
+      | inl own ↦ inr (fault, own, sym bare)
+      | inr f ↦ inl (inr (k.call.moves, k.gained, fault, f))
+    ]
+cleared cache base old new sound (replies.Refused (EntryNotFound c l)) plain k h = absurd (calls_fail_only.clears (call_site (setup_at cache base) k.call.number) k.call.moves (replies.Refused (EntryNotFound c l)) k.run)
+cleared cache base old new sound (replies.Refused (SizeMismatch wanted actual)) plain k h = absurd (calls_fail_only.clears (call_site (setup_at cache base) k.call.number) k.call.moves (replies.Refused (SizeMismatch wanted actual)) k.run)
+cleared cache base old new sound (replies.Refused (SerdeError cause message)) plain k h = absurd (calls_fail_only.clears (call_site (setup_at cache base) k.call.number) k.call.moves (replies.Refused (SerdeError cause message)) k.run)
+cleared cache base old new sound (replies.Refused (IntegrityError fault)) plain k h = absurd (calls_fail_only.clears (call_site (setup_at cache base) k.call.number) k.call.moves (replies.Refused (IntegrityError fault)) k.run)
+cleared cache base old new sound other plain k h = absurd cc
+
+pub clearings_empty : ClearingsEmpty
+clearings_empty cache r old new sound c =
+    let k = known cache commands.Clear r old new c tt tt sound in
+    (k.sound, cleared cache c.base old new sound r c.plain k (calls_answer (call_site (setup_at cache c.base) k.call.number) commands.Clear k.call.moves r k.run))

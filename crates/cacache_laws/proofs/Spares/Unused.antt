@@ -1,17 +1,22 @@
 -- Which temporary files calls leave.
-use Rattle.std.proofs.{Common.{◌≡◌, inl, inr, ℕ, Bool, true, false, List, [], ◌∷◌, ◌++◌, Option, None, Some, Result, Ok, refl, sym, ap, subst, ◌∙◌}, lemmas.List.{append_cancel_left}}
-use Rattle.cacache_core.specs.{declared.errors.Fault.{Fault}, PathNames.{Names, names_of, home_of, names_below}, Paths.{temp_names}}
-use Rattle.cacache_store.specs.{declared.store.log.LogItem.{LogItem}, Plain.{PlainStep}}
-use Rattle.cacache_store.specs.declared.store.step.Step.TheVariants as steps
-use Rattle.cacache_disk.{specs.{Tree.{Tree, bare, same_path}, memory.Replay.{tree_of}}, proofs.{Maps.{same_path-true}, Roots.{bare_below, same_self}}}
+-- The removal of a temporary file leaves what the cache holds.
+use Rattle.std.proofs.{Common.{◌≡◌, inl, inr, ℕ, Bool, true, false, List, [], ◌∷◌, ◌++◌, Option, None, Some, Result, Ok, refl, sym, ap, subst, ◌∙◌, Err, append-nil}, lemmas.{List.{append_cancel_left}, Bool.{cond-false}}}
+use Rattle.std.specs.Prelude.{IfOk}
+use Rattle.cacache_core.specs.{declared.errors.Fault.{Fault}, PathNames.{Names, names_of, home_of, names_below}, Paths.{temp_names, content_names, bucket_names_of}}
+use Rattle.cacache_store.specs.{declared.store.log.LogItem.{LogItem}, Plain.{PlainStep, PlainAnswer}}
+use Rattle.cacache_disk.specs.{Tree.{Tree, bare, same_path}, memory.Replay.{tree_of}, declared.luck.Luck.TheVariants.{Plain}, Apply.{apply}}
+use Rattle.cacache_disk.proofs.{Maps.{same_path-true}, Roots.{bare_below, same_self}, KeptFolders.{steps_keep_rooted}}
 use Rattle.cacache_calls.specs.{declared.{command.{Command.{Command}, Put.{Put}}, reply.Reply.{Reply}}, Licence.{May, allows, AllMay}, Runs.{Moves, Runs}, Sound.{MayBegin, Sound, Allowed}, State.{State, Site}, StepPaths.{temp_path}, Table.{opening, after}}
 use Rattle.cacache_calls.proofs.{Sound.{begins_sound, steps_allowed, stays_sound}, Within.{calls_keep_to}}
+use Rattle.cacache_value.specs.{Kinds.{node_below, Content, Bucket, Temporary, IsFor, is_path_of, path_kind}, Placed.{Placed}, Traces.{IsTrace}, Acts.{Act, Drop, act_at, act_if_done, list_of}, Value.{Value, value_of_tree}}
+use Rattle.cacache_value.proofs.{KindsApart.{kind-below, unseen}, PathKinds.{paths_are_for}, Traces.{steps_keep_placed, traces_act}}
+use Rattle.cacache_history.specs.{Setup.{call_site, may_export, is_outside}, History.{NamesIntegrity, new_call}, Commits.{deeds, deeds_of_act}}
+use Rattle.cacache_history.proofs.{Histories.Holding.{begins_hold}, durable.CallNumbers.{temps_named, same_number}, Entries.{Formed.{step_formed}, Keyed.{step_keyed}, Owned.{step_own}}, Contents.Righted.{stays_right}}
+use Rattle.cacache_laws.specs.{Beside.{FitsEntry}, Caches.{IsCache, Called, setup_at}, Sequence.{tree_on, plain_moves, Alike, IsSound, after_deeds, turns_on}, Succeeds.{IsUnused, IsTidy, StaysUnused, without_commits, OthersLeaveNone, PutsLeaveOwn, PutsLeaveTidy, IsReady, FreshIsReady, SameIsReady}, GivenUp.{GivingUpLasts, drop_temp}, OpenWriters.{LeavesKnownCache}}
+use Rattle.cacache_laws.proofs.{Calls.{InParts.{logs_lead}, Sequence.{run_holds, holds_alone, keeps_alone, moves_after, moves_follow}, Logs.{some_same}}, Readings.{Standing.{caches_stand}, GivenReads.{same_stays_known}}, Sure.{Succeeds.{puts_answer}, SureSpares.{Creates, NoneCreates, moves_spare}}, Putting.{Deeds.{stays_known}, OpenWriters.{gains_grow}}}
+use Rattle.cacache_store.specs.declared.store.step.Step.TheVariants as steps
 use Rattle.cacache_calls.specs.declared.command.Command.TheVariants as commands
-use Rattle.cacache_value.{specs.{Kinds.{node_below}, Placed.{Placed}, Traces.{IsTrace}}, proofs.KindsApart.{kind-below}}
-use Rattle.cacache_history.specs.{Setup.{call_site, may_export, is_outside}, History.{NamesIntegrity, new_call}}
-use Rattle.cacache_history.proofs.{Histories.Holding.{begins_hold}, durable.CallNumbers.{temps_named, same_number}}
-use Rattle.cacache_laws.specs.{Beside.{FitsEntry}, Caches.{IsCache, Called, setup_at}, Sequence.{tree_on, plain_moves}, Succeeds.{IsUnused, IsTidy, StaysUnused, without_commits, OthersLeaveNone, PutsLeaveOwn, PutsLeaveTidy, IsReady, FreshIsReady, SameIsReady}}
-use Rattle.cacache_laws.proofs.{Calls.{InParts.{logs_lead}, Sequence.{run_holds, holds_alone, keeps_alone}}, Readings.Standing.{caches_stand}, Sure.{Succeeds.{puts_answer}, SureSpares.{Creates, NoneCreates, moves_spare}}}
+use Rattle.cacache_store.specs.declared.store.answer.Answer.TheVariants as answers
 
 -- ---- moves of a call
 
@@ -135,3 +140,72 @@ same_is_ready cache old new same ready = record {
 -- a call that makes no temporary file leaves a cache that is ready so
 pub stays_ready : (cache : List ℕ) (old new : List LogItem) → StaysUnused cache old new → IsReady cache old → IsReady cache new
 stays_ready cache old new stays ready = record { folder = ready.folder; tidy = λ number. stays number (ready.tidy number) }
+
+-- ---- what a removal does
+
+module _ (home : Option Names) where
+  -- at the path of a temporary file there is neither a content nor a bucket
+  drop_alike : (r : Result Names Fault) (v : Value) → IfOk r (λ names. path_kind home names ≡ Temporary) → Alike (after_deeds home (deeds_of_act (act_at r Drop) ++ []) v) v
+  drop_alike (Err fault) v is = record { contents = λ a. refl; lists = λ d. refl }
+  drop_alike (Ok names) v is = record {
+    contents = λ a. cond-false (is_path_of home (content_names a) names) None (v.contents a) (unseen home (content_names a) names (λ e. let no : Content ≡ Temporary = e ∙ is in absurd cc));
+    lists = λ d. ap list_of (cond-false (is_path_of home (bucket_names_of d) names) None (v.buckets d) (unseen home (bucket_names_of d) names (λ e. let no : Bucket ≡ Temporary = e ∙ is in absurd cc)));
+  }
+
+  done_alike : (a : PlainAnswer) (act : Act) (v : Value) → Alike (after_deeds home (deeds_of_act act ++ []) v) v → Alike (after_deeds home (deeds_of_act (act_if_done a act) ++ []) v) v
+  done_alike answers.Done act v h = h
+  done_alike other act v h = record { contents = λ a. refl; lists = λ d. refl }
+
+module _ (cache path : List ℕ) (t : Tree) (sound : IsSound (home_of cache) t) where
+  -- the tree after it is sound
+  still_sound : IsSound (home_of cache) (apply t (steps.RemoveFile path) Plain).1
+  still_sound = record {
+    placed = steps_keep_placed (home_of cache) t (steps.RemoveFile path) Plain sound.placed tt;
+    rooted = steps_keep_rooted t (steps.RemoveFile path) Plain sound.rooted;
+    formed = step_formed (home_of cache) t (steps.RemoveFile path) Plain sound.placed tt sound.formed;
+    right = stays_right (setup_at cache []) 0 commands.Clear t (steps.RemoveFile path) Plain sound.placed tt tt sound.right;
+    keyed = step_keyed (home_of cache) t sound.placed sound.keyed (steps.RemoveFile path) Plain tt tt;
+    own = step_own (home_of cache) t (steps.RemoveFile path) Plain sound.placed tt tt sound.own;
+  }
+
+-- what it holds stays, whatever its contents and buckets are
+module _ (cache path : List ℕ) (t : Tree) (placed : Placed (home_of cache) t) where
+  pub still_alike : (a : PlainAnswer) → IsFor (home_of cache) Temporary path → a ≡ (apply t (steps.RemoveFile path) Plain).0
+      → Alike (value_of_tree (home_of cache) (apply t (steps.RemoveFile path) Plain).1) (value_of_tree (home_of cache) t)
+  still_alike a is answered =
+      let moves : Moves = (steps.RemoveFile path, a) ∷ [] in
+      let v = value_of_tree (home_of cache) t in
+      let acts = ap (value_of_tree (home_of cache)) (sym (moves_after t moves)) ∙ traces_act (home_of cache) t (plain_moves moves) placed (tt, answered, tt) in
+      let follows = moves_follow (setup_at cache []) tt t moves acts in
+      let same : deeds (turns_on t moves) ≡ deeds_of_act (act_if_done a (act_at (names_of path) Drop)) ++ []
+      = ap (λ l. l ++ []) (append-nil (deeds_of_act (act_if_done a (act_at (names_of path) Drop)))) in
+      let none : Alike (after_deeds (home_of cache) (deeds (turns_on t moves)) v) v
+      = subst (λ ds. Alike (after_deeds (home_of cache) ds v) v) (sym same) (done_alike (home_of cache) a (act_at (names_of path) Drop) v (drop_alike (home_of cache) (names_of path) v is)) in
+      record { contents = λ x. follows.contents x ∙ none.contents x; lists = λ d. follows.lists d ∙ none.lists d }
+
+-- ---- the law
+
+pub temp_for : (cache : List ℕ) (number : ℕ) → IsFor (home_of cache) Temporary (temp_path cache number)
+unfolding temp_path
+temp_for cache number = (paths_are_for cache).temporary number
+
+-- nothing came to the log
+pub unchanged : (cache : List ℕ) (old new : List LogItem) → IsCache cache old → new ≡ old → LeavesKnownCache cache old new
+unchanged cache old new sound same = (
+  subst (IsCache cache) (sym same) sound,
+  same_stays_known cache old new (ap (λ log. value_of_tree (home_of cache) (tree_of log)) same),
+  ([], same ∙ sym (append-nil old)),
+)
+
+pub giving_up_lasts : GivingUpLasts
+giving_up_lasts cache number old new sound (inl same) logged = unchanged cache old new sound (some_same new old same)
+giving_up_lasts cache number old new sound (inr h) logged =
+    let path = temp_path cache number in
+    let moves : Moves = (drop_temp cache number, h.0) ∷ [] in
+    let lead = logs_lead old new moves h.1 logged in
+    let t = tree_of old in
+    let alike = still_alike cache path t sound.placed h.0 (temp_for cache number) lead.0.0 in (
+      subst (IsSound (home_of cache)) (sym lead.1) (still_sound cache path t sound),
+      stays_known cache old new (subst (λ x. Alike (value_of_tree (home_of cache) x) (value_of_tree (home_of cache) (tree_of old))) (sym lead.1) alike),
+      gains_grow old new moves h.1,
+    )

@@ -1,6 +1,6 @@
 -- An export of bytes that are there, in which all steps succeed.
 use Rattle.std.proofs.Common.{◌≡◌, ℕ, Bool, true, false, cond, List, Some, length, refl, sym, ap, subst, ◌∙◌}
-use Rattle.cacache_core.specs.{declared.{errors.{Error.TheVariants.{IntegrityError}, IntegrityFault.TheVariants.{Check}}, integrity.digest.Hash.{Hash}}, Integrity.{Meets, actual, address}, Meeting.{meets}, PathNames.{Names, home_of}}
+use Rattle.cacache_core.specs.{declared.{errors.{Error.TheVariants.{IntegrityError}, IntegrityFault.TheVariants.{Check}}, integrity.digest.Hash.{Hash}}, Integrity.{Meets, actual, address}, PathNames.{Names, home_of}}
 use Rattle.cacache_core.proofs.Meeting.{meets_finds}
 use Rattle.cacache_store.specs.declared.store.log.LogItem.{LogItem}
 use Rattle.cacache_disk.specs.{Tree.{Tree}, memory.Replay.{tree_of}}

@@ -15,7 +15,7 @@ use Rattle.cacache_calls.specs.declared.command.Source.TheVariants as sources
 use Rattle.cacache_value.specs.{Kinds.{Content as AtContent}, Placed.{MayStand}, Shows.{blob_bytes, link_end}, Value.{AtLink, Blob, InFile, blob_in, value_of_tree}}
 use Rattle.cacache_history.{specs.{ShownTurns.{blob_at}, History.{NamesSource}}, proofs.Entries.Spelled.{HasIntegrity, latest_has}}
 use Rattle.cacache_laws.specs.{Caches.{Called, IsCache, lies_under}, Keeping.{found_under}, results.Exports.{NamesHeld}, ExportAnswers.{export_reply, ExportsAnswer, StaysIfRefused, blob_named, blob_read, exported_reply, led_reply, made_reply, or_told, verified_reply}, ReadAnswers.{entries_on}}
-use Rattle.cacache_laws.proofs.{Putting.WrittenFiles.{written_shown}, Exports.Sharing.{put_shown}, Readings.Standing.{caches_stand}, Sure.{Succeeds.{either, home_ground}, SureFiles.{opens_as, reads_whole}, SureReads.{bytes_at, held, led_there, looks_so, read_at, suited}, SureRuns.{EndsSo, both, ends, goes, of_log}, SureSteps.{Ground, Reached, arrives, missing}}, trees.Covering.{home_named}}
+use Rattle.cacache_laws.proofs.{Putting.WrittenFiles.{written_shown}, Exports.Sharing.{put_shown}, Readings.Standing.{caches_stand}, Sure.{Succeeds.{either, home_ground}, SureReads.{opens_as, reads_whole, bytes_at, held, led_there, looks_so, read_at, suited}, SureRuns.{EndsSo, both, ends, goes, of_log}, SureSteps.{Ground, Reached, arrives, missing}}, trees.Covering.{home_named}}
 
 -- ---- what lies there
 

@@ -12,7 +12,7 @@ use Rattle.cacache_calls.specs.declared.command.Command.TheVariants as commands
 use Rattle.cacache_value.specs.{Kinds.{Content, Elsewhere, IsFor}, Placed.{MayStand, Proper}, Shows.{blob_there}, Value.{AtLink, Blob, InFile, blob_in, value_of_tree}}
 use Rattle.cacache_history.{specs.ShownTurns.{blob_at}, proofs.Contents.Digests.{digest_hash}}
 use Rattle.cacache_laws.specs.{LinkAnswers.{LinkersAnswer, LinksAnswer, link_reply, linked_reply, unless_dangling}, Succeeds.{compared_reply, is_yes}}
-use Rattle.cacache_laws.proofs.{Sure.{Succeeds.{back, ground}, SureCommits.{CommitSo, placed_ends}, SureFiles.{opens_as, reads_whole, sizes_as}, SureInserts.{one_behind}, SureReads.{IsAsked, asks, content_there, is_asked, suited}, SurePlays.{ends_so, ends_too}, SureRuns.{EndsSo, both, ends, goes, of_log}, SureSteps.{Ground, arrives, goes_to, is_for, makes_dirs}}, trees.Covering.{home_named}}
+use Rattle.cacache_laws.proofs.{Sure.{Succeeds.{back, ground}, SureCommits.{CommitSo, placed_ends}, SureReads.{opens_as, reads_whole, sizes_as, IsAsked, asks, content_there, is_asked, suited}, SureInserts.{one_behind}, SurePlays.{ends_so, ends_too}, SureRuns.{EndsSo, both, ends, goes, of_log}, SureSteps.{Ground, arrives, goes_to, is_for, makes_dirs}}, trees.Covering.{home_named}}
 use Rattle.cacache_laws.proofs.Sure.SureCommits as commits
 
 -- ---- folders that are there

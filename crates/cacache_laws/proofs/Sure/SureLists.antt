@@ -1,6 +1,6 @@
 -- A listing in which all steps succeed.
 use Rattle.std.proofs.{Common.{◌≡◌, inl, inr, ◌+◌, ◌-◌, ℕ, Bool, true, false, cond, nat_le, nat_lt, List, [], ◌∷◌, ◌++◌, Option, None, Some, Ok, option_map, length, take, refl, sym, ap, subst, ◌∙◌, append_assoc}, lemmas.List.Elements.{All-head}}
-use Rattle.std.specs.{Prelude.{filter_map, zero, suc, map as each}, List.{AllByRecursion, cons_option}}
+use Rattle.std.specs.{Prelude.{filter_map, suc, map as each}, List.{AllByRecursion, cons_option}}
 use Rattle.hex.specs.Hex.{encode_lower}
 use Rattle.sha1.specs.Sha1.{sha1}
 use Rattle.cacache_core.specs.{declared.errors.Error.TheVariants.{IoError}, PathNames.{Names, names_of, IsProperName}, Paths.{cut_digits, index_area, join}}
@@ -13,7 +13,7 @@ use Rattle.cacache_store.specs.declared.store.step.Step.TheVariants as steps
 use Rattle.cacache_disk.specs.{declared.{luck.Luck.TheVariants.{Plain}, node.Node.{Node, TheVariants.{Folder, File, Link}}}, Tree.{Tree, look, listing, kind_of}, LedTo.{folder}, Rooted.{Rooted}, Apply.{apply}, memory.Replay.{tree_of}}
 use Rattle.cacache_entry.specs.{Bucket.{entries_of}, Entry.{Entry}, Latest.{Found, latest}}
 use Rattle.cacache_calls.specs.declared.command.Command.TheVariants as commands
-use Rattle.cacache_calls.specs.{declared.{reply.Reply.{Reply, TheVariants.{Listed}}, visit.{Task.{Task, TheVariants.{Make, Stumble}}, Visit.{Visit, TheVariants.{Enter, ReadBucket, RemoveFile, RemoveFolder}}}}, Replies.{OrMemory}, Runs.{Moves, Runs}, State.{State, walking, over, Item, Walk}, Table.{opening}, Walking.{after_visit, failed, items_in, listed, most, once, task_for_name, tasks_of, too_many, walk, walk_on}}
+use Rattle.cacache_calls.specs.{declared.{reply.Reply.{Reply, TheVariants.{Listed}}, visit.{Task.{Task, TheVariants.{Make, Stumble}}, Visit.{Visit, TheVariants.{Enter, ReadBucket}}}}, Replies.{OrMemory}, Runs.{Moves, Runs}, State.{State, walking, over, Item, Walk}, Table.{opening}, Walking.{after_visit, failed, items_in, listed, most, once, task_for_name, tasks_of, too_many, walk, walk_on}}
 use Rattle.cacache_value.{specs.{Kinds.{Bucket, Way, kind_in_area, node_below, path_kind, is_used}, Placed.{MayStand}}, proofs.{FoundPaths.{suits}, KindsApart.{kind-below}}}
 use Rattle.cacache_history.proofs.{Listings.ToldFolders.{Told, listing_told}, Each.{Each}}
 use Rattle.cacache_laws.specs.{Sequence.{AreAnswered}, Succeeds.{IsItemOrTooDeep, ListsAll, ListingsAnswer}}
@@ -171,8 +171,7 @@ module _ (home : Names) (t : Tree) (g : Ground home t) where
       let f = first m moves (steps.ReadAll p) (answers.Bytes good.1) run.0 answered (gives_all t p names good.1 g.rooted good.2 good.3) in
       let after = subst (λ a. Runs (after_visit (lists items left) (ReadBucket p) todo a) moves r) f.0 run.2 in
       listed_on moves (walks_all moves) r f.1 good.1 todo items left all goods after
-  walks_all (m ∷ moves) items left (RemoveFile p) todo r all good goods run answered = absurd good
-  walks_all (m ∷ moves) items left (RemoveFolder p) todo r all good goods run answered = absurd good
+  walks_all _ items left v todo r all good goods run answered = absurd good
 
 -- ---- a listing
 

@@ -13,7 +13,7 @@ use Rattle.cacache_calls.proofs.Branches.{cond_leads}
 use Rattle.cacache_value.{specs.{Kinds.{Content, Temporary, Way, path_kind, IsFor}, Placed.{Proper}}, proofs.FoundPaths.{suits}}
 use Rattle.cacache_history.proofs.Contents.Digests.{digest_hash}
 use Rattle.cacache_laws.specs.Succeeds.{put_reply}
-use Rattle.cacache_laws.proofs.{Putting.MadeNodes.{Stands}, Sure.{SureCommits.{placed_ends as commit_ends}, SurePlays.{Plays, goes, syncs}, SureSpares.{put_other}, SureTemps.{temp_lies, temp_folder_lies, content_synced, own_temporary_at, with_folder, with_file, made_file, file_ground, stands}, SureSteps.{Ground, Lies, goes_to, is_for, makes_dirs, dirs_keep, persists, look_own}}}
+use Rattle.cacache_laws.proofs.{Putting.WrittenFiles.{Stands}, Sure.{SureCommits.{placed_ends as commit_ends}, SurePlays.{Plays, goes, syncs}, SureSpares.{put_other}, SureTemps.{temp_lies, temp_folder_lies, content_synced, own_temporary_at, with_folder, with_file, made_file, file_ground, stands}, SureSteps.{Ground, Lies, goes_to, is_for, makes_dirs, dirs_keep, persists, look_own}}}
 use Rattle.cacache_laws.proofs.Sure.SureCommits as commits
 
 -- ---- once the content is there

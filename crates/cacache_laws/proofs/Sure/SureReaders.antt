@@ -13,7 +13,7 @@ use Rattle.cacache_calls.specs.{declared.reply.Reply.{Reply, TheVariants.{Looked
 use Rattle.cacache_value.specs.{Shows.{blob_bytes}, Value.{value_of_tree}}
 use Rattle.cacache_history.{specs.ShownTurns.{blob_at}, proofs.Entries.Spelled.{HasIntegrity, latest_has}}
 use Rattle.cacache_laws.specs.{Caches.{Called, IsCache}, Keeping.{found_under}, LinkAnswers.{KeyReadersAnswer, LinkerOpeningsAnswer, OpensAs, OpensLed, ReadersAnswer, SizedOpeningsAnswer, target_bytes}, Looks.{bytes_under}, OpenLinkers.{OpensTarget, TellsSize}, OpenReaders.{LookupRan, OpensByKey, OpensContent, OpensWhatWasFound}, ReadAnswers.{entries_on}, Sequence.{IsSound}, Succeeds.{NamesFolder}}
-use Rattle.cacache_laws.proofs.{Calls.{InParts.{logs_lead}, Logs.{some_same}, Messages.{plain_error, memory_error}}, Readings.{Looks.{tree_stays}, OpenReaders.{log_front, opened_by}, ReadsStay.{sizing_keeps}, Standing.{caches_stand}}, Sure.{Succeeds.{back, ground, lookups_answer}, SureFiles.{opens_as, sizes_as}, SureReads.{bytes_at}}, Links.TargetBytes.{target_opened}, trees.Covering.{home_named}}
+use Rattle.cacache_laws.proofs.{Calls.{InParts.{logs_lead}, Logs.{some_same}, CallErrors.{plain_error, memory_error}}, Readings.{Looks.{tree_stays}, OpenReaders.{log_front, opened_by}, ReadAnswers.{sizing_keeps}, Standing.{caches_stand}}, Sure.{Succeeds.{back, ground, lookups_answer}, SureReads.{opens_as, sizes_as, bytes_at}}, Links.TargetBytes.{target_opened}, trees.Covering.{home_named}}
 
 -- ---- the opening of a file
 

@@ -1,18 +1,19 @@
 -- Lookups, reads, questions and removals in which all steps succeed.
-use Rattle.std.proofs.Common.{◌≡◌, ◌⊎◌, inl, inr, ℕ, Bool, true, false, cond, List, [], ◌∷◌, ◌++◌, Option, None, Some, Result, Ok, Err, refl, sym, ap, subst, ◌∙◌}
+-- A file is opened and read to its end, if no step fails without cause.
+use Rattle.std.proofs.{Common.{◌≡◌, ◌⊎◌, inl, inr, ℕ, Bool, true, false, cond, List, [], ◌∷◌, ◌++◌, Option, None, Some, Result, Ok, Err, refl, sym, ap, subst, ◌∙◌, ◌==◌, ◌<◌, zero, suc, length, take, drop, arith, append_assoc, append-nil, take-append-drop, length-drop}, lemmas.{Bool.{eq-eqb, cond-true}, List.{length-take, nil_from_length}}}
 use Rattle.cacache_core.specs.{declared.{errors.{Error.TheVariants.{IoError, IntegrityError}, Fault.{Fault}, IntegrityFault.TheVariants.{Check}}, integrity.digest.Hash.{Hash}}, Integrity.{IsHash, actual}, Meeting.{meets}, PathNames.{Names, home_of}, Paths.{bucket_names, content_names}}
-use Rattle.cacache_core.specs.declared.errors.Fault.TheVariants as faults
-use Rattle.cacache_store.specs.declared.store.step.Step.TheVariants as steps
-use Rattle.cacache_store.specs.declared.store.answer.Answer.TheVariants as answers
 use Rattle.cacache_store.specs.Plain.{PlainAnswer}
-use Rattle.cacache_disk.specs.{declared.{luck.Luck.TheVariants.{Plain}, node.Node.{Node, TheVariants.{Folder, File, Link}}}, Tree.{Tree, look, cut}, LedTo.{leads, followed, file_at, found, removable}, Apply.{apply, is_there}}
+use Rattle.cacache_disk.specs.{declared.{luck.Luck.TheVariants.{Plain}, node.Node.{Node, TheVariants.{Folder, File, Link}}}, Tree.{Tree, look, cut}, LedTo.{leads, followed, file_at, found, removable}, Apply.{apply, is_there, opened, rest_of, unless}}
 use Rattle.cacache_entry.specs.Latest.{Found, latest}
-use Rattle.cacache_calls.specs.{declared.{carried.Lookup.{Lookup}, reply.Reply.{Reply, TheVariants.{Read, Exists, Refused}}}, Common.{ends_with}, Looking.{found_for, found_in}, State.{State, doing, looking, reading, asking, over, remove}, StepPaths.{bucket_path, content_path}, Replies.{content_reply}}
+use Rattle.cacache_calls.specs.{declared.{carried.Lookup.{Lookup}, reply.Reply.{Reply, TheVariants.{Read, Exists, Refused}}}, Common.{ends_with}, Looking.{found_for, found_in}, State.{State, doing, looking, reading, asking, over, remove, Hashing, hashing}, StepPaths.{bucket_path, content_path}, Replies.{content_reply}, Linking.{after_read, hashed}, Table.{piece}}
 use Rattle.cacache_value.specs.{Kinds.{Content, Bucket, is_used}, Placed.{MayStand}, Shows.{link_end, blob_bytes, blob_there}, Acts.{list_of}, Value.{Blob, InFile, AtLink, blob_in, bucket_in, value_of_tree}}
 use Rattle.cacache_value.proofs.FoundPaths.{suits}
 use Rattle.cacache_history.specs.ShownTurns.{as_refusal}
 use Rattle.cacache_laws.specs.{ExportAnswers.{blob_read}, ReadAnswers.{entries_on, read_on}, Succeeds.{is_yes}}
-use Rattle.cacache_laws.proofs.{Sure.{SureInserts.{bucket_lies}, SureTemps.{content_lies}, SureRuns.{EndsSo, ends, goes}, SureSteps.{Ground, Lies, Reached, arrives, missing, goes_to, reached}}, trees.Twins.Agreeing.{said}}
+use Rattle.cacache_laws.proofs.{Sure.{SureInserts.{bucket_lies}, SureTemps.{content_lies}, SureRuns.{EndsSo, ends, goes}, SureSteps.{Ground, Lies, Reached, arrives, missing, goes_to, reached}}, trees.Twins.Agreeing.{said}, Calls.InParts.{file_of}}
+use Rattle.cacache_core.specs.declared.errors.Fault.TheVariants as faults
+use Rattle.cacache_store.specs.declared.store.step.Step.TheVariants as steps
+use Rattle.cacache_store.specs.declared.store.answer.Answer.TheVariants as answers
 
 -- ---- what a bucket's file answers
 
@@ -203,3 +204,49 @@ module _ (Q : Tree → Reply → Type 0) (home : Names) (t : Tree) (g : Ground h
             let some = is_blob home (look t names) (suited home t g cache is h hs hash) s.0 s.1 in
             goes Q t (cut t names) (doing (remove path) next) (steps.RemoveFile path) answers.Done refl s.2 (there some.0 some.1 (goes_to home t (cut t names) (steps.RemoveFile path) answers.Done g tt s.2))
       ]
+
+-- ---- by its path
+
+pub opens_as : (t : Tree) (p : List ℕ) (r : Result (List ℕ) Fault) → file_at t p faults.IsADirectory ≡ r → apply t (steps.Open p) Plain ≡ unless r t (λ bytes. (answers.File (opened bytes), t))
+unfolding apply
+opens_as t p r e = ap (λ x. unless x t (λ bytes. (answers.File (opened bytes), t))) e
+
+pub sizes_as : (t : Tree) (p : List ℕ) (r : Result (List ℕ) Fault) → file_at t p faults.IsADirectory ≡ r → apply t (steps.Size p) Plain ≡ unless r t (λ bytes. (answers.Length (length bytes), t))
+unfolding apply
+sizes_as t p r e = ap (λ x. unless x t (λ bytes. (answers.Length (length bytes), t))) e
+
+-- ---- a read of a piece
+
+rest_opened : (rest : List ℕ) (size : ℕ) → rest_of rest size ≡ opened (drop size rest)
+rest_opened rest size = ap (λ n. file_of n (drop size rest)) (omega (arith, length-drop size rest))
+
+pub reads : (t : Tree) (rest : List ℕ) → apply t (steps.Read (opened rest) piece) Plain ≡ (answers.Got (opened (drop piece rest)) (take piece rest), t)
+unfolding apply
+reads t rest =
+    ap (λ a. (a, t)) (cond-true (length rest == length rest) (answers.Got (rest_of rest piece) (take piece rest)) (answers.Failed faults.Closed) (eq-eqb (length rest) (length rest) refl) ∙ ap (λ f. answers.Got f (take piece rest)) (rest_opened rest piece))
+
+-- ---- all of them
+
+module _ (Q : Tree → Reply → Type 0) (t : Tree) (h : Hashing) (bytes : List ℕ) (next : EndsSo Q t (hashed h bytes)) where
+  -- what was read so far, and the rest
+  by_piece : (fuel : ℕ) (rest so_far : List ℕ) → length rest < suc fuel → so_far ++ rest ≡ bytes
+      → ((rest so_far : List ℕ) → length rest < fuel → so_far ++ rest ≡ bytes → EndsSo Q t (hashing h (opened rest) so_far))
+      → (got : List ℕ) → take piece rest ≡ got → EndsSo Q t (after_read h so_far (opened (drop piece rest), got))
+  by_piece fuel rest so_far low all deeper [] is =
+      let none : length rest ≡ 0 = omega (arith, length-take piece rest, ap (λ (l : List ℕ). length l) is) in
+      let whole : so_far ≡ bytes = sym (append-nil so_far) ∙ ap (λ l. so_far ++ l) (sym (nil_from_length rest none)) ∙ all in
+      subst (λ b. EndsSo Q t (hashed h b)) (sym whole) next
+  by_piece fuel rest so_far low all deeper (c ∷ cs) is =
+      let some : 0 < length (take piece rest) = subst (λ (l : List ℕ). 0 < length l) (sym is) (omega arith) in
+      deeper (drop piece rest) (so_far ++ c ∷ cs) (omega (arith, low, length-take piece rest, length-drop piece rest, some))
+      (append_assoc so_far (c ∷ cs) (drop piece rest) ∙ ap (λ l. so_far ++ (l ++ drop piece rest)) (sym is) ∙ ap (λ l. so_far ++ l) (take-append-drop piece rest) ∙ all)
+
+  reads_on : (fuel : ℕ) (rest so_far : List ℕ) → length rest < fuel → so_far ++ rest ≡ bytes → EndsSo Q t (hashing h (opened rest) so_far)
+  reads_on zero rest so_far low all = absurd (omega (arith, low))
+  reads_on (suc fuel) rest so_far low all =
+      goes Q t t (hashing h (opened rest) so_far) (steps.Read (opened rest) piece) (answers.Got (opened (drop piece rest)) (take piece rest)) refl (reads t rest)
+      (by_piece fuel rest so_far low all (reads_on fuel) (take piece rest) refl)
+
+  -- a call that reads the rest of the bytes ends as one that has them all
+  pub reads_whole : (rest so_far : List ℕ) → so_far ++ rest ≡ bytes → EndsSo Q t (hashing h (opened rest) so_far)
+  reads_whole rest so_far all = reads_on (suc (length rest)) rest so_far (omega arith) all

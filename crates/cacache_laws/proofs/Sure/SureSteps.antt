@@ -11,7 +11,7 @@ use Rattle.cacache_disk.specs.{declared.{luck.Luck.TheVariants.{Plain}, node.Nod
 use Rattle.cacache_disk.proofs.{KeptFolders.{outcome_rooted}, PlantedNodes.{full}, PutNodes.{look-put}, Roots.{same_self}, Standing.{upper_folder, way_clear}}
 use Rattle.cacache_value.specs.{Kinds.{PathKind, Content, Bucket, Way, path_kind, is_used, kind_below, IsFor}, Placed.{MayStand, Placed, Proper}}
 use Rattle.cacache_value.proofs.{FoundPaths.{OnlyMissing, way_missing}, KindsApart.{kind-below}, MadeFolders.{no_dirs_fault}, Traces.{steps_keep_placed}}
-use Rattle.cacache_laws.proofs.{Putting.MadeNodes.{Stands, way_into, kept_so, replaceable_so}, trees.Covering.{named_on}}
+use Rattle.cacache_laws.proofs.{Putting.WrittenFiles.{Stands, way_into, kept_so, replaceable_so}, trees.Covering.{named_on}}
 use Rattle.cacache_loss.proofs.StepCases.{make_keeps}
 
 -- each thing is where it may be

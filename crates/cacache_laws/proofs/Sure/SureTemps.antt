@@ -9,7 +9,7 @@ use Rattle.cacache_store.specs.declared.store.answer.Answer.TheVariants as answe
 use Rattle.cacache_disk.specs.{declared.{luck.Luck.TheVariants.{Plain}, node.Node.{Node, TheVariants.{File}}}, Tree.{Tree, look, put}, Rooted.{Rooted}, Apply.{apply, make_some, made_temp}}
 use Rattle.cacache_calls.specs.StepPaths.{temp_path, temp_folder, content_path, content_folder, content_folders}
 use Rattle.cacache_value.{specs.Kinds.{Content, Temporary, Way, path_kind}, proofs.PathKinds.{proper_folder}}
-use Rattle.cacache_laws.proofs.{Putting.MadeNodes.{Stands}, Sure.{SureInserts.{one_behind}, SureSpares.{dirs_spare}, SureSteps.{Ground, Lies, SyncsAll, goes_to, joined_lies, is_for, makes_dirs, dirs_ground, dirs_stand, creates, look_own, syncs_folders}}, trees.Covering.{home_named}}
+use Rattle.cacache_laws.proofs.{Putting.WrittenFiles.{Stands}, Sure.{SureInserts.{one_behind}, SureSpares.{dirs_spare}, SureSteps.{Ground, Lies, SyncsAll, goes_to, joined_lies, is_for, makes_dirs, dirs_ground, dirs_stand, creates, look_own, syncs_folders}}, trees.Covering.{home_named}}
 
 -- ---- paths
 

@@ -9,7 +9,7 @@ use Rattle.cacache_entry.specs.Latest.{Found}
 use Rattle.cacache_calls.specs.{declared.{command.{Export.{Export}, How.{How, TheVariants.{Copy, HardLink, Reflink}}, Source.{Source}}, reply.Reply.{Reply, TheVariants.{Copied, Done, Refused}}}, Replies.{OrMemory, done}, Runs.{reply_of, without_message}}
 use Rattle.cacache_value.specs.{Shows.{blob_bytes, link_end}, Value.{AtLink, Blob, InFile}}
 use Rattle.cacache_laws.specs.{Caches.{LacksKey, lies_under, Called, IsCache, IsExcused}, ExportAnswers.{StaysIfRefused, blob_named, blob_read, export_reply, exported_reply, led_reply, made_reply, or_told, verified_reply}, Keeping.{found_under}, Looks.{IsDamaged, bytes_under}, results.{Exports.{FailsExport, NamesHeld, RefusesSource, TellsPath, TellsSource, made_at, CopyMeans, HasArrived, SharingMeans}, Success.{FailsAs, FailsFor}, Reads.{LinksToFile}}, Exported.{Arrives, export_by}, ExportEffects.{IsApart}, OpenWriters.{LeavesKnownCache}, OpenSucceeds.{MayTake, exported}, Succeeds.{NamesFolder}}
-use Rattle.cacache_laws.proofs.{Sure.{SureExports.{by_held, exports_answer}, SureCopies.{exports_succeed}}, results.{SureResults.{IsGiven, fails_for, fails_too, of_refused, for_memory}, Told.{called}}, Links.LinkedReads.{links_show}, Readings.Standing.{caches_stand}, Exports.{Arriving.{has_arrived}, Exported.{exports_arrive}, ExportEffects.{exports_keep}, Sharing.{free_writable}}, Calls.{Logs.{calls_grow}, Messages.{excused_error}}}
+use Rattle.cacache_laws.proofs.{Sure.{SureExports.{by_held, exports_answer}, SureCopies.{exports_succeed}}, results.{SureResults.{IsGiven, fails_for, fails_too, of_refused, for_memory}, Told.{called}}, Links.TargetBytes.{links_show}, Readings.Standing.{caches_stand}, Exports.{Arriving.{has_arrived}, Exported.{exports_arrive}, ExportEffects.{exports_keep}, Sharing.{free_writable}}, Calls.{Logs.{calls_grow}, CallErrors.{excused_error}}}
 use Rattle.cacache_sync.specs.Exports.{exporting}
 use Rattle.cacache_history.specs.History.{NamesSource}
 use Rattle.cacache_core.specs.declared.errors.Fault.TheVariants as faults

@@ -13,19 +13,18 @@ use Rattle.cacache_calls.specs.{declared.{command.Link.{Link}, reply.Reply.TheVa
 use Rattle.cacache_calls.proofs.IntegrityUtf8.{integrity_utf8}
 use Rattle.cacache_sync.specs.{content.Passed.{passed}, put.{OpenLinkers.{HasHashed, LinkTarget, OpensLinker, OpensSized, OpensTarget, asks_file, asks_size, stands_at}, Options.{Said, options_of}}}
 use Rattle.cacache_laws.specs.{Caches.{Grows, IsCache, IsExcused}, ExportEffects.{IsApart}, LinkAnswers.{OpensAs, target_bytes}, Links.{FitsLink, HasLinked, LeavesLink, put_like}, OpenLinkers.{CanWrite, CommitsRest, SuitsSize, TargetOpened}, OpenWriters.{LeavesKnownCache}, Puts.{entry_of_put}, Succeeds.{NamesFolder}, results.{Handles.{IsText, LeadsToEntry, PlainSaysFit, SaysFit, said_integrity}, Writes.{SaysPlain}, Linkers.{IsLinking, LinkCommitsMean, LinkOpeningsMean, LinkedBytes, LinkersGoOn, MemLinker, OpenedLinker, SizedOpeningsMean}, Links.{LeadsOn}, Success.{FailsForMemory}}}
-use Rattle.cacache_laws.proofs.{Putting.Forms.{bare_written}, Calls.{Logs.{some_same}, Messages.{excused_error}}, Links.{OpenLinkers.{linkers_commit, linkers_fail}, TargetBytes.{linkers_open, linkers_open_sized}}, Readings.Standing.{caches_stand}, Sure.{SureLinks.{linkers_answer}, SureReaders.{linker_openings_answer, sized_openings_answer}}, results.{LinkResults.{lies_so}, SureLinkResults.{commit_succeeds, shown_read}, Told.{plain_result}, WriteResults.{early_of}, WriterResults.{fits}}, trees.Logged.{gains_join}}
+use Rattle.cacache_laws.proofs.{Putting.Forms.{bare_written}, Calls.{Logs.{some_same}, CallErrors.{excused_error}}, Links.{OpenLinkers.{linkers_commit, linkers_fail}, TargetBytes.{linkers_open, linkers_open_sized}}, Readings.Standing.{caches_stand}, Sure.{SureLinks.{linkers_answer}, SureReaders.{linker_openings_answer, sized_openings_answer}}, results.{WriteResults.{lies_so, early_of}, SureResults.{commit_succeeds, shown_read}, Told.{plain_result}, WriterResults.{fits}}, trees.Logged.{gains_join}}
 
 -- ---- the moves of an opening
 
 map_same : (xs ys : Moves) → map (λ m. Made m.0 m.1) xs ≡ map (λ m. Made m.0 m.1) ys → xs ≡ ys
 map_same [] [] e = refl
-map_same [] (y ∷ ys) e = absurd cc
-map_same (x ∷ xs) [] e = absurd cc
 map_same ((step, a) ∷ xs) ((other, b) ∷ ys) e =
     let one : step ≡ other = cc in
     let two : a ≡ b = cc in
     let more : map (λ m. Made m.0 m.1) xs ≡ map (λ m. Made m.0 m.1) ys = cc in
     ap (λ x. (x, a) ∷ xs) one ∙ ap (λ x. (other, x) ∷ xs) two ∙ ap (λ (l : Moves). (other, b) ∷ l) (map_same xs ys more)
+map_same _ _ e = absurd cc
 
 -- a log gained the same moves
 pub moves_same : (old new : List LogItem) (xs ys : Moves) → Gains (Some old) (Some new) xs → Gains (Some old) (Some new) ys → xs ≡ ys

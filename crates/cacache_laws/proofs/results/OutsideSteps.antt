@@ -76,10 +76,9 @@ set_links true new old n o = n
 set_links false new old n o = o
 
 after_links : (w : Now) (luck : Luck) (made : Option Made) (reply : Option Reply) (call : Option Call) → LinksIn call → LinksIn (unless_over reply (option_map (call_after w.tree luck made) call))
-after_links w luck made (Some reply) call h = tt
-after_links w luck made None None h = tt
 after_links w luck None None (Some call) h = h
 after_links w luck (Some made) None (Some call) h = h
+after_links w luck made _ call h = tt
 
 module _ (s : Setup) where
   writes_temp : (n : ℕ) (step : PlainStep) → Allowed (call_site s n) (may_export s) (is_outside s) step → WritesTemp (home s) step

@@ -8,7 +8,7 @@ use Rattle.cacache_calls.specs.declared.command.Command.TheVariants as commands
 use Rattle.cacache_calls.specs.{Inserting.{refused_cause}, Replies.{OrMemory, done}, Runs.{reply_of, without_message}, declared.reply.Reply.TheVariants.{Done, Refused}}
 use Rattle.cacache_sync.specs.Lookups.{delete_of}
 use Rattle.cacache_laws.specs.{Caches.{HasKey, IsEmptyCache, IsExcused, LacksKey, Empties, RemovesKey, lies_under}, Removed.{RemovesContent}, Keeping.{found_under}, Succeeds.{Clears, fully_reply, removal_reply, unless_unwritable}, results.Removals.{FailsClearing, ClearingMeans, ContentRemovalMeans, FullRemovalMeans, RemovalMeans}}
-use Rattle.cacache_laws.proofs.{Putting.{Beside.{removals_keep}, Forms.{bare_written}}, Calls.{Logs.{calls_grow}, Messages.{memory_error, excused_error}}, Readings.Standing.{caches_stand}, Sure.{Succeeds.{deletions_answer, removals_answer}, SureClears.{clearings_answer}, SureRemovals.{full_removals_answer}}, Spares.Unused.{others_leave_none, stays_ready}, Removing.{Removals.{clearings_empty, removals_last}, Removed.{contents_go}, RemovedKeys.{keys_go}}, results.{SureResults.{for_memory, or_as}, Told.{called}}}
+use Rattle.cacache_laws.proofs.{Putting.{Puts.{removals_keep}, Forms.{bare_written}}, Calls.{Logs.{calls_grow}, CallErrors.{memory_error, excused_error}}, Readings.Standing.{caches_stand}, Sure.{Succeeds.{deletions_answer, removals_answer}, SureRemovals.{clearings_answer, full_removals_answer}}, Spares.Unused.{others_leave_none, stays_ready}, Removing.{RemovedKeys.{clearings_empty, removals_last, keys_go}, Removed.{contents_go}}, results.{SureResults.{for_memory, or_as}, Told.{called}}}
 use Rattle.cacache_history.specs.Values.{IsThere}
 
 gone : (r : Result (Unit {0}) Error) (cache key : List ℕ) (old new : List LogItem) → RemovesKey cache key (reply_of done r) old new → OnOk r (LacksKey cache key new) × IfErr r (λ e. IsExcused e old new)

@@ -6,7 +6,7 @@ use Rattle.cacache_disk.specs.memory.Replay.{IsLog}
 use Rattle.cacache_calls.specs.{declared.{command.Command.{Command}, reply.Reply.{Reply, TheVariants.{Refused}}}, Runs.{Ran, plain_reply, reply_of}, Table.{opening}}
 use Rattle.cacache_jobs.specs.Sites.{site_of}
 use Rattle.cacache_laws.specs.{Caches.{Called, IsCache}, Looks.{OnlyLooks}, OpenWriters.{LeavesKnownCache}}
-use Rattle.cacache_laws.proofs.{Calls.{Logs.{calls_grow}, Messages.{plain_error}}, Readings.{Looked.{same_stays_known}, Looks.{looks_keep}}}
+use Rattle.cacache_laws.proofs.{Calls.{Logs.{calls_grow}, CallErrors.{plain_error}}, Readings.{GivenReads.{same_stays_known}, Looks.{looks_keep}}}
 
 pub plain_result : {X : Type 0} (answer : X → Reply) → ((x : X) → plain_reply (answer x) ≡ answer x) → (r : Result X Error) → plain_reply (reply_of answer r) ≡ reply_of answer r
 plain_result answer plain (Ok x) = plain x

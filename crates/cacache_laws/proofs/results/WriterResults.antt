@@ -10,7 +10,7 @@ use Rattle.cacache_calls.proofs.IntegrityUtf8.{integrity_utf8}
 use Rattle.cacache_sync.specs.{content.OpenWrites.{RemovesTemp, TriesToRemove, counted_bytes}, put.{KeyedWriters.{CommitsWriter, OpensAt}, Options.{Said, options_of}}}
 use Rattle.cacache_jobs.specs.Environment.{MomentOf}
 use Rattle.cacache_laws.specs.{Beside.{FitsEntry}, Caches.{IsCache}, GivenUp.{GivesUpTemp}, OpenWriters.{CommitsBytes}, Puts.{HasCommitted, MayLeadToPut, entry_of_put}, OpenSucceeds.{FileAt}, Succeeds.{put_reply, unless_unwritable, compared_reply, keyed_reply, sized_reply}, results.{Handles.{CommitsMean, CommitsSucceed, FailedWritesMean, GivingUpMeans, IsText, IsWriting, LeadsToEntry, MayLeadToEntry, MemWriter, OpenedWriter, OpeningsMean, SaysFit, WritersGoOn, said_integrity, CommitsTell, FailsCommit}, Writes.{SaysPlain}}}
-use Rattle.cacache_laws.proofs.{Putting.{Committing.{commits_last}, Forms.{bare_written}, OpenWriters.{writers_open}, Puts.{commits_keep, commits_leave}}, Readings.Standing.{caches_stand}, Sure.SureWriters.{commits_answer, openings_succeed}, Spares.GivenUp.{giving_up_lasts}, results.{Expected.{as_expected, suits_so, own_matches}, SureResults.{for_memory, of_refused}, Told.{plain_result}, WriteResults.{early_of, untouched}}}
+use Rattle.cacache_laws.proofs.{Putting.{OpenWriters.{commits_last, writers_open}, Forms.{bare_written}, Puts.{commits_keep, commits_leave}}, Readings.Standing.{caches_stand}, Sure.Succeeds.{commits_answer, openings_succeed}, Spares.Unused.{giving_up_lasts}, results.{Expected.{as_expected, suits_so, own_matches}, SureResults.{for_memory, of_refused}, Told.{plain_result}, WriteResults.{early_of, untouched}}}
 use Rattle.cacache_store.specs.declared.store.answer.Answer.TheVariants as answers
 use Rattle.cacache_store.specs.declared.store.step.Step.TheVariants as steps
 

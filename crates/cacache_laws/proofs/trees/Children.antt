@@ -1,16 +1,17 @@
 -- What a listing of a folder says of the nodes in it.
+-- Trees with the same nodes in a folder list it alike.
 use Rattle.std.proofs.{Common.{◌≡◌, inl, inr, ◌+◌, ℕ, Bool, true, false, cond, List, [], ◌∷◌, ◌++◌, Option, None, Some, Ok, Err, length, take, drop, get_or, refl, sym, ap, ap₂, subst, ◌∙◌, arith, eqb-true, append_assoc, take-append-drop}, Math.Seq.{get_or-append_seam}, lemmas.{List.{drop_more, drop_all}, Bool.{and_parts, Decides.{Decides-eqb}}, Slice.Eq.{slice_eq-Decides}}}
-use Rattle.std.specs.{Prelude.{Result, IfSome, T, slice_index_or}, declared.cmp.Ordering.{Ordering, TheVariants.{Less, Equal, Greater}}, Ordering.{is_lt, is_eq}, FinMap.Entries.{below_all}, Bool.{nat_eq}, Cmp.Lexicographic.{pointwise}}
-use Rattle.std.specs.FinMap as map
+use Rattle.std.specs.{Prelude.{Result, IfSome, T, slice_index_or, filter_map}, declared.cmp.Ordering.{Ordering, TheVariants.{Less, Equal}}, Ordering.{is_lt, is_eq}, FinMap.Entries.{below_all, where_key, is_sorted-where_key, find-where_key, same_entries}, Bool.{nat_eq}, Cmp.Lexicographic.{pointwise}, List.{cons_option}}
 use Rattle.cacache_core.specs.{declared.errors.Fault.{Fault, TheVariants.{NotFound}}, PathNames.{Names, names_of, IsProperName}}
 use Rattle.cacache_store.specs.{declared.store.{answer.{Name.{Name}, Answer.TheVariants.{Names as Listed, Failed}}, step.Step.TheVariants.{ReadDir}}, Plain.{PlainAnswer}}
-use Rattle.cacache_disk.specs.{declared.{luck.Luck.{Luck}, node.Node.{Node, TheVariants.{Folder, File, Link}}}, Tree.{Tree, look, names_cmp, same_path, listing, child_of, is_child, kind_of}, LedTo.{place, where_folder, folder}, Apply.{apply, unless, made_up}, Rooted.{Rooted, AreProper}}
-use Rattle.cacache_disk.proofs.{Maps.{same_path-true}, Roots.{same_self}, Standing.{way_clear}, FoundNodes.{and_then_ok, place_ok}}
+use Rattle.cacache_disk.specs.{declared.{luck.Luck.{Luck}, node.Node.{Node, TheVariants.{Folder}}}, Tree.{Tree, look, names_cmp, same_path, listing, child_of, is_child, kind_of}, LedTo.{place, where_folder, folder}, Apply.{apply, unless, made_up}, Rooted.{Rooted, AreProper}}
+use Rattle.cacache_disk.proofs.{Maps.{same_path-true, total, only}, Roots.{same_self}, Standing.{way_clear}, FoundNodes.{and_then_ok, place_ok}}
 use Rattle.cacache_value.proofs.Shows.{apply_answer}
 use Rattle.cacache_walks.specs.Reading.{names_shown}
 use Rattle.cacache_laws.proofs.trees.Members.{Member, mapped, source}
 use Rattle.cacache_loss.proofs.KeptPaths.{child_of_self}
 use Rattle.cacache_history.proofs.Listings.ToldFolders.{both_parts, folder_ok}
+use Rattle.std.specs.FinMap as map
 
 -- ---- a node that is there is listed
 
@@ -154,3 +155,28 @@ shown_by t path p (Err other) rooted is found names e = absurd cc
 
 pub folder_shown : (t : Tree) (path : List ℕ) (p : Names) (luck : Luck) (names : List Name) → Rooted t → names_of path ≡ Ok p → names_shown (apply t (ReadDir path) luck).0 ≡ Some names → FolderShows t p names
 folder_shown t path p luck names rooted is e = apply_answer (Shows t p) (made_up_shows t p) t (ReadDir path) luck (λ most. shown_by t path p (folder t path) rooted is refl) names e
+
+-- only children are listed
+child_kept : (p : Names) (e : Names × Node) (b : Bool) (kept : List (Names × Node)) (names : List Name) → is_child p e.0 ≡ b → filter_map (child_of p) kept ≡ names → filter_map (child_of p) (cond b (e ∷ kept) kept) ≡ cons_option (child_of p e) names
+child_kept p e true kept names is same = ap (cons_option (child_of p e)) same
+child_kept p e false kept names is same = rw is same
+
+pub of_children : (p : Names) (es : List (Names × Node)) → filter_map (child_of p) (where_key names_cmp (is_child p) es) ≡ filter_map (child_of p) es
+of_children p [] = refl
+of_children p (e ∷ es) = child_kept p e (is_child p e.0) (where_key names_cmp (is_child p) es) (filter_map (child_of p) es) refl (of_children p es)
+
+pub where_child : (b : Bool) (x y : Option Node) → (b ≡ true → x ≡ y) → cond b x None ≡ cond b y None
+where_child true x y same = same refl
+where_child false x y same = refl
+
+pub same_listing : (t new : Tree) (p : Names) → ((q : Names) → is_child p q ≡ true → look t q ≡ look new q) → listing t p ≡ listing new p
+unfolding listing
+same_listing t new p same =
+    let alike = λ (q x : Names) (tie : names_cmp q x ≡ Equal). ap (is_child p) (sym (only q x tie)) in
+    let found = λ (q : Names).
+    find-where_key names_cmp (is_child p) q (alike q) (map.entries t)
+    ∙ where_child (is_child p q) (map.find names_cmp q (map.entries t)) (map.find names_cmp q (map.entries new)) (λ is. sym (map.get-entries t q) ∙ same q is ∙ map.get-entries new q)
+    ∙ sym (find-where_key names_cmp (is_child p) q (alike q) (map.entries new)) in
+    let kept = same_entries names_cmp total only (where_key names_cmp (is_child p) (map.entries t)) (where_key names_cmp (is_child p) (map.entries new))
+    (is_sorted-where_key names_cmp (is_child p) (map.entries t) (map.entries_sorted t)) (is_sorted-where_key names_cmp (is_child p) (map.entries new) (map.entries_sorted new)) found in
+    sym (of_children p (map.entries t)) ∙ ap (filter_map (child_of p)) kept ∙ of_children p (map.entries new)

@@ -1,12 +1,13 @@
 -- What is left once the contents that no entry has are removed.
+-- A repair leaves the good contents.
 use Rattle.std.proofs.{Common.{◌≡◌, ◌++◌, inl, inr, ℕ, List, [], ◌∷◌, Bool, true, false, cond, Option, None, Some, Ok, Err, refl, sym, ap, subst, ◌∙◌, filter}, lemmas.Bool.{or_left, or_right, not-true}}
 use Rattle.std.specs.Prelude.{All, Contains, not}
-use Rattle.cacache_core.specs.{declared.integrity.digest.Hash.{Hash}, Integrity.{IsHash, IsIntegrity, address}, PathNames.{Names, home_of}, Same.{same_hash-Decides}, Paths.{content_names}}
+use Rattle.cacache_core.specs.{declared.integrity.digest.Hash.{Hash}, Integrity.{IsHash, IsIntegrity, address}, PathNames.{Names, home_of}, Same.{same_hash-Decides}, Paths.{content_names}, Meeting.{meets}}
 use Rattle.cacache_disk.specs.{Tree.{Tree, look}, Rooted.{Rooted}}
 use Rattle.cacache_entry.specs.Latest.{Found}
 use Rattle.cacache_calls.specs.State.{Site, Item}
-use Rattle.cacache_value.specs.Value.{Blob, value_of_tree}
-use Rattle.cacache_laws.specs.trees.{Contents.{HoldsJust}, Idle.{LacksIdle}, Index.{IndexLists, IndexesFind, entries_in}, Collecting.{LinksLeadOut, IsLive, Removes, IsCollected, is_address, is_live}}
+use Rattle.cacache_value.specs.{Value.{Blob, value_of_tree, InFile}, Shows.{blob_bytes}}
+use Rattle.cacache_laws.specs.trees.{Contents.{HoldsJust, content_in}, Idle.{LacksIdle}, Index.{IndexLists, IndexesFind, entries_in}, Collecting.{LinksLeadOut, IsLive, Removes, IsCollected, is_address, is_live}, Mending.{RepairsLeave}, Verifying.{is_good, is_met}}
 use Rattle.cacache_laws.proofs.trees.{Indexed.{lists_each_key}, Keeping.{lacks_idle, removals_leave, stays}, Members.{Member, contains_member, member_contains}}
 
 -- ---- members of filters
@@ -123,3 +124,21 @@ pub indexes_find : IndexesFind
 indexes_find site home t entries key bytes found is rooted index answer e =
     let item = lists_each_key site home t index.answers.0 index.items key bytes found is rooted index.answers.1 index.answers.2 index.clean answer e in
     subst (λ l. Contains l found) (sym index.those) (contains_member found (entries_in index.items) (item_in found index.items (member_contains (Ok found) index.items item)))
+
+-- what is left and is a file was good, and so met its address
+file_met : (home : Names) (t new : Tree) (h : Hash) (bytes : List ℕ) (good : Bool) → is_good home t h ≡ good
+    → (good ≡ true → content_in home new h ≡ content_in home t h) → (good ≡ false → content_in home new h ≡ None)
+    → content_in home new h ≡ Some (InFile bytes) → meets (h ∷ []) bytes ≡ true
+file_met home t new h bytes true is kept gone there =
+    sym (ap (λ b. is_met (h ∷ []) (blob_bytes t b)) (sym (kept refl) ∙ there)) ∙ is
+file_met home t new h bytes false is kept gone there = let wrong : None ≡ Some (InFile bytes) = sym (gone refl) ∙ there in absurd cc
+
+pub repairs_leave : RepairsLeave
+repairs_leave site home t mid new hashes strange is holds removed keeps =
+    let kept = λ (h : Hash) (hash : IsHash h) (good : is_good home t h ≡ true). keeps.contents h ∙ picked_left site home t mid hashes strange (is_good home t) is holds removed h hash good in
+    let gone = λ (h : Hash) (hash : IsHash h) (bad : is_good home t h ≡ false). keeps.contents h ∙ others_gone site home t mid hashes strange (is_good home t) is holds removed h hash bad in
+    record {
+      kept = kept;
+      gone = gone;
+      whole = λ h bytes hash there. file_met home t new h bytes (is_good home t h) refl (kept h hash) (gone h hash) there;
+    }

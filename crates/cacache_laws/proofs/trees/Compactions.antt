@@ -5,4 +5,3 @@ pub mod CompactAnswers
 pub mod CompactTexts
 pub mod LeanTrees
 pub mod LeanReads
-pub mod LeanCalls

@@ -1,21 +1,27 @@
 -- What removals of contents leave, and that lookups and reads by key don't see them.
-use Rattle.std.proofs.{Common.{◌≡◌, ◌⊎◌, inl, inr, ℕ, List, [], ◌∷◌, ◌++◌, Some, None, Bool, true, false, cond, Result, Ok, Err, refl, sym, ap, subst, ◌∙◌, arith}, lemmas.{List.{append_cancel_left}, Bool.{false_from_ne_true}}}
+-- A call that adds a tombstone leaves the contents.
+use Rattle.std.proofs.{Common.{◌≡◌, ◌⊎◌, inl, inr, ℕ, List, [], ◌∷◌, ◌++◌, Some, None, Bool, true, false, cond, Result, Ok, Err, refl, sym, ap, subst, ◌∙◌, arith, Option}, lemmas.{List.{append_cancel_left}, Bool.{false_from_ne_true}}}
 use Rattle.std.specs.Prelude.{Contains}
 use Rattle.sha1.specs.Sha1.{sha1}
 use Rattle.cacache_core.specs.{declared.{errors.Fault.{Fault, TheVariants.{NotFound}}, integrity.digest.Hash.{Hash}}, Integrity.{IsHash, IsIntegrity}, PathNames.{Names, names_of, home_of}, Paths.{joined, content_names, bucket_names, bucket_names_of}}
 use Rattle.cacache_core.proofs.{JoinedNames.{joined_texts_name}, ProperNames.{names_are_proper}, PathLemmas.{keys_have_digests}, PathTexts.{paths_differ}}
-use Rattle.cacache_store.specs.{declared.store.{step.Step.TheVariants.{ReadAll, RemoveFile}, answer.Answer.TheVariants.{Done}}, Plain.{PlainAnswer}}
-use Rattle.cacache_store.specs.declared.store.answer.Answer.TheVariants as answers
+use Rattle.cacache_store.specs.{declared.store.{step.Step.TheVariants.{ReadAll, RemoveFile}, answer.Answer.TheVariants.{Done}}, Plain.{PlainAnswer, PlainStep}}
 use Rattle.cacache_disk.specs.{declared.luck.Luck.TheVariants.{Plain}, Tree.{Tree, look, cut, same_path}, LedTo.{removable}, Apply.{apply, unless}, Rooted.{Rooted}}
 use Rattle.cacache_disk.proofs.{Maps.{same_path-true}, Roots.{same_self}, FoundNodes.{removable_ok}, PutNodes.{look-cut}}
 use Rattle.cacache_entry.specs.Latest.{Found}
-use Rattle.cacache_calls.specs.declared.command.Command.TheVariants as commands
-use Rattle.cacache_calls.specs.{declared.reply.Reply.{Reply, TheVariants.{Listed}}, State.{looking, Site, Item}, StepPaths.{addressed, bucket_path, content_path}, Table.{opening, after}, Runs.{Moves, Runs}}
-use Rattle.cacache_calls.specs.declared.carried.Aim.TheVariants as aims
-use Rattle.cacache_value.{specs.{Kinds.{Content, Bucket, path_kind, is_used}, Value.{blob_in, bucket_in}}, proofs.KindsApart.{kind-below}}
-use Rattle.cacache_laws.proofs.trees.{Members.{Member, contains_member, member_contains}, Indexed.{lists_each_key}, Twins.{Agreeing.{read_same}, Idle.{address_is, get_moves, moved_same, over_done}, Twice.{leaf_done}}}
-use Rattle.cacache_laws.specs.trees.{Answers.{AnsweredBy}, Index.{is_failure}, Walks.{is_leaf}, Idle.{Finds, IsNeeded, LacksIdle}, Collecting.{LinksLeadOut, IsLive, Removes, RemovalsLeave, CollectionsKeepReads, CollectionsKeepLookups}}
+use Rattle.cacache_calls.specs.{declared.reply.Reply.{Reply, TheVariants.{Listed}}, State.{looking, Site, Item, State}, StepPaths.{addressed, bucket_path, content_path}, Table.{opening, after}, Runs.{Moves, Runs}, Licence.{Licence, AllMay, May, allows, looking_up}}
+use Rattle.cacache_calls.proofs.{Sound.{begins_sound, stays_sound}, Within.{calls_keep_to}}
+use Rattle.cacache_value.specs.{Kinds.{Content, Bucket, path_kind, is_used}, Value.{blob_in, bucket_in, Value, wide_value}, Acts.{Act, act_of, change, PutBytes, PutLink, Drop}, Placed.{Placed}}
+use Rattle.cacache_value.proofs.{KindsApart.{kind-below}, Traces.{steps_act, steps_keep_placed}}
+use Rattle.cacache_laws.proofs.trees.{Members.{Member, contains_member, member_contains}, Indexed.{lists_each_key}, Twins.{Agreeing.{read_same}, Twice.{address_is, get_moves, moved_same, over_done, leaf_done}}}
+use Rattle.cacache_laws.specs.{trees.{Answers.{AnsweredBy}, Index.{is_failure}, Walks.{is_leaf}, Idle.{Finds, IsNeeded, LacksIdle}, Collecting.{LinksLeadOut, IsLive, Removes, RemovalsLeave, CollectionsKeepReads, CollectionsKeepLookups}, Mending.{TombstonesKeepContents}}, Caches.{setup_at}, Sequence.{tree_on, AreAnswered}}
 use Rattle.cacache_loss.proofs.KeptPaths.{cond_none}
+use Rattle.cacache_history.{specs.Setup.{Setup, is_outside, may_export}, proofs.{Proper.{sound_proper}, StepActs.{MayAct, acts_so}}}
+use Rattle.cacache_store.specs.declared.store.answer.Answer.TheVariants as answers
+use Rattle.cacache_calls.specs.declared.command.Command.TheVariants as commands
+use Rattle.cacache_calls.specs.declared.carried.Aim.TheVariants as aims
+use Rattle.cacache_store.specs.declared.store.step.Step.TheVariants as steps
+use Rattle.cacache_calls.specs.Sound as calls
 
 -- ---- removals
 
@@ -183,3 +189,57 @@ collections_keep_lookups site home t new dropped key (m ∷ more) reply is out h
     let step : ReadAll (bucket_path site.cache key) ≡ m.0 = (let e : Some (ReadAll (bucket_path site.cache key)) ≡ Some m.0 = run.0 in cc) in
     let all = λ (g : Hash) (k : Member g dropped). hashes g (contains_member g dropped k) in
     (moved_same t new m (ReadAll (bucket_path site.cache key)) step a.0 (bucket_kept site home t new dropped key is out all r), report_over t site key m.1 more reply run.2)
+
+-- ---- acts
+
+-- what a tombstone's call may do: make folders and append
+abbrev adding : Licence
+adding = record looking_up { prepares = true; inserts = true }
+
+module _ (folder : Option Names) (v : Value) (h : Hash) where
+  abbrev Keeps : Act → Type 0
+  Keeps act = (change folder act v).contents h ≡ v.contents h
+
+  act_keeps : (act : Act) (step : PlainStep) → MayAct act step → May (allows adding step) → Keeps act
+  act_keeps (PutBytes names bytes) (steps.Persist f p) is may = absurd may
+  act_keeps (PutBytes names bytes) step is may = absurd is
+  act_keeps (PutLink names target) (steps.Symlink to p) is may = absurd may
+  act_keeps (PutLink names target) step is may = absurd is
+  act_keeps (Drop names) (steps.RemoveFile p) is may = absurd may
+  act_keeps (Drop names) step is may = absurd is
+  act_keeps act step is may = refl
+
+-- ---- a run
+
+module _ (site : Site) where
+  abbrev x : Setup
+  x = setup_at site.cache site.base
+
+  abbrev folder : Option Names
+  folder = home_of site.cache
+
+  record Keeping (t new : Tree) : Type 0 where
+    placed : Placed (home_of site.cache) new
+    contents : (h : Hash) → (wide_value (home_of site.cache) new).contents h ≡ (wide_value (home_of site.cache) t).contents h
+
+  run_keeps : (s : State) (moves : Moves) (r : Reply) (t : Tree) → calls.Sound site (may_export x) (is_outside x) s → Runs s moves r → AllMay adding moves → AreAnswered t moves → Placed folder t → Keeping t (tree_on t moves)
+  run_keeps s [] r t sound run may answered placed = record { placed = placed; contents = λ h. refl }
+  run_keeps s (m ∷ moves) r t sound run may answered placed =
+      let proper = sound_proper x site.number tt s m.0 sound run.0 in
+      let acts = steps_act (home_of site.cache) t m.0 Plain placed proper in
+      let rest = run_keeps (after s m.1) moves r (apply t m.0 Plain).1 (stays_sound site (may_export x) (is_outside x) s m.0 m.1 sound run.0 run.1) run.2 may.1 answered.1 (steps_keep_placed (home_of site.cache) t m.0 Plain placed proper) in
+      record {
+        placed = rest.placed;
+        contents = λ h. rest.contents h ∙ ap (λ (v : Value). v.contents h) acts ∙ act_keeps (home_of site.cache) (wide_value (home_of site.cache) t) h (act_of m.0 Plain (apply t m.0 Plain).0) m.0 (acts_so m.0 Plain (apply t m.0 Plain).0) may.0;
+      }
+
+pub tombstones_keep_contents : TombstonesKeepContents
+tombstones_keep_contents site home d r moves t is formed run answered placed =
+    let x = setup_at site.cache site.base in
+    let sound = begins_sound site (may_export x) (is_outside x) (commands.Delete d) formed in
+    let may = calls_keep_to adding site (commands.Delete d) moves r tt run in
+    let kept = run_keeps site (opening site (commands.Delete d)) moves r t sound run may answered (subst (λ (f : Option Names). Placed f t) (sym is) placed) in
+    record {
+      placed = subst (λ (f : Option Names). Placed f (tree_on t moves)) is kept.placed;
+      contents = λ h. subst (λ (f : Option Names). (wide_value f (tree_on t moves)).contents h ≡ (wide_value f t).contents h) is (kept.contents h);
+    }

@@ -1,11 +1,11 @@
 -- In a cache where each thing lies in its place a listing of the index lists what lookups find.
-use Rattle.std.proofs.{Common.{◌≡◌, inl, inr, ℕ, Bool, true, false, cond, List, [], ◌∷◌, ◌++◌, Option, None, Some, Ok, Err, take, refl, sym, ap, subst, ◌∙◌}, lemmas.List.Elements.{All-nil, All-cons, All-head, All-tail, All-append, All-take}}
+use Rattle.std.proofs.{Common.{◌≡◌, inl, inr, ℕ, Bool, true, false, cond, List, [], ◌∷◌, ◌++◌, Option, Some, Ok, Err, take, refl, sym, ap, subst, ◌∙◌}, lemmas.List.Elements.{All-nil, All-cons, All-head, All-tail, All-append, All-take}}
 use Rattle.std.specs.Prelude.{All, Contains}
 use Rattle.sha1.specs.Sha1.{sha1}
 use Rattle.cacache_core.specs.{declared.errors.{Fault.TheVariants.{IsADirectory, NotFound}, Error.TheVariants.{OutOfMemory}}, Integrity.{IsIntegrity}, PathNames.{Names, names_of, home_of}, Paths.{bucket_names_of}}
 use Rattle.cacache_store.specs.declared.store.answer.Answer.TheVariants as answers
 use Rattle.cacache_store.specs.{declared.store.step.Step.TheVariants.{ReadAll}, Plain.{PlainAnswer}}
-use Rattle.cacache_disk.specs.{declared.{luck.Luck.TheVariants.{Plain}, node.Node.{Node, TheVariants.{Folder, File, Link}}}, Tree.{Tree, look}, LedTo.{place, followed, leads, file_at}, Apply.{apply}, Rooted.{Rooted}, memory.Replay.{tree_of}}
+use Rattle.cacache_disk.specs.{declared.{luck.Luck.TheVariants.{Plain}, node.Node.{Node, TheVariants.{File}}}, Tree.{Tree, look}, LedTo.{place, followed, leads, file_at}, Apply.{apply}, Rooted.{Rooted}, memory.Replay.{tree_of}}
 use Rattle.cacache_disk.proofs.Standing.{way_clear}
 use Rattle.cacache_entry.specs.{Bucket.{entries_of}, Entry.{Entry}, Latest.{Found, latest}}
 use Rattle.cacache_calls.specs.declared.command.Command.TheVariants as commands

@@ -8,7 +8,7 @@ use Rattle.cacache_disk.proofs.{KeptFolders.{steps_keep_rooted}, PlantedNodes.{p
 use Rattle.cacache_calls.specs.{declared.{command.Command.{Command}, reply.Reply.{Reply}}, State.{Site}, Table.{opening}, Runs.{Moves, Runs, Gains}, Licence.{looking_on}}
 use Rattle.cacache_calls.proofs.Within.{calls_keep_to}
 use Rattle.cacache_laws.specs.{Looks.{OnlyLooks}, Sequence.{tree_on, turns_on, AreAnswered}, trees.{Answers.{AnsweredBy, AnswersOn}, Walks.{ReadAt}}}
-use Rattle.cacache_laws.proofs.{Readings.{Looks.{moves_keep, moves_place}, ReadsStay.{listing_keeps}}, trees.Members.{Member, member_contains}}
+use Rattle.cacache_laws.proofs.{Readings.{Looks.{moves_keep, moves_place}, ReadAnswers.{listing_keeps}}, trees.Members.{Member, member_contains}}
 use Rattle.cacache_history.specs.Turns.{EachTurn}
 use Rattle.cacache_walks.specs.Reading.{Folder, ReadsFolders, folders_in}
 

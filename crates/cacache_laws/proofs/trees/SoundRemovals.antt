@@ -5,7 +5,7 @@ use Rattle.cacache_store.specs.declared.store.step.Step.TheVariants.{RemoveFile}
 use Rattle.cacache_disk.{specs.{declared.luck.Luck.TheVariants.{Plain}, Tree.{Tree}, Apply.{apply}}, proofs.KeptFolders.{steps_keep_rooted}}
 use Rattle.cacache_calls.specs.declared.command.Command.TheVariants as commands
 use Rattle.cacache_history.proofs.Contents.Righted.{stays_right}
-use Rattle.cacache_laws.{specs.{Caches.{setup_at}, Sequence.{IsSound}, trees.{Collecting.{RemovalsLeaveSound}, Housed.{Housed}}}, proofs.trees.Housed.{step_housed}}
+use Rattle.cacache_laws.{specs.{Caches.{setup_at}, Sequence.{IsSound}, trees.{Collecting.{RemovalsLeaveSound}, Housed.{Housed}}}, proofs.trees.HiddenKeys.{step_housed}}
 
 -- one removal
 removal_sound : (cache path : List ℕ) (t : Tree) → IsSound (home_of cache) t → IsSound (home_of cache) (apply t (RemoveFile path) Plain).1

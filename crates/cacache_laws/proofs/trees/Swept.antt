@@ -10,7 +10,7 @@ use Rattle.cacache_store.specs.declared.store.answer.Kind.TheVariants as kinds
 use Rattle.cacache_disk.specs.{declared.{luck.Luck.TheVariants.{Plain}, node.Node.{Node, TheVariants.{Folder, File, Link}}}, Tree.{Tree, look, cut, listing, kind_of}, LedTo.{folder}, Rooted.{Rooted}}
 use Rattle.cacache_disk.proofs.KeptFolders.{steps_keep_rooted}
 use Rattle.cacache_calls.specs.declared.command.Command.TheVariants as commands
-use Rattle.cacache_calls.specs.{declared.{reply.Reply.{Reply, TheVariants.{Listed, Refused}}, visit.{Visit.{Visit, TheVariants.{Enter, ReadBucket, RemoveFile, RemoveFolder}}, Task.{Task, TheVariants.{Make, Stumble}}}}, Common.{fails}, State.{State, walking, over, Walk}, Walking.{failed, give, miss, walk_on, task_for_name, tasks_of, leaving, too_many, entered}, Runs.{Moves, Runs}}
+use Rattle.cacache_calls.specs.{declared.{reply.Reply.{Reply, TheVariants.{Listed, Refused}}, visit.{Visit.{Visit, TheVariants.{Enter, RemoveFile, RemoveFolder}}, Task.{Task, TheVariants.{Make, Stumble}}}}, Common.{fails}, State.{State, walking, over, Walk}, Walking.{failed, give, miss, walk_on, task_for_name, tasks_of, leaving, too_many, entered}, Runs.{Moves, Runs}}
 use Rattle.cacache_laws.specs.{Sequence.{tree_on}, trees.{Walks.{is_leaf}, Idle.{BreaksOff}}}
 use Rattle.cacache_laws.proofs.{Removing.Sheds.{Shed, ShedAll, among, cut_sheds, folder_apart, sheds_more, under, lists_folder, empties, none_listed, told_still, long_names, child_gone, folder_shed}, trees.{Children.{none_below, proper_child}, Covering.{named_on}, Stepping.{MadeOn, Whole, goes, said_over}, Twins.Twice.{leaf_goes}}}
 use Rattle.cacache_history.proofs.{Listings.ToldFolders.{Told, AreDistinct, listing_told, listing_distinct}, Each.{Each}}
@@ -164,5 +164,4 @@ module _ (r : Reply) (whole : BreaksOff commands.Clear r → ⊥) where
         fewer = omega (arith, first.shorter, x.fewer, last.shorter);
         is = λ q. cut_sheds x.new p x.rooted none q ∙ folder_shed t x.new p q (listing t p) (under p q) (among p (listing t p) q) refl refl (x.is q);
       }
-  visited (suc fuel) (ReadBucket path) p todo w t m low clears rooted ready = absurd ready
-  visited (suc fuel) (RemoveFolder path) p todo w t m low clears rooted ready = absurd ready
+  visited _ v p todo w t m low clears rooted ready = absurd ready

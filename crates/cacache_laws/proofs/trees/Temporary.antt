@@ -8,7 +8,7 @@ use Rattle.cacache_store.specs.declared.store.answer.Kind.TheVariants as kinds
 use Rattle.cacache_disk.specs.{declared.{luck.Luck.TheVariants.{Plain}, node.Node.{Node, TheVariants.{Folder, File, Link}}}, Tree.{Tree, look, cut, kind_of, listing, same_path}, Apply.{apply}, Rooted.{Rooted}}
 use Rattle.cacache_disk.proofs.{Maps.{same_path-true}, PutNodes.{look-cut}, Roots.{same_self}}
 use Rattle.cacache_laws.specs.{Sequence.{tree_on, AreAnswered}, trees.Temporary.{IsTemporary, LeavesUntemporary, SweepsLeave, area_of, cache_folder, is_file, is_temp_name, is_temporary, sized_removals, temp_area_in, temp_at}}
-use Rattle.cacache_laws.proofs.{Readings.ReadsStay.{sizing_keeps}, trees.{Children.{FolderShows, NoFolder, Stands, child_listed, folder_shown, listed, listed_child, missing, none_below, proper_child}, Keeping.{removed}, Collected.{from_kept, kept_in}, Covering.{named_on}, Members.{Member}}}
+use Rattle.cacache_laws.proofs.{Readings.ReadAnswers.{sizing_keeps}, trees.{Children.{FolderShows, NoFolder, Stands, child_listed, folder_shown, listed, listed_child, missing, none_below, proper_child}, Keeping.{removed}, Collected.{from_kept, kept_in}, Covering.{named_on}, Members.{Member}}}
 use Rattle.cacache_value.{specs.{Kinds.{PathKind, Content, Bucket, Temporary, path_kind}, Value.{blob_in, bucket_in}}, proofs.KindsApart.{kind-below}}
 use Rattle.cacache_walks.specs.Reading.{names_shown}
 

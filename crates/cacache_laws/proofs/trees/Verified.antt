@@ -1,9 +1,8 @@
 -- A read of a content that is there shows whether it is good.
-use Rattle.std.proofs.Common.{◌≡◌, inl, inr, ℕ, List, [], ◌∷◌, ◌++◌, Option, Some, None, Bool, true, false, cond, Result, Ok, Err, refl, sym, ap, subst, ◌∙◌}
-use Rattle.std.specs.Prelude.{◌↔◌}
+use Rattle.std.{proofs.Common.{◌≡◌, inl, inr, ℕ, List, [], ◌∷◌, ◌++◌, Option, Some, Bool, true, false, cond, Result, Ok, Err, refl, sym, ap, subst, ◌∙◌}, specs.Prelude.{◌↔◌}}
 use Rattle.cacache_core.specs.{declared.{errors.{Fault.{Fault, TheVariants.{IsADirectory}}, Error.TheVariants.{IoError, IntegrityError}, IntegrityFault.TheVariants.{Check}}, integrity.digest.Hash.{Hash}}, Integrity.{IsHash, actual}, Meeting.{meets}, PathNames.{Names, names_of, home_of}, Paths.{joined, content_names}}
 use Rattle.cacache_store.specs.{declared.store.step.Step.TheVariants.{ReadAll}, Plain.{PlainAnswer}}
-use Rattle.cacache_disk.specs.{declared.{luck.Luck.TheVariants.{Plain}, node.Node.{Node, TheVariants.{Folder, File, Link}}}, Tree.{Tree, look}, LedTo.{place, followed, leads, file_at}, Apply.{apply}, Rooted.{Rooted}}
+use Rattle.cacache_disk.specs.{declared.{luck.Luck.TheVariants.{Plain}, node.Node.{Node, TheVariants.{File, Link}}}, Tree.{Tree, look}, LedTo.{place, followed, leads, file_at}, Apply.{apply}, Rooted.{Rooted}}
 use Rattle.cacache_disk.proofs.Standing.{way_clear}
 use Rattle.cacache_calls.specs.{declared.reply.Reply.{Reply, TheVariants.{Read, Refused}}, Answers.{bytes_in}, StepPaths.{content_path}, Replies.{content_reply}, State.{Site}, Runs.{Moves}}
 use Rattle.cacache_calls.proofs.Replies.{reads_shown}

@@ -1,5 +1,5 @@
 use Rattle.std.proofs.Common.{◌∙◌}
-use Rattle.cacache_keep.{specs.Compacting.{StopsCompactingEach}, proofs.{NewBuckets.Compactions.{next_loose, one_compacted}, Stopped.{error_as}}}
+use Rattle.cacache_keep.{specs.Compacting.{StopsCompactingEach}, proofs.{NewBuckets.Rewrites.{next_loose, one_compacted}, Stopped.{error_as}}}
 use Rattle.cacache_keep.proofs.compacting.compact_each.Goals as goal
 
 pub returns-in_err-saving-clause-stops : goal.returns-in_err-saving-clause-stops

@@ -1,7 +1,7 @@
-use Rattle.std.proofs.{Common.{◌+◌, drop, length, refl, rules, sym, ◌∙◌}, lemmas.{List.{map-id}, Iterator.{Adapters.{YieldsList-from_vec}, Consumers.{YieldsList-so_far, YieldsList-turn}}}}
+use Rattle.std.proofs.{Common.{◌+◌, drop, length, refl, rules}, lemmas.Iterator.Adapters.{YieldsList-from_vec}}
 use Rattle.cacache_core.specs.declared.errors.Error.TheVariants.{OutOfMemory}
 use Rattle.cacache_keep.specs.Checking.{StopsFolders}
-use Rattle.cacache_keep.proofs.{Repairs.InTurn.{split_at}, Indexes.LinkedFolders.{next_stops, none_added, one_added, read_lost}, Stopped.{error_as}}
+use Rattle.cacache_keep.proofs.{Repairs.InTurn.{split_turn}, Indexes.LinkedFolders.{next_stops, none_added, one_added, read_lost}, Stopped.{error_as}}
 use Rattle.cacache_keep.proofs.index.read_folders.Goals as goal
 
 pub loop-folder-init : goal.loop-folder-init
@@ -25,10 +25,7 @@ returns-in_err-more-clause-stops g c =
     let folder = c.in-Some.folder in
     let seen = c.loop-folder.yielded in
     let before = c.loop-folder.index in
-    let road = YieldsList-from_vec {s = c.into_iter-folder-iterator.result} folders (search rules) (search rules) in
-    let so_far = YieldsList-so_far road seen c.loop-folder.folder-iterator c.loop-folder.yielded_by in
-    let turn = YieldsList-turn road seen c.loop-folder.folder-iterator c.loop-folder.yielded_by c.next.result c.next.new.self folder c.in-Some.is c.next.ensures.steps in
-    let split = split_at folders seen folder (length seen) turn.0 (sym (map-id seen) ∙ so_far) turn.1 in
+    let split = split_turn (YieldsList-from_vec {s = c.into_iter-folder-iterator.result} folders (search rules) (search rules)) seen c.loop-folder.folder-iterator c.next.new.self c.loop-folder.yielded_by c.next.result folder c.in-Some.is c.next.ensures.steps in
     let e = c.in_err-more.field-0.0 in
     error_as (λ x. StopsFolders folders x old new) c.from_residual.result e c.from_residual.ensures.1
     (next_stops folders seen (drop (length seen + 1) folders) folder c.args.index.now.entries.items before.entries.items c.args.index.now.odd.items before.odd.items e old mid new split c.loop-folder.invariant c.in_err-more.ensures.stops)
@@ -42,10 +39,7 @@ returns-in_err-append-clause-stops g c =
     let folder = c.in-Some.folder in
     let seen = c.loop-folder.yielded in
     let before = c.loop-folder.index in
-    let road = YieldsList-from_vec {s = c.into_iter-folder-iterator.result} folders (search rules) (search rules) in
-    let so_far = YieldsList-so_far road seen c.loop-folder.folder-iterator c.loop-folder.yielded_by in
-    let turn = YieldsList-turn road seen c.loop-folder.folder-iterator c.loop-folder.yielded_by c.next.result c.next.new.self folder c.in-Some.is c.next.ensures.steps in
-    let split = split_at folders seen folder (length seen) turn.0 (sym (map-id seen) ∙ so_far) turn.1 in
+    let split = split_turn (YieldsList-from_vec {s = c.into_iter-folder-iterator.result} folders (search rules) (search rules)) seen c.loop-folder.folder-iterator c.next.new.self c.loop-folder.yielded_by c.next.result folder c.in-Some.is c.next.ensures.steps in
     let more = c.in_ok-more.more in
     error_as (λ x. StopsFolders folders x old new) c.from_residual-in_err-append.result OutOfMemory c.from_residual-in_err-append.ensures.1
     (next_stops folders seen (drop (length seen + 1) folders) folder c.args.index.now.entries.items before.entries.items c.args.index.now.odd.items before.odd.items OutOfMemory old mid new split c.loop-folder.invariant (read_lost folder more.entries.items more.odd.items mid new c.in_ok-more.ensures.reads))
@@ -59,10 +53,7 @@ returns-in_err-append-2-clause-stops g c =
     let folder = c.in-Some.folder in
     let seen = c.loop-folder.yielded in
     let before = c.loop-folder.index in
-    let road = YieldsList-from_vec {s = c.into_iter-folder-iterator.result} folders (search rules) (search rules) in
-    let so_far = YieldsList-so_far road seen c.loop-folder.folder-iterator c.loop-folder.yielded_by in
-    let turn = YieldsList-turn road seen c.loop-folder.folder-iterator c.loop-folder.yielded_by c.next.result c.next.new.self folder c.in-Some.is c.next.ensures.steps in
-    let split = split_at folders seen folder (length seen) turn.0 (sym (map-id seen) ∙ so_far) turn.1 in
+    let split = split_turn (YieldsList-from_vec {s = c.into_iter-folder-iterator.result} folders (search rules) (search rules)) seen c.loop-folder.folder-iterator c.next.new.self c.loop-folder.yielded_by c.next.result folder c.in-Some.is c.next.ensures.steps in
     let more = c.in_ok-more.more in
     error_as (λ x. StopsFolders folders x old new) c.from_residual-in_err-append-2.result OutOfMemory c.from_residual-in_err-append-2.ensures.1
     (next_stops folders seen (drop (length seen + 1) folders) folder c.args.index.now.entries.items before.entries.items c.args.index.now.odd.items before.odd.items OutOfMemory old mid new split c.loop-folder.invariant (read_lost folder more.entries.items more.odd.items mid new c.in_ok-more.ensures.reads))

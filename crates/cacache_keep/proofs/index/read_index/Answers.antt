@@ -3,7 +3,7 @@ use Rattle.cacache_core.specs.{declared.errors.Error.TheVariants.{OutOfMemory}, 
 use Rattle.cacache_calls.specs.Runs.{plain_item}
 use Rattle.cacache_jobs.specs.Sites.{site_of}
 use Rattle.cacache_keep.specs.{Calls.{StopsIndex}, Walking.{LosesIndex, MeetsIndex}}
-use Rattle.cacache_keep.proofs.{Indexes.ReadIndexes.{index_read, linked_stops}, Stopped.{index_lost, index_lost_here, own_stops, error_as}}
+use Rattle.cacache_keep.proofs.{Indexes.LinkedFolders.{index_read, linked_stops}, Stopped.{index_lost, index_lost_here, own_stops, error_as}}
 use Rattle.cacache_keep.proofs.index.read_index.Goals as goal
 
 pub returns-in_err-top-clause-stops : goal.returns-in_err-top-clause-stops

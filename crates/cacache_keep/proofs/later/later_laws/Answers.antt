@@ -1,4 +1,4 @@
-use Rattle.cacache_keep.proofs.Collections.LaterCalls.{collected_keys_stay, collections_keep_led}
+use Rattle.cacache_keep.proofs.Collections.Behind.{collected_keys_stay, collections_keep_led}
 use Rattle.cacache_keep.proofs.later.later_laws.Goals as goal
 
 pub returns : goal.returns

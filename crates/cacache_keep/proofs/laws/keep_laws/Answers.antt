@@ -1,4 +1,4 @@
-use Rattle.cacache_keep.proofs.{Losses.{GrownLosses.{compactions_grow}, LaterLosses.{compactions_last}, SparedLosses.{compactions_spare}, LeanLosses.{compactions_fix, compactions_outlast}}, Collections.{Behind.{collections_keep_keys, later_keys_stay}, StoppedKeys.{stopped_keep_keys}, Chosen.{plans_foretell, plans_leave}, Leaving.{collections_lack_idle, collections_leave}, Settled.{collections_settle}, SweptCaches.{caches_are_swept}, Tidying.{later_reads_stay, looks_stay}}, NewBuckets.WholeCompactions.{compactions_are_unseen, compactions_leave, compactions_stop}, Repairs.{Houses.{repairs_house, sweeps_house, sweeps_keep_good}, Mends.{repairs_mend}, Verdicts.{lists_hold, verdicts_judge}, Whole.{repairs_keep_good, repairs_verify}}}
+use Rattle.cacache_keep.proofs.{Losses.{GrownLosses.{compactions_grow}, LeanLosses.{compactions_last, compactions_fix, compactions_outlast}, SparedLosses.{compactions_spare}}, Collections.{Behind.{collections_keep_keys, later_keys_stay, caches_are_swept}, StoppedKeys.{stopped_keep_keys}, Leaving.{plans_foretell, plans_leave, collections_lack_idle, collections_leave, collections_settle}, Tidying.{later_reads_stay, looks_stay}}, NewBuckets.WholeCompactions.{compactions_are_unseen, compactions_leave, compactions_stop}, Repairs.{Houses.{repairs_house, sweeps_house, sweeps_keep_good}, Whole.{repairs_mend, repairs_keep_good, repairs_verify}, Shown.{lists_hold, verdicts_judge}}}
 use Rattle.cacache_keep.proofs.laws.keep_laws.Goals as goal
 
 pub returns-clause-lists : goal.returns-clause-lists

@@ -1,7 +1,7 @@
-use Rattle.std.proofs.{Common.{◌+◌, drop, length, rules, sym, ◌∙◌}, lemmas.{List.{map-id}, Iterator.{Adapters.{YieldsList-from_vec}, Consumers.{YieldsList-so_far, YieldsList-turn}}}}
+use Rattle.std.proofs.{Common.{◌+◌, drop, length, rules}, lemmas.Iterator.Adapters.{YieldsList-from_vec}}
 use Rattle.cacache_core.specs.declared.errors.Error.TheVariants.{OutOfMemory}
 use Rattle.cacache_keep.specs.{declared.planning.Unused.{Unused}, Planning.{StopsTelling}}
-use Rattle.cacache_keep.proofs.{Repairs.InTurn.{split_at}, Collections.Sizes.{lost_told, next_hidden, one_told}, Stopped.{error_as}}
+use Rattle.cacache_keep.proofs.{Repairs.InTurn.{split_turn}, Collections.Sizes.{lost_told, next_hidden, one_told}, Stopped.{error_as}}
 use Rattle.cacache_keep.proofs.planning.sizes_of.Goals as goal
 
 pub returns-in_err-bytes-clause-stops : goal.returns-in_err-bytes-clause-stops
@@ -12,10 +12,7 @@ returns-in_err-bytes-clause-stops g c =
     let new = g.S.Store.log c.size_of.new.store in
     let addresses = c.args.addresses.items in
     let seen = c.loop-address.yielded in
-    let road = YieldsList-from_vec {s = c.into_iter-address-iterator.result} addresses (search rules) (search rules) in
-    let so_far = YieldsList-so_far road seen c.loop-address.address-iterator c.loop-address.yielded_by in
-    let turn = YieldsList-turn road seen c.loop-address.address-iterator c.loop-address.yielded_by c.next.result c.next.new.self c.in-Some.address c.in-Some.is c.next.ensures.steps in
-    let split = split_at addresses seen c.in-Some.address (length seen) turn.0 (sym (map-id seen) ∙ so_far) turn.1 in
+    let split = split_turn (YieldsList-from_vec {s = c.into_iter-address-iterator.result} addresses (search rules) (search rules)) seen c.loop-address.address-iterator c.next.new.self c.loop-address.yielded_by c.next.result c.in-Some.address c.in-Some.is c.next.ensures.steps in
     let e = c.in_err-bytes.field-0.0 in
     error_as (λ x. StopsTelling cache addresses x old new) c.from_residual.result e c.from_residual.ensures.1
     (next_hidden cache addresses seen c.loop-address.unused.items c.in-Some.address (drop (length seen + 1) addresses) e old mid new split c.loop-address.invariant c.in_err-bytes.ensures.stops)
@@ -33,10 +30,7 @@ returns-in_err-push-clause-stops g c =
     let new = g.S.Store.log c.size_of.new.store in
     let addresses = c.args.addresses.items in
     let seen = c.loop-address.yielded in
-    let road = YieldsList-from_vec {s = c.into_iter-address-iterator.result} addresses (search rules) (search rules) in
-    let so_far = YieldsList-so_far road seen c.loop-address.address-iterator c.loop-address.yielded_by in
-    let turn = YieldsList-turn road seen c.loop-address.address-iterator c.loop-address.yielded_by c.next.result c.next.new.self c.in-Some.address c.in-Some.is c.next.ensures.steps in
-    let split = split_at addresses seen c.in-Some.address (length seen) turn.0 (sym (map-id seen) ∙ so_far) turn.1 in
+    let split = split_turn (YieldsList-from_vec {s = c.into_iter-address-iterator.result} addresses (search rules) (search rules)) seen c.loop-address.address-iterator c.next.new.self c.loop-address.yielded_by c.next.result c.in-Some.address c.in-Some.is c.next.ensures.steps in
     let u : Unused = record { address = c.in-Some.address; bytes = c.in_ok-bytes.bytes } in
     error_as (λ x. StopsTelling cache addresses x old new) c.from_residual-in_err-push.result OutOfMemory c.from_residual-in_err-push.ensures.1
     (lost_told cache addresses seen c.loop-address.unused.items u (drop (length seen + 1) addresses) old mid new split c.loop-address.invariant c.in_ok-bytes.ensures.tells)

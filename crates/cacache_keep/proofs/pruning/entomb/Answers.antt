@@ -4,7 +4,7 @@ use Rattle.cacache_calls.specs.Runs.{without_message}
 use Rattle.cacache_calls.specs.declared.reply.Reply.TheVariants as replies
 use Rattle.cacache_jobs.specs.Sites.{site_of}
 use Rattle.cacache_keep.specs.{Pruning.{StopsEntombing}, Repairing.{tombstone}}
-use Rattle.cacache_keep.proofs.{Asked.{ran_at}, Entombed.{none_entombed, not_entombed, one_entombed}, Stopped.{error_as}}
+use Rattle.cacache_keep.proofs.{Asked.{ran_at}, SparedOnes.{none_entombed, not_entombed, one_entombed}, Stopped.{error_as}}
 use Rattle.cacache_keep.proofs.pruning.entomb.Goals as goal
 
 pub loop-entry-init : goal.loop-entry-init

@@ -1,5 +1,5 @@
 use Rattle.std.proofs.Common.{inr, refl, sym, ◌∙◌}
-use Rattle.cacache_keep.proofs.{Repairs.Gives.{gone_so, opened_so, unopened_so}, Stopped.{error_so}}
+use Rattle.cacache_keep.proofs.{Repairs.Shown.{gone_so, opened_so, unopened_so}, Stopped.{error_so}}
 use Rattle.cacache_keep.proofs.reading.judge.Goals as goal
 
 pub returns-in-Ok-clause-stops : goal.returns-in-Ok-clause-stops

@@ -1,7 +1,7 @@
 use Rattle.std.proofs.Common.{◌≡◌, ◌==◌, ◌++◌, inr, true, false, length, ◌∙◌}
 use Rattle.cacache_core.specs.declared.errors.Error.TheVariants.{OutOfMemory}
 use Rattle.cacache_keep.specs.Reading.{StopsGiving}
-use Rattle.cacache_keep.proofs.{Asked.{value_both}, Repairs.Gives.{gave_all, gave_fails, gave_more, nothing_gave, size_more}, Stopped.{error_so, error_as}}
+use Rattle.cacache_keep.proofs.{Asked.{value_both}, Repairs.Shown.{gave_all, gave_fails, gave_more, nothing_gave, size_more}, Stopped.{error_so, error_as}}
 use Rattle.cacache_keep.proofs.reading.judge_bytes.Goals as goal
 
 pub returns-in_err-clone-clause-stops : goal.returns-in_err-clone-clause-stops

@@ -1,5 +1,5 @@
 use Rattle.std.proofs.Common.{◌≡◌, false, true}
-use Rattle.cacache_keep.proofs.Repairs.Gives.{met_so, unmet_so}
+use Rattle.cacache_keep.proofs.Repairs.Shown.{met_so, unmet_so}
 use Rattle.cacache_keep.proofs.reading.judged.Goals as goal
 
 pub returns-in-Ok-clause-met : goal.returns-in-Ok-clause-met

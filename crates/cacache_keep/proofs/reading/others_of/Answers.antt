@@ -1,7 +1,7 @@
-use Rattle.std.proofs.{Common.{◌≡◌, ◌+◌, ◌++◌, ◌∷◌, [], Bool, List, drop, false, length, refl, rules, sym, subst, true, append_assoc, ◌∙◌}, lemmas.{List.{map-id}, Iterator.{Adapters.{YieldsList-from_vec}, Consumers.{YieldsList-end, YieldsList-so_far, YieldsList-turn}}}}
+use Rattle.std.proofs.{Common.{◌≡◌, ◌+◌, ◌++◌, ◌∷◌, [], Bool, List, drop, false, length, refl, rules, sym, subst, true, append_assoc, ◌∙◌}, lemmas.{List.{map-id}, Iterator.{Adapters.{YieldsList-from_vec}, Consumers.{YieldsList-end}}}}
 use Rattle.cacache_core.specs.declared.{errors.Error.TheVariants.{OutOfMemory}, integrity.digest.Hash.{Hash}}
 use Rattle.cacache_keep.specs.Reading.{SaysGood, StopsEach, WeighsOthers}
-use Rattle.cacache_keep.proofs.{Repairs.InTurn.{damaged_read, good_read, memory_stops, next_stops, none_read, split_at}, Stopped.{error_as}}
+use Rattle.cacache_keep.proofs.{Repairs.InTurn.{damaged_read, good_read, memory_stops, next_stops, none_read, split_turn}, Stopped.{error_as}}
 use Rattle.cacache_keep.proofs.reading.others_of.Goals as goal
 
 pub loop-sri-init : goal.loop-sri-init
@@ -39,10 +39,7 @@ returns-in_err-good-clause-stops g c =
     let new = g.S.Store.log c.judge.new.store in
     let addresses = c.args.addresses.items in
     let seen = c.loop-sri.yielded in
-    let road = YieldsList-from_vec {s = c.into_iter-sri-iterator.result} addresses (search rules) (search rules) in
-    let so_far = YieldsList-so_far road seen c.loop-sri.sri-iterator c.loop-sri.yielded_by in
-    let turn = YieldsList-turn road seen c.loop-sri.sri-iterator c.loop-sri.yielded_by c.next.result c.next.new.self c.in-Some.sri c.in-Some.is c.next.ensures.steps in
-    let split = split_at addresses seen c.in-Some.sri (length seen) turn.0 (sym (map-id seen) ∙ so_far) turn.1 in
+    let split = split_turn (YieldsList-from_vec {s = c.into_iter-sri-iterator.result} addresses (search rules) (search rules)) seen c.loop-sri.sri-iterator c.next.new.self c.loop-sri.yielded_by c.next.result c.in-Some.sri c.in-Some.is c.next.ensures.steps in
     let e = c.in_err-good.field-0.0 in
     error_as (λ x. StopsEach cache addresses x old new) c.from_residual.result e c.from_residual.ensures.1
     (next_stops cache addresses seen c.loop-sri.damaged.items c.loop-sri.good_bytes c.loop-sri.damaged_bytes c.in-Some.sri (drop (length seen + 1) addresses) e old mid new split c.loop-sri.invariant c.in_err-good.ensures.stops)
@@ -55,10 +52,7 @@ returns-in_err-push-clause-stops g c =
     let new = g.S.Store.log c.judge.new.store in
     let addresses = c.args.addresses.items in
     let seen = c.loop-sri.yielded in
-    let road = YieldsList-from_vec {s = c.into_iter-sri-iterator.result} addresses (search rules) (search rules) in
-    let so_far = YieldsList-so_far road seen c.loop-sri.sri-iterator c.loop-sri.yielded_by in
-    let turn = YieldsList-turn road seen c.loop-sri.sri-iterator c.loop-sri.yielded_by c.next.result c.next.new.self c.in-Some.sri c.in-Some.is c.next.ensures.steps in
-    let split = split_at addresses seen c.in-Some.sri (length seen) turn.0 (sym (map-id seen) ∙ so_far) turn.1 in
+    let split = split_turn (YieldsList-from_vec {s = c.into_iter-sri-iterator.result} addresses (search rules) (search rules)) seen c.loop-sri.sri-iterator c.next.new.self c.loop-sri.yielded_by c.next.result c.in-Some.sri c.in-Some.is c.next.ensures.steps in
     let rest = drop (length seen + 1) addresses in
     let size = c.in_ok-good.field-0.bytes in
     let sum = c.saturating_add-damaged_bytes.result in

@@ -1,6 +1,6 @@
 use Rattle.std.{proofs.Common.{◌≡◌, ◌-◌, ℕ, List, length, option_map, subst, sym}, specs.Prelude.{IfSome}}
 use Rattle.cacache_keep.specs.{Compacting.{Changes, StopsBucket}, declared.settling.Lean.{Lean}}
-use Rattle.cacache_keep.proofs.{NewBuckets.Compactions.{lost_read, settled, unsettled}, Stopped.{error_so, error_as}, Asked.{value_so}}
+use Rattle.cacache_keep.proofs.{NewBuckets.Rewrites.{lost_read, settled, unsettled}, Stopped.{error_so, error_as}, Asked.{value_so}}
 use Rattle.cacache_keep.proofs.settling.compact_bucket.Goals as goal
 
 pub returns-in_err-lean-clause-stops : goal.returns-in_err-lean-clause-stops

@@ -1,4 +1,4 @@
-use Rattle.cacache_laws.proofs.{Calls.Logs.{calls_grow, growths_join, excuses_last}, Readings.{Known.{fresh_is_empty, caches_last}, GivenReads.{reads_key, reads_content, reads_none}, Looked.{finds_key}, AskedContents.{asks_content}}, Putting.{WritesLast.{writes_last}, Inserting.{inserts_last, plain_inserts_fit, keys_join, none_lacks}, Beside.{writes_keep, plain_writes_fit, removals_keep}, StandingPuts.{puts_leave, puts_may_lead}}, Removing.{Removals.{removals_last, clearings_empty}, Removed.{contents_go}, RemovedKeys.{keys_go}}, Spares.PlantedFiles.{plants_last}, Exports.{ExportEffects.{exports_keep}, Exported.{copies_arrive, copies_count, exports_arrive}}, Links.Linking.{links_last}}
+use Rattle.cacache_laws.proofs.{Calls.Logs.{calls_grow, growths_join, excuses_last}, Readings.{Known.{fresh_is_empty, caches_last}, GivenReads.{reads_key, reads_content, reads_none, finds_key, asks_content}}, Putting.{StandingPuts.{writes_last, puts_leave, puts_may_lead}, Puts.{inserts_last, plain_inserts_fit, keys_join, none_lacks, writes_keep, plain_writes_fit, removals_keep}}, Removing.{RemovedKeys.{removals_last, clearings_empty, keys_go}, Removed.{contents_go}}, Spares.PlantedFiles.{plants_last}, Exports.{ExportEffects.{exports_keep}, Exported.{copies_arrive, copies_count, exports_arrive}}, Links.Linking.{links_last}}
 use Rattle.cacache_laws.proofs.laws.cache_laws.Goals as goal
 
 pub returns-clause-fresh : goal.returns-clause-fresh

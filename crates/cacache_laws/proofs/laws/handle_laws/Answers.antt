@@ -1,4 +1,4 @@
-use Rattle.cacache_laws.proofs.{Putting.{OpenWriters.{writers_open}, Committing.{commits_last}, Puts.{commits_leave, commits_keep, commits_store}}, Readings.OpenReaders.{readers_open, readers_open_key}, Spares.GivenUp.{giving_up_lasts}, Links.{OpenLinkers.{linkers_commit, linkers_fail}, RefusedSizes.{linkers_refuse}, TargetBytes.{linkers_open, linkers_open_sized}}}
+use Rattle.cacache_laws.proofs.{Putting.{OpenWriters.{writers_open, commits_last}, Puts.{commits_leave, commits_keep, commits_store}}, Readings.OpenReaders.{readers_open, readers_open_key}, Spares.Unused.{giving_up_lasts}, Links.{OpenLinkers.{linkers_commit, linkers_fail}, RefusedSizes.{linkers_refuse}, TargetBytes.{linkers_open, linkers_open_sized}}}
 use Rattle.cacache_laws.proofs.laws.handle_laws.Goals as goal
 
 pub returns-clause-opens : goal.returns-clause-opens

@@ -1,4 +1,4 @@
-use Rattle.cacache_laws.proofs.{Readings.{Looks.{looks_keep, tree_stays}, Looked.{same_stays_known, finds_found}, AskedContents.{asks_absent}, GivenReads.{key_reads_give, content_reads_give}}, Listings.ListedKeys.{listings_give}, Links.LinkedReads.{links_show}}
+use Rattle.cacache_laws.proofs.{Readings.{Looks.{looks_keep, tree_stays}, GivenReads.{same_stays_known, finds_found, key_reads_give, content_reads_give, asks_absent}}, Listings.ListedKeys.{listings_give}, Links.TargetBytes.{links_show}}
 use Rattle.cacache_laws.proofs.laws.look_laws.Goals as goal
 
 pub returns-clause-keeps : goal.returns-clause-keeps

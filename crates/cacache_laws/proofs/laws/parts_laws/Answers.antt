@@ -1,4 +1,4 @@
-use Rattle.cacache_laws.proofs.Calls.{InParts.{logs_lead, calls_begin, parts_go_on, left_are_cases, parts_answer}, Handed.{reads_are_parts, writes_are_parts}}
+use Rattle.cacache_laws.proofs.Calls.InParts.{logs_lead, calls_begin, parts_go_on, left_are_cases, parts_answer, reads_are_parts, writes_are_parts}
 use Rattle.cacache_laws.proofs.laws.parts_laws.Goals as goal
 
 pub returns-clause-logs : goal.returns-clause-logs

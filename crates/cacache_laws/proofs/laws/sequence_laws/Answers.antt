@@ -1,4 +1,4 @@
-use Rattle.cacache_laws.proofs.{Calls.{Sequence.{openings_are_sound, runs_are_calls, calls_answer_alone, sequences_answer}, CallErrors.{calls_fail_only}}, Readings.ReadAnswers.{replies_follow, reads_keep}, Putting.Stored.{puts_store, inserts_add, deletes_add}}
+use Rattle.cacache_laws.proofs.{Calls.{Sequence.{openings_are_sound, runs_are_calls, calls_answer_alone, sequences_answer}, CallErrors.{calls_fail_only}}, Readings.ReadAnswers.{replies_follow, reads_keep}, Putting.{Stored.{inserts_add, deletes_add}, Puts.{puts_store}}}
 use Rattle.cacache_laws.proofs.laws.sequence_laws.Goals as goal
 
 pub returns-clause-openings : goal.returns-clause-openings

@@ -1,4 +1,4 @@
-use Rattle.cacache_laws.proofs.{Sure.{Succeeds.{puts_answer, insertions_answer, deletions_answer, lookups_answer, content_reads_answer, key_reads_answer, questions_answer, removals_answer}, SureRemovals.{full_removals_answer}, SureLists.{listings_answer}, SureClears.{clearings_answer}, SureWriters.{openings_succeed, commits_answer}, SureExports.{exports_answer}, SureCopies.{exports_succeed}, SureLinks.{linkers_answer, links_answer}, SureReaders.{key_readers_answer, linker_openings_answer, readers_answer, sized_openings_answer}, SureStays.{others_keep_files, puts_keep_files}}, Spares.Unused.{others_leave_none, puts_leave_own, puts_leave_tidy, fresh_is_ready, same_is_ready}, trees.Covering.{home_named}}
+use Rattle.cacache_laws.proofs.{Sure.{Succeeds.{puts_answer, insertions_answer, deletions_answer, lookups_answer, content_reads_answer, key_reads_answer, questions_answer, removals_answer, openings_succeed, commits_answer}, SureRemovals.{full_removals_answer, clearings_answer}, SureLists.{listings_answer}, SureExports.{exports_answer}, SureCopies.{exports_succeed}, SureLinks.{linkers_answer, links_answer}, SureReaders.{key_readers_answer, linker_openings_answer, readers_answer, sized_openings_answer}, SureStays.{others_keep_files, puts_keep_files}}, Spares.Unused.{others_leave_none, puts_leave_own, puts_leave_tidy, fresh_is_ready, same_is_ready}, trees.Covering.{home_named}}
 use Rattle.cacache_laws.proofs.laws.success_laws.Goals as goal
 
 pub returns : goal.returns

@@ -38,10 +38,9 @@ pub same_key : (a b : List ℕ) → bytes_eq a b ≡ bytes_eq b a
 same_key a b = by (bytes_eq a b) refl (bytes_eq b a) refl
   where
     by : (x : Bool) → bytes_eq a b ≡ x → (y : Bool) → bytes_eq b a ≡ y → x ≡ y
-    by true e true f = refl
-    by false e false f = refl
     by true e false f = let no : true ≡ false = sym ((bytes_eq-Decides b a).1 (sym ((bytes_eq-Decides a b).0 e))) ∙ f in absurd cc
     by false e true f = let no : true ≡ false = sym ((bytes_eq-Decides a b).1 (sym ((bytes_eq-Decides b a).0 f))) ∙ e in absurd cc
+    by _ e _ f = refl
 
 -- an entry answers what its piece decides
 answers : (key p : List ℕ) (e : Entry) (o : Option (List ℕ)) → entry_of_piece (without_cr p) ≡ Some e → after_entry key (found_as o) e ≡ found_as (next decision ours key o p)

@@ -5,7 +5,7 @@ use Rattle.cacache_core.specs.{PathNames.{Names, names_of}, declared.errors.Faul
 use Rattle.cacache_store.specs.declared.store.{answer.Kind.{Kind}, step.Step.TheVariants.{ReadDir}}
 use Rattle.cacache_disk.specs.{declared.{node.Node.{Node, TheVariants.{Folder, File, Link}}, luck.Luck.TheVariants.{Plain}}, Tree.{Tree, look, names_cmp, same_path, listing, child_of, is_child, kind_of}, LedTo.{and_then, or_fault, through, way_fault, place, standing, where_there, where_folder, on_link, followed, leads, bytes_there, file_at, folder}, Apply.{apply, unless}}
 use Rattle.cacache_disk.proofs.{Maps.{total, only}, FoundNodes.{and_then_ok, place_ok, standing_ok}}
-use Rattle.cacache_laws.{proofs.trees.{SameListing.{of_children, where_child}, Children.{child_path, folder_found}}, specs.trees.Collecting.{LinksLeadOut}}
+use Rattle.cacache_laws.{proofs.trees.Children.{of_children, where_child, child_path, folder_found}, specs.trees.Collecting.{LinksLeadOut}}
 use Rattle.cacache_value.{specs.Kinds.{Elsewhere, path_kind, IsFor}, proofs.{KindsApart.{inner_used, kind-below}, FoundPaths.{of_names}}}
 use Rattle.std.specs.FinMap as map
 use Rattle.cacache_store.specs.declared.store.answer.Answer.TheVariants as answers

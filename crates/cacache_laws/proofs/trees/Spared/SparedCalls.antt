@@ -15,7 +15,7 @@ use Rattle.cacache_value.proofs.{Shows.{trees_show}, Traces.{traces_act}}
 use Rattle.cacache_history.specs.{Commits.{CommitsAs, Deed, DropsAmong, FoundFirst, InsertionAdds, deeds, deeds_of_act, does}, History.{Turn, turn_of}, Lookups.{SparesKey}, ReadingCalls.{IsReading}, Setup.{Setup, call_site, is_outside, may_export}, Turns.{made_in}}
 use Rattle.cacache_history.proofs.{Contents.{Carrying.{own_bytes, own_of, opening_carries}, Deeds.{Realizes, turns_realize}, Removals.{hash_removed, key_removed}}, Histories.{ReadingCalls.{readings_do_nothing}, ShownTurns.{bucket_below, content_below}}}
 use Rattle.cacache_laws.specs.{Beside.{IsOther, KeepsBeside, ShareAddress, own_integrity}, Caches.{Called, HasKey, lies_under, setup_at}, Keeping.{KeepsOthers, StaysKnown, found_under}, Sequence.{Alike, AreAnswered, after_deeds, plain_moves, tree_on, turns_on}, Standing.{IsStanding}, trees.Later.{IsApartFrom, SparesContent, written, calls}}
-use Rattle.cacache_laws.proofs.{Calls.{InParts.{logs_lead, run_goes}, Sequence.{moves_after, moves_follow, turns_made}}, Exports.ExportEffects.{nothing_done}, Putting.{Beside.{put_keeps}, KeptKeys.{adds_keep, stays_known}, StandingPuts.{Went, insertion_adds, nowhere, put_commits, went}}, Readings.Standing.{found_shown}, Removing.Removed.{cut_buckets, cut_contents, removed_at, uncut_buckets, uncut_contents}}
+use Rattle.cacache_laws.proofs.{Calls.{InParts.{logs_lead, run_goes}, Sequence.{moves_after, moves_follow, turns_made}}, Exports.ExportEffects.{nothing_done}, Putting.{Puts.{put_keeps}, Deeds.{adds_keep, stays_known}, StandingPuts.{Went, insertion_adds, nowhere, put_commits, went}}, Readings.Standing.{found_shown}, Removing.Removed.{cut_buckets, cut_contents, removed_at, uncut_buckets, uncut_contents}}
 
 -- ---- a call on a store that stands
 

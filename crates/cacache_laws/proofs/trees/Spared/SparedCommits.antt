@@ -11,7 +11,7 @@ use Rattle.cacache_value.{specs.{Acts.{PutBytes}, Placed.{Placed}, Value.{value_
 use Rattle.cacache_history.specs.{Commits.{CommitsAs, Deed, deeds}, History.{Turn}, Setup.{Setup, call_site}, Turns.{made_in}}
 use Rattle.cacache_history.proofs.{Contents.{Carrying.{Makes, own_of}, Deeds.{turns_realize}}, Histories.Holding.{CallHolds, TurnHolds}, durable.CommitPlaces.{goes_runs}, Each.{each_join}}
 use Rattle.cacache_laws.specs.{Beside.{FitsEntry, own_integrity}, Caches.{setup_at}, InParts.{AreSilent, Begun, IsOnItsWay, turns_in, with_part}, OpenWriters.{CommitsBytes, IsOpened, make_file}, Sequence.{Alike, AreAnswered, after_deeds, plain_moves, tree_on, turns_on}, Standing.{IsStanding}}
-use Rattle.cacache_laws.proofs.{Calls.{Handed.{writes_are_parts}, InParts.{logs_lead, made_more, way_holds}, Sequence.{moves_after, moves_follow, turns_made}}, Putting.{Beside.{put_keeps}, Committing.{deeds_later, is_opened, opened, opened_by}, OpenWriters.{folder_first}, StandingPuts.{Went, nowhere, put_commits, turns_there, went}}, trees.Spared.SparedCalls.{Left, beside_left, other_of}}
+use Rattle.cacache_laws.proofs.{Calls.{InParts.{writes_are_parts, logs_lead, made_more, way_holds}, Sequence.{moves_after, moves_follow, turns_made}}, Putting.{Puts.{put_keeps}, OpenWriters.{deeds_later, is_opened, opened, opened_by, folder_first}, StandingPuts.{Went, nowhere, put_commits, turns_there, went}}, trees.Spared.SparedCalls.{Left, beside_left, other_of}}
 
 module _ (cache : List ℕ) (p : Put) (number : ℕ) (fits : FitsEntry cache p) (o : IsOpened cache number) (r : Reply) (old new : List LogItem) (standing : IsStanding cache old) (c : CommitsBytes cache p number r old new) where
   abbrev s : Setup

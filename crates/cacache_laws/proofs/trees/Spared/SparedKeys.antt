@@ -13,7 +13,7 @@ use Rattle.cacache_calls.specs.declared.reply.Reply.TheVariants as replies
 use Rattle.cacache_value.{specs.{Placed.{Placed}, Value.{value_of_tree}}, proofs.Traces.{steps_keep_placed}}
 use Rattle.cacache_history.specs.{Commits.{deeds}, Setup.{call_site}}
 use Rattle.cacache_laws.specs.{Caches.{Called, HasKey, setup_at}, GivenUp.{GivesUpTemp, drop_temp}, Keeping.{found_under}, OpenWriters.{OpensWriter, make_file, make_folder}, Sequence.{Alike, after_deeds, turns_on}, Standing.{IsStanding}, trees.Later.{AllSpare, Later, ReadsOf, Spares, SparedKeysStay, StaysRead, TombstonesFit, calls, commits, gives_up, looks, opens, written}}
-use Rattle.cacache_laws.proofs.{Calls.{InParts.{logs_lead}, Logs.{some_same}}, Putting.{Forms.{bare_written}, KeptKeys.{stays_known}, OpenWriters.{folder_first, put_nothing, temp_made, gains_none}}, Readings.{Looked.{same_stays_known}, Standing.{standing_reads}}, Spares.GivenUp.{still_alike, temp_for}, trees.{Members.{contains_member, member_contains}, Spared.{SparedCalls.{Left, call_left, idle, known_left, stands}, SparedCommits.{commit_left}}, Logged.{gains_join}}}
+use Rattle.cacache_laws.proofs.{Calls.{InParts.{logs_lead}, Logs.{some_same}}, Putting.{Forms.{bare_written}, Deeds.{stays_known}, OpenWriters.{folder_first, put_nothing, temp_made, gains_none}}, Readings.{GivenReads.{same_stays_known}, Standing.{standing_reads}}, Spares.Unused.{still_alike, temp_for}, trees.{Members.{contains_member, member_contains}, Spared.{SparedCalls.{Left, call_left, idle, known_left, stands}, SparedCommits.{commit_left}}, Logged.{gains_join}}}
 
 -- ---- the tree as it was
 

@@ -1,6 +1,6 @@
 -- If what is apart from the cache stays, links of contents lead where they led.
 use Rattle.std.proofs.{Common.{◌≡◌, ◌⊎◌, inl, inr, ℕ, zero, suc, List, [], ◌∷◌, ◌++◌, Option, Some, None, Bool, true, false, cond, Result, Ok, Err, refl, sym, ap, subst, ◌∙◌, append_assoc, bytes_eq, arith}, lemmas.List.Elements.{All-head}}
-use Rattle.cacache_core.specs.{declared.{errors.Fault.{Fault, TheVariants.{IsADirectory, NotADirectory, NotFound, TooDeep}}, integrity.digest.Hash.{Hash}}, Integrity.{IsHash, IsIntegrity}, PathNames.{Names, names_of, home_of}, Paths.{content_names}}
+use Rattle.cacache_core.specs.{declared.{errors.Fault.{Fault, TheVariants.{IsADirectory, NotFound, TooDeep}}, integrity.digest.Hash.{Hash}}, Integrity.{IsHash, IsIntegrity}, PathNames.{Names, names_of, home_of}, Paths.{content_names}}
 use Rattle.cacache_store.specs.{declared.store.{step.Step.TheVariants.{Exists}, answer.Answer.TheVariants.{There}}, Plain.{PlainAnswer}}
 use Rattle.cacache_disk.specs.{declared.{luck.Luck.TheVariants.{Plain}, node.Node.{Node, TheVariants.{Folder, File, Link}}}, Tree.{Tree, look}, LedTo.{and_then, or_fault, way_fault, place, standing, where_there, on_link, followed, leads, found, bytes_there}, Apply.{apply, is_there}, Rooted.{Rooted}}
 use Rattle.cacache_disk.proofs.{FoundNodes.{and_then_ok, or_fault_none, there_at}, Standing.{way_clear}}

@@ -1,19 +1,20 @@
 -- A clearing of both trees, one of which lacks idle contents.
+-- A removal that is made on two logs.
 use Rattle.std.proofs.Common.{◌≡◌, ◌⊎◌, inl, inr, ◌-◌, ℕ, suc, Bool, true, false, cond, nat_le, List, [], ◌∷◌, ◌++◌, None, Some, Result, Ok, Err, length, refl, sym, ap, subst, ◌∙◌, arith, append-nil}
 use Rattle.std.specs.Prelude.{bytes_eq}
 use Rattle.cacache_core.specs.{declared.errors.{Fault.{Fault}, Error.TheVariants.{IoError}}, Paths.{join, content_area, index_area, temp_area}, PathNames.{Names, names_of, home_of}}
+use Rattle.cacache_store.specs.declared.store.{answer.{Kind.{Kind}, Name.{Name}}, log.LogItem.{LogItem}}
+use Rattle.cacache_disk.specs.{declared.{luck.Luck.TheVariants.{Plain}, node.Node.{Node, TheVariants.{Folder, File, Link}}}, Tree.{Tree, look, listing, kind_of}, LedTo.{folder}, Rooted.{Rooted}, Apply.{apply}, memory.Replay.{tree_of}}
+use Rattle.cacache_calls.specs.{declared.{reply.Reply.{Reply, TheVariants.{Listed, Done, Refused}}, visit.{Task.{Task}, Visit.TheVariants.{Enter, RemoveFile}}, command.Command.{Command}}, Common.{fails}, State.{over, Walk, Site}, Walking.{most, failed, give, miss, walk_on, walk_ends, task_for_name, tasks_of, too_many, walk}, Runs.{Moves, Runs}, StepPaths.{content_path}, Table.{opening}}
+use Rattle.cacache_value.{specs.Kinds.{Content, Way, Stray, path_kind}, proofs.KindsApart.{kind-below}}
+use Rattle.cacache_laws.specs.{Sequence.{tree_on}, trees.{Walks.{is_leaf}, Idle.{BreaksOff, LacksIdle, Removed, StillLacksIdle}}}
+use Rattle.cacache_laws.proofs.{Removing.Sheds.{Shed, ShedAll, among, sheds_more, lists_folder, told_still, long_names}, trees.{Children.{child_path, folder_found, folder_there, proper_child, same_listing}, Covering.{home_named, named_on}, Twins.{Twice.{Follows, lacks_still, same_node}, Fully.{lacks_at, Both, key_goes, last_removed}}, Stepping.{MadeOn, goes, over_stays, said_over, Whole}, Swept.{Swept, alive, never_too_many, visited}, Logged.{log_rooted}}, Calls.InParts.{logs_lead}}
+use Rattle.cacache_history.proofs.{Listings.ToldFolders.{Told, AreDistinct, listing_told, listing_distinct}, Each.{Each}}
 use Rattle.cacache_core.specs.declared.errors.Fault.TheVariants as faults
 use Rattle.cacache_store.specs.declared.store.step.Step.TheVariants as steps
 use Rattle.cacache_store.specs.declared.store.answer.Answer.TheVariants as answers
-use Rattle.cacache_store.specs.declared.store.answer.{Kind.{Kind}, Name.{Name}}
 use Rattle.cacache_store.specs.declared.store.answer.Kind.TheVariants as kinds
-use Rattle.cacache_disk.specs.{declared.{luck.Luck.TheVariants.{Plain}, node.Node.{Node, TheVariants.{Folder, File, Link}}}, Tree.{Tree, look, listing, kind_of}, LedTo.{folder}, Rooted.{Rooted}, Apply.{apply}}
 use Rattle.cacache_calls.specs.declared.command.Command.TheVariants as commands
-use Rattle.cacache_calls.specs.{declared.{reply.Reply.{Reply, TheVariants.{Listed, Done, Refused}}, visit.{Task.{Task}, Visit.TheVariants.{Enter, RemoveFile}}}, Common.{fails}, State.{over, Walk}, Walking.{most, failed, give, miss, walk_on, walk_ends, task_for_name, tasks_of, too_many, walk}, Runs.{Moves, Runs}}
-use Rattle.cacache_value.{specs.Kinds.{Content, Way, Stray, path_kind}, proofs.KindsApart.{kind-below}}
-use Rattle.cacache_laws.specs.{Sequence.{tree_on}, trees.{Walks.{is_leaf}, Idle.{BreaksOff, LacksIdle}}}
-use Rattle.cacache_laws.proofs.{Removing.Sheds.{Shed, ShedAll, among, sheds_more, lists_folder, told_still, long_names}, trees.{Children.{child_path, folder_found, folder_there, proper_child}, Covering.{home_named, named_on}, Twins.{Idle.{Follows, lacks_still, same_node}, Fully.{lacks_at}}, SameListing.{same_listing}, Stepping.{MadeOn, goes, over_stays, said_over}, Swept.{Swept, alive, never_too_many, visited}}}
-use Rattle.cacache_history.proofs.{Listings.ToldFolders.{Told, AreDistinct, listing_told, listing_distinct}, Each.{Each}}
 
 -- ---- the top folder
 
@@ -167,3 +168,49 @@ module _ (cache : List ℕ) (home : Names) (full lean rest left : Tree) (is : ho
       let q_is = named_home q other in
       absurd (never q other (ap (look full) (sym q_is) ∙ sym same_top ∙ ap (look lean) q_is ∙ here))
   both_cleared (kept never same unfinished) (kept other again too) = lacks_at cache home rest left full lean same again l
+
+module _ (cache : List ℕ) (command : Command) (old new : List LogItem) (x : Removed cache command old new) where
+  abbrev pub place : Site
+  place = record { cache = cache; base = x.called.base; number = x.called.number }
+
+  -- on the tree of its log
+  abbrev pub run_of : MadeOn (opening place command) (tree_of old) x.reply
+  run_of = record {
+    moves = x.called.ran.0;
+    run = x.called.ran.1;
+    answered = (logs_lead old new x.called.ran.0 x.called.ran.2 x.called.logged).0;
+  }
+
+  pub leads_to : tree_of new ≡ tree_on (tree_of old) x.called.ran.0
+  leads_to = (logs_lead old new x.called.ran.0 x.called.ran.2 x.called.logged).1
+
+module _ (cache : List ℕ) (home : Names) (full rest lean left : List LogItem) (is : home_of cache ≡ Some home) (l : LacksIdle cache home (tree_of full) (tree_of lean)) where
+  -- at the trees that the runs of a removal lead to, it is so
+  LacksAfter : (command : Command) → Removed cache command full rest → Removed cache command lean left → Type 0
+  LacksAfter command one two = LacksIdle cache home (tree_on (tree_of full) one.called.ran.0) (tree_on (tree_of lean) two.called.ran.0)
+
+  both_of : (command : Command) (one : Removed cache command full rest) (two : Removed cache command lean left) → Whole one.reply → Whole two.reply → Both (opening (place cache command full rest one) command) (opening (place cache command lean left two) command) (tree_of full) (tree_of lean)
+  both_of command one two whole sound = record {
+    reply = one.reply;
+    whole = whole;
+    run = run_of cache command full rest one;
+    other = two.reply;
+    sound = sound;
+    second = run_of cache command lean left two;
+  }
+
+  removed : (command : Command) (one : Removed cache command full rest) (two : Removed cache command lean left) → LacksAfter command one two
+  unfolding LacksAfter both_of
+  removed (commands.RemoveHash i) one two = last_removed cache home (content_path cache i) (tree_of full) (tree_of lean) (log_rooted full) (log_rooted lean) l (both_of (commands.RemoveHash i) one two one.whole two.whole)
+  removed (commands.RemoveFully key) one two = key_goes cache home is key (tree_of full) (tree_of lean) (log_rooted full) (log_rooted lean) l (both_of (commands.RemoveFully key) one two one.whole two.whole)
+  removed commands.Clear one two =
+      both_cleared cache home (tree_of full) (tree_of lean) (tree_on (tree_of full) one.called.ran.0) (tree_on (tree_of lean) two.called.ran.0) is l
+      (cleared one.reply one.whole cache (tree_of full) (log_rooted full) (run_of cache commands.Clear full rest one))
+      (cleared two.reply two.whole cache (tree_of lean) (log_rooted lean) (run_of cache commands.Clear lean left two))
+  removed command one two = absurd (let wrong : false ≡ true = one.removal in cc)
+
+pub still_lacks_idle : StillLacksIdle
+unfolding LacksAfter
+still_lacks_idle cache home command full rest lean left is one two l =
+    lacks_at cache home (tree_of rest) (tree_of left) (tree_on (tree_of full) one.called.ran.0) (tree_on (tree_of lean) two.called.ran.0) (leads_to cache command full rest one) (leads_to cache command lean left two)
+    (removed cache home full rest lean left is l command one two)

@@ -8,7 +8,7 @@ use Rattle.cacache_entry.specs.Latest.{Found}
 use Rattle.cacache_calls.specs.{declared.{reply.Reply.{Reply, TheVariants.{Done}}, carried.Lookup.{Lookup}}, State.{State, doing, looking, over, remove}, StepPaths.{bucket_path, content_path}, Looking.{found_in}, Removing.{remove_bucket, remove_content, remove_found}, Table.{wants, after}}
 use Rattle.cacache_calls.specs.declared.carried.Aim.TheVariants as aims
 use Rattle.cacache_laws.specs.{Sequence.{tree_on}, trees.Idle.{Finds, LacksIdle}}
-use Rattle.cacache_laws.proofs.{Readings.ReadsStay.{reading_keeps}, trees.{Twins.{Idle.{bucket_read}, Twice.{from_both, from_full, from_none, removed_twice}}, Stepping.{MadeOn, Whole, goes, stays, leaves}}}
+use Rattle.cacache_laws.proofs.{Readings.ReadAnswers.{reading_keeps}, trees.{Twins.Twice.{bucket_read, from_both, from_full, from_none, removed_twice}, Stepping.{MadeOn, Whole, goes, stays, leaves}}}
 
 -- ---- two runs
 

@@ -1,4 +1,4 @@
-use Rattle.cacache_laws.proofs.results.ListResults.{listing_means}
+use Rattle.cacache_laws.proofs.results.ReadResults.{listing_means}
 use Rattle.cacache_laws.proofs.results.listing.after_list.Goals as goal
 
 pub returns : goal.returns

@@ -1,4 +1,4 @@
-use Rattle.cacache_laws.proofs.results.LinkResults.{link_means}
+use Rattle.cacache_laws.proofs.results.WriteResults.{link_means}
 use Rattle.cacache_laws.proofs.results.outside.after_link.Goals as goal
 
 pub returns : goal.returns

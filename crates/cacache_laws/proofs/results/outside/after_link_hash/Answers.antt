@@ -1,4 +1,4 @@
-use Rattle.cacache_laws.proofs.results.LinkResults.{content_link_means}
+use Rattle.cacache_laws.proofs.results.WriteResults.{content_link_means}
 use Rattle.cacache_laws.proofs.results.outside.after_link_hash.Goals as goal
 
 pub returns : goal.returns

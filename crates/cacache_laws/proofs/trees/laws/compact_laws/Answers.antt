@@ -1,4 +1,4 @@
-use Rattle.cacache_laws.proofs.trees.{Compactions.{CompactTexts.{compact_texts_answer}, CompactTwice.{compact_texts_keep_found, compact_closes, compact_twice}, LeanCalls.{compactions_answer}, LeanTrees.{compactions_keep}}, Led.{houses_are_fit}}
+use Rattle.cacache_laws.proofs.trees.{Compactions.{CompactTexts.{compact_texts_answer}, CompactTwice.{compact_texts_keep_found, compact_closes, compact_twice}, LeanTrees.{compactions_answer, compactions_keep}}, Led.{houses_are_fit}}
 use Rattle.cacache_laws.proofs.trees.laws.compact_laws.Goals as goal
 
 pub returns : goal.returns

@@ -1,4 +1,4 @@
-use Rattle.cacache_laws.proofs.trees.{Agreed.{holdings_agree}, Held.{contents_shown, listings_hold}}
+use Rattle.cacache_laws.proofs.trees.{Listing.{holdings_agree}, Indexed.{contents_shown, listings_hold}}
 use Rattle.cacache_laws.proofs.trees.laws.contents_laws.Goals as goal
 
 pub returns : goal.returns

@@ -1,4 +1,4 @@
-use Rattle.cacache_laws.proofs.trees.Twins.{Unseen.{idle_is_unseen}, BothLogs.{still_lacks_idle}}
+use Rattle.cacache_laws.proofs.trees.Twins.{Follows.{idle_is_unseen}, Cleared.{still_lacks_idle}}
 use Rattle.cacache_laws.proofs.trees.laws.idle_laws.Goals as goal
 
 pub returns : goal.returns

@@ -1,4 +1,4 @@
-use Rattle.cacache_laws.proofs.trees.{Agreed.{indexes_agree}, Collected.{indexes_find}, Indexed.{lists_each_key}}
+use Rattle.cacache_laws.proofs.trees.{Listing.{indexes_agree}, Collected.{indexes_find}, Indexed.{lists_each_key}}
 use Rattle.cacache_laws.proofs.trees.laws.index_laws.Goals as goal
 
 pub returns : goal.returns

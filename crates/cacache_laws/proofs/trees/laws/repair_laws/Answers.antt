@@ -1,4 +1,4 @@
-use Rattle.cacache_laws.proofs.trees.{HiddenKeys.{tombstones_hide}, Housed.{tombstones_house}, Led.{caches_are_housed, indexes_lead}, Mended.{repairs_leave}, Tombstones.{tombstones_keep_contents}}
+use Rattle.cacache_laws.proofs.trees.{HiddenKeys.{tombstones_hide, tombstones_house}, Led.{caches_are_housed, indexes_lead}, Collected.{repairs_leave}, Keeping.{tombstones_keep_contents}}
 use Rattle.cacache_laws.proofs.trees.laws.repair_laws.Goals as goal
 
 pub returns : goal.returns
