@@ -11,7 +11,7 @@ use Rattle.cacache_calls.specs.declared.reply.Reply.TheVariants as replies
 use Rattle.cacache_history.specs.{History.{Turn}, ListingTurns.{NoKeyTwice, is_past, listing_of, ListsHeld}, TurnReplies.{ReadsValue}, Turns.{made_in, EachTurn}}
 use Rattle.cacache_history.proofs.Histories.Holding.{TurnsHold}
 use Rattle.cacache_laws.specs.{Sequence.{turns_on}, Caches.{AStepFailed, IsCache, setup_at}, ListedKeys.{IsShown, AreAllFound, AllListed, ListsKeys, GivesKeys, ListingsGive}}
-use Rattle.cacache_laws.proofs.{Readings.{Known.{Known, known}, Looks.{moves_place, run_turns}}, Calls.Sequence.{turns_made}, Listings.ListedTurns.{both_all, once_front, Explained, turns_explained, Leads, turns_lead, has_bucket, turns_list}}
+use Rattle.cacache_laws.proofs.{Readings.{Known.{Known, known}, Looks.{moves_place, run_turns}}, Calls.Sequence.{turns_made}, Listings.ListedTurns.{both_all, once_front, Explained, turns_explained, Leads, turns_lead, all_find, has_bucket, turns_list}}
 
 module _ (cache base : List ℕ) (old new : List LogItem) where
   shown_item : (Why : Fault → Type 0) → ((fault : Fault) → Why fault → AStepFailed old new) → (item : Item) → Leads (setup_at cache base) (tree_of old) item → Explained Why item → IsShown cache old new item
@@ -32,7 +32,7 @@ never_entries : (items : List Item) → AreAllFound (items ++ too_deep ∷ []) �
 never_entries (Ok f ∷ items) h = never_entries items h
 never_entries items h = h
 
-unless_past : (P : List Item → Type 0) (b : Bool) (items : List Item) → (b ≡ false → AreAllFound items → P items) → AreAllFound (cond b (take most items ++ too_deep ∷ []) items)
+pub unless_past : (P : List Item → Type 0) (b : Bool) (items : List Item) → (b ≡ false → AreAllFound items → P items) → AreAllFound (cond b (take most items ++ too_deep ∷ []) items)
     → P (cond b (take most items ++ too_deep ∷ []) items)
 unless_past P true items h entries = absurd (never_entries (take most items) entries)
 unless_past P false items h entries = h refl entries
@@ -63,7 +63,8 @@ module _ (cache base : List ℕ) (old new : List LogItem) (list : List Item) (so
       let shown = both_all (Leads s t) (Explained why) (IsShown cache old new) (shown_item cache base old new why failed) items (turns_lead s t turns items here h.1) (turns_explained s turns items holds h.1) in
       let all : AreAllFound (listing_of turns h.0) → AllListed cache old (listing_of turns h.0)
       = unless_past (AllListed cache old) past items (λ near entries key found leads.
-      turns_list s t key found leads turns items holds here h.1 entries (h.4.finds near key (has_bucket s t key found leads turns here))) in
+      let finds = all_find s t key found leads turns here in
+      turns_list s key found turns items holds finds h.1 entries (h.4.finds near key (has_bucket s key found turns finds))) in
       let same : list ≡ listing_of turns h.0 = (let reply : replies.Listed list ≡ replies.Listed (listing_of turns h.0) = h.4.answers in cc) in
       subst (λ l. ListsKeys cache l old new) (sym same) (record { shown = all_shown cache base old new past items shown; once = no_key_twice past items h.3; all = all })
 

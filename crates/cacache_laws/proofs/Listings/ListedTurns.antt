@@ -4,14 +4,14 @@ use Rattle.std.specs.{Prelude.{All, bytes_eq, unwrap_or}, List.{filter_map, cons
 use Rattle.cacache_entry.specs.{Entry.{Entry}, Latest.{Found, answer_of, after_entry, latest}}
 use Rattle.cacache_calls.specs.{ListReplies.{In, keys_of, too_deep, by_folder}, State.{Item}, Walking.{once, items_of, failed}, declared.answers.Refusal.{Refusal}, Answers.{names_in}, Causes.{Faults, Faulted}, StepPaths.{bucket_path}}
 use Rattle.cacache_calls.proofs.Keys.{each_key_once}
-use Rattle.cacache_history.specs.{ListingTurns.{OtherKey, NoKeyTwice, IsFound, TurnGives, TurnsGive, AnyTurn, HasBucket, TurnReadsBucket, FailsAbove}, Setup.{Setup, home}, History.{Turn}, ShownTurns.{entries_at, shown_result, bucket_read, by_entries}, Turns.{made_in, EachTurn}}
-use Rattle.cacache_history.proofs.Histories.{Holding.{TurnHolds, TurnsHold}, ShownTurns.{bucket_below, bucket_at_turn}}
+use Rattle.cacache_history.specs.{ListingTurns.{OtherKey, NoKeyTwice, IsFound, TurnGives, TurnsGive, AnyTurn, HasBucket, TurnReadsBucket, FailsAbove}, Setup.{Setup, home}, History.{Turn}, ShownTurns.{entries_at, held, shown_result, bucket_read, by_entries}, Turns.{made_in, EachTurn}}
+use Rattle.cacache_history.proofs.{Histories.{Holding.{TurnHolds, TurnsHold}, ShownTurns.{bucket_below, bucket_at_turn}}, Each.{each_weaker}}
 use Rattle.cacache_laws.{specs.{ListedKeys.{AreAllFound}, ReadAnswers.{entries_on}}, proofs.{trees.Members.{mapped, in_left, in_right}, Readings.ReadAnswers.{is_shown}}}
 use Rattle.sha1.specs.Sha1.{sha1}
 use Rattle.cacache_core.specs.{declared.errors.Fault.{Fault}, Paths.{bucket_names_of}}
 use Rattle.cacache_store.specs.{declared.store.answer.Name.{Name}, Plain.{PlainStep, PlainAnswer}, Fits.{Fits}}
 use Rattle.cacache_disk.specs.{Tree.{Tree, listing}, LedTo.{file_at, folder}, Apply.{apply, unless}}
-use Rattle.cacache_value.{specs.{Acts.{list_of}, Kinds.{NamesBelow}, Value.{value_of_tree}}, proofs.Shows.{apply_answer}}
+use Rattle.cacache_value.{specs.{Acts.{list_of}, Kinds.{NamesBelow}}, proofs.Shows.{apply_answer}}
 use Rattle.cacache_core.specs.declared.errors.Fault.TheVariants as faults
 use Rattle.cacache_store.specs.declared.store.answer.Answer.TheVariants as answers
 use Rattle.cacache_store.specs.declared.store.step.Step.TheVariants as steps
@@ -186,18 +186,24 @@ bucket_errs es other refusal given is h = absurd cc
 
 -- ---- what a key leads to is found
 
-module _ (s : Setup) (t : Tree) (key : List ℕ) (f : Found) (leads : latest key (entries_on (home s) t key) ≡ Some f) where
+-- at the turn's place the key leads to this entry
+abbrev pub TurnFinds : Setup → List ℕ → Found → Turn → Type 0
+TurnFinds s key f turn = latest key (entries_at s (sha1 key) turn) ≡ Some f
+
+-- so it does at each turn that finds one tree
+pub all_find : (s : Setup) (t : Tree) (key : List ℕ) (f : Found) → latest key (entries_on (home s) t key) ≡ Some f → (turns : List Turn) → EachTurn (IsHere s t) turns → EachTurn (TurnFinds s key f) turns
+all_find s t key f leads = each_weaker (IsHere s t) (TurnFinds s key f) (λ turn here. ap (λ p. latest key (entries_on (home s) p key)) here ∙ leads)
+
+module _ (s : Setup) (key : List ℕ) (f : Found) where
   is_bucket : (bucket : Option (List Entry)) → latest key (list_of bucket) ≡ Some f → (entries : List Entry) × (bucket ≡ Some entries)
   is_bucket None h = absurd cc
   is_bucket (Some entries) h = (entries, refl)
 
-  pub has_bucket : (turns : List Turn) → EachTurn (IsHere s t) turns → EachTurn (HasBucket s key) turns
-  has_bucket [] here = tt
-  has_bucket (turn ∷ turns) here =
-      let b = is_bucket ((value_of_tree (home s) t).buckets (sha1 key)) leads in
-      ((b.0, ap (λ p. (value_of_tree (home s) p).buckets (sha1 key)) here.0 ∙ b.1), has_bucket turns here.1)
+  pub has_bucket : (turns : List Turn) → EachTurn (TurnFinds s key f) turns → EachTurn (HasBucket s key) turns
+  has_bucket [] finds = tt
+  has_bucket (turn ∷ turns) finds = (is_bucket ((held s turn).buckets (sha1 key)) finds.0, has_bucket turns finds.1)
 
-  module _ (turn : Turn) (holds : TurnHolds s turn) (here : IsHere s t turn) where
+  module _ (turn : Turn) (holds : TurnHolds s turn) (finds : TurnFinds s key f turn) where
     -- of the key's bucket, whichever key the turn names it by
     reads_same : (other : List ℕ) → turn.move.step ≡ steps.ReadAll (bucket_path s.cache key) → bucket_path s.cache key ≡ bucket_path s.cache other
         → bucket_read s (sha1 other) turn ≡ bucket_read s (sha1 key) turn
@@ -210,7 +216,7 @@ module _ (s : Setup) (t : Tree) (key : List ℕ) (f : Found) (leads : latest key
         let es = entries_at s (sha1 key) turn in
         let same : items ≡ by_entries (shown_result turn.move.answer (Ok (entries_at s (sha1 key) turn))) = g.2 ∙ ap by_entries (reads_same g.0 is g.1) in
         elim (is_shown turn.move.answer (Ok es)) [
-          | inl e ↦ subst (In (Ok f)) (sym (same ∙ ap by_entries e)) (lists_found key es f (ap (λ p. latest key (entries_on (home s) p key)) here ∙ leads))
+          | inl e ↦ subst (In (Ok f)) (sym (same ∙ ap by_entries e)) (lists_found key es f finds)
           | inr e ↦ absurd (bucket_errs es turn.move.answer e.0 (bucket_given s turn holds (bucket_path s.cache key) is) e.1 (subst AreAllFound same entries))
         ]
 
@@ -222,12 +228,12 @@ module _ (s : Setup) (t : Tree) (key : List ℕ) (f : Found) (leads : latest key
     turn_lists items g entries (inl reads) = bucket_lists items reads (subst (λ step. TurnGives s turn step items) reads g) entries
     turn_lists items g entries (inr fails) = folder_lists _ items fails.1 fails.2 fails.3 (subst (λ step. TurnGives s turn step items) fails.2 g) entries
 
-  pub turns_list : (turns : List Turn) (items : List Item) → TurnsHold s turns → EachTurn (IsHere s t) turns → TurnsGive s turns items → AreAllFound items
+  pub turns_list : (turns : List Turn) (items : List Item) → TurnsHold s turns → EachTurn (TurnFinds s key f) turns → TurnsGive s turns items → AreAllFound items
       → AnyTurn (λ turn. TurnReadsBucket s key turn ⊎ FailsAbove s key turn) turns → In (Ok f) items
-  turns_list [] items hold here g entries any = absurd any
-  turns_list (turn ∷ turns) items hold here g entries (inl sees) =
+  turns_list [] items hold finds g entries any = absurd any
+  turns_list (turn ∷ turns) items hold finds g entries (inl sees) =
       let all = subst AreAllFound g.2 entries in
-      subst (In (Ok f)) (sym g.2) (in_left (Ok f) g.0 g.1 (turn_lists turn hold.0 here.0 g.0 g.3 (entries_left g.0 g.1 all) sees))
-  turns_list (turn ∷ turns) items hold here g entries (inr later) =
+      subst (In (Ok f)) (sym g.2) (in_left (Ok f) g.0 g.1 (turn_lists turn hold.0 finds.0 g.0 g.3 (entries_left g.0 g.1 all) sees))
+  turns_list (turn ∷ turns) items hold finds g entries (inr later) =
       let all = subst AreAllFound g.2 entries in
-      subst (In (Ok f)) (sym g.2) (in_right (Ok f) g.0 g.1 (turns_list turns g.1 hold.1 here.1 g.4 (entries_right g.0 g.1 all) later))
+      subst (In (Ok f)) (sym g.2) (in_right (Ok f) g.0 g.1 (turns_list turns g.1 hold.1 finds.1 g.4 (entries_right g.0 g.1 all) later))

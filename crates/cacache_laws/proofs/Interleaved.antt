@@ -1,0 +1,3 @@
+pub mod NamedEntries
+pub mod SparedContents
+pub mod KeptContents
