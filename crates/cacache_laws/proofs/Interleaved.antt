@@ -1,3 +1,4 @@
 pub mod NamedEntries
 pub mod SparedContents
 pub mod KeptContents
+pub mod KeptPuts

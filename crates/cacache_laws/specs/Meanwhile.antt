@@ -3,9 +3,9 @@
 use Rattle.std.specs.Prelude.{◌≡◌, ◌≤◌, ◌<◌, ℕ, List, Some, Ok, take}
 use Rattle.cacache_core.specs.{declared.integrity.digest.Hash.{Hash}, Integrity.{address}}
 use Rattle.cacache_entry.specs.Latest.{Found}
-use Rattle.cacache_calls.specs.{declared.{command.Command.{Command}, reply.Reply.TheVariants.{Listed}}, ListReplies.{In}, State.{Item}}
+use Rattle.cacache_calls.specs.{declared.{command.{Command.{Command}, Put.{Put}}, reply.Reply.TheVariants.{Listed, Stored}}, ListReplies.{In}, State.{Item}}
 use Rattle.cacache_calls.specs.declared.command.Command.TheVariants as commands
-use Rattle.cacache_history.specs.{AddedEntries.{IsContentOf}, Commits.{FoundFirst}, History.{History, Turn, Call, IsLegal}, Lookups.{SparesKey, lookup_at}, Places.{now_before, CallIn, MoveAt, MovesAre}, Setup.{Setup}, Values.{value_at}}
+use Rattle.cacache_history.specs.{AddedEntries.{IsContentOf, address_of_put}, Commits.{FoundFirst}, History.{History, Turn, Call, IsLegal}, Lookups.{SparesKey, lookup_at}, Places.{now_before, CallIn, MoveAt, MovesAre}, Setup.{Setup}, Values.{value_at}}
 use Rattle.cacache_laws.specs.ListedKeys.{AreAllFound}
 
 -- ---- what a listing names
@@ -74,3 +74,10 @@ CollectionsKeep =
     (key : List ℕ) (found : Found) → ListsAllIn h m between caller call items → between ≤ n
     → MovesAre h m n (SparesKey key) → AllSpareListed h m n items → LeadsToContent h m key found
     → LeadsToContent h n key found
+
+-- the content of a put that answered is there, if each call since it began spares it
+abbrev pub PutsKeep : Type 0
+PutsKeep =
+    (h : History) → IsLegal h → (m n caller : ℕ) (call : Call) (p : Put) (i : List Hash)
+    → call.command ≡ commands.Put p → CallIn h m n caller call (Some (Stored i))
+    → AllSpare h m n (address_of_put p) → HoldsContent h n (address_of_put p)
