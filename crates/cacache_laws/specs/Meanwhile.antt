@@ -1,12 +1,15 @@
 -- What a collection keeps while others write: a listing of the index, and removals of what it doesn't
 -- name.
-use Rattle.std.specs.Prelude.{◌≡◌, ◌≤◌, ◌<◌, ℕ, List, Some, Ok, take}
-use Rattle.cacache_core.specs.{declared.integrity.digest.Hash.{Hash}, Integrity.{address}}
+use Rattle.std.specs.Prelude.{◌≡◌, ◌≤◌, ◌<◌, ◌++◌, ℕ, List, [], ◌∷◌, None, Some, Ok, take}
+use Rattle.cacache_core.specs.{declared.integrity.digest.Hash.{Hash}, Integrity.{IsIntegrity, address}}
+use Rattle.cacache_store.specs.declared.store.step.Step.TheVariants.{RemoveFile}
+use Rattle.cacache_store.specs.declared.store.answer.Answer.TheVariants as answers
+use Rattle.cacache_disk.specs.declared.luck.Luck.TheVariants.{Plain}
 use Rattle.cacache_entry.specs.Latest.{Found}
-use Rattle.cacache_calls.specs.{declared.{command.{Command.{Command}, Put.{Put}}, reply.Reply.TheVariants.{Listed, Stored}}, ListReplies.{In}, State.{Item}}
+use Rattle.cacache_calls.specs.{declared.{command.{Command.{Command}, Put.{Put}}, reply.Reply.TheVariants.{Done, Listed, Stored}}, ListReplies.{In}, State.{Item}, StepPaths.{content_path}}
 use Rattle.cacache_calls.specs.declared.command.Command.TheVariants as commands
-use Rattle.cacache_history.specs.{AddedEntries.{IsContentOf, address_of_put}, Commits.{FoundFirst}, History.{History, Turn, Call, IsLegal}, Lookups.{SparesKey, lookup_at}, Places.{now_before, CallIn, MoveAt, MovesAre}, Setup.{Setup}, Values.{value_at}}
-use Rattle.cacache_laws.specs.ListedKeys.{AreAllFound}
+use Rattle.cacache_history.specs.{declared.record.Record.{Record, TheVariants.{Began, Moved}}, AddedEntries.{IsContentOf, address_of_put}, Commits.{FoundFirst}, History.{History, Turn, Call, IsLegal, now_at}, Lookups.{SparesKey, lookup_at}, Places.{now_before, CallIn, MoveAt, MovesAre}, Setup.{Setup}, Values.{IsThere, value_at}}
+use Rattle.cacache_laws.specs.{ListedKeys.{AreAllFound}, results.DurableCases.{followed_by}}
 
 -- ---- what a listing names
 
@@ -81,3 +84,22 @@ PutsKeep =
     (h : History) → IsLegal h → (m n caller : ℕ) (call : Call) (p : Put) (i : List Hash)
     → call.command ≡ commands.Put p → CallIn h m n caller call (Some (Stored i))
     → AllSpare h m n (address_of_put p) → HoldsContent h n (address_of_put p)
+
+-- ---- what can't be kept
+
+-- the records of a caller's removal of what is at an integrity's address
+abbrev pub removal_of : History → ℕ → List Hash → List Record
+removal_of h caller i =
+    Began caller (commands.RemoveHash i)
+    ∷ Moved caller Plain (Some (RemoveFile (content_path h.setup.cache i), answers.Done)) (Some Done)
+    ∷ []
+
+-- whatever was listed before, a caller that has no call may remove a content that is there, such as
+-- that of a put since: each legal history goes on so, and then the content is gone
+abbrev pub RemovalsMayCome : Type 0
+RemovalsMayCome =
+    (h : History) → IsLegal h → (caller : ℕ) (a : Hash) (hs : List Hash)
+    → caller < h.setup.callers → (now_at h h.records).calls caller ≡ None
+    → IsIntegrity (a ∷ hs) → IsThere ((value_at h h.records).contents a)
+    → IsLegal (followed_by h (removal_of h caller (a ∷ hs)))
+    × ((value_at h (h.records ++ removal_of h caller (a ∷ hs))).contents a ≡ None)

@@ -1,4 +1,4 @@
-use Rattle.cacache_laws.proofs.Interleaved.{KeptContents.{collections_keep}, KeptPuts.{puts_keep}, NamedEntries.{listings_name}}
+use Rattle.cacache_laws.proofs.Interleaved.{ComingRemovals.{removals_may_come}, KeptContents.{collections_keep}, KeptPuts.{puts_keep}, NamedEntries.{listings_name}}
 use Rattle.cacache_laws.proofs.meanwhile.meanwhile_laws.Goals as goal
 
 pub returns-clause-names : goal.returns-clause-names
@@ -9,3 +9,6 @@ returns-clause-keeps c = collections_keep
 
 pub returns-clause-puts : goal.returns-clause-puts
 returns-clause-puts c = puts_keep
+
+pub returns-clause-comes : goal.returns-clause-comes
+returns-clause-comes c = removals_may_come
