@@ -28,6 +28,7 @@ pub use Rattle.cacache_history.specs.durable.Outlasting.{AnsweredPut, DurableIns
 pub use Rattle.cacache_system_model.specs.callers.Made.{CacheOn, CachesBegin, CachesGoOn, MakesHistory, history_of, now_left}
 pub use Rattle.cacache_system_model.specs.callers.Seen.{SeenActsAre, SeenMakeHistories}
 pub use Rattle.cacache_world.specs.Losses.{LeftBy}
+pub use Rattle.cacache_laws.specs.Meanwhile.{AllSpareListed, LeadsToContent, ListingsName, ListsAllIn, PutsKeep}
 pub use Rattle.cacache_laws.specs.Standing.{IsStanding}
 pub use Rattle.cacache_laws.specs.results.DurableCases.{CanBeWritten, GoElsewhere, InsertsStandInOne, IsLastPut, PutsStandInOne, PutsStandLast, StandsIn, StoresDurably, followed_by}
 pub use Rattle.cacache_laws.specs.results.FoundLinks.{GivesDigest, HistoriesKeepLinks, LeadsUnchanged, LinksLeadUnchanged, LinksOutlast, OnlyLinksIn, PutsOrLinksGive, StaysUnchanged, UnchangedFilesStay, linking_in}

@@ -16,7 +16,8 @@ pub use cacache_laws::results::{
     joining_laws, link_losses, linker_laws, loss_results, writer_laws,
 };
 pub use cacache_laws::{
-    cache_laws, handle_laws, look_laws, parts_laws, sequence_laws, standing_laws, success_laws,
+    cache_laws, handle_laws, look_laws, meanwhile_laws, parts_laws, sequence_laws, standing_laws,
+    success_laws,
 };
 pub use cacache_polled::laws::event_laws;
 pub use cacache_shared::seat_laws;

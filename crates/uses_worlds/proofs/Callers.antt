@@ -5,7 +5,7 @@ use Rattle.uses_worlds.specs.Callers.{CrashesAreSafe, OneOfTwo, PutThenGet, Read
 
 -- ---- puts
 
-one_put : (cache key : List ℕ) (p : Put) (now was : Option Found) → was ≡ Some (found_of_put cache key p) → (now ≡ was) ⊎ FoundOfPuts cache key (p ∷ []) now → now ≡ Some (found_of_put cache key p)
+pub one_put : (cache key : List ℕ) (p : Put) (now was : Option Found) → was ≡ Some (found_of_put cache key p) → (now ≡ was) ⊎ FoundOfPuts cache key (p ∷ []) now → now ≡ Some (found_of_put cache key p)
 one_put cache key p now was is (inl same) = same ∙ is
 one_put cache key p now was is (inr (inl own)) = own
 one_put cache key p now was is (inr (inr never)) = absurd never
