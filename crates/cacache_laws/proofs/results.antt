@@ -13,3 +13,6 @@ pub mod OutsideSteps
 pub mod LinkLosses
 pub mod LinkerResults
 pub mod DurableCases
+pub mod ExportWays
+pub mod LayeredResults
+pub mod FetchedResults

@@ -3,7 +3,7 @@ use Rattle.std.specs.Prelude.{◌≡◌, ◌<◌, ◌^◌, ℕ, false, List, Opt
 use Rattle.serde_json.specs.Data.{null}
 use Rattle.cacache_core.specs.{declared.{errors.Error.TheVariants.{SerdeError}, integrity.{algorithm.Algorithm.{Algorithm}, digest.Hash.{Hash}}}, Integrity.{IsIntegrity}}
 use Rattle.cacache_store.specs.declared.store.log.LogItem.{LogItem}
-use Rattle.cacache_entry.specs.Latest.{Found}
+use Rattle.cacache_entry.specs.Latest.{Found, found_of}
 use Rattle.cacache_calls.specs.declared.command.Command.TheVariants as commands
 use Rattle.cacache_calls.specs.{declared.{command.Insert.{Insert}, reply.Reply.{Reply, TheVariants.{Stored, Refused}}}, Inserting.{insertion, refused_cause}, Sound.{FormedIfWritten}}
 use Rattle.cacache_laws.specs.{Caches.{IsCache, IsExcused, HasContent, HasKey, LacksKey, Called}, Keeping.{found_under, KeepsOthers}}
@@ -12,10 +12,11 @@ use Rattle.cacache_laws.specs.{Caches.{IsCache, IsExcused, HasContent, HasKey, L
 abbrev pub leads_to : List ℕ → List ℕ → List LogItem → Option (List Hash)
 leads_to cache key log = option_map (λ (found : Found). found.integrity) (found_under cache key log)
 
--- after an insertion that stored, the key leads to its integrity, if it has one; otherwise the
+-- after an insertion that stored, the key leads to its entry, if that has an integrity; otherwise the
 -- entry can't be written for this cause, or the error is excused
 abbrev pub InsertsKey : List ℕ → Insert → Reply → List LogItem → List LogItem → Type 0
-InsertsKey cache i (Stored j) old new = leads_to cache i.key new ≡ i.options.integrity
+InsertsKey cache i (Stored j) old new =
+    found_under cache i.key new ≡ option_map (found_of (insertion cache i).entry) i.options.integrity
 InsertsKey cache i (Refused (SerdeError cause message)) old new =
     refused_cause (insertion cache i) ≡ Some cause
 InsertsKey cache i (Refused e) old new = IsExcused e old new

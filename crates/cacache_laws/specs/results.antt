@@ -12,3 +12,4 @@ pub mod FoundLinks
 pub mod LeftLinks
 pub mod Success
 pub mod DurableCases
+pub mod Composed

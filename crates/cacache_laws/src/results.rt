@@ -3,6 +3,7 @@
 //! `ran`, and say what the call left and answered in words of keys and contents.
 
 mod changes;
+mod composed;
 mod handles;
 mod joins;
 mod linkers;
@@ -15,6 +16,7 @@ pub use changes::{
     after_clear, after_insert, after_remove, after_remove_fully, after_remove_hash, after_write,
     after_write_hash,
 };
+pub use composed::{after_export, after_get_or_put, layered_laws};
 pub use handles::writer_laws;
 pub use joins::joining_laws;
 pub use linkers::linker_laws;

@@ -187,17 +187,14 @@ commits_store a cache key bytes moment number r old new utf8 small early o sound
 
 -- the entry that is added last is found
 leads : (cache : List ℕ) (i : Insert) (old new : List LogItem) → (given : Option (List Hash)) → i.options.integrity ≡ given → IfSome given IsIntegrity
-    → entries_on (home_of cache) (tree_of new) i.key ≡ entries_on (home_of cache) (tree_of old) i.key ++ (insertion cache i).entry ∷ [] → leads_to cache i.key new ≡ given
+    → entries_on (home_of cache) (tree_of new) i.key ≡ entries_on (home_of cache) (tree_of old) i.key ++ (insertion cache i).entry ∷ [] → found_under cache i.key new ≡ option_map (found_of (insertion cache i).entry) given
 leads cache i old new None none formed entries =
-    let e = (insertion cache i).entry in
-    ap (option_map (λ (found : Found). found.integrity))
-    (finds_last i.key e None (entries_on (home_of cache) (tree_of old) i.key) (entries_on (home_of cache) (tree_of new) i.key) refl (ap (λ g. answer_of (insertion cache i).entry (given_text g)) none) entries)
+    finds_last i.key (insertion cache i).entry None (entries_on (home_of cache) (tree_of old) i.key) (entries_on (home_of cache) (tree_of new) i.key) refl (ap (λ g. answer_of (insertion cache i).entry (given_text g)) none) entries
 leads cache i old new (Some j) some formed entries =
     let e = (insertion cache i).entry in
     let answer : answer_of e e.integrity ≡ Some (Some (found_of e j))
     = ap (λ g. answer_of (insertion cache i).entry (given_text g)) some ∙ ap (λ r. option_map (option_map (found_of (insertion cache i).entry)) (answer_read r)) (printed j formed) in
-    ap (option_map (λ (found : Found). found.integrity))
-    (finds_last i.key e (Some (found_of e j)) (entries_on (home_of cache) (tree_of old) i.key) (entries_on (home_of cache) (tree_of new) i.key) refl answer entries)
+    finds_last i.key e (Some (found_of e j)) (entries_on (home_of cache) (tree_of old) i.key) (entries_on (home_of cache) (tree_of new) i.key) refl answer entries
 
 module _ (cache base : List ℕ) (i : Insert) (old new : List LogItem) where
   only : (r : Reply) → Known cache base (commands.Insert i) r old new → Only (replies.Stored (given_or no_integrity i.options.integrity)) r

@@ -197,7 +197,7 @@ copy_missing answer gives r cache source checked to old new h i leads none =
 
 -- ---- what exports gave and left
 
-leaves : (cache : List ℕ) (source : Source) (how : How) (checked : Bool) (to : List ℕ) (r : Reply) (old new : List LogItem) → IsApart cache to → NamesSource source → IsCache cache old
+pub leaves : (cache : List ℕ) (source : Source) (how : How) (checked : Bool) (to : List ℕ) (r : Reply) (old new : List LogItem) → IsApart cache to → NamesSource source → IsCache cache old
     → Called cache (export_by how source checked to) r old new → LeavesKnownCache cache old new
 leaves cache source how checked to r old new apart named sound c =
     let k = exports_keep cache source (record { how = how; checked = checked; to = to }) r old new apart named sound c in
@@ -252,11 +252,11 @@ shared (Err e) bytes to old new h = excused_error e old new h
 
 -- ---- where an export may go
 
-may_take : (how : How) (to : List ℕ) (log : List LogItem) → MayTake HardLink to log → MayTake how to log
+pub may_take : (how : How) (to : List ℕ) (log : List LogItem) → MayTake HardLink to log → MayTake how to log
 may_take Copy to log may = (may.0, free_writable (tree_of log) to may.0 may.1)
 may_take how to log may = may
 
-is_given : (how : How) (bytes : List ℕ) → IsGiven (exported how bytes)
+pub is_given : (how : How) (bytes : List ℕ) → IsGiven (exported how bytes)
 is_given Copy bytes = tt
 is_given how bytes = tt
 

@@ -6,7 +6,7 @@ use Rattle.serde_json.specs.Data.{Data, null}
 use Rattle.cacache_core.specs.{declared.{errors.Error.{Error, TheVariants.{IoError, SerdeError}}, integrity.{algorithm.Algorithm.{Algorithm, TheVariants.{Sha256}}, digest.Hash.{Hash}}}, Integrity.{integrity_under}, Texts.{integrity_text}}
 use Rattle.cacache_store.specs.declared.{env.Env.{Env}, store.log.LogItem.{LogItem}}
 use Rattle.cacache_disk.specs.memory.Replay.{IsLog, tree_of}
-use Rattle.cacache_entry.specs.{Entry.{Entry}, Latest.{Found}}
+use Rattle.cacache_entry.specs.{Entry.{Entry}, Latest.{Found, found_of}}
 use Rattle.cacache_calls.specs.{declared.{command.Insert.{Insert}, reply.Reply.TheVariants.{Refused, Stored}, carried.Commit.{Commit}}, Inserting.{entry_of, given_size, given_text, insertion, refused_cause}, Runs.{reply_of, without_message, Ran}, Linking.{based, commit_for, link_target, with_size}, Replies.{OrMemory}, Table.{opening}}
 use Rattle.cacache_calls.proofs.IntegrityUtf8.{integrity_utf8}
 use Rattle.cacache_jobs.specs.{Environment.{HasMoment}, Sites.{site_of}}
@@ -130,9 +130,14 @@ content_write_means moments numbers a cache bytes r new logged old sound ran =
 
 -- ---- insertions
 
+-- the integrity of an entry that is found
+led_so : (e : Entry) (o : Option (List Hash)) → option_map (λ (f : Found). f.integrity) (option_map (found_of e) o) ≡ o
+led_so e None = refl
+led_so e (Some i) = refl
+
 inserted_so : (r : Result (List Hash) Error) (cache : List ℕ) (i : Insert) (old new : List LogItem) → refused_cause (insertion cache i) ≡ None → InsertsKey cache i (reply_of Stored r) old new
     → IfOk r (λ j. leads_to cache i.key new ≡ i.options.integrity) × IfErr r (λ e. IsExcused e old new)
-inserted_so (Ok j) cache i old new fits h = (h, tt)
+inserted_so (Ok j) cache i old new fits h = (ap (option_map (λ (f : Found). f.integrity)) h ∙ led_so (insertion cache i).entry i.options.integrity, tt)
 inserted_so (Err (IoError fault message)) cache i old new fits h = (tt, excused_error (IoError fault message) old new h)
 inserted_so (Err (SerdeError cause message)) cache i old new fits h = let no : None ≡ Some cause = sym fits ∙ h in absurd cc
 inserted_so r cache i old new fits h = (tt, h)

@@ -1,0 +1,114 @@
+-- What calls that are made of others gave their caller and left, by their results, on a store in memory.
+use Rattle.std.specs.{Prelude.{◌≡◌, ◌⊎◌, ◌<◌, ◌^◌, ℕ, Bool, true, false, List, Option, Some, Vec, Result, Ok, IfOk, IfErr, MatchResult, length}, Global.{Global}}
+use Rattle.cacache_core.specs.declared.{errors.Error.{Error, TheVariants.{OutOfMemory}}, integrity.digest.Hash.{Hash}}
+use Rattle.cacache_store.specs.declared.{env.Env.{Env}, store.log.LogItem.{LogItem}}
+use Rattle.cacache_disk.specs.memory.Replay.{tree_of}
+use Rattle.cacache_calls.specs.declared.command.{How.TheVariants.{HardLink}, Source.{Source}}
+use Rattle.cacache_sync.specs.{declared.{layers.Layered.{Layered}, ways.{Exported.{Exported}, ExportMode.{ExportMode}}}, GetOrPut.{GetsOrPuts}, Layers.{AsksHash, AsksLayers, FindsKey, ReadsHash, ReadsKey, finds_none, lacks_content, lacks_entry, says_no}, Ways.{Tries, export_reply, ways}}
+use Rattle.cacache_history.specs.History.{NamesSource}
+use Rattle.cacache_laws.specs.{Caches.{Grows, HasContent, HasKey, IsCache, IsExcused, LacksKey}, ExportEffects.{IsApart, NamesBytes}, Exported.{Arrives}, Keeping.{found_under}, OpenSucceeds.{MayTake}, OpenWriters.{LeavesKnownCache}, Succeeds.{NamesFolder}, results.{Exports.{RefusesSource}, Reads.{AskedContent, ContentRead, EntryFound, KeyLiesWhole, KeyRead}, Success.{FailsForMemory}}}
+
+-- ---- exports by the first way that is open
+
+-- The bytes are where the path leads, and a count is theirs, or the error is excused. If the cache's path names
+-- a folder, damaged bytes and a key that leads to nothing have their own errors, and an error left the whole
+-- tree, unless memory was refused
+pub record WentOut (cache : List ℕ) (source : Source) (to : List ℕ) (r : Result Exported Error)
+    (old new : List LogItem) : Type 0 where
+  pub leaves : LeavesKnownCache cache old new
+  pub arrives : (bytes : List ℕ) → NamesBytes cache source bytes old
+      → MatchResult r (λ e. Arrives bytes to (export_reply e) old new)
+      (λ e. IsExcused e old new)
+  pub succeeds : (bytes : List ℕ) → NamesFolder cache → NamesBytes cache source bytes old
+      → MayTake HardLink to old → FailsForMemory r
+  pub refuses : NamesFolder cache → RefusesSource cache source true r old
+  pub stays : NamesFolder cache
+      → IfErr r (λ e. (e ≡ OutOfMemory) ⊎ (tree_of new ≡ tree_of old))
+
+-- ---- layers
+
+-- what the upper cache gives; or it lacks this, and the lower one gives it on the same tree
+abbrev pub GivesLayered : {R : Type 0} → (R → Bool)
+    → (List ℕ → R → List LogItem → List LogItem → Type 0) → (List ℕ → List LogItem → Type 0)
+    → Layered → R → List LogItem → List LogItem → Type 0
+GivesLayered lacks Gives Lacks l r old new =
+    ((lacks r ≡ false) × Gives l.upper.now r old new)
+    ⊎ (Lacks l.upper.now old × ((mid : List LogItem) × Grows old mid × (tree_of mid ≡ tree_of old)
+    × Gives l.lower.now r mid new))
+
+-- no bytes lie under the integrity that meet it, if the cache's path names a folder
+abbrev pub LacksContent : List Hash → List ℕ → List LogItem → Type 0
+LacksContent i cache log =
+    (bytes : List ℕ) → NamesFolder cache → HasContent cache i bytes log → ⊥
+
+module _ {C N R : Type 0} where
+  -- such a question of two caches, with this result, gives that
+  abbrev pub LayersMean :
+      (List ℕ → Env (List LogItem) C N → Env (List LogItem) C N → R → Type 0) → (R → Bool)
+      → (List ℕ → R → List LogItem → List LogItem → Type 0) → (List ℕ → List LogItem → Type 0)
+      → Env (List LogItem) C N → Type 0
+  LayersMean asked lacks Gives Lacks new =
+      (l : Layered) (r : R) (old : Env (List LogItem) C N) → IsCache l.upper.now old.store
+      → IsCache l.lower.now old.store → AsksLayers l asked lacks old new r
+      → GivesLayered lacks Gives Lacks l r old.store new.store
+
+-- ---- bytes that are read, or fetched and stored
+
+-- The key leads to the bytes, which it led to before or which were fetched. Whatever is answered, other keys
+-- lead where they led
+pub record GotOrPut (cache key : List ℕ) (Fetches : Result (Vec ℕ Global) Error → Type 0)
+    (r : Result (Vec ℕ Global) Error) (old new : List LogItem) : Type 0 where
+  pub sound : IsCache cache new
+  pub leads : IfOk r (λ v. KeyLiesWhole cache key new v.items)
+  pub from : IfOk r (λ v. KeyLiesWhole cache key old v.items ⊎ Fetches (Ok v))
+  pub gives : (i : List Hash) (bytes : List ℕ) → NamesFolder cache
+      → HasKey cache key i bytes old → MatchResult r (λ v. v.items ≡ bytes) (λ e. e ≡ OutOfMemory)
+  pub others : (other : List ℕ) → (other ≡ key → ⊥)
+      → found_under cache other new ≡ found_under cache other old
+
+-- ---- laws, of the environment that a call left
+
+module _ {C N : Type 0} where
+  -- an export in a mode to a path apart from the cache, with this result, is one
+  abbrev pub ExportMeans :
+      List ℕ → List ℕ → Result Exported Error → Env (List LogItem) C N → Type 0
+  ExportMeans cache to r new =
+      (source : Source) (mode : ExportMode) (old : Env (List LogItem) C N) → IsApart cache to
+      → NamesSource source → IsCache cache old.store
+      → Tries (λ log. Some log) cache source to (ways mode) old new r
+      → WentOut cache source to r old.store new.store
+
+  -- a read of layers by key is a read of one of them, and the upper one has no entry if it is one of the lower
+  abbrev pub LayeredReads : List ℕ → Env (List LogItem) C N → Type 0
+  LayeredReads key =
+      LayersMean (ReadsKey (λ log. Some log) key) lacks_entry (λ cache. KeyRead cache key)
+      (λ cache. LacksKey cache key)
+
+  -- so is one by integrity
+  abbrev pub LayeredHashReads : List Hash → Env (List LogItem) C N → Type 0
+  LayeredHashReads i =
+      LayersMean (ReadsHash (λ log. Some log) i) lacks_content (λ cache. ContentRead cache i)
+      (LacksContent i)
+
+  -- so is a lookup
+  abbrev pub LayeredLookups : List ℕ → Env (List LogItem) C N → Type 0
+  LayeredLookups key =
+      LayersMean (FindsKey (λ log. Some log) key) finds_none (λ cache. EntryFound cache key)
+      (λ cache. LacksKey cache key)
+
+  -- so is a question
+  abbrev pub LayeredQuestions : List Hash → Env (List LogItem) C N → Type 0
+  LayeredQuestions i =
+      LayersMean (AsksHash (λ log. Some log) i) says_no (λ cache. AskedContent cache i)
+      (LacksContent i)
+
+  -- a read that stores what is lacking, with this result, is one
+  abbrev pub GettingMeans :
+      (C → Option (List ℕ)) → (N → Option (List ℕ)) → List ℕ → List ℕ
+      → Result (Vec ℕ Global) Error → Env (List LogItem) C N → (Result (Vec ℕ Global) Error → Type 0)
+      → Type 0
+  GettingMeans moments numbers cache key r new Fetches =
+      (old : Env (List LogItem) C N)
+      → ((v : Vec ℕ Global) → Fetches (Ok v) → length v.items < 2 ^ 64) → IsCache cache old.store
+      → GetsOrPuts (λ log. Some log) cache moments numbers key Fetches old new r
+      → GotOrPut cache key Fetches r old.store new.store
