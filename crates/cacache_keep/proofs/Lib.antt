@@ -8,3 +8,4 @@ mod TreeRuns
 mod Losses
 mod Aging
 mod SparedOnes
+mod TouchedKeys

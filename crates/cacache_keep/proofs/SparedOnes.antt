@@ -1,17 +1,18 @@
 -- A pruning leaves each key that led to bytes where it led, unless an entry has it whose key got a tombstone.
 -- Keys of entries that get tombstones, one after another.
-use Rattle.std.proofs.{Common.{◌≡◌, inl, inr, ℕ, List, [], ◌∷◌, ◌++◌, Option, Some, refl, sym, ap, subst, ◌∙◌, map, ◌+◌, ◌<◌, ◌^◌, ap₂, length, get_or, take, drop, string_bytes}, lemmas.List.{Elements.{All-head, All-tail, Contains-append_left, Contains-append_right, Contains-push, All-nil, All-push}, drop_more, map-append, take-append-drop, take_more}}
-use Rattle.std.specs.Prelude.{All, Contains, IsUtf8}
+use Rattle.std.proofs.{Common.{◌≡◌, ◌⊎◌, inl, inr, ℕ, List, [], ◌∷◌, ◌++◌, Option, None, Some, refl, sym, ap, subst, ◌∙◌, map, ◌+◌, ◌<◌, ◌^◌, ap₂, length, get_or, take, drop, string_bytes}, lemmas.List.{Elements.{All-head, All-tail, Contains-append_left, Contains-append_right, Contains-push, All-nil, All-push}, drop_more, map-append, take-append-drop, take_more}}
+use Rattle.std.specs.Prelude.{All, Contains, IsUtf8, bytes_eq}
 use Rattle.cacache_core.specs.{declared.{errors.Error.{Error}, integrity.digest.Hash.{Hash}}, PathNames.{Names, home_of}}
 use Rattle.cacache_store.specs.declared.store.log.LogItem.{LogItem, TheVariants.{Made}}
 use Rattle.cacache_disk.specs.memory.Replay.{IsLog, tree_of}
-use Rattle.cacache_entry.specs.{Latest.{Found}, View.{found_view}, declared.metadata.Metadata.{Metadata}}
+use Rattle.cacache_entry.specs.{Latest.{Found, latest}, View.{found_view}, declared.metadata.Metadata.{Metadata}}
 use Rattle.cacache_calls.specs.{declared.reply.Reply.{Reply}, Runs.{Gains, Moves, Ran, without_message}, State.{Site}, Table.{opening}}
-use Rattle.cacache_laws.specs.{Caches.{Called, HasKey}, Standing.{IsStanding}, trees.Later.{SparingCall}}
-use Rattle.cacache_laws.proofs.{Calls.{InParts.{logs_lead}, CallErrors.{plain_error}}, Readings.OpenReaders.{log_front}, trees.{Logged.{gains_join, log_rooted}, Spared.SparedKeys.{tombstones_fit}}}
+use Rattle.cacache_value.specs.Placed.{Placed}
+use Rattle.cacache_laws.specs.{Caches.{Called, HasKey}, ReadAnswers.{entries_on}, Sequence.{tree_on}, Standing.{IsStanding}, trees.{Later.{SparingCall}, Mending.{found_in}}}
+use Rattle.cacache_laws.proofs.{Calls.{InParts.{logs_lead}, CallErrors.{plain_error}}, Readings.OpenReaders.{log_front}, trees.{HiddenKeys.{tombstones_hide}, Keeping.{tombstones_keep_contents}, Logged.{gains_join, log_rooted}, Members.{Member, member_contains}, Spared.SparedKeys.{tombstones_fit}}}
 use Rattle.cacache_sync.specs.Lookups.{delete_of}
-use Rattle.cacache_keep.specs.{declared.{checking.OddLines.TheVariants.{Refuse}, limits.Limits.{Limits}}, Calls.{MadeCalls, removal}, Keeping.{CollectsFrom, CollectsWith, StopsCollecting}, Pruning.{Entombs, IsTomb, PlansPrune, Tomb, entombing, StopsEntombing}, Sparing.{HasKeyAmong, PrunePlansLeave, PrunesSpareKeys, StaysLed, StoppedPrunesSpareKeys}, Repairing.{tombstone}}
-use Rattle.cacache_keep.proofs.{Collections.{Behind.{collections_keep_led}, Leaving.{call_led, keeps_led, same_led, then_led}, StoppedKeys.{listing_keeps, stop_gains, stopped_led}}, Stopped.{Keeps, calls_gain, ends_look, gained}, Indexes.StandingIndexes.{index_looked}, Asked.{mapped_on}}
+use Rattle.cacache_keep.specs.{declared.{checking.OddLines.TheVariants.{Refuse}, limits.Limits.{Limits}}, Calls.{MadeCalls, removal}, Keeping.{CollectsFrom, CollectsWith, StopsCollecting}, Pruning.{Entombs, IsTomb, PlansPrune, Tomb, entombing, StopsEntombing}, Sparing.{HasKeyAmong, PrunePlansLeave, PrunesDropKeys, PrunesSpareKeys, StaysLed, StoppedPrunesSpareKeys}, Repairing.{tombstone}}
+use Rattle.cacache_keep.proofs.{Collections.{Behind.{collections_keep_led}, Leaving.{call_led, keeps_led, same_led, then_led}, StoppedKeys.{listing_keeps, stop_gains, stopped_led}}, Stopped.{Keeps, calls_gain, ends_look, gained}, Indexes.StandingIndexes.{index_looked}, Repairs.Buried.{none_behind}, Asked.{mapped_on}}
 use Rattle.cacache_calls.specs.declared.command.Command.TheVariants as commands
 use Rattle.cacache_calls.specs.declared.reply.Reply.TheVariants as replies
 
@@ -123,6 +124,55 @@ prunes_spare_keys limits site home entries dropped kept left gone key bytes i ol
     let reached = begun site home key bytes i is limits entries dropped kept dropped [] old p.listed p.buried new late.0 logged p.planning p.entombs late.1 other standing has in
     let k = collections_keep_led site home reached.log new is logged reached.led.standing (left, gone, (Refuse, subst (λ (x : Option (List LogItem)). CollectsWith Refuse site left gone x (Some new)) reached.same p.collects)) in
     then_led site.cache key bytes i old reached.log new reached.led (record { standing = k.standing; finds = k.finds key; has = k.key key bytes i reached.led.has })
+
+-- ---- keys that are dropped
+
+module _ (site : Site) (home : Names) (is : home_of site.cache ≡ Some home) where
+  -- tombstones leave each thing in its place; their keys lead to nothing, and so does each that did before
+  tombs_hide : (tombs : List Tomb) (old new : List LogItem) → IsLog new → All IsTomb tombs → MadeCalls site (map entombing tombs) (Some old) (Some new) → Placed (Some home) (tree_of old)
+      → Placed (Some home) (tree_of new)
+      × ((key : List ℕ) → Member key (map (λ (x : Tomb). x.0) tombs) ⊎ (found_in home (tree_of old) key ≡ None) → found_in home (tree_of new) key ≡ None)
+  tombs_hide [] old new logged formed made placed =
+      let same : new ≡ old = cc in
+      (subst (λ (l : List LogItem). Placed (Some home) (tree_of l)) (sym same) placed, λ key h. elim h [ inl m ↦ absurd m | inr none ↦ ap (λ (l : List LogItem). found_in home (tree_of l) key) same ∙ none ])
+  tombs_hide (t ∷ tombs) old new logged formed made placed =
+      let ran = made.1 in
+      let log = longer old ran.0 in
+      let rest : MadeCalls site (map entombing tombs) (Some (longer old made.1.0)) (Some new) = subst (λ (x : Option (List LogItem)). MadeCalls site (map entombing tombs) x (Some new)) ran.2 made.2 in
+      let more = calls_gain site (map entombing tombs) (Some log) (Some new) rest in
+      let lead = logs_lead old log ran.0 refl (front_logged log new more.0 more.1 logged) in
+      let tomb = All-head IsTomb t tombs formed in
+      let d = delete_of t.0 t.1 in
+      let may = tombstones_fit site.cache (delete_of t.0 t.1) tomb.0 tomb.1 in
+      let hides = tombstones_hide site home d ran.0 (tree_of old) is may ran.1 lead.0 placed in
+      let keeps = tombstones_keep_contents site home d replies.Done ran.0 (tree_of old) is may ran.1 lead.0 placed in
+      let late = tombs_hide tombs log new logged (All-tail IsTomb t tombs formed) rest (subst (Placed (Some home)) (sym lead.1) keeps.placed) in
+      let here : (key : List ℕ) → (key ≡ t.0) ⊎ (found_in home (tree_of old) key ≡ None) → found_in home (tree_of (longer old made.1.0)) key ≡ None
+      = λ key h. ap (λ x. found_in home x key) lead.1 ∙ elim h [
+        | inl same ↦ ap (found_in home (tree_on (tree_of old) made.1.0)) same ∙ hides.own
+        | inr none ↦ none_behind site home is key t.0 (tree_of old) (tree_on (tree_of old) made.1.0) (bytes_eq key t.0) refl hides.own hides.others none
+      ] in
+      (late.0, λ key h. late.1 key (elim h [ inl m ↦ elim m [ inl same ↦ inr (here key (inl same)) | inr n ↦ inl n ] | inr none ↦ inr (here key (inr none)) ]))
+
+pub prunes_drop_keys : PrunesDropKeys
+prunes_drop_keys limits site home entries dropped kept left gone key old new is logged standing p among =
+    let late = collect_gains site left gone p.buried (Some new) p.collects.0 in
+    let e = p.entombs in
+    let all = marks_first site home key [] [] is dropped p.listed p.buried (Some new) late.0 e late.1 in
+    let first = p.planning.listing.0.2 in
+    let planned = longer old first.0 in
+    let planned_log = front_logged planned new all.0 (subst (λ (x : Option (List LogItem)). Gains x (Some new) all.0) first.2 all.1) logged in
+    let stays = prune_plans_leave limits site home entries dropped kept [] old planned is planned_log (subst (λ (x : Option (List LogItem)). PlansPrune limits site entries dropped kept [] (Some old) x) first.2 p.planning) in
+    let made = subst (λ (x : Option (List LogItem)). MadeCalls site (map entombing e.tombs) x p.buried) first.2 e.calls in
+    let marks = calls_gain site (map entombing e.tombs) (Some planned) p.buried made in
+    let buried = longer planned marks.0 in
+    let buried_log = front_logged buried new late.0 (subst (λ (x : Option (List LogItem)). Gains x (Some new) late.0) marks.1 late.1) logged in
+    let placed : Placed (Some home) (tree_of (longer old p.planning.listing.0.2.0)) = subst (Placed (Some home)) (sym stays) (subst (λ f. Placed f (tree_of old)) is standing.placed) in
+    let hide = tombs_hide site home is e.tombs planned buried buried_log e.formed (subst (λ (x : Option (List LogItem)). MadeCalls site (map entombing e.tombs) (Some planned) x) marks.1 made) placed in
+    let k = collections_keep_led site home buried new is logged (record { placed = subst (λ f. Placed f (tree_of buried)) (sym is) hide.0; rooted = log_rooted buried })
+    (left, gone, (Refuse, subst (λ (x : Option (List LogItem)). CollectsWith Refuse site left gone x (Some new)) marks.1 p.collects)) in
+    let none = hide.1 key (inl (member_contains key (map (λ (x : Tomb). x.0) e.tombs) (subst (λ (l : List (List ℕ)). Contains l key) (sym e.each) among))) in
+    (k.standing, k.finds key ∙ ap (λ f. latest key (entries_on f (tree_of buried) key)) is ∙ none)
 
 -- ---- one that an error ended
 

@@ -23,3 +23,4 @@ pub mod Limits
 pub mod Pruning
 pub mod Sparing
 pub mod Touching
+pub mod Touched

@@ -5,7 +5,7 @@ use Rattle.cacache_store.specs.declared.store.log.LogItem.{LogItem}
 use Rattle.cacache_disk.specs.memory.Replay.{IsLog}
 use Rattle.cacache_entry.specs.Latest.{Found}
 use Rattle.cacache_calls.specs.State.{Site}
-use Rattle.cacache_laws.specs.{Caches.{HasKey}, Keeping.{found_under}, Standing.{IsStanding}}
+use Rattle.cacache_laws.specs.{Caches.{HasKey, LacksKey}, Keeping.{found_under}, Standing.{IsStanding}}
 use Rattle.cacache_keep.specs.{declared.limits.Limits.{Limits}, Kept.{LeavesTree}, Pruning.{PlansPrune, PrunesCache, StopsPruning, marked_in}}
 
 -- everything stands where it may still; the key leads to the entry that it led to, and to the same
@@ -37,7 +37,16 @@ PrunesSpareKeys =
     → (HasKeyAmong dropped key → ⊥) → HasKey site.cache key i bytes old
     → StaysLed site.cache key i bytes old new
 
--- and after one that an error ended, unless its key got a tombstone, or may have got one
+-- a key that a dropped entry has leads to nothing then
+abbrev pub PrunesDropKeys : Type 0
+PrunesDropKeys =
+    (limits : Limits) (site : Site) (home : Names) (entries dropped kept : List Found) (left : ℕ)
+    (gone : List (List Hash)) (key : List ℕ) (old new : List LogItem)
+    → home_of site.cache ≡ Some home → IsLog new → IsStanding site.cache old
+    → PrunesCache limits site entries dropped kept left gone (Some old) (Some new)
+    → HasKeyAmong dropped key → IsStanding site.cache new × LacksKey site.cache key new
+
+-- after one that an error ended each key leads where it led, unless its key got a tombstone, or may have got one
 abbrev pub StoppedPrunesSpareKeys : Type 0
 StoppedPrunesSpareKeys =
     (limits : Limits) (site : Site) (home : Names) (e : Error) (key bytes : List ℕ)

@@ -1,5 +1,5 @@
 //! What a pruning leaves, on any store in memory.
-ghost use Rattle.cacache_keep.specs.Sparing.{PrunePlansLeave, PrunesSpareKeys, StoppedPrunesSpareKeys};
+ghost use Rattle.cacache_keep.specs.Sparing.{PrunePlansLeave, PrunesDropKeys, PrunesSpareKeys, StoppedPrunesSpareKeys};
 
 /// A plan of a pruning leaves the tree as it is (`plans`). After a pruning of a store in memory where everything stands where
 /// it may, as in a cache or after a loss of power, each key that led to bytes leads to the same entry and the same bytes,
@@ -8,5 +8,6 @@ ghost use Rattle.cacache_keep.specs.Sparing.{PrunePlansLeave, PrunesSpareKeys, S
 pub fn prune_laws()
     ensures plans { PrunePlansLeave }
     ensures keys { PrunesSpareKeys }
+    ensures drops { PrunesDropKeys }
     ensures stopped { StoppedPrunesSpareKeys }
 {}

@@ -1,8 +1,10 @@
 //! Functions of a caller's own that verify a cache in memory, sweep, repair, collect, prune and compact it. Their contracts
 //! are proved from clauses alone: those of the calls, of `keep_laws`, `later_laws`, `prune_laws`, `spared_laws`,
 //! `standing_laws`, `answer_laws` and `cache_laws`. They say what is so if all calls answer Ok, and `tidied` and `read_tidied` also what is so otherwise. Of other
-//! errors they say nothing: those are the calls' own.
+//! errors they say nothing: those are the calls' own. The module `several` has functions over calls that are made of others.
 #![tactic(auto)]
+
+mod several;
 
 ghost use Rattle.std.specs.Prelude.{◌≡◌, [], Some, IfOk, map};
 ghost use Rattle.cacache_core.specs.PathNames.{Names as PathNames, home_of};
@@ -26,6 +28,7 @@ use cacache_store::env::{Clock, Env, Names};
 use cacache_sync::put::bytes::write_sync;
 use cacache_sync::rm::RemoveOpts;
 use cacache_sync::{copy_sync, read_sync};
+pub use several::{export_own, fetch_then_read, find_pruned, read_layers, touch_then_read};
 
 /// Verifies a cache in memory: the good contents are those with bytes that meet their address, and all others are
 /// named.

@@ -110,7 +110,7 @@ module _ (site : Site) (home : Names) (is : home_of site.cache ≡ Some home) wh
     pub gains : Gains old new moves
     pub tells : (t : Tree) → Placed (Some home) t → AreAnswered t moves → After fates t (tree_on t moves)
 
-  none_behind : (key own : List ℕ) (t new : Tree) (b : Bool) → bytes_eq key own ≡ b → found_in home new own ≡ None → ((other : List ℕ) → (other ≡ own → ⊥) → found_in home new other ≡ found_in home t other) → found_in home t key ≡ None → found_in home new key ≡ None
+  pub none_behind : (key own : List ℕ) (t new : Tree) (b : Bool) → bytes_eq key own ≡ b → found_in home new own ≡ None → ((other : List ℕ) → (other ≡ own → ⊥) → found_in home new other ≡ found_in home t other) → found_in home t key ≡ None → found_in home new key ≡ None
   none_behind key own t new true e hidden others none = ap (found_in home new) ((bytes_eq-Decides key own).0 e) ∙ hidden
   none_behind key own t new false e hidden others none =
       others key (λ same. let wrong : false ≡ true = sym e ∙ (bytes_eq-Decides key own).1 same in cc) ∙ none

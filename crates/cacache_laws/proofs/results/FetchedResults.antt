@@ -1,8 +1,8 @@
 -- What comes of a read that fetches and stores what is lacking.
-use Rattle.std.proofs.Common.{◌≡◌, ◌⊎◌, inl, inr, ◌<◌, ◌^◌, ℕ, List, Option, None, Some, Vec, Global, Result, Ok, Err, length, refl, sym, ap, subst, ◌∙◌}
+use Rattle.std.proofs.{Common.{◌≡◌, ◌⊎◌, inl, inr, ◌<◌, ◌^◌, ℕ, List, Option, None, Some, Vec, Global, Result, Ok, Err, length, refl, sym, ap, subst, ◌∙◌}, lemmas.Result.{IfOk-weaker}}
 use Rattle.std.specs.Prelude.{IfOk, IfSome, IsUtf8, MatchResult}
 use Rattle.sha1.specs.Sha1.{sha1}
-use Rattle.cacache_core.specs.{declared.{errors.{Error.{Error, TheVariants.{EntryNotFound, IoError, IntegrityError, OutOfMemory}}, Fault.TheVariants.{NotFound}, IntegrityFault.TheVariants.{Check}}, integrity.{algorithm.Algorithm.TheVariants.{Sha256}, digest.Hash.{Hash}}}, Integrity.{IsIntegrity}, PathNames.{home_of}}
+use Rattle.cacache_core.specs.{declared.{errors.{Error.{Error, TheVariants.{IoError, IntegrityError, OutOfMemory}}, Fault.TheVariants.{NotFound}, IntegrityFault.TheVariants.{Check}}, integrity.{algorithm.Algorithm.TheVariants.{Sha256}, digest.Hash.{Hash}}}, Integrity.{IsIntegrity}, PathNames.{home_of}}
 use Rattle.cacache_store.specs.declared.{env.Env.{Env}, store.log.LogItem.{LogItem}}
 use Rattle.cacache_disk.specs.memory.Replay.{IsLog, tree_of}
 use Rattle.cacache_calls.specs.declared.command.Command.TheVariants as commands
@@ -75,7 +75,6 @@ module _ {C N : Type 0} (moments : C → Option (List ℕ)) (numbers : N → Opt
   -- its integrity is one, since the key's entry has it
   lack_formed : (e : Error) (old mid : List LogItem) → IsCache cache old → KeyRead cache key (Err e) old mid → IfOk (lack_in e) (λ lack. IfSome lack IsIntegrity)
   lack_formed (IoError NotFound message) old mid sound k = tt
-  lack_formed (EntryNotFound c l) old mid sound k = tt
   lack_formed (IntegrityError (Check wanted found)) old mid sound k =
       let led = k.any in
       let same : Check wanted found ≡ Check led.0.integrity _ = led.2.3 in
@@ -86,10 +85,6 @@ module _ {C N : Type 0} (moments : C → Option (List ℕ)) (numbers : N → Opt
   -- ---- bytes that are fetched
 
   module _ (Fetches : Result (Vec ℕ Global) Error → Type 0) (small : (v : Vec ℕ Global) → Fetches (Ok v) → length v.items < 2 ^ 64) where
-    came : (v : Vec ℕ Global) (r : Result (Vec ℕ Global) Error) (log : List LogItem) → Fetches (Ok v) → IfOk r (λ w. KeyLiesWhole cache key log w.items × (w ≡ v)) → IfOk r (λ w. KeyLiesWhole cache key log w.items × Fetches (Ok w))
-    came v (Ok w) log f h = (h.0, subst (λ x. Fetches (Ok x)) (sym h.1) f)
-    came v (Err e) log f h = tt
-
     puts_fetched : (old new : Env (List LogItem) C N) (lack : Option (List Hash)) (fetched r : Result (Vec ℕ Global) Error) → Fetches fetched
         → PutsFetched (λ log. Some log) cache moments numbers key old new lack fetched r → Leaves (IfSome lack IsIntegrity) old new r (λ w. Fetches (Ok w))
     puts_fetched old new lack (Err e) r f h = stopped (IfSome lack IsIntegrity) old new r e (λ w. Fetches (Ok w)) h.0 h.1
@@ -99,7 +94,7 @@ module _ {C N : Type 0} (moments : C → Option (List ℕ)) (numbers : N → Opt
           λ formed logged sound.
               let k = clears_kept old mid lack cleared formed (front mid.store new.store p.0 logged) sound clears in
               let d = p.1 tt logged k.sound in
-              (record { sound = d.0.sound; others = λ other differ. d.0.others other differ ∙ k.others other differ }, came v r new.store f d.1),
+              (record { sound = d.0.sound; others = λ other differ. d.0.others other differ ∙ k.others other differ }, IfOk-weaker r _ _ (λ w h. (h.0, subst (λ x. Fetches (Ok x)) (sym h.1) f)) d.1),
         )
 
     makes_up : (old new : Env (List LogItem) C N) (lack : Result (Option (List Hash)) Error) (r : Result (Vec ℕ Global) Error)
@@ -108,11 +103,6 @@ module _ {C N : Type 0} (moments : C → Option (List ℕ)) (numbers : N → Opt
     makes_up old new (Ok lack) r h = puts_fetched old new lack h.0 r h.1 h.2
 
     -- ---- the whole
-
-    both : (r : Result (Vec ℕ Global) Error) (old new : List LogItem) → IfOk r (λ w. KeyLiesWhole cache key new w.items × Fetches (Ok w))
-        → IfOk r (λ w. KeyLiesWhole cache key new w.items) × IfOk r (λ w. KeyLiesWhole cache key old w.items ⊎ Fetches (Ok w))
-    both (Ok w) old new h = (h.0, inr h.1)
-    both (Err e) old new h = (tt, tt)
 
     still_whole : (bytes : List ℕ) (old mid : List LogItem) → tree_of mid ≡ tree_of old → StaysKnown cache old mid → KeyLiesWhole cache key old bytes → KeyLiesWhole cache key mid bytes
     still_whole bytes old mid same k h = (
@@ -145,11 +135,10 @@ module _ {C N : Type 0} (moments : C → Option (List ℕ)) (numbers : N → Opt
         let made = makes_up mid new (lack_in e) r h in
         let k = key_read_means cache key (Err e) mid (front mid.store new.store made.0 logged) old sound ran in
         let d = made.1 (lack_formed e old.store mid.store sound k) logged k.leaves.0 in
-        let led = both r old.store new.store d.1 in
         record {
           sound = d.0.sound;
-          leads = led.0;
-          from = led.1;
+          leads = IfOk-weaker r _ _ (λ w h. h.0) d.1;
+          from = IfOk-weaker r _ _ (λ w h. inr h.1) d.1;
           gives = λ i bytes folder has. refused mid new e bytes r (k.succeeds i bytes folder has) h;
           others = λ other differ. d.0.others other differ ∙ k.leaves.1.finds other;
         }
