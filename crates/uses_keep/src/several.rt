@@ -56,8 +56,8 @@ pub fn find_pruned<C: Clock, N: Names>(
     Ok((pruned, found))
 }
 
-/// Exports a key's bytes to a path apart from the cache, as a file of its own. The bytes are there then, whole ones alone;
-/// after an error the whole store is as it was, unless memory was refused.
+/// Exports a key's bytes to a path apart from the cache, as a file of its own. The bytes are there then. If the cache's path
+/// names a folder, an error left the whole store as it was, unless memory was refused.
 pub fn export_own<C: Clock, N: Names>(
     env: &mut Env<MemStore, C, N>,
     cache: &str,
