@@ -1,5 +1,5 @@
--- What a collection keeps while others write: a listing of the index, and removals of what it doesn't
--- name.
+-- What a collection keeps while others write: a listing of the index, and removals of what it
+-- doesn't name.
 use Rattle.std.specs.Prelude.{◌≡◌, ◌≤◌, ◌<◌, ◌++◌, ℕ, List, [], ◌∷◌, None, Some, Ok, take}
 use Rattle.cacache_core.specs.{declared.integrity.digest.Hash.{Hash}, Integrity.{IsIntegrity, address}}
 use Rattle.cacache_store.specs.declared.store.step.Step.TheVariants.{RemoveFile}
@@ -15,10 +15,12 @@ use Rattle.cacache_laws.specs.{ListedKeys.{AreAllFound}, results.DurableCases.{f
 
 -- from place m on and before place n the key leads to this entry
 abbrev pub LeadsWhile : History → ℕ → ℕ → List ℕ → Found → Type 0
-LeadsWhile h m n key found = (place : ℕ) → m ≤ place → place < n → lookup_at h place key ≡ Some found
+LeadsWhile h m n key found =
+    (place : ℕ) → m ≤ place → place < n → lookup_at h place key ≡ Some found
 
--- the call is a listing that began at place m and answered these items before place n, none an error
-pub record ListsAllIn (h : History) (m n caller : ℕ) (call : Call) (items : List Item) : Type 0 where
+-- the call is a listing from place m on, answered before place n with these items, none an error
+pub record ListsAllIn (h : History) (m n caller : ℕ) (call : Call) (items : List Item)
+    : Type 0 where
   pub command_is : call.command ≡ commands.Ls
   pub answered : CallIn h m n caller call (Some (Listed items))
   pub all : AreAllFound items
@@ -32,8 +34,8 @@ ListingsName =
 
 -- ---- what removals spare
 
--- a call of this command with these turns so far doesn't remove the content at an address; that of a
--- key removes what its own lookup found
+-- a call of this command with these turns so far doesn't remove the content at an address; that of
+-- a key removes what its own lookup found
 abbrev pub SparesAddress : Setup → Hash → List Turn → Command → Type 0
 SparesAddress s a turns (commands.RemoveHash i) = address i ≡ Some a → ⊥
 SparesAddress s a turns (commands.RemoveFully key) =
@@ -69,8 +71,8 @@ LeadsToContent h place key found =
     (lookup_at h place key ≡ Some found)
     × (a : Hash) × (address found.integrity ≡ Some a) × HoldsContent h place a
 
--- if a key leads to a content when a listing begins, and each call spares the key, it still does after
--- any removals since of contents that the listing doesn't name
+-- if a key leads to a content when a listing begins, and each call spares the key, it still does
+-- after any removals since of contents that the listing doesn't name
 abbrev pub CollectionsKeep : Type 0
 CollectionsKeep =
     (h : History) → IsLegal h → (m between n caller : ℕ) (call : Call) (items : List Item)
@@ -91,8 +93,8 @@ PutsKeep =
 abbrev pub removal_of : History → ℕ → List Hash → List Record
 removal_of h caller i =
     Began caller (commands.RemoveHash i)
-    ∷ Moved caller Plain (Some (RemoveFile (content_path h.setup.cache i), answers.Done)) (Some Done)
-    ∷ []
+    ∷ Moved caller Plain (Some (RemoveFile (content_path h.setup.cache i), answers.Done))
+    (Some Done) ∷ []
 
 -- whatever was listed before, a caller that has no call may remove a content that is there, such as
 -- that of a put since: each legal history goes on so, and then the content is gone

@@ -57,7 +57,7 @@ IsMade temps s =
     × EachCall OccursSomehow s.before s.items s.after × IsCovered temps s
 
 -- A disk does the step under some luck with the same answer, or the step came back; either way the disk then mirrors the
--- machine. Or the step is a copy that left its fresh file.
+-- machine. Or the step left a file that it failed to use.
 abbrev pub OnDisk : (Names → Bool) → Tree → StepMade → Type 0
 OnDisk temps d s =
     ((luck : Luck) × (new : Tree)
@@ -98,8 +98,8 @@ SameNames one other =
     × IsPermutation told given
 
 -- A disk does each of these steps under some luck with the same answer, except those that came back, and mirrors the
--- machine at the end. It may list names in another order. Nothing is said about what follows a copy that left its fresh
--- file.
+-- machine at the end. It may list names in another order. Nothing is said about what follows a step that left a file
+-- that it failed to use.
 abbrev pub DiskDoes : (Names → Bool) → Machine → Tree → List StepMade → Type 0
 DiskDoes temps m d [] = Mirrors temps m.tree d
 DiskDoes temps m d (s ∷ made) =

@@ -64,8 +64,8 @@ IsPlain m step end after =
     (end ≡ Failed kind.OutOfMemory → ⊥)
     → apply m.tree (step_on m step) Plain ≡ led_to step end after
 
--- A copy fails, and leaves the fresh file that it made, since that can't be removed either. Or a temporary file can't be
--- opened, but was made.
+-- A step leaves a file that it failed to use: a copy its fresh file, which can't be removed either; or a temporary file
+-- was made, but can't be opened.
 abbrev pub LeavesFresh : Machine → NumberedStep → NumberedAnswer → Machine → Type 0
 LeavesFresh m (steps.Copy from to) answer after =
     (luck : Luck) × (above : Names) × (number : ℕ) × (bytes : List ℕ)
@@ -77,8 +77,8 @@ LeavesFresh m (steps.CreateTemp path) answer after =
     × (fault : Fault) × (answer ≡ answers.Failed fault)
 LeavesFresh m step answer after = ⊥
 
--- It is as under some luck, or the step comes back for want of memory and nothing changed, or it is a copy that leaves
--- its fresh file.
+-- It is as under some luck, or the step comes back for want of memory and nothing changed, or it leaves a file
+-- that it failed to use.
 abbrev pub IsLucky : Machine → NumberedStep → CallResult → Machine → Type 0
 IsLucky m step end after =
     ((luck : Luck) × (apply m.tree (step_on m step) luck ≡ led_to step end after))

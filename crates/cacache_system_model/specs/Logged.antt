@@ -5,8 +5,8 @@ use Rattle.cacache_disk.specs.{declared.luck.Luck.{Luck}, Apply.{apply}}
 use Rattle.cacache_system.specs.{declared.call.{CallItem.{CallItem}, CallResult.{CallResult}}, Seen.{NumberedStep, NumberedAnswer}, CallsOf.{RunLogged}, AnswersOf.{Hint, first, answer_of}}
 use Rattle.cacache_system_model.specs.{Machine.{Machine}, Calls.{OccursSomehow, EachCall}, Laws.{step_on, answer_on, outcome, LeavesFresh, IsDone}, Premises.{Premise}}
 
--- The answer and the tree are the disk's under some luck, or the step came back and nothing changed, or a copy left its
--- fresh file.
+-- The answer and the tree are the disk's under some luck, or the step came back and nothing changed, or it left a
+-- file that it failed to use.
 abbrev pub IsDisks : Machine → NumberedStep → NumberedAnswer → Machine → Type 0
 IsDisks m step answer after =
     ((luck : Luck)

@@ -10,7 +10,7 @@ use Rattle.cacache_system_model.specs.{Machine.{OpenFile, Machine}, Laws.{GoesPl
 abbrev pub IsStill : Machine → NumberedTemp → Type 0
 IsStill m temp = (names : Names) × (bytes : List ℕ) × StillStands m temp names bytes
 
--- an open file is still where it was found
+-- a number is that of an open file
 abbrev pub IsOpen : Machine → NumberedFile → Type 0
 IsOpen m file = (found : OpenFile) × (bytes : List ℕ) × StaysOpen m file found bytes
 

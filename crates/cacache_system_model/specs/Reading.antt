@@ -9,7 +9,7 @@ use Rattle.cacache_system_model.specs.{Machine.{OpenFile, node_of, Machine}, Law
 abbrev pub ReadAllAgrees : Type 0
 ReadAllAgrees = (m : Machine) (hint : Hint) (path : List ℕ) → Agrees m hint (steps.ReadAll path)
 
--- a file that is open
+-- an open file has these bytes, wherever it is
 pub record StaysOpen (m : Machine) (file : NumberedFile) (found : OpenFile) (bytes : List ℕ)
     : Type 0 where
   pub known : m.files file.number ≡ Some found

@@ -3,9 +3,9 @@ use Rattle.std.specs.Prelude.{◌≡◌, ◌⊎◌, ◌≤◌, ℕ, List, [], �
 use Rattle.cacache.specs.{Calls.{Item, Stored}, Histories.{AllSpareListed, Call, CallIn, History, IsOneOfPuts, LeadsToContent, ListsAllIn, MovesAre, Put, SparesKey, found_of_put}, Integrities.{Hash}}
 use Rattle.cacache.specs.Calls as commands
 
--- a put was answered; then a listing began, and answered no error. Since the put began each other call
--- spares its key, and no call removes a content that the listing names: so the key leads to the entry
--- of the put, and its content is there
+-- a put was answered; then a listing began, and answered no error. Since the put began each other
+-- call spares its key, and no call removes a content that the listing names: so the key leads to the
+-- entry of the put, and its content is there
 abbrev pub CollectionsKeepPuts : History → Type 0
 CollectionsKeepPuts h =
     (key : List ℕ) (p : Put) (m between after n putter lister : ℕ) (put list : Call) (i : List Hash)

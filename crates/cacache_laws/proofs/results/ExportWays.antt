@@ -10,7 +10,7 @@ use Rattle.cacache_sync.specs.declared.ways.Exported.TheVariants as exporteds
 use Rattle.cacache_calls.specs.declared.command.Source.TheVariants as sources
 use Rattle.cacache_history.specs.History.{NamesSource}
 use Rattle.cacache_laws.specs.{Caches.{Grows, IsCache, IsExcused}, ExportEffects.{IsApart, NamesBytes}, Exported.{Arrives}, Keeping.{StaysKnown}, OpenSucceeds.{exported}, Succeeds.{NamesFolder}, results.{Composed.{ExportMeans, WentOut}, Exports.{FailsExport}, Success.{FailsFor, FailsForMemory}}}
-use Rattle.cacache_laws.proofs.{Calls.{Logs.{excuses_last, growths_join}, Messages.{excused_error}}, Exports.Exported.{exports_arrive}, Readings.Standing.{caches_stand}, Sure.{SureCopies.{exports_succeed}, SureExports.{exports_answer}}, results.{ExportResults.{Answered, fails_so, is_given, leaves, may_take, refuses_so}, JoinedResults.{leavings_join}, SureResults.{IsGiven, for_memory}, Told.{called, front, steps_grow}}}
+use Rattle.cacache_laws.proofs.{Calls.{Logs.{excuses_last, growths_join}, CallErrors.{excused_error}}, Exports.Exported.{exports_arrive}, Readings.Standing.{caches_stand}, Sure.{SureCopies.{exports_succeed}, SureExports.{exports_answer}}, results.{ExportResults.{Answered, fails_so, is_given, leaves, may_take, refuses_so}, JoinedResults.{leavings_join}, SureResults.{IsGiven, for_memory}, Told.{called, front, steps_grow}}}
 
 plain : (e : Exported) → plain_reply (export_reply e) ≡ export_reply e
 plain exporteds.Reflinked = refl

@@ -91,8 +91,8 @@ NeedsFit (store.ReadDir p) a = Fits (store.ReadDir p) a
 NeedsFit step a = Unit {0}
 
 -- A call makes the step that its state wants. A law covers the step, whose system calls are a run that happened on the
--- machine, or it failed and ended the call. It isn't a copy that left its fresh file. The answer fits, and ends the call
--- or not.
+-- machine, or it failed and ended the call. It left no file that it failed to use. The answer fits, and ends the call or
+-- not.
 pub record MakesStep (w : SystemState) (caller : ℕ) (made : StepMade) (reply : Option Reply) : Type 0 where
   pub state : State
   pub stands : w.states caller ≡ Some state

@@ -41,7 +41,7 @@ HoldsTemp temps m (steps.SyncTemp t) = IsHeld temps m t
 HoldsTemp temps m step = Unit {0}
 
 -- What doesn't follow from the acts before a step. The folders of its walk stand, and the file that it replaces, if that was
--- read, can be looked at. An open file that it reads is still at its names. A copy can be made, and a folder can be listed.
+-- read, can be looked at. A file that it reads is open. A copy can be made, and a folder can be listed.
 abbrev pub HintStands : Machine → Hint → NumberedStep → Type 0
 HintStands m hint (steps.Persist temp p) = MayReplace m.tree hint p
 HintStands m hint (steps.Append p bytes) = WalkStands m.tree hint
@@ -65,7 +65,7 @@ abbrev pub IsExplained : StepMade → Option Reply → Type 0
 IsExplained made reply =
     IsDone made.before made.step ⊎ (GoesByLaw made ⊎ EndsFailed made reply)
 
--- it isn't a copy that left its fresh file
+-- it left no file that it failed to use
 abbrev pub IsClean : StepMade → Type 0
 IsClean made = LeavesFresh made.before made.step (answer_of made.step made.end) made.after → ⊥
 
