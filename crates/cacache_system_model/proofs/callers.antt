@@ -6,6 +6,8 @@ pub mod OpenTemps
 pub mod Following
 pub mod Covering
 pub mod OpenCalls
+pub mod UnchangedCalls
+pub mod SafeStages
 pub mod CopyTargets
 pub mod ListCalls
 pub mod FreshFiles

@@ -11,7 +11,7 @@ use Rattle.cacache_system.specs.{declared.call.{FileInfo.{FileInfo}, CallResult.
 use Rattle.cacache_system.specs.declared.call.SystemCall.TheVariants as asks
 use Rattle.cacache_system.specs.declared.call.CallResult.TheVariants as says
 use Rattle.cacache_system_model.specs.{Machine.{Machine, IsRefused, Describes, OpensIf, ShowsNode, ShowsEnd, SpellsEnd, with_empty}, Calls.{LeavesCreated, OccursSomehow}, callers.Opened.{Avoids, IsApart}}
-use Rattle.cacache_system_model.proofs.{Fresh.{free_at_place, dangling}, Steps.{Opening.{of_some}, CopyFacts.{writable_found, Stands, no_way, nothing, a_folder_here, a_file_here, a_link_here, stands_so, not_absent}}, Views.{View, nowhere, a_folder, a_file, view}, callers.{FreshFiles.{free_so}, OpenCalls.{opens_number}}}
+use Rattle.cacache_system_model.proofs.{Fresh.{free_at_place, dangling}, Steps.{Opening.{of_some}, CopyFacts.{writable_found, Stands, no_way, nothing, a_folder_here, a_file_here, a_link_here, stands_so, not_absent}}, Views.{View, nowhere, a_folder, a_file, view}, callers.{FreshFiles.{free_so}, UnchangedCalls.{opens_number}}}
 
 -- where different things are, names differ
 names_differ : (t : Tree) (q names : Names) (a b : Option Node) → look t q ≡ a → look t names ≡ b → (a ≡ b → ⊥) → same_path q names ≡ false
