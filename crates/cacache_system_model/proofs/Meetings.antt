@@ -130,13 +130,13 @@ gives_all : (es : List Name) → GivesNames (names_given es) es
 gives_all [] = refl
 gives_all (e ∷ es) = inr (e, es, refl, refl, gives_all es)
 
-abbrev with_left : (ℕ → Option (List (List ℕ))) → ℕ → List (List ℕ) → ℕ → Option (List (List ℕ))
+abbrev pub with_left : (ℕ → Option (List (List ℕ))) → ℕ → List (List ℕ) → ℕ → Option (List (List ℕ))
 with_left folders number left k = if k == number then Some left else folders k
 
-abbrev folders_on : Machine → ℕ → List (List ℕ) → Machine
+abbrev pub folders_on : Machine → ℕ → List (List ℕ) → Machine
 folders_on m number left = record { tree = m.tree; files = m.files; synced = m.synced; inodes = m.inodes; folders = with_left m.folders number left; order = m.order }
 
-has_left : (m : Machine) (number : ℕ) (left : List (List ℕ)) → HasLeft number left m (folders_on m number left)
+pub has_left : (m : Machine) (number : ℕ) (left : List (List ℕ)) → HasLeft number left m (folders_on m number left)
 has_left m number left = record {
   tree = refl;
   files = refl;

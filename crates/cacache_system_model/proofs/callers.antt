@@ -25,3 +25,4 @@ pub mod FixedSteps
 pub mod Losing
 pub mod AnyNumbers
 pub mod Example
+pub mod Clearing

@@ -1,5 +1,5 @@
 //! Callers' store steps, made by system calls on one machine, as a history of many callers.
-ghost use Rattle.cacache_system_model.specs.callers.{Example.{ClearsCanRemove, QuestionsCanBe}, Losing.{SeenLose, StoringLose}, Made.{CachesBegin, CachesGoOn, SystemsMakeHistories}, Numbers.{NumbersDiffer}, Opened.{RunsKeepOpen}, Seen.{SeenMakeHistories}, Storing.{StoringMakeHistories}};
+ghost use Rattle.cacache_system_model.specs.callers.{Example.{ClearsCanBe, ClearsCanRemove, QuestionsCanBe}, Losing.{SeenLose, StoringLose}, Made.{CachesBegin, CachesGoOn, SystemsMakeHistories}, Numbers.{NumbersDiffer}, Opened.{RunsKeepOpen}, Seen.{SeenMakeHistories}, Storing.{StoringMakeHistories}};
 
 /// What callers do on one machine goes on with the legal history that left its cache, with their replies, if the system
 /// calls of each store step follow one another. The history's last tree mirrors the machine's. If a step failed and ended
@@ -15,7 +15,8 @@ ghost use Rattle.cacache_system_model.specs.callers.{Example.{ClearsCanRemove, Q
 /// - `losses` is about the acts of `seen`, and `storing_losses` about those of `storing`, if all is fixed at first, none copies
 ///   a file, and no sync failed: a loss of power leaves of the machine what it leaves of the history.
 /// - `numbers`: acts of calls with any numbers that differ are acts of `seen`, once all calls begin before any step.
-/// - `example`: what `seen` asks can be met; `clears`: by a clear's removals too, if no other call is on its way.
+/// - `example`: what `seen` asks can be met; `clears`: also by a clear of an empty cache; `removals`: also by each removal of a
+///   clear, if no other call is on its way.
 pub fn system_history_laws()
     ensures begin { CachesBegin }
     ensures goes_on { CachesGoOn }
@@ -24,7 +25,8 @@ pub fn system_history_laws()
     ensures seen { SeenMakeHistories }
     ensures keep { RunsKeepOpen }
     ensures example { QuestionsCanBe }
-    ensures clears { ClearsCanRemove }
+    ensures clears { ClearsCanBe }
+    ensures removals { ClearsCanRemove }
     ensures storing_losses { StoringLose }
     ensures losses { SeenLose }
     ensures numbers { NumbersDiffer }

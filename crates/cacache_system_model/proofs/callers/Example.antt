@@ -1,18 +1,18 @@
--- A call that asks for a content, on any machine with a cache, and the removals of a clear.
-use Rattle.std.proofs.{Common.{◌≡◌, inl, inr, ◌≤◌, ◌^◌, ◌+◌, ◌==◌, ℕ, Bool, true, false, List, [], ◌∷◌, Option, None, Some, Result, Ok, Err, length, refl, sym, ap, subst, ◌∙◌, arith}, lemmas.Bool.{eqb-true, eqb-false}}
+-- A call that asks for a content, on any machine with a cache.
+use Rattle.std.proofs.Common.{◌≡◌, inl, inr, ◌≤◌, ◌^◌, ◌+◌, ℕ, true, false, List, [], ◌∷◌, Option, None, Some, Result, Ok, Err, length, refl, sym, ap, subst, ◌∙◌, arith}
 use Rattle.std.specs.Prelude.{IfSome}
 use Rattle.std_io.specs.declared.io.kind.ErrorKind.TheVariants as kind
 use Rattle.cacache_core.specs.{declared.{errors.{Fault.{Fault}, Error.TheVariants.{OutOfMemory}}, integrity.digest.Hash.{Hash}}, PathNames.{Names}}
 use Rattle.cacache_store.specs.declared.store.step.Step.TheVariants as store
 use Rattle.cacache_store.specs.declared.store.answer.Answer.TheVariants as answers
 use Rattle.cacache_store.specs.Plain.{PlainAnswer}
-use Rattle.cacache_disk.specs.{declared.{luck.Luck.TheVariants.{Plain}, node.Node.{Node, TheVariants.{Folder, File, Link}}}, Tree.{Tree, look, cut, kind_of}, LedTo.{found, removable, emptied}}
+use Rattle.cacache_disk.specs.{declared.{luck.Luck.TheVariants.{Plain}, node.Node.{Node, TheVariants.{Folder, File, Link}}}, Tree.{look, kind_of}, LedTo.{found}}
 use Rattle.cacache_system.specs.{declared.call.{FileInfo.{FileInfo}, CallResult.{CallResult}}, CallLog.{item}, AnswersOf.{no_hint, answer_of, refuses_memory}}
 use Rattle.cacache_system.specs.declared.call.SystemCall.TheVariants as asks
 use Rattle.cacache_system.specs.declared.call.CallResult.TheVariants as says
-use Rattle.cacache_system_model.specs.{Machine.{Machine, is_regular, Describes, ShowsEnd, gone, placed, RemovesNode}, Chains.{StepMade}, callers.{Made.{now_left}, Seen.{answer_seen, temp_of}, Example.{QuestionsCanBe, ClearsCanRemove}}}
-use Rattle.cacache_system_model.proofs.Saying.{Sayable, found_say, removable_say, emptied_say}
-use Rattle.cacache_calls.specs.{declared.{carried.Content.{Content}, reply.Reply.{Reply, TheVariants.{Exists, Refused}}, visit.Visit.TheVariants.{RemoveFile, RemoveFolder}}, State.{State, asking, walking}, StepPaths.{content_path}, Table.{after}}
+use Rattle.cacache_system_model.specs.{Machine.{Machine, is_regular, Describes, ShowsEnd}, Chains.{StepMade}, callers.{Made.{now_left}, Seen.{answer_seen}, Example.{QuestionsCanBe}}}
+use Rattle.cacache_system_model.proofs.Saying.{Sayable, found_say}
+use Rattle.cacache_calls.specs.{declared.{carried.Content.{Content}, reply.Reply.{Reply, TheVariants.{Exists, Refused}}}, State.{asking}, StepPaths.{content_path}, Table.{after}}
 use Rattle.cacache_history.specs.{Setup.{Setup}, History.{Ends}}
 
 -- ---- what the system can say
@@ -103,79 +103,3 @@ questions_can_be s m cache i within integrity fewer =
         ),
       ),
     )
-
--- ---- what a clear removes
-
-abbrev Removed : Result Names Fault → Machine → Type 0
-Removed r m = (said : CallResult) × (after : Machine) × RemovesNode r m said after × (said ≡ says.Failed kind.OutOfMemory → ⊥)
-
-removal_said : (m : Machine) (r : Result Names Fault) → Sayable r → Removed r m
-removal_said m (Ok names) can = (
-  says.Done,
-  record m { tree = cut m.tree names; files = placed (gone (look m.tree names) names 0) m.files },
-  (0, refl, (refl, refl, refl, λ k. refl)),
-  λ e. absurd cc,
-)
-removal_said m (Err fault) (why, is, memory) = (
-  says.Failed why,
-  m,
-  (why, refl, is, memory, refl),
-  λ e.
-      let same : why ≡ kind.OutOfMemory = cc in
-      let no : true ≡ false = sym (ap refuses_memory same) ∙ memory in
-      cc,
-)
-
--- a call that is alone and has no temporary file spares all of them
-none_spared : (states : ℕ → Option State) (caller : ℕ) (own : State) → states caller ≡ Some own → temp_of own ≡ None → ((k : ℕ) → (k ≡ caller → ⊥) → states k ≡ None)
-    → (k : ℕ) (state : State) (path : List ℕ) → states k ≡ Some state → temp_of state ≡ Some path → ⊥
-none_spared states caller own stands free alone k state path is at = by (k == caller) refl
-  where
-    by : (b : Bool) → (k == caller) ≡ b → ⊥
-    by true e =
-        let both : Some own ≡ Some state = sym stands ∙ ap states (sym (eqb-true k caller e)) ∙ is in
-        let same : own ≡ state = cc in
-        let no : None ≡ Some path = sym free ∙ ap temp_of same ∙ at in
-        absurd cc
-    by false e = let no : None ≡ Some state = sym (alone k (eqb-false k caller e)) ∙ is in absurd cc
-
-pub clears_can_remove : ClearsCanRemove
-clears_can_remove f caller w (RemoveFile p) todo removes stands alone =
-    let g = removal_said f.machine (removable f.machine.tree p) (removable_say f.machine.tree p) in (
-      record { before = f.machine; after = g.1; step = store.RemoveFile p; hint = no_hint; items = item (asks.RemoveFile p) g.0 ∷ []; end = g.0 },
-      λ reply ended. record {
-        state = walking w (RemoveFile p) todo;
-        stands = stands;
-        wanted = refl;
-        held = tt;
-        spares = λ k state path is at. absurd (none_spared f.states caller (walking w (RemoveFile p) todo) stands refl alone k state path is at);
-        here = refl;
-        runs = (refl, refl);
-        each = (g.1, (Plain, g.2), refl);
-        luck = inr (inl (tt, (g.1, g.2, refl), g.3));
-        hint = tt;
-        clean = λ left. left;
-        fits = tt;
-        over = ended;
-      },
-    )
-clears_can_remove f caller w (RemoveFolder p) todo removes stands alone =
-    let g = removal_said f.machine (emptied f.machine.tree p) (emptied_say f.machine.tree p) in (
-      record { before = f.machine; after = g.1; step = store.RemoveDir p; hint = no_hint; items = item (asks.RemoveFolder p) g.0 ∷ []; end = g.0 },
-      λ reply ended. record {
-        state = walking w (RemoveFolder p) todo;
-        stands = stands;
-        wanted = refl;
-        held = tt;
-        spares = tt;
-        here = refl;
-        runs = (refl, refl);
-        each = (g.1, (Plain, g.2), refl);
-        luck = inr (inl (tt, (g.1, g.2, refl), g.3));
-        hint = tt;
-        clean = λ left. left;
-        fits = tt;
-        over = ended;
-      },
-    )
-clears_can_remove f caller w visit todo removes stands alone = absurd removes

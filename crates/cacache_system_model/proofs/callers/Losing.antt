@@ -2,13 +2,13 @@
 use Rattle.std.{proofs.Common.{◌≡◌, ◌⊎◌, inl, inr, ℕ, Bool, true, false, List, [], ◌∷◌, ◌++◌, refl, sym, ap, subst, ◌∙◌}, specs.Prelude.{Option, None, Some}}
 use Rattle.cacache_core.specs.{declared.integrity.digest.Hash.{Hash}, PathNames.{Names}, Paths.{content_names, bucket_names_of}}
 use Rattle.cacache_disk.specs.{declared.node.Node.{Node}, Rooted.{is_folder}, Tree.{Tree, look, bytes_of}, Apply.{apply}}
-use Rattle.cacache_loss.specs.{Fixing.{Fixed, synced, all_fixed, fixed_after}, Loss.{Loss, lost_at}, Moments.{Moment, after, lost_then}}
+use Rattle.cacache_loss.specs.{Fixing.{Fixed, synced, all_fixed, fixed_after}, Loss.{Loss, Lost, lost_at}, LostValues.{HoldsContent}, Moments.{Moment, after, lost_then}}
 use Rattle.cacache_value.specs.{Kinds.{kind_below, path_kind, node_below}, OpeningTrees.{LieApart}, Value.{blob_in, bucket_in, folders_below, value_of_tree}}
 use Rattle.cacache_value.proofs.KindsApart.{kind-below}
 use Rattle.cacache_calls.specs.declared.reply.Reply.{Reply}
-use Rattle.cacache_history.specs.{declared.record.Record.{Record, TheVariants.{Began, Moved, Stopped}}, Setup.{Setup, home}, History.{History, Now, now_after}, Values.{steps_of}, durable.Outlasting.{Outlives, LossesLeaveCaches, moment_at}}
+use Rattle.cacache_history.specs.{declared.record.Record.{Record, TheVariants.{Began, Moved, Stopped}}, Setup.{Setup, home}, History.{History, Now, now_after}, Values.{steps_of}, AddedEntries.{address_of_put}, durable.Outlasting.{Outlives, LossesLeaveCaches, moment_at}}
 use Rattle.cacache_history.proofs.durable.{Traces.{tree_at}, Outlasting.{histories_outlive}}
-use Rattle.cacache_system_model.specs.{Machine.{Machine}, Premises.{Premise}, Mirrors.{Mirrors}, Chains.{StepMade, temps_left, IsMade}, Fixing.{fixed_after_all, fixed_by, LosesAsTold, LeavesSame}, callers.{Acts.{Act, begins, steps as makes, ends, stops, SystemState, EndsFailed, step_of, after_act, after_acts, EachMay, IsMoved}, Made.{history_of, now_left, AreTemps, system_at}, Storing.{MakesStoringStep, MayStore}, Losing.{steps_made, is_temporary, LosesSame, LoseAsTold, StoringLose, SeenLose}}}
+use Rattle.cacache_system_model.specs.{Machine.{Machine}, Premises.{Premise}, Mirrors.{Mirrors}, Chains.{StepMade, temps_left, IsMade}, Fixing.{fixed_after_all, fixed_by, LosesAsTold, LeavesSame}, callers.{Acts.{Act, begins, steps as makes, ends, stops, SystemState, EndsFailed, step_of, after_act, after_acts, EachMay, IsMoved}, Made.{history_of, now_left, AreTemps, system_at}, Storing.{MakesStoringStep, MayStore}, Losing.{steps_made, is_temporary, LosesSame, KeepsPuts, LoseAsTold, StoringLose, SeenLose}}}
 use Rattle.cacache_system_model.proofs.{Alike.{AlikeFixed, folder_alike, lost_alike}, Mirroring.{look_same_at}, callers.{Following.{Agree, Follows, FollowAll, step_follows, act_follows, then_all, first_agree, makes_history}, Covering.{before_mirrors, step_asked, step_so, lawful}, FixedSteps.{StepFacts, step_facts, moved_alike, failed_alike}, Seeing.{seen_acts_store}}}
 
 -- ---- which record a step has
@@ -142,6 +142,13 @@ module _ (h : History) (m : Machine) (fixed : Fixed) (nodes : (loss : Loss) (pat
         );
   }
 
+puts_kept : (h : History) (m : Machine) (fixed : Fixed) → LosesSame h m fixed → Outlives h → KeepsPuts h m fixed
+puts_kept h m fixed same outlives folder p loss left is few put lost =
+    let v = same.values loss left (subst (λ (o : Option Names). Lost o m.tree fixed loss left) (sym is) lost) in
+    let now : Moment = moment_at h h.records in
+    let held = (outlives.puts few folder p loss v.0 is put (subst (λ (o : Option Names). Lost o now.tree now.fixed loss v.0) is v.1)).0 in
+    subst (HoldsContent (address_of_put p)) (sym (subst (λ (o : Option Names). value_of_tree o left ≡ value_of_tree o v.0) is v.2)) held
+
 -- before any record, all is fixed
 first_moment : (s : Setup) (past records : List Record) → past ≡ []
     → moment_at (history_of s (past ++ records)) (past ++ records) ≡ after (moment (now_left s past).tree (all_fixed (now_left s past).tree)) (steps_of records)
@@ -163,13 +170,11 @@ storing_lose s m cache acts nothing free none each =
     let alike : AlikeFixed (own s cache.legal.apart) fixed now.fixed
     = subst (λ (x : Moment). AlikeFixed (own s cache.legal.apart) fixed x.fixed) (sym (first_moment s cache.past made.records nothing)) l.1 in
     let mirrors : Mirrors last.temps last.machine.tree now.tree = subst (Mirrors last.temps last.machine.tree) (sym (tree_at h h.records)) made.mirrors in
-    record {
-      history = made;
-      outlives = outlives;
-      loses = loses_same h last.machine fixed
-          (λ loss path. lost_alike (own s cache.legal.apart) last.temps last.machine.tree now.tree fixed now.fixed mirrors (owned s cache.legal.apart last.temps made.are_temps) alike (home s) loss path)
-          outlives.caches;
-    }
+    let loses : LosesSame h last.machine fixed
+    = loses_same h last.machine fixed
+    (λ loss path. lost_alike (own s cache.legal.apart) last.temps last.machine.tree now.tree fixed now.fixed mirrors (owned s cache.legal.apart last.temps made.are_temps) alike (home s) loss path)
+    outlives.caches in
+    record { history = made; outlives = outlives; loses = loses; puts = puts_kept h last.machine fixed loses outlives }
 
 pub seen_lose : SeenLose
 seen_lose s m cache acts nothing free none each = storing_lose s m cache acts nothing free none (seen_acts_store s m cache acts each)

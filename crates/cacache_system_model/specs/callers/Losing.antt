@@ -1,10 +1,11 @@
 -- What a loss of power leaves on one machine, after what callers did there.
-use Rattle.std.specs.{Prelude.{◌≡◌, Bool, true, false, List, [], ◌∷◌, ◌++◌}, List.{AllByRecursion}}
+use Rattle.std.specs.{Prelude.{◌≡◌, Bool, true, false, List, [], ◌∷◌, ◌++◌, Some}, List.{AllByRecursion}}
 use Rattle.cacache_core.specs.PathNames.{Names}
 use Rattle.cacache_disk.specs.Tree.{Tree}
 use Rattle.cacache_value.specs.{Kinds.{PathKind, Temporary, path_kind}, Value.{value_of_tree}}
-use Rattle.cacache_loss.specs.{Fixing.{Fixed, all_fixed}, Loss.{Loss, Lost, lost_at}, Moments.{lost_then}}
-use Rattle.cacache_history.specs.{declared.record.Record.{Record}, Setup.{Setup, home}, History.{History}, durable.Outlasting.{Outlives, moment_at}}
+use Rattle.cacache_loss.specs.{Fixing.{Fixed, all_fixed}, Loss.{Loss, Lost, lost_at}, LostValues.{HoldsContent}, Moments.{lost_then}}
+use Rattle.cacache_calls.specs.declared.command.Put.{Put}
+use Rattle.cacache_history.specs.{declared.record.Record.{Record}, Setup.{Setup, home}, History.{History}, AddedEntries.{address_of_put}, durable.{FewCalls.{FewCalls}, Outlasting.{DurablePut, Outlives, moment_at}}}
 use Rattle.cacache_system_model.specs.{Machine.{Machine}, Chains.{StepMade}, Fixing.{fixed_after_all, LosesAsTold, LeavesSame}, callers.{Acts.{Act, steps, SystemState, after_acts, EachMay}, Made.{history_of, CacheOn, system_at, MakesHistory}, Storing.{MayStore}, Seen.{EachSeen, seen_at}}}
 
 -- the steps that acts made
@@ -30,13 +31,22 @@ pub record LosesSame (h : History) (m : Machine) (fixed : Fixed) : Type 0 where
       × Lost (home h.setup) (moment_at h h.records).tree (moment_at h h.records).fixed loss other
       × (value_of_tree (home h.setup) left ≡ value_of_tree (home h.setup) other)
 
+-- what a durable put of a history stored is there on a machine after a loss, if each call has a temporary file of its own
+abbrev pub KeepsPuts : History → Machine → Fixed → Type 0
+KeepsPuts h m fixed =
+    (folder : Names) (p : Put) (loss : Loss) (left : Tree) → home h.setup ≡ Some folder → FewCalls h
+    → DurablePut h folder p → Lost (Some folder) m.tree fixed loss left
+    → HoldsContent (address_of_put p) (value_of_tree (Some folder) left)
+
 -- What acts made of a machine on which all was fixed: a history, whose durable commits outlast each loss of power. It leaves
--- the same of the machine.
+-- the same of the machine, with what was put durably.
 pub record LosesAsHistory (s : Setup) (m : Machine) (past : List Record) (acts : List Act)
     (last : SystemState) : Type 0 where
   pub history : MakesHistory s past acts last
   pub outlives : Outlives (history_of s (past ++ history.records))
   pub loses : LosesSame (history_of s (past ++ history.records)) last.machine
+      (fixed_after_all (all_fixed m.tree) (steps_made acts))
+  pub puts : KeepsPuts (history_of s (past ++ history.records)) last.machine
       (fixed_after_all (all_fixed m.tree) (steps_made acts))
 
 -- no act copies a file, and no sync failed before the last step
