@@ -154,7 +154,7 @@ impl<T: Drop> Writer<T> {
     ) -> CopyFuture<'a, R, Writer<T>, F>
         ensures lent { (result.writer.ghost_name ≡ self.entry.ghost_name)
             × (result.writer.now ≡ self.entry.now) }
-        ensures waits { (result.reader ≡ reader) × (vec_len result.held ≡ 0) }
+        ensures waits { (result.reader ≡ reader) × (vec_len result.buffer ≡ 0) }
     {
         let alloc = self.file.alloc;
         CopyFuture::new(rt, alloc, self, reader)
