@@ -127,6 +127,11 @@ impl<T: Drop> Writer<T> {
     /// Writes all of these bytes, as a future: Ok exactly if all were taken. It asks `poll_write` about a piece at a time,
     /// of 64 KiB at most. If it is dropped before it is ready, a piece may be out or unanswered.
     ///
+    /// ```
+    /// block_on(&rt, writer.write_all(&rt, b"my data"))??;
+    /// let sri = block_on(&rt, writer.commit(&rt, &mut env))??; // nothing was saved before
+    /// ```
+    ///
     /// `IoError` with `WriteZero` if the worker takes none of a piece; other errors are those of `poll_write`. After an
     /// error the file has a beginning of the bytes.
     pub fn write_all<'a, R: Wait>(
@@ -144,6 +149,12 @@ impl<T: Drop> Writer<T> {
 
     /// Writes all that the reader gives, as a future, and answers how many bytes that were. A poll reads 64 KiB at most,
     /// and waits for the reader.
+    ///
+    /// ```
+    /// let reader: &[u8] = b"my data";
+    /// let count = block_on(&rt, writer.copy_from(&rt, reader))??; // 7
+    /// block_on(&rt, writer.commit(&rt, &mut env))??; // nothing was saved before
+    /// ```
     ///
     /// `IoError` has the fault of a read; a read that was interrupted is tried again. Other errors are those of
     /// `write_all`. After an error the file has a beginning of the bytes.

@@ -76,13 +76,15 @@ const CALLS: [&str; 44] = [
 ];
 
 /// The calls that are futures.
-const FUTURES: [&str; 6] = [
+const FUTURES: [&str; 8] = [
     "read",
     "write",
     "Reader::open",
     "ToLinker::open",
     "Writer::create",
     "Writer::poll_write",
+    "Writer::write_all",
+    "Writer::copy_from",
 ];
 
 /// The bytes as a text.
@@ -153,7 +155,8 @@ where
         "write" => awaited::write(rt, env),
         "ToLinker::open" => awaited::linker(rt, env),
         "Writer::create" => polled::create(rt, env),
-        _ => polled::poll_write(rt, env),
+        "Writer::poll_write" => polled::poll_write(rt, env),
+        _ => polled::fed(rt, env, name),
     }
 }
 

@@ -42,6 +42,43 @@ where
     came
 }
 
+/// Writes all bytes as a future, and commits. Returns the integrity.
+fn filled<R>(rt: R, mut env: &mut Memory, mut writer: Writer<PlainTemp>) -> Result<String>
+where
+    R: Wait + RandomSource + AllocGlobal + Copy,
+{
+    block_on(&rt, writer.write_all(&rt, b"my data"))??;
+    let sri = block_on(&rt, writer.commit(&rt, &mut env))??; // nothing was saved before
+    printed(rt.alloc(), sri)
+}
+
+/// Writes what a reader gives, and commits. Returns how many bytes that were.
+fn copied<R>(rt: R, mut env: &mut Memory, mut writer: Writer<PlainTemp>) -> Result<String>
+where
+    R: Wait + RandomSource + AllocGlobal + Copy,
+{
+    let reader: &[u8] = b"my data";
+    let count = block_on(&rt, writer.copy_from(&rt, reader))??; // 7
+    block_on(&rt, writer.commit(&rt, &mut env))??; // nothing was saved before
+    printed(rt.alloc(), count)
+}
+
+/// What comes of such a future of this name, while the writer's worker runs in a thread of its own.
+pub(crate) fn fed<R>(rt: R, mut env: Memory, name: &str) -> Result<String>
+where
+    R: Threads + Wait + Clock + RandomSource + AllocGlobal + Copy + Sync + Send + 'static,
+{
+    let writer = block_on(&rt, cacache::Writer::create(&mut env, "my-cache", "key"))??;
+    let worker = writer.worker()?;
+    let thread = thread::spawn(&rt, move || worker.run(&rt, &Open))?;
+    let came = match name {
+        "Writer::write_all" => filled(rt, &mut env, writer),
+        _ => copied(rt, &mut env, writer),
+    };
+    thread.join(&rt);
+    came
+}
+
 /// The integrity of what was written.
 pub(crate) fn create<R>(rt: R, env: Memory) -> Result<String>
 where
