@@ -27,6 +27,8 @@ pub use Rattle.cacache_history.specs.durable.Behind.{Behind, NoneAppends, StaysS
 pub use Rattle.cacache_history.specs.durable.Outlasting.{AnsweredPut, DurableInsert, DurablePut, EntriesHaveBehind, FoundLink, HistoriesOutlive, KeepsLink, Outlives, OutlastsWith, PutsOrLinksOutlast}
 pub use Rattle.cacache_system_model.specs.callers.Made.{CacheOn, CachesBegin, CachesGoOn, MakesHistory, history_of, now_left}
 pub use Rattle.cacache_system_model.specs.callers.Seen.{SeenActsAre, SeenMakeHistories}
+pub use Rattle.cacache_system_model.specs.callers.Losing.{SeenLose, LosesAsHistory}
+pub use Rattle.cacache_system_model.specs.callers.Numbers.{NumbersDiffer}
 pub use Rattle.cacache_world.specs.Losses.{LeftBy}
 pub use Rattle.cacache_laws.specs.Meanwhile.{AllSpareListed, LeadsToContent, ListingsName, ListsAllIn, PutsKeep}
 pub use Rattle.cacache_laws.specs.Standing.{IsStanding}

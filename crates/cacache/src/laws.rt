@@ -10,10 +10,11 @@ pub use cacache_entry::{bucket_laws, entry_laws, lookup_laws};
 pub use cacache_history::durable::durable_laws;
 pub use cacache_history::{digest_laws, history_laws};
 pub use cacache_laws::results::{
-    after_clear, after_copy, after_exists, after_find, after_insert, after_link, after_link_hash,
-    after_list, after_read, after_read_hash, after_read_left, after_remove, after_remove_fully,
-    after_remove_hash, after_share, after_write, after_write_hash, after_write_left, durable_cases,
-    joining_laws, link_losses, linker_laws, loss_results, writer_laws,
+    after_clear, after_copy, after_exists, after_export, after_find, after_get_or_put,
+    after_insert, after_link, after_link_hash, after_list, after_read, after_read_hash,
+    after_read_left, after_remove, after_remove_fully, after_remove_hash, after_share, after_write,
+    after_write_hash, after_write_left, durable_cases, joining_laws, layered_laws, link_losses,
+    linker_laws, loss_results, writer_laws,
 };
 pub use cacache_laws::{
     cache_laws, handle_laws, look_laws, meanwhile_laws, parts_laws, sequence_laws, standing_laws,
