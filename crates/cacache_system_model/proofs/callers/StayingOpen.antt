@@ -13,8 +13,7 @@ use Rattle.cacache_system.specs.{declared.call.{FileInfo.{FileInfo}, SystemCall.
 use Rattle.cacache_system.specs.declared.call.SystemCall.TheVariants as asks
 use Rattle.cacache_system.specs.declared.call.CallResult.TheVariants as says
 use Rattle.cacache_system_model.specs.{Machine.{under, Machine, OpensIf}, Calls.{OccursSomehow, EachCall}, OneCall.{IsOpenAt}, callers.Opened.{KeepsOpen, Avoids, IsApart, StillStores, RunsKeepOpen}}
-use Rattle.cacache_system_model.proofs.{callers.{ListCalls.{CanOpen, can_open, IsListing, FolderLeft, folder_left, names_left}, FreshFiles.{IsNew, new_moves, made_new, filled_new}, CopyTargets.{end_apart, spelled_left, spelled, IsLinkAt, link_shown, IsBarred, barred, never_opened, fresh_apart, not_made}, OpenCalls.{Moves, place_at, CanRead, keeps_same, keeps_self, Readable, IsOpenNumber, IsNamed, Safe, occurs_keep, front_left, rest_left, stat_left, readable_on}, UnchangedCalls.{Unchanged, look_left, link_look_left, Readies, readied, open_ready, append_ready, opens_number}}, memory.Places.{place_led}}
-use Rattle.cacache_system_model.proofs.callers.SafeStages.{IsFile, IsSafe, cond_safe, cond_so, unless_safe, if_safe, opened_safe, checked_safe, front_safe, rest_safe, below_safe, climb_safe, unmade_safe, folder_safe, making_safe, confirming_safe, SafeLater, open_later, unchanged_on, again_safe, give_safe, kept_safe, prepared_safe, descend_safe, compared_safe, comparing_safe, descending_safe, file_safe, line_safe, more_safe, entered_safe, next_safe, listed_safe, kind_safe, opened_safe_folder, followed_safe, size_safe, source_safe, copied_safe, target_safe, end_safe, made_end_safe, resolved_safe, taken_safe, fresh_safe, filled_safe, replaced_safe}
+use Rattle.cacache_system_model.proofs.{callers.{ListCalls.{CanOpen, can_open, IsListing, FolderLeft, folder_left, names_left}, FreshFiles.{IsNew, new_moves, made_new, filled_new}, CopyTargets.{end_apart, spelled_left, spelled, IsLinkAt, link_shown, IsBarred, barred, never_opened, fresh_apart, not_made}, OpenCalls.{Moves, place_at, CanRead, keeps_same, keeps_self, Readable, IsOpenNumber, IsNamed, Safe, occurs_keep, front_left, rest_left, stat_left, readable_on}, UnchangedCalls.{Unchanged, look_left, link_look_left, Readies, readied, open_ready, append_ready, opens_number}, SafeStages.{IsFile, IsSafe, cond_safe, cond_so, unless_safe, if_safe, opened_safe, checked_safe, front_safe, rest_safe, below_safe, climb_safe, unmade_safe, folder_safe, making_safe, confirming_safe, SafeLater, open_later, unchanged_on, again_safe, give_safe, kept_safe, prepared_safe, descend_safe, compared_safe, comparing_safe, descending_safe, file_safe, line_safe, more_safe, entered_safe, next_safe, listed_safe, kind_safe, opened_safe_folder, followed_safe, size_safe, source_safe, copied_safe, target_safe, end_safe, made_end_safe, resolved_safe, taken_safe, fresh_safe, filled_safe, replaced_safe}}, memory.Places.{place_led}}
 
 at_call : (a call : SystemCall) (m n : Machine) (said : CallResult) → Some a ≡ Some call → OccursSomehow m call said n → OccursSomehow m a said n
 at_call a call m n said w h = let same : a ≡ call = cc in subst (λ (x : SystemCall). OccursSomehow m x said n) (sym same) h

@@ -10,8 +10,7 @@ use Rattle.cacache_system.specs.{declared.call.{SystemCall.{SystemCall}, CallRes
 use Rattle.cacache_system.specs.declared.call.SystemCall.TheVariants as asks
 use Rattle.cacache_system.specs.declared.call.CallResult.TheVariants as says
 use Rattle.cacache_system_model.specs.{Machine.{Place, under, nameless, OpenFile, node_of, Machine, gone, moved, grown, with_place, placed, fixes, Became, IsRefused, ChangesTree, ChangesPlaces, OpensIf, with_file, with_sync, unread, ShowsNode, ShowsEnd, ShowsPlace, ShowsOpen, GivesOwner, ReadsFile, ReadsOpen, Grows, LinksNode, CopiesBytes, found_bytes, SpellsEnd, MovesNode}, Calls.{GoesWell, did_nothing, PartWritten, LeavesWritten, LeavesCreated, LeavesPart, OccursSomehow}, OneCall.{IsOpenAt}, callers.Opened.{KeepsOpen, Avoids}}
-use Rattle.cacache_system_model.proofs.{Steps.Opening.{open_of}, Views.{View, nowhere, a_folder, a_file, view}}
-use Rattle.cacache_system_model.proofs.callers.OpenCalls.{place_at, node_keeps, CanRead, IsOpenNumber, IsNamed, Readable, Synced}
+use Rattle.cacache_system_model.proofs.{Steps.Opening.{open_of}, Views.{View, nowhere, a_folder, a_file, view}, callers.OpenCalls.{place_at, node_keeps, CanRead, IsOpenNumber, IsNamed, Readable, Synced}}
 
 -- ---- calls that change neither the tree nor the open files
 
