@@ -78,11 +78,16 @@ fn process_of(word: &str) -> Result<u32, Flaw> {
     }
 }
 
-/// The first three numbers of a source, a time and a process.
-pub(crate) fn numbers(alloc: Global, words: &str) -> Result<String, Flaw> {
+/// The numbers of a source, a time and a process, in words.
+fn names_in(words: &str) -> Result<ProcessNames, Flaw> {
     let (source, rest) = cut(words);
     let (millis, process) = cut(rest);
-    let mut names = names_of(source, number_of(millis)? as u64, process_of(process)?)?;
+    names_of(source, number_of(millis)? as u64, process_of(process)?)
+}
+
+/// The first three of them.
+pub(crate) fn numbers(alloc: Global, words: &str) -> Result<String, Flaw> {
+    let mut names = names_in(words)?;
     let (one, two, three) = (names.fresh(), names.fresh(), names.fresh());
     Ok(format!(in alloc; "{one} {two} {three}")?)
 }

@@ -150,10 +150,13 @@ impl Place {
             return Err(Flaw::Unfit);
         };
         let calls = taken(notes, alloc);
-        if calls.is_empty() {
-            return Ok(String::from_str(alloc, "-")?);
-        }
-        Ok(calls.replace(alloc, root, "")?)
+        let shown = if calls.is_empty() {
+            String::from_str(alloc, "-")
+        } else {
+            calls.replace(alloc, root, "")
+        };
+        let_go(calls);
+        Ok(shown?)
     }
 
     /// How many hold the notes: each open file and folder is one of them.

@@ -72,10 +72,12 @@ impl Root {
         let from = path_of(alloc, self.path.as_str(), from)?;
         let (to, from) = beside(path_of(alloc, self.path.as_str(), to), from)?;
         let renamed = fs::rename(&self.rt, from.as_str(), to.as_str());
-        let_go((from, to));
-        match renamed {
-            Ok(()) => Ok(String::from_str(alloc, "renamed")?),
-            Err(error) => Ok(failed(alloc, error)?),
-        }
+        let_go(from);
+        let_go(to);
+        let shown = match renamed {
+            Ok(()) => String::from_str(alloc, "renamed"),
+            Err(error) => failed(alloc, error),
+        };
+        Ok(shown?)
     }
 }

@@ -122,14 +122,15 @@ impl Folders {
     /// What an act gives, with the calls that it takes if they are wanted.
     fn got(&mut self, act: &str, with_calls: bool) -> Result<String, Flaw> {
         let alloc = self.rt.alloc();
-        match cut(act) {
-            ("clock", _) => Ok(format!(in alloc; "{}", given(is_between(self.rt))?)?),
-            ("numbers", words) => numbers(alloc, words),
-            ("numbers-differ", _) => Ok(format!(in alloc; "{}", numbers_differ(self.rt))?),
-            ("devices-differ", _) => Ok(format!(in alloc; "{}", given(devices_differ(self.rt))?)?),
-            ("memory", line) => Ok(appended(alloc, line)?),
-            _ => self.group()?.got_with(act, with_calls),
-        }
+        let got = match cut(act) {
+            ("clock", _) => format!(in alloc; "{}", given(is_between(self.rt))?),
+            ("numbers", words) => return numbers(alloc, words),
+            ("numbers-differ", _) => format!(in alloc; "{}", numbers_differ(self.rt)),
+            ("devices-differ", _) => format!(in alloc; "{}", given(devices_differ(self.rt))?),
+            ("memory", line) => appended(alloc, line),
+            _ => return self.group()?.got_with(act, with_calls),
+        };
+        Ok(got?)
     }
 }
 
