@@ -26,7 +26,7 @@ AS_FUTURE = ["find", "get"]
 # (2 of a tombstone's). With a key there is also one block of SHA-1, of the key.
 BLOCKS = {"put": 20, "get": 20, "put-again": 20, "get-hash": 17, "find": 3, "remove": 2, "exists": 0, "ls": 3}
 # Calls that look after a cache, each over a new one that the word makes first; the bench's word floor-KIND does the same through the kit alone.
-KEPT = {"sweep": ["10000"], "compact": ["10000", "10"], "repair": ["10000"], "plan": ["10000"], "verify": ["10000"], "collect": ["10000"]}
+KEPT = {"sweep": ["10000"], "compact": ["10000", "10"], "repair": ["10000"], "plan": ["10000"], "verify": ["10000"], "collect": ["10000"], "prune": ["10000"]}
 KEYED = ["put", "get", "put-again", "find", "remove"]
 
 figures = {}  # name -> list of (ns by the clock, ns of the processor)
