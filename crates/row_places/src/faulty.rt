@@ -4,7 +4,7 @@ ghost use Rattle.row_places.specs.Seen.{FitsSeen};
 
 use cacache_core::bytes::Bytes;
 use cacache_core::errors::Fault;
-use cacache_core::keeping::{let_go, set};
+use cacache_core::keeping::{beside, let_go, set};
 use cacache_core::text::Text;
 use cacache_store::store::{
     Answer, FileHandle, OpenedFile, PlainFile, Step, Store, TempFile, TempHandle,
@@ -29,7 +29,7 @@ pub struct Mishaps {
     pub short: Option<usize>,
     /// The most bytes that any write takes.
     pub most: usize,
-    /// Whether each write with an even number is interrupted.
+    /// Whether each read and write with an even number is interrupted.
     pub interrupts: bool,
     /// Whether no flush is done.
     pub unflushed: bool,
@@ -74,11 +74,28 @@ impl OpenedFile for Failing {
         if self.mishaps.fails == Some(number) {
             return Err(io::Error::from(ErrorKind::Other));
         }
+        if self.mishaps.interrupts && number % 2 == 0 {
+            return Err(io::Error::from(ErrorKind::Interrupted));
+        }
         self.file.read_some(buf)
     }
 }
 
 impl Failing {
+    /// An open file that holds these bytes.
+    pub fn new(alloc: Global, bytes: &[u8], mishaps: Mishaps) -> Result<Failing, AllocError> {
+        let held = Bytes::new(alloc, Vec::from_slice(alloc, bytes)?)?;
+        let file = PlainFile {
+            left: bytes.len(),
+            bytes: Some(held),
+        };
+        Ok(Failing {
+            file,
+            mishaps,
+            reads: 0,
+        })
+    }
+
     /// At most `max` bytes.
     fn piece(&mut self, alloc: Global, max: usize) -> io::Result<Bytes>
         ensures count { IfOk result (λ bytes. length bytes ≤ max) }
@@ -185,20 +202,14 @@ pub struct Faulty {
 impl Faulty {
     /// The store with files that fail so.
     pub fn new(alloc: Global, mishaps: Mishaps) -> Result<Faulty, AllocError> {
-        let path = Text::from_str(alloc, "")?;
-        let bytes = Bytes::new(alloc, Vec::from_slice(alloc, TEXT)?)?;
-        let file = PlainFile {
-            left: TEXT.len(),
-            bytes: Some(bytes),
-        };
+        let (file, path) = beside(
+            Failing::new(alloc, TEXT, mishaps),
+            Text::from_str(alloc, "")?,
+        )?;
         Ok(Faulty {
             alloc,
             mishaps,
-            file: Some(Failing {
-                file,
-                mishaps,
-                reads: 0,
-            }),
+            file: Some(file),
             path,
             kept: Vec::new(alloc),
             removals: 0,

@@ -5,6 +5,7 @@ use cacache_entry::Metadata;
 use rows::answers::refused;
 use rows::words::{is_nothing, word_of, written_out};
 use std::alloc::{AllocError, Global};
+use std::fmt::Display;
 
 /// Puts an answer after those before it.
 pub(crate) fn add(line: &mut String, answer: &str) -> Result<(), AllocError> {
@@ -28,7 +29,10 @@ pub(crate) fn bytes_of(word: &str) -> &[u8] {
 }
 
 /// The answer on a count of bytes.
-pub(crate) fn counted(alloc: Global, answer: Answered<usize>) -> Result<String, AllocError> {
+pub(crate) fn counted<N: Display + Drop>(
+    alloc: Global,
+    answer: Answered<N>,
+) -> Result<String, AllocError> {
     match answer {
         Ok(count) => format!(in alloc; "Ok({count})"),
         Err(error) => refused(alloc, error),

@@ -18,6 +18,7 @@ mod places;
 mod polls;
 mod readers;
 mod steps;
+mod wholes;
 mod writers;
 
 use places::Places;

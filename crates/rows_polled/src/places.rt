@@ -46,12 +46,15 @@ fn number_in(number: &str) -> Result<Option<usize>, Flaw> {
 }
 
 /// What goes wrong with a file, in words: `fails N` and `short N` name the read or write that fails, or takes one byte at
-/// most; after `unflushed` no flush is done, and after `unremoved` the file isn't removed.
-fn mishaps_of(words: &str) -> Result<Mishaps, Flaw> {
+/// most; `most N` says how many bytes a write takes at most; after `interrupted` each other read is, the first too; after
+/// `unflushed` no flush is done, and after `unremoved` the file isn't removed.
+pub(crate) fn mishaps_of(words: &str) -> Result<Mishaps, Flaw> {
     let mut mishaps = Mishaps::NONE;
     match cut(words) {
         ("fails", number) => mishaps.fails = number_in(number)?,
         ("short", number) => mishaps.short = number_in(number)?,
+        ("most", number) => mishaps.most = number_of(number)?,
+        ("interrupted", _) => mishaps.interrupts = true,
         ("unflushed", _) => mishaps.unflushed = true,
         ("unremoved", _) => mishaps.stays = true,
         _ => return Err(Flaw::NotRead),

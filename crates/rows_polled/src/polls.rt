@@ -5,10 +5,14 @@ use cacache_writers::Writer;
 use futures::task::Poll;
 use futures::test::MockTask;
 use std::alloc::{AllocError, Global};
+use std::fmt::Display;
 use std::sync::Wait;
 
 /// The answer to a poll of a write.
-fn wrote(alloc: Global, polled: Poll<Answered<usize>>) -> Result<String, AllocError> {
+pub(crate) fn wrote<N: Display + Drop>(
+    alloc: Global,
+    polled: Poll<Answered<N>>,
+) -> Result<String, AllocError> {
     match polled {
         Poll::Ready(answer) => counted(alloc, answer),
         Poll::Pending => String::from_str(alloc, "Pending"),
@@ -16,7 +20,7 @@ fn wrote(alloc: Global, polled: Poll<Answered<usize>>) -> Result<String, AllocEr
 }
 
 /// The answer to a poll that says nothing.
-fn over(alloc: Global, polled: Poll<Answered<()>>) -> Result<String, AllocError> {
+pub(crate) fn over(alloc: Global, polled: Poll<Answered<()>>) -> Result<String, AllocError> {
     match polled {
         Poll::Ready(answer) => done(alloc, answer),
         Poll::Pending => String::from_str(alloc, "Pending"),

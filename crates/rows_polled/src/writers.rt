@@ -6,6 +6,7 @@ use crate::gates::{turned, worked};
 use crate::opening::opened;
 use crate::polls::{close, flush, write};
 use crate::steps::{Stepped, in_turn, is_act};
+use crate::wholes::{copied, written_whole};
 use cacache_core::keeping::{beside, let_go};
 use cacache_store::store::Store;
 use cacache_writers::{RemovableTemp, Worker, Writer};
@@ -52,6 +53,8 @@ fn stepped<R: Wait + AllocGlobal, T: RemovableTemp>(
         "flush" => Ok(flush(rt, alloc, &desk.task, &mut desk.writer)?),
         "close" => Ok(close(rt, alloc, &desk.task, &mut desk.writer)?),
         "piece" => piece(rt, desk, data),
+        "all" => written_whole(rt, desk, data),
+        "copy" => copied(rt, desk, data),
         _ => worked(rt, &desk.task, &mut desk.worker, step),
     }
 }
