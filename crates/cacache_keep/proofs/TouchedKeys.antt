@@ -14,7 +14,7 @@ use Rattle.cacache_jobs.specs.{Environment.{AsksMoment}, Sites.{site_of}}
 use Rattle.cacache_sync.specs.put.Puts.{insert_of}
 use Rattle.cacache_history.proofs.Entries.Spelled.{HasIntegrity, latest_has}
 use Rattle.cacache_laws.specs.{Caches.{Called, IsCache}, Inserts.{InsertsKey}, Keeping.{KeepsOthers, StaysKnown, found_under}, Looks.{GivesFound}, OpenWriters.{LeavesKnownCache}, ReadAnswers.{entries_on}}
-use Rattle.cacache_laws.proofs.{Calls.{Logs.{some_same}, Messages.{plain_error}}, Putting.Inserting.{inserts_last}, Readings.{Known.{caches_last}, Looked.{finds_found}, Looks.{tree_stays}, OpenReaders.{log_front}}, results.Told.{looks_leave}}
+use Rattle.cacache_laws.proofs.{Calls.{Logs.{some_same}, CallErrors.{plain_error}}, Putting.Puts.{inserts_last}, Readings.{Known.{caches_last}, GivenReads.{finds_found}, Looks.{tree_stays}, OpenReaders.{log_front}}, results.Told.{looks_leave}}
 use Rattle.cacache_keep.specs.{Calls.{MadeCalls}, Touched.{LeadsAnew, LeavesTouched, TouchMeans, at_moment}, Touching.{StopsTouching, Touches, is_found, renewed, said_of, touch_of}}
 
 -- ---- an entry that is found

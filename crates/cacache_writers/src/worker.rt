@@ -66,11 +66,11 @@ impl<T: RemovableTemp> Worker<T> {
         )
     }
 
-    /// Takes turns until one is over, and waits a millisecond after each that had nothing to do. The example of
-    /// `Writer::create` runs one in a thread of its own, and joins it: until it returns it may have the temporary
-    /// file of a writer that was dropped.
+    /// Takes turns until one is over, and sleeps after each that had nothing to do: 20 microseconds, and a millisecond
+    /// after 64 such turns in a row. The example of `Writer::create` runs one in a thread of its own, and joins it:
+    /// until it returns it may have the temporary file of a writer that was dropped.
     ///
-    /// `Wait` is for the lock and for sleeping, `Clock` for the millisecond. Unless its gate says `Quit`, it doesn't
+    /// `Wait` is for the lock and for sleeping, `Clock` for how long. Unless its gate says `Quit`, it doesn't
     /// return before the polled file is dropped, committed or closed.
     pub fn run<R: Wait + Clock, G: Gate>(mut self, rt: &R, gate: &G) {
         run_by(rt, || self.turn(rt, gate))
@@ -122,15 +122,25 @@ fn turn_by<
     }
 }
 
-/// Takes turns until one is over, and waits a millisecond after each that had nothing to do.
+/// How long a worker sleeps after so many turns in a row that had nothing to do. A writer's next piece often follows at
+/// once, so that a worker looks often at first.
+fn pause(idle: u32) -> Duration {
+    Duration::from_micros(if idle < 64 { 20 } else { 1000 })
+}
+
+/// Takes turns until one is over, and sleeps after each that had nothing to do.
 pub(crate) fn run_by<R: Wait + Clock, Turn: FnMut() -> Turned>(rt: &R, mut turn: Turn)
     requires turn { Turn.IsAlwaysCallable turn }
     ensures over { (before after : Turn) × Turn.step before Over after }
 {
+    let mut idle = 0;
     for _ in rt.forever() {
         match turn() {
-            Turned::Did => {}
-            Turned::NoWork | Turned::NotYet => thread::sleep(rt, Duration::from_millis(1)),
+            Turned::Did => idle = 0,
+            Turned::NoWork | Turned::NotYet => {
+                thread::sleep(rt, pause(idle));
+                idle = idle.saturating_add(1);
+            }
             Turned::Over => return,
         }
     }
