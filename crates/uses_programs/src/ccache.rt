@@ -35,9 +35,7 @@ fn key_of(rt: HostRuntime, inputs: &[&str]) -> Result<String> {
 /// "Compiles" a text: turns its lines round.
 fn translate(text: &str, object: &mut String) -> Result<()> {
     for line in text.lines() {
-        for letter in line.chars().rev() {
-            object.push(letter)?;
-        }
+        object.extend(line.chars().rev())?;
         object.push('\n')?;
     }
     Ok(())

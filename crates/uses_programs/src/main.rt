@@ -4,8 +4,8 @@
 
 mod calls;
 mod ccache;
-mod downloads;
 mod fetch;
+mod mirror;
 mod responses;
 mod threads;
 
@@ -14,17 +14,18 @@ use std::alloc::AllocGlobal;
 use std::random::RandomSource;
 use std::sync::Wait;
 use std::thread::Threads;
+use std::time::Clock;
 
 /// Runs a command. `rt` waits and starts threads, and `host` is the same runtime.
 fn run<R>(rt: &R, host: HostRuntime, command: &str) -> Result<()>
 where
-    R: Threads + Wait + RandomSource + Print + AllocGlobal + Sync,
+    R: Threads + Wait + RandomSource + Clock + AllocGlobal + Copy + Send + Sync + Drop + 'static,
 {
     let words: Vec<&str> = command.split_whitespace().collect(host.alloc())?;
     match words.as_slice() {
         ["fetch", words @ ..] => fetch::run(host, words),
         ["ccache", words @ ..] => ccache::run(host, words),
-        ["downloads"] => Ok(downloads::run(rt, host)?),
+        ["mirror", words @ ..] => mirror::run(rt, host, words),
         ["responses"] => Ok(responses::run(host)?),
         ["threads"] => Ok(threads::run(rt, host)?),
         _ => bail!("There is no program {command}"),
