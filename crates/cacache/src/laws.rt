@@ -1,7 +1,8 @@
 //! Laws that a caller's own proof may cite: functions without a body, with contracts that say what follows from the
 //! calls, entries and histories. Those named `after_..` are called after a call on a store in memory, with its
 //! arguments and its answer: they say what it left. The words of their contracts are those of `specs/Laws`, for worlds
-//! and losses those of `specs/Histories`, and for the file of a bucket that many processes use those of `specs/Buckets`.
+//! and losses those of `specs/Histories`, for the file of a bucket that many processes use those of `specs/Buckets`, and
+//! for whole writes by polls those of `specs/Polled`.
 pub use cacache_calls::{
     effect_laws, licence_laws, promise_laws, reply_laws, row_laws, run_laws, sound_laws,
 };
@@ -27,3 +28,4 @@ pub use cacache_system_model::{
 };
 pub use cacache_value::{append_laws, step_laws, trace_laws};
 pub use cacache_walks::contents_laws;
+pub use cacache_writers::write_laws;
