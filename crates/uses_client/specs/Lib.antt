@@ -1,4 +1,5 @@
 pub mod Packages
 pub mod Writing
 pub mod Audits
+pub mod Polling
 pub mod Given

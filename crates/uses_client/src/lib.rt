@@ -12,6 +12,7 @@
 //! | `outside` | `link` a file, `link_and_copy`, `mirror` one, `adopt` one by a linker, `export` a package |
 //! | `empty` | `come_and_go`, `from_nothing`: in a cache that is empty at first |
 //! | `counting` | `count` the entries, over any store |
+//! | `polling` | `write_within` so many polls, by any writer |
 #![tactic(auto)]
 
 mod auditing;
@@ -19,6 +20,7 @@ mod counting;
 mod empty;
 mod installing;
 mod outside;
+mod polling;
 mod reading;
 mod storing;
 mod writing;
@@ -28,5 +30,6 @@ pub use counting::count;
 pub use empty::{ReadBack, come_and_go, from_nothing};
 pub use installing::{give_up, install, install_expected};
 pub use outside::{adopt, export, link, link_and_copy, mirror};
+pub use polling::write_within;
 pub use reading::{describe, fetch, fetch_left, try_opening};
 pub use storing::{install_two, replace, retry_install, store, uninstall, uninstall_and_describe};
