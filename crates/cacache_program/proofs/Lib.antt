@@ -1,4 +1,5 @@
 pub mod Appending
+pub mod Made
 pub mod Texts
 pub mod PrintedLines
 pub mod Asking

@@ -1,8 +1,8 @@
 -- What is printed for the values that the calls of `cacache-keep` give.
-use Rattle.std.specs.Prelude.{ℕ, List, [], Option, length, map, string_bytes}
+use Rattle.std.specs.Prelude.{ℕ, List, [], length, map, string_bytes}
 use Rattle.cacache.specs.Entries.{found_view}
 use Rattle.cacache_keep.specs.declared.{collecting.Collected.{Collected}, compacting.Compacted.{Compacted}, planning.Planned.{Planned}, pruning.{PrunePlan.{PrunePlan}, Pruned.{Pruned}}, repairing.Repaired.{Repaired}, sweeping.Swept.{Swept}, verifying.Verdict.{Verdict}}
-use Rattle.cacache_program.specs.{WordCollect.{collected_text}, WordCompact.{compacted_text}, WordList.{TellsList, listed_text}, WordPlan.{planned_counts, planned_text}, WordPrune.{prune_text}, WordRepair.{repaired_text}, WordSweep.{swept_text}, WordVerify.{Findings, TellsVerdict, verdict_status, verdict_text}}
+use Rattle.cacache_program.specs.{WordCollect.{collected_text}, WordCompact.{compacted_text}, WordList.{listed_text}, WordPlan.{planned_text}, WordPrune.{prune_text}, WordRepair.{repaired_text}, WordSweep.{swept_text}, WordVerify.{Findings, verdict_status, verdict_text}}
 
 -- ---- a verification
 
@@ -15,12 +15,6 @@ text_of_verdict v =
 abbrev pub status_of_verdict : Verdict → ℕ
 status_of_verdict v =
     verdict_status (length v.damaged.items) (length v.dangling.items) (length v.strange.items)
-
--- its counts were put out with its status, or a beginning of them with status 1
-abbrev pub PutsVerdict : Verdict → Option (List ℕ) → Option (List ℕ) → ℕ → Type 0
-PutsVerdict v before after status =
-    TellsVerdict v.good (length v.damaged.items) (length v.dangling.items) (length v.strange.items)
-    before after status
 
 -- what it found
 abbrev pub findings_of : Verdict → Findings
@@ -36,41 +30,33 @@ findings_of v = (
 abbrev pub list_of_verdict : Verdict → List ℕ
 list_of_verdict v = listed_text (findings_of v)
 
--- they were put out with its status, or a beginning of them with status 1
-abbrev pub PutsList : Verdict → Option (List ℕ) → Option (List ℕ) → ℕ → Type 0
-PutsList v before after status = TellsList (findings_of v) before after status
-
 -- ---- the other calls
 
 -- the counts of a collection
 abbrev pub text_of_collected : Collected → List ℕ
 text_of_collected c = collected_text c.kept (length c.dropped.items)
 
--- those of a plan
-abbrev pub counts_of_planned : Planned → List ℕ
-counts_of_planned p = planned_counts p.kept (length p.unused.items)
-
--- and a line for each bucket with an odd line
+-- the counts of a plan, and a line for each bucket with an odd line
 abbrev pub text_of_planned : Planned → List ℕ
 text_of_planned p = planned_text p.kept (length p.unused.items) p.odd.items
 
--- those of a sweep
+-- the counts of a sweep
 abbrev pub text_of_swept : Swept → List ℕ
 text_of_swept s = swept_text s.files s.bytes (length s.strange.items)
 
--- those of a repair
+-- the counts of a repair
 abbrev pub text_of_repaired : Repaired → List ℕ
 text_of_repaired r = repaired_text (length r.damaged.items) (length r.dangling.items)
 
--- those of a compaction
+-- the counts of a compaction
 abbrev pub text_of_compacted : Compacted → List ℕ
 text_of_compacted c = compacted_text c.buckets c.bytes
 
--- those of a plan of a pruning, and its entries and buckets
+-- the counts of a plan of a pruning, its entries and buckets
 abbrev pub text_of_prune_plan : PrunePlan → List ℕ
 text_of_prune_plan p =
     prune_text p.bytes_before p.bytes_after (map found_view p.dropped.items) p.odd.items
 
--- those of a pruning, and its entries
+-- the counts of a pruning, and its entries
 abbrev pub text_of_pruned : Pruned → List ℕ
 text_of_pruned p = prune_text p.bytes_before p.bytes_after (map found_view p.dropped.items) []

@@ -1,6 +1,7 @@
 pub mod About
 pub mod Words
 pub mod Output
+pub mod Counts
 pub mod PrintedEntries
 pub mod WordWrite
 pub mod WordRead

@@ -1,15 +1,15 @@
 -- The word `collect` of the program `cacache-keep`.
-use Rattle.std.specs.{Prelude.{◌⊎◌, ◌++◌, ℕ, List, Option, codes, length}, Fmt.{decimal}}
+use Rattle.std.specs.Prelude.{◌⊎◌, ℕ, List, [], ◌∷◌, Option, codes, length}
 use Rattle.cacache_core.specs.declared.integrity.digest.Hash.{Hash}
 use Rattle.cacache.specs.{Stores.{LogItem}, Calls.{Env, KeepsRest}}
 use Rattle.cacache_jobs.specs.Sites.{site_of}
 use Rattle.cacache_keep.specs.{declared.checking.OddLines.{OddLines}, Keeping.{CollectsWith, StopsCollecting}}
-use Rattle.cacache_program.specs.{KeepFails.{Fails}, Output.{PutsOut}}
+use Rattle.cacache_program.specs.{Counts.{counts_text}, KeepFails.{Fails}, Output.{PutsOut}}
 
 -- how many contents were kept and dropped, a line each
 abbrev pub collected_text : ℕ → ℕ → List ℕ
 collected_text kept dropped =
-    codes "kept " ++ (decimal kept ++ (codes "\ndropped " ++ (decimal dropped ++ codes "\n")))
+    counts_text ((codes "kept", kept) ∷ (codes "dropped", dropped) ∷ [])
 
 module _ {S C N : Type 0} (log : S → Option (List LogItem)) (odd : OddLines) where
   -- the log gained a collection with this choice about odd lines, and its counts were printed

@@ -1,13 +1,13 @@
 -- The word `compact` of the program `cacache-keep`.
-use Rattle.std.specs.{Prelude.{◌≡◌, ◌⊎◌, ◌++◌, ℕ, List, Bool, Option, codes}, Fmt.{decimal}}
+use Rattle.std.specs.Prelude.{◌≡◌, ◌⊎◌, ℕ, List, [], ◌∷◌, Bool, Option, codes}
 use Rattle.cacache.specs.{Stores.{LogItem}, Calls.{Env}}
 use Rattle.cacache_keep.specs.Compacting.{CompactsCache, StopsCompacting}
-use Rattle.cacache_program.specs.{KeepFails.{Fails}, Output.{PutsOut}}
+use Rattle.cacache_program.specs.{Counts.{counts_text}, KeepFails.{Fails}, Output.{PutsOut}}
 
 -- how many buckets were written anew, and how many bytes that saved, a line each
 abbrev pub compacted_text : ℕ → ℕ → List ℕ
 compacted_text buckets bytes =
-    codes "buckets " ++ (decimal buckets ++ (codes "\nbytes " ++ (decimal bytes ++ codes "\n")))
+    counts_text ((codes "buckets", buckets) ∷ (codes "bytes", bytes) ∷ [])
 
 module _ {S C N : Type 0} (log : S → Option (List LogItem)) (durable : Bool) where
   -- the log gained a compaction, durable or not, and its counts were printed

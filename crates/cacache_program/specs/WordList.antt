@@ -12,13 +12,17 @@ damaged_line i = codes "damaged " ++ (integrity_text i ++ 10 ∷ [])
 abbrev pub entry_line : List ℕ → Found → List ℕ
 entry_line word f = word ++ (entry_text f ++ 10 ∷ [])
 
--- the line of what else lies among the contents: its path, escaped
-abbrev pub strange_line : List ℕ → List ℕ
-strange_line path = codes "strange " ++ (escaped path ++ 10 ∷ [])
+-- a word and a path in a line: the path is escaped
+abbrev pub path_line : List ℕ → List ℕ → List ℕ
+path_line word path = word ++ (escaped path ++ 10 ∷ [])
 
--- the line of a bucket with an odd line: its path, escaped
+-- the line of what else lies among the contents
+abbrev pub strange_line : List ℕ → List ℕ
+strange_line path = path_line (codes "strange ") path
+
+-- the line of a bucket with an odd line
 abbrev pub odd_line : List ℕ → List ℕ
-odd_line path = codes "odd " ++ (escaped path ++ 10 ∷ [])
+odd_line path = path_line (codes "odd ") path
 
 -- a line each
 abbrev pub list_text : Findings → List ℕ

@@ -1,18 +1,15 @@
 -- The word `plan` of the program `cacache-keep`.
-use Rattle.std.specs.{Prelude.{◌⊎◌, ◌++◌, ℕ, List, Option, codes, length}, Fmt.{decimal}, List.{flat_map}}
+use Rattle.std.specs.{Prelude.{◌⊎◌, ◌++◌, ℕ, List, [], ◌∷◌, Option, codes, length}, List.{flat_map}}
 use Rattle.cacache.specs.{Stores.{LogItem}, Calls.{Env, KeepsRest}}
 use Rattle.cacache_jobs.specs.Sites.{site_of}
 use Rattle.cacache_keep.specs.{Checking.{odd_in}, Planning.{PlansCache, Sized, StopsPlanning}}
-use Rattle.cacache_program.specs.{KeepFails.{Fails}, Output.{PutsOut}, WordList.{odd_line}}
+use Rattle.cacache_program.specs.{Counts.{counts_text}, KeepFails.{Fails}, Output.{PutsOut}, WordList.{odd_line}}
 
--- how many contents a collection would keep, and how many no entry has, a line each
-abbrev pub planned_counts : ℕ → ℕ → List ℕ
-planned_counts kept unused =
-    codes "kept " ++ (decimal kept ++ (codes "\nunused " ++ (decimal unused ++ codes "\n")))
-
--- these counts, and a line for each bucket with an odd line
+-- how many contents a collection would keep, and how many no entry has, a line each, and a line for
+-- each bucket with an odd line
 abbrev pub planned_text : ℕ → ℕ → List (List ℕ) → List ℕ
-planned_text kept unused odd = planned_counts kept unused ++ flat_map odd_line odd
+planned_text kept unused odd =
+    counts_text ((codes "kept", kept) ∷ (codes "unused", unused) ∷ []) ++ flat_map odd_line odd
 
 module _ {S C N : Type 0} (log : S → Option (List LogItem)) where
   -- the log gained a plan, and its counts were told, with the buckets that have odd lines

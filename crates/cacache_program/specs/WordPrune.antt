@@ -1,10 +1,10 @@
 -- The words `prune` and `plan-prune` of the program `cacache-keep`.
-use Rattle.std.specs.{Prelude.{if◌then◌else◌, ◌≡◌, ◌⊎◌, ◌++◌, ◌-◌, ◌*◌, ◌&&◌, ◌||◌, ℕ, Bool, false, List, [], Option, None, Some, codes, length, nat_eq, option_map}, Cmp.Lexicographic.{pointwise}, Fmt.{decimal}, List.{flat_map}, Str.{all_ascii_digits, Parse.{digits_value}}}
+use Rattle.std.specs.{Prelude.{if◌then◌else◌, ◌≡◌, ◌⊎◌, ◌++◌, ◌-◌, ◌*◌, ◌&&◌, ◌||◌, ℕ, Bool, false, List, [], ◌∷◌, Option, None, Some, codes, length, nat_eq, option_map}, Cmp.Lexicographic.{pointwise}, List.{flat_map}, Str.{all_ascii_digits, Parse.{digits_value}}}
 use Rattle.cacache_core.specs.declared.integrity.digest.Hash.{Hash}
 use Rattle.cacache.specs.{Stores.{LogItem}, Calls.{Env}, Entries.{Found}}
 use Rattle.cacache_jobs.specs.{Environment.{AsksMoment}, Sites.{site_of}}
 use Rattle.cacache_keep.specs.{declared.limits.Limits.{Limits}, Pruning.{PlansPrune, PrunesCache, StopsPrunePlan, StopsPruning, told_bytes}}
-use Rattle.cacache_program.specs.{KeepFails.{Fails}, Output.{PutsOut}, WordList.{entry_line, odd_line}}
+use Rattle.cacache_program.specs.{Counts.{counts_text}, KeepFails.{Fails}, Output.{PutsOut}, WordList.{entry_line, odd_line}}
 
 -- ---- the limits
 
@@ -34,9 +34,7 @@ limits_at bytes seconds moment =
 -- the bytes of all entries and of those that are kept, and how many are dropped, a line each
 abbrev pub prune_counts : ℕ → ℕ → ℕ → List ℕ
 prune_counts before after dropped =
-    codes "before " ++ (decimal before
-    ++ (codes "\nafter " ++ (decimal after
-    ++ (codes "\ndropped " ++ (decimal dropped ++ codes "\n")))))
+    counts_text ((codes "before", before) ∷ (codes "after", after) ∷ (codes "dropped", dropped) ∷ [])
 
 -- these counts, a line for each entry that is dropped, and one for each bucket with an odd line
 abbrev pub prune_text : ℕ → ℕ → List Found → List (List ℕ) → List ℕ

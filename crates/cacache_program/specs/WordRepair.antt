@@ -1,15 +1,15 @@
 -- The word `repair` of the program `cacache-keep`.
-use Rattle.std.specs.{Prelude.{◌≡◌, ◌⊎◌, ◌++◌, ℕ, List, Option, codes, length}, Fmt.{decimal}}
+use Rattle.std.specs.Prelude.{◌≡◌, ◌⊎◌, ℕ, List, [], ◌∷◌, Option, codes, length}
 use Rattle.cacache_core.specs.declared.integrity.digest.Hash.{Hash}
 use Rattle.cacache.specs.{Stores.{LogItem}, Calls.{Env}, Entries.{Found}}
 use Rattle.cacache_jobs.specs.Sites.{site_of}
 use Rattle.cacache_keep.specs.{declared.checking.OddLines.{OddLines}, Repairing.{RepairsWith, StopsRepairing}}
-use Rattle.cacache_program.specs.{KeepFails.{Fails}, Output.{PutsOut}}
+use Rattle.cacache_program.specs.{Counts.{counts_text}, KeepFails.{Fails}, Output.{PutsOut}}
 
 -- how many contents were damaged, and how many keys led to none, a line each
 abbrev pub repaired_text : ℕ → ℕ → List ℕ
 repaired_text damaged dangling =
-    codes "damaged " ++ (decimal damaged ++ (codes "\ndangling " ++ (decimal dangling ++ codes "\n")))
+    counts_text ((codes "damaged", damaged) ∷ (codes "dangling", dangling) ∷ [])
 
 module _ {S C N : Type 0} (log : S → Option (List LogItem)) (odd : OddLines) where
   -- the log gained a repair with this choice about odd lines, and its counts were printed

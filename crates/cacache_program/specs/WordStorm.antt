@@ -1,6 +1,6 @@
 -- The word `storm`.
-use Rattle.std.specs.{Prelude.{◌≡◌, ◌⊎◌, ◌++◌, ◌&&◌, ℕ, Bool, false, List, Option, Some, None, codes, nat_le}, Fmt.{decimal}, Str.{all_ascii_digits, Parse.{digits_value}}}
-use Rattle.cacache_program.specs.Output.{PutsOutOrFails}
+use Rattle.std.specs.{Prelude.{◌≡◌, ◌⊎◌, ◌&&◌, ℕ, Bool, false, List, [], ◌∷◌, Option, Some, None, codes, nat_le}, Str.{all_ascii_digits, Parse.{digits_value}}}
+use Rattle.cacache_program.specs.{Counts.{counts_text}, Output.{PutsOutOrFails}}
 
 -- decimal digits alone, with a number that is at least 1 and at most this
 abbrev pub is_number_to : ℕ → List ℕ → Bool
@@ -14,7 +14,7 @@ is_storm threads keys = is_number_to 64 threads && is_number_to 1000 keys
 -- how many moves there were, and how many entries there are, a line each
 abbrev pub storm_text : ℕ → ℕ → List ℕ
 storm_text moves live =
-    codes "moves " ++ (decimal moves ++ (codes "\nlive " ++ (decimal live ++ codes "\n")))
+    counts_text ((codes "moves", moves) ∷ (codes "live", live) ∷ [])
 
 -- two numbers were put out, or the storm failed and nothing was
 abbrev pub TellsStorm : Option (List ℕ) → Option (List ℕ) → ℕ → Type 0

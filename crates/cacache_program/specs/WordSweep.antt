@@ -1,15 +1,13 @@
 -- The word `sweep` of the program `cacache-keep`.
-use Rattle.std.specs.{Prelude.{◌⊎◌, ◌++◌, ℕ, List, Option, codes, length}, Fmt.{decimal}}
+use Rattle.std.specs.Prelude.{◌⊎◌, ℕ, List, [], ◌∷◌, Option, codes, length}
 use Rattle.cacache.specs.{Stores.{LogItem}, Calls.{Env, KeepsRest}}
 use Rattle.cacache_keep.specs.Sweeping.{StopsSweeping, SweepsCache}
-use Rattle.cacache_program.specs.{KeepFails.{Fails}, Output.{PutsOut}}
+use Rattle.cacache_program.specs.{Counts.{counts_text}, KeepFails.{Fails}, Output.{PutsOut}}
 
 -- how many files were removed, how many bytes they had, and how many others are there, a line each
 abbrev pub swept_text : ℕ → ℕ → ℕ → List ℕ
 swept_text files bytes strange =
-    codes "files " ++ (decimal files
-    ++ (codes "\nbytes " ++ (decimal bytes
-    ++ (codes "\nstrange " ++ (decimal strange ++ codes "\n")))))
+    counts_text ((codes "files", files) ∷ (codes "bytes", bytes) ∷ (codes "strange", strange) ∷ [])
 
 module _ {S C N : Type 0} (log : S → Option (List LogItem)) where
   -- the log gained a sweep, and its counts were printed

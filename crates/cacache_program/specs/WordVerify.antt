@@ -1,18 +1,16 @@
 -- The word `verify` of the program `cacache-keep`.
-use Rattle.std.specs.{Prelude.{◌⊎◌, ◌++◌, ◌==◌, ◌&&◌, ℕ, Bool, cond, List, Option, codes, length}, Fmt.{decimal}}
+use Rattle.std.specs.Prelude.{◌⊎◌, ◌==◌, ◌&&◌, ℕ, Bool, cond, List, [], ◌∷◌, Option, codes, length}
 use Rattle.cacache_core.specs.declared.integrity.digest.Hash.{Hash}
 use Rattle.cacache.specs.{Stores.{LogItem}, Calls.{Env, KeepsRest}, Entries.{Found}}
 use Rattle.cacache_jobs.specs.Sites.{site_of}
 use Rattle.cacache_keep.specs.{Checking.{odd_in}, Keeping.{StopsVerifying, VerifiesCache}}
-use Rattle.cacache_program.specs.{KeepFails.{Fails}, Output.{PutsOutWith}}
+use Rattle.cacache_program.specs.{Counts.{counts_text}, KeepFails.{Fails}, Output.{PutsOutWith}}
 
 -- how many contents are good and damaged, entries dangle, and other files are there, a line each
 abbrev pub verdict_text : ℕ → ℕ → ℕ → ℕ → List ℕ
 verdict_text good damaged dangling strange =
-    codes "good " ++ (decimal good
-    ++ (codes "\ndamaged " ++ (decimal damaged
-    ++ (codes "\ndangling " ++ (decimal dangling
-    ++ (codes "\nstrange " ++ (decimal strange ++ codes "\n")))))))
+    counts_text ((codes "good", good) ∷ (codes "damaged", damaged) ∷ (codes "dangling", dangling)
+    ∷ (codes "strange", strange) ∷ [])
 
 -- there is nothing but good contents
 abbrev pub is_all_good : ℕ → ℕ → ℕ → Bool

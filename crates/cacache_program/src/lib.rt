@@ -4,6 +4,7 @@
 //! - `about`: what a program says about itself
 //! - `clearing`: the word `clear`
 //! - `copying`: the word `copy`
+//! - `counts`: counts as they are printed
 //! - `entries`: entries as they are printed
 //! - `errors`: what goes to the errors
 //! - `existing`: the word `exists`
@@ -28,6 +29,7 @@
 mod about;
 mod clearing;
 mod copying;
+mod counts;
 mod entries;
 mod errors;
 mod existing;

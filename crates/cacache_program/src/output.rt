@@ -1,8 +1,9 @@
 //! What goes to the output.
-ghost use Rattle.std.specs.{Prelude.{◌≡◌, ◌≤◌, IfErr, IfOk, OnErr, OnOk, [], length, take}, Io.KnownBytes.{Appends}};
+ghost use Rattle.std.specs.{Prelude.{◌≡◌, ◌≤◌, ◌⊎◌, IfErr, IfOk, OnErr, OnOk, [], length, take}, Io.KnownBytes.{Appends}};
 ghost use Rattle.cacache_program.specs.Output.{AppendsPart, PutsOut, PutsOutWith};
 
-use crate::errors::{Errors, tell_failure};
+use crate::errors::{Errors, tell_failed_call, tell_failure};
+use cacache::errors::Error;
 use std::io::{ErrorKind, Write};
 
 /// Writes some of the bytes, and returns how many: 0 if the write was interrupted. Otherwise the kind of error with
@@ -49,7 +50,7 @@ pub(crate) fn write_whole<W: Write>(output: &mut W, bytes: &[u8]) -> Result<(), 
 }
 
 /// Prints the bytes, and returns the status: this one, or 1 if the output failed.
-pub(crate) fn put_out_with<W: Write, E: Write>(
+fn put_out_with<W: Write, E: Write>(
     output: &mut W,
     bytes: &[u8],
     status: u8,
@@ -62,6 +63,26 @@ pub(crate) fn put_out_with<W: Write, E: Write>(
     match write_whole(output, bytes) {
         Ok(()) => status,
         Err(kind) => tell_failure(errors, "output failed", Some(kind)),
+    }
+}
+
+/// Prints a text if it could be made, and returns the status: this one, or 1 if it couldn't be made or printed.
+pub(crate) fn put_made<W: Write, E: Write>(
+    made: Result<Vec<u8>, Error>,
+    status: u8,
+    output: &mut W,
+    errors: &mut Errors<E>,
+) -> u8
+    ensures made { IfOk made (λ text. PutsOutWith status text.items
+        (W.contents output.old) (W.contents output.new) result) }
+    ensures unmade { IfErr made (λ _. (result ≡ 1)
+        × (W.contents output.new ≡ W.contents output.old)) }
+    ensures known { (result ≡ status) ⊎ (result ≡ 1) }
+    ensures quiet { result ≡ 0 → errors.new ≡ errors.old }
+{
+    match made {
+        Ok(text) => put_out_with(output, &text, status, errors),
+        Err(error) => tell_failed_call(errors, &error, None),
     }
 }
 

@@ -1,15 +1,15 @@
 //! The word `storm`.
-ghost use Rattle.std.specs.{Prelude.{◌≡◌, ◌≢◌, IfOk, IfSome, string_bytes, true}, Str.{all_ascii_digits, Parse.{digits_value}}};
+ghost use Rattle.std.specs.{Prelude.{◌≡◌, ◌≢◌, IfSome, true}, Str.{all_ascii_digits, Parse.{digits_value}}};
 ghost use Rattle.cacache.specs.Shared.{Count};
-ghost use Rattle.cacache_program.specs.WordStorm.{Storms, TellsStorm, storm_text};
+ghost use Rattle.cacache_program.specs.WordStorm.{Storms, TellsStorm};
 
 use crate::about::USAGE;
+use crate::counts::counts_text;
 use crate::errors::{Errors, tell_failed_call, tell_failure, tell_misuse};
-use crate::output::put_out;
-use cacache::errors::Error;
+use crate::output::put_made;
 use cacache::jobs::Open;
 use cacache::world::{Storm, StormFault};
-use std::alloc::{AllocError, Global};
+use std::alloc::Global;
 use std::io::Write;
 use std::sync::Wait;
 use std::thread::Threads;
@@ -38,13 +38,6 @@ pub(crate) fn number_of(word: &str) -> Option<u64>
     word.parse::<u64>().ok()
 }
 
-/// What is printed for a storm: how many moves there were, and how many entries there are.
-fn text_of(alloc: Global, moves: u64, live: u64) -> Result<String, AllocError>
-    ensures { IfOk result (λ text. string_bytes text ≡ storm_text moves live) }
-{
-    format!(in alloc; "moves {moves}\nlive {live}\n")
-}
-
 /// Prints why a storm failed, and returns the status: that of wrong words for numbers out of range.
 pub fn tell_failed_storm<E: Write>(errors: &mut Errors<E>, fault: StormFault) -> u8
     ensures count { fault ≡ Count → result ≡ 2 }
@@ -60,6 +53,7 @@ pub fn tell_failed_storm<E: Write>(errors: &mut Errors<E>, fault: StormFault) ->
 }
 
 /// Prints what a storm came to, and returns the status.
+#[tactic(auto, using(crate::proofs::Made::made_puts))]
 fn tell<W: Write, E: Write>(
     alloc: Global,
     storm: Storm,
@@ -69,10 +63,8 @@ fn tell<W: Write, E: Write>(
     ensures tells { TellsStorm (W.contents output.old) (W.contents output.new) result }
     ensures quiet { result ≡ 0 → errors.new ≡ errors.old }
 {
-    match text_of(alloc, storm.moves, storm.live) {
-        Ok(text) => put_out(output, text.as_bytes(), errors),
-        Err(_) => tell_failed_call(errors, &Error::OutOfMemory, None),
-    }
+    let counts = [("moves", storm.moves), ("live", storm.live)];
+    put_made(counts_text(alloc, &counts), 0, output, errors)
 }
 
 /// Runs a storm of so many threads with so many keys each, and prints what it came to. It waits until

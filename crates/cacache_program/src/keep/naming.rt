@@ -1,18 +1,15 @@
 //! Lines that name what a verification found, and buckets with odd lines.
-ghost use Rattle.std.specs.{Prelude.{◌≡◌, ◌⊎◌, IfOk, map, string_bytes}, List.{flat_map}};
+ghost use Rattle.std.specs.{Prelude.{◌≡◌, IfOk, map, string_bytes}, List.{flat_map}};
 ghost use Rattle.cacache.specs.Entries.{found_view};
-ghost use Rattle.cacache_program.specs.{WordList.{damaged_line as line_of_damaged, entry_line as line_of_entry, odd_line as line_of_odd, strange_line as line_of_strange}, KeepValues.{PutsList, list_of_verdict}};
+ghost use Rattle.cacache_program.specs.{WordList.{damaged_line as line_of_damaged, entry_line as line_of_entry, odd_line as line_of_odd, path_line as line_of_path, strange_line as line_of_strange}, KeepValues.{list_of_verdict}};
 
 use crate::entries::entry_text;
-use crate::errors::{Errors, tell_failed_call};
 use crate::keep::escaping::push_escaped;
-use crate::keep::output::{status_of, verdict_text};
-use crate::output::put_out_with;
+use crate::keep::output::verdict_text;
 use cacache::{Integrity, Metadata, Result};
 use cacache_core::text::Text;
 use cacache_keep::Verdict;
 use std::alloc::{AllocError, Global};
-use std::io::Write;
 
 /// The line of a damaged content: its address.
 fn damaged_line(alloc: Global, address: &Integrity) -> std::result::Result<String, AllocError>
@@ -55,11 +52,11 @@ pub(crate) fn entry_lines(alloc: Global, word: &str, entries: Vec<Metadata>) -> 
     Ok(text)
 }
 
-/// The line of what else lies among the contents: its path, so that it is one line whatever that holds.
-fn strange_line(alloc: Global, path: &str) -> std::result::Result<Vec<u8>, AllocError>
-    ensures { IfOk result (λ line. line.items ≡ line_of_strange path.now) }
+/// The line of a path, after a word. The path is escaped, so that it is one line whatever that holds.
+fn path_line(alloc: Global, word: &str, path: &str) -> std::result::Result<Vec<u8>, AllocError>
+    ensures { IfOk result (λ line. line.items ≡ line_of_path word.now path.now) }
 {
-    let mut line = Vec::from_slice(alloc, b"strange ")?;
+    let mut line = Vec::from_slice(alloc, word.as_bytes())?;
     push_escaped(&mut line, path)?;
     line.push(b'\n')?;
     Ok(line)
@@ -72,19 +69,9 @@ fn strange_lines(alloc: Global, strange: Vec<String>) -> std::result::Result<Vec
 {
     let mut text = Vec::new(alloc);
     for path in strange {
-        text.extend_from_slice(&strange_line(alloc, path.as_str())?)?;
+        text.extend_from_slice(&path_line(alloc, "strange ", path.as_str())?)?;
     }
     Ok(text)
-}
-
-/// The line of a bucket with an odd line: its path, so that it is one line whatever that holds.
-fn odd_line(alloc: Global, path: &str) -> std::result::Result<Vec<u8>, AllocError>
-    ensures { IfOk result (λ line. line.items ≡ line_of_odd path.now) }
-{
-    let mut line = Vec::from_slice(alloc, b"odd ")?;
-    push_escaped(&mut line, path)?;
-    line.push(b'\n')?;
-    Ok(line)
 }
 
 /// A line for each of these buckets.
@@ -93,16 +80,16 @@ pub(crate) fn odd_lines(alloc: Global, odd: Vec<Text>) -> std::result::Result<Ve
 {
     let mut text = Vec::new(alloc);
     for path in odd {
-        text.extend_from_slice(&odd_line(alloc, path.as_str())?)?;
+        text.extend_from_slice(&path_line(alloc, "odd ", path.as_str())?)?;
     }
     Ok(text)
 }
 
 /// What is printed of a verification, and the list of what it found but good contents. Memory alone can fail.
-fn listed_text(alloc: Global, verdict: Verdict) -> Result<Vec<u8>>
+pub(crate) fn listed_text(alloc: Global, verdict: Verdict) -> Result<Vec<u8>>
     ensures { IfOk result (λ text. text.items ≡ list_of_verdict verdict) }
 {
-    let mut text = verdict_text(alloc, &verdict)?.into_bytes();
+    let mut text = verdict_text(alloc, &verdict)?;
     let Verdict {
         good: _,
         good_bytes: _,
@@ -117,24 +104,4 @@ fn listed_text(alloc: Global, verdict: Verdict) -> Result<Vec<u8>>
     text.extend_from_slice(&strange_lines(alloc, strange)?)?;
     text.extend_from_slice(&odd_lines(alloc, odd)?)?;
     Ok(text)
-}
-
-/// Prints what a verification found and the list of it, and returns the status: the verdict's, or 1 if the text can't
-/// be had or printed.
-pub(crate) fn print_list<W: Write, E: Write>(
-    alloc: Global,
-    verdict: Verdict,
-    output: &mut W,
-    errors: &mut Errors<E>,
-) -> u8
-    ensures tells { PutsList verdict
-        (W.contents output.old) (W.contents output.new) result }
-    ensures known { (result ≡ 0) ⊎ (result ≡ 1) ⊎ (result ≡ 3) }
-    ensures quiet { result ≡ 0 → errors.new ≡ errors.old }
-{
-    let status = status_of(&verdict);
-    match listed_text(alloc, verdict) {
-        Ok(text) => put_out_with(output, &text, status, errors),
-        Err(error) => tell_failed_call(errors, &error, None),
-    }
 }

@@ -1,26 +1,29 @@
-//! What goes to the output.
-ghost use Rattle.std.specs.Prelude.{◌≡◌, ◌⊎◌, [], IfOk, map, string_bytes};
+//! What is printed for what the calls give. Of these texts, memory alone can fail.
+ghost use Rattle.std.specs.Prelude.{◌≡◌, ◌⊎◌, [], IfOk, map};
 ghost use Rattle.cacache.specs.Entries.{found_view};
-ghost use Rattle.cacache_program.specs.{Output.{PutsOut}, WordPrune.{prune_counts as counts_of_prune, prune_text as text_of_prune}, KeepValues.{PutsVerdict, counts_of_planned, status_of_verdict, text_of_collected, text_of_compacted, text_of_planned, text_of_prune_plan, text_of_pruned, text_of_repaired, text_of_swept, text_of_verdict}};
+ghost use Rattle.cacache_program.specs.{WordPrune.{prune_text as text_of_prune}, KeepValues.{status_of_verdict, text_of_collected, text_of_compacted, text_of_planned, text_of_prune_plan, text_of_pruned, text_of_repaired, text_of_swept, text_of_verdict}};
 
-use crate::errors::{Errors, tell_failed_call};
+use crate::counts::counts_text;
 use crate::keep::naming::{entry_lines, odd_lines};
-use crate::output::{put_out, put_out_with};
-use cacache::errors::Error;
-use cacache::{Metadata, Result as Answered};
+use cacache::{Metadata, Result};
 use cacache_core::keeping::let_go;
 use cacache_core::text::Text;
 use cacache_keep::{Collected, Compacted, Planned, PrunePlan, Pruned, Repaired, Swept, Verdict};
-use std::alloc::{AllocError, Global};
-use std::io::Write;
+use std::alloc::Global;
 
 /// What is printed for a verification.
-pub(crate) fn verdict_text(alloc: Global, verdict: &Verdict) -> Result<String, AllocError>
-    ensures { IfOk result (λ text. string_bytes text ≡ text_of_verdict verdict.now) }
+pub(crate) fn verdict_text(alloc: Global, verdict: &Verdict) -> Result<Vec<u8>>
+    ensures { IfOk result (λ text. text.items ≡ text_of_verdict verdict.now) }
 {
-    let (damaged, dangling) = (verdict.damaged.len(), verdict.dangling.len());
-    let (good, strange) = (verdict.good, verdict.strange.len());
-    format!(in alloc; "good {good}\ndamaged {damaged}\ndangling {dangling}\nstrange {strange}\n")
+    let (good, damaged) = (verdict.good, verdict.damaged.len() as u64);
+    let (dangling, strange) = (verdict.dangling.len() as u64, verdict.strange.len() as u64);
+    let counts = [
+        ("good", good),
+        ("damaged", damaged),
+        ("dangling", dangling),
+        ("strange", strange),
+    ];
+    counts_text(alloc, &counts)
 }
 
 /// The status of a verification: 0 if all is good, otherwise 3.
@@ -35,203 +38,76 @@ pub(crate) fn status_of(verdict: &Verdict) -> u8
     3
 }
 
-/// Prints what a verification found, and returns the status: the verdict's, or 1 if the text can't be had or printed.
-pub(crate) fn print_verdict<W: Write, E: Write>(
-    alloc: Global,
-    verdict: &Verdict,
-    output: &mut W,
-    errors: &mut Errors<E>,
-) -> u8
-    ensures tells { PutsVerdict verdict.now
-        (W.contents output.old) (W.contents output.new) result }
-    ensures known { (result ≡ 0) ⊎ (result ≡ 1) ⊎ (result ≡ 3) }
-    ensures quiet { result ≡ 0 → errors.new ≡ errors.old }
-{
-    match verdict_text(alloc, verdict) {
-        Ok(text) => put_out_with(output, text.as_bytes(), status_of(verdict), errors),
-        Err(_) => tell_failed_call(errors, &Error::OutOfMemory, None),
-    }
-}
-
 /// What is printed for a collection.
-fn collected_text(alloc: Global, collected: &Collected) -> Result<String, AllocError>
-    ensures { IfOk result (λ text. string_bytes text ≡ text_of_collected collected.now) }
+pub(crate) fn collected_text(alloc: Global, collected: &Collected) -> Result<Vec<u8>>
+    ensures { IfOk result (λ text. text.items ≡ text_of_collected collected.now) }
 {
-    let (kept, dropped) = (collected.kept, collected.dropped.len());
-    format!(in alloc; "kept {kept}\ndropped {dropped}\n")
-}
-
-/// Prints what a collection did, and returns the status: 0, or 1 if the text can't be had or printed.
-pub(crate) fn print_collected<W: Write, E: Write>(
-    alloc: Global,
-    collected: &Collected,
-    output: &mut W,
-    errors: &mut Errors<E>,
-) -> u8
-    ensures tells { PutsOut (text_of_collected collected.now)
-        (W.contents output.old) (W.contents output.new) result }
-    ensures quiet { result ≡ 0 → errors.new ≡ errors.old }
-{
-    match collected_text(alloc, collected) {
-        Ok(text) => put_out(output, text.as_bytes(), errors),
-        Err(_) => tell_failed_call(errors, &Error::OutOfMemory, None),
-    }
-}
-
-/// The counts of a plan.
-fn planned_counts(alloc: Global, planned: &Planned) -> Result<String, AllocError>
-    ensures { IfOk result (λ text. string_bytes text ≡ counts_of_planned planned.now) }
-{
-    let (kept, unused) = (planned.kept, planned.unused.len());
-    format!(in alloc; "kept {kept}\nunused {unused}\n")
+    let (kept, dropped) = (collected.kept, collected.dropped.len() as u64);
+    counts_text(alloc, &[("kept", kept), ("dropped", dropped)])
 }
 
 /// What is printed of a plan: its counts, and a line for each bucket with an odd line.
-fn planned_text(alloc: Global, planned: Planned) -> Result<Vec<u8>, AllocError>
+pub(crate) fn planned_text(alloc: Global, planned: Planned) -> Result<Vec<u8>>
     ensures { IfOk result (λ text. text.items ≡ text_of_planned planned) }
 {
-    let mut text = planned_counts(alloc, &planned)?.into_bytes();
-    let Planned {
-        kept: _,
-        unused: _unused,
-        odd,
-    } = planned;
+    let Planned { kept, unused, odd } = planned;
+    let mut text = counts_text(alloc, &[("kept", kept), ("unused", unused.len() as u64)])?;
     text.extend_from_slice(&odd_lines(alloc, odd)?)?;
     Ok(text)
 }
 
-/// Prints what a collection would do, and returns the status: 0, or 1 where the text can't be had or printed.
-pub(crate) fn print_planned<W: Write, E: Write>(
-    alloc: Global,
-    planned: Planned,
-    output: &mut W,
-    errors: &mut Errors<E>,
-) -> u8
-    ensures tells { PutsOut (text_of_planned planned)
-        (W.contents output.old) (W.contents output.new) result }
-    ensures quiet { result ≡ 0 → errors.new ≡ errors.old }
-{
-    match planned_text(alloc, planned) {
-        Ok(text) => put_out(output, &text, errors),
-        Err(_) => tell_failed_call(errors, &Error::OutOfMemory, None),
-    }
-}
-
 /// What is printed for a sweep.
-fn swept_text(alloc: Global, swept: &Swept) -> Result<String, AllocError>
-    ensures { IfOk result (λ text. string_bytes text ≡ text_of_swept swept.now) }
+pub(crate) fn swept_text(alloc: Global, swept: &Swept) -> Result<Vec<u8>>
+    ensures { IfOk result (λ text. text.items ≡ text_of_swept swept.now) }
 {
-    let (files, bytes, strange) = (swept.files, swept.bytes, swept.strange.len());
-    format!(in alloc; "files {files}\nbytes {bytes}\nstrange {strange}\n")
-}
-
-/// Prints what a sweep did, and returns the status: 0, or 1 if the text can't be had or printed.
-pub(crate) fn print_swept<W: Write, E: Write>(
-    alloc: Global,
-    swept: &Swept,
-    output: &mut W,
-    errors: &mut Errors<E>,
-) -> u8
-    ensures tells { PutsOut (text_of_swept swept.now)
-        (W.contents output.old) (W.contents output.new) result }
-    ensures quiet { result ≡ 0 → errors.new ≡ errors.old }
-{
-    match swept_text(alloc, swept) {
-        Ok(text) => put_out(output, text.as_bytes(), errors),
-        Err(_) => tell_failed_call(errors, &Error::OutOfMemory, None),
-    }
+    let (files, bytes, strange) = (swept.files, swept.bytes, swept.strange.len() as u64);
+    let counts = [("files", files), ("bytes", bytes), ("strange", strange)];
+    counts_text(alloc, &counts)
 }
 
 /// What is printed for a repair.
-fn repaired_text(alloc: Global, repaired: &Repaired) -> Result<String, AllocError>
-    ensures { IfOk result (λ text. string_bytes text ≡ text_of_repaired repaired.now) }
+pub(crate) fn repaired_text(alloc: Global, repaired: &Repaired) -> Result<Vec<u8>>
+    ensures { IfOk result (λ text. text.items ≡ text_of_repaired repaired.now) }
 {
     let (damaged, dangling) = (repaired.damaged.len(), repaired.dangling.len());
-    format!(in alloc; "damaged {damaged}\ndangling {dangling}\n")
-}
-
-/// Prints what a repair did, and returns the status: 0, or 1 if the text can't be had or printed.
-pub(crate) fn print_repaired<W: Write, E: Write>(
-    alloc: Global,
-    repaired: &Repaired,
-    output: &mut W,
-    errors: &mut Errors<E>,
-) -> u8
-    ensures tells { PutsOut (text_of_repaired repaired.now)
-        (W.contents output.old) (W.contents output.new) result }
-    ensures quiet { result ≡ 0 → errors.new ≡ errors.old }
-{
-    match repaired_text(alloc, repaired) {
-        Ok(text) => put_out(output, text.as_bytes(), errors),
-        Err(_) => tell_failed_call(errors, &Error::OutOfMemory, None),
-    }
+    let counts = [("damaged", damaged as u64), ("dangling", dangling as u64)];
+    counts_text(alloc, &counts)
 }
 
 /// What is printed for a compaction.
-fn compacted_text(alloc: Global, compacted: &Compacted) -> Result<String, AllocError>
-    ensures { IfOk result (λ text. string_bytes text ≡ text_of_compacted compacted.now) }
+pub(crate) fn compacted_text(alloc: Global, compacted: &Compacted) -> Result<Vec<u8>>
+    ensures { IfOk result (λ text. text.items ≡ text_of_compacted compacted.now) }
 {
     let (buckets, bytes) = (compacted.buckets, compacted.bytes);
-    format!(in alloc; "buckets {buckets}\nbytes {bytes}\n")
-}
-
-/// Prints what a compaction did, and returns the status: 0, or 1 if the text can't be had or printed.
-pub(crate) fn print_compacted<W: Write, E: Write>(
-    alloc: Global,
-    compacted: &Compacted,
-    output: &mut W,
-    errors: &mut Errors<E>,
-) -> u8
-    ensures tells { PutsOut (text_of_compacted compacted.now)
-        (W.contents output.old) (W.contents output.new) result }
-    ensures quiet { result ≡ 0 → errors.new ≡ errors.old }
-{
-    match compacted_text(alloc, compacted) {
-        Ok(text) => put_out(output, text.as_bytes(), errors),
-        Err(_) => tell_failed_call(errors, &Error::OutOfMemory, None),
-    }
-}
-
-/// The counts of a pruning.
-fn prune_counts(
-    alloc: Global,
-    before: u64,
-    after: u64,
-    dropped: usize,
-) -> Result<String, AllocError>
-    ensures { IfOk result (λ text. string_bytes text ≡ counts_of_prune before after dropped) }
-{
-    format!(in alloc; "before {before}\nafter {after}\ndropped {dropped}\n")
+    counts_text(alloc, &[("buckets", buckets), ("bytes", bytes)])
 }
 
 /// What is printed of a pruning: its counts, a line for each entry that is dropped, and one for each bucket with an odd
-/// line. Memory alone can fail.
+/// line.
 fn prune_text(
     alloc: Global,
     before: u64,
     after: u64,
     dropped: Vec<Metadata>,
     odd: Vec<Text>,
-) -> Answered<Vec<u8>>
+) -> Result<Vec<u8>>
     ensures { IfOk result (λ text. text.items
         ≡ text_of_prune before after (map found_view dropped.items) odd.items) }
 {
-    let mut text = prune_counts(alloc, before, after, dropped.len())?.into_bytes();
+    let counts = [
+        ("before", before),
+        ("after", after),
+        ("dropped", dropped.len() as u64),
+    ];
+    let mut text = counts_text(alloc, &counts)?;
     text.extend_from_slice(&entry_lines(alloc, "dropped ", dropped)?)?;
     text.extend_from_slice(&odd_lines(alloc, odd)?)?;
     Ok(text)
 }
 
-/// Prints what a pruning would do, and returns the status: 0, or 1 if the text can't be had or printed.
-pub(crate) fn print_prune_plan<W: Write, E: Write>(
-    alloc: Global,
-    plan: PrunePlan,
-    output: &mut W,
-    errors: &mut Errors<E>,
-) -> u8
-    ensures tells { PutsOut (text_of_prune_plan plan)
-        (W.contents output.old) (W.contents output.new) result }
-    ensures quiet { result ≡ 0 → errors.new ≡ errors.old }
+/// What is printed of a plan of a pruning.
+pub(crate) fn prune_plan_text(alloc: Global, plan: PrunePlan) -> Result<Vec<u8>>
+    ensures { IfOk result (λ text. text.items ≡ text_of_prune_plan plan) }
 {
     let PrunePlan {
         dropped,
@@ -241,22 +117,12 @@ pub(crate) fn print_prune_plan<W: Write, E: Write>(
         odd,
     } = plan;
     let_go(kept);
-    match prune_text(alloc, bytes_before, bytes_after, dropped, odd) {
-        Ok(text) => put_out(output, &text, errors),
-        Err(error) => tell_failed_call(errors, &error, None),
-    }
+    prune_text(alloc, bytes_before, bytes_after, dropped, odd)
 }
 
-/// Prints what a pruning did, and returns the status: 0, or 1 if the text can't be had or printed.
-pub(crate) fn print_pruned<W: Write, E: Write>(
-    alloc: Global,
-    pruned: Pruned,
-    output: &mut W,
-    errors: &mut Errors<E>,
-) -> u8
-    ensures tells { PutsOut (text_of_pruned pruned)
-        (W.contents output.old) (W.contents output.new) result }
-    ensures quiet { result ≡ 0 → errors.new ≡ errors.old }
+/// What is printed for a pruning.
+pub(crate) fn pruned_text(alloc: Global, pruned: Pruned) -> Result<Vec<u8>>
+    ensures { IfOk result (λ text. text.items ≡ text_of_pruned pruned) }
 {
     let Pruned {
         dropped,
@@ -265,8 +131,5 @@ pub(crate) fn print_pruned<W: Write, E: Write>(
         collected,
     } = pruned;
     let_go(collected);
-    match prune_text(alloc, bytes_before, bytes_after, dropped, Vec::new(alloc)) {
-        Ok(text) => put_out(output, &text, errors),
-        Err(error) => tell_failed_call(errors, &error, None),
-    }
+    prune_text(alloc, bytes_before, bytes_after, dropped, Vec::new(alloc))
 }

@@ -4,11 +4,13 @@ ghost use Rattle.cacache_keep.specs.declared.checking.OddLines.TheVariants.{Igno
 ghost use Rattle.cacache_program.specs.{Words.{UnkeyedDoes, asked_of}, KeepWords.{OptionDoes}, PruneWords.{AreWrong, DoesPruning}, WordVerify.{Verifies}, WordList.{ListsVerdict}, WordCollect.{CollectsUnused}, WordCompact.{Compacts}, WordPlan.{Plans}, WordRepair.{Repairs}, WordSweep.{Sweeps}};
 
 use crate::errors::{Errors, tell_failed_call};
-use crate::keep::naming::print_list;
+use crate::keep::naming::listed_text;
 use crate::keep::output::{
-    print_collected, print_compacted, print_planned, print_repaired, print_swept, print_verdict,
+    collected_text, compacted_text, planned_text, repaired_text, status_of, swept_text,
+    verdict_text,
 };
 use crate::keep::pruning::run_pruning;
+use crate::output::put_made;
 use crate::words::parse_words;
 use cacache::env::{Clock, Env, Names, Reasons};
 use cacache_keep::{CompactOpts, OddLines, collect_with, plan, repair_with, sweep, verify};
@@ -27,7 +29,10 @@ fn verify_and_print<S: Reasons, C: Clock, N: Names, W: Write, E: Write>(
     ensures quiet { result ≡ 0 → errors.new ≡ errors.old }
 {
     match verify(env, cache) {
-        Ok(verdict) => print_verdict(env.alloc, &verdict, output, errors),
+        Ok(verdict) => {
+            let status = status_of(&verdict);
+            put_made(verdict_text(env.alloc, &verdict), status, output, errors)
+        }
         Err(error) => tell_failed_call(errors, &error, env.store.reason()),
     }
 }
@@ -46,7 +51,10 @@ fn verify_and_list<S: Reasons, C: Clock, N: Names, W: Write, E: Write>(
     ensures quiet { result ≡ 0 → errors.new ≡ errors.old }
 {
     match verify(env, cache) {
-        Ok(verdict) => print_list(env.alloc, verdict, output, errors),
+        Ok(verdict) => {
+            let status = status_of(&verdict);
+            put_made(listed_text(env.alloc, verdict), status, output, errors)
+        }
         Err(error) => tell_failed_call(errors, &error, env.store.reason()),
     }
 }
@@ -64,7 +72,7 @@ fn collect_and_print<S: Reasons, C: Clock, N: Names, W: Write, E: Write>(
     ensures quiet { result ≡ 0 → errors.new ≡ errors.old }
 {
     match collect_with(env, cache, odd) {
-        Ok(collected) => print_collected(env.alloc, &collected, output, errors),
+        Ok(collected) => put_made(collected_text(env.alloc, &collected), 0, output, errors),
         Err(error) => tell_failed_call(errors, &error, env.store.reason()),
     }
 }
@@ -82,7 +90,7 @@ fn plan_and_print<S: Reasons, C: Clock, N: Names, W: Write, E: Write>(
     ensures quiet { result ≡ 0 → errors.new ≡ errors.old }
 {
     match plan(env, cache) {
-        Ok(planned) => print_planned(env.alloc, planned, output, errors),
+        Ok(planned) => put_made(planned_text(env.alloc, planned), 0, output, errors),
         Err(error) => tell_failed_call(errors, &error, env.store.reason()),
     }
 }
@@ -99,7 +107,7 @@ fn sweep_and_print<S: Reasons, C: Clock, N: Names, W: Write, E: Write>(
     ensures quiet { result ≡ 0 → errors.new ≡ errors.old }
 {
     match sweep(env, cache) {
-        Ok(swept) => print_swept(env.alloc, &swept, output, errors),
+        Ok(swept) => put_made(swept_text(env.alloc, &swept), 0, output, errors),
         Err(error) => tell_failed_call(errors, &error, env.store.reason()),
     }
 }
@@ -118,7 +126,7 @@ fn repair_and_print<S: Reasons, C: Clock, N: Names, W: Write, E: Write>(
     ensures quiet { result ≡ 0 → errors.new ≡ errors.old }
 {
     match repair_with(env, cache, odd) {
-        Ok(repaired) => print_repaired(env.alloc, &repaired, output, errors),
+        Ok(repaired) => put_made(repaired_text(env.alloc, &repaired), 0, output, errors),
         Err(error) => tell_failed_call(errors, &error, env.store.reason()),
     }
 }
@@ -136,7 +144,7 @@ fn compact_and_print<S: Reasons, C: Clock, N: Names, W: Write, E: Write>(
     ensures quiet { result ≡ 0 → errors.new ≡ errors.old }
 {
     match CompactOpts::new().durable(durable).compact(env, cache) {
-        Ok(compacted) => print_compacted(env.alloc, &compacted, output, errors),
+        Ok(compacted) => put_made(compacted_text(env.alloc, &compacted), 0, output, errors),
         Err(error) => tell_failed_call(errors, &error, env.store.reason()),
     }
 }

@@ -1,11 +1,12 @@
 //! The words that drop the oldest entries, or say which these are.
-ghost use Rattle.std.specs.Prelude.{◌≡◌, ◌≤◌, ℕ, IfSome, true};
+ghost use Rattle.std.specs.Prelude.{◌≡◌, ◌≤◌, ◌&&◌, ℕ, IfNone, IfSome, true};
 ghost use Rattle.cacache_jobs.specs.Environment.{AsksMoment};
-ghost use Rattle.cacache_program.specs.{PruneWords.{DoesPruning, IsNoPruning}, WordPrune.{PlansPruning, Prunes, is_limit, limit_in, since_at}};
+ghost use Rattle.cacache_program.specs.{PruneWords.{DoesPruning, IsNoPruning}, WordPrune.{PlansPruning, Prunes, is_limit, limit_in, limits_at, since_at}};
 
 use crate::errors::{Errors, tell_failed_call, tell_misuse};
 use crate::keep::about::USAGE;
-use crate::keep::output::{print_prune_plan, print_pruned};
+use crate::keep::output::{prune_plan_text, pruned_text};
+use crate::output::put_made;
 use crate::storming::number_of;
 use cacache::env::{Clock, Env, Names, Reasons};
 use cacache_keep::{Limits, plan_prune, prune};
@@ -37,53 +38,61 @@ fn since<C: Clock>(clock: &mut C, seconds: Option<u64>) -> Option<u128>
     }
 }
 
-/// Prunes the cache, and prints the bytes of its entries before and after, how many are dropped, and a line for each.
-fn prune_and_print<S: Reasons, C: Clock, N: Names, W: Write, E: Write>(
-    env: &mut Env<S, C, N>,
-    bytes: &str,
-    seconds: &str,
-    cache: &str,
-    output: &mut W,
-    errors: &mut Errors<E>,
-) -> u8
-    ensures does { Prunes S.log bytes.now seconds.now cache.now env.old env.new
-        (W.contents output.old) (W.contents output.new) result }
-    ensures status { result ≤ 2 }
-    ensures nothing_done { result ≡ 2 → (env.new ≡ env.old) × (output.new ≡ output.old) }
-    ensures quiet { result ≡ 0 → errors.new ≡ errors.old }
+/// The limits that the words say at this moment: none, and the clock isn't asked, if a word says no limit.
+fn limits_of<C: Clock>(clock: &mut C, bytes: &str, seconds: &str) -> Option<Limits>
+    ensures said { IfSome result (λ limits. (moment : ℕ)
+        × AsksMoment C.given clock.old clock.new moment
+        × (limits ≡ limits_at bytes.now seconds.now moment)) }
+    ensures right { IfSome result (λ limits. is_limit bytes.now && is_limit seconds.now ≡ true) }
+    ensures unasked { IfNone result (clock.new ≡ clock.old) }
 {
     let (Some(bytes), Some(seconds)) = (limit_of(bytes), limit_of(seconds)) else {
-        return tell_misuse(USAGE, errors);
+        return None;
     };
-    let since = since(&mut env.clock, seconds);
-    match prune(env, cache, Limits { bytes, since }) {
-        Ok(pruned) => print_pruned(env.alloc, pruned, output, errors),
-        Err(error) => tell_failed_call(errors, &error, env.store.reason()),
-    }
+    let since = since(clock, seconds);
+    Some(Limits { bytes, since })
 }
 
-/// Plans that, and prints the same, and a line for each bucket with an odd line.
-fn plan_prune_and_print<S: Reasons, C: Clock, N: Names, W: Write, E: Write>(
+/// What the words that prune do with the limits.
+#[derive(Clone, Copy)]
+enum Act {
+    /// They drop the oldest entries.
+    Prune,
+    /// They say which these are.
+    Plan,
+}
+
+/// Prunes the cache or plans that, and prints the bytes of its entries before and after, how many are dropped, a line for
+/// each, and for a plan one for each bucket with an odd line.
+fn act_and_print<S: Reasons, C: Clock, N: Names, W: Write, E: Write>(
     env: &mut Env<S, C, N>,
+    act: Act,
     bytes: &str,
     seconds: &str,
     cache: &str,
     output: &mut W,
     errors: &mut Errors<E>,
 ) -> u8
-    ensures does { PlansPruning S.log C.given bytes.now seconds.now cache.now env.old env.new
+    ensures prunes { act ≡ Act.Prune → Prunes S.log bytes.now seconds.now cache.now env.old env.new
         (W.contents output.old) (W.contents output.new) result }
+    ensures plans { act ≡ Act.Plan → PlansPruning S.log C.given bytes.now seconds.now cache.now
+        env.old env.new (W.contents output.old) (W.contents output.new) result }
     ensures status { result ≤ 2 }
     ensures nothing_done { result ≡ 2 → (env.new ≡ env.old) × (output.new ≡ output.old) }
     ensures quiet { result ≡ 0 → errors.new ≡ errors.old }
 {
-    let (Some(bytes), Some(seconds)) = (limit_of(bytes), limit_of(seconds)) else {
+    let Some(limits) = limits_of(&mut env.clock, bytes, seconds) else {
         return tell_misuse(USAGE, errors);
     };
-    let since = since(&mut env.clock, seconds);
-    match plan_prune(env, cache, Limits { bytes, since }) {
-        Ok(plan) => print_prune_plan(env.alloc, plan, output, errors),
-        Err(error) => tell_failed_call(errors, &error, env.store.reason()),
+    match act {
+        Act::Prune => match prune(env, cache, limits) {
+            Ok(pruned) => put_made(pruned_text(env.alloc, pruned), 0, output, errors),
+            Err(error) => tell_failed_call(errors, &error, env.store.reason()),
+        },
+        Act::Plan => match plan_prune(env, cache, limits) {
+            Ok(plan) => put_made(prune_plan_text(env.alloc, plan), 0, output, errors),
+            Err(error) => tell_failed_call(errors, &error, env.store.reason()),
+        },
     }
 }
 
@@ -106,8 +115,8 @@ pub(crate) fn run_pruning<S: Reasons, C: Clock, N: Names, W: Write, E: Write>(
     };
     let (bytes, seconds, cache) = (bytes.as_str(), seconds.as_str(), cache.as_str());
     match name.as_str() {
-        "prune" => prune_and_print(env, bytes, seconds, cache, output, errors),
-        "plan-prune" => plan_prune_and_print(env, bytes, seconds, cache, output, errors),
+        "prune" => act_and_print(env, Act::Prune, bytes, seconds, cache, output, errors),
+        "plan-prune" => act_and_print(env, Act::Plan, bytes, seconds, cache, output, errors),
         _ => tell_misuse(USAGE, errors),
     }
 }
