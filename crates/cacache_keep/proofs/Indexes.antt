@@ -5,3 +5,4 @@ pub mod LinkedFolders
 pub mod StandingIndexes
 pub mod ParentTexts
 pub mod FoundFolders
+pub mod ListedEntries

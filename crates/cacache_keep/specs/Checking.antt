@@ -13,10 +13,19 @@ use Rattle.cacache_keep.specs.{declared.checking.OddLines.{OddLines, TheVariants
 abbrev pub has_odd : List ℕ → Bool
 has_odd x = list_any is_odd (lines_of x)
 
+-- the path and the bytes of the bucket that a move read
+abbrev pub bucket_read : PlainStep → PlainAnswer → Option (List ℕ × List ℕ)
+bucket_read (steps.ReadAll path) (answers.Bytes bytes) = Some (path, bytes)
+bucket_read step answer = None
+
+-- the path of a bucket, if the bucket has an odd line
+abbrev pub odd_bucket : Option (List ℕ × List ℕ) → Option (List ℕ)
+odd_bucket None = None
+odd_bucket (Some (path, bytes)) = if has_odd bytes then Some path else None
+
 -- the path of the bucket that a move read, if the bucket has an odd line
 abbrev pub odd_read : PlainStep → PlainAnswer → Option (List ℕ)
-odd_read (steps.ReadAll path) (answers.Bytes bytes) = if has_odd bytes then Some path else None
-odd_read step answer = None
+odd_read step answer = odd_bucket (bucket_read step answer)
 
 -- the paths of the buckets with odd lines that the moves read, in turn
 abbrev pub odd_in : Moves → List (List ℕ)

@@ -1,10 +1,23 @@
 -- A walk through the index, or through a folder that a link in it leads to: how far it is, and what it noted.
-use Rattle.std.specs.Prelude.{◌≡◌, ◌<◌, ℕ, List, [], Option, Some, false}
+use Rattle.std.specs.{Prelude.{◌≡◌, ◌<◌, ℕ, List, [], Bool, true, false, Option, None, Some, Ok}, List.{slice_get}}
 use Rattle.cacache_core.specs.declared.errors.Error.{Error, TheVariants.{OutOfMemory}}
 use Rattle.cacache_store.specs.declared.store.log.LogItem.{LogItem}
-use Rattle.cacache_calls.specs.{declared.{reply.Reply.TheVariants.{Listed, Refused}, visit.Visit.{Visit}}, Runs.{Gains, Goes, Moves}, State.{Item, State}, Walking.{walk}}
+use Rattle.cacache_calls.specs.{declared.{reply.Reply.TheVariants.{Listed, Refused}, visit.Visit.{Visit}}, Runs.{Gains, Goes, Moves}, State.{Item, State}, Walking.{items_in, walk}}
 use Rattle.cacache_walks.specs.{declared.walk.Walk.{Walk}, Iterating.{steps_left}, WalkStates.{WalksAt}}
 use Rattle.cacache_keep.specs.{Checking.{odd_in}, Linked.{ListsBelow, as_walked, linked_in}}
+
+-- whether an entry is at the place among the items
+abbrev pub is_entry : Option Item → Bool
+is_entry (Some (Ok found)) = true
+is_entry item = false
+
+abbrev pub entry_at : List Item → ℕ → Bool
+entry_at items at = is_entry (slice_get items at)
+
+-- if this says that the bucket lists something, then it does
+abbrev pub IsTold : Bool → Option (List ℕ × List ℕ) → Type 0
+IsTold lists None = Unit {0}
+IsTold lists (Some (path, bytes)) = lists ≡ true → items_in bytes ≡ [] → ⊥
 
 -- the moves read these buckets with odd lines, and these folders in place of buckets
 pub record Notes (odd linked : List (List ℕ)) (moves : Moves) : Type 0 where

@@ -15,6 +15,7 @@ mod limits;
 mod lines;
 mod live;
 mod missing;
+mod odd;
 mod planning;
 mod pruning;
 mod reading;

@@ -1,9 +1,9 @@
 //! The lines of a bucket, and the bytes that a compaction leaves of them.
-ghost use Rattle.std.specs.{Prelude.{◌≡◌, ◌++◌, ◌∷◌, ◌||◌, List, [], IfOk, IfErr, OnOk, MatchOption, bytes_eq, false, if◌then◌else◌, is_some, map, option_map, ℕ}, List.{list_any}, Option.{option_to_list}};
+ghost use Rattle.std.specs.{Prelude.{◌≡◌, ◌++◌, ◌∷◌, ◌||◌, List, [], IfOk, IfErr, OnOk, MatchOption, bytes_eq, false, if◌then◌else◌, is_some, map, option_map, ℕ}, Option.{option_to_list}};
 ghost use Rattle.cacache_core.specs.{Digests.{sha256_hex}, declared.errors.Error.TheVariants.{OutOfMemory}};
 ghost use Rattle.cacache_entry.specs.{Bucket.{cut, CutsAt, without_cr as less_cr}, Entry.{closing}, View.{entry_view}};
 ghost use Rattle.cacache_laws.specs.trees.Compacting.{compact_text as compact_text_of, decision, decision_of, is_closed as is_closed_by, is_line as is_line_of, is_odd as is_odd_line, key_of, line_of_piece, lines_of as lines_in, Line as LineOf, text_of};
-ghost use Rattle.cacache_keep.specs.{Checking.{has_odd as has_odd_line}, Lines.{HasKeys, decision_view, finds as finds_in, in_order, last_lines as last_of, line_view, without_tombstones}};
+ghost use Rattle.cacache_keep.specs.Lines.{HasKeys, decision_view, finds as finds_in, in_order, last_lines as last_of, line_view, without_tombstones};
 
 use cacache_core::errors::Result;
 use cacache_core::keeping::let_go;
@@ -15,7 +15,7 @@ use std::collections::BTreeMap;
 
 /// What a line decides: the key of its entry, and whether a lookup finds that.
 #[derive(Drop)]
-struct Decided {
+pub(crate) struct Decided {
     entry: SerializableMetadata,
     finds: bool,
 }
@@ -28,7 +28,7 @@ struct Line {
 }
 
 /// The first place of the byte.
-fn first(bytes: &[u8], byte: u8) -> Option<usize>
+pub(crate) fn first(bytes: &[u8], byte: u8) -> Option<usize>
     ensures { MatchOption result (cut byte bytes.now ≡ bytes.now ∷ [])
         (λ i. CutsAt byte bytes.now i) }
 {
@@ -36,7 +36,7 @@ fn first(bytes: &[u8], byte: u8) -> Option<usize>
 }
 
 /// The bytes without one CR at their end.
-fn without_cr(piece: &[u8]) -> &[u8]
+pub(crate) fn without_cr(piece: &[u8]) -> &[u8]
     ensures { result.now ≡ less_cr piece.now }
 {
     match piece.split_last() {
@@ -67,7 +67,7 @@ fn before_tab(bytes: &[u8]) -> &[u8]
 }
 
 /// Whether a piece is a line: its digest is right.
-fn is_line(piece: &[u8]) -> bool
+pub(crate) fn is_line(piece: &[u8]) -> bool
     ensures { result ≡ is_line_of piece.now }
 {
     let bytes = without_cr(piece);
@@ -96,7 +96,7 @@ fn decided_by(
 }
 
 /// What a piece decides.
-fn decided_in(alloc: Global, piece: &[u8]) -> Result<Option<Decided>>
+pub(crate) fn decided_in(alloc: Global, piece: &[u8]) -> Result<Option<Decided>>
     requires { cut 10 piece.now ≡ piece.now ∷ [] }
     ensures decides { IfOk result
         (λ decided. option_map decision_view decided ≡ decision piece.now) }
@@ -182,27 +182,6 @@ fn is_odd_by(odd: bool, line: &Line) -> bool
     ensures { result ≡ (odd || is_odd_line (line_view line.now)) }
 {
     odd || line.decided.is_none()
-}
-
-/// Whether one of the lines is odd.
-fn some_odd(lines: &[Line]) -> bool
-    ensures { result ≡ list_any is_odd_line (map line_view lines.now) }
-{
-    for line in lines {
-        if line.decided.is_none() {
-            return true;
-        }
-    }
-    false
-}
-
-/// Whether a bucket has an odd line.
-pub(crate) fn has_odd(alloc: Global, bytes: &[u8]) -> Result<bool>
-    ensures odd { IfOk result (λ odd. odd ≡ has_odd_line bytes.now) }
-    ensures memory { IfErr result (λ e. e ≡ OutOfMemory) }
-{
-    let lines = lines_of(alloc, bytes)?;
-    Ok(some_odd(lines.as_slice()))
 }
 
 /// Whether the line finds an entry.

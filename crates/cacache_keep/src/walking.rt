@@ -3,15 +3,16 @@ ghost use Rattle.std.specs.{Prelude.{◌≡◌, ◌++◌, IfOk, IfErr, OnOk, map
 ghost use Rattle.cacache_core.specs.declared.errors.Error.TheVariants.{OutOfMemory};
 ghost use Rattle.cacache_store.specs.Plain.{plain_answer};
 ghost use Rattle.cacache_calls.specs.{Runs.{plain_item}, Walking.{visit_step}};
-ghost use Rattle.cacache_keep.specs.{Checking.{odd_read}, Linked.{linked_read, taken_as}, Walking.{LosesIndex, MeetsIndex, VisitGoes, VisitStops}};
+ghost use Rattle.cacache_keep.specs.{Checking.{bucket_read, odd_bucket}, Linked.{linked_read, taken_as}, Walking.{IsTold, LosesIndex, MeetsIndex, VisitGoes, VisitStops, entry_at}};
 
-use crate::lines::has_odd;
+use crate::odd::has_odd_beside;
 use cacache_calls::{Found, Visit};
+use cacache_core::bytes::Bytes;
 use cacache_core::errors::{Error, Fault, Result};
 use cacache_core::text::Text;
 use cacache_store::store::{Answer, FileHandle, Store, TempHandle};
 use cacache_walks::Walk;
-use std::alloc::Global;
+use std::alloc::{AllocError, Global};
 use std::mem::swap;
 
 /// The items of a listing, and the paths of the buckets with odd lines and of those that are links to folders, in the
@@ -23,22 +24,46 @@ pub(crate) struct Met {
     pub(crate) linked: Vec<Text>,
 }
 
-/// Notes the bucket that a visit read, if it has an odd line.
-fn note<F: FileHandle, T: TempHandle>(
-    alloc: Global,
-    odd: &mut Vec<Text>,
+/// The path and the bytes of the bucket that a visit read. No byte is copied.
+fn bucket_of<F: FileHandle, T: TempHandle>(
     visit: &Visit,
     answer: &Answer<F, T>,
-) -> Result<()>
-    ensures notes { OnOk result (odd.new.items ≡ odd.old.items ++ option_to_list
-        (odd_read (visit_step visit.now) (plain_answer F.seen T.seen answer.now))) }
-    ensures memory { IfErr result (λ e. e ≡ OutOfMemory) }
+) -> std::result::Result<Option<(Text, Bytes)>, AllocError>
+    ensures { IfOk result (λ bucket. bucket
+        ≡ bucket_read (visit_step visit.now) (plain_answer F.seen T.seen answer.now)) }
 {
     if let Visit::ReadBucket(path) = visit {
         if let Answer::Bytes(bytes) = answer {
-            if has_odd(alloc, bytes.as_slice())? {
-                odd.push(path.clone()?)?;
-            }
+            return Ok(Some((path.clone()?, bytes.share()?)));
+        }
+    }
+    Ok(None)
+}
+
+/// Whether an entry is at the place among the items.
+fn is_entry_at(items: &[std::result::Result<Found, Error>], at: usize) -> bool
+    ensures { result ≡ entry_at (map plain_item items.now) at }
+{
+    match items.get(at) {
+        Some(Ok(_)) => true,
+        _ => false,
+    }
+}
+
+/// Notes the bucket if it has an odd line. The flag says whether the bucket lists an entry.
+fn note(
+    alloc: Global,
+    odd: &mut Vec<Text>,
+    bucket: Option<(Text, Bytes)>,
+    lists: bool,
+) -> Result<()>
+    ensures notes { OnOk result (IsTold lists bucket
+        → odd.new.items ≡ odd.old.items ++ option_to_list (odd_bucket bucket)) }
+    ensures memory { IfErr result (λ e. e ≡ OutOfMemory) }
+{
+    if let Some((path, bytes)) = bucket {
+        if has_odd_beside(alloc, bytes.as_slice(), lists)? {
+            odd.push(path)?;
         }
     }
     Ok(())
@@ -81,9 +106,13 @@ fn make<S: Store>(
 {
     let step = visit.step()?;
     let answer = store.step(step);
-    note(alloc, odd, &visit, &answer)?;
+    let bucket = bucket_of(&visit, &answer)?;
     let answer = pass(linked, &visit, answer)?;
-    walk.resume(alloc, visit, answer)
+    let before = walk.items.len();
+    let next = walk.resume(alloc, visit, answer)?;
+    let lists = is_entry_at(walk.items.as_slice(), before);
+    note(alloc, odd, bucket, lists)?;
+    Ok(next)
 }
 
 /// Lists the buckets below a folder.

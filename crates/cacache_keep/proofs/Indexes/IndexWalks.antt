@@ -1,5 +1,5 @@
 -- A walk through the index, visit by visit, the buckets with odd lines that it met, and the folders in place of buckets.
-use Rattle.std.proofs.{Common.{◌≡◌, inl, inr, ◌<◌, List, [], ◌∷◌, ◌++◌, ℕ, Bool, true, false, cond, Option, None, Some, Result, Ok, Err, IfOk, IfErr, option_map, map, refl, sym, ap, subst, ◌∙◌, arith}, lemmas.List.{map-append, Elements.{filter_map-append}}}
+use Rattle.std.proofs.{Common.{◌≡◌, inl, inr, ◌<◌, List, [], ◌∷◌, ◌++◌, ℕ, Bool, true, false, cond, Option, None, Some, Result, Ok, Err, IfOk, IfErr, length, option_map, map, refl, sym, ap, subst, ◌∙◌, arith}, lemmas.List.{map-append, Elements.{filter_map-append}}}
 use Rattle.std.specs.{List.{cons_option}, Option.{option_to_list}}
 use Rattle.cacache_core.specs.declared.errors.{Error.{Error, TheVariants.{OutOfMemory}}, Fault.TheVariants.{IsADirectory}}
 use Rattle.cacache_store.specs.{declared.store.log.LogItem.{LogItem, TheVariants.{Made}}, Fits.{Fits, Logs, is_no_memory}, Plain.{PlainStep, PlainAnswer}}
@@ -7,9 +7,9 @@ use Rattle.cacache_store.specs.declared.store.answer.Answer.TheVariants as answe
 use Rattle.cacache_store.specs.declared.store.step.Step.TheVariants as steps
 use Rattle.cacache_calls.specs.{declared.{reply.Reply.TheVariants.{Done, Listed, Refused}, visit.Visit.{Visit}}, Runs.{EndsAs, Gains, Goes, Moves, effort, plain_item, without_message}, State.{State, over}, Table.{after, wants}, Walking.{after_visit, visit_step, walk}}
 use Rattle.cacache_calls.proofs.{Effort.{falls}, Going.{answer_cases, gains_one, goes_lost, goes_on, goes_over, no_gain, unmoved}, Memory.{memory_said, no_memory_after}}
-use Rattle.cacache_walks.specs.{declared.walk.Walk.{Walk}, Iterating.{steps_left}, WalkStates.{GoesOn, WalkLeads, WalksAt, walk_of}}
-use Rattle.cacache_keep.specs.{Checking.{odd_in, odd_read}, Linked.{as_walked, linked_in, linked_read, taken_as}, Walking.{LosesIndex, MeetsIndex, Notes, VisitGoes, VisitStops, WalksIndex}}
-use Rattle.cacache_keep.proofs.Indexes.StandingIndexes.{listing_replies}
+use Rattle.cacache_walks.specs.{declared.walk.Walk.{Walk}, Iterating.{steps_left}, WalkStates.{GoesOn, WalkLeads, WalksAt, pending, walk_of}}
+use Rattle.cacache_keep.specs.{Checking.{bucket_read, odd_in, odd_read}, Linked.{as_walked, linked_in, linked_read, taken_as}, Walking.{IsTold, LosesIndex, MeetsIndex, Notes, VisitGoes, VisitStops, WalksIndex, entry_at}}
+use Rattle.cacache_keep.proofs.Indexes.{ListedEntries.{told}, StandingIndexes.{listing_replies}}
 
 -- ---- the buckets of moves
 
@@ -101,6 +101,12 @@ module _ (top : List ℕ) (old mid new : Option (List LogItem)) (v : Visit) (w u
         }
       ]
 
+  -- a listing isn't done as a clearing is
+  pub not_done : next_state ≡ over Done → ⊥
+  not_done so =
+      let moves = as_walked (i.moves ++ (a, t) ∷ []) in
+      listing_replies top moves Done (goes_over (walk false top) moves Done (subst (Goes (walk false top) moves) so goes_next))
+
   -- fewer steps are left
   pub visit_shortens : (next : Option Visit) → WalksAt [] u next next_state → steps_left next u < steps_left (Some v) w
   visit_shortens (Some y) h =
@@ -141,12 +147,17 @@ module _ (mid new : Option (List LogItem)) (v : Visit) (w u : Walk) (odd linked 
     leads_on : {top : List ℕ} {old : Option (List LogItem)} (r : Result (Option Visit) Error) → GoesOn w u r (λ x todo. after_visit x v todo given) → (i : WalksIndex top (Some v) w odd linked old mid) → WalkLeads [] r u (after i.state (taken_as a t))
     leads_on r resumes i = subst (λ (x : PlainAnswer). WalkLeads [] r u (after i.state x)) taken (subst (λ s. WalkLeads [] r u (after s given)) (sym i.stands.1) (resumes [] i.stands.0))
 
-    pub resumed_goes : (r : Result (Option Visit) Error) → GoesOn w u r (λ x todo. after_visit x v todo given) → more ≡ odd ++ option_to_list (odd_read (visit_step v) t) → folders ≡ linked ++ option_to_list (linked_read (visit_step v) t) → IfOk r (λ next. VisitGoes v w odd linked next u more folders mid new)
-    resumed_goes (Ok next) resumes met led = λ top old i.
+    pub resumed_goes : (r : Result (Option Visit) Error) → GoesOn w u r (λ x todo. after_visit x v todo given) → (lists : Bool) → lists ≡ entry_at (map plain_item u.items.items) (length w.items.items)
+        → (IsTold lists (bucket_read (visit_step v) t) → more ≡ odd ++ option_to_list (odd_read (visit_step v) t)) → folders ≡ linked ++ option_to_list (linked_read (visit_step v) t)
+        → IfOk r (λ next. VisitGoes v w odd linked next u more folders mid new)
+    resumed_goes (Ok next) resumes lists same met led = λ top old i.
         let leads = leads_on (Ok next) resumes i in
-        let notes : NotesMove odd linked more folders a t = (met ∙ ap (λ (s : PlainStep). odd ++ option_to_list (odd_read s t)) (sym is), led ∙ ap (λ (s : PlainStep). linked ++ option_to_list (linked_read s t)) (sym is)) in
+        let state : after i.state (taken_as a t) ≡ after_visit (walk_of [] w) v (pending w.todo.items) (taken_as (visit_step v) t) = ap (λ (s : State). after s (taken_as a t)) i.stands.1 ∙ ap (λ (s : PlainStep). after_visit (walk_of [] w) v (pending w.todo.items) (taken_as s t)) is in
+        let right = told w u next (pending w.todo.items) v t lists (λ e. not_done top old mid new v w u odd linked more folders a t i is fits logs (state ∙ e)) (subst (WalksAt [] u next) state leads) same in
+        let noted : more ≡ odd ++ option_to_list (odd_read a t) = met right ∙ ap (λ (s : PlainStep). odd ++ option_to_list (odd_read s t)) (sym is) in
+        let notes : NotesMove odd linked more folders a t = (noted, led ∙ ap (λ (s : PlainStep). linked ++ option_to_list (linked_read s t)) (sym is)) in
         (visit_goes top old mid new v w u odd linked more folders a t i is fits logs next notes leads, visit_shortens top old mid new v w u odd linked more folders a t i is fits logs next leads)
-    resumed_goes (Err e) resumes met led = tt
+    resumed_goes (Err e) resumes lists same met led = tt
 
     pub resumed_stops : (r : Result (Option Visit) Error) → GoesOn w u r (λ x todo. after_visit x v todo given) → IfErr r (λ e. VisitStops v w odd linked e mid new)
     resumed_stops (Ok next) resumes = tt
