@@ -2,7 +2,7 @@
 -- Errors without their messages, as laws tell them.
 use Rattle.std.proofs.Common.{◌≡◌, ◌⊎◌, inl, inr, ℕ, Bool, true, List, [], ◌∷◌, Option, None, Some, get_or, refl, sym, subst, ◌∙◌}
 use Rattle.cacache_core.specs.declared.{errors.{SerdeCause.{SerdeCause}, Error.{TheVariants.{SerdeError, EntryNotFound, OutOfMemory}, Error}}, integrity.digest.Hash.{Hash}}
-use Rattle.cacache_store.specs.{Plain.{PlainAnswer}, declared.store.log.LogItem.{LogItem}}
+use Rattle.cacache_store.specs.declared.store.log.LogItem.{LogItem}
 use Rattle.cacache_calls.specs.{Walking.{EachVisit}, declared.{visit.Visit.{Visit, TheVariants.{ReadBucket}}, command.{Insert.{Insert}, Put.{Put}}, reply.Reply.{Reply, TheVariants.{Refused}}, carried.Commit.{Commit}}, Inserting.{unless_refused, insertion, deletion, refused_cause}, State.{State, Site, doing, creating, writing, syncing, persisting, linking, confirming, appending, walking, over, Insertion}, Storing.{insertion_of, indexed, sized, compared, placed, put_commit}, Table.{after, opening}, Runs.{Moves, Runs, without_message}}
 use Rattle.cacache_calls.proofs.{Closed.{AnyAnswer, ClosedCommit, ClosedWalk, Closed, kept_always}, Visits.{MayMeet}}
 use Rattle.cacache_laws.specs.{CallErrors.{FailsOnly, CallsFailOnly}, Caches.{IsExcused}}
@@ -90,13 +90,10 @@ closed = record {
   walks = walks_calm;
 }
 
-calm_after : (s : State) (a : PlainAnswer) → Calm s → Calm (after s a)
-calm_after s a h = kept_always Calm IsClearing ClearsAt closed s a h
-
 pub calm_run : (s : State) (moves : Moves) (r : Reply) → Calm s → Runs s moves r → FailsOnly r
 calm_run s [] r h (inl e) = subst Calm e h
 calm_run s [] r h (inr e) = subst FailsOnly (sym e) tt
-calm_run s (m ∷ moves) r h run = calm_run (after s m.1) moves r (calm_after s m.1 h) run.2
+calm_run s (m ∷ moves) r h run = calm_run (after s m.1) moves r (kept_always Calm IsClearing ClearsAt closed s m.1 h) run.2
 
 same_key : (P : List ℕ → Type 0) (a b : List ℕ) (o : Option (List ℕ)) → o ≡ Some a → o ≡ Some b → P a → P b
 same_key P a b o e f h = let same : Some a ≡ Some b = sym e ∙ f in let is : a ≡ b = cc in subst P is h

@@ -15,12 +15,9 @@ use Rattle.cacache_calls.specs.declared.reply.Reply.TheVariants as replies
 use Rattle.cacache_value.specs.{Acts.{Act, Drop, act_of}, Kinds.{is_path_of}}
 use Rattle.cacache_history.specs.{declared.record.Record.TheVariants.{Moved}, AddedEntries.{IsAmong}, Commits.{Deed, does, finds_in, deeds_of_act, deeds_of, deeds, DropsAmong, FoundFirst, IsCase}, History.{History, Turn, Call, Made, NamesIntegrity, IsLegal, turn_of, call_after}, Places.{now_before, MoveAt}, Setup.{Setup, call_site, home}, ShownTurns.{entries_at}, Turns.{made_in}, Values.{KeepsContent}}
 use Rattle.cacache_history.proofs.{Each.{any_left, any_right}, StepActs.{MayAct, acts_so}, Entries.Writes.{one_path}, Contents.Commits.{commits_are_cases}, Histories.{Holding.{TurnsHold}, Places.{moves_are_of_calls}, Runs.{reached, lost_run}, ShownTurns.{FoundHas, bucket_at_turn, bucket_below, bucket_has, content_below}}}
-use Rattle.cacache_laws.specs.Meanwhile.{SparesAddress}
+use Rattle.cacache_laws.{specs.Meanwhile.{SparesAddress}, proofs.Removing.Removed.{not_content}}
 
 -- ---- paths
-
-not_bucket : (a : Hash) (d : List ℕ) → content_names a ≡ bucket_names_of d → ⊥
-not_bucket a d e = absurd cc
 
 module _ (s : Setup) (a : Hash) (is_hash : IsHash a) where
   -- the path isn't that of the content
@@ -38,7 +35,7 @@ module _ (s : Setup) (a : Hash) (is_hash : IsHash a) where
   bucket_apart : (key : List ℕ) (names : Names) → names_of (bucket_path s.cache key) ≡ Ok names → IsApart names
   bucket_apart key names e =
       not_true (is_path_of (home s) (content_names a) names)
-      (λ here. not_bucket a (sha1 key) (one_path (home s) (bucket_names_of (sha1 key)) (content_names a) names (sym (bucket_below s key) ∙ e) here))
+      (λ here. not_content a (sha1 key) (one_path (home s) (bucket_names_of (sha1 key)) (content_names a) names (sym (bucket_below s key) ∙ e) here))
 
   -- what was removed at paths that are apart is so
   drops_apart : (paths : List (List ℕ)) (ds : List Deed) (names : Names) → AllByRecursion (λ path. (at : Names) → names_of path ≡ Ok at → IsApart at) paths → DropsAmong paths ds → IsAmong (does (Drop names)) ds → IsApart names

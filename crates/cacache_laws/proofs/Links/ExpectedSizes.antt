@@ -98,9 +98,8 @@ module _ (t : Target ℕ) (r : Reply) where
   same_run file bytes [] (inl e) = absurd cc
   same_run file bytes [] (inr e) = inl (λ n. inr e)
   same_run file bytes ((step, answers.Got g []) ∷ moves) run =
-      let n = length (bytes ++ []) in
       let placed_so = placed_same t (length (bytes ++ [])) bytes (ap (λ (b : List ℕ). length b) (append-nil bytes)) in
-      inr ([], reads_end t file [] step (answers.Got g []) moves run.0 (refl, refl), (run.0, run.1, link_same t None (Some n) bytes placed_so moves r run.2))
+      inr ([], reads_end t file [] step (answers.Got g []) moves run.0 (refl, refl), (run.0, run.1, link_same t None (Some (length (bytes ++ []))) bytes placed_so moves r run.2))
   same_run file bytes ((step, answers.Got g (b ∷ bs)) ∷ moves) run =
       elim (same_run g (bytes ++ b ∷ bs) moves run.2) [
         | inl any ↦ inl (λ n. (run.0, run.1, any n))

@@ -7,7 +7,7 @@ use Rattle.cacache_disk.specs.{declared.{luck.Luck.{TheVariants.{Plain, Take}, L
 use Rattle.cacache_calls.specs.{Runs.{Gains, Moves}, SingleSteps.{FailsAt}}
 use Rattle.cacache_history.{specs.{Commits.{ReadsTarget}, History.{turn_of}, Setup.{Setup}}, proofs.{Contents.OpenedContents.{EachAsks, OnDisks, gives_all}, Each.{each_join}}}
 use Rattle.cacache_laws.specs.{Caches.{IsCache, Grows}, InParts.{AreParts, Part, byte_read, made, took, moves_in, turns_in}, OpenLinkers.{GivesSized, GivesTarget, LinkersOpen, LinkersOpenSized, OpensSized, OpensTarget}, OpenWriters.{LeavesKnownCache}, Sequence.{AreAnswered, IsSound, tree_on, turns_on}, Looks.{LinksShow}}
-use Rattle.cacache_laws.proofs.{Calls.{InParts.{byte_answered, logs_lead}, Logs.{excuses_last, growths_join, some_same}}, Links.Linking.{on_disks, opened_held}, Spares.Unused.{unchanged}, Readings.{OpenReaders.{Opened, errs, leaves as known_left, log_front, opened_keeps}, ReadAnswers.{opened_so, sizing_keeps}}, Putting.OpenWriters.{excused_step, gains_grow}}
+use Rattle.cacache_laws.proofs.{Calls.{InParts.{byte_answered, logs_lead}, Logs.{excuses_last, growths_join, some_same}}, Links.Linking.{on_disks, opened_held}, Spares.Unused.{unchanged}, Readings.{OpenReaders.{Opened, errs, leaves as known_left, log_front, opened_keeps, opens_file}, ReadAnswers.{opened_so, sizing_keeps}}, Putting.OpenWriters.{excused_step, gains_grow}}
 use Rattle.cacache_value.specs.{Shows.{blob_bytes, link_end}, Value.{AtLink}}
 use Rattle.cacache_core.specs.declared.errors.Fault.TheVariants as faults
 use Rattle.cacache_store.specs.declared.store.answer.Answer.TheVariants as answers
@@ -67,13 +67,7 @@ turns_more (took t file ∷ parts) more = ap (λ l. turn_of t (Take 1) (byte_rea
 
 pub target_opened : (path : List ℕ) (r : Result PlainFile Error) (old new : List LogItem) → OpensTarget path r (Some old) (Some new) → Opened path r old new
 target_opened path (Err e) old new h = errs path old new e h
-target_opened path (Ok file) old new h = record {
-  moves = (steps.Open path, answers.File file) ∷ [];
-  gains = h;
-  only = inr (answers.File file, refl);
-  file = λ f is. (let same : file ≡ f = cc in ap (λ g. (steps.Open path, answers.File g) ∷ []) same);
-  excused = λ e none. absurd cc;
-}
+target_opened path (Ok file) old new h = opens_file path old new file h
 
 gives_target : (cache path : List ℕ) (r : Result PlainFile Error) (old new : List LogItem) → IsCache cache old → OpensTarget path r (Some old) (Some new) → Opened path r old new → IsLog new
     → GivesTarget cache path r old new

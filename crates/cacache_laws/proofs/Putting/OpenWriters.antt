@@ -73,75 +73,109 @@ put_nothing = record {
   };
 }
 
-module _ (cache : List ℕ) (number : ℕ) (old new : List LogItem) (sound : IsCache cache old) (logged : IsLog new) where
-  abbrev begins : State
-  begins = opening (call_site (setup_at cache []) number) (commands.Put put_nothing)
+-- its moves begin a put of nothing, and did nothing to contents or buckets
+pub record Opening (cache : List ℕ) (number : ℕ) (old new : List LogItem) : Type 0 where
+  pub moves : Moves
+  pub next : State
+  pub goes : Goes (opening (call_site (setup_at cache []) number) (commands.Put put_nothing)) moves next
+  pub nothing : deeds (turns_on (tree_of old) moves) ≡ []
+  pub gains : Gains (Some old) (Some new) moves
 
-  -- what it keeps, as far as it goes
-  abbrev Kept : Type 0
-  Kept = LeavesKnownCache cache old new
-
-  part_keeps : (moves : Moves) (next : State) → Goes begins moves next → deeds (turns_on (tree_of old) moves) ≡ [] → Gains (Some old) (Some new) moves → Kept
-  part_keeps moves next goes nothing gains =
-      let s = setup_at cache [] in
-      let lead = logs_lead old new moves gains logged in
-      let call : Begun = record { command = commands.Put put_nothing; number = number; parts = [] } in
-      let way = calls_begin s (commands.Put put_nothing) number (λ key e. absurd cc) tt in
-      let changes = (parts_go_on s call begins next (tree_of old) moves tt way sound goes lead.0).1 in
-      let same : Alike (value_of_tree (home_of cache) (tree_on (tree_of old) moves)) (value_of_tree (home_of cache) (tree_of old))
-      = subst (λ ds. Alike (value_of_tree (home_of cache) (tree_on (tree_of old) moves)) (after_deeds (home_of cache) ds (value_of_tree (home_of cache) (tree_of old)))) nothing changes.follows in (
-        subst (IsSound (home_of cache)) (sym lead.1) changes.sound,
-        stays_known cache old new (subst (λ t. Alike (value_of_tree (home_of cache) t) (value_of_tree (home_of cache) (tree_of old))) (sym lead.1) same),
-        gains_grow old new moves gains,
-      )
-
-  -- the same if it ends with an error
-  abbrev KeptWith : Error → Type 0
-  KeptWith e = Kept × IsExcused e old new
+module _ (cache : List ℕ) (number : ℕ) (old new : List LogItem) where
+  -- one that ends with an error
+  abbrev Fails : Error → Type 0
+  Fails e = Opening cache number old new × IsExcused e old new
 
   folder_fails : (e : Error) (fault : Fault) → (e ≡ OutOfMemory) ⊎ ((message : List ℕ) × (e ≡ IoError fault message)) → Does (make_folder cache number) (answers.Failed fault) (Some old) (Some new)
-      → KeptWith e
+      → Fails e
   folder_fails e fault is g =
       let moves : Moves = (make_folder cache number, answers.Failed fault) ∷ [] in
-      (part_keeps moves (fails fault) (refl, tt, refl) (folder_first (tree_of old) (temp_folder cache) (answers.Failed fault) [] refl) g, excused_step old new moves g e fault (inl refl) is)
+      let nothing = folder_first (tree_of old) (temp_folder cache) (answers.Failed fault) [] refl in
+      (record { moves = moves; next = fails fault; goes = (refl, tt, refl); nothing = nothing; gains = g }, excused_step old new moves g e fault (inl refl) is)
 
-  folder_errs : (e : Error) → FailsAt (make_folder cache number) e (Some old) (Some new) → KeptWith e
+  folder_errs : (e : Error) → FailsAt (make_folder cache number) e (Some old) (Some new) → Fails e
   folder_errs (IoError fault message) h = folder_fails (IoError fault message) fault (inr (message, refl)) h
-  folder_errs OutOfMemory (inl same) = (part_keeps [] begins refl refl (gains_none (Some old) new same), inl refl)
+  folder_errs OutOfMemory (inl same) =
+      (record { moves = []; next = opening (call_site (setup_at cache []) number) (commands.Put put_nothing); goes = refl; nothing = refl; gains = gains_none (Some old) new same }, inl refl)
   folder_errs OutOfMemory (inr h) = folder_fails OutOfMemory h.0 (inl refl) h.1
   folder_errs e h = absurd h
 
   module _ (mid : Option (List LogItem)) (made : Does (make_folder cache number) answers.Done (Some old) mid) where
-    file_fails : (e : Error) (fault : Fault) → (e ≡ OutOfMemory) ⊎ ((message : List ℕ) × (e ≡ IoError fault message)) → Does (make_file cache number) (answers.Failed fault) mid (Some new) → KeptWith e
+    -- the folder, and then this
+    then_gains : (more : Moves) → Gains mid (Some new) more → Gains (Some old) (Some new) ((make_folder cache number, answers.Done) ∷ more)
+    then_gains more g = gains_join (Some old) mid (Some new) ((make_folder cache number, answers.Done) ∷ []) more made g
+
+    file_fails : (e : Error) (fault : Fault) → (e ≡ OutOfMemory) ⊎ ((message : List ℕ) × (e ≡ IoError fault message)) → Does (make_file cache number) (answers.Failed fault) mid (Some new) → Fails e
     file_fails e fault is g =
-        let moves : Moves = (make_folder cache number, answers.Done) ∷ (make_file cache number, answers.Failed fault) ∷ [] in
-        let gains = gains_join (Some old) mid (Some new) ((make_folder cache number, answers.Done) ∷ []) ((make_file cache number, answers.Failed fault) ∷ []) made g in (
-          part_keeps moves (fails fault) (refl, tt, (refl, tt, refl)) (folder_first (tree_of old) (temp_folder cache) answers.Done ((make_file cache number, answers.Failed fault) ∷ []) refl) gains,
-          excused_step old new moves gains e fault (inr (inl refl)) is,
+        let more : Moves = (make_file cache number, answers.Failed fault) ∷ [] in
+        let gains = then_gains more g in
+        let nothing = folder_first (tree_of old) (temp_folder cache) answers.Done more refl in (
+          record { moves = (make_folder cache number, answers.Done) ∷ more; next = fails fault; goes = (refl, tt, (refl, tt, refl)); nothing = nothing; gains = gains },
+          excused_step old new ((make_folder cache number, answers.Done) ∷ more) gains e fault (inr (inl refl)) is,
         )
 
-    file_errs : (e : Error) → FailsAt (make_file cache number) e mid (Some new) → KeptWith e
+    file_errs : (e : Error) → FailsAt (make_file cache number) e mid (Some new) → Fails e
     file_errs (IoError fault message) h = file_fails (IoError fault message) fault (inr (message, refl)) h
     file_errs OutOfMemory (inl same) = (
-      part_keeps ((make_folder cache number, answers.Done) ∷ []) _ (refl, tt, refl) (folder_first (tree_of old) (temp_folder cache) answers.Done [] refl)
-          (gains_join (Some old) mid (Some new) ((make_folder cache number, answers.Done) ∷ []) [] made (gains_none mid new same)),
+      record {
+        moves = (make_folder cache number, answers.Done) ∷ [];
+        next = _;
+        goes = (refl, tt, refl);
+        nothing = folder_first (tree_of old) (temp_folder cache) answers.Done [] refl;
+        gains = then_gains [] (gains_none mid new same);
+      },
       inl refl,
     )
     file_errs OutOfMemory (inr h) = file_fails OutOfMemory h.0 (inl refl) h.1
     file_errs e h = absurd h
 
-  opens : (r : Result PlainTemp Error) → OpensWriter cache number r (Some old) (Some new) → Kept × HasOpened cache number r old new
-  opens (Err e) (inl h) = folder_errs e h
-  opens (Err e) (inr h) = file_errs h.0 h.1 e h.2
+  failed : (e : Error) → OpensWriter cache number (Err e) (Some old) (Some new) → Fails e
+  failed e (inl h) = folder_errs e h
+  failed e (inr h) = file_errs h.0 h.1 e h.2
+
+  -- one that opened the file
+  opened_so : IsLog new → (file : PlainTemp) → OpensWriter cache number (Ok file) (Some old) (Some new) → Opening cache number old new × (file ≡ made_temp (temp_path cache number))
+  opened_so logged file h =
+      let more : Moves = (make_file cache number, answers.Temp file) ∷ [] in
+      let gains = then_gains h.0 h.1 more h.2 in
+      let lead = logs_lead old new ((make_folder cache number, answers.Done) ∷ more) gains logged in
+      let same = temp_made (apply (tree_of old) (make_folder cache number) Plain).1 (temp_path cache number) file lead.0.1.0 in (
+        record {
+          moves = (make_folder cache number, answers.Done) ∷ more;
+          next = persist (put_commit cache put_nothing) file;
+          goes = (refl, tt, (refl, ap (λ (f : PlainTemp). f.path) same, refl));
+          nothing = folder_first (tree_of old) (temp_folder cache) answers.Done more refl;
+          gains = gains;
+        },
+        same,
+      )
+
+  pub opening_made : IsLog new → (r : Result PlainTemp Error) → OpensWriter cache number r (Some old) (Some new) → Opening cache number old new
+  opening_made logged (Err e) h = (failed e h).0
+  opening_made logged (Ok file) h = (opened_so logged file h).0
+
+module _ (cache : List ℕ) (number : ℕ) (old new : List LogItem) (sound : IsCache cache old) (logged : IsLog new) where
+  -- what it keeps, as far as it goes
+  part_keeps : Opening cache number old new → LeavesKnownCache cache old new
+  part_keeps o =
+      let s = setup_at cache [] in
+      let lead = logs_lead old new o.moves o.gains logged in
+      let call : Begun = record { command = commands.Put put_nothing; number = number; parts = [] } in
+      let way = calls_begin s (commands.Put put_nothing) number (λ key e. absurd cc) tt in
+      let changes = (parts_go_on s call (opening (call_site s number) (commands.Put put_nothing)) o.next (tree_of old) o.moves tt way sound o.goes lead.0).1 in
+      let same : Alike (value_of_tree (home_of cache) (tree_on (tree_of old) o.moves)) (value_of_tree (home_of cache) (tree_of old))
+      = subst (λ ds. Alike (value_of_tree (home_of cache) (tree_on (tree_of old) o.moves)) (after_deeds (home_of cache) ds (value_of_tree (home_of cache) (tree_of old)))) o.nothing changes.follows in (
+        subst (IsSound (home_of cache)) (sym lead.1) changes.sound,
+        stays_known cache old new (subst (λ t. Alike (value_of_tree (home_of cache) t) (value_of_tree (home_of cache) (tree_of old))) (sym lead.1) same),
+        gains_grow old new o.moves o.gains,
+      )
+
+  opens : (r : Result PlainTemp Error) → OpensWriter cache number r (Some old) (Some new) → LeavesKnownCache cache old new × HasOpened cache number r old new
+  opens (Err e) h = let o = failed cache number old new e h in (part_keeps o.0, o.1)
   opens (Ok file) h =
-      let path = temp_path cache number in
-      let moves : Moves = (make_folder cache number, answers.Done) ∷ (make_file cache number, answers.Temp file) ∷ [] in
-      let gains = gains_join (Some old) h.0 (Some new) ((make_folder cache number, answers.Done) ∷ []) ((make_file cache number, answers.Temp file) ∷ []) h.1 h.2 in
-      let lead = logs_lead old new moves gains logged in
-      let same = temp_made (apply (tree_of old) (make_folder cache number) Plain).1 path file lead.0.1.0 in (
-        part_keeps moves (persist (put_commit cache put_nothing) file) (refl, tt, (refl, ap (λ (f : PlainTemp). f.path) same, refl))
-            (folder_first (tree_of old) (temp_folder cache) answers.Done ((make_file cache number, answers.Temp file) ∷ []) refl) gains,
-        (ap (λ (f : PlainTemp). f.path) same, ap (λ (f : PlainTemp). f.bytes) same, record { old = old; new = new; sound = sound; opens = (h.0, h.1, subst (λ f. Does (make_file cache number) (answers.Temp f) h.0 (Some new)) same h.2); logged = logged }),
+      let o = opened_so cache number old new logged file h in (
+        part_keeps o.0,
+        (ap (λ (f : PlainTemp). f.path) o.1, ap (λ (f : PlainTemp). f.bytes) o.1, record { old = old; new = new; sound = sound; opens = (h.0, h.1, subst (λ f. Does (make_file cache number) (answers.Temp f) h.0 (Some new)) o.1 h.2); logged = logged }),
       )
 
 pub writers_open : WritersOpen

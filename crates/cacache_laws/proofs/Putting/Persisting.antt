@@ -1,6 +1,6 @@
 -- The content of a put comes to its place: nothing keeps its temporary file from it.
 use Rattle.std.proofs.{Common.{◌≡◌, ◌==◌, ℕ, List, ◌∷◌, ◌++◌, Option, None, Some, Ok, nat_le, length, drop, refl, sym, ap, subst, ◌∙◌, arith, append_assoc}, lemmas.List.Elements.{All-nil, All-cons, All-head, All-tail}}
-use Rattle.std.specs.Prelude.{All, []}
+use Rattle.std.specs.{Prelude.{All, []}, List.{AllByRecursion}}
 use Rattle.hex.specs.Hex.{encode_lower}
 use Rattle.cacache_core.specs.declared.errors.Fault.TheVariants as faults
 use Rattle.cacache_core.specs.{declared.{errors.SerdeCause.{SerdeCause}, integrity.digest.Hash.{Hash}}, Digests.{digest}, Integrity.{hash_of}, PathNames.{Names, names_of, home_of, names_below, IsProperName}, Paths.{content_names, folder_names}}
@@ -107,7 +107,6 @@ module _ (home : Option Names) (t : Tree) (rooted : Rooted t) (is_placed : Place
   folder_made : (c : Commit) (file : PlainTemp) (p : List ℕ) → p ≡ content_folder c.cache c.computed → HasPlace c → Stands t file
       → (made : FoldersMade t (apply t (steps.MakeDirs p) Plain).1 p) → Ready (apply t (steps.MakeDirs p) Plain).1 (persisting c file)
   folder_made c file p is place s made =
-      let new = (apply t (steps.MakeDirs p) Plain).1 in
       let name = place made.names (ap names_of (sym is) ∙ made.named) in (
         still_stands t (apply t (steps.MakeDirs p) Plain).1 p file made s,
         made.names ++ name.0 ∷ [],
@@ -181,8 +180,7 @@ IsNoQuestion step = Unit {0}
 
 -- none of the steps is a question
 abbrev Quiet : Moves → Type 0
-Quiet [] = Unit {0}
-Quiet (m ∷ moves) = IsNoQuestion m.0 × Quiet moves
+Quiet = AllByRecursion (λ (m : PlainStep × PlainAnswer). IsNoQuestion m.0)
 
 no_question : (t : Tree) (s : State) (step : PlainStep) → Ready t s → wants s ≡ Some step → IsNoQuestion step
 no_question t (doing (make_folder p) next) step ready want = some_is IsNoQuestion _ step want tt
@@ -209,10 +207,9 @@ module _ (home : Option Names) (path : List ℕ) (more : List Deed) where
   quiet_deeds : (t : Tree) (moves : Moves) → Quiet moves → deeds (turns_on t moves) ≡ finds path ∷ more → ⊥
   quiet_deeds t [] asks e = absurd cc
   quiet_deeds t (m ∷ moves) asks e =
-      let act = act_of m.0 Plain m.1 in
       let rest = deeds (turns_on (apply t m.0 Plain).1 moves) in
       let whole = sym (append_assoc (deeds_of_act (act_of m.0 Plain m.1)) (finds_in m.0 m.1) (deeds (turns_on (apply t m.0 Plain).1 moves))) ∙ e in
-      quiet_deeds (apply t m.0 Plain).1 moves asks.1 (ap (λ x. x ++ deeds (turns_on (apply t m.0 Plain).1 moves)) (sym (finds_nothing m.0 m.1 asks.0)) ∙ (no_deeds home path more act (finds_in m.0 m.1 ++ rest) whole).0)
+      quiet_deeds (apply t m.0 Plain).1 moves asks.1 (ap (λ x. x ++ deeds (turns_on (apply t m.0 Plain).1 moves)) (sym (finds_nothing m.0 m.1 asks.0)) ∙ (no_deeds home path more (act_of m.0 Plain m.1) (finds_in m.0 m.1 ++ rest) whole).0)
 
 -- no put finds that its content is there: it puts it
 pub puts_find_nothing : (home : Option Names) (site : Site) (p : Put) (t : Tree) (moves : Moves) (r : Reply) (path : List ℕ) (more : List Deed) → Rooted t → Placed home t

@@ -13,7 +13,7 @@ use Rattle.cacache_calls.proofs.{IntegrityUtf8.{integrity_utf8}, Promises.{calls
 use Rattle.cacache_value.specs.{Acts.{PutBytes}, Value.{InFile, value_of_tree}}
 use Rattle.cacache_history.specs.{Commits.{Deed, finds, deeds, CommitsAs, IsCase, IsNotOk, InsertionAdds}, Setup.{call_site, home}, Values.{IsThere}}
 use Rattle.cacache_history.proofs.Contents.Digests.{digest_hash, own_integrity as own_formed}
-use Rattle.cacache_laws.specs.{Beside.{ShareAddress, KeepsBeside, own_integrity, WritesKeep, PlainWritesFit, RemovalsKeep, FitsEntry}, Caches.{HasContent, HasKey, plain_put, setup_at, IsCache, WritesKey, lies_under}, Keeping.{found_under}, Sequence.{Alike, after_deeds, turns_on}, Stored.{own_hash, PutsStore}, OpenWriters.{CommitsBytes, CommitsStore, IsOpened, NothingElse}, Puts.{CommitsLeave, CommitsKeep}, ReadAnswers.{entries_on}, CallErrors.{FailsOnly}, Inserts.{leads_to, InsertsKey, InsertsLast, PlainInsertsFit, KeysJoin, NoneLacks}}
+use Rattle.cacache_laws.specs.{Beside.{ShareAddress, KeepsBeside, own_integrity, WritesKeep, PlainWritesFit, RemovalsKeep, FitsEntry}, Caches.{HasContent, HasKey, plain_put, setup_at, IsCache, WritesKey, lies_under}, Keeping.{found_under}, Sequence.{Alike, after_deeds, turns_on}, Stored.{own_hash, PutsStore}, OpenWriters.{CommitsBytes, CommitsStore, IsOpened, NothingElse}, Puts.{CommitsLeave, CommitsKeep}, ReadAnswers.{entries_on}, CallErrors.{FailsOnly}, Inserts.{InsertsKey, InsertsLast, PlainInsertsFit, KeysJoin, NoneLacks}}
 use Rattle.cacache_laws.proofs.{Putting.{Deeds.{bucket_entries, put_or_found, finds_so, lies_so, adds_keep, PutsIt, commit_leads, lies_or_found, may_lead}, Forms.{bare_written, keyed_formed, has_key}, OpenWriters.{gains_grow, Ended, ended}, Stored.{inserts_add}}, Readings.{Known.{Known, known, excused_by, excuse}, Looking.{finds_last}}, Calls.CallErrors.{calls_fail_only, inserts_fail}}
 use Rattle.cacache_calls.specs.declared.command.Command.TheVariants as commands
 use Rattle.cacache_calls.specs.declared.reply.Reply.TheVariants as replies

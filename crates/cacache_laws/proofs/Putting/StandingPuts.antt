@@ -5,7 +5,7 @@ use Rattle.cacache_laws.proofs.{Readings.{Standing.{caches_stand}, Known.{excuse
 use Rattle.std.proofs.{Common.{◌≡◌, ◌⊎◌, inl, inr, ℕ, List, [], ◌∷◌, ◌++◌, Option, None, Some, Result, Ok, Err, map, refl, sym, ap, subst, ◌∙◌, append-nil, length}, lemmas.List.Elements.{All-nil}}
 use Rattle.std.specs.Prelude.{IfOk}
 use Rattle.cacache_core.specs.{declared.{errors.{Error.{Error}, Fault.{Fault}}, integrity.{digest.Hash.{Hash}, algorithm.Algorithm.{Algorithm}}}, PathNames.{Names, names_of, home_of}, Integrity.{integrity_under}, Texts.{integrity_text}}
-use Rattle.cacache_store.specs.{Fits.{Fits}, Plain.{PlainStep, PlainAnswer}, declared.store.log.LogItem.{LogItem, TheVariants.{Made}}}
+use Rattle.cacache_store.specs.{Fits.{Fits}, Plain.{PlainAnswer}, declared.store.log.LogItem.{LogItem, TheVariants.{Made}}}
 use Rattle.cacache_disk.specs.{declared.{luck.Luck.TheVariants.{Plain}, node.Node.{Node, TheVariants.{Link}}}, Apply.{apply}, Rooted.{Rooted}, Tree.{Tree, look}, memory.Replay.{tree_of}}
 use Rattle.cacache_disk.proofs.KeptFolders.{steps_keep_rooted}
 use Rattle.cacache_entry.{specs.FittingEntries.{IsEntry}, proofs.EntryCauses.{Fits-no_cause}}
@@ -49,9 +49,6 @@ pub turns_there : (s : Setup) (turns : List Turn) → TurnsHold s turns → Turn
 turns_there s [] h = tt
 turns_there s (turn ∷ turns) h = (held_there turn h.0.rooted h.0.answered h.0.fits, turns_there s turns h.1)
 
-any_turn : (t : Tree) (step : PlainStep) (a : PlainAnswer) → Rooted t → a ≡ (apply t step Plain).0 → Fits step a → TurnHolds nowhere (turn_of t Plain (step, a))
-any_turn t step a rooted answered fits = held_there (turn_of t Plain (step, a)) rooted answered fits
-
 -- ---- a run
 
 module _ (s : Setup) (apart : LieApart (home s) s.outside) (n : ℕ) (command : Command) where
@@ -76,7 +73,7 @@ module _ (s : Setup) (apart : LieApart (home s) s.outside) (n : ℕ) (command : 
       let proper = sound_proper s n apart state m.0 sound run.0 in
       record {
         trace = (proper, answered.0, more.trace);
-        hold = (any_turn t m.0 m.1 rooted answered.0 run.1, more.hold);
+        hold = (held_there (turn_of t Plain m) rooted answered.0 run.1, more.hold);
         makes = (carries_makes (own_of (call_site s n) command) state m.0 carries run.0, more.makes);
         placed = λ h. more.placed (steps_keep_placed (home s) t m.0 Plain h proper);
         rooted = more.rooted;

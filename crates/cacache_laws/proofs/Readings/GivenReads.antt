@@ -2,7 +2,7 @@
 -- What is known of a cache stays while it holds the same, and a lookup finds what its key leads to.
 -- A question whether a content is there is answered by what the cache has.
 use Rattle.std.proofs.Common.{◌≡◌, inl, inr, ℕ, Bool, true, false, cond, List, [], Option, None, Some, Result, Ok, Err, refl, sym, ap, subst, ◌∙◌, ◌⊎◌, ◌∷◌}
-use Rattle.cacache_core.specs.{declared.{errors.{Error.{TheVariants.{EntryNotFound, IoError, IntegrityError, OutOfMemory, SizeMismatch, SerdeError}, Error}, Fault.{Fault}, IntegrityFault.TheVariants.{Check}}, integrity.digest.Hash.{Hash}}, Integrity.{Meets, actual}, Meeting.{meets}, PathNames.{home_of}}
+use Rattle.cacache_core.specs.{declared.{errors.{Error.{TheVariants.{EntryNotFound, IoError, IntegrityError, OutOfMemory}, Error}, Fault.{Fault}, IntegrityFault.TheVariants.{Check}}, integrity.digest.Hash.{Hash}}, Integrity.{Meets, actual}, Meeting.{meets}, PathNames.{home_of}}
 use Rattle.cacache_core.proofs.Meeting.{meets_finds}
 use Rattle.cacache_store.specs.{declared.store.log.LogItem.{LogItem}, Plain.{PlainStep, PlainAnswer}}
 use Rattle.cacache_disk.specs.{memory.Replay.{tree_of}, declared.luck.Luck.TheVariants.{Plain}, Tree.{Tree}, Apply.{apply}}
@@ -261,11 +261,7 @@ never_yes a = tt
 plainly_absent : (r : Reply) → SaysAbsent (plain_reply r) → SaysAbsent r
 plainly_absent (replies.Exists false) h = tt
 plainly_absent (replies.Refused OutOfMemory) h = refl
-plainly_absent (replies.Refused (IoError fault message)) h = absurd cc
-plainly_absent (replies.Refused (EntryNotFound c key)) h = absurd cc
-plainly_absent (replies.Refused (SizeMismatch wanted actual)) h = absurd cc
-plainly_absent (replies.Refused (SerdeError cause message)) h = absurd cc
-plainly_absent (replies.Refused (IntegrityError fault)) h = absurd cc
+plainly_absent (replies.Refused e) h = absurd cc
 plainly_absent r h = absurd h
 
 pub asks_absent : AsksAbsent

@@ -82,10 +82,9 @@ module _ (s : Setup) (a : Hash) (is : IsHash a) (more : List Deed) where
   found_before t [] placed trace hold e = absurd cc
   found_before t (m ∷ moves) placed trace hold e =
       let rest = deeds (turns_on (apply t m.0 Plain).1 moves) in
-      let act = act_of m.0 Plain m.1 in
       let whole : deeds_of_act (act_of m.0 Plain m.1) ++ (finds_in m.0 m.1 ++ deeds (turns_on (apply t m.0 Plain).1 moves)) ≡ finds (content_path s.cache (a ∷ [])) ∷ more
       = sym (append_assoc (deeds_of_act (act_of m.0 Plain m.1)) (finds_in m.0 m.1) (deeds (turns_on (apply t m.0 Plain).1 moves))) ∙ e in
-      let n = no_deeds (home s) (content_path s.cache (a ∷ [])) more act (finds_in m.0 m.1 ++ rest) whole in
+      let n = no_deeds (home s) (content_path s.cache (a ∷ [])) more (act_of m.0 Plain m.1) (finds_in m.0 m.1 ++ rest) whole in
       let same : (wide_value (home s) (apply t m.0 Plain).1).contents a ≡ (wide_value (home s) t).contents a
       = ap (λ (v : Value). v.contents a) (steps_act (home s) t m.0 Plain placed trace.0)
       ∙ ap (λ x. (change (home s) (act_of m.0 Plain x) (wide_value (home s) t)).contents a) (sym trace.1) ∙ n.1 (wide_value (home s) t) a in

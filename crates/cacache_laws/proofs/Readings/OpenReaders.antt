@@ -65,15 +65,18 @@ module _ (path : List ℕ) (old new : List LogItem) where
   errs OutOfMemory (inr h) = failed_at OutOfMemory h.0 (inl refl) h.1
   errs e h = absurd h
 
+  pub opens_file : (file : PlainFile) → Gains (Some old) (Some new) ((steps.Open path, answers.File file) ∷ []) → Opened path (Ok file) old new
+  opens_file file h = record {
+    moves = (steps.Open path, answers.File file) ∷ [];
+    gains = h;
+    only = inr (answers.File file, refl);
+    file = λ f is. (let same : file ≡ f = cc in ap (λ g. (steps.Open path, answers.File g) ∷ []) same);
+    excused = λ e none. absurd cc;
+  }
+
 pub opened_by : (cache : List ℕ) (i : List Hash) (r : Result PlainFile Error) (old new : List LogItem) → OpensContent cache i r (Some old) (Some new) → Opened (content_path cache i) r old new
 opened_by cache i (Err e) old new h = errs (content_path cache i) old new e h
-opened_by cache i (Ok file) old new h = record {
-  moves = (steps.Open (content_path cache i), answers.File file) ∷ [];
-  gains = h;
-  only = inr (answers.File file, refl);
-  file = λ f is. (let same : file ≡ f = cc in ap (λ g. (steps.Open (content_path cache i), answers.File g) ∷ []) same);
-  excused = λ e none. absurd cc;
-}
+opened_by cache i (Ok file) old new h = opens_file (content_path cache i) old new file h
 
 only_keeps : (t : Tree) (path : List ℕ) (moves : Moves) → (moves ≡ []) ⊎ ((a : PlainAnswer) × (moves ≡ (steps.Open path, a) ∷ [])) → tree_on t moves ≡ t
 only_keeps t path moves (inl none) = ap (tree_on t) none

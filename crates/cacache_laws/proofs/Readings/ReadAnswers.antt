@@ -139,24 +139,19 @@ module _ (s : Setup) (r : Reply) where
   one_read : (t : Tree) (m : PlainStep × PlainAnswer) (path : List ℕ) → m.0 ≡ steps.ReadAll path → (apply t m.0 Plain).1 ≡ t
   one_read t m path is = ap (λ x. (apply t x Plain).1) is ∙ reading_keeps t path
 
-  only_one : (t : Tree) (m : PlainStep × PlainAnswer) (moves : Moves) (path : List ℕ) → turns_on (apply t m.0 Plain).1 moves ≡ [] → m.0 ≡ steps.ReadAll path
-      → tree_on (apply t m.0 Plain).1 moves ≡ t
-  only_one t m moves path none is =
-      ap (tree_on (apply t m.0 Plain).1) (no_moves (apply t m.0 Plain).1 moves none) ∙ one_read t m path is
+  -- one read, and nothing else
+  only_one : (t : Tree) (path : List ℕ) (moves : Moves) (turn : Turn) → turns_on t moves ≡ turn ∷ [] → turn.move.step ≡ steps.ReadAll path → tree_on t moves ≡ t
+  only_one t path [] turn e is = refl
+  only_one t path (m ∷ moves) turn e is =
+      let first : turn_of t Plain m ≡ turn = cc in
+      let none : turns_on (apply t m.0 Plain).1 moves ≡ [] = cc in
+      ap (tree_on (apply t m.0 Plain).1) (no_moves (apply t m.0 Plain).1 moves none) ∙ one_read t m path (ap (λ (x : Turn). x.move.step) first ∙ is)
 
   read_keeps : (t : Tree) (i : List Hash) (moves : Moves) → ReadsHeld s i (turns_on t moves) r → tree_on t moves ≡ t
-  read_keeps t i [] h = refl
-  read_keeps t i (m ∷ moves) h =
-      let first : turn_of t Plain m ≡ h.0 = cc in
-      let none : turns_on (apply t m.0 Plain).1 moves ≡ [] = cc in
-      only_one t m moves (content_path s.cache i) none (ap (λ (turn : Turn). turn.move.step) first ∙ h.2)
+  read_keeps t i moves h = only_one t (content_path s.cache i) moves h.0 h.1 h.2
 
   lookup_keeps : (t : Tree) (key : List ℕ) (moves : Moves) → FindsHeld s key (turns_on t moves) r → tree_on t moves ≡ t
-  lookup_keeps t key [] h = refl
-  lookup_keeps t key (m ∷ moves) h =
-      let first : turn_of t Plain m ≡ h.0 = cc in
-      let none : turns_on (apply t m.0 Plain).1 moves ≡ [] = cc in
-      only_one t m moves (bucket_path s.cache key) none (ap (λ (turn : Turn). turn.move.step) first ∙ h.2)
+  lookup_keeps t key moves h = only_one t (bucket_path s.cache key) moves h.0 h.1 h.2
 
   next_keeps : (t : Tree) (key : List ℕ) (o : Result (Option Found) Refusal) (moves : Moves) → ReadsNext s key o (turns_on t moves) r → tree_on t moves ≡ t
   next_keeps t key (Ok (Some f)) moves h = read_keeps t f.integrity moves h

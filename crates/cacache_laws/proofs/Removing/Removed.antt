@@ -93,7 +93,7 @@ uncut : {A : Type 0} (old : Option A) (here : Bool) → (here ≡ true → ⊥) 
 uncut old true never = absurd (never refl)
 uncut old false never = refl
 
-not_content : (a : Hash) (d : List ℕ) → content_names a ≡ bucket_names_of d → ⊥
+pub not_content : (a : Hash) (d : List ℕ) → content_names a ≡ bucket_names_of d → ⊥
 not_content a d e = absurd cc
 
 module _ (cache path : List ℕ) (v : Value) where

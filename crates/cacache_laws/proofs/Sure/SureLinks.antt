@@ -161,9 +161,8 @@ module _ (cache : List ℕ) (home : Names) (is : names_of cache ≡ Ok home) (ol
   pub whole_of : (target : Target ℕ) → target.cache ≡ cache → IsFor (Some home) Elsewhere target.path → (r : Result (List ℕ) Fault) → file_at t target.path faults.IsADirectory ≡ r
       → EndsSo (λ new x. x ≡ link_reply target old r) t (sizing target)
   whole_of target here apart (Err fault) e =
-      let wanted = Refused (IoError fault []) in
       goes (λ new x. x ≡ Refused (IoError fault [])) t t (sizing target) (steps.Size target.path) (answers.Failed fault) refl (sizes_as t target.path (Err fault) e)
-      (ends (λ new x. x ≡ Refused (IoError fault [])) t wanted refl)
+      (ends (λ new x. x ≡ Refused (IoError fault [])) t (Refused (IoError fault [])) refl)
   whole_of target here apart (Ok held) e =
       let Q : Tree → Reply → Type 0 = λ new x. x ≡ link_reply target old (Ok held) in
       let sized = with_size target (length held) in

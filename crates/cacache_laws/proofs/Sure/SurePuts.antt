@@ -29,9 +29,6 @@ module _ (cache : List ℕ) (home : Names) (is : names_of cache ≡ Ok home) (p 
 
 -- ---- from a full temporary file on
 
-ok_same : (a b : Names) → ◌≡◌ {A = Result Names Fault} (Ok a) (Ok b) → a ≡ b
-ok_same a b e = cc
-
 module _ (cache : List ℕ) (home : Names) (is : names_of cache ≡ Ok home) (p : Put) (number : ℕ) (t : Tree) (g : Ground home t) (file : PlainTemp) (s : Stands t file) (path_is : file.path ≡ temp_path cache number) where
   abbrev h : Hash
   h = hash_of p.options.algorithm (digest p.options.algorithm p.data)
@@ -97,8 +94,8 @@ module _ (cache : List ℕ) (home : Names) (is : names_of cache ≡ Ok home) (p 
   -- the file's names are those of its path
   own_names : s.names ≡ own
   own_names =
-      let both : Ok s.names ≡ Ok own = sym s.named ∙ ap names_of path_is ∙ (temp_lies cache home is number).named in
-      ok_same s.names own both
+      let both : ◌≡◌ {A = Result Names Fault} (Ok s.names) (Ok own) = sym s.named ∙ ap names_of path_is ∙ (temp_lies cache home is number).named in
+      cc
 
   gone : look stored own ≡ None
   gone =
@@ -107,11 +104,10 @@ module _ (cache : List ℕ) (home : Names) (is : names_of cache ≡ Ok home) (p 
 
   secured_ends : Plays (Ended (put_reply cache p)) stored (secured (put_commit cache p))
   secured_ends =
-      let Q = Ended (put_reply cache p) in
       let placed_now = placed_ends cache home is p own (own_temporary_at cache home is number) stored stored_ground gone in
       cond_leads (Plays (Ended (put_reply cache p)) stored) p.options.durable _ _
       (λ durable.
-      syncs Q stored (placed (put_commit cache p)) (content_folders cache (put_commit cache p).computed)
+      syncs (Ended (put_reply cache p)) stored (placed (put_commit cache p)) (content_folders cache (put_commit cache p).computed)
       (content_synced cache home is h [] hash stored (File s.bytes) stored_ground.rooted (look_own (cut made s.names) (home ++ content_names h) (File s.bytes))) placed_now)
       (λ plain. placed_now)
 

@@ -1,8 +1,8 @@
 -- If no temporary file is there, no other step of a call makes one.
-use Rattle.std.proofs.Common.{◌≡◌, ℕ, cond, List, [], ◌∷◌, Option, None, Some, sym, ap, ◌∙◌}
+use Rattle.std.{proofs.Common.{◌≡◌, ℕ, cond, List, [], ◌∷◌, Option, None, Some, sym, ap, ◌∙◌}, specs.List.{AllByRecursion}}
 use Rattle.cacache_core.specs.PathNames.{Names}
 use Rattle.cacache_store.specs.declared.store.step.Step.TheVariants as steps
-use Rattle.cacache_store.specs.Plain.{PlainStep}
+use Rattle.cacache_store.specs.Plain.{PlainStep, PlainAnswer}
 use Rattle.cacache_disk.specs.{declared.{luck.Luck.TheVariants.{Plain}, node.Node.{Node}}, Tree.{Tree, look, put, same_path}, Apply.{apply}}
 use Rattle.cacache_disk.proofs.{Maps.{same_path-true}, PutNodes.{look-put}, Roots.{not_true}}
 use Rattle.cacache_value.specs.{Kinds.{PathKind, Temporary, Way, path_kind, IsFor}, Placed.{Placed, Proper}, Traces.{IsTrace}}
@@ -22,8 +22,7 @@ put_apart t p q node apart e =
 
 -- none of the moves does
 abbrev pub NoneCreates : Names → Moves → Type 0
-NoneCreates q [] = Unit {0}
-NoneCreates q (m ∷ moves) = (Creates q m.0 → ⊥) × NoneCreates q moves
+NoneCreates q = AllByRecursion (λ (m : PlainStep × PlainAnswer). Creates q m.0 → ⊥)
 
 module _ (home : Option Names) (q : Names) (temporary : path_kind home q ≡ Temporary) where
   -- a path for something else is another path

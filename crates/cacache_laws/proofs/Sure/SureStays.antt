@@ -1,8 +1,8 @@
 -- A temporary file stays as long as calls don't move it and remove nothing.
-use Rattle.std.proofs.Common.{◌≡◌, ℕ, Bool, true, false, List, [], ◌∷◌, ◌++◌, Option, None, Some, Result, Ok, Err, refl, sym, ap, subst, ◌∙◌}
+use Rattle.std.{proofs.Common.{◌≡◌, ℕ, Bool, true, false, List, [], ◌∷◌, ◌++◌, Option, None, Some, Result, Ok, Err, refl, sym, ap, subst, ◌∙◌}, specs.List.{AllByRecursion}}
 use Rattle.cacache_core.specs.{declared.errors.Fault.{Fault}, PathNames.{Names, names_of, home_of, names_below}, Paths.{temp_names}}
 use Rattle.cacache_core.specs.declared.errors.Fault.TheVariants as faults
-use Rattle.cacache_store.specs.{declared.store.log.LogItem.{LogItem}, Plain.{PlainStep}}
+use Rattle.cacache_store.specs.{declared.store.log.LogItem.{LogItem}, Plain.{PlainStep, PlainAnswer}}
 use Rattle.cacache_store.specs.declared.store.step.Step.TheVariants as steps
 use Rattle.cacache_disk.specs.{declared.{luck.Luck.TheVariants.{Plain}, node.Node.{Node, TheVariants.{File}}}, Tree.{Tree, look}, Apply.{apply}, memory.Replay.{tree_of}}
 use Rattle.cacache_calls.specs.{declared.{command.Command.{Command}, reply.Reply.{Reply}}, Licence.{AllMay, Licence, May, allows}, Runs.{Moves, Runs}, Sound.{Allowed, MayBegin, Sound}, State.{Site, State}, StepPaths.{temp_path}, Table.{after, opening}}
@@ -18,8 +18,7 @@ use Rattle.cacache_laws.proofs.{Calls.InParts.{logs_lead}, Spares.Unused.{calls_
 
 -- none of the moves does
 abbrev NoneTakes : Names → Moves → Type 0
-NoneTakes q [] = Unit {0}
-NoneTakes q (m ∷ moves) = (Takes q m.0 → ⊥) × NoneTakes q moves
+NoneTakes q = AllByRecursion (λ (m : PlainStep × PlainAnswer). Takes q m.0 → ⊥)
 
 module _ (home : Option Names) (q : Names) (temporary : path_kind home q ≡ Temporary) (node : Node) where
   -- it is there

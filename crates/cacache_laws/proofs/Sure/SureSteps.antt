@@ -1,6 +1,6 @@
 -- What a step does on a tree that lets it succeed.
 use Rattle.std.proofs.{Common.{◌≡◌, ◌<◌, ℕ, true, cond, List, [], ◌∷◌, ◌++◌, Option, None, Some, Ok, Err, length, take, refl, sym, ap, subst, ◌∙◌, arith, append_assoc}, lemmas.List.Elements.{All-head, All-tail}}
-use Rattle.std.specs.Prelude.{All, IfOk}
+use Rattle.std.specs.{Prelude.{All, IfOk}, List.{AllByRecursion}}
 use Rattle.cacache_core.specs.{declared.errors.Fault.{Fault}, PathNames.{Names, names_of, names_below, IsProperName, home_of}, Paths.{join, joined, folders_to}}
 use Rattle.cacache_core.proofs.JoinedNames.{joined_texts_name}
 use Rattle.cacache_core.specs.declared.errors.Fault.TheVariants as faults
@@ -92,8 +92,7 @@ syncs_dir t p names rooted is there = rw (place_at t p names Folder rooted is th
 
 -- each of these folders is
 abbrev pub SyncsAll : Tree → List (List ℕ) → Type 0
-SyncsAll t [] = Unit {0}
-SyncsAll t (p ∷ ps) = (apply t (steps.SyncDir p) Plain ≡ (answers.Done, t)) × SyncsAll t ps
+SyncsAll t = AllByRecursion (λ (p : List ℕ). apply t (steps.SyncDir p) Plain ≡ (answers.Done, t))
 
 -- the folders that lead to what is there are synced too
 pub syncs_folders : (t : Tree) (p : List ℕ) (above ns : Names) (node : Node) → Rooted t → names_of p ≡ Ok above → All IsProperName ns → look t (above ++ ns) ≡ Some node → SyncsAll t (folders_to p ns)

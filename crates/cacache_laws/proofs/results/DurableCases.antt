@@ -5,7 +5,7 @@ use Rattle.cacache_core.specs.{PathNames.{Names, names_of}, Paths.{bucket_names,
 use Rattle.cacache_store.specs.Plain.{PlainStep, PlainAnswer}
 use Rattle.cacache_disk.{specs.{declared.luck.Luck.TheVariants.{Plain}, Tree.{Tree, bare}}, proofs.Roots.{bare_below}}
 use Rattle.cacache_entry.{specs.Entry.{Entry}, proofs.EntryCauses.{no_cause_is_fit}}
-use Rattle.cacache_calls.specs.{Answers.{done_in, there_in}, Effects.{Commits, Effect, Indexes, effect, effects_of, if_done, if_there, sent, stored}, Runs.{Moves, Goes}, declared.{answers.Refusal.{Refusal}, carried.Commit.{Commit}, reply.Reply.{Reply, TheVariants.{Stored}}, command.{Command.{Command}, Insert.{Insert}, Put.{Put}}}, Inserting.{insert, insertion, refused_cause, unless_refused}, State.{State, over, Insertion}, StepPaths.{bucket_folder, temp_folder}, Storing.{insertion_of, put_commit}, Sound.{MayBegin}, Table.{opening, wants}}
+use Rattle.cacache_calls.specs.{Answers.{done_in, there_in}, Effects.{Commits, Effect, Indexes, effect, effects_of, if_done, if_there, sent, stored}, Runs.{Moves, Goes}, declared.{answers.Refusal.{Refusal}, carried.Commit.{Commit}, reply.Reply.{Reply, TheVariants.{Stored}}, command.{Command.{Command}, Put.{Put}}}, Inserting.{insert, insertion, refused_cause, unless_refused}, State.{State, over, Insertion}, StepPaths.{bucket_folder, temp_folder}, Storing.{insertion_of, put_commit}, Sound.{MayBegin}, Table.{opening, wants}}
 use Rattle.cacache_calls.proofs.{Effects.{puts_commit}, Going.{goes_over}}
 use Rattle.cacache_history.specs.{History.{Made, Call, History, IsLegal, NamesIntegrity, Now, initial, new_call, replayed}, Values.{steps_of, value_at}, declared.record.Record.{Record, TheVariants.{Began, Moved, Stopped}}, durable.{Behind.{NoneAppends, appends_at}, Outlasting.{IsAppendOf, DurablePut, IsNoLink}, Ending.{CallEndsWith, EndsFrom}, QuietMoves.{AreQuiet, IsQuietMove, PutsDurably}}, AddedEntries.{address_of_put}, Setup.{Setup, call_site, home, is_outside, may_export}}
 use Rattle.cacache_laws.proofs.{results.SureResults.{records_of, quiet_more, records_end, records_legal, records_quiet}, Sure.{SureInserts.{Inserted, inserts_so}, SurePlays.{Plays}, SurePuts.{PutSo, puts_so}, SureSteps.{Ground}, SureTemps.{own_temporary_at}}, trees.Covering.{home_named}}
@@ -164,15 +164,9 @@ no_links cache command records address target e = let none : None ≡ Some (AtLi
 
 -- ---- the laws
 
-insert_quiet : (n : Insert) (call : Call) (m : Made) → call.command ≡ commands.Insert n → IsQuietMove [] (Some call) (Some m)
-insert_quiet n call m e = rw e (refl, tt)
-
 puts_durably : (content : Names) (p : Put) (step : PlainStep) → p.options.durable ≡ true → PutsDurably content (commands.Put p) step
 puts_durably content p (steps.Persist f to) durable = λ named. durable
 puts_durably content p step durable = tt
-
-put_quiet : (path : Names) (p : Put) → p.options.durable ≡ true → (call : Call) (m : Made) → call.command ≡ commands.Put p → IsQuietMove path (Some call) (Some m)
-put_quiet path p durable call m e = rw e (refl, puts_durably path p m.0 durable)
 
 no_cause : (j : Insertion) → CanBeWritten j.entry → refused_cause j ≡ None
 unfolding refused_cause
@@ -200,7 +194,7 @@ inserts_stand cache folder n is durable can =
         reply = j.reply;
         call = alone_ends cache _ (commands.Insert n) m;
         stored = (_, refl);
-        quiet = alone_quiet cache _ (commands.Insert n) m [] (insert_quiet n);
+        quiet = alone_quiet cache _ (commands.Insert n) m [] (λ call made e. rw e (refl, tt));
       },
     )
 
@@ -231,7 +225,7 @@ module _ (cache : List ℕ) (folder : Names) (p : Put) (is : names_of cache ≡ 
   put_rest = rest cache own (commands.Put p) put_moves
 
   put_alone_quiet : AreQuiet (setup_of cache) path (begun cache own (commands.Put p) put_moves) put_rest
-  put_alone_quiet = alone_quiet cache own (commands.Put p) put_moves path (put_quiet path p durable)
+  put_alone_quiet = alone_quiet cache own (commands.Put p) put_moves path (λ call made e. rw e (refl, puts_durably path p made.0 durable))
 
   -- it is in such a history if its records are among these
   abbrev put_in : (records : List Record) → EndsFrom (begins_with cache own (commands.Put p) put_moves records) (Began 0 (commands.Put p) ∷ []) records (commands.Put p) (Stored own)

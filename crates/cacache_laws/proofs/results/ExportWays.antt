@@ -13,14 +13,12 @@ use Rattle.cacache_laws.specs.{Caches.{Grows, IsCache, IsExcused}, ExportEffects
 use Rattle.cacache_laws.proofs.{Calls.{Logs.{excuses_last, growths_join}, CallErrors.{excused_error}}, Exports.Exported.{exports_arrive}, Readings.Standing.{caches_stand}, Sure.{SureCopies.{exports_succeed}, SureExports.{exports_answer}}, results.{ExportResults.{Answered, fails_so, is_given, leaves, may_take, refuses_so}, JoinedResults.{leavings_join}, SureResults.{IsGiven, for_memory}, Told.{called, front, steps_grow}}}
 
 plain : (e : Exported) → plain_reply (export_reply e) ≡ export_reply e
-plain exporteds.Reflinked = refl
-plain exporteds.HardLinked = refl
 plain (exporteds.Copied count) = refl
+plain e = refl
 
 given : (e : Exported) → IsGiven (export_reply e)
-given exporteds.Reflinked = tt
-given exporteds.HardLinked = tt
 given (exporteds.Copied count) = tt
+given e = tt
 
 -- ---- a way that is closed
 
@@ -59,9 +57,8 @@ module _ (cache : List ℕ) (source : Source) (to : List ℕ) where
 
   later : (r : Result Exported Error) (bytes : List ℕ) (old mid new : List LogItem) → Grows old mid → MatchResult r (λ e. Arrives bytes to (export_reply e) mid new) (λ e. IsExcused e mid new)
       → MatchResult r (λ e. Arrives bytes to (export_reply e) old new) (λ e. IsExcused e old new)
-  later (Ok exporteds.Reflinked) bytes old mid new g h = h
-  later (Ok exporteds.HardLinked) bytes old mid new g h = h
   later (Ok (exporteds.Copied count)) bytes old mid new g h = h
+  later (Ok e) bytes old mid new g h = h
   later (Err e) bytes old mid new g h = excuses_last e old mid new g h
 
   stays_on : (r : Result Exported Error) (old mid new : List LogItem) → tree_of mid ≡ tree_of old → IfErr r (λ e. (e ≡ OutOfMemory) ⊎ (tree_of new ≡ tree_of mid)) → IfErr r (λ e. (e ≡ OutOfMemory) ⊎ (tree_of new ≡ tree_of old))

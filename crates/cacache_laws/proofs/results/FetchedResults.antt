@@ -1,5 +1,5 @@
 -- What comes of a read that fetches and stores what is lacking.
-use Rattle.std.proofs.{Common.{◌≡◌, ◌⊎◌, inl, inr, ◌<◌, ◌^◌, ℕ, List, Option, None, Some, Vec, Global, Result, Ok, Err, length, refl, sym, ap, subst, ◌∙◌}, lemmas.Result.{IfOk-weaker}}
+use Rattle.std.proofs.{Common.{◌≡◌, inl, inr, ◌<◌, ◌^◌, ℕ, List, Option, None, Some, Vec, Global, Result, Ok, Err, length, refl, sym, ap, subst, ◌∙◌}, lemmas.Result.{IfOk-weaker}}
 use Rattle.std.specs.Prelude.{IfOk, IfSome, IsUtf8, MatchResult}
 use Rattle.sha1.specs.Sha1.{sha1}
 use Rattle.cacache_core.specs.{declared.{errors.{Error.{Error, TheVariants.{IoError, IntegrityError, OutOfMemory}}, Fault.TheVariants.{NotFound}, IntegrityFault.TheVariants.{Check}}, integrity.{algorithm.Algorithm.TheVariants.{Sha256}, digest.Hash.{Hash}}}, Integrity.{IsIntegrity}, PathNames.{home_of}}

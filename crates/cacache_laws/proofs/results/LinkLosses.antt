@@ -1,11 +1,11 @@
 -- What losses leave of durable puts that found a link, in a legal history.
-use Rattle.std.proofs.Common.{◌≡◌, ◌⊎◌, inl, inr, ℕ, List, [], ◌∷◌, ◌++◌, None, Some, Ok, refl, sym, ap, subst, ◌∙◌, append-nil}
+use Rattle.std.proofs.Common.{◌≡◌, ◌⊎◌, inl, inr, ℕ, List, [], ◌∷◌, ◌++◌, Some, Ok, refl, sym, ap, subst, ◌∙◌, append-nil}
 use Rattle.cacache_core.specs.{declared.errors.Fault.TheVariants.{IsADirectory}, PathNames.{Names}}
 use Rattle.cacache_disk.specs.{declared.node.Node.TheVariants.{File}, Apply.{apply}, LedTo.{file_at, followed, leads, place, standing}, Rooted.{Rooted}, Tree.{Tree, look}}
 use Rattle.cacache_disk.proofs.Standing.{way_clear}
 use Rattle.cacache_calls.specs.declared.command.Put.{Put}
 use Rattle.cacache_value.specs.{Shows.{blob_bytes, link_end}, Traces.{IsTrace}, Value.{AtLink, value_of_tree}}
-use Rattle.cacache_history.specs.{declared.record.Record.{Record, TheVariants.{Began, Moved, Stopped}}, AddedEntries.{address_of_put}, History.{History, IsLegal, initial}, LinkedContents.{StaysHeld}, Setup.{home}, Values.{steps_of}, durable.{FewCalls.{FewCalls}, Outlasting.{AnsweredPut, FoundLink, moment_at}}}
+use Rattle.cacache_history.specs.{declared.record.Record.{Record, TheVariants.{Moved}}, AddedEntries.{address_of_put}, History.{History, IsLegal, initial}, LinkedContents.{StaysHeld}, Setup.{home}, Values.{steps_of}, durable.{FewCalls.{FewCalls}, Outlasting.{AnsweredPut, FoundLink, moment_at}}}
 use Rattle.cacache_history.proofs.{Contents.{Digests.{digest_hash}, LinkedContents.{links_are_right}}, durable.{Outlasting.{entries_have_behind, puts_or_links_outlast}, Traces.{made_move, of_cache_at, trace_at, tree_at}}}
 use Rattle.cacache_loss.specs.{Loss.{Loss}, LostTrees.{OfCache, StoodWell}, LostValues.{HoldsContent, LeftOf}, Moments.{EachMove, Moment, next}, Syncs.{Leaves}}
 use Rattle.cacache_loss.proofs.LostTrees.{losses_leave_trees}
@@ -17,17 +17,13 @@ use Rattle.cacache_laws.proofs.results.{OutsideSteps.{links_lead_unchanged}, Unc
 module _ (h : History) (legal : IsLegal h) where
   each_front : (at : Names) (w : Moment) (more later : List Record) → EachMove (Leaves at) w (steps_of (more ++ later)) → EachMove (Leaves at) w (steps_of more)
   each_front at w [] later leaves = tt
-  each_front at w (Began caller command ∷ more) later leaves = each_front at w more later leaves
-  each_front at w (Moved caller luck None reply ∷ more) later leaves = each_front at w more later leaves
   each_front at w (Moved caller luck (Some made) reply ∷ more) later leaves = (leaves.0, each_front at (next w (made_move luck made)) more later leaves.1)
-  each_front at w (Stopped caller ∷ more) later leaves = each_front at w more later leaves
+  each_front at w (r ∷ more) later leaves = each_front at w more later leaves
 
   trace_front : (t : Tree) (more later : List Record) → IsTrace (home h.setup) t (steps_of (more ++ later)) → IsTrace (home h.setup) t (steps_of more)
   trace_front t [] later trace = tt
-  trace_front t (Began caller command ∷ more) later trace = trace_front t more later trace
-  trace_front t (Moved caller luck None reply ∷ more) later trace = trace_front t more later trace
   trace_front t (Moved caller luck (Some made) reply ∷ more) later trace = (trace.0, trace.1, trace_front (apply t made.0 luck).1 more later trace.2)
-  trace_front t (Stopped caller ∷ more) later trace = trace_front t more later trace
+  trace_front t (r ∷ more) later trace = trace_front t more later trace
 
   module _ (target bytes : List ℕ) (file : StaysUnchanged h target bytes) where
     -- at each place it is there, all of it synced

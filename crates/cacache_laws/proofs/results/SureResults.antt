@@ -99,8 +99,7 @@ module _ (c : Commit) (r : Result (List Hash) Error) (old : List LogItem) (writt
   by_key : (key : Option (List ℕ)) → c.key ≡ key → OrMemory (reply_of Stored r ≡ keyed_reply c key) (reply_of Stored r) → FailsForMemory r
   by_key None is h = for_memory Stored r (Stored c.computed) tt h
   by_key (Some key) is h =
-      let i = insertion_of c key in
-      for_memory Stored r (Stored (given_or c.computed c.options.integrity)) tt (or_as (reply_of Stored r) (ap (unless_unwritable i.reply) (written key is)) h)
+      for_memory Stored r (Stored (given_or c.computed c.options.integrity)) tt (or_as (reply_of Stored r) (ap (unless_unwritable (insertion_of c key).reply) (written key is)) h)
 
   pub commit_succeeds : OrMemory (reply_of Stored r ≡ linked_reply c old) (reply_of Stored r) → FailsForMemory r
   commit_succeeds h = by_key c.key refl (or_as (reply_of Stored r) replies_so h)

@@ -12,7 +12,7 @@ use Rattle.cacache_calls.proofs.IntegrityUtf8.{integrity_utf8}
 use Rattle.cacache_jobs.specs.{Environment.{HasMoment}, Sites.{site_of}}
 use Rattle.cacache_sync.specs.put.{Options.{Said, options_of}, Puts.{insert_of, unkeyed_put}, LinkCalls.{link_to}}
 use Rattle.cacache_laws.specs.{Beside.{FitsEntry, KeepsBeside}, Caches.{Called, IsCache, HasContent, HasKey, IsExcused, WritesKey, plain_put, lies_under}, Inserts.{InsertsKey, leads_to}, Keeping.{found_under}, Puts.{MayLeadToPut}, Standing.{IsStanding, PutStands}, Succeeds.{NamesFolder, IsReady, put_reply, unless_unwritable}, results.{Success.{FailsForMemory}, Writes.{ContentWriteMeans, InsertionMeans, KeepsUntouched, SaysPlain, WriteMeans}, Losses.{LeftWriteMeans}, Links.{ContentLinkMeans, LiesLinked, LinkMeans, LinkedFile, LinksBytes}}, CallErrors.{IsPlainPut}, ExportEffects.{IsApart}, LinkAnswers.{link_reply, target_bytes}, Links.{FitsLink, HasLinked, LeavesLink, put_like}}
-use Rattle.cacache_laws.proofs.{Putting.{Puts.{plain_writes_fit, writes_keep, inserts_last, given_utf8}, Forms.{Written, bare_written, has_key}, StandingPuts.{puts_leave, puts_may_lead, standing_writes, writes_last}}, Calls.{CallErrors.{contents_fail, excused_error}, Logs.{calls_grow}}, Readings.{Known.{excuse, known}, Standing.{caches_stand}}, Sure.{Succeeds.{puts_answer, insertions_answer}, SureLinks.{links_answer}}, Spares.Unused.{others_leave_none, puts_leave_tidy, stays_ready}, results.{SureResults.{for_memory, so_ready, fails_for, or_as, IsWritten, commit_succeeds, shown_read}, Told.{called}}, Links.Linking.{links_last}}
+use Rattle.cacache_laws.proofs.{Putting.{Puts.{plain_writes_fit, writes_keep, inserts_last, given_utf8}, Forms.{Written, bare_written, has_key}, StandingPuts.{puts_leave, puts_may_lead, standing_writes, writes_last}}, Calls.{CallErrors.{contents_fail, excused_error}, Logs.{calls_grow}}, Readings.{Known.{excuse, known}, Standing.{caches_stand}}, Sure.{Succeeds.{puts_answer, insertions_answer, either}, SureLinks.{links_answer}}, Spares.Unused.{others_leave_none, puts_leave_tidy, stays_ready}, results.{SureResults.{for_memory, so_ready, fails_for, or_as, IsWritten, commit_succeeds, shown_read}, Told.{called}}, Links.Linking.{links_last}}
 use Rattle.cacache_value.specs.Value.{AtLink}
 use Rattle.cacache_history.specs.Values.{IsThere}
 use Rattle.cacache_calls.specs.declared.command.Command.TheVariants as commands
@@ -63,10 +63,8 @@ keyed_succeeds a cache key bytes moment r old new utf8 small early ready standin
     let p = plain_put a key bytes moment in
     let w = bare_written key (Some (integrity_text (integrity_under a bytes))) moment (length bytes) utf8 (integrity_utf8 (integrity_under a bytes)) early small in
     let fits : put_reply cache (plain_put a key bytes moment) ≡ Stored (integrity_under a bytes) = ap (unless_unwritable (Stored (integrity_under a bytes))) w.no_cause in
-    elim (puts_answer cache p (reply_of Stored r) old new c ready.folder standing (ready.tidy c.number)) [
-      | inl m ↦ for_memory Stored r (Stored (integrity_under a bytes)) tt (inl m)
-      | inr h ↦ for_memory Stored r (Stored (integrity_under a bytes)) tt (inr (h.0 ∙ fits))
-    ]
+    let answers = puts_answer cache p (reply_of Stored r) old new c ready.folder standing (ready.tidy c.number) in
+    for_memory Stored r (Stored (integrity_under a bytes)) tt (or_as (reply_of Stored r) fits (either (reply_of Stored r) (λ h. h.0) answers))
 
 pub write_means : {C N : Type 0} (moments : C → Option (List ℕ)) (numbers : N → Option (List ℕ)) (a : Algorithm) (cache key bytes : List ℕ) (r : Result (List Hash) Error) (new : Env (List LogItem) C N)
     → IsUtf8 key → length bytes < 2 ^ 64 → IsLog new.store → WriteMeans moments numbers a cache key bytes r new
@@ -120,10 +118,8 @@ content_write_means moments numbers a cache bytes r new logged old sound ran =
       keeps = untouched cache None (integrity_under a bytes) bytes old.store new.store kept.1;
       fails = told.1;
       succeeds = λ ready.
-          elim (puts_answer cache p (reply_of Stored r) old.store new.store c ready.folder (caches_stand cache old.store sound) (ready.tidy c.number)) [
-            | inl m ↦ for_memory Stored r (Stored (integrity_under a bytes)) tt (inl m)
-            | inr h ↦ for_memory Stored r (Stored (integrity_under a bytes)) tt (inr h.0)
-          ];
+          for_memory Stored r (Stored (integrity_under a bytes)) tt
+          (either (reply_of Stored r) (λ h. h.0) (puts_answer cache p (reply_of Stored r) old.store new.store c ready.folder (caches_stand cache old.store sound) (ready.tidy c.number)));
       ready = λ ready.
           so_ready Stored (λ i. tt) cache r old.store new.store (λ ready. puts_leave_tidy cache p (reply_of Stored r) old.store new.store c ready.folder (no_entry a cache bytes) sound ready.tidy) ready;
     }
@@ -160,11 +156,8 @@ entry_written key said moment utf8 early plain =
 insertion_succeeds : (cache : List ℕ) (i : Insert) (r : Result (List Hash) Error) (old new : List LogItem) → refused_cause (insertion cache i) ≡ None → NamesFolder cache → IsCache cache old
     → Called cache (commands.Insert i) (reply_of Stored r) old new → FailsForMemory r
 insertion_succeeds cache i r old new fits folder sound c =
-    let wanted = (insertion cache i).reply in
-    elim (insertions_answer cache i (reply_of Stored r) old new folder (caches_stand cache old sound) c) [
-      | inl m ↦ for_memory Stored r wanted tt (inl m)
-      | inr h ↦ for_memory Stored r wanted tt (inr (h ∙ ap (unless_unwritable (insertion cache i).reply) fits))
-    ]
+    for_memory Stored r (insertion cache i).reply tt
+    (or_as (reply_of Stored r) (ap (unless_unwritable (insertion cache i).reply) fits) (insertions_answer cache i (reply_of Stored r) old new folder (caches_stand cache old sound) c))
 
 pub insertion_means : {C N : Type 0} (moments : C → Option (List ℕ)) (numbers : N → Option (List ℕ)) (cache key : List ℕ) (said : Said) (r : Result (List Hash) Error) (new : Env (List LogItem) C N)
     → IsUtf8 key → IsLog new.store → InsertionMeans moments numbers cache key said r new

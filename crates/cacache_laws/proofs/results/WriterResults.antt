@@ -10,7 +10,7 @@ use Rattle.cacache_calls.proofs.IntegrityUtf8.{integrity_utf8}
 use Rattle.cacache_sync.specs.{content.OpenWrites.{RemovesTemp, TriesToRemove, counted_bytes}, put.{KeyedWriters.{CommitsWriter, OpensAt}, Options.{Said, options_of}}}
 use Rattle.cacache_jobs.specs.Environment.{MomentOf}
 use Rattle.cacache_laws.specs.{Beside.{FitsEntry}, Caches.{IsCache}, GivenUp.{GivesUpTemp}, OpenWriters.{CommitsBytes}, Puts.{HasCommitted, MayLeadToPut, entry_of_put}, OpenSucceeds.{FileAt}, Succeeds.{put_reply, unless_unwritable, compared_reply, keyed_reply, sized_reply}, results.{Handles.{CommitsMean, CommitsSucceed, FailedWritesMean, GivingUpMeans, IsText, IsWriting, LeadsToEntry, MayLeadToEntry, MemWriter, OpenedWriter, OpeningsMean, SaysFit, WritersGoOn, said_integrity, CommitsTell, FailsCommit}, Writes.{SaysPlain}}}
-use Rattle.cacache_laws.proofs.{Putting.{OpenWriters.{commits_last, writers_open}, Forms.{bare_written}, Puts.{commits_keep, commits_leave}}, Readings.Standing.{caches_stand}, Sure.Succeeds.{commits_answer, openings_succeed}, Spares.Unused.{giving_up_lasts}, results.{Expected.{as_expected, suits_so, own_matches}, SureResults.{for_memory, of_refused}, Told.{plain_result}, WriteResults.{early_of, untouched}}}
+use Rattle.cacache_laws.proofs.{Putting.{OpenWriters.{commits_last, writers_open}, Forms.{bare_written}, Puts.{commits_keep, commits_leave}}, Readings.Standing.{caches_stand}, Sure.Succeeds.{commits_answer, openings_succeed, either}, Spares.Unused.{giving_up_lasts}, results.{Expected.{as_expected, suits_so, own_matches}, SureResults.{for_memory, of_refused, or_as}, Told.{plain_result}, WriteResults.{early_of, untouched}}}
 use Rattle.cacache_store.specs.declared.store.answer.Answer.TheVariants as answers
 use Rattle.cacache_store.specs.declared.store.step.Step.TheVariants as steps
 
@@ -189,14 +189,11 @@ moment_early moments (Some key) time old new moment early h = early_of moments t
 
 pub commits_succeed : {C N : Type 0} (moments : C → Option (List ℕ)) (new : Env (List LogItem) C N) → IsLog new.store → CommitsSucceed moments new
 commits_succeed moments new logged cache key s bytes w r old sound folder file t plain none text small h =
-    let p = put_of key s bytes h.0 in
     let c = commits_bytes cache key s bytes w t small moments r old new logged h in
     let early = moment_early moments w.key w.time old.clock new.clock h.0 (λ time is. plain.early time (sym t.time_is ∙ is)) h.1 in
     let stands = subst (λ x. FileAt x old.store) t.path_is file in
-    elim (commits_answer cache p t.number (reply_of Stored r) old.store new.store folder (caches_stand cache old.store sound) stands c) [
-      | inl m ↦ for_memory Stored r (Stored (said_integrity s bytes)) tt (inl m)
-      | inr done ↦ for_memory Stored r (Stored (said_integrity s bytes)) tt (inr (done.0 ∙ said_plain cache key s bytes h.0 plain none text small early))
-    ]
+    let answers = commits_answer cache (put_of key s bytes h.0) t.number (reply_of Stored r) old.store new.store folder (caches_stand cache old.store sound) stands c in
+    for_memory Stored r (Stored (said_integrity s bytes)) tt (or_as (reply_of Stored r) (said_plain cache key s bytes h.0 plain none text small early) (either (reply_of Stored r) (λ x. x.0) answers))
 
 -- ---- writers that are given up
 
@@ -274,10 +271,9 @@ lost s bytes (Err e) is = subst (FailsCommit s bytes) (sym (of_refused e is)) tt
 
 pub commits_tell : {C N : Type 0} (moments : C → Option (List ℕ)) (new : Env (List LogItem) C N) → IsLog new.store → CommitsTell moments new
 commits_tell moments new logged cache key s bytes w r old sound folder file t small h =
-    let p = put_of key s bytes h.0 in
     let c = commits_bytes cache key s bytes w t small moments r old new logged h in
     let stands = subst (λ x. FileAt x old.store) t.path_is file in
-    elim (commits_answer cache p t.number (reply_of Stored r) old.store new.store folder (caches_stand cache old.store sound) stands c) [
+    elim (commits_answer cache (put_of key s bytes h.0) t.number (reply_of Stored r) old.store new.store folder (caches_stand cache old.store sound) stands c) [
       | inl m ↦ lost s bytes r m
       | inr done ↦ told cache key s bytes h.0 r done.0
     ]

@@ -119,6 +119,11 @@ pub data FolderShows (t : Tree) (p : Names) (names : List Name) : Type 0 where
   listed : names ≡ listing t p → FolderShows t p names
   missing : NoFolder t p → names ≡ [] → FolderShows t p names
 
+-- a name that it shows stands there
+pub shown_stands : (t : Tree) (p : Names) (ns : List Name) → FolderShows t p ns → (n : Name) → Member n ns → Stands t p n
+shown_stands t p ns (listed all) n m = listed_child t p n (subst (Member n) all m)
+shown_stands t p ns (missing apart none) n m = absurd (subst (Member n) none m)
+
 abbrev Shows : Tree → Names → PlainAnswer → Type 0
 Shows t p a = (names : List Name) → names_shown a ≡ Some names → FolderShows t p names
 

@@ -8,7 +8,7 @@ use Rattle.cacache_disk.specs.{declared.{luck.Luck.{Luck}, node.Node.{Node, TheV
 use Rattle.cacache_calls.specs.Runs.{Moves}
 use Rattle.cacache_walks.specs.Reading.{Folder as Spot, ReadsFolders, top_folder, folder_as, file_as, folders_in, file_paths, files_shown, names_shown, shown_by}
 use Rattle.cacache_laws.specs.trees.Walks.{ReadAt, is_leaf, WalksFind, WalksStayBelow}
-use Rattle.cacache_laws.proofs.trees.{Members.{Member, contains_member, member_contains, in_left, in_right, in_either, mapped, source}, Children.{child_listed, Stands, listed_child, none_below, proper_child, FolderShows, listed, missing, folder_shown}}
+use Rattle.cacache_laws.proofs.trees.{Members.{Member, contains_member, member_contains, in_left, in_right, in_either, mapped, source}, Children.{child_listed, none_below, proper_child, FolderShows, listed, missing, folder_shown, shown_stands}}
 use Rattle.cacache_history.proofs.Listings.ListingWalks.{joined_more}
 use Rattle.cacache_loss.proofs.CommitFolders.{named_home}
 
@@ -134,14 +134,9 @@ module _ (top : List ℕ) (base : Names) where
   AllNamed : List Spot → Type 0
   AllNamed todo = (f : Spot) → Member f todo → Named f
 
-  -- a name that a move showed
-  name_in : (t : Tree) (p : Names) (ns : List Name) (n : Name) → FolderShows t p ns → Member n ns → Stands t p n
-  name_in t p ns n (listed all) m = listed_child t p n (subst (Member n) all m)
-  name_in t p ns n (missing apart none) m = absurd (subst (Member n) none m)
-
   module _ (g : Spot) (t : Tree) (m : PlainStep × PlainAnswer) (ns : List Name) (h : Named g) (shown : Shown g t (base ++ h.names) m ns) where
     proper_in : (n : Name) → Member n ns → IsProperName n.name
-    proper_in n k = let s = name_in t (base ++ h.names) ns n shown.shows k in proper_child t (base ++ h.names) n.name s.node shown.rooted s.stands
+    proper_in n k = let s = shown_stands t (base ++ h.names) ns shown.shows n k in proper_child t (base ++ h.names) n.name s.node shown.rooted s.stands
 
     longer : (n : Name) → Member n ns → All IsProperName (h.names ++ n.name ∷ [])
     longer n k = All-append IsProperName h.names (n.name ∷ []) h.proper (All-cons IsProperName n.name [] (proper_in n k) (All-nil IsProperName))
@@ -163,7 +158,7 @@ module _ (top : List ℕ) (base : Names) where
     file_sound : (trees : List Tree) (path : List ℕ) → Member path (file_paths g.path ns) → Sound (t ∷ trees) path
     file_sound trees path k =
         let s = source (λ (n : Name). file_as n.kind (join g.path n.name)) path ns k in
-        let stands = name_in t (base ++ h.names) ns s.of shown.shows s.member in
+        let stands = shown_stands t (base ++ h.names) ns shown.shows s.of s.member in
         let leaf = file_leaf stands.node (join g.path s.of.name) path (ap (λ kind. file_as kind (join g.path s.of.name)) (sym stands.kind) ∙ s.gives) in
         record {
           at = t;

@@ -1,7 +1,7 @@
 -- After a tombstone its key leads to nothing, and each other key leads where it led.
 -- Removals of contents and tombstones leave each thing in its place.
 use Rattle.std.proofs.{Common.{◌≡◌, ◌≤◌, ℕ, Bool, true, false, cond, nat_le, List, [], ◌∷◌, ◌++◌, Option, None, Some, Result, Ok, Err, inl, inr, length, refl, sym, ap, ap₂, subst, ◌∙◌, leb-true, append-nil}, lemmas.{List.Sums.{fold-append}, Slice.Eq.{bytes_eq-Decides}}}
-use Rattle.std.specs.Prelude.{bytes_eq}
+use Rattle.std.specs.{Prelude.{bytes_eq}, List.{AllByRecursion}}
 use Rattle.sha1.specs.Sha1.{sha1}
 use Rattle.cacache_core.specs.{declared.{errors.{Fault.{Fault, TheVariants.{ShortAppend}}, SerdeCause.{SerdeCause}}, integrity.digest.Hash.{Hash}}, PathNames.{Names, home_of, names_below, names_of}, Paths.{bucket_names_of, joined, content_names}, Integrity.{IsHash}}
 use Rattle.cacache_store.specs.Plain.{PlainAnswer, PlainStep}
@@ -85,22 +85,16 @@ module _ (cache : List ℕ) (d : Delete) where
   abbrev tomb : Entry
   tomb = (deletion cache d).entry
 
-  own_hidden : (es : List Entry) → latest d.key (es ++ tomb ∷ []) ≡ None
-  own_hidden es = latest_more d.key es tomb ∙ rw ((bytes_eq-Decides d.key d.key).1 refl) refl
-
   apart : (key : List ℕ) (b : Bool) → bytes_eq d.key key ≡ b → (key ≡ d.key → ⊥) → b ≡ false
   apart key true e other = absurd (other (sym ((bytes_eq-Decides d.key key).0 e)))
   apart key false e other = refl
 
-  other_found : (key : List ℕ) (es : List Entry) → (key ≡ d.key → ⊥) → latest key (es ++ tomb ∷ []) ≡ latest key es
-  other_found key es other = latest_more key es tomb ∙ rw (apart key (bytes_eq d.key key) refl other) refl
-
   other_at : (b : Bool) (key : List ℕ) (o : Option (List Entry)) → (key ≡ d.key → ⊥) → latest key (list_of (cond b (Some (list_of o ++ tomb ∷ [])) o)) ≡ latest key (list_of o)
-  other_at true key o other = other_found key (list_of o) other
+  other_at true key o other = latest_more key (list_of o) tomb ∙ rw (apart key (bytes_eq d.key key) refl other) refl
   other_at false key o other = refl
 
   own_at : (b : Bool) (o : Option (List Entry)) → b ≡ true → latest d.key (list_of (cond b (Some (list_of o ++ tomb ∷ [])) o)) ≡ None
-  own_at true o e = own_hidden (list_of o)
+  own_at true o e = latest_more d.key (list_of o) tomb ∙ rw ((bytes_eq-Decides d.key d.key).1 refl) refl
   own_at false o e = absurd cc
 
 -- without a closing byte the line is the entry's
@@ -117,8 +111,7 @@ module _ (site : Site) (d : Delete) (formed : calls.FormedIfWritten (deletion si
 
   -- each step of a run is proper
   abbrev pub AllProper : Moves → Type 0
-  AllProper [] = Unit {0}
-  AllProper (m ∷ moves) = Proper (home_of site.cache) m.0 × AllProper moves
+  AllProper = AllByRecursion (λ (m : PlainStep × PlainAnswer). Proper (home_of site.cache) m.0)
 
   pub proper_run : (s : State) (moves : Moves) (r : Reply) → calls.Sound site (may_export x) (is_outside x) s → Runs s moves r → AllProper moves
   proper_run s [] r sound run = tt

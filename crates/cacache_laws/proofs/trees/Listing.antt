@@ -16,24 +16,18 @@ use Rattle.cacache_calls.specs.declared.command.Command.TheVariants as commands
 -- the moves read these folders and buckets, and all that lies below the folders
 abbrev pub ReadsAll : List Task → Moves → Type 0
 ReadsAll [] [] = Unit {0}
-ReadsAll [] (m ∷ moves) = ⊥
-ReadsAll (Make (Enter p level) ∷ todo) [] = ⊥
 ReadsAll (Make (Enter p level) ∷ todo) (m ∷ moves) =
     (m.0 ≡ ReadDir p) × ((names : List Name) × (names_shown m.1 ≡ Some names) × ReadsAll (tasks_of false level p names ++ todo) moves)
-ReadsAll (Make (ReadBucket p) ∷ todo) [] = ⊥
 ReadsAll (Make (ReadBucket p) ∷ todo) (m ∷ moves) = (m.0 ≡ ReadAll p) × ReadsAll todo moves
-ReadsAll (Make (RemoveFile p) ∷ todo) moves = ⊥
-ReadsAll (Make (RemoveFolder p) ∷ todo) moves = ⊥
-ReadsAll (Stumble fault path ∷ todo) moves = ⊥
+ReadsAll todo moves = ⊥
 
 -- what a listing has to do
 abbrev pub Fine : List Task → Type 0
 Fine [] = Unit {0}
 Fine (Make (Enter p level) ∷ todo) = Fine todo
 Fine (Make (ReadBucket p) ∷ todo) = Fine todo
-Fine (Make (RemoveFile p) ∷ todo) = ⊥
-Fine (Make (RemoveFolder p) ∷ todo) = ⊥
 Fine (Stumble fault path ∷ todo) = (fault ≡ TooDeep) × Fine todo
+Fine todo = ⊥
 
 deeper_fine : (b : Bool) (p : List ℕ) (level : ℕ) (todo : List Task) → Fine todo → Fine (cond b (Make (Enter p level)) (Stumble TooDeep p) ∷ todo)
 deeper_fine true p level todo h = h

@@ -15,24 +15,19 @@ looks_answer cache command r old new looks c =
 Agree : Reply → Reply → Type 0
 Agree r other = (r ≡ other) ⊎ (IsMemory r ⊎ IsMemory other)
 
-same_over : (a b : Reply) → over a ≡ over b → a ≡ b
-same_over a b e = cc
-
 -- a run that is over makes no step
 over_ends : (s : State) (r other : Reply) (m : PlainStep × PlainAnswer) (moves : Moves) → s ≡ over r → Runs s (m ∷ moves) other → ⊥
 over_ends s r other m moves e run = let wrong : None ≡ Some m.0 = ap wants (sym e) ∙ run.0 in cc
 
-same_step : (s : State) (m n : PlainStep × PlainAnswer) → wants s ≡ Some m.0 → wants s ≡ Some n.0 → m.0 ≡ n.0
-same_step s m n e f = let both : Some m.0 ≡ Some n.0 = sym e ∙ f in cc
-
 runs_agree : (t : Tree) (s : State) (xs ys : Moves) (r other : Reply) → Runs s xs r → AnsweredBy t xs → Runs s ys other → AnsweredBy t ys → Agree r other
 unfolding Agree
-runs_agree t s [] [] r other (inl e) a (inl f) b = inl (same_over r other (sym e ∙ f))
+runs_agree t s [] [] r other (inl e) a (inl f) b = inl (let same : over r ≡ over other = sym e ∙ f in cc)
 runs_agree t s [] ys r other (inr e) a run b = inr (inl e)
 runs_agree t s [] (n ∷ ys) r other (inl e) a run b = absurd (over_ends s r other n ys e run)
 runs_agree t s (m ∷ xs) [] r other run a (inl f) b = absurd (over_ends s other r m xs f run)
 runs_agree t s (m ∷ xs) (n ∷ ys) r other run a more b =
-    let step = same_step s m n run.0 more.0 in
+    let both : Some m.0 ≡ Some n.0 = sym run.0 ∙ more.0 in
+    let step : m.0 ≡ n.0 = cc in
     let answer : n.1 ≡ m.1 = b.0 ∙ ap (λ x. (apply t x Plain).0) (sym step) ∙ sym a.0 in
     runs_agree t (after s m.1) xs ys r other run.2 a.1 (subst (λ x. Runs (after s x) ys other) answer more.2) b.1
 runs_agree t s xs [] r other run a (inr f) b = inr (inr f)

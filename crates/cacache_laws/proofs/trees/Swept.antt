@@ -1,5 +1,5 @@
 -- What a clearing that doesn't break off leaves of a tree.
-use Rattle.std.proofs.Common.{◌≡◌, inl, inr, ◌==◌, ◌<◌, ◌≤◌, ◌+◌, ◌-◌, ℕ, zero, suc, Bool, true, false, cond, nat_le, List, [], ◌∷◌, ◌++◌, Option, None, Some, Ok, length, refl, sym, ap, subst, ◌∙◌, arith, append_assoc, eqb-true}
+use Rattle.std.proofs.Common.{◌≡◌, inl, inr, ◌==◌, ◌<◌, ◌≤◌, ◌+◌, ◌-◌, ℕ, zero, suc, Bool, true, false, cond, nat_le, List, [], ◌∷◌, ◌++◌, None, Some, Ok, length, refl, sym, ap, subst, ◌∙◌, arith, append_assoc, eqb-true}
 use Rattle.std.specs.Prelude.{nat_lt}
 use Rattle.cacache_core.specs.declared.errors.Fault.TheVariants as faults
 use Rattle.cacache_core.specs.{declared.errors.Error.TheVariants.{IoError}, Paths.{join}, PathNames.{Names, names_of}}
@@ -7,7 +7,7 @@ use Rattle.cacache_store.specs.declared.store.step.Step.TheVariants as steps
 use Rattle.cacache_store.specs.declared.store.answer.Answer.TheVariants as answers
 use Rattle.cacache_store.specs.{declared.store.answer.{Kind.{Kind}, Name.{Name}}, Plain.{PlainAnswer}}
 use Rattle.cacache_store.specs.declared.store.answer.Kind.TheVariants as kinds
-use Rattle.cacache_disk.specs.{declared.{luck.Luck.TheVariants.{Plain}, node.Node.{Node, TheVariants.{Folder, File, Link}}}, Tree.{Tree, look, cut, listing, kind_of}, LedTo.{folder}, Rooted.{Rooted}}
+use Rattle.cacache_disk.specs.{declared.{luck.Luck.TheVariants.{Plain}, node.Node.{Node, TheVariants.{Folder, File, Link}}}, Tree.{Tree, look, cut, listing, kind_of}, Rooted.{Rooted}}
 use Rattle.cacache_disk.proofs.KeptFolders.{steps_keep_rooted}
 use Rattle.cacache_calls.specs.declared.command.Command.TheVariants as commands
 use Rattle.cacache_calls.specs.{declared.{reply.Reply.{Reply, TheVariants.{Listed, Refused}}, visit.{Visit.{Visit, TheVariants.{Enter, RemoveFile, RemoveFolder}}, Task.{Task, TheVariants.{Make, Stumble}}}}, Common.{fails}, State.{State, walking, over, Walk}, Walking.{failed, give, miss, walk_on, task_for_name, tasks_of, leaving, too_many, entered}, Runs.{Moves, Runs}}
@@ -127,9 +127,6 @@ module _ (r : Reply) (whole : BreaksOff commands.Clear r → ⊥) where
       by true run = run
       by false run = absurd (never_too_many w moves clears run)
 
-  leaf_only : (here : Option Node) → is_leaf here ≡ true → here ≡ Some Folder → ⊥
-  leaf_only here leaf folder = let wrong : true ≡ false = sym leaf ∙ ap is_leaf folder in cc
-
   pub visited : (fuel : ℕ) → Visits fuel
   visited zero v p todo w t m low clears rooted ready = absurd (omega (arith, low))
   visited (suc fuel) (RemoveFile path) p todo w t m low clears rooted ready =
@@ -143,7 +140,7 @@ module _ (r : Reply) (whole : BreaksOff commands.Clear r → ⊥) where
         on = next.on;
         leads = next.leads;
         fewer = omega (arith, next.shorter);
-        is = cut_sheds t p rooted (λ n. none_below t p n [] rooted (leaf_only (look t p) ready.1));
+        is = cut_sheds t p rooted (λ n. none_below t p n [] rooted (λ folder. let wrong : true ≡ false = sym ready.1 ∙ ap is_leaf folder in cc));
       }
   visited (suc fuel) (Enter path level) p todo w t m low clears rooted ready =
       let first = goes (walking w (Enter path level) todo) (steps.ReadDir path) t r (answers.Names (listing t p)) t m refl (lists_folder t path p rooted ready.0 ready.1) alive in

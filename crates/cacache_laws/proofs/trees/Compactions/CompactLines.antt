@@ -1,14 +1,13 @@
 -- The lines of a text of lines.
 use Rattle.std.proofs.{Common.{◌≡◌, ℕ, List, [], ◌∷◌, ◌++◌, Bool, true, false, cond, not, ◌==◌, Option, Some, None, fold, map, filter_map, refl, sym, ap, ◌∙◌, append-nil, append_assoc}, lemmas.{Bool.{and_from, and_parts, not-true}, List.Sums.{fold-append}}}
-use Rattle.std.specs.List.{cons_option, onto_first}
+use Rattle.std.specs.List.{cons_option, onto_first, AllByRecursion}
 use Rattle.cacache_entry.{specs.{Bucket.{cut}, Entry.{closing}}, proofs.Cuts.{lacks, cut-append, cut-lacks}}
 use Rattle.cacache_laws.specs.trees.Compacting.{Line, decision, is_closed, is_line, line_of_piece, lines_of, text_of}
 
 -- ---- pieces
 
 abbrev pub AllLack : ℕ → List (List ℕ) → Type 0
-AllLack at [] = Unit {0}
-AllLack at (p ∷ ps) = (lacks at p ≡ true) × AllLack at ps
+AllLack at = AllByRecursion (λ (p : List ℕ). lacks at p ≡ true)
 
 -- the pieces of a cut lack the byte
 pub pieces_lack : (at : ℕ) (xs : List ℕ) → AllLack at (cut at xs)
@@ -25,8 +24,7 @@ abbrev pub IsPiece : Line → Type 0
 IsPiece l = (lacks 10 l.0 ≡ true) × (is_line l.0 ≡ true) × (decision l.0 ≡ l.1)
 
 abbrev pub ArePieces : List Line → Type 0
-ArePieces [] = Unit {0}
-ArePieces (l ∷ ls) = IsPiece l × ArePieces ls
+ArePieces = AllByRecursion IsPiece
 
 pieces_from : (ps : List (List ℕ)) → AllLack 10 ps → ArePieces (filter_map line_of_piece ps)
 pieces_from [] h = tt

@@ -63,11 +63,10 @@ bare_items : (item : List ℕ → Option Item) (start : List ℕ → Option (Lis
 bare_items item start [] are bare is = refl
 bare_items item start ((t, None) ∷ ls) are bare is = absurd bare
 bare_items item start ((t, Some d) ∷ ls) are bare is =
-    let f = finds t d are.0.2 bare.0 in
     let last : after decision ours d.0 (start d.0) (t ∷ texts ls) ≡ Some t
     = undecided d.0 ls (next decision ours d.0 (start d.0) t) are.1 bare.1 ∙ ap (found_at d.0 (start d.0) t) are.0.2
     ∙ ap (λ (c : Bool). cond c (cond d.1 (Some t) None) (start d.0)) ((bytes_eq-Decides d.0 d.0).1 refl) ∙ ap (λ (c : Bool). cond c (Some t) None) bare.0 in
-    ap (λ (o : Option Item). length (cons_option o (filter_map item (decided ls)))) (is d.0 ∙ ap (λ (o : Option (List ℕ)). option_map Ok (found_as o)) last ∙ ap (option_map Ok) f.1)
+    ap (λ (o : Option Item). length (cons_option o (filter_map item (decided ls)))) (is d.0 ∙ ap (λ (o : Option (List ℕ)). option_map Ok (found_as o)) last ∙ ap (option_map Ok) (finds t d are.0.2 bare.0).1)
     ∙ ap suc (bare_items item (λ key. next decision ours key (start key) t) ls are.1 bare.2 is)
 
 same_count : (es : List Entry) → length es ≡ length (map (λ (e : Entry). e.key) es)

@@ -6,7 +6,7 @@ use Rattle.cacache_core.specs.{PathNames.{Names, names_of, home_of}, Paths.{buck
 use Rattle.cacache_core.proofs.{JoinedNames.{joined_texts_name}, ProperNames.{names_are_proper}}
 use Rattle.cacache_disk.specs.{declared.{node.Node.{Node, TheVariants.{Folder, File}}, luck.Luck.TheVariants.{Plain}}, Tree.{Tree, look}, Apply.{apply}}
 use Rattle.cacache_entry.{specs.Latest.{latest}, proofs.Lines.{empty_holds_nothing}}
-use Rattle.cacache_value.{specs.{Acts.{list_of}, Kinds.{PathKind, Content, Bucket, Temporary, path_kind, Elsewhere}, Value.{blob_in, bucket_in}}, proofs.KindsApart.{kind-below}}
+use Rattle.cacache_value.{specs.{Acts.{list_of}, Kinds.{Content, Bucket, Temporary, path_kind, Elsewhere}, Value.{blob_in, bucket_in}}, proofs.KindsApart.{kind-below}}
 use Rattle.cacache_laws.specs.trees.{Compacted.{IsCompacted, IsTempFolder, IsLeftOver, Compacted, CutShort, CompactionsKeep, CompactionsAnswer, FindsFormed}, Compacting.{compact_text}, Collecting.{LinksLeadOut}}
 use Rattle.cacache_laws.proofs.trees.{Compactions.{CompactTexts.{compact_texts_answer}, CompactTwice.{compact_again}, LeanReads.{Clear, SameOrLean, Sees, clear_area, dir_alike, file_alike, sees_clear}}, Twins.{Agreeing.{said}, Follows.{Alike, ReadsAlike, reads_as_before}, Twice.{address_is}}, Within.{read_answer}}
 use Rattle.cacache_store.specs.declared.store.step.Step.TheVariants.{ReadAll, ReadDir}
@@ -45,17 +45,6 @@ no_folder_file x here e f = let wrong : Some Folder ≡ Some (File x) = sym e �
 no_folder : (here : Option Node) → here ≡ None → here ≡ Some Folder → ⊥
 no_folder here e f = let wrong : None ≡ Some Folder = sym e ∙ f in cc
 
-pub ends_after : (durable : Bool) (home q : Names) (a b c : Option Node) → Becomes durable home q a b → EndsUp durable home q b c → EndsUp durable home q a c
-ends_after durable home q a b c (inl same) next = subst (λ x. EndsUp durable home q x c) same next
-ends_after durable home q a b c (inr (inl lean)) (inl same) = inr (inl (lean.0, lean.1, lean.2, same ∙ lean.3))
-ends_after durable home q a b c (inr (inl lean)) (inr (inl again)) = inr (inl (lean_twice durable home q a b c lean again))
-ends_after durable home q a b c (inr (inl lean)) (inr (inr (inl made))) = absurd (no_file (compact_text durable lean.1) b made.1 lean.3)
-ends_after durable home q a b c (inr (inl lean)) (inr (inr (inr left))) = absurd (no_file (compact_text durable lean.1) b left.3 lean.3)
-ends_after durable home q a b c (inr (inr made)) (inl same) = inr (inr (inl (made.0, made.1, same ∙ made.2)))
-ends_after durable home q a b c (inr (inr made)) (inr (inl lean)) = absurd (no_folder_file lean.1 b made.2 lean.2)
-ends_after durable home q a b c (inr (inr made)) (inr (inr (inl again))) = absurd (no_folder b again.1 made.2)
-ends_after durable home q a b c (inr (inr made)) (inr (inr (inr left))) = absurd (no_folder b left.3 made.2)
-
 pub becomes_after : (durable : Bool) (home q : Names) (a b c : Option Node) → Becomes durable home q a b → Becomes durable home q b c → Becomes durable home q a c
 becomes_after durable home q a b c (inl same) next = subst (λ x. Becomes durable home q x c) same next
 becomes_after durable home q a b c (inr (inl lean)) (inl same) = inr (inl (lean.0, lean.1, lean.2, same ∙ lean.3))
@@ -64,6 +53,14 @@ becomes_after durable home q a b c (inr (inl lean)) (inr (inr made)) = absurd (n
 becomes_after durable home q a b c (inr (inr made)) (inl same) = inr (inr (made.0, made.1, same ∙ made.2))
 becomes_after durable home q a b c (inr (inr made)) (inr (inl lean)) = absurd (no_folder_file lean.1 b made.2 lean.2)
 becomes_after durable home q a b c (inr (inr made)) (inr (inr again)) = absurd (no_folder b again.1 made.2)
+
+pub ends_after : (durable : Bool) (home q : Names) (a b c : Option Node) → Becomes durable home q a b → EndsUp durable home q b c → EndsUp durable home q a c
+ends_after durable home q a b c one (inl same) = ends durable home q a c (becomes_after durable home q a b c one (inl same))
+ends_after durable home q a b c one (inr (inl lean)) = ends durable home q a c (becomes_after durable home q a b c one (inr (inl lean)))
+ends_after durable home q a b c one (inr (inr (inl made))) = ends durable home q a c (becomes_after durable home q a b c one (inr (inr made)))
+ends_after durable home q a b c (inl same) left = subst (λ x. EndsUp durable home q x c) same left
+ends_after durable home q a b c (inr (inl lean)) (inr (inr (inr left))) = absurd (no_file (compact_text durable lean.1) b left.3 lean.3)
+ends_after durable home q a b c (inr (inr made)) (inr (inr (inr left))) = absurd (no_folder b left.3 made.2)
 
 -- ---- trees
 
@@ -81,9 +78,6 @@ cut_later durable home t mid new one two q = ends_after durable home q (look t q
 
 -- ---- what is found
 
-two_kinds : (home q : Names) (a b : PathKind) → path_kind (Some home) q ≡ a → path_kind (Some home) q ≡ b → a ≡ b
-two_kinds home q a b e f = sym e ∙ f
-
 key_at : (durable : Bool) (key : List ℕ) (home q : Names) (old new : Option Node) → EndsUp durable home q old new → latest key (list_of (bucket_in new)) ≡ latest key (list_of (bucket_in old))
 key_at durable key home q old new (inl same) = ap (λ o. latest key (list_of (bucket_in o))) same
 key_at durable key home q old new (inr (inl lean)) =
@@ -95,10 +89,10 @@ key_at durable key home q old new (inr (inr (inr left))) =
 
 content_at : (durable : Bool) (home q : Names) (old new : Option Node) → path_kind (Some home) q ≡ Content → EndsUp durable home q old new → blob_in new ≡ blob_in old
 content_at durable home q old new k (inl same) = ap blob_in same
-content_at durable home q old new k (inr (inl lean)) = absurd (let wrong = two_kinds home q Content Bucket k lean.0 in cc)
+content_at durable home q old new k (inr (inl lean)) = absurd (let wrong : Content ≡ Bucket = sym k ∙ lean.0 in cc)
 content_at durable home q old new k (inr (inr (inl made))) = ap blob_in made.2 ∙ sym (ap blob_in made.1)
 content_at durable home q old new k (inr (inr (inr left))) =
-    absurd (let wrong = two_kinds home q Content Temporary k (ap (path_kind (Some home)) left.1 ∙ kind-below home (temp_area ∷ left.0 ∷ [])) in cc)
+    absurd (let wrong : Content ≡ Temporary = sym k ∙ ap (path_kind (Some home)) left.1 ∙ kind-below home (temp_area ∷ left.0 ∷ []) in cc)
 
 pub compactions_keep : CompactionsKeep
 compactions_keep durable home t new is = record {

@@ -1,19 +1,17 @@
 -- Where a key leads after later calls that spare it, on a store that stands.
-use Rattle.std.proofs.Common.{◌≡◌, inl, inr, ℕ, List, [], ◌∷◌, Option, None, Some, Result, Ok, Err, arith, filter_map, refl, sym, ap, subst, ◌∙◌}
+use Rattle.std.proofs.Common.{◌≡◌, inl, inr, ℕ, List, [], ◌∷◌, Option, None, Some, Result, arith, filter_map, refl, sym, ap, subst, ◌∙◌}
 use Rattle.std.specs.{Prelude.{Contains}, List.{cons_option}}
-use Rattle.cacache_core.specs.{declared.{errors.{Error.{Error, TheVariants.{IoError, OutOfMemory}}, Fault.{Fault}}, integrity.digest.Hash.{Hash}}, PathNames.{home_of}}
-use Rattle.cacache_store.specs.declared.store.answer.Answer.TheVariants as answers
+use Rattle.cacache_core.specs.{declared.{errors.Error.{Error, TheVariants.{OutOfMemory}}, integrity.digest.Hash.{Hash}}, PathNames.{home_of}}
 use Rattle.cacache_store.specs.declared.store.{log.LogItem.{LogItem}, plain.PlainTemp.{PlainTemp}}
 use Rattle.cacache_store.specs.declared.store.step.Step.TheVariants as steps
-use Rattle.cacache_disk.{specs.{declared.luck.Luck.TheVariants.{Plain}, Apply.{apply}, Rooted.{Rooted}, memory.Replay.{IsLog, tree_of}}, proofs.KeptFolders.{steps_keep_rooted}}
-use Rattle.cacache_calls.specs.{Common.{fails}, Inserting.{refused_cause}, Runs.{Gains, Goes, Moves}, SingleSteps.{Does, FailsAt}, State.{State}, StepPaths.{temp_folder, temp_path}, Storing.{persist, put_commit}, Table.{opening}}
-use Rattle.cacache_calls.proofs.Going.{goes_lost}
+use Rattle.cacache_disk.{specs.{declared.luck.Luck.TheVariants.{Plain}, Rooted.{Rooted}, memory.Replay.{IsLog, tree_of}}, proofs.KeptFolders.{steps_keep_rooted}}
+use Rattle.cacache_calls.{specs.{Inserting.{refused_cause}, Runs.{Moves}, StepPaths.{temp_path}, Table.{opening}}, proofs.Going.{goes_lost}}
 use Rattle.cacache_calls.specs.declared.command.Command.TheVariants as commands
 use Rattle.cacache_calls.specs.declared.reply.Reply.TheVariants as replies
 use Rattle.cacache_value.{specs.{Placed.{Placed}, Value.{value_of_tree}}, proofs.Traces.{steps_keep_placed}}
-use Rattle.cacache_history.specs.{Commits.{deeds}, Setup.{call_site}}
-use Rattle.cacache_laws.specs.{Caches.{Called, HasKey, setup_at}, GivenUp.{GivesUpTemp, drop_temp}, Keeping.{found_under}, OpenWriters.{OpensWriter, make_file, make_folder}, Sequence.{Alike, after_deeds, turns_on}, Standing.{IsStanding}, trees.Later.{AllSpare, Later, ReadsOf, Spares, SparedKeysStay, StaysRead, TombstonesFit, calls, commits, gives_up, looks, opens, written}}
-use Rattle.cacache_laws.proofs.{Calls.{InParts.{logs_lead}, Logs.{some_same}}, Putting.{Forms.{bare_written}, Deeds.{stays_known}, OpenWriters.{folder_first, put_nothing, temp_made, gains_none}}, Readings.{GivenReads.{same_stays_known}, Standing.{standing_reads}}, Spares.Unused.{still_alike, temp_for}, trees.{Members.{contains_member, member_contains}, Spared.{SparedCalls.{Left, call_left, idle, known_left, stands}, SparedCommits.{commit_left}}, Logged.{gains_join}}}
+use Rattle.cacache_history.specs.Setup.{call_site}
+use Rattle.cacache_laws.specs.{Caches.{Called, HasKey, setup_at}, GivenUp.{GivesUpTemp, drop_temp}, Keeping.{found_under}, OpenWriters.{OpensWriter}, Sequence.{Alike, after_deeds}, Standing.{IsStanding}, trees.Later.{AllSpare, Later, ReadsOf, Spares, SparedKeysStay, StaysRead, TombstonesFit, calls, commits, gives_up, looks, opens, written}}
+use Rattle.cacache_laws.proofs.{Calls.{InParts.{logs_lead}, Logs.{some_same}}, Putting.{Forms.{bare_written}, Deeds.{stays_known}, OpenWriters.{put_nothing, opening_made}}, Readings.{GivenReads.{same_stays_known}, Standing.{standing_reads}}, Spares.Unused.{still_alike, temp_for}, trees.{Members.{contains_member, member_contains}, Spared.{SparedCalls.{Left, call_left, idle, known_left, stands}, SparedCommits.{commit_left}}}}
 
 -- ---- the tree as it was
 
@@ -27,60 +25,17 @@ tree_left cache key i old new same standing =
 -- ---- a writer's opening
 
 -- it is a put of nothing that was broken off, and did nothing to contents or buckets
-module _ (cache : List ℕ) (number : ℕ) (old new : List LogItem) (logged : IsLog new) where
-  abbrev begins : State
-  begins = opening (call_site (setup_at cache []) number) (commands.Put put_nothing)
-
-  abbrev Broken : Type 0
-  Broken = (c : Called cache (commands.Put put_nothing) (replies.Refused OutOfMemory) old new) × (deeds (turns_on (tree_of old) c.ran.0) ≡ [])
-
-  broken : (moves : Moves) (next : State) → Goes begins moves next → deeds (turns_on (tree_of old) moves) ≡ [] → Gains (Some old) (Some new) moves → Broken
-  broken moves next goes nothing gains = (record { base = []; number = number; ran = (moves, goes_lost begins moves next goes, gains); plain = refl; logged = logged }, nothing)
-
-  folder_failed : (fault : Fault) → Does (make_folder cache number) (answers.Failed fault) (Some old) (Some new) → Broken
-  folder_failed fault g =
-      broken ((make_folder cache number, answers.Failed fault) ∷ []) (fails fault) (refl, tt, refl) (folder_first (tree_of old) (temp_folder cache) (answers.Failed fault) [] refl) g
-
-  folder_errs : (e : Error) → FailsAt (make_folder cache number) e (Some old) (Some new) → Broken
-  folder_errs (IoError fault message) h = folder_failed fault h
-  folder_errs OutOfMemory (inl same) = broken [] begins refl refl (gains_none (Some old) new same)
-  folder_errs OutOfMemory (inr h) = folder_failed h.0 h.1
-  folder_errs e h = absurd h
-
-  module _ (mid : Option (List LogItem)) (made : Does (make_folder cache number) answers.Done (Some old) mid) where
-    file_failed : (fault : Fault) → Does (make_file cache number) (answers.Failed fault) mid (Some new) → Broken
-    file_failed fault g =
-        broken ((make_folder cache number, answers.Done) ∷ (make_file cache number, answers.Failed fault) ∷ []) (fails fault) (refl, tt, (refl, tt, refl))
-        (folder_first (tree_of old) (temp_folder cache) answers.Done ((make_file cache number, answers.Failed fault) ∷ []) refl)
-        (gains_join (Some old) mid (Some new) ((make_folder cache number, answers.Done) ∷ []) ((make_file cache number, answers.Failed fault) ∷ []) made g)
-
-    file_errs : (e : Error) → FailsAt (make_file cache number) e mid (Some new) → Broken
-    file_errs (IoError fault message) h = file_failed fault h
-    file_errs OutOfMemory (inl same) =
-        broken ((make_folder cache number, answers.Done) ∷ []) _ (refl, tt, refl) (folder_first (tree_of old) (temp_folder cache) answers.Done [] refl)
-        (gains_join (Some old) mid (Some new) ((make_folder cache number, answers.Done) ∷ []) [] made (gains_none mid new same))
-    file_errs OutOfMemory (inr h) = file_failed h.0 h.1
-    file_errs e h = absurd h
-
-  opened_broken : (r : Result PlainTemp Error) → OpensWriter cache number r (Some old) (Some new) → Broken
-  opened_broken (Err e) (inl h) = folder_errs e h
-  opened_broken (Err e) (inr h) = file_errs h.0 h.1 e h.2
-  opened_broken (Ok file) h =
-      let moves : Moves = (make_folder cache number, answers.Done) ∷ (make_file cache number, answers.Temp file) ∷ [] in
-      let gains = gains_join (Some old) h.0 (Some new) ((make_folder cache number, answers.Done) ∷ []) ((make_file cache number, answers.Temp file) ∷ []) h.1 h.2 in
-      let lead = logs_lead old new moves gains logged in
-      let same = temp_made (apply (tree_of old) (make_folder cache number) Plain).1 (temp_path cache number) file lead.0.1.0 in
-      broken moves (persist (put_commit cache put_nothing) file) (refl, tt, (refl, ap (λ (f : PlainTemp). f.path) same, refl))
-      (folder_first (tree_of old) (temp_folder cache) answers.Done ((make_file cache number, answers.Temp file) ∷ []) refl) gains
-
 opening_left : (cache key : List ℕ) (i : List Hash) (number : ℕ) (r : Result PlainTemp Error) (old new : List LogItem) → IsLog new → IsStanding cache old → OpensWriter cache number r (Some old) (Some new)
     → Left cache key i None old new
 opening_left cache key i number r old new logged standing opened =
-    let b = opened_broken cache number old new logged r opened in
+    let o = opening_made cache number old new logged r opened in
     let command = commands.Put put_nothing in
     let lost = replies.Refused OutOfMemory in
-    known_left cache key i None old new (stands cache command lost old new standing b.0 (λ key e. absurd cc))
-    (idle cache command lost old new standing b.0 (λ key e. absurd cc) (ap (λ ds. after_deeds (home_of cache) ds (value_of_tree (home_of cache) (tree_of old))) b.1))
+    let begins = opening (call_site (setup_at cache []) number) (commands.Put put_nothing) in
+    let c : Called cache (commands.Put put_nothing) (replies.Refused OutOfMemory) old new
+    = record { base = []; number = number; ran = (o.moves, goes_lost begins o.moves o.next o.goes, o.gains); plain = refl; logged = logged } in
+    known_left cache key i None old new (stands cache command lost old new standing c (λ key e. absurd cc))
+    (idle cache command lost old new standing c (λ key e. absurd cc) (ap (λ ds. after_deeds (home_of cache) ds (value_of_tree (home_of cache) (tree_of old))) o.nothing))
 
 -- ---- a writer that is given up
 

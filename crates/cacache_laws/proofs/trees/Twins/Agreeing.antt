@@ -24,9 +24,6 @@ upper_not : (home p rest : Names) (name : List ℕ) → Safe (path_kind (Some ho
 upper_not home p rest name (inl used) c = let way : Way ≡ Content = sym (above (Some home) p rest name used) ∙ c in cc
 upper_not home p rest name (inr out) c = below_content home p (name ∷ rest) c out
 
-out_not : (home p : Names) → path_kind (Some home) p ≡ Elsewhere → path_kind (Some home) p ≡ Content → ⊥
-out_not home p e c = let wrong : Elsewhere ≡ Content = sym e ∙ c in cc
-
 -- ---- what a read answers
 
 abbrev pub said : Result (List ℕ) Fault → PlainAnswer
@@ -44,7 +41,7 @@ module _ (home : Names) (t new : Tree) (same : (names : Names) → (path_kind (S
   sees = record {
     upper = λ p rest name safe. inl (same p (upper_not home p rest name safe));
     out_end = λ q k. inr k;
-    at_out = λ q k. same q (out_not home q k);
+    at_out = λ q k. same q (λ c. let wrong : Elsewhere ≡ Content = sym k ∙ c in cc);
     links = out;
   }
 

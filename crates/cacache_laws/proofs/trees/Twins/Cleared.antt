@@ -156,10 +156,8 @@ module _ (cache : List ℕ) (home : Names) (full lean rest left : Tree) (is : ho
 
   pub both_cleared : {x y : Reply} → Cleared x cache full rest → Cleared y cache lean left → LacksIdle cache home rest left
   both_cleared (swept p named there one end) (swept q other here two other_end) =
-      let p_is = named_home p named in
-      let q_is = named_home q other in
-      let first : ShedAll full rest home (before (listing full home)) = subst (λ x. ShedAll full rest x (before (listing full x))) (sym p_is) one in
-      let second : ShedAll lean left home (before (listing lean home)) = subst (λ x. ShedAll lean left x (before (listing lean x))) (sym q_is) two in
+      let first : ShedAll full rest home (before (listing full home)) = subst (λ x. ShedAll full rest x (before (listing full x))) (sym (named_home p named)) one in
+      let second : ShedAll lean left home (before (listing lean home)) = subst (λ x. ShedAll lean left x (before (listing lean x))) (sym (named_home q other)) two in
       both_shed (before (listing full home)) first (subst (λ ns. ShedAll lean left home (before ns)) same_names second)
   both_cleared (swept p named there one end) (kept never same unfinished) =
       let p_is = named_home p named in

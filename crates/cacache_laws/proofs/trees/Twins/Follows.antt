@@ -147,9 +147,8 @@ module _ (site : Site) (home : Names) (t new : Tree) (at_home : home_of site.cac
 
   ready_folder : (p : List ℕ) (level : ℕ) (todo : List Task) (items : List Item) (left : ℕ) (x : PlainAnswer) → InIndex p → EachVisit Visits todo → Fits (ReadDir p) x → Ready (after_visit (lists items left) (Enter p level) todo x)
   ready_folder p level todo items left (answers.Names ns) at each fits =
-      let tasks = tasks_of false level p ns in
       ready_entered (nat_le (length ns) left) ((tasks_of false level p ns ++ []) ++ todo) items left (left - length ns)
-      (subst (λ (l : List Task). EachVisit Visits (l ++ todo)) (sym (append-nil tasks)) (names_visit ns level p todo at fits each))
+      (subst (λ (l : List Task). EachVisit Visits (l ++ todo)) (sym (append-nil (tasks_of false level p ns))) (names_visit ns level p todo at fits each))
   ready_folder p level todo items left (answers.Failed fault) at each fits = ready_miss todo items left fault each
   ready_folder p level todo items left (answers.NoMemory step) at each fits = tt
   ready_folder p level todo items left other at each fits = ready_miss todo items left Device each
@@ -200,9 +199,8 @@ module _ (site : Site) (home : Names) (t new : Tree) (at_home : home_of site.cac
         ready = ready_folder p level todo items left (apply t (ReadDir p) Plain).0 at each fit;
       }
   walk_goes items left (ReadBucket p) todo at each x fits e =
-      let both = alike.files p at.0 at.1 in
       record {
-        same = after_alike (walking (lists items left) (ReadBucket p) todo) x (apply t (ReadAll p) Plain).0 (lean_listed (lists items left) p todo) (subst (λ z. Alike z (apply t (ReadAll p) Plain).0) (sym e) both);
+        same = after_alike (walking (lists items left) (ReadBucket p) todo) x (apply t (ReadAll p) Plain).0 (lean_listed (lists items left) p todo) (subst (λ z. Alike z (apply t (ReadAll p) Plain).0) (sym e) (alike.files p at.0 at.1));
         fits = fits_read p;
         ready = ready_bucket p todo items left (apply t (ReadAll p) Plain).0 each;
       }
@@ -225,10 +223,9 @@ module _ (site : Site) (home : Names) (t new : Tree) (at_home : home_of site.cac
   follows : (moves : Moves) (s : State) (r : Reply) → Ready s → Runs s moves r → AnsweredBy new moves → (other : Moves) × Runs s other r × AnsweredBy t other
   follows [] s r ready run a = ([], run, tt)
   follows (m ∷ moves) s r ready run a =
-      let y = (apply t m.0 Plain).0 in
       let k = goes s m.0 ready run.0 m.1 run.1 a.0 in
       let rest = follows moves (after s (apply t m.0 Plain).0) r k.ready (subst (λ x. Runs x moves r) (sym k.same) run.2) a.1 in
-      ((m.0, y) ∷ rest.0, (run.0, k.fits, rest.1), (refl, rest.2))
+      ((m.0, ((apply t m.0 Plain).0)) ∷ rest.0, (run.0, k.fits, rest.1), (refl, rest.2))
 
 -- if reads are alike, calls answer as before
 pub reads_as_before : (site : Site) (home : Names) (t new : Tree) → home_of site.cache ≡ Some home → ReadsAlike site.cache home t new → ReadsAsBefore site t new
