@@ -1,6 +1,6 @@
 -- Questions and listings, one after another.
 use Rattle.std.proofs.{Common.{◌≡◌, ℕ, List, [], ◌∷◌, ◌++◌, Bool, true, false, Option, Ok, Err, Result, IfOk, inl, inr, refl, sym, ap, subst, ◌∙◌, map}, lemmas.List.{map-append, Elements.{filter-append}}}
-use Rattle.std.specs.{List.{filter}, Prelude.{OnOk, not}}
+use Rattle.std.specs.{List.{filter, AllByRecursion}, Prelude.{OnOk, not}}
 use Rattle.cacache_store.specs.declared.{env.Env.{Env}, store.log.LogItem.{LogItem}}
 use Rattle.cacache_entry.specs.Latest.{Found}
 use Rattle.cacache_calls.specs.{declared.{command.Command.{Command}, reply.Reply.{Reply}}, State.{Site, Item}, Table.{opening}, Runs.{Ran, plain_item}}
@@ -8,6 +8,7 @@ use Rattle.cacache_calls.specs.declared.command.Command.TheVariants as commands
 use Rattle.cacache_calls.specs.declared.reply.Reply.TheVariants as replies
 use Rattle.cacache_jobs.specs.{Environment.{KeepsRest}, Sites.{site_of}}
 use Rattle.cacache_keep.specs.Calls.{AreEntries, AsksEach, MadeCalls, question_of}
+use Rattle.cacache_laws.proofs.trees.Members.{Member}
 
 -- ---- the environment
 
@@ -40,6 +41,17 @@ passed p xs x is = filter-append p xs (x ∷ []) ∙ ap (λ more. filter p xs ++
     append_none : {X : Type 0} (xs : List X) → xs ++ [] ≡ xs
     append_none [] = refl
     append_none (x ∷ xs) = ap (λ l. x ∷ l) (append_none xs)
+
+-- a filter that takes none
+pub none_kept : {X : Type 0} (p : X → Bool) (xs : List X) → ((x : X) → Member x xs → p x ≡ false) → filter p xs ≡ []
+none_kept p [] never = refl
+none_kept p (x ∷ xs) never = rw (never x (inl refl), none_kept p xs (λ y m. never y (inr m))) refl
+
+-- ---- what holds of two parts of a list
+
+pub both_parts : {X : Type 0} (P : X → Type 0) (xs ys : List X) → AllByRecursion P (xs ++ ys) → AllByRecursion P xs × AllByRecursion P ys
+both_parts P [] ys all = (tt, all)
+both_parts P (x ∷ xs) ys all = let rest = both_parts P xs ys all.1 in ((all.0, rest.0), rest.1)
 
 -- ---- entries whose content is asked for
 

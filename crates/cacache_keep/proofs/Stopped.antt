@@ -1,7 +1,7 @@
 -- Calls and listings that an error ends.
 -- Calls that were made one after another, and walks, as moves that leave each tree.
 use Rattle.std.proofs.{Common.{◌≡◌, ◌⊎◌, ◌<◌, ◌+◌, ℕ, List, [], ◌∷◌, ◌++◌, Bool, Option, Ok, Err, Result, IfErr, inl, inr, refl, sym, ap, subst, ◌∙◌, map, length, take, drop, get_or, append_assoc, None, Some, append-nil, false, ◌-◌}, lemmas.List.{drop_more, take-append-drop, Elements.{All-append, All-cons, All-map, All-nil}}}
-use Rattle.std.specs.Prelude.{All, IsErrAnd}
+use Rattle.std.specs.{Prelude.{All, IsErrAnd}, List.{AllByRecursion}}
 use Rattle.cacache_core.specs.declared.{errors.{Error.{Error, TheVariants.{IoError, OutOfMemory}}, Fault.{Fault, TheVariants.{NotFound}}}, integrity.digest.Hash.{Hash}}
 use Rattle.cacache_store.specs.declared.store.log.LogItem.{LogItem}
 use Rattle.cacache_entry.specs.Latest.{Found}
@@ -136,12 +136,10 @@ drops cache base before addresses damaged strange good old found read new same l
 }
 
 abbrev pub EachOn : Site → Tree → List (Command × Reply) → Type 0
-EachOn site t [] = Unit {0}
-EachOn site t (c ∷ calls) = AnswersOn site t c.0 c.1 × EachOn site t calls
+EachOn site t = AllByRecursion (λ (c : Command × Reply). AnswersOn site t c.0 c.1)
 
 abbrev pub AllLook : List (Command × Reply) → Type 0
-AllLook [] = Unit {0}
-AllLook (c ∷ calls) = OnlyLooks c.0 × AllLook calls
+AllLook = AllByRecursion (λ (c : Command × Reply). OnlyLooks c.0)
 
 pub gains_none : (old new : Option (List LogItem)) → new ≡ old → Gains old new []
 gains_none None new e = e

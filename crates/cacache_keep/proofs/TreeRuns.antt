@@ -4,14 +4,10 @@ use Rattle.cacache_core.specs.declared.errors.{Error.{Error, TheVariants.{IoErro
 use Rattle.cacache_store.specs.declared.store.answer.Answer.TheVariants as answers
 use Rattle.cacache_store.specs.{declared.store.log.LogItem.{LogItem}, Plain.{PlainStep, PlainAnswer}}
 use Rattle.cacache_disk.specs.{declared.luck.Luck.TheVariants.{Plain}, Tree.{Tree}, Apply.{apply}, Rooted.{Rooted}, memory.Replay.{tree_of, IsLog}}
-use Rattle.cacache_disk.proofs.KeptFolders.{steps_keep_rooted}
 use Rattle.cacache_calls.specs.{Runs.{Gains, Moves}, SingleSteps.{Does, FailsAt}}
-use Rattle.cacache_laws.{specs.Sequence.{tree_on, AreAnswered}, proofs.{Calls.InParts.{logs_lead}, trees.Logged.{answered_split, gains_join, log_rooted, tree_split}}}
+use Rattle.cacache_laws.specs.Sequence.{tree_on, AreAnswered}
+use Rattle.cacache_laws.proofs.{Calls.InParts.{logs_lead}, trees.{Logged.{answered_split, gains_join, log_rooted, tree_split}, HiddenKeys.{moves_rooted}}}
 use Rattle.cacache_keep.proofs.Stopped.{gains_none}
-
-pub moves_rooted : (t : Tree) (moves : Moves) → Rooted t → Rooted (tree_on t moves)
-moves_rooted t [] rooted = rooted
-moves_rooted t (m ∷ moves) rooted = moves_rooted (apply t m.0 Plain).1 moves (steps_keep_rooted t m.0 Plain rooted)
 
 -- moves that a log gained; if a tree answers them, this is so of it and of the tree after them
 pub record Leads (P : Tree → Tree → Type 0) (old new : Option (List LogItem)) : Type 0 where
@@ -33,8 +29,7 @@ leads_then P Q R old mid new one two so = record {
   gains = gains_join old mid new one.moves two.moves one.gains two.gains;
   tells = λ t rooted a.
       let parts = answered_split t one.moves two.moves a in
-      let u = tree_on t one.moves in
-      let next = moves_rooted t one.moves rooted in
+      let next = moves_rooted one.moves t rooted in
       subst (λ v. R t v) (sym (tree_split t one.moves two.moves))
       (so t (tree_on t one.moves) (tree_on (tree_on t one.moves) two.moves) rooted next (one.tells t rooted parts.0) (two.tells (tree_on t one.moves) next parts.1));
 }

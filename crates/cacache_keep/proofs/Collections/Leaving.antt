@@ -2,8 +2,8 @@
 -- A collection leaves what is live, and later reads see none of it.
 -- A second collection drops nothing.
 -- Where a key leads after what spares it, on a store that stands: it stays led to the same entry and the same bytes.
-use Rattle.std.proofs.{Common.{◌≡◌, ℕ, List, [], ◌∷◌, ◌++◌, Option, Some, inl, inr, map, length, refl, sym, ap, ap₂, subst, ◌∙◌, arith, filter, Bool, true, false, cond, None, ◌⊎◌, ◌<◌, filter_map}, lemmas.List.{length-map, Filters.{length-filter_both}}}
-use Rattle.std.specs.{Prelude.{not, Contains}, List.{AllByRecursion, Sorted.{IsStrictlySortedBy}}, declared.cmp.Ordering.{Ordering, TheVariants.{Less}}}
+use Rattle.std.proofs.{Common.{◌≡◌, ℕ, List, [], ◌∷◌, ◌++◌, Option, Some, inl, inr, map, length, refl, sym, ap, ap₂, subst, ◌∙◌, arith, filter, Bool, true, false, cond, None, ◌⊎◌, ◌<◌, filter_map}, lemmas.List.{length-map, Filters.{length-filter_both}, Kept.{IsStrictlySortedBy-filter}}}
+use Rattle.std.specs.Prelude.{not, Contains}
 use Rattle.cacache_core.specs.{declared.{errors.Fault.TheVariants.{NotFound}, integrity.digest.Hash.{Hash}}, PathNames.{Names, home_of}, Paths.{joined, content_names}}
 use Rattle.cacache_store.specs.declared.store.{log.LogItem.{LogItem}, step.Step.TheVariants.{RemoveFile}}
 use Rattle.cacache_disk.specs.{memory.Replay.{tree_of, IsLog}, declared.luck.Luck.TheVariants.{Plain}, Tree.{Tree}, Apply.{apply}, Rooted.{Rooted}}
@@ -13,7 +13,7 @@ use Rattle.cacache_laws.specs.{Sequence.{tree_on, AreAnswered}, trees.{Contents.
 use Rattle.cacache_laws.proofs.{Calls.InParts.{logs_lead}, trees.{Listing.{holdings_agree, indexes_agree, same_sorted}, Indexed.{holds_just}, Logged.{answered_rest, answered_split, gains_join, log_rooted, tree_rest, walked}, Collected.{lacks, leaves, others_gone, picked_left, rest_stays, from_kept, kept_in}, Removed.{removals_run}, Members.{Member, contains_member, member_contains}, Twins.Follows.{idle_is_unseen}, Spared.SparedKeys.{spared_keys_stay}}, Readings.GivenReads.{same_stays_known}}
 use Rattle.cacache_walks.specs.{Listing.{content_area_in, hash_cmp}, Reading.{top_folder}}
 use Rattle.cacache_keep.specs.{Calls.{has_entry, removal, MadeCalls}, Keeping.{Chooses, CollectsFrom}, Kept.{PlansForetell, PlansLeave, CollectionsLackIdle, CollectionsLeave, CollectionsSettle}, Planning.{Sized, TellsSizes}, Sparing.{StaysLed}}
-use Rattle.cacache_keep.proofs.{Stopped.{calls_gain, gains_none, Keeps, gained, then_keeps}, Indexes.StandingIndexes.{index_looked}, Collections.Searching.{hash_total}}
+use Rattle.cacache_keep.proofs.{Stopped.{calls_gain, gains_none, Keeps, gained, then_keeps}, Indexes.StandingIndexes.{index_looked}, Collections.Searching.{hash_total}, Asked.{none_kept}}
 use Rattle.cacache_value.specs.{Placed.{Placed}, Value.{value_of_tree}}
 use Rattle.cacache_store.specs.declared.store.answer.Answer.TheVariants as answers
 use Rattle.cacache_store.specs.declared.store.step.Step.TheVariants as steps
@@ -182,35 +182,6 @@ collections_lack_idle site home kept dropped old new is logged out c =
     let d = steps_done site home kept dropped old new is logged it in
     lacks site home (tree_of old) (tree_of new) it.1.order.hashes it.1.strange it.1.entries is d.holds d.index d.removes (log_rooted old) out it.1.unused.formed
 
--- ---- parts of sorted lists
-
-module _ {X : Type 0} (p : X → Bool) where
-  all_kept : (P : X → Type 0) (xs : List X) → AllByRecursion P xs → AllByRecursion P (filter p xs)
-  all_kept P [] all = tt
-  all_kept P (x ∷ xs) all = by (p x) all.0 (all_kept P xs all.1)
-    where
-      by : (b : Bool) → P x → AllByRecursion P (filter p xs) → AllByRecursion P (cond b (x ∷ filter p xs) (filter p xs))
-      by true one rest = (one, rest)
-      by false one rest = rest
-
-  sorted_kept : (c : X → X → Ordering) (xs : List X) → IsStrictlySortedBy c xs → IsStrictlySortedBy c (filter p xs)
-  unfolding IsStrictlySortedBy
-  sorted_kept c [] s = tt
-  sorted_kept c (x ∷ xs) s = by (p x) (all_kept (λ y. c x y ≡ Less) xs s.0) (sorted_kept c xs s.1)
-    where
-      by : (b : Bool) → AllByRecursion (λ y. c x y ≡ Less) (filter p xs) → IsStrictlySortedBy c (filter p xs) → IsStrictlySortedBy c (cond b (x ∷ filter p xs) (filter p xs))
-      by true low rest = (low, rest)
-      by false low rest = rest
-
-  -- a filter that takes none
-  none_kept : (xs : List X) → ((x : X) → Member x xs → p x ≡ false) → filter p xs ≡ []
-  none_kept [] never = refl
-  none_kept (x ∷ xs) never = by (p x) (never x (inl refl)) (none_kept xs (λ y m. never y (inr m)))
-    where
-      by : (b : Bool) → b ≡ false → filter p xs ≡ [] → cond b (x ∷ filter p xs) (filter p xs) ≡ []
-      by true e rest = absurd cc
-      by false e rest = rest
-
 -- ---- two collections
 
 module _ (site : Site) (home : Names) (t mid new : Tree) (kept again : ℕ) (dropped others : List (List Hash)) (one : LeavesLive site home t mid kept dropped) (two : LeavesLive site home mid new again others) (unseen : ReadsAsBefore site t mid) where
@@ -258,7 +229,7 @@ module _ (site : Site) (home : Names) (t mid new : Tree) (kept again : ℕ) (dro
   same_kept : again ≡ kept
   same_kept =
       two.counted
-      ∙ ap length (same_sorted hash_cmp hash_total (filter (is_live two.entries) two.hashes) (filter (is_live one.entries) one.hashes) (sorted_kept (is_live two.entries) hash_cmp two.hashes two.contents.ascend) (sorted_kept (is_live one.entries) hash_cmp one.hashes one.contents.ascend) was_held stays_held)
+      ∙ ap length (same_sorted hash_cmp hash_total (filter (is_live two.entries) two.hashes) (filter (is_live one.entries) one.hashes) (IsStrictlySortedBy-filter hash_cmp (is_live two.entries) two.hashes two.contents.ascend) (IsStrictlySortedBy-filter hash_cmp (is_live one.entries) one.hashes one.contents.ascend) was_held stays_held)
       ∙ sym one.counted
 
 pub collections_settle : CollectionsSettle

@@ -1,7 +1,7 @@
 -- Addresses in order, and which of them entries have.
 -- Contents that are removed, one after another.
-use Rattle.std.proofs.{Common.{◌≡◌, ◌+◌, ◌<◌, ◌≤◌, ℕ, List, [], ◌∷◌, ◌++◌, Bool, true, false, cond, Option, Some, Ok, Err, Result, refl, sym, ap, ap₂, subst, ◌∙◌, map, length, length-append, arith, get_or, take, drop}, lemmas.List.{map-append, take_more, drop_more, take-append-drop, Elements.{All-append, All-cons, All-nil}, Sorted.{searchable_from_sorted}}}
-use Rattle.std.specs.{Prelude.{All, Contains, IsTrue, ◌↔◌, ◌||◌, is_ok, not}, List.{filter, Sorted.{IsBinarySearchResult, IsSearchInRange, IsSorted}}, declared.cmp.Ordering.TheVariants.{Equal}, Ordering.{eq_by_cmp, is_eq}, Cmp.{IsTotalOrder, then_total, on_total, nat_cmp_total, unsigned_ties, both_tied, Lexicographic.{nat_list_cmp_total, texts_ties}}}
+use Rattle.std.proofs.{Common.{◌≡◌, ◌+◌, ◌<◌, ◌≤◌, ℕ, List, [], ◌∷◌, ◌++◌, Bool, true, false, Option, Some, Ok, Err, Result, refl, sym, ap, ap₂, subst, ◌∙◌, map, length, length-append, arith, get_or, take, drop}, lemmas.List.{map-append, take_more, drop_more, take-append-drop, Elements.{All-append, All-cons, All-nil, filter_agree}, Sorted.{searchable_from_sorted}}}
+use Rattle.std.specs.{Prelude.{All, Contains, IsTrue, ◌↔◌, ◌||◌, is_ok, not}, List.Sorted.{IsBinarySearchResult, IsSearchInRange, IsSorted}, declared.cmp.Ordering.TheVariants.{Equal}, Ordering.{eq_by_cmp, is_eq}, Cmp.{IsTotalOrder, then_total, on_total, nat_cmp_total, unsigned_ties, both_tied, Lexicographic.{nat_list_cmp_total, texts_ties}}}
 use Rattle.cacache_core.specs.{declared.{integrity.digest.Hash.{Hash}, errors.Error.{Error}}, Integrity.{IsIntegrity, address, rank}, Meeting.{lists}, Same.{same_hash, same_hash-Decides}}
 use Rattle.cacache_core.proofs.Meeting.{lists_finds}
 use Rattle.cacache_entry.specs.Latest.{Found}
@@ -93,13 +93,9 @@ used_so : (entries : List Found) (live sorted : List Hash) → map Some live ≡
 used_so entries live sorted of same [] = refl
 used_so entries live sorted of same (h ∷ hs) = lists_same sorted live h (same h) ∙ live_listed entries live h of
 
-filter_same : {X : Type 0} (p q : X → Bool) → ((x : X) → p x ≡ q x) → (xs : List X) → filter p xs ≡ filter q xs
-filter_same p q same [] = refl
-filter_same p q same (x ∷ xs) = ap₂ (λ b l. cond b (x ∷ l) l) (same x) (filter_same p q same xs)
-
 pub no_entry_has : (entries : List Found) (live sorted : List Hash) (addresses unused : List (List Hash)) → map Some live ≡ map (λ (f : Found). address f.integrity) entries → All (λ (f : Found). IsIntegrity f.integrity) entries → ((h : Hash) → Contains sorted h ↔ Contains live h) → AreOthers sorted addresses unused → AreUnused entries addresses unused
 no_entry_has entries live sorted addresses unused of formed same r = record {
-  which = r.which ∙ filter_same (λ i. not (has_address_in sorted i)) (λ i. not (has_entry entries i)) (λ i. ap not (used_so entries live sorted of same i)) addresses;
+  which = r.which ∙ filter_agree (λ i. not (has_address_in sorted i)) (λ i. not (has_entry entries i)) (λ i. ap not (used_so entries live sorted of same i)) addresses;
   fewer = r.fewer;
   formed = formed;
 }

@@ -1,5 +1,5 @@
 -- What the listings of an index find, and that they leave the tree.
-use Rattle.std.proofs.{Common.{◌≡◌, inl, inr, ℕ, suc, List, [], ◌∷◌, ◌++◌, Bool, true, false, cond, Option, Some, Ok, map, filter, length, refl, sym, ap, subst, ◌∙◌, arith, append_assoc}, lemmas.{Bool.{and_parts}, List.Elements.{All-cons, All-nil}}}
+use Rattle.std.proofs.{Common.{◌≡◌, inl, inr, ℕ, suc, List, [], ◌∷◌, ◌++◌, Bool, true, false, cond, Option, Some, Ok, map, filter, length, refl, sym, ap, subst, ◌∙◌, arith, append_assoc}, lemmas.{Bool.{and_parts}, List.Elements.{All-cons, All-nil}}, ByRecursion.{All-append}}
 use Rattle.std.specs.List.{AllByRecursion, flat_map}
 use Rattle.cacache_core.specs.{declared.errors.Error.{Error}, PathNames.{Names, names_of, home_of, IsProperName}, Paths.{index_area, join}}
 use Rattle.cacache_core.proofs.{JoinedNames.{joined_texts_name}, ProperNames.{proper_bucket_folder}}
@@ -8,7 +8,7 @@ use Rattle.cacache_store.specs.declared.store.answer.Kind.TheVariants as kinds
 use Rattle.cacache_store.specs.declared.store.step.Step.TheVariants as steps
 use Rattle.cacache_disk.specs.{declared.{luck.Luck.TheVariants.{Plain}, node.Node.{Node, TheVariants.{Folder, File}}}, Tree.{Tree, kind_of, look}, Apply.{apply}, Rooted.{Rooted}}
 use Rattle.cacache_disk.proofs.Standing.{upper_folder}
-use Rattle.cacache_laws.proofs.{Readings.ReadAnswers.{listing_keeps}, trees.{Children.{FolderShows, Stands, child_listed, folder_shown, listed, listed_child, missing, proper_child}, Covering.{named_on}, Collected.{kept_in}, Members.{Member, in_left, in_right}, Temporary.{file_node}}}
+use Rattle.cacache_laws.proofs.{Readings.ReadAnswers.{listing_keeps}, trees.{Children.{FolderShows, Stands, child_listed, folder_shown, listed, missing, proper_child, shown_stands}, Covering.{named_on}, Collected.{kept_in}, Members.{Member, in_left, in_right}, Temporary.{file_node}}}
 use Rattle.cacache_laws.specs.trees.Temporary.{is_file}
 use Rattle.cacache_walks.specs.Reading.{names_shown}
 use Rattle.cacache_value.{specs.Kinds.{Bucket, path_kind}, proofs.KindsApart.{kind-below}}
@@ -77,15 +77,6 @@ module _ (home : Names) (t : Tree) (rooted : Rooted t) where
       by true is rest = (name_part last depth f at n two (stand n (inl refl)) is, rest)
       by false is rest = rest
 
-  -- what a listing of such a folder showed
-  shown_stand : (p : Names) (ns : List Name) → FolderShows t p ns → (n : Name) → Member n ns → Stands t p n
-  shown_stand p ns (listed all) n m = listed_child t p n (subst (Member n) all m)
-  shown_stand p ns (missing apart none) n m = absurd (subst (Member n) none m)
-
-  all_append : (P : List ℕ → Type 0) (xs ys : List (List ℕ)) → AllByRecursion P xs → AllByRecursion P ys → AllByRecursion P (xs ++ ys)
-  all_append P [] ys a b = b
-  all_append P (x ∷ xs) ys a b = (a.0, all_append P xs ys a.1 b)
-
 -- ---- listings, one after another
 
 -- each of the listings shows its folder, and the tree stays
@@ -118,8 +109,8 @@ module _ (home : Names) (t : Tree) (rooted : Rooted t) where
   parts_of last depth [] two all at = tt
   parts_of last depth (l ∷ listings) two all at =
       let shows = folder_shown t l.0 (home ++ index_area ∷ at.0.0) Plain l.1 rooted at.0.1 (ap names_shown (sym all.0.1) ∙ all.0.2) in
-      all_append home t rooted (IsPart home t last (suc depth)) (parts_in last l) (flat_map (parts_in last) listings)
-      (names_part home t rooted last depth l.0 at.0 l.1 two (shown_stand home t rooted (home ++ index_area ∷ at.0.0) l.1 shows)) (parts_of last depth listings two all.1 at.1)
+      All-append (IsPart home t last (suc depth)) (parts_in last l) (flat_map (parts_in last) listings)
+      (names_part home t rooted last depth l.0 at.0 l.1 two (shown_stands t (home ++ index_area ∷ at.0.0) l.1 shows)) (parts_of last depth listings two all.1 at.1)
 
   -- what belongs in folders that lie in the index lies there
   parts_lie : (last : Bool) (depth : ℕ) (folders paths : List (List ℕ)) (old new : Option (List LogItem)) (p : ListsParts last folders paths old new) → (last ≡ true → depth ≡ 2) → AllShown t p.listings

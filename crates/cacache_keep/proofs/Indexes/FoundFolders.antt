@@ -1,6 +1,6 @@
 -- The folders that hold the paths of buckets, by their texts.
 -- The names of a key's bucket are hex digits.
-use Rattle.std.proofs.{Common.{◌≡◌, ℕ, suc, List, [], ◌∷◌, ◌++◌, Bool, true, false, cond, Option, Some, Ok, length, map, filter, refl, sym, ap, subst, ◌∙◌, arith, append_assoc, eqb-true, ◌<◌, ◌/◌, ◌%◌, zero, take, drop, slice_index, length-drop}, lemmas.{Bool.{and_parts, and_from, eq-eqb}, List.{length-take-le, Folds.{list_any_at}}}}
+use Rattle.std.proofs.{Common.{◌≡◌, ℕ, suc, List, [], ◌∷◌, ◌++◌, Bool, true, false, cond, Option, Some, Ok, length, map, filter, refl, sym, ap, subst, ◌∙◌, arith, append_assoc, eqb-true, ◌<◌, ◌/◌, ◌%◌, zero, take, drop, slice_index, length-drop}, lemmas.{Bool.{and_parts, and_from, eq-eqb}, List.{length-take-le, Folds.{list_any_at}}}, ByRecursion.{All-append}}
 use Rattle.std.specs.{List.{AllByRecursion, flat_map, list_all, list_any}, Prelude.{IfOk, not}}
 use Rattle.cacache_core.specs.{PathNames.{Names, names_of, home_of, IsProperName}, Paths.{index_area, join}, PathLaws.{IsKeyDigest}}
 use Rattle.cacache_store.specs.declared.store.{answer.Name.{Name}, log.LogItem.{LogItem}}
@@ -37,13 +37,9 @@ module _ (P Q : List ℕ → Type 0) (last : Bool) (each : (f : List ℕ) (n : N
       by true is rest = (each f n here is, rest)
       by false is rest = rest
 
-  all_append : (xs ys : List (List ℕ)) → AllByRecursion Q xs → AllByRecursion Q ys → AllByRecursion Q (xs ++ ys)
-  all_append [] ys a b = b
-  all_append (x ∷ xs) ys a b = (a.0, all_append xs ys a.1 b)
-
   all_parts : (listings : List Listed) → AllByRecursion P (map (λ (l : Listed). l.0) listings) → AllByRecursion Q (flat_map (parts_in last) listings)
   all_parts [] all = tt
-  all_parts (l ∷ listings) all = all_append (parts_in last l) (flat_map (parts_in last) listings) (parts_of l.0 l.1 all.0) (all_parts listings all.1)
+  all_parts (l ∷ listings) all = All-append Q (parts_in last l) (flat_map (parts_in last) listings) (parts_of l.0 l.1 all.0) (all_parts listings all.1)
 
   -- what holds of the folders' paths gives what holds of the paths found there
   parts_have : (folders paths : List (List ℕ)) (old new : Option (List LogItem)) → ListsParts last folders paths old new → AllByRecursion P folders → AllByRecursion Q paths

@@ -1,7 +1,7 @@
 -- On a tree that stands, a listing of the index follows no link: none of its links leads to a folder that can be listed.
 -- A run of a listing below any folder answers items, or ends out of memory.
 use Rattle.std.proofs.{Common.{◌≡◌, inl, inr, ◌+◌, ℕ, Bool, true, false, cond, nat_lt, List, [], ◌∷◌, ◌++◌, Option, None, Some, Ok, Err, map, refl, sym, ap, ap₂, subst, ◌∙◌, append-nil, arith, ◌-◌, nat_le, length, take}, lemmas.List.Elements.{All-cons, All-nil}}
-use Rattle.std.specs.List.{cons_option}
+use Rattle.std.specs.List.{cons_option, AllByRecursion}
 use Rattle.cacache_core.specs.{declared.errors.{Fault.{TheVariants.{IsADirectory, NotADirectory, TooDeep, Device, NotFound}, Fault}, Error.TheVariants.{OutOfMemory}}, PathNames.{IsProperName, Names, home_of, names_of}, Paths.{index_area, join}}
 use Rattle.cacache_core.proofs.{JoinedNames.{joined_texts_name}, ProperNames.{proper_bucket_folder}}
 use Rattle.cacache_store.specs.{declared.store.answer.{Kind.{Kind}, Name.{Name}}, Plain.{PlainStep, PlainAnswer}}
@@ -11,7 +11,7 @@ use Rattle.cacache_entry.specs.Latest.{Found}
 use Rattle.cacache_calls.specs.{declared.{visit.{Task.{Task, TheVariants.{Make, Stumble}}, Visit.{Visit, TheVariants.{Enter, ReadBucket}}}, reply.Reply.{Reply, TheVariants.{Listed, Refused}}}, Runs.{Moves, Runs}, State.{Item, Site, State, Walk, over, walking}, Walking.{EachVisit, task_for_name, tasks_of, walk, after_visit, failed, give, items_in, most, too_many, walk_on}, Table.{after}}
 use Rattle.cacache_walks.specs.Reading.{names_shown}
 use Rattle.cacache_laws.specs.{Sequence.{AreAnswered, tree_on}, trees.Index.{IndexLists}}
-use Rattle.cacache_laws.proofs.{Readings.ReadAnswers.{listing_keeps, reading_keeps}, trees.{Children.{FolderShows, Stands, folder_shown, listed, listed_child, missing, proper_child}, Covering.{named_on}, Listing.{ReadsAll, listing_runs, lists}, Logged.{answered_rest, answered_split, looked}, Members.{Member}}}
+use Rattle.cacache_laws.proofs.{Readings.ReadAnswers.{listing_keeps, reading_keeps}, trees.{Children.{Stands, folder_shown, proper_child, shown_stands}, Covering.{named_on}, Listing.{ReadsAll, listing_runs, lists}, Logged.{answered_rest, answered_split, looked}, Members.{Member}}}
 use Rattle.cacache_keep.specs.{Calls.{ListsIndex, index_of}, Linked.{ListsEach, Part, as_walked, entries_in, linked_in, linked_read, moves_in, taken_as}}
 use Rattle.cacache_keep.proofs.Repairs.Judged.{index_clean, index_lists}
 use Rattle.cacache_store.specs.declared.store.answer.Answer.TheVariants as answers
@@ -61,8 +61,7 @@ module _ (t : Tree) (rooted : Rooted t) where
   unlisted path l = rw (unlisted_at path l.names l.node l.named l.stands l.leaf) refl
 
   abbrev AllLeaves : List (List ℕ) → Type 0
-  AllLeaves [] = Unit {0}
-  AllLeaves (path ∷ paths) = IsLeaf path × AllLeaves paths
+  AllLeaves = AllByRecursion IsLeaf
 
   -- ---- what a walk is to visit
 
@@ -91,10 +90,6 @@ module _ (t : Tree) (rooted : Rooted t) where
     names_fit [] todo stand each = each
     names_fit (n ∷ ns) todo stand each = name_fits n (tasks_of false level p ns ++ todo) (stand n (inl refl)) (names_fit ns todo (λ m k. stand m (inr k)) each)
 
-    shown_fit : (ns : List Name) (todo : List Task) → FolderShows t base ns → EachVisit Fit todo → EachVisit Fit (tasks_of false level p ns ++ todo)
-    shown_fit ns todo (listed all) each = names_fit ns todo (λ n k. listed_child t base n (subst (Member n) all k)) each
-    shown_fit ns todo (missing apart none) each = names_fit ns todo (λ n k. absurd (subst (Member n) none k)) each
-
   -- ---- what it read
 
   noted : (p : List ℕ) (x : PlainAnswer) (rest : List (List ℕ)) → IsLeaf p → AllLeaves rest → AllLeaves (cons_option (linked_read (steps.ReadAll p) x) rest)
@@ -117,7 +112,7 @@ module _ (t : Tree) (rooted : Rooted t) where
       let stays : (apply t m.0 Plain).1 ≡ t = ap (λ s. (apply t s Plain).1) step ∙ listing_keeps t p in
       let shown : names_shown (apply t (steps.ReadDir p) Plain).0 ≡ Some names = ap names_shown (sym (ap (λ s. (apply t s Plain).0) step) ∙ sym a.0 ∙ sym (listing_taken m p step)) ∙ reads.1.1 in
       let shows = folder_shown t p each.0.0 Plain names rooted each.0.1 shown in
-      let rest = leaves moves (tasks_of false level p names ++ todo) reads.1.2 (subst (λ x. AreAnswered x moves) stays a.1) (shown_fit level p each.0.0 each.0.1 names todo shows each.1) in (
+      let rest = leaves moves (tasks_of false level p names ++ todo) reads.1.2 (subst (λ x. AreAnswered x moves) stays a.1) (names_fit level p each.0.0 each.0.1 names todo (shown_stands t each.0.0 names shows) each.1) in (
         subst (λ (s : PlainStep). AllLeaves (cons_option (linked_read s m.1) (linked_in moves))) (sym step) rest.0,
         ap (λ x. tree_on x moves) stays ∙ rest.1,
       )

@@ -1,5 +1,5 @@
 -- A compaction leaves what is fixed of the folders of its buckets.
-use Rattle.std.{proofs.Common.{◌≡◌, inl, inr, ℕ, List, [], ◌∷◌, ◌++◌, true, map, Option, Some, sym, subst}, specs.List.{AllByRecursion}}
+use Rattle.std.{proofs.Common.{◌≡◌, inl, inr, ℕ, List, [], ◌∷◌, true, map, Option, Some, sym, subst}, specs.List.{AllByRecursion}}
 use Rattle.cacache_core.specs.{declared.errors.Error.{Error}, PathNames.{Names, home_of, names_of}}
 use Rattle.cacache_store.specs.declared.store.answer.Answer.TheVariants as answers
 use Rattle.cacache_store.specs.{declared.store.log.LogItem.{LogItem}, Plain.{PlainStep}}
@@ -8,7 +8,7 @@ use Rattle.cacache_store.specs.declared.store.step.Step.TheVariants as steps
 use Rattle.cacache_value.specs.Kinds.{Bucket as IsBucket, Way, path_kind}
 use Rattle.cacache_loss.proofs.UnchangedPaths.{at_false}
 use Rattle.cacache_keep.specs.{Buckets.{FindsBuckets, Listed, ListsInTurn, StopsFinding, StopsNextPart, StopsParts, index_area_in}, Compacting.{Bucket, CompactsAll, CompactsCache, CompactsEach, StopsCompactingEach}, Losses.{CompactsDurably}, Syncing.{StopsInTurn, StopsNextSync, SyncsInTurn, folders_above}}
-use Rattle.cacache_keep.proofs.{Losses.{ApartSteps.{Apart, EachApart, apart_join, Fixes, fixes_failed, fixes_none, fixes_step, fixes_then}, ApartBuckets.{bucket_apart, bucket_stops}}, Indexes.FoundFolders.{HasBucketName, paths_lie}}
+use Rattle.cacache_keep.proofs.{Losses.{ApartSteps.{Apart, EachApart, apart_join, Fixes, fixes_failed, fixes_none, fixes_step, fixes_then}, ApartBuckets.{bucket_apart, bucket_stops}}, Indexes.FoundFolders.{HasBucketName, paths_lie}, Asked.{both_parts}}
 
 -- ---- steps that look or sync
 
@@ -77,13 +77,9 @@ module _ (cache : List ℕ) (home : Names) (is : home_of cache ≡ Some home) (p
       aparts_then p old found new (finding_apart p cache tops paths old found finding)
       (aparts_then p found done new (all_apart paths count bytes found done (paths_lie cache home tops paths old found is finding) all) (syncs_apart p (folders_above cache tops) done new above))
 
-  both_parts : (xs ys : List (List ℕ)) → AllByRecursion (HasBucketName home) (xs ++ ys) → AllByRecursion (HasBucketName home) xs × AllByRecursion (HasBucketName home) ys
-  both_parts [] ys all = (tt, all)
-  both_parts (x ∷ xs) ys all = let rest = both_parts xs ys all.1 in ((all.0, rest.0), rest.1)
-
   each_stops : (paths : List (List ℕ)) (e : Error) (old new : Option (List LogItem)) → AllByRecursion (HasBucketName home) paths → StopsCompactingEach true cache paths e old new → Aparts p old new
   each_stops paths e old new lie s =
-      let parts = both_parts (map (λ (b : Bucket). b.0) s.buckets) (s.next ∷ s.rest) (subst (AllByRecursion (HasBucketName home)) s.split lie) in
+      let parts = both_parts (HasBucketName home) (map (λ (b : Bucket). b.0) s.buckets) (s.next ∷ s.rest) (subst (AllByRecursion (HasBucketName home)) s.split lie) in
       aparts_then p old s.between new (each_apart s.buckets old s.between parts.0 s.compacting)
       (bucket_stops cache home is p Way kind (λ e. cc) s.next e s.between new (at_false (Some home) IsBucket Way p (names_of s.next) parts.1.0 kind (λ e. cc)) s.stop)
 

@@ -1,17 +1,17 @@
 -- What parts of a log do from a moment on: to the tree that they find, and to what of it is fixed.
 -- Steps that leave what stands at a path, and what of it is fixed.
-use Rattle.std.proofs.Common.{◌≡◌, inl, inr, List, [], ◌∷◌, ◌++◌, Option, Some, refl, sym, ap, subst, ◌∙◌, ◌⊎◌, ℕ, Bool, true, false, cond, None, Result, Ok, Err}
-use Rattle.std.specs.Prelude.{unwrap_or}
+use Rattle.std.proofs.{Common.{◌≡◌, inl, inr, List, [], ◌∷◌, ◌++◌, Option, Some, refl, sym, ap, subst, ◌∙◌, ◌⊎◌, ℕ, Bool, true, false, cond, None, Result, Ok, Err}, ByRecursion.{All-append}}
+use Rattle.std.specs.{Prelude.{unwrap_or}, List.{AllByRecursion}}
 use Rattle.cacache_core.specs.{declared.errors.{Error.{Error, TheVariants.{IoError, OutOfMemory}}, Fault.{Fault, TheVariants.{IsADirectory}}}, PathNames.{Names, names_of}}
 use Rattle.cacache_store.specs.{declared.store.{log.LogItem.{LogItem}, plain.PlainTemp.{PlainTemp}, step.Step.TheVariants.{MakeDirs, CreateTemp, Write, Persist, ReadAll, ReadDir, SyncTemp, SyncFile, SyncDir}}, Plain.{PlainStep, PlainAnswer}}
 use Rattle.cacache_disk.specs.{declared.{luck.Luck.TheVariants.{Plain}, node.Node.{Node, TheVariants.{File}}}, Tree.{Tree, bytes_of, cut, look}, Apply.{apply}, Rooted.{Rooted}, memory.Replay.{tree_of, IsLog}, LedTo.{file_at, folder, leads}}
 use Rattle.cacache_disk.proofs.Maps.{same_path-true}
 use Rattle.cacache_calls.specs.{Runs.{Gains, Moves}, SingleSteps.{Does, FailsAt}}
 use Rattle.cacache_laws.specs.Sequence.{tree_on, plain_moves, AreAnswered}
-use Rattle.cacache_laws.proofs.{Calls.InParts.{logs_lead}, trees.Logged.{answered_split, gains_join, log_rooted}, results.LinkerResults.{moves_same}}
+use Rattle.cacache_laws.proofs.{Calls.InParts.{logs_lead}, trees.{Logged.{answered_split, gains_join, log_rooted}, HiddenKeys.{moves_rooted}}, results.LinkerResults.{moves_same}}
 use Rattle.cacache_loss.specs.{Moments.{Moment, after, next}, declared.fixing.Fixing.{Fixing}, CalmMoves.{is_calm}, Fixing.{Fixed, changed, file_synced, fixed_after, folder_synced, is_at, is_child_of, is_sync, is_synced, synced, temp_synced}}
 use Rattle.cacache_loss.proofs.{KeptPaths.{sync_tree}, StepCases.{PersistCase, asked_keeps, cut_misses, dirs_keep, make_keeps, moved, persist_case, put_misses, refused, step_keeps, temp_keeps}, UnchangedPaths.{Misses, at_names, file_kept, moved_false, name_kept, rewrites_false, writes_false}}
-use Rattle.cacache_keep.proofs.{Stopped.{gains_none}, TreeRuns.{Leads, moves_rooted}}
+use Rattle.cacache_keep.proofs.{Stopped.{gains_none}, TreeRuns.{Leads}}
 use Rattle.cacache_store.specs.declared.store.answer.Answer.TheVariants as answers
 
 -- the moment after these moves
@@ -27,7 +27,7 @@ later_split w [] two = refl
 later_split w (m ∷ one) two = later_split (next w (record { step = m.0; luck = Plain; answer = m.1 })) one two
 
 pub later_rooted : (w : Moment) (moves : Moves) → Rooted w.tree → Rooted (later w moves).tree
-later_rooted w moves rooted = subst Rooted (sym (later_tree w moves)) (moves_rooted w.tree moves rooted)
+later_rooted w moves rooted = subst Rooted (sym (later_tree w moves)) (moves_rooted moves w.tree rooted)
 
 -- moves that a log gained; this is so of them from each moment on whose tree answers them
 pub record Fixes (P : Moment → Moves → Type 0) (old new : Option (List LogItem)) : Type 0 where
@@ -217,12 +217,10 @@ module _ (t : Tree) (fixed : Fixed) (q : Names) (node : Node) (there : look t q 
 -- ---- many steps
 
 abbrev pub EachApart : Names → Moves → Type 0
-EachApart q [] = Unit {0}
-EachApart q (m ∷ moves) = Apart q m.0 × EachApart q moves
+EachApart q = AllByRecursion (λ (m : PlainStep × PlainAnswer). Apart q m.0)
 
 pub apart_join : (q : Names) (one two : Moves) → EachApart q one → EachApart q two → EachApart q (one ++ two)
-apart_join q [] two a b = b
-apart_join q (m ∷ one) two a b = (a.0, apart_join q one two a.1 b)
+apart_join q = All-append (λ (m : PlainStep × PlainAnswer). Apart q m.0)
 
 pub moves_kept : (w : Moment) (moves : Moves) (q : Names) (node : Node) → look w.tree q ≡ Some node → EachApart q moves → Kept w (later w moves) q node
 moves_kept w [] q node there apart = kept_none w q node there

@@ -2,7 +2,7 @@
 use Rattle.std.proofs.Common.{◌≡◌, inl, inr, ℕ, List, [], ◌∷◌, ◌++◌, None, Some, refl, sym, ap, subst, ◌∙◌, append_assoc}
 use Rattle.sha1.specs.Sha1.{sha1}
 use Rattle.cacache_core.{specs.{PathLaws.{IsKeyDigest}, PathNames.{Names, home_of}, Paths.{bucket_names_of, index_area}}, proofs.PathLemmas.{keys_have_digests}}
-use Rattle.cacache_store.specs.declared.store.log.LogItem.{LogItem}
+use Rattle.cacache_store.specs.{declared.store.log.LogItem.{LogItem}, Plain.{PlainStep, PlainAnswer}}
 use Rattle.cacache_disk.{specs.{declared.node.Node.{Node, TheVariants.{Folder, File}}, Tree.{Tree, look}, memory.Replay.{tree_of, IsLog}}, proofs.Standing.{upper_folder}}
 use Rattle.cacache_calls.specs.Runs.{Gains, Moves}
 use Rattle.cacache_value.{specs.Kinds.{Bucket as IsBucket, Way, path_kind}, proofs.KindsApart.{kind-below}}
@@ -10,11 +10,7 @@ use Rattle.cacache_loss.specs.{declared.fixing.Place.{Place}, Fixing.{Fixed}, Lo
 use Rattle.cacache_loss.proofs.SyncedFolders.{left_was}
 use Rattle.cacache_laws.proofs.trees.Logged.{log_rooted}
 use Rattle.cacache_keep.specs.Losses.{BucketsFixed, CompactionsSpare, CompactsDurably, IsFixedAt, WayFixed, moment_after}
-use Rattle.cacache_keep.proofs.Losses.{ApartSteps.{EachApart, moves_kept, name_still, fixes_on, later, later_rooted}, ApartCompactions.{compaction_apart}, FixedFolders.{node_lost}, LeanLosses.{IsEither, keys_keep}, SafeBuckets.{Good, GoodPlace, Safe, StaysSafe, WasGood, compaction_safe, front_safe}}
-
-apart_front : (q : Names) (one two : Moves) → EachApart q (one ++ two) → EachApart q one
-apart_front q [] two apart = tt
-apart_front q (m ∷ one) two apart = (apart.0, apart_front q one two apart.1)
+use Rattle.cacache_keep.proofs.{Losses.{ApartSteps.{EachApart, moves_kept, name_still, fixes_on, later, later_rooted, Apart}, ApartCompactions.{compaction_apart}, FixedFolders.{node_lost}, LeanLosses.{IsEither, keys_keep}, SafeBuckets.{Good, GoodPlace, Safe, StaysSafe, WasGood, compaction_safe, front_safe}}, Asked.{both_parts}}
 
 module _ (cache : List ℕ) (home : Names) (first rest : Moves) (fixed : Fixed) (loss : Loss) (old new : List LogItem) (left : Tree)
     (is : home_of cache ≡ Some home) (logged : IsLog new) (c : CompactsDurably cache (Some old) (Some new)) (gains : Gains (Some old) (Some new) (first ++ rest))
@@ -28,7 +24,7 @@ module _ (cache : List ℕ) (home : Names) (first rest : Moves) (fixed : Fixed) 
   way_still below above name node there kind none =
       let apart = fixes_on (λ w moves. EachApart (home ++ below) moves) old new (first ++ rest) start logged gains refl (compaction_apart cache home is (home ++ below) kind (Some old) (Some new) c) in
       let stands = upper_folder (tree_of old) (home ++ below) above name node (log_rooted old) there in
-      name_still start (later start first) (home ++ below) Folder (moves_kept start first (home ++ below) Folder stands (apart_front (home ++ below) first rest apart)) none
+      name_still start (later start first) (home ++ below) Folder (moves_kept start first (home ++ below) Folder stands (both_parts (λ (m : PlainStep × PlainAnswer). Apart (home ++ below) m.0) first rest apart).0) none
 
   module _ (a b e text : List ℕ) (there : look (tree_of old) (home ++ index_area ∷ a ∷ b ∷ e ∷ []) ≡ Some (File text)) (before : IsFixedAt fixed home (index_area ∷ a ∷ b ∷ e ∷ [])) where
     abbrev q : Names

@@ -1,14 +1,14 @@
 -- Buckets that a compaction doesn't change.
 -- What compactions of buckets leave of a tree, also if an error ends them.
-use Rattle.std.proofs.{Common.{◌≡◌, inl, inr, ℕ, List, Bool, true, false, None, Some, Ok, refl, sym, ap, ◌∙◌, [], ◌∷◌, ◌++◌, Option, map, subst, append-nil}, lemmas.{Bool.Decides.{Decides-eqb}, Slice.Eq.{slice_eq-Decides}}}
-use Rattle.std.specs.{Prelude.{not}, List.{AllByRecursion}}
+use Rattle.std.proofs.{Common.{◌≡◌, inl, inr, ℕ, List, Bool, true, false, None, Some, Ok, refl, sym, ap, ◌∙◌, [], ◌∷◌, Option, map, subst, append-nil}, lemmas.{Bool.{Decides.{Decides-eqb}, not-false}, Slice.Eq.{slice_eq-Decides}}}
+use Rattle.std.specs.List.{AllByRecursion}
 use Rattle.cacache_core.specs.{PathNames.{Names, names_of, home_of}, declared.errors.Error.{Error}, Paths.{index_area}}
 use Rattle.cacache_disk.specs.{declared.{node.Node.TheVariants.{File, Folder}, luck.Luck.TheVariants.{Plain}}, Tree.{Tree, look, same_path}, Apply.{apply}, Rooted.{Rooted}}
 use Rattle.cacache_disk.proofs.{Maps.{same_path-true}, Roots.{same_self}, Standing.{upper_folder}}
 use Rattle.cacache_laws.specs.trees.{Compacting.{compact_text}, Compacted.{Compacted, CutShort}}
 use Rattle.cacache_laws.proofs.{trees.{Compactions.{LeanTrees.{Becomes, same_bytes as same_file, compacted_more, compacted_none, cut_later, cut_short}, CompactTwice.{compact_again}}, Led.{file_shown}}, Readings.ReadAnswers.{reading_keeps}, Calls.InParts.{writing_keeps}}
 use Rattle.cacache_keep.specs.{Compacting.{Bucket, is_loose, same_bytes, CompactsBucket, CompactsEach, RewritesIf, StopsBucket, StopsCompactingEach}, Rewriting.{MakesTemp, Rewrites, StopsMaking, StopsRewriting, StopsWriting, SyncsTemp, Took}}
-use Rattle.cacache_keep.proofs.{Indexes.FoundBuckets.{IsBucketFile, Stays, stays_on}, NewBuckets.{MovedFiles.{MovedTo, moved, unmoved}, Rewritten.{Has, HasTemp, IsRewritten, TookSo, folder_made, left_over, rewritten, temp_failed, temp_made, writes_stay, writes_take}}, Losses.FixedFolders.{bucket_synced, bucket_unsynced, folder_synced, folder_unsynced, temp_synced, temp_unsynced}, TreeRuns.{Leads, leads_as, leads_failed, leads_none, leads_step, leads_then}}
+use Rattle.cacache_keep.proofs.{Indexes.FoundBuckets.{IsBucketFile, Stays, stays_on}, NewBuckets.{MovedFiles.{MovedTo, moved, unmoved}, Rewritten.{Has, HasTemp, IsRewritten, TookSo, folder_made, left_over, rewritten, temp_failed, temp_made, writes_stay, writes_take}}, Losses.FixedFolders.{bucket_synced, bucket_unsynced, folder_synced, folder_unsynced, temp_synced, temp_unsynced}, TreeRuns.{Leads, leads_as, leads_failed, leads_none, leads_step, leads_then}, Asked.{both_parts}}
 use Rattle.cacache_store.specs.declared.store.{log.LogItem.{LogItem}, plain.PlainTemp.{PlainTemp}}
 use Rattle.cacache_calls.specs.{SingleSteps.{Does}, StepPaths.{temp_folder, temp_path}}
 use Rattle.cacache_value.specs.Kinds.{path_kind}
@@ -32,11 +32,7 @@ tight_still durable home path t u k (inr (inr made)) = absurd (let wrong : None 
 
 -- what a compaction doesn't change is tight
 pub not_loose : (durable : Bool) (b : Bucket) → is_loose durable b ≡ false → compact_text durable b.1 ≡ b.1
-not_loose durable b is = (slice_eq-Decides Decides-eqb (compact_text durable b.1) b.1 (same_bytes (compact_text durable b.1) b.1) refl).0 (by (same_bytes (compact_text durable b.1) b.1) is)
-  where
-    by : (c : Bool) → not c ≡ false → c ≡ true
-    by true e = refl
-    by false e = absurd cc
+not_loose durable b is = (slice_eq-Decides Decides-eqb (compact_text durable b.1) b.1 (same_bytes (compact_text durable b.1) b.1) refl).0 (not-false (same_bytes (compact_text durable b.1) b.1) is)
 
 -- ---- one bucket is written anew
 
@@ -258,21 +254,13 @@ module _ (durable : Bool) (cache : List ℕ) (home : Names) (is : home_of cache 
 
   -- ---- all of them
 
-  head_of : (t : Tree) (xs : List (List ℕ)) (x : List ℕ) (ys : List (List ℕ)) → AllByRecursion (IsBucketFile home t) (xs ++ x ∷ ys) → IsBucketFile home t x
-  head_of t [] x ys all = all.0
-  head_of t (z ∷ xs) x ys all = head_of t xs x ys all.1
-
-  front_of : (t : Tree) (xs ys : List (List ℕ)) → AllByRecursion (IsBucketFile home t) (xs ++ ys) → AllByRecursion (IsBucketFile home t) xs
-  front_of t [] ys all = tt
-  front_of t (x ∷ xs) ys all = (all.0, front_of t xs ys all.1)
-
   pub stop_leads : (paths : List (List ℕ)) (e : Error) (old new : Option (List LogItem)) → StopsCompactingEach durable cache paths e old new → Leads (λ t u. AllByRecursion (IsBucketFile home t) paths → CutShort durable home t u) old new
   stop_leads paths e old new s =
-      let done = map (λ (b : Bucket). b.0) s.buckets in
       leads_then (CompactsThese (map (λ (b : Bucket). b.0) s.buckets)) (CutsAt s.next) (λ t u. AllByRecursion (IsBucketFile home t) paths → CutShort durable home t u) old s.between new
       (each_leads s.buckets old s.between s.compacting) (stopped_leads s.next e s.between new s.stop)
       (λ t u v rooted after first rest files.
       let these = subst (AllByRecursion (IsBucketFile home t)) s.split files in
-      let now = (first (front_of t (map (λ (b : Bucket). b.0) s.buckets) (s.next ∷ s.rest) these)).0 in
-      let next = file_at s.next t u (head_of t (map (λ (b : Bucket). b.0) s.buckets) s.next s.rest these) (now (head_of t (map (λ (b : Bucket). b.0) s.buckets) s.next s.rest these).names) in
+      let parts = both_parts (IsBucketFile home t) (map (λ (b : Bucket). b.0) s.buckets) (s.next ∷ s.rest) these in
+      let now = (first parts.0).0 in
+      let next = file_at s.next t u parts.1.0 (now parts.1.0.names) in
       cut_later durable home t u v now (rest next))

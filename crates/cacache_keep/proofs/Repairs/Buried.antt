@@ -1,6 +1,6 @@
 -- Tombstones leave the contents, and hide the keys that led to none and no other.
-use Rattle.std.proofs.{Common.{◌≡◌, ◌<◌, ◌^◌, inl, inr, ℕ, Bool, true, false, cond, List, [], ◌∷◌, ◌++◌, Option, None, Some, refl, sym, ap, subst, ◌∙◌, arith}, lemmas.{List.Elements.{All-head, All-tail}, Slice.Eq.{bytes_eq-Decides}}}
-use Rattle.std.specs.{Prelude.{All, IsUtf8, bytes_eq, not}, List.{flat_map}}
+use Rattle.std.proofs.{Common.{◌≡◌, ◌<◌, ◌^◌, inl, inr, ℕ, Bool, true, false, cond, List, [], ◌∷◌, ◌++◌, Option, None, Some, refl, sym, ap, subst, ◌∙◌, arith}, lemmas.{List.Elements.{All-head, All-tail}, Slice.Eq.{bytes_eq-Decides}, Bool.{not-true, not-false}}}
+use Rattle.std.specs.{Prelude.{All, IsUtf8, bytes_eq}, List.{flat_map}}
 use Rattle.cacache_core.specs.PathNames.{Names, home_of}
 use Rattle.cacache_store.specs.declared.store.log.LogItem.{LogItem}
 use Rattle.cacache_disk.specs.{Rooted.{Rooted}, Tree.{Tree, look}}
@@ -23,14 +23,6 @@ formed cache key moment utf8 early = λ none. (bare_written key None moment 0 ut
 made_parts : (site : Site) (calls more : List (Command × Reply)) (old new : Option (List LogItem)) → MadeCalls site (calls ++ more) old new → (mid : Option (List LogItem)) × MadeCalls site calls old mid × MadeCalls site more mid new
 made_parts site [] more old new made = (old, refl, made)
 made_parts site (c ∷ calls) more old new made = let rest = made_parts site calls more made.0 new made.2 in (rest.0, (made.0, made.1, rest.1), rest.2)
-
-not_so : (b : Bool) → not b ≡ true → b ≡ false
-not_so true e = absurd cc
-not_so false e = refl
-
-is_so : (b : Bool) → not b ≡ false → b ≡ true
-is_so true e = refl
-is_so false e = absurd cc
 
 module _ (site : Site) (home : Names) (is : home_of site.cache ≡ Some home) where
   -- ---- what a key leads to
@@ -74,7 +66,7 @@ module _ (site : Site) (home : Names) (is : home_of site.cache ≡ Some home) wh
   -- it leads to an entry whose content isn't there
   nowhere : (led : Led) (key : List ℕ) (t : Tree) → leads_nowhere led ≡ true → LedIs key led t → (g : Found) × (found_in home t key ≡ Some g) × (has_content site.cache t g ≡ false)
   nowhere None key t e k = absurd cc
-  nowhere (Some led) key t e k = (led.0, k.0, sym k.1 ∙ not_so led.1 e)
+  nowhere (Some led) key t e k = (led.0, k.0, sym k.1 ∙ not-true led.1 e)
 
   -- it leads to nothing, or to an entry whose content is there
   somewhere : (led : Led) (key : List ℕ) (t : Tree) (g : Found) → leads_nowhere led ≡ false → LedIs key led t → found_in home t key ≡ Some g → has_content site.cache t g ≡ true
@@ -82,7 +74,7 @@ module _ (site : Site) (home : Names) (is : home_of site.cache ≡ Some home) wh
   somewhere (Some led) key t g e k f =
       let both : Some led.0 ≡ Some g = sym k.0 ∙ f in
       let same : led.0 ≡ g = cc in
-      ap (has_content site.cache t) (sym same) ∙ sym k.1 ∙ is_so led.1 e
+      ap (has_content site.cache t) (sym same) ∙ sym k.1 ∙ not-false led.1 e
 
   -- ---- what tombstones do to a tree
 

@@ -1,6 +1,6 @@
 -- Keys that lead to no content get tombstones, one after another.
-use Rattle.std.proofs.{Common.{◌≡◌, ◌<◌, ◌^◌, inl, inr, ℕ, List, [], ◌∷◌, ◌++◌, Bool, true, false, Option, Some, refl, sym, ap, subst, ◌∙◌, map, append-nil, arith}, lemmas.List.{flat_map_more, map-append, Elements.{All-append, All-cons, All-nil}}}
-use Rattle.std.specs.{Prelude.{All, if◌then◌else◌, not}, List.{filter, flat_map}}
+use Rattle.std.proofs.{Common.{◌≡◌, ◌<◌, ◌^◌, inl, inr, ℕ, List, [], ◌∷◌, ◌++◌, Bool, true, false, Option, Some, refl, sym, ap, subst, ◌∙◌, map, append-nil, arith}, lemmas.{List.{flat_map_more, map-append, Elements.{All-cons, All-nil, All-push}}, Bool.{not-true, not-false}}}
+use Rattle.std.specs.{Prelude.{if◌then◌else◌, not}, List.{filter, flat_map}}
 use Rattle.cacache_core.specs.declared.errors.Error.{Error, TheVariants.{OutOfMemory}}
 use Rattle.cacache_store.specs.declared.store.log.LogItem.{LogItem}
 use Rattle.cacache_entry.specs.Latest.{Found}
@@ -45,18 +45,10 @@ got_one site look key led moment old mid new early is sure made ran =
 
 -- whether a key was buried, by its fate
 pub buried_so : (fate : Fate) (spared : Bool) → spared ≡ not (is_buried fate) → spared ≡ false → is_buried fate ≡ true
-buried_so fate spared e f = by (is_buried fate) (sym e ∙ f)
-  where
-    by : (b : Bool) → not b ≡ false → b ≡ true
-    by true e = refl
-    by false e = absurd (let wrong : true ≡ false = e in cc)
+buried_so fate spared e f = not-false (is_buried fate) (sym e ∙ f)
 
 pub spared_so : (fate : Fate) (spared : Bool) → spared ≡ not (is_buried fate) → spared ≡ true → is_buried fate ≡ false
-spared_so fate spared e f = by (is_buried fate) (sym e ∙ f)
-  where
-    by : (b : Bool) → not b ≡ true → b ≡ false
-    by false e = refl
-    by true e = absurd (let wrong : false ≡ true = e in cc)
+spared_so fate spared e f = not-true (is_buried fate) (sym e ∙ f)
 
 -- ---- keys, one after another
 
@@ -68,19 +60,13 @@ calls_on site fates x old mid new made more =
 pub none_buried : (site : Site) (look : Look) (buried : List Found) (log : Option (List LogItem)) → buried ≡ [] → BuriesEach site look [] buried log log
 none_buried site look buried log none = record { fates = []; each = refl; keys = All-nil IsFateOf; sure = All-nil (λ (f : Found × Fate). IsSure site.cache look f.1.led); calls = refl; which = none }
 
-keys_on : (fates : List (Found × Fate)) (f : Found) (fate : Fate) → All IsFateOf fates → IsFateOf (f, fate) → All IsFateOf (fates ++ (f, fate) ∷ [])
-keys_on fates f fate keys same = All-append IsFateOf fates ((f, fate) ∷ []) keys (All-cons IsFateOf (f, fate) [] same (All-nil IsFateOf))
-
-sure_on : (cache : List ℕ) (look : Look) (fates : List (Found × Fate)) (f : Found × Fate) → All (λ (x : Found × Fate). IsSure cache look x.1.led) fates → IsSure cache look f.1.led → All (λ (x : Found × Fate). IsSure cache look x.1.led) (fates ++ f ∷ [])
-sure_on cache look fates f all one = All-append (λ (x : Found × Fate). IsSure cache look x.1.led) fates (f ∷ []) all (All-cons (λ (x : Found × Fate). IsSure cache look x.1.led) f [] one (All-nil (λ (x : Found × Fate). IsSure cache look x.1.led)))
-
 pub one_buried : (site : Site) (look : Look) (entries buried : List Found) (f : Found) (fate : Fate) (old mid new : Option (List LogItem)) → BuriesEach site look entries buried old mid → IsFateOf (f, fate) → is_buried fate ≡ true → IsSure site.cache look fate.led → MadeCalls site (calls_for fate) mid new → BuriesEach site look (entries ++ f ∷ []) (buried ++ f ∷ []) old new
 one_buried site look entries buried f fate old mid new b same is sure made =
     let more : Found × Fate = (f, fate) in record {
       fates = b.fates ++ more ∷ [];
       each = map-append (λ (x : Found × Fate). x.0) b.fates (more ∷ []) ∙ ap (λ (l : List Found). l ++ f ∷ []) b.each;
-      keys = keys_on b.fates f fate b.keys same;
-      sure = sure_on site.cache look b.fates more b.sure sure;
+      keys = All-push IsFateOf b.fates more b.keys same;
+      sure = All-push (λ (x : Found × Fate). IsSure site.cache look x.1.led) b.fates more b.sure sure;
       calls = calls_on site b.fates more old mid new b.calls made;
       which = ap (λ (l : List Found). l ++ f ∷ []) b.which ∙ sym (map-append (λ (x : Found × Fate). x.0) (filter (λ (x : Found × Fate). is_buried x.1) b.fates) (more ∷ [])) ∙ ap (λ (l : List (Found × Fate)). map (λ x. x.0) l) (sym (kept (λ (x : Found × Fate). is_buried x.1) b.fates more is));
     }
@@ -90,8 +76,8 @@ one_spared site look entries buried f fate old mid new b same is sure made =
     let more : Found × Fate = (f, fate) in record {
       fates = b.fates ++ more ∷ [];
       each = map-append (λ (x : Found × Fate). x.0) b.fates (more ∷ []) ∙ ap (λ (l : List Found). l ++ f ∷ []) b.each;
-      keys = keys_on b.fates f fate b.keys same;
-      sure = sure_on site.cache look b.fates more b.sure sure;
+      keys = All-push IsFateOf b.fates more b.keys same;
+      sure = All-push (λ (x : Found × Fate). IsSure site.cache look x.1.led) b.fates more b.sure sure;
       calls = calls_on site b.fates more old mid new b.calls made;
       which = b.which ∙ ap (λ (l : List (Found × Fate)). map (λ x. x.0) l) (sym (passed (λ (x : Found × Fate). is_buried x.1) b.fates more is));
     }

@@ -14,7 +14,7 @@ use Rattle.cacache_laws.specs.{Sequence.{tree_on}, trees.{Collecting.{Removes}, 
 use Rattle.cacache_laws.proofs.{Calls.InParts.{logs_lead}, trees.{Collected.{from_kept, kept_in, leaves, repairs_leave, dropped_hash, picked_left}, Indexed.{holds_just}, Logged.{answered_rest, answered_split, gains_join, log_rooted, tree_rest, tree_split, walked}, Members.{Member, contains_member, member_contains}, HiddenKeys.{removes_house, removes_root, removes_still}, Led.{found_integrity, found_listed, indexes_lead}, Spared.StillThere.{good_still, good_there, has_still}}}
 use Rattle.cacache_walks.specs.{Listing.{content_area_in}, Reading.{top_folder}}
 use Rattle.cacache_keep.specs.{Calls.{MadeCalls, question_of, removal}, Kept.{IsKeyOf, MendsCache, RepairsMend, LeadsToGood, RepairsKeepGood, RepairsVerify}, Reading.{Judged}, Repairing.{Fate, RepairsFrom, is_buried}}
-use Rattle.cacache_keep.proofs.{Indexes.{LinkedFolders.{repaired_on}, FoundBuckets.{in_map}}, Repairs.{Buried.{After, all_told, Whole}, Judged.{asks_told, others_named, reads_judged}, Shown.{burial_of, all_questions, verdicts_judge}}, Collections.Leaving.{removals, removals_gain, removed_by}, Stopped.{made_looks}}
+use Rattle.cacache_keep.proofs.{Indexes.{LinkedFolders.{repaired_on}, FoundBuckets.{in_map}}, Repairs.{Buried.{After, all_told, Whole}, Judged.{asks_told, others_named, reads_judged}, Shown.{burial_of, all_questions, verdicts_judge}}, Collections.Leaving.{removals, removals_gain, removed_by}, Stopped.{made_looks}, Asked.{none_kept}}
 
 pub map_from : {X Y : Type 0} (f : X → Y) (y : Y) (xs : List X) → Member y (map f xs) → (x : X) × Member x xs × (f x ≡ y)
 map_from f y [] m = absurd m
@@ -150,15 +150,6 @@ repairs_mend site home damaged buried old new is logged placed v =
     let k = repaired_on site home damaged buried old new is logged v in
     let placed_there = subst (Placed (Some home)) (sym k.stays) placed in
     subst (λ (t : Tree). MendsCache site home t (tree_of new) damaged buried) k.stays (repaired site home is k.entries damaged buried k.log new logged placed_there k.so)
-
--- a filter that takes none
-none_kept : {X : Type 0} (p : X → Bool) (xs : List X) → ((x : X) → Member x xs → p x ≡ false) → filter p xs ≡ []
-none_kept p [] never = refl
-none_kept p (x ∷ xs) never = by (p x) (never x (inl refl)) (none_kept p xs (λ y m. never y (inr m)))
-  where
-    by : (b : Bool) → b ≡ false → filter p xs ≡ [] → cond b (x ∷ filter p xs) (filter p xs) ≡ []
-    by true e rest = absurd cc
-    by false e rest = rest
 
 pub first_hash : (i : List Hash) (h : Hash) → address i ≡ Some h → (hs : List Hash) × (i ≡ h ∷ hs)
 first_hash [] h e = absurd cc

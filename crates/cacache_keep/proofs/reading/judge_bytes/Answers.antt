@@ -10,21 +10,16 @@ returns-in_err-clone-clause-stops g c =
     let log = g.S.Store.log c.args.store.now in
     error_as (λ e. StopsGiving file e log log) c.from_residual.result OutOfMemory c.from_residual.ensures.1 (nothing_gave file log)
 
-pub returns-then-is_empty-clause-says : goal.returns-then-is_empty-clause-says
-returns-then-is_empty-clause-says g c =
+pub returns-then-is_empty : goal.returns-then-is_empty
+returns-then-is_empty g c =
     let x = c.pieces.invariant in
     let seen = g.S.File.FileHandle.seen in
     let none : (length c.in-Ok.got.bytes == 0) ≡ true = cc in
     let all = gave_all (seen c.args.file) (seen c.pieces.file) (seen c.in-Ok.got.file) x.0 c.in-Ok.got.bytes _ _ _ _ x.3 c.in-Ok.ensures c.step.ensures.logged none in
-    value_both c.judged.result (λ j met size. (x.0, met, size ∙ x.2, all)) (c.judged.ensures.met c.args.sri.now x.0 x.1) c.judged.ensures.size
-
-pub returns-then-is_empty-clause-stops : goal.returns-then-is_empty-clause-stops
-returns-then-is_empty-clause-stops g c =
-    let x = c.pieces.invariant in
-    let seen = g.S.File.FileHandle.seen in
-    let none : (length c.in-Ok.got.bytes == 0) ≡ true = cc in
-    let all = gave_all (seen c.args.file) (seen c.pieces.file) (seen c.in-Ok.got.file) x.0 c.in-Ok.got.bytes _ _ _ _ x.3 c.in-Ok.ensures c.step.ensures.logged none in
-    error_so c.judged.result (λ e is. inr (is, x.0, all)) (c.judged.ensures.memory c.args.sri.now x.0 x.1)
+    record {
+      says = value_both c.judged.result (λ j met size. (x.0, met, size ∙ x.2, all)) (c.judged.ensures.met c.args.sri.now x.0 x.1) c.judged.ensures.size;
+      stops = error_so c.judged.result (λ e is. inr (is, x.0, all)) (c.judged.ensures.memory c.args.sri.now x.0 x.1);
+    }
 
 pub pieces-preserved : goal.pieces-preserved
 pieces-preserved g c =

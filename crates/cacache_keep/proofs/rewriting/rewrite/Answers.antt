@@ -35,8 +35,8 @@ returns-in_err-move_to-clause-stops g c =
     error_as (λ x. StopsRewriting c.args.durable c.args.cache.now c.args.path.now c.args.bytes x old new) c.from_residual-in_err-move_to.result e c.from_residual-in_err-move_to.ensures.1
     (unmoved c.args.durable c.args.cache.now c.args.path.now c.args.bytes (seen c.in_ok-file.file) (seen c.in_ok-file-2.file) (seen c.in_ok-file-3.file) old made written synced c.in_ok-file.ensures.makes c.in_ok-file-2.ensures.writes c.in_ok-file-3.ensures.syncs c.in_ok-file-3.ensures.same e new c.in_err-move_to.ensures.stops)
 
-pub returns-clause-rewrites : goal.returns-clause-rewrites
-returns-clause-rewrites g c =
+pub returns : goal.returns
+returns g c =
     let seen = g.S.Temp.TempHandle.seen in
     let old = g.S.Store.log c.args.store.now in
     let made = g.S.Store.log c.make_temp.new.store in
@@ -44,19 +44,11 @@ returns-clause-rewrites g c =
     let synced = g.S.Store.log c.sync_temp.new.store in
     let moved = g.S.Store.log c.move_to.new.store in
     let new = g.S.Store.log c.secure.new.store in
-    done_so c.secure.result
-    (λ syncs. secured c.args.durable c.args.cache.now c.args.path.now c.args.bytes (seen c.in_ok-file.file) (seen c.in_ok-file-2.file) (seen c.in_ok-file-3.file) old made written synced c.in_ok-file.ensures.makes c.in_ok-file-2.ensures.writes c.in_ok-file-3.ensures.syncs c.in_ok-file-3.ensures.same moved new c.in_ok-move_to.ensures.moves syncs)
-    c.secure.ensures.syncs
-
-pub returns-clause-stops : goal.returns-clause-stops
-returns-clause-stops g c =
-    let seen = g.S.Temp.TempHandle.seen in
-    let old = g.S.Store.log c.args.store.now in
-    let made = g.S.Store.log c.make_temp.new.store in
-    let written = g.S.Store.log c.write_all.new.store in
-    let synced = g.S.Store.log c.sync_temp.new.store in
-    let moved = g.S.Store.log c.move_to.new.store in
-    let new = g.S.Store.log c.secure.new.store in
-    error_so c.secure.result
-    (λ e stop. unsecured c.args.durable c.args.cache.now c.args.path.now c.args.bytes (seen c.in_ok-file.file) (seen c.in_ok-file-2.file) (seen c.in_ok-file-3.file) old made written synced c.in_ok-file.ensures.makes c.in_ok-file-2.ensures.writes c.in_ok-file-3.ensures.syncs c.in_ok-file-3.ensures.same moved e new c.in_ok-move_to.ensures.moves stop)
-    c.secure.ensures.stops
+    record {
+      rewrites = done_so c.secure.result
+          (λ syncs. secured c.args.durable c.args.cache.now c.args.path.now c.args.bytes (seen c.in_ok-file.file) (seen c.in_ok-file-2.file) (seen c.in_ok-file-3.file) old made written synced c.in_ok-file.ensures.makes c.in_ok-file-2.ensures.writes c.in_ok-file-3.ensures.syncs c.in_ok-file-3.ensures.same moved new c.in_ok-move_to.ensures.moves syncs)
+          c.secure.ensures.syncs;
+      stops = error_so c.secure.result
+          (λ e stop. unsecured c.args.durable c.args.cache.now c.args.path.now c.args.bytes (seen c.in_ok-file.file) (seen c.in_ok-file-2.file) (seen c.in_ok-file-3.file) old made written synced c.in_ok-file.ensures.makes c.in_ok-file-2.ensures.writes c.in_ok-file-3.ensures.syncs c.in_ok-file-3.ensures.same moved e new c.in_ok-move_to.ensures.moves stop)
+          c.secure.ensures.stops;
+    }
