@@ -1,6 +1,6 @@
 -- What the opening of a reader finds in a cache, and that it leaves the tree.
 use Rattle.std.proofs.{Common.{◌≡◌, ◌⊎◌, inl, inr, ℕ, List, [], ◌∷◌, ◌++◌, Option, None, Some, Result, Ok, Err, map, refl, sym, ap, subst, ◌∙◌, arith}, lemmas.List.Elements.{All-head}}
-use Rattle.cacache_core.specs.{declared.{errors.{Error.{Error, TheVariants.{EntryNotFound, SizeMismatch, IoError, SerdeError, IntegrityError, OutOfMemory}}, Fault.{Fault}}, integrity.digest.Hash.{Hash}}, Integrity.{IsHash}, PathNames.{home_of}}
+use Rattle.cacache_core.specs.{declared.{errors.{Error.{Error, TheVariants.{EntryNotFound, IoError, OutOfMemory}}, Fault.{Fault}}, integrity.digest.Hash.{Hash}}, Integrity.{IsHash}, PathNames.{home_of}}
 use Rattle.cacache_core.specs.declared.errors.Fault.TheVariants as faults
 use Rattle.cacache_store.specs.declared.store.answer.Answer.TheVariants as answers
 use Rattle.cacache_store.specs.{declared.store.{log.LogItem.{LogItem, TheVariants.{Made}}, plain.PlainFile.{PlainFile}}, Plain.{PlainAnswer}}
@@ -152,6 +152,15 @@ lookup_fails o OutOfMemory h = tt
 lookup_fails o (IoError fault message) h = tt
 lookup_fails o e h = absurd cc
 
+-- how an opening by key ends: what was found is opened, the lookup was refused, or it found nothing
+pub by_key : (cache base key : List ℕ) (old new : List LogItem) (P : Result PlainFile Error → Type 0) → ((r : Result PlainFile Error) → OpensWhatWasFound cache base key r (Some old) (Some new) → P r)
+    → ((e : Error) → LookupRan cache base key (replies.Refused (without_message e)) (Some old) (Some new) → P (Err e))
+    → ((c k : List ℕ) → c ≡ cache → k ≡ key → LookupRan cache base key (replies.LookedUp None) (Some old) (Some new) → P (Err (EntryNotFound c k)))
+    → (r : Result PlainFile Error) → OpensByKey cache base key r (Some old) (Some new) → P r
+by_key cache base key old new P found refused missing (Ok file) h = found (Ok file) h
+by_key cache base key old new P found refused missing (Err (EntryNotFound c k)) h = missing c k h.0 h.1 h.2
+by_key cache base key old new P found refused missing (Err e) h = elim h [ inl ran ↦ refused e ran | inr more ↦ found (Err e) more ]
+
 -- ---- the opening of what a key leads to
 
 module _ (cache base key : List ℕ) (old : List LogItem) (sound : IsCache cache old) where
@@ -223,14 +232,7 @@ module _ (cache base key : List ℕ) (old : List LogItem) (sound : IsCache cache
         let mid = old ++ map (λ m. Made m.0 m.1) h.2.0 in
         found_at r h.0 mid (h.2.0, h.2.1, refl) (subst (λ x. OpensContent cache h.0.integrity r x (Some new)) h.2.2 h.3) logged
 
-    opens_key : (r : Result PlainFile Error) → OpensByKey cache base key r (Some old) (Some new) → IsLog new → Result_of r
-    opens_key (Ok file) h logged = found (Ok file) h logged
-    opens_key (Err (EntryNotFound c k)) h logged = missing c k h.0 h.1 h.2 logged
-    opens_key (Err (SizeMismatch wanted actual)) h logged = elim h [ inl ran ↦ refused (SizeMismatch wanted actual) ran logged | inr more ↦ found (Err (SizeMismatch wanted actual)) more logged ]
-    opens_key (Err (IoError fault message)) h logged = elim h [ inl ran ↦ refused (IoError fault message) ran logged | inr more ↦ found (Err (IoError fault message)) more logged ]
-    opens_key (Err (SerdeError cause message)) h logged = elim h [ inl ran ↦ refused (SerdeError cause message) ran logged | inr more ↦ found (Err (SerdeError cause message)) more logged ]
-    opens_key (Err (IntegrityError fault)) h logged = elim h [ inl ran ↦ refused (IntegrityError fault) ran logged | inr more ↦ found (Err (IntegrityError fault)) more logged ]
-    opens_key (Err OutOfMemory) h logged = elim h [ inl ran ↦ refused OutOfMemory ran logged | inr more ↦ found (Err OutOfMemory) more logged ]
-
 pub readers_open_key : ReadersOpenKey
-readers_open_key cache base key r old new sound h logged = opens_key cache base key old sound new r h logged
+readers_open_key cache base key r old new sound h logged =
+    by_key cache base key old new (Result_of cache base key old sound new) (λ r found_it. found cache base key old sound new r found_it logged)
+    (λ e ran. refused cache base key old sound new e ran logged) (λ c k here mine ran. missing cache base key old sound new c k here mine ran logged) r h

@@ -1,7 +1,7 @@
 -- Openings of readers and linkers in which all steps succeed.
 use Rattle.std.proofs.{Common.{◌≡◌, inl, inr, ℕ, List, [], ◌∷◌, ◌++◌, Option, None, Some, Result, Ok, Err, length, map, refl, sym, ap, subst, ◌∙◌, arith}, lemmas.List.Elements.{All-head}}
 use Rattle.sha1.specs.Sha1.{sha1}
-use Rattle.cacache_core.specs.{declared.{errors.{Error.{Error, TheVariants.{EntryNotFound, SizeMismatch, IoError, SerdeError, IntegrityError, OutOfMemory}}, Fault.{Fault}}, integrity.digest.Hash.{Hash}}, Integrity.{IsHash, IsIntegrity, address}, PathNames.{home_of}}
+use Rattle.cacache_core.specs.{declared.{errors.{Error.{Error, TheVariants.{EntryNotFound, IoError, OutOfMemory}}, Fault.{Fault}}, integrity.digest.Hash.{Hash}}, Integrity.{IsHash, IsIntegrity, address}, PathNames.{home_of}}
 use Rattle.cacache_core.specs.declared.errors.Fault.TheVariants as faults
 use Rattle.cacache_store.specs.declared.store.answer.Answer.TheVariants as answers
 use Rattle.cacache_store.specs.{declared.store.{log.LogItem.{LogItem, TheVariants.{Made}}, plain.PlainFile.{PlainFile}}, Plain.{PlainAnswer}}
@@ -12,8 +12,8 @@ use Rattle.cacache_calls.specs.declared.command.Command.TheVariants as commands
 use Rattle.cacache_calls.specs.{declared.reply.Reply.{Reply, TheVariants.{LookedUp, Refused}}, Replies.{OrMemory}, Runs.{Moves, plain_reply, without_message}, SingleSteps.{Does, FailsAt}, StepPaths.{content_path}}
 use Rattle.cacache_value.specs.{Shows.{blob_bytes}, Value.{value_of_tree}}
 use Rattle.cacache_history.{specs.ShownTurns.{blob_at}, proofs.Entries.Spelled.{HasIntegrity, latest_has}}
-use Rattle.cacache_laws.specs.{Caches.{Called, IsCache}, Keeping.{found_under}, LinkAnswers.{KeyReadersAnswer, LinkerOpeningsAnswer, OpensAs, OpensLed, ReadersAnswer, SizedOpeningsAnswer, target_bytes}, Looks.{bytes_under}, OpenLinkers.{OpensTarget, TellsSize}, OpenReaders.{LookupRan, OpensByKey, OpensContent, OpensWhatWasFound}, ReadAnswers.{entries_on}, Sequence.{IsSound}, Succeeds.{NamesFolder}}
-use Rattle.cacache_laws.proofs.{Calls.{InParts.{logs_lead}, Logs.{some_same}, CallErrors.{plain_error, memory_error}}, Readings.{Looks.{tree_stays}, OpenReaders.{log_front, opened_by}, ReadAnswers.{sizing_keeps}, Standing.{caches_stand}}, Sure.{Succeeds.{back, ground, lookups_answer}, SureReads.{opens_as, sizes_as, bytes_at}}, Links.TargetBytes.{target_opened}, trees.Covering.{home_named}}
+use Rattle.cacache_laws.specs.{Caches.{Called, IsCache}, Keeping.{found_under}, LinkAnswers.{KeyReadersAnswer, LinkerOpeningsAnswer, OpensAs, OpensLed, ReadersAnswer, SizedOpeningsAnswer, target_bytes}, Looks.{bytes_under}, OpenLinkers.{OpensTarget, TellsSize}, OpenReaders.{LookupRan, OpensContent, OpensWhatWasFound}, ReadAnswers.{entries_on}, Sequence.{IsSound}, Succeeds.{NamesFolder}}
+use Rattle.cacache_laws.proofs.{Calls.{InParts.{logs_lead}, Logs.{some_same}, CallErrors.{plain_error, memory_error}}, Readings.{Looks.{tree_stays}, OpenReaders.{log_front, opened_by, by_key}, ReadAnswers.{sizing_keeps}, Standing.{caches_stand}}, Sure.{Succeeds.{back, ground, lookups_answer}, SureReads.{opens_as, sizes_as, bytes_at}}, Links.TargetBytes.{target_opened}, trees.Covering.{home_named}}
 
 -- ---- the opening of a file
 
@@ -149,14 +149,6 @@ module _ (cache base key : List ℕ) (old new : List LogItem) (folder : NamesFol
       let o = opened_by cache h.0.integrity r mid new opens in
       found_at r h.0 mid (h.2.0, h.2.1, refl) (log_front mid new (map (λ m. Made m.0 m.1) o.moves) (some_same new _ o.gains) logged) opens
 
-  opens_key : (r : Result PlainFile Error) → OpensByKey cache base key r (Some old) (Some new) → OpensLed cache key (found_under cache key old) r old
-  opens_key (Ok file) h = found (Ok file) h
-  opens_key (Err (EntryNotFound c k)) h = missing c k h.0 h.1 h.2
-  opens_key (Err (SizeMismatch wanted actual)) h = elim h [ inl ran ↦ refused (SizeMismatch wanted actual) ran | inr more ↦ found (Err (SizeMismatch wanted actual)) more ]
-  opens_key (Err (IoError fault message)) h = elim h [ inl ran ↦ refused (IoError fault message) ran | inr more ↦ found (Err (IoError fault message)) more ]
-  opens_key (Err (SerdeError cause message)) h = elim h [ inl ran ↦ refused (SerdeError cause message) ran | inr more ↦ found (Err (SerdeError cause message)) more ]
-  opens_key (Err (IntegrityError fault)) h = elim h [ inl ran ↦ refused (IntegrityError fault) ran | inr more ↦ found (Err (IntegrityError fault)) more ]
-  opens_key (Err OutOfMemory) h = elim h [ inl ran ↦ refused OutOfMemory ran | inr more ↦ found (Err OutOfMemory) more ]
-
 pub key_readers_answer : KeyReadersAnswer
-key_readers_answer cache base key r old new folder sound h logged = opens_key cache base key old new folder sound logged r h
+key_readers_answer cache base key r old new folder sound h logged =
+    by_key cache base key old new (λ r. OpensLed cache key (found_under cache key old) r old) (found cache base key old new folder sound logged) (refused cache base key old new folder sound logged) (missing cache base key old new folder sound logged) r h
