@@ -4,7 +4,7 @@ use Rattle.std.specs.{List.{filter}, Iterator.{Yields}, Prelude.{min, not}}
 use Rattle.cacache_core.specs.declared.{errors.Error.{Error, TheVariants.{OutOfMemory}}, integrity.digest.Hash.{Hash}}
 use Rattle.cacache_store.specs.declared.store.log.LogItem.{LogItem}
 use Rattle.cacache_laws.specs.trees.Temporary.{total}
-use Rattle.cacache_keep.specs.Reading.{Judged, ReadsEach, SaysGood, SaysOfEach, StopsContent, StopsEach, StopsNext, WeighsOthers}
+use Rattle.cacache_keep.specs.Reading.{Judged, ReadsEach, SaysGood, SaysOfEach, StopsEach, StopsNext, WeighsOthers}
 use Rattle.cacache_keep.proofs.{Asked.{kept, passed}, Collections.Sweeps.{total_more}}
 
 -- ---- one more
@@ -80,33 +80,20 @@ split_turn {S} {X} {steps} {s} {all} road seen now next by r x is step =
     let turn = YieldsList-turn road seen now by r next x is step in
     split_at all seen x (length seen) turn.0 (sym (map-id seen) ∙ YieldsList-so_far road seen now by) turn.1
 
--- the next one couldn't be read
-pub next_stops : (cache : List ℕ) (addresses seen damaged : List (List Hash)) (good_bytes damaged_bytes : ℕ) (i : List Hash) (rest : List (List Hash)) (e : Error) (old mid new : Option (List LogItem)) → addresses ≡ seen ++ i ∷ rest → WeighsOthers cache seen good_bytes damaged damaged_bytes old mid → StopsContent cache i e mid new
-    → StopsEach cache addresses e old new
-next_stops cache addresses seen damaged good_bytes damaged_bytes i rest e old mid new split g stop =
-    let r = g.1.0 in
-    record {
-      reads = r.reads;
-      rest = i ∷ rest;
-      split = split ∙ ap (λ (l : List (List Hash)). l ++ i ∷ rest) (sym r.each);
-      between = mid;
-      reading = r.reading;
-      stop = stop;
-    }
-
-memory_next : (cache : List ℕ) (rest : List (List Hash)) (log : Option (List LogItem)) → StopsNext cache rest OutOfMemory log log
+pub memory_next : (cache : List ℕ) (rest : List (List Hash)) (log : Option (List LogItem)) → StopsNext cache rest OutOfMemory log log
 memory_next cache [] log = (refl, refl)
 memory_next cache (i ∷ rest) log = inl (refl, inl refl)
 
--- memory ran out after these
-pub memory_stops : (cache : List ℕ) (addresses seen damaged rest : List (List Hash)) (good_bytes damaged_bytes : ℕ) (old new : Option (List LogItem)) → addresses ≡ seen ++ rest → WeighsOthers cache seen good_bytes damaged damaged_bytes old new → StopsEach cache addresses OutOfMemory old new
-memory_stops cache addresses seen damaged rest good_bytes damaged_bytes old new split g =
+-- these were read, and the error ended what comes next
+pub stops_next : (cache : List ℕ) (addresses seen damaged rest : List (List Hash)) (good_bytes damaged_bytes : ℕ) (e : Error) (old mid new : Option (List LogItem)) → addresses ≡ seen ++ rest → WeighsOthers cache seen good_bytes damaged damaged_bytes old mid → StopsNext cache rest e mid new
+    → StopsEach cache addresses e old new
+stops_next cache addresses seen damaged rest good_bytes damaged_bytes e old mid new split g stop =
     let r = g.1.0 in
     record {
       reads = r.reads;
       rest = rest;
       split = split ∙ ap (λ (l : List (List Hash)). l ++ rest) (sym r.each);
-      between = new;
+      between = mid;
       reading = r.reading;
-      stop = memory_next cache rest new;
+      stop = stop;
     }

@@ -1,5 +1,5 @@
 -- Keys that lead to no content get tombstones, one after another.
-use Rattle.std.proofs.{Common.{◌≡◌, ◌<◌, ◌^◌, inl, inr, ℕ, List, [], ◌∷◌, ◌++◌, Bool, true, false, Option, Some, refl, sym, ap, subst, ◌∙◌, map, append-nil, arith}, lemmas.{List.{flat_map_more, map-append, Elements.{All-cons, All-nil, All-push}}, Bool.{not-true, not-false}}}
+use Rattle.std.proofs.{Common.{◌≡◌, ◌<◌, ◌^◌, inl, inr, ℕ, List, [], ◌∷◌, ◌++◌, Bool, true, false, Option, Some, refl, sym, ap, subst, ◌∙◌, map, append-nil, arith, ◌⊎◌}, lemmas.{List.{flat_map_more, map-append, Elements.{All-cons, All-nil, All-push}}, Bool.{not-true, not-false}}}
 use Rattle.std.specs.{Prelude.{if◌then◌else◌, not}, List.{filter, flat_map}}
 use Rattle.cacache_core.specs.declared.errors.Error.{Error, TheVariants.{OutOfMemory}}
 use Rattle.cacache_store.specs.declared.store.log.LogItem.{LogItem}
@@ -7,7 +7,7 @@ use Rattle.cacache_entry.specs.Latest.{Found}
 use Rattle.cacache_calls.specs.{declared.{command.Command.{Command}, reply.Reply.{Reply}}, State.{Site}, Table.{opening}, Runs.{Ran, without_message}}
 use Rattle.cacache_calls.specs.declared.command.Command.TheVariants as commands
 use Rattle.cacache_calls.specs.declared.reply.Reply.TheVariants as replies
-use Rattle.cacache_keep.specs.{Calls.{MadeCalls}, Missing.{Doubts, Look, is_missing}, Repairing.{AsksFor, BuriesEach, Fate, IsFateOf, IsSure, Led, LooksOrAsks, LooksUp, StopsAsking, StopsBurying, StopsFate, StopsLooking, calls_for, is_buried, leads_nowhere, looks_of, tombstone}}
+use Rattle.cacache_keep.specs.{Calls.{MadeCalls, SaysWhy}, Missing.{Look, is_missing}, Repairing.{AsksFor, BuriesEach, Fate, IsFateOf, IsSure, Led, LooksOrAsks, LooksUp, StopsAsking, StopsBurying, StopsFate, StopsLooking, calls_for, is_buried, leads_nowhere, looks_of, tombstone, SaysDoubtful}}
 use Rattle.cacache_keep.proofs.{Asked.{kept, passed}, Stopped.{made_both}}
 
 -- ---- one key
@@ -93,31 +93,26 @@ look_stops site look command e old new looks ran = record {
   why = inl (inr ([], (command, replies.Refused (without_message e)), refl, refl));
 }
 
--- the question for the content that the lookup found was refused
-question_refused : (site : Site) (look : Look) (key : List ℕ) (f : Found) (e : Error) (old mid new : Option (List LogItem)) → Ran (opening site (commands.Find key)) (replies.LookedUp (Some f)) old mid → Ran (opening site (commands.Exists f.integrity)) (replies.Refused (without_message e)) mid new → StopsLooking site look e old new
-question_refused site look key f e old mid new one two =
+-- a lookup and the question for the content that it found, whose answer says why
+questioned : (site : Site) (look : Look) (key : List ℕ) (f : Found) (answer : Reply) (e : Error) (old mid new : Option (List LogItem)) → Ran (opening site (commands.Find key)) (replies.LookedUp (Some f)) old mid → Ran (opening site (commands.Exists f.integrity)) answer mid new
+    → SaysWhy ((commands.Find key, replies.LookedUp (Some f)) ∷ (commands.Exists f.integrity, answer) ∷ []) e ⊎ SaysDoubtful site.cache look ((commands.Find key, replies.LookedUp (Some f)) ∷ (commands.Exists f.integrity, answer) ∷ []) e
+    → StopsLooking site look e old new
+questioned site look key f answer e old mid new one two why =
     let first : Command × Reply = (commands.Find key, replies.LookedUp (Some f)) in
-    let last : Command × Reply = (commands.Exists f.integrity, replies.Refused (without_message e)) in record {
+    let last : Command × Reply = (commands.Exists f.integrity, answer) in record {
       calls = first ∷ last ∷ [];
       made = (mid, one, (new, two, refl));
       harmless = All-cons (λ (c : Command × Reply). LooksOrAsks c.0) first (last ∷ []) tt (All-cons (λ (c : Command × Reply). LooksOrAsks c.0) last [] tt (All-nil (λ (c : Command × Reply). LooksOrAsks c.0)));
-      why = inl (inr (first ∷ [], last, refl, refl));
+      why = why;
     }
 
--- its no is in doubt
-question_doubted : (site : Site) (look : Look) (key : List ℕ) (f : Found) (e : Error) (old mid new : Option (List LogItem)) → Ran (opening site (commands.Find key)) (replies.LookedUp (Some f)) old mid → Ran (opening site (commands.Exists f.integrity)) (replies.Exists false) mid new → Doubts site.cache look f.integrity e → StopsLooking site look e old new
-question_doubted site look key f e old mid new one two doubt =
-    let first : Command × Reply = (commands.Find key, replies.LookedUp (Some f)) in
-    let last : Command × Reply = (commands.Exists f.integrity, replies.Exists false) in record {
-      calls = first ∷ last ∷ [];
-      made = (mid, one, (new, two, refl));
-      harmless = All-cons (λ (c : Command × Reply). LooksOrAsks c.0) first (last ∷ []) tt (All-cons (λ (c : Command × Reply). LooksOrAsks c.0) last [] tt (All-nil (λ (c : Command × Reply). LooksOrAsks c.0)));
-      why = inr (first ∷ [], f.integrity, refl, doubt);
-    }
-
+-- the question was refused, or its no is in doubt
 pub question_stops : (site : Site) (look : Look) (key : List ℕ) (f : Found) (e : Error) (old mid new : Option (List LogItem)) → Ran (opening site (commands.Find key)) (replies.LookedUp (Some f)) old mid → StopsAsking site look f.integrity e mid new → StopsLooking site look e old new
-question_stops site look key f e old mid new one (inl refused) = question_refused site look key f e old mid new one refused
-question_stops site look key f e old mid new one (inr doubted) = question_doubted site look key f e old mid new one doubted.0 doubted.1
+question_stops site look key f e old mid new one (inl refused) =
+    let last : Command × Reply = (commands.Exists f.integrity, replies.Refused (without_message e)) in
+    questioned site look key f (replies.Refused (without_message e)) e old mid new one refused (inl (inr ((commands.Find key, replies.LookedUp (Some f)) ∷ [], last, refl, refl)))
+question_stops site look key f e old mid new one (inr doubted) =
+    questioned site look key f (replies.Exists false) e old mid new one doubted.0 (inr ((commands.Find key, replies.LookedUp (Some f)) ∷ [], f.integrity, refl, doubted.1))
 
 -- what the question and the look say of the content
 pub led_by : (site : Site) (look : Look) (key : List ℕ) (f : Found) (lost : Bool) (old mid new : Option (List LogItem)) → Ran (opening site (commands.Find key)) (replies.LookedUp (Some f)) old mid → AsksFor site look f.integrity lost mid new → LooksUp site look key lost old new

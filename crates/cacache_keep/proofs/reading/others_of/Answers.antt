@@ -2,7 +2,7 @@ use Rattle.std.proofs.{Common.{◌≡◌, ℕ, ◌+◌, ◌-◌, ◌^◌, ◌++�
 use Rattle.std.specs.Prelude.{min}
 use Rattle.cacache_core.specs.declared.{errors.Error.TheVariants.{OutOfMemory}, integrity.digest.Hash.{Hash}}
 use Rattle.cacache_keep.specs.Reading.{SaysGood, StopsEach, WeighsOthers}
-use Rattle.cacache_keep.proofs.{Repairs.InTurn.{damaged_read, good_read, memory_stops, next_stops, none_read, split_turn}, Stopped.{error_as}, reading.others_of.{Given.{Over}, Goals.{In-Some, In_ok-good}}}
+use Rattle.cacache_keep.proofs.{Repairs.InTurn.{damaged_read, good_read, memory_next, none_read, split_turn, stops_next}, Stopped.{error_as}, reading.others_of.{Given.{Over}, Goals.{In-Some, In_ok-good}}}
 use Rattle.cacache_keep.proofs.reading.others_of.Goals as goal
 
 pub loop-sri-init : goal.loop-sri-init
@@ -44,7 +44,7 @@ returns-in_err-good-clause-stops g c =
     let new = g.S.Store.log c.judge.new.store in
     let e = c.in_err-good.field-0.0 in
     error_as (λ x. StopsEach c.args.cache.now c.args.addresses.items x old new) c.from_residual.result e c.from_residual.ensures.1
-    (next_stops c.args.cache.now _ _ _ _ _ _ _ e old _ new (whole g (goal.at.returns-in_err-good-clause-stops g c).In-Some) c.loop-sri.invariant c.in_err-good.ensures.stops)
+    (stops_next c.args.cache.now _ _ _ _ _ _ e old _ new (whole g (goal.at.returns-in_err-good-clause-stops g c).In-Some) c.loop-sri.invariant c.in_err-good.ensures.stops)
 
 pub returns-in_err-push-clause-stops : goal.returns-in_err-push-clause-stops
 returns-in_err-push-clause-stops g c =
@@ -54,7 +54,7 @@ returns-in_err-push-clause-stops g c =
     let bad : c.in_ok-good.field-0.good ≡ false = cc in
     let more = damaged g at.In_ok-good c.saturating_add-damaged_bytes.result bad c.saturating_add-damaged_bytes.ensures in
     error_as (λ x. StopsEach c.args.cache.now c.args.addresses.items x old new) c.from_residual-in_err-push.result OutOfMemory c.from_residual-in_err-push.ensures.1
-    (memory_stops c.args.cache.now _ _ _ _ _ _ old new (whole g at.In-Some ∙ sym (append_assoc c.loop-sri.yielded (c.in-Some.sri ∷ []) _)) more)
+    (stops_next c.args.cache.now _ _ _ _ _ _ OutOfMemory old new new (whole g at.In-Some ∙ sym (append_assoc c.loop-sri.yielded (c.in-Some.sri ∷ []) _)) more (memory_next c.args.cache.now _ new))
 
 pub returns-clause-reads : goal.returns-clause-reads
 returns-clause-reads g c =
