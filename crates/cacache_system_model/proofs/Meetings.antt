@@ -114,7 +114,7 @@ can_copy : (m : Machine) (source : Result (List ℕ) Fault) (ends : Result Names
 can_copy m (Ok bytes) ends begin can = can_copy_to m bytes ends can
 can_copy m (Err fault) ends begin can = can_refuse fault m begin
 
-brought_say : (source target : Result Names Fault) (bytes : Result (List ℕ) Fault) → Sayable bytes → Sayable (found_bytes source target bytes)
+pub brought_say : (source target : Result Names Fault) (bytes : Result (List ℕ) Fault) → Sayable bytes → Sayable (found_bytes source target bytes)
 brought_say (Ok source) (Ok target) (Ok bytes) can = tt
 brought_say (Ok source) (Ok target) (Err fault) can = can
 brought_say (Ok source) (Err fault) bytes can = can

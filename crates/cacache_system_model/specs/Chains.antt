@@ -1,5 +1,5 @@
 -- Steps one after the other on a system, and on a disk in memory that mirrors it.
-use Rattle.std.specs.Prelude.{◌≡◌, ◌⊎◌, ℕ, Bool, true, false, List, [], ◌∷◌, None, IsPermutation}
+use Rattle.std.specs.Prelude.{◌≡◌, ◌⊎◌, ℕ, Bool, true, List, [], ◌∷◌, None, IsPermutation}
 use Rattle.std_io.specs.declared.io.kind.ErrorKind.TheVariants as kind
 use Rattle.cacache_core.specs.PathNames.{Names}
 use Rattle.cacache_store.specs.{declared.store.answer.Name.{Name}, Plain.{PlainAnswer}}

@@ -1,8 +1,11 @@
 //! A system in memory that keeps a log of its calls.
 
+mod calls;
 mod files;
+mod handles;
 mod laws;
 mod log;
+mod opening;
 mod runs;
 mod state;
 mod system;

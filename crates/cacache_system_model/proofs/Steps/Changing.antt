@@ -9,7 +9,7 @@ use Rattle.cacache_store.specs.declared.store.answer.Answer.TheVariants as answe
 use Rattle.cacache_store.specs.Plain.{PlainAnswer}
 use Rattle.cacache_disk.specs.{declared.{luck.Luck.TheVariants.{Plain}, node.Node.{Node, TheVariants.{File, Link}}}, Tree.{Tree, look, put, cut, bytes_of}, LedTo.{and_then, where_file, kept, known, free, replaceable, found, linked}, Apply.{apply, unless, made_temp, is_there, fault_told}}
 use Rattle.cacache_system.specs.declared.call.SystemCall.TheVariants as asks
-use Rattle.cacache_system.specs.{declared.call.CallResult.{CallResult}, CallsOf.{already_exists}, Seen.{NumberedTemp, NumberedStep, NumberedAnswer}, AnswersOf.{Hint, answer_of, failed_with, refuses_memory, misses}}
+use Rattle.cacache_system.specs.{declared.call.CallResult.{CallResult}, CallsOf.{already_exists}, Seen.{NumberedTemp, NumberedStep}, AnswersOf.{Hint, answer_of, failed_with, refuses_memory, misses}}
 use Rattle.cacache_system.specs.declared.call.CallResult.TheVariants as says
 use Rattle.cacache_system_model.specs.{Machine.{Place, under, OpenFile, node_of, Machine, IsRefused, moved, ChangesPlaces, ChangesTree, OpensIf, ShowsEnd, LinksNode, MovesNode, unread}, Calls.{GoesWell, OccursSomehow, part_opened, LeavesCreated}, Laws.{answer_on, LeavesFresh, step_on, outcome, led_to, IsDone, IsLucky, Agrees}, OneCall.{StillStands, CreateAgrees, ExistsAgrees, SymlinkAgrees, HardLinkAgrees, ReflinkBreaks}}
 use Rattle.cacache_system_model.proofs.{Refused.{same_outcome, refused_agrees, plainly_refused, broken_agrees}, Steps.{OneCalls.{one_agrees}, Writing.{look_same}, Opening.{same_number}}, Leading.{over_leads}, memory.Places.{place_led}}

@@ -12,7 +12,7 @@ use Rattle.cacache_disk.proofs.{Maps.{put_same, same_path-true}, FoundNodes.{pla
 use Rattle.cacache_system.specs.{declared.call.{FileInfo.{FileInfo}, CallResult.{CallResult}}, CallsOf.{Stage, over, only, taking_memory, asking_source, asking_target, asking_end, making_end, resolving, making_fresh, filling, replacing, scrapping, place_fresh, source_known, target_known, copied, name_taken, already_exists, is_absent, is_link, is_same_node, fresh_name, fresh_number, fresh_beside, after}, AnswersOf.{answer_of, misses, refuses_memory}}
 use Rattle.cacache_system.specs.declared.call.SystemCall.TheVariants as asks
 use Rattle.cacache_system.specs.declared.call.CallResult.TheVariants as says
-use Rattle.cacache_system_model.specs.{Machine.{Machine, IsRefused, moved, ChangesPlaces, RemovesNode, ChangesTree, OpensIf, ShowsEnd, ShowsNode, Describes, found_bytes, CopiesBytes, MovesNode, SpellsEnd, with_empty}, Calls.{LeavesCreated, brought, part_copied, part_opened}, Laws.{answer_on, outcome, Leads, IsDone}, Writing.{HasNoFresh, CanCopy, CopyAgrees}}
+use Rattle.cacache_system_model.specs.{Machine.{Machine, IsRefused, moved, ChangesPlaces, RemovesNode, OpensIf, ShowsEnd, ShowsNode, Describes, found_bytes, CopiesBytes, MovesNode, SpellsEnd, with_empty}, Calls.{LeavesCreated, brought, part_copied, part_opened}, Laws.{answer_on, outcome, Leads, IsDone}, Writing.{HasNoFresh, CanCopy, CopyAgrees}}
 use Rattle.cacache_system_model.proofs.{Refused.{same_outcome, failed, failing_apply, never_missing}, Leading.{Claim, over_leads, call_leads}, Claims.{way_of, claim_of, cases_of, taking_leads, claim_plain, claim_lucky, claim_broken, claim_memory}, Steps.{Opening.{said_leads, of_some}, Looking.{refused_folder, wanted_file}, CopyFacts.{either_true, same_text, apply_copy, whole_file, writable_found, Source, Ready, same_node_numbers, writable_at, Stands, no_way, nothing, a_folder_here, a_file_here, a_link_here, stands_so, not_absent, exists_fine, absent_fault, not_taken_fault, not_taken, fault_absent, no_place, unnamed, fresh_proper}}, Views.{View, nowhere, a_folder, a_file, view}, Fresh.{placed_as, placed_beside, look_new, own_place, own_writable, own_removable, replaceable_still, leads_still, file_still, cut_new, put_new, free_at_place, dangling}}
 
 -- where something is and where nothing is

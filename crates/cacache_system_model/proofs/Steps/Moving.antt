@@ -1,5 +1,5 @@
 -- Temporary files that are put, in the place of another or of none.
-use Rattle.std.proofs.Common.{◌≡◌, ℕ, Bool, true, false, if◌then◌else◌, List, [], ◌∷◌, refl, sym, ap, subst, ◌∙◌, ⊎_elim}
+use Rattle.std.proofs.Common.{◌≡◌, ℕ, Bool, true, false, if◌then◌else◌, List, [], refl, sym, ap, subst, ◌∙◌, ⊎_elim}
 use Rattle.std.specs.Prelude.{Option, Some, Result, Ok, Err, MatchResult, option_map}
 use Rattle.std_io.specs.declared.io.kind.ErrorKind.{ErrorKind}
 use Rattle.cacache_core.specs.{declared.errors.Fault.{Fault, TheVariants.{NotFound}}, PathNames.{Names}}

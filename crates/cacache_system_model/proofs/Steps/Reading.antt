@@ -6,7 +6,7 @@ use Rattle.cacache_core.specs.declared.errors.Fault.TheVariants.{Closed}
 use Rattle.cacache_store.specs.declared.store.step.Step.TheVariants as steps
 use Rattle.cacache_store.specs.declared.store.answer.Answer.TheVariants as answers
 use Rattle.cacache_store.specs.Plain.{PlainAnswer}
-use Rattle.cacache_disk.specs.{declared.{luck.Luck.TheVariants.{Plain, Take}, node.Node.{Node}}, Tree.{Tree, look, bytes_of}, Apply.{apply, readable, given, rest_of}}
+use Rattle.cacache_disk.specs.{declared.{luck.Luck.TheVariants.{Plain, Take}, node.Node.{Node}}, Tree.{Tree, bytes_of}, Apply.{apply, readable, given, rest_of}}
 use Rattle.cacache_system.specs.declared.call.SystemCall.TheVariants as asks
 use Rattle.cacache_system.specs.{declared.call.CallResult.{CallResult}, CallsOf.{over, trying, taking_memory}, Seen.{NumberedFile}, AnswersOf.{read_piece}}
 use Rattle.cacache_system.specs.declared.call.CallResult.TheVariants as says

@@ -1,5 +1,5 @@
 -- Steps that sync a file or a folder.
-use Rattle.std.{proofs.Common.{◌≡◌, ◌⊎◌, ℕ, Bool, false, List, ◌∷◌, refl, sym, ap, subst, ◌∙◌, ⊎_elim, inl, inr}, specs.Prelude.{Option, None, Some, Result, Ok, Err, option_map}}
+use Rattle.std.{proofs.Common.{◌≡◌, ◌⊎◌, ℕ, Bool, false, List, refl, sym, ap, subst, ◌∙◌, ⊎_elim, inl, inr}, specs.Prelude.{Option, None, Some, Result, Ok, Err, option_map}}
 use Rattle.std_io.specs.declared.io.kind.ErrorKind.{ErrorKind}
 use Rattle.std_io.specs.declared.io.kind.ErrorKind.TheVariants as kind
 use Rattle.cacache_core.specs.{declared.errors.Fault.{Fault, TheVariants.{IsADirectory, NotADirectory}}, PathNames.{Names}}

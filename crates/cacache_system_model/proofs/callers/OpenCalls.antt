@@ -1,5 +1,5 @@
 -- Files that are open stay open at their names through a call.
-use Rattle.std.proofs.{Common.{◌≡◌, ◌==◌, ℕ, Bool, true, false, cond, List, ◌∷◌, Option, None, Some, Ok, option_map, take, eq-eqb, refl, sym, ap, subst, ◌∙◌}, lemmas.Bool.{eqb-true, false_from_ne_true}}
+use Rattle.std.proofs.{Common.{◌≡◌, ◌==◌, ℕ, Bool, true, false, cond, List, Option, None, Some, Ok, option_map, take, refl, sym, ap, subst, ◌∙◌}, lemmas.Bool.{eqb-true, false_from_ne_true}}
 use Rattle.std.specs.Prelude.{Result, Err, MatchResult, if◌then◌else◌}
 use Rattle.std_io.specs.declared.io.kind.ErrorKind.{ErrorKind}
 use Rattle.cacache_core.specs.{declared.errors.Fault.{Fault, TheVariants.{InvalidInput}}, PathNames.{Names}}
@@ -9,8 +9,8 @@ use Rattle.cacache_loss.proofs.UnchangedPaths.{at_names}
 use Rattle.cacache_system.specs.{declared.call.{SystemCall.{SystemCall}, CallResult.{CallResult}}, CallsOf.{already_exists}}
 use Rattle.cacache_system.specs.declared.call.SystemCall.TheVariants as asks
 use Rattle.cacache_system.specs.declared.call.CallResult.TheVariants as says
-use Rattle.cacache_system_model.specs.{Machine.{Place, under, nameless, OpenFile, node_of, Machine, gone, moved, grown, with_place, placed, fixes, Became, IsRefused, ChangesTree, ChangesPlaces, OpensIf, with_file, with_sync, unread, ShowsNode, ShowsEnd, ShowsPlace, ShowsOpen, GivesOwner, ReadsFile, ReadsOpen, Grows, LinksNode, CopiesBytes, found_bytes, SpellsEnd, MovesNode}, Calls.{GoesWell, did_nothing, PartWritten, LeavesWritten, LeavesCreated, LeavesPart, OccursSomehow}, OneCall.{IsOpenAt}, callers.Opened.{KeepsOpen, Avoids}}
-use Rattle.cacache_system_model.proofs.{Steps.Opening.{open_of}, Views.{View, nowhere, a_folder, a_file, view}}
+use Rattle.cacache_system_model.specs.{Machine.{Place, under, nameless, OpenFile, node_of, Machine, gone, moved, grown, with_place, placed, fixes, Became, IsRefused, ChangesTree, ChangesPlaces, OpensIf, with_sync, unread, ShowsNode, ShowsEnd, ShowsPlace, ShowsOpen, ReadsFile, ReadsOpen, Grows, LinksNode, CopiesBytes, found_bytes, SpellsEnd, MovesNode}, Calls.{GoesWell, did_nothing, PartWritten, LeavesWritten, LeavesCreated, LeavesPart, OccursSomehow}, OneCall.{IsOpenAt}, callers.Opened.{KeepsOpen, Avoids}}
+use Rattle.cacache_system_model.proofs.Steps.Opening.{open_of}
 
 abbrev pub place_at : OpenFile → Place
 place_at file = file.place

@@ -1,19 +1,17 @@
 -- Stages of a step whose calls neither move nor remove what is at some names, and put nothing there.
-use Rattle.std.proofs.Common.{◌≡◌, length, if◌then◌else◌, ◌==◌, ◌||◌, ◌&&◌, not, ℕ, zero, suc, Bool, true, false, cond, List, [], ◌∷◌, ◌++◌, Option, None, Some, Ok, option_map, inl, inr, min, refl, sym, ap, subst, ◌∙◌}
+use Rattle.std.proofs.Common.{◌≡◌, length, if◌then◌else◌, ◌==◌, ◌||◌, not, ℕ, zero, suc, Bool, true, false, cond, List, [], ◌∷◌, ◌++◌, Option, None, Some, min, refl, sym, subst, ◌∙◌}
 use Rattle.std.specs.{Bool.{nat_eq}, Cmp.Lexicographic.{pointwise}, Str.{is_utf8}}
 use Rattle.std_io.specs.declared.io.kind.ErrorKind.{ErrorKind}
 use Rattle.std_io.specs.declared.io.kind.ErrorKind.TheVariants as kind
-use Rattle.cacache_core.specs.PathNames.{Names, names_of}
+use Rattle.cacache_core.specs.PathNames.{Names}
 use Rattle.cacache_store.specs.declared.store.answer.{Kind.{Kind}, Name.{Name}}
 use Rattle.cacache_store.specs.declared.store.answer.Kind.TheVariants as kinds
-use Rattle.cacache_store.specs.declared.store.step.Step.TheVariants as steps
-use Rattle.cacache_disk.specs.{declared.{luck.Luck.TheVariants.{Plain, Fail, Take}, node.Node.TheVariants.{File}}, Tree.{Tree, look, put}, LedTo.{free}}
-use Rattle.cacache_disk.proofs.FoundNodes.{free_ok}
-use Rattle.cacache_system.specs.{declared.call.{FileInfo.{FileInfo}, SystemCall.{SystemCall}, CallItem.{CallItem}, CallResult.{CallResult}}, Seen.{NumberedTemp, NumberedStep}, ListedNames.{text_of, is_proper, is_passed, names_in, with_slash}, CallsOf.{Stage, Reader, reader, read_once, more_names, entered as entered_name, ask_kind, next_name, broken_off, is_no_folder, opening_folder, following, reading_names, asking_kind, Purpose, to_give, to_sync, to_sync_folder, to_read, over, only, trying, taking_memory, opening, checking, reading_front, reading_rest, appending, standing as asking_folder, making, confirming, sizing, asking_source, asking_target, asking_end, making_end, resolving, making_fresh, filling, replacing, scrapping, copied, place_fresh, fresh_beside, fresh_number, name_taken, already_exists, is_link, wants, after, was_interrupted, interrupts, is_absent, is_same_node, unless_folder, if_folder, opened, below, climb, unmade, above_of, keeping, preparing, comparing, descending, sync_again, give, descend, compared, Runs}, AnswersOf.{Hint, no_hint, is_missing, was_named, in_walk, rewrites, look_first, persist, is_named, first}}
+use Rattle.cacache_disk.specs.{declared.node.Node.TheVariants.{File}, Tree.{Tree, look}}
+use Rattle.cacache_system.specs.{declared.call.{FileInfo.{FileInfo}, SystemCall.{SystemCall}, CallResult.{CallResult}}, ListedNames.{text_of, is_proper, is_passed, names_in, with_slash}, CallsOf.{Stage, Reader, reader, read_once, more_names, entered as entered_name, ask_kind, next_name, broken_off, is_no_folder, opening_folder, following, reading_names, asking_kind, Purpose, to_give, to_sync, to_sync_folder, to_read, over, only, trying, taking_memory, opening, checking, reading_front, reading_rest, appending, standing as asking_folder, making, confirming, sizing, asking_source, asking_target, asking_end, making_end, resolving, making_fresh, filling, replacing, scrapping, copied, place_fresh, fresh_beside, fresh_number, name_taken, already_exists, is_link, after, interrupts, is_absent, is_same_node, unless_folder, if_folder, opened, below, climb, unmade, above_of, keeping, preparing, comparing, descending, sync_again, give, descend, compared}}
 use Rattle.cacache_system.specs.declared.call.SystemCall.TheVariants as asks
 use Rattle.cacache_system.specs.declared.call.CallResult.TheVariants as says
-use Rattle.cacache_system_model.specs.{Machine.{under, Machine, OpensIf}, Calls.{OccursSomehow, EachCall}, OneCall.{IsOpenAt}, callers.Opened.{KeepsOpen, Avoids, IsApart, StillStores, RunsKeepOpen}}
-use Rattle.cacache_system_model.proofs.{callers.{ListCalls.{CanOpen, can_open, IsListing, FolderLeft, folder_left, names_left}, FreshFiles.{IsNew, new_moves, made_new, filled_new}, CopyTargets.{end_apart, spelled_left, spelled, IsLinkAt, link_shown, IsBarred, barred, never_opened, fresh_apart, not_made}, OpenCalls.{Moves, place_at, CanRead, keeps_same, keeps_self, Readable, IsOpenNumber, IsNamed, Safe, occurs_keep, front_left, rest_left, stat_left, readable_on}, UnchangedCalls.{Unchanged, look_left, link_look_left, Readies, readied, open_ready, append_ready, opens_number}}, memory.Places.{place_led}}
+use Rattle.cacache_system_model.specs.{Machine.{Machine}, Calls.{OccursSomehow}, callers.Opened.{Avoids, IsApart}}
+use Rattle.cacache_system_model.proofs.callers.{ListCalls.{CanOpen, IsListing, FolderLeft}, FreshFiles.{IsNew, new_moves, made_new, filled_new}, CopyTargets.{end_apart, spelled, IsLinkAt, link_shown, IsBarred, barred, never_opened, fresh_apart, not_made}, OpenCalls.{Moves, keeps_same, Readable, IsOpenNumber, IsNamed, Safe}, UnchangedCalls.{Unchanged, Readies, open_ready, append_ready}}
 
 module _ (q : Names) where
   -- ---- stages

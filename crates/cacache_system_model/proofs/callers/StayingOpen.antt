@@ -1,19 +1,14 @@
 -- Files that are open stay open at their names through the calls of a step.
-use Rattle.std.proofs.Common.{◌≡◌, length, if◌then◌else◌, ◌==◌, ◌||◌, ◌&&◌, not, ℕ, zero, suc, Bool, true, false, cond, List, [], ◌∷◌, ◌++◌, Option, None, Some, Ok, option_map, inl, inr, min, refl, sym, ap, subst, ◌∙◌}
-use Rattle.std.specs.{Bool.{nat_eq}, Cmp.Lexicographic.{pointwise}, Str.{is_utf8}}
-use Rattle.std_io.specs.declared.io.kind.ErrorKind.{ErrorKind}
+use Rattle.std.proofs.Common.{◌≡◌, length, ◌==◌, ◌&&◌, not, ℕ, true, false, List, [], ◌∷◌, ◌++◌, None, Some, Ok, option_map, inl, inr, min, refl, sym, ap, subst, ◌∙◌}
 use Rattle.std_io.specs.declared.io.kind.ErrorKind.TheVariants as kind
 use Rattle.cacache_core.specs.PathNames.{Names, names_of}
-use Rattle.cacache_store.specs.declared.store.answer.{Kind.{Kind}, Name.{Name}}
-use Rattle.cacache_store.specs.declared.store.answer.Kind.TheVariants as kinds
 use Rattle.cacache_store.specs.declared.store.step.Step.TheVariants as steps
-use Rattle.cacache_disk.specs.{declared.{luck.Luck.TheVariants.{Plain, Fail, Take}, node.Node.TheVariants.{File}}, Tree.{Tree, look, put}, LedTo.{free}}
-use Rattle.cacache_disk.proofs.FoundNodes.{free_ok}
-use Rattle.cacache_system.specs.{declared.call.{FileInfo.{FileInfo}, SystemCall.{SystemCall}, CallItem.{CallItem}, CallResult.{CallResult}}, Seen.{NumberedTemp, NumberedStep}, ListedNames.{text_of, is_proper, is_passed, names_in, with_slash}, CallsOf.{Stage, Reader, reader, read_once, more_names, entered as entered_name, ask_kind, next_name, broken_off, is_no_folder, opening_folder, following, reading_names, asking_kind, Purpose, to_give, to_sync, to_sync_folder, to_read, over, only, trying, taking_memory, opening, checking, reading_front, reading_rest, appending, standing as asking_folder, making, confirming, sizing, asking_source, asking_target, asking_end, making_end, resolving, making_fresh, filling, replacing, scrapping, copied, place_fresh, fresh_beside, fresh_number, name_taken, already_exists, is_link, wants, after, was_interrupted, interrupts, is_absent, is_same_node, unless_folder, if_folder, opened, below, climb, unmade, above_of, keeping, preparing, comparing, descending, sync_again, give, descend, compared, Runs}, AnswersOf.{Hint, no_hint, is_missing, was_named, in_walk, rewrites, look_first, persist, is_named, first}}
+use Rattle.cacache_disk.{specs.{declared.{luck.Luck.TheVariants.{Plain, Fail, Take}, node.Node.TheVariants.{File}}, Tree.{Tree, put}, LedTo.{free}}, proofs.FoundNodes.{free_ok}}
+use Rattle.cacache_system.specs.{declared.call.{SystemCall.{SystemCall}, CallItem.{CallItem}, CallResult.{CallResult}}, Seen.{NumberedTemp, NumberedStep}, ListedNames.{with_slash}, CallsOf.{Stage, opening_folder, following, reading_names, asking_kind, over, only, trying, taking_memory, opening, checking, reading_front, reading_rest, appending, standing as asking_folder, making, confirming, sizing, asking_source, asking_target, asking_end, making_end, resolving, making_fresh, filling, replacing, scrapping, fresh_beside, fresh_number, wants, after, was_interrupted, keeping, preparing, comparing, descending, Runs}, AnswersOf.{Hint, no_hint, is_missing, was_named, in_walk, rewrites, look_first, persist, is_named, first}}
 use Rattle.cacache_system.specs.declared.call.SystemCall.TheVariants as asks
 use Rattle.cacache_system.specs.declared.call.CallResult.TheVariants as says
-use Rattle.cacache_system_model.specs.{Machine.{under, Machine, OpensIf}, Calls.{OccursSomehow, EachCall}, OneCall.{IsOpenAt}, callers.Opened.{KeepsOpen, Avoids, IsApart, StillStores, RunsKeepOpen}}
-use Rattle.cacache_system_model.proofs.{callers.{ListCalls.{CanOpen, can_open, IsListing, FolderLeft, folder_left, names_left}, FreshFiles.{IsNew, new_moves, made_new, filled_new}, CopyTargets.{end_apart, spelled_left, spelled, IsLinkAt, link_shown, IsBarred, barred, never_opened, fresh_apart, not_made}, OpenCalls.{Moves, place_at, CanRead, keeps_same, keeps_self, Readable, IsOpenNumber, IsNamed, Safe, occurs_keep, front_left, rest_left, stat_left, readable_on}, UnchangedCalls.{Unchanged, look_left, link_look_left, Readies, readied, open_ready, append_ready, opens_number}, SafeStages.{IsFile, IsSafe, cond_safe, cond_so, unless_safe, if_safe, opened_safe, checked_safe, front_safe, rest_safe, below_safe, climb_safe, unmade_safe, folder_safe, making_safe, confirming_safe, SafeLater, open_later, unchanged_on, again_safe, give_safe, kept_safe, prepared_safe, descend_safe, compared_safe, comparing_safe, descending_safe, file_safe, line_safe, more_safe, entered_safe, next_safe, listed_safe, kind_safe, opened_safe_folder, followed_safe, size_safe, source_safe, copied_safe, target_safe, end_safe, made_end_safe, resolved_safe, taken_safe, fresh_safe, filled_safe, replaced_safe}}, memory.Places.{place_led}}
+use Rattle.cacache_system_model.specs.{Machine.{under, Machine, OpensIf}, Calls.{OccursSomehow, EachCall}, OneCall.{IsOpenAt}, callers.Opened.{KeepsOpen, IsApart, StillStores, RunsKeepOpen}}
+use Rattle.cacache_system_model.proofs.{callers.{ListCalls.{can_open, IsListing, folder_left, names_left}, CopyTargets.{spelled_left}, OpenCalls.{Moves, place_at, CanRead, keeps_same, keeps_self, IsOpenNumber, occurs_keep, front_left, rest_left, stat_left, readable_on}, UnchangedCalls.{look_left, link_look_left, readied, opens_number}, SafeStages.{IsSafe, cond_safe, checked_safe, front_safe, rest_safe, folder_safe, making_safe, confirming_safe, SafeLater, kept_safe, prepared_safe, comparing_safe, descending_safe, file_safe, line_safe, listed_safe, kind_safe, opened_safe_folder, followed_safe, size_safe, source_safe, target_safe, end_safe, made_end_safe, resolved_safe, fresh_safe, filled_safe, replaced_safe}}, memory.Places.{place_led}}
 
 at_call : (a call : SystemCall) (m n : Machine) (said : CallResult) → Some a ≡ Some call → OccursSomehow m call said n → OccursSomehow m a said n
 at_call a call m n said w h = let same : a ≡ call = cc in subst (λ (x : SystemCall). OccursSomehow m x said n) (sym same) h

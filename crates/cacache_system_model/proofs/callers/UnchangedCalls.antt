@@ -1,15 +1,12 @@
 -- Calls that change neither the tree nor open files, and what is open once a file was opened.
-use Rattle.std.proofs.{Common.{◌≡◌, ◌==◌, ℕ, Bool, true, false, cond, List, ◌∷◌, Option, None, Some, Ok, option_map, take, eq-eqb, refl, sym, ap, subst, ◌∙◌}, lemmas.Bool.{eqb-true, false_from_ne_true}}
-use Rattle.std.specs.Prelude.{Result, Err, MatchResult, if◌then◌else◌}
+use Rattle.std.{proofs.Common.{◌≡◌, ℕ, Bool, cond, List, Option, None, Some, Ok, option_map, eq-eqb, refl, sym, ap, subst, ◌∙◌}, specs.Prelude.{Result, Err}}
 use Rattle.std_io.specs.declared.io.kind.ErrorKind.{ErrorKind}
-use Rattle.cacache_core.specs.{declared.errors.Fault.{Fault, TheVariants.{InvalidInput}}, PathNames.{Names}}
-use Rattle.cacache_disk.specs.{declared.{luck.Luck.TheVariants.{Plain, Fail, Take}, node.Node.{Node, TheVariants.{Folder, File, Link}}}, Tree.{Tree, look, same_path}, LedTo.{standing, leads, found, place, replaceable, removable, emptied, linked, file_at, writable, free}, Apply.{taken, readable}}
-use Rattle.cacache_disk.proofs.{Maps.{same_path-true}, FoundNodes.{place_ok, replaceable_ok, removable_ok, emptied_ok}}
-use Rattle.cacache_loss.proofs.UnchangedPaths.{at_names}
-use Rattle.cacache_system.specs.{declared.call.{SystemCall.{SystemCall}, CallResult.{CallResult}}, CallsOf.{already_exists}}
+use Rattle.cacache_core.specs.{declared.errors.Fault.{Fault}, PathNames.{Names}}
+use Rattle.cacache_disk.specs.{declared.luck.Luck.TheVariants.{Plain, Fail, Take}, Tree.{Tree, look}, LedTo.{standing, leads, found, place, writable}}
+use Rattle.cacache_system.specs.declared.call.{SystemCall.{SystemCall}, CallResult.{CallResult}}
 use Rattle.cacache_system.specs.declared.call.SystemCall.TheVariants as asks
 use Rattle.cacache_system.specs.declared.call.CallResult.TheVariants as says
-use Rattle.cacache_system_model.specs.{Machine.{Place, under, nameless, OpenFile, node_of, Machine, gone, moved, grown, with_place, placed, fixes, Became, IsRefused, ChangesTree, ChangesPlaces, OpensIf, with_file, with_sync, unread, ShowsNode, ShowsEnd, ShowsPlace, ShowsOpen, GivesOwner, ReadsFile, ReadsOpen, Grows, LinksNode, CopiesBytes, found_bytes, SpellsEnd, MovesNode}, Calls.{GoesWell, did_nothing, PartWritten, LeavesWritten, LeavesCreated, LeavesPart, OccursSomehow}, OneCall.{IsOpenAt}, callers.Opened.{KeepsOpen, Avoids}}
+use Rattle.cacache_system_model.specs.{Machine.{under, OpenFile, Machine, OpensIf, with_file, unread, ShowsEnd, GivesOwner}, Calls.{GoesWell, LeavesPart, OccursSomehow}, OneCall.{IsOpenAt}}
 use Rattle.cacache_system_model.proofs.{Steps.Opening.{open_of}, Views.{View, nowhere, a_folder, a_file, view}, callers.OpenCalls.{place_at, node_keeps, CanRead, IsOpenNumber, IsNamed, Readable, Synced}}
 
 -- ---- calls that change neither the tree nor the open files

@@ -3,7 +3,7 @@ use Rattle.std.proofs.{lemmas.List.{map-append, map_more}, Common.{◌≡◌, �
 use Rattle.std.specs.{Prelude.{⊤, Option, None, Some, Result, Ok, Err, MatchResult, IsOkAnd, IsErrAnd}, Bool.{nat_eq}, Ordering.{nat_cmp}, Cmp.Lexicographic.{pointwise, slice_cmp, lists_ties, texts_ties}}
 use Rattle.cacache_core.specs.{declared.errors.Fault.{Fault}, PathNames.{Names}}
 use Rattle.cacache_store.specs.declared.store.step.Step.TheVariants as steps
-use Rattle.cacache_disk.specs.{declared.{node.Node.{Node, TheVariants.{Folder, File, Link}}, stop.Stop.{Stop}}, Tree.{Tree, look, put, cut, same_path}, LedTo.{place, replaceable, removable, emptied, folder}, Stops.{Stops}}
+use Rattle.cacache_disk.specs.{declared.{node.Node.{Node, TheVariants.{File, Link}}, stop.Stop.{Stop}}, Tree.{Tree, look, put, cut, same_path}, LedTo.{place, replaceable, removable, emptied, folder}, Stops.{Stops}}
 use Rattle.cacache_disk.proofs.FoundNodes.{place_ok, removable_ok, emptied_ok, replaceable_ok}
 use Rattle.cacache_disk.specs.declared.stop.Stop.TheVariants as stop
 use Rattle.cacache_system_model.specs.{declared.memory.{files.OpenFile.{OpenFile}, state.Memory.{Memory}}, memory.{Changes.{Does, Changed, Movable, IsUnmoved}, Files.{place_of, open_of, left, ArePlaced, Displaces, MovesFile, MovesPath}}, Machine.{with_place}}
@@ -103,27 +103,22 @@ module _ (from to : List ℕ) (bytes : List ℕ) (old : Names) (m : Memory) (led
   no_target why e = of_file m (Err why) (λ here. stays (replaceable m.disk to) (λ names. put (cut m.disk old) names (File bytes)) (Some old) m why (replaceable_bad m.disk to why e))
 
   -- the step by which it is moved
-  module _ (a b : List ℕ) (first : a ≡ from) (second : b ≡ to) where
-    stepped : (u : Tree) (done : Result ⊤ Stop) → Does m.disk (steps.Persist (record { path = a; bytes = Some bytes }) b) done u → look m.disk old ≡ Some (File bytes)
-        → Changed (replaceable m.disk to) (λ new. put (cut m.disk old) new (File bytes)) done m.disk u
-    stepped u done does here =
-        moves_file m.disk u from to bytes done old led here
-        (subst (λ (x : List ℕ). Does m.disk (steps.Persist (record { path = from; bytes = Some bytes }) x) done u) second
-        (subst (λ (x : List ℕ). Does m.disk (steps.Persist (record { path = x; bytes = Some bytes }) b) done u) first does))
+  stepped : (u : Tree) (done : Result ⊤ Stop) → Does m.disk (steps.Persist (record { path = from; bytes = Some bytes }) to) done u → look m.disk old ≡ Some (File bytes)
+      → Changed (replaceable m.disk to) (λ new. put (cut m.disk old) new (File bytes)) done m.disk u
+  stepped u done does here = moves_file m.disk u from to bytes done old led here does
 
-    pub not_put : (n : Memory) (why : Stop) → Does m.disk (steps.Persist (record { path = a; bytes = Some bytes }) b) (Err why) n.disk → n.files.items ≡ m.files.items
-        → MovesPath from to m (Err why) n
-    not_put n why does files =
-        of_file n (Err why) (λ here. refused (replaceable m.disk to) (λ names. put (cut m.disk old) names (File bytes)) (Some old) m n why (stepped n.disk (Err why) does here) files)
+  pub not_put : (n : Memory) (why : Stop) → Does m.disk (steps.Persist (record { path = from; bytes = Some bytes }) to) (Err why) n.disk → n.files.items ≡ m.files.items → MovesPath from to m (Err why) n
+  not_put n why does files =
+      of_file n (Err why) (λ here. refused (replaceable m.disk to) (λ names. put (cut m.disk old) names (File bytes)) (Some old) m n why (stepped n.disk (Err why) does here) files)
 
-    pub put_there : (names : Names) (n : Memory) → place m.disk to ≡ Ok names → Does m.disk (steps.Persist (record { path = a; bytes = Some bytes }) b) (Ok tt) n.disk
-        → ArePlaced (left (Some old) (look m.disk names) names m.marks) m.files.items n.files.items → MovesPath from to m (Ok tt) n
-    put_there names n at does placed =
-        of_file n (Ok tt) (λ here.
-        done_at (replaceable m.disk to) (λ new. put (cut m.disk old) new (File bytes)) (Some old) names m n (λ found e. replaced_there m.disk to names found at e) (stepped n.disk (Ok tt) does here) placed)
+  pub put_there : (names : Names) (n : Memory) → place m.disk to ≡ Ok names → Does m.disk (steps.Persist (record { path = from; bytes = Some bytes }) to) (Ok tt) n.disk
+      → ArePlaced (left (Some old) (look m.disk names) names m.marks) m.files.items n.files.items → MovesPath from to m (Ok tt) n
+  put_there names n at does placed =
+      of_file n (Ok tt) (λ here.
+      done_at (replaceable m.disk to) (λ new. put (cut m.disk old) new (File bytes)) (Some old) names m n (λ found e. replaced_there m.disk to names found at e) (stepped n.disk (Ok tt) does here) placed)
 
 -- what holds of an error holds of what `?` returns
-pub failed_as : (P : Result ⊤ Stop → Type 0) (r : Result ⊤ Stop) (why : Stop) → IsErrAnd r (λ x. x ≡ why) → P (Err why) → P r
+pub failed_as : {A : Type 0} (P : Result A Stop → Type 0) (r : Result A Stop) (why : Stop) → IsErrAnd r (λ x. x ≡ why) → P (Err why) → P r
 failed_as P (Ok x) why same p = absurd same
 failed_as P (Err x) why same p = subst (λ (y : Stop). P (Err y)) (sym same) p
 

@@ -34,7 +34,7 @@ kinds_say OtherBytes e = absurd cc
 kinds_say Cancelled e = absurd cc
 kinds_say _ e = (refl, refl)
 
-refused : (t u : Tree) (files : List OpenFile) (fault : Fault) (out : CallResult) → CanSay fault → out ≡ says.Failed (kind_for fault) → u ≡ t
+pub refused : (t u : Tree) (files : List OpenFile) (fault : Fault) (out : CallResult) → CanSay fault → out ≡ says.Failed (kind_for fault) → u ≡ t
     → IsRefused fault (machine t files) out (machine u files)
 refused t u files fault out (why, can, memory) is same =
     let said = kinds_say fault (ap is_unsaid (sym can) ∙ errors_say why) in
@@ -43,10 +43,10 @@ refused t u files fault out (why, can, memory) is same =
 gives_up : (t u : Tree) (files : List OpenFile) (why : ErrorKind) (out : CallResult) → out ≡ says.Failed why → u ≡ t → GivesUp why (machine t files) out (machine u files)
 gives_up t u files why out is same = (is, ap (λ t. machine t files) same)
 
-apart : {A : Type 0} (r : Result A Fault) (found : A) (fault : Fault) → r ≡ Ok found → r ≡ Err fault → ⊥
+pub apart : {A : Type 0} (r : Result A Fault) (found : A) (fault : Fault) → r ≡ Ok found → r ≡ Err fault → ⊥
 apart {A = A} r found fault x y = let e : ◌≡◌ {A = Result A Fault} (Ok found) (Err fault) = sym x ∙ y in absurd cc
 
-same_fault : {A : Type 0} (r : Result A Fault) (one other : Fault) → r ≡ Err one → r ≡ Err other → other ≡ one
+pub same_fault : {A : Type 0} (r : Result A Fault) (one other : Fault) → r ≡ Err one → r ≡ Err other → other ≡ one
 same_fault {A = A} r one other x y = let e : ◌≡◌ {A = Result A Fault} (Err one) (Err other) = sym x ∙ y in cc
 
 -- ---- calls
@@ -71,7 +71,7 @@ goes_linked t u files (Err fault) ends done out first can is change = goes_chang
 -- ---- removals and moves
 
 -- open files that are placed anew, as the model has them
-placed_anew : (other : Place → Place) (t u : Tree) (old new : List OpenFile) → ArePlaced other old new → (machine u new).files ≡ placed other (machine t old).files
+pub placed_anew : (other : Place → Place) (t u : Tree) (old new : List OpenFile) → ArePlaced other old new → (machine u new).files ≡ placed other (machine t old).files
 placed_anew other t u old new are = λ i. λ number. at number i
   where
     at : (number : ℕ) → option_map open_of (slice_get new number) ≡ option_map (with_place other) (option_map open_of (slice_get old number))
@@ -84,13 +84,13 @@ placed_anew other t u old new are = λ i. λ number. at number i
         twice (Some file) = refl
 
 -- the tree and the open files are the same
-same_machine : (m n : Memory) → IsSame m n → machine n.disk n.files.items ≡ machine m.disk m.files.items
+pub same_machine : (m n : Memory) → IsSame m n → machine n.disk n.files.items ≡ machine m.disk m.files.items
 same_machine m n (disk, files) = ap (λ t. machine t n.files.items) disk ∙ ap (λ (files : List OpenFile). machine m.disk files) files
 
-kept_so : (m n : Memory) (why : ErrorKind) (out : CallResult) → out ≡ says.Failed why → IsSame m n → GivesUp why (machine m.disk m.files.items) out (machine n.disk n.files.items)
+pub kept_so : (m n : Memory) (why : ErrorKind) (out : CallResult) → out ≡ says.Failed why → IsSame m n → GivesUp why (machine m.disk m.files.items) out (machine n.disk n.files.items)
 kept_so m n why out is same = (is, same_machine m n same)
 
-refused_so : (m n : Memory) (fault own : Fault) (out : CallResult) → CanSay own → out ≡ says.Failed (kind_for fault) → ◌≡◌ {A = Result Names Fault} (Err own) (Err fault) → IsSame m n
+pub refused_so : (m n : Memory) (fault own : Fault) (out : CallResult) → CanSay own → out ≡ says.Failed (kind_for fault) → ◌≡◌ {A = Result Names Fault} (Err own) (Err fault) → IsSame m n
     → IsRefused own (machine m.disk m.files.items) out (machine n.disk n.files.items)
 refused_so m n fault own out (why, can, memory) is same stays =
     let said = kinds_say own (ap is_unsaid (sym can) ∙ errors_say why) in
@@ -141,7 +141,7 @@ pub goes_moved : (m n : Memory) (from to : List ℕ) (done : Result ⊤ Stop) (o
     ⊎ GivesUp kind.Unsupported (machine m.disk m.files.items) out (machine n.disk n.files.items)
 goes_moved m n from to done out first can is change = moved_from m n to (place m.disk from) done out first can is change
 
-described : (node : Node) → Describes node (0, 0) (info_of node)
+pub described : (node : Node) → Describes node (0, 0) (info_of node)
 described (File bytes) = record { kind = refl; regular = refl; size = refl; number = refl }
 described node = record { kind = refl; regular = refl; size = tt; number = refl }
 

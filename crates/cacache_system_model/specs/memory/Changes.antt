@@ -2,7 +2,7 @@
 use Rattle.std.specs.Prelude.{◌≡◌, ⊤, ℕ, List, Option, None, Some, IsSomeAnd, Result, Ok, Err, MatchResult, IsOkAnd, length}
 use Rattle.cacache_core.specs.{declared.errors.Fault.{Fault, TheVariants.{Unsupported}}, PathNames.{Names}}
 use Rattle.cacache_store.specs.{Plain.{PlainStep, PlainAnswer}, declared.store.answer.Answer.TheVariants.{Failed}}
-use Rattle.cacache_disk.specs.{declared.{luck.Luck.TheVariants.{Plain}, node.Node.{Node, TheVariants.{Folder, File, Link}}, stop.Stop.{Stop}}, Tree.{Tree, look, put, cut, kind_of}, Stops.{Stops}, LedTo.{place, free, replaceable, linked}, Apply.{apply, fault_told}}
+use Rattle.cacache_disk.specs.{declared.{luck.Luck.TheVariants.{Plain}, node.Node.{Node, TheVariants.{Folder, File, Link}}, stop.Stop.{Stop}}, Tree.{Tree, look, put, kind_of}, Stops.{Stops}, Rooted.{Rooted}, LedTo.{place, free, linked}, Apply.{apply, fault_told}}
 use Rattle.cacache_disk.specs.declared.stop.Stop.TheVariants as stop
 use Rattle.cacache_system.specs.declared.call.FileInfo.{FileInfo}
 use Rattle.cacache_system_model.specs.Machine.{link_fault, is_regular}
@@ -50,6 +50,10 @@ Movable t path (Ok bytes) = IsOkAnd (place t path) (λ names. look t names ≡ S
 Movable t path (Err (stop.Fault fault)) =
     MatchResult (place t path) (λ names. IsUnmoved (look t names) fault) (λ why. why ≡ fault)
 Movable t path (Err stop.OutOfMemory) = ⊤
+
+-- with this node at the names, each node is still in a folder
+abbrev pub CanPut : Tree → Names → Node → Type 0
+CanPut t names node = Rooted t → Rooted (put t names node)
 
 -- a file's size, and none of anything else
 abbrev pub size_of : Node → ℕ

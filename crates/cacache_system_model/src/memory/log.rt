@@ -177,8 +177,10 @@ impl Log {
         call: Asked<'_>,
         opened: Result<u64, Stop>,
     ) -> io::Result<MemoryFile>
-        ensures { items_of self.new ≡ items_of self.old
+        ensures logged { items_of self.new ≡ items_of self.old
             ++ item (asked call.entry) (said (λ file. says.Opened file.number) result) ∷ [] }
+        ensures told { said (λ file. says.Opened file.number) result
+            ≡ outcome says.Opened opened }
     {
         match opened {
             Ok(number) => {

@@ -2,16 +2,16 @@
 ghost use Rattle.std.specs.Prelude.{◌≡◌, [], None, Ok, IfOk, IfErr, IsOk};
 ghost use Rattle.cacache_store.specs.declared.store.step.Step.TheVariants as steps;
 ghost use Rattle.cacache_disk.specs.{declared.node.Node.TheVariants.{Folder, File, Link}, Tree.{look, put, cut}, LedTo.{way_fault, place, found, standing, free, removable, emptied, linked}, Stops.{Stops, Blocks}};
-ghost use Rattle.cacache_system_model.specs.memory.Changes.{Does, Changed, Linked, Movable, Shown, Unlinks, info_of};
+ghost use Rattle.cacache_system_model.specs.memory.Changes.{CanPut, Does, Changed, Linked, Movable, Shown, Unlinks, info_of};
 
 use cacache_core::bytes::Bytes;
 use cacache_core::errors::Fault;
 use cacache_core::keeping::let_go;
 use cacache_core::text::Text;
-use cacache_disk::{Disk, Luck, Node, Path, Stop};
+use cacache_disk::{Contents, Disk, Luck, Node, Path, Stop};
 use cacache_store::store::{Answer, Kind, PlainFile, PlainTemp, Step};
 use cacache_system::FileInfo;
-use std::alloc::Global;
+use std::alloc::{AllocError, Global};
 
 /// What is said of a node. None has a number, and all have the same mode and owner.
 pub(crate) fn info_of(node: &Node) -> FileInfo
@@ -105,7 +105,9 @@ pub(crate) fn shown_link(disk: &Disk, path: &str) -> Result<FileInfo, Stop>
 }
 
 /// Gives what stands at a path an owner, of which nothing is kept.
-pub(crate) fn own(disk: &Disk, path: &str) -> Result<(), Stop> {
+pub(crate) fn own(disk: &Disk, path: &str) -> Result<(), Stop>
+    ensures { Changed (standing disk.now path.now) (λ names. disk.now) result disk.now disk.now }
+{
     match shown_link(disk, path) {
         Ok(_) => Ok(()),
         Err(stop) => Err(stop),
@@ -218,13 +220,29 @@ pub(crate) fn movable(disk: &Disk, path: &str) -> Result<Bytes, Stop>
 }
 
 /// Puts a file with these bytes at a new path in the place of the one at its old path.
-pub(crate) fn put_moved(disk: &mut Disk, from: Text, bytes: Bytes, to: Text) -> Result<(), Stop>
-    ensures { Does disk.old (steps.Persist (record { path = from; bytes = Some bytes }) to) result
-        disk.new }
+pub(crate) fn put_moved(
+    disk: &mut Disk,
+    alloc: Global,
+    from: &str,
+    bytes: Bytes,
+    to: &str,
+) -> Result<(), Stop>
+    ensures { Does disk.old (steps.Persist (record { path = from.now; bytes = Some bytes }) to.now)
+        result disk.new }
 {
     let temp = PlainTemp {
-        path: from,
+        path: Text::from_str(alloc, from)?,
         bytes: Some(bytes),
     };
-    do_step(disk, Step::Persist(temp, to))
+    do_step(disk, Step::Persist(temp, Text::from_str(alloc, to)?))
+}
+
+/// The disk with a file of these bytes at some names.
+pub(crate) fn with_file(disk: &Disk, names: Path, contents: Contents) -> Result<Disk, AllocError>
+    requires { CanPut disk.now names (File contents) }
+    ensures { IfOk result (λ new. new ≡ put disk.now names (File contents)) }
+{
+    let mut nodes = disk.nodes().clone()?;
+    nodes.put(names, Node::File(contents))?;
+    Ok(Disk::of(nodes))
 }

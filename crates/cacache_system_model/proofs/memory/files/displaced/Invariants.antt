@@ -5,6 +5,6 @@ use Rattle.cacache_system_model.proofs.memory.files.displaced.Given as goal
 
 abbrev pub invariant-loop-file : goal.invariant-loop-file
 invariant-loop-file l =
-    (l.was ≡ look l.disk l.spot.names)
+    (l.was ≡ look l.disk l.names)
     × (map open_of l.others.items
-    ≡ map (λ file. with_place (left (option_copied l.from) (look l.disk l.spot.names) l.spot.names l.mark) (open_of file)) (take l.file-index l.file-items))
+    ≡ map (λ file. with_place (left (option_copied l.from) (look l.disk l.names) l.names l.mark) (open_of file)) (take l.file-index l.file-items))

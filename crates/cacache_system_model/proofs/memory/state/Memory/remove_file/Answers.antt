@@ -5,6 +5,6 @@ use Rattle.cacache_system_model.proofs.memory.state.Memory.remove_file.Goals as 
 
 pub returns : goal.returns
 returns c =
-    done_at (removable c.args.self.now.disk c.args.path.now) (cut c.args.self.now.disk) None c.in_ok-spot.spot.names c.args.self.now
+    done_at (removable c.args.self.now.disk c.args.path.now) (cut c.args.self.now.disk) None c.in_ok-names.names c.args.self.now
     (record { alloc = c.args.self.now.alloc; disk = c.remove_file.new.disk; files = c.in_ok-files.files; marks = c.args.self.now.marks })
-    (λ found e. removed_there c.args.self.now.disk c.args.path.now c.in_ok-spot.spot.names found c.in_ok-spot.ensures.ok e) c.in_ok-remove_file.ensures c.in_ok-files.ensures
+    (λ found e. removed_there c.args.self.now.disk c.args.path.now c.in_ok-names.names found c.in_ok-names.ensures.ok e) c.in_ok-remove_file.ensures c.in_ok-files.ensures
