@@ -1,12 +1,13 @@
 //! The word `storm`.
-ghost use Rattle.std.specs.{Prelude.{◌≡◌, ◌≢◌, IfSome, true}, Str.{all_ascii_digits, Parse.{digits_value}}};
+ghost use Rattle.std.specs.{Prelude.{◌≡◌, ◌≢◌, IfOk, IfSome, Some, true}, Str.{all_ascii_digits, Parse.{digits_value}}};
 ghost use Rattle.cacache.specs.Shared.{Count};
-ghost use Rattle.cacache_program.specs.WordStorm.{Storms, TellsStorm};
+ghost use Rattle.cacache_program.specs.{Output.{PutsOutOrFails}, WordStorm.{Storms, storm_text}};
 
 use crate::about::USAGE;
 use crate::counts::counts_text;
 use crate::errors::{Errors, tell_failed_call, tell_failure, tell_misuse};
 use crate::output::put_made;
+use cacache::Result;
 use cacache::jobs::Open;
 use cacache::world::{Storm, StormFault};
 use std::alloc::Global;
@@ -52,6 +53,13 @@ pub fn tell_failed_storm<E: Write>(errors: &mut Errors<E>, fault: StormFault) ->
     }
 }
 
+/// How many moves a storm made, and how many entries there are, a line each.
+fn storm_text(alloc: Global, storm: &Storm) -> Result<Vec<u8>>
+    ensures { IfOk result (λ text. text.items ≡ storm_text storm.now.moves storm.now.live) }
+{
+    counts_text(alloc, &[("moves", storm.moves), ("live", storm.live)])
+}
+
 /// Prints what a storm came to, and returns the status.
 #[tactic(auto, using(crate::proofs::Made::made_puts))]
 fn tell<W: Write, E: Write>(
@@ -60,11 +68,11 @@ fn tell<W: Write, E: Write>(
     output: &mut W,
     errors: &mut Errors<E>,
 ) -> u8
-    ensures tells { TellsStorm (W.contents output.old) (W.contents output.new) result }
+    ensures tells { PutsOutOrFails (Some (storm_text storm.moves storm.live))
+        (W.contents output.old) (W.contents output.new) result }
     ensures quiet { result ≡ 0 → errors.new ≡ errors.old }
 {
-    let counts = [("moves", storm.moves), ("live", storm.live)];
-    put_made(counts_text(alloc, &counts), 0, output, errors)
+    put_made(storm_text(alloc, &storm), 0, output, errors)
 }
 
 /// Runs a storm of so many threads with so many keys each, and prints what it came to. It waits until
