@@ -1,5 +1,5 @@
 //! A store performs one step at a time and returns its answer.
-ghost use Rattle.std.specs.Prelude.{List, Option};
+ghost use Rattle.std.specs.Prelude.{◌≡◌, List, Option};
 ghost use Rattle.cacache_store.specs.{declared.store.log.LogItem.{LogItem}, Plain.{plain_step, plain_answer}, Fits.{Fits, Logs}};
 
 mod answer;
@@ -7,6 +7,7 @@ mod failing;
 mod handles;
 mod log;
 mod plain;
+mod stamps;
 mod step;
 
 pub use answer::{Answer, Kind, Listing, Name};
@@ -14,6 +15,7 @@ pub use failing::failed;
 pub use handles::{FileHandle, OpenedFile, TempFile, TempHandle};
 pub use log::LogItem;
 pub use plain::{PlainFile, PlainTemp};
+pub use stamps::Stamps;
 pub use step::Step;
 
 /// A step on plain files. Contracts see a step, and a log keeps it, in this form.
@@ -41,4 +43,9 @@ pub trait Store: Drop {
         ensures logged { Logs (log self.old) (log self.new)
             (plain_step Self.File.seen Self.Temp.seen step)
             (plain_answer Self.File.seen Self.Temp.seen result) };
+
+    /// Ends the walks through folders that calls made: the store closes what it held open for them. A call that lists
+    /// folders ends its walk when it is over. This is no step, and the log stays as it was.
+    fn end_walks(&mut self)
+        ensures logged { log self.new ≡ log self.old };
 }
