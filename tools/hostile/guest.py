@@ -4,7 +4,6 @@ The kernel and busybox come as Debian's packages, by apt-get, and are unpacked, 
 the serial console, on which the machine tells what it does, a line each. The file systems are those of FORMATS; what formats the disk is
 of the packages e2fsprogs, xfsprogs and btrfs-progs.
 """
-import os
 import pathlib
 import re
 import subprocess

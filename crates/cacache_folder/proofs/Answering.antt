@@ -4,12 +4,12 @@ use Rattle.std.specs.{Prelude.{Option, Result, Ok, Err}, Result.{result_map_both
 use Rattle.std_io.specs.{IoError.{error_kind}, declared.io.{error.Error.{Error}, kind.ErrorKind.{ErrorKind}}}
 use Rattle.cacache_store.specs.declared.store.step.Step.TheVariants as steps
 use Rattle.cacache_store.specs.declared.store.answer.Answer.TheVariants as answers
-use Rattle.cacache_system.specs.{declared.call.{SystemCall.{SystemCall}, CallResult.{CallResult}, CallItem.{CallItem}}, CallLog.{said, MakesCall}, CallsOf.{Stage, only, making, standing, RunLogged}, Seen.{NumberedFile, NumberedTemp, NumberedStep, NumberedAnswer}, AnswersOf.{Hint, no_hint, is_missing, first, answer_of, read_on, failed_with, misses, StepRuns, look_first}}
+use Rattle.cacache_system.specs.{declared.call.{SystemCall.{SystemCall}, CallResult.{CallResult}, CallItem.{CallItem}}, CallLog.{said, MakesCall}, CallsOf.{Stage, only, making, standing, RunLogged}, Seen.{NumberedFile, NumberedTemp, NumberedStep, NumberedAnswer}, AnswersOf.{Hint, no_hint, is_missing, first, answer_of, read_on, failed_with, misses, StepRuns}}
 use Rattle.cacache_system.specs.declared.call.SystemCall.TheVariants as asks
 use Rattle.cacache_system.specs.declared.call.CallResult.TheVariants as says
 use Rattle.cacache_store.specs.declared.store.answer.Answer.{Answer}
-use Rattle.cacache_folder.specs.{declared.folder.{opened.SystemFile.{SystemFile}, temp.SystemTemp.{SystemTemp}}, FolderNumbers.{value_or, answered, answered_or}, Looks.{LooksFirst}, Moves.{Persists, Appends}}
-use Rattle.cacache_folder.proofs.CallRuns.{run_one, calls_run, calls_over, run_as}
+use Rattle.cacache_folder.specs.{declared.folder.{opened.SystemFile.{SystemFile}, temp.SystemTemp.{SystemTemp}}, FolderNumbers.{value_or, answered, answered_or}, Moves.{Persists}}
+use Rattle.cacache_folder.proofs.CallRuns.{run_one, run_as}
 
 abbrev Log : Type 0
 Log = Option (List CallItem)
@@ -35,60 +35,6 @@ exists_missing path why is = ap (λ (b : Bool). there_if b (failed_with (steps.E
 -- it can't be asked
 pub exists_failed : (path : List ℕ) (why : ErrorKind) → misses why ≡ false → failed_with (steps.Exists path) why ≡ answer_of (steps.Exists path) (says.Failed why)
 exists_failed path why is = ap (λ (b : Bool). there_if b (failed_with (steps.Exists path) why)) (sym is)
-
-removed_file : (path : List ℕ) (r : Result (Unit {0}) Error)
-    → value_or (λ _. answers.Done) (steps.RemoveFile path) r ≡ answer_of (steps.RemoveFile path) (said (λ _. says.Done) r)
-removed_file path (Ok value) = refl
-removed_file path (Err error) = refl
-
-removed_folder : (path : List ℕ) (r : Result (Unit {0}) Error)
-    → value_or (λ _. answers.Done) (steps.RemoveDir path) r ≡ answer_of (steps.RemoveDir path) (said (λ _. says.Done) r)
-removed_folder path (Ok value) = refl
-removed_folder path (Err error) = refl
-
--- folders were looked at, and then the removal is made
-removal : (value : Unit {0}) (call : SystemCall) (end : CallResult) (old mid new : Log) → LooksFirst (Ok value) old mid → MakesCall mid new call end
-    → (hint : Hint) × RunLogged (look_first hint (only call)) end old new
-removal value call end old mid new looks makes =
-    let (hint, calls) = looks (only call) in
-    (hint, calls_run (look_first hint (only call)) (only call) end old mid new calls (run_one (only call) call end end mid new makes refl refl))
-
-pub removes_file : (path : List ℕ) (value : Unit {0}) (r : Result (Unit {0}) Error) (old mid new : Log) → LooksFirst (Ok value) old mid
-    → MakesCall mid new (asks.RemoveFile path) (said (λ _. says.Done) r)
-    → StepRuns (steps.RemoveFile path) (value_or (λ _. answers.Done) (steps.RemoveFile path) r) old new
-removes_file path value r old mid new looks makes =
-    let (hint, run) = removal value (asks.RemoveFile path) (said (λ _. says.Done) r) old mid new looks makes in
-    (hint, said (λ _. says.Done) r, run, removed_file path r)
-
-pub removes_folder : (path : List ℕ) (value : Unit {0}) (r : Result (Unit {0}) Error) (old mid new : Log) → LooksFirst (Ok value) old mid
-    → MakesCall mid new (asks.RemoveFolder path) (said (λ _. says.Done) r)
-    → StepRuns (steps.RemoveDir path) (value_or (λ _. answers.Done) (steps.RemoveDir path) r) old new
-removes_folder path value r old mid new looks makes =
-    let (hint, run) = removal value (asks.RemoveFolder path) (said (λ _. says.Done) r) old mid new looks makes in
-    (hint, said (λ _. says.Done) r, run, removed_folder path r)
-
--- one of them is no folder
-pub refuses_file : (path : List ℕ) (error : Error) (old new : Log) → LooksFirst {A = Unit {0}} (Err error) old new
-    → StepRuns (steps.RemoveFile path) (failed_with (steps.RemoveFile path) (error_kind error)) old new
-refuses_file path error old new looks =
-    let (hint, calls) = looks (only (asks.RemoveFile path)) in
-    (hint, says.Failed (error_kind error), calls_over (look_first hint (only (asks.RemoveFile path))) _ (says.Failed (error_kind error)) old new calls refl, refl)
-
-pub refuses_folder : (path : List ℕ) (error : Error) (old new : Log) → LooksFirst {A = Unit {0}} (Err error) old new
-    → StepRuns (steps.RemoveDir path) (failed_with (steps.RemoveDir path) (error_kind error)) old new
-refuses_folder path error old new looks =
-    let (hint, calls) = looks (only (asks.RemoveFolder path)) in
-    (hint, says.Failed (error_kind error), calls_over (look_first hint (only (asks.RemoveFolder path))) _ (says.Failed (error_kind error)) old new calls refl, refl)
-
-appended : (path bytes : List ℕ) (r : Result ℕ Error)
-    → value_or (λ n. answers.Took n) (steps.Append path bytes) r ≡ answer_of (steps.Append path bytes) (said says.Count r)
-appended path bytes (Ok value) = refl
-appended path bytes (Err error) = refl
-
--- bytes were appended, in a walk or in none
-pub appends_answer : (path bytes : List ℕ) (r : Result ℕ Error) (old new : Log) → Appends path bytes r old new
-    → StepRuns (steps.Append path bytes) (value_or (λ n. answers.Took n) (steps.Append path bytes) r) old new
-appends_answer path bytes r old new (hint, run) = (hint, said says.Count r, run, appended path bytes r)
 
 -- a temporary file was moved
 pub persists_answer : (temp : NumberedTemp) (path : List ℕ) (r : Result (Unit {0}) Error) (answer : NumberedAnswer) (old new : Log) → Persists temp path r old new

@@ -8,7 +8,6 @@ pub mod Entries
 pub mod ListedFolders
 pub mod MakingFolders
 pub mod Slashes
-pub mod Looking
 pub mod Answering
 pub mod Reading
 pub mod ByPath

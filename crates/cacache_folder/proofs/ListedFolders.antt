@@ -6,7 +6,7 @@ use Rattle.std_io.specs.declared.io.kind.ErrorKind.TheVariants as kind
 use Rattle.cacache_store.specs.declared.store.step.Step.TheVariants as steps
 use Rattle.cacache_store.specs.declared.store.answer.Answer.TheVariants as answers
 use Rattle.cacache_store.specs.declared.store.answer.Name.{Name}
-use Rattle.cacache_system.specs.{declared.call.{SystemCall.TheVariants.{OpenFolder, ReadNames}, CallResult.{CallResult, TheVariants.{Opened, Bytes, Failed, Names}}}, CallLog.{MakesCall}, ListedNames.{names_in, with_slash}, CallsOf.{Stage, Reader, over, taking_memory, opening_folder, following, reading_names, reader, read_once, more_names, next_name, names_read, broken_off, is_no_folder, unopened, RunLogged}, Seen.{NumberedAnswer}, AnswersOf.{Hint, no_hint, was_named, is_named, list, answer_of, failed_with, StepRuns}}
+use Rattle.cacache_system.specs.{declared.call.{SystemCall.TheVariants.{OpenFolder, ReadNames}, CallResult.{CallResult, TheVariants.{Opened, Bytes, Failed, Names}}}, CallLog.{MakesCall}, ListedNames.{names_in, with_slash}, CallsOf.{Stage, Reader, over, taking_memory, opening_folder, following, reading_names, reader, read_once, more_names, next_name, names_read, broken_off, is_no_folder, unopened, RunLogged}, Seen.{NumberedAnswer}, AnswersOf.{no_hint, list, answer_of, failed_with, StepRuns}}
 use Rattle.cacache_folder.specs.{Interruptions.{Insists}, Listings.{Log, LeadsTo, Proceeds, ListsNames, ReadsNames, ReadsAllNames, OpensFolder, ListsFolder, listed, more_if, reader_of}}
 use Rattle.cacache_folder.proofs.{CallRuns.{run_none}, Listings.{leads_none, leads_on, leads_run, leads_as, leads_same, leads_call, leads_took, run_taken, refused, fails, proceeds_on, proceeds_from, names_leads, names_fails}}
 
@@ -114,88 +114,69 @@ fills_over s number left folder news old new before is =
 -- ---- folders
 
 -- a link is followed
-pub led_opens : {F : Type 0} (number : F → ℕ) (path : List ℕ) (was : Bool) (why : ErrorKind) (result : Result F ErrorKind) (old mid new : Log)
-    → MakesCall old mid (OpenFolder path) (Failed why) → is_no_folder why ≡ true → was ≡ false
-    → OpensFolder number (following path) path result mid new → OpensFolder number (opening_folder was path) path result old new
-led_opens number path was why result old mid new makes none named opens =
-    proceeds_on (opening_folder was path) (following path) (λ folder. more_names (reader (number folder) path) []) result old mid new
-    (leads_as (opening_folder was path) (unopened was why path) (following path) old mid
-    (leads_call (opening_folder was path) (OpenFolder path) (Failed why) old mid makes refl)
-    (ap (λ (b : Bool). if b then (if was then over (Failed kind.NotADirectory) else following path) else over (Failed why)) none
-    ∙ ap (λ (b : Bool). if b then over (Failed kind.NotADirectory) else following path) named))
+pub led_opens : {F : Type 0} (number : F → ℕ) (path : List ℕ) (why : ErrorKind) (result : Result F ErrorKind) (old mid new : Log)
+    → MakesCall old mid (OpenFolder path) (Failed why) → is_no_folder why ≡ true
+    → OpensFolder number (following path) path result mid new → OpensFolder number (opening_folder path) path result old new
+led_opens number path why result old mid new makes none opens =
+    proceeds_on (opening_folder path) (following path) (λ folder. more_names (reader (number folder) path) []) result old mid new
+    (leads_as (opening_folder path) (unopened why path) (following path) old mid
+    (leads_call (opening_folder path) (OpenFolder path) (Failed why) old mid makes refl)
+    (ap (λ (b : Bool). if b then following path else over (Failed why)) none))
     opens
 
-list_is : (named : Bool) (path : List ℕ) → length path ≢ 0 → list named path ≡ taking_memory (opening_folder named path)
-list_is named path some =
-    ap (λ (b : Bool). if b then over (Failed kind.NotFound) else taking_memory (opening_folder named path)) (some_so (length path) some (eqb_tells (length path) 0))
+list_is : (path : List ℕ) → length path ≢ 0 → list path ≡ taking_memory (opening_folder path)
+list_is path some =
+    ap (λ (b : Bool). if b then over (Failed kind.NotFound) else taking_memory (opening_folder path)) (some_so (length path) some (eqb_tells (length path) 0))
 
 -- a folder is opened, and its names are read
-pub lists_folder : {F A : Type 0} (number : F → ℕ) (file : F) (path folder : List ℕ) (named : Bool) (names : A → List Name) (result : Result A ErrorKind)
-    (old mid new : Log) → length path ≢ 0 → OpensFolder number (opening_folder named path) path (Ok file) old mid → folder ≡ with_slash path
-    → ReadsAllNames (number file) folder [] names result mid new → ListsFolder (list named path) names result old new
-lists_folder number file path folder named names result old mid new some opens at reads =
-    proceeds_from (list named path) (taking_memory (opening_folder named path)) (λ value. listed (names value)) result old new (list_is named path some)
-    (proceeds_on (taking_memory (opening_folder named path)) (more_names (reader_of (number file) folder (2 ^ 64 - 1)) []) (λ value. listed (names value)) result
+pub lists_folder : {F A : Type 0} (number : F → ℕ) (file : F) (path folder : List ℕ) (names : A → List Name) (result : Result A ErrorKind)
+    (old mid new : Log) → length path ≢ 0 → OpensFolder number (opening_folder path) path (Ok file) old mid → folder ≡ with_slash path
+    → ReadsAllNames (number file) folder [] names result mid new → ListsFolder (list path) names result old new
+lists_folder number file path folder names result old mid new some opens at reads =
+    proceeds_from (list path) (taking_memory (opening_folder path)) (λ value. listed (names value)) result old new (list_is path some)
+    (proceeds_on (taking_memory (opening_folder path)) (more_names (reader_of (number file) folder (2 ^ 64 - 1)) []) (λ value. listed (names value)) result
     old mid new
-    (leads_as (taking_memory (opening_folder named path)) (more_names (reader (number file) path) []) (more_names (reader_of (number file) folder (2 ^ 64 - 1)) []) old mid
-    (leads_on (taking_memory (opening_folder named path)) (opening_folder named path) (more_names (reader (number file) path) []) old old mid
-    (leads_took (opening_folder named path) old) opens)
+    (leads_as (taking_memory (opening_folder path)) (more_names (reader (number file) path) []) (more_names (reader_of (number file) folder (2 ^ 64 - 1)) []) old mid
+    (leads_on (taking_memory (opening_folder path)) (opening_folder path) (more_names (reader (number file) path) []) old old mid
+    (leads_took (opening_folder path) old) opens)
     (ap (λ (f : List ℕ). more_names (reader_of (number file) f (2 ^ 64 - 1)) []) (sym at)))
     reads)
 
 -- it can't be opened
-pub lists_not : {F A : Type 0} (number : F → ℕ) (path : List ℕ) (named : Bool) (names : A → List Name) (why : ErrorKind) (old new : Log) → length path ≢ 0
-    → OpensFolder {F = F} number (opening_folder named path) path (Err why) old new → ListsFolder {A = A} (list named path) names (Err why) old new
-lists_not number path named names why old new some opens =
-    subst (λ (s : Stage). RunLogged s (Failed why) old new) (sym (list_is named path some)) (run_taken (opening_folder named path) (Failed why) old new opens)
+pub lists_not : {F : Type 0} (number : F → ℕ) (path : List ℕ) (why : ErrorKind) (old new : Log) → length path ≢ 0
+    → OpensFolder {F = F} number (opening_folder path) path (Err why) old new → RunLogged (list path) (Failed why) old new
+lists_not number path why old new some opens =
+    subst (λ (s : Stage). RunLogged s (Failed why) old new) (sym (list_is path some)) (run_taken (opening_folder path) (Failed why) old new opens)
 
 -- memory is refused for its path
-pub lists_refused : {A : Type 0} (path : List ℕ) (named : Bool) (names : A → List Name) (why : ErrorKind) (log : Log) → length path ≢ 0 → why ≡ kind.OutOfMemory
-    → ListsFolder {A = A} (list named path) names (Err why) log log
-lists_refused path named names why log some is =
-    subst (λ (s : Stage). RunLogged s (Failed why) log log) (sym (list_is named path some)) (refused (opening_folder named path) why log is)
+pub lists_refused : {A : Type 0} (path : List ℕ) (names : A → List Name) (why : ErrorKind) (log : Log) → length path ≢ 0 → why ≡ kind.OutOfMemory
+    → ListsFolder {A = A} (list path) names (Err why) log log
+lists_refused path names why log some is =
+    subst (λ (s : Stage). RunLogged s (Failed why) log log) (sym (list_is path some)) (refused (opening_folder path) why log is)
 
 -- an empty path leads nowhere
-pub lists_nowhere : {A : Type 0} (path : List ℕ) (named : Bool) (names : A → List Name) (log : Log) → length path ≡ 0
-    → ListsFolder {A = A} (list named path) names (Err kind.NotFound) log log
-lists_nowhere path named names log is =
-    fails (list named path) kind.NotFound log
-    (ap (λ (n : ℕ). if n == 0 then over (Failed kind.NotFound) else taking_memory (opening_folder named path)) is)
+pub lists_nowhere : {A : Type 0} (path : List ℕ) (names : A → List Name) (log : Log) → length path ≡ 0
+    → ListsFolder {A = A} (list path) names (Err kind.NotFound) log log
+lists_nowhere path names log is =
+    fails (list path) kind.NotFound log (ap (λ (n : ℕ). if n == 0 then over (Failed kind.NotFound) else taking_memory (opening_folder path)) is)
 
 -- ---- listings
 
-abbrev hint_of : Bool → Hint
-hint_of b = if b then was_named else no_hint
-
-hint_is : (b : Bool) → is_named (hint_of b) ≡ b
-hint_is true = refl
-hint_is false = refl
-
-run_of : (path : List ℕ) (named : Bool) (answer : NumberedAnswer) (end : CallResult) (old new : Log) → RunLogged (list named path) end old new
+run_of : (path : List ℕ) (answer : NumberedAnswer) (end : CallResult) (old new : Log) → RunLogged (list path) end old new
     → answer ≡ answer_of (steps.ReadDir path) end → StepRuns (steps.ReadDir path) answer old new
-run_of path named answer end old new run is =
-    (hint_of named, end, subst (λ (b : Bool). RunLogged (list b path) end old new) (sym (hint_is named)) run, is)
+run_of path answer end old new run is = (no_hint, end, run, is)
 
 -- a listing
-pub lists_run : {A : Type 0} (path : List ℕ) (named : Bool) (names : A → List Name) (value : A) (found : List Name) (old new : Log)
-    → ListsFolder (list named path) names (Ok value) old new → found ≡ names value → StepRuns (steps.ReadDir path) (answers.Names found) old new
-lists_run path named names value found old new lists is =
-    run_of path named (answers.Names found) (Names (names value)) old new
-    (leads_run (list named path) (listed (names value)) (Names (names value)) old new new lists
+pub lists_run : {A : Type 0} (path : List ℕ) (names : A → List Name) (value : A) (found : List Name) (old new : Log)
+    → ListsFolder (list path) names (Ok value) old new → found ≡ names value → StepRuns (steps.ReadDir path) (answers.Names found) old new
+lists_run path names value found old new lists is =
+    run_of path (answers.Names found) (Names (names value)) old new
+    (leads_run (list path) (listed (names value)) (Names (names value)) old new new lists
     (run_none (listed (names value)) (Names (names value)) new (inr refl)))
     (ap (λ (l : List Name). answers.Names l) is)
 
--- memory is refused after it
-pub lists_lost : {A : Type 0} (path : List ℕ) (named : Bool) (names : A → List Name) (value : A) (why : ErrorKind) (old new : Log)
-    → ListsFolder (list named path) names (Ok value) old new → why ≡ kind.OutOfMemory
-    → StepRuns (steps.ReadDir path) (failed_with (steps.ReadDir path) why) old new
-lists_lost path named names value why old new lists is =
-    run_of path named (failed_with (steps.ReadDir path) why) (Failed why) old new
-    (leads_run (list named path) (listed (names value)) (Failed why) old new new lists (refused (over (Names (names value))) why new is)) refl
-
 -- it fails
-pub lists_failed : {A : Type 0} (path : List ℕ) (named : Bool) (names : A → List Name) (why told : ErrorKind) (old new : Log)
-    → ListsFolder {A = A} (list named path) names (Err why) old new → told ≡ why
+pub lists_failed : (path : List ℕ) (why told : ErrorKind) (old new : Log) → RunLogged (list path) (Failed why) old new → told ≡ why
     → StepRuns (steps.ReadDir path) (failed_with (steps.ReadDir path) told) old new
-lists_failed path named names why told old new lists is =
-    run_of path named (failed_with (steps.ReadDir path) told) (Failed why) old new lists (ap (λ (k : ErrorKind). failed_with (steps.ReadDir path) k) is)
+lists_failed path why told old new lists is =
+    run_of path (failed_with (steps.ReadDir path) told) (Failed why) old new lists (ap (λ (k : ErrorKind). failed_with (steps.ReadDir path) k) is)

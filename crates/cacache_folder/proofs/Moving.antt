@@ -1,9 +1,8 @@
--- Moves of temporary files and appends, after what comes before them.
+-- Moves of temporary files, after what comes before them.
 use Rattle.std.{proofs.Common.{◌≡◌, ℕ, Bool, true, false, if◌then◌else◌, List, refl, sym, ap, subst, ◌∙◌}, specs.Prelude.{Option, Result, Ok, Err}}
 use Rattle.std_io.specs.{IoError.{error_kind}, declared.io.{error.Error.{Error}, kind.ErrorKind.{ErrorKind}}}
-use Rattle.cacache_system.specs.{declared.call.{FileInfo.{FileInfo}, SystemCall.{SystemCall, TheVariants.{Sync, Stat, Rename}}, CallResult.{CallResult, TheVariants.{Done, Count, Info, Failed}}, CallItem.{CallItem}}, CallLog.{said, MakesCall}, CallsOf.{Stage, over, only, preparing, keeping, give, sync_again, appending, is_absent, CallsLogged, RunLogged}, Seen.{NumberedTemp}, AnswersOf.{Hint, no_hint, rewrites, look_first, persist}}
-use Rattle.cacache_folder.specs.{Goings.{onward}, Looks.{LooksFirst}, Moves.{GoesBefore, Moves, Rewrites, Persists, Appends}}
-use Rattle.cacache_folder.proofs.CallRuns.{run_one, calls_none, calls_one, calls_on, calls_run, calls_over}
+use Rattle.cacache_system.specs.{declared.call.{FileInfo.{FileInfo}, SystemCall.{SystemCall, TheVariants.{Sync, Stat, Rename}}, CallResult.{CallResult, TheVariants.{Done, Info, Failed}}, CallItem.{CallItem}}, CallLog.{said, MakesCall}, CallsOf.{Stage, over, only, preparing, keeping, give, sync_again, is_absent, CallsLogged, RunLogged}, Seen.{NumberedTemp}, AnswersOf.{no_hint, rewrites}}
+use Rattle.cacache_folder.{specs.{Goings.{onward}, Moves.{GoesBefore, Rewrites, Persists}}, proofs.CallRuns.{run_one, calls_none, calls_one, calls_on, calls_run, calls_over}}
 
 abbrev Log : Type 0
 Log = Option (List CallItem)
@@ -56,54 +55,24 @@ keeps_not number temp b path error old new makes is =
     λ s. calls_one (keeping number temp b path s) (over (Failed (error_kind error))) (Stat path) (Failed (error_kind error)) old new makes refl
     (ap (λ (x : Bool). absent_or x (error_kind error) s) is)
 
--- folders were looked at, and then the rest is run
-looked_run : (value : Unit {0}) (s : Stage) (end : CallResult) (old mid new : Log) → LooksFirst (Ok value) old mid → RunLogged s end mid new
-    → (hint : Hint) × RunLogged (look_first hint s) end old new
-looked_run value s end old mid new looks run =
-    let (hint, calls) = looks s in
-    (hint, calls_run (look_first hint s) s end old mid new calls run)
-
--- one of them is none
-looked_not : (error : Error) (s : Stage) (old new : Log) → LooksFirst {A = Unit {0}} (Err error) old new
-    → (hint : Hint) × RunLogged (look_first hint s) (Failed (error_kind error)) old new
-looked_not error s old new looks =
-    let (hint, calls) = looks s in
-    (hint, calls_over (look_first hint s) _ (Failed (error_kind error)) old new calls refl)
-
--- a file is moved after the look
-pub moves : (from to : List ℕ) (value : Unit {0}) (r : Result (Unit {0}) Error) (old mid new : Log) → LooksFirst (Ok value) old mid
-    → MakesCall mid new (Rename from to) (said (λ _. Done) r) → Moves from to r old new
-moves from to value r old mid new looks makes =
-    let end : CallResult = said (λ _. Done) r in
-    looked_run value (only (Rename from to)) end old mid new looks (run_one (only (Rename from to)) (Rename from to) end end mid new makes refl refl)
-
-pub moves_not : (from to : List ℕ) (error : Error) (old new : Log) → LooksFirst {A = Unit {0}} (Err error) old new → Moves {A = Unit {0}} from to (Err error) old new
-moves_not from to error old new looks = looked_not error (only (Rename from to)) old new looks
-
--- bytes are appended after the look
-pub appends : (path bytes : List ℕ) (value : Unit {0}) (r : Result ℕ Error) (old mid new : Log) → LooksFirst (Ok value) old mid
-    → RunLogged (appending path bytes) (said Count r) mid new → Appends path bytes r old new
-appends path bytes value r old mid new looks run = looked_run value (appending path bytes) (said Count r) old mid new looks run
-
-pub appends_not : (path bytes : List ℕ) (error : Error) (old new : Log) → LooksFirst {A = Unit {0}} (Err error) old new → Appends path bytes (Err error) old new
-appends_not path bytes error old new looks = looked_not error (appending path bytes) old new looks
-
 -- a temporary file replaces one that was read
 pub rewrites_kept : (temp : NumberedTemp) (b : Bool) (path : List ℕ) (value : Unit {0}) (r : Result (Unit {0}) Error) (old mid new : Log)
-    → GoesBefore (keeping temp.number temp.path b path) (Ok value) old mid → Moves temp.path path r mid new → Rewrites temp b path r old new
-rewrites_kept temp b path value r old mid new keeps_it (hint, run) =
-    let s : Stage = look_first hint (only (Rename temp.path path)) in
-    (hint, calls_run (keeping temp.number temp.path b path s) s (said (λ _. Done) r) old mid new (keeps_it s) run)
+    → GoesBefore (keeping temp.number temp.path b path) (Ok value) old mid → MakesCall mid new (Rename temp.path path) (said (λ _. Done) r)
+    → Rewrites temp b path r old new
+rewrites_kept temp b path value r old mid new keeps_it makes =
+    let s : Stage = only (Rename temp.path path) in
+    let end : CallResult = said (λ _. Done) r in
+    calls_run (keeping temp.number temp.path b path s) s end old mid new (keeps_it s) (run_one s (Rename temp.path path) end end mid new makes refl refl)
 
 pub rewrites_not : (temp : NumberedTemp) (b : Bool) (path : List ℕ) (error : Error) (old new : Log)
     → GoesBefore {A = Unit {0}} (keeping temp.number temp.path b path) (Err error) old new → Rewrites {A = Unit {0}} temp b path (Err error) old new
 rewrites_not temp b path error old new keeps_not =
-    let s : Stage = look_first no_hint (only (Rename temp.path path)) in
-    (no_hint, calls_over (keeping temp.number temp.path b path s) _ (Failed (error_kind error)) old new (keeps_not s) refl)
+    let s : Stage = only (Rename temp.path path) in
+    calls_over (keeping temp.number temp.path b path s) _ (Failed (error_kind error)) old new (keeps_not s) refl
 
 -- so it is put, or without more
 pub persists_kept : (temp : NumberedTemp) (b : Bool) (path : List ℕ) (r : Result (Unit {0}) Error) (old new : Log) → Rewrites temp b path r old new → Persists temp path r old new
-persists_kept temp b path r old new (hint, run) = (rewrites b hint, run)
+persists_kept temp b path r old new run = (rewrites b, run)
 
 pub persists_plain : (temp : NumberedTemp) (path : List ℕ) (r : Result (Unit {0}) Error) (old new : Log) → MakesCall old new (Rename temp.path path) (said (λ _. Done) r)
     → Persists temp path r old new

@@ -66,3 +66,7 @@ module _ {Y F D : Type 0} where
   -- no step was made, and no call
   pub runs_none : (number : F → ℕ) (steps : List (StepMade Y F D)) (old new : Log) → steps ≡ [] → new ≡ old → StepsRun number steps old new
   runs_none number steps old new none same = subst (λ (made : List (StepMade Y F D)). StepsRun number made old new) (sym none) same
+
+  -- the same steps, after what was no step and no call
+  pub runs_stay : (number : F → ℕ) (steps : List (StepMade Y F D)) (old mid new : Log) → new ≡ mid → StepsRun number steps old mid → StepsRun number steps old new
+  runs_stay number steps old mid new same runs = subst (λ (log : Log). StepsRun number steps old log) (sym same) runs

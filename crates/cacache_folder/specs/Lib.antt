@@ -6,7 +6,6 @@ pub mod Interruptions
 pub mod FolderNumbers
 pub mod Goings
 pub mod HandleRuns
-pub mod Looks
 pub mod Moves
 pub mod Listings
 pub mod StepClauses

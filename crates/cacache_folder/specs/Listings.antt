@@ -123,11 +123,10 @@ OpensFolder number s path result old new =
     Proceeds s (λ folder. more_names (reader (number folder) path) []) result old new
 
 -- the same by its path; the other text is the path with a `/` after it
-abbrev pub OpensPath : {F : Type 0} → (F → ℕ) → Bool → List ℕ → List ℕ → Result F ErrorKind → Log
-    → Log → Type 0
-OpensPath number was_named path folder result old new =
-    folder ≡ with_slash path
-    → OpensFolder number (opening_folder was_named path) path result old new
+abbrev pub OpensPath : {F : Type 0} → (F → ℕ) → List ℕ → List ℕ → Result F ErrorKind → Log → Log
+    → Type 0
+OpensPath number path folder result old new =
+    folder ≡ with_slash path → OpensFolder number (opening_folder path) path result old new
 
 -- all that is in a folder was listed, from its path on
 abbrev pub ListsFolder : {A : Type 0} → Stage → (A → List Name) → Result A ErrorKind → Log → Log

@@ -1,7 +1,7 @@
--- Moves of temporary files, and appends, in walks.
+-- Moves of temporary files.
 use Rattle.std.specs.Prelude.{ℕ, Bool, List, Option, Result}
 use Rattle.std_io.specs.declared.io.error.Error.{Error}
-use Rattle.cacache_system.specs.{declared.call.{SystemCall.TheVariants.{Rename}, CallItem.{CallItem}, CallResult.TheVariants.{Done, Count}}, CallLog.{said}, CallsOf.{Stage, only, appending, CallsLogged, RunLogged}, Seen.{NumberedTemp}, AnswersOf.{Hint, rewrites, look_first, persist}}
+use Rattle.cacache_system.specs.{declared.call.{CallItem.{CallItem}, CallResult.TheVariants.{Done}}, CallLog.{said}, CallsOf.{Stage, CallsLogged, RunLogged}, Seen.{NumberedTemp}, AnswersOf.{Hint, rewrites, persist}}
 use Rattle.cacache_folder.specs.Goings.{onward}
 
 abbrev Log : Type 0
@@ -11,26 +11,13 @@ Log = Option (List CallItem)
 abbrev pub GoesBefore : {A : Type 0} → (Stage → Stage) → Result A Error → Log → Log → Type 0
 GoesBefore before r old new = (s : Stage) → CallsLogged (before s) (onward (λ _. s) r) old new
 
--- a file was moved, in a walk or in none
-abbrev pub Moves : {A : Type 0} → List ℕ → List ℕ → Result A Error → Log → Log → Type 0
-Moves from to result old new =
-    (hint : Hint)
-    × RunLogged (look_first hint (only (Rename from to))) (said (λ _. Done) result) old new
-
 -- a temporary file replaced a file that was read, or didn't
 abbrev pub Rewrites : {A : Type 0} → NumberedTemp → Bool → List ℕ → Result A Error → Log → Log
     → Type 0
 Rewrites temp synced path result old new =
-    (hint : Hint)
-    × RunLogged (persist (rewrites synced hint) temp path) (said (λ _. Done) result) old new
+    RunLogged (persist (rewrites synced) temp path) (said (λ _. Done) result) old new
 
 -- a temporary file was moved, or wasn't
 abbrev pub Persists : {A : Type 0} → NumberedTemp → List ℕ → Result A Error → Log → Log → Type 0
 Persists temp path result old new =
     (hint : Hint) × RunLogged (persist hint temp path) (said (λ _. Done) result) old new
-
--- bytes were appended, in a walk or in none
-abbrev pub Appends : List ℕ → List ℕ → Result ℕ Error → Log → Log → Type 0
-Appends path bytes result old new =
-    (hint : Hint)
-    × RunLogged (look_first hint (appending path bytes)) (said Count result) old new

@@ -6,9 +6,7 @@ ghost use Rattle.cacache_folder.specs.{FolderHandles.{seen_file, seen_temp}, Fol
 
 mod again;
 mod answers;
-mod appending;
 mod copying;
-mod descent;
 mod entries;
 mod escaped;
 mod faults;
@@ -18,12 +16,10 @@ mod fresh;
 mod guess;
 mod listing;
 mod log;
-mod looking;
 mod node;
 mod opened;
 mod paths;
 mod refusing;
-mod removing;
 mod rewriting;
 mod runner;
 mod syncing;
@@ -31,12 +27,15 @@ mod temp;
 mod values;
 mod whole;
 
-use cacache_store::store::{Answer, Step, Store};
+use cacache_core::errors::Fault;
+use cacache_store::store::{Answer, Stamps, Step, Store};
 use cacache_system::{Host, System};
 use log::{Snapshot, StepLog};
 pub use opened::{FolderFile, SystemFile};
 use runner::Runner;
+use std::io;
 use std::io::ErrorKind;
+use std::os::fd::AsRawFd;
 use std::rt::Files;
 pub use temp::{FolderTemp, SystemTemp};
 
@@ -61,10 +60,12 @@ pub(crate) type AnswerOf<Y> = Answer<SystemFile<Y>, SystemTemp<Y>>;
 /// mode. If they can't be kept, the step fails, and the file stays as it was. Any other `Persist` leaves the temporary
 /// file's own, so that its owner alone reads it.
 ///
-/// In a walk, which lists a folder and those below it, a step looks whether the folder that it changes is still the one
-/// that was listed. If a link took its place, the step fails with `NotADirectory`. A step that removes a file looks so,
-/// unless it comes right after the listing; one that removes a folder, now and then; a `Persist` that replaces a file
-/// that was read; and an `Append`, unless a temporary file was made since the listing, as in a put.
+/// A walk lists a folder and those below it. From its first listing until `end_walks` the real system holds the folders
+/// that lead to where the walk is, eight at most. Steps on what is below the first go to the folders that are held, and not
+/// by path. If a link takes the place of one, a step that changes something there fails with `NotADirectory`, or changes
+/// the folder that the walk had opened. The first folder is opened by its path, and a link to it is followed. What
+/// is neither file, folder nor link isn't opened in a walk: the step fails with `Unsupported`. So does a listing without
+/// `/proc`.
 #[derive(Drop)]
 pub struct SystemStore<Y: System + Drop> {
     runner: Runner<Y>,
@@ -73,7 +74,10 @@ pub struct SystemStore<Y: System + Drop> {
     pub ghost ran: { ∥ StepsRun Y.number log.items (Y.calls began.value) (Y.calls runner.system) ∥₁ },
 }
 
-impl<R: Files + AllocGlobal + Clone + Drop> SystemStore<Host<R>> {
+impl<R: Files + AllocGlobal + Clone + Drop> SystemStore<Host<R>>
+where
+    R::File: AsRawFd,
+{
     /// The store over the runtime's file system.
     pub fn new(rt: R) -> FolderStore<R>
         ensures system { result.runner.system.rt ≡ rt }
@@ -149,5 +153,33 @@ impl<Y: System + AllocGlobal + Clone + Drop> Store for SystemStore<Y> {
         let log = self.log.with(&made, &answer);
         self.log = log;
         answer
+    }
+
+    /// Closes the folders that walks hold open.
+    fn end_walks(&mut self)
+        ensures logged { log_of (Y.calls self.new.began.value) self.new.log.items
+            ≡ log_of (Y.calls self.old.began.value) self.old.log.items }
+        ensures calls { Y.calls self.new.runner.system ≡ Y.calls self.old.runner.system }
+    {
+        self.runner.system.end_walks();
+    }
+}
+
+/// A time, or the fault that the system reports.
+fn told(changed: io::Result<u64>) -> Result<u64, Fault> {
+    match changed {
+        Ok(changed) => Ok(changed),
+        Err(error) => Err(Fault::from(error.kind())),
+    }
+}
+
+impl<Y: System + AllocGlobal + Clone + Drop> Stamps for SystemStore<Y> {
+    fn changed(&mut self, path: &str) -> Result<u64, Fault>
+        ensures logged { log_of (Y.calls self.new.began.value) self.new.log.items
+            ≡ log_of (Y.calls self.old.began.value) self.old.log.items }
+        ensures calls { Y.calls self.new.runner.system ≡ Y.calls self.old.runner.system }
+    {
+        let changed = self.runner.system.changed(path);
+        told(changed)
     }
 }

@@ -5,46 +5,33 @@ use Rattle.std_io.specs.declared.io.kind.ErrorKind.TheVariants as kind
 use Rattle.cacache_core.specs.{Contexts.{fault_of}, declared.errors.Fault.TheVariants.{Device}}
 use Rattle.cacache_store.specs.declared.store.step.Step.TheVariants as steps
 use Rattle.cacache_store.specs.declared.store.answer.Answer.TheVariants as answers
-use Rattle.cacache_system.specs.{declared.call.{FileInfo.{FileInfo}, CallResult.{CallResult, TheVariants.{Done, Opened, Count, Bytes, Info, Names, Failed}}, CallItem.{CallItem}}, Seen.{NumberedFile, NumberedTemp, NumberedStep, NumberedAnswer}, CallsOf.{Stage, over, only, trying, taking_memory, opening, to_give, to_sync, to_sync_folder, to_read, appending, sizing, asking_source, standing, making, keeping, comparing, opening_folder, RunLogged}}
+use Rattle.cacache_system.specs.{declared.call.{CallResult.{CallResult, TheVariants.{Done, Opened, Count, Bytes, Info, Names, Failed}}, CallItem.{CallItem}}, Seen.{NumberedFile, NumberedTemp, NumberedStep, NumberedAnswer}, CallsOf.{Stage, over, only, trying, taking_memory, opening, to_give, to_sync, to_sync_folder, to_read, appending, sizing, asking_source, standing, making, keeping, opening_folder, RunLogged}}
 use Rattle.cacache_system.specs.declared.call.SystemCall.TheVariants as asks
 
 -- What a store remembers of its steps chooses no more than how the calls of a step begin: nothing that matters, that the
--- folder is guessed to be missing, that a listing named it, or a walk whose folders are looked at before what is in them
--- changes. It has what the last of them was, its path, and the paths of those between the first and the last. Or the file
--- that a temporary one replaces was read before: whether the temporary one was synced, and what else is remembered.
+-- folder is guessed to be missing, or that the file which a temporary one replaces was read before, and then whether the
+-- temporary one was synced.
 pub data Hint : Type 0 where
   no_hint : Hint
   is_missing : Hint
-  was_named : Hint
-  in_walk : FileInfo → List ℕ → List (List ℕ) → Hint
-  rewrites : Bool → Hint → Hint
+  rewrites : Bool → Hint
 
 -- a folder that is guessed to be missing is made before it is asked for
 abbrev pub make_dirs : Hint → List ℕ → Stage
 make_dirs is_missing path = making false path []
 make_dirs hint path = standing path
 
--- in a walk its folders are looked at first
-abbrev pub look_first : Hint → Stage → Stage
-look_first (in_walk node last entered) s = comparing node last entered s
-look_first hint s = s
-
 -- a temporary file is moved; one that replaces a file that was read keeps the owner, the group and the mode of that
 abbrev pub persist : Hint → NumberedTemp → List ℕ → Stage
-persist (rewrites synced hint) temp path =
-    keeping temp.number temp.path synced path (look_first hint (only (asks.Rename temp.path path)))
+persist (rewrites synced) temp path =
+    keeping temp.number temp.path synced path (only (asks.Rename temp.path path))
 persist hint temp path = only (asks.Rename temp.path path)
 
--- a listing named the folder
-abbrev pub is_named : Hint → Bool
-is_named was_named = true
-is_named hint = false
-
 -- a folder is listed; an empty path leads to none
-abbrev pub list : Bool → List ℕ → Stage
-list named path =
+abbrev pub list : List ℕ → Stage
+list path =
     if length path == 0 then over (Failed kind.NotFound)
-    else taking_memory (opening_folder named path)
+    else taking_memory (opening_folder path)
 
 -- an open file that gave 2^64 - 1 bytes gives no more, and is not said to end
 abbrev pub read_piece : NumberedFile → ℕ → Stage
@@ -59,7 +46,7 @@ first hint (steps.MakeDirs p) = make_dirs hint p
 first hint (steps.CreateTemp p) = taking_memory (only (asks.CreateNew p 384))
 first hint (steps.Write t b) = trying false (asks.Write t.number b)
 first hint (steps.Persist t p) = persist hint t p
-first hint (steps.Append p b) = look_first hint (appending p b)
+first hint (steps.Append p b) = appending p b
 first hint (steps.ReadAll p) = opening to_read p
 first hint (steps.Open p) = taking_memory (opening to_give p)
 first hint (steps.Read f max) = read_piece f (min max 131072)
@@ -69,9 +56,9 @@ first hint (steps.Symlink target p) = only (asks.Symlink target p)
 first hint (steps.Copy from to) = asking_source from to
 first hint (steps.Reflink from to) = over (Failed kind.Unsupported)
 first hint (steps.HardLink from to) = only (asks.HardLink from to)
-first hint (steps.ReadDir p) = list (is_named hint) p
-first hint (steps.RemoveFile p) = look_first hint (only (asks.RemoveFile p))
-first hint (steps.RemoveDir p) = look_first hint (only (asks.RemoveFolder p))
+first hint (steps.ReadDir p) = list p
+first hint (steps.RemoveFile p) = only (asks.RemoveFile p)
+first hint (steps.RemoveDir p) = only (asks.RemoveFolder p)
 first hint (steps.SyncTemp t) = only (asks.Sync t.number)
 first hint (steps.SyncFile p) = opening to_sync p
 first hint (steps.SyncDir p) = opening to_sync_folder p

@@ -23,8 +23,8 @@ pub record Reader : Type 0 where
   pub left : ℕ
 
 -- Where the calls of a step are. A truth value says whether a signal interrupted the call before; of a folder that is made,
--- whether the one above it was made just now, and the list says which ones below it are to be made then; of a folder that
--- is opened to be listed, whether a listing named it. Names that were listed so far come last. A copy has the number that
+-- whether the one above it was made just now, and the list says which ones below it are to be made then. Names that were
+-- listed so far come last. A copy has the number that
 -- the names of its fresh file begin with, and how many more of these may be tried. A temporary file that keeps what another
 -- file has goes by its number and its path, and by whether it was synced. A stage that comes last follows, if nothing fails.
 pub data Stage : Type 0 where
@@ -52,9 +52,7 @@ pub data Stage : Type 0 where
   confirming : ErrorKind → List ℕ → List (List ℕ) → Stage
   preparing : SystemCall → Stage → Stage
   keeping : ℕ → List ℕ → Bool → List ℕ → Stage → Stage
-  comparing : FileInfo → List ℕ → List (List ℕ) → Stage → Stage
-  descending : List ℕ → List (List ℕ) → Stage → Stage
-  opening_folder : Bool → List ℕ → Stage
+  opening_folder : List ℕ → Stage
   following : List ℕ → Stage
   reading_names : Bool → Reader → List Name → Stage
   asking_kind : Reader → List ℕ → List (List ℕ) → List Name → Stage
@@ -112,9 +110,7 @@ wants (making again path todo) = Some (MakeFolder path)
 wants (confirming why path todo) = Some (Stat path)
 wants (preparing call s) = Some call
 wants (keeping number temp synced path s) = Some (Stat path)
-wants (comparing node path entered s) = Some (StatLink path)
-wants (descending path entered s) = Some (StatLink path)
-wants (opening_folder was_named path) = Some (OpenFolder path)
+wants (opening_folder path) = Some (OpenFolder path)
 wants (following path) = Some (OpenFolder (with_slash path))
 wants (reading_names again r found) = Some (ReadNames r.number 4096)
 wants (asking_kind r name names found) = Some (StatLink (r.folder ++ name))
@@ -231,16 +227,6 @@ abbrev pub give : ℕ → List ℕ → Bool → FileInfo → Stage → Stage
 give number temp synced info s =
     preparing (SetOwner temp info.owner info.group) (give_mode number synced info.mode s)
 
--- the folders of a walk are looked at one by one
-abbrev pub descend : List (List ℕ) → Stage → Stage
-descend [] s = s
-descend (path ∷ entered) s = descending path entered s
-
--- where the last folder of a walk is the one that was listed, no other is looked at, nor it again
-abbrev pub compared : Bool → Kind → List (List ℕ) → Stage → Stage
-compared true kinds.Folder entered s = s
-compared same kind entered s = descend entered s
-
 -- ---- listings
 
 -- a folder that was opened
@@ -295,12 +281,9 @@ is_no_folder kind.NotADirectory = true
 is_no_folder kind.FilesystemLoop = true
 is_no_folder _ = false
 
--- a link is followed where a walk begins
-abbrev pub unopened : Bool → ErrorKind → List ℕ → Stage
-unopened was_named why path =
-    if is_no_folder why
-    then (if was_named then over (Failed kind.NotADirectory) else following path)
-    else over (Failed why)
+-- a link is followed; in a walk the system refuses it
+abbrev pub unopened : ErrorKind → List ℕ → Stage
+unopened why path = if is_no_folder why then following path else over (Failed why)
 
 -- The stage to which what the system says leads. A failure ends the step, except that of a signal, that of a folder
 -- that may be made or is there after all, and one from which a copy goes on.
@@ -346,12 +329,8 @@ after (preparing call s) Done = s
 after (keeping number temp synced path s) (Info info) = give number temp synced info s
 after (keeping number temp synced path s) (Failed why) =
     if is_absent why then s else over (Failed why)
-after (comparing node path entered s) (Info info) =
-    compared (is_same_node info node) info.kind (entered ++ path ∷ []) s
-after (descending path entered s) (Info info) =
-    if_folder info.kind kind.NotADirectory (descend entered s)
-after (opening_folder was_named path) (Opened number) = more_names (reader number path) []
-after (opening_folder was_named path) (Failed why) = unopened was_named why path
+after (opening_folder path) (Opened number) = more_names (reader number path) []
+after (opening_folder path) (Failed why) = unopened why path
 after (following path) (Opened number) = more_names (reader number path) []
 after (following path) (Failed why) =
     over (Failed (if is_absent why then kind.NotADirectory else why))

@@ -1,7 +1,9 @@
-//! The real system. All that stays trusted here is that each method asks what it is named for.
+//! The real system. All that stays trusted here is that each method asks what it is named for, and that it asks in the
+//! folders that walks hold open, and not by a path that somebody may have led elsewhere since.
 ghost use Rattle.std.specs.{Prelude.{◌≡◌, ◌++◌, None, OnOk, IfSome}, Io.{StartsWith}};
 
 use crate::call::FileInfo;
+use crate::open_folders::OpenFolders;
 use crate::system::System;
 use cacache_core::text::Text;
 use cacache_store::store::Kind;
@@ -9,33 +11,41 @@ use std::alloc::{Alloc, AllocError, Global};
 use std::fs::{File, Metadata, OpenFile, Permissions};
 use std::io;
 use std::io::{Read, Write};
+use std::os::fd::AsRawFd;
 use std::os::unix::fs::{MetadataExt, OpenOptionsExt, PermissionsExt};
 use std::rt::Files;
 
 /// A runtime's files as the system. It keeps no log.
 #[derive(Drop)]
-pub struct Host<R> {
+pub struct Host<R: Files> {
     rt: R,
+    walks: OpenFolders<R>,
 }
 
-impl<R> Host<R> {
+impl<R: Files + AllocGlobal> Host<R>
+where
+    R::File: AsRawFd,
+{
     /// The system of a runtime.
     pub fn new(rt: R) -> Host<R>
         ensures { result.rt ≡ rt }
     {
-        Host { rt }
+        let walks = OpenFolders::new(rt.alloc());
+        Host { rt, walks }
     }
 }
 
-impl<R: Clone> Clone for Host<R> {
+impl<R: Files + AllocGlobal + Clone> Clone for Host<R>
+where
+    R::File: AsRawFd,
+{
+    /// The same system, which holds nothing open.
     fn clone(&self) -> Result<Host<R>, AllocError> {
-        Ok(Host {
-            rt: self.rt.clone()?,
-        })
+        Ok(Host::new(self.rt.clone()?))
     }
 }
 
-impl<R: AllocGlobal> Alloc for Host<R> {
+impl<R: Files + AllocGlobal> Alloc for Host<R> {
     type A = Global;
 
     fn alloc(&self) -> Global {
@@ -66,7 +76,31 @@ fn info(metadata: &Metadata) -> FileInfo {
     }
 }
 
-impl<R: Files + Drop> System for Host<R> {
+/// Whether there is neither file, folder nor link.
+fn is_odd(metadata: &Metadata) -> bool {
+    !(metadata.is_file() || metadata.is_dir() || metadata.is_symlink())
+}
+
+/// A time in milliseconds since the start of 1970.
+fn in_millis(seconds: i64, nanoseconds: i64) -> u64 {
+    let millis = seconds
+        .saturating_mul(1000)
+        .saturating_add(nanoseconds / 1_000_000);
+    u64::try_from(millis).unwrap_or(0)
+}
+
+/// The path by which to ask for what is at a path: another, if a walk leads there.
+fn by<'a>(path: &'a str, other: &'a Option<String>) -> &'a str {
+    match other {
+        Some(other) => other.as_str(),
+        None => path,
+    }
+}
+
+impl<R: Files + Drop> System for Host<R>
+where
+    R::File: AsRawFd,
+{
     type File = R::File;
 
     type Folder = R::Dir;
@@ -78,26 +112,31 @@ impl<R: Files + Drop> System for Host<R> {
     ghost calls = { λ _. None };
 
     fn open_to_read(&mut self, path: &str) -> io::Result<R::File> {
-        File::open(&self.rt, path)
+        self.walks.refuse_odd(path)?;
+        let near = self.walks.near(path)?;
+        File::open(&self.rt, by(path, &near))
     }
 
     fn create_new(&mut self, path: &str, mode: u32) -> io::Result<R::File> {
+        let within = self.walks.within(&self.rt, path)?;
         File::options()
             .write(true)
             .create_new(true)
             .mode(mode)
-            .open(&self.rt, path)
+            .open(&self.rt, by(path, &within))
     }
 
     fn open_to_append(&mut self, path: &str) -> io::Result<R::File> {
+        self.walks.refuse_odd(path)?;
+        let within = self.walks.within(&self.rt, path)?;
         File::options()
             .append(true)
             .create(true)
-            .open(&self.rt, path)
+            .open(&self.rt, by(path, &within))
     }
 
     fn open_folder(&mut self, path: &str) -> io::Result<R::Dir> {
-        self.rt.open_dir(path)
+        self.walks.list(&self.rt, path)
     }
 
     fn read(&mut self, file: &mut R::File, buf: &mut [u8]) -> io::Result<usize> {
@@ -126,7 +165,8 @@ impl<R: Files + Drop> System for Host<R> {
     }
 
     fn set_owner(&mut self, path: &str, owner: u32, group: u32) -> io::Result<()> {
-        self.rt.lchown(path, Some(owner), Some(group))
+        let within = self.walks.within(&self.rt, path)?;
+        self.rt.lchown(by(path, &within), Some(owner), Some(group))
     }
 
     fn set_mode(&mut self, file: &R::File, mode: u32) -> io::Result<()> {
@@ -138,27 +178,38 @@ impl<R: Files + Drop> System for Host<R> {
     }
 
     fn stat(&mut self, path: &str) -> io::Result<FileInfo> {
-        Ok(info(&self.rt.metadata(path)?))
+        let near = self.walks.near(path)?;
+        Ok(info(&self.rt.metadata(by(path, &near))?))
     }
 
     fn stat_link(&mut self, path: &str) -> io::Result<FileInfo> {
-        Ok(info(&self.rt.symlink_metadata(path)?))
+        let near = self.walks.near(path)?;
+        let metadata = self.rt.symlink_metadata(by(path, &near))?;
+        if is_odd(&metadata) {
+            self.walks.note_odd(path)?;
+        }
+        Ok(info(&metadata))
     }
 
     fn rename(&mut self, from: &str, to: &str) -> io::Result<()> {
-        self.rt.rename(from, to)
+        let (away, there) = self.walks.within_both(&self.rt, from, to)?;
+        self.rt.rename(by(from, &away), by(to, &there))
     }
 
     fn make_folder(&mut self, path: &str) -> io::Result<()> {
-        self.rt.create_dir(path)
+        let within = self.walks.within(&self.rt, path)?;
+        self.rt.create_dir(by(path, &within))
     }
 
     fn remove_file(&mut self, path: &str) -> io::Result<()> {
-        self.rt.remove_file(path)
+        let within = self.walks.within(&self.rt, path)?;
+        self.rt.remove_file(by(path, &within))
     }
 
     fn remove_folder(&mut self, path: &str) -> io::Result<()> {
-        self.rt.remove_dir(path)
+        let within = self.walks.within(&self.rt, path)?;
+        self.walks.leave(path);
+        self.rt.remove_dir(by(path, &within))
     }
 
     fn symlink(&mut self, target: &str, path: &str) -> io::Result<()> {
@@ -175,5 +226,16 @@ impl<R: Files + Drop> System for Host<R> {
 
     fn real_path(&mut self, alloc: Global, path: &str) -> io::Result<Text> {
         Ok(Text::new(self.rt.canonicalize(alloc, path)?.into_string()))
+    }
+
+    fn changed(&mut self, path: &str) -> io::Result<u64> {
+        let within = self.walks.within(&self.rt, path)?;
+        let metadata = self.rt.symlink_metadata(by(path, &within))?;
+        let written = in_millis(metadata.mtime(), metadata.mtime_nsec());
+        Ok(written.max(in_millis(metadata.ctime(), metadata.ctime_nsec())))
+    }
+
+    fn end_walks(&mut self) {
+        self.walks.close();
     }
 }

@@ -2,7 +2,9 @@
 #![tactic(auto)]
 
 mod call;
+mod held;
 mod host;
+mod open_folders;
 mod system;
 
 pub use call::{CallItem, CallResult, FileInfo, SystemCall};

@@ -144,4 +144,14 @@ pub trait System {
     fn real_path(&mut self, alloc: Global, path: &str) -> io::Result<Text>
         ensures { MakesCall (calls self.old) (calls self.new) (asks.RealPath path.now)
             (said says.Bytes result) };
+
+    /// When what is at a path, be it a link, was last written, moved, or given other rights: the latest of these, in
+    /// milliseconds since the start of 1970 (UTC).
+    fn changed(&mut self, path: &str) -> io::Result<u64>
+        ensures unlogged { calls self.new ≡ calls self.old };
+
+    /// Closes what is held open for walks. A system may hold the folder that it opened to be listed, and those below it,
+    /// and ask for what is in them there, wherever their paths lead by then. This ends it.
+    fn end_walks(&mut self)
+        ensures unlogged { calls self.new ≡ calls self.old };
 }

@@ -1,10 +1,8 @@
 -- Calls that lead to the last stage of a rename or an append.
 use Rattle.std.proofs.Common.{◌≡◌, ◌⊎◌, ℕ, Bool, true, false, if◌then◌else◌, List, [], ◌∷◌, ◌++◌, refl, sym, ap, ap₂, subst, inl, inr}
 use Rattle.std_io.specs.declared.io.kind.ErrorKind.{ErrorKind}
-use Rattle.std_io.specs.declared.io.kind.ErrorKind.TheVariants as kind
-use Rattle.cacache_store.specs.declared.store.answer.Kind.{Kind}
 use Rattle.cacache_store.specs.declared.store.answer.Kind.TheVariants as kinds
-use Rattle.cacache_system.specs.{declared.call.{SystemCall.{SystemCall}, FileInfo.{FileInfo}, CallResult.{CallResult}, CallItem.{CallItem}}, CallLog.{item}, Seen.{NumberedTemp}, CallsOf.{Stage, over, only, preparing, keeping, comparing, descending, after, is_absent, is_same_node, if_folder, give_mode, give, descend, compared, Runs}, AnswersOf.{Hint, in_walk, rewrites, look_first, persist}}
+use Rattle.cacache_system.specs.{declared.call.{SystemCall.{SystemCall}, FileInfo.{FileInfo}, CallResult.{CallResult}, CallItem.{CallItem}}, CallLog.{item}, Seen.{NumberedTemp}, CallsOf.{Stage, over, only, preparing, keeping, after, is_absent, give_mode, give, Runs}, AnswersOf.{Hint, rewrites, persist}}
 use Rattle.cacache_system.specs.declared.call.SystemCall.TheVariants as asks
 use Rattle.cacache_system.specs.declared.call.CallResult.TheVariants as says
 use Rattle.cacache_system_model.{specs.CallForms.{prepares, has_kind, Only, AnsweredInKind}, proofs.StageCalls.{same_call, no_call}}
@@ -31,11 +29,6 @@ stats_or_fails : (path : List ℕ) (said : CallResult) → has_kind (asks.Stat p
 stats_or_fails path (says.Info info) is = inl (info, refl)
 stats_or_fails path (says.Failed why) is = inr (why, refl)
 stats_or_fails path said is = absurd (not_true is)
-
-looks_or_fails : (path : List ℕ) (said : CallResult) → has_kind (asks.StatLink path) said ≡ true → ((info : FileInfo) × (said ≡ says.Info info)) ⊎ Fails said
-looks_or_fails path (says.Info info) is = inl (info, refl)
-looks_or_fails path (says.Failed why) is = inr (why, refl)
-looks_or_fails path said is = absurd (not_true is)
 
 pub tells_or_fails : (f : ℕ) (said : CallResult) → has_kind (asks.StatFile f) said ≡ true → ((info : FileInfo) × (said ≡ says.Info info)) ⊎ Fails said
 tells_or_fails f (says.Info info) is = inl (info, refl)
@@ -90,8 +83,6 @@ over_none said (x ∷ calls) end runs = absurd (no_call x.call runs.0)
 abbrev pub Up : Stage → Stage → Type 0
 Up t (preparing call s) = (readies call ≡ true) × Up t s
 Up t (keeping number temp synced path s) = Up t s
-Up t (comparing node last entered s) = Up t s
-Up t (descending path entered s) = Up t s
 Up t s = s ≡ t
 
 -- the calls led there, or one of them failed
@@ -110,21 +101,9 @@ failed_arrives t why (x ∷ calls) end runs = absurd (no_call x.call runs.0)
 at_once : (t s : Stage) (calls : List CallItem) (end : CallResult) → s ≡ t → Runs s calls end → Arrives t calls end
 at_once t s calls end is runs = inr ([], calls, refl, tt, subst (λ (x : Stage). Runs x calls end) is runs)
 
-up_descends : (t s : Stage) (entered : List (List ℕ)) → Up t s → Up t (descend entered s)
-up_descends t s [] up = up
-up_descends t s (path ∷ entered) up = up
-
-up_compared : (t s : Stage) (same : Bool) (what : Kind) (entered : List (List ℕ)) → Up t s → Up t (compared same what entered s)
-up_compared t s true kinds.Folder entered up = up
-up_compared t s same what entered up = up_descends t s entered up
-
 up_gives_mode : (t s : Stage) (number : ℕ) (synced : Bool) (mode : ℕ) → Up t s → Up t (give_mode number synced mode s)
 up_gives_mode t s number true mode up = (refl, (refl, up))
 up_gives_mode t s number false mode up = (refl, up)
-
-folder_arrives : (t s : Stage) (what : Kind) (why : ErrorKind) (calls : List CallItem) (end : CallResult) → (Runs s calls end → Arrives t calls end) → Runs (if_folder what why s) calls end → Arrives t calls end
-folder_arrives t s kinds.Folder why calls end go runs = go runs
-folder_arrives t s _ why calls end go runs = failed_arrives t why calls end runs
 
 absent_arrives : (t s : Stage) (b : Bool) (why : ErrorKind) (calls : List CallItem) (end : CallResult) → (Runs s calls end → Arrives t calls end) → Runs (if b then s else over (says.Failed why)) calls end → Arrives t calls end
 absent_arrives t s true why calls end go runs = go runs
@@ -150,32 +129,8 @@ arrives t (x ∷ calls) (keeping number temp synced path s) end up kinds runs =
       | inl told ↦ arrives t calls (give number temp synced told.0 s) end (refl, up_gives_mode t s number synced told.0.mode up) kinds.1 (subst (After (keeping number temp synced path s) calls end) told.1 runs.1)
       | inr failed ↦ absent_arrives t s (is_absent failed.0) failed.0 calls end (arrives t calls s end up kinds.1) (subst (After (keeping number temp synced path s) calls end) failed.1 runs.1)
     ])
-arrives t [] (comparing node last entered s) end up kinds runs = absurd runs
-arrives t (x ∷ calls) (comparing node last entered s) end up kinds runs =
-    let is : x.call ≡ asks.StatLink last = same_call (asks.StatLink last) x.call runs.0 in
-    arrives_first x t calls end (subst (λ (c : SystemCall). prepares c ≡ true) (sym is) refl)
-    (elim (looks_or_fails last x.result (in_kind x (asks.StatLink last) is kinds.0)) [
-      | inl told ↦
-          arrives t calls (compared (is_same_node told.0 node) told.0.kind (entered ++ last ∷ []) s) end (up_compared t s (is_same_node told.0 node) told.0.kind (entered ++ last ∷ []) up) kinds.1
-          (subst (After (comparing node last entered s) calls end) told.1 runs.1)
-      | inr failed ↦ failed_arrives t failed.0 calls end (subst (After (comparing node last entered s) calls end) failed.1 runs.1)
-    ])
-arrives t [] (descending path entered s) end up kinds runs = absurd runs
-arrives t (x ∷ calls) (descending path entered s) end up kinds runs =
-    let is : x.call ≡ asks.StatLink path = same_call (asks.StatLink path) x.call runs.0 in
-    arrives_first x t calls end (subst (λ (c : SystemCall). prepares c ≡ true) (sym is) refl)
-    (elim (looks_or_fails path x.result (in_kind x (asks.StatLink path) is kinds.0)) [
-      | inl told ↦
-          folder_arrives t (descend entered s) told.0.kind kind.NotADirectory calls end (arrives t calls (descend entered s) end (up_descends t s entered up) kinds.1)
-          (subst (After (descending path entered s) calls end) told.1 runs.1)
-      | inr failed ↦ failed_arrives t failed.0 calls end (subst (After (descending path entered s) calls end) failed.1 runs.1)
-    ])
 arrives t calls s end up kinds runs = at_once t s calls end up runs
 
-pub up_looks : (t s : Stage) (hint : Hint) → Up t s → Up t (look_first hint s)
-up_looks t s (in_walk node last entered) up = up
-up_looks t s hint up = up
-
 pub up_persists : (hint : Hint) (temp : NumberedTemp) (path : List ℕ) → Up (only (asks.Rename temp.path path)) (persist hint temp path)
-up_persists (rewrites synced hint) temp path = up_looks (only (asks.Rename temp.path path)) (only (asks.Rename temp.path path)) hint refl
+up_persists (rewrites synced) temp path = refl
 up_persists hint temp path = refl

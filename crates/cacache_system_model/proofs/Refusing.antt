@@ -1,34 +1,26 @@
 -- Calls that are no run of a step.
-use Rattle.std.proofs.Common.{◌≡◌, ◌||◌, not, ℕ, Bool, true, false, if◌then◌else◌, List, [], ◌∷◌, ◌++◌, refl, ap, subst, ◌∙◌, nat_eq}
+use Rattle.std.proofs.Common.{◌≡◌, ◌||◌, not, ℕ, Bool, true, false, if◌then◌else◌, List, ◌∷◌, ◌++◌, subst, ◌∙◌, nat_eq}
 use Rattle.std.specs.{Cmp.Lexicographic.{pointwise}, Prelude.{None, Some}}
 use Rattle.std_io.specs.declared.io.kind.ErrorKind.TheVariants as kind
 use Rattle.cacache_store.specs.declared.store.answer.Kind.{Kind}
 use Rattle.cacache_store.specs.declared.store.answer.Kind.TheVariants as kinds
-use Rattle.cacache_system.specs.{declared.call.{FileInfo.{FileInfo}, SystemCall.{SystemCall}, CallItem.{CallItem}, CallResult.{CallResult}}, CallLog.{item}, Seen.{NumberedTemp}, AnswersOf.{no_hint, is_missing, was_named, in_walk, rewrites, look_first}, CallsOf.{Stage, Runs, over, only, appending, wants, if_folder, unless_folder, descend, compared, is_same_node, is_link, asking_target, asking_end, place_fresh}}
+use Rattle.cacache_system.specs.{declared.call.{FileInfo.{FileInfo}, CallItem.{CallItem}, CallResult.{CallResult}}, CallLog.{item}, Seen.{NumberedTemp}, AnswersOf.{no_hint, is_missing, rewrites}, CallsOf.{Stage, Runs, over, only, wants, if_folder, unless_folder, is_same_node, is_link, asking_target, asking_end, place_fresh}}
 use Rattle.cacache_system.specs.declared.call.SystemCall.TheVariants as asks
 use Rattle.cacache_system.specs.declared.call.CallResult.TheVariants as says
-use Rattle.cacache_system_model.specs.Refusals.{NoSecondWrite, NoRemovalBeforePut, NoOtherMode, NoOtherSync, NoFileForFolder, NoCopyInPlace, NoRemovalThroughLink, NoAppendThroughLink, NoMoveWithoutMode, NoCallWithoutOwner}
+use Rattle.cacache_system_model.specs.Refusals.{NoSecondWrite, NoRemovalBeforePut, NoOtherMode, NoOtherSync, NoFileForFolder, NoCopyInPlace, NoMoveWithoutMode, NoCallWithoutOwner}
 
 pub no_second_write : NoSecondWrite
-no_second_write path bytes file k j (in_walk node last entered) end runs =
-    let wrong : Some (asks.StatLink last) ≡ Some (asks.OpenToAppend path) = runs.0 in
-    cc
-no_second_write path bytes file k j no_hint end runs = let none : None ≡ Some (asks.Write file bytes) = runs.1.1.0 in cc
-no_second_write path bytes file k j is_missing end runs = let none : None ≡ Some (asks.Write file bytes) = runs.1.1.0 in cc
-no_second_write path bytes file k j was_named end runs = let none : None ≡ Some (asks.Write file bytes) = runs.1.1.0 in cc
-no_second_write path bytes file k j (rewrites synced hint) end runs = let none : None ≡ Some (asks.Write file bytes) = runs.1.1.0 in cc
+no_second_write path bytes file k j hint end runs = let none : None ≡ Some (asks.Write file bytes) = runs.1.1.0 in cc
 
 moved_first : (temp : NumberedTemp) (path : List ℕ) → Some (asks.Rename temp.path path) ≡ Some (asks.RemoveFile path) → ⊥
 moved_first temp path is = cc
 
 pub no_removal_before_put : NoRemovalBeforePut
-no_removal_before_put temp path said rest (rewrites synced hint) end runs =
+no_removal_before_put temp path said rest (rewrites synced) end runs =
     let wrong : Some (asks.Stat path) ≡ Some (asks.RemoveFile path) = runs.0 in
     cc
 no_removal_before_put temp path said rest no_hint end runs = moved_first temp path runs.0
 no_removal_before_put temp path said rest is_missing end runs = moved_first temp path runs.0
-no_removal_before_put temp path said rest was_named end runs = moved_first temp path runs.0
-no_removal_before_put temp path said rest (in_walk node last entered) end runs = moved_first temp path runs.0
 
 pub no_other_mode : NoOtherMode
 no_other_mode path mode said rest other hint end runs =
@@ -72,38 +64,12 @@ pub no_copy_in_place : NoCopyInPlace
 no_copy_in_place from to onto source target said rest kind regular hint end runs =
     no_copy_if source target from to onto said end rest source.regular kind regular runs.1
 
-compared_link : (b : Bool) (entered : List (List ℕ)) (s : Stage) → compared b kinds.Link entered s ≡ descend entered s
-compared_link true entered s = refl
-compared_link false entered s = refl
-
--- no call follows a look that found a link
-link_stops : (s : Stage) (node last : FileInfo) (above path : List ℕ) (entered : List (List ℕ)) (link : FileInfo) (call : SystemCall) (said end : CallResult) (rest : List CallItem)
-    → last.kind ≡ kinds.Link → link.kind ≡ kinds.Link
-    → Runs (look_first (in_walk node above (path ∷ entered)) s) (item (asks.StatLink above) (says.Info last) ∷ item (asks.StatLink path) (says.Info link) ∷ item call said ∷ rest) end → ⊥
-link_stops s node last above path entered link call said end rest first_is next_is runs =
-    let items = item (asks.StatLink path) (says.Info link) ∷ item call said ∷ rest in
-    let all = path ∷ entered ++ above ∷ [] in
-    let looks : Runs (descend all s) items end
-    = subst (λ (t : Stage). Runs t items end)
-    (ap (λ (k : Kind). compared (is_same_node last node) k all s) first_is ∙ compared_link (is_same_node last node) all s) runs.1 in
-    let wanted : wants (if_folder link.kind kind.NotADirectory (descend (entered ++ above ∷ []) s)) ≡ Some call = looks.1.0 in
-    let none : None ≡ Some call = subst (λ (k : Kind). wants (if_folder k kind.NotADirectory (descend (entered ++ above ∷ []) s)) ≡ Some call) next_is wanted in
-    cc
-
-pub no_removal_through_link : NoRemovalThroughLink
-no_removal_through_link node last above path gone entered link said end rest first_is next_is runs =
-    link_stops (only (asks.RemoveFile gone)) node last above path entered link (asks.RemoveFile gone) said end rest first_is next_is runs
-
-pub no_append_through_link : NoAppendThroughLink
-no_append_through_link node last above path file bytes entered link said end rest first_is next_is runs =
-    link_stops (appending file bytes) node last above path entered link (asks.OpenToAppend file) said end rest first_is next_is runs
-
 pub no_move_without_mode : NoMoveWithoutMode
-no_move_without_mode temp path synced hint info said end rest runs =
+no_move_without_mode temp path synced info said end rest runs =
     let wrong : Some (asks.SetMode temp.number info.mode) ≡ Some (asks.Rename temp.path path) = runs.1.1.0 in
     cc
 
 pub no_call_without_owner : NoCallWithoutOwner
-no_call_without_owner temp path synced hint info why call said end rest runs =
+no_call_without_owner temp path synced info why call said end rest runs =
     let none : None ≡ Some call = runs.1.1.0 in
     cc

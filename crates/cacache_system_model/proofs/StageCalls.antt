@@ -122,7 +122,7 @@ Looking (checking purpose f) = ToRead purpose
 Looking (reading_front again size f) = Unit {0}
 Looking (reading_rest front f) = Unit {0}
 Looking (sizing p) = Unit {0}
-Looking (opening_folder named p) = Unit {0}
+Looking (opening_folder p) = Unit {0}
 Looking (following p) = Unit {0}
 Looking (reading_names again r found) = Unit {0}
 Looking (asking_kind r name names found) = Unit {0}
@@ -138,7 +138,7 @@ look_asked (checking purpose f) call h w = is_kind changes_nothing (asks.StatFil
 look_asked (reading_front again size f) call h w = is_kind changes_nothing (asks.Read f size) call w refl
 look_asked (reading_rest front f) call h w = is_kind changes_nothing (asks.ReadRest f) call w refl
 look_asked (sizing p) call h w = is_kind changes_nothing (asks.Stat p) call w refl
-look_asked (opening_folder named p) call h w = is_kind changes_nothing (asks.OpenFolder p) call w refl
+look_asked (opening_folder p) call h w = is_kind changes_nothing (asks.OpenFolder p) call w refl
 look_asked (following p) call h w = is_kind changes_nothing (asks.OpenFolder (with_slash p)) call w refl
 look_asked (reading_names again r found) call h w = is_kind changes_nothing (asks.ReadNames r.number 4096) call w refl
 look_asked (asking_kind r name names found) call h w = is_kind changes_nothing (asks.StatLink (r.folder ++ name)) call w refl
@@ -177,11 +177,10 @@ look_stays (reading_rest front f) (says.Bytes rest) h = tt
 look_stays (reading_rest front f) said h = tt
 look_stays (sizing p) (says.Info info) h = by_no_folder Looking info.kind (over (says.Info info)) tt tt
 look_stays (sizing p) said h = tt
-look_stays (opening_folder named p) (says.Opened f) h = look_more (reader f p) []
-look_stays (opening_folder named p) (says.Failed why) h =
-    by_if Looking (is_no_folder why) (if named then over (says.Failed kind.NotADirectory) else following p) (over (says.Failed why))
-    (by_if Looking named (over (says.Failed kind.NotADirectory)) (following p) tt tt) tt
-look_stays (opening_folder named p) said h = tt
+look_stays (opening_folder p) (says.Opened f) h = look_more (reader f p) []
+look_stays (opening_folder p) (says.Failed why) h =
+    by_if Looking (is_no_folder why) (following p) (over (says.Failed why)) tt tt
+look_stays (opening_folder p) said h = tt
 look_stays (following p) (says.Opened f) h = look_more (reader f p) []
 look_stays (following p) said h = tt
 look_stays (reading_names again r found) (says.Bytes bytes) h =
@@ -200,5 +199,5 @@ only_looks calls s end h runs = only_kind changes_nothing Looking look_asked loo
 pub piece_looks : (f : NumberedFile) (size : ℕ) → Looking (read_piece f size)
 piece_looks f size = by_if Looking (f.left == 0 && not (size == 0)) (over (says.Failed kind.FileTooLarge)) (taking_memory (trying false (asks.Read f.number (min size f.left)))) tt refl
 
-pub list_looks : (named : Bool) (p : List ℕ) → Looking (list named p)
-list_looks named p = by_if Looking (length p == 0) (over (says.Failed kind.NotFound)) (taking_memory (opening_folder named p)) tt tt
+pub list_looks : (p : List ℕ) → Looking (list p)
+list_looks p = by_if Looking (length p == 0) (over (says.Failed kind.NotFound)) (taking_memory (opening_folder p)) tt tt

@@ -7,13 +7,13 @@ use Rattle.cacache_store.specs.{declared.store.{answer.Kind.{Kind}, plain.{Plain
 use Rattle.cacache_store.specs.declared.store.answer.Kind.TheVariants as kinds
 use Rattle.cacache_store.specs.declared.store.step.Step.TheVariants as steps
 use Rattle.cacache_store.specs.declared.store.answer.Answer.TheVariants as answers
-use Rattle.cacache_system.specs.{declared.call.{SystemCall.{SystemCall}, FileInfo.{FileInfo}, CallResult.{CallResult}, CallItem.{CallItem}}, CallLog.{item}, Seen.{NumberedFile, NumberedTemp, NumberedStep, NumberedAnswer}, CallsOf.{Purpose, over, only, trying, appending, opening, checking, opened, to_sync, to_sync_folder, was_interrupted, interrupts, if_folder, unless_folder, Runs}, AnswersOf.{Hint, no_hint, look_first, persist, is_named, first, answer_of, failed_with, refuses_memory, leaves_a_part}}
+use Rattle.cacache_system.specs.{declared.call.{SystemCall.{SystemCall}, FileInfo.{FileInfo}, CallResult.{CallResult}, CallItem.{CallItem}}, CallLog.{item}, Seen.{NumberedFile, NumberedTemp, NumberedStep, NumberedAnswer}, CallsOf.{Purpose, over, only, trying, appending, opening, checking, opened, to_sync, to_sync_folder, was_interrupted, interrupts, if_folder, unless_folder, Runs}, AnswersOf.{Hint, no_hint, persist, first, answer_of, failed_with, refuses_memory, leaves_a_part}}
 use Rattle.cacache_system.specs.declared.call.SystemCall.TheVariants as asks
 use Rattle.cacache_system.specs.declared.call.CallResult.TheVariants as says
 use Rattle.cacache_folder.specs.Interruptions.{interrupted}
 use Rattle.cacache_calls.specs.Licence.{May, allows, looking_on}
 use Rattle.cacache_system_model.specs.CallForms.{changes_nothing, makes_folder, writes_file, prepares, Form, Only, AnsweredInKind, One, Then, Syncs, Perhaps, Has, syncs_temp, moves}
-use Rattle.cacache_system_model.proofs.{StageCalls.{same_call, only_folders, only_writes, only_looks, piece_looks, list_looks}, Arriving.{not_true, opens_or_fails, appends_or_fails, tells_or_fails, in_kind, is_item, one_call, over_none, Arrives, After, arrives, up_looks, up_persists}}
+use Rattle.cacache_system_model.proofs.{StageCalls.{same_call, only_folders, only_writes, only_looks, piece_looks, list_looks}, Arriving.{not_true, opens_or_fails, appends_or_fails, tells_or_fails, in_kind, is_item, one_call, over_none, Arrives, After, arrives, up_persists}}
 
 -- ---- what a log sees of numbered files
 
@@ -209,7 +209,7 @@ step_claims (steps.MakeDirs p) hint calls end kinds runs = only_folders calls hi
 step_claims (steps.CreateTemp p) hint calls end kinds runs = creates_claim hint p calls end runs
 step_claims (steps.Write t b) hint calls end kinds runs = only_writes calls t.number b end runs
 step_claims (steps.Persist t p) hint calls end kinds runs = persists_claim t p calls end (arrives (only (asks.Rename t.path p)) calls (persist hint t p) end (up_persists hint t p) kinds runs)
-step_claims (steps.Append p b) hint calls end kinds runs = appends_claim p b calls end kinds (arrives (appending p b) calls (look_first hint (appending p b)) end (up_looks (appending p b) (appending p b) hint refl) kinds runs)
+step_claims (steps.Append p b) hint calls end kinds runs = appends_claim p b calls end kinds (arrives (appending p b) calls (appending p b) end refl kinds runs)
 step_claims (steps.Exists p) hint calls end kinds runs = (end, one_call (asks.Stat p) calls end runs)
 step_claims (steps.SyncTemp t) hint calls end kinds runs = temp_claim t calls end (one_call (asks.Sync t.number) calls end runs)
 step_claims (steps.SyncFile p) hint calls end kinds runs = file_claim p calls end kinds runs
@@ -223,5 +223,5 @@ step_looks (steps.Open p) hint calls end may runs = only_looks calls (first hint
 step_looks (steps.Read f max) hint calls end may runs = only_looks calls (first hint (steps.Read f max)) end (piece_looks f (min max 131072)) runs
 step_looks (steps.Exists p) hint calls end may runs = only_looks calls (first hint (steps.Exists p)) end refl runs
 step_looks (steps.Size p) hint calls end may runs = only_looks calls (first hint (steps.Size p)) end tt runs
-step_looks (steps.ReadDir p) hint calls end may runs = only_looks calls (first hint (steps.ReadDir p)) end (list_looks (is_named hint) p) runs
+step_looks (steps.ReadDir p) hint calls end may runs = only_looks calls (first hint (steps.ReadDir p)) end (list_looks p) runs
 step_looks step hint calls end may runs = absurd may

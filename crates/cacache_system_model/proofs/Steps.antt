@@ -3,7 +3,6 @@ pub mod Changing
 pub mod Opening
 pub mod Looking
 pub mod Syncing
-pub mod Walking
 pub mod Removing
 pub mod Moving
 pub mod Reading

@@ -1,10 +1,10 @@
 -- What each step asks of the machine for its law.
 use Rattle.std.specs.Prelude.{◌≡◌, ◌⊎◌, ◌≤◌, ℕ, List, Ok}
 use Rattle.cacache_core.specs.PathNames.{Names}
-use Rattle.cacache_store.specs.declared.store.step.Step.TheVariants.{MakeDirs, Write, Persist, Append, Read, Copy, Reflink, HardLink, ReadDir, RemoveFile, RemoveDir, SyncTemp, SyncDir}
+use Rattle.cacache_store.specs.declared.store.step.Step.TheVariants.{MakeDirs, Write, Persist, Read, Copy, Reflink, HardLink, ReadDir, SyncTemp, SyncDir}
 use Rattle.cacache_disk.specs.{declared.node.Node.{Node}, LedTo.{linked}, Rooted.{Rooted}}
 use Rattle.cacache_system.specs.{Seen.{NumberedFile, NumberedTemp, NumberedStep}, AnswersOf.{Hint}}
-use Rattle.cacache_system_model.specs.{Machine.{OpenFile, Machine}, Laws.{GoesPlainly, MayBreak}, OneCall.{StillStands}, Reading.{StaysOpen}, Writing.{HasNoFresh, CanCopy}, Making.{HasNoLink}, Listing.{ListsPlainly, IsAbsent, GivesInOrder}, Removing.{WalkStands}, Moving.{MayReplace}, Syncing.{EndsInNoLink}}
+use Rattle.cacache_system_model.specs.{Machine.{OpenFile, Machine}, Laws.{GoesPlainly, MayBreak}, OneCall.{StillStands}, Reading.{StaysOpen}, Writing.{HasNoFresh, CanCopy}, Making.{HasNoLink}, Listing.{ListsPlainly, IsAbsent, GivesInOrder}, Moving.{MayReplace}, Syncing.{EndsInNoLink}}
 
 -- a temporary file is still at its path
 abbrev pub IsStill : Machine → NumberedTemp → Type 0
@@ -23,12 +23,9 @@ abbrev pub Premise : Machine → Hint → NumberedStep → Type 0
 Premise m hint (MakeDirs p) = Rooted m.tree × HasNoLink m.tree p
 Premise m hint (Write t bytes) = ⊥
 Premise m hint (Persist t p) = IsStill m t × MayReplace m.tree hint p
-Premise m hint (Append p b) = WalkStands m.tree hint
 Premise m hint (Read f max) = IsOpen m f
 Premise m hint (Copy p q) = CanCopy m q
 Premise m hint (ReadDir p) = IsAbsent m.tree p ⊎ (ListsPlainly m.tree p × GivesInOrder m p)
-Premise m hint (RemoveFile p) = WalkStands m.tree hint
-Premise m hint (RemoveDir p) = WalkStands m.tree hint
 Premise m hint (SyncTemp t) = IsStill m t
 Premise m hint (SyncDir p) = EndsInNoLink m.tree p
 Premise m hint step = Unit {0}

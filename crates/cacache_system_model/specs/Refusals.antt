@@ -4,7 +4,7 @@ use Rattle.std_io.specs.declared.io.kind.ErrorKind.{ErrorKind}
 use Rattle.cacache_store.specs.declared.store.answer.Kind.TheVariants as kinds
 use Rattle.cacache_store.specs.declared.store.step.Step.TheVariants as steps
 use Rattle.cacache_system.specs.declared.call.SystemCall.TheVariants as asks
-use Rattle.cacache_system.specs.{declared.call.{FileInfo.{FileInfo}, SystemCall.{SystemCall}, CallItem.{CallItem}, CallResult.{CallResult, TheVariants.{Done, Opened, Count, Info, Failed}}}, CallLog.{item}, Seen.{NumberedTemp, NumberedStep}, CallsOf.{Runs}, AnswersOf.{Hint, in_walk, rewrites, first}}
+use Rattle.cacache_system.specs.{declared.call.{FileInfo.{FileInfo}, SystemCall.{SystemCall}, CallItem.{CallItem}, CallResult.{CallResult, TheVariants.{Done, Opened, Count, Info, Failed}}}, CallLog.{item}, Seen.{NumberedTemp, NumberedStep}, CallsOf.{Runs}, AnswersOf.{Hint, rewrites, first}}
 
 -- the calls are no run of the step, however it begins and whatever they end with
 abbrev pub IsNoRun : NumberedStep → List CallItem → Type 0
@@ -55,33 +55,12 @@ NoCopyInPlace =
     (item (asks.Stat from) (Info source) ∷ item (asks.StatLink to) (Info target)
     ∷ item (asks.CopyFile from onto) said ∷ rest)
 
--- if a link took the place of a folder that a walk is in, nothing is removed
-abbrev pub NoRemovalThroughLink : Type 0
-NoRemovalThroughLink =
-    (node last : FileInfo) (above path gone : List ℕ) (entered : List (List ℕ)) (link : FileInfo)
-    (said end : CallResult) (rest : List CallItem) → last.kind ≡ kinds.Link → link.kind ≡ kinds.Link
-    → Runs (first (in_walk node above (path ∷ entered)) (steps.RemoveFile gone))
-    (item (asks.StatLink above) (Info last) ∷ item (asks.StatLink path) (Info link)
-    ∷ item (asks.RemoveFile gone) said ∷ rest) end
-    → ⊥
-
--- nor is a line appended
-abbrev pub NoAppendThroughLink : Type 0
-NoAppendThroughLink =
-    (node last : FileInfo) (above path file bytes : List ℕ) (entered : List (List ℕ))
-    (link : FileInfo) (said end : CallResult) (rest : List CallItem) → last.kind ≡ kinds.Link
-    → link.kind ≡ kinds.Link
-    → Runs (first (in_walk node above (path ∷ entered)) (steps.Append file bytes))
-    (item (asks.StatLink above) (Info last) ∷ item (asks.StatLink path) (Info link)
-    ∷ item (asks.OpenToAppend file) said ∷ rest) end
-    → ⊥
-
 -- a file that was read isn't replaced before the new one got its owner and its mode
 abbrev pub NoMoveWithoutMode : Type 0
 NoMoveWithoutMode =
-    (temp : NumberedTemp) (path : List ℕ) (synced : Bool) (hint : Hint) (info : FileInfo)
+    (temp : NumberedTemp) (path : List ℕ) (synced : Bool) (info : FileInfo)
     (said end : CallResult) (rest : List CallItem)
-    → Runs (first (rewrites synced hint) (steps.Persist temp path))
+    → Runs (first (rewrites synced) (steps.Persist temp path))
     (item (asks.Stat path) (Info info)
     ∷ item (asks.SetOwner temp.path info.owner info.group) Done
     ∷ item (asks.Rename temp.path path) said ∷ rest) end
@@ -90,9 +69,9 @@ NoMoveWithoutMode =
 -- where the owner is refused no other call follows
 abbrev pub NoCallWithoutOwner : Type 0
 NoCallWithoutOwner =
-    (temp : NumberedTemp) (path : List ℕ) (synced : Bool) (hint : Hint) (info : FileInfo)
+    (temp : NumberedTemp) (path : List ℕ) (synced : Bool) (info : FileInfo)
     (why : ErrorKind) (call : SystemCall) (said end : CallResult) (rest : List CallItem)
-    → Runs (first (rewrites synced hint) (steps.Persist temp path))
+    → Runs (first (rewrites synced) (steps.Persist temp path))
     (item (asks.Stat path) (Info info)
     ∷ item (asks.SetOwner temp.path info.owner info.group) (Failed why) ∷ item call said ∷ rest) end
     → ⊥

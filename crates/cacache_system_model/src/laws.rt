@@ -1,5 +1,5 @@
 //! Laws, on functions that do nothing.
-ghost use Rattle.cacache_system_model.specs.{CallLaws.{CallsByCall}, Chains.{RunsMirror, StepsOnDisk}, Fixing.{LossesMirror}, Listing.{ReadDirBreaks, ReadDirGoesPlainly, ReadDirInOrder}, Logged.{LogsAgree}, Making.{MakeDirsAgrees}, Moving.{PersistAgrees}, Meeting.{CallsCanGoWell}, Mirrors.{StepsMirror}, OneCall.{CreateAgrees, ExistsAgrees, HardLinkAgrees, ReflinkBreaks, SymlinkAgrees}, Opening.{OpenAgrees, SizeAgrees}, Premises.{EachGoesPlainly, EachMayBreak}, Reading.{PiecesReadPlainly, ReadAllAgrees, ReadBreaks}, Refusals.{NoAppendThroughLink, NoCallWithoutOwner, NoCopyInPlace, NoFileForFolder, NoMoveWithoutMode, NoOtherMode, NoOtherSync, NoRemovalBeforePut, NoRemovalThroughLink, NoSecondWrite}, Removing.{AppendAgrees, RemoveDirAgrees, RemoveFileAgrees}, Syncing.{SyncDirAgrees, SyncFileAgrees, SyncTempAgrees}, Writing.{CopyAgrees, WriteAgrees}};
+ghost use Rattle.cacache_system_model.specs.{CallLaws.{CallsByCall}, Chains.{RunsMirror, StepsOnDisk}, Fixing.{LossesMirror}, Listing.{ReadDirBreaks, ReadDirGoesPlainly, ReadDirInOrder}, Logged.{LogsAgree}, Making.{MakeDirsAgrees}, Moving.{PersistAgrees}, Meeting.{CallsCanGoWell}, Mirrors.{StepsMirror}, OneCall.{CreateAgrees, ExistsAgrees, HardLinkAgrees, ReflinkBreaks, SymlinkAgrees}, Opening.{OpenAgrees, SizeAgrees}, Premises.{EachGoesPlainly, EachMayBreak}, Reading.{PiecesReadPlainly, ReadAllAgrees, ReadBreaks}, Refusals.{NoCallWithoutOwner, NoCopyInPlace, NoFileForFolder, NoMoveWithoutMode, NoOtherMode, NoOtherSync, NoRemovalBeforePut, NoSecondWrite}, Removing.{AppendAgrees, RemoveDirAgrees, RemoveFileAgrees}, Syncing.{SyncDirAgrees, SyncFileAgrees, SyncTempAgrees}, Writing.{CopyAgrees, WriteAgrees}};
 
 use cacache_folder::SystemStore;
 use cacache_system::System;
@@ -51,7 +51,7 @@ pub fn folder_laws()
     ensures make { MakeDirsAgrees }
 {}
 
-/// So does a removal, also if the folders of a walk are looked at before.
+/// So does a removal.
 pub fn removal_laws()
     ensures file { RemoveFileAgrees }
     ensures folder { RemoveDirAgrees }
@@ -103,8 +103,6 @@ pub fn refusal_laws()
     ensures sync { NoOtherSync }
     ensures folder { NoFileForFolder }
     ensures copy { NoCopyInPlace }
-    ensures link { NoRemovalThroughLink }
-    ensures append { NoAppendThroughLink }
     ensures move_first { NoMoveWithoutMode }
     ensures owner { NoCallWithoutOwner }
 {}

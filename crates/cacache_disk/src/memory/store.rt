@@ -1,6 +1,6 @@
 //! A store in memory that keeps its log.
-ghost use Rattle.std.specs.{Prelude.{◌≡◌, ◌∷◌, ◌++◌, [], ◌<◌, Some, IfOk, IfErr, IfNone, OnOk, OnErr, OnSome, option_map, vec_len, vec_capacity}, Result.{result_err}};
-ghost use Rattle.cacache_core.specs.declared.errors.Error.TheVariants.{OutOfMemory};
+ghost use Rattle.std.specs.{Prelude.{◌≡◌, ◌∷◌, ◌++◌, [], ◌<◌, Some, Err, IfOk, IfErr, IfNone, OnOk, OnErr, OnSome, option_map, vec_len, vec_capacity}, Result.{result_err}};
+ghost use Rattle.cacache_core.specs.declared.errors.{Error.TheVariants.{OutOfMemory}, Fault.TheVariants.{Unsupported}};
 ghost use Rattle.cacache_store.specs.{declared.store.{log.LogItem.TheVariants.{Made, Foreign, ForeignFolder}, step.Step.TheVariants.{MakeDirs, Symlink}, answer.Answer.TheVariants.{Done}}, Fits.{Fits, Logs}};
 ghost use Rattle.cacache_disk.specs.{declared.luck.Luck.TheVariants.{Plain}, Apply.{apply, planted, fault_told}, memory.{ForeignLog.{logged, foreign_log}, Replay.{tree_of, HappensOn, IsLog, shown, AnsweredByDisk}, PlantRefusals.{IsDueTo, IsEarned}}};
 
@@ -10,7 +10,7 @@ use cacache_core::errors;
 use cacache_core::errors::{Error, Fault};
 use cacache_core::keeping::let_go;
 use cacache_core::text::Text;
-use cacache_store::store::{Answer, LogItem, PlainFile, PlainTemp, Step, Store, failed};
+use cacache_store::store::{Answer, LogItem, PlainFile, PlainTemp, Stamps, Step, Store, failed};
 use std::alloc::{AllocError, Global};
 use std::marker::Model;
 
@@ -244,5 +244,20 @@ impl Store for MemStore {
         };
         note(&mut self.log, LogItem::Made(step, copy));
         answer
+    }
+
+    /// Does nothing: a disk in memory holds nothing open.
+    fn end_walks(&mut self)
+        ensures same { self.new ≡ self.old }
+    {}
+}
+
+impl Stamps for MemStore {
+    /// Always `Unsupported`: a disk in memory keeps no times.
+    fn changed(&mut self, _path: &str) -> Result<u64, Fault>
+        ensures same { self.new ≡ self.old }
+        ensures unknown { result ≡ Err Unsupported }
+    {
+        Err(Fault::Unsupported)
     }
 }

@@ -7,26 +7,15 @@ ghost use Rattle.cacache_system.specs.ListedNames as told;
 ghost use Rattle.cacache_folder.specs.Listings.{NamesEntry, EntersName, AsksKind, AsksKindIfText, FindsKind, ListsName};
 
 use crate::folder::escaped::text_of_name;
-use crate::folder::folders::Place;
 use crate::folder::paths::is_absent;
 use cacache_store::store::{Kind, Name};
-use cacache_system::{FileInfo, System};
-use std::alloc::{AllocError, Global};
+use cacache_system::System;
+use std::alloc::Global;
 use std::io::ErrorKind;
 
 /// What a look into a folder gives. Its error is a kind alone: the compiler and the prover pay for a wide one at each
 /// way out.
 pub(crate) type Looked<T> = Result<T, ErrorKind>;
-
-/// What a listing of a folder gathers.
-#[derive(Drop)]
-pub(crate) struct Listed {
-    pub(crate) names: Vec<Name>,
-    /// Those of the names that are folders.
-    pub(crate) folders: Vec<Place>,
-    /// Whether a link led to the folder.
-    pub(crate) was_led: bool,
-}
 
 /// Whether the name has this byte.
 fn has(name: &str, byte: u8) -> bool
@@ -93,23 +82,12 @@ fn enter(alloc: Global, names: &mut Vec<Name>, name: &[u8], kind: Kind) -> Looke
     }
 }
 
-/// Notes what is at the path, if that is a folder.
-fn note(folders: &mut Vec<Place>, path: &str, info: &FileInfo) -> Result<(), AllocError> {
-    if matches!(info.kind, Kind::Folder) {
-        folders.push(Place::new(path, info))?;
-    }
-    Ok(())
-}
-
-/// What kind of thing is at the path; None if it was removed since the folder was read. A folder is noted.
-fn kind_at<Y: System>(system: &mut Y, folders: &mut Vec<Place>, path: &str) -> Looked<Option<Kind>>
+/// What kind of thing is at the path; None if it was removed since the folder was read.
+fn kind_at<Y: System>(system: &mut Y, path: &str) -> Looked<Option<Kind>>
     ensures { AsksKind path.now result (Y.calls system.old) (Y.calls system.new) }
 {
     match system.stat_link(path) {
-        Ok(info) => match note(folders, path, &info) {
-            Ok(()) => Ok(Some(info.kind)),
-            Err(_) => Err(ErrorKind::OutOfMemory),
-        },
+        Ok(info) => Ok(Some(info.kind)),
         Err(error) => if is_absent(error.kind()) {
             Ok(None)
         } else {
@@ -120,26 +98,17 @@ fn kind_at<Y: System>(system: &mut Y, folders: &mut Vec<Place>, path: &str) -> L
 
 /// The same if the path is text. The runtime is asked by texts alone: what has a name that is no text counts as a
 /// file.
-fn kind_if_text<Y: System>(
-    system: &mut Y,
-    folders: &mut Vec<Place>,
-    path: &[u8],
-) -> Looked<Option<Kind>>
+fn kind_if_text<Y: System>(system: &mut Y, path: &[u8]) -> Looked<Option<Kind>>
     ensures { AsksKindIfText path.now result (Y.calls system.old) (Y.calls system.new) }
 {
     match std::str::from_utf8(path) {
-        Ok(path) => kind_at(system, folders, path),
+        Ok(path) => kind_at(system, path),
         Err(_) => Ok(Some(Kind::File)),
     }
 }
 
 /// The same under a name of a folder; the folder's path ends in a `/`.
-fn kind_below<Y: System>(
-    system: &mut Y,
-    folders: &mut Vec<Place>,
-    folder: &mut Vec<u8>,
-    name: &[u8],
-) -> Looked<Option<Kind>>
+fn kind_below<Y: System>(system: &mut Y, folder: &mut Vec<u8>, name: &[u8]) -> Looked<Option<Kind>>
     ensures same { folder.new.items ≡ folder.old.items }
     ensures ran { FindsKind folder.old.items name.now result
         (Y.calls system.old) (Y.calls system.new) }
@@ -147,7 +116,7 @@ fn kind_below<Y: System>(
     let top = folder.len();
     match folder.extend_from_slice(name) {
         Ok(()) => {
-            let kind = kind_if_text(system, folders, folder.as_slice());
+            let kind = kind_if_text(system, folder.as_slice());
             folder.truncate(top);
             kind
         }
@@ -159,21 +128,21 @@ fn kind_below<Y: System>(
 /// a `/`.
 pub(crate) fn add<Y: System + AllocGlobal>(
     system: &mut Y,
-    listed: &mut Listed,
+    names: &mut Vec<Name>,
     folder: &mut Vec<u8>,
     name: &[u8],
 ) -> Looked<()>
     ensures proper { OnOk result
-        (AreProperNames listed.old.names.items → AreProperNames listed.new.names.items) }
+        (AreProperNames names.old.items → AreProperNames names.new.items) }
     ensures same { folder.new.items ≡ folder.old.items }
-    ensures ran { ListsName folder.old.items name.now listed.old.names.items listed.new.names.items
+    ensures ran { ListsName folder.old.items name.now names.old.items names.new.items
         result (Y.calls system.old) (Y.calls system.new) }
 {
     if is_passed(name) {
         return Ok(());
     }
-    match kind_below(system, &mut listed.folders, folder, name) {
-        Ok(Some(kind)) => enter(system.alloc(), &mut listed.names, name, kind),
+    match kind_below(system, folder, name) {
+        Ok(Some(kind)) => enter(system.alloc(), names, name, kind),
         Ok(None) => Ok(()),
         Err(why) => Err(why),
     }

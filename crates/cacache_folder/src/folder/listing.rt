@@ -9,10 +9,10 @@ ghost use Rattle.cacache_system.specs.AnswersOf as table;
 ghost use Rattle.cacache_folder.specs.{StepClauses.{ValueRuns}, Listings.{ListsNames, CutsName, ReadsNames, ReadsAllNames, OpensFolder, OpensPath, ListsFolder}};
 
 use crate::folder::again::ask_for_names;
-use crate::folder::entries::{Listed, Looked, add};
+use crate::folder::entries::{Looked, add};
 use crate::folder::paths::is_absent;
 use crate::folder::runner::Runner;
-use cacache_store::store::Listing;
+use cacache_store::store::{Listing, Name};
 use cacache_system::System;
 use std::alloc::{AllocError, Global};
 use std::io;
@@ -58,20 +58,20 @@ fn folder_path(alloc: Global, path: &str) -> Result<String, AllocError>
 /// Adds what is under some names, each of which is ended by a NUL.
 fn add_all<Y: System + AllocGlobal>(
     system: &mut Y,
-    listed: &mut Listed,
+    names: &mut Vec<Name>,
     folder: &mut Vec<u8>,
     read: &[u8],
 ) -> Looked<()>
     ensures proper { OnOk result
-        (AreProperNames listed.old.names.items → AreProperNames listed.new.names.items) }
+        (AreProperNames names.old.items → AreProperNames names.new.items) }
     ensures same { OnOk result (folder.new.items ≡ folder.old.items) }
-    ensures ran { ListsNames folder.old.items read.now listed.old.names.items
-        listed.new.names.items result (Y.calls system.old) (Y.calls system.new) }
+    ensures ran { ListsNames folder.old.items read.now names.old.items
+        names.new.items result (Y.calls system.old) (Y.calls system.new) }
 {
     let mut rest = read;
     'names: while !rest.is_empty() {
         let (name, later) = first_name(rest);
-        match add(system, listed, folder, name) {
+        match add(system, names, folder, name) {
             Ok(()) => {}
             Err(why) => return Err(why),
         }
@@ -95,25 +95,25 @@ fn broken_off(why: ErrorKind) -> ErrorKind
 /// ends in a `/`.
 fn add_some<Y: System + AllocGlobal>(
     system: &mut Y,
-    listed: &mut Listed,
+    names: &mut Vec<Name>,
     open: &mut Y::Folder,
     folder: &mut Vec<u8>,
     buf: &mut [u8],
 ) -> Looked<bool>
     requires { length buf.old ≡ 4096 }
     ensures proper { OnOk result
-        (AreProperNames listed.old.names.items → AreProperNames listed.new.names.items) }
+        (AreProperNames names.old.items → AreProperNames names.new.items) }
     ensures same { OnOk result (folder.new.items ≡ folder.old.items) }
     ensures number { Y.folder_number open.new ≡ Y.folder_number open.old }
     ensures room { length buf.new ≡ 4096 }
-    ensures ran { ReadsNames (Y.folder_number open.old) folder.old.items listed.old.names.items
-        listed.new.names.items result (Y.calls system.old) (Y.calls system.new) }
+    ensures ran { ReadsNames (Y.folder_number open.old) folder.old.items names.old.items
+        names.new.items result (Y.calls system.old) (Y.calls system.new) }
 {
     match ask_for_names(system, open, buf) {
         Ok(count) => if count == 0 {
             Ok(false)
         } else {
-            match add_all(system, listed, folder, &buf[..count]) {
+            match add_all(system, names, folder, &buf[..count]) {
                 Ok(()) => Ok(true),
                 Err(why) => Err(why),
             }
@@ -125,20 +125,20 @@ fn add_some<Y: System + AllocGlobal>(
 /// Adds what is under the names that an open folder gives; the folder's path ends in a `/`.
 fn fill<Y: System + AllocGlobal>(
     system: &mut Y,
-    listed: &mut Listed,
+    names: &mut Vec<Name>,
     open: &mut Y::Folder,
     folder: &mut Vec<u8>,
 ) -> Looked<()>
     ensures proper { OnOk result
-        (AreProperNames listed.old.names.items → AreProperNames listed.new.names.items) }
-    ensures ran { ReadsAllNames (Y.folder_number open.old) folder.old.items listed.old.names.items
-        (λ _. listed.new.names.items) result (Y.calls system.old) (Y.calls system.new) }
+        (AreProperNames names.old.items → AreProperNames names.new.items) }
+    ensures ran { ReadsAllNames (Y.folder_number open.old) folder.old.items names.old.items
+        (λ _. names.new.items) result (Y.calls system.old) (Y.calls system.new) }
 {
     let mut buf = [0; NAMES];
     let mut left = u64::MAX;
     while left != 0 {
         left -= 1;
-        match add_some(system, listed, open, folder, &mut buf) {
+        match add_some(system, names, open, folder, &mut buf) {
             Ok(true) => {}
             Ok(false) => return Ok(()),
             Err(why) => return Err(why),
@@ -147,33 +147,21 @@ fn fill<Y: System + AllocGlobal>(
     Err(ErrorKind::FileTooLarge)
 }
 
-/// A folder that was opened, and whether a link led to it.
-#[derive(Drop)]
-struct Opened<D> {
-    folder: D,
-    was_led: bool,
-}
-
 /// The names that an open folder gives; the folder's path ends in a `/`.
 fn names_from<Y: System + AllocGlobal>(
     system: &mut Y,
-    opened: Opened<Y::Folder>,
+    opened: Y::Folder,
     folder: String,
-) -> Looked<Listed>
-    ensures proper { IfOk result (λ listed. AreProperNames listed.names.items) }
-    ensures ran { ReadsAllNames (Y.folder_number opened.folder) folder.bytes.items []
-        (λ listed. listed.names.items) result (Y.calls system.old) (Y.calls system.new) }
+) -> Looked<Vec<Name>>
+    ensures proper { IfOk result (λ names. AreProperNames names.items) }
+    ensures ran { ReadsAllNames (Y.folder_number opened) folder.bytes.items []
+        (λ names. names.items) result (Y.calls system.old) (Y.calls system.new) }
 {
-    let alloc = system.alloc();
-    let mut open = opened.folder;
+    let mut open = opened;
     let mut folder = folder.into_bytes();
-    let mut listed = Listed {
-        names: Vec::new(alloc),
-        folders: Vec::new(alloc),
-        was_led: opened.was_led,
-    };
-    match fill(system, &mut listed, &mut open, &mut folder) {
-        Ok(()) => Ok(listed),
+    let mut names = Vec::new(system.alloc());
+    match fill(system, &mut names, &mut open, &mut folder) {
+        Ok(()) => Ok(names),
         Err(why) => Err(why),
     }
 }
@@ -187,16 +175,13 @@ fn is_no_folder(kind: ErrorKind) -> bool
 
 /// Opens a folder to which a link may lead; one that leads to nothing is none. `folder` is its path with a `/` after
 /// it.
-fn open_led<Y: System>(system: &mut Y, folder: &str) -> Looked<Opened<Y::Folder>>
+fn open_led<Y: System>(system: &mut Y, folder: &str) -> Looked<Y::Folder>
     ensures { (path : List ℕ) → folder.now ≡ with_slash path
-        → OpensFolder (λ opened. Y.folder_number opened.folder)
-        (calls.following path) path result (Y.calls system.old) (Y.calls system.new) }
+        → OpensFolder Y.folder_number (calls.following path) path result
+        (Y.calls system.old) (Y.calls system.new) }
 {
     match system.open_folder(folder) {
-        Ok(folder) => Ok(Opened {
-            folder,
-            was_led: true,
-        }),
+        Ok(opened) => Ok(opened),
         Err(error) => if is_absent(error.kind()) {
             Err(ErrorKind::NotADirectory)
         } else {
@@ -205,28 +190,16 @@ fn open_led<Y: System>(system: &mut Y, folder: &str) -> Looked<Opened<Y::Folder>
     }
 }
 
-/// Opens a folder. One that a listing named has to be a folder still, and no link; elsewhere a link is followed.
-/// `folder` is the path with a `/` after it.
-fn open_folder<Y: System>(
-    system: &mut Y,
-    path: &str,
-    folder: &str,
-    was_named: bool,
-) -> Looked<Opened<Y::Folder>>
-    ensures { OpensPath (λ opened. Y.folder_number opened.folder) was_named path.now folder.now
-        result (Y.calls system.old) (Y.calls system.new) }
+/// Opens a folder. A link is followed, but below the folder at which a walk began the system refuses that. `folder` is
+/// the path with a `/` after it.
+fn open_folder<Y: System>(system: &mut Y, path: &str, folder: &str) -> Looked<Y::Folder>
+    ensures { OpensPath Y.folder_number path.now folder.now result
+        (Y.calls system.old) (Y.calls system.new) }
 {
     match system.open_folder(path) {
-        Ok(folder) => Ok(Opened {
-            folder,
-            was_led: false,
-        }),
+        Ok(opened) => Ok(opened),
         Err(error) => if is_no_folder(error.kind()) {
-            if was_named {
-                Err(ErrorKind::NotADirectory)
-            } else {
-                open_led(system, folder)
-            }
+            open_led(system, folder)
         } else {
             Err(error.kind())
         },
@@ -234,16 +207,16 @@ fn open_folder<Y: System>(
 }
 
 /// The names in the folder.
-fn names_in<Y: System + AllocGlobal>(system: &mut Y, path: &str, was_named: bool) -> Looked<Listed>
-    ensures proper { IfOk result (λ listed. AreProperNames listed.names.items) }
-    ensures ran { ListsFolder (table.list was_named path.now) (λ listed. listed.names.items) result
+fn names_in<Y: System + AllocGlobal>(system: &mut Y, path: &str) -> Looked<Vec<Name>>
+    ensures proper { IfOk result (λ names. AreProperNames names.items) }
+    ensures ran { ListsFolder (table.list path.now) (λ names. names.items) result
         (Y.calls system.old) (Y.calls system.new) }
 {
     if path.is_empty() {
         return Err(ErrorKind::NotFound);
     }
     match folder_path(system.alloc(), path) {
-        Ok(folder) => match open_folder(system, path, folder.as_str(), was_named) {
+        Ok(folder) => match open_folder(system, path, folder.as_str()) {
             Ok(opened) => names_from(system, opened, folder),
             Err(why) => Err(why),
         },
@@ -260,18 +233,8 @@ impl<Y: System + AllocGlobal + Clone + Drop> Runner<Y> {
         ensures ran { ValueRuns (steps.ReadDir path.now) (λ listing. answers.Names listing) result
             (Y.calls self.old.system) (Y.calls self.new.system) }
     {
-        let was_named = self.descent.enter(path);
-        match names_in(&mut self.system, path, was_named) {
-            Ok(
-                Listed {
-                    names,
-                    folders,
-                    was_led,
-                },
-            ) => match self.descent.list(path, was_named, was_led, folders) {
-                Ok(()) => Ok(Listing::new(names)),
-                Err(_) => Err(io::Error::from(ErrorKind::OutOfMemory)),
-            },
+        match names_in(&mut self.system, path) {
+            Ok(names) => Ok(Listing::new(names)),
             Err(why) => Err(io::Error::from(why)),
         }
     }

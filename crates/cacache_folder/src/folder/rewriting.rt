@@ -1,7 +1,7 @@
 //! A file that is read and then replaced: the new one keeps its owner, its group and its mode.
 ghost use Rattle.cacache_system.specs.declared.call.SystemCall.TheVariants as asks;
 ghost use Rattle.cacache_system.specs.CallsOf as calls;
-ghost use Rattle.cacache_folder.specs.{FolderNumbers.{numbered_temp}, Moves.{GoesBefore, Moves, Rewrites, Persists}};
+ghost use Rattle.cacache_folder.specs.{FolderNumbers.{numbered_temp}, Moves.{GoesBefore, Rewrites, Persists}};
 ghost use Rattle.std.specs.Prelude.{◌≡◌};
 
 use crate::folder::folders::{folder_of, number_of};
@@ -91,18 +91,6 @@ fn keep<Y: System + Drop>(system: &mut Y, temp: &SystemTemp<Y>, path: &str) -> i
 }
 
 impl<Y: System + AllocGlobal + Clone + Drop> Runner<Y> {
-    /// Moves the temporary file to the path. In a walk it looks first at the folder there.
-    fn move_there(&mut self, temp: &SystemTemp<Y>, path: &str) -> io::Result<()>
-        ensures kept { self.new.reason ≡ self.old.reason }
-        ensures ran { Moves temp.now.path path.now result (Y.calls self.old.system)
-            (Y.calls self.new.system) }
-    {
-        let folder = folder_of(path);
-        let due = self.descent.due_for_move(folder);
-        self.look_if(folder, due)?;
-        self.system.rename(temp.path.as_str(), path)
-    }
-
     /// Replaces the file at the path, which was read before.
     fn replace_read(&mut self, temp: &SystemTemp<Y>, path: &str) -> io::Result<()>
         ensures kept { self.new.reason ≡ self.old.reason }
@@ -110,7 +98,7 @@ impl<Y: System + AllocGlobal + Clone + Drop> Runner<Y> {
             (Y.calls self.old.system) (Y.calls self.new.system) }
     {
         keep(&mut self.system, temp, path)?;
-        self.move_there(temp, path)
+        self.system.rename(temp.path.as_str(), path)
     }
 
     /// Moves the temporary file to the path. It replaces the file there, if that was read before.

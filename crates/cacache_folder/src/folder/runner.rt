@@ -11,9 +11,8 @@ ghost use Rattle.cacache_folder.specs.{FolderHandles.{seen_file, seen_temp}, Fol
 use crate::folder::again::ask_to_write;
 use crate::folder::answers::{created, moved, readable, synced};
 use crate::folder::copying::copy;
-use crate::folder::descent::Descent;
 use crate::folder::faults::failed_answer;
-use crate::folder::files::{create_temp, exists, open_with, size};
+use crate::folder::files::{append, create_temp, exists, open_with, size};
 use crate::folder::guess::Guess;
 use crate::folder::opened::SystemFile;
 use crate::folder::paths::make_dirs;
@@ -35,7 +34,6 @@ use std::io::ErrorKind;
 pub(crate) struct Runner<Y> {
     pub(crate) system: Y,
     guess: Guess,
-    pub(crate) descent: Descent,
     pub(crate) reading: Reading,
     pub(crate) reason: Option<ErrorKind>,
 }
@@ -45,11 +43,9 @@ impl<Y: System + AllocGlobal + Clone + Drop> Runner<Y> {
     pub(crate) fn over(system: Y) -> Runner<Y>
         ensures { result.system ≡ system }
     {
-        let descent = Descent::new(system.alloc());
         Runner {
             system,
             guess: Guess::new(),
-            descent,
             reading: Reading::none(),
             reason: None,
         }
@@ -93,7 +89,11 @@ impl<Y: System + AllocGlobal + Clone + Drop> Runner<Y> {
     {
         match step {
             Step::MakeDirs(path) => done(self.make_dirs(path.as_str())),
-            Step::Append(path, bytes) => took(self.append(path.as_str(), bytes.as_slice())),
+            Step::Append(path, bytes) => took(append(
+                &mut self.system,
+                path.as_str(),
+                bytes.as_slice(),
+            )),
             Step::ReadAll(path) => whole(self.read_all(path.as_str())),
             Step::Exists(path) => there(exists(&mut self.system, path.as_str())),
             Step::Size(path) => length_of(size(&mut self.system, path.as_str())),
@@ -103,8 +103,8 @@ impl<Y: System + AllocGlobal + Clone + Drop> Runner<Y> {
             Step::Copy(from, to) => took(copy(&mut self.system, from.as_str(), to.as_str())),
             Step::HardLink(from, to) => done(self.system.hard_link(from.as_str(), to.as_str())),
             Step::ReadDir(path) => listed(self.read_dir(path.as_str())),
-            Step::RemoveFile(path) => done(self.remove_file(path.as_str())),
-            Step::RemoveDir(path) => done(self.remove_dir(path.as_str())),
+            Step::RemoveFile(path) => done(self.system.remove_file(path.as_str())),
+            Step::RemoveDir(path) => done(self.system.remove_folder(path.as_str())),
             Step::SyncFile(path) => done(sync_file(&mut self.system, path.as_str())),
             Step::SyncDir(path) => done(sync_dir(&mut self.system, path.as_str())),
             Step::Reflink(_, _) => Err(io::Error::from(ErrorKind::Unsupported)),
@@ -159,7 +159,6 @@ impl<Y: System + AllocGlobal + Clone + Drop> Runner<Y> {
         match step {
             Step::CreateTemp(path) => {
                 let made = create_temp(&mut self.system, path.as_str());
-                self.descent.make(made.is_ok());
                 created(made, path, &mut self.reason)
             }
             Step::Write(temp, bytes) => self.write_temp(temp, bytes),

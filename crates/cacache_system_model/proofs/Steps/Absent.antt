@@ -8,7 +8,7 @@ use Rattle.cacache_store.specs.declared.store.step.Step.TheVariants as steps
 use Rattle.cacache_store.specs.Plain.{PlainAnswer}
 use Rattle.cacache_disk.specs.{declared.{luck.Luck.TheVariants.{Plain}, node.Node.{Node}}, Tree.{Tree, look, listing}, LedTo.{and_then, where_there, where_folder, place, standing, folder}, Apply.{apply, unless, fault_told}}
 use Rattle.cacache_system.specs.declared.call.SystemCall.TheVariants as asks
-use Rattle.cacache_system.specs.{declared.call.CallResult.{CallResult}, CallsOf.{over, taking_memory, following, is_no_folder, opening_folder, after}, AnswersOf.{Hint, is_named}}
+use Rattle.cacache_system.specs.{declared.call.CallResult.{CallResult}, CallsOf.{over, taking_memory, following, is_no_folder, opening_folder, after}, AnswersOf.{Hint}}
 use Rattle.cacache_system.specs.declared.call.CallResult.TheVariants as says
 use Rattle.cacache_system_model.specs.{Machine.{Machine, IsRefused}, Folders.{OpensFolder}, Calls.{GoesWell}, Laws.{outcome, Leads, IsPlain, GoesPlainly, MayBreak}, Listing.{IsAbsent}}
 use Rattle.cacache_system_model.proofs.{Leading.{Claim, over_leads, call_leads}, Refused.{refused_agrees, plainly_refused}, Claims.{taking_leads}}
@@ -39,26 +39,26 @@ module _ (m : Machine) (path : List ℕ) (absent : IsAbsent m.tree path) where
   unfolding apply
   refused = ap (λ (r : Result Names Fault). unless r m.tree (λ names. outcome (answers.Names (listing m.tree names)) m.tree)) (folder_absent m.tree path absent)
 
-  ends : (named : Bool) (why : ErrorKind) (k : Machine) → fault_of why ≡ NotFound → IsRefused NotFound m (says.Failed why) k → Leads (GoesWell None) (after (opening_folder named path) (says.Failed why)) k P
-  ends named why k is refuses =
-      subst (λ (c : Bool). Leads (GoesWell None) (if c then (if named then over (says.Failed kind.NotADirectory) else following path) else over (says.Failed why)) k P) (sym (missing_so why is))
+  ends : (why : ErrorKind) (k : Machine) → fault_of why ≡ NotFound → IsRefused NotFound m (says.Failed why) k → Leads (GoesWell None) (after (opening_folder path) (says.Failed why)) k P
+  ends why k is refuses =
+      subst (λ (c : Bool). Leads (GoesWell None) (if c then following path else over (says.Failed why)) k P) (sym (missing_so why is))
       (over_leads (GoesWell None) (says.Failed why) k P (λ enough. refused ∙ refused_agrees (steps.ReadDir path) NotFound (says.Failed why) m k (plainly_refused (steps.ReadDir path) NotFound k (λ e. refl)) refuses))
 
-  said_so : (named : Bool) (said : CallResult) (k : Machine) → IsRefused NotFound m said k → Leads (GoesWell None) (after (opening_folder named path) said) k P
-  said_so named said k (why, told, is, memory, stays) =
-      subst (λ (e : CallResult). Leads (GoesWell None) (after (opening_folder named path) e) k P) (sym told) (ends named why k is (why, refl, is, memory, stays))
+  said_so : (said : CallResult) (k : Machine) → IsRefused NotFound m said k → Leads (GoesWell None) (after (opening_folder path) said) k P
+  said_so said k (why, told, is, memory, stays) =
+      subst (λ (e : CallResult). Leads (GoesWell None) (after (opening_folder path) e) k P) (sym told) (ends why k is (why, refl, is, memory, stays))
 
-  opens : (named : Bool) → Leads (GoesWell None) (opening_folder named path) m P
-  opens named =
-      call_leads (GoesWell None) (opening_folder named path) (asks.OpenFolder path) m P refl (λ end never. absurd never)
-      (λ said k well. said_so named said k (subst (λ (r : Result Names Fault). OpensFolder r m said k) absent well))
+  opens : Leads (GoesWell None) (opening_folder path) m P
+  opens =
+      call_leads (GoesWell None) (opening_folder path) (asks.OpenFolder path) m P refl (λ end never. absurd never)
+      (λ said k well. said_so said k (subst (λ (r : Result Names Fault). OpensFolder r m said k) absent well))
 
-  by_length : (named c : Bool) → Leads (GoesWell None) (if c then over (says.Failed kind.NotFound) else taking_memory (opening_folder named path)) m P
-  by_length named true = over_leads (GoesWell None) (says.Failed kind.NotFound) m P (λ enough. refused)
-  by_length named false = taking_leads (GoesWell None) (opening_folder named path) m P (λ enough. absurd (enough refl)) (opens named)
+  by_length : (c : Bool) → Leads (GoesWell None) (if c then over (says.Failed kind.NotFound) else taking_memory (opening_folder path)) m P
+  by_length true = over_leads (GoesWell None) (says.Failed kind.NotFound) m P (λ enough. refused)
+  by_length false = taking_leads (GoesWell None) (opening_folder path) m P (λ enough. absurd (enough refl)) opens
 
   pub absent_plainly : (hint : Hint) → GoesPlainly m hint (steps.ReadDir path)
-  absent_plainly hint = by_length (is_named hint) (length path == 0)
+  absent_plainly hint = by_length (length path == 0)
 
   pub absent_breaks : (hint : Hint) → MayBreak m hint (steps.ReadDir path)
   absent_breaks hint done = absurd (let no : Some NotFound ≡ None = sym (ap (λ (r : PlainAnswer × Tree). fault_told r.0) refused) ∙ done in cc)

@@ -9,7 +9,7 @@ use Rattle.cacache_store.specs.declared.store.step.Step.TheVariants as steps
 use Rattle.cacache_store.specs.declared.store.answer.Answer.TheVariants as answers
 use Rattle.cacache_disk.specs.{declared.{luck.Luck.TheVariants.{Plain}, node.Node.{Node, TheVariants.{Folder, File}}}, Tree.{Tree, look, put}, LedTo.{and_then, or_fault, place, free, leads, followed, found, where_there, where_free, dirs, dirs_fault}, Apply.{apply, unless, make_some, making as how_many, left_by, fault_told}, Rooted.{Rooted}}
 use Rattle.cacache_disk.proofs.NameLemmas.{names_proper}
-use Rattle.cacache_system.specs.{declared.call.{FileInfo.{FileInfo}, CallResult.{CallResult}}, CallsOf.{Stage, over, standing, making, confirming, below, unmade, climb, above_of, is_absent, if_folder, after}, AnswersOf.{Hint, no_hint, is_missing, was_named, in_walk, rewrites, make_dirs, refuses_memory}}
+use Rattle.cacache_system.specs.{declared.call.{FileInfo.{FileInfo}, CallResult.{CallResult}}, CallsOf.{Stage, over, standing, making, confirming, below, unmade, climb, above_of, is_absent, if_folder, after}, AnswersOf.{Hint, no_hint, is_missing, rewrites, make_dirs, refuses_memory}}
 use Rattle.cacache_system.specs.declared.call.SystemCall.TheVariants as asks
 use Rattle.cacache_system.specs.declared.call.CallResult.TheVariants as says
 use Rattle.cacache_system_model.specs.{Machine.{Machine, IsRefused, ChangesTree, ShowsEnd, ShowsNode, Describes}, Calls.{GoesWell}, Laws.{outcome, Leads, IsPlain, IsDone}, Making.{HasNoLink, MakeDirsAgrees}}
@@ -36,9 +36,7 @@ part_of_dirs t path names part is = ap (λ (r : Result Names Fault). (unless r t
 begins_so : (b : Bool) (hint : Hint) (path : List ℕ) (m : Machine) (P : Claim) → Leads (way_of b) (making false path []) m P → Leads (way_of b) (standing path) m P → Leads (way_of b) (make_dirs hint path) m P
 begins_so b no_hint path m P first second = second
 begins_so b is_missing path m P first second = first
-begins_so b was_named path m P first second = second
-begins_so b (in_walk node last entered) path m P first second = second
-begins_so b (rewrites synced hint) path m P first second = second
+begins_so b (rewrites synced) path m P first second = second
 
 -- ---- folders that can be made
 

@@ -1,6 +1,6 @@
 -- A folder is listed call by call.
 use Rattle.std.proofs.{Common.{◌≡◌, ◌≢◌, ◌==◌, ◌||◌, ◌&&◌, not, ◌-◌, ◌^◌, ℕ, zero, suc, Bool, true, false, if◌then◌else◌, List, [], ◌∷◌, ◌++◌, length, refl, sym, ap, subst, ◌∙◌, ⊎_elim, inl, inr, arith, ne_eqb, length-append, append-nil, append_assoc}, lemmas.{Bool.{or_parts}, List.{Elements.{All-from_recursion, recursion_from_All}, Sorted.{All-permutation}}}}
-use Rattle.std.specs.{Prelude.{Option, None, Some, MatchOption, IfNone, IsPermutation, Result, Ok}, List.{AllByRecursion, list_any}, Str.{is_utf8}}
+use Rattle.std.specs.{Prelude.{Option, Some, MatchOption, IfNone, IsPermutation, Result, Ok}, List.{AllByRecursion, list_any}, Str.{is_utf8}}
 use Rattle.std_io.specs.declared.io.kind.ErrorKind.{ErrorKind}
 use Rattle.std_io.specs.declared.io.kind.ErrorKind.TheVariants as kind
 use Rattle.cacache_core.proofs.Splits.{split-append, split_none}
@@ -8,12 +8,12 @@ use Rattle.cacache_core.specs.{declared.errors.Fault.{Fault, TheVariants.{Device
 use Rattle.cacache_store.specs.{Plain.{PlainAnswer}, declared.store.answer.{Kind.{Kind, TheVariants.{File}}, Name.{Name}}}
 use Rattle.cacache_store.specs.declared.store.step.Step.TheVariants as steps
 use Rattle.cacache_store.specs.declared.store.answer.Answer.TheVariants as answers
-use Rattle.cacache_disk.specs.{declared.{luck.Luck.TheVariants.{Plain, Fail}, node.Node.{Node}}, Tree.{Tree, look, listing}, LedTo.{standing, folder}, Apply.{apply, unless, fault_told}}
-use Rattle.cacache_system.specs.{declared.call.{SystemCall.{SystemCall}, CallItem.{CallItem}, CallResult.{CallResult}}, ListedNames.{text_of, is_proper, is_passed, names_in, with_slash}, CallsOf.{Stage, Reader, over, taking_memory, opening_folder, following, unopened, is_no_folder, interrupts, reading_names, asking_kind, reader, read_once, more_names, entered, ask_kind, next_name, names_read, broken_off, after, Ends, Runs}, AnswersOf.{is_named, list, misses}}
+use Rattle.cacache_disk.specs.{declared.{luck.Luck.TheVariants.{Plain}, node.Node.{Node}}, Tree.{Tree, look, listing}, LedTo.{standing, folder}, Apply.{apply, unless, fault_told}}
+use Rattle.cacache_system.specs.{declared.call.{SystemCall.{SystemCall}, CallItem.{CallItem}, CallResult.{CallResult}}, ListedNames.{text_of, is_proper, is_passed, names_in, with_slash}, CallsOf.{Stage, Reader, over, taking_memory, opening_folder, following, unopened, is_no_folder, interrupts, reading_names, asking_kind, reader, read_once, more_names, entered, ask_kind, next_name, names_read, broken_off, after, Ends, Runs}, AnswersOf.{list, misses}}
 use Rattle.cacache_system.specs.declared.call.SystemCall.TheVariants as asks
 use Rattle.cacache_system.specs.declared.call.CallResult.TheVariants as says
 use Rattle.cacache_system_model.specs.{Machine.{Machine, IsRefused, ShowsNode, ShowsEnd, Describes}, Folders.{IsDots, GivesNames, ended, OpensNames, OpensFolder, ReadsSome, ReadsFolder}, Calls.{EachCall}, Laws.{outcome, Leads, IsDone, IsLucky}, Listing.{IsPlainEntry, ListsPlainly, Lists, IsListed, IsListedOrLucky, GivesInOrder, ReadDirGoesPlainly, ReadDirBreaks, ReadDirInOrder}}
-use Rattle.cacache_system_model.proofs.{Leading.{Claim, over_leads, call_leads}, Refused.{failing_apply, broken_agrees}, Claims.{way_of, cases_of, taking_leads}, Steps.{Opening.{of_some}, CopyFacts.{not_absent}}}
+use Rattle.cacache_system_model.proofs.{Leading.{Claim, over_leads, call_leads}, Refused.{broken_agrees}, Claims.{way_of, cases_of, taking_leads}, Steps.{Opening.{of_some}, CopyFacts.{not_absent}}}
 
 -- what a listing's calls come to: if none fails without cause, and if some may
 abbrev ListClaim : Bool → Machine → List ℕ → Claim
@@ -301,39 +301,28 @@ module _ (b : Bool) (m : Machine) (path : List ℕ) (p : ListsPlainly m.tree pat
       (broken_leads b m path p.names done why k broke fine (ap (λ (x : Machine). x.tree) left))))
       (cases_of b m (asks.OpenFolder (with_slash path)) said k happens))
 
-  -- a link in the place of a folder that a listing named
-  named_so : (k : Machine) → b ≡ false → k.tree ≡ m.tree → ListClaim b m path (says.Failed kind.NotADirectory) k
-  named_so k broke tree =
-      subst (λ (c : Bool). ListClaim c m path (says.Failed kind.NotADirectory) k) (sym broke)
-      (inr (inl (Fail NotADirectory None, failing_apply m.tree (steps.ReadDir path) NotADirectory None (done broke) ∙ ap (outcome (answers.Failed NotADirectory)) (sym tree))))
-
-  unfollowed : (named : Bool) (k : Machine) → b ≡ false → k ≡ m → Goes_on (if named then over (says.Failed kind.NotADirectory) else following path) k
-  unfollowed true k broke stays = over_leads (way_of b) (says.Failed kind.NotADirectory) k (ListClaim b m path) (named_so k broke (ap (λ (x : Machine). x.tree) stays))
-  unfollowed false k broke stays = subst (λ (x : Machine). Goes_on (following path) x) (sym stays) follows
-
-  unopened_leads : (c named : Bool) (why : ErrorKind) (k : Machine) → is_no_folder why ≡ c → b ≡ false → misses why ≡ false → k ≡ m
-      → Goes_on (unopened named why path) k
-  unopened_leads c named why k is broke fine stays =
-      subst (λ (x : Bool). Goes_on (if x then (if named then over (says.Failed kind.NotADirectory) else following path) else over (says.Failed why)) k) (sym is)
-      (elim c as (λ c. Goes_on (if c then (if named then over (says.Failed kind.NotADirectory) else following path) else over (says.Failed why)) k) [
-        | true ↦ unfollowed named k broke stays
+  unopened_leads : (c : Bool) (why : ErrorKind) (k : Machine) → is_no_folder why ≡ c → b ≡ false → misses why ≡ false → k ≡ m → Goes_on (unopened why path) k
+  unopened_leads c why k is broke fine stays =
+      subst (λ (x : Bool). Goes_on (if x then following path else over (says.Failed why)) k) (sym is)
+      (elim c as (λ c. Goes_on (if c then following path else over (says.Failed why)) k) [
+        | true ↦ subst (λ (x : Machine). Goes_on (following path) x) (sym stays) follows
         | false ↦ broken_leads b m path p.names done why k broke fine (ap (λ (x : Machine). x.tree) stays)
       ])
 
-  opens_so : (named : Bool) → Goes_on (opening_folder named path) m
-  opens_so named =
-      call_leads (way_of b) (opening_folder named path) (asks.OpenFolder path) m (ListClaim b m path) refl (λ end never. absurd never) (λ said k happens.
+  opens_so : Goes_on (opening_folder path) m
+  opens_so =
+      call_leads (way_of b) (opening_folder path) (asks.OpenFolder path) m (ListClaim b m path) refl (λ end never. absurd never) (λ said k happens.
       ⊎_elim
-      (λ (most, all, well). opened_leads path said k p.stands well (opening_folder named path) (λ number. refl))
+      (λ (most, all, well). opened_leads path said k p.stands well (opening_folder path) (λ number. refl))
       (λ (broke, why, same, fine, part, left).
-      subst (λ (result : CallResult). Goes_on (after (opening_folder named path) result) k) (sym same)
-      (unopened_leads (is_no_folder why) named why k refl broke fine left))
+      subst (λ (result : CallResult). Goes_on (after (opening_folder path) result) k) (sym same)
+      (unopened_leads (is_no_folder why) why k refl broke fine left))
       (cases_of b m (asks.OpenFolder path) said k happens))
 
-  lists_so : (named : Bool) → Goes_on (list named path) m
-  lists_so named =
-      subst (λ (c : Bool). Goes_on (if c then over (says.Failed kind.NotFound) else taking_memory (opening_folder named path)) m) (sym p.some)
-      (taking b m path p.names done (opening_folder named path) m refl (opens_so named))
+  lists_so : Goes_on (list path) m
+  lists_so =
+      subst (λ (c : Bool). Goes_on (if c then over (says.Failed kind.NotFound) else taking_memory (opening_folder path)) m) (sym p.some)
+      (taking b m path p.names done (opening_folder path) m refl opens_so)
 
 -- the disk's line of a listing
 pub listed_apply : (t : Tree) (path : List ℕ) (names : Names) → folder t path ≡ Ok names → apply t (steps.ReadDir path) Plain ≡ outcome (answers.Names (listing t names)) t
@@ -341,11 +330,11 @@ unfolding apply
 listed_apply t path names is = ap (λ (r : Result Names Fault). unless r t (λ at. outcome (answers.Names (listing t at)) t)) is
 
 pub read_dir_goes : ReadDirGoesPlainly
-read_dir_goes m hint path p = lists_so true m path p (λ e. absurd cc) (is_named hint)
+read_dir_goes m hint path p = lists_so true m path p (λ e. absurd cc)
 
 pub read_dir_breaks : ReadDirBreaks
 read_dir_breaks m hint path p =
-    lists_so false m path p (λ e. ap (λ (r : PlainAnswer × Tree). fault_told r.0) (listed_apply m.tree path p.names p.folder)) (is_named hint)
+    lists_so false m path p (λ e. ap (λ (r : PlainAnswer × Tree). fault_told r.0) (listed_apply m.tree path p.names p.folder))
 
 -- ---- names in the tree's order
 

@@ -6,11 +6,11 @@ use Rattle.cacache_core.specs.{declared.errors.Fault.{Fault, TheVariants.{NotFou
 use Rattle.cacache_store.specs.declared.store.step.Step.TheVariants as steps
 use Rattle.cacache_store.specs.Plain.{PlainAnswer}
 use Rattle.cacache_disk.specs.{declared.{luck.Luck.TheVariants.{Plain}, node.Node.{Node, TheVariants.{File}}}, Tree.{Tree, look, bytes_of}, LedTo.{and_then, place, standing, found, way_fault, where_there}, Apply.{apply}}
-use Rattle.cacache_system.specs.{declared.call.{FileInfo.{FileInfo}, SystemCall.{SystemCall}, CallResult.{CallResult}}, CallsOf.{Stage, over, only, preparing, keeping, give, give_mode, sync_again, after}, Seen.{NumberedTemp}, AnswersOf.{Hint, no_hint, is_missing, was_named, in_walk, rewrites, look_first, persist, misses}}
+use Rattle.cacache_system.specs.{declared.call.{FileInfo.{FileInfo}, SystemCall.{SystemCall}, CallResult.{CallResult}}, CallsOf.{Stage, over, only, preparing, keeping, give, give_mode, sync_again, after}, Seen.{NumberedTemp}, AnswersOf.{Hint, no_hint, is_missing, rewrites, persist, misses}}
 use Rattle.cacache_system.specs.declared.call.SystemCall.TheVariants as asks
 use Rattle.cacache_system.specs.declared.call.CallResult.TheVariants as says
-use Rattle.cacache_system_model.specs.{Machine.{under, OpenFile, node_of, Machine, with_sync, fixes, Became, ShowsEnd, GivesOwner}, Calls.{GoesWell, LeavesPart}, Laws.{Leads, IsDone}, OneCall.{StillStands}, Removing.{WalkStands}, Moving.{LeadsOrMisses, MayReplace, PersistAgrees}}
-use Rattle.cacache_system_model.proofs.{Leading.{Claim, over_leads, call_leads, only_leads}, Claims.{way_of, claim_of, cases_of, agrees_of, claim_plain, claim_broken}, Steps.{Opening.{said_leads, open_of}, CopyFacts.{not_absent, fault_absent}, Walking.{looks_so}, Changing.{put_away}}, memory.Places.{place_led}}
+use Rattle.cacache_system_model.specs.{Machine.{under, OpenFile, node_of, Machine, with_sync, fixes, Became, ShowsEnd, GivesOwner}, Calls.{GoesWell, LeavesPart}, Laws.{Leads, IsDone}, OneCall.{StillStands}, Moving.{LeadsOrMisses, MayReplace, PersistAgrees}}
+use Rattle.cacache_system_model.proofs.{Leading.{Claim, over_leads, call_leads, only_leads}, Claims.{way_of, claim_of, cases_of, agrees_of, claim_plain, claim_broken}, Steps.{Opening.{said_leads, open_of}, CopyFacts.{not_absent, fault_absent}, Changing.{put_away}}, memory.Places.{place_led}}
 
 -- the same stands, and the same files are open
 pub record Same (m n : Machine) : Type 0 where
@@ -69,14 +69,6 @@ module _ (b : Bool) (m : Machine) (temp : NumberedTemp) (path : List ℕ) (names
       (λ (broke, why, is, fine, part, left).
       subst (λ (r : CallResult). put_claim r l) (sym is) (breaks why n l same broke fine left))
       (cases_of b n (asks.Rename temp.path path) said l happens))
-
-  walk_on : (hint : Hint) (n : Machine) → Same m n → WalkStands m.tree hint → WalkStands n.tree hint
-  walk_on hint n same walk = subst (λ (t : Tree). WalkStands t hint) (sym same.tree) walk
-
-  -- the move in a walk
-  moves_so : (hint : Hint) (n : Machine) → WalkStands m.tree hint → Same m n → Leads (way_of b) (look_first hint (only (asks.Rename temp.path path))) n put_claim
-  moves_so hint n walk same =
-      looks_so b n put_claim (λ why l broke fine stays. breaks why n l same broke fine stays) hint (only (asks.Rename temp.path path)) (walk_on hint n same walk) (moves n same)
 
   -- a call that goes before a stage
   prepares : (call : SystemCall) (s : Stage) (n : Machine) → Same m n → ((most : Option ℕ) (said : CallResult) (l : Machine) → GoesWell most n call said l → (said ≡ says.Done) × Same m l)
@@ -148,9 +140,7 @@ module _ (b : Bool) (m : Machine) (temp : NumberedTemp) (path : List ℕ) (names
   puts : (hint : Hint) → MayReplace m.tree hint path → Leads (way_of b) (persist hint temp path) m put_claim
   puts no_hint may = moves m (record { tree = refl; files = refl })
   puts is_missing may = moves m (record { tree = refl; files = refl })
-  puts was_named may = moves m (record { tree = refl; files = refl })
-  puts (in_walk node last entered) may = moves m (record { tree = refl; files = refl })
-  puts (rewrites c hint) (leads, walk) = keeps c (look_first hint (only (asks.Rename temp.path path))) leads (λ l same. moves_so hint l walk same)
+  puts (rewrites c) leads = keeps c (only (asks.Rename temp.path path)) leads (λ l same. moves l same)
 
 -- a temporary file is put
 pub persist_agrees : PersistAgrees

@@ -14,7 +14,7 @@ use Rattle.cacache_system.specs.declared.call.SystemCall.TheVariants as asks
 use Rattle.cacache_system.specs.{declared.call.CallResult.{CallResult}, CallsOf.{trying, appending, interrupts, was_interrupted, after}, Seen.{NumberedTemp}, AnswersOf.{misses, refuses_memory, leaves_a_part}}
 use Rattle.cacache_system.specs.declared.call.CallResult.TheVariants as says
 use Rattle.cacache_system_model.specs.{Machine.{Place, under, OpenFile, node_of, Machine, HasTree, Grows, OpensIf, unread, with_empty}, Calls.{GoesWell, OccursSomehow, did_nothing, PartWritten, part_opened, LeavesWritten, LeavesPart}, Laws.{bytes_in, step_on, outcome, led_to, Leads, IsDone}, Writing.{WritesAll, WritesSome, WriteAgrees}, OneCall.{StillStands}, Removing.{AppendAgrees}}
-use Rattle.cacache_system_model.proofs.{Refused.{same_outcome, failed, refused_on, never_missing, failing_apply, broken_part}, Leading.{over_leads, call_leads, trying_leads}, Claims.{way_of, claim_of, luck_of, Well, cases_of, agrees_of, claim_plain, claim_taken, claim_lucky, claim_broken}, Trying.{SaidWell, tried_so}, Steps.{Opening.{newly_open, said_leads, on_open, file_under}, Looking.{table_fails}, Walking.{looks_so}}, Views.{leads_no_link}}
+use Rattle.cacache_system_model.proofs.{Refused.{same_outcome, failed, refused_on, never_missing, failing_apply, broken_part}, Leading.{over_leads, call_leads, trying_leads}, Claims.{way_of, claim_of, luck_of, Well, cases_of, agrees_of, claim_plain, claim_taken, claim_lucky, claim_broken}, Trying.{SaidWell, tried_so}, Steps.{Opening.{newly_open, said_leads, on_open, file_under}, Looking.{table_fails}}, Views.{leads_no_link}}
 
 -- ---- trees
 
@@ -175,10 +175,7 @@ module _ (b : Bool) (m : Machine) (path bytes : List ℕ) (done : b ≡ false �
       (cases_of b m (asks.OpenToAppend path) said n happens))
 
 pub append_agrees : AppendAgrees
-append_agrees m hint path bytes walk = agrees_of m hint (steps.Append path bytes) (λ b done.
-    looks_so b m (claim_of b m (steps.Append path bytes))
-    (λ why n broke fine stays. claim_broken b m (steps.Append path bytes) done why n broke refl fine (ap (λ (x : Machine). x.tree) stays))
-    hint (appending path bytes) walk (append_leads b m path bytes done))
+append_agrees m hint path bytes = agrees_of m hint (steps.Append path bytes) (λ b done. append_leads b m path bytes done)
 
 -- ---- a temporary file is written
 

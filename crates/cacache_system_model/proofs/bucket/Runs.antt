@@ -2,10 +2,7 @@
 use Rattle.std.proofs.Common.{◌≡◌, inl, inr, min, ℕ, Bool, true, false, if◌then◌else◌, List, [], ◌∷◌, ◌++◌, refl, sym, ap, subst, ◌∙◌, append_assoc}
 use Rattle.std.specs.{Prelude.{None, Some, ◌==◌}, List.{AllByRecursion}}
 use Rattle.std_io.specs.declared.io.kind.ErrorKind.{ErrorKind}
-use Rattle.std_io.specs.declared.io.kind.ErrorKind.TheVariants as kind
-use Rattle.cacache_store.specs.declared.store.answer.Kind.{Kind}
-use Rattle.cacache_store.specs.declared.store.answer.Kind.TheVariants as kinds
-use Rattle.cacache_system.specs.{declared.call.{FileInfo.{FileInfo}, SystemCall.{SystemCall}, CallItem.{CallItem}, CallResult.{CallResult, TheVariants.{Opened, Count, Bytes, Info, Failed}}}, CallLog.{item}, CallsOf.{Stage, Runs, over, trying, taking_memory, opening, checking, to_read, reading_front, reading_rest, read_whole, appending, comparing, descending, descend, compared, if_folder, is_same_node, interrupts, was_interrupted, after}, AnswersOf.{in_walk}}
+use Rattle.cacache_system.specs.{declared.call.{SystemCall.{SystemCall}, CallItem.{CallItem}, CallResult.{CallResult, TheVariants.{Opened, Count, Bytes, Info, Failed}}}, CallLog.{item}, CallsOf.{Stage, Runs, over, trying, taking_memory, opening, checking, to_read, reading_front, reading_rest, read_whole, appending, interrupts, was_interrupted, after}}
 use Rattle.cacache_system.specs.declared.call.SystemCall.TheVariants as asks
 use Rattle.cacache_system_model.specs.bucket.Calls.{FitsCall, AllFit, IsBeforeWrite, WritesOnce, AppendsWriteOnce, said_by, all_said, IsBeforeRest, ReadsGoToEnd}
 
@@ -62,45 +59,7 @@ appending_once path bytes count (i ∷ items) runs fit =
     let call : asks.OpenToAppend path ≡ i.call = cc in
     writes_before bytes count i items (subst (λ c. IsBeforeWrite c i.result) call tt) (opened_once path bytes count i.call i.result items call fit.0 runs.1)
 
--- ---- looks at the folders of a walk
-
-folder_runs : (k : Kind) (why : ErrorKind) (s : Stage) (items : List CallItem) (count : ℕ) → Runs (if_folder k why s) items (Count count) → Runs s items (Count count)
-folder_runs kinds.Folder why s items count runs = runs
-folder_runs k why s items count runs = let wrong : Failed why ≡ Count count = (over_ends (Failed why) (Count count) items runs).1 in absurd cc
-
--- a look that found what it should leads on
-looked_runs : (path : List ℕ) (call : SystemCall) (said : CallResult) (entered : List (List ℕ)) (s : Stage) (items : List CallItem) (count : ℕ) → asks.StatLink path ≡ call → FitsCall call said
-    → Runs (after (descending path entered s) said) items (Count count) → Runs (descend entered s) items (Count count)
-looked_runs path call (Info info) entered s items count is fits runs = folder_runs info.kind kind.NotADirectory (descend entered s) items count runs
-looked_runs path call (Count n) entered s items count is fits runs = absurd (subst (λ c. FitsCall c (Count n)) (sym is) fits)
-looked_runs path call said entered s items count is fits runs = let wrong : said ≡ Count count = (over_ends said (Count count) items runs).1 in absurd cc
-
-descend_once : (entered : List (List ℕ)) (path bytes : List ℕ) (count : ℕ) (items : List CallItem) → Runs (descend entered (appending path bytes)) items (Count count) → AllFit items → WritesOnce bytes count items
-descend_once [] path bytes count items runs fit = appending_once path bytes count items runs fit
-descend_once (above ∷ entered) path bytes count [] runs fit = absurd runs
-descend_once (above ∷ entered) path bytes count (i ∷ items) runs fit =
-    let asked : Some (asks.StatLink above) ≡ Some i.call = runs.0 in
-    let call : asks.StatLink above ≡ i.call = cc in
-    writes_before bytes count i items (subst (λ c. IsBeforeWrite c i.result) call tt)
-    (descend_once entered path bytes count items (looked_runs above i.call i.result entered (appending path bytes) items count call fit.0 runs.1) fit.1)
-
-compared_once : (same : Bool) (k : Kind) (entered : List (List ℕ)) (path bytes : List ℕ) (count : ℕ) (items : List CallItem)
-    → Runs (compared same k entered (appending path bytes)) items (Count count) → AllFit items → WritesOnce bytes count items
-compared_once true kinds.Folder entered path bytes count items runs fit = appending_once path bytes count items runs fit
-compared_once same k entered path bytes count items runs fit = descend_once entered path bytes count items runs fit
-
-comparing_once : (node : FileInfo) (last : List ℕ) (entered : List (List ℕ)) (path bytes : List ℕ) (count : ℕ) (call : SystemCall) (said : CallResult) (items : List CallItem) → asks.StatLink last ≡ call → FitsCall call said
-    → Runs (after (comparing node last entered (appending path bytes)) said) items (Count count) → AllFit items → WritesOnce bytes count items
-comparing_once node last entered path bytes count call (Info info) items is fits runs fit = compared_once (is_same_node info node) info.kind (entered ++ last ∷ []) path bytes count items runs fit
-comparing_once node last entered path bytes count call (Count n) items is fits runs fit = absurd (subst (λ c. FitsCall c (Count n)) (sym is) fits)
-comparing_once node last entered path bytes count call said items is fits runs fit = let wrong : said ≡ Count count = (over_ends said (Count count) items runs).1 in absurd cc
-
 pub appends_write_once : AppendsWriteOnce
-appends_write_once (in_walk node last entered) path bytes count [] runs fit = absurd runs
-appends_write_once (in_walk node last entered) path bytes count (i ∷ items) runs fit =
-    let asked : Some (asks.StatLink last) ≡ Some i.call = runs.0 in
-    let call : asks.StatLink last ≡ i.call = cc in
-    writes_before bytes count i items (subst (λ c. IsBeforeWrite c i.result) call tt) (comparing_once node last entered path bytes count i.call i.result items call fit.0 runs.1 fit.1)
 appends_write_once hint path bytes count items runs fit = appending_once path bytes count items runs fit
 
 -- ---- reads

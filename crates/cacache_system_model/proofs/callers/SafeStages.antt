@@ -7,7 +7,7 @@ use Rattle.cacache_core.specs.PathNames.{Names}
 use Rattle.cacache_store.specs.declared.store.answer.{Kind.{Kind}, Name.{Name}}
 use Rattle.cacache_store.specs.declared.store.answer.Kind.TheVariants as kinds
 use Rattle.cacache_disk.specs.{declared.node.Node.TheVariants.{File}, Tree.{Tree, look}}
-use Rattle.cacache_system.specs.{declared.call.{FileInfo.{FileInfo}, SystemCall.{SystemCall}, CallResult.{CallResult}}, ListedNames.{text_of, is_proper, is_passed, names_in, with_slash}, CallsOf.{Stage, Reader, reader, read_once, more_names, entered as entered_name, ask_kind, next_name, broken_off, is_no_folder, opening_folder, following, reading_names, asking_kind, Purpose, to_give, to_sync, to_sync_folder, to_read, over, only, trying, taking_memory, opening, checking, reading_front, reading_rest, appending, standing as asking_folder, making, confirming, sizing, asking_source, asking_target, asking_end, making_end, resolving, making_fresh, filling, replacing, scrapping, copied, place_fresh, fresh_beside, fresh_number, name_taken, already_exists, is_link, after, interrupts, is_absent, is_same_node, unless_folder, if_folder, opened, below, climb, unmade, above_of, keeping, preparing, comparing, descending, sync_again, give, descend, compared}}
+use Rattle.cacache_system.specs.{declared.call.{FileInfo.{FileInfo}, SystemCall.{SystemCall}, CallResult.{CallResult}}, ListedNames.{text_of, is_proper, is_passed, names_in, with_slash}, CallsOf.{Stage, Reader, reader, read_once, more_names, entered as entered_name, ask_kind, next_name, broken_off, is_no_folder, opening_folder, following, reading_names, asking_kind, Purpose, to_give, to_sync, to_sync_folder, to_read, over, only, trying, taking_memory, opening, checking, reading_front, reading_rest, appending, standing as asking_folder, making, confirming, sizing, asking_source, asking_target, asking_end, making_end, resolving, making_fresh, filling, replacing, scrapping, copied, place_fresh, fresh_beside, fresh_number, name_taken, already_exists, is_link, after, interrupts, is_absent, is_same_node, unless_folder, if_folder, opened, below, climb, unmade, above_of, keeping, preparing, sync_again, give}}
 use Rattle.cacache_system.specs.declared.call.SystemCall.TheVariants as asks
 use Rattle.cacache_system.specs.declared.call.CallResult.TheVariants as says
 use Rattle.cacache_system_model.specs.{Machine.{Machine}, Calls.{OccursSomehow}, callers.Opened.{Avoids, IsApart}}
@@ -47,12 +47,10 @@ module _ (q : Names) where
   IsSafe (filling from fresh path) m = IsNew m.tree fresh × Avoids q fresh × Avoids q path
   IsSafe (replacing count fresh path) m = Moves m.tree fresh × Avoids q fresh × Avoids q path
   IsSafe (scrapping why fresh) m = Avoids q fresh
-  IsSafe (opening_folder named path) m = CanOpen m.tree path × CanOpen m.tree (with_slash path)
+  IsSafe (opening_folder path) m = CanOpen m.tree path × CanOpen m.tree (with_slash path)
   IsSafe (following path) m = CanOpen m.tree (with_slash path)
   IsSafe (reading_names again r found) m = IsListing m r.number
   IsSafe (asking_kind r name names found) m = IsListing m r.number
-  IsSafe (comparing node path entered s) m = IsSafe s m
-  IsSafe (descending path entered s) m = IsSafe s m
   IsSafe s m = ⊥
 
   pub cond_safe : (b : Bool) (s t : Stage) (m : Machine) → IsSafe s m → IsSafe t m → IsSafe (cond b s t) m
@@ -153,22 +151,6 @@ module _ (q : Names) where
   prepared_safe call s says.Done m h = h
   prepared_safe call s said m h = tt
 
-  pub descend_safe : (entered : List (List ℕ)) (s : Stage) (m : Machine) → IsSafe s m → IsSafe (descend entered s) m
-  descend_safe [] s m h = h
-  descend_safe (path ∷ entered) s m h = h
-
-  pub compared_safe : (same : Bool) (k : Kind) (entered : List (List ℕ)) (s : Stage) (m : Machine) → IsSafe s m → IsSafe (compared same k entered s) m
-  compared_safe true kinds.Folder entered s m h = h
-  compared_safe same k entered s m h = descend_safe entered s m h
-
-  pub comparing_safe : (node : FileInfo) (path : List ℕ) (entered : List (List ℕ)) (s : Stage) (said : CallResult) (m : Machine) → IsSafe s m → IsSafe (after (comparing node path entered s) said) m
-  comparing_safe node path entered s (says.Info info) m h = compared_safe (is_same_node info node) info.kind (entered ++ path ∷ []) s m h
-  comparing_safe node path entered s said m h = tt
-
-  pub descending_safe : (path : List ℕ) (entered : List (List ℕ)) (s : Stage) (said : CallResult) (m : Machine) → IsSafe s m → IsSafe (after (descending path entered s) said) m
-  descending_safe path entered s (says.Info info) m h = if_safe info.kind kind.NotADirectory (descend entered s) m (descend_safe entered s m h)
-  descending_safe path entered s said m h = tt
-
   pub file_safe : (purpose : Purpose) (path : List ℕ) (said : CallResult) (m n : Machine) → OccursSomehow m (asks.OpenToRead path) said n → IsSafe (after (opening purpose path) said) n
   file_safe purpose path (says.Opened number) m n h = open_ready path m n number h
   file_safe purpose path said m n h = tt
@@ -205,12 +187,11 @@ module _ (q : Names) where
   kind_safe r name names found (says.Failed why) m h = cond_safe (is_absent why) (next_name r names found) (over (says.Failed why)) m (next_safe names r found m h) tt
   kind_safe r name names found said m h = tt
 
-  pub opened_safe_folder : (named : Bool) (path : List ℕ) (said : CallResult) (m n : Machine) → CanOpen m.tree (with_slash path) → FolderLeft m said n → IsSafe (after (opening_folder named path) said) n
-  opened_safe_folder named path (says.Opened number) m n can left = more_safe (reader number path) [] n (left.2 number refl)
-  opened_safe_folder named path (says.Failed why) m n can left =
-      cond_safe (is_no_folder why) (if named then over (says.Failed kind.NotADirectory) else following path) (over (says.Failed why)) n
-      (cond_safe named (over (says.Failed kind.NotADirectory)) (following path) n tt (subst (λ (t : Tree). CanOpen t (with_slash path)) (sym left.1) can)) tt
-  opened_safe_folder named path said m n can left = tt
+  pub opened_safe_folder : (path : List ℕ) (said : CallResult) (m n : Machine) → CanOpen m.tree (with_slash path) → FolderLeft m said n → IsSafe (after (opening_folder path) said) n
+  opened_safe_folder path (says.Opened number) m n can left = more_safe (reader number path) [] n (left.2 number refl)
+  opened_safe_folder path (says.Failed why) m n can left =
+      cond_safe (is_no_folder why) (following path) (over (says.Failed why)) n (subst (λ (t : Tree). CanOpen t (with_slash path)) (sym left.1) can) tt
+  opened_safe_folder path said m n can left = tt
 
   pub followed_safe : (path : List ℕ) (said : CallResult) (m n : Machine) → FolderLeft m said n → IsSafe (after (following path) said) n
   followed_safe path (says.Opened number) m n left = more_safe (reader number path) [] n (left.2 number refl)

@@ -4,11 +4,11 @@ use Rattle.std_io.specs.declared.io.kind.ErrorKind.TheVariants as kind
 use Rattle.cacache_core.specs.PathNames.{Names, names_of}
 use Rattle.cacache_store.specs.declared.store.step.Step.TheVariants as steps
 use Rattle.cacache_disk.{specs.{declared.{luck.Luck.TheVariants.{Plain, Fail, Take}, node.Node.TheVariants.{File}}, Tree.{Tree, put}, LedTo.{free}}, proofs.FoundNodes.{free_ok}}
-use Rattle.cacache_system.specs.{declared.call.{SystemCall.{SystemCall}, CallItem.{CallItem}, CallResult.{CallResult}}, Seen.{NumberedTemp, NumberedStep}, ListedNames.{with_slash}, CallsOf.{Stage, opening_folder, following, reading_names, asking_kind, over, only, trying, taking_memory, opening, checking, reading_front, reading_rest, appending, standing as asking_folder, making, confirming, sizing, asking_source, asking_target, asking_end, making_end, resolving, making_fresh, filling, replacing, scrapping, fresh_beside, fresh_number, wants, after, was_interrupted, keeping, preparing, comparing, descending, Runs}, AnswersOf.{Hint, no_hint, is_missing, was_named, in_walk, rewrites, look_first, persist, is_named, first}}
+use Rattle.cacache_system.specs.{declared.call.{SystemCall.{SystemCall}, CallItem.{CallItem}, CallResult.{CallResult}}, Seen.{NumberedTemp, NumberedStep}, ListedNames.{with_slash}, CallsOf.{Stage, opening_folder, following, reading_names, asking_kind, over, only, trying, taking_memory, opening, checking, reading_front, reading_rest, appending, standing as asking_folder, making, confirming, sizing, asking_source, asking_target, asking_end, making_end, resolving, making_fresh, filling, replacing, scrapping, fresh_beside, fresh_number, wants, after, was_interrupted, keeping, preparing, Runs}, AnswersOf.{Hint, no_hint, is_missing, rewrites, persist, first}}
 use Rattle.cacache_system.specs.declared.call.SystemCall.TheVariants as asks
 use Rattle.cacache_system.specs.declared.call.CallResult.TheVariants as says
 use Rattle.cacache_system_model.specs.{Machine.{under, Machine, OpensIf}, Calls.{OccursSomehow, EachCall}, OneCall.{IsOpenAt}, callers.Opened.{KeepsOpen, IsApart, StillStores, RunsKeepOpen}}
-use Rattle.cacache_system_model.proofs.{callers.{ListCalls.{can_open, IsListing, folder_left, names_left}, CopyTargets.{spelled_left}, OpenCalls.{Moves, place_at, CanRead, keeps_same, keeps_self, IsOpenNumber, occurs_keep, front_left, rest_left, stat_left, readable_on}, UnchangedCalls.{look_left, link_look_left, readied, opens_number}, SafeStages.{IsSafe, cond_safe, checked_safe, front_safe, rest_safe, folder_safe, making_safe, confirming_safe, SafeLater, kept_safe, prepared_safe, comparing_safe, descending_safe, file_safe, line_safe, listed_safe, kind_safe, opened_safe_folder, followed_safe, size_safe, source_safe, target_safe, end_safe, made_end_safe, resolved_safe, fresh_safe, filled_safe, replaced_safe}}, memory.Places.{place_led}}
+use Rattle.cacache_system_model.proofs.{callers.{ListCalls.{can_open, IsListing, folder_left, names_left}, CopyTargets.{spelled_left}, OpenCalls.{Moves, place_at, CanRead, keeps_same, keeps_self, IsOpenNumber, occurs_keep, front_left, rest_left, stat_left, readable_on}, UnchangedCalls.{look_left, link_look_left, readied, opens_number}, SafeStages.{IsSafe, cond_safe, checked_safe, front_safe, rest_safe, folder_safe, making_safe, confirming_safe, SafeLater, kept_safe, prepared_safe, file_safe, line_safe, listed_safe, kind_safe, opened_safe_folder, followed_safe, size_safe, source_safe, target_safe, end_safe, made_end_safe, resolved_safe, fresh_safe, filled_safe, replaced_safe}}, memory.Places.{place_led}}
 
 at_call : (a call : SystemCall) (m n : Machine) (said : CallResult) → Some a ≡ Some call → OccursSomehow m call said n → OccursSomehow m a said n
 at_call a call m n said w h = let same : a ≡ call = cc in subst (λ (x : SystemCall). OccursSomehow m x said n) (sym same) h
@@ -72,14 +72,8 @@ module _ (q : Names) where
       (keeps_self (under q) m n same, subst (λ (x : Machine). IsSafe q (after (keeping number temp synced path s) said) x) (sym same) (kept_safe q number temp synced path s said m open_file later))
   goes_safe (preparing c s) m n call said (ready, later) w h =
       let left = readied c m n said ready (at_call c call m n said w h) in (keeps_same (under q) m n left.1, prepared_safe q c s said n (later n left))
-  goes_safe (comparing node path entered s) m n call said safe w h =
-      let same = link_look_left path m n said (at_call (asks.StatLink path) call m n said w h) in
-      (keeps_self (under q) m n same, subst (λ (x : Machine). IsSafe q (after (comparing node path entered s) said) x) (sym same) (comparing_safe q node path entered s said m safe))
-  goes_safe (descending path entered s) m n call said safe w h =
-      let same = link_look_left path m n said (at_call (asks.StatLink path) call m n said w h) in
-      (keeps_self (under q) m n same, subst (λ (x : Machine). IsSafe q (after (descending path entered s) said) x) (sym same) (descending_safe q path entered s said m safe))
-  goes_safe (opening_folder named path) m n call said safe w h =
-      let left = folder_left path m n said safe.0 (at_call (asks.OpenFolder path) call m n said w h) in (left.0 (under q), opened_safe_folder q named path said m n safe.1 left)
+  goes_safe (opening_folder path) m n call said safe w h =
+      let left = folder_left path m n said safe.0 (at_call (asks.OpenFolder path) call m n said w h) in (left.0 (under q), opened_safe_folder q path said m n safe.1 left)
   goes_safe (following path) m n call said safe w h =
       let left = folder_left (with_slash path) m n said safe (at_call (asks.OpenFolder (with_slash path)) call m n said w h) in (left.0 (under q), followed_safe q path said m n left)
   goes_safe (reading_names again r found) m n call said safe w h =
@@ -99,24 +93,13 @@ module _ (q : Names) where
   dirs_safe : (hint : Hint) (p : List ℕ) (m : Machine) → IsSafe q (first hint (steps.MakeDirs p)) m
   dirs_safe no_hint p m = tt
   dirs_safe is_missing p m = tt
-  dirs_safe was_named p m = tt
-  dirs_safe (in_walk node last entered) p m = tt
-  dirs_safe (rewrites synced hint) p m = tt
-
-  look_safe : (hint : Hint) (s : Stage) (m : Machine) → IsSafe q s m → IsSafe q (look_first hint s) m
-  look_safe no_hint s m h = h
-  look_safe is_missing s m h = h
-  look_safe was_named s m h = h
-  look_safe (in_walk node last entered) s m h = h
-  look_safe (rewrites synced hint) s m h = h
+  dirs_safe (rewrites synced) p m = tt
 
   persist_safe : (hint : Hint) (temp : NumberedTemp) (path : List ℕ) (m : Machine) → IsOpenNumber m temp.number → SafeLater q (only (asks.Rename temp.path path)) m
       → IsSafe q (persist hint temp path) m
   persist_safe no_hint temp path m open_file later = later m (refl, refl)
   persist_safe is_missing temp path m open_file later = later m (refl, refl)
-  persist_safe was_named temp path m open_file later = later m (refl, refl)
-  persist_safe (in_walk node last entered) temp path m open_file later = later m (refl, refl)
-  persist_safe (rewrites synced hint) temp path m open_file later = (open_file, λ n same. look_safe hint (only (asks.Rename temp.path path)) n (later n same))
+  persist_safe (rewrites synced) temp path m open_file later = (open_file, λ n same. later n same)
 
   first_safe : (hint : Hint) (step : NumberedStep) (m : Machine) → StillStores q m step → IsSafe q (first hint step) m
   first_safe hint (steps.MakeDirs p) m h = dirs_safe hint p m
@@ -124,13 +107,13 @@ module _ (q : Names) where
   first_safe hint (steps.Persist t p) m ((names, old, still), from, to) =
       persist_safe hint t p m (under names, still.opened)
       (λ n same. (subst (λ (x : Tree). Moves x t.path) (sym same.0) (names, old, place_led m.tree t.path names still.named still.way, still.stands), from, to))
-  first_safe hint (steps.Append p bytes) m h = look_safe hint (appending p bytes) m tt
+  first_safe hint (steps.Append p bytes) m h = tt
   first_safe hint (steps.Read f most) m (found, bytes, stays) =
       cond_safe q (f.left == 0 && not (min most 131072 == 0)) (over (says.Failed kind.FileTooLarge)) (taking_memory (trying false (asks.Read f.number (min (min most 131072) f.left)))) m tt
       (found.place, ap (option_map place_at) stays.known, subst CanRead (sym stays.stands) tt)
-  first_safe hint (steps.ReadDir p) m h = cond_safe q (length p == 0) (over (says.Failed kind.NotFound)) (taking_memory (opening_folder (is_named hint) p)) m tt (can_open m p h)
-  first_safe hint (steps.RemoveFile p) m h = look_safe hint (only (asks.RemoveFile p)) m h
-  first_safe hint (steps.RemoveDir p) m h = look_safe hint (only (asks.RemoveFolder p)) m h
+  first_safe hint (steps.ReadDir p) m h = cond_safe q (length p == 0) (over (says.Failed kind.NotFound)) (taking_memory (opening_folder p)) m tt (can_open m p h)
+  first_safe hint (steps.RemoveFile p) m h = h
+  first_safe hint (steps.RemoveDir p) m h = h
   first_safe hint (steps.SyncTemp t) m (names, old, still) = (under names, still.opened)
   first_safe hint (steps.Copy p to) m h = h
   first_safe hint step m h = tt

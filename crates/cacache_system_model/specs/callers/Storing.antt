@@ -5,7 +5,7 @@ use Rattle.cacache_core.specs.PathNames.{Names, names_of}
 use Rattle.cacache_store.specs.Plain.{PlainStep}
 use Rattle.cacache_store.specs.declared.store.step.Step.TheVariants as steps
 use Rattle.cacache_system.specs.{declared.call.CallResult.TheVariants.{Failed}, Seen.{NumberedTemp, NumberedStep}, CallsOf.{Runs}, AnswersOf.{Hint, first, answer_of}}
-use Rattle.cacache_system_model.specs.{Machine.{Machine}, Calls.{GoesWell, OccursSomehow, EachCall}, Laws.{LeavesFresh, IsDone}, OneCall.{IsOpenAt}, Removing.{WalkStands}, Moving.{MayReplace}, Writing.{CanCopy}, Listing.{CanList}, Premises.{IsOpen, HasPlainLaw}, Chains.{StepMade}, callers.{Acts.{Act, begins, steps as makes, ends, stops, SystemState, EndsFailed, step_of, answer_in, NeedsFit, MayAct}, Made.{MakeHistories}}}
+use Rattle.cacache_system_model.specs.{Machine.{Machine}, Calls.{GoesWell, OccursSomehow, EachCall}, Laws.{LeavesFresh, IsDone}, OneCall.{IsOpenAt}, Moving.{MayReplace}, Writing.{CanCopy}, Listing.{CanList}, Premises.{IsOpen, HasPlainLaw}, Chains.{StepMade}, callers.{Acts.{Act, begins, steps as makes, ends, stops, SystemState, EndsFailed, step_of, answer_in, NeedsFit, MayAct}, Made.{MakeHistories}}}
 use Rattle.cacache_calls.specs.{declared.reply.Reply.{Reply}, State.{State}, Table.{wants, after}}
 use Rattle.cacache_value.specs.Kinds.{PathKind, Temporary, Way, path_kind, IsFor}
 use Rattle.cacache_history.specs.{Setup.{Setup, home}, History.{Ends}}
@@ -40,16 +40,13 @@ HoldsTemp temps m (steps.Persist t p) = IsHeld temps m t
 HoldsTemp temps m (steps.SyncTemp t) = IsHeld temps m t
 HoldsTemp temps m step = Unit {0}
 
--- What doesn't follow from the acts before a step. The folders of its walk stand, and the file that it replaces, if that was
--- read, can be looked at. A file that it reads is open. A copy can be made, and a folder can be listed.
+-- What doesn't follow from the acts before a step. The file that it replaces, if that was read, can be looked at. A file that
+-- it reads is open. A copy can be made, and a folder can be listed.
 abbrev pub HintStands : Machine → Hint → NumberedStep → Type 0
 HintStands m hint (steps.Persist temp p) = MayReplace m.tree hint p
-HintStands m hint (steps.Append p bytes) = WalkStands m.tree hint
 HintStands m hint (steps.Read f max) = IsOpen m f
 HintStands m hint (steps.Copy p q) = CanCopy m q
 HintStands m hint (steps.ReadDir p) = CanList m p
-HintStands m hint (steps.RemoveFile p) = WalkStands m.tree hint
-HintStands m hint (steps.RemoveDir p) = WalkStands m.tree hint
 HintStands m hint step = Unit {0}
 
 -- none of a step's calls fails without cause, and it has what its law then asks

@@ -14,6 +14,7 @@ use cacache_disk::Stop;
 use cacache_system::{FileInfo, System};
 use std::alloc::Global;
 use std::io;
+use std::io::ErrorKind;
 
 /// Why a call that this system doesn't have is refused.
 const UNSUPPORTED: Stop = Stop::Fault(Fault::Unsupported);
@@ -270,4 +271,16 @@ impl System for MemorySystem {
     {
         Err(self.log.fail(Asked::RealPath(path), UNSUPPORTED))
     }
+
+    /// Always `Unsupported`: a system in memory keeps no times.
+    fn changed(&mut self, _path: &str) -> io::Result<u64>
+        ensures same { self.new ≡ self.old }
+    {
+        Err(io::Error::from(ErrorKind::Unsupported))
+    }
+
+    /// Does nothing: a system in memory holds nothing open.
+    fn end_walks(&mut self)
+        ensures same { self.new ≡ self.old }
+    {}
 }

@@ -1,4 +1,4 @@
-use Rattle.cacache_system_model.proofs.Refusing.{no_second_write, no_removal_before_put, no_other_mode, no_other_sync, no_file_for_folder, no_copy_in_place, no_removal_through_link, no_append_through_link, no_move_without_mode, no_call_without_owner}
+use Rattle.cacache_system_model.proofs.Refusing.{no_second_write, no_removal_before_put, no_other_mode, no_other_sync, no_file_for_folder, no_copy_in_place, no_move_without_mode, no_call_without_owner}
 use Rattle.cacache_system_model.proofs.laws.refusal_laws.Goals as goal
 
 pub returns : goal.returns
@@ -9,8 +9,6 @@ returns c = record {
   sync = no_other_sync;
   folder = no_file_for_folder;
   copy = no_copy_in_place;
-  link = no_removal_through_link;
-  append = no_append_through_link;
   move_first = no_move_without_mode;
   owner = no_call_without_owner;
 }

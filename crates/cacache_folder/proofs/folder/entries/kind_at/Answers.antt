@@ -1,22 +1,15 @@
 use Rattle.std.{proofs.Common.{◌≡◌, true, false, if◌then◌else◌, refl, sym, ap, ◌∙◌}, specs.Prelude.{Some}}
 use Rattle.std_io.specs.IoError.{error_kind}
-use Rattle.std_io.specs.declared.io.kind.ErrorKind.TheVariants as kind
 use Rattle.cacache_system.specs.declared.call.SystemCall.TheVariants as asks
 use Rattle.cacache_system.specs.declared.call.CallResult.TheVariants as says
 use Rattle.cacache_system.specs.CallsOf.{over, asking_kind, next_name, is_absent}
-use Rattle.cacache_folder.proofs.{CallRuns.{run_call, run_refused}, Listings.{leads_as, leads_call, fails_call}}
+use Rattle.cacache_folder.proofs.Listings.{leads_as, leads_call, fails_call}
 use Rattle.cacache_folder.proofs.folder.entries.kind_at.Goals as goal
 
-pub returns-in-Ok-note : goal.returns-in-Ok-note
-returns-in-Ok-note g c =
+pub returns-in-Ok : goal.returns-in-Ok
+returns-in-Ok g c =
     λ r name names found at. leads_call (asking_kind r name names found) (asks.StatLink c.args.path.now) (says.Info c.in-Ok.info)
     (g.Y.System.calls c.args.system.now) (g.Y.System.calls c.stat_link.new.self) c.in-Ok.ensures (ap (λ path. Some (asks.StatLink path)) (sym at))
-
-pub returns-in-Err-note : goal.returns-in-Err-note
-returns-in-Err-note g c =
-    λ r name names found at. run_call (asking_kind r name names found) (asks.StatLink c.args.path.now) (says.Info c.in-Ok.info) (says.Failed kind.OutOfMemory)
-    (g.Y.System.calls c.args.system.now) (g.Y.System.calls c.stat_link.new.self) (g.Y.System.calls c.stat_link.new.self) c.in-Ok.ensures
-    (ap (λ path. Some (asks.StatLink path)) (sym at)) (run_refused _ (g.Y.System.calls c.stat_link.new.self))
 
 pub returns-then-is_absent : goal.returns-then-is_absent
 returns-then-is_absent g c =

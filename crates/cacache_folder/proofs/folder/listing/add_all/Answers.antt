@@ -5,8 +5,8 @@ use Rattle.cacache_folder.proofs.folder.listing.add_all.Goals as goal
 
 pub returns-in-Err-clause-ran : goal.returns-in-Err-clause-ran
 returns-in-Err-clause-ran g c =
-    λ r at. lists_fails (next_name r (names_in c.args.read.now) c.args.listed.now.names.items) r c.names.folder.items c.names.rest.now
-    c.first_name.result.0.now c.first_name.result.1.now c.names.listed.names.items c.add.new.listed.names.items c.in-Err.why
+    λ r at. lists_fails (next_name r (names_in c.args.read.now) c.args.names.now.items) r c.names.folder.items c.names.rest.now
+    c.first_name.result.0.now c.first_name.result.1.now c.names.names.items c.add.new.names.items c.in-Err.why
     (g.Y.System.calls c.args.system.now) (g.Y.System.calls c.names.system) (g.Y.System.calls c.add.new.system)
     (c.names.invariant.ran r at) c.first_name.ensures.cut c.in-Err.ensures.ran (c.names.invariant.same ∙ at)
 
@@ -14,8 +14,8 @@ pub names-preserved : goal.names-preserved
 names-preserved g c = record {
   proper = λ before. c.in-Ok.ensures.proper (c.names.invariant.proper before);
   same = c.in-Ok.ensures.same ∙ c.names.invariant.same;
-  ran = λ r at. lists_more (next_name r (names_in c.args.read.now) c.args.listed.now.names.items) r c.names.folder.items c.names.rest.now
-      c.first_name.result.0.now c.first_name.result.1.now c.names.listed.names.items c.add.new.listed.names.items tt
+  ran = λ r at. lists_more (next_name r (names_in c.args.read.now) c.args.names.now.items) r c.names.folder.items c.names.rest.now
+      c.first_name.result.0.now c.first_name.result.1.now c.names.names.items c.add.new.names.items tt
       (g.Y.System.calls c.args.system.now) (g.Y.System.calls c.names.system) (g.Y.System.calls c.add.new.system)
       (c.names.invariant.ran r at) c.first_name.ensures.cut c.in-Ok.ensures.ran (c.names.invariant.same ∙ at);
 }
@@ -23,5 +23,5 @@ names-preserved g c = record {
 pub returns-clause-ran : goal.returns-clause-ran
 returns-clause-ran g c =
     let none : length c.names.rest.now ≡ 0 = search rules in
-    λ r at. lists_all (next_name r (names_in c.args.read.now) c.args.listed.now.names.items) r c.names.rest.now c.names.listed.names.items
+    λ r at. lists_all (next_name r (names_in c.args.read.now) c.args.names.now.items) r c.names.rest.now c.names.names.items
     (g.Y.System.calls c.args.system.now) (g.Y.System.calls c.names.system) (c.names.invariant.ran r at) none

@@ -7,10 +7,10 @@ use Rattle.cacache_folder.proofs.folder.listing.add_all.Given as goal
 -- the names so far were listed
 abbrev pub invariant-names : goal.invariant-names
 invariant-names g l = record {
-  proper : AreProperNames l.fn.listed.names.items → AreProperNames l.listed.names.items;
+  proper : AreProperNames l.fn.names.items → AreProperNames l.names.items;
   same : l.folder.items ≡ l.fn.folder.items;
   ran : (r : Reader) → l.fn.folder.items ≡ r.folder
-      → LeadsTo (next_name r (names_in l.fn.read) l.fn.listed.names.items) (next_name r (names_in l.rest) l.listed.names.items)
+      → LeadsTo (next_name r (names_in l.fn.read) l.fn.names.items) (next_name r (names_in l.rest) l.names.items)
       (g.Y.System.calls l.fn.system) (g.Y.System.calls l.system);
 }
 

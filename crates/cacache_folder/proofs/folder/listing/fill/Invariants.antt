@@ -9,11 +9,11 @@ abbrev pub invariant-loop-left : goal.invariant-loop-left
 invariant-loop-left g l = record {
   room : length l.buf ≡ 4096;
   number : g.Y.System.folder_number l.open ≡ g.Y.System.folder_number l.fn.open;
-  proper : AreProperNames l.fn.listed.names.items → AreProperNames l.listed.names.items;
+  proper : AreProperNames l.fn.names.items → AreProperNames l.names.items;
   same : l.folder.items ≡ l.fn.folder.items;
   ran : LeadsTo
-      (more_names (reader_of (g.Y.System.folder_number l.fn.open) l.fn.folder.items (2 ^ 64 - 1)) l.fn.listed.names.items)
-      (more_names (reader_of (g.Y.System.folder_number l.fn.open) l.fn.folder.items l.left) l.listed.names.items)
+      (more_names (reader_of (g.Y.System.folder_number l.fn.open) l.fn.folder.items (2 ^ 64 - 1)) l.fn.names.items)
+      (more_names (reader_of (g.Y.System.folder_number l.fn.open) l.fn.folder.items l.left) l.names.items)
       (g.Y.System.calls l.fn.system) (g.Y.System.calls l.system);
 }
 

@@ -8,7 +8,7 @@ use Rattle.cacache_system.specs.CallsOf as calls
 use Rattle.cacache_store.specs.declared.store.step.Step.TheVariants as steps
 use Rattle.cacache_store.specs.declared.store.answer.Answer.TheVariants as answers
 use Rattle.cacache_folder.specs.FolderNumbers.{numbered, answered, answered_or, value_or}
-use Rattle.cacache_folder.proofs.{CallRuns.{run_one, run_none}, Answering.{answers_run, arm_as, arm_run, appends_answer}, ByPath.{by_path, by_file, whole_of}}
+use Rattle.cacache_folder.proofs.{CallRuns.{run_one, run_none}, Answering.{answers_run, arm_as, arm_run}, ByPath.{by_path, by_file, whole_of}}
 use Rattle.cacache_folder.proofs.folder.runner.Runner.do_by_path.Goals as goal
 
 pub returns-in-MakeDirs-clause-ran : goal.returns-in-MakeDirs-clause-ran
@@ -19,11 +19,9 @@ returns-in-MakeDirs-clause-ran g c =
 
 pub returns-in-Append-clause-ran : goal.returns-in-Append-clause-ran
 returns-in-Append-clause-ran g c =
-    λ _. subst (λ step. StepRuns (numbered g.Y.System.number step) (answered_or g.Y.System.number (numbered g.Y.System.number step) c.took.result) (g.Y.System.calls c.args.self.now.system) (g.Y.System.calls c.append.new.self.system)) (sym c.in-Append.is)
-    (arm_as g.Y.System.number (steps.Append c.in-Append.path c.in-Append.bytes) (λ n. answers.Took n) c.append.result c.took.result (g.Y.System.calls c.args.self.now.system) (g.Y.System.calls c.append.new.self.system)
-    (subst (λ p. StepRuns (steps.Append p c.in-Append.bytes) (value_or (λ n. answers.Took n) (steps.Append p c.in-Append.bytes) c.append.result) (g.Y.System.calls c.args.self.now.system) (g.Y.System.calls c.append.new.self.system)) c.as_str-in-Append.ensures.same
-    (subst (λ b. StepRuns (steps.Append c.as_str-in-Append.result.now b) (value_or (λ n. answers.Took n) (steps.Append c.as_str-in-Append.result.now b) c.append.result) (g.Y.System.calls c.args.self.now.system) (g.Y.System.calls c.append.new.self.system)) c.as_slice.ensures
-    (appends_answer c.as_str-in-Append.result.now c.as_slice.result.now c.append.result (g.Y.System.calls c.args.self.now.system) (g.Y.System.calls c.append.new.self.system) c.append.ensures.ran))) c.took.ensures)
+    λ _. subst (λ step. StepRuns (numbered g.Y.System.number step) (answered_or g.Y.System.number (numbered g.Y.System.number step) c.took.result) (g.Y.System.calls c.args.self.now.system) (g.Y.System.calls c.append.new.system)) (sym c.in-Append.is)
+    (arm_run g.Y.System.number (steps.Append c.in-Append.path c.in-Append.bytes) (calls.appending c.as_str-in-Append.result.now c.as_slice.result.now) says.Count (λ n. answers.Took n) c.append.result c.took.result (g.Y.System.calls c.args.self.now.system) (g.Y.System.calls c.append.new.system)
+    c.append.ensures.ran (ap (λ p. calls.appending p c.as_slice.result.now) c.as_str-in-Append.ensures.same ∙ ap (λ b. calls.appending c.in-Append.path b) c.as_slice.ensures) (λ _. refl) (λ _. refl) c.took.ensures)
 
 pub returns-in-ReadAll-clause-ran : goal.returns-in-ReadAll-clause-ran
 returns-in-ReadAll-clause-ran g c =
@@ -69,15 +67,15 @@ returns-in-ReadDir-clause-ran g c =
 
 pub returns-in-RemoveFile-clause-ran : goal.returns-in-RemoveFile-clause-ran
 returns-in-RemoveFile-clause-ran g c =
-    λ _. subst (λ step. StepRuns (numbered g.Y.System.number step) (answered_or g.Y.System.number (numbered g.Y.System.number step) c.done-in-RemoveFile.result) (g.Y.System.calls c.args.self.now.system) (g.Y.System.calls c.remove_file.new.self.system)) (sym c.in-RemoveFile.is)
-    (arm_as g.Y.System.number (steps.RemoveFile c.in-RemoveFile.path) (λ _. answers.Done) c.remove_file.result c.done-in-RemoveFile.result (g.Y.System.calls c.args.self.now.system) (g.Y.System.calls c.remove_file.new.self.system)
-    (subst (λ p. StepRuns (steps.RemoveFile p) (value_or (λ _. answers.Done) (steps.RemoveFile p) c.remove_file.result) (g.Y.System.calls c.args.self.now.system) (g.Y.System.calls c.remove_file.new.self.system)) c.as_str-in-RemoveFile.ensures.same c.remove_file.ensures.ran) c.done-in-RemoveFile.ensures)
+    λ _. subst (λ step. StepRuns (numbered g.Y.System.number step) (answered_or g.Y.System.number (numbered g.Y.System.number step) c.done-in-RemoveFile.result) (g.Y.System.calls c.args.self.now.system) (g.Y.System.calls c.remove_file.new.self)) (sym c.in-RemoveFile.is)
+    (arm_run g.Y.System.number (steps.RemoveFile c.in-RemoveFile.path) (calls.only (asks.RemoveFile c.as_str-in-RemoveFile.result.now)) (λ _. says.Done) (λ _. answers.Done) c.remove_file.result c.done-in-RemoveFile.result (g.Y.System.calls c.args.self.now.system) (g.Y.System.calls c.remove_file.new.self)
+    (run_one (calls.only (asks.RemoveFile c.as_str-in-RemoveFile.result.now)) (asks.RemoveFile c.as_str-in-RemoveFile.result.now) (said (λ _. says.Done) c.remove_file.result) (said (λ _. says.Done) c.remove_file.result) (g.Y.System.calls c.args.self.now.system) (g.Y.System.calls c.remove_file.new.self) c.remove_file.ensures refl refl) (ap (λ p. calls.only (asks.RemoveFile p)) c.as_str-in-RemoveFile.ensures.same) (λ _. refl) (λ _. refl) c.done-in-RemoveFile.ensures)
 
 pub returns-in-RemoveDir-clause-ran : goal.returns-in-RemoveDir-clause-ran
 returns-in-RemoveDir-clause-ran g c =
-    λ _. subst (λ step. StepRuns (numbered g.Y.System.number step) (answered_or g.Y.System.number (numbered g.Y.System.number step) c.done-in-RemoveDir.result) (g.Y.System.calls c.args.self.now.system) (g.Y.System.calls c.remove_dir.new.self.system)) (sym c.in-RemoveDir.is)
-    (arm_as g.Y.System.number (steps.RemoveDir c.in-RemoveDir.path) (λ _. answers.Done) c.remove_dir.result c.done-in-RemoveDir.result (g.Y.System.calls c.args.self.now.system) (g.Y.System.calls c.remove_dir.new.self.system)
-    (subst (λ p. StepRuns (steps.RemoveDir p) (value_or (λ _. answers.Done) (steps.RemoveDir p) c.remove_dir.result) (g.Y.System.calls c.args.self.now.system) (g.Y.System.calls c.remove_dir.new.self.system)) c.as_str-in-RemoveDir.ensures.same c.remove_dir.ensures.ran) c.done-in-RemoveDir.ensures)
+    λ _. subst (λ step. StepRuns (numbered g.Y.System.number step) (answered_or g.Y.System.number (numbered g.Y.System.number step) c.done-in-RemoveDir.result) (g.Y.System.calls c.args.self.now.system) (g.Y.System.calls c.remove_folder.new.self)) (sym c.in-RemoveDir.is)
+    (arm_run g.Y.System.number (steps.RemoveDir c.in-RemoveDir.path) (calls.only (asks.RemoveFolder c.as_str-in-RemoveDir.result.now)) (λ _. says.Done) (λ _. answers.Done) c.remove_folder.result c.done-in-RemoveDir.result (g.Y.System.calls c.args.self.now.system) (g.Y.System.calls c.remove_folder.new.self)
+    (run_one (calls.only (asks.RemoveFolder c.as_str-in-RemoveDir.result.now)) (asks.RemoveFolder c.as_str-in-RemoveDir.result.now) (said (λ _. says.Done) c.remove_folder.result) (said (λ _. says.Done) c.remove_folder.result) (g.Y.System.calls c.args.self.now.system) (g.Y.System.calls c.remove_folder.new.self) c.remove_folder.ensures refl refl) (ap (λ p. calls.only (asks.RemoveFolder p)) c.as_str-in-RemoveDir.ensures.same) (λ _. refl) (λ _. refl) c.done-in-RemoveDir.ensures)
 
 pub returns-in-SyncFile-clause-ran : goal.returns-in-SyncFile-clause-ran
 returns-in-SyncFile-clause-ran g c =

@@ -1,11 +1,14 @@
 use Rattle.std.proofs.{Common.{◌≡◌, true, false, refl, sym, ap, subst, ◌∙◌}, lemmas.Result.{err_from_is_err_and}}
+use Rattle.cacache_system.specs.{declared.call.{SystemCall.TheVariants.{Rename}, CallResult.TheVariants.{Done}}, CallLog.{MakesCall, said}}
 use Rattle.cacache_folder.{specs.FolderNumbers.{numbered_temp}, proofs.Moving.{rewrites_kept, rewrites_not}}
 use Rattle.cacache_folder.proofs.folder.runner.Runner.replace_read.Goals as goal
 
 pub returns-clause-ran : goal.returns-clause-ran
 returns-clause-ran g c =
-    rewrites_kept (numbered_temp g.Y.System.number c.args.temp.now) c.args.temp.now.is_synced c.args.path.now tt c.move_there.result
-    (g.Y.System.calls c.args.self.now.system) (g.Y.System.calls c.keep.new.system) (g.Y.System.calls c.move_there.new.self.system) c.in_ok-keep.ensures c.move_there.ensures.ran
+    rewrites_kept (numbered_temp g.Y.System.number c.args.temp.now) c.args.temp.now.is_synced c.args.path.now tt c.rename.result
+    (g.Y.System.calls c.args.self.now.system) (g.Y.System.calls c.keep.new.system) (g.Y.System.calls c.rename.new.self) c.in_ok-keep.ensures
+    (subst (λ p. MakesCall (g.Y.System.calls c.keep.new.system) (g.Y.System.calls c.rename.new.self) (Rename p c.args.path.now) (said (λ _. Done) c.rename.result))
+    c.as_str.ensures.same c.rename.ensures)
 
 pub returns-in_err-keep-clause-ran : goal.returns-in_err-keep-clause-ran
 returns-in_err-keep-clause-ran g c =

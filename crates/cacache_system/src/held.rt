@@ -1,0 +1,114 @@
+//! A folder that is held open.
+use std::alloc::{AllocError, Global};
+use std::fs::Metadata;
+use std::io;
+use std::io::ErrorKind;
+use std::os::fd::AsRawFd;
+use std::os::unix::fs::MetadataExt;
+use std::rt::Files;
+
+/// What the system knows a folder by.
+#[derive(Clone, Copy)]
+pub(crate) struct Node {
+    number: u64,
+    device: u64,
+}
+
+impl Node {
+    /// What the system's metadata say.
+    pub(crate) fn of(metadata: &Metadata) -> Node {
+        Node {
+            number: metadata.ino(),
+            device: metadata.dev(),
+        }
+    }
+
+    /// Whether both are of one folder. A system may number none, and then no two are.
+    pub(crate) fn is_same(self, other: Node) -> bool {
+        self.number != 0 && self.number == other.number && self.device == other.device
+    }
+}
+
+/// A folder that is held open.
+#[derive(Drop)]
+pub(crate) struct Held<F> {
+    /// Its path, without a `/` at the end.
+    pub(crate) path: String,
+    /// A path that leads into it while it is open, with a `/` at the end.
+    pub(crate) inside: String,
+    /// Whether a walk began here.
+    pub(crate) is_first: bool,
+    /// What the system knows it by, once that was asked.
+    node: Option<Node>,
+    /// Keeps it open.
+    _file: F,
+}
+
+impl<F: AsRawFd> Held<F> {
+    /// The folder with this path, which was opened.
+    pub(crate) fn new(
+        alloc: Global,
+        path: &str,
+        is_first: bool,
+        file: F,
+    ) -> Result<Held<F>, AllocError>
+    where
+        F: Drop,
+    {
+        let number = file.as_raw_fd();
+        Ok(Held {
+            path: String::from_str(alloc, path)?,
+            inside: format!(in alloc; "/proc/self/fd/{number}/")?,
+            is_first,
+            node: None,
+            _file: file,
+        })
+    }
+}
+
+impl<F> Held<F> {
+    /// What the system knows the folder by. It is asked once.
+    pub(crate) fn known<R: Files>(&mut self, rt: &R) -> io::Result<Node> {
+        if let Some(node) = self.node {
+            return Ok(node);
+        }
+        let node = Node::of(&rt.metadata(self.inside.as_str())?);
+        self.node = Some(node);
+        Ok(node)
+    }
+
+    /// Where to ask, inside the folder, for what is at a path below it.
+    pub(crate) fn beneath(&self, alloc: Global, path: &str) -> Result<String, AllocError> {
+        let rest = rest_below(self.path.as_str(), path).unwrap_or("");
+        joined(alloc, self.inside.as_str(), rest)
+    }
+}
+
+/// One text after another.
+pub(crate) fn joined(alloc: Global, first: &str, second: &str) -> Result<String, AllocError> {
+    let mut text = String::with_capacity(alloc, first.len().saturating_add(second.len()))?;
+    text.push_str(first)?;
+    text.push_str(second)?;
+    Ok(text)
+}
+
+/// What follows the folder's path in a path of something below it.
+pub(crate) fn rest_below<'a>(folder: &str, path: &'a str) -> Option<&'a str> {
+    let rest = path.strip_prefix(folder)?;
+    let name = rest.trim_start_matches('/');
+    if name.is_empty() || name.len() == rest.len() {
+        None
+    } else {
+        Some(name)
+    }
+}
+
+/// Whether the folder leads to another, or is that.
+pub(crate) fn leads(folder: &str, other: &str) -> bool {
+    folder == other || rest_below(folder, other).is_some()
+}
+
+/// The error if no folder is there, or a link.
+pub(crate) fn no_folder() -> io::Error {
+    io::Error::from(ErrorKind::NotADirectory)
+}

@@ -1,0 +1,268 @@
+//! Folders that walks hold open, so that no link leads a change out of them.
+//!
+//! A walk lists a folder, then those below it, and may remove what it finds, append to it or put a file in its place.
+//! Meanwhile somebody who may write there can put a link in the place of a folder. So the folder at which a walk begins
+//! is opened once, and each one below it in the one above. A call goes to `/proc/self/fd/N/name`, where `N` is the
+//! number of the open folder: that leads into it, whatever stands at its path by then.
+use crate::held::{Held, Node, joined, leads, no_folder, rest_below};
+use cacache_core::keeping::let_go;
+use std::alloc::{AllocError, Global};
+use std::fs::{File, OpenFile};
+use std::io;
+use std::io::ErrorKind;
+use std::os::fd::AsRawFd;
+use std::rt::Files;
+
+/// How many folders at which walks began are held at most. A call walks through three at most.
+const WALKS: usize = 4;
+
+/// How many folders below those are held at most. A cache has four levels.
+const BELOW: usize = 4;
+
+/// The folders that walks hold open.
+#[derive(Drop)]
+pub(crate) struct OpenFolders<R: Files> {
+    alloc: Global,
+    /// In the order in which they were opened.
+    held: Vec<Held<R::File>>,
+    /// Paths at which the walks found neither file, folder nor link.
+    odd: Vec<String>,
+}
+
+/// The path of the folder in which a path names something.
+fn folder_of(path: &str) -> &str {
+    match path.rsplit_once('/') {
+        Some((folder, _)) => folder,
+        None => "",
+    }
+}
+
+/// What the system knows the folder at the path by, if no link stands there.
+fn folder_at<R: Files>(rt: &R, path: &str) -> io::Result<Node> {
+    let metadata = rt.symlink_metadata(path)?;
+    if metadata.is_dir() {
+        Ok(Node::of(&metadata))
+    } else {
+        Err(no_folder())
+    }
+}
+
+/// The error of a listing through an open folder. That is there, so what is missing is `/proc`.
+fn unless_missing(error: io::Error) -> io::Error {
+    match error.kind() {
+        ErrorKind::NotFound => io::Error::from(ErrorKind::Unsupported),
+        _ => error,
+    }
+}
+
+/// The folder of a path whose name ends before this byte.
+fn folder_before(path: &str, end: usize) -> Option<&str> {
+    let (folder, rest) = path.split_at_checked(end)?;
+    let is_whole = rest.is_empty() || rest.starts_with('/');
+    if is_whole && !folder.ends_with('/') {
+        Some(folder)
+    } else {
+        None
+    }
+}
+
+impl<R: Files> OpenFolders<R>
+where
+    R::File: AsRawFd,
+{
+    /// None is held yet.
+    pub(crate) fn new(alloc: Global) -> OpenFolders<R> {
+        OpenFolders {
+            alloc,
+            held: Vec::new(alloc),
+            odd: Vec::new(alloc),
+        }
+    }
+
+    /// Closes all, since the walks are over.
+    pub(crate) fn close(&mut self) {
+        self.held.clear();
+        self.odd.clear();
+    }
+
+    /// Closes a folder and those below it, since it is removed.
+    pub(crate) fn leave(&mut self, path: &str) {
+        self.held.retain(|held| !leads(path, held.path.as_str()));
+    }
+
+    /// Keeps that there is neither file, folder nor link at the path, if a walk is under way.
+    pub(crate) fn note_odd(&mut self, path: &str) -> Result<(), AllocError> {
+        if self.held.is_empty() {
+            return Ok(());
+        }
+        self.odd.push(String::from_str(self.alloc, path)?)?;
+        Ok(())
+    }
+
+    /// Refuses to open what is neither file, folder nor link, which could wait for ever.
+    pub(crate) fn refuse_odd(&self, path: &str) -> io::Result<()> {
+        for odd in self.odd.as_slice() {
+            if odd.as_str() == path {
+                return Err(io::Error::from(ErrorKind::Unsupported));
+            }
+        }
+        Ok(())
+    }
+
+    /// The place of the innermost folder that is held above the path.
+    fn above(&self, path: &str) -> Option<usize> {
+        let mut found = None;
+        let mut longest = 0;
+        for (at, held) in self.held.as_slice().iter().enumerate() {
+            let length = held.path.len();
+            if length >= longest && rest_below(held.path.as_str(), path).is_some() {
+                longest = length;
+                found = Some(at);
+            }
+        }
+        found
+    }
+
+    /// Where to ask for what is at a path: by its name in the innermost folder that is held above it. None if no walk
+    /// leads there.
+    pub(crate) fn near(&self, path: &str) -> Result<Option<String>, AllocError> {
+        match self.above(path) {
+            Some(at) => match self.held.as_slice().get(at) {
+                Some(held) => Ok(Some(held.beneath(self.alloc, path)?)),
+                None => Ok(None),
+            },
+            None => Ok(None),
+        }
+    }
+
+    /// How long the path of the innermost folder is that is held on the way to a folder, or is that.
+    fn reached(&self, folder: &str) -> Option<usize> {
+        let mut reached = None;
+        for held in self.held.as_slice() {
+            let length = held.path.len();
+            if leads(held.path.as_str(), folder) && length >= reached.unwrap_or(0) {
+                reached = Some(length);
+            }
+        }
+        reached
+    }
+
+    /// Closes the first of the folders at which walks began, or of those below them, if there are too many for one more.
+    fn make_room(&mut self, is_first: bool) {
+        let most = if is_first { WALKS } else { BELOW };
+        let mut count = 0usize;
+        let mut oldest = 0;
+        for (at, held) in self.held.as_slice().iter().enumerate() {
+            if held.is_first == is_first {
+                if count == 0 {
+                    oldest = at;
+                }
+                count = count.saturating_add(1);
+            }
+        }
+        if count >= most && oldest < self.held.len() {
+            let_go(self.held.remove(oldest));
+        }
+    }
+
+    /// Closes the folders below those at which walks began, but for those that lead to a folder.
+    fn release(&mut self, folder: &str) {
+        self.held
+            .retain(|held| held.is_first || leads(held.path.as_str(), folder));
+    }
+
+    /// Opens the folder at the path by its name in the innermost that is held above it. No link is followed: the folder
+    /// above the one that was opened has to be that.
+    fn enter(&mut self, rt: &R, path: &str) -> io::Result<()> {
+        let alloc = self.alloc;
+        let Some(at) = self.above(path) else {
+            return Err(no_folder());
+        };
+        let Some(above) = self.held.as_mut_slice().get_mut(at) else {
+            return Err(no_folder());
+        };
+        let asked = joined(alloc, above.beneath(alloc, path)?.as_str(), "/")?;
+        let held = Held::new(alloc, path, false, File::open(rt, asked.as_str())?)?;
+        let up = joined(alloc, held.inside.as_str(), "..")?;
+        let found = Node::of(&rt.metadata(up.as_str())?);
+        if !found.is_same(above.known(rt)?) {
+            return Err(no_folder());
+        }
+        self.make_room(false);
+        self.held.push(held)?;
+        Ok(())
+    }
+
+    /// Holds the folder at the path, and those on the way to it from the folder at which a walk began. If no walk leads
+    /// there, none is held.
+    fn hold(&mut self, rt: &R, folder: &str) -> io::Result<()> {
+        let Some(reached) = self.reached(folder) else {
+            return Ok(());
+        };
+        for end in reached.saturating_add(1)..folder.len().saturating_add(1) {
+            if let Some(path) = folder_before(folder, end) {
+                self.enter(rt, path)?;
+            }
+        }
+        Ok(())
+    }
+
+    /// Where to change what is at a path: by its name in its folder, which is held from now on. None if no walk leads
+    /// there.
+    pub(crate) fn within(&mut self, rt: &R, path: &str) -> io::Result<Option<String>> {
+        if self.held.is_empty() {
+            return Ok(None);
+        }
+        let folder = folder_of(path);
+        self.release(folder);
+        self.hold(rt, folder)?;
+        Ok(self.near(path)?)
+    }
+
+    /// Where to move what is at one path from, and where to move it to at another.
+    pub(crate) fn within_both(
+        &mut self,
+        rt: &R,
+        from: &str,
+        to: &str,
+    ) -> io::Result<(Option<String>, Option<String>)> {
+        self.within(rt, from)?;
+        self.hold(rt, folder_of(to))?;
+        Ok((self.near(from)?, self.near(to)?))
+    }
+
+    /// Opens the folder at which a walk begins, which is held from now on. A link is followed only if the path ends in a
+    /// `/`. Without `/proc` no walk begins.
+    fn begin(&mut self, rt: &R, path: &str, folder: &str) -> io::Result<R::Dir> {
+        let named = if path.ends_with('/') {
+            None
+        } else {
+            Some(folder_at(rt, path)?)
+        };
+        let asked = joined(self.alloc, folder, "/")?;
+        let file = File::open(rt, asked.as_str())?;
+        let opened = Node::of(&file.metadata()?);
+        if !opened.is_same(named.unwrap_or(opened)) {
+            return Err(no_folder());
+        }
+        let held = Held::new(self.alloc, folder, true, file)?;
+        let listing = rt.open_dir(held.inside.as_str()).map_err(unless_missing)?;
+        self.make_room(true);
+        self.held.push(held)?;
+        Ok(listing)
+    }
+
+    /// Opens a folder to list it. Below a folder that is held no link is followed. Elsewhere a walk begins.
+    pub(crate) fn list(&mut self, rt: &R, path: &str) -> io::Result<R::Dir> {
+        let folder = path.trim_end_matches('/');
+        for held in self.held.as_slice() {
+            if held.is_first && held.path.as_str() == folder {
+                return rt.open_dir(held.inside.as_str());
+            }
+        }
+        match self.within(rt, folder)? {
+            Some(there) => rt.open_dir(there.as_str()),
+            None => self.begin(rt, path, folder),
+        }
+    }
+}
